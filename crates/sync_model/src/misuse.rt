@@ -1,0 +1,18 @@
+//! How a program can misuse an object, with Go's texts.
+ghost use Rattle.std.specs.Prelude.{◌≡◌};
+ghost use Rattle.sync_model.specs.Misuse.{text_of};
+
+/// A misuse that ends a run: a fatal error or a panic of Go's package sync.
+#[derive(Clone, Copy, Debug, PartialEq, Eq)]
+pub enum Misuse {
+    /// `Mutex.Unlock` of a mutex that isn't locked.
+    UnlockOfUnlockedMutex,
+    /// `RWMutex.RUnlock` of a lock that no reader holds.
+    RUnlockOfUnlockedRwMutex,
+    /// `RWMutex.Unlock` of a lock that no writer holds.
+    UnlockOfUnlockedRwMutex,
+    /// A `WaitGroup` counter below 0, or above 2^31 - 1.
+    NegativeWaitGroupCounter,
+    /// A `WaitGroup` that is used again before an earlier `Wait` has returned.
+    WaitGroupReused,
+}
