@@ -1,6 +1,7 @@
 //! Names of objects and of keys.
-ghost use Rattle.std.specs.Prelude.{◌≡◌, ℕ, List, length, IfOk, IsTrue, ◌↔◌};
-ghost use Rattle.sync_model.specs.Name.{is_name};
+ghost use Rattle.std.specs.Prelude.{◌≡◌, ℕ, List, length, IfOk};
+ghost use Rattle.std.specs.List.{list_all};
+ghost use Rattle.sync_model.specs.Name.{is_letter, is_name_byte, is_name};
 
 use std::alloc::{AllocError, Global};
 use std::marker::Model;
@@ -38,13 +39,32 @@ impl Name {
     }
 }
 
+fn letter(byte: u8) -> bool
+    ensures { result ≡ is_letter byte }
+{
+    b'a' <= byte && byte <= b'z'
+}
+
+fn name_byte(byte: u8) -> bool
+    ensures { result ≡ is_name_byte byte }
+{
+    letter(byte) || (b'0' <= byte && byte <= b'9') || byte == b'_'
+}
+
+fn all_name_bytes(bytes: &[u8]) -> bool
+    ensures { result ≡ list_all is_name_byte bytes.now }
+{
+    bytes.iter().all(|byte| name_byte(*byte))
+}
 
 /// Whether the bytes have the form of a name: 1 to 32 bytes of `a` to `z`, `0` to `9` and `_`, a letter first.
 pub fn is_name(bytes: &[u8]) -> bool
     ensures { result ≡ is_name bytes.now }
 {
-    match bytes {
-        [] => false,
-        [first, rest @ ..] => bytes.len() <= MAX_NAME && first.is_ascii_lowercase() && rest.iter().all(|byte| matches!(byte, b'a'..=b'z' | b'0'..=b'9' | b'_')),
+    match bytes.split_first() {
+        None => false,
+        Some((first, rest)) => {
+            bytes.len() <= MAX_NAME && letter(*first) && all_name_bytes(rest)
+        }
     }
 }

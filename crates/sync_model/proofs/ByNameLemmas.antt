@@ -1,0 +1,48 @@
+-- A sorted table of vectors of bytes is the finite map of its entries.
+use Rattle.std.proofs.Common.{◌≡◌, ℕ, Bool, true, false, cond, List, [], ◌∷◌, map, Option, Some, None, refl, sym, ap, ◌∙◌}
+use Rattle.std.specs.Global.{Vec}
+use Rattle.std.specs.Ordering.{nat_cmp, eq_by_cmp, match_ordering}
+use Rattle.std.specs.declared.cmp.Ordering.{Ordering}
+use Rattle.std.specs.declared.cmp.Ordering.TheVariants.{Less, Equal, Greater}
+use Rattle.std.specs.Cmp.Lexicographic.{slice_cmp, nat_list_cmp_total}
+use Rattle.std.specs.Map.{lookup}
+use Rattle.std.specs.BTreeMap.{is_at, insert_entry}
+use Rattle.std.specs.FinMap.{FinMap, get, insert, from_entries, find, put, same_map, get-insert, get-from_entries, slice_cmp-IsAntisymmetric, nat_cmp-IsAntisymmetric}
+use Rattle.std.specs.FinMap.Entries.{find-put, by_order}
+use Rattle.sync_model.specs.ByName.{by_bytes}
+
+-- the order of vectors of bytes, by their items
+abbrev pub vec_cmp : Vec ℕ → Vec ℕ → Ordering
+vec_cmp a b = slice_cmp nat_cmp a.items b.items
+
+module _ {X : Type 0} where
+  abbrev pub pairs : List (Vec ℕ × X) → List (List ℕ × X)
+  pairs entries = map (λ e. (e.0.items, e.1)) entries
+
+  find_bytes : (es : List (Vec ℕ × X)) (q : List ℕ) → find (slice_cmp nat_cmp) q (pairs es) ≡ lookup (is_at (λ k. slice_cmp nat_cmp q k.items)) es
+  find_bytes [] q = refl
+  find_bytes (e ∷ es) q = ap (cond (eq_by_cmp (slice_cmp nat_cmp) q e.0.items) (Some e.1)) (find_bytes es q)
+
+  -- what the finite map has at a name is what the look-up finds
+  pub get-by_bytes : (es : List (Vec ℕ × X)) (q : List ℕ) → get (by_bytes es) q ≡ lookup (is_at (λ k. slice_cmp nat_cmp q k.items)) es
+  get-by_bytes es q = get-from_entries nat_list_cmp_total (pairs es) q ∙ find_bytes es q
+
+  pairs_of_match : (r : Ordering) (k : Vec ℕ) (v : X) (e : Vec ℕ × X) (es inserted : List (Vec ℕ × X)) (rest : List (List ℕ × X)) → pairs inserted ≡ rest →
+      pairs (match_ordering r ((k, v) ∷ e ∷ es) ((e.0, v) ∷ es) (e ∷ inserted)) ≡ by_order r ((k.items, v) ∷ pairs (e ∷ es)) ((e.0.items, v) ∷ pairs es) ((e.0.items, e.1) ∷ rest)
+  pairs_of_match Less k v e es inserted rest h = refl
+  pairs_of_match Equal k v e es inserted rest h = refl
+  pairs_of_match Greater k v e es inserted rest h = ap (λ (x : List (List ℕ × X)). (e.0.items, e.1) ∷ x) h
+
+  pairs-insert_entry : (es : List (Vec ℕ × X)) (k : Vec ℕ) (v : X) → pairs (insert_entry vec_cmp es k v) ≡ put (slice_cmp nat_cmp) k.items v (pairs es)
+  pairs-insert_entry [] k v = refl
+  pairs-insert_entry (e ∷ es) k v = pairs_of_match (vec_cmp k e.0) k v e es (insert_entry vec_cmp es k v) (put (slice_cmp nat_cmp) k.items v (pairs es)) (pairs-insert_entry es k v)
+
+  -- to insert an entry is to insert it into the finite map
+  pub by_bytes-insert_entry : (es : List (Vec ℕ × X)) (k : Vec ℕ) (v : X) → by_bytes (insert_entry vec_cmp es k v) ≡ insert (by_bytes es) k.items v
+  by_bytes-insert_entry es k v =
+      same_map nat_list_cmp_total (slice_cmp-IsAntisymmetric nat_cmp-IsAntisymmetric) _ _ (λ q.
+        ap (λ (x : List (List ℕ × X)). get (from_entries {R = slice_cmp nat_cmp} x) q) (pairs-insert_entry es k v)
+        ∙ get-from_entries nat_list_cmp_total (put (slice_cmp nat_cmp) k.items v (pairs es)) q
+        ∙ find-put (slice_cmp nat_cmp) nat_list_cmp_total q k.items v (pairs es)
+        ∙ sym (get-insert nat_list_cmp_total (by_bytes es) k.items v q
+          ∙ ap (cond (eq_by_cmp (slice_cmp nat_cmp) q k.items) (Some v)) (get-from_entries nat_list_cmp_total (pairs es) q)))

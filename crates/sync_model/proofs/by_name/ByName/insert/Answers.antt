@@ -1,0 +1,12 @@
+use Rattle.std.proofs.Common.{sym, ap, ◌∙◌}
+use Rattle.std.specs.FinMap.{insert}
+use Rattle.sync_model.specs.ByName.{by_bytes}
+use Rattle.sync_model.proofs.ByNameLemmas.{by_bytes-insert_entry}
+use Rattle.sync_model.proofs.by_name.ByName.insert.Goals as goal
+
+pub returns-clause-ok : goal.returns-clause-ok
+returns-clause-ok g c =
+    ap by_bytes c.in_ok-insert.ensures.entries
+    ∙ by_bytes-insert_entry c.self.inside.entries.entries c.in_ok-name.name c.args.value
+    ∙ ap (λ n. insert (by_bytes c.self.inside.entries.entries) n c.args.value) c.in_ok-name.ensures.items
+    ∙ ap (λ m. insert m c.args.name.now c.args.value) c.self.view_is
