@@ -1,3 +1,4 @@
 pub mod ByName
 pub mod Misuse
 pub mod Name
+pub mod SequentialMap
