@@ -1,5 +1,5 @@
 //! A table whose keys are names.
-ghost use Rattle.std.specs.Prelude.{◌≡◌, OnOk, OnErr};
+ghost use Rattle.std.specs.Prelude.{◌≡◌, ◌<◌, ◌^◌, OnOk, OnErr};
 ghost use Rattle.std.specs.Ordering.{nat_cmp};
 ghost use Rattle.std.specs.Cmp.Lexicographic.{slice_cmp};
 ghost use Rattle.std.specs.FinMap as finite;
@@ -58,7 +58,8 @@ impl<X: Copy> ByName<X> {
 
     /// How many names have a value.
     pub fn len(&self) -> usize
-        ensures { result ≡ finite.len self.now }
+        ensures len { result ≡ finite.len self.now }
+        ensures small { result < 2 ^ 63 }
     {
         self.entries.len()
     }

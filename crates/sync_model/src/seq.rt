@@ -66,6 +66,16 @@ impl<T> Seq<T> {
     }
 }
 
+impl<T: Copy> Seq<T> {
+    /// Adds items at the end. Where memory is out the list stays as it was.
+    pub fn extend_from_slice(&mut self, items: &[T]) -> Result<(), AllocError>
+        ensures ok { OnOk result (self.new ≡ self.old ++ items.now) }
+        ensures err { OnErr result (self.new ≡ self.old) }
+    {
+        self.items.extend_from_slice(items)
+    }
+}
+
 impl<T> Seq<Seq<T>> {
     /// Adds an item at the end of the list at an index. Where memory is out all stays as it was.
     pub fn push_at(&mut self, index: usize, item: T) -> Result<(), AllocError>

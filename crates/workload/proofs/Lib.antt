@@ -1,0 +1,6 @@
+pub mod DraftLemmas
+pub mod Follows
+pub mod KeyLemmas
+pub mod LineLemmas
+pub mod Numbers
+pub mod Tests
