@@ -4,3 +4,5 @@ pub mod KeyLemmas
 pub mod LineLemmas
 pub mod Numbers
 pub mod Tests
+pub mod CheckLemmas
+pub mod ReadLemmas

@@ -50,12 +50,15 @@ key_operands (form ∷ forms) [] = []
 key_operands (operands.Key ∷ forms) (word ∷ words) = word ∷ key_operands forms words
 key_operands (operands.Value ∷ forms) (word ∷ words) = key_operands forms words
 
+-- the limits on calls, of one more call with these keys
+abbrev pub limit_checks : Draft → List (List ℕ) → List Check
+limit_checks d keys =
+    (nat_lt (call_count d.plan.scripts) MAX_CALLS, LimitReached) ∷ (nat_le (key_count d.plan.scripts keys) MAX_KEYS, LimitReached) ∷ []
+
 abbrev pub form_checks : Draft → Option (List Operand) → List (List ℕ) → List Check
 form_checks d None words = (false, WrongKind) ∷ []
 form_checks d (Some form) words =
-    (length words == length form, WrongNumberOfWords) ∷ operand_checks form words
-    ++ (nat_lt (call_count d.plan.scripts) MAX_CALLS, LimitReached)
-    ∷ (nat_le (key_count d.plan.scripts (key_operands form words)) MAX_KEYS, LimitReached) ∷ []
+    (length words == length form, WrongNumberOfWords) ∷ operand_checks form words ++ limit_checks d (key_operands form words)
 
 abbrev pub object_checks : Draft → Option Declared → Verb → List (List ℕ) → List Check
 object_checks d None verb words = (false, UnknownName) ∷ []

@@ -8,13 +8,17 @@ pub mod limits;
 pub mod line;
 pub mod number;
 pub mod object;
+pub mod parsing;
+pub mod reading;
 pub mod reason;
 pub mod text;
 pub mod turn;
 pub mod workload;
 
 pub use fault::ParseFault;
+pub use limits::MAX_INPUT;
 pub use object::{ObjectKind, ObjectLine};
+pub use parsing::parse;
 pub use reason::Reason;
 pub use turn::Turn;
 pub use workload::Workload;

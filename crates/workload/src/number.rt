@@ -1,5 +1,6 @@
 //! Numbers of a text.
-ghost use Rattle.std.specs.Prelude.{◌≡◌, ℕ, ◌<◌, ◌^◌, ◌+◌, ◌-◌, ◌*◌, Bool, true, false, ◌≤◌, MatchOption};
+ghost use Rattle.std.specs.Prelude.{◌≡◌, ℕ, ◌<◌, ◌^◌, ◌+◌, ◌-◌, ◌*◌, Bool, true, false, ◌≤◌, MatchOption, OnSome, IfSome, IfNone};
+ghost use Rattle.std.specs.Fmt.{decimal};
 ghost use Rattle.std.specs.Str.{all_ascii_digits};
 ghost use Rattle.workload.specs.Words.{is_number, is_number_to, number_of};
 
@@ -48,7 +49,10 @@ fn value(word: &[u8]) -> Option<u64>
 
 /// The number that a word is, where it is one of at most `most`.
 pub fn number(word: &[u8], most: u64) -> Option<u64>
-    ensures { MatchOption result (is_number_to most word.now ≡ false) (λ n. (is_number_to most word.now ≡ true) × (n ≡ number_of word.now)) }
+    ensures none { IfNone result (is_number_to most word.now ≡ false) }
+    ensures passes { OnSome result (is_number_to most word.now ≡ true) }
+    ensures value { IfSome result (λ n. (n ≡ number_of word.now) × (n ≤ most)) }
+    ensures spelled { IfSome result (λ n. decimal n ≡ word.now) }
 {
     if !is_number(word) {
         return None;
