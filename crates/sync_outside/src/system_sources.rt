@@ -1,5 +1,6 @@
 //! Files and standard input.
 ghost use Rattle.std.specs.Prelude.{◌≡◌, ℕ, Bool, List, None, false, length, ◌≤◌, IfOk, is_some};
+ghost use Rattle.std.specs.Io.KnownBytes.{ReadConsumes};
 ghost use Rattle.sync_outside.specs.System.{Inputs};
 
 use crate::fault::{Failed, OpenFault};
@@ -109,7 +110,8 @@ impl<R: Files + Input> Sources for SystemSources<'_, R> {
 
 /// Reads once. A read that a signal cut short is tried again.
 fn read_once<I: Read>(input: &mut I, buf: &mut [u8]) -> Result<usize, Failed>
-    ensures { IfOk result (λ n. n ≤ length buf.old) }
+    ensures fits { IfOk result (λ n. n ≤ length buf.old) }
+    ensures bytes { ReadConsumes (I.remaining input.old) (I.remaining input.new) result buf.new }
 {
     for _ in 0..u64::MAX {
         match input.read(buf) {

@@ -1,5 +1,6 @@
 //! A sink over a writer of std.
-ghost use Rattle.std.specs.Prelude.{◌≡◌, ℕ, List, None};
+ghost use Rattle.std.specs.Prelude.{◌≡◌, ℕ, ◌<◌, ◌≤◌, List, ◌++◌, length, None, IfOk, OnOk, OnErr};
+ghost use Rattle.std.specs.Io.KnownBytes.{Appends, WriteAppends};
 
 use crate::fault::Failed;
 use crate::fault_count::FaultCount;
@@ -53,21 +54,31 @@ impl<W: Write> Sink for WriterSink<W> {
     }
 }
 
-/// Writes the whole piece, in as many writes as it takes. A write that takes nothing fails, and one
-/// that a signal cut short is tried again.
-fn write_whole<W: Write>(writer: &mut W, piece: &[u8]) -> Result<(), Failed> {
+/// Writes the whole piece, in as many writes as it takes.
+fn write_whole<W: Write>(writer: &mut W, piece: &[u8]) -> Result<(), Failed>
+    ensures ok { OnOk result (Appends (W.contents writer.old) (W.contents writer.new) piece.now) }
+    ensures err { OnErr result ((front : List ℕ) × (rest : List ℕ) × (piece.now ≡ front ++ rest) × Appends (W.contents writer.old) (W.contents writer.new) front) }
+{
     let mut rest = piece;
     for _ in 0..u64::MAX {
         if rest.is_empty() {
             return Ok(());
         }
-        match writer.write(rest) {
-            Ok(count) => {
-                if count == 0 {
-                    return Err(Failed);
-                }
-                rest = &rest[count..];
-            }
+        let count = write_once(writer, rest)?;
+        rest = &rest[count..];
+    }
+    Err(Failed)
+}
+
+/// Writes once, and answers how many bytes of the piece were taken. A write that takes none fails,
+/// and one that a signal cut short is tried again.
+fn write_once<W: Write>(writer: &mut W, piece: &[u8]) -> Result<usize, Failed>
+    ensures fits { IfOk result (λ n. (0 < n) × (n ≤ length piece.now)) }
+    ensures bytes { WriteAppends (W.contents writer.old) (W.contents writer.new) result piece.now }
+{
+    for _ in 0..u64::MAX {
+        match writer.write(piece) {
+            Ok(count) => return if count == 0 { Err(Failed) } else { Ok(count) },
             Err(error) => {
                 if error.kind() != ErrorKind::Interrupted {
                     return Err(Failed);
