@@ -1,5 +1,5 @@
 -- What several writes in a row append.
-use Rattle.std.proofs.Common.{◌≡◌, ℕ, List, ◌++◌, Option, None, Some, ap, ◌∙◌, append_assoc}
+use Rattle.std.proofs.Common.{ℕ, List, ◌++◌, Option, None, Some, ap, ◌∙◌, append_assoc}
 use Rattle.std.specs.Io.KnownBytes.{Appends}
 
 pub Appends-trans : (a b c : Option (List ℕ)) (xs ys : List ℕ) → Appends a b xs → Appends b c ys → Appends a c (xs ++ ys)

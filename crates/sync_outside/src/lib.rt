@@ -3,9 +3,9 @@
 #![tactic(auto)]
 
 pub mod clock;
-pub mod failing_calls;
+mod failing_calls;
 pub mod fault;
-pub mod fault_count;
+mod fault_count;
 pub mod mem_clock;
 pub mod mem_file;
 pub mod mem_sink;
@@ -17,9 +17,7 @@ pub mod system_sources;
 pub mod writer_sink;
 
 pub use clock::Clock;
-pub use failing_calls::FailingCalls;
 pub use fault::{Failed, OpenFault};
-pub use fault_count::FaultCount;
 pub use mem_clock::MemClock;
 pub use mem_file::MemFile;
 pub use mem_sink::MemSink;
@@ -29,3 +27,6 @@ pub use sources::Sources;
 pub use system_clock::SystemClock;
 pub use system_sources::SystemSources;
 pub use writer_sink::WriterSink;
+
+#[cfg(test)]
+mod tests;
