@@ -1,6 +1,10 @@
 //! A sink over a writer of std.
-ghost use Rattle.std.specs.Prelude.{◌≡◌, ℕ, ◌<◌, ◌≤◌, List, ◌++◌, length, None, IfOk, OnOk, OnErr};
-ghost use Rattle.std.specs.Io.KnownBytes.{Appends, WriteAppends};
+ghost use Rattle.std.specs.Prelude.{◌≡◌, ℕ, ◌<◌, ◌≤◌, List, length, None, IfOk, OnOk, OnErr};
+ghost use Rattle.std.specs.Io.KnownBytes.{WriteAppends};
+ghost use Rattle.std.specs.Io.KnownBytes as known;
+ghost use Rattle.sync_outside.specs.Bytes.{Appends, AppendsFront};
+ghost use Rattle.sync_outside.specs.Faults.{Rose};
+ghost use Rattle.sync_outside.specs.System.{AppendsSome};
 
 use crate::fault::Failed;
 use crate::fault_count::FaultCount;
@@ -8,7 +12,7 @@ use crate::sink::Sink;
 use std::io::{ErrorKind, Write};
 use std::marker::Model;
 
-/// Standard output, standard error or another writer. It tells nothing of its bytes.
+/// Standard output, standard error or another writer. As a sink it tells nothing of its bytes.
 #[derive(Drop)]
 pub struct WriterSink<W> {
     writer: W,
@@ -16,15 +20,17 @@ pub struct WriterSink<W> {
 }
 
 impl<W> Model for WriterSink<W> {
-    ghost Value = { ℕ };
+    ghost use Rattle.sync_outside.specs.System.{Output};
 
-    ghost view = { λ s. s.faults };
+    ghost Value = { Output W };
+
+    ghost view = { λ s. record { writer = s.writer; faults = s.faults } };
 }
 
 impl<W: Write> WriterSink<W> {
     /// A sink that writes to this writer.
     pub fn new(writer: W) -> Self
-        ensures { result ≡ 0 }
+        ensures { result ≡ record { writer = writer; faults = 0 } }
     {
         WriterSink {
             writer,
@@ -34,7 +40,7 @@ impl<W: Write> WriterSink<W> {
 
     /// How many writes failed.
     pub fn faults(&self) -> u64
-        ensures { result ≡ self.now }
+        ensures { result ≡ self.now.faults }
     {
         self.faults.get()
     }
@@ -43,9 +49,19 @@ impl<W: Write> WriterSink<W> {
 impl<W: Write> Sink for WriterSink<W> {
     ghost contents = { λ _. None };
 
-    ghost faults = { λ s. s };
+    ghost faults = { λ s. s.faults };
 
-    fn write(&mut self, piece: &[u8]) -> Result<(), Failed> {
+    fn write(&mut self, piece: &[u8]) -> Result<(), Failed>
+        // What every sink promises, of one that tells no bytes.
+        ensures ok { OnOk result (Appends None None piece.now) }
+        ensures err { OnErr result (AppendsFront None None piece.now) }
+        ensures failed { OnErr result (Rose self.old.faults self.new.faults) }
+        ensures faults { self.old.faults ≤ self.new.faults }
+
+        // What becomes of the bytes of a writer that tells them.
+        ensures whole { OnOk result (known.Appends (W.contents self.old.writer) (W.contents self.new.writer) piece.now) }
+        ensures front { OnErr result (AppendsSome (W.contents self.old.writer) (W.contents self.new.writer) piece.now) }
+    {
         let written = write_whole(&mut self.writer, piece);
         if written.is_err() {
             self.faults.raise();
@@ -56,8 +72,8 @@ impl<W: Write> Sink for WriterSink<W> {
 
 /// Writes the whole piece, in as many writes as it takes.
 fn write_whole<W: Write>(writer: &mut W, piece: &[u8]) -> Result<(), Failed>
-    ensures ok { OnOk result (Appends (W.contents writer.old) (W.contents writer.new) piece.now) }
-    ensures err { OnErr result ((front : List ℕ) × (rest : List ℕ) × (piece.now ≡ front ++ rest) × Appends (W.contents writer.old) (W.contents writer.new) front) }
+    ensures ok { OnOk result (known.Appends (W.contents writer.old) (W.contents writer.new) piece.now) }
+    ensures err { OnErr result (AppendsSome (W.contents writer.old) (W.contents writer.new) piece.now) }
 {
     let mut rest = piece;
     for _ in 0..u64::MAX {
