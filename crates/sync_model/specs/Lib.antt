@@ -1,4 +1,7 @@
 pub mod ByName
+pub mod Front
+pub mod Journal
 pub mod Misuse
 pub mod Name
+pub mod Note
 pub mod SequentialMap
