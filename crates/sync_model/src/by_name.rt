@@ -1,9 +1,11 @@
 //! A table whose keys are names.
-ghost use Rattle.std.specs.Prelude.{◌≡◌, ◌<◌, ◌^◌, OnOk, OnErr};
+ghost use Rattle.std.specs.Prelude.{◌≡◌, ◌<◌, ◌^◌, IfOk, OnOk, OnErr};
 ghost use Rattle.std.specs.Ordering.{nat_cmp};
 ghost use Rattle.std.specs.Cmp.Lexicographic.{slice_cmp};
 ghost use Rattle.std.specs.FinMap as finite;
 
+use crate::name::Name;
+use crate::seq::Seq;
 use std::alloc::{AllocError, Global};
 use std::collections::BTreeMap;
 use std::marker::Model;
@@ -62,5 +64,16 @@ impl<X: Copy> ByName<X> {
         ensures small { result < 2 ^ 63 }
     {
         self.entries.len()
+    }
+
+    /// The names that have a value, each with it, in the byte order of the names.
+    pub fn entries(&self, alloc: Global) -> Result<Seq<(Name, X)>, AllocError>
+        ensures { IfOk result (λ entries. entries ≡ finite.entries self.now) }
+    {
+        let mut entries = Seq::new(alloc);
+        for (name, value) in self.entries.iter() {
+            entries.push((Name::from_bytes(alloc, name)?, *value))?;
+        }
+        Ok(entries)
     }
 }
