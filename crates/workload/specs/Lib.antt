@@ -5,4 +5,5 @@ pub mod Lines
 pub mod LineResult
 pub mod Plan
 pub mod Reads
+pub mod Reason
 pub mod Words

@@ -1,4 +1,5 @@
 //! Why a text is refused.
+ghost use Rattle.std.specs.Prelude.{◌≡◌};
 
 /// What is wrong with a line, or with the text as a whole.
 #[derive(Clone, Copy, Debug, PartialEq, Eq)]
@@ -31,4 +32,30 @@ pub enum Reason {
     LimitReached,
     /// The text has more than 8,388,608 bytes.
     InputTooLong,
+}
+
+impl Reason {
+    ghost use Rattle.workload.specs.Reason.{reason_text};
+
+    /// What the program says of the reason, behind the line's number.
+    pub fn text(self) -> &'static str
+        ensures { result.now ≡ reason_text self }
+    {
+        match self {
+            Reason::NoWorkersLine => "no workers line",
+            Reason::LineTooLong => "line too long",
+            Reason::BadByte => "bad byte",
+            Reason::UnknownWord => "unknown word",
+            Reason::WrongNumberOfWords => "wrong number of words",
+            Reason::BadName => "bad name",
+            Reason::NameTaken => "name taken",
+            Reason::UnknownName => "unknown name",
+            Reason::WrongKind => "wrong kind",
+            Reason::BadNumber => "bad number",
+            Reason::NoSuchWorker => "no such worker",
+            Reason::CallOutsideWorker => "call outside a worker",
+            Reason::LimitReached => "limit reached",
+            Reason::InputTooLong => "input too long",
+        }
+    }
 }
