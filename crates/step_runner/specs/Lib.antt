@@ -1,0 +1,4 @@
+pub mod Ends
+pub mod MapTurn
+pub mod State
+pub mod Turns
