@@ -1,5 +1,6 @@
 //! A table whose keys are names.
-ghost use Rattle.std.specs.Prelude.{◌≡◌, ◌<◌, ◌^◌, IfOk, OnOk, OnErr};
+ghost use Rattle.std.specs.Prelude.{◌≡◌, ◌<◌, ◌^◌, true, IfOk, OnOk, OnErr};
+ghost use Rattle.sync_model.specs.Name.{is_name};
 ghost use Rattle.std.specs.Ordering.{nat_cmp};
 ghost use Rattle.std.specs.Cmp.Lexicographic.{slice_cmp};
 ghost use Rattle.std.specs.FinMap as finite;
@@ -26,9 +27,12 @@ impl<X> Model for ByName<X> {
 
     ghost coded = { finite.code (coded_list coded_ℕ) X.code };
 
-    ghost use Rattle.sync_model.specs.ByName.{by_bytes};
+    ghost use Rattle.sync_model.specs.ByName.{by_bytes, all_names};
+    ghost use Rattle.std.specs.Prelude.{◌≡◌, true};
 
     ghost view = { λ t. by_bytes t.entries.entries };
+
+    ghost invariant = { λ t. all_names t.entries.entries ≡ true };
 }
 
 impl<X: Copy> ByName<X> {
@@ -50,6 +54,7 @@ impl<X: Copy> ByName<X> {
 
     /// Sets the value at a name. Where memory is out the table stays as it was.
     pub fn insert(&mut self, alloc: Global, name: &[u8], value: X) -> Result<(), AllocError>
+        requires { is_name name.now ≡ true }
         ensures ok { OnOk result (self.new ≡ finite.insert self.old name.now value) }
         ensures err { OnErr result (self.new ≡ self.old) }
     {
