@@ -40,6 +40,13 @@ impl<T> Seq<T> {
         &self.items
     }
 
+    /// The items as a vector, which takes no memory.
+    pub fn into_vec(self) -> Vec<T>
+        ensures { result.items ≡ self }
+    {
+        self.items
+    }
+
     /// How many items there are.
     pub fn len(&self) -> usize
         ensures { result ≡ length self.now }
