@@ -24,7 +24,7 @@ use Rattle.workload.specs.declared.turn.Turn.TheVariants as turns
 use Rattle.workload.specs.Plan.{Plan, object_of, has_call, is_on, is_turn, is_valid}
 use Rattle.workload.specs.Draft.{Draft, declared, declared_from, names_object, with_call, is_item, may_follow, call_count, keys_of, all_keys}
 use Rattle.workload.specs.Index.{IsIndexed, with_keys, marks}
-use Rattle.workload.proofs.Tests.{both, pair, all_mono, all_set, all_append, all_at}
+use Rattle.workload.proofs.Passing.{both, pair, all_mono, all_set, all_append, all_at}
 use Rattle.workload.proofs.Follows.{object_follows, schedule_follows, call_follows}
 use Rattle.workload.proofs.KeyLemmas.{keys_with_call}
 

@@ -9,7 +9,7 @@ use Rattle.workload.specs.declared.object.ObjectLine.{ObjectLine}
 use Rattle.workload.specs.declared.line.Line.TheVariants as lines
 use Rattle.workload.specs.declared.turn.Turn.{Turn}
 use Rattle.workload.specs.Draft.{Draft, declared, count_of, limit_of, call_count, key_count, keys_of, names_object, is_call, is_item, may_follow}
-use Rattle.workload.proofs.Tests.{both, not_true}
+use Rattle.workload.proofs.Passing.{both, not_true}
 
 pub record ObjectFollows (d : Draft) (o : ObjectLine) : Type 0 where
   pub name : is_name o.name ≡ true

@@ -3,6 +3,9 @@ pub mod Follows
 pub mod KeyLemmas
 pub mod LineLemmas
 pub mod Numbers
-pub mod Tests
+pub mod Passing
 pub mod CheckLemmas
 pub mod ReadLemmas
+pub mod OneReading
+pub mod SameLine
+pub mod NoReason

@@ -10,7 +10,7 @@ use Rattle.std.specs.Fmt.{decimal}
 use Rattle.std.proofs.lemmas.Bool.{eqb-true, eq-eqb}
 use Rattle.std.proofs.lemmas.Fmt.{decimal-digits_value, digits_value-decimal, digits_decimal, first_decimal, decimal_nonempty, decimal_digit}
 use Rattle.workload.specs.Words.{is_number, number_of}
-use Rattle.workload.proofs.Tests.{both, pair}
+use Rattle.workload.proofs.Passing.{both, pair}
 
 alone : (digit : ℕ) (digits : List ℕ) → digit ≡ 48 → cond (eqb digit 48) (eqb (length digits) 0) true ≡ true → length digits ≡ 0
 alone digit digits is e = eqb-true (length digits) 0 (subst (λ (b : Bool). cond b (eqb (length digits) 0) true ≡ true) (eq-eqb digit 48 is) e)

@@ -4,6 +4,7 @@
 pub mod draft;
 pub mod fault;
 pub mod keyword;
+pub mod laws;
 pub mod limits;
 pub mod line;
 pub mod number;
@@ -22,3 +23,6 @@ pub use parsing::parse;
 pub use reason::Reason;
 pub use turn::Turn;
 pub use workload::Workload;
+
+#[cfg(test)]
+mod tests;

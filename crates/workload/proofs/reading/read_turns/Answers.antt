@@ -6,7 +6,7 @@ use Rattle.workload.specs.Checks.{first_failing, item_checks}
 use Rattle.workload.proofs.CheckLemmas.{items_fault, items_pass, turns_more}
 use Rattle.workload.specs.Words.{turn_word}
 use Rattle.workload.specs.Draft.{is_item}
-use Rattle.workload.proofs.Tests.{pair, all_append}
+use Rattle.workload.proofs.Passing.{pair, all_append}
 use Rattle.workload.proofs.reading.read_turns.Goals as goal
 
 pub returns-in_err-read_turn : goal.returns-in_err-read_turn
