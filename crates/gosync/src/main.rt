@@ -12,6 +12,9 @@ mod status;
 mod step;
 mod words;
 
+#[cfg(test)]
+mod tests;
+
 use crate::message::say;
 use crate::program::gosync;
 use crate::status::Status;
