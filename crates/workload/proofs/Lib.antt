@@ -9,3 +9,4 @@ pub mod ReadLemmas
 pub mod OneReading
 pub mod SameLine
 pub mod NoReason
+pub mod PrintLemmas

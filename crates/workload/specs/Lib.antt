@@ -1,3 +1,4 @@
+pub mod Canonical
 pub mod Checks
 pub mod Draft
 pub mod Index
