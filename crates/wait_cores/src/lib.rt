@@ -1,0 +1,9 @@
+//! `Cond`, `WaitGroup`, `Once` and `Pool` of Go's package sync as pure machines: what each event does to the
+//! object's state and what it answers, with no thread and no clock. Whoever waits is told by its place.
+#![tactic(auto)]
+
+pub mod notify;
+pub mod once;
+
+pub use notify::{NotifyCore, NotifyEvent, NotifyPlace, NotifyReply};
+pub use once::{Begun, OnceCore, OnceEvent, OncePlace, OnceProgress, OnceReply};

@@ -1,0 +1,162 @@
+//! `sync.Once` as a machine: one caller runs the function, and every return has what it came to.
+ghost use Rattle.std.specs.Prelude.{◌≡◌, ℕ, ◌<◌, IfOk};
+ghost use Rattle.wait_cores.specs.Callers.{AreCallers};
+ghost use Rattle.wait_cores.specs.OnceMachine.{start, next, callers_of, place_of, runner_of, reply_of};
+
+use std::alloc::{AllocError, Global};
+use std::marker::Model;
+
+/// What a caller does at a once whose function comes to a `T`.
+#[derive(Clone, Copy, Debug, PartialEq, Eq)]
+pub enum OnceEvent<T> {
+    /// Comes to have the function run.
+    Begin,
+    /// Ends the function, which it runs, with what the function came to.
+    End(T),
+    /// Returns, having been released.
+    Leave,
+}
+
+/// What an event at a once answers.
+#[derive(Clone, Copy, Debug, PartialEq, Eq)]
+pub enum OnceReply<T> {
+    /// The caller is to run the function.
+    Run,
+    /// Another caller runs it, or this one does: the caller waits.
+    Queued,
+    /// The function has ended, with this.
+    Done(T),
+    /// What the function came to is kept.
+    Ended,
+    /// The caller has left, with what the function came to.
+    Left(T),
+    /// The caller isn't at the place that the event needs, and nothing changed.
+    Still,
+}
+
+/// How far a once has come.
+#[derive(Clone, Copy, Debug, PartialEq, Eq)]
+pub enum OnceProgress<T> {
+    /// Nobody has begun the function.
+    NotRun,
+    /// This caller runs it.
+    Running(u32),
+    /// It has ended, with this.
+    Ended(T),
+}
+
+/// Where a caller stands at a once.
+#[derive(Clone, Copy, Debug, PartialEq, Eq)]
+pub enum OncePlace {
+    /// It doesn't wait.
+    Out,
+    /// It waits for the end of the function.
+    Waiting,
+    /// The function has ended, and it may leave.
+    Released,
+}
+
+/// What `OnceCore::begin` answers.
+#[derive(Clone, Copy, Debug, PartialEq, Eq)]
+pub enum Begun<T> {
+    /// The caller is to run the function.
+    Run,
+    /// The function is being run: the caller waits.
+    Queued,
+    /// The function has ended, with this.
+    Done(T),
+}
+
+/// The state of a once, and who waits there.
+#[derive(Debug, Drop)]
+pub struct OnceCore<T> {
+    progress: OnceProgress<T>,
+    waits: Vec<bool>,
+}
+
+impl<T> Model for OnceCore<T> {
+    ghost use Rattle.wait_cores.specs.OnceMachine.{OnceState};
+
+    ghost Value = { OnceState T };
+
+    ghost view = { λ c. record { progress = c.progress; waits = c.waits.items } };
+}
+
+impl<T: Copy> OnceCore<T> {
+    /// A once that hasn't run, for callers 0 to `callers - 1`. This call alone takes memory.
+    pub fn new(alloc: Global, callers: u32) -> Result<Self, AllocError>
+        requires { AreCallers callers }
+        ensures { IfOk result (λ core. core ≡ start callers) }
+    {
+        Ok(OnceCore {
+            progress: OnceProgress::NotRun,
+            waits: vec![in alloc; false; callers as usize]?,
+        })
+    }
+
+    /// Comes to have the function run: the first caller runs it, others wait for its end, and after that nobody waits.
+    pub fn begin(&mut self, caller: u32) -> Begun<T>
+        requires within { caller < callers_of self.old }
+        requires out { place_of self.old caller ≡ OncePlace.Out }
+        ensures { next self.old caller OnceEvent.Begin ≡ (self.new, reply_of result) }
+    {
+        match self.progress {
+            OnceProgress::NotRun => {
+                self.progress = OnceProgress::Running(caller);
+                Begun::Run
+            }
+            OnceProgress::Running(_) => {
+                self.waits[caller as usize] = true;
+                Begun::Queued
+            }
+            OnceProgress::Ended(kept) => Begun::Done(kept),
+        }
+    }
+
+    /// Keeps what the function came to, an error too, and releases all who wait.
+    pub fn end(&mut self, caller: u32, kept: T)
+        requires within { caller < callers_of self.old }
+        requires runs { runner_of self.old ≡ Some caller }
+        ensures { next self.old caller (OnceEvent.End kept) ≡ (self.new, OnceReply.Ended) }
+    {
+        self.progress = OnceProgress::Ended(kept);
+    }
+
+    /// Takes a released caller out, with what the function came to.
+    pub fn leave(&mut self, caller: u32) -> T
+        requires { place_of self.old caller ≡ OncePlace.Released }
+        ensures { next self.old caller OnceEvent.Leave ≡ (self.new, OnceReply.Left result) }
+    {
+        match self.progress {
+            OnceProgress::Ended(kept) => {
+                self.waits[caller as usize] = false;
+                kept
+            }
+            _ => unreachable!(),
+        }
+    }
+
+    /// The caller that runs the function, if one does.
+    pub fn runner(&self) -> Option<u32>
+        ensures { result ≡ runner_of self.now }
+    {
+        match self.progress {
+            OnceProgress::Running(caller) => Some(caller),
+            _ => None,
+        }
+    }
+
+    /// Where the caller stands. The one that runs the function is out, unless it waits for itself.
+    pub fn place(&self, caller: u32) -> OncePlace
+        requires { caller < callers_of self.now }
+        ensures { result ≡ place_of self.now caller }
+    {
+        if !self.waits[caller as usize] {
+            return OncePlace::Out;
+        }
+        match self.progress {
+            OnceProgress::Ended(_) => OncePlace::Released,
+            _ => OncePlace::Waiting,
+        }
+    }
+}
