@@ -1,3 +1,4 @@
 pub mod Callers
+pub mod GroupMachine
 pub mod NotifyMachine
 pub mod OnceMachine

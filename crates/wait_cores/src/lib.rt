@@ -2,8 +2,10 @@
 //! object's state and what it answers, with no thread and no clock. Whoever waits is told by its place.
 #![tactic(auto)]
 
+pub mod group;
 pub mod notify;
 pub mod once;
 
+pub use group::{GroupCore, GroupEvent, GroupPlace, GroupReply, GroupWait};
 pub use notify::{NotifyCore, NotifyEvent, NotifyPlace, NotifyReply};
 pub use once::{Begun, OnceCore, OnceEvent, OncePlace, OnceProgress, OnceReply};

@@ -1,0 +1,167 @@
+//! `sync.WaitGroup` as a machine: a counter, and callers that wait until it is 0.
+ghost use Rattle.std.specs.Prelude.{◌≡◌, ℕ, ◌<◌, map, IfOk, slice_get};
+ghost use Rattle.std.specs.List.{list_any};
+ghost use Rattle.wait_cores.specs.Callers.{AreCallers};
+ghost use Rattle.wait_cores.specs.GroupMachine.{start, next, callers_of, reply_of_wait, reply_of_result, is_reused, is_waiting, released};
+
+use std::alloc::{AllocError, Global};
+use std::marker::Model;
+use sync_model::Misuse;
+
+/// The highest counter, 2^31 - 1.
+pub const MAX_COUNTER: u32 = 2147483647;
+
+/// What a caller does at a wait group.
+#[derive(Clone, Copy, Debug, PartialEq, Eq)]
+pub enum GroupEvent {
+    /// Adds to the counter, or takes from it.
+    Add(i32),
+    /// Comes to wait until the counter is 0.
+    Wait,
+    /// Returns from a wait, having been released.
+    Leave,
+}
+
+/// What an event at a wait group answers.
+#[derive(Clone, Copy, Debug, PartialEq, Eq)]
+pub enum GroupReply {
+    /// The event was made; of a wait, that it returned at once.
+    Done,
+    /// The caller waits.
+    Queued,
+    /// The event is a misuse of the group.
+    Misused(Misuse),
+    /// The caller isn't at the place that the event needs, and nothing changed.
+    Still,
+}
+
+/// Where a caller stands at a wait group.
+#[derive(Clone, Copy, Debug, PartialEq, Eq)]
+pub enum GroupPlace {
+    /// It doesn't wait.
+    Out,
+    /// It waits for the counter to be 0.
+    Waiting,
+    /// The counter was 0, and it may leave.
+    Released,
+}
+
+impl GroupPlace {
+    // Where the caller stands once those who wait are released.
+    fn released(self) -> Self
+        ensures { result ≡ released self }
+    {
+        match self {
+            GroupPlace::Waiting => GroupPlace::Released,
+            GroupPlace::Out | GroupPlace::Released => self,
+        }
+    }
+}
+
+/// What `GroupCore::wait` answers.
+#[derive(Clone, Copy, Debug, PartialEq, Eq)]
+pub enum GroupWait {
+    /// The counter is 0: the wait returned at once.
+    Done,
+    /// The caller waits.
+    Queued,
+}
+
+/// The state of a wait group: its counter, 0 to 2^31 - 1, and where each caller stands.
+#[derive(Debug, Drop)]
+pub struct GroupCore {
+    counter: u32,
+    places: Vec<GroupPlace>,
+}
+
+impl Model for GroupCore {
+    ghost use Rattle.wait_cores.specs.GroupMachine.{GroupState};
+
+    ghost Value = { GroupState };
+
+    ghost view = { λ c. record { counter = c.counter; places = c.places.items } };
+}
+
+impl GroupCore {
+    /// A group with counter 0 at which nobody waits, for callers 0 to `callers - 1`. This call alone takes memory.
+    pub fn new(alloc: Global, callers: u32) -> Result<Self, AllocError>
+        requires { AreCallers callers }
+        ensures { IfOk result (λ core. core ≡ start callers) }
+    {
+        Ok(GroupCore {
+            counter: 0,
+            places: vec![in alloc; GroupPlace::Out; callers as usize]?,
+        })
+    }
+
+    /// Adds to the counter, and releases all who wait where it comes to 0. Refused, with nothing changed, exactly where
+    /// the counter would be below 0 or above 2^31 - 1.
+    pub fn add(&mut self, delta: i32) -> Result<(), Misuse>
+        ensures { (caller : ℕ) → caller < callers_of self.old → next self.old caller (GroupEvent.Add delta) ≡ (self.new, reply_of_result result) }
+    {
+        match self.counter.checked_add_signed(delta) {
+            Some(counter) if counter <= MAX_COUNTER => {
+                self.counter = counter;
+                if counter == 0 {
+                    release(&mut self.places);
+                }
+                Ok(())
+            }
+            _ => Err(Misuse::NegativeWaitGroupCounter),
+        }
+    }
+
+    /// Comes to wait until the counter is 0.
+    pub fn wait(&mut self, caller: u32) -> GroupWait
+        requires { slice_get self.old.places caller ≡ Some GroupPlace.Out }
+        ensures { next self.old caller GroupEvent.Wait ≡ (self.new, reply_of_wait result) }
+    {
+        if self.counter == 0 {
+            return GroupWait::Done;
+        }
+        self.places[caller as usize] = GroupPlace::Waiting;
+        GroupWait::Queued
+    }
+
+    /// Takes a released caller out. It is a misuse exactly where the group is in use again, with a counter other than 0
+    /// or somebody who waits.
+    pub fn leave(&mut self, caller: u32) -> Result<(), Misuse>
+        requires { slice_get self.old.places caller ≡ Some GroupPlace.Released }
+        ensures { next self.old caller GroupEvent.Leave ≡ (self.new, reply_of_result result) }
+    {
+        let reused = self.is_reused();
+        self.places[caller as usize] = GroupPlace::Out;
+        if reused { Err(Misuse::WaitGroupReused) } else { Ok(()) }
+    }
+
+    /// Where the caller stands.
+    pub fn place(&self, caller: u32) -> GroupPlace
+        requires { caller < callers_of self.now }
+        ensures { slice_get self.now.places caller ≡ Some result }
+    {
+        self.places[caller as usize]
+    }
+
+    // Whether the group is in use again: its counter isn't 0, or somebody waits.
+    fn is_reused(&self) -> bool
+        ensures { result ≡ is_reused self.now }
+    {
+        self.counter != 0 || somebody_waits(&self.places)
+    }
+}
+
+// Whether somebody waits.
+fn somebody_waits(places: &[GroupPlace]) -> bool
+    ensures { result ≡ list_any is_waiting places.now }
+{
+    places.iter().any(|place| matches!(place, GroupPlace::Waiting))
+}
+
+// Releases all who wait.
+fn release(places: &mut [GroupPlace])
+    ensures { places.new ≡ map released places.old }
+{
+    for place in places.iter_mut() {
+        *place = place.released();
+    }
+}
