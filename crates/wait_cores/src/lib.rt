@@ -5,7 +5,13 @@
 pub mod group;
 pub mod notify;
 pub mod once;
+pub mod part;
+pub mod pool;
+pub mod pool_event;
 
 pub use group::{GroupCore, GroupEvent, GroupPlace, GroupReply, GroupWait};
 pub use notify::{NotifyCore, NotifyEvent, NotifyPlace, NotifyReply};
 pub use once::{Begun, OnceCore, OnceEvent, OncePlace, OnceProgress, OnceReply};
+pub use part::PoolPut;
+pub use pool::PoolCore;
+pub use pool_event::{PoolEvent, PoolReply};

@@ -1,0 +1,106 @@
+//! `sync.Pool` as a machine: each caller has a part of its own, in a primary generation and in one of victims.
+ghost use Rattle.std.specs.Prelude.{◌≡◌, ℕ, ◌<◌, map, replicate, IfOk};
+ghost use Rattle.wait_cores.specs.Callers.{AreCallers};
+ghost use Rattle.wait_cores.specs.PoolParts.{empty, emptied, reply_of_put, reply_of_look};
+ghost use Rattle.wait_cores.specs.PoolMachine.{start, next, callers_of};
+
+use crate::part::{Part, PoolPut};
+use crate::pool_event::{PoolEvent, PoolReply};
+use std::alloc::{AllocError, Global};
+use std::marker::Model;
+use std::mem;
+
+/// The state of a pool: the parts of the primary generation and those of the victims, one of each for every caller.
+#[derive(Debug, Drop)]
+pub struct PoolCore {
+    primary: Vec<Part>,
+    victims: Vec<Part>,
+}
+
+impl Model for PoolCore {
+    ghost use Rattle.std.specs.Prelude.{◌≡◌, ℕ, vec_len};
+    ghost use Rattle.wait_cores.specs.PoolMachine.{PoolState};
+
+    ghost Value = { PoolState ℕ };
+
+    ghost view = { λ c. record { primary = c.primary.items; victims = c.victims.items } };
+
+    ghost invariant = { λ c. vec_len c.victims ≡ vec_len c.primary };
+}
+
+impl PoolCore {
+    /// An empty pool for callers 0 to `callers - 1`, with memory for `room` shared items in each part of both generations.
+    /// This call alone takes memory.
+    pub fn new(alloc: Global, callers: u32, room: u32) -> Result<Self, AllocError>
+        requires { AreCallers callers }
+        ensures { IfOk result (λ core. core ≡ start callers room) }
+    {
+        let primary = empty_parts(alloc, callers, room)?;
+        let victims = empty_parts(alloc, callers, room)?;
+        Ok(PoolCore { primary, victims })
+    }
+
+    /// Puts an item into the caller's part. It is dropped exactly where that part holds a private item and `room` shared
+    /// ones.
+    pub fn put(&mut self, caller: u32, item: u64) -> PoolPut
+        requires { caller < callers_of self.old }
+        ensures { next self.old caller (PoolEvent.Put item) ≡ (self.new, reply_of_put result) }
+    {
+        self.primary[caller as usize].put(item)
+    }
+
+    /// Takes the caller's private item, or else the head of its shared list.
+    pub fn look_own(&mut self, caller: u32) -> Option<u64>
+        requires { caller < callers_of self.old }
+        ensures { next self.old caller PoolEvent.LookOwn ≡ (self.new, reply_of_look result) }
+    {
+        self.primary[caller as usize].take_own()
+    }
+
+    /// Takes the tail of the shared list of a part, whoever looks.
+    pub fn look_other(&mut self, part: u32) -> Option<u64>
+        requires { part < callers_of self.old }
+        ensures { (caller : ℕ) → caller < callers_of self.old → next self.old caller (PoolEvent.LookOther part) ≡ (self.new, reply_of_look result) }
+    {
+        self.primary[part as usize].take_tail()
+    }
+
+    /// Takes an item of a part among the victims: the private one, only where the part is the caller's, or else the tail
+    /// of the shared list.
+    pub fn look_victim(&mut self, caller: u32, part: u32) -> Option<u64>
+        requires caller { caller < callers_of self.old }
+        requires part { part < callers_of self.old }
+        ensures { next self.old caller (PoolEvent.LookVictim part) ≡ (self.new, reply_of_look result) }
+    {
+        let victim = &mut self.victims[part as usize];
+        if part == caller { victim.take_victim() } else { victim.take_tail() }
+    }
+
+    /// Removes the victims, and makes the primary generation the victims.
+    pub fn sweep(&mut self)
+        ensures { (caller : ℕ) → caller < callers_of self.old → next self.old caller PoolEvent.Sweep ≡ (self.new, PoolReply.Swept) }
+    {
+        mem::swap(&mut self.primary, &mut self.victims);
+        clear(&mut self.primary);
+    }
+}
+
+// This many parts without items.
+fn empty_parts(alloc: Global, count: u32, room: u32) -> Result<Vec<Part>, AllocError>
+    ensures { IfOk result (λ parts. parts.items ≡ replicate count (empty room)) }
+{
+    let mut parts = Vec::with_capacity(alloc, count as usize)?;
+    for _part in 0..count {
+        parts.push(Part::new(alloc, room)?)?;
+    }
+    Ok(parts)
+}
+
+// Removes the items of every part.
+fn clear(parts: &mut [Part])
+    ensures { parts.new ≡ map emptied parts.old }
+{
+    for part in parts.iter_mut() {
+        part.clear();
+    }
+}
