@@ -3,6 +3,7 @@
 #![tactic(auto)]
 
 pub mod group;
+pub mod laws;
 pub mod notify;
 pub mod once;
 pub mod part;

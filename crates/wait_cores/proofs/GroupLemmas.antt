@@ -1,0 +1,115 @@
+-- A queued caller waits until the counter is 0.
+use Rattle.std.proofs.Common.{◌≡◌, ◌≢◌, ◌⊎◌, inl, inr, ℕ, suc, ◌==◌, ◌+◌, ℤ, pos, ◌+ℤ◌, Bool, true, false, cond, List, [], ◌∷◌, ◌++◌, length, map, set, Option, Some, None, refl, sym, ap, ◌∙◌, subst, arith}
+use Rattle.std.specs.Prelude.{nat_lt}
+use Rattle.std.specs.List.{slice_get}
+use Rattle.std.proofs.lemmas.Bool.Decides.{nat_tests, eqb_tells}
+use Rattle.wait_cores.specs.declared.group.GroupEvent.{GroupEvent}
+use Rattle.wait_cores.specs.declared.group.GroupEvent.TheVariants.{Add, Wait, Leave}
+use Rattle.wait_cores.specs.declared.group.GroupReply.{GroupReply}
+use Rattle.wait_cores.specs.declared.group.GroupReply.TheVariants.{Done, Queued, Misused, Still}
+use Rattle.wait_cores.specs.declared.group.GroupPlace.{GroupPlace}
+use Rattle.wait_cores.specs.declared.group.GroupPlace.TheVariants.{Out, Waiting, Released}
+use Rattle.wait_cores.specs.Log.{Entry, entry, after, Follows}
+use Rattle.wait_cores.specs.GroupMachine.{GroupState, next, made, added, within, wait_from, leave_from, callers_of}
+use Rattle.wait_cores.specs.GroupLaws.{Log, WasZero}
+use Rattle.wait_cores.proofs.Places.{get-set_kept, get-set_other, get-set_same}
+use Rattle.wait_cores.proofs.LogLemmas.{follows_rest}
+
+-- a caller that waits in the first state waits in the second, or the counter there is 0
+abbrev WaitsOn : GroupState → ℕ → GroupState → Type 0
+WaitsOn s c s' = (slice_get s.places c ≡ Some Waiting) → (slice_get s'.places c ≡ Some Waiting) ⊎ (s'.counter ≡ 0)
+
+waits_on_if : (b : Bool) (s a : GroupState) (r q : GroupReply) (c : ℕ) → WaitsOn s c a → WaitsOn s c (cond {A = GroupState × GroupReply} b (a, r) (s, q)).0
+waits_on_if true s a r q c h = h
+waits_on_if false s a r q c h = inl
+
+waits_on_sum : (sum : ℕ) (b : Bool) (s : GroupState) (c : ℕ) → (b ≡ true → sum ≡ 0) → (ps : List GroupPlace)
+    → WaitsOn s c (record { counter = sum; places = cond b ps s.places })
+waits_on_sum sum true s c zero_if ps h = inr (zero_if refl)
+waits_on_sum sum false s c zero_if ps h = inl h
+
+is_zero : (n : ℕ) → (n == 0) ≡ true → n ≡ 0
+is_zero n h = grind (arith, nat_tests)
+
+waits_on_add : (sum : Option ℕ) (s : GroupState) (c : ℕ) → WaitsOn s c (added sum s).0
+waits_on_add (Some sum) s c = waits_on_sum sum (sum == 0) s c (is_zero sum) (map _ s.places)
+waits_on_add None s c = inl
+
+waits_on_queue : (b : Bool) (s : GroupState) (d c : ℕ)
+    → WaitsOn s c (cond {A = GroupState × GroupReply} b (s, Done) (record s { places = set s.places d Waiting }, Queued)).0
+waits_on_queue true s d c h = inl h
+waits_on_queue false s d c h = inl (get-set_kept s.places d c Waiting h)
+
+waits_on_wait : (p : Option GroupPlace) (s : GroupState) (d c : ℕ) → WaitsOn s c (wait_from p s d).0
+waits_on_wait (Some Out) s d c h = waits_on_queue (s.counter == 0) s d c h
+waits_on_wait (Some Waiting) s d c h = inl h
+waits_on_wait (Some Released) s d c h = inl h
+waits_on_wait None s d c h = inl h
+
+waits_on_leave : (p : Option GroupPlace) (s : GroupState) (d c : ℕ) → slice_get s.places d ≡ p → WaitsOn s c (leave_from p s d).0
+waits_on_leave (Some Released) s d c is h =
+    let apart : c ≢ d = (λ e. let clash = sym h ∙ ap (slice_get s.places) e ∙ is in cc) in inl (get-set_other s.places d c Out apart ∙ h)
+waits_on_leave (Some Out) s d c is h = inl h
+waits_on_leave (Some Waiting) s d c is h = inl h
+waits_on_leave None s d c is h = inl h
+
+waits_on_made : (s : GroupState) (d c : ℕ) (event : GroupEvent) → WaitsOn s c (made s d event).0
+waits_on_made s d c (Add delta) = waits_on_add (within (pos s.counter +ℤ delta)) s c
+waits_on_made s d c Wait = waits_on_wait (slice_get s.places d) s d c
+waits_on_made s d c Leave = waits_on_leave (slice_get s.places d) s d c refl
+
+-- each event keeps it
+waits_on : (s : GroupState) (d c : ℕ) (event : GroupEvent) → WaitsOn s c (next s d event).0
+waits_on s d c event =
+    let m : GroupState × GroupReply = made s d event in waits_on_if (nat_lt d (callers_of s)) s m.0 m.1 Still c (waits_on_made s d c event)
+
+-- the counter was 0 after the first event, or the caller waits on
+zero_after : (s : GroupState) (c : ℕ) (e : Entry GroupEvent GroupReply) (log : Log) → slice_get (after next s (e ∷ log)).places c ≢ Some Waiting
+    → (slice_get (next s e.caller e.event).0.places c ≡ Some Waiting) ⊎ ((next s e.caller e.event).0.counter ≡ 0)
+    → (slice_get (next s e.caller e.event).0.places c ≡ Some Waiting → WasZero (next s e.caller e.event).0 log) → WasZero s (e ∷ log)
+zero_after s c e log gone (inl waits) later =
+    let found : WasZero (next s e.caller e.event).0 log = later waits in
+    record { done = e ∷ found.done; left = found.left; parts = ap (λ (x : Log). e ∷ x) found.parts; zero_then = found.zero_then }
+zero_after s c e log gone (inr zero) later = record { done = e ∷ []; left = log; parts = refl; zero_then = zero }
+
+-- a caller that waits, and doesn't after a log, has seen the counter at 0
+zero_between : (s : GroupState) (c : ℕ) (log : Log) → slice_get s.places c ≡ Some Waiting → slice_get (after next s log).places c ≢ Some Waiting → WasZero s log
+zero_between s c [] waits gone = absurd (gone waits)
+zero_between s c (e ∷ log) waits gone =
+    zero_after s c e log gone (waits_on s e.caller c e.event waits) (λ still. zero_between (next s e.caller e.event).0 c log still gone)
+
+queue_waits : (b : Bool) (s : GroupState) (c : ℕ) → slice_get s.places c ≡ Some Out
+    → (cond {A = GroupState × GroupReply} b (s, Done) (record s { places = set s.places c Waiting }, Queued)).1 ≡ Queued
+    → slice_get (cond {A = GroupState × GroupReply} b (s, Done) (record s { places = set s.places c Waiting }, Queued)).0.places c ≡ Some Waiting
+queue_waits true s c out h = cc
+queue_waits false s c out h = get-set_same s.places c Out Waiting out
+
+wait_waits : (b : Bool) (p : Option GroupPlace) (s : GroupState) (c : ℕ) → slice_get s.places c ≡ p
+    → (cond b (wait_from p s c) (s, Still)).1 ≡ Queued → slice_get (cond b (wait_from p s c) (s, Still)).0.places c ≡ Some Waiting
+wait_waits true (Some Out) s c is h = queue_waits (s.counter == 0) s c is h
+wait_waits true (Some Waiting) s c is h = is
+wait_waits true (Some Released) s c is h = cc
+wait_waits true None s c is h = cc
+wait_waits false p s c is h = cc
+
+-- whoever was queued waits
+queued_waits : (s : GroupState) (c : ℕ) → (next s c Wait).1 ≡ Queued → slice_get (next s c Wait).0.places c ≡ Some Waiting
+queued_waits s c h = wait_waits (nat_lt c (callers_of s)) (slice_get s.places c) s c refl h
+
+waiter_stays : (b : Bool) (p : Option GroupPlace) (s : GroupState) (c : ℕ) → p ≡ Some Waiting → (cond b (leave_from p s c) (s, Still)).1 ≡ Still
+waiter_stays true (Some Waiting) s c waits = refl
+waiter_stays true (Some Out) s c waits = cc
+waiter_stays true (Some Released) s c waits = cc
+waiter_stays true None s c waits = cc
+waiter_stays false p s c waits = refl
+
+-- whoever leaves doesn't wait
+leaver_is_released : (s : GroupState) (c : ℕ) (reply : GroupReply) → (next s c Leave).1 ≡ reply → reply ≢ Still → slice_get s.places c ≢ Some Waiting
+leaver_is_released s c reply h ne waits = ne (sym h ∙ waiter_stays (nat_lt c (callers_of s)) (slice_get s.places c) s c waits)
+
+-- a wait that queued and returned has seen the counter at 0
+pub waits_for_zero : (s : GroupState) (c : ℕ) (between rest : Log) (reply : GroupReply) → reply ≢ Still
+    → Follows next s (entry c Wait Queued ∷ (between ++ entry c Leave reply ∷ rest)) → WasZero (next s c Wait).0 between
+waits_for_zero s c between rest reply ne h =
+    let t : GroupState = (next s c Wait).0 in
+    zero_between t c between (queued_waits s c h.0) (leaver_is_released (after next t between) c reply (follows_rest next t between (entry c Leave reply ∷ rest) h.1).0 ne)

@@ -1,0 +1,3 @@
+//! Laws of the machines over every log of events. Each is the contract of a function that does nothing.
+
+pub mod group;
