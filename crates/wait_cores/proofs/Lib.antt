@@ -1,3 +1,4 @@
 pub mod Places
 pub mod LogLemmas
 pub mod GroupLemmas
+pub mod NotifyLemmas

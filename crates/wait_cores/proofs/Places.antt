@@ -1,5 +1,5 @@
 -- What stands at a place of a list after a write.
-use Rattle.std.proofs.Common.{◌≡◌, ◌≢◌, ℕ, zero, suc, List, [], ◌∷◌, length, set, Option, Some, None, refl, ap, ◌<◌, arith}
+use Rattle.std.proofs.Common.{◌≡◌, ◌≢◌, ℕ, zero, suc, List, [], ◌∷◌, length, replicate, set, ◌<◌, arith, Option, Some, ◌⊎◌, inl, inr, refl, ap, sym}
 use Rattle.std.specs.List.{slice_get}
 
 module _ {X : Type 0} where
@@ -22,3 +22,22 @@ module _ {X : Type 0} where
   get-set_same [] i x y h = cc
   get-set_same (z ∷ xs) zero x y h = refl
   get-set_same (z ∷ xs) (suc i) x y h = get-set_same xs i x y h
+
+  -- what stands there is what was written, or what stood there
+  pub get-set_either : (xs : List X) (i j : ℕ) (y z : X) → slice_get (set xs i y) j ≡ Some z → (z ≡ y) ⊎ (slice_get xs j ≡ Some z)
+  get-set_either [] i j y z h = inr h
+  get-set_either (x ∷ xs) zero zero y z h = inl cc
+  get-set_either (x ∷ xs) zero (suc j) y z h = inr h
+  get-set_either (x ∷ xs) (suc i) zero y z h = inr h
+  get-set_either (x ∷ xs) (suc i) (suc j) y z h = get-set_either xs i j y z h
+
+  pub get-set_within : (xs : List X) (i : ℕ) (y : X) → i < length xs → slice_get (set xs i y) i ≡ Some y
+  get-set_within [] i y h = absurd (omega arith)
+  get-set_within (x ∷ xs) zero y h = refl
+  get-set_within (x ∷ xs) (suc i) y h = get-set_within xs i y (omega arith)
+
+  -- what stands in a list of copies
+  pub get-replicate : (n i : ℕ) (x y : X) → slice_get (replicate n x) i ≡ Some y → y ≡ x
+  get-replicate zero i x y h = cc
+  get-replicate (suc n) zero x y h = cc
+  get-replicate (suc n) (suc i) x y h = get-replicate n i x y h

@@ -2,6 +2,7 @@ pub mod Callers
 pub mod GroupLaws
 pub mod GroupMachine
 pub mod Log
+pub mod NotifyLaws
 pub mod NotifyMachine
 pub mod OnceMachine
 pub mod PoolMachine
