@@ -4,6 +4,7 @@ pub mod GroupMachine
 pub mod Log
 pub mod NotifyLaws
 pub mod NotifyMachine
+pub mod OnceLaws
 pub mod OnceMachine
 pub mod PoolMachine
 pub mod PoolParts
