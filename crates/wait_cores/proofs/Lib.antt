@@ -3,3 +3,7 @@ pub mod LogLemmas
 pub mod GroupLemmas
 pub mod NotifyLemmas
 pub mod OnceLemmas
+pub mod PoolCounts
+pub mod PoolMaps
+pub mod PoolRoom
+pub mod PoolOrigins

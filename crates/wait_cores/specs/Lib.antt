@@ -6,5 +6,6 @@ pub mod NotifyLaws
 pub mod NotifyMachine
 pub mod OnceLaws
 pub mod OnceMachine
+pub mod PoolLaws
 pub mod PoolMachine
 pub mod PoolParts

@@ -3,3 +3,4 @@
 pub mod group;
 pub mod notify;
 pub mod once;
+pub mod pool;
