@@ -1,6 +1,6 @@
 -- A queued caller waits until the counter is 0.
-use Rattle.std.proofs.Common.{◌≡◌, ◌≢◌, ◌⊎◌, inl, inr, ℕ, suc, ◌==◌, ◌+◌, ℤ, pos, ◌+ℤ◌, Bool, true, false, cond, List, [], ◌∷◌, ◌++◌, length, map, set, Option, Some, None, refl, sym, ap, ◌∙◌, subst, arith}
-use Rattle.std.specs.Prelude.{nat_lt}
+use Rattle.std.proofs.Common.{◌≡◌, ◌≢◌, ◌⊎◌, inl, inr, ℕ, suc, ◌==◌, ◌+◌, ◌<◌, ℤ, pos, ◌+ℤ◌, Bool, true, false, cond, List, [], ◌∷◌, ◌++◌, length, map, set, Option, Some, None, refl, sym, ap, ◌∙◌, subst, arith}
+use Rattle.std.specs.Prelude.{nat_lt, unwrap_or}
 use Rattle.std.specs.List.{slice_get}
 use Rattle.std.proofs.lemmas.Bool.Decides.{nat_tests, eqb_tells}
 use Rattle.wait_cores.specs.declared.group.GroupEvent.{GroupEvent}
@@ -10,9 +10,9 @@ use Rattle.wait_cores.specs.declared.group.GroupReply.TheVariants.{Done, Queued,
 use Rattle.wait_cores.specs.declared.group.GroupPlace.{GroupPlace}
 use Rattle.wait_cores.specs.declared.group.GroupPlace.TheVariants.{Out, Waiting, Released}
 use Rattle.wait_cores.specs.Log.{Entry, entry, after, Follows}
-use Rattle.wait_cores.specs.GroupMachine.{GroupState, next, made, added, within, wait_from, leave_from, callers_of}
+use Rattle.wait_cores.specs.GroupMachine.{GroupState, next, made, added, within, wait_from, leave_from, callers_of, place_of}
 use Rattle.wait_cores.specs.GroupLaws.{Log, WasZero}
-use Rattle.wait_cores.proofs.Places.{get-set_kept, get-set_other, get-set_same}
+use Rattle.wait_cores.proofs.Places.{get-set_kept, get-set_other, get-set_within}
 use Rattle.wait_cores.proofs.LogLemmas.{follows_rest}
 
 -- a caller that waits in the first state waits in the second, or the counter there is 0
@@ -28,6 +28,9 @@ waits_on_sum : (sum : ℕ) (b : Bool) (s : GroupState) (c : ℕ) → (b ≡ true
 waits_on_sum sum true s c zero_if ps h = inr (zero_if refl)
 waits_on_sum sum false s c zero_if ps h = inl h
 
+is_below : (m n : ℕ) → nat_lt m n ≡ true → m < n
+is_below m n h = grind (arith, nat_tests)
+
 is_zero : (n : ℕ) → (n == 0) ≡ true → n ≡ 0
 is_zero n h = grind (arith, nat_tests)
 
@@ -40,23 +43,22 @@ waits_on_queue : (b : Bool) (s : GroupState) (d c : ℕ)
 waits_on_queue true s d c h = inl h
 waits_on_queue false s d c h = inl (get-set_kept s.places d c Waiting h)
 
-waits_on_wait : (p : Option GroupPlace) (s : GroupState) (d c : ℕ) → WaitsOn s c (wait_from p s d).0
-waits_on_wait (Some Out) s d c h = waits_on_queue (s.counter == 0) s d c h
-waits_on_wait (Some Waiting) s d c h = inl h
-waits_on_wait (Some Released) s d c h = inl h
-waits_on_wait None s d c h = inl h
+waits_on_wait : (p : GroupPlace) (s : GroupState) (d c : ℕ) → WaitsOn s c (wait_from p s d).0
+waits_on_wait Out s d c h = waits_on_queue (s.counter == 0) s d c h
+waits_on_wait Waiting s d c h = inl h
+waits_on_wait Released s d c h = inl h
 
-waits_on_leave : (p : Option GroupPlace) (s : GroupState) (d c : ℕ) → slice_get s.places d ≡ p → WaitsOn s c (leave_from p s d).0
-waits_on_leave (Some Released) s d c is h =
-    let apart : c ≢ d = (λ e. let clash = sym h ∙ ap (slice_get s.places) e ∙ is in cc) in inl (get-set_other s.places d c Out apart ∙ h)
-waits_on_leave (Some Out) s d c is h = inl h
-waits_on_leave (Some Waiting) s d c is h = inl h
-waits_on_leave None s d c is h = inl h
+waits_on_leave : (p : GroupPlace) (s : GroupState) (d c : ℕ) → place_of s d ≡ p → WaitsOn s c (leave_from p s d).0
+waits_on_leave Released s d c is h =
+    let apart : c ≢ d = (λ e. let clash : Waiting ≡ Released = sym (ap (λ (o : Option GroupPlace). unwrap_or o Out) h) ∙ ap (place_of s) e ∙ is in cc) in
+    inl (get-set_other s.places d c Out apart ∙ h)
+waits_on_leave Out s d c is h = inl h
+waits_on_leave Waiting s d c is h = inl h
 
 waits_on_made : (s : GroupState) (d c : ℕ) (event : GroupEvent) → WaitsOn s c (made s d event).0
 waits_on_made s d c (Add delta) = waits_on_add (within (pos s.counter +ℤ delta)) s c
-waits_on_made s d c Wait = waits_on_wait (slice_get s.places d) s d c
-waits_on_made s d c Leave = waits_on_leave (slice_get s.places d) s d c refl
+waits_on_made s d c Wait = waits_on_wait (place_of s d) s d c
+waits_on_made s d c Leave = waits_on_leave (place_of s d) s d c refl
 
 -- each event keeps it
 waits_on : (s : GroupState) (d c : ℕ) (event : GroupEvent) → WaitsOn s c (next s d event).0
@@ -78,34 +80,33 @@ zero_between s c [] waits gone = absurd (gone waits)
 zero_between s c (e ∷ log) waits gone =
     zero_after s c e log gone (waits_on s e.caller c e.event waits) (λ still. zero_between (next s e.caller e.event).0 c log still gone)
 
-queue_waits : (b : Bool) (s : GroupState) (c : ℕ) → slice_get s.places c ≡ Some Out
+queue_waits : (b : Bool) (s : GroupState) (c : ℕ) → c < length s.places
     → (cond {A = GroupState × GroupReply} b (s, Done) (record s { places = set s.places c Waiting }, Queued)).1 ≡ Queued
     → slice_get (cond {A = GroupState × GroupReply} b (s, Done) (record s { places = set s.places c Waiting }, Queued)).0.places c ≡ Some Waiting
-queue_waits true s c out h = cc
-queue_waits false s c out h = get-set_same s.places c Out Waiting out
+queue_waits true s c within h = cc
+queue_waits false s c within h = get-set_within s.places c Waiting within
 
-wait_waits : (b : Bool) (p : Option GroupPlace) (s : GroupState) (c : ℕ) → slice_get s.places c ≡ p
+wait_waits : (b : Bool) (p : GroupPlace) (s : GroupState) (c : ℕ) → nat_lt c (callers_of s) ≡ b
     → (cond b (wait_from p s c) (s, Still)).1 ≡ Queued → slice_get (cond b (wait_from p s c) (s, Still)).0.places c ≡ Some Waiting
-wait_waits true (Some Out) s c is h = queue_waits (s.counter == 0) s c is h
-wait_waits true (Some Waiting) s c is h = is
-wait_waits true (Some Released) s c is h = cc
-wait_waits true None s c is h = cc
-wait_waits false p s c is h = cc
+wait_waits true Out s c within h = queue_waits (s.counter == 0) s c (is_below c (length s.places) within) h
+wait_waits true Waiting s c within h = cc
+wait_waits true Released s c within h = cc
+wait_waits false p s c within h = cc
 
 -- whoever was queued waits
 queued_waits : (s : GroupState) (c : ℕ) → (next s c Wait).1 ≡ Queued → slice_get (next s c Wait).0.places c ≡ Some Waiting
-queued_waits s c h = wait_waits (nat_lt c (callers_of s)) (slice_get s.places c) s c refl h
+queued_waits s c h = wait_waits (nat_lt c (callers_of s)) (place_of s c) s c refl h
 
-waiter_stays : (b : Bool) (p : Option GroupPlace) (s : GroupState) (c : ℕ) → p ≡ Some Waiting → (cond b (leave_from p s c) (s, Still)).1 ≡ Still
-waiter_stays true (Some Waiting) s c waits = refl
-waiter_stays true (Some Out) s c waits = cc
-waiter_stays true (Some Released) s c waits = cc
-waiter_stays true None s c waits = cc
+waiter_stays : (b : Bool) (p : GroupPlace) (s : GroupState) (c : ℕ) → p ≡ Waiting → (cond b (leave_from p s c) (s, Still)).1 ≡ Still
+waiter_stays true Waiting s c waits = refl
+waiter_stays true Out s c waits = cc
+waiter_stays true Released s c waits = cc
 waiter_stays false p s c waits = refl
 
 -- whoever leaves doesn't wait
 leaver_is_released : (s : GroupState) (c : ℕ) (reply : GroupReply) → (next s c Leave).1 ≡ reply → reply ≢ Still → slice_get s.places c ≢ Some Waiting
-leaver_is_released s c reply h ne waits = ne (sym h ∙ waiter_stays (nat_lt c (callers_of s)) (slice_get s.places c) s c waits)
+leaver_is_released s c reply h ne waits =
+    ne (sym h ∙ waiter_stays (nat_lt c (callers_of s)) (place_of s c) s c (ap (λ (o : Option GroupPlace). unwrap_or o Out) waits))
 
 -- a wait that queued and returned has seen the counter at 0
 pub waits_for_zero : (s : GroupState) (c : ℕ) (between rest : Log) (reply : GroupReply) → reply ≢ Still

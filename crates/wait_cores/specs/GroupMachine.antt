@@ -1,6 +1,6 @@
 -- The machine of `sync.WaitGroup`. Go's documentation says: if the counter becomes zero, all goroutines blocked on Wait are
 -- released; if the counter goes negative, Add panics; and new Add calls must happen after all previous Wait calls have returned.
-use Rattle.std.specs.Prelude.{ℕ, ℤ, pos, negsuc, ◌+ℤ◌, ◌==◌, Bool, true, false, not, ◌||◌, nat_lt, nat_le, if◌then◌else◌, List, length, map, replicate, slice_get, slice_set, Option, Some, None, Result, Ok, Err}
+use Rattle.std.specs.Prelude.{ℕ, ℤ, pos, negsuc, ◌+ℤ◌, ◌==◌, Bool, true, false, not, ◌||◌, nat_lt, nat_le, if◌then◌else◌, List, length, map, replicate, slice_get, slice_set, unwrap_or, Option, Some, None, Result, Ok, Err}
 use Rattle.std.specs.List.{list_any}
 use Rattle.sync_model.specs.declared.misuse.Misuse.{Misuse}
 use Rattle.sync_model.specs.declared.misuse.Misuse.TheVariants.{NegativeWaitGroupCounter, WaitGroupReused}
@@ -27,6 +27,10 @@ start callers = record { counter = 0; places = replicate callers Out }
 abbrev pub callers_of : GroupState → ℕ
 callers_of state = length state.places
 
+-- where a caller stands
+abbrev pub place_of : GroupState → ℕ → GroupPlace
+place_of state caller = unwrap_or (slice_get state.places caller) Out
+
 abbrev pub is_waiting : GroupPlace → Bool
 is_waiting Waiting = true
 is_waiting Out = false
@@ -49,28 +53,26 @@ added (Some counter) state = (record { counter = counter; places = if counter ==
 added None state = (state, Misused NegativeWaitGroupCounter)
 
 -- a caller that is out returns at once where the counter is 0, and waits else
-abbrev pub wait_from : Option GroupPlace → GroupState → ℕ → GroupState × GroupReply
-wait_from (Some Out) state caller = if state.counter == 0 then (state, Done) else (record state { places = slice_set state.places caller Waiting }, Queued)
-wait_from (Some Waiting) state caller = (state, Still)
-wait_from (Some Released) state caller = (state, Still)
-wait_from None state caller = (state, Still)
+abbrev pub wait_from : GroupPlace → GroupState → ℕ → GroupState × GroupReply
+wait_from Out state caller = if state.counter == 0 then (state, Done) else (record state { places = slice_set state.places caller Waiting }, Queued)
+wait_from Waiting state caller = (state, Still)
+wait_from Released state caller = (state, Still)
 
 -- whether a group, some of whose waiters are released, is in use again
 abbrev pub is_reused : GroupState → Bool
 is_reused state = not (state.counter == 0) || list_any is_waiting state.places
 
 -- a released caller is out afterwards, whether or not its leaving is a misuse
-abbrev pub leave_from : Option GroupPlace → GroupState → ℕ → GroupState × GroupReply
-leave_from (Some Released) state caller = (record state { places = slice_set state.places caller Out }, if is_reused state then Misused WaitGroupReused else Done)
-leave_from (Some Out) state caller = (state, Still)
-leave_from (Some Waiting) state caller = (state, Still)
-leave_from None state caller = (state, Still)
+abbrev pub leave_from : GroupPlace → GroupState → ℕ → GroupState × GroupReply
+leave_from Released state caller = (record state { places = slice_set state.places caller Out }, if is_reused state then Misused WaitGroupReused else Done)
+leave_from Out state caller = (state, Still)
+leave_from Waiting state caller = (state, Still)
 
 -- what each event of one of the callers does
 abbrev pub made : GroupState → ℕ → GroupEvent → GroupState × GroupReply
 made state caller (Add delta) = added (within (pos state.counter +ℤ delta)) state
-made state caller Wait = wait_from (slice_get state.places caller) state caller
-made state caller Leave = leave_from (slice_get state.places caller) state caller
+made state caller Wait = wait_from (place_of state caller) state caller
+made state caller Leave = leave_from (place_of state caller) state caller
 
 -- the state and the reply after an event. A caller that isn't one of the group's changes nothing
 abbrev pub next : GroupState → ℕ → GroupEvent → GroupState × GroupReply

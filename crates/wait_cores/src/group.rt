@@ -1,8 +1,8 @@
 //! `sync.WaitGroup` as a machine: a counter, and callers that wait until it is 0.
-ghost use Rattle.std.specs.Prelude.{◌≡◌, ℕ, ◌<◌, map, IfOk, slice_get};
+ghost use Rattle.std.specs.Prelude.{◌≡◌, ℕ, ◌<◌, map, IfOk};
 ghost use Rattle.std.specs.List.{list_any};
 ghost use Rattle.wait_cores.specs.Callers.{AreCallers};
-ghost use Rattle.wait_cores.specs.GroupMachine.{start, next, callers_of, reply_of_wait, reply_of_result, is_reused, is_waiting, released};
+ghost use Rattle.wait_cores.specs.GroupMachine.{start, next, callers_of, place_of, reply_of_wait, reply_of_result, is_reused, is_waiting, released};
 
 use std::alloc::{AllocError, Global};
 use std::marker::Model;
@@ -97,7 +97,8 @@ impl GroupCore {
     /// Adds to the counter, and releases all who wait where it comes to 0. Refused, with nothing changed, exactly where
     /// the counter would be below 0 or above 2^31 - 1.
     pub fn add(&mut self, delta: i32) -> Result<(), Misuse>
-        ensures { (caller : ℕ) → caller < callers_of self.old → next self.old caller (GroupEvent.Add delta) ≡ (self.new, reply_of_result result) }
+        ensures step { (caller : ℕ) → caller < callers_of self.old → next self.old caller (GroupEvent.Add delta) ≡ (self.new, reply_of_result result) }
+        ensures callers { callers_of self.new ≡ callers_of self.old }
     {
         match self.counter.checked_add_signed(delta) {
             Some(counter) if counter <= MAX_COUNTER => {
@@ -113,8 +114,10 @@ impl GroupCore {
 
     /// Comes to wait until the counter is 0.
     pub fn wait(&mut self, caller: u32) -> GroupWait
-        requires { slice_get self.old.places caller ≡ Some GroupPlace.Out }
-        ensures { next self.old caller GroupEvent.Wait ≡ (self.new, reply_of_wait result) }
+        requires within { caller < callers_of self.old }
+        requires out { place_of self.old caller ≡ GroupPlace.Out }
+        ensures step { next self.old caller GroupEvent.Wait ≡ (self.new, reply_of_wait result) }
+        ensures callers { callers_of self.new ≡ callers_of self.old }
     {
         if self.counter == 0 {
             return GroupWait::Done;
@@ -126,8 +129,9 @@ impl GroupCore {
     /// Takes a released caller out. It is a misuse exactly where the group is in use again, with a counter other than 0
     /// or somebody who waits.
     pub fn leave(&mut self, caller: u32) -> Result<(), Misuse>
-        requires { slice_get self.old.places caller ≡ Some GroupPlace.Released }
-        ensures { next self.old caller GroupEvent.Leave ≡ (self.new, reply_of_result result) }
+        requires { place_of self.old caller ≡ GroupPlace.Released }
+        ensures step { next self.old caller GroupEvent.Leave ≡ (self.new, reply_of_result result) }
+        ensures callers { callers_of self.new ≡ callers_of self.old }
     {
         let reused = self.is_reused();
         self.places[caller as usize] = GroupPlace::Out;
@@ -137,7 +141,7 @@ impl GroupCore {
     /// Where the caller stands.
     pub fn place(&self, caller: u32) -> GroupPlace
         requires { caller < callers_of self.now }
-        ensures { slice_get self.now.places caller ≡ Some result }
+        ensures { result ≡ place_of self.now caller }
     {
         self.places[caller as usize]
     }

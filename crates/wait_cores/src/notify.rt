@@ -71,7 +71,8 @@ impl NotifyCore {
     /// Gives the caller the next ticket, in place of any that it has.
     pub fn ticket(&mut self, caller: u32)
         requires { caller < callers_of self.old }
-        ensures { next self.old caller NotifyEvent.Ticket ≡ (self.new, NotifyReply.Done) }
+        ensures step { next self.old caller NotifyEvent.Ticket ≡ (self.new, NotifyReply.Done) }
+        ensures callers { callers_of self.new ≡ callers_of self.old }
     {
         self.tickets[caller as usize] = Some(self.next_ticket);
         self.next_ticket = self.next_ticket.saturating_add(1);
@@ -79,7 +80,8 @@ impl NotifyCore {
 
     /// Notifies the oldest ticket that isn't notified. Where there is none, nothing is kept for a later one.
     pub fn signal(&mut self)
-        ensures { (caller : ℕ) → caller < callers_of self.old → next self.old caller NotifyEvent.Signal ≡ (self.new, NotifyReply.Done) }
+        ensures step { (caller : ℕ) → caller < callers_of self.old → next self.old caller NotifyEvent.Signal ≡ (self.new, NotifyReply.Done) }
+        ensures callers { callers_of self.new ≡ callers_of self.old }
     {
         if self.notified < self.next_ticket {
             self.notified += 1;
@@ -88,7 +90,8 @@ impl NotifyCore {
 
     /// Notifies every ticket that was taken.
     pub fn broadcast(&mut self)
-        ensures { (caller : ℕ) → caller < callers_of self.old → next self.old caller NotifyEvent.Broadcast ≡ (self.new, NotifyReply.Done) }
+        ensures step { (caller : ℕ) → caller < callers_of self.old → next self.old caller NotifyEvent.Broadcast ≡ (self.new, NotifyReply.Done) }
+        ensures callers { callers_of self.new ≡ callers_of self.old }
     {
         self.notified = self.next_ticket;
     }
@@ -96,7 +99,8 @@ impl NotifyCore {
     /// Takes a notified caller out.
     pub fn leave(&mut self, caller: u32)
         requires { place_of self.old caller ≡ NotifyPlace.Notified }
-        ensures { next self.old caller NotifyEvent.Leave ≡ (self.new, NotifyReply.Done) }
+        ensures step { next self.old caller NotifyEvent.Leave ≡ (self.new, NotifyReply.Done) }
+        ensures callers { callers_of self.new ≡ callers_of self.old }
     {
         self.tickets[caller as usize] = None;
     }

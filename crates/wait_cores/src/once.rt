@@ -98,7 +98,8 @@ impl<T: Copy> OnceCore<T> {
     pub fn begin(&mut self, caller: u32) -> Begun<T>
         requires within { caller < callers_of self.old }
         requires out { place_of self.old caller ≡ OncePlace.Out }
-        ensures { next self.old caller OnceEvent.Begin ≡ (self.new, reply_of result) }
+        ensures step { next self.old caller OnceEvent.Begin ≡ (self.new, reply_of result) }
+        ensures callers { callers_of self.new ≡ callers_of self.old }
     {
         match self.progress {
             OnceProgress::NotRun => {
@@ -117,7 +118,8 @@ impl<T: Copy> OnceCore<T> {
     pub fn end(&mut self, caller: u32, kept: T)
         requires within { caller < callers_of self.old }
         requires runs { runner_of self.old ≡ Some caller }
-        ensures { next self.old caller (OnceEvent.End kept) ≡ (self.new, OnceReply.Ended) }
+        ensures step { next self.old caller (OnceEvent.End kept) ≡ (self.new, OnceReply.Ended) }
+        ensures callers { callers_of self.new ≡ callers_of self.old }
     {
         self.progress = OnceProgress::Ended(kept);
     }
@@ -125,7 +127,8 @@ impl<T: Copy> OnceCore<T> {
     /// Takes a released caller out, with what the function came to.
     pub fn leave(&mut self, caller: u32) -> T
         requires { place_of self.old caller ≡ OncePlace.Released }
-        ensures { next self.old caller OnceEvent.Leave ≡ (self.new, OnceReply.Left result) }
+        ensures step { next self.old caller OnceEvent.Leave ≡ (self.new, OnceReply.Left result) }
+        ensures callers { callers_of self.new ≡ callers_of self.old }
     {
         match self.progress {
             OnceProgress::Ended(kept) => {

@@ -66,8 +66,7 @@ impl Part {
     pub fn take_own(&mut self) -> Option<u64>
         ensures { take_own self.old ≡ (self.new, reply_of_look result) }
     {
-        if let Some(item) = self.private {
-            self.private = None;
+        if let Some(item) = self.private.take() {
             return Some(item);
         }
         self.shared.pop_front()
@@ -88,7 +87,7 @@ impl Part {
             self.private = None;
             return Some(item);
         }
-        self.shared.pop_back()
+        self.take_tail()
     }
 
     /// Removes every item.

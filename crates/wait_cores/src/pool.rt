@@ -44,7 +44,8 @@ impl PoolCore {
     /// ones.
     pub fn put(&mut self, caller: u32, item: u64) -> PoolPut
         requires { caller < callers_of self.old }
-        ensures { next self.old caller (PoolEvent.Put item) ≡ (self.new, reply_of_put result) }
+        ensures step { next self.old caller (PoolEvent.Put item) ≡ (self.new, reply_of_put result) }
+        ensures callers { callers_of self.new ≡ callers_of self.old }
     {
         self.primary[caller as usize].put(item)
     }
@@ -52,7 +53,8 @@ impl PoolCore {
     /// Takes the caller's private item, or else the head of its shared list.
     pub fn look_own(&mut self, caller: u32) -> Option<u64>
         requires { caller < callers_of self.old }
-        ensures { next self.old caller PoolEvent.LookOwn ≡ (self.new, reply_of_look result) }
+        ensures step { next self.old caller PoolEvent.LookOwn ≡ (self.new, reply_of_look result) }
+        ensures callers { callers_of self.new ≡ callers_of self.old }
     {
         self.primary[caller as usize].take_own()
     }
@@ -60,7 +62,8 @@ impl PoolCore {
     /// Takes the tail of the shared list of a part, whoever looks.
     pub fn look_other(&mut self, part: u32) -> Option<u64>
         requires { part < callers_of self.old }
-        ensures { (caller : ℕ) → caller < callers_of self.old → next self.old caller (PoolEvent.LookOther part) ≡ (self.new, reply_of_look result) }
+        ensures step { (caller : ℕ) → caller < callers_of self.old → next self.old caller (PoolEvent.LookOther part) ≡ (self.new, reply_of_look result) }
+        ensures callers { callers_of self.new ≡ callers_of self.old }
     {
         self.primary[part as usize].take_tail()
     }
@@ -70,7 +73,8 @@ impl PoolCore {
     pub fn look_victim(&mut self, caller: u32, part: u32) -> Option<u64>
         requires caller { caller < callers_of self.old }
         requires part { part < callers_of self.old }
-        ensures { next self.old caller (PoolEvent.LookVictim part) ≡ (self.new, reply_of_look result) }
+        ensures step { next self.old caller (PoolEvent.LookVictim part) ≡ (self.new, reply_of_look result) }
+        ensures callers { callers_of self.new ≡ callers_of self.old }
     {
         let victim = &mut self.victims[part as usize];
         if part == caller { victim.take_victim() } else { victim.take_tail() }
@@ -78,7 +82,8 @@ impl PoolCore {
 
     /// Removes the victims, and makes the primary generation the victims.
     pub fn sweep(&mut self)
-        ensures { (caller : ℕ) → caller < callers_of self.old → next self.old caller PoolEvent.Sweep ≡ (self.new, PoolReply.Swept) }
+        ensures step { (caller : ℕ) → caller < callers_of self.old → next self.old caller PoolEvent.Sweep ≡ (self.new, PoolReply.Swept) }
+        ensures callers { callers_of self.new ≡ callers_of self.old }
     {
         mem::swap(&mut self.primary, &mut self.victims);
         clear(&mut self.primary);
