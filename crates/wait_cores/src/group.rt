@@ -67,6 +67,28 @@ pub enum GroupWait {
     Queued,
 }
 
+impl From<GroupWait> for GroupReply {
+    ghost from_gives = { λ wait reply. reply ≡ reply_of_wait wait };
+
+    fn from(wait: GroupWait) -> Self {
+        match wait {
+            GroupWait::Done => GroupReply::Done,
+            GroupWait::Queued => GroupReply::Queued,
+        }
+    }
+}
+
+impl From<Result<(), Misuse>> for GroupReply {
+    ghost from_gives = { λ outcome reply. reply ≡ reply_of_result outcome };
+
+    fn from(outcome: Result<(), Misuse>) -> Self {
+        match outcome {
+            Ok(()) => GroupReply::Done,
+            Err(misuse) => GroupReply::Misused(misuse),
+        }
+    }
+}
+
 /// The state of a wait group: its counter, 0 to 2^31 - 1, and where each caller stands.
 #[derive(Debug, Drop)]
 pub struct GroupCore {
@@ -86,7 +108,8 @@ impl GroupCore {
     /// A group with counter 0 at which nobody waits, for callers 0 to `callers - 1`. This call alone takes memory.
     pub fn new(alloc: Global, callers: u32) -> Result<Self, AllocError>
         requires { AreCallers callers }
-        ensures { IfOk result (λ core. core ≡ start callers) }
+        ensures start { IfOk result (λ core. core ≡ start callers) }
+        ensures callers { IfOk result (λ core. callers_of core ≡ callers) }
     {
         Ok(GroupCore {
             counter: 0,
@@ -144,6 +167,23 @@ impl GroupCore {
         ensures { result ≡ place_of self.now caller }
     {
         self.places[caller as usize]
+    }
+
+    /// What an event of a caller does, whoever it is and wherever it stands: the call of that event, or nothing where the
+    /// call's conditions aren't met.
+    pub fn step(&mut self, caller: u32, event: GroupEvent) -> GroupReply
+        ensures step { next self.old caller event ≡ (self.new, result) }
+        ensures callers { callers_of self.new ≡ callers_of self.old }
+    {
+        if caller as usize >= self.places.len() {
+            return GroupReply::Still;
+        }
+        match (event, self.place(caller)) {
+            (GroupEvent::Add(delta), _) => self.add(delta).into(),
+            (GroupEvent::Wait, GroupPlace::Out) => self.wait(caller).into(),
+            (GroupEvent::Leave, GroupPlace::Released) => self.leave(caller).into(),
+            _ => GroupReply::Still,
+        }
     }
 
     // Whether the group is in use again: its counter isn't 0, or somebody waits.

@@ -59,7 +59,8 @@ impl NotifyCore {
     /// A cond at which nobody waits, for callers 0 to `callers - 1`. This call alone takes memory.
     pub fn new(alloc: Global, callers: u32) -> Result<Self, AllocError>
         requires { AreCallers callers }
-        ensures { IfOk result (λ core. core ≡ start callers) }
+        ensures start { IfOk result (λ core. core ≡ start callers) }
+        ensures callers { IfOk result (λ core. callers_of core ≡ callers) }
     {
         Ok(NotifyCore {
             next_ticket: 0,
@@ -115,5 +116,24 @@ impl NotifyCore {
             Some(ticket) if ticket < self.notified => NotifyPlace::Notified,
             Some(_) => NotifyPlace::Waiting,
         }
+    }
+
+    /// What an event of a caller does, whoever it is and wherever it stands: the call of that event, or nothing where the
+    /// call's conditions aren't met.
+    pub fn step(&mut self, caller: u32, event: NotifyEvent) -> NotifyReply
+        ensures step { next self.old caller event ≡ (self.new, result) }
+        ensures callers { callers_of self.new ≡ callers_of self.old }
+    {
+        if caller as usize >= self.tickets.len() {
+            return NotifyReply::Still;
+        }
+        match (event, self.place(caller)) {
+            (NotifyEvent::Ticket, _) => self.ticket(caller),
+            (NotifyEvent::Signal, _) => self.signal(),
+            (NotifyEvent::Broadcast, _) => self.broadcast(),
+            (NotifyEvent::Leave, NotifyPlace::Notified) => self.leave(caller),
+            (NotifyEvent::Leave, _) => return NotifyReply::Still,
+        }
+        NotifyReply::Done
     }
 }

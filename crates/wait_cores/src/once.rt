@@ -67,6 +67,18 @@ pub enum Begun<T> {
     Done(T),
 }
 
+impl<T> From<Begun<T>> for OnceReply<T> {
+    ghost from_gives = { λ begun reply. reply ≡ reply_of begun };
+
+    fn from(begun: Begun<T>) -> Self {
+        match begun {
+            Begun::Run => OnceReply::Run,
+            Begun::Queued => OnceReply::Queued,
+            Begun::Done(kept) => OnceReply::Done(kept),
+        }
+    }
+}
+
 /// The state of a once, and who waits there.
 #[derive(Debug, Drop)]
 pub struct OnceCore<T> {
@@ -86,7 +98,8 @@ impl<T: Copy> OnceCore<T> {
     /// A once that hasn't run, for callers 0 to `callers - 1`. This call alone takes memory.
     pub fn new(alloc: Global, callers: u32) -> Result<Self, AllocError>
         requires { AreCallers callers }
-        ensures { IfOk result (λ core. core ≡ start callers) }
+        ensures start { IfOk result (λ core. core ≡ start callers) }
+        ensures callers { IfOk result (λ core. callers_of core ≡ callers) }
     {
         Ok(OnceCore {
             progress: OnceProgress::NotRun,
@@ -160,6 +173,26 @@ impl<T: Copy> OnceCore<T> {
         match self.progress {
             OnceProgress::Ended(_) => OncePlace::Released,
             _ => OncePlace::Waiting,
+        }
+    }
+
+    /// What an event of a caller does, whoever it is and wherever it stands: the call of that event, or nothing where the
+    /// call's conditions aren't met.
+    pub fn step(&mut self, caller: u32, event: OnceEvent<T>) -> OnceReply<T>
+        ensures step { next self.old caller event ≡ (self.new, result) }
+        ensures callers { callers_of self.new ≡ callers_of self.old }
+    {
+        if caller as usize >= self.waits.len() {
+            return OnceReply::Still;
+        }
+        match (event, self.place(caller)) {
+            (OnceEvent::Begin, OncePlace::Out) => self.begin(caller).into(),
+            (OnceEvent::End(kept), _) if self.runner() == Some(caller) => {
+                self.end(caller, kept);
+                OnceReply::Ended
+            }
+            (OnceEvent::Leave, OncePlace::Released) => OnceReply::Left(self.leave(caller)),
+            _ => OnceReply::Still,
         }
     }
 }

@@ -1,5 +1,5 @@
 //! `sync.Pool` as a machine: each caller has a part of its own, in a primary generation and in one of victims.
-ghost use Rattle.std.specs.Prelude.{◌≡◌, ℕ, ◌<◌, map, replicate, IfOk};
+ghost use Rattle.std.specs.Prelude.{◌≡◌, ℕ, ◌<◌, ◌↔◌, length, map, replicate, IfOk, IsTrue};
 ghost use Rattle.wait_cores.specs.Callers.{AreCallers};
 ghost use Rattle.wait_cores.specs.PoolParts.{empty, emptied, reply_of_put, reply_of_look};
 ghost use Rattle.wait_cores.specs.PoolMachine.{start, next, callers_of};
@@ -33,7 +33,8 @@ impl PoolCore {
     /// This call alone takes memory.
     pub fn new(alloc: Global, callers: u32, room: u32) -> Result<Self, AllocError>
         requires { AreCallers callers }
-        ensures { IfOk result (λ core. core ≡ start callers room) }
+        ensures start { IfOk result (λ core. core ≡ start callers room) }
+        ensures callers { IfOk result (λ core. callers_of core ≡ callers) }
     {
         let primary = empty_parts(alloc, callers, room)?;
         let victims = empty_parts(alloc, callers, room)?;
@@ -87,6 +88,36 @@ impl PoolCore {
     {
         mem::swap(&mut self.primary, &mut self.victims);
         clear(&mut self.primary);
+    }
+
+    /// What an event of a caller does, whoever it is: the call of that event, or nothing where the caller, or a part that the
+    /// event names, isn't one of the pool's.
+    pub fn step(&mut self, caller: u32, event: PoolEvent<u64>) -> PoolReply<u64>
+        ensures step { next self.old caller event ≡ (self.new, result) }
+        ensures callers { callers_of self.new ≡ callers_of self.old }
+    {
+        if !self.has(caller) {
+            return PoolReply::Still;
+        }
+        match event {
+            PoolEvent::Put(item) => self.put(caller, item).into(),
+            PoolEvent::LookOwn => self.look_own(caller).into(),
+            PoolEvent::LookOther(part) if self.has(part) => self.look_other(part).into(),
+            PoolEvent::LookVictim(part) if self.has(part) => self.look_victim(caller, part).into(),
+            PoolEvent::LookOther(_) | PoolEvent::LookVictim(_) => PoolReply::Still,
+            PoolEvent::Sweep => {
+                self.sweep();
+                PoolReply::Swept
+            }
+        }
+    }
+
+    // Whether the pool has a part of this number.
+    fn has(&self, part: u32) -> bool
+        ensures primary { IsTrue result ↔ (part < length self.now.primary) }
+        ensures victims { IsTrue result ↔ (part < length self.now.victims) }
+    {
+        (part as usize) < self.primary.len()
     }
 }
 

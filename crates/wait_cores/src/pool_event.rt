@@ -1,5 +1,8 @@
 //! What a caller does at a pool, and what it is answered.
 ghost use Rattle.std.specs.Prelude.{◌≡◌};
+ghost use Rattle.wait_cores.specs.PoolParts.{reply_of_put, reply_of_look};
+
+use crate::part::PoolPut;
 
 /// What a caller does at a pool of items of a type `X`.
 #[derive(Clone, Copy, Debug, PartialEq, Eq)]
@@ -32,4 +35,26 @@ pub enum PoolReply<X> {
     Swept,
     /// The caller, or the part that the event names, isn't one of the pool's, and nothing changed.
     Still,
+}
+
+impl From<PoolPut> for PoolReply<u64> {
+    ghost from_gives = { λ put reply. reply ≡ reply_of_put put };
+
+    fn from(put: PoolPut) -> Self {
+        match put {
+            PoolPut::Kept => PoolReply::Kept,
+            PoolPut::Dropped(item) => PoolReply::Dropped(item),
+        }
+    }
+}
+
+impl From<Option<u64>> for PoolReply<u64> {
+    ghost from_gives = { λ item reply. reply ≡ reply_of_look item };
+
+    fn from(item: Option<u64>) -> Self {
+        match item {
+            Some(item) => PoolReply::Item(item),
+            None => PoolReply::Nothing,
+        }
+    }
 }
