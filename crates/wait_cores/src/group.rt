@@ -209,3 +209,40 @@ fn release(places: &mut [GroupPlace])
         *place = place.released();
     }
 }
+
+#[cfg(test)]
+mod tests {
+    use super::*;
+    use std::test::Fail;
+
+    #[test]
+    fn counts_and_releases(rt: HostRuntime) -> Result<(), Fail> {
+        let mut group = GroupCore::new(rt.alloc(), 2)?;
+        let table = [
+            // From 0 to the highest counter, which one more is past; and back to 0, which one less is below.
+            (0, GroupEvent::Add(2147483647), GroupReply::Done),
+            (0, GroupEvent::Add(1), GroupReply::Misused(Misuse::NegativeWaitGroupCounter)),
+            (0, GroupEvent::Add(-2147483647), GroupReply::Done),
+            (1, GroupEvent::Add(-1), GroupReply::Misused(Misuse::NegativeWaitGroupCounter)),
+            (1, GroupEvent::Wait, GroupReply::Done),
+            // A wait that is released and leaves while the counter is 0.
+            (0, GroupEvent::Add(1), GroupReply::Done),
+            (1, GroupEvent::Wait, GroupReply::Queued),
+            (1, GroupEvent::Leave, GroupReply::Still),
+            (0, GroupEvent::Add(-1), GroupReply::Done),
+            (1, GroupEvent::Leave, GroupReply::Done),
+            // Used again before a released waiter has left, which is out then.
+            (0, GroupEvent::Add(1), GroupReply::Done),
+            (1, GroupEvent::Wait, GroupReply::Queued),
+            (0, GroupEvent::Add(-1), GroupReply::Done),
+            (0, GroupEvent::Add(1), GroupReply::Done),
+            (1, GroupEvent::Leave, GroupReply::Misused(Misuse::WaitGroupReused)),
+            (1, GroupEvent::Leave, GroupReply::Still),
+            (2, GroupEvent::Add(1), GroupReply::Still),
+        ];
+        for (caller, event, reply) in table {
+            assert_eq!(rt; group.step(caller, event), reply, "{caller} at {event:?}");
+        }
+        Ok(())
+    }
+}

@@ -137,3 +137,36 @@ impl NotifyCore {
         NotifyReply::Done
     }
 }
+
+#[cfg(test)]
+mod tests {
+    use super::*;
+    use std::test::Fail;
+
+    #[test]
+    fn notifies_in_order(rt: HostRuntime) -> Result<(), Fail> {
+        let mut cond = NotifyCore::new(rt.alloc(), 3)?;
+        let table = [
+            // A signal that finds nobody is lost.
+            (2, NotifyEvent::Signal, NotifyReply::Done),
+            (0, NotifyEvent::Ticket, NotifyReply::Done),
+            (1, NotifyEvent::Ticket, NotifyReply::Done),
+            (0, NotifyEvent::Leave, NotifyReply::Still),
+            // One at a time, in the order of the tickets.
+            (2, NotifyEvent::Signal, NotifyReply::Done),
+            (1, NotifyEvent::Leave, NotifyReply::Still),
+            (0, NotifyEvent::Leave, NotifyReply::Done),
+            (0, NotifyEvent::Leave, NotifyReply::Still),
+            // All at once.
+            (0, NotifyEvent::Ticket, NotifyReply::Done),
+            (2, NotifyEvent::Broadcast, NotifyReply::Done),
+            (0, NotifyEvent::Leave, NotifyReply::Done),
+            (1, NotifyEvent::Leave, NotifyReply::Done),
+            (3, NotifyEvent::Signal, NotifyReply::Still),
+        ];
+        for (caller, event, reply) in table {
+            assert_eq!(rt; cond.step(caller, event), reply, "{caller} at {event:?}");
+        }
+        Ok(())
+    }
+}

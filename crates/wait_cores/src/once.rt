@@ -196,3 +196,41 @@ impl<T: Copy> OnceCore<T> {
         }
     }
 }
+
+#[cfg(test)]
+mod tests {
+    use super::*;
+    use std::test::Fail;
+
+    #[test]
+    fn runs_once(rt: HostRuntime) -> Result<(), Fail> {
+        let mut once = OnceCore::new(rt.alloc(), 2)?;
+        let table = [
+            (1, OnceEvent::Leave, OnceReply::Still),
+            (0, OnceEvent::Begin, OnceReply::Run),
+            (1, OnceEvent::Begin, OnceReply::Queued),
+            (1, OnceEvent::End(7), OnceReply::Still),
+            (1, OnceEvent::Leave, OnceReply::Still),
+            (0, OnceEvent::End(5), OnceReply::Ended),
+            (0, OnceEvent::End(6), OnceReply::Still),
+            (0, OnceEvent::Begin, OnceReply::Done(5)),
+            (1, OnceEvent::Leave, OnceReply::Left(5)),
+            (1, OnceEvent::Begin, OnceReply::Done(5)),
+            (2, OnceEvent::Begin, OnceReply::Still),
+        ];
+        for (caller, event, reply) in table {
+            assert_eq!(rt; once.step(caller, event), reply, "{caller} at {event:?}");
+        }
+        Ok(())
+    }
+
+    #[test]
+    fn waits_for_itself(rt: HostRuntime) -> Result<(), Fail> {
+        let mut once = OnceCore::new(rt.alloc(), 1)?;
+        assert_eq!(rt; once.step(0, OnceEvent::Begin), OnceReply::<u64>::Run);
+        assert_eq!(rt; once.runner(), Some(0));
+        assert_eq!(rt; once.step(0, OnceEvent::Begin), OnceReply::Queued);
+        assert_eq!(rt; once.step(0, OnceEvent::Leave), OnceReply::Still);
+        Ok(())
+    }
+}
