@@ -1,5 +1,5 @@
 -- What each event does to the numbers of a cond and to a caller's ticket, and what comes of it over a log.
-use Rattle.std.proofs.Common.{◌≡◌, ◌≢◌, ◌⊎◌, inl, inr, ℕ, zero, suc, ◌==◌, ◌+◌, ◌-◌, ◌^◌, ◌<◌, ◌≤◌, min, Bool, true, false, cond, List, [], ◌∷◌, ◌++◌, length, set, Option, Some, None, refl, sym, ap, ◌∙◌, subst, arith}
+use Rattle.std.proofs.Common.{◌≡◌, ◌≢◌, ◌⊎◌, inl, inr, ℕ, ◌==◌, ◌+◌, ◌-◌, ◌^◌, ◌<◌, ◌≤◌, min, Bool, true, false, cond, [], ◌∷◌, ◌++◌, length, set, Option, Some, None, refl, sym, ◌∙◌, subst, arith}
 use Rattle.std.specs.Prelude.{nat_lt, ◌||◌, ◌&&◌, not, IsTrue}
 use Rattle.std.specs.List.{slice_get, count_by, list_any, list_all}
 use Rattle.std.proofs.lemmas.Bool.Decides.{nat_tests, eqb_tells}
@@ -10,10 +10,10 @@ use Rattle.wait_cores.specs.declared.notify.NotifyReply.{NotifyReply}
 use Rattle.wait_cores.specs.declared.notify.NotifyReply.TheVariants.{Done, Still}
 use Rattle.wait_cores.specs.declared.notify.NotifyPlace.{NotifyPlace}
 use Rattle.wait_cores.specs.declared.notify.NotifyPlace.TheVariants.{Out, Waiting, Notified}
-use Rattle.wait_cores.specs.Log.{Entry, entry, after, Follows}
+use Rattle.wait_cores.specs.Log.{entry, after, Follows}
 use Rattle.wait_cores.specs.NotifyMachine.{NotifyState, start, next, made, leave_from, callers_of, place_of, place_with, following}
 use Rattle.wait_cores.specs.NotifyLaws.{Log, Made, is_ticket, is_signal, is_broadcast, is_ticket_of, is_signal_of, is_broadcast_of, pending_of, NotifiesAfter}
-use Rattle.wait_cores.proofs.Places.{get-set_same, get-set_other, get-set_either, get-set_within, get-replicate}
+use Rattle.wait_cores.proofs.Places.{get-set_other, get-set_either, get-set_within}
 use Rattle.wait_cores.proofs.LogLemmas.{after-append, follows_first, follows_rest}
 
 is_below : (m n : ℕ) → nat_lt m n ≡ true → m < n
@@ -282,12 +282,12 @@ leaves_when_notified callers before between rest c h =
     let mine : (n : ℕ) × (slice_get t.tickets c ≡ Some (Some n)) × (n < t.notified) = notified_below t.notified (slice_get t.tickets c) leaves in
     let above : s.next_ticket ≤ mine.0 = since_then.own mine.0 mine.1 in
     by_any (list_any is_broadcast between) refl s.next_ticket s.notified s'.notified t.notified mine.0 above mine.2 notified sound.notified
-      (λ none. few_notified s' between (follows_first next s' between _ from.1) none)
-    where
-      by_any : (any : Bool) → list_any is_broadcast between ≡ any → (ticket notified notified' then n : ℕ) → ticket ≤ n → n < then → notified' ≡ notified → notified ≤ ticket
-          → (list_any is_broadcast between ≡ false → then ≤ notified' + count_by is_signal between) → IsTrue any ⊎ (ticket - notified < count_by is_signal between)
-      by_any true is ticket notified notified' then n a b e d f = inl refl
-      by_any false is ticket notified notified' then n a b e d f = let g = f is in inr (omega arith)
+    (λ none. few_notified s' between (follows_first next s' between _ from.1) none)
+  where
+    by_any : (any : Bool) → list_any is_broadcast between ≡ any → (ticket notified notified' then n : ℕ) → ticket ≤ n → n < then → notified' ≡ notified → notified ≤ ticket
+        → (list_any is_broadcast between ≡ false → then ≤ notified' + count_by is_signal between) → IsTrue any ⊎ (ticket - notified < count_by is_signal between)
+    by_any true is ticket notified notified' then n a b e d f = inl refl
+    by_any false is ticket notified notified' then n a b e d f = let g = f is in inr (omega arith)
 
 -- the caller has this ticket, which was taken
 record Has (t c : ℕ) (s : NotifyState) : Type 0 where
@@ -313,17 +313,19 @@ reached t c s (e ∷ log) h others is enough =
     let other : c ≢ e.caller = not_own e.caller c (and_first _ _ others) in
     let more : count_by is_signal (e ∷ log) ≡ one_if (is_signal e) + count_by is_signal log = sum_by-cons (λ x. one_if (is_signal x)) e log in
     reached t c s' log h.1 (and_second _ _ others) (has_step t c s s' e step other is)
-      (elim enough [
-        inl any ↦ by_any (is_broadcast e) refl s'.notified any (step.reaches_all t is.given)
-      | inr some ↦ inr (on_from s.notified s'.notified (one_if (is_signal e)) (step.rises is.sound.notified) (λ u. step.reaches (let g = is.given in omega arith)) (rw more at some)) ])
-    where
-      by_any : (b : Bool) → is_broadcast e ≡ b → (notified' : ℕ) → IsTrue (b || list_any is_broadcast log) → (is_broadcast e ≡ true → t < notified')
-          → IsTrue (list_any is_broadcast log) ⊎ (t < notified' + count_by is_signal log)
-      by_any true is notified' any f = let g = f is in inr (omega arith)
-      by_any false is notified' any f = inl any
-      on_from : (notified notified' here : ℕ) → notified ≤ notified' → (notified ≤ t → notified + here ≤ notified') → t < notified + (here + count_by is_signal log)
-          → t < notified' + count_by is_signal log
-      on_from notified notified' here a f b = elim (le_or_lt notified t) [ inl low ↦ (let g = f low in omega arith) | inr high ↦ omega arith ]
+    (elim enough [
+      | inl any ↦ by_any (is_broadcast e) refl s'.notified any (step.reaches_all t is.given)
+      | inr some ↦ inr (on_from s.notified s'.notified (one_if (is_signal e)) (step.rises is.sound.notified) (λ u. step.reaches (let g = is.given in omega arith)) (rw more at some))
+    ])
+  where
+    by_any : (b : Bool) → is_broadcast e ≡ b → (notified' : ℕ) → IsTrue (b || list_any is_broadcast log) → (is_broadcast e ≡ true → t < notified')
+        → IsTrue (list_any is_broadcast log) ⊎ (t < notified' + count_by is_signal log)
+    by_any true is notified' any f = let g = f is in inr (omega arith)
+    by_any false is notified' any f = inl any
+
+    on_from : (notified notified' here : ℕ) → notified ≤ notified' → (notified ≤ t → notified + here ≤ notified') → t < notified + (here + count_by is_signal log)
+        → t < notified' + count_by is_signal log
+    on_from notified notified' here a f b = elim (le_or_lt notified t) [ inl low ↦ (let g = f low in omega arith) | inr high ↦ omega arith ]
 
 notified_place : (notified t : ℕ) (mine : Option (Option ℕ)) → mine ≡ Some (Some t) → t < notified → place_with notified mine ≡ Notified
 notified_place notified t mine is below = rw is (by_test (nat_lt t notified) (is_above t notified)) where
@@ -353,7 +355,7 @@ notifies_in_order callers before between c h few others enough =
     } in
     let low = sound.notified in
     let far : IsTrue (list_any is_broadcast between) ⊎ (s.next_ticket < s'.notified + count_by is_signal between) =
-      elim enough [ inl any ↦ inl any | inr some ↦ inr (omega arith) ] in
+    elim enough [ inl any ↦ inl any | inr some ↦ inr (omega arith) ] in
     let then : Has s.next_ticket c (after next s' between) × (s.next_ticket < (after next s' between).notified) = reached s.next_ticket c s' between from.1 others has far in
     rw (after-append next (start callers) before (entry c Ticket Done ∷ between))
-      (notified_place (after next s' between).notified s.next_ticket (slice_get (after next s' between).tickets c) then.0.own then.1)
+    (notified_place (after next s' between).notified s.next_ticket (slice_get (after next s' between).tickets c) then.0.own then.1)

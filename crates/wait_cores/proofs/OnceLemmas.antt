@@ -1,5 +1,5 @@
 -- What each event does to the progress of a once, and what comes of it over a log.
-use Rattle.std.proofs.Common.{◌≡◌, ℕ, ◌==◌, ◌+◌, ◌≤◌, Bool, true, false, cond, List, [], ◌∷◌, ◌++◌, Option, Some, None, refl, sym, ap, ◌∙◌, subst, arith}
+use Rattle.std.proofs.Common.{◌≡◌, ℕ, ◌==◌, ◌+◌, ◌≤◌, Bool, true, false, cond, [], ◌∷◌, ◌++◌, Option, Some, None, refl, sym, ap, ◌∙◌, subst, arith}
 use Rattle.std.specs.Prelude.{nat_lt}
 use Rattle.std.specs.List.{slice_get, count_by}
 use Rattle.std.specs.Option.{option_or}
@@ -7,12 +7,12 @@ use Rattle.std.proofs.lemmas.List.Sums.{sum_by-cons}
 use Rattle.wait_cores.specs.declared.once.OnceEvent.{OnceEvent}
 use Rattle.wait_cores.specs.declared.once.OnceEvent.TheVariants.{Begin, End, Leave}
 use Rattle.wait_cores.specs.declared.once.OnceReply.{OnceReply}
-use Rattle.wait_cores.specs.declared.once.OnceReply.TheVariants.{Run, Queued, Done, Ended, Left, Still}
+use Rattle.wait_cores.specs.declared.once.OnceReply.TheVariants.{Ended, Still}
 use Rattle.wait_cores.specs.declared.once.OnceProgress.{OnceProgress}
 use Rattle.wait_cores.specs.declared.once.OnceProgress.TheVariants as progress
 use Rattle.wait_cores.specs.declared.once.OncePlace.{OncePlace}
 use Rattle.wait_cores.specs.declared.once.OncePlace.TheVariants.{Out, Waiting, Released}
-use Rattle.wait_cores.specs.Log.{Entry, entry, after, Follows}
+use Rattle.wait_cores.specs.Log.{entry, after, Follows}
 use Rattle.wait_cores.specs.OnceMachine.{OnceState, start, next, made, begin_from, come_to, end_by, leave_with, callers_of, place_of, runner_in, runner_of}
 use Rattle.wait_cores.specs.OnceLaws.{Made, Log, begins, ends, returned_in, kept_in, kept_by}
 use Rattle.wait_cores.proofs.LogLemmas.{follows_first, follows_rest}
@@ -87,7 +87,7 @@ module _ {T : Type 0} where
 
   step_ended : (b : Bool) (runner : ℕ) (s : OnceState T) (d : ℕ) (value : T) → runner_of s ≡ Some runner
       → Stepped s (entry d (End value) (cond {A = OnceState T × OnceReply T} b (record s { progress = progress.Ended value }, Ended) (s, Still)).1)
-          (cond {A = OnceState T × OnceReply T} b (record s { progress = progress.Ended value }, Ended) (s, Still)).0
+      (cond {A = OnceState T × OnceReply T} b (record s { progress = progress.Ended value }, Ended) (s, Still)).0
   step_ended true runner s d value is = by_progress s.progress refl is where
     by_progress : (p : OnceProgress T) → s.progress ≡ p → runner_in p ≡ Some runner → Stepped s (entry d (End value) Ended) (record s { progress = progress.Ended value })
     by_progress progress.NotRun now runs = cc

@@ -1,5 +1,5 @@
 -- What stands at a place of a list after a write.
-use Rattle.std.proofs.Common.{◌≡◌, ◌≢◌, ℕ, zero, suc, List, [], ◌∷◌, length, replicate, set, ◌<◌, arith, Option, Some, ◌⊎◌, inl, inr, refl, ap, sym}
+use Rattle.std.proofs.Common.{◌≡◌, ◌≢◌, ℕ, zero, suc, List, [], ◌∷◌, length, replicate, set, ◌<◌, arith, Some, ◌⊎◌, inl, inr, refl, ap}
 use Rattle.std.specs.List.{slice_get}
 
 module _ {X : Type 0} where

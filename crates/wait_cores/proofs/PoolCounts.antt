@@ -1,7 +1,7 @@
 -- How many items of a pool pass a test, and what each event does to that number.
-use Rattle.std.proofs.Common.{◌≡◌, ℕ, zero, suc, ◌==◌, ◌+◌, ◌-◌, ◌≤◌, ◌<◌, Bool, true, false, cond, List, [], ◌∷◌, ◌++◌, length, set, take, map, replicate, get_or, Option, Some, None, refl, sym, ap, ◌∙◌, subst, arith}
+use Rattle.std.proofs.Common.{◌≡◌, ℕ, zero, suc, ◌==◌, ◌+◌, ◌-◌, ◌≤◌, ◌<◌, Bool, true, false, cond, List, [], ◌∷◌, length, set, take, map, replicate, get_or, Option, Some, None, refl, sym, ap, ◌∙◌, subst, arith}
 use Rattle.std.specs.Prelude.{nat_lt}
-use Rattle.std.specs.List.{slice_get, count_by, sum_by}
+use Rattle.std.specs.List.{slice_get, count_by}
 use Rattle.std.specs.Option.{option_map}
 use Rattle.std.proofs.lemmas.List.{take_all}
 use Rattle.std.proofs.lemmas.List.Sums.{sum_by-cons, sum_by-set, sum_by_more}
@@ -10,7 +10,7 @@ use Rattle.wait_cores.specs.declared.pool_event.PoolEvent.{PoolEvent}
 use Rattle.wait_cores.specs.declared.pool_event.PoolEvent.TheVariants.{Put, LookOwn, LookOther, LookVictim, Sweep}
 use Rattle.wait_cores.specs.declared.pool_event.PoolReply.{PoolReply}
 use Rattle.wait_cores.specs.declared.pool_event.PoolReply.TheVariants.{Kept, Dropped, Item, Nothing, Swept, Still}
-use Rattle.wait_cores.specs.Log.{Entry, entry, after, Follows}
+use Rattle.wait_cores.specs.Log.{entry, after, Follows}
 use Rattle.wait_cores.specs.PoolParts.{PoolPart, empty, emptied, put_in, put_beside, take_own, take_tail, take_victim, head_of, tail_of, private_or}
 use Rattle.wait_cores.specs.PoolMachine.{PoolState, start, next, made, with_primary, with_victims, callers_of}
 use Rattle.wait_cores.specs.PoolLaws.{Made, Log, kept_in, kept_by, got_in, got_by, is_swept, is_sweep, held_in, held_by, held, one_of, kept_count, got_count, swept_count}
@@ -24,7 +24,7 @@ module _ {X : Type 0} (test : X → Bool) where
   count_last xs x h =
       let within : length xs - 1 < length xs = slice_get_within xs (length xs - 1) x h in
       let more : count_by test (take ((length xs - 1) + 1) xs) ≡ count_by test (take (length xs - 1) xs) + cond (test (get_or xs (length xs - 1) x)) 1 0 =
-        sum_by_more (λ y. cond (test y) 1 0) xs (length xs - 1) x within in
+      sum_by_more (λ y. cond (test y) 1 0) xs (length xs - 1) x within in
       let last : get_or xs (length xs - 1) x ≡ x = get_or_from_slice_get xs (length xs - 1) x x h in
       let all : (length xs - 1) + 1 ≡ length xs = omega arith in
       sym (ap (λ (n : ℕ). count_by test (take n xs)) all ∙ ap (count_by test) (take_all (length xs) xs (omega arith))) ∙ more ∙ ap (λ (y : X). count_by test (take (length xs - 1) xs) + cond (test y) 1 0) last
@@ -134,7 +134,7 @@ module _ {X : Type 0} (test : X → Bool) where
 
   look_victim_counts : (b : Bool) (s : PoolState X) (d at : ℕ) →
       Counts s (entry d (LookVictim at) (with_victims (option_map (cond {A = PoolPart X → PoolPart X × PoolReply X} b take_victim take_tail) (slice_get s.victims at)) s at).1)
-        (with_victims (option_map (cond {A = PoolPart X → PoolPart X × PoolReply X} b take_victim take_tail) (slice_get s.victims at)) s at).0
+      (with_victims (option_map (cond {A = PoolPart X → PoolPart X × PoolReply X} b take_victim take_tail) (slice_get s.victims at)) s at).0
   look_victim_counts true s d at = victim_counts s d at (LookVictim at) take_victim (take_victim_counts (LookVictim at) (λ reply. refl)) (slice_get s.victims at) refl
   look_victim_counts false s d at = victim_counts s d at (LookVictim at) take_tail (take_tail_counts (LookVictim at) (λ reply. refl)) (slice_get s.victims at) refl
 
@@ -181,5 +181,5 @@ module _ {X : Type 0} (test : X → Bool) where
   conserves_items callers room log h =
       let none : held test (start callers room) ≡ 0 = none_at_start callers room in
       let all : held test (start callers room) + kept_count test log ≡ got_count test log + held test (after next (start callers room) log) + swept_count test (start callers room) log =
-        conserved (start callers room) log h in
+      conserved (start callers room) log h in
       omega arith

@@ -43,7 +43,7 @@ module _ {X Y : Type 0} (f : X → Y) where
 
   put_room : (b : Bool) (part : PoolPart X) (item : X)
       → map_changed (cond {A = PoolPart X × PoolReply X} b (record part { shared = item ∷ part.shared }, Kept) (part, Dropped item))
-        ≡ cond {A = PoolPart Y × PoolReply Y} b (record (map_part part) { shared = f item ∷ map f part.shared }, Kept) (map_part part, Dropped (f item))
+      ≡ cond {A = PoolPart Y × PoolReply Y} b (record (map_part part) { shared = f item ∷ map f part.shared }, Kept) (map_part part, Dropped (f item))
   put_room true part item = refl
   put_room false part item = refl
 
@@ -52,7 +52,7 @@ module _ {X Y : Type 0} (f : X → Y) where
   put_maps (Some held) part item =
       put_room (nat_lt (length part.shared) part.room) part item
       ∙ ap (λ (n : ℕ). cond {A = PoolPart Y × PoolReply Y} (nat_lt n part.room) (record (map_part part) { shared = f item ∷ map f part.shared }, Kept) (map_part part, Dropped (f item)))
-        (sym (length-map part.shared f))
+      (sym (length-map part.shared f))
 
   head_maps : (shared : List X) (part : PoolPart X) → map_changed (head_of shared part) ≡ head_of (map f shared) (map_part part)
   head_maps (item ∷ rest) part = refl
@@ -61,14 +61,14 @@ module _ {X Y : Type 0} (f : X → Y) where
   tail_maps : (tail : Option X) (part : PoolPart X) → map_changed (tail_of tail part) ≡ tail_of (option_map f tail) (map_part part)
   tail_maps (Some item) part =
       ap (λ (xs : List Y). (record (map_part part) { shared = xs }, Item (f item)))
-        (sym (take-map f (length part.shared - 1) part.shared) ∙ ap (λ (n : ℕ). take (n - 1) (map f part.shared)) (sym (length-map part.shared f)))
+      (sym (take-map f (length part.shared - 1) part.shared) ∙ ap (λ (n : ℕ). take (n - 1) (map f part.shared)) (sym (length-map part.shared f)))
   tail_maps None part = refl
 
   take_tail_maps : (part : PoolPart X) → map_changed (take_tail part) ≡ take_tail (map_part part)
   take_tail_maps part =
       tail_maps (slice_get part.shared (length part.shared - 1)) part
       ∙ ap (λ (o : Option Y). tail_of o (map_part part))
-        (sym (slice_get-map f part.shared (length part.shared - 1)) ∙ ap (λ (n : ℕ). slice_get (map f part.shared) (n - 1)) (sym (length-map part.shared f)))
+      (sym (slice_get-map f part.shared (length part.shared - 1)) ∙ ap (λ (n : ℕ). slice_get (map f part.shared) (n - 1)) (sym (length-map part.shared f)))
 
   private_maps : (private : Option X) (other : PoolPart X → PoolPart X × PoolReply X) (other' : PoolPart Y → PoolPart Y × PoolReply Y) (part : PoolPart X)
       → map_changed (other part) ≡ other' (map_part part) → map_changed (private_or private other part) ≡ private_or (option_map f private) other' (map_part part)
@@ -95,7 +95,7 @@ module _ {X Y : Type 0} (f : X → Y) where
   at_primary : (s : PoolState X) (at : ℕ) (change : PoolPart X → PoolPart X × PoolReply X) (change' : PoolPart Y → PoolPart Y × PoolReply Y)
       → ((part : PoolPart X) → map_changed (change part) ≡ change' (map_part part))
       → map_result (with_primary (option_map change (slice_get s.primary at)) s at)
-        ≡ with_primary (option_map change' (slice_get (map map_part s.primary) at)) (map_state s) at
+      ≡ with_primary (option_map change' (slice_get (map map_part s.primary) at)) (map_state s) at
   at_primary s at change change' h =
       primary_maps s at change change' h (slice_get s.primary at)
       ∙ ap (λ (o : Option (PoolPart Y)). with_primary (option_map change' o) (map_state s) at) (sym (slice_get-map map_part s.primary at))
@@ -103,7 +103,7 @@ module _ {X Y : Type 0} (f : X → Y) where
   at_victims : (s : PoolState X) (at : ℕ) (change : PoolPart X → PoolPart X × PoolReply X) (change' : PoolPart Y → PoolPart Y × PoolReply Y)
       → ((part : PoolPart X) → map_changed (change part) ≡ change' (map_part part))
       → map_result (with_victims (option_map change (slice_get s.victims at)) s at)
-        ≡ with_victims (option_map change' (slice_get (map map_part s.victims) at)) (map_state s) at
+      ≡ with_victims (option_map change' (slice_get (map map_part s.victims) at)) (map_state s) at
   at_victims s at change change' h =
       victims_maps s at change change' h (slice_get s.victims at)
       ∙ ap (λ (o : Option (PoolPart Y)). with_victims (option_map change' o) (map_state s) at) (sym (slice_get-map map_part s.victims at))
@@ -114,7 +114,7 @@ module _ {X Y : Type 0} (f : X → Y) where
 
   look_victim_maps : (b : Bool) (s : PoolState X) (at : ℕ)
       → map_result (with_victims (option_map (cond {A = PoolPart X → PoolPart X × PoolReply X} b take_victim take_tail) (slice_get s.victims at)) s at)
-        ≡ with_victims (option_map (cond {A = PoolPart Y → PoolPart Y × PoolReply Y} b take_victim take_tail) (slice_get (map map_part s.victims) at)) (map_state s) at
+      ≡ with_victims (option_map (cond {A = PoolPart Y → PoolPart Y × PoolReply Y} b take_victim take_tail) (slice_get (map map_part s.victims) at)) (map_state s) at
   look_victim_maps true s at = at_victims s at take_victim take_victim (λ part. private_maps part.private take_tail take_tail part (take_tail_maps part))
   look_victim_maps false s at = at_victims s at take_tail take_tail take_tail_maps
 

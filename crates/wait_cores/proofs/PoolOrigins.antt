@@ -1,17 +1,17 @@
 -- Where the item that a look takes was put. The log is run once more with each item that is put beside its place in the log; since
 -- the pool doesn't look at its items, the look takes the same item, and has that place with it.
-use Rattle.std.proofs.Common.{◌≡◌, ◌≢◌, ◌⊎◌, inl, inr, ℕ, zero, suc, ◌==◌, ◌+◌, ◌-◌, ◌≤◌, ◌<◌, Bool, true, false, cond, List, [], ◌∷◌, ◌++◌, length, take, map, Option, Some, None, refl, sym, ap, ◌∙◌, subst, arith, append_assoc}
+use Rattle.std.proofs.Common.{◌≡◌, ◌≢◌, ◌⊎◌, inl, inr, ℕ, zero, suc, ◌==◌, ◌+◌, ◌≤◌, ◌<◌, Bool, true, false, cond, [], ◌∷◌, ◌++◌, length, take, Option, Some, None, refl, sym, ap, ◌∙◌, subst, arith, append_assoc}
 use Rattle.std.specs.Prelude.{◌&&◌, nat_le}
-use Rattle.std.specs.List.{slice_get, count_by, sum_by}
-use Rattle.std.specs.Option.{option_map, option_and_then}
-use Rattle.std.proofs.lemmas.Bool.Decides.{nat_tests, eqb_tells, leb_tells}
+use Rattle.std.specs.List.{count_by}
+use Rattle.std.specs.Option.{option_map}
+use Rattle.std.proofs.lemmas.Bool.Decides.{nat_tests, eqb_tells}
 use Rattle.std.proofs.lemmas.List.{append-nil}
 use Rattle.std.proofs.lemmas.List.Sums.{sum_by_push}
 use Rattle.wait_cores.specs.declared.pool_event.PoolEvent.{PoolEvent}
 use Rattle.wait_cores.specs.declared.pool_event.PoolEvent.TheVariants.{Put, LookOwn, LookOther, LookVictim, Sweep}
 use Rattle.wait_cores.specs.declared.pool_event.PoolReply.{PoolReply}
 use Rattle.wait_cores.specs.declared.pool_event.PoolReply.TheVariants.{Kept, Dropped, Item, Nothing, Swept, Still}
-use Rattle.wait_cores.specs.Log.{Entry, entry, after, Follows}
+use Rattle.wait_cores.specs.Log.{entry, Follows}
 use Rattle.wait_cores.specs.PoolMachine.{PoolState, start, next}
 use Rattle.wait_cores.specs.PoolLaws.{Made, Log, kept_in, kept_by, got_in, got_by, is_swept, is_sweep, one_of, held_by, held, put_at, got_at, ComeFrom}
 use Rattle.wait_cores.proofs.PoolCounts.{Counts, next_counts, none_at_start}
@@ -197,31 +197,34 @@ module _ (test : ℕ → Bool) where
   aged_numbers false before now kept i place p v p' v' got earlier here later first both balance primary sweep none =
       let less : p' ≤ p + one_of (from i test) (option_map (tag place) kept) = primary refl in
       elim (compare i place) [
-        inl low ↦
-          (let k : one_of (from i test) (option_map (tag place) kept) ≡ 0 = kept_elsewhere i place kept (let ne : place ≢ i = omega arith in ne) in
-          let a : fresh test 0 (option_map (older false) before) ≡ fresh test 0 before = fresh_same 0 before in
-          let b : fresh test 1 (option_map (older false) before) ≡ fresh test 1 before = fresh_same 1 before in
-          rw (earlier low) (omega arith, omega arith))
-      | inr rest ↦ elim rest [
-          inl same ↦
-            (let z : fresh test 0 before ≡ 0 = ap (fresh test 0) (later (omega arith)) in
-            let z' : fresh test 1 before ≡ 0 = ap (fresh test 1) (later (omega arith)) in
-            let a : one_of (from i test) (option_map (tag place) kept) ≤ fresh test 0 (option_map (λ item. (item, 0)) kept) = kept_fresh i place 0 kept in
-            let b : one_of (from i test) (option_map (tag place) kept) ≤ fresh test 1 (option_map (λ item. (item, 0)) kept) = kept_fresh i place 1 kept in
-            rw (here same) (omega arith, omega arith))
-        | inr high ↦
-            (let z : fresh test 0 before ≡ 0 = ap (fresh test 0) (later (omega arith)) in
-            let z' : fresh test 1 before ≡ 0 = ap (fresh test 1) (later (omega arith)) in
-            let k : one_of (from i test) (option_map (tag place) kept) ≡ 0 = kept_elsewhere i place kept (let ne : place ≢ i = omega arith in ne) in
-            (omega arith, omega arith)) ] ]
+        | inl low ↦
+            (let k : one_of (from i test) (option_map (tag place) kept) ≡ 0 = kept_elsewhere i place kept (let ne : place ≢ i = omega arith in ne) in
+            let a : fresh test 0 (option_map (older false) before) ≡ fresh test 0 before = fresh_same 0 before in
+            let b : fresh test 1 (option_map (older false) before) ≡ fresh test 1 before = fresh_same 1 before in
+            rw (earlier low) (omega arith, omega arith))
+        | inr rest ↦ elim rest [
+          | inl same ↦
+              (let z : fresh test 0 before ≡ 0 = ap (fresh test 0) (later (omega arith)) in
+              let z' : fresh test 1 before ≡ 0 = ap (fresh test 1) (later (omega arith)) in
+              let a : one_of (from i test) (option_map (tag place) kept) ≤ fresh test 0 (option_map (λ item. (item, 0)) kept) = kept_fresh i place 0 kept in
+              let b : one_of (from i test) (option_map (tag place) kept) ≤ fresh test 1 (option_map (λ item. (item, 0)) kept) = kept_fresh i place 1 kept in
+              rw (here same) (omega arith, omega arith))
+          | inr high ↦
+              (let z : fresh test 0 before ≡ 0 = ap (fresh test 0) (later (omega arith)) in
+              let z' : fresh test 1 before ≡ 0 = ap (fresh test 1) (later (omega arith)) in
+              let k : one_of (from i test) (option_map (tag place) kept) ≡ 0 = kept_elsewhere i place kept (let ne : place ≢ i = omega arith in ne) in
+              (omega arith, omega arith))
+        ]
+      ]
   aged_numbers true before now kept i place p v p' v' got earlier here later first both balance primary sweep none =
       let moved : (p' ≡ 0) × (v' ≡ p) = sweep refl in
       elim (compare i place) [
-        inl low ↦ (let a : fresh test 0 before ≤ fresh test 1 (option_map (older true) before) = fresh_swept before in rw (earlier low) (omega arith, omega arith))
-      | inr rest ↦
-          (let high : place ≤ i = (elim rest [ inl same ↦ omega arith | inr more ↦ omega arith ]) in
-          let z : fresh test 0 before ≡ 0 = ap (fresh test 0) (later high) in
-          (omega arith, omega arith)) ]
+        | inl low ↦ (let a : fresh test 0 before ≤ fresh test 1 (option_map (older true) before) = fresh_swept before in rw (earlier low) (omega arith, omega arith))
+        | inr rest ↦
+            (let high : place ≤ i = (elim rest [ inl same ↦ omega arith | inr more ↦ omega arith ]) in
+            let z : fresh test 0 before ≡ 0 = ap (fresh test 0) (later high) in
+            (omega arith, omega arith))
+      ]
 
   aged_step : (past : Log ℕ) (t : PoolState Tagged) (place i : ℕ) (e : Made ℕ) → place ≡ length past → (next (map_state item_of t) e.caller e.event).1 ≡ e.reply
       → Aged past t i test → Aged (past ++ e ∷ []) (tagged_next t place e).0 i test
@@ -231,14 +234,14 @@ module _ (test : ℕ → Bool) where
       let counts : Counts (from i test) t (entry e.caller (map_event (tag place) e.event) r) t' = next_counts (from i test) t e.caller (map_event (tag place) e.event) in
       let reply : map_reply item_of r ≡ e.reply = untagged_reply t place e h in
       let kept : kept_in (map_event (tag place) e.event) r ≡ option_map (tag place) (kept_by e) =
-        kept_tagged place e.event r ∙ ap (λ (q : PoolReply ℕ). option_map (tag place) (kept_in e.event q)) reply in
+      kept_tagged place e.event r ∙ ap (λ (q : PoolReply ℕ). option_map (tag place) (kept_in e.event q)) reply in
       let swept : is_swept r ≡ is_sweep e = swept_tagged r ∙ ap is_swept reply in
       let now : (held_by (from i test) t'.primary ≤ fresh test 0 (put_at (past ++ e ∷ []) i)) × (held (from i test) t' ≤ fresh test 1 (put_at (past ++ e ∷ []) i)) =
-        aged_numbers (is_sweep e) (put_at past i) (put_at (past ++ e ∷ []) i) (kept_by e) i place
-          (held_by (from i test) t.primary) (held_by (from i test) t.victims) (held_by (from i test) t'.primary) (held_by (from i test) t'.victims) (one_of (from i test) (got_in r))
-          (λ low. put_before past e i (omega arith)) (λ same. put_here past e i (same ∙ at)) (λ high. put_beyond past i (omega arith))
-          aged.primary aged.all
-          (rw (kept, swept) at counts.balance) (rw (kept, swept) at counts.primary) (rw swept at counts.swept) (λ s. sweeps_or_keeps e.event e.reply s) in
+      aged_numbers (is_sweep e) (put_at past i) (put_at (past ++ e ∷ []) i) (kept_by e) i place
+      (held_by (from i test) t.primary) (held_by (from i test) t.victims) (held_by (from i test) t'.primary) (held_by (from i test) t'.victims) (one_of (from i test) (got_in r))
+      (λ low. put_before past e i (omega arith)) (λ same. put_here past e i (same ∙ at)) (λ high. put_beyond past i (omega arith))
+      aged.primary aged.all
+      (rw (kept, swept) at counts.balance) (rw (kept, swept) at counts.primary) (rw swept at counts.swept) (λ s. sweeps_or_keeps e.event e.reply s) in
       record { primary = now.0; all = now.1 }
 
 -- the place that a look's item has with it
@@ -267,7 +270,7 @@ goes_on : (past : Log ℕ) (t : PoolState Tagged) (place : ℕ) (e : Made ℕ) (
 goes_on past t place e log goes = record {
   at = ap suc goes.at ∙ sym (length_push past e);
   follows = (let P : PoolState ℕ → Type 0 = λ s. Follows next s log in
-    subst P (sym (ap (λ (r : PoolState ℕ × PoolReply ℕ). r.0) (untagged t place e))) goes.follows.1);
+      subst P (sym (ap (λ (r : PoolState ℕ × PoolReply ℕ). r.0) (untagged t place e))) goes.follows.1);
   aged = λ i test. aged_step test past t place i e goes.at goes.follows.0 (goes.aged i test);
 }
 
@@ -284,7 +287,7 @@ takes test t place i item e got passes =
     let counts : Counts (from i test) t (entry e.caller (map_event (tag place) e.event) r) t' = next_counts (from i test) t e.caller (map_event (tag place) e.event) in
     let none : kept_in (map_event (tag place) e.event) r ≡ None = gets_or_keeps (map_event (tag place) e.event) r (i, item) got in
     let balance : (held (from i test) t' + one_of (from i test) (Some (i, item))) + cond (is_swept r) (held_by (from i test) t.victims) 0
-          ≡ held (from i test) t + one_of (from i test) None = (rw (got, none) at counts.balance) in
+    ≡ held (from i test) t + one_of (from i test) None = (rw (got, none) at counts.balance) in
     let counted : one_of (from i test) (Some (i, item)) ≡ 1 = ap (λ (b : Bool). one_if (b && test item)) (eq_same i) ∙ ap one_if passes in
     let nothing : one_of (from i test) None ≡ 0 = refl in
     omega arith
@@ -301,7 +304,7 @@ tag_got : (past : Log ℕ) (t : PoolState Tagged) (place : ℕ) (e : Made ℕ) (
     → got_in (tagged_next t place e).1 ≡ Some (place_in (got_in (tagged_next t place e).1), item)
 tag_got past t place e log item goes got =
     tagged_got (got_in (tagged_next t place e).1) item
-      (got_tagged (tagged_next t place e).1 ∙ ap got_in (untagged_reply t place e goes.follows.0) ∙ got)
+    (got_tagged (tagged_next t place e).1 ∙ ap got_in (untagged_reply t place e goes.follows.0) ∙ got)
 
 earlier_here : (past : Log ℕ) (t : PoolState Tagged) (place : ℕ) (e : Made ℕ) (log : Log ℕ) (item : ℕ) → Goes past t place (e ∷ log) → got_by e ≡ Some item
     → (sweeps : ℕ) × (put_at past (place_in (got_in (tagged_next t place e).1)) ≡ Some (item, sweeps)) × (sweeps ≤ 1)
@@ -340,9 +343,9 @@ gone past t place i (e ∷ log) (suc look) item goes none low got same =
     let counts : Counts (from i any) t (entry e.caller (map_event (tag place) e.event) r) t' = next_counts (from i any) t e.caller (map_event (tag place) e.event) in
     let kept : kept_in (map_event (tag place) e.event) r ≡ option_map (tag place) (kept_in e.event (map_reply item_of r)) = kept_tagged place e.event r in
     let nothing : one_of (from i any) (option_map (tag place) (kept_in e.event (map_reply item_of r))) ≡ 0 =
-      kept_elsewhere any i place (kept_in e.event (map_reply item_of r)) (let ne : place ≢ i = omega arith in ne) in
+    kept_elsewhere any i place (kept_in e.event (map_reply item_of r)) (let ne : place ≢ i = omega arith in ne) in
     let balance : (held (from i any) t' + one_of (from i any) (got_in r)) + cond (is_swept r) (held_by (from i any) t.victims) 0
-          ≡ held (from i any) t + one_of (from i any) (option_map (tag place) (kept_in e.event (map_reply item_of r))) = (rw kept at counts.balance) in
+    ≡ held (from i any) t + one_of (from i any) (option_map (tag place) (kept_in e.event (map_reply item_of r))) = (rw kept at counts.balance) in
     gone (past ++ e ∷ []) t' (suc place) i log look item (goes_on past t place e log goes) (omega arith) (omega arith) got same
 
 fresh_once : (o : Option (ℕ × ℕ)) → fresh any 1 o ≤ 1
@@ -379,12 +382,16 @@ starts callers room log h = record {
 pub gives_each_once : (callers room : ℕ) (log : Log ℕ) → Follows next (start callers room) log → (origin : ℕ → ℕ) × ComeFrom log origin
 gives_each_once callers room log h =
     let goes : Goes [] (start callers room) 0 log = starts callers room log h in
-    let origin : ℕ → ℕ = origin_from (start callers room) 0 log in
-    (origin, record {
-      earlier = λ look item got. earlier_from [] (start callers room) 0 log look item goes got;
-      once = λ look other item another got also same. elim (compare look other) [
-        inl less ↦ absurd (once_from [] (start callers room) 0 log look other item another goes less got also same)
-      | inr rest ↦ elim rest [
-          inl equal ↦ equal
-        | inr more ↦ absurd (once_from [] (start callers room) 0 log other look another item goes more also got (sym same)) ] ];
-    })
+    let origin : ℕ → ℕ = origin_from (start callers room) 0 log in (
+      origin,
+      record {
+        earlier = λ look item got. earlier_from [] (start callers room) 0 log look item goes got;
+        once = λ look other item another got also same. elim (compare look other) [
+          | inl less ↦ absurd (once_from [] (start callers room) 0 log look other item another goes less got also same)
+          | inr rest ↦ elim rest [
+            | inl equal ↦ equal
+            | inr more ↦ absurd (once_from [] (start callers room) 0 log other look another item goes more also got (sym same))
+          ]
+        ];
+      },
+    )

@@ -1,16 +1,16 @@
 -- A pool keeps as many parts as it has callers, each part keeps its room, and none holds more shared items.
-use Rattle.std.proofs.Common.{◌≡◌, ◌⊎◌, inl, inr, ℕ, zero, suc, ◌==◌, ◌+◌, ◌-◌, ◌≤◌, ◌<◌, Bool, true, false, cond, List, [], ◌∷◌, ◌++◌, length, set, take, map, replicate, Option, Some, None, refl, sym, ap, ◌∙◌, subst, arith, length-set}
+use Rattle.std.proofs.Common.{◌≡◌, ◌⊎◌, inl, inr, ℕ, zero, suc, ◌==◌, ◌-◌, ◌≤◌, ◌<◌, Bool, true, false, cond, List, [], ◌∷◌, ◌++◌, length, set, map, replicate, Option, Some, None, refl, sym, ap, ◌∙◌, subst, arith, length-set}
 use Rattle.std.specs.Prelude.{nat_lt, ◌&&◌, is_some}
 use Rattle.std.specs.List.{slice_get}
 use Rattle.std.specs.Option.{option_map}
 use Rattle.std.proofs.lemmas.Bool.Decides.{nat_tests}
 use Rattle.std.proofs.lemmas.List.{length-map, length-take, length-replicate}
-use Rattle.std.proofs.lemmas.Option.{slice_get-map, slice_get_cases}
+use Rattle.std.proofs.lemmas.Option.{slice_get-map}
 use Rattle.wait_cores.specs.declared.pool_event.PoolEvent.{PoolEvent}
 use Rattle.wait_cores.specs.declared.pool_event.PoolEvent.TheVariants.{Put, LookOwn, LookOther, LookVictim, Sweep}
 use Rattle.wait_cores.specs.declared.pool_event.PoolReply.{PoolReply}
-use Rattle.wait_cores.specs.declared.pool_event.PoolReply.TheVariants.{Kept, Dropped, Item, Nothing, Swept, Still}
-use Rattle.wait_cores.specs.Log.{Entry, entry, after, Follows}
+use Rattle.wait_cores.specs.declared.pool_event.PoolReply.TheVariants.{Kept, Dropped, Still}
+use Rattle.wait_cores.specs.Log.{entry, after, Follows}
 use Rattle.wait_cores.specs.PoolParts.{PoolPart, empty, emptied, put_in, put_beside, take_own, take_tail, take_victim, head_of, tail_of, private_or}
 use Rattle.wait_cores.specs.PoolMachine.{PoolState, start, next, made, with_primary, with_victims, callers_of}
 use Rattle.wait_cores.specs.PoolLaws.{Log, is_full}
@@ -96,9 +96,9 @@ module _ {X : Type 0} where
   emptied_room room parts all i found is = by_part (slice_get parts i) refl (sym (slice_get-map emptied parts i) ∙ is) where
     by_part : (o : Option (PoolPart X)) → slice_get parts i ≡ o → option_map emptied o ≡ Some found → HasRoom room found
     by_part (Some part) at same =
-      let e : emptied part ≡ found = cc in
-      let P : PoolPart X → Type 0 = λ p. HasRoom room p in
-      subst P e (record { room_is = (all i part at).room_is; within = omega arith })
+        let e : emptied part ≡ found = cc in
+        let P : PoolPart X → Type 0 = λ p. HasRoom room p in
+        subst P e (record { room_is = (all i part at).room_is; within = omega arith })
     by_part None at same = cc
 
   look_victim_room : (b : Bool) (callers room : ℕ) (s : PoolState X) (at : ℕ) → IsRoomy callers room s
@@ -112,7 +112,7 @@ module _ {X : Type 0} where
       primary_room callers room s d (λ own. put_in own item) (slice_get s.primary d) refl (λ part h. put_room room part.private part item h) is
   made_room callers room s d LookOwn is =
       primary_room callers room s d take_own (slice_get s.primary d) refl
-        (λ part h. private_room room part.private (λ p. head_of p.shared p) part h (head_room room part.shared part refl h)) is
+      (λ part h. private_room room part.private (λ p. head_of p.shared p) part h (head_room room part.shared part refl h)) is
   made_room callers room s d (LookOther part) is = primary_room callers room s part take_tail (slice_get s.primary part) refl (take_tail_room room) is
   made_room callers room s d (LookVictim part) is = look_victim_room (part == d) callers room s part is
   made_room callers room s d Sweep is = record {
@@ -154,14 +154,14 @@ module _ {X : Type 0} where
   put_reply room (Some held) own item same is =
       by_tests (nat_lt (length own.shared) own.room) (length own.shared == room) (full_or_not (length own.shared) own.room room is.room_is is.within)
       ∙ ap (λ (p : Option X). cond (is_some p && (length own.shared == room)) (Dropped item) Kept) (sym same) where
-    by_tests : (b c : Bool) → ((b ≡ true) × (c ≡ false)) ⊎ ((b ≡ false) × (c ≡ true))
-        → (cond {A = PoolPart X × PoolReply X} b (record own { shared = item ∷ own.shared }, Kept) (own, Dropped item)).1 ≡ cond c (Dropped item) Kept
-    by_tests true false h = refl
-    by_tests false true h = refl
-    by_tests true true (inl h) = let g = h.1 in cc
-    by_tests true true (inr h) = let g = h.0 in cc
-    by_tests false false (inl h) = let g = h.0 in cc
-    by_tests false false (inr h) = let g = h.1 in cc
+        by_tests : (b c : Bool) → ((b ≡ true) × (c ≡ false)) ⊎ ((b ≡ false) × (c ≡ true))
+            → (cond {A = PoolPart X × PoolReply X} b (record own { shared = item ∷ own.shared }, Kept) (own, Dropped item)).1 ≡ cond c (Dropped item) Kept
+        by_tests true false h = refl
+        by_tests false true h = refl
+        by_tests true true (inl h) = let g = h.1 in cc
+        by_tests true true (inr h) = let g = h.0 in cc
+        by_tests false false (inl h) = let g = h.0 in cc
+        by_tests false false (inr h) = let g = h.1 in cc
 
   put_at_part : (b : Bool) (s : PoolState X) (caller : ℕ) (item : X) (o : Option (PoolPart X)) (own : PoolPart X) → b ≡ true → o ≡ Some own
       → (cond b (with_primary (option_map (λ p. put_in p item) o) s caller) (s, Still)).1 ≡ (put_in own item).1
@@ -182,8 +182,10 @@ module _ {X : Type 0} where
       let is : IsRoomy callers room s = room_after callers room (start callers room) before (start_roomy callers room) in
       let parts : length s.primary ≡ callers = is.primary_parts in
       let there : (part : PoolPart X) × (slice_get s.primary caller ≡ Some part) = part_there s.primary caller (omega arith) in
-      let answered : (next s caller (Put item)).1 ≡ reply = (follows_rest next (start callers room) before (entry caller (Put item) reply ∷ rest) h).0 in
-      (there.0, there.1,
+      let answered : (next s caller (Put item)).1 ≡ reply = (follows_rest next (start callers room) before (entry caller (Put item) reply ∷ rest) h).0 in (
+        there.0,
+        there.1,
         sym answered
-        ∙ put_at_part (nat_lt caller (length s.primary)) s caller item (slice_get s.primary caller) there.0 (is_within caller (length s.primary) (omega arith)) there.1
-        ∙ put_reply room there.0.private there.0 item refl (is.primary caller there.0 there.1))
+            ∙ put_at_part (nat_lt caller (length s.primary)) s caller item (slice_get s.primary caller) there.0 (is_within caller (length s.primary) (omega arith)) there.1
+            ∙ put_reply room there.0.private there.0 item refl (is.primary caller there.0 there.1),
+      )

@@ -1,18 +1,34 @@
 -- What is said of the logs of a cond.
-use Rattle.std.specs.Prelude.{ℕ, ◌≡◌, ◌<◌, ◌-◌, ◌⊎◌, Bool, true, false, ◌&&◌, List, count_by, IsTrue}
+use Rattle.std.specs.Prelude.{ℕ, ◌<◌, ◌-◌, ◌⊎◌, Bool, true, false, List, count_by, IsTrue}
 use Rattle.std.specs.List.{list_any}
 use Rattle.wait_cores.specs.declared.notify.NotifyEvent.{NotifyEvent}
 use Rattle.wait_cores.specs.declared.notify.NotifyEvent.TheVariants.{Ticket, Signal, Broadcast, Leave}
 use Rattle.wait_cores.specs.declared.notify.NotifyReply.{NotifyReply}
 use Rattle.wait_cores.specs.declared.notify.NotifyReply.TheVariants.{Done, Still}
-use Rattle.wait_cores.specs.Log.{Entry}
-use Rattle.wait_cores.specs.NotifyMachine.{NotifyState}
+use Rattle.wait_cores.specs.Log.{Entry, entry, after, Follows}
+use Rattle.wait_cores.specs.NotifyMachine.{NotifyState, start, next}
 
 abbrev pub Made : Type 0
 Made = Entry NotifyEvent NotifyReply
 
 abbrev pub Log : Type 0
 Log = List Made
+
+-- the log is one of a cond for so many callers, from its start on
+abbrev pub IsLog : ℕ → Log → Type 0
+IsLog callers log = Follows next (start callers) log
+
+-- the state after it
+abbrev pub state_after : ℕ → Log → NotifyState
+state_after callers log = after next (start callers) log
+
+-- the caller takes a ticket
+abbrev pub ticket_by : ℕ → Made
+ticket_by caller = entry caller Ticket Done
+
+-- the caller leaves
+abbrev pub leave_by : ℕ → Made
+leave_by caller = entry caller Leave Done
 
 abbrev pub is_done : NotifyReply → Bool
 is_done Done = true

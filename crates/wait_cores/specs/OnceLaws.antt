@@ -1,11 +1,12 @@
 -- What is said of the logs of a once.
-use Rattle.std.specs.Prelude.{Bool, true, false, List, [], ◌∷◌, Option, Some, None}
+use Rattle.std.specs.Prelude.{ℕ, Bool, true, false, List, [], ◌∷◌, Option, Some, None}
 use Rattle.std.specs.Option.{option_or}
 use Rattle.wait_cores.specs.declared.once.OnceEvent.{OnceEvent}
 use Rattle.wait_cores.specs.declared.once.OnceEvent.TheVariants.{Begin, End, Leave}
 use Rattle.wait_cores.specs.declared.once.OnceReply.{OnceReply}
-use Rattle.wait_cores.specs.declared.once.OnceReply.TheVariants.{Run, Queued, Done, Ended, Left, Still}
-use Rattle.wait_cores.specs.Log.{Entry}
+use Rattle.wait_cores.specs.declared.once.OnceReply.TheVariants.{Run, Done, Ended, Left}
+use Rattle.wait_cores.specs.Log.{Entry, Follows}
+use Rattle.wait_cores.specs.OnceMachine.{start, next}
 
 abbrev pub Made : Type 0 → Type 0
 Made T = Entry (OnceEvent T) (OnceReply T)
@@ -14,6 +15,10 @@ abbrev pub Log : Type 0 → Type 0
 Log T = List (Made T)
 
 module _ {T : Type 0} where
+  -- the log is one of a once for so many callers, from its start on
+  abbrev pub IsLog : ℕ → Log T → Type 0
+  IsLog callers log = Follows next (start callers) log
+
   -- the caller is to run the function
   abbrev pub is_run : OnceReply T → Bool
   is_run Run = true

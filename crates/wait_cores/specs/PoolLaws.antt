@@ -1,14 +1,14 @@
 -- What is said of the logs of a pool.
-use Rattle.std.specs.Prelude.{ℕ, zero, suc, ◌≡◌, ◌≤◌, ◌+◌, ◌==◌, ◌&&◌, Bool, true, false, if◌then◌else◌, List, [], ◌∷◌, ◌++◌, length, take, slice_get, Option, Some, None, is_some, option_map, count_by}
+use Rattle.std.specs.Prelude.{ℕ, zero, suc, ◌≡◌, ◌≤◌, ◌+◌, ◌==◌, ◌&&◌, Bool, true, false, if◌then◌else◌, List, [], ◌∷◌, length, take, slice_get, Option, Some, None, is_some, option_map, count_by}
 use Rattle.std.specs.List.{sum_by}
 use Rattle.std.specs.Option.{option_and_then}
 use Rattle.wait_cores.specs.declared.pool_event.PoolEvent.{PoolEvent}
-use Rattle.wait_cores.specs.declared.pool_event.PoolEvent.TheVariants.{Put, LookOwn, LookOther, LookVictim, Sweep}
+use Rattle.wait_cores.specs.declared.pool_event.PoolEvent.TheVariants.{Put}
 use Rattle.wait_cores.specs.declared.pool_event.PoolReply.{PoolReply}
 use Rattle.wait_cores.specs.declared.pool_event.PoolReply.TheVariants.{Kept, Item, Swept}
-use Rattle.wait_cores.specs.Log.{Entry}
+use Rattle.wait_cores.specs.Log.{Entry, entry, after, Follows}
 use Rattle.wait_cores.specs.PoolParts.{PoolPart}
-use Rattle.wait_cores.specs.PoolMachine.{PoolState, next}
+use Rattle.wait_cores.specs.PoolMachine.{PoolState, start, next}
 
 abbrev pub Made : Type 0 → Type 0
 Made X = Entry (PoolEvent X) (PoolReply X)
@@ -17,6 +17,18 @@ abbrev pub Log : Type 0 → Type 0
 Log X = List (Made X)
 
 module _ {X : Type 0} where
+  -- the log is one of a pool for so many callers with so much room, from its start on
+  abbrev pub IsLog : ℕ → ℕ → Log X → Type 0
+  IsLog callers room log = Follows next (start callers room) log
+
+  -- the state after it
+  abbrev pub state_after : ℕ → ℕ → Log X → PoolState X
+  state_after callers room log = after next (start callers room) log
+
+  -- the caller puts an item, and is answered this
+  abbrev pub put_by : ℕ → X → PoolReply X → Made X
+  put_by caller item reply = entry caller (Put item) reply
+
   -- the item that an entry puts, where it is kept
   abbrev pub kept_if : PoolReply X → X → Option X
   kept_if Kept item = Some item

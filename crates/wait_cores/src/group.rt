@@ -120,7 +120,8 @@ impl GroupCore {
     /// Adds to the counter, and releases all who wait where it comes to 0. Refused, with nothing changed, exactly where
     /// the counter would be below 0 or above 2^31 - 1.
     pub fn add(&mut self, delta: i32) -> Result<(), Misuse>
-        ensures step { (caller : ℕ) → caller < callers_of self.old → next self.old caller (GroupEvent.Add delta) ≡ (self.new, reply_of_result result) }
+        ensures step { (caller : ℕ) → caller < callers_of self.old
+            → next self.old caller (GroupEvent.Add delta) ≡ (self.new, reply_of_result result) }
         ensures callers { callers_of self.new ≡ callers_of self.old }
     {
         match self.counter.checked_add_signed(delta) {
@@ -158,7 +159,11 @@ impl GroupCore {
     {
         let reused = self.is_reused();
         self.places[caller as usize] = GroupPlace::Out;
-        if reused { Err(Misuse::WaitGroupReused) } else { Ok(()) }
+        if reused {
+            Err(Misuse::WaitGroupReused)
+        } else {
+            Ok(())
+        }
     }
 
     /// Where the caller stands.
@@ -198,7 +203,9 @@ impl GroupCore {
 fn somebody_waits(places: &[GroupPlace]) -> bool
     ensures { result ≡ list_any is_waiting places.now }
 {
-    places.iter().any(|place| matches!(place, GroupPlace::Waiting))
+    places
+        .iter()
+        .any(|place| matches!(place, GroupPlace::Waiting))
 }
 
 // Releases all who wait.
@@ -221,9 +228,17 @@ mod tests {
         let table = [
             // From 0 to the highest counter, which one more is past; and back to 0, which one less is below.
             (0, GroupEvent::Add(2147483647), GroupReply::Done),
-            (0, GroupEvent::Add(1), GroupReply::Misused(Misuse::NegativeWaitGroupCounter)),
+            (
+                0,
+                GroupEvent::Add(1),
+                GroupReply::Misused(Misuse::NegativeWaitGroupCounter),
+            ),
             (0, GroupEvent::Add(-2147483647), GroupReply::Done),
-            (1, GroupEvent::Add(-1), GroupReply::Misused(Misuse::NegativeWaitGroupCounter)),
+            (
+                1,
+                GroupEvent::Add(-1),
+                GroupReply::Misused(Misuse::NegativeWaitGroupCounter),
+            ),
             (1, GroupEvent::Wait, GroupReply::Done),
             // A wait that is released and leaves while the counter is 0.
             (0, GroupEvent::Add(1), GroupReply::Done),
@@ -236,7 +251,11 @@ mod tests {
             (1, GroupEvent::Wait, GroupReply::Queued),
             (0, GroupEvent::Add(-1), GroupReply::Done),
             (0, GroupEvent::Add(1), GroupReply::Done),
-            (1, GroupEvent::Leave, GroupReply::Misused(Misuse::WaitGroupReused)),
+            (
+                1,
+                GroupEvent::Leave,
+                GroupReply::Misused(Misuse::WaitGroupReused),
+            ),
             (1, GroupEvent::Leave, GroupReply::Still),
             (2, GroupEvent::Add(1), GroupReply::Still),
         ];

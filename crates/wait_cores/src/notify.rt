@@ -81,7 +81,8 @@ impl NotifyCore {
 
     /// Notifies the oldest ticket that isn't notified. Where there is none, nothing is kept for a later one.
     pub fn signal(&mut self)
-        ensures step { (caller : ℕ) → caller < callers_of self.old → next self.old caller NotifyEvent.Signal ≡ (self.new, NotifyReply.Done) }
+        ensures step { (caller : ℕ) → caller < callers_of self.old
+            → next self.old caller NotifyEvent.Signal ≡ (self.new, NotifyReply.Done) }
         ensures callers { callers_of self.new ≡ callers_of self.old }
     {
         if self.notified < self.next_ticket {
@@ -91,7 +92,8 @@ impl NotifyCore {
 
     /// Notifies every ticket that was taken.
     pub fn broadcast(&mut self)
-        ensures step { (caller : ℕ) → caller < callers_of self.old → next self.old caller NotifyEvent.Broadcast ≡ (self.new, NotifyReply.Done) }
+        ensures step { (caller : ℕ) → caller < callers_of self.old
+            → next self.old caller NotifyEvent.Broadcast ≡ (self.new, NotifyReply.Done) }
         ensures callers { callers_of self.new ≡ callers_of self.old }
     {
         self.notified = self.next_ticket;

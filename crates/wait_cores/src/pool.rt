@@ -63,7 +63,8 @@ impl PoolCore {
     /// Takes the tail of the shared list of a part, whoever looks.
     pub fn look_other(&mut self, part: u32) -> Option<u64>
         requires { part < callers_of self.old }
-        ensures step { (caller : ℕ) → caller < callers_of self.old → next self.old caller (PoolEvent.LookOther part) ≡ (self.new, reply_of_look result) }
+        ensures step { (caller : ℕ) → caller < callers_of self.old
+            → next self.old caller (PoolEvent.LookOther part) ≡ (self.new, reply_of_look result) }
         ensures callers { callers_of self.new ≡ callers_of self.old }
     {
         self.primary[part as usize].take_tail()
@@ -78,12 +79,17 @@ impl PoolCore {
         ensures callers { callers_of self.new ≡ callers_of self.old }
     {
         let victim = &mut self.victims[part as usize];
-        if part == caller { victim.take_victim() } else { victim.take_tail() }
+        if part == caller {
+            victim.take_victim()
+        } else {
+            victim.take_tail()
+        }
     }
 
     /// Removes the victims, and makes the primary generation the victims.
     pub fn sweep(&mut self)
-        ensures step { (caller : ℕ) → caller < callers_of self.old → next self.old caller PoolEvent.Sweep ≡ (self.new, PoolReply.Swept) }
+        ensures step { (caller : ℕ) → caller < callers_of self.old
+            → next self.old caller PoolEvent.Sweep ≡ (self.new, PoolReply.Swept) }
         ensures callers { callers_of self.new ≡ callers_of self.old }
     {
         mem::swap(&mut self.primary, &mut self.victims);
@@ -215,9 +221,18 @@ mod tests {
     fn looks_in_order(rt: HostRuntime) -> Result<(), Fail> {
         // Part p has the private item p1 and the shared ones p3 (the head) and p2 (the tail), the victims 100 more.
         let table = [
-            ([0, 1, 2], [1, 3, 2, 12, 13, 22, 23, 101, 102, 103, 112, 113, 122, 123]),
-            ([1, 2, 0], [11, 13, 12, 22, 23, 2, 3, 111, 112, 113, 122, 123, 102, 103]),
-            ([2, 0, 1], [21, 23, 22, 2, 3, 12, 13, 121, 122, 123, 102, 103, 112, 113]),
+            (
+                [0, 1, 2],
+                [1, 3, 2, 12, 13, 22, 23, 101, 102, 103, 112, 113, 122, 123],
+            ),
+            (
+                [1, 2, 0],
+                [11, 13, 12, 22, 23, 2, 3, 111, 112, 113, 122, 123, 102, 103],
+            ),
+            (
+                [2, 0, 1],
+                [21, 23, 22, 2, 3, 12, 13, 121, 122, 123, 102, 103, 112, 113],
+            ),
         ];
         for (parts, items) in table {
             let mut pool = PoolCore::new(rt.alloc(), 3, 2)?;

@@ -1,5 +1,5 @@
 -- The parts before the index are empty, and the others are as they were.
-use Rattle.std.proofs.Common.{◌≡◌, ℕ, ◌++◌, map, take, drop}
+use Rattle.std.proofs.Common.{◌≡◌, ◌++◌, map, take, drop}
 use Rattle.wait_cores.specs.PoolParts.{emptied}
 use Rattle.wait_cores.proofs.pool.clear.Given as goal
 
