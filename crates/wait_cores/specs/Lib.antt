@@ -1,4 +1,3 @@
-pub mod Callers
 pub mod GroupLaws
 pub mod GroupMachine
 pub mod Log

@@ -37,9 +37,7 @@ is_done Still = false
 -- the entry takes a ticket
 abbrev pub is_ticket_of : NotifyEvent → NotifyReply → Bool
 is_ticket_of Ticket reply = is_done reply
-is_ticket_of Signal reply = false
-is_ticket_of Broadcast reply = false
-is_ticket_of Leave reply = false
+is_ticket_of _ reply = false
 
 abbrev pub is_ticket : Made → Bool
 is_ticket e = is_ticket_of e.event e.reply
@@ -47,9 +45,7 @@ is_ticket e = is_ticket_of e.event e.reply
 -- the entry signals
 abbrev pub is_signal_of : NotifyEvent → NotifyReply → Bool
 is_signal_of Signal reply = is_done reply
-is_signal_of Ticket reply = false
-is_signal_of Broadcast reply = false
-is_signal_of Leave reply = false
+is_signal_of _ reply = false
 
 abbrev pub is_signal : Made → Bool
 is_signal e = is_signal_of e.event e.reply
@@ -57,9 +53,7 @@ is_signal e = is_signal_of e.event e.reply
 -- the entry broadcasts
 abbrev pub is_broadcast_of : NotifyEvent → NotifyReply → Bool
 is_broadcast_of Broadcast reply = is_done reply
-is_broadcast_of Ticket reply = false
-is_broadcast_of Signal reply = false
-is_broadcast_of Leave reply = false
+is_broadcast_of _ reply = false
 
 abbrev pub is_broadcast : Made → Bool
 is_broadcast e = is_broadcast_of e.event e.reply

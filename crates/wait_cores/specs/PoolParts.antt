@@ -1,7 +1,7 @@
 -- A part of a pool: where a put goes, and which item a look takes.
 use Rattle.std.specs.Prelude.{ℕ, ◌-◌, nat_lt, if◌then◌else◌, List, [], ◌∷◌, length, take, slice_get, Option, Some, None}
-use Rattle.wait_cores.specs.declared.part.PoolPut.{PoolPut}
-use Rattle.wait_cores.specs.declared.part.PoolPut.TheVariants as puts
+use Rattle.wait_cores.specs.declared.pool_event.PoolPut.{PoolPut}
+use Rattle.wait_cores.specs.declared.pool_event.PoolPut.TheVariants as puts
 use Rattle.wait_cores.specs.declared.pool_event.PoolReply.{PoolReply}
 use Rattle.wait_cores.specs.declared.pool_event.PoolReply.TheVariants.{Kept, Dropped, Item, Nothing}
 

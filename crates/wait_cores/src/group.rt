@@ -1,7 +1,6 @@
 //! `sync.WaitGroup` as a machine: a counter, and callers that wait until it is 0.
-ghost use Rattle.std.specs.Prelude.{◌≡◌, ℕ, ◌<◌, map, IfOk};
+ghost use Rattle.std.specs.Prelude.{◌≡◌, ℕ, ◌<◌, ◌≤◌, map, IfOk};
 ghost use Rattle.std.specs.List.{list_any};
-ghost use Rattle.wait_cores.specs.Callers.{AreCallers};
 ghost use Rattle.wait_cores.specs.GroupMachine.{start, next, callers_of, place_of, reply_of_wait, reply_of_result, is_reused, is_waiting, released};
 
 use std::alloc::{AllocError, Global};
@@ -107,7 +106,8 @@ impl Model for GroupCore {
 impl GroupCore {
     /// A group with counter 0 at which nobody waits, for callers 0 to `callers - 1`. This call alone takes memory.
     pub fn new(alloc: Global, callers: u32) -> Result<Self, AllocError>
-        requires { AreCallers callers }
+        requires some { 1 ≤ callers }
+        requires few { callers ≤ 64 }
         ensures start { IfOk result (λ core. core ≡ start callers) }
         ensures callers { IfOk result (λ core. callers_of core ≡ callers) }
     {
@@ -138,8 +138,8 @@ impl GroupCore {
 
     /// Comes to wait until the counter is 0.
     pub fn wait(&mut self, caller: u32) -> GroupWait
-        requires within { caller < callers_of self.old }
-        requires out { place_of self.old caller ≡ GroupPlace.Out }
+        requires is_caller { caller < callers_of self.old }
+        requires is_out { place_of self.old caller ≡ GroupPlace.Out }
         ensures step { next self.old caller GroupEvent.Wait ≡ (self.new, reply_of_wait result) }
         ensures callers { callers_of self.new ≡ callers_of self.old }
     {

@@ -6,13 +6,12 @@ pub mod group;
 pub mod laws;
 pub mod notify;
 pub mod once;
-pub mod part;
+mod part;
 pub mod pool;
 pub mod pool_event;
 
 pub use group::{GroupCore, GroupEvent, GroupPlace, GroupReply, GroupWait};
 pub use notify::{NotifyCore, NotifyEvent, NotifyPlace, NotifyReply};
 pub use once::{Begun, OnceCore, OnceEvent, OncePlace, OnceProgress, OnceReply};
-pub use part::PoolPut;
 pub use pool::PoolCore;
-pub use pool_event::{PoolEvent, PoolReply};
+pub use pool_event::{PoolEvent, PoolPut, PoolReply};

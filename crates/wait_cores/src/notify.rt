@@ -1,6 +1,5 @@
 //! `sync.Cond` as a machine: tickets are taken in order and notified in that order.
-ghost use Rattle.std.specs.Prelude.{◌≡◌, ℕ, ◌<◌, IfOk};
-ghost use Rattle.wait_cores.specs.Callers.{AreCallers};
+ghost use Rattle.std.specs.Prelude.{◌≡◌, ℕ, ◌<◌, ◌≤◌, IfOk};
 ghost use Rattle.wait_cores.specs.NotifyMachine.{start, next, callers_of, place_of};
 
 use std::alloc::{AllocError, Global};
@@ -58,7 +57,8 @@ impl Model for NotifyCore {
 impl NotifyCore {
     /// A cond at which nobody waits, for callers 0 to `callers - 1`. This call alone takes memory.
     pub fn new(alloc: Global, callers: u32) -> Result<Self, AllocError>
-        requires { AreCallers callers }
+        requires some { 1 ≤ callers }
+        requires few { callers ≤ 64 }
         ensures start { IfOk result (λ core. core ≡ start callers) }
         ensures callers { IfOk result (λ core. callers_of core ≡ callers) }
     {

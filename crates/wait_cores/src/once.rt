@@ -1,6 +1,5 @@
 //! `sync.Once` as a machine: one caller runs the function, and every return has what it came to.
-ghost use Rattle.std.specs.Prelude.{◌≡◌, ℕ, ◌<◌, IfOk};
-ghost use Rattle.wait_cores.specs.Callers.{AreCallers};
+ghost use Rattle.std.specs.Prelude.{◌≡◌, ℕ, ◌<◌, ◌≤◌, IfOk};
 ghost use Rattle.wait_cores.specs.OnceMachine.{start, next, callers_of, place_of, runner_of, reply_of};
 
 use std::alloc::{AllocError, Global};
@@ -97,7 +96,8 @@ impl<T> Model for OnceCore<T> {
 impl<T: Copy> OnceCore<T> {
     /// A once that hasn't run, for callers 0 to `callers - 1`. This call alone takes memory.
     pub fn new(alloc: Global, callers: u32) -> Result<Self, AllocError>
-        requires { AreCallers callers }
+        requires some { 1 ≤ callers }
+        requires few { callers ≤ 64 }
         ensures start { IfOk result (λ core. core ≡ start callers) }
         ensures callers { IfOk result (λ core. callers_of core ≡ callers) }
     {
@@ -109,8 +109,8 @@ impl<T: Copy> OnceCore<T> {
 
     /// Comes to have the function run: the first caller runs it, others wait for its end, and after that nobody waits.
     pub fn begin(&mut self, caller: u32) -> Begun<T>
-        requires within { caller < callers_of self.old }
-        requires out { place_of self.old caller ≡ OncePlace.Out }
+        requires is_caller { caller < callers_of self.old }
+        requires is_out { place_of self.old caller ≡ OncePlace.Out }
         ensures step { next self.old caller OnceEvent.Begin ≡ (self.new, reply_of result) }
         ensures callers { callers_of self.new ≡ callers_of self.old }
     {
@@ -129,8 +129,8 @@ impl<T: Copy> OnceCore<T> {
 
     /// Keeps what the function came to, an error too, and releases all who wait.
     pub fn end(&mut self, caller: u32, kept: T)
-        requires within { caller < callers_of self.old }
-        requires runs { runner_of self.old ≡ Some caller }
+        requires is_caller { caller < callers_of self.old }
+        requires is_runner { runner_of self.old ≡ Some caller }
         ensures step { next self.old caller (OnceEvent.End kept) ≡ (self.new, OnceReply.Ended) }
         ensures callers { callers_of self.new ≡ callers_of self.old }
     {

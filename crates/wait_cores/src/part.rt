@@ -2,18 +2,10 @@
 ghost use Rattle.std.specs.Prelude.{◌≡◌, IfOk, length};
 ghost use Rattle.wait_cores.specs.PoolParts.{empty, emptied, put_in, take_own, take_tail, take_victim, reply_of_put, reply_of_look};
 
+use crate::pool_event::PoolPut;
 use std::alloc::{AllocError, Global};
 use std::collections::VecDeque;
 use std::marker::Model;
-
-/// Whether an item that was put is kept.
-#[derive(Clone, Copy, Debug, PartialEq, Eq)]
-pub enum PoolPut {
-    /// The pool has it.
-    Kept,
-    /// The part is full, and the item stands here.
-    Dropped(u64),
-}
 
 /// A private item and at most `room` shared ones, the head first.
 #[derive(Debug, Drop)]

@@ -1,11 +1,10 @@
 //! `sync.Pool` as a machine: each caller has a part of its own, in a primary generation and in one of victims.
-ghost use Rattle.std.specs.Prelude.{◌≡◌, ℕ, ◌<◌, ◌↔◌, length, map, replicate, IfOk, IsTrue};
-ghost use Rattle.wait_cores.specs.Callers.{AreCallers};
+ghost use Rattle.std.specs.Prelude.{◌≡◌, ℕ, ◌<◌, ◌≤◌, ◌↔◌, length, map, replicate, IfOk, IsTrue};
 ghost use Rattle.wait_cores.specs.PoolParts.{empty, emptied, reply_of_put, reply_of_look};
 ghost use Rattle.wait_cores.specs.PoolMachine.{start, next, callers_of};
 
-use crate::part::{Part, PoolPut};
-use crate::pool_event::{PoolEvent, PoolReply};
+use crate::part::Part;
+use crate::pool_event::{PoolEvent, PoolPut, PoolReply};
 use std::alloc::{AllocError, Global};
 use std::marker::Model;
 use std::mem;
@@ -32,7 +31,8 @@ impl PoolCore {
     /// An empty pool for callers 0 to `callers - 1`, with memory for `room` shared items in each part of both generations.
     /// This call alone takes memory.
     pub fn new(alloc: Global, callers: u32, room: u32) -> Result<Self, AllocError>
-        requires { AreCallers callers }
+        requires some { 1 ≤ callers }
+        requires few { callers ≤ 64 }
         ensures start { IfOk result (λ core. core ≡ start callers room) }
         ensures callers { IfOk result (λ core. callers_of core ≡ callers) }
     {
@@ -73,8 +73,8 @@ impl PoolCore {
     /// Takes an item of a part among the victims: the private one, only where the part is the caller's, or else the tail
     /// of the shared list.
     pub fn look_victim(&mut self, caller: u32, part: u32) -> Option<u64>
-        requires caller { caller < callers_of self.old }
-        requires part { part < callers_of self.old }
+        requires is_caller { caller < callers_of self.old }
+        requires is_part { part < callers_of self.old }
         ensures step { next self.old caller (PoolEvent.LookVictim part) ≡ (self.new, reply_of_look result) }
         ensures callers { callers_of self.new ≡ callers_of self.old }
     {

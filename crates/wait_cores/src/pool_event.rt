@@ -2,8 +2,6 @@
 ghost use Rattle.std.specs.Prelude.{◌≡◌};
 ghost use Rattle.wait_cores.specs.PoolParts.{reply_of_put, reply_of_look};
 
-use crate::part::PoolPut;
-
 /// What a caller does at a pool of items of a type `X`.
 #[derive(Clone, Copy, Debug, PartialEq, Eq)]
 pub enum PoolEvent<X> {
@@ -35,6 +33,15 @@ pub enum PoolReply<X> {
     Swept,
     /// The caller, or the part that the event names, isn't one of the pool's, and nothing changed.
     Still,
+}
+
+/// Whether an item that was put is kept.
+#[derive(Clone, Copy, Debug, PartialEq, Eq)]
+pub enum PoolPut {
+    /// The pool has it.
+    Kept,
+    /// The part is full, and the item stands here.
+    Dropped(u64),
 }
 
 impl From<PoolPut> for PoolReply<u64> {
