@@ -11,7 +11,7 @@ use crate::pool_event::{PoolEvent, PoolReply};
 pub fn conserves_items()
     ensures { (callers room : ℕ) (test : ℕ → Bool) (log : Log ℕ) → IsLog callers room log
         → kept_count test log ≡ got_count test log + held test (state_after callers room log)
-            + swept_count test (start callers room) log }
+        + swept_count test (start callers room) log }
 {}
 
 /// Each item that a look takes was put by one earlier put, no other look takes that put's item, and at most one sweep stands
