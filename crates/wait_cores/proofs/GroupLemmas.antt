@@ -1,7 +1,7 @@
 -- A queued caller waits until the counter is 0.
-use Rattle.std.proofs.Common.{◌≡◌, ◌≢◌, ◌⊎◌, inl, inr, ℕ, ◌==◌, ◌<◌, pos, ◌+ℤ◌, Bool, true, false, cond, List, [], ◌∷◌, ◌++◌, length, map, set, Option, Some, None, refl, sym, ap, ◌∙◌, arith}
+use Rattle.std.proofs.Common.{◌≡◌, ◌≢◌, ◌⊎◌, inl, inr, ℕ, zero, suc, ◌==◌, ◌<◌, pos, ◌+ℤ◌, Bool, true, false, cond, List, [], ◌∷◌, ◌++◌, length, map, replicate, set, Option, Some, None, refl, sym, ap, ◌∙◌, arith}
 use Rattle.std.specs.Prelude.{nat_lt, unwrap_or}
-use Rattle.std.specs.List.{slice_get}
+use Rattle.std.specs.List.{slice_get, list_any}
 use Rattle.std.proofs.lemmas.Bool.Decides.{nat_tests}
 use Rattle.wait_cores.specs.declared.group.GroupEvent.{GroupEvent}
 use Rattle.wait_cores.specs.declared.group.GroupEvent.TheVariants.{Add, Wait, Leave}
@@ -10,7 +10,7 @@ use Rattle.wait_cores.specs.declared.group.GroupReply.TheVariants.{Done, Queued,
 use Rattle.wait_cores.specs.declared.group.GroupPlace.{GroupPlace}
 use Rattle.wait_cores.specs.declared.group.GroupPlace.TheVariants.{Out, Waiting, Released}
 use Rattle.wait_cores.specs.Log.{Entry, entry, after, Follows}
-use Rattle.wait_cores.specs.GroupMachine.{GroupState, next, made, added, within, wait_from, leave_from, callers_of, place_of}
+use Rattle.wait_cores.specs.GroupMachine.{GroupState, start, next, is_waiting, released, made, added, within, wait_from, leave_from, callers_of, place_of}
 use Rattle.wait_cores.specs.GroupLaws.{Log, WasZero}
 use Rattle.wait_cores.proofs.Places.{get-set_kept, get-set_other, get-set_within}
 use Rattle.wait_cores.proofs.LogLemmas.{follows_rest}
@@ -72,7 +72,7 @@ zero_after : (s : GroupState) (c : ℕ) (e : Entry GroupEvent GroupReply) (log :
 zero_after s c e log gone (inl waits) later =
     let found : WasZero (next s e.caller e.event).0 log = later waits in
     record { done = e ∷ found.done; left = found.left; parts = ap (λ (x : Log). e ∷ x) found.parts; zero_then = found.zero_then }
-zero_after s c e log gone (inr zero) later = record { done = e ∷ []; left = log; parts = refl; zero_then = zero }
+zero_after s c e log gone (inr came) later = record { done = e ∷ []; left = log; parts = refl; zero_then = came }
 
 -- a caller that waits, and doesn't after a log, has seen the counter at 0
 zero_between : (s : GroupState) (c : ℕ) (log : Log) → slice_get s.places c ≡ Some Waiting → slice_get (after next s log).places c ≢ Some Waiting → WasZero s log
@@ -114,3 +114,63 @@ pub waits_for_zero : (s : GroupState) (c : ℕ) (between rest : Log) (reply : Gr
 waits_for_zero s c between rest reply ne h =
     let t : GroupState = (next s c Wait).0 in
     zero_between t c between (queued_waits s c h.0) (leaver_is_released (after next t between) c reply (follows_rest next t between (entry c Leave reply ∷ rest) h.1).0 ne)
+
+-- nobody waits in a state with the counter 0
+abbrev IsServed : GroupState → Type 0
+IsServed s = s.counter ≡ 0 → list_any is_waiting s.places ≡ false
+
+none_in_released : (places : List GroupPlace) → list_any is_waiting (map released places) ≡ false
+none_in_released [] = refl
+none_in_released (Waiting ∷ places) = none_in_released places
+none_in_released (Out ∷ places) = none_in_released places
+none_in_released (Released ∷ places) = none_in_released places
+
+none_after_out : (places : List GroupPlace) (i : ℕ) → list_any is_waiting places ≡ false → list_any is_waiting (set places i Out) ≡ false
+none_after_out [] i h = refl
+none_after_out (Waiting ∷ places) i h = cc
+none_after_out (Out ∷ places) zero h = h
+none_after_out (Out ∷ places) (suc i) h = none_after_out places i h
+none_after_out (Released ∷ places) zero h = h
+none_after_out (Released ∷ places) (suc i) h = none_after_out places i h
+
+none_at_start : (callers : ℕ) → list_any is_waiting (replicate callers Out) ≡ false
+none_at_start zero = refl
+none_at_start (suc callers) = none_at_start callers
+
+served_sum : (b : Bool) (sum : ℕ) (places : List GroupPlace) → (sum == 0) ≡ b → IsServed (record { counter = sum; places = cond b (map released places) places })
+served_sum true sum places is h = none_in_released places
+served_sum false sum places is h = let zero_is : (sum == 0) ≡ true = grind (arith, nat_tests) in cc
+
+served_add : (sum : Option ℕ) (s : GroupState) → IsServed s → IsServed (added sum s).0
+served_add (Some sum) s is = served_sum (sum == 0) sum s.places refl
+served_add None s is = is
+
+served_wait : (p : GroupPlace) (s : GroupState) (d : ℕ) → IsServed s → IsServed (wait_from p s d).0
+served_wait Out s d is = by_test (s.counter == 0) refl where
+  by_test : (b : Bool) → (s.counter == 0) ≡ b → IsServed (cond {A = GroupState × GroupReply} b (s, Done) (record s { places = set s.places d Waiting }, Queued)).0
+  by_test true same h = is h
+  by_test false same h = let zero_is : (s.counter == 0) ≡ true = grind (arith, nat_tests) in cc
+served_wait Waiting s d is = is
+served_wait Released s d is = is
+
+served_leave : (p : GroupPlace) (s : GroupState) (d : ℕ) → IsServed s → IsServed (leave_from p s d).0
+served_leave Released s d is h = none_after_out s.places d (is h)
+served_leave Out s d is h = is h
+served_leave Waiting s d is h = is h
+
+served_made : (s : GroupState) (d : ℕ) (event : GroupEvent) → IsServed s → IsServed (made s d event).0
+served_made s d (Add delta) is = served_add (within (pos s.counter +ℤ delta)) s is
+served_made s d Wait is = served_wait (place_of s d) s d is
+served_made s d Leave is = served_leave (place_of s d) s d is
+
+served_if : (b : Bool) (s : GroupState) (d : ℕ) (event : GroupEvent) → IsServed s → IsServed (cond b (made s d event) (s, Still)).0
+served_if true s d event is = served_made s d event is
+served_if false s d event is = is
+
+served_after : (s : GroupState) (log : Log) → IsServed s → IsServed (after next s log)
+served_after s [] is = is
+served_after s (e ∷ log) is =
+    let s' : GroupState = (next s e.caller e.event).0 in served_after s' log (served_if (nat_lt e.caller (callers_of s)) s e.caller e.event is)
+
+pub nobody_waits_at_zero : (callers : ℕ) (log : Log) → (after next (start callers) log).counter ≡ 0 → list_any is_waiting (after next (start callers) log).places ≡ false
+nobody_waits_at_zero callers log h = served_after (start callers) log (λ z. none_at_start callers) h

@@ -359,3 +359,6 @@ notifies_in_order callers before between c h few others enough =
     let then : Has s.next_ticket c (after next s' between) × (s.next_ticket < (after next s' between).notified) = reached s.next_ticket c s' between from.1 others has far in
     rw (after-append next (start callers) before (entry c Ticket Done ∷ between))
     (notified_place (after next s' between).notified s.next_ticket (slice_get (after next s' between).tickets c) then.0.own then.1)
+
+pub notifies_taken : (callers : ℕ) (log : Log) → Follows next (start callers) log → (after next (start callers) log).notified ≤ (after next (start callers) log).next_ticket
+notifies_taken callers log h = (sound_after (start callers) log h (start_sound callers)).notified

@@ -4,13 +4,17 @@ use Rattle.wait_cores.specs.declared.group.GroupEvent.{GroupEvent}
 use Rattle.wait_cores.specs.declared.group.GroupEvent.TheVariants.{Wait, Leave}
 use Rattle.wait_cores.specs.declared.group.GroupReply.{GroupReply}
 use Rattle.wait_cores.specs.Log.{Entry, entry, after}
-use Rattle.wait_cores.specs.GroupMachine.{GroupState, next}
+use Rattle.wait_cores.specs.GroupMachine.{GroupState, start, next}
 
 abbrev pub Made : Type 0
 Made = Entry GroupEvent GroupReply
 
 abbrev pub Log : Type 0
 Log = List Made
+
+-- the state after a log of a group for so many callers, from its start on
+abbrev pub state_after : ℕ → Log → GroupState
+state_after callers log = after next (start callers) log
 
 -- the caller comes to wait, and is answered this
 abbrev pub wait_by : ℕ → GroupReply → Made

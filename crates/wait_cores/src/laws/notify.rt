@@ -1,5 +1,5 @@
 //! When a ticket of a cond is notified.
-ghost use Rattle.std.specs.Prelude.{◌≡◌, ℕ, ◌<◌, ◌-◌, ◌^◌, ◌==◌, min, not, ◌∷◌, ◌++◌, count_by, IsTrue};
+ghost use Rattle.std.specs.Prelude.{◌≡◌, ℕ, ◌<◌, ◌≤◌, ◌-◌, ◌^◌, ◌==◌, min, not, ◌∷◌, ◌++◌, count_by, IsTrue};
 ghost use Rattle.std.specs.List.{list_all};
 ghost use Rattle.wait_cores.specs.NotifyMachine.{place_of};
 ghost use Rattle.wait_cores.specs.NotifyLaws.{Log, IsLog, state_after, ticket_by, leave_by, is_ticket, pending_of, NotifiesAfter};
@@ -25,8 +25,10 @@ pub fn notifies_in_order()
         → place_of (state_after callers (before ++ ticket_by caller ∷ between)) caller ≡ NotifyPlace.Notified }
 {}
 
-/// The next ticket's number is the number of tickets taken, as long as that is below 2^64.
+/// The next ticket's number is the number of tickets taken, up to 2^64 - 1, and no ticket is notified before it is taken.
 pub fn counts_tickets()
-    ensures { (callers : ℕ) (log : Log) → IsLog callers log
+    ensures taken { (callers : ℕ) (log : Log) → IsLog callers log
         → (state_after callers log).next_ticket ≡ min (count_by is_ticket log) (2 ^ 64 - 1) }
+    ensures notified { (callers : ℕ) (log : Log) → IsLog callers log
+        → (state_after callers log).notified ≤ (state_after callers log).next_ticket }
 {}
