@@ -1,3 +1,4 @@
 pub mod ByName
+pub mod Journal
 pub mod Misuse
 pub mod Name
