@@ -1,0 +1,3 @@
+pub mod Starving
+pub mod MutexMachine
+pub mod MutexCore
