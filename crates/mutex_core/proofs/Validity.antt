@@ -1,5 +1,5 @@
 -- Every event keeps what is true of every state.
-use Rattle.std.proofs.Common.{◌≡◌, ℕ, ◌<◌, Bool, true, false, List, [], ◌∷◌, ◌++◌, ◌&&◌, ◌||◌, refl, ap, subst}
+use Rattle.std.proofs.Common.{◌≡◌, ℕ, ◌<◌, Bool, true, false, List, [], ◌∷◌, ◌++◌, ◌&&◌, ◌||◌, refl, ap, subst, ◌∙◌}
 use Rattle.std.specs.Prelude.{nat_eq, nat_lt, if◌then◌else◌}
 use borrow.Author.Tests.{ltb-true}
 use Rattle.sync_model.specs.Journal.{Entry, after}
@@ -13,7 +13,7 @@ use Rattle.mutex_core.specs.declared.waiter.Flight.{Flight}
 use Rattle.mutex_core.specs.declared.waiter.Flight.TheVariants as flight
 use Rattle.mutex_core.specs.declared.event.MutexEvent.{MutexEvent}
 use Rattle.mutex_core.specs.declared.event.MutexEvent.TheVariants as event
-use Rattle.mutex_core.specs.MutexMachine.{State, start, place_by, place_of, waiting_by, arrived, tried, unlocked, released, contended, received, resumed, still, at_place, next, is_contended, IsValid}
+use Rattle.mutex_core.specs.MutexMachine.{State, start, is_open, place_by, place_of, waiting_by, arrived, tried, unlocked, released, contended, received, resumed, still, at_place, next, is_contended, IsValid}
 use Rattle.std.proofs.lemmas.Cmp.{nat_eq_equiv}
 use Rattle.std.proofs.lemmas.Bool.{false≢true}
 use Rattle.std.proofs.lemmas.Map.Keys.{IsDistinct-push, IsDistinct-tail}
@@ -133,3 +133,39 @@ after-valid s (entry ∷ journal) h = after-valid (next s entry.caller entry.eve
 -- the state after an event, named by what the event is
 pub valid-by : (s t : State) (c : ℕ) (e : MutexEvent) (r : MutexReply) → IsValid s → next s c e ≡ (t, r) → IsValid t
 valid-by s t c e r h is = subst IsValid (ap (λ p. p.0) is) (next-valid s c e h)
+
+callers-unlocked : (n : ℕ) (l k v : Bool) (q : List Waiter) (f : Flight) → (unlocked (state n l k v q f)).0.callers ≡ n
+callers-unlocked n false k v q f = refl
+callers-unlocked n true k v [] f = refl
+callers-unlocked n true k true (w ∷ q) f = refl
+callers-unlocked n true true false (w ∷ q) f = refl
+callers-unlocked n true false false (w ∷ q) f = refl
+
+callers-resumed : (n : ℕ) (l k v : Bool) (q : List Waiter) (f : Flight) (now : ℕ) → (resumed f q now (state n l k v q f)).0.callers ≡ n
+callers-resumed n l k v q flight.Nobody now = refl
+callers-resumed n l k v [] flight.Handed now = refl
+callers-resumed n l k v (w ∷ q) flight.Handed now = refl
+callers-resumed n true k v q (flight.Woken w) now = refl
+callers-resumed n false k v q (flight.Woken w) now = refl
+
+callers-open : (n : ℕ) (b : Bool) (s t : State × MutexReply) → s.0.callers ≡ n → t.0.callers ≡ n → (if b then s else t).0.callers ≡ n
+callers-open n true s t e f = e
+callers-open n false s t e f = f
+
+callers-at_place : (e : MutexEvent) (p : Place) (c : ℕ) (s : State) → (at_place e p c s).0.callers ≡ s.callers
+callers-at_place (event.Arrive now) place.Out c s = callers-open s.callers (is_open s) _ _ refl refl
+callers-at_place (event.Arrive now) _ c s = refl
+callers-at_place event.Try place.Out c s = callers-open s.callers (is_open s) _ _ refl refl
+callers-at_place event.Try _ c s = refl
+callers-at_place event.Unlock _ c s = callers-unlocked s.callers s.locked s.woken s.starving s.queue s.flight
+callers-at_place (event.Woken now) place.Woken c s = callers-resumed s.callers s.locked s.woken s.starving s.queue s.flight now
+callers-at_place (event.Woken now) place.Handed c s = callers-resumed s.callers s.locked s.woken s.starving s.queue s.flight now
+callers-at_place (event.Woken now) _ c s = refl
+
+callers-next : (s : State) (c : ℕ) (e : MutexEvent) → (next s c e).0.callers ≡ s.callers
+callers-next s c e = callers-open s.callers (nat_lt c s.callers) _ _ (callers-at_place e (place_of s c) c s) refl
+
+-- the callers stay the same
+pub callers-after : (s : State) (journal : List (Entry MutexEvent MutexReply)) → (after next s journal).callers ≡ s.callers
+callers-after s [] = refl
+callers-after s (entry ∷ journal) = callers-after (next s entry.caller entry.event).0 journal ∙ callers-next s entry.caller entry.event
