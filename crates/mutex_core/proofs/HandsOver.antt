@@ -1,6 +1,6 @@
 -- A starving mutex goes to the first waiter of its queue.
-use Rattle.std.proofs.Common.{◌≡◌, ℕ, ◌<◌, Bool, true, false, ◌&&◌, List, [], ◌∷◌, ◌++◌, refl, ap, subst, sym, ◌∙◌, lt-ltb}
-use Rattle.std.specs.Prelude.{nat_lt, nat_eq, ◌==◌, not, IsTrue, IsFalse, if◌then◌else◌}
+use Rattle.std.proofs.Common.{◌≡◌, ℕ, ◌<◌, Bool, true, false, List, [], ◌∷◌, ◌++◌, refl, ap, subst, sym, ◌∙◌, lt-ltb}
+use Rattle.std.specs.Prelude.{nat_lt, IsFalse, if◌then◌else◌}
 use Rattle.std.specs.Bool.{MatchBool}
 use Rattle.std.specs.List.{list_any}
 use Rattle.std.proofs.lemmas.Bool.{false≢true, eqb-true}
@@ -10,17 +10,16 @@ use Rattle.mutex_core.specs.declared.event.MutexEvent.TheVariants as event
 use Rattle.mutex_core.specs.declared.place.Place.{Place}
 use Rattle.mutex_core.specs.declared.place.Place.TheVariants as place
 use Rattle.mutex_core.specs.declared.reply.MutexReply.{MutexReply}
-use Rattle.mutex_core.specs.declared.reply.MutexReply.TheVariants.{Unlocked, Resumed}
+use Rattle.mutex_core.specs.declared.reply.MutexReply.TheVariants.{Resumed}
 use Rattle.mutex_core.specs.declared.reply.Resumption.TheVariants.{Acquired}
-use Rattle.mutex_core.specs.declared.reply.Unlocking.TheVariants.{Handed}
 use Rattle.mutex_core.specs.declared.waiter.Waiter.{Waiter}
 use Rattle.mutex_core.specs.declared.waiter.Flight.{Flight}
 use Rattle.mutex_core.specs.declared.waiter.Flight.TheVariants as flight
-use Rattle.mutex_core.specs.MutexMachine.{State, start, is_of, place_in, place_of, arrived, tried, unlocked, resumed, still, at_place, next, IsValid}
+use Rattle.mutex_core.specs.MutexMachine.{State, start, is_of, place_in, place_of, unlocked, still, at_place, next, IsValid}
 use Rattle.mutex_core.specs.Edges.{Journal, acquires}
 use Rattle.mutex_core.specs.HandOff.{goes_on, GoesTo, HandsOff}
 use Rattle.mutex_core.proofs.Journals.{follows_later}
-use Rattle.mutex_core.proofs.Validity.{state, next-valid, start-valid, after-valid, callers-after, unlocked-valid}
+use Rattle.mutex_core.proofs.Validity.{state, start-valid, after-valid, callers-after, unlocked-valid}
 
 -- the state in which the mutex is kept for the first waiter
 abbrev pub kept : ℕ → Waiter → List Waiter → State

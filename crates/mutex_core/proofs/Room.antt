@@ -1,11 +1,11 @@
 -- There is room for one more where a caller is out of the queue.
-use Rattle.std.proofs.Common.{◌≡◌, ℕ, ◌<◌, ◌≤◌, ◌+◌, List, [], ◌∷◌, ◌++◌, length, false, arith, length-append}
+use Rattle.std.proofs.Common.{◌≡◌, ℕ, ◌<◌, ◌≤◌, List, [], ◌∷◌, length, false, arith, length-append}
 use Rattle.mutex_core.specs.declared.place.Place.TheVariants as place
 use Rattle.mutex_core.specs.declared.waiter.Waiter.{Waiter}
 use Rattle.mutex_core.specs.declared.waiter.Flight.{Flight}
 use Rattle.mutex_core.specs.declared.waiter.Flight.TheVariants as flight
 use Rattle.mutex_core.specs.MutexMachine.{State, place_of, waiting_by, IsValid}
-use Rattle.mutex_core.proofs.Waiting.{callers_of, length-callers_of, length-apart}
+use Rattle.mutex_core.proofs.Waiting.{length-callers_of, length-apart}
 use Rattle.mutex_core.proofs.Validity.{queued-valid}
 
 length-waiting_by : (f : Flight) (q : List Waiter) → length q ≤ length (waiting_by f q)

@@ -6,14 +6,14 @@ use Rattle.sync_model.specs.Journal.{Entry, after}
 use Rattle.mutex_core.specs.declared.reply.MutexReply.{MutexReply}
 use Rattle.mutex_core.specs.Starving.{is_starving}
 use Rattle.mutex_core.specs.declared.place.Place.{Place}
-use Rattle.std.specs.List.{IsDistinct, AllByRecursion}
+use Rattle.std.specs.List.{IsDistinct}
 use Rattle.mutex_core.specs.declared.place.Place.TheVariants as place
 use Rattle.mutex_core.specs.declared.waiter.Waiter.{Waiter}
 use Rattle.mutex_core.specs.declared.waiter.Flight.{Flight}
 use Rattle.mutex_core.specs.declared.waiter.Flight.TheVariants as flight
 use Rattle.mutex_core.specs.declared.event.MutexEvent.{MutexEvent}
 use Rattle.mutex_core.specs.declared.event.MutexEvent.TheVariants as event
-use Rattle.mutex_core.specs.MutexMachine.{State, start, is_open, place_by, place_of, waiting_by, arrived, tried, unlocked, released, contended, received, resumed, still, at_place, next, is_contended, IsValid}
+use Rattle.mutex_core.specs.MutexMachine.{State, start, is_open, place_by, place_of, arrived, tried, unlocked, resumed, still, at_place, next, is_contended, IsValid}
 use Rattle.std.proofs.lemmas.Cmp.{nat_eq_equiv}
 use Rattle.std.proofs.lemmas.Bool.{false≢true}
 use Rattle.std.proofs.lemmas.Map.Keys.{IsDistinct-push, IsDistinct-tail}

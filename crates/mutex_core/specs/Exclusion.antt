@@ -1,5 +1,5 @@
 -- Mutual exclusion, as what a journal shows.
-use Rattle.std.specs.Prelude.{Bool, true, false, IsTrue, IsFalse, List, [], ◌∷◌, if◌then◌else◌}
+use Rattle.std.specs.Prelude.{Bool, true, false, IsTrue, IsFalse, [], ◌∷◌, if◌then◌else◌}
 use Rattle.mutex_core.specs.declared.reply.MutexReply.{MutexReply}
 use Rattle.mutex_core.specs.Edges.{Journal, acquires, releases}
 

@@ -1,5 +1,5 @@
 //! The mutex machine, in memory that is taken once.
-ghost use Rattle.std.specs.Prelude.{◌≡◌, ◌⊎◌, ◌<◌, ◌≤◌, IfOk};
+ghost use Rattle.std.specs.Prelude.{◌≡◌, ◌⊎◌, ◌<◌, ◌≤◌, IfOk, IsFalse};
 ghost use Rattle.mutex_core.specs.MutexMachine.{is_of, next, place_of, start};
 ghost use Rattle.std.specs.List.{list_any};
 ghost use Rattle.mutex_core.specs.declared.event.MutexEvent.{MutexEvent};
@@ -96,14 +96,14 @@ impl MutexCore {
         let flight = self.flight;
         self.flight = Flight::Nobody;
         if let Flight::Woken(waiter) = flight {
-            if !self.locked {
-                self.locked = true;
-                return Resumption::Acquired;
+            if self.locked {
+                let asked = waiter.is_starving(now);
+                self.starving = self.starving || asked;
+                self.queue.push_front_reserved(Waiter { asked, ..waiter });
+                return Resumption::Requeued;
             }
-            let asked = waiter.is_starving(now);
-            self.starving = self.starving || asked;
-            self.queue.push_front_reserved(Waiter { asked, ..waiter });
-            return Resumption::Requeued;
+            self.locked = true;
+            return Resumption::Acquired;
         }
         let front = self.queue.pop_front().unwrap();
         self.locked = true;
@@ -116,7 +116,8 @@ impl MutexCore {
     /// locked stays as it is: that is a misuse, Go's fatal error.
     pub fn unlock(&mut self, caller: u32) -> Unlocking
         requires { caller < self.old.callers }
-        ensures { next self.old caller MutexEvent.Unlock ≡ (self.new, MutexReply.Unlocked result) }
+        ensures step { next self.old caller MutexEvent.Unlock ≡ (self.new, MutexReply.Unlocked result) }
+        ensures misuse { (m : Misuse) → result ≡ Unlocking.Misuse m → (self.new ≡ self.old) × IsFalse self.old.locked }
     {
         if !self.locked {
             return Unlocking::Misuse(Misuse::UnlockOfUnlockedMutex);
@@ -158,3 +159,6 @@ impl MutexCore {
         self.queue.iter().any(|waiter| caller == waiter.caller)
     }
 }
+
+#[cfg(test)]
+mod tests;

@@ -1,4 +1,4 @@
-use Rattle.std.proofs.Common.{false, ◌∷◌, ◌++◌}
+use Rattle.std.proofs.Common.{false}
 use Rattle.mutex_core.proofs.Turns.{turns, released_between}
 use Rattle.mutex_core.proofs.laws.mutual_exclusion.Goals as goal
 

@@ -7,8 +7,8 @@ use Rattle.mutex_core.proofs.Validity.{valid-by}
 use Rattle.mutex_core.proofs.Room.{room_for-woken}
 use Rattle.mutex_core.proofs.mutex.MutexCore.woken.Goals as goal
 
-pub invariant_of-self : goal.invariant_of-self
-invariant_of-self c = record {
+pub invariant_of-self-in-Woken : goal.invariant_of-self-in-Woken
+invariant_of-self-in-Woken c = record {
   valid = valid-by _ _ c.args.caller (event.Woken c.args.now) (Resumed Acquired) c.self.invariant.valid (grind (arith, common_steps));
   room = c.self.invariant.room;
 }
