@@ -1,13 +1,17 @@
 -- A sorted table of vectors of bytes is the finite map of its entries.
-use Rattle.std.proofs.Common.{◌≡◌, ℕ, Bool, true, false, cond, List, [], ◌∷◌, map, Option, Some, None, refl, sym, ap, ◌∙◌}
+use Rattle.std.proofs.Common.{◌≡◌, ℕ, Bool, true, false, cond, List, [], ◌∷◌, map, length, Option, Some, None, refl, sym, ap, ◌∙◌}
 use Rattle.std.specs.Global.{Vec}
 use Rattle.std.specs.Ordering.{nat_cmp, eq_by_cmp, match_ordering}
 use Rattle.std.specs.declared.cmp.Ordering.{Ordering}
 use Rattle.std.specs.declared.cmp.Ordering.TheVariants.{Less, Equal, Greater}
 use Rattle.std.specs.Cmp.Lexicographic.{slice_cmp, nat_list_cmp_total}
-use Rattle.std.specs.Map.{lookup}
+use Rattle.std.specs.Map.{lookup, keys_of}
+use Rattle.std.specs.List.{AllByRecursion}
+use Rattle.std.specs.List.Sorted.{IsStrictlySortedBy}
+use Rattle.std.proofs.lemmas.Map.Keys.{sorted_head, sorted_tail}
+use Rattle.std.proofs.lemmas.List.{length-map, nil_from_length}
 use Rattle.std.specs.BTreeMap.{is_at, insert_entry}
-use Rattle.std.specs.FinMap.{FinMap, get, insert, from_entries, find, put, same_map, get-insert, get-from_entries, slice_cmp-IsAntisymmetric, nat_cmp-IsAntisymmetric}
+use Rattle.std.specs.FinMap.{FinMap, get, insert, from_entries, find, put, same_map, len, len-entries, entries, entries-insert, empty, len-empty, get-insert, get-from_entries, slice_cmp-IsAntisymmetric, nat_cmp-IsAntisymmetric}
 use Rattle.std.specs.FinMap.Entries.{find-put, by_order}
 use Rattle.sync_model.specs.ByName.{by_bytes}
 
@@ -41,8 +45,23 @@ module _ {X : Type 0} where
   pub by_bytes-insert_entry : (es : List (Vec ℕ × X)) (k : Vec ℕ) (v : X) → by_bytes (insert_entry vec_cmp es k v) ≡ insert (by_bytes es) k.items v
   by_bytes-insert_entry es k v =
       same_map nat_list_cmp_total (slice_cmp-IsAntisymmetric nat_cmp-IsAntisymmetric) _ _ (λ q.
-        ap (λ (x : List (List ℕ × X)). get (from_entries {R = slice_cmp nat_cmp} x) q) (pairs-insert_entry es k v)
-        ∙ get-from_entries nat_list_cmp_total (put (slice_cmp nat_cmp) k.items v (pairs es)) q
-        ∙ find-put (slice_cmp nat_cmp) nat_list_cmp_total q k.items v (pairs es)
-        ∙ sym (get-insert nat_list_cmp_total (by_bytes es) k.items v q
-          ∙ ap (cond (eq_by_cmp (slice_cmp nat_cmp) q k.items) (Some v)) (get-from_entries nat_list_cmp_total (pairs es) q)))
+      ap (λ (x : List (List ℕ × X)). get (from_entries {R = slice_cmp nat_cmp} x) q) (pairs-insert_entry es k v)
+      ∙ get-from_entries nat_list_cmp_total (put (slice_cmp nat_cmp) k.items v (pairs es)) q
+      ∙ find-put (slice_cmp nat_cmp) nat_list_cmp_total q k.items v (pairs es)
+      ∙ sym (get-insert nat_list_cmp_total (by_bytes es) k.items v q
+      ∙ ap (cond (eq_by_cmp (slice_cmp nat_cmp) q k.items) (Some v)) (get-from_entries nat_list_cmp_total (pairs es) q)))
+
+  put_first : (k : Vec ℕ) (v : X) (es : List (Vec ℕ × X)) → AllByRecursion (λ y. vec_cmp k y ≡ Less) (keys_of es) → put (slice_cmp nat_cmp) k.items v (pairs es) ≡ (k.items, v) ∷ pairs es
+  put_first k v [] h = refl
+  put_first k v (e ∷ es) h = ap (λ (r : Ordering). by_order r ((k.items, v) ∷ pairs (e ∷ es)) ((e.0.items, v) ∷ pairs es) ((e.0.items, e.1) ∷ put (slice_cmp nat_cmp) k.items v (pairs es))) h.0
+
+  -- the entries of a sorted table are those of the finite map, in the same order
+  pub entries-by_bytes : (es : List (Vec ℕ × X)) → IsStrictlySortedBy vec_cmp (keys_of es) → entries (by_bytes es) ≡ pairs es
+  entries-by_bytes [] h = nil_from_length (entries (empty {X = X} {R = slice_cmp nat_cmp})) (sym (len-entries (empty {X = X} {R = slice_cmp nat_cmp})) ∙ len-empty (slice_cmp nat_cmp) X)
+  entries-by_bytes (e ∷ es) h =
+      entries-insert nat_list_cmp_total (by_bytes es) e.0.items e.1
+      ∙ ap (put (slice_cmp nat_cmp) e.0.items e.1) (entries-by_bytes es (sorted_tail vec_cmp e.0 (keys_of es) h))
+      ∙ put_first e.0 e.1 es (sorted_head vec_cmp e.0 (keys_of es) h)
+
+  pub len-by_bytes : (es : List (Vec ℕ × X)) → IsStrictlySortedBy vec_cmp (keys_of es) → len (by_bytes es) ≡ length es
+  len-by_bytes es h = len-entries (by_bytes es) ∙ ap length (entries-by_bytes es h) ∙ length-map es (λ (e : Vec ℕ × X). (e.0.items, e.1))

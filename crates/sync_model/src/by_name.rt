@@ -55,4 +55,11 @@ impl<X: Copy> ByName<X> {
         self.entries.insert(name, value)?;
         Ok(())
     }
+
+    /// How many names have a value.
+    pub fn len(&self) -> usize
+        ensures { result ≡ finite.len self.now }
+    {
+        self.entries.len()
+    }
 }

@@ -63,8 +63,6 @@ pub fn is_name(bytes: &[u8]) -> bool
 {
     match bytes.split_first() {
         None => false,
-        Some((first, rest)) => {
-            bytes.len() <= MAX_NAME && letter(*first) && all_name_bytes(rest)
-        }
+        Some((first, rest)) => { bytes.len() <= MAX_NAME && letter(*first) && all_name_bytes(rest) }
     }
 }

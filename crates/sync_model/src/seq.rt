@@ -1,6 +1,5 @@
 //! A list that contracts see as a list, whatever memory holds it.
-ghost use Rattle.std.specs.Prelude.{◌≡◌, ◌+◌, ◌<◌, ◌≤◌, List, [], ◌∷◌, ◌++◌, length, IfOk, OnOk, OnErr, IsTrue, ◌↔◌, slice_get, option_copied};
-ghost use Rattle.std.specs.Option.{option_copied};
+ghost use Rattle.std.specs.Prelude.{◌≡◌, ◌+◌, ◌<◌, ◌≤◌, List, [], ◌∷◌, ◌++◌, length, IfOk, OnOk, OnErr, IsTrue, ◌↔◌, slice_get, set, get_or};
 
 use std::alloc::{AllocError, Global};
 use std::marker::Model;
@@ -63,6 +62,21 @@ impl<T> Seq<T> {
         ensures err { OnErr result (self.new ≡ self.old) }
     {
         self.items.push(item)?;
+        Ok(())
+    }
+}
+
+impl<T> Seq<Seq<T>> {
+    /// Adds an item at the end of the list at an index. Where memory is out all stays as it was.
+    pub fn push_at(&mut self, index: usize, item: T) -> Result<(), AllocError>
+    where
+        T: Drop,
+        requires { index < length self.old }
+        ensures ok { OnOk result (self.new ≡ set self.old index (get_or self.old index [] ++ item ∷ [])) }
+        ensures err { OnErr result (self.new ≡ self.old) }
+    {
+        let list = &mut self.items[index];
+        list.push(item)?;
         Ok(())
     }
 }
