@@ -16,8 +16,8 @@ pub fn validity()
 {}
 
 /// Mutual exclusion: between two answers by which a caller has the mutex, it is unlocked. More
-/// exactly, answers that give the mutex and unlocks that take it away follow each other in turn, so
-/// an unlock is a misuse exactly where nobody has the mutex.
+/// exactly, answers that give the mutex and unlocks that take it away follow each other in turn: where
+/// nobody has the mutex, an unlock is no more than a misuse.
 pub fn mutual_exclusion()
     ensures unlocked_between { (callers : ℕ) (earlier between later : Journal) (first second : Entry MutexEvent MutexReply) → Follows next (start callers) (earlier ++ first ∷ (between ++ second ∷ later)) → IsTrue (acquires first.reply) → IsTrue (acquires second.reply) → IsTrue (list_any (λ entry. releases entry.reply) between) }
     ensures in_turn { (callers : ℕ) (journal : Journal) → Follows next (start callers) journal → TakesTurns false journal }
