@@ -5,14 +5,16 @@ ghost use Rattle.std.specs.List.{list_any};
 ghost use Rattle.sync_model.specs.Journal.{Entry, after, Follows};
 ghost use Rattle.mutex_core.specs.declared.event.MutexEvent.{MutexEvent};
 ghost use Rattle.mutex_core.specs.declared.reply.MutexReply.{MutexReply};
-ghost use Rattle.mutex_core.specs.MutexMachine.{next, start, IsValid};
+ghost use Rattle.mutex_core.specs.MutexMachine.{next, start, IsValid, State};
 ghost use Rattle.mutex_core.specs.Edges.{Journal, acquires, releases};
 ghost use Rattle.mutex_core.specs.Exclusion.{TakesTurns};
 ghost use Rattle.mutex_core.specs.HandOff.{HandsOff};
 
-/// What is true of the unlocked mutex stays true.
+/// What is true of the unlocked mutex stays true with each event, and so in every run.
 pub fn validity()
-    ensures { (callers : ℕ) (journal : Journal) → IsValid (after next (start callers) journal) }
+    ensures begins { (callers : ℕ) → IsValid (start callers) }
+    ensures goes_on { (state : State) (caller : ℕ) (event : MutexEvent) → IsValid state → IsValid (next state caller event).0 }
+    ensures always { (callers : ℕ) (journal : Journal) → IsValid (after next (start callers) journal) }
 {}
 
 /// Mutual exclusion: between two answers by which a caller has the mutex, it is unlocked. More

@@ -1,6 +1,6 @@
 //! The mutex machine, in memory that is taken once.
 ghost use Rattle.std.specs.Prelude.{◌≡◌, ◌⊎◌, ◌<◌, ◌≤◌, IfOk, IsFalse};
-ghost use Rattle.mutex_core.specs.MutexMachine.{is_of, next, place_of, start};
+ghost use Rattle.mutex_core.specs.MutexMachine.{is_of, next, place_of, start, IsValid};
 ghost use Rattle.std.specs.List.{list_any};
 ghost use Rattle.mutex_core.specs.declared.event.MutexEvent.{MutexEvent};
 ghost use Rattle.mutex_core.specs.declared.reply.MutexReply.{MutexReply};
@@ -58,7 +58,8 @@ impl MutexCore {
     pub fn arrive(&mut self, caller: u32, now: u64) -> Arrival
         requires is_caller { caller < self.old.callers }
         requires is_out { place_of self.old caller ≡ Place.Out }
-        ensures { next self.old caller (MutexEvent.Arrive now) ≡ (self.new, MutexReply.Arrived result) }
+        ensures step { next self.old caller (MutexEvent.Arrive now) ≡ (self.new, MutexReply.Arrived result) }
+        ensures valid { IsValid self.new }
     {
         if !self.locked && !self.starving {
             self.locked = true;
@@ -76,7 +77,8 @@ impl MutexCore {
     pub fn try_arrive(&mut self, caller: u32) -> bool
         requires is_caller { caller < self.old.callers }
         requires is_out { place_of self.old caller ≡ Place.Out }
-        ensures { next self.old caller MutexEvent.Try ≡ (self.new, MutexReply.Tried result) }
+        ensures step { next self.old caller MutexEvent.Try ≡ (self.new, MutexReply.Tried result) }
+        ensures valid { IsValid self.new }
     {
         if self.locked || self.starving {
             return false;
@@ -91,7 +93,8 @@ impl MutexCore {
     pub fn woken(&mut self, caller: u32, now: u64) -> Resumption
         requires is_caller { caller < self.old.callers }
         requires in_flight { (place_of self.old caller ≡ Place.Woken) ⊎ (place_of self.old caller ≡ Place.Handed) }
-        ensures { next self.old caller (MutexEvent.Woken now) ≡ (self.new, MutexReply.Resumed result) }
+        ensures step { next self.old caller (MutexEvent.Woken now) ≡ (self.new, MutexReply.Resumed result) }
+        ensures valid { IsValid self.new }
     {
         let flight = self.flight;
         self.flight = Flight::Nobody;
@@ -117,6 +120,7 @@ impl MutexCore {
     pub fn unlock(&mut self, caller: u32) -> Unlocking
         requires { caller < self.old.callers }
         ensures step { next self.old caller MutexEvent.Unlock ≡ (self.new, MutexReply.Unlocked result) }
+        ensures valid { IsValid self.new }
         ensures misuse { (m : Misuse) → result ≡ Unlocking.Misuse m → (self.new ≡ self.old) × IsFalse self.old.locked }
     {
         if !self.locked {

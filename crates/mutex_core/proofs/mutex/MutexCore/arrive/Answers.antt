@@ -17,3 +17,9 @@ invariant_of-self-2 c =
       valid = rw c.push_back_reserved.ensures.items (queued-valid _ _ _ _ _ _ _ below out c.self.invariant.valid);
       room = rw c.push_back_reserved.ensures.capacity c.self.invariant.room;
     }
+
+pub returns-clause-valid : goal.returns-clause-valid
+returns-clause-valid c =
+    let below = rw (← c.self.view_is) at c.requires.is_caller in
+    let out = rw (← c.self.view_is) at c.requires.is_out in
+    rw c.push_back_reserved.ensures.items (queued-valid _ _ _ _ _ _ _ below out c.self.invariant.valid)

@@ -21,3 +21,11 @@ invariant_of-self-2 c = record {
   valid = valid-by _ _ c.args.caller (event.Woken c.args.now) (Resumed Acquired) c.self.invariant.valid (grind (arith, common_steps));
   room = rw c.pop_front.ensures.capacity c.self.invariant.room;
 }
+
+pub returns-in-Woken-clause-valid : goal.returns-in-Woken-clause-valid
+returns-in-Woken-clause-valid c =
+    valid-by _ _ c.args.caller (event.Woken c.args.now) (Resumed Acquired) c.self.invariant.valid (grind (arith, common_steps))
+
+pub returns-clause-valid : goal.returns-clause-valid
+returns-clause-valid c =
+    valid-by _ _ c.args.caller (event.Woken c.args.now) (Resumed Acquired) c.self.invariant.valid (grind (arith, common_steps))
