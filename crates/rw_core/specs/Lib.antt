@@ -1,0 +1,2 @@
+pub mod RwMachine
+pub mod RwCore
