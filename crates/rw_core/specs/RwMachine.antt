@@ -1,5 +1,5 @@
 -- The reader/writer lock: what each event does, and what it is answered.
-use Rattle.std.specs.Prelude.{◌≡◌, ℕ, ◌<◌, ◌≤◌, ◌+◌, ◌-◌, ◌^◌, min, Bool, true, false, ◌&&◌, not, ◌==◌, nat_lt, if◌then◌else◌, IsTrue, IsFalse, List, [], ◌∷◌, ◌++◌, length, filter}
+use Rattle.std.specs.Prelude.{◌≡◌, ℕ, ◌<◌, ◌≤◌, ◌+◌, ◌-◌, ◌^◌, Bool, true, false, ◌&&◌, not, ◌==◌, nat_lt, if◌then◌else◌, IsTrue, IsFalse, List, [], ◌∷◌, ◌++◌, length, filter}
 use Rattle.std.specs.List.{list_any}
 use Rattle.sync_model.specs.declared.misuse.Misuse.TheVariants.{RUnlockOfUnlockedRwMutex, UnlockOfUnlockedRwMutex}
 use Rattle.mutex_core.specs.MutexMachine as mutex
@@ -92,9 +92,9 @@ place_of s caller =
 abbrev pub still : State → State × RwReply
 still s = (s, Still)
 
--- one reader more; past the end of its type the count stands still
+-- one reader more; at the end of its type the count stands still
 abbrev pub one_more : ℕ → ℕ
-one_more readers = min (readers + 1) (2 ^ 64 - 1)
+one_more readers = if nat_lt readers (2 ^ 64 - 1) then readers + 1 else readers
 
 -- a reader arrives: it has the lock, unless a writer is announced, for which it queues
 abbrev pub read_arrived : ℕ → State → State × RwReply

@@ -1,6 +1,6 @@
 //! The reader/writer machine, in memory that is taken once.
 ghost use Rattle.std.specs.Prelude.{◌≡◌, ◌⊎◌, ◌<◌, ◌≤◌, IfOk, IsFalse};
-ghost use Rattle.rw_core.specs.RwMachine.{next, place_of, start, is_holding};
+ghost use Rattle.rw_core.specs.RwMachine.{next, one_more, place_of, start};
 ghost use Rattle.rw_core.specs.declared.event.RwEvent.{RwEvent};
 ghost use Rattle.rw_core.specs.declared.reply.RwReply.{RwReply};
 
@@ -66,7 +66,7 @@ impl RwCore {
         ensures { next self.old caller RwEvent.ReadArrive ≡ (self.new, RwReply.Arrived result) }
     {
         if let Writer::Nobody = self.writer {
-            self.readers = self.readers.saturating_add(1);
+            self.readers = one_more(self.readers);
             return Arrival::Acquired;
         }
         self.queue.push_reserved(caller);
@@ -80,7 +80,7 @@ impl RwCore {
         ensures { next self.old caller RwEvent.ReadTry ≡ (self.new, RwReply.Tried result) }
     {
         if let Writer::Nobody = self.writer {
-            self.readers = self.readers.saturating_add(1);
+            self.readers = one_more(self.readers);
             return true;
         }
         false
@@ -219,3 +219,17 @@ impl RwCore {
         }
     }
 }
+
+/// One reader more. The count can't pass the end of its type, which no run comes near.
+fn one_more(readers: u64) -> u64
+    ensures { result ≡ one_more readers }
+{
+    if readers < u64::MAX {
+        readers + 1
+    } else {
+        readers
+    }
+}
+
+#[cfg(test)]
+mod tests;
