@@ -9,7 +9,7 @@ use Rattle.wait_cores.specs.declared.group.GroupReply.{GroupReply}
 use Rattle.wait_cores.specs.declared.group.GroupReply.TheVariants.{Done, Queued, Still}
 use Rattle.wait_cores.specs.declared.group.GroupPlace.{GroupPlace}
 use Rattle.wait_cores.specs.declared.group.GroupPlace.TheVariants.{Out, Waiting, Released}
-use Rattle.wait_cores.specs.Log.{Entry, entry, after, Follows}
+use Rattle.sync_model.specs.Log.{Entry, entry, after, Follows}
 use Rattle.wait_cores.specs.GroupMachine.{GroupState, start, next, is_waiting, released, made, added, within, wait_from, leave_from, callers_of, place_of}
 use Rattle.wait_cores.specs.GroupLaws.{Log, WasZero}
 use Rattle.wait_cores.proofs.Places.{get-set_kept, get-set_other, get-set_within}

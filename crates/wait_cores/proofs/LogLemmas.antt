@@ -1,6 +1,6 @@
 -- Logs that are made of two.
 use Rattle.std.proofs.Common.{◌≡◌, ℕ, List, [], ◌∷◌, ◌++◌, refl}
-use Rattle.wait_cores.specs.Log.{Entry, after, Follows}
+use Rattle.sync_model.specs.Log.{Entry, after, Follows}
 
 module _ {S E R : Type 0} (next : S → ℕ → E → S × R) where
   pub after-append : (s : S) (xs ys : List (Entry E R)) → after next s (xs ++ ys) ≡ after next (after next s xs) ys

@@ -10,7 +10,7 @@ use Rattle.wait_cores.specs.declared.notify.NotifyReply.{NotifyReply}
 use Rattle.wait_cores.specs.declared.notify.NotifyReply.TheVariants.{Done, Still}
 use Rattle.wait_cores.specs.declared.notify.NotifyPlace.{NotifyPlace}
 use Rattle.wait_cores.specs.declared.notify.NotifyPlace.TheVariants.{Out, Waiting, Notified}
-use Rattle.wait_cores.specs.Log.{entry, after, Follows}
+use Rattle.sync_model.specs.Log.{entry, after, Follows}
 use Rattle.wait_cores.specs.NotifyMachine.{NotifyState, start, next, made, leave_from, callers_of, place_of, place_with, following}
 use Rattle.wait_cores.specs.NotifyLaws.{Log, Made, is_ticket, is_signal, is_broadcast, is_ticket_of, is_signal_of, is_broadcast_of, pending_of, NotifiesAfter}
 use Rattle.wait_cores.proofs.Places.{get-set_other, get-set_either, get-set_within}

@@ -12,7 +12,7 @@ use Rattle.wait_cores.specs.declared.once.OnceProgress.{OnceProgress}
 use Rattle.wait_cores.specs.declared.once.OnceProgress.TheVariants as progress
 use Rattle.wait_cores.specs.declared.once.OncePlace.{OncePlace}
 use Rattle.wait_cores.specs.declared.once.OncePlace.TheVariants.{Out, Waiting, Released}
-use Rattle.wait_cores.specs.Log.{entry, after, Follows}
+use Rattle.sync_model.specs.Log.{entry, after, Follows}
 use Rattle.wait_cores.specs.OnceMachine.{OnceState, start, next, made, begin_from, come_to, end_by, leave_with, callers_of, place_of, runner_in, runner_of}
 use Rattle.wait_cores.specs.OnceLaws.{Made, Log, begins, ends, returned_in, kept_in, kept_by}
 use Rattle.wait_cores.proofs.LogLemmas.{follows_first, follows_rest}

@@ -11,7 +11,7 @@ use Rattle.wait_cores.specs.declared.pool_event.PoolEvent.{PoolEvent}
 use Rattle.wait_cores.specs.declared.pool_event.PoolEvent.TheVariants.{Put, LookOwn, LookOther, LookVictim, Sweep}
 use Rattle.wait_cores.specs.declared.pool_event.PoolReply.{PoolReply}
 use Rattle.wait_cores.specs.declared.pool_event.PoolReply.TheVariants.{Kept, Dropped, Item, Nothing, Swept, Still}
-use Rattle.wait_cores.specs.Log.{entry, Follows}
+use Rattle.sync_model.specs.Log.{entry, Follows}
 use Rattle.wait_cores.specs.PoolMachine.{PoolState, start, next}
 use Rattle.wait_cores.specs.PoolLaws.{Made, Log, kept_in, kept_by, got_in, got_by, is_swept, is_sweep, one_of, held_by, held, put_at, got_at, ComeFrom}
 use Rattle.wait_cores.proofs.PoolCounts.{Counts, next_counts, none_at_start}

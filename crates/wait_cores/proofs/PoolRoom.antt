@@ -10,7 +10,7 @@ use Rattle.wait_cores.specs.declared.pool_event.PoolEvent.{PoolEvent}
 use Rattle.wait_cores.specs.declared.pool_event.PoolEvent.TheVariants.{Put, LookOwn, LookOther, LookVictim, Sweep}
 use Rattle.wait_cores.specs.declared.pool_event.PoolReply.{PoolReply}
 use Rattle.wait_cores.specs.declared.pool_event.PoolReply.TheVariants.{Kept, Dropped, Still}
-use Rattle.wait_cores.specs.Log.{entry, after, Follows}
+use Rattle.sync_model.specs.Log.{entry, after, Follows}
 use Rattle.wait_cores.specs.PoolParts.{PoolPart, empty, emptied, put_in, put_beside, take_own, take_tail, take_victim, head_of, tail_of, private_or}
 use Rattle.wait_cores.specs.PoolMachine.{PoolState, start, next, made, with_primary, with_victims, callers_of}
 use Rattle.wait_cores.specs.PoolLaws.{Log, is_full}

@@ -3,7 +3,7 @@ use Rattle.std.specs.Prelude.{ℕ, ◌≡◌, List, ◌++◌}
 use Rattle.wait_cores.specs.declared.group.GroupEvent.{GroupEvent}
 use Rattle.wait_cores.specs.declared.group.GroupEvent.TheVariants.{Wait, Leave}
 use Rattle.wait_cores.specs.declared.group.GroupReply.{GroupReply}
-use Rattle.wait_cores.specs.Log.{Entry, entry, after}
+use Rattle.sync_model.specs.Log.{Entry, entry, after}
 use Rattle.wait_cores.specs.GroupMachine.{GroupState, start, next}
 
 abbrev pub Made : Type 0

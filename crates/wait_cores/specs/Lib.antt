@@ -1,6 +1,5 @@
 pub mod GroupLaws
 pub mod GroupMachine
-pub mod Log
 pub mod NotifyLaws
 pub mod NotifyMachine
 pub mod OnceLaws

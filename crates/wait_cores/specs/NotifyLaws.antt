@@ -5,7 +5,7 @@ use Rattle.wait_cores.specs.declared.notify.NotifyEvent.{NotifyEvent}
 use Rattle.wait_cores.specs.declared.notify.NotifyEvent.TheVariants.{Ticket, Signal, Broadcast, Leave}
 use Rattle.wait_cores.specs.declared.notify.NotifyReply.{NotifyReply}
 use Rattle.wait_cores.specs.declared.notify.NotifyReply.TheVariants.{Done, Still}
-use Rattle.wait_cores.specs.Log.{Entry, entry, after, Follows}
+use Rattle.sync_model.specs.Log.{Entry, entry, after, Follows}
 use Rattle.wait_cores.specs.NotifyMachine.{NotifyState, start, next}
 
 abbrev pub Made : Type 0

@@ -5,7 +5,7 @@ use Rattle.wait_cores.specs.declared.once.OnceEvent.{OnceEvent}
 use Rattle.wait_cores.specs.declared.once.OnceEvent.TheVariants.{Begin, End, Leave}
 use Rattle.wait_cores.specs.declared.once.OnceReply.{OnceReply}
 use Rattle.wait_cores.specs.declared.once.OnceReply.TheVariants.{Run, Done, Ended, Left}
-use Rattle.wait_cores.specs.Log.{Entry, Follows}
+use Rattle.sync_model.specs.Log.{Entry, Follows}
 use Rattle.wait_cores.specs.OnceMachine.{start, next}
 
 abbrev pub Made : Type 0 → Type 0

@@ -6,7 +6,7 @@ use Rattle.wait_cores.specs.declared.pool_event.PoolEvent.{PoolEvent}
 use Rattle.wait_cores.specs.declared.pool_event.PoolEvent.TheVariants.{Put}
 use Rattle.wait_cores.specs.declared.pool_event.PoolReply.{PoolReply}
 use Rattle.wait_cores.specs.declared.pool_event.PoolReply.TheVariants.{Kept, Item, Swept}
-use Rattle.wait_cores.specs.Log.{Entry, entry, after, Follows}
+use Rattle.sync_model.specs.Log.{Entry, entry, after, Follows}
 use Rattle.wait_cores.specs.PoolParts.{PoolPart}
 use Rattle.wait_cores.specs.PoolMachine.{PoolState, start, next}
 

@@ -1,7 +1,7 @@
 //! When a wait of a wait group returns, and what a misuse leaves.
 ghost use Rattle.std.specs.Prelude.{◌≡◌, ◌≢◌, ℕ, ◌∷◌, ◌++◌, slice_set, IsFalse};
 ghost use Rattle.std.specs.List.{list_any};
-ghost use Rattle.wait_cores.specs.Log.{Follows};
+ghost use Rattle.sync_model.specs.Log.{Follows};
 ghost use Rattle.wait_cores.specs.GroupMachine.{GroupState, next, is_waiting};
 ghost use Rattle.wait_cores.specs.GroupLaws.{Log, WasZero, state_after, wait_by, leave_by};
 
