@@ -10,3 +10,8 @@ pub mod OneReading
 pub mod SameLine
 pub mod NoReason
 pub mod PrintLemmas
+pub mod LineTexts
+pub mod FollowOn
+pub mod CanonicalFollows
+pub mod CanonicalReads
+pub mod EachText

@@ -35,15 +35,15 @@ close_line start text word words rest none h =
 
 take_min : {X : Type 0} (n : ℕ) (xs : List X) → take (min (length xs) n) xs ≡ take n xs
 take_min n xs = elim (cases_lt n (length xs)) [
-    | inl lt ↦ ap (λ (k : ℕ). take k xs) (omega arith)
-    | inr le ↦ take_all (min (length xs) n) xs (omega arith) ∙ sym (take_all n xs le)
-  ]
+  | inl lt ↦ ap (λ (k : ℕ). take k xs) (omega arith)
+  | inr le ↦ take_all (min (length xs) n) xs (omega arith) ∙ sym (take_all n xs le)
+]
 
 drop_min : {X : Type 0} (n : ℕ) (xs : List X) → drop (min (length xs) n) xs ≡ drop n xs
 drop_min n xs = elim (cases_lt n (length xs)) [
-    | inl lt ↦ ap (λ (k : ℕ). drop k xs) (omega arith)
-    | inr le ↦ drop_all (min (length xs) n) xs (omega arith) ∙ sym (drop_all n xs le)
-  ]
+  | inl lt ↦ ap (λ (k : ℕ). drop k xs) (omega arith)
+  | inr le ↦ drop_all (min (length xs) n) xs (omega arith) ∙ sym (drop_all n xs le)
+]
 
 -- one more line of the schedule
 pub schedule_more : (before after all : List ℕ) (rest turns behind : List Turn) → 0 < length rest → turns ≡ take (min (length rest) 8) rest → behind ≡ drop (min (length rest) 8) rest

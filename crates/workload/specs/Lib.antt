@@ -5,6 +5,7 @@ pub mod Index
 pub mod Lines
 pub mod LineResult
 pub mod Plan
+pub mod Readable
 pub mod Reads
 pub mod Reason
 pub mod Words

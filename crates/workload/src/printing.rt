@@ -5,11 +5,11 @@ ghost use Rattle.std.specs.Fmt.{decimal};
 ghost use Rattle.workload.specs.Words.{turn_word, kind_word, verb_word, verb_of, operands_of, map_operands, spelled, first_spelled};
 ghost use Rattle.workload.specs.declared.line.Line.TheVariants as Line;
 ghost use Rattle.workload.specs.Plan.{is_valid, is_on, object_of};
-ghost use Rattle.workload.specs.Canonical.{text_line, call_line, script_lines, eights, canonical, behind_spaces, lines_text, name_of};
+ghost use Rattle.workload.specs.Reads.{Reads};
+ghost use Rattle.workload.specs.Canonical.{text_line, call_line, script_lines, eights, canonical_lines, canonical, behind_spaces, lines_text, name_of};
 
-use crate::object::{ObjectKind, ObjectLine};
 use crate::keyword::Verb;
-
+use crate::object::{ObjectKind, ObjectLine};
 use crate::turn::Turn;
 use crate::workload::Workload;
 use std::alloc::{AllocError, Global};
@@ -89,12 +89,7 @@ fn put_operands(alloc: Global, text: &mut Vec<u8>, call: &Call) -> Result<(), Al
 }
 
 /// Writes the line of a call on the object of a name.
-fn put_call(
-    alloc: Global,
-    text: &mut Vec<u8>,
-    name: &[u8],
-    call: &Call,
-) -> Result<(), AllocError>
+fn put_call(alloc: Global, text: &mut Vec<u8>, name: &[u8], call: &Call) -> Result<(), AllocError>
     ensures { OnOk result (text.new.items ≡ text.old.items ++ text_line (spelled (Line.Call name.now call.now))) }
 {
     text.extend_from_slice(verb_text(verb(call)))?;
@@ -227,28 +222,40 @@ fn put_schedule(alloc: Global, text: &mut Vec<u8>, schedule: &[Turn]) -> Result<
 }
 
 /// Writes the lines of all workers.
-fn put_scripts(
-    alloc: Global,
-    text: &mut Vec<u8>,
-    workload: &Workload,
-) -> Result<(), AllocError>
+fn put_scripts(alloc: Global, text: &mut Vec<u8>, workload: &Workload) -> Result<(), AllocError>
     ensures { OnOk result (text.new.items ≡ text.old.items ++ lines_text (script_lines workload.now.objects 0 workload.now.scripts)) }
 {
     for worker in 0..workload.workers() {
-        put_script(alloc, text, workload.objects(), worker, workload.script(worker))?;
+        put_script(
+            alloc,
+            text,
+            workload.objects(),
+            worker,
+            workload.script(worker),
+        )?;
     }
     Ok(())
 }
 
+/// Writes the lines behind the first one.
+fn put_lines(alloc: Global, text: &mut Vec<u8>, workload: &Workload) -> Result<(), AllocError>
+    ensures { OnOk result (text.new.items ≡ text.old.items ++ lines_text (canonical_lines workload.now)) }
+{
+    put_objects(text, workload.objects())?;
+    put_scripts(alloc, text, workload)?;
+    put_schedule(alloc, text, workload.schedule())
+}
+
 /// The canonical text of a workload: the `workers` line, the objects in order of declaration, for each
 /// worker from 0 up a `worker` line and its calls, and the schedule, eight items a line.
+///
+/// It is read as the workload again.
 pub fn print(alloc: Global, workload: &Workload) -> Result<Vec<u8>, AllocError>
     ensures text { IfOk result (λ text. text.items ≡ canonical workload.now) }
+    ensures read { IfOk result (λ text. Reads text.items workload.now) }
 {
     let mut text = Vec::new(alloc);
     put_numbered(alloc, &mut text, b"workers", workload.workers())?;
-    put_objects(&mut text, workload.objects())?;
-    put_scripts(alloc, &mut text, workload)?;
-    put_schedule(alloc, &mut text, workload.schedule())?;
+    put_lines(alloc, &mut text, workload)?;
     Ok(text)
 }
