@@ -5,6 +5,7 @@ mod call;
 pub mod cell;
 mod finish;
 mod gather;
+pub mod laws;
 mod new;
 pub mod object;
 mod park;
@@ -13,6 +14,7 @@ pub mod rule;
 mod turn;
 pub mod view;
 
+pub use new::MAX_CALLS;
 pub use object::Object;
 pub use pass::{Pass, PassOf};
 

@@ -12,7 +12,10 @@ use crate::turn::{MAKING, SeatOf, TAKEN, TURN};
 use atomic_table::Table;
 use std::alloc::{AllocError, Global};
 use std::thread::Parker;
-use sync_model::{Machine, Note};
+use sync_model::{MAX_CALLERS, Machine, Note};
+
+/// The most calls that a pass is good for.
+pub const MAX_CALLS: u64 = 1_000_000;
 
 // A parker for each caller.
 fn parkers(alloc: Global, callers: u32) -> Result<Vec<Parker>, AllocError>
@@ -35,8 +38,8 @@ impl<M: Machine, N: Note> Object<M, N> {
         start: M::State,
         note: N,
     ) -> Result<(Self, Vec<PassOf<M, N>>), AllocError>
-        requires callers { (0 < callers) × (callers ≤ 64) }
-        requires calls { calls ≤ 1000000 }
+        requires callers { (0 < callers) × (callers ≤ MAX_CALLERS) }
+        requires calls { calls ≤ MAX_CALLS }
         ensures object { IfOk result (λ made. (callers_of made.0 ≡ callers) × (start_of made.0 ≡ start) × ((home : N.Home) → N.at home note → IsHomeOf N.at made.0 home)) }
         ensures passes { IfOk result (λ made. AreNew made.0 calls made.1.items) }
     {

@@ -14,7 +14,9 @@ pub(super) struct Counter;
 
 impl Machine for Counter {
     type State = u64;
+
     type Event = u64;
+
     type Reply = u64;
 
     const HALTS: bool = false;
@@ -46,7 +48,9 @@ pub(super) struct Fragile;
 
 impl Machine for Fragile {
     type State = u64;
+
     type Event = u64;
+
     type Reply = u64;
 
     const HALTS: bool = true;

@@ -21,7 +21,7 @@ fn a_counter_answers_each_event_in_order(rt: HostRuntime) -> Result<(), Fail> {
         } else {
             object.call(&rt, &(), &mut second, &mut other, event)
         };
-        assert!(rt; matches!(answer, Answer::Done(reply) if reply == sum), "{answer:?} for {sum}");
+        assert_eq!(rt; answer, Answer::Done(sum), "after {event}");
         assert_eq!(rt; other.count(0), known, "after {event}");
     }
     let passes = all_of(rt.alloc(), &object, first, second)?;
@@ -38,9 +38,12 @@ fn the_first_halt_is_kept(rt: HostRuntime) -> Result<(), Fail> {
     object.halt(&rt, &mut second, &note, Misuse::NegativeWaitGroupCounter);
     object.halt(&rt, &mut first, &note, Misuse::WaitGroupReused);
     let answer = object.call(&rt, &(), &mut first, &mut note, 4);
-    assert!(rt; matches!(answer, Answer::Halted(Misuse::NegativeWaitGroupCounter)), "{answer:?}");
+    assert_eq!(rt; answer, Answer::Halted(Misuse::NegativeWaitGroupCounter));
     let mut passes = all_of(rt.alloc(), &object, first, second)?;
-    assert_eq!(rt; object.first_halt(&mut passes), Some(Misuse::NegativeWaitGroupCounter));
+    assert_eq!(rt;
+        object.first_halt(&mut passes),
+        Some(Misuse::NegativeWaitGroupCounter)
+    );
     let sum: u64 = object.finish(passes);
     assert_eq!(rt; sum, 3);
     Ok(())

@@ -115,6 +115,9 @@ fn halted_beside<R: Threads + Wait + Sync>(
 #[test]
 fn a_caller_that_waits_meets_the_halt(rt: HostRuntime) -> Result<(), Fail> {
     let (object, first, second) = duo::<Fragile>(rt.alloc(), 0)?;
-    assert_eq!(rt; halted_beside(&rt, &object, first, second), Misuse::WaitGroupReused);
+    assert_eq!(rt;
+        halted_beside(&rt, &object, first, second),
+        Misuse::WaitGroupReused
+    );
     Ok(())
 }
