@@ -1,5 +1,5 @@
 -- Lists of two.
-use Rattle.std.proofs.Common.{◌≡◌, ℕ, zero, suc, ◌+◌, List, [], ◌∷◌, ◌++◌, length, length-append, slice_get, Some, refl, sym, ap, ◌∙◌, subst, arith}
+use Rattle.std.proofs.Common.{◌≡◌, List, [], ◌∷◌, ◌++◌, length, length-append, slice_get, Some, refl, sym, ap, ◌∙◌, subst, arith}
 
 module _ {A : Type 0} where
   ends_two : (l : List A) (x y : A) → length l ≡ 0 → (slice_get ((l ++ y ∷ []) ++ x ∷ []) 0 ≡ Some y) × (slice_get ((l ++ y ∷ []) ++ x ∷ []) 1 ≡ Some x)

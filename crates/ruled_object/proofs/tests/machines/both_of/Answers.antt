@@ -1,4 +1,4 @@
-use Rattle.std.proofs.Common.{◌≡◌, ◌++◌, ◌∙◌, ap, option_to_list}
+use Rattle.std.proofs.Common.{◌++◌, ◌∙◌, ap, option_to_list}
 use Rattle.ruled_object.proofs.Pairs.{both}
 use Rattle.ruled_object.proofs.tests.machines.both_of.Goals as goal
 
