@@ -12,14 +12,16 @@ use Rattle.ruled_object.specs.declared.view.Stage.TheVariants.{Idle, Making, Tak
 use Rattle.ruled_object.specs.declared.view.View.{View}
 use Rattle.ruled_object.specs.Rule.{Lawful, Lies}
 
+-- a seat: its view, and the slots that it has taken
 abbrev pub Sat : Type 0 → Type 0 → Type 0 → Type 0 → Type 0
 Sat S N E R = Me (Option (Cell S N)) (View E R)
 
--- the first of a list, and the others
+-- the first of a list, as a list
 abbrev pub first_of : {A : Type 0} → List A → List A
 first_of [] = []
 first_of (x ∷ xs) = x ∷ []
 
+-- all but the first
 abbrev pub others_of : {A : Type 0} → List A → List A
 others_of [] = []
 others_of (x ∷ xs) = xs
@@ -47,10 +49,11 @@ module _ {E R : Type 0} where
   gave v None = record v { stage = Idle }
   gave v (Some e) = record v { stage = Idle; seen = v.seen ++ e ∷ []; owns = added v.owns e }
 
-  -- the view of the first caller that a seat stands for, and what the seat keeps
+  -- the view of a new seat, for the first caller that a seat stood for
   abbrev pub dealt : View E R → View E R
   dealt v = record { stage = Idle; seen = v.seen; knew = 0; heard = []; number = v.number; owns = first_of v.owns }
 
+  -- what the seat keeps, which stands for the other callers
   abbrev pub kept : View E R → View E R
   kept v = record v { number = v.number + 1; owns = others_of v.owns }
 
@@ -59,6 +62,7 @@ module _ {E R : Type 0} where
   joined v w = record v { heard = v.heard ++ w.seen ∷ w.heard; owns = v.owns ++ w.owns }
 
 module _ {S N E R : Type 0} where
+  -- the making seat took the slot, which was empty
   abbrev pub made : Sat S N E R → Sat S N E R → Type 0
   made m n = n ≡ (record m.0 { stage = Taken }, (0, None) ∷ [])
 
@@ -77,8 +81,7 @@ module _ {S N E R H : Type 0} (next : S → ℕ → E → S × R) (halts : Bool)
 
   -- the seat took the turn where it found 0, and else nothing changed
   abbrev pub TakesTurn : Sat S N E R → ℕ → Sat S N E R → Type 0
-  TakesTurn m found n =
-      (found ≡ 0 → TakesRest m n) × (found ≢ 0 → n ≡ m)
+  TakesTurn m found n = (found ≡ 0 → TakesRest m n) × (found ≢ 0 → n ≡ m)
 
   -- the entry stands right behind the history, and the cell is what both leave
   pub record MayAdd (v : View E R) (e : Entry E R) (cell : Cell S N) : Type 0 where
@@ -96,7 +99,7 @@ module _ {S N E R H : Type 0} (next : S → ℕ → E → S × R) (halts : Bool)
 abbrev pub IsSameSeat : {S V : Type 0} → Seat S V → Seat S V → Type 0
 IsSameSeat old new = (new.table_id ≡ old.table_id) × (new.id ≡ old.id)
 
--- what is told of the beginning, where it is known
+-- this holds of how the object began, where a step is told of it
 abbrev pub IfBegun : {S N : Type 0} → Option (Begin S N) → (Begin S N → Type 0) → Type 0
 IfBegun None P = Unit {0}
 IfBegun (Some begin) P = P begin
