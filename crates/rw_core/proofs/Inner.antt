@@ -1,10 +1,9 @@
 -- What the events of a writer do to the inner mutex: whether it is locked, and who waits there.
-use Rattle.std.proofs.Common.{◌≡◌, ℕ, ◌+◌, ◌<◌, ◌≤◌, ◌⊎◌, inl, inr, Bool, true, false, ◌&&◌, ◌||◌, List, [], ◌∷◌, ◌++◌, map, refl, sym, ap, subst, arith, lt-ltb}
-use Rattle.std.specs.Prelude.{nat_lt, ◌==◌, not, if◌then◌else◌, cond}
+use Rattle.std.proofs.Common.{◌≡◌, ℕ, ◌+◌, ◌<◌, ◌⊎◌, inl, inr, Bool, true, false, ◌&&◌, ◌||◌, List, [], ◌∷◌, ◌++◌, map, refl, sym, ap, arith, lt-ltb}
+use Rattle.std.specs.Prelude.{nat_lt, ◌==◌, not, if◌then◌else◌}
 use Rattle.std.specs.List.{list_any}
 use Rattle.std.proofs.lemmas.Bool.{false≢true, eqb-true}
 use Rattle.mutex_core.specs.MutexMachine as mutex
-use Rattle.mutex_core.specs.Starving.{is_starving}
 use Rattle.mutex_core.specs.declared.event.MutexEvent.TheVariants as event
 use Rattle.mutex_core.specs.declared.place.Place.{Place}
 use Rattle.mutex_core.specs.declared.place.Place.TheVariants as place
@@ -16,7 +15,7 @@ use Rattle.mutex_core.specs.declared.waiter.Waiter.{Waiter}
 use Rattle.mutex_core.specs.declared.waiter.Flight.{Flight}
 use Rattle.mutex_core.specs.declared.waiter.Flight.TheVariants as flight
 use Rattle.rw_core.specs.RwMachine.{is_among, count_of}
-use Rattle.rw_core.proofs.Callers.{once, count_of-append, count_of-push, count_of-absent, once-same}
+use Rattle.rw_core.proofs.Callers.{once, count_of-push, count_of-absent}
 
 abbrev pub waiting : mutex.State → List ℕ
 waiting i = mutex.waiting_by i.flight i.queue

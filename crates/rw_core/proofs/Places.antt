@@ -1,5 +1,5 @@
 -- What a caller's place says of the lists.
-use Rattle.std.proofs.Common.{◌≡◌, ℕ, ◌+◌, ◌<◌, ◌≤◌, ◌≢◌, Bool, true, false, List, [], ◌∷◌, refl, sym, arith, ◌⊎◌, inl, inr}
+use Rattle.std.proofs.Common.{◌≡◌, ℕ, Bool, true, false, refl, ◌⊎◌, inl, inr}
 use Rattle.std.specs.Prelude.{if◌then◌else◌}
 use Rattle.std.proofs.lemmas.Bool.{false≢true}
 use Rattle.mutex_core.specs.MutexMachine as mutex
@@ -7,7 +7,6 @@ use Rattle.mutex_core.specs.declared.place.Place.{Place as MutexPlace}
 use Rattle.mutex_core.specs.declared.place.Place.TheVariants as mutex_place
 use Rattle.rw_core.specs.declared.place.Place.{Place}
 use Rattle.rw_core.specs.declared.place.Place.TheVariants as place
-use Rattle.rw_core.specs.declared.writer.Writer.{Writer}
 use Rattle.rw_core.specs.RwMachine.{State, is_among, waits_as, place_at, place_of}
 
 past : (b : Bool) (p q r : Place) → (p ≡ r → false ≡ true) → (if b then p else q) ≡ r → (b ≡ false) × (q ≡ r)

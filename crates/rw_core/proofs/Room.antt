@@ -1,5 +1,5 @@
 -- No list of those that wait is longer than there are callers.
-use Rattle.std.proofs.Common.{◌≡◌, ℕ, ◌+◌, ◌<◌, ◌≤◌, List, [], ◌∷◌, ◌++◌, length, ap, arith, length-append}
+use Rattle.std.proofs.Common.{◌≡◌, ℕ, ◌+◌, ◌<◌, ◌≤◌, [], ◌∷◌, ◌++◌, length, arith, length-append}
 use Rattle.rw_core.specs.declared.place.Place.TheVariants as place
 use Rattle.rw_core.specs.declared.writer.Writer.TheVariants as writer
 use Rattle.rw_core.specs.RwMachine.{State, place_of, places_of, IsValid}

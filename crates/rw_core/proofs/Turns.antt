@@ -1,14 +1,12 @@
 -- Who acquires the lock, and between which unlocks.
-use Rattle.std.proofs.Common.{◌≡◌, ℕ, ◌+◌, ◌-◌, ◌<◌, ◌≤◌, Bool, true, false, ◌&&◌, ◌||◌, List, [], ◌∷◌, ◌++◌, length, refl, sym, ap, subst, arith, ◌∙◌, inl, inr, ◌^◌}
-use Rattle.std.specs.Prelude.{nat_lt, ◌==◌, not, cond, if◌then◌else◌, filter}
+use Rattle.std.proofs.Common.{◌≡◌, ℕ, ◌+◌, ◌-◌, ◌<◌, ◌≤◌, Bool, true, false, ◌&&◌, ◌||◌, List, [], ◌∷◌, ◌++◌, length, refl, sym, subst, arith, ◌∙◌, inl, inr, ◌^◌}
+use Rattle.std.specs.Prelude.{nat_lt, ◌==◌, cond, if◌then◌else◌, filter}
 use Rattle.std.specs.List.{list_any}
 use Rattle.std.proofs.lemmas.Bool.{false≢true, eqb-true}
 use borrow.Author.Tests.{ltb-true, ltb-false}
-use Rattle.sync_model.specs.Journal.{Entry, after, Follows}
+use Rattle.sync_model.specs.Journal.{Entry, Follows}
 use Rattle.mutex_core.specs.MutexMachine as mutex
-use Rattle.mutex_core.specs.declared.event.MutexEvent.{MutexEvent}
 use Rattle.mutex_core.specs.declared.event.MutexEvent.TheVariants as mutex_event
-use Rattle.mutex_core.specs.declared.reply.MutexReply.{MutexReply}
 use Rattle.rw_core.specs.declared.event.RwEvent.{RwEvent}
 use Rattle.rw_core.specs.declared.event.RwEvent.TheVariants as event
 use Rattle.rw_core.specs.declared.place.Place.{Place}
@@ -20,10 +18,10 @@ use Rattle.rw_core.specs.declared.reply.Arrival.TheVariants as arrival
 use Rattle.rw_core.specs.declared.reply.Unlocking.TheVariants as unlocking
 use Rattle.rw_core.specs.declared.writer.Writer.{Writer}
 use Rattle.rw_core.specs.declared.writer.Writer.TheVariants as writer
-use Rattle.rw_core.specs.RwMachine.{State, start, is_announced, is_holding, place_of, one_more, read_arrived, read_tried, last_read, read_unlocked, announced, write_arrived, write_resumed, write_tried, write_unlocked, still, at_place, next, IsValid}
+use Rattle.rw_core.specs.RwMachine.{State, is_announced, is_holding, place_of, one_more, read_arrived, read_tried, last_read, read_unlocked, announced, write_arrived, write_resumed, write_tried, write_unlocked, still, at_place, next, IsValid}
 use Rattle.rw_core.specs.Edges.{Journal, is_read, is_acquired, is_released, read_acquires, write_acquires, read_releases, write_releases}
-use Rattle.rw_core.proofs.Places.{out-inner, woken-inner, handed-inner, mutex-out, in_flight}
-use Rattle.rw_core.proofs.Inner.{Keeps, Joins, Parts, IsInFlight, arrive-cases, try-cases, woken-cases}
+use Rattle.rw_core.proofs.Places.{out-inner, mutex-out, in_flight}
+use Rattle.rw_core.proofs.Inner.{IsInFlight, arrive-cases, try-cases, woken-cases}
 
 abbrev pub Step : Type 0
 Step = State × RwReply

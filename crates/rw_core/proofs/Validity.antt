@@ -1,16 +1,12 @@
 -- Every event keeps what is true of every state.
-use Rattle.std.proofs.Common.{◌≡◌, ℕ, ◌+◌, ◌-◌, ◌<◌, ◌≤◌, ◌⊎◌, inl, inr, Bool, true, false, List, [], ◌∷◌, ◌++◌, length, refl, sym, ap, subst, arith, ◌∙◌, lt-ltb}
-use Rattle.std.specs.Prelude.{nat_lt, ◌==◌, not, if◌then◌else◌}
+use Rattle.std.proofs.Common.{◌≡◌, ℕ, ◌+◌, ◌-◌, ◌<◌, ◌≤◌, inl, inr, Bool, true, false, List, [], ◌++◌, length, refl, sym, ap, subst, arith, ◌∙◌, lt-ltb}
+use Rattle.std.specs.Prelude.{nat_lt, ◌==◌, if◌then◌else◌}
 use Rattle.std.proofs.lemmas.Bool.{false≢true, eqb-true, eq-eqb}
 use borrow.Author.Tests.{ltb-true}
 use Rattle.mutex_core.specs.MutexMachine as mutex
-use Rattle.mutex_core.specs.declared.event.MutexEvent.{MutexEvent}
 use Rattle.mutex_core.specs.declared.event.MutexEvent.TheVariants as mutex_event
-use Rattle.mutex_core.specs.declared.place.Place.TheVariants as mutex_place
 use Rattle.mutex_core.specs.declared.reply.MutexReply.{MutexReply}
 use Rattle.mutex_core.specs.declared.reply.MutexReply.TheVariants as mutex_reply
-use Rattle.mutex_core.specs.declared.reply.Arrival.TheVariants as mutex_arrival
-use Rattle.mutex_core.specs.declared.reply.Resumption.TheVariants as mutex_resumption
 use Rattle.rw_core.specs.declared.event.RwEvent.{RwEvent}
 use Rattle.rw_core.specs.declared.event.RwEvent.TheVariants as event
 use Rattle.rw_core.specs.declared.place.Place.{Place}
@@ -21,10 +17,10 @@ use Rattle.rw_core.specs.declared.reply.RwReply.TheVariants.{Tried, Unlocked}
 use Rattle.rw_core.specs.declared.reply.Unlocking.TheVariants as unlocking
 use Rattle.rw_core.specs.declared.writer.Writer.{Writer}
 use Rattle.rw_core.specs.declared.writer.Writer.TheVariants as writer
-use Rattle.rw_core.specs.RwMachine.{State, start, is_among, without, is_announced, is_waiting, is_holding, waits_as, place_of, one_more, read_arrived, read_tried, last_read, read_unlocked, announced, write_arrived, write_resumed, write_tried, write_unlocked, still, at_place, next, count_of, places_of, IsValid}
+use Rattle.rw_core.specs.RwMachine.{State, without, is_announced, is_holding, place_of, read_arrived, read_tried, last_read, read_unlocked, announced, write_arrived, write_resumed, write_tried, write_unlocked, still, at_place, next, count_of, places_of, IsValid}
 use Rattle.rw_core.proofs.Callers.{once, count_of-append, count_of-push, count_of-absent, count_of-without}
-use Rattle.rw_core.proofs.Places.{IsInner, out-inner, woken-inner, handed-inner, mutex-out, mutex-woken, mutex-handed}
-use Rattle.rw_core.proofs.Inner.{Keeps, Joins, Parts, IsInFlight, arrive-cases, try-cases, unlocks, woken-cases, waiting, waiting-absent}
+use Rattle.rw_core.proofs.Places.{out-inner, woken-inner, handed-inner, mutex-out, mutex-woken, mutex-handed}
+use Rattle.rw_core.proofs.Inner.{Keeps, IsInFlight, arrive-cases, try-cases, unlocks, woken-cases, waiting, waiting-absent}
 
 abbrev pub state : ℕ → ℕ → Writer → List ℕ → List ℕ → List ℕ → mutex.State → State
 state callers readers writer queue admitted granted inner =
@@ -318,10 +314,6 @@ next-valid s c e inner h = by_test (nat_lt c s.callers) refl
 -- the state after an event, named by what the event is
 pub valid-by : (s t : State) (c : ℕ) (e : RwEvent) (r : RwReply) → KeepsInner s c e → IsValid s → next s c e ≡ (t, r) → IsValid t
 valid-by s t c e r inner h is = subst ValidStep is (next-valid s c e inner h)
-
--- what a call of the inner mutex ensures, said of its machine
-pub keeps-inner : (i j : mutex.State) (c : ℕ) (e : MutexEvent) (r : MutexReply) → mutex.next i c e ≡ (j, r) → mutex.IsValid j → mutex.IsValid (mutex.next i c e).0
-keeps-inner i j c e r is valid = rw is valid
 
 -- a try that fails leaves the inner mutex alone
 pub try-refused : (s : State) (c : ℕ) (j : mutex.State) → c < s.callers → place_of s c ≡ place.Out → IsValid s → mutex.next s.inner c mutex_event.Try ≡ (j, mutex_reply.Tried false) → j ≡ s.inner

@@ -1,5 +1,5 @@
 -- What a writer's unlock does for the readers that wait.
-use Rattle.std.specs.Prelude.{◌≡◌, ℕ, List, [], length}
+use Rattle.std.specs.Prelude.{◌≡◌, [], length}
 use Rattle.std.specs.List.{AllByRecursion}
 use Rattle.rw_core.specs.declared.place.Place.TheVariants.{Admitted}
 use Rattle.rw_core.specs.RwMachine.{State, place_of}

@@ -1,5 +1,7 @@
 //! The reader/writer machine, in memory that is taken once.
 ghost use Rattle.std.specs.Prelude.{◌≡◌, ◌⊎◌, ◌<◌, ◌≤◌, IfOk, IsFalse};
+ghost use Rattle.mutex_core.specs.MutexMachine as mutex;
+ghost use Rattle.mutex_core.specs.declared.event.MutexEvent.{MutexEvent};
 ghost use Rattle.rw_core.specs.RwMachine.{next, one_more, place_of, start};
 ghost use Rattle.rw_core.specs.declared.event.RwEvent.{RwEvent};
 ghost use Rattle.rw_core.specs.declared.reply.RwReply.{RwReply};
@@ -79,11 +81,11 @@ impl RwCore {
         requires is_out { place_of self.old caller ≡ Place.Out }
         ensures { next self.old caller RwEvent.ReadTry ≡ (self.new, RwReply.Tried result) }
     {
-        if let Writer::Nobody = self.writer {
-            self.readers = one_more(self.readers);
-            return true;
-        }
-        false
+        let Writer::Nobody = self.writer else {
+            return false;
+        };
+        self.readers = one_more(self.readers);
+        true
     }
 
     /// `RUnlock`, by whichever caller. The last reader grants the lock to a writer that waits. A lock
@@ -96,11 +98,12 @@ impl RwCore {
             return Unlocking::Misuse(Misuse::RUnlockOfUnlockedRwMutex);
         }
         self.readers -= 1;
-        if self.readers == 0 {
-            if let Writer::Waiting(writer) = self.writer {
-                self.writer = Writer::Holding;
-                self.granted.push_reserved(writer);
-            }
+        if self.readers != 0 {
+            return Unlocking::Done;
+        }
+        if let Writer::Waiting(writer) = self.writer {
+            self.writer = Writer::Holding;
+            self.granted.push_reserved(writer);
         }
         Unlocking::Done
     }
@@ -174,7 +177,7 @@ impl RwCore {
         self.writer = Writer::Nobody;
         self.readers = self.queue.len() as u64;
         list::move_all(&mut self.queue, &mut self.admitted);
-        let _ = self.inner.unlock(caller);
+        pass_on(&mut self.inner, caller);
         Unlocking::Done
     }
 
@@ -203,10 +206,9 @@ impl RwCore {
         if list::is_among(&self.granted, caller) {
             return Place::Granted;
         }
-        if let Writer::Waiting(writer) = self.writer {
-            if caller == writer {
-                return Place::Waiting;
-            }
+        match self.writer {
+            Writer::Waiting(writer) if caller == writer => return Place::Waiting,
+            _ => {}
         }
         if list::is_among(&self.queue, caller) {
             return Place::Queued;
@@ -218,6 +220,15 @@ impl RwCore {
             mutex_core::Place::Handed => Place::Handed,
         }
     }
+}
+
+/// Unlocks the inner mutex. Whom that wakes or hands it on to shows in the places.
+fn pass_on(inner: &mut MutexCore, caller: u32)
+    requires { caller < inner.old.callers }
+    ensures step { inner.new ≡ (mutex.next inner.old caller MutexEvent.Unlock).0 }
+    ensures valid { mutex.IsValid inner.new }
+{
+    let _ = inner.unlock(caller);
 }
 
 /// One reader more. The count can't pass the end of its type, which no run comes near.

@@ -1,4 +1,3 @@
-use Rattle.std.proofs.Common.{◌∷◌, ◌++◌}
 use Rattle.sync_model.specs.Journal.{after}
 use Rattle.rw_core.specs.RwMachine.{start, next}
 use Rattle.rw_core.proofs.Runs.{MutexLaws, keeps, run-valid, follows_later}

@@ -10,8 +10,8 @@ use Rattle.rw_core.proofs.rw.RwCore.r_unlock.Goals as goal
 pub push_reserved-requires : goal.push_reserved-requires
 push_reserved-requires c = omega (arith, granted_room _ _ c.in-Waiting.is c.self.invariant.valid, c.self.invariant.granted_room)
 
-pub invariant_of-self : goal.invariant_of-self
-invariant_of-self c = record {
+pub invariant_of-self-in-Waiting : goal.invariant_of-self-in-Waiting
+invariant_of-self-in-Waiting c = record {
   valid = valid-by _ _ c.args.caller event.ReadUnlock (Unlocked Done) tt c.self.invariant.valid (grind (arith, common_steps));
   queue_room = c.self.invariant.queue_room;
   admitted_room = c.self.invariant.admitted_room;

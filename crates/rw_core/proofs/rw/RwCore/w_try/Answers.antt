@@ -1,9 +1,4 @@
 use Rattle.std.proofs.Common.{◌≡◌, arith, eq-eqb}
-use Rattle.std.proofs.lemmas.Grind.{common_steps}
-use Rattle.mutex_core.specs.declared.event.MutexEvent.TheVariants as mutex_event
-use Rattle.mutex_core.specs.declared.reply.MutexReply.TheVariants as mutex_reply
-use Rattle.rw_core.specs.declared.event.RwEvent.TheVariants as event
-use Rattle.rw_core.specs.declared.reply.RwReply.TheVariants.{Tried}
 use Rattle.rw_core.proofs.Validity.{tried-by, try-refused, next-try_refused}
 use Rattle.rw_core.specs.RwCore.{state_of}
 use Rattle.rw_core.proofs.rw.RwCore.w_try.Goals as goal
