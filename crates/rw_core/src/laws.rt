@@ -23,9 +23,18 @@ pub fn validity()
 /// it before a writer's unlock, and after a reader has acquired it no writer does before a reader's
 /// unlock. More exactly, as many unlocks of readers come first as readers hold the lock.
 pub fn exclusion()
-    ensures after_writer { (callers : ℕ) (earlier between later : Journal) (first second : Entry RwEvent RwReply) → Follows next (start callers) (earlier ++ first ∷ (between ++ second ∷ later)) → IsTrue (write_acquires first) → IsTrue (is_acquired second.reply) → IsTrue (list_any write_releases between) }
-    ensures after_reader { (callers : ℕ) (earlier between later : Journal) (first second : Entry RwEvent RwReply) → Follows next (start callers) (earlier ++ first ∷ (between ++ second ∷ later)) → IsTrue (read_acquires first) → IsTrue (write_acquires second) → IsTrue (list_any read_releases between) }
-    ensures beside_readers { (callers : ℕ) (earlier between later : Journal) (second : Entry RwEvent RwReply) → Follows next (start callers) (earlier ++ (between ++ second ∷ later)) → IsTrue (write_acquires second) → (after next (start callers) earlier).readers ≤ length (filter read_releases between) }
+    ensures after_writer { (callers : ℕ) (earlier between later : Journal) (first second : Entry RwEvent RwReply)
+        → Follows next (start callers) (earlier ++ first ∷ (between ++ second ∷ later))
+        → IsTrue (write_acquires first) → IsTrue (is_acquired second.reply)
+        → IsTrue (list_any write_releases between) }
+    ensures after_reader { (callers : ℕ) (earlier between later : Journal) (first second : Entry RwEvent RwReply)
+        → Follows next (start callers) (earlier ++ first ∷ (between ++ second ∷ later))
+        → IsTrue (read_acquires first) → IsTrue (write_acquires second)
+        → IsTrue (list_any read_releases between) }
+    ensures beside_readers { (callers : ℕ) (earlier between later : Journal) (second : Entry RwEvent RwReply)
+        → Follows next (start callers) (earlier ++ (between ++ second ∷ later))
+        → IsTrue (write_acquires second)
+        → (after next (start callers) earlier).readers ≤ length (filter read_releases between) }
 {
     laws::validity();
 }
@@ -33,7 +42,11 @@ pub fn exclusion()
 /// A writer that waits for readers, or that was granted the lock, is passed by nobody: from the
 /// moment at which a writer is announced no event acquires the lock before a writer's unlock.
 pub fn announced_writer()
-    ensures { (callers : ℕ) (earlier between later : Journal) (second : Entry RwEvent RwReply) → Follows next (start callers) (earlier ++ (between ++ second ∷ later)) → IsTrue (is_announced (after next (start callers) earlier).writer) → IsTrue (is_acquired second.reply) → IsTrue (list_any write_releases between) }
+    ensures { (callers : ℕ) (earlier between later : Journal) (second : Entry RwEvent RwReply)
+        → Follows next (start callers) (earlier ++ (between ++ second ∷ later))
+        → IsTrue (is_announced (after next (start callers) earlier).writer)
+        → IsTrue (is_acquired second.reply)
+        → IsTrue (list_any write_releases between) }
 {
     laws::validity();
 }
@@ -41,5 +54,7 @@ pub fn announced_writer()
 /// Each reader that waits when a writer unlocks is admitted by that unlock, and nobody else holds the
 /// lock then.
 pub fn admission()
-    ensures { (state : State) (caller : ℕ) → (next state caller RwEvent.WriteUnlock).1 ≡ RwReply.Unlocked Unlocking.Done → Admits state (next state caller RwEvent.WriteUnlock).0 }
+    ensures { (state : State) (caller : ℕ)
+        → (next state caller RwEvent.WriteUnlock).1 ≡ RwReply.Unlocked Unlocking.Done
+        → Admits state (next state caller RwEvent.WriteUnlock).0 }
 {}

@@ -2,7 +2,7 @@
 ghost use Rattle.std.specs.Prelude.{◌≡◌, ◌⊎◌, ◌<◌, ◌≤◌, IfOk, IsFalse};
 ghost use Rattle.mutex_core.specs.MutexMachine as mutex;
 ghost use Rattle.mutex_core.specs.declared.event.MutexEvent.{MutexEvent};
-ghost use Rattle.rw_core.specs.RwMachine.{next, one_more, place_of, start};
+ghost use Rattle.rw_core.specs.RwMachine.{is_holding, next, one_more, place_of, start};
 ghost use Rattle.rw_core.specs.declared.event.RwEvent.{RwEvent};
 ghost use Rattle.rw_core.specs.declared.reply.RwReply.{RwReply};
 
@@ -10,7 +10,7 @@ use crate::list;
 use crate::place::Place;
 use crate::reply::{Arrival, Resumption, Unlocking};
 use crate::writer::Writer;
-use mutex_core::{self, MutexCore};
+use mutex_core::MutexCore;
 use std::alloc::{AllocError, Global};
 use std::marker::Model;
 use sync_model::Misuse;
@@ -92,7 +92,8 @@ impl RwCore {
     /// that no reader holds stays as it is: that is a misuse, Go's fatal error.
     pub fn r_unlock(&mut self, caller: u32) -> Unlocking
         requires { caller < self.old.callers }
-        ensures { next self.old caller RwEvent.ReadUnlock ≡ (self.new, RwReply.Unlocked result) }
+        ensures step { next self.old caller RwEvent.ReadUnlock ≡ (self.new, RwReply.Unlocked result) }
+        ensures misuse { (m : Misuse) → result ≡ Unlocking.Misuse m → (self.new ≡ self.old) × (self.old.readers ≡ 0) }
     {
         if self.readers == 0 {
             return Unlocking::Misuse(Misuse::RUnlockOfUnlockedRwMutex);
@@ -169,7 +170,9 @@ impl RwCore {
     /// announce itself. A lock that no writer holds stays as it is: that is a misuse, Go's fatal error.
     pub fn w_unlock(&mut self, caller: u32) -> Unlocking
         requires { caller < self.old.callers }
-        ensures { next self.old caller RwEvent.WriteUnlock ≡ (self.new, RwReply.Unlocked result) }
+        ensures step { next self.old caller RwEvent.WriteUnlock ≡ (self.new, RwReply.Unlocked result) }
+        ensures misuse { (m : Misuse) → result ≡ Unlocking.Misuse m
+            → (self.new ≡ self.old) × IsFalse (is_holding self.old.writer) }
     {
         let Writer::Holding = self.writer else {
             return Unlocking::Misuse(Misuse::UnlockOfUnlockedRwMutex);
