@@ -4,7 +4,7 @@ use Rattle.std.specs.Prelude.{nat_lt, IsFalse, if◌then◌else◌}
 use Rattle.std.specs.Bool.{MatchBool}
 use Rattle.std.specs.List.{list_any}
 use Rattle.std.proofs.lemmas.Bool.{false≢true, eqb-true}
-use Rattle.sync_model.specs.Journal.{Entry, after, Follows}
+use Rattle.sync_model.specs.Log.{Entry, after, Follows}
 use Rattle.mutex_core.specs.declared.event.MutexEvent.{MutexEvent}
 use Rattle.mutex_core.specs.declared.event.MutexEvent.TheVariants as event
 use Rattle.mutex_core.specs.declared.place.Place.{Place}

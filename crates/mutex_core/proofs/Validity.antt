@@ -2,7 +2,7 @@
 use Rattle.std.proofs.Common.{◌≡◌, ℕ, ◌<◌, Bool, true, false, List, [], ◌∷◌, ◌++◌, ◌&&◌, ◌||◌, refl, ap, subst, ◌∙◌}
 use Rattle.std.specs.Prelude.{nat_eq, nat_lt, if◌then◌else◌}
 use borrow.Author.Tests.{ltb-true}
-use Rattle.sync_model.specs.Journal.{Entry, after}
+use Rattle.sync_model.specs.Log.{Entry, after}
 use Rattle.mutex_core.specs.declared.reply.MutexReply.{MutexReply}
 use Rattle.mutex_core.specs.Starving.{is_starving}
 use Rattle.mutex_core.specs.declared.place.Place.{Place}

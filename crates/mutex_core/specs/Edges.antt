@@ -1,7 +1,7 @@
 -- Which answers give a caller the mutex, and which take it away. After Go's memory model, an unlock
 -- that takes it away is synchronized before each later lock that gives it.
 use Rattle.std.specs.Prelude.{Bool, true, false, List}
-use Rattle.sync_model.specs.Journal.{Entry}
+use Rattle.sync_model.specs.Log.{Entry}
 use Rattle.mutex_core.specs.declared.event.MutexEvent.{MutexEvent}
 use Rattle.mutex_core.specs.declared.reply.MutexReply.{MutexReply}
 use Rattle.mutex_core.specs.declared.reply.MutexReply.TheVariants.{Arrived, Tried, Unlocked, Resumed, Still}

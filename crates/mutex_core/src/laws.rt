@@ -2,7 +2,7 @@
 //! journal lists who did what, and what it was answered.
 ghost use Rattle.std.specs.Prelude.{◌≡◌, ℕ, ◌<◌, false, IsTrue, ◌∷◌, ◌++◌};
 ghost use Rattle.std.specs.List.{list_any};
-ghost use Rattle.sync_model.specs.Journal.{Entry, after, Follows};
+ghost use Rattle.sync_model.specs.Log.{Entry, after, Follows};
 ghost use Rattle.mutex_core.specs.declared.event.MutexEvent.{MutexEvent};
 ghost use Rattle.mutex_core.specs.declared.reply.MutexReply.{MutexReply};
 ghost use Rattle.mutex_core.specs.MutexMachine.{next, start, IsValid, State};

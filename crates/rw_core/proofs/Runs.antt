@@ -1,6 +1,6 @@
 -- Whole runs, from the unlocked lock on.
 use Rattle.std.proofs.Common.{ℕ, [], ◌∷◌, ◌++◌, refl, arith}
-use Rattle.sync_model.specs.Journal.{after, Follows}
+use Rattle.sync_model.specs.Log.{after, Follows}
 use Rattle.mutex_core.specs.MutexMachine as mutex
 use Rattle.mutex_core.specs.declared.event.MutexEvent.{MutexEvent}
 use Rattle.mutex_core.specs.declared.event.MutexEvent.TheVariants as mutex_event

@@ -4,7 +4,7 @@ use Rattle.std.specs.Prelude.{nat_lt, ◌==◌, cond, if◌then◌else◌, filte
 use Rattle.std.specs.List.{list_any}
 use Rattle.std.proofs.lemmas.Bool.{false≢true, eqb-true}
 use borrow.Author.Tests.{ltb-true, ltb-false}
-use Rattle.sync_model.specs.Journal.{Entry, Follows}
+use Rattle.sync_model.specs.Log.{Entry, Follows}
 use Rattle.mutex_core.specs.MutexMachine as mutex
 use Rattle.mutex_core.specs.declared.event.MutexEvent.TheVariants as mutex_event
 use Rattle.rw_core.specs.declared.event.RwEvent.{RwEvent}

@@ -1,6 +1,6 @@
 -- Which answers give a caller the lock, and which take it away.
 use Rattle.std.specs.Prelude.{Bool, true, false, ◌&&◌, not, List}
-use Rattle.sync_model.specs.Journal.{Entry}
+use Rattle.sync_model.specs.Log.{Entry}
 use Rattle.rw_core.specs.declared.event.RwEvent.{RwEvent}
 use Rattle.rw_core.specs.declared.event.RwEvent.TheVariants as event
 use Rattle.rw_core.specs.declared.reply.RwReply.{RwReply}

@@ -2,7 +2,7 @@
 //! journal lists who did what, and what it was answered.
 ghost use Rattle.std.specs.Prelude.{◌≡◌, ℕ, ◌<◌, ◌≤◌, IsTrue, ◌∷◌, ◌++◌, length, filter};
 ghost use Rattle.std.specs.List.{list_any};
-ghost use Rattle.sync_model.specs.Journal.{Entry, after, Follows};
+ghost use Rattle.sync_model.specs.Log.{Entry, after, Follows};
 ghost use Rattle.rw_core.specs.declared.event.RwEvent.{RwEvent};
 ghost use Rattle.rw_core.specs.declared.reply.RwReply.{RwReply};
 ghost use Rattle.rw_core.specs.declared.reply.Unlocking.{Unlocking};

@@ -1,5 +1,5 @@
 -- A sorted table of vectors of bytes is the finite map of its entries.
-use Rattle.std.proofs.Common.{◌≡◌, ℕ, Bool, true, false, cond, List, [], ◌∷◌, map, length, Option, Some, None, refl, sym, ap, ◌∙◌}
+use Rattle.std.proofs.Common.{◌≡◌, ℕ, Bool, true, false, ◌&&◌, cond, List, [], ◌∷◌, map, length, Option, Some, None, refl, sym, ap, ◌∙◌}
 use Rattle.std.specs.Global.{Vec}
 use Rattle.std.specs.Ordering.{nat_cmp, eq_by_cmp, match_ordering}
 use Rattle.std.specs.declared.cmp.Ordering.{Ordering}
@@ -13,7 +13,16 @@ use Rattle.std.proofs.lemmas.List.{length-map, nil_from_length}
 use Rattle.std.specs.BTreeMap.{is_at, insert_entry}
 use Rattle.std.specs.FinMap.{FinMap, get, insert, from_entries, find, put, same_map, len, len-entries, entries, entries-insert, empty, len-empty, get-insert, get-from_entries, slice_cmp-IsAntisymmetric, nat_cmp-IsAntisymmetric}
 use Rattle.std.specs.FinMap.Entries.{find-put, by_order}
-use Rattle.sync_model.specs.ByName.{by_bytes}
+use Rattle.sync_model.specs.Name.{is_name}
+use Rattle.sync_model.specs.ByName.{by_bytes, all_names}
+
+and_left : (a b : Bool) → (a && b) ≡ true → a ≡ true
+and_left true b e = refl
+and_left false b e = e
+
+and_right : (a b : Bool) → (a && b) ≡ true → b ≡ true
+and_right true b e = e
+and_right false b e = absurd cc
 
 -- the order of vectors of bytes, by their items
 abbrev pub vec_cmp : Vec ℕ → Vec ℕ → Ordering
@@ -50,6 +59,18 @@ module _ {X : Type 0} where
       ∙ find-put (slice_cmp nat_cmp) nat_list_cmp_total q k.items v (pairs es)
       ∙ sym (get-insert nat_list_cmp_total (by_bytes es) k.items v q
       ∙ ap (cond (eq_by_cmp (slice_cmp nat_cmp) q k.items) (Some v)) (get-from_entries nat_list_cmp_total (pairs es) q)))
+
+  names_of_match : (r : Ordering) (k : Vec ℕ) (v : X) (e : Vec ℕ × X) (es inserted : List (Vec ℕ × X)) → all_names (e ∷ es) ≡ true → is_name k.items ≡ true → all_names inserted ≡ true →
+      all_names (match_ordering r ((k, v) ∷ e ∷ es) ((e.0, v) ∷ es) (e ∷ inserted)) ≡ true
+  names_of_match Less k v e es inserted h named hi = rw named h
+  names_of_match Equal k v e es inserted h named hi = h
+  names_of_match Greater k v e es inserted h named hi = rw (and_left (is_name e.0.items) (all_names es) h) hi
+
+  -- one more name
+  pub all_names-insert_entry : (es : List (Vec ℕ × X)) (k : Vec ℕ) (v : X) → all_names es ≡ true → is_name k.items ≡ true → all_names (insert_entry vec_cmp es k v) ≡ true
+  all_names-insert_entry [] k v h named = rw named refl
+  all_names-insert_entry (e ∷ es) k v h named =
+      names_of_match (vec_cmp k e.0) k v e es (insert_entry vec_cmp es k v) h named (all_names-insert_entry es k v (and_right (is_name e.0.items) (all_names es) h) named)
 
   put_first : (k : Vec ℕ) (v : X) (es : List (Vec ℕ × X)) → AllByRecursion (λ y. vec_cmp k y ≡ Less) (keys_of es) → put (slice_cmp nat_cmp) k.items v (pairs es) ≡ (k.items, v) ∷ pairs es
   put_first k v [] h = refl

@@ -1,9 +1,12 @@
 //! A table whose keys are names.
-ghost use Rattle.std.specs.Prelude.{◌≡◌, OnOk, OnErr};
+ghost use Rattle.std.specs.Prelude.{◌≡◌, ◌<◌, ◌^◌, true, IfOk, OnOk, OnErr};
+ghost use Rattle.sync_model.specs.Name.{is_name};
 ghost use Rattle.std.specs.Ordering.{nat_cmp};
 ghost use Rattle.std.specs.Cmp.Lexicographic.{slice_cmp};
 ghost use Rattle.std.specs.FinMap as finite;
 
+use crate::name::Name;
+use crate::seq::Seq;
 use std::alloc::{AllocError, Global};
 use std::collections::BTreeMap;
 use std::marker::Model;
@@ -24,9 +27,12 @@ impl<X> Model for ByName<X> {
 
     ghost coded = { finite.code (coded_list coded_ℕ) X.code };
 
-    ghost use Rattle.sync_model.specs.ByName.{by_bytes};
+    ghost use Rattle.sync_model.specs.ByName.{by_bytes, all_names};
+    ghost use Rattle.std.specs.Prelude.{◌≡◌, true};
 
     ghost view = { λ t. by_bytes t.entries.entries };
+
+    ghost invariant = { λ t. all_names t.entries.entries ≡ true };
 }
 
 impl<X: Copy> ByName<X> {
@@ -48,6 +54,7 @@ impl<X: Copy> ByName<X> {
 
     /// Sets the value at a name. Where memory is out the table stays as it was.
     pub fn insert(&mut self, alloc: Global, name: &[u8], value: X) -> Result<(), AllocError>
+        requires { is_name name.now ≡ true }
         ensures ok { OnOk result (self.new ≡ finite.insert self.old name.now value) }
         ensures err { OnErr result (self.new ≡ self.old) }
     {
@@ -58,8 +65,20 @@ impl<X: Copy> ByName<X> {
 
     /// How many names have a value.
     pub fn len(&self) -> usize
-        ensures { result ≡ finite.len self.now }
+        ensures len { result ≡ finite.len self.now }
+        ensures small { result < 2 ^ 63 }
     {
         self.entries.len()
+    }
+
+    /// The names that have a value, each with it, in the byte order of the names.
+    pub fn entries(&self, alloc: Global) -> Result<Seq<(Name, X)>, AllocError>
+        ensures { IfOk result (λ entries. entries ≡ finite.entries self.now) }
+    {
+        let mut entries = Seq::new(alloc);
+        for (name, value) in self.entries.iter() {
+            entries.push((Name::from_bytes(alloc, name)?, *value))?;
+        }
+        Ok(entries)
     }
 }

@@ -6,7 +6,7 @@ use crate::name::Name;
 #[derive(Debug, Drop)]
 pub enum Call {
     /// A call on a map.
-    Map { object: u32, call: MapCall<Name> },
+    Map { object: usize, call: MapCall<Name> },
 }
 
 /// What a call answers.

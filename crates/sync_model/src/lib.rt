@@ -1,17 +1,30 @@
 //! The plain types that every layer speaks of: names, lists, the calls of each kind of object with
-//! their replies, and the one-thread objects that say what a call answers.
+//! their replies, and the one-thread objects that say what a call answers. For the layers that run in threads: machines,
+//! notes, and the journal of an object that callers share.
 #![tactic(auto)]
 
+pub mod answer;
 pub mod by_name;
 pub mod call;
+pub mod front_note;
+pub mod item;
+pub mod journal;
+pub mod machine;
 pub mod map_object;
 pub mod misuse;
 pub mod name;
+pub mod note;
 pub mod seq;
 
+pub use answer::Answer;
 pub use by_name::ByName;
 pub use call::{Call, Reply};
+pub use front_note::{FrontNote, MAX_CALLERS};
+pub use item::{Item, SharedCall, SharedReply};
+pub use journal::{Deed, Entry};
+pub use machine::Machine;
 pub use map_object::{MapCall, MapReply};
 pub use misuse::Misuse;
 pub use name::Name;
+pub use note::Note;
 pub use seq::Seq;

@@ -1,6 +1,5 @@
 //! How a program can misuse an object, with Go's texts.
 ghost use Rattle.std.specs.Prelude.{◌≡◌};
-ghost use Rattle.sync_model.specs.Misuse.{text_of};
 
 /// A misuse that ends a run: a fatal error or a panic of Go's package sync.
 #[derive(Clone, Copy, Debug, PartialEq, Eq)]
@@ -15,4 +14,23 @@ pub enum Misuse {
     NegativeWaitGroupCounter,
     /// A `WaitGroup` that is used again before an earlier `Wait` has returned.
     WaitGroupReused,
+}
+
+impl Misuse {
+    ghost use Rattle.sync_model.specs.Misuse.{text_of};
+
+    /// The line that Go's runtime prints for it.
+    pub fn text(self) -> &'static str
+        ensures { result.now ≡ text_of self }
+    {
+        match self {
+            Misuse::UnlockOfUnlockedMutex => "fatal error: sync: unlock of unlocked mutex",
+            Misuse::RUnlockOfUnlockedRwMutex => "fatal error: sync: RUnlock of unlocked RWMutex",
+            Misuse::UnlockOfUnlockedRwMutex => "fatal error: sync: Unlock of unlocked RWMutex",
+            Misuse::NegativeWaitGroupCounter => "panic: sync: negative WaitGroup counter",
+            Misuse::WaitGroupReused => {
+                "panic: sync: WaitGroup is reused before previous Wait has returned"
+            }
+        }
+    }
 }

@@ -1,5 +1,5 @@
 //! Names of objects and of keys.
-ghost use Rattle.std.specs.Prelude.{◌≡◌, ℕ, List, length, IfOk};
+ghost use Rattle.std.specs.Prelude.{◌≡◌, ◌≤◌, ℕ, List, true, length, IfOk};
 ghost use Rattle.std.specs.List.{list_all};
 ghost use Rattle.sync_model.specs.Name.{is_letter, is_name_byte, is_name};
 
@@ -9,21 +9,27 @@ use std::marker::Model;
 /// The most bytes that a name has.
 pub const MAX_NAME: usize = 32;
 
-/// The bytes of an object's name or of a key.
+/// The bytes of an object's name or of a key, in the form of a name.
 #[derive(Debug, Drop)]
 pub struct Name {
     bytes: Vec<u8>,
 }
 
 impl Model for Name {
+    ghost use Rattle.std.specs.Prelude.{◌≡◌, ℕ, List, true};
+    ghost use Rattle.sync_model.specs.Name.{is_name};
+
     ghost Value = { List ℕ };
 
     ghost view = { λ n. n.bytes.items };
+
+    ghost invariant = { λ n. is_name n.bytes.items ≡ true };
 }
 
 impl Name {
     /// The name with these bytes.
     pub fn from_bytes(alloc: Global, bytes: &[u8]) -> Result<Self, AllocError>
+        requires { is_name bytes.now ≡ true }
         ensures { IfOk result (λ name. name ≡ bytes.now) }
     {
         Ok(Name {
@@ -33,7 +39,9 @@ impl Name {
 
     /// The bytes of the name.
     pub fn as_bytes(&self) -> &[u8]
-        ensures { result.now ≡ self.now }
+        ensures bytes { result.now ≡ self.now }
+        ensures is_name { is_name self.now ≡ true }
+        ensures short { length self.now ≤ MAX_NAME }
     {
         &self.bytes
     }

@@ -1,4 +1,4 @@
-use Rattle.sync_model.specs.Journal.{after}
+use Rattle.sync_model.specs.Log.{after}
 use Rattle.rw_core.specs.RwMachine.{start, next}
 use Rattle.rw_core.proofs.Runs.{MutexLaws, keeps, run-valid, follows_later}
 use Rattle.rw_core.proofs.Turns.{released_first}

@@ -1,0 +1,18 @@
+-- What a note says of its holder.
+use Rattle.std.specs.Prelude.{◌≡◌, ℕ, List, Option, Some, None, length, slice_index}
+use Rattle.sync_model.specs.declared.item.Item.{Item}
+
+-- a caller, with its shared calls in its own order, and the entries that it may still store
+pub record Holding : Type 0 where
+  pub number : ℕ
+  pub items : List Item
+  pub spare : ℕ
+
+-- the second is a note of each home of which the first is one
+abbrev pub SameHome : {H N : Type 0} → (H → N → Type 0) → N → N → Type 0
+SameHome at first second = (home : _) → at home first → at home second
+
+-- the front counts all of the holder's own shared calls
+abbrev pub IsCounted : Option Holding → List ℕ → Type 0
+IsCounted None front = Unit {0}
+IsCounted (Some holding) front = slice_index front holding.number ≡ length holding.items

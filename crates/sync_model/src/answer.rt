@@ -1,0 +1,13 @@
+//! What a call on a shared object answers.
+ghost use Rattle.std.specs.Prelude.{◌≡◌};
+
+use crate::misuse::Misuse;
+
+/// The answer of a call on an object that may have been halted.
+#[derive(Clone, Copy, Debug)]
+pub enum Answer<R> {
+    /// The call was made, and this is the reply of the object's machine.
+    Done(R),
+    /// The object was halted before, by this misuse. The call changed nothing.
+    Halted(Misuse),
+}

@@ -1,0 +1,38 @@
+//! What a caller knows of the others' shared calls, and hands on through objects.
+ghost use Rattle.std.specs.Prelude.{◌≡◌, ℕ, List, Option, None};
+ghost use Rattle.sync_model.specs.Front.{AtLeast};
+ghost use Rattle.sync_model.specs.Note.{Holding, SameHome, IsCounted};
+
+/// A vector clock over shared calls. Contracts see two things of it: its front, which has for each caller the number
+/// of its shared calls that are known, and whose note it is, with all that this caller did. A copy is nobody's.
+pub trait Note: Drop {
+    /// Where the notes of one run belong.
+    type Home;
+
+    // For each caller the number of its shared calls that are known.
+    ghost front: { Self → List ℕ };
+
+    // The caller whose note it is, with its shared calls.
+    ghost own: { Self → Option Holding };
+
+    // It is a note of this home.
+    ghost at: { Self.Home → Self → Type 0 };
+
+    /// A copy, which is nobody's and has the same front.
+    fn copy(&mut self, home: &Self::Home) -> Self
+        requires { at home.now self.old }
+        ensures home { SameHome at self.old self.new × SameHome at self.old result }
+        ensures front { (front self.new ≡ front self.old) × (front result ≡ front self.old) }
+        ensures own { (own self.new ≡ own self.old) × (own result ≡ None) };
+
+    /// Takes in what a copy knows.
+    fn merge(&mut self, home: &Self::Home, other: Self)
+        requires home { at home.now self.old × at home.now other }
+        requires copy { own other ≡ None }
+        ensures home { SameHome at self.old self.new }
+        ensures front { AtLeast (front self.new) (front self.old) × AtLeast (front self.new) (front other) }
+        ensures own { own self.new ≡ own self.old };
+
+    // A caller's own number in its own note's front is the number of its shared calls.
+    ghost counted: { (home : Self.Home) (note : Self) → at home note → IsCounted (own note) (front note) };
+}

@@ -1,0 +1,173 @@
+ghost use Rattle.std.specs.Prelude.{◌≡◌};
+
+use crate::{
+    Clock, Failed, MemClock, MemFile, MemSink, MemSources, OpenFault, Sink, Sources, SystemClock,
+    SystemSources, WriterSink,
+};
+use std::alloc::{AllocError, Global};
+use std::io::{Error, ErrorKind, Write};
+use std::test::Fail;
+use std::{env, fs, io, thread};
+
+// All bytes under a name, read four at a time, or the fault that came.
+fn whole<S: Sources>(
+    alloc: Global,
+    source: &mut S,
+    name: &str,
+) -> Result<Result<Vec<u8>, OpenFault>, AllocError> {
+    let mut bytes = Vec::new(alloc);
+    if let Err(fault) = source.open(name) {
+        return Ok(Err(fault));
+    }
+    for _ in 0..100 {
+        let mut buf = [0; 4];
+        let Ok(count) = source.read(&mut buf) else {
+            return Ok(Err(OpenFault::Failed));
+        };
+        if count == 0 {
+            break;
+        }
+        bytes.extend_from_slice(&buf[..count])?;
+    }
+    Ok(Ok(bytes))
+}
+
+fn two_files(alloc: Global, failing: &[u64]) -> Result<MemSources, AllocError> {
+    let digits = MemFile::new(
+        String::from_str(alloc, "digits")?,
+        Vec::from_slice(alloc, b"0123456789")?,
+    );
+    let empty = MemFile::new(String::from_str(alloc, "empty")?, Vec::new(alloc));
+    let mut files = Vec::new(alloc);
+    files.push(empty)?;
+    files.push(digits)?;
+    Ok(MemSources::new(files, Vec::from_slice(alloc, failing)?))
+}
+
+#[test]
+fn sources_in_memory_give_bytes_in_order_and_fail_at_their_calls(
+    rt: HostRuntime,
+) -> Result<(), Fail> {
+    // Call 1 opens, calls 2 to 4 give 4, 4 and 2 bytes, call 5 gives none.
+    let table: [(&str, &[u64], Option<&[u8]>); 9] = [
+        ("digits", &[], Some(b"0123456789")),
+        ("digits", &[6, 9], Some(b"0123456789")),
+        ("digits", &[1], None),
+        ("digits", &[2], None),
+        ("digits", &[4], None),
+        ("digits", &[5], None),
+        ("empty", &[3], Some(b"")),
+        ("empty", &[2], None),
+        ("missing", &[], None),
+    ];
+    for (name, failing, want) in table {
+        let mut source = two_files(rt.alloc(), failing)?;
+        let got = whole(rt.alloc(), &mut source, name)?;
+        match want {
+            Some(bytes) => assert_eq!(rt; got.as_deref(), Ok(bytes), "{name}"),
+            None => assert!(rt; got.is_err(), "{name}"),
+        }
+    }
+    let mut source = two_files(rt.alloc(), &[3])?;
+    assert!(rt; whole(rt.alloc(), &mut source, "digits")?.is_err());
+    assert_eq!(rt;
+        whole(rt.alloc(), &mut source, "digits")?.as_deref(),
+        Ok(b"0123456789".as_slice())
+    );
+    Ok(())
+}
+
+#[test]
+fn sinks_in_memory_take_whole_pieces_or_nothing(rt: HostRuntime) -> Result<(), Fail> {
+    let table: [(usize, &[u64], &[u8], u64); 5] = [
+        (7, &[], b"abcdefg", 0),
+        (7, &[2], b"abefg", 1),
+        (5, &[], b"abcdg", 1),
+        (5, &[1, 4], b"cdef", 2),
+        (0, &[], b"", 4),
+    ];
+    for (room, failing, want, faults) in table {
+        let mut sink = MemSink::new(rt.alloc(), room, Vec::from_slice(rt.alloc(), failing)?)?;
+        for piece in [b"ab".as_slice(), b"cd", b"ef", b"g"] {
+            let _ = sink.write(piece);
+        }
+        assert_eq!(rt; sink.as_bytes(), want);
+        assert_eq!(rt; sink.faults(), faults);
+    }
+    Ok(())
+}
+
+#[test]
+fn clocks_show_their_moments(rt: HostRuntime) -> Result<(), Fail> {
+    let clock = MemClock::new(Vec::from_slice(rt.alloc(), &[5, 9, 7])?);
+    let (first, second) = thread::join(&rt, || clock.now(), || clock.now());
+    assert_eq!(rt; (first.min(second), first.max(second)), (5, 9));
+    assert_eq!(rt; (clock.now(), clock.now(), clock.now()), (7, 7, 7));
+    assert_eq!(rt; MemClock::new(Vec::new(rt.alloc())).now(), 0);
+
+    let machine = SystemClock::new(&rt);
+    let (first, second) = thread::join(&rt, || machine.now(), || machine.now());
+    assert!(rt; first.max(second) <= machine.now());
+    Ok(())
+}
+
+#[test]
+fn system_sources_read_files_and_count_their_faults(rt: HostRuntime) -> Result<(), Fail> {
+    let folder = env::temp_dir(&rt)?;
+    let path = format!(in rt.alloc(); "{}/sync_outside.txt", folder.display())?;
+    fs::write(&rt, path.as_str(), "0123456789")?;
+    let mut source = SystemSources::new(&rt);
+    let got = whole(rt.alloc(), &mut source, path.as_str())?;
+    fs::remove_file(&rt, path.as_str())?;
+    assert_eq!(rt; got.as_deref(), Ok(b"0123456789".as_slice()));
+    assert_eq!(rt; (source.open_faults(), source.read_faults()), (0, 0));
+
+    assert!(rt; whole(rt.alloc(), &mut source, path.as_str())?.is_err());
+    assert!(rt; whole(rt.alloc(), &mut source, "/")?.is_err());
+    assert_eq!(rt;
+        source.open_faults().saturating_add(source.read_faults()),
+        2
+    );
+    Ok(())
+}
+
+// A writer that takes two bytes at a time, is interrupted before each, and has an end.
+#[derive(Drop)]
+struct Slow {
+    bytes: Vec<u8>,
+    interrupted: bool,
+    room: usize,
+}
+
+impl Write for Slow {
+    fn write(&mut self, buf: &[u8]) -> io::Result<usize> {
+        self.interrupted = !self.interrupted;
+        if self.interrupted {
+            return Err(Error::from(ErrorKind::Interrupted));
+        }
+        let count = buf.len().min(2).min(self.room);
+        self.bytes.extend_from_slice(&buf[..count])?;
+        self.room -= count;
+        Ok(count)
+    }
+
+    fn flush(&mut self) -> io::Result<()> {
+        Ok(())
+    }
+}
+
+#[test]
+fn a_writer_gets_whole_pieces_by_short_writes(rt: HostRuntime) -> Result<(), Fail> {
+    let mut slow = Slow {
+        bytes: Vec::new(rt.alloc()),
+        interrupted: false,
+        room: 8,
+    };
+    let mut sink = WriterSink::new(&mut slow);
+    assert_eq!(rt; sink.write(b"hello"), Ok(()));
+    assert_eq!(rt; sink.write(b"world"), Err(Failed));
+    assert_eq!(rt; sink.faults(), 1);
+    drop(sink);
+    assert_eq!(rt; slow.bytes.as_slice(), b"hellowor".as_slice());
+    Ok(())
+}

@@ -1,0 +1,90 @@
+-- Lists of checks, one after the other.
+use Rattle.std.proofs.Common.{◌≡◌, ℕ, Bool, true, false, cond, ◌+◌, List, [], ◌∷◌, ◌++◌, map, length, get_or, arith, Option, Some, None, refl, sym, ap, ◌∙◌}
+use Rattle.std.specs.List.{flat_map}
+use Rattle.std.specs.Prelude.{is_some, nat_lt, nat_le}
+use Rattle.workload.specs.declared.limits.TheConstants.{MAX_TURNS}
+use Rattle.workload.specs.declared.keyword.Keyword.TheVariants as keywords
+use Rattle.workload.specs.declared.reason.Reason.TheVariants.{LimitReached}
+use Rattle.sync_model.specs.Name.{is_name}
+use Rattle.workload.specs.declared.fault.LineFault.{LineFault}
+use Rattle.workload.specs.declared.fault.LineFault.TheVariants as faults
+use Rattle.workload.specs.declared.keyword.Operand.{Operand}
+use Rattle.workload.specs.declared.keyword.Verb.{Verb}
+use Rattle.workload.specs.declared.object.Declared.{Declared}
+use Rattle.workload.specs.declared.reason.Reason.{Reason}
+use Rattle.workload.specs.declared.turn.Turn.{Turn}
+use Rattle.workload.specs.Words.{turn_word}
+use Rattle.workload.specs.Draft.{Draft, declared}
+use Rattle.workload.specs.Checks.{Check, first_failing, form_checks, limit_checks, form_of, call_checks, line_checks, item_checks}
+use Rattle.workload.specs.LineResult.{IsFault, form_words, PassesWith}
+
+-- checks behind one that fails don't count
+pub fails_first : (xs ys : List Check) (r : Reason) → first_failing xs ≡ Some r → first_failing (xs ++ ys) ≡ Some r
+fails_first [] ys r e = absurd cc
+fails_first (x ∷ xs) ys r e =
+    elim x.0 as (λ b. cond b (first_failing xs) (Some x.1) ≡ Some r → cond b (first_failing (xs ++ ys)) (Some x.1) ≡ Some r) [
+      | true ↦ λ h. fails_first xs ys r h
+      | false ↦ λ h. h
+    ] e
+
+-- checks that all pass leave those behind them
+pub passes_first : (xs ys : List Check) → first_failing xs ≡ None → first_failing (xs ++ ys) ≡ first_failing ys
+passes_first [] ys e = refl
+passes_first (x ∷ xs) ys e =
+    elim x.0 as (λ b. cond b (first_failing xs) (Some x.1) ≡ None → cond b (first_failing (xs ++ ys)) (Some x.1) ≡ first_failing ys) [
+      | true ↦ λ h. passes_first xs ys h
+      | false ↦ λ h. absurd cc
+    ] e
+
+pub form_fails : (d : Draft) (form : Option (List Operand)) (words : List (List ℕ)) (r : Reason) → first_failing (form_words form words) ≡ Some r → first_failing (form_checks d form words) ≡ Some r
+form_fails d None words r e = e
+form_fails d (Some form) words r e = fails_first (form_words (Some form) words) _ r e
+
+pub form_passes : (d : Draft) (form : Option (List Operand)) (words keys : List (List ℕ)) → PassesWith form words keys → first_failing (form_checks d form words) ≡ first_failing (limit_checks d keys)
+form_passes d None words keys h = absurd h
+form_passes d (Some form) words keys h = passes_first (form_words (Some form) words) _ h.1 ∙ ap (λ (ks : List (List ℕ)). first_failing (limit_checks d ks)) h.0
+
+pub fault_first : (xs ys : List Check) (f : LineFault) → IsFault xs f → IsFault (xs ++ ys) f
+fault_first xs ys faults.Memory h = tt
+fault_first xs ys (faults.Refused r) h = fails_first xs ys r h
+
+fault_form : (d : Draft) (form : Option (List Operand)) (words : List (List ℕ)) (f : LineFault) → IsFault (form_words form words) f → IsFault (form_checks d form words) f
+fault_form d form words faults.Memory h = tt
+fault_form d form words (faults.Refused r) h = form_fails d form words r h
+
+-- a fault in the operands is one of the line
+pub call_fails : (d : Draft) (verb : Verb) (name : List ℕ) (words : List (List ℕ)) (found : Declared) (f : LineFault) → is_some d.current ≡ true → is_name name ≡ true → declared d name ≡ Some found
+    → IsFault (form_words (form_of verb found.kind) words) f → IsFault (call_checks d verb (name ∷ words)) f
+call_fails d verb name words found faults.Memory current named is h = tt
+call_fails d verb name words found (faults.Refused r) current named is h = rw (current, named, is) (form_fails d (form_of verb found.kind) words r h)
+
+-- a fault in the items is one of the line
+pub turns_fail : (d : Draft) (words : List (List ℕ)) (f : LineFault) → nat_lt 0 (length words) ≡ true → IsFault (flat_map (item_checks d.plan.workers) words) f → IsFault (line_checks d (Some keywords.Schedule) words) f
+turns_fail d words faults.Memory some h = tt
+turns_fail d words (faults.Refused r) some h = rw some (fails_first (flat_map (item_checks d.plan.workers) words) _ r h)
+
+-- items that pass leave the limit
+pub turns_pass : (d : Draft) (words : List (List ℕ)) → nat_lt 0 (length words) ≡ true → first_failing (flat_map (item_checks d.plan.workers) words) ≡ None
+    → first_failing (line_checks d (Some keywords.Schedule) words) ≡ cond (nat_le (length d.plan.schedule + length words) MAX_TURNS) None (Some LimitReached)
+turns_pass d words some h = rw some (passes_first (flat_map (item_checks d.plan.workers) words) ((nat_le (length d.plan.schedule + length words) MAX_TURNS, LimitReached) ∷ []) h)
+
+-- the items one after the other
+pub items_fault : (workers : ℕ) (word : List ℕ) (words : List (List ℕ)) (all : List (List ℕ)) (f : LineFault) → first_failing (flat_map (item_checks workers) (word ∷ words)) ≡ first_failing (flat_map (item_checks workers) all)
+    → IsFault (item_checks workers word) f → IsFault (flat_map (item_checks workers) all) f
+items_fault workers word words all faults.Memory same h = tt
+items_fault workers word words all (faults.Refused r) same h = sym same ∙ fails_first (item_checks workers word) (flat_map (item_checks workers) words) r h
+
+pub items_pass : (workers : ℕ) (word : List ℕ) (words : List (List ℕ)) → first_failing (item_checks workers word) ≡ None → first_failing (flat_map (item_checks workers) (word ∷ words)) ≡ first_failing (flat_map (item_checks workers) words)
+items_pass workers word words h = passes_first (item_checks workers word) (flat_map (item_checks workers) words) h
+
+-- one more item is spelled by its word
+pub turns_more : (turns : List Turn) (turn : Turn) (word : List ℕ) (rest all : List (List ℕ)) → turn_word turn ≡ word → map turn_word turns ++ (word ∷ rest) ≡ all → map turn_word (turns ++ turn ∷ []) ++ rest ≡ all
+turns_more [] turn word rest all is h = ap (λ (w : List ℕ). w ∷ rest) is ∙ h
+turns_more (t ∷ turns) turn word rest all is h =
+    ap (λ (ws : List (List ℕ)). turn_word t ∷ ws) (turns_more turns turn word rest (map turn_word turns ++ (word ∷ rest)) is refl) ∙ h
+
+-- a list of one item
+pub one_item : {X : Type 0} (xs : List X) (d : X) → length xs ≡ 1 → xs ≡ get_or xs 0 d ∷ []
+one_item [] d e = absurd (omega arith)
+one_item (x ∷ []) d e = refl
+one_item (x ∷ y ∷ xs) d e = absurd (omega arith)

@@ -1,0 +1,206 @@
+-- A draft with one more line keeps its tables.
+use Rattle.std.proofs.Common.{◌≡◌, ℕ, zero, suc, ◌+◌, ◌-◌, ◌<◌, ◌≤◌, Bool, true, false, cond, eqb, ◌&&◌, not, List, [], ◌∷◌, ◌++◌, map, length, get_or, set, replicate, Option, Some, None, refl, sym, ap, ◌∙◌, arith}
+use Rattle.std.specs.Prelude.{is_some, slice_get}
+use Rattle.std.specs.Option.{option_or}
+use Rattle.std.specs.List.{list_all}
+use Rattle.std.specs.Str.{bytes_eq}
+use Rattle.std.specs.Ordering.{nat_cmp}
+use Rattle.std.specs.Cmp.Lexicographic.{slice_cmp, nat_list_cmp_total}
+use Rattle.std.specs.FinMap.{FinMap, get, insert, empty, from_entries, get-empty, get-insert}
+use Rattle.std.proofs.lemmas.Bool.{eqb-true, eq-eqb, ltb-true}
+use Rattle.std.proofs.lemmas.Slice.Eq.{bytes_eq-Decides}
+use Rattle.std.proofs.lemmas.Map.Text.{is_eq-slice_cmp}
+use Rattle.std.proofs.lemmas.List.{length-set, length-append, length-replicate}
+use Rattle.std.proofs.lemmas.List.Sums.{sum_by-set}
+use Rattle.sync_model.specs.declared.call.Call.{Call}
+use Rattle.sync_model.specs.declared.call.Call.TheVariants as calls
+use Rattle.workload.specs.declared.object.ObjectKind.{ObjectKind}
+use Rattle.workload.specs.declared.object.ObjectKind.TheVariants as kinds
+use Rattle.workload.specs.declared.object.ObjectLine.{ObjectLine}
+use Rattle.workload.specs.declared.object.Declared.{Declared}
+use Rattle.workload.specs.declared.line.Line.TheVariants as lines
+use Rattle.workload.specs.declared.turn.Turn.{Turn}
+use Rattle.workload.specs.declared.turn.Turn.TheVariants as turns
+use Rattle.workload.specs.Plan.{Plan, object_of, has_call, is_on, is_turn, is_valid}
+use Rattle.workload.specs.Draft.{Draft, declared, declared_from, names_object, with_call, is_item, may_follow, call_count, keys_of, all_keys}
+use Rattle.workload.specs.Index.{IsIndexed, with_keys, marks}
+use Rattle.workload.proofs.Passing.{both, pair, all_mono, all_set, all_append, all_at}
+use Rattle.workload.proofs.Follows.{object_follows, schedule_follows, call_follows}
+use Rattle.workload.proofs.KeyLemmas.{keys_with_call}
+
+or_none : (o : Option Declared) → option_or o None ≡ o
+or_none None = refl
+or_none (Some d) = refl
+
+-- one more object is found behind the others
+pub declared_more : (i : ℕ) (q : List ℕ) (os : List ObjectLine) (o : ObjectLine) → declared_from i q (os ++ o ∷ []) ≡ option_or (declared_from i q os) (cond (bytes_eq q o.name) (Some (record { place = i + length os; kind = o.kind })) None)
+declared_more i q [] o = ap (λ (n : ℕ). cond (bytes_eq q o.name) (Some (record { place = n; kind = o.kind })) None) (omega arith)
+declared_more i q (p ∷ os) o =
+    elim (bytes_eq q p.name) as (λ b. cond b (Some (record { place = i; kind = p.kind })) (declared_from (i + 1) q (os ++ o ∷ [])) ≡ option_or (cond b (Some (record { place = i; kind = p.kind })) (declared_from (i + 1) q os)) (cond (bytes_eq q o.name) (Some (record { place = i + length (p ∷ os); kind = o.kind })) None)) [
+      | true ↦ refl
+      | false ↦ declared_more (i + 1) q os o ∙ ap (λ (n : ℕ). option_or (declared_from (i + 1) q os) (cond (bytes_eq q o.name) (Some (record { place = n; kind = o.kind })) None)) (omega arith)
+    ]
+
+same_place : (i : ℕ) (p : ObjectLine) (d : Declared) → Some (record { place = i; kind = p.kind }) ≡ Some d → (i ≡ d.place) × (p.kind ≡ d.kind)
+same_place i p d is = (cc, cc)
+
+-- a name that is declared has its object at the place
+pub found_at : (i : ℕ) (name : List ℕ) (os : List ObjectLine) (d : Declared) → declared_from i name os ≡ Some d → (o : ObjectLine) × (i ≤ d.place) × (slice_get os (d.place - i) ≡ Some o) × (o.kind ≡ d.kind)
+found_at i name [] d e = absurd cc
+found_at i name (p ∷ os) d e =
+    elim (bytes_eq name p.name) as (λ b. cond b (Some (record { place = i; kind = p.kind })) (declared_from (i + 1) name os) ≡ Some d → (o : ObjectLine) × (i ≤ d.place) × (slice_get (p ∷ os) (d.place - i) ≡ Some o) × (o.kind ≡ d.kind)) [
+      | true ↦ λ is.
+          let same = same_place i p d is in
+          let here : d.place - i ≡ 0 = omega (arith, same.0) in
+          (p, omega (arith, same.0), rw here refl, same.1)
+      | false ↦ λ is.
+          let rest = found_at (i + 1) name os d is in
+          let next : d.place - i ≡ suc (d.place - (i + 1)) = omega (arith, rest.1) in
+          (rest.0, omega (arith, rest.1), rw next rest.2, rest.3)
+    ] e
+
+-- a call whose name is that of its object is on it
+pub names_is_on : (name : List ℕ) (os : List ObjectLine) (call : Call) → names_object (declared_from 0 name os) call ≡ true → is_on (slice_get os (object_of call)) call ≡ true
+names_is_on name os call e =
+    elim (declared_from 0 name os) as (λ o. declared_from 0 name os ≡ o → names_object o call ≡ true → is_on (slice_get os (object_of call)) call ≡ true) [
+      | None ↦ λ is h. absurd cc
+      | Some d ↦ λ is h.
+          let parts = both (eqb d.place (object_of call)) (has_call d.kind call) h in
+          let at = found_at 0 name os d is in
+          let place : d.place - 0 ≡ object_of call = omega (arith, eqb-true d.place (object_of call) parts.0) in
+          let there : slice_get os (object_of call) ≡ Some at.0 = ap (slice_get os) (sym place) ∙ at.2 in
+          rw there (rw at.3 parts.1)
+    ] refl e
+
+get_more : (os : List ObjectLine) (o : ObjectLine) (k : ℕ) (call : Call) → is_on (slice_get os k) call ≡ true → is_on (slice_get (os ++ o ∷ []) k) call ≡ true
+get_more [] o k call e = absurd cc
+get_more (p ∷ os) o zero call e = e
+get_more (p ∷ os) o (suc k) call e = get_more os o k call e
+
+-- the parts of a plan that is valid
+pub record IsValid (plan : Plan) : Type 0 where
+  pub scripts : length plan.scripts ≡ plan.workers
+  pub calls : list_all (list_all (λ call. is_on (slice_get plan.objects (object_of call)) call)) plan.scripts ≡ true
+  pub turns : list_all (is_turn plan.workers) plan.schedule ≡ true
+
+pub valid_parts : (plan : Plan) → is_valid plan ≡ true → IsValid plan
+valid_parts plan e =
+    let calls = list_all (list_all (λ call. is_on (slice_get plan.objects (object_of call)) call)) plan.scripts in
+    let turns = list_all (is_turn plan.workers) plan.schedule in
+    let first = both (eqb (length plan.scripts) plan.workers) (calls && turns) e in
+    let second = both calls turns first.1 in
+    record { scripts = eqb-true (length plan.scripts) plan.workers first.0; calls = second.0; turns = second.1 }
+
+pub valid_from : (plan : Plan) → IsValid plan → is_valid plan ≡ true
+valid_from plan v =
+    pair (eqb (length plan.scripts) plan.workers) _ (eq-eqb (length plan.scripts) plan.workers v.scripts)
+    (pair (list_all (list_all (λ call. is_on (slice_get plan.objects (object_of call)) call)) plan.scripts) (list_all (is_turn plan.workers) plan.schedule) v.calls v.turns)
+
+no_name : (q name : List ℕ) (os : List ObjectLine) → is_some (declared_from 0 name os) ≡ false → bytes_eq q name ≡ true → declared_from 0 q os ≡ None
+no_name q name os new same =
+    rw ((bytes_eq-Decides q name).0 same)
+    (elim (declared_from 0 name os) as (λ o. is_some o ≡ false → o ≡ None) [ None ↦ λ e. refl | Some d ↦ λ e. absurd cc ] new)
+
+-- the table with one more name
+pub names_more : (table : FinMap (slice_cmp nat_cmp) Declared) (os : List ObjectLine) (o : ObjectLine) → is_some (declared_from 0 o.name os) ≡ false
+    → ((q : List ℕ) → get table q ≡ declared_from 0 q os)
+    → (q : List ℕ) → get (insert table o.name (record { place = length os; kind = o.kind })) q ≡ declared_from 0 q (os ++ o ∷ [])
+names_more table os o new table-is q =
+    get-insert nat_list_cmp_total table o.name (record { place = length os; kind = o.kind }) q
+    ∙ ap (λ (b : Bool). cond b (Some (record { place = length os; kind = o.kind })) (get table q)) (is_eq-slice_cmp q o.name)
+    ∙ (elim (bytes_eq q o.name) as (λ b. bytes_eq q o.name ≡ b → cond b (Some (record { place = length os; kind = o.kind })) (get table q) ≡ option_or (declared_from 0 q os) (cond b (Some (record { place = 0 + length os; kind = o.kind })) None)) [
+      | true ↦ λ same. rw (no_name q o.name os new same) (ap (λ (n : ℕ). Some (record { place = n; kind = o.kind })) (omega arith))
+      | false ↦ λ other. table-is q ∙ sym (or_none (declared_from 0 q os))
+    ] refl)
+    ∙ sym (declared_more 0 q os o)
+
+-- one more object keeps the tables
+pub indexed_object : (plan : Plan) (worker : Option ℕ) (table : FinMap (slice_cmp nat_cmp) Declared) (seen : FinMap (slice_cmp nat_cmp) (Unit {0})) (number : ℕ) (o : ObjectLine)
+    → IsIndexed plan worker table seen number → may_follow (record { plan = plan; current = worker }) (lines.Object o) ≡ true
+    → IsIndexed (record plan { objects = plan.objects ++ o ∷ [] }) worker (insert table o.name (record { place = length plan.objects; kind = o.kind })) seen number
+indexed_object plan worker table seen number o h follows =
+    let v = valid_parts plan h.valid in
+    let new = (object_follows (record { plan = plan; current = worker }) o follows).new in
+    record {
+      valid = valid_from (record plan { objects = plan.objects ++ o ∷ [] }) (record {
+        scripts = v.scripts;
+        calls = all_mono (list_all (λ call. is_on (slice_get plan.objects (object_of call)) call)) (list_all (λ call. is_on (slice_get (plan.objects ++ o ∷ []) (object_of call)) call))
+            (λ script. all_mono _ _ (λ call. get_more plan.objects o (object_of call) call) script) plan.scripts v.calls;
+        turns = v.turns;
+      });
+      current = h.current;
+      names = names_more table plan.objects o new h.names;
+      keys = h.keys;
+      calls = h.calls;
+    }
+
+item_is_turn : (workers : ℕ) (turn : Turn) → is_item workers turn ≡ true → is_turn workers turn ≡ true
+item_is_turn workers (turns.Worker worker) e = e
+item_is_turn workers (turns.Moment moment) e = refl
+
+-- more turns keep the tables
+pub indexed_turns : (plan : Plan) (worker : Option ℕ) (table : FinMap (slice_cmp nat_cmp) Declared) (seen : FinMap (slice_cmp nat_cmp) (Unit {0})) (number : ℕ) (more : List Turn)
+    → IsIndexed plan worker table seen number → may_follow (record { plan = plan; current = worker }) (lines.Schedule more) ≡ true
+    → IsIndexed (record plan { schedule = plan.schedule ++ more }) worker table seen number
+indexed_turns plan worker table seen number more h follows =
+    let v = valid_parts plan h.valid in
+    let items = (schedule_follows (record { plan = plan; current = worker }) more follows).items in
+    record {
+      valid = valid_from (record plan { schedule = plan.schedule ++ more }) (record {
+        scripts = v.scripts;
+        calls = v.calls;
+        turns = all_append (is_turn plan.workers) plan.schedule more v.turns (all_mono (is_item plan.workers) (is_turn plan.workers) (item_is_turn plan.workers) more items);
+      });
+      current = h.current;
+      names = h.names;
+      keys = h.keys;
+      calls = h.calls;
+    }
+
+-- one more call keeps the tables
+pub indexed_call : (plan : Plan) (worker : ℕ) (table : FinMap (slice_cmp nat_cmp) Declared) (seen : FinMap (slice_cmp nat_cmp) (Unit {0})) (number : ℕ) (name : List ℕ) (call : Call)
+    → IsIndexed plan (Some worker) table seen number → may_follow (record { plan = plan; current = Some worker }) (lines.Call name call) ≡ true
+    → IsIndexed (record plan { scripts = set plan.scripts worker (get_or plan.scripts worker [] ++ call ∷ []) }) (Some worker) table (with_keys seen (keys_of call)) (number + 1)
+indexed_call plan worker table seen number name call h follows =
+    let v = valid_parts plan h.valid in
+    let on : is_on (slice_get plan.objects (object_of call)) call ≡ true = names_is_on name plan.objects call (call_follows (record { plan = plan; current = Some worker }) name call follows).on in
+    let here : worker < length plan.scripts = omega (arith, ltb-true worker plan.workers h.current, v.scripts) in
+    let script = get_or plan.scripts worker [] in
+    let test : Call → Bool = λ c. is_on (slice_get plan.objects (object_of c)) c in
+    record {
+      valid = valid_from (record plan { scripts = set plan.scripts worker (script ++ call ∷ []) }) (record {
+        scripts = length-set plan.scripts worker (script ++ call ∷ []) ∙ v.scripts;
+        calls = all_set (list_all test) plan.scripts worker (script ++ call ∷ []) (all_append test script (call ∷ []) (all_at test plan.scripts worker v.calls) (pair (test call) true on refl)) v.calls;
+        turns = v.turns;
+      });
+      current = h.current;
+      names = h.names;
+      keys = keys_with_call seen plan.scripts worker call here h.keys;
+      calls = omega (arith, h.calls, sum_by-set length plan.scripts worker (script ++ call ∷ []) [] here, length-append script (call ∷ []));
+    }
+
+all_empty : {X : Type 0} (p : X → Bool) (n : ℕ) → list_all (list_all p) (replicate n []) ≡ true
+all_empty p zero = refl
+all_empty p (suc n) = all_empty p n
+
+no_keys : (n : ℕ) → all_keys (replicate n []) ≡ []
+no_keys zero = refl
+no_keys (suc n) = no_keys n
+
+no_calls : (n : ℕ) → call_count (replicate n []) ≡ 0
+no_calls zero = refl
+no_calls (suc n) = no_calls n
+
+-- the tables of a draft without lines
+pub indexed_start : (workers : ℕ) → IsIndexed (record { workers = workers; objects = []; scripts = replicate workers []; schedule = [] }) None empty empty 0
+indexed_start workers = record {
+  valid = valid_from (record { workers = workers; objects = []; scripts = replicate workers []; schedule = [] }) (record {
+    scripts = length-replicate workers [];
+    calls = all_empty (λ call. is_on (slice_get [] (object_of call)) call) workers;
+    turns = refl;
+  });
+  current = refl;
+  names = λ name. get-empty (slice_cmp nat_cmp) name;
+  keys = ap (λ (ks : List (List ℕ)). from_entries {R = slice_cmp nat_cmp} (marks ks)) (sym (no_keys workers));
+  calls = sym (no_calls workers);
+}

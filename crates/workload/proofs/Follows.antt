@@ -1,0 +1,58 @@
+-- What a line that may follow says, part by part.
+use Rattle.std.proofs.Common.{◌≡◌, ℕ, ◌+◌, Bool, true, false, ◌&&◌, not, List, length, Option}
+use Rattle.std.specs.Prelude.{is_some, nat_lt, nat_le}
+use Rattle.std.specs.List.{list_all}
+use Rattle.sync_model.specs.Name.{is_name}
+use Rattle.sync_model.specs.declared.call.Call.{Call}
+use Rattle.workload.specs.declared.limits.TheConstants.{MAX_CALLS, MAX_KEYS, MAX_TURNS}
+use Rattle.workload.specs.declared.object.ObjectLine.{ObjectLine}
+use Rattle.workload.specs.declared.line.Line.TheVariants as lines
+use Rattle.workload.specs.declared.turn.Turn.{Turn}
+use Rattle.workload.specs.Draft.{Draft, declared, count_of, limit_of, call_count, key_count, keys_of, names_object, is_call, is_item, may_follow}
+use Rattle.workload.proofs.Passing.{both, not_true}
+
+pub record ObjectFollows (d : Draft) (o : ObjectLine) : Type 0 where
+  pub name : is_name o.name ≡ true
+  pub new : is_some (declared d o.name) ≡ false
+  pub room : nat_lt (count_of o.kind d.plan.objects) (limit_of o.kind) ≡ true
+
+pub object_follows : (d : Draft) (o : ObjectLine) → may_follow d (lines.Object o) ≡ true → ObjectFollows d o
+object_follows d o e =
+    let room = nat_lt (count_of o.kind d.plan.objects) (limit_of o.kind) in
+    let new = not (is_some (declared d o.name)) in
+    let first = both (is_name o.name) (new && room) e in
+    let second = both new room first.1 in
+    record { name = first.0; new = not_true (is_some (declared d o.name)) second.0; room = second.1 }
+
+pub record ScheduleFollows (d : Draft) (turns : List Turn) : Type 0 where
+  pub some : nat_lt 0 (length turns) ≡ true
+  pub items : list_all (is_item d.plan.workers) turns ≡ true
+  pub room : nat_le (length d.plan.schedule + length turns) MAX_TURNS ≡ true
+
+pub schedule_follows : (d : Draft) (turns : List Turn) → may_follow d (lines.Schedule turns) ≡ true → ScheduleFollows d turns
+schedule_follows d turns e =
+    let items = list_all (is_item d.plan.workers) turns in
+    let room = nat_le (length d.plan.schedule + length turns) MAX_TURNS in
+    let first = both (nat_lt 0 (length turns)) (items && room) e in
+    let second = both items room first.1 in
+    record { some = first.0; items = second.0; room = second.1 }
+
+pub record CallFollows (d : Draft) (object : List ℕ) (made : Call) : Type 0 where
+  pub current : is_some d.current ≡ true
+  pub name : is_name object ≡ true
+  pub on : names_object (declared d object) made ≡ true
+  pub call : is_call made ≡ true
+  pub room : nat_lt (call_count d.plan.scripts) MAX_CALLS ≡ true
+  pub keys : nat_le (key_count d.plan.scripts (keys_of made)) MAX_KEYS ≡ true
+
+pub call_follows : (d : Draft) (name : List ℕ) (call : Call) → may_follow d (lines.Call name call) ≡ true → CallFollows d name call
+call_follows d name call e =
+    let on = names_object (declared d name) call in
+    let room = nat_lt (call_count d.plan.scripts) MAX_CALLS in
+    let keys = nat_le (key_count d.plan.scripts (keys_of call)) MAX_KEYS in
+    let p1 = both (is_some d.current) (is_name name && (on && (is_call call && (room && keys)))) e in
+    let p2 = both (is_name name) (on && (is_call call && (room && keys))) p1.1 in
+    let p3 = both on (is_call call && (room && keys)) p2.1 in
+    let p4 = both (is_call call) (room && keys) p3.1 in
+    let p5 = both room keys p4.1 in
+    record { current = p1.0; name = p2.0; on = p3.0; call = p4.0; room = p5.0; keys = p5.1 }

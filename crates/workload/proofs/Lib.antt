@@ -1,0 +1,12 @@
+pub mod DraftLemmas
+pub mod Follows
+pub mod KeyLemmas
+pub mod LineLemmas
+pub mod Numbers
+pub mod Passing
+pub mod CheckLemmas
+pub mod ReadLemmas
+pub mod OneReading
+pub mod SameLine
+pub mod NoReason
+pub mod PrintLemmas

@@ -1,0 +1,131 @@
+-- No two lines that may follow are spelled alike.
+use Rattle.std.proofs.Common.{◌≡◌, ℕ, zero, suc, ◌^◌, ◌<◌, ◌≤◌, Bool, true, false, cond, eqb, ◌&&◌, List, [], ◌∷◌, map, Option, Some, None, refl, sym, ap, subst, ◌∙◌, arith}
+use Rattle.std.specs.Prelude.{nat_lt, nat_le, is_some}
+use Rattle.std.specs.List.{list_all}
+use Rattle.std.specs.Fmt.{decimal}
+use Rattle.std.specs.Str.{all_ascii_digits}
+use Rattle.std.proofs.lemmas.Bool.{eqb-true, ltb-true, leb-true}
+use Rattle.std.proofs.lemmas.Fmt.{decimal_injective}
+use Rattle.sync_model.specs.Name.{is_name}
+use Rattle.sync_model.specs.declared.call.Call.{Call}
+use Rattle.sync_model.specs.declared.call.Call.TheVariants as calls
+use Rattle.sync_model.specs.declared.map_object.MapCall.{MapCall}
+use Rattle.sync_model.specs.declared.map_object.MapCall.TheVariants as map_calls
+use Rattle.workload.specs.declared.keyword.Keyword.{Keyword}
+use Rattle.workload.specs.declared.keyword.Keyword.TheVariants as keywords
+use Rattle.workload.specs.declared.keyword.Verb.{Verb}
+use Rattle.workload.specs.declared.keyword.Verb.TheVariants as verbs
+use Rattle.workload.specs.declared.limits.TheConstants.{MAX_VALUE, MAX_WORKERS}
+use Rattle.workload.specs.declared.object.Declared.{Declared}
+use Rattle.workload.specs.declared.object.ObjectKind.{ObjectKind}
+use Rattle.workload.specs.declared.object.ObjectKind.TheVariants as kinds
+use Rattle.workload.specs.declared.object.ObjectLine.{ObjectLine}
+use Rattle.workload.specs.declared.line.Line.{Line}
+use Rattle.workload.specs.declared.line.Line.TheVariants as lines
+use Rattle.workload.specs.declared.turn.Turn.{Turn}
+use Rattle.workload.specs.declared.turn.Turn.TheVariants as turns
+use Rattle.workload.specs.Plan.{object_of, has_call}
+use Rattle.workload.specs.Words.{keyword_word, keyword_of, keyword_at, arguments_of, spelled, verb_of, map_verb, operands_of, map_operands, turn_word, is_number}
+use Rattle.workload.specs.Draft.{Draft, declared, may_follow, names_object, is_call, is_map_call, is_item}
+use Rattle.workload.proofs.Passing.{both}
+use Rattle.workload.proofs.Follows.{object_follows, schedule_follows, call_follows}
+use Rattle.workload.proofs.Numbers.{is_number-decimal}
+
+-- each keyword is read back from its word
+pub keyword_at-keyword_word : (k : Keyword) → keyword_at (keyword_word k) ≡ Some k
+keyword_at-keyword_word keywords.Workers = refl
+keyword_at-keyword_word (keywords.Object kinds.Map) = refl
+keyword_at-keyword_word keywords.Worker = refl
+keyword_at-keyword_word keywords.Schedule = refl
+keyword_at-keyword_word (keywords.Call verbs.Load) = refl
+keyword_at-keyword_word (keywords.Call verbs.Store) = refl
+
+some_is : {X : Type 0} (x y : X) → Some x ≡ Some y → x ≡ y
+some_is x y e = cc
+
+same_keyword : (k l : Keyword) → keyword_word k ≡ keyword_word l → k ≡ l
+same_keyword k l e = some_is k l (sym (keyword_at-keyword_word k) ∙ ap keyword_at e ∙ keyword_at-keyword_word l)
+
+heads : {X : Type 0} (x y : X) (xs ys : List X) → x ∷ xs ≡ y ∷ ys → (x ≡ y) × (xs ≡ ys)
+heads x y xs ys e = (cc, cc)
+
+-- a word of digits doesn't begin with `@`
+no_moment : (n : ℕ) (rest : List ℕ) → n < 2 ^ 64 → decimal n ≡ 64 ∷ rest → ⊥
+no_moment n rest small e =
+    let number : is_number (64 ∷ rest) ≡ true = sym (ap is_number e) ∙ is_number-decimal n small in
+    absurd cc
+
+same_turn : (workers : ℕ) (t u : Turn) → workers ≤ MAX_WORKERS → is_item workers t ≡ true → is_item workers u ≡ true → turn_word t ≡ turn_word u → t ≡ u
+same_turn workers (turns.Worker i) (turns.Worker j) few p q e = ap (λ (n : ℕ). turns.Worker n) (decimal_injective i j (omega (arith, ltb-true i workers p)) (omega (arith, ltb-true j workers q)) e)
+same_turn workers (turns.Moment i) (turns.Moment j) few p q e = ap (λ (n : ℕ). turns.Moment n) (decimal_injective i j (omega (arith, leb-true i MAX_VALUE p)) (omega (arith, leb-true j MAX_VALUE q)) (heads 64 64 (decimal i) (decimal j) e).1)
+same_turn workers (turns.Worker i) (turns.Moment j) few p q e = absurd (no_moment i (decimal j) (omega (arith, ltb-true i workers p)) e)
+same_turn workers (turns.Moment i) (turns.Worker j) few p q e = absurd (no_moment j (decimal i) (omega (arith, ltb-true j workers q)) (sym e))
+
+same_turns : (workers : ℕ) (ts us : List Turn) → workers ≤ MAX_WORKERS → list_all (is_item workers) ts ≡ true → list_all (is_item workers) us ≡ true → map turn_word ts ≡ map turn_word us → ts ≡ us
+same_turns workers [] [] few p q e = refl
+same_turns workers [] (u ∷ us) few p q e = absurd cc
+same_turns workers (t ∷ ts) [] few p q e = absurd cc
+same_turns workers (t ∷ ts) (u ∷ us) few p q e =
+    let here = both (is_item workers t) (list_all (is_item workers) ts) p in
+    let there = both (is_item workers u) (list_all (is_item workers) us) q in
+    let words = heads (turn_word t) (turn_word u) (map turn_word ts) (map turn_word us) e in
+    let first = same_turn workers t u few here.0 there.0 words.0 in
+    let others = same_turns workers ts us few here.1 there.1 words.1 in
+    ap (λ (x : Turn). x ∷ ts) first ∙ ap (λ (xs : List Turn). u ∷ xs) others
+
+same_map_call : (c d : MapCall (List ℕ)) → is_map_call c ≡ true → is_map_call d ≡ true → map_verb c ≡ map_verb d → map_operands c ≡ map_operands d → c ≡ d
+same_map_call (map_calls.Load k) (map_calls.Load l) p q v e = ap (λ (x : List ℕ). map_calls.Load x) (heads k l [] [] e).0
+same_map_call (map_calls.Store k m) (map_calls.Store l n) p q v e =
+    let words = heads k l (decimal m ∷ []) (decimal n ∷ []) e in
+    let value = (heads (decimal m) (decimal n) [] [] words.1).0 in
+    let small_m = leb-true m MAX_VALUE (both (is_name k) (nat_le m MAX_VALUE) p).1 in
+    let small_n = leb-true n MAX_VALUE (both (is_name l) (nat_le n MAX_VALUE) q).1 in
+    ap (λ (x : List ℕ). map_calls.Store x m) words.0 ∙ ap (λ (x : ℕ). map_calls.Store l x) (decimal_injective m n (omega arith) (omega arith) value)
+same_map_call (map_calls.Load k) (map_calls.Store l n) p q v e = absurd cc
+same_map_call (map_calls.Store k m) (map_calls.Load l) p q v e = absurd cc
+
+-- a name gives the object of a call
+named : (o : Option Declared) (c d : Call) → names_object o c ≡ true → names_object o d ≡ true → object_of c ≡ object_of d
+named None c d p q = absurd cc
+named (Some found) c d p q =
+    sym (eqb-true found.place (object_of c) (both (eqb found.place (object_of c)) (has_call found.kind c) p).0)
+    ∙ eqb-true found.place (object_of d) (both (eqb found.place (object_of d)) (has_call found.kind d) q).0
+
+same_call : (o : Option Declared) (c d : Call) → names_object o c ≡ true → names_object o d ≡ true → is_call c ≡ true → is_call d ≡ true → verb_of c ≡ verb_of d → operands_of c ≡ operands_of d → c ≡ d
+same_call o (calls.Map i c) (calls.Map j d) on_c on_d p q v e =
+    ap (λ (n : ℕ). calls.Map n c) (named o (calls.Map i c) (calls.Map j d) on_c on_d) ∙ ap (λ (x : MapCall (List ℕ)). calls.Map j x) (same_map_call c d p q v e)
+
+same_arguments : (d : Draft) (l m : Line) → d.plan.workers ≤ MAX_WORKERS → may_follow d l ≡ true → may_follow d m ≡ true → keyword_of l ≡ keyword_of m → arguments_of l ≡ arguments_of m → l ≡ m
+same_arguments d (lines.Object o) (lines.Object p) few f g k e =
+    let name = (heads o.name p.name [] [] e).0 in
+    let kind : o.kind ≡ p.kind = cc in
+    ap (λ (n : List ℕ). lines.Object (record { name = n; kind = o.kind })) name ∙ ap (λ (x : ObjectKind). lines.Object (record { name = p.name; kind = x })) kind
+same_arguments d (lines.Worker i) (lines.Worker j) few f g k e =
+    ap (λ (n : ℕ). lines.Worker n) (decimal_injective i j (omega (arith, ltb-true i d.plan.workers f)) (omega (arith, ltb-true j d.plan.workers g)) (heads (decimal i) (decimal j) [] [] e).0)
+same_arguments d (lines.Schedule ts) (lines.Schedule us) few f g k e =
+    ap (λ (xs : List Turn). lines.Schedule xs) (same_turns d.plan.workers ts us few (schedule_follows d ts f).items (schedule_follows d us g).items e)
+same_arguments d (lines.Call n c) (lines.Call m b) few f g k e =
+    let words = heads n m (operands_of c) (operands_of b) e in
+    let first = call_follows d n c f in
+    let second = call_follows d m b g in
+    let on : names_object (declared d n) b ≡ true = subst (λ (x : List ℕ). names_object (declared d x) b ≡ true) (sym words.0) second.on in
+    let verb : verb_of c ≡ verb_of b = cc in
+    ap (λ (x : List ℕ). lines.Call x c) words.0 ∙ ap (λ (x : Call). lines.Call m x) (same_call (declared d n) c b first.on on first.call second.call verb words.1)
+same_arguments d (lines.Object o) (lines.Worker j) few f g k e = absurd cc
+same_arguments d (lines.Object o) (lines.Schedule us) few f g k e = absurd cc
+same_arguments d (lines.Object o) (lines.Call m b) few f g k e = absurd cc
+same_arguments d (lines.Worker i) (lines.Object p) few f g k e = absurd cc
+same_arguments d (lines.Worker i) (lines.Schedule us) few f g k e = absurd cc
+same_arguments d (lines.Worker i) (lines.Call m b) few f g k e = absurd cc
+same_arguments d (lines.Schedule ts) (lines.Object p) few f g k e = absurd cc
+same_arguments d (lines.Schedule ts) (lines.Worker j) few f g k e = absurd cc
+same_arguments d (lines.Schedule ts) (lines.Call m b) few f g k e = absurd cc
+same_arguments d (lines.Call n c) (lines.Object p) few f g k e = absurd cc
+same_arguments d (lines.Call n c) (lines.Worker j) few f g k e = absurd cc
+same_arguments d (lines.Call n c) (lines.Schedule us) few f g k e = absurd cc
+
+-- the words determine the line
+pub same_line : (d : Draft) (l m : Line) → d.plan.workers ≤ MAX_WORKERS → may_follow d l ≡ true → may_follow d m ≡ true → spelled l ≡ spelled m → l ≡ m
+same_line d l m few f g e =
+    let words = heads (keyword_word (keyword_of l)) (keyword_word (keyword_of m)) (arguments_of l) (arguments_of m) e in
+    same_arguments d l m few f g (same_keyword (keyword_of l) (keyword_of m) words.0) words.1

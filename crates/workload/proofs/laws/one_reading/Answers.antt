@@ -1,0 +1,5 @@
+use Rattle.workload.proofs.OneReading.{one_reading}
+use Rattle.workload.proofs.laws.one_reading.Goals as goal
+
+pub returns : goal.returns
+returns c = λ bytes p q first second. one_reading bytes p q first second

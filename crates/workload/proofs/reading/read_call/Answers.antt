@@ -1,0 +1,10 @@
+use Rattle.std.proofs.Common.{rules, ◌≡◌, true, sym, ap, ◌∙◌}
+use Rattle.std.specs.Prelude.{is_some}
+use Rattle.std.proofs.lemmas.Result.{err_from_is_err_and}
+use Rattle.workload.proofs.CheckLemmas.{call_fails}
+use Rattle.workload.proofs.reading.read_call.Goals as goal
+
+pub returns-in_err-call : goal.returns-in_err-call
+returns-in_err-call c =
+    let p = err_from_is_err_and c.from_residual-in_err-call.result c.from_residual-in_err-call.ensures.1 in
+    rw (p.1, p.2) (search (rules, call_fails))

@@ -1,0 +1,116 @@
+-- Why a line is refused: its checks in their order, each with the reason where it fails.
+use Rattle.std.specs.Prelude.{ℕ, Bool, true, false, ◌&&◌, ◌+◌, not, cond, nat_lt, nat_le, ◌==◌, List, [], ◌∷◌, ◌++◌, length, map, codes, Option, Some, None, is_some}
+use Rattle.std.specs.List.{flat_map}
+use Rattle.std.specs.Str.{bytes_eq}
+use Rattle.sync_model.specs.Name.{is_name}
+use Rattle.workload.specs.declared.limits.TheConstants.{MAX_CALLS, MAX_KEYS, MAX_TURNS, MAX_VALUE, MAX_WORKERS}
+use Rattle.workload.specs.declared.keyword.Keyword.{Keyword}
+use Rattle.workload.specs.declared.keyword.Keyword.TheVariants as keywords
+use Rattle.workload.specs.declared.keyword.Verb.{Verb}
+use Rattle.workload.specs.declared.keyword.Verb.TheVariants as verbs
+use Rattle.workload.specs.declared.keyword.Operand.{Operand}
+use Rattle.workload.specs.declared.keyword.Operand.TheVariants as operands
+use Rattle.workload.specs.declared.object.ObjectKind.{ObjectKind}
+use Rattle.workload.specs.declared.object.ObjectKind.TheVariants as kinds
+use Rattle.workload.specs.declared.object.Declared.{Declared}
+use Rattle.workload.specs.declared.reason.Reason.{Reason}
+use Rattle.workload.specs.declared.reason.Reason.TheVariants.{NoWorkersLine, LineTooLong, BadByte, UnknownWord, WrongNumberOfWords, BadName, NameTaken, UnknownName, WrongKind, BadNumber, NoSuchWorker, CallOutsideWorker, LimitReached}
+use Rattle.workload.specs.Lines.{is_short, is_clean, words_of, is_significant}
+use Rattle.workload.specs.Words.{keyword_at, is_number, is_number_to, number_of}
+use Rattle.workload.specs.Draft.{Draft, declared, limit_of, count_of, call_count, key_count}
+
+-- whether a check passes, and the reason that it fails for
+abbrev pub Check : Type 0
+Check = Bool × Reason
+
+-- the reason of the first check that fails
+abbrev pub first_failing : List Check → Option Reason
+first_failing [] = None
+first_failing (check ∷ checks) = cond check.0 (first_failing checks) (Some check.1)
+
+-- the operands of a call on an object of a kind, behind the object's name
+abbrev pub form_of : Verb → ObjectKind → Option (List Operand)
+form_of verbs.Load kinds.Map = Some (operands.Key ∷ [])
+form_of verbs.Store kinds.Map = Some (operands.Key ∷ operands.Value ∷ [])
+
+abbrev pub operand_check : Operand → List ℕ → Check
+operand_check operands.Key word = (is_name word, BadName)
+operand_check operands.Value word = (is_number_to MAX_VALUE word, BadNumber)
+
+-- the operands from left to right
+abbrev pub operand_checks : List Operand → List (List ℕ) → List Check
+operand_checks [] words = []
+operand_checks (form ∷ forms) [] = []
+operand_checks (form ∷ forms) (word ∷ words) = operand_check form word ∷ operand_checks forms words
+
+-- the keys among the operands
+abbrev pub key_operands : List Operand → List (List ℕ) → List (List ℕ)
+key_operands [] words = []
+key_operands (form ∷ forms) [] = []
+key_operands (operands.Key ∷ forms) (word ∷ words) = word ∷ key_operands forms words
+key_operands (operands.Value ∷ forms) (word ∷ words) = key_operands forms words
+
+-- the limits on calls, of one more call with these keys
+abbrev pub limit_checks : Draft → List (List ℕ) → List Check
+limit_checks d keys =
+    (nat_lt (call_count d.plan.scripts) MAX_CALLS, LimitReached) ∷ (nat_le (key_count d.plan.scripts keys) MAX_KEYS, LimitReached) ∷ []
+
+abbrev pub form_checks : Draft → Option (List Operand) → List (List ℕ) → List Check
+form_checks d None words = (false, WrongKind) ∷ []
+form_checks d (Some form) words =
+    (length words == length form, WrongNumberOfWords) ∷ operand_checks form words ++ limit_checks d (key_operands form words)
+
+abbrev pub object_checks : Draft → Option Declared → Verb → List (List ℕ) → List Check
+object_checks d None verb words = (false, UnknownName) ∷ []
+object_checks d (Some found) verb words = form_checks d (form_of verb found.kind) words
+
+abbrev pub call_checks : Draft → Verb → List (List ℕ) → List Check
+call_checks d verb [] = (is_some d.current, CallOutsideWorker) ∷ (false, WrongNumberOfWords) ∷ []
+call_checks d verb (name ∷ words) =
+    (is_some d.current, CallOutsideWorker) ∷ (is_name name, BadName) ∷ object_checks d (declared d name) verb words
+
+abbrev pub worker_checks : ℕ → List ℕ → List Check
+worker_checks workers word = (is_number word, BadNumber) ∷ (nat_lt (number_of word) workers, NoSuchWorker) ∷ []
+
+-- an item of a schedule is a moment behind an `@`, or a worker's number
+abbrev pub item_checks : ℕ → List ℕ → List Check
+item_checks workers [] = (false, BadNumber) ∷ []
+item_checks workers (byte ∷ bytes) = cond (byte == 64) ((is_number_to MAX_VALUE bytes, BadNumber) ∷ []) (worker_checks workers (byte ∷ bytes))
+
+abbrev pub one_word : List (List ℕ) → (List ℕ → List Check) → List Check
+one_word (word ∷ []) checks = checks word
+one_word [] checks = (false, WrongNumberOfWords) ∷ []
+one_word (word ∷ other ∷ words) checks = (false, WrongNumberOfWords) ∷ []
+
+-- the checks of a line behind the first significant one
+abbrev pub line_checks : Draft → Option Keyword → List (List ℕ) → List Check
+line_checks d None words = (false, UnknownWord) ∷ []
+line_checks d (Some keywords.Workers) words = (false, NameTaken) ∷ []
+line_checks d (Some (keywords.Object kind)) words = one_word words (λ name.
+    (is_name name, BadName) ∷ (not (is_some (declared d name)), NameTaken) ∷ (nat_lt (count_of kind d.plan.objects) (limit_of kind), LimitReached) ∷ [])
+line_checks d (Some keywords.Worker) words = one_word words (worker_checks d.plan.workers)
+line_checks d (Some keywords.Schedule) words =
+    (nat_lt 0 (length words), WrongNumberOfWords) ∷ flat_map (item_checks d.plan.workers) words ++ (nat_le (length d.plan.schedule + length words) MAX_TURNS, LimitReached) ∷ []
+line_checks d (Some (keywords.Call verb)) words = call_checks d verb words
+
+-- the checks of the first significant line
+abbrev pub first_checks : List ℕ → List (List ℕ) → List Check
+first_checks word words =
+    (bytes_eq word (codes "workers"), NoWorkersLine) ∷ one_word words (λ number.
+    (is_number_to MAX_WORKERS number && nat_lt 0 (number_of number), BadNumber) ∷ [])
+
+-- the checks of the words of a line, by the draft that it follows, if it isn't the first
+abbrev pub word_checks : Option Draft → List (List ℕ) → List Check
+word_checks d [] = []
+word_checks None (word ∷ words) = first_checks word words
+word_checks (Some d) (word ∷ words) = line_checks d (keyword_at word) words
+
+-- the checks of a line: its bytes, and then its words where it says something
+abbrev pub checks_of : Option Draft → List ℕ → List Check
+checks_of d line =
+    (is_short line, LineTooLong) ∷ (is_clean line, BadByte)
+    ∷ cond (is_significant (words_of line)) (word_checks d (words_of line)) []
+
+-- why the line is refused, if it is
+abbrev pub reason_of : Option Draft → List ℕ → Option Reason
+reason_of d line = first_failing (checks_of d line)

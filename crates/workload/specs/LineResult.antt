@@ -1,0 +1,77 @@
+-- What the reading of a line, or of a word of it, answers.
+use Rattle.std.specs.Prelude.{◌≡◌, codes, ◌<◌, ◌≤◌, map, ℕ, Bool, true, false, ◌==◌, List, [], ◌∷◌, length, Option, Some, None, Result, MatchResult}
+use Rattle.std.specs.List.{list_all, flat_map}
+use Rattle.std.specs.Fmt.{decimal}
+use Rattle.sync_model.specs.declared.call.Call.{Call}
+use Rattle.sync_model.specs.declared.map_object.MapCall.{MapCall}
+use Rattle.workload.specs.declared.fault.LineFault.{LineFault}
+use Rattle.workload.specs.declared.fault.LineFault.TheVariants as faults
+use Rattle.workload.specs.declared.keyword.Keyword.{Keyword}
+use Rattle.workload.specs.declared.keyword.Operand.{Operand}
+use Rattle.workload.specs.declared.keyword.Verb.{Verb}
+use Rattle.workload.specs.declared.object.ObjectKind.TheVariants as kinds
+use Rattle.workload.specs.declared.object.Declared.{Declared}
+use Rattle.workload.specs.declared.turn.Turn.{Turn}
+use Rattle.workload.specs.declared.limits.TheConstants.{MAX_WORKERS}
+use Rattle.workload.specs.declared.reason.Reason.TheVariants.{WrongKind, WrongNumberOfWords}
+use Rattle.workload.specs.declared.line.Line.{Line}
+use Rattle.workload.specs.Words.{spelled, keyword_of, arguments_of, keyword_at, map_verb, map_operands, verb_of, operands_of, turn_word}
+use Rattle.workload.specs.Draft.{Draft, may_follow, is_map_call, is_call, is_item, map_keys, keys_of, names_object}
+use Rattle.workload.specs.Checks.{Check, first_failing, line_checks, form_of, operand_checks, key_operands, item_checks, first_checks}
+
+-- the fault is the first check that fails, unless memory ran out
+abbrev pub IsFault : List Check → LineFault → Type 0
+IsFault checks faults.Memory = Unit {0}
+IsFault checks (faults.Refused reason) = first_failing checks ≡ Some reason
+
+-- a line of this keyword with these arguments that may follow, or the first check that fails
+abbrev pub IsLineOf : Draft → Keyword → List (List ℕ) → Result Line LineFault → Type 0
+IsLineOf draft keyword arguments result =
+    MatchResult result
+    (λ line. (may_follow draft line ≡ true) × (keyword_of line ≡ keyword) × (arguments_of line ≡ arguments))
+    (IsFault (line_checks draft (Some keyword) arguments))
+
+-- the line that the words spell and that may follow, or the first check that fails
+abbrev pub IsLine : Draft → List ℕ → List (List ℕ) → Result Line LineFault → Type 0
+IsLine draft word arguments result =
+    MatchResult result
+    (λ line. (may_follow draft line ≡ true) × (word ∷ arguments ≡ spelled line))
+    (IsFault (line_checks draft (keyword_at word) arguments))
+
+-- the count of the operands, and each of them from left to right
+abbrev pub form_words : Option (List Operand) → List (List ℕ) → List Check
+form_words None words = (false, WrongKind) ∷ []
+form_words (Some form) words = (length words == length form, WrongNumberOfWords) ∷ operand_checks form words
+
+-- the form has these keys among the words, and all checks of them pass
+abbrev pub PassesWith : Option (List Operand) → List (List ℕ) → List (List ℕ) → Type 0
+PassesWith None words keys = ⊥
+PassesWith (Some form) words keys = (key_operands form words ≡ keys) × (first_failing (form_words (Some form) words) ≡ None)
+
+-- a call of a map with these operands, or the first check of them that fails
+abbrev pub IsMapCall : Verb → List (List ℕ) → Result (MapCall (List ℕ)) LineFault → Type 0
+IsMapCall verb words result =
+    MatchResult result
+    (λ call. (map_verb call ≡ verb) × (map_operands call ≡ words) × (is_map_call call ≡ true) × PassesWith (form_of verb kinds.Map) words (map_keys call))
+    (IsFault (form_words (form_of verb kinds.Map) words))
+
+-- a call on the object that was found, or the first check that fails
+abbrev pub IsCallOn : Declared → Verb → List (List ℕ) → Result Call LineFault → Type 0
+IsCallOn found verb words result =
+    MatchResult result
+    (λ call. (verb_of call ≡ verb) × (operands_of call ≡ words) × (is_call call ≡ true) × (names_object (Some found) call ≡ true) × PassesWith (form_of verb found.kind) words (keys_of call))
+    (IsFault (form_words (form_of verb found.kind) words))
+
+-- the items of a schedule, or the first check that fails
+abbrev pub IsTurns : ℕ → List (List ℕ) → Result (List Turn) LineFault → Type 0
+IsTurns workers words result =
+    MatchResult result
+    (λ turns. (map turn_word turns ≡ words) × (list_all (is_item workers) turns ≡ true) × (first_failing (flat_map (item_checks workers) words) ≡ None))
+    (IsFault (flat_map (item_checks workers) words))
+
+-- the number of workers, or the first check that fails
+abbrev pub IsWorkers : List ℕ → List (List ℕ) → Result ℕ LineFault → Type 0
+IsWorkers word arguments result =
+    MatchResult result
+    (λ workers. (0 < workers) × (workers ≤ MAX_WORKERS) × (word ≡ codes "workers") × (arguments ≡ decimal workers ∷ []))
+    (IsFault (first_checks word arguments))

@@ -1,0 +1,300 @@
+//! What the lines of a text say so far.
+ghost use Rattle.std.specs.Prelude.{◌≡◌, ◌≤◌, ◌<◌, ◌+◌, ◌∷◌, [], true, length, nat_lt, is_some, replicate, IfOk, OnOk};
+ghost use Rattle.workload.specs.Index.{with_keys};
+ghost use Rattle.workload.specs.Draft.{started, with_line, may_follow, declared, count_of, count_together, limit_of, call_count, key_count, keys_of};
+
+use crate::limits::MAX_MAPS;
+use crate::line::Line;
+use crate::object::{Declared, ObjectKind, ObjectLine};
+use crate::turn::Turn;
+use crate::workload::Workload;
+use std::alloc::{AllocError, Global};
+use std::marker::Model;
+use sync_model::{ByName, Call, MapCall, Name, Seq};
+
+/// The workload that the lines so far say, the worker whose calls follow, and tables of the names
+/// and keys, so that no look-up scans a list.
+#[derive(Debug, Drop)]
+pub struct Draft {
+    workers: u32,
+    objects: Seq<ObjectLine>,
+    scripts: Seq<Seq<Call>>,
+    schedule: Seq<Turn>,
+    current: Option<u32>,
+    names: ByName<Declared>,
+    keys: ByName<()>,
+    calls: usize,
+}
+
+impl Model for Draft {
+    ghost use Rattle.workload.specs.Draft.{Draft};
+    ghost use Rattle.workload.specs.Index.{IsIndexed};
+
+    ghost Value = { Draft };
+
+    ghost view = { λ d. record { plan = record { workers = d.workers; objects = d.objects; scripts = d.scripts; schedule = d.schedule }; current = d.current } };
+
+    ghost invariant = { λ d. IsIndexed (record { workers = d.workers; objects = d.objects; scripts = d.scripts; schedule = d.schedule }) d.current d.names d.keys d.calls };
+}
+
+/// As many empty scripts as there are workers.
+fn empty_scripts(alloc: Global, workers: u32) -> Result<Seq<Seq<Call>>, AllocError>
+    ensures { IfOk result (λ scripts. scripts ≡ replicate workers []) }
+{
+    let mut scripts = Seq::new(alloc);
+    for _ in 0..workers {
+        scripts.push(Seq::new(alloc))?;
+    }
+    Ok(scripts)
+}
+
+fn counts_together(kind: ObjectKind, other: ObjectKind) -> bool
+    ensures { result ≡ count_together kind other }
+{
+    match (kind, other) {
+        (ObjectKind::Map, ObjectKind::Map) => true,
+    }
+}
+
+fn count(kind: ObjectKind, objects: &[ObjectLine]) -> usize
+    ensures { result ≡ count_of kind objects.now }
+{
+    objects
+        .iter()
+        .filter(|object| counts_together(kind, object.kind))
+        .count()
+}
+
+fn limit(kind: ObjectKind) -> usize
+    ensures { result ≡ limit_of kind }
+{
+    match kind {
+        ObjectKind::Map => MAX_MAPS,
+    }
+}
+
+/// Adds the keys of a call.
+fn insert_keys(alloc: Global, keys: &mut ByName<()>, call: &Call) -> Result<(), AllocError>
+    ensures { OnOk result (keys.new ≡ with_keys keys.old (keys_of call.now)) }
+{
+    match call {
+        Call::Map { call, .. } => match call {
+            MapCall::Load { key } => keys.insert(alloc, key.as_bytes(), ()),
+            MapCall::Store { key, .. } => keys.insert(alloc, key.as_bytes(), ()),
+        },
+    }
+}
+
+impl Draft {
+    /// The draft behind the first line.
+    pub fn start(alloc: Global, workers: u32) -> Result<Self, AllocError>
+        ensures { IfOk result (λ draft. draft ≡ started workers) }
+    {
+        Ok(Draft {
+            workers,
+            objects: Seq::new(alloc),
+            scripts: empty_scripts(alloc, workers)?,
+            schedule: Seq::new(alloc),
+            current: None,
+            names: ByName::new(alloc),
+            keys: ByName::new(alloc),
+            calls: 0,
+        })
+    }
+
+    /// How many workers there are.
+    pub fn workers(&self) -> u32
+        ensures { result ≡ self.now.plan.workers }
+    {
+        self.workers
+    }
+
+    /// Whether a `worker` line came.
+    pub fn is_in_worker(&self) -> bool
+        ensures { result ≡ is_some self.now.current }
+    {
+        self.current.is_some()
+    }
+
+    /// The object that has a name.
+    pub fn declared(&self, name: &[u8]) -> Option<Declared>
+        ensures { result ≡ declared self.now name.now }
+    {
+        self.names.get(name)
+    }
+
+    /// Whether one more object of a kind is within its limit.
+    pub fn has_room_for(&self, kind: ObjectKind) -> bool
+        ensures { result ≡ nat_lt (count_of kind self.now.plan.objects) (limit_of kind) }
+    {
+        count(kind, self.objects.as_slice()) < limit(kind)
+    }
+
+    /// How many calls there are, all workers together.
+    pub fn calls(&self) -> usize
+        ensures { result ≡ call_count self.now.plan.scripts }
+    {
+        self.calls
+    }
+
+    /// How many items the schedule has.
+    pub fn turns(&self) -> usize
+        ensures { result ≡ length self.now.plan.schedule }
+    {
+        self.schedule.len()
+    }
+
+    /// How many different keys there are with one that a call brings.
+    pub fn keys_with(&self, key: &[u8]) -> usize
+        ensures { result ≡ key_count self.now.plan.scripts (key.now ∷ []) }
+    {
+        if self.keys.get(key).is_some() {
+            self.keys.len()
+        } else {
+            self.keys.len() + 1
+        }
+    }
+
+    fn with_object(self, alloc: Global, object: ObjectLine) -> Result<Self, AllocError>
+        requires { may_follow self (Line.Object object) ≡ true }
+        ensures { IfOk result (λ draft. draft ≡ with_line self (Line.Object object)) }
+    {
+        let Draft {
+            workers,
+            mut objects,
+            scripts,
+            schedule,
+            current,
+            mut names,
+            keys,
+            calls,
+        } = self;
+        let declared = Declared {
+            place: objects.len(),
+            kind: object.kind,
+        };
+        names.insert(alloc, object.name.as_bytes(), declared)?;
+        objects.push(object)?;
+        Ok(Draft {
+            workers,
+            objects,
+            scripts,
+            schedule,
+            current,
+            names,
+            keys,
+            calls,
+        })
+    }
+
+    fn with_worker(self, worker: u32) -> Self
+        requires { may_follow self (Line.Worker worker) ≡ true }
+        ensures { result ≡ with_line self (Line.Worker worker) }
+    {
+        let Draft {
+            workers,
+            objects,
+            scripts,
+            schedule,
+            current: _,
+            names,
+            keys,
+            calls,
+        } = self;
+        Draft {
+            workers,
+            objects,
+            scripts,
+            schedule,
+            current: Some(worker),
+            names,
+            keys,
+            calls,
+        }
+    }
+
+    fn with_turns(self, turns: &[Turn]) -> Result<Self, AllocError>
+        requires { may_follow self (Line.Schedule turns.now) ≡ true }
+        ensures { IfOk result (λ draft. draft ≡ with_line self (Line.Schedule turns.now)) }
+    {
+        let Draft {
+            workers,
+            objects,
+            scripts,
+            mut schedule,
+            current,
+            names,
+            keys,
+            calls,
+        } = self;
+        schedule.extend_from_slice(turns)?;
+        Ok(Draft {
+            workers,
+            objects,
+            scripts,
+            schedule,
+            current,
+            names,
+            keys,
+            calls,
+        })
+    }
+
+    fn with_call(self, alloc: Global, name: Name, call: Call) -> Result<Self, AllocError>
+        requires { may_follow self (Line.Call name call) ≡ true }
+        ensures { IfOk result (λ draft. draft ≡ with_line self (Line.Call name call)) }
+    {
+        let Draft {
+            workers,
+            objects,
+            mut scripts,
+            schedule,
+            current,
+            names,
+            mut keys,
+            calls,
+        } = self;
+        let Some(worker) = current else {
+            unreachable!()
+        };
+        insert_keys(alloc, &mut keys, &call)?;
+        scripts.push_at(worker as usize, call)?;
+        Ok(Draft {
+            workers,
+            objects,
+            scripts,
+            schedule,
+            current,
+            names,
+            keys,
+            calls: calls + 1,
+        })
+    }
+
+    /// The draft with one more line.
+    pub fn with_line(self, alloc: Global, line: Line) -> Result<Self, AllocError>
+        requires { may_follow self line ≡ true }
+        ensures { IfOk result (λ draft. draft ≡ with_line self line) }
+    {
+        match line {
+            Line::Object(object) => self.with_object(alloc, object),
+            Line::Worker(worker) => Ok(self.with_worker(worker)),
+            Line::Schedule(turns) => self.with_turns(turns.as_slice()),
+            Line::Call(name, call) => self.with_call(alloc, name, call),
+        }
+    }
+
+    /// The workload that all lines say.
+    pub fn finish(self) -> Workload
+        ensures { result ≡ self.plan }
+    {
+        let Draft {
+            workers,
+            objects,
+            scripts,
+            schedule,
+            ..
+        } = self;
+        Workload::new(workers, objects, scripts, schedule)
+    }
+}

@@ -1,0 +1,25 @@
+//! How large a workload may be.
+
+/// The most bytes of a text.
+pub const MAX_INPUT: usize = 8_388_608;
+
+/// The most bytes of a line, without its line feed.
+pub const MAX_LINE: usize = 200;
+
+/// The most workers.
+pub const MAX_WORKERS: u64 = 32;
+
+/// The most calls, of all workers together.
+pub const MAX_CALLS: usize = 20_000;
+
+/// The most maps.
+pub const MAX_MAPS: usize = 16;
+
+/// The most different keys, over all maps.
+pub const MAX_KEYS: usize = 4_096;
+
+/// The most items of the schedule, workers' turns and moments together.
+pub const MAX_TURNS: usize = 100_000;
+
+/// The greatest value of a map, and the latest moment in nanoseconds: 2^63 - 1.
+pub const MAX_VALUE: u64 = 9_223_372_036_854_775_807;

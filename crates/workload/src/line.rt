@@ -1,0 +1,17 @@
+//! What one line of a text says.
+use crate::object::ObjectLine;
+use crate::turn::Turn;
+use sync_model::{Call, Name, Seq};
+
+/// What a line behind the `workers` line says.
+#[derive(Debug, Drop)]
+pub enum Line {
+    /// Declares an object.
+    Object(ObjectLine),
+    /// The calls that follow are this worker's.
+    Worker(u32),
+    /// More items of the schedule.
+    Schedule(Seq<Turn>),
+    /// The next call of the worker named last, with the name of its object.
+    Call(Name, Call),
+}
