@@ -1,7 +1,7 @@
 //! The mutex machine, in memory that is taken once.
 ghost use Rattle.std.specs.Prelude.{◌≡◌, ◌⊎◌, ◌<◌, ◌≤◌, IfOk, IsFalse};
-ghost use Rattle.mutex_core.specs.MutexMachine.{is_of, next, place_of, start, IsValid};
 ghost use Rattle.std.specs.List.{list_any};
+ghost use Rattle.mutex_core.specs.MutexMachine.{is_of, next, place_of, start, IsValid};
 ghost use Rattle.mutex_core.specs.declared.event.MutexEvent.{MutexEvent};
 ghost use Rattle.mutex_core.specs.declared.reply.MutexReply.{MutexReply};
 
