@@ -1,2 +1,3 @@
 mod Left
+mod MadeLemmas
 mod TurnLemmas

@@ -1,5 +1,5 @@
 -- What turns do to a state, whatever the workload.
-use Rattle.std.proofs.Common.{◌≡◌, ◌≢◌, ℕ, zero, suc, ◌+◌, ◌-◌, ◌<◌, ◌≤◌, Bool, true, false, eqb, ◌&&◌, not, List, [], ◌∷◌, ◌++◌, map, length, get_or, set, replicate, Option, Some, None, refl, sym, ap, ◌∙◌, subst, inl, inr, arith}
+use Rattle.std.proofs.Common.{◌≡◌, ◌≢◌, ℕ, zero, suc, ◌+◌, ◌-◌, ◌<◌, ◌≤◌, Bool, true, false, cond, eqb, ◌&&◌, not, List, [], ◌∷◌, ◌++◌, map, length, get_or, set, replicate, Option, Some, None, refl, sym, ap, ◌∙◌, subst, inl, inr, arith}
 use Rattle.std.specs.Prelude.{is_some, slice_get, nat_lt}
 use Rattle.std.specs.List.{list_all, range_with_len}
 use Rattle.std.specs.Option.{option_map, option_map_or, unwrap_or}
@@ -23,9 +23,12 @@ use Rattle.workload.specs.Plan.{Plan, object_of, has_call, is_on, is_turn, is_va
 use Rattle.workload.specs.Draft.{call_count}
 use Rattle.step_runner.specs.declared.object_state.ObjectState.{ObjectState}
 use Rattle.step_runner.specs.declared.object_state.ObjectState.TheVariants as states
+use Rattle.step_runner.specs.declared.outcome.Report.{Report}
+use Rattle.step_runner.specs.declared.outcome.Outcome.TheVariants as outcomes
+use Rattle.step_runner.specs.Ends.{ends_of}
 use Rattle.step_runner.specs.State.{State, start, new_object, new_objects, kind_of, with_reply, IsStateOf, IsOn}
 use Rattle.step_runner.specs.MapTurn.{map_turn}
-use Rattle.step_runner.specs.Turns.{next_call, after_turn, after_turn_at, after_item, after_items, round, has_ended}
+use Rattle.step_runner.specs.Turns.{next_call, after_turn, after_turn_at, after_item, after_items, round, order, has_ended, outcome_of}
 use Rattle.step_runner.specs.Turns as turning
 use Rattle.step_runner.proofs.Left.{left, left_at, left_falls, left_none, left_bound}
 
@@ -91,7 +94,7 @@ next_is_on plan worker s (calls.Map object call) of is = map_is_there plan s wor
 -- a turn keeps what states keep, and takes a call from what its worker has left
 pub record IsTurn (plan : Plan) (worker : ℕ) (old new : State) : Type 0 where
   pub of : IsStateOf plan new
-  pub own : left_at plan.scripts new.replies worker ≤ left_at plan.scripts old.replies worker - 1
+  pub own : left_at plan.scripts new.replies worker ≡ left_at plan.scripts old.replies worker - 1
   pub others : (k : ℕ) → k ≢ worker → left_at plan.scripts new.replies k ≡ left_at plan.scripts old.replies k
 
 alike : (o : Option ObjectState) (next : ObjectState) → option_map kind_of o ≡ Some (kind_of next) → kind_of next ≡ kind_of (unwrap_or o next)
@@ -175,10 +178,10 @@ turn_is plan worker s of (Some call) is = turn_at_is plan worker s call of (is_t
 pub after_turn_is : (plan : Plan) (worker : ℕ) (s : State) → IsStateOf plan s → IsTurn plan worker s (after_turn plan worker s)
 after_turn_is plan worker s of = turn_is plan worker s of (next_call plan worker s) refl
 
-turn_at_next : (plan : Plan) (worker : ℕ) (s : State) (call : Call) → next_call plan worker s ≡ Some call → after_turn plan worker s ≡ after_turn_at call worker s
+pub turn_at_next : (plan : Plan) (worker : ℕ) (s : State) (call : Call) → next_call plan worker s ≡ Some call → after_turn plan worker s ≡ after_turn_at call worker s
 turn_at_next plan worker s call is = ap (λ o. option_map_or (λ call. after_turn_at call worker s) o s) is
 
-no_turn : (plan : Plan) (worker : ℕ) (s : State) → left_at plan.scripts s.replies worker ≡ 0 → after_turn plan worker s ≡ s
+pub no_turn : (plan : Plan) (worker : ℕ) (s : State) → left_at plan.scripts s.replies worker ≡ 0 → after_turn plan worker s ≡ s
 no_turn plan worker s none = ap (λ o. option_map_or (λ call. after_turn_at call worker s) o s) (none_next plan worker s none)
 
 -- a worker stands before a call of its script
@@ -372,7 +375,7 @@ new_kinds : (lines : List ObjectLine) → map kind_of (new_objects lines) ≡ ma
 new_kinds [] = refl
 new_kinds (line ∷ lines) = λ i. new_kind line.kind i ∷ new_kinds lines i
 
-none_yet : (n k : ℕ) → length (get_or (replicate {A = List Reply} n []) k []) ≡ 0
+pub none_yet : (n k : ℕ) → length (get_or (replicate {A = List Reply} n []) k []) ≡ 0
 none_yet zero k = refl
 none_yet (suc n) zero = refl
 none_yet (suc n) (suc k) = none_yet n k
@@ -384,3 +387,53 @@ start_is plan valid = record {
   workers = length-replicate plan.workers [];
   within = λ k. omega (arith, none_yet plan.workers k);
 }
+
+-- ---- the end of a run
+
+pub ends_in : (plan : Plan) (n : ℕ) (s : State) → IsStateOf plan s → left plan.scripts s.replies ≤ n → has_ended plan (after_items plan (turning.rounds n plan.workers) s) ≡ true
+ends_in plan zero s of enough = ended_where plan s (λ k below. left_none plan.scripts s.replies (omega arith) k)
+ends_in plan (suc n) s of enough =
+    let next = after_items plan (round plan.workers) s in
+    let rest : has_ended plan (after_items plan (turning.rounds n plan.workers) next) ≡ true = ends_in plan n next (items_of plan (round plan.workers) s of) (omega (arith, round_falls plan s of)) in
+    subst (λ (t : State). has_ended plan t ≡ true) (sym (after_items-append plan (round plan.workers) (turning.rounds n plan.workers) s)) rest
+
+pub order_ends : (plan : Plan) → is_valid plan ≡ true → has_ended plan (after_items plan (order plan) (start plan)) ≡ true
+order_ends plan valid =
+    let scheduled = after_items plan plan.schedule (start plan) in
+    let of = items_of plan plan.schedule (start plan) (start_is plan valid) in
+    subst (λ (t : State). has_ended plan t ≡ true) (sym (after_items-append plan plan.schedule (turning.rounds (call_count plan.scripts) plan.workers) (start plan)))
+    (ends_in plan (call_count plan.scripts) scheduled of (left_bound plan.scripts scheduled.replies))
+
+same_lengths : (scripts : List (List Call)) (replies : List (List Reply)) → length replies ≡ length scripts → ((k : ℕ) → length (get_or replies k []) ≡ length (get_or scripts k [])) → map length replies ≡ map length scripts
+same_lengths [] [] e each = refl
+same_lengths [] (r ∷ rs) e each = absurd (omega arith)
+same_lengths (c ∷ cs) [] e each = absurd (omega arith)
+same_lengths (c ∷ cs) (r ∷ rs) e each =
+    let rest : map length rs ≡ map length cs = same_lengths cs rs (omega arith) (λ k. each (suc k)) in
+    let first : length r ≡ length c = each 0 in
+    λ i. first i ∷ rest i
+
+pub done_at_end : (plan : Plan) (s : State) → IsStateOf plan s → has_ended plan s ≡ true
+    → (report : Report) × (outcome_of plan s ≡ outcomes.Done report) × (map length report.replies ≡ map length plan.scripts)
+done_at_end plan s of ended =
+    let report : Report = record { replies = s.replies; ends = ends_of s.objects } in
+    let missing : Report = record { replies = s.replies; ends = [] } in (
+      report,
+      ap (λ (b : Bool). cond b (outcomes.Done report) (outcomes.Deadlocked missing)) ended,
+      same_lengths plan.scripts s.replies (of.workers ∙ sym (valid_scripts plan of.valid)) (λ k. omega (arith, none_where plan s of ended k, of.within k)),
+    )
+
+-- ---- the calls of one worker
+
+-- how many replies a turn adds
+pub count_own : (plan : Plan) (worker : ℕ) (s : State) (call : Call) → IsStateOf plan s → next_call plan worker s ≡ Some call
+    → length (get_or (after_turn plan worker s).replies worker []) ≡ length (get_or s.replies worker []) + 1
+count_own plan worker s call of is =
+    let room : length (get_or s.replies worker []) < length (get_or plan.scripts worker []) = slice_get_within _ _ call is in
+    let turn = after_turn_is plan worker s of in
+    omega (arith, turn.own, turn.of.within worker, room)
+
+pub count_other : (plan : Plan) (worker other : ℕ) (s : State) → IsStateOf plan s → other ≢ worker → length (get_or (after_turn plan worker s).replies other []) ≡ length (get_or s.replies other [])
+count_other plan worker other s of apart =
+    let turn = after_turn_is plan worker s of in
+    omega (arith, turn.others other apart, turn.of.within other, of.within other)
