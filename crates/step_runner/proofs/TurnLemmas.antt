@@ -5,7 +5,7 @@ use Rattle.std.specs.List.{list_all, range_with_len}
 use Rattle.std.specs.Option.{option_map, option_map_or, unwrap_or}
 use Rattle.std.proofs.lemmas.Bool.{eqb-true, eqb-false, ltb-true, ltb-false}
 use Rattle.std.proofs.lemmas.List.{length-set, length-append, length-replicate, get_or-set_same, get_or-set_other}
-use Rattle.std.proofs.lemmas.Option.{slice_get-map, slice_get_past, slice_get_read, slice_get_within, slice_get_cases, unwrap_or-slice_get}
+use Rattle.std.proofs.lemmas.Option.{slice_get-map, slice_get_past, slice_get_within, slice_get_cases, unwrap_or-slice_get}
 use Rattle.std.proofs.lemmas.List.FromFn.{map-range_with_len_more}
 use Rattle.std.proofs.Math.Seq.{map-set_same}
 use Rattle.sync_model.specs.declared.call.Call.{Call}
@@ -86,7 +86,7 @@ map_is_there plan s worker object call of is =
     ∙ map_kind (slice_get plan.objects object) object call (call_is_on plan worker s (calls.Map object call) of.valid is)
 
 -- the object of the call before which a worker stands is there
-next_is_on : (plan : Plan) (worker : ℕ) (s : State) (call : Call) → IsStateOf plan s → next_call plan worker s ≡ Some call → IsOn call s
+pub next_is_on : (plan : Plan) (worker : ℕ) (s : State) (call : Call) → IsStateOf plan s → next_call plan worker s ≡ Some call → IsOn call s
 next_is_on plan worker s (calls.Map object call) of is = map_is_there plan s worker object call of is
 
 -- ---- one turn
@@ -178,31 +178,14 @@ turn_is plan worker s of (Some call) is = turn_at_is plan worker s call of (is_t
 pub after_turn_is : (plan : Plan) (worker : ℕ) (s : State) → IsStateOf plan s → IsTurn plan worker s (after_turn plan worker s)
 after_turn_is plan worker s of = turn_is plan worker s of (next_call plan worker s) refl
 
-pub turn_at_next : (plan : Plan) (worker : ℕ) (s : State) (call : Call) → next_call plan worker s ≡ Some call → after_turn plan worker s ≡ after_turn_at call worker s
+turn_at_next : (plan : Plan) (worker : ℕ) (s : State) (call : Call) → next_call plan worker s ≡ Some call → after_turn plan worker s ≡ after_turn_at call worker s
 turn_at_next plan worker s call is = ap (λ o. option_map_or (λ call. after_turn_at call worker s) o s) is
 
 pub no_turn : (plan : Plan) (worker : ℕ) (s : State) → left_at plan.scripts s.replies worker ≡ 0 → after_turn plan worker s ≡ s
 no_turn plan worker s none = ap (λ o. option_map_or (λ call. after_turn_at call worker s) o s) (none_next plan worker s none)
 
--- a worker stands before a call of its script
-pub record StandsAt (plan : Plan) (worker : ℕ) (s : State) (call : Call) : Type 0 where
-  pub on : IsOn call s
-  pub turn : after_turn plan worker s ≡ after_turn_at call worker s
-  pub of : IsStateOf plan (after_turn_at call worker s)
-
-pub stands_at : (plan : Plan) (worker : ℕ) (s : State) (script : List Call) (done : ℕ) (call : Call) → IsStateOf plan s
-    → script ≡ get_or plan.scripts worker [] → done ≡ length (get_or s.replies worker []) → done < length script → call ≡ get_or script done call → StandsAt plan worker s call
-stands_at plan worker s script done call of script_is done_is room call_is =
-    let next : next_call plan worker s ≡ Some call =
-    ap (λ (cs : List Call). slice_get cs (length (get_or s.replies worker []))) (sym script_is)
-    ∙ ap (slice_get script) (sym done_is)
-    ∙ slice_get_read script (length script) done call refl room call_is in
-    let turn = turn_at_next plan worker s call next in
-    record { on = next_is_on plan worker s call of next; turn = turn; of = subst (IsStateOf plan) turn (after_turn_is plan worker s of).of }
-
--- a worker stands at the end of its script
-pub stands_at_end : (plan : Plan) (worker : ℕ) (s : State) (script : List Call) (done : ℕ) → script ≡ get_or plan.scripts worker [] → done ≡ length (get_or s.replies worker []) → length script ≤ done → after_turn plan worker s ≡ s
-stands_at_end plan worker s script done script_is done_is past = no_turn plan worker s (omega (arith, ap (length {A = Call}) script_is, done_is, past))
+pub turn_at_of : (plan : Plan) (worker : ℕ) (s : State) (call : Call) → IsStateOf plan s → next_call plan worker s ≡ Some call → IsStateOf plan (after_turn_at call worker s)
+turn_at_of plan worker s call of is = subst (IsStateOf plan) (turn_at_next plan worker s call is) (after_turn_is plan worker s of).of
 
 -- ---- many turns
 
@@ -289,9 +272,9 @@ each_from p a (suc n) all k from below =
       | false ↦ λ e. let apart : a ≢ k = eqb-false a k e in each_from p (a + 1) n parts.1 k (omega arith) (omega arith)
     ] refl
 
--- where no worker has a call left, every script has ended
-pub ended_where : (plan : Plan) (s : State) → ((k : ℕ) → k < plan.workers → left_at plan.scripts s.replies k ≡ 0) → has_ended plan s ≡ true
-ended_where plan s none = all_from (λ worker. not (is_some (next_call plan worker s))) 0 plan.workers (λ k from below. ap (λ (o : Option Call). not (is_some o)) (none_next plan k s (none k (omega arith))))
+-- where no worker stands before a call, every script has ended
+pub ended_where : (plan : Plan) (s : State) → ((k : ℕ) → k < plan.workers → next_call plan k s ≡ None) → has_ended plan s ≡ true
+ended_where plan s none = all_from (λ worker. not (is_some (next_call plan worker s))) 0 plan.workers (λ k from below. ap (λ (o : Option Call). not (is_some o)) (none k (omega arith)))
 
 not_some : {X : Type 0} (o : Option X) → not (is_some o) ≡ true → o ≡ None
 not_some None e = refl
@@ -307,10 +290,10 @@ none_where plan s of ended k = elim (nat_lt k plan.workers) as (λ b. nat_lt k p
       omega (arith, none)
 ] refl
 
--- a worker has a call left: not every script has ended
-pub not_ended : (plan : Plan) (s : State) (worker : ℕ) → IsStateOf plan s → 0 < left_at plan.scripts s.replies worker → has_ended plan s ≡ false
+-- where a worker stands before a call, not every script has ended
+pub not_ended : (plan : Plan) (s : State) (worker : ℕ) → IsStateOf plan s → is_some (next_call plan worker s) ≡ true → has_ended plan s ≡ false
 not_ended plan s worker of some = elim (has_ended plan s) as (λ b. has_ended plan s ≡ b → b ≡ false) [
-  | true ↦ λ e. let none : left_at plan.scripts s.replies worker ≡ 0 = none_where plan s of e worker in absurd (omega arith)
+  | true ↦ λ e. absurd (true_false (sym some ∙ ap is_some (none_next plan worker s (none_where plan s of e worker))))
   | false ↦ λ e. refl
 ] refl
 
@@ -344,7 +327,7 @@ arrives plan first s way ended = sym (stays_at_end plan s (turning.rounds way.ro
 -- a call is left where a script has not ended
 pub some_left : (plan : Plan) (s : State) → has_ended plan s ≡ false → 0 < left plan.scripts s.replies
 some_left plan s going = elim (left plan.scripts s.replies) as (λ n. left plan.scripts s.replies ≡ n → 0 < n) [
-  | zero ↦ λ e. absurd (true_false (sym (ended_where plan s (λ k below. left_none plan.scripts s.replies e k)) ∙ going))
+  | zero ↦ λ e. absurd (true_false (sym (ended_where plan s (λ k below. none_next plan k s (left_none plan.scripts s.replies e k))) ∙ going))
   | suc n ↦ λ e. omega arith
 ] refl
 
@@ -391,7 +374,7 @@ start_is plan valid = record {
 -- ---- the end of a run
 
 pub ends_in : (plan : Plan) (n : ℕ) (s : State) → IsStateOf plan s → left plan.scripts s.replies ≤ n → has_ended plan (after_items plan (turning.rounds n plan.workers) s) ≡ true
-ends_in plan zero s of enough = ended_where plan s (λ k below. left_none plan.scripts s.replies (omega arith) k)
+ends_in plan zero s of enough = ended_where plan s (λ k below. none_next plan k s (left_none plan.scripts s.replies (omega arith) k))
 ends_in plan (suc n) s of enough =
     let next = after_items plan (round plan.workers) s in
     let rest : has_ended plan (after_items plan (turning.rounds n plan.workers) next) ≡ true = ends_in plan n next (items_of plan (round plan.workers) s of) (omega (arith, round_falls plan s of)) in
