@@ -1,0 +1,10 @@
+use Rattle.std.proofs.Common.{◌≡◌, drop}
+use Rattle.step_runner.specs.State.{IsStateOf}
+use Rattle.step_runner.specs.Turns.{after_items}
+use Rattle.step_runner.proofs.run.take_schedule.Given as goal
+
+abbrev pub invariant-loop-item : goal.invariant-loop-item
+invariant-loop-item l = record {
+  of : IsStateOf l.workload l.state;
+  rest : after_items l.workload (drop l.item-index l.item-items) l.state ≡ after_items l.workload l.item-items l.initial.state;
+}

@@ -1,0 +1,25 @@
+-- What the objects hold when every script has ended, in the order of the report.
+use Rattle.std.specs.Prelude.{ℕ, ◌+◌, List, [], ◌∷◌, ◌++◌, map}
+use Rattle.std.specs.Ordering.{nat_cmp}
+use Rattle.std.specs.Cmp.Lexicographic.{slice_cmp}
+use Rattle.std.specs.FinMap.{FinMap, entries}
+use Rattle.step_runner.specs.declared.object_state.ObjectState.{ObjectState}
+use Rattle.step_runner.specs.declared.object_state.ObjectState.TheVariants as states
+use Rattle.step_runner.specs.declared.ends.End.{End}
+use Rattle.step_runner.specs.declared.ends.End.TheVariants.{Pair}
+
+-- each key of a map with its value, in byte order of the keys
+abbrev pub map_ends : ℕ → FinMap (slice_cmp nat_cmp) ℕ → List End
+map_ends object m = map (λ entry. Pair object entry.0 entry.1) (entries m)
+
+-- the pairs of an object at a place
+abbrev pub pairs_of : ℕ → ObjectState → List End
+pairs_of object (states.Map m) = map_ends object m
+
+-- the pairs of each map in order of declaration, from a place on
+abbrev pub pairs_from : ℕ → List ObjectState → List End
+pairs_from place [] = []
+pairs_from place (object ∷ objects) = pairs_of place object ++ pairs_from (place + 1) objects
+
+abbrev pub ends_of : List ObjectState → List End
+ends_of objects = pairs_from 0 objects

@@ -1,0 +1,20 @@
+//! The run of a workload by its schedule, on one thread: which worker takes a turn when, what a turn
+//! does, and what the run comes to.
+#![tactic(auto)]
+
+pub mod ends;
+pub mod laws;
+pub mod map_turn;
+pub mod object_state;
+pub mod outcome;
+pub mod run;
+pub mod state;
+pub mod turn;
+
+pub use ends::End;
+pub use object_state::ObjectState;
+pub use outcome::{Outcome, Report};
+pub use run::stepped;
+
+#[cfg(test)]
+mod tests;

@@ -1,0 +1,29 @@
+//! The turn of a worker that stands before a call of a map: the whole call.
+ghost use Rattle.std.specs.Prelude.{◌≡◌, ◌<◌, Some, length, slice_get, OnOk};
+ghost use Rattle.std.specs.Option.{option_map};
+ghost use Rattle.workload.specs.declared.object.ObjectKind.TheVariants as kinds;
+ghost use Rattle.step_runner.specs.State.{kind_of};
+ghost use Rattle.step_runner.specs.MapTurn.{map_turn};
+
+use crate::object_state::ObjectState;
+use crate::state::State;
+use std::alloc::{AllocError, Global};
+use sync_model::map_object::apply;
+use sync_model::{MapCall, Name, Reply};
+
+/// Makes a call on a map, which is completed in this turn.
+pub(crate) fn take_map_turn(
+    alloc: Global,
+    state: &mut State,
+    worker: u32,
+    object: usize,
+    call: &MapCall<Name>,
+) -> Result<(), AllocError>
+    requires worker { worker < length state.old.replies }
+    requires object { option_map kind_of (slice_get state.old.objects object) ≡ Some kinds.Map }
+    ensures { OnOk result (state.new ≡ map_turn (slice_get state.old.objects object) object call.now worker state.old) }
+{
+    let ObjectState::Map(map) = &mut state.objects[object];
+    let reply = apply(alloc, map, call)?;
+    state.complete(worker, Reply::Map(reply))
+}
