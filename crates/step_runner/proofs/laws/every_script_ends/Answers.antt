@@ -1,6 +1,7 @@
 use Rattle.step_runner.specs.Turns.{after_items, order}
 use Rattle.step_runner.specs.State.{start}
-use Rattle.step_runner.proofs.TurnLemmas.{order_ends, done_at_end, items_of, start_is}
+use Rattle.step_runner.proofs.RoundLemmas.{order_ends, done_at_end}
+use Rattle.step_runner.proofs.TurnLemmas.{items_of, start_is}
 use Rattle.step_runner.proofs.laws.every_script_ends.Goals as goal
 
 pub returns-clause-ended : goal.returns-clause-ended

@@ -1,4 +1,4 @@
-use Rattle.step_runner.proofs.TurnLemmas.{stays_at_end}
+use Rattle.step_runner.proofs.RoundLemmas.{stays_at_end}
 use Rattle.step_runner.proofs.laws.nothing_follows_the_end.Goals as goal
 
 pub returns : goal.returns

@@ -2,7 +2,7 @@ use Rattle.std.proofs.Common.{◌≡◌, true, Bor, Option, Some, None, refl, sy
 use Rattle.std.specs.Prelude.{is_some}
 use Rattle.std.specs.Option.{option_copied}
 use Rattle.step_runner.specs.Turns.{next_call}
-use Rattle.step_runner.proofs.TurnLemmas.{ended_where, not_ended}
+use Rattle.step_runner.proofs.RoundLemmas.{ended_where, not_ended}
 use Rattle.step_runner.proofs.run.has_ended.Goals as goal
 
 is_some-copied : {X : Type 0} (o : Option (Bor X)) → is_some (option_copied o) ≡ is_some o
