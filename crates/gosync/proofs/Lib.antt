@@ -1,0 +1,4 @@
+pub mod Lines
+pub mod MessageTexts
+pub mod Reading
+pub mod Writing

@@ -1,0 +1,60 @@
+-- The lines of a report, one after the other.
+use Rattle.std.proofs.Common.{◌≡◌, ℕ, suc, ◌+◌, List, [], ◌∷◌, ◌++◌, ◌<◌, ◌≤◌, Bool, false, ◌&&◌, true, length, get_or, drop, refl, sym, ap, ◌∙◌, add-one}
+use Rattle.std.proofs.Math.Seq.{drop-cons}
+use Rattle.sync_model.specs.declared.call.Call.{Call}
+use Rattle.sync_model.specs.declared.call.Reply.{Reply}
+use Rattle.workload.specs.declared.object.ObjectLine.{ObjectLine}
+use Rattle.std.proofs.Common.{inl, inr}
+use Rattle.std.proofs.Math.Dec.{ltb}
+use Rattle.std.proofs.lemmas.Bool.{eqb-true, lt-ltb, cases_lt}
+use Rattle.workload.specs.Plan.{Plan, is_valid}
+use Rattle.gosync.specs.ReportText.{call_line, calls_text, workers_text}
+
+-- one more call
+pub calls_step : (objects : List ObjectLine) (worker i : ℕ) (script calls : List Call) (replies rest : List Reply) (call : Call) (reply : Reply)
+    → script ≡ call ∷ calls → replies ≡ reply ∷ rest → calls_text objects worker i script replies ≡ call_line objects worker i call reply ++ calls_text objects worker (i + 1) calls rest
+calls_step objects worker i script calls replies rest call reply e f =
+    ap (λ (cs : List Call). calls_text objects worker i cs replies) e ∙ ap (λ (rs : List Reply). calls_text objects worker i (call ∷ calls) rs) f
+
+-- one more worker
+pub workers_step : (objects : List ObjectLine) (worker : ℕ) (scripts more : List (List Call)) (replies rest : List (List Reply)) (script : List Call) (completed : List Reply)
+    → scripts ≡ script ∷ more → replies ≡ completed ∷ rest → workers_text objects worker scripts replies ≡ calls_text objects worker 0 script completed ++ workers_text objects (worker + 1) more rest
+workers_step objects worker scripts more replies rest script completed e f =
+    ap (λ (ss : List (List Call)). workers_text objects worker ss replies) e ∙ ap (λ (rs : List (List Reply)). workers_text objects worker (script ∷ more) rs) f
+
+-- no replies are left
+pub workers_none : (objects : List ObjectLine) (worker : ℕ) (scripts : List (List Call)) (replies : List (List Reply)) → replies ≡ [] → workers_text objects worker scripts replies ≡ []
+workers_none objects worker scripts replies e = ap (workers_text objects worker scripts) e ∙ none scripts
+  where
+    none : (ss : List (List Call)) → workers_text objects worker ss [] ≡ []
+    none [] = refl
+    none (s ∷ ss) = refl
+
+-- an item and those behind it
+pub drop_at : {X : Type 0} (xs : List X) (i : ℕ) (x : X) → i < length xs → x ≡ get_or xs i x → drop i xs ≡ x ∷ drop (i + 1) xs
+drop_at xs i x lt e = drop-cons xs i x lt ∙ ap (λ y. y ∷ drop (suc i) xs) (sym e) ∙ ap (λ n. x ∷ drop n xs) (sym (add-one i))
+
+pub drop_item : {X : Type 0} (xs : List X) (i : ℕ) (d : X) → i < length xs → drop i xs ≡ get_or xs i d ∷ drop (i + 1) xs
+drop_item xs i d lt = drop-cons xs i d lt ∙ ap (λ n. get_or xs i d ∷ drop n xs) (sym (add-one i))
+
+pub drop_script : (scripts : List (List Call)) (i : ℕ) → i < length scripts → drop i scripts ≡ get_or scripts i [] ∷ drop (i + 1) scripts
+drop_script scripts i lt = drop-cons scripts i [] lt ∙ ap (λ n. get_or scripts i [] ∷ drop n scripts) (sym (add-one i))
+
+true_false : true ≡ false → ⊥
+true_false e = cc
+
+-- an index that isn't below
+pub not_below : (i n : ℕ) → ltb i n ≡ false → n ≤ i
+not_below i n e =
+    elim (cases_lt i n) [
+      | inl lt ↦ absurd (true_false (sym (lt-ltb i n lt) ∙ e))
+      | inr le ↦ le
+    ]
+
+and_left : (a b : Bool) → (a && b) ≡ true → a ≡ true
+and_left true b e = refl
+and_left false b e = e
+
+-- there is a script for each worker
+pub scripts_are : (plan : Plan) → is_valid plan ≡ true → length plan.scripts ≡ plan.workers
+scripts_are plan e = eqb-true (length plan.scripts) plan.workers (and_left _ _ e)

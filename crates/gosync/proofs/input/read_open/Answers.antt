@@ -1,0 +1,14 @@
+use Rattle.std.proofs.Common.{rules, ℕ, ◌<◌, length, take, ap, arith}
+use Rattle.std.proofs.lemmas.List.{length-take}
+use Rattle.gosync.proofs.Reading.{input_ended, input_full, ended_before}
+use Rattle.gosync.proofs.input.read_open.Goals as goal
+
+pub returns-then-count-eq0-clause-bytes : goal.returns-then-count-eq0-clause-bytes
+returns-then-count-eq0-clause-bytes g c =
+    let some : 0 < length (take c.min-room.result c.loop-chunk.chunk) = search (rules, length-take) in
+    let none = ap (λ (n : ℕ). take n c.read.new.buf) c.if-count-eq0.true in
+    input_ended _ _ _ c.loop-chunk.invariant.gives (ended_before _ _ _ c.in_ok-count.ensures.gives none (c.in_ok-count.ensures.ends c.if-count-eq0.true some)) (omega (arith, c.loop-chunk.invariant.within, c.loop-chunk.bytes.ok))
+
+pub returns-clause-bytes : goal.returns-clause-bytes
+returns-clause-bytes g c =
+    input_full _ _ _ c.loop-chunk.invariant.gives (omega (arith, c.loop-chunk.invariant.within, c.loop-chunk-test.false, c.len.ensures, c.loop-chunk.bytes.ok))

@@ -1,0 +1,5 @@
+pub mod ComesTo
+pub mod Command
+pub mod Input
+pub mod Messages
+pub mod ReportText

@@ -1,0 +1,80 @@
+-- The report: a line for each completed call, worker by worker, and then, where every script has ended, a line for each value that an object holds.
+use Rattle.std.specs.Prelude.{ℕ, ◌+◌, List, [], ◌∷◌, ◌++◌, codes, Some, None, slice_get}
+use Rattle.std.specs.List.{flat_map}
+use Rattle.std.specs.Option.{option_map_or}
+use Rattle.std.specs.Fmt.{decimal}
+use Rattle.sync_model.specs.declared.call.Call.{Call}
+use Rattle.sync_model.specs.declared.call.Reply.{Reply}
+use Rattle.sync_model.specs.declared.call.Reply.TheVariants as replies
+use Rattle.sync_model.specs.declared.map_object.MapReply.{MapReply}
+use Rattle.sync_model.specs.declared.map_object.MapReply.TheVariants.{Done, Found}
+use Rattle.workload.specs.declared.line.Line.TheVariants as lines
+use Rattle.workload.specs.declared.object.ObjectLine.{ObjectLine}
+use Rattle.workload.specs.Plan.{Plan, object_of}
+use Rattle.workload.specs.Words.{spelled}
+use Rattle.step_runner.specs.declared.ends.End.{End}
+use Rattle.step_runner.specs.declared.ends.End.TheVariants.{Pair}
+use Rattle.step_runner.specs.declared.outcome.Report.{Report}
+use Rattle.step_runner.specs.declared.outcome.Outcome.{Outcome}
+use Rattle.step_runner.specs.declared.outcome.Outcome.TheVariants as outcomes
+
+-- the words, each behind a space
+abbrev pub spaced : List (List ℕ) → List ℕ
+spaced words = flat_map (λ word. 32 ∷ word) words
+
+-- the name of the object at a place
+abbrev pub name_at : List ObjectLine → ℕ → List ℕ
+name_at objects place = option_map_or (λ object. object.name) (slice_get objects place) []
+
+-- the words of a call, as a workload's text spells them
+abbrev pub call_words : List ObjectLine → Call → List (List ℕ)
+call_words objects call = spelled (lines.Call (name_at objects (object_of call)) call)
+
+-- a reply of a map: nothing, or the value that was there and whether one was
+abbrev pub map_reply_text : MapReply → List ℕ
+map_reply_text Done = codes "ok"
+map_reply_text (Found None) = codes "- false"
+map_reply_text (Found (Some value)) = decimal value ++ codes " true"
+
+abbrev pub reply_text : Reply → List ℕ
+reply_text (replies.Map reply) = map_reply_text reply
+
+-- the line of a completed call: `WORKER.INDEX CALL -> REPLY`
+abbrev pub call_line : List ObjectLine → ℕ → ℕ → Call → Reply → List ℕ
+call_line objects worker index call reply =
+    decimal worker ++ codes "." ++ decimal index ++ spaced (call_words objects call) ++ codes " -> " ++ reply_text reply ++ codes "\n"
+
+-- a worker's completed calls, from an index on: as many of its script as there are replies
+abbrev pub calls_text : List ObjectLine → ℕ → ℕ → List Call → List Reply → List ℕ
+calls_text objects worker index (call ∷ calls) (reply ∷ replies) = call_line objects worker index call reply ++ calls_text objects worker (index + 1) calls replies
+calls_text objects worker index [] replies = []
+calls_text objects worker index (call ∷ calls) [] = []
+
+-- the completed calls of the workers, from a worker on
+abbrev pub workers_text : List ObjectLine → ℕ → List (List Call) → List (List Reply) → List ℕ
+workers_text objects worker (script ∷ scripts) (replies ∷ rest) = calls_text objects worker 0 script replies ++ workers_text objects (worker + 1) scripts rest
+workers_text objects worker [] replies = []
+workers_text objects worker (script ∷ scripts) [] = []
+
+-- the line of a key that is there in a map at the end: `end NAME KEY VALUE`
+abbrev pub end_line : List ObjectLine → End → List ℕ
+end_line objects (Pair object key value) = codes "end" ++ spaced (name_at objects object ∷ key ∷ decimal value ∷ []) ++ codes "\n"
+
+abbrev pub ends_text : List ObjectLine → List End → List ℕ
+ends_text objects ends = flat_map (end_line objects) ends
+
+-- what a run leaves behind
+abbrev pub left_by : Outcome → Report
+left_by (outcomes.Done left) = left
+left_by (outcomes.Misused left misuse) = left
+left_by (outcomes.Deadlocked left) = left
+
+-- the end lines come only where every script has ended
+abbrev pub ends_of : Outcome → List End
+ends_of (outcomes.Done left) = left.ends
+ends_of (outcomes.Misused left misuse) = []
+ends_of (outcomes.Deadlocked left) = []
+
+-- the report of what a run of a workload came to
+abbrev pub report_text : Plan → Outcome → List ℕ
+report_text plan outcome = workers_text plan.objects 0 plan.scripts (left_by outcome).replies ++ ends_text plan.objects (ends_of outcome)

@@ -1,0 +1,50 @@
+//! Runs written workloads over Go's `sync` and `sync/atomic`.
+#![tactic(auto)]
+
+mod call_line;
+mod end_line;
+mod input;
+mod line;
+mod message;
+mod program;
+mod report;
+mod status;
+mod step;
+mod words;
+
+use crate::message::say;
+use crate::program::gosync;
+use crate::status::Status;
+use std::env;
+use std::io::ErrorKind;
+use std::process::ExitCode;
+use sync_outside::{SystemSources, WriterSink};
+
+/// The words of the command line. Those that aren't UTF-8 aren't taken.
+fn words_of(rt: &HostRuntime) -> Result<Vec<String>, Status> {
+    match env::args(rt) {
+        Ok(words) => words.collect(rt.alloc()).map_err(|_| Status::Memory),
+        Err(fault) => {
+            if fault.kind() == ErrorKind::OutOfMemory {
+                Err(Status::Memory)
+            } else {
+                Err(Status::Usage)
+            }
+        }
+    }
+}
+
+/// Runs the program on the words of its command line, its files and its standard streams.
+fn main(rt: HostRuntime) -> ExitCode {
+    let mut src = SystemSources::new(&rt);
+    let mut out = WriterSink::new(rt.stdout());
+    let mut err = WriterSink::new(rt.stderr());
+    let status = match words_of(&rt) {
+        Ok(words) => gosync(rt.alloc(), &words, &mut src, &mut out, &mut err),
+        Err(status) => {
+            say(&mut err, "", status);
+            status
+        }
+    };
+    ExitCode::from(status.code())
+}

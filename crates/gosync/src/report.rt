@@ -1,0 +1,112 @@
+//! The report of a run.
+ghost use Rattle.std.specs.Prelude.{◌≡◌, ◌≤◌, ◌<◌, [], length, get_or, vec_capacity, OnOk, OnErr};
+ghost use Rattle.sync_outside.specs.Bytes.{Appends, AppendsFront};
+ghost use Rattle.sync_outside.specs.Faults.{Rose};
+ghost use Rattle.gosync.specs.ReportText.{call_line, calls_text, workers_text, ends_text, report_text};
+
+use crate::call_line::set_call_line;
+use crate::end_line::set_end_line;
+use step_runner::{End, Outcome};
+use sync_model::{Reply, Seq};
+use sync_outside::{Failed, Sink};
+use workload::Workload;
+
+/// The room that the buffer of a line has, in bytes.
+pub const LINE_ROOM: usize = 262_144;
+
+/// Writes the completed calls of a worker: as many of its script as there are replies.
+fn write_calls<O: Sink>(
+    workload: &Workload,
+    worker: u32,
+    replies: &[Reply],
+    line: &mut Vec<u8>,
+    out: &mut O,
+) -> Result<(), Failed>
+    requires worker { worker < workload.now.workers }
+    requires room { LINE_ROOM ≤ vec_capacity line.old }
+    ensures ok { OnOk result (Appends (O.contents out.old) (O.contents out.new) (calls_text workload.now.objects worker 0 (get_or workload.now.scripts worker []) replies.now)) }
+    ensures err { OnErr result (AppendsFront (O.contents out.old) (O.contents out.new) (calls_text workload.now.objects worker 0 (get_or workload.now.scripts worker []) replies.now)) }
+    ensures failed { OnErr result (Rose (O.faults out.old) (O.faults out.new)) }
+    ensures faults { O.faults out.old ≤ O.faults out.new }
+    ensures room { LINE_ROOM ≤ vec_capacity line.new }
+{
+    let script = workload.script(worker);
+    for (index, call) in script.iter().enumerate() {
+        let Some(reply) = replies.get(index) else {
+            return Ok(());
+        };
+        set_call_line(line, workload.objects(), worker, index, call, reply);
+        out.write(line)?;
+    }
+    Ok(())
+}
+
+/// Writes the completed calls of all workers.
+fn write_workers<O: Sink>(
+    workload: &Workload,
+    replies: &[Seq<Reply>],
+    line: &mut Vec<u8>,
+    out: &mut O,
+) -> Result<(), Failed>
+    requires room { LINE_ROOM ≤ vec_capacity line.old }
+    ensures ok { OnOk result (Appends (O.contents out.old) (O.contents out.new) (workers_text workload.now.objects 0 workload.now.scripts replies.now)) }
+    ensures err { OnErr result (AppendsFront (O.contents out.old) (O.contents out.new) (workers_text workload.now.objects 0 workload.now.scripts replies.now)) }
+    ensures failed { OnErr result (Rose (O.faults out.old) (O.faults out.new)) }
+    ensures faults { O.faults out.old ≤ O.faults out.new }
+    ensures room { LINE_ROOM ≤ vec_capacity line.new }
+{
+    for worker in 0..workload.workers() {
+        let Some(completed) = replies.get(worker as usize) else {
+            return Ok(());
+        };
+        write_calls(workload, worker, completed.as_slice(), line, out)?;
+    }
+    Ok(())
+}
+
+/// Writes the values that the objects hold at the end.
+fn write_ends<O: Sink>(
+    workload: &Workload,
+    ends: &[End],
+    line: &mut Vec<u8>,
+    out: &mut O,
+) -> Result<(), Failed>
+    requires room { LINE_ROOM ≤ vec_capacity line.old }
+    ensures ok { OnOk result (Appends (O.contents out.old) (O.contents out.new) (ends_text workload.now.objects ends.now)) }
+    ensures err { OnErr result (AppendsFront (O.contents out.old) (O.contents out.new) (ends_text workload.now.objects ends.now)) }
+    ensures failed { OnErr result (Rose (O.faults out.old) (O.faults out.new)) }
+    ensures faults { O.faults out.old ≤ O.faults out.new }
+{
+    for end in ends {
+        set_end_line(line, workload.objects(), end);
+        out.write(line)?;
+    }
+    Ok(())
+}
+
+/// Writes the report of what a run of a workload came to: first a line for each completed call,
+/// worker by worker, and then, where every script has ended, a line for each value that an object
+/// holds. Each line is one write. It takes no memory: a line is made in the buffer `line`, which has
+/// room for 262,144 bytes.
+pub fn report<O: Sink>(
+    workload: &Workload,
+    outcome: &Outcome,
+    line: &mut Vec<u8>,
+    out: &mut O,
+) -> Result<(), Failed>
+    requires { LINE_ROOM ≤ vec_capacity line.old }
+    ensures ok { OnOk result (Appends (O.contents out.old) (O.contents out.new) (report_text workload.now outcome.now)) }
+    ensures err { OnErr result (AppendsFront (O.contents out.old) (O.contents out.new) (report_text workload.now outcome.now)) }
+    ensures failed { OnErr result (Rose (O.faults out.old) (O.faults out.new)) }
+    ensures faults { O.faults out.old ≤ O.faults out.new }
+{
+    match outcome {
+        Outcome::Done(left) => {
+            write_workers(workload, left.replies.as_slice(), line, out)?;
+            write_ends(workload, left.ends.as_slice(), line, out)
+        }
+        Outcome::Misused(left, _) | Outcome::Deadlocked(left) => {
+            write_workers(workload, left.replies.as_slice(), line, out)
+        }
+    }
+}
