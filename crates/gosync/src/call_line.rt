@@ -3,11 +3,11 @@ ghost use Rattle.std.specs.Prelude.{◌≡◌, ◌+◌, ◌≤◌, ◌++◌, ◌
 ghost use Rattle.workload.specs.Words.{verb_word, map_verb, map_operands};
 ghost use Rattle.gosync.specs.ReportText.{spaced, name_at, call_words, map_reply_text, reply_text, call_line};
 
-use crate::line::{push, push_number, push_number_word, push_word};
+use crate::line::{LINE_ROOM, push, push_number, push_number_word, push_word};
 use sync_model::{Call, MapCall, MapReply, Name, Reply};
 use workload::ObjectLine;
 
-/// The most bytes that a call or a reply has in a line.
+/// The most bytes that the words of a call, or a reply, have in a line.
 pub const MAX_PART: usize = 200;
 
 /// The name of the object at a place.
@@ -94,7 +94,7 @@ pub fn set_call_line(
     call: &Call,
     reply: &Reply,
 )
-    requires { 600 ≤ vec_capacity line.old }
+    requires { LINE_ROOM ≤ vec_capacity line.old }
     ensures line { line.new.items ≡ call_line objects.now worker index call.now reply.now }
     ensures room { vec_capacity line.old ≤ vec_capacity line.new }
 {

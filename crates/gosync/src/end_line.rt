@@ -3,13 +3,13 @@ ghost use Rattle.std.specs.Prelude.{◌≡◌, ◌≤◌, vec_capacity};
 ghost use Rattle.gosync.specs.ReportText.{end_line};
 
 use crate::call_line::name_at;
-use crate::line::{push, push_number_word, push_word};
+use crate::line::{LINE_ROOM, push, push_number_word, push_word};
 use step_runner::End;
 use workload::ObjectLine;
 
 /// Makes the line of a value that an object holds at the end.
 pub fn set_end_line(line: &mut Vec<u8>, objects: &[ObjectLine], end: &End)
-    requires { 600 ≤ vec_capacity line.old }
+    requires { LINE_ROOM ≤ vec_capacity line.old }
     ensures line { line.new.items ≡ end_line objects.now end.now }
     ensures room { vec_capacity line.old ≤ vec_capacity line.new }
 {

@@ -4,6 +4,9 @@ ghost use Rattle.std.specs.Fmt.{decimal};
 
 use itoa::Buffer;
 
+/// The room that the buffer of a line has, in bytes.
+pub const LINE_ROOM: usize = 262_144;
+
 /// Adds text.
 pub fn push(line: &mut Vec<u8>, text: &[u8])
     requires { vec_len line.old + length text.now ≤ vec_capacity line.old }

@@ -1,28 +1,10 @@
 //! The line on the error output.
-ghost use Rattle.std.specs.Prelude.{◌≡◌};
 ghost use Rattle.std.specs.List.{flat_map};
-ghost use Rattle.sync_model.specs.Misuse.{text_of};
 ghost use Rattle.gosync.specs.Messages.{message_of, Says};
 
 use crate::status::Status;
 use itoa::Buffer;
-use sync_model::Misuse;
 use sync_outside::Sink;
-
-/// Go's text of a misuse.
-fn misuse_text(misuse: Misuse) -> &'static str
-    ensures { result.now ≡ text_of misuse }
-{
-    match misuse {
-        Misuse::UnlockOfUnlockedMutex => "fatal error: sync: unlock of unlocked mutex",
-        Misuse::RUnlockOfUnlockedRwMutex => "fatal error: sync: RUnlock of unlocked RWMutex",
-        Misuse::UnlockOfUnlockedRwMutex => "fatal error: sync: Unlock of unlocked RWMutex",
-        Misuse::NegativeWaitGroupCounter => "panic: sync: negative WaitGroup counter",
-        Misuse::WaitGroupReused => {
-            "panic: sync: WaitGroup is reused before previous Wait has returned"
-        }
-    }
-}
 
 /// Writes pieces of text, up to the first that fails.
 fn say_pieces<E: Sink>(err: &mut E, pieces: &[&[u8]])
@@ -55,7 +37,7 @@ pub fn say<E: Sink>(err: &mut E, file: &str, status: Status)
             let text = reason.text().as_bytes();
             say_pieces(err, &[b"gosync: line ", line, b": ", text, b"\n"]);
         }
-        Status::Misused(misuse) => say_pieces(err, &[misuse_text(misuse).as_bytes(), b"\n"]),
+        Status::Misused(misuse) => say_pieces(err, &[misuse.text().as_bytes(), b"\n"]),
         Status::Deadlocked => {
             say_text(err, b"fatal error: all goroutines are asleep - deadlock!\n")
         }

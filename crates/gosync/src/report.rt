@@ -6,13 +6,11 @@ ghost use Rattle.gosync.specs.ReportText.{call_line, calls_text, workers_text, e
 
 use crate::call_line::set_call_line;
 use crate::end_line::set_end_line;
+use crate::line::LINE_ROOM;
 use step_runner::{End, Outcome};
 use sync_model::{Reply, Seq};
 use sync_outside::{Failed, Sink};
 use workload::Workload;
-
-/// The room that the buffer of a line has, in bytes.
-pub const LINE_ROOM: usize = 262_144;
 
 /// Writes the completed calls of a worker: as many of its script as there are replies.
 fn write_calls<O: Sink>(

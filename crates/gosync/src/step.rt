@@ -9,7 +9,8 @@ ghost use Rattle.gosync.specs.ComesTo.{RunsTo, ComesTo, IsUnread};
 ghost use Rattle.gosync.specs.declared.status.Status.TheVariants as statuses;
 
 use crate::input::{InputFault, read_input};
-use crate::report::{LINE_ROOM, report};
+use crate::line::LINE_ROOM;
+use crate::report::report;
 use crate::status::Status;
 use std::alloc::Global;
 use step_runner::{Outcome, stepped};

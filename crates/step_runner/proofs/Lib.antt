@@ -1,2 +1,4 @@
 mod Left
+mod MadeLemmas
+mod RoundLemmas
 mod TurnLemmas

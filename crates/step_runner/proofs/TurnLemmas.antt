@@ -1,12 +1,11 @@
 -- What turns do to a state, whatever the workload.
-use Rattle.std.proofs.Common.{◌≡◌, ◌≢◌, ℕ, zero, suc, ◌+◌, ◌-◌, ◌<◌, ◌≤◌, Bool, true, false, eqb, ◌&&◌, not, List, [], ◌∷◌, ◌++◌, map, length, get_or, set, replicate, Option, Some, None, refl, sym, ap, ◌∙◌, subst, inl, inr, arith}
-use Rattle.std.specs.Prelude.{is_some, slice_get, nat_lt}
-use Rattle.std.specs.List.{list_all, range_with_len}
+use Rattle.std.proofs.Common.{◌≡◌, ◌≢◌, ℕ, zero, suc, ◌+◌, ◌-◌, ◌<◌, ◌≤◌, Bool, true, false, eqb, ◌&&◌, List, [], ◌∷◌, ◌++◌, map, length, get_or, set, replicate, Option, Some, None, refl, sym, ap, ◌∙◌, subst, inl, inr, arith}
+use Rattle.std.specs.Prelude.{slice_get}
+use Rattle.std.specs.List.{list_all}
 use Rattle.std.specs.Option.{option_map, option_map_or, unwrap_or}
-use Rattle.std.proofs.lemmas.Bool.{eqb-true, eqb-false, ltb-true, ltb-false}
+use Rattle.std.proofs.lemmas.Bool.{eqb-true, eqb-false}
 use Rattle.std.proofs.lemmas.List.{length-set, length-append, length-replicate, get_or-set_same, get_or-set_other}
-use Rattle.std.proofs.lemmas.Option.{slice_get-map, slice_get_past, slice_get_read, slice_get_within, slice_get_cases, unwrap_or-slice_get}
-use Rattle.std.proofs.lemmas.List.FromFn.{map-range_with_len_more}
+use Rattle.std.proofs.lemmas.Option.{slice_get-map, slice_get_past, slice_get_within, slice_get_cases, unwrap_or-slice_get}
 use Rattle.std.proofs.Math.Seq.{map-set_same}
 use Rattle.sync_model.specs.declared.call.Call.{Call}
 use Rattle.sync_model.specs.declared.call.Call.TheVariants as calls
@@ -20,25 +19,23 @@ use Rattle.workload.specs.declared.object.ObjectLine.{ObjectLine}
 use Rattle.workload.specs.declared.turn.Turn.{Turn}
 use Rattle.workload.specs.declared.turn.Turn.TheVariants as items
 use Rattle.workload.specs.Plan.{Plan, object_of, has_call, is_on, is_turn, is_valid}
-use Rattle.workload.specs.Draft.{call_count}
 use Rattle.step_runner.specs.declared.object_state.ObjectState.{ObjectState}
 use Rattle.step_runner.specs.declared.object_state.ObjectState.TheVariants as states
 use Rattle.step_runner.specs.State.{State, start, new_object, new_objects, kind_of, with_reply, IsStateOf, IsOn}
 use Rattle.step_runner.specs.MapTurn.{map_turn}
-use Rattle.step_runner.specs.Turns.{next_call, after_turn, after_turn_at, after_item, after_items, round, has_ended}
-use Rattle.step_runner.specs.Turns as turning
-use Rattle.step_runner.proofs.Left.{left, left_at, left_falls, left_none, left_bound}
+use Rattle.step_runner.specs.Turns.{next_call, after_turn, after_turn_at, after_item, after_items}
+use Rattle.step_runner.proofs.Left.{left_at}
 
 -- what two tests that pass together say
-both : (a b : Bool) → (a && b) ≡ true → (a ≡ true) × (b ≡ true)
+pub both : (a b : Bool) → (a && b) ≡ true → (a ≡ true) × (b ≡ true)
 both true b e = (refl, e)
 both false b e = absurd cc
 
-both_true : (a b : Bool) → a ≡ true → b ≡ true → (a && b) ≡ true
+pub both_true : (a b : Bool) → a ≡ true → b ≡ true → (a && b) ≡ true
 both_true true b e f = f
 both_true false b e f = absurd cc
 
-true_false : true ≡ false → ⊥
+pub true_false : true ≡ false → ⊥
 true_false e = cc
 
 -- ---- what a valid plan says of a call
@@ -83,7 +80,7 @@ map_is_there plan s worker object call of is =
     ∙ map_kind (slice_get plan.objects object) object call (call_is_on plan worker s (calls.Map object call) of.valid is)
 
 -- the object of the call before which a worker stands is there
-next_is_on : (plan : Plan) (worker : ℕ) (s : State) (call : Call) → IsStateOf plan s → next_call plan worker s ≡ Some call → IsOn call s
+pub next_is_on : (plan : Plan) (worker : ℕ) (s : State) (call : Call) → IsStateOf plan s → next_call plan worker s ≡ Some call → IsOn call s
 next_is_on plan worker s (calls.Map object call) of is = map_is_there plan s worker object call of is
 
 -- ---- one turn
@@ -91,7 +88,7 @@ next_is_on plan worker s (calls.Map object call) of is = map_is_there plan s wor
 -- a turn keeps what states keep, and takes a call from what its worker has left
 pub record IsTurn (plan : Plan) (worker : ℕ) (old new : State) : Type 0 where
   pub of : IsStateOf plan new
-  pub own : left_at plan.scripts new.replies worker ≤ left_at plan.scripts old.replies worker - 1
+  pub own : left_at plan.scripts new.replies worker ≡ left_at plan.scripts old.replies worker - 1
   pub others : (k : ℕ) → k ≢ worker → left_at plan.scripts new.replies k ≡ left_at plan.scripts old.replies k
 
 alike : (o : Option ObjectState) (next : ObjectState) → option_map kind_of o ≡ Some (kind_of next) → kind_of next ≡ kind_of (unwrap_or o next)
@@ -178,28 +175,11 @@ after_turn_is plan worker s of = turn_is plan worker s of (next_call plan worker
 turn_at_next : (plan : Plan) (worker : ℕ) (s : State) (call : Call) → next_call plan worker s ≡ Some call → after_turn plan worker s ≡ after_turn_at call worker s
 turn_at_next plan worker s call is = ap (λ o. option_map_or (λ call. after_turn_at call worker s) o s) is
 
-no_turn : (plan : Plan) (worker : ℕ) (s : State) → left_at plan.scripts s.replies worker ≡ 0 → after_turn plan worker s ≡ s
+pub no_turn : (plan : Plan) (worker : ℕ) (s : State) → left_at plan.scripts s.replies worker ≡ 0 → after_turn plan worker s ≡ s
 no_turn plan worker s none = ap (λ o. option_map_or (λ call. after_turn_at call worker s) o s) (none_next plan worker s none)
 
--- a worker stands before a call of its script
-pub record StandsAt (plan : Plan) (worker : ℕ) (s : State) (call : Call) : Type 0 where
-  pub on : IsOn call s
-  pub turn : after_turn plan worker s ≡ after_turn_at call worker s
-  pub of : IsStateOf plan (after_turn_at call worker s)
-
-pub stands_at : (plan : Plan) (worker : ℕ) (s : State) (script : List Call) (done : ℕ) (call : Call) → IsStateOf plan s
-    → script ≡ get_or plan.scripts worker [] → done ≡ length (get_or s.replies worker []) → done < length script → call ≡ get_or script done call → StandsAt plan worker s call
-stands_at plan worker s script done call of script_is done_is room call_is =
-    let next : next_call plan worker s ≡ Some call =
-    ap (λ (cs : List Call). slice_get cs (length (get_or s.replies worker []))) (sym script_is)
-    ∙ ap (slice_get script) (sym done_is)
-    ∙ slice_get_read script (length script) done call refl room call_is in
-    let turn = turn_at_next plan worker s call next in
-    record { on = next_is_on plan worker s call of next; turn = turn; of = subst (IsStateOf plan) turn (after_turn_is plan worker s of).of }
-
--- a worker stands at the end of its script
-pub stands_at_end : (plan : Plan) (worker : ℕ) (s : State) (script : List Call) (done : ℕ) → script ≡ get_or plan.scripts worker [] → done ≡ length (get_or s.replies worker []) → length script ≤ done → after_turn plan worker s ≡ s
-stands_at_end plan worker s script done script_is done_is past = no_turn plan worker s (omega (arith, ap (length {A = Call}) script_is, done_is, past))
+pub turn_at_of : (plan : Plan) (worker : ℕ) (s : State) (call : Call) → IsStateOf plan s → next_call plan worker s ≡ Some call → IsStateOf plan (after_turn_at call worker s)
+turn_at_of plan worker s call of is = subst (IsStateOf plan) (turn_at_next plan worker s call is) (after_turn_is plan worker s of).of
 
 -- ---- many turns
 
@@ -215,154 +195,6 @@ pub items_of : (plan : Plan) (items : List Turn) (s : State) → IsStateOf plan 
 items_of plan [] s of = of
 items_of plan (item ∷ items) s of = items_of plan items (after_item plan item s) (item_of plan item s of)
 
--- ---- a round
-
--- the turns of the workers below one more
-pub round_more : (plan : Plan) (n : ℕ) (s : State) → after_items plan (round (n + 1)) s ≡ after_turn plan n (after_items plan (round n) s)
-round_more plan n s =
-    ap (λ (turns : List Turn). after_items plan turns s) (map-range_with_len_more (λ (worker : ℕ). items.Worker worker) 0 n n (omega arith))
-    ∙ after_items-append plan (round n) (items.Worker n ∷ []) s
-
--- what a round takes: a call from each worker that has one left
-pub record IsRound (plan : Plan) (workers : ℕ) (old new : State) : Type 0 where
-  pub of : IsStateOf plan new
-  pub below : (k : ℕ) → k < workers → left_at plan.scripts new.replies k ≤ left_at plan.scripts old.replies k - 1
-  pub others : (k : ℕ) → workers ≤ k → left_at plan.scripts new.replies k ≡ left_at plan.scripts old.replies k
-
-one_more : (plan : Plan) (n : ℕ) (old new next : State) → IsRound plan n old new → IsTurn plan n new next → IsRound plan (suc n) old next
-one_more plan n old new next round turn = record {
-  of = turn.of;
-  below = λ k below. elim (eqb k n) as (λ b. eqb k n ≡ b → left_at plan.scripts next.replies k ≤ left_at plan.scripts old.replies k - 1) [
-    | true ↦ λ e.
-        let same : k ≡ n = eqb-true k n e in
-        let here : left_at plan.scripts new.replies n ≡ left_at plan.scripts old.replies n = round.others n (omega arith) in
-        rw same (omega (arith, turn.own, here))
-    | false ↦ λ e.
-        let apart : k ≢ n = eqb-false k n e in
-        let here : left_at plan.scripts new.replies k ≤ left_at plan.scripts old.replies k - 1 = round.below k (omega arith) in
-        omega (arith, turn.others k apart, here)
-  ] refl;
-  others = λ k past. turn.others k (λ (e : k ≡ n). omega arith) ∙ round.others k (omega arith);
-}
-
-round_is : (plan : Plan) (n : ℕ) (s : State) → IsStateOf plan s → IsRound plan n s (after_items plan (round n) s)
-round_is plan zero s of = record { of = of; below = λ k below. absurd (omega arith); others = λ k past. refl }
-round_is plan (suc n) s of =
-    let so_far = after_items plan (round n) s in
-    let before = round_is plan n s of in
-    let next : suc n ≡ n + 1 = omega arith in
-    subst (IsRound plan (suc n) s) (sym (ap (λ (m : ℕ). after_items plan (round m) s) next ∙ round_more plan n s)) (one_more plan n s so_far (after_turn plan n so_far) before (after_turn_is plan n so_far before.of))
-
-past_end : (scripts : List (List Call)) (k : ℕ) → length scripts ≤ k → length (get_or scripts k []) ≡ 0
-past_end [] k past = refl
-past_end (script ∷ scripts) zero past = absurd (omega arith)
-past_end (script ∷ scripts) (suc k) past = past_end scripts k (omega arith)
-
--- a whole round takes a call in all at the least, if any is left
-pub round_falls : (plan : Plan) (s : State) → IsStateOf plan s → left plan.scripts (after_items plan (round plan.workers) s).replies ≤ left plan.scripts s.replies - 1
-round_falls plan s of =
-    let next = after_items plan (round plan.workers) s in
-    let round = round_is plan plan.workers s of in
-    left_falls plan.scripts s.replies next.replies (λ k. elim (nat_lt k plan.workers) as (λ b. nat_lt k plan.workers ≡ b → left_at plan.scripts next.replies k ≤ left_at plan.scripts s.replies k - 1) [
-      | true ↦ λ e. round.below k (ltb-true k plan.workers e)
-      | false ↦ λ e.
-          let past : length plan.scripts ≤ k = omega (arith, valid_scripts plan of.valid, ltb-false k plan.workers e) in
-          let none : length (get_or plan.scripts k []) ≡ 0 = past_end plan.scripts k past in
-          omega (arith, none)
-    ] refl)
-
--- ---- the end
-
-all_from : (p : ℕ → Bool) (a n : ℕ) → ((k : ℕ) → a ≤ k → k < a + n → p k ≡ true) → list_all p (range_with_len a n) ≡ true
-all_from p a zero each = refl
-all_from p a (suc n) each = both_true (p a) (list_all p (range_with_len (a + 1) n)) (each a (omega arith) (omega arith)) (all_from p (a + 1) n (λ k from below. each k (omega arith) (omega arith)))
-
-each_from : (p : ℕ → Bool) (a n : ℕ) → list_all p (range_with_len a n) ≡ true → (k : ℕ) → a ≤ k → k < a + n → p k ≡ true
-each_from p a zero all k from below = absurd (omega arith)
-each_from p a (suc n) all k from below =
-    let parts = both (p a) (list_all p (range_with_len (a + 1) n)) all in
-    elim (eqb a k) as (λ b. eqb a k ≡ b → p k ≡ true) [
-      | true ↦ λ e. subst (λ m. p m ≡ true) (eqb-true a k e) parts.0
-      | false ↦ λ e. let apart : a ≢ k = eqb-false a k e in each_from p (a + 1) n parts.1 k (omega arith) (omega arith)
-    ] refl
-
--- where no worker has a call left, every script has ended
-pub ended_where : (plan : Plan) (s : State) → ((k : ℕ) → k < plan.workers → left_at plan.scripts s.replies k ≡ 0) → has_ended plan s ≡ true
-ended_where plan s none = all_from (λ worker. not (is_some (next_call plan worker s))) 0 plan.workers (λ k from below. ap (λ (o : Option Call). not (is_some o)) (none_next plan k s (none k (omega arith))))
-
-not_some : {X : Type 0} (o : Option X) → not (is_some o) ≡ true → o ≡ None
-not_some None e = refl
-not_some (Some x) e = absurd cc
-
--- and back
-pub none_where : (plan : Plan) (s : State) → IsStateOf plan s → has_ended plan s ≡ true → (k : ℕ) → left_at plan.scripts s.replies k ≡ 0
-none_where plan s of ended k = elim (nat_lt k plan.workers) as (λ b. nat_lt k plan.workers ≡ b → left_at plan.scripts s.replies k ≡ 0) [
-  | true ↦ λ e. none_left plan k s (not_some (next_call plan k s) (each_from (λ worker. not (is_some (next_call plan worker s))) 0 plan.workers ended k (omega arith) (omega (arith, ltb-true k plan.workers e))))
-  | false ↦ λ e.
-      let past : length plan.scripts ≤ k = omega (arith, valid_scripts plan of.valid, ltb-false k plan.workers e) in
-      let none : length (get_or plan.scripts k []) ≡ 0 = past_end plan.scripts k past in
-      omega (arith, none)
-] refl
-
--- a worker has a call left: not every script has ended
-pub not_ended : (plan : Plan) (s : State) (worker : ℕ) → IsStateOf plan s → 0 < left_at plan.scripts s.replies worker → has_ended plan s ≡ false
-not_ended plan s worker of some = elim (has_ended plan s) as (λ b. has_ended plan s ≡ b → b ≡ false) [
-  | true ↦ λ e. let none : left_at plan.scripts s.replies worker ≡ 0 = none_where plan s of e worker in absurd (omega arith)
-  | false ↦ λ e. refl
-] refl
-
--- the state at the end stays
-item_at_end : (plan : Plan) (s : State) → ((k : ℕ) → left_at plan.scripts s.replies k ≡ 0) → (item : Turn) → after_item plan item s ≡ s
-item_at_end plan s none (items.Worker worker) = no_turn plan worker s (none worker)
-item_at_end plan s none (items.Moment moment) = refl
-
-items_at_end : (plan : Plan) (s : State) → ((k : ℕ) → left_at plan.scripts s.replies k ≡ 0) → (turns : List Turn) → after_items plan turns s ≡ s
-items_at_end plan s none [] = refl
-items_at_end plan s none (item ∷ turns) = ap (λ (t : State). after_items plan turns t) (item_at_end plan s none item) ∙ items_at_end plan s none turns
-
-pub stays_at_end : (plan : Plan) (s : State) (turns : List Turn) → IsStateOf plan s → has_ended plan s ≡ true → after_items plan turns s ≡ s
-stays_at_end plan s turns of ended = items_at_end plan s (none_where plan s of ended) turns
-
--- ---- enough rounds
-
--- rounds from here on come to the same as the rounds of a run, and there are enough of them
-pub record IsOnTheWay (plan : Plan) (first s : State) : Type 0 where
-  pub of : IsStateOf plan s
-  pub rounds : ℕ
-  pub enough : left plan.scripts s.replies ≤ rounds
-  pub same : after_items plan (turning.rounds rounds plan.workers) s ≡ after_items plan (turning.rounds (call_count plan.scripts) plan.workers) first
-
-pub sets_out : (plan : Plan) (s : State) → IsStateOf plan s → IsOnTheWay plan s s
-sets_out plan s of = record { of = of; rounds = call_count plan.scripts; enough = left_bound plan.scripts s.replies; same = refl }
-
-pub arrives : (plan : Plan) (first s : State) → IsOnTheWay plan first s → has_ended plan s ≡ true → s ≡ after_items plan (turning.rounds (call_count plan.scripts) plan.workers) first
-arrives plan first s way ended = sym (stays_at_end plan s (turning.rounds way.rounds plan.workers) way.of ended) ∙ way.same
-
--- a call is left where a script has not ended
-pub some_left : (plan : Plan) (s : State) → has_ended plan s ≡ false → 0 < left plan.scripts s.replies
-some_left plan s going = elim (left plan.scripts s.replies) as (λ n. left plan.scripts s.replies ≡ n → 0 < n) [
-  | zero ↦ λ e. absurd (true_false (sym (ended_where plan s (λ k below. left_none plan.scripts s.replies e k)) ∙ going))
-  | suc n ↦ λ e. omega arith
-] refl
-
-goes_on : (plan : Plan) (first s : State) (n : ℕ) → IsStateOf plan s → left plan.scripts s.replies ≤ n → has_ended plan s ≡ false
-    → after_items plan (turning.rounds n plan.workers) s ≡ after_items plan (turning.rounds (call_count plan.scripts) plan.workers) first → IsOnTheWay plan first (after_items plan (round plan.workers) s)
-goes_on plan first s zero of enough going same =
-    let some : 0 < left plan.scripts s.replies = some_left plan s going in
-    absurd (omega arith)
-goes_on plan first s (suc n) of enough going same = record {
-  of = items_of plan (round plan.workers) s of;
-  rounds = n;
-  enough = omega (arith, round_falls plan s of);
-  same = sym (after_items-append plan (round plan.workers) (turning.rounds n plan.workers) s) ∙ same;
-}
-
-pub one_round : (plan : Plan) (first s : State) → IsOnTheWay plan first s → has_ended plan s ≡ false → IsOnTheWay plan first (after_items plan (round plan.workers) s)
-one_round plan first s way going = goes_on plan first s way.rounds way.of way.enough going way.same
-
-pub round_smaller : (plan : Plan) (s : State) → IsStateOf plan s → has_ended plan s ≡ false → left plan.scripts (after_items plan (round plan.workers) s).replies < left plan.scripts s.replies
-round_smaller plan s of going = omega (arith, round_falls plan s of, some_left plan s going)
-
 -- ---- the start
 
 new_kind : (kind : ObjectKind) → kind_of (new_object kind) ≡ kind
@@ -372,7 +204,7 @@ new_kinds : (lines : List ObjectLine) → map kind_of (new_objects lines) ≡ ma
 new_kinds [] = refl
 new_kinds (line ∷ lines) = λ i. new_kind line.kind i ∷ new_kinds lines i
 
-none_yet : (n k : ℕ) → length (get_or (replicate {A = List Reply} n []) k []) ≡ 0
+pub none_yet : (n k : ℕ) → length (get_or (replicate {A = List Reply} n []) k []) ≡ 0
 none_yet zero k = refl
 none_yet (suc n) zero = refl
 none_yet (suc n) (suc k) = none_yet n k
@@ -384,3 +216,18 @@ start_is plan valid = record {
   workers = length-replicate plan.workers [];
   within = λ k. omega (arith, none_yet plan.workers k);
 }
+
+-- ---- the calls of one worker
+
+-- how many replies a turn adds
+pub count_own : (plan : Plan) (worker : ℕ) (s : State) (call : Call) → IsStateOf plan s → next_call plan worker s ≡ Some call
+    → length (get_or (after_turn plan worker s).replies worker []) ≡ length (get_or s.replies worker []) + 1
+count_own plan worker s call of is =
+    let room : length (get_or s.replies worker []) < length (get_or plan.scripts worker []) = slice_get_within _ _ call is in
+    let turn = after_turn_is plan worker s of in
+    omega (arith, turn.own, turn.of.within worker, room)
+
+pub count_other : (plan : Plan) (worker other : ℕ) (s : State) → IsStateOf plan s → other ≢ worker → length (get_or (after_turn plan worker s).replies other []) ≡ length (get_or s.replies other [])
+count_other plan worker other s of apart =
+    let turn = after_turn_is plan worker s of in
+    omega (arith, turn.others other apart, turn.of.within other, of.within other)

@@ -1,4 +1,5 @@
 pub mod Ends
 pub mod MapTurn
+pub mod MadeCalls
 pub mod State
 pub mod Turns

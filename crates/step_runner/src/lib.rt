@@ -15,3 +15,6 @@ pub use ends::End;
 pub use object_state::ObjectState;
 pub use outcome::{Outcome, Report};
 pub use run::stepped;
+
+#[cfg(test)]
+mod tests;

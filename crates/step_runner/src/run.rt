@@ -7,7 +7,7 @@ ghost use Rattle.step_runner.specs.Turns.{after_items, round, rounds, has_ended,
 use crate::ends::ends;
 use crate::outcome::{Outcome, Report};
 use crate::state::State;
-use crate::turn::take_turn;
+use crate::turn::{next_call, take_turn};
 use std::alloc::{AllocError, Global};
 use sync_model::Seq;
 use workload::{Turn, Workload};
@@ -45,7 +45,7 @@ fn has_ended(workload: &Workload, state: &State) -> bool
     ensures { result ≡ has_ended workload.now state.now }
 {
     for worker in 0..workload.workers() {
-        if state.completed(worker) < workload.script(worker).len() {
+        if next_call(workload, worker, state).is_some() {
             return false;
         }
     }

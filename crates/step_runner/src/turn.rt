@@ -1,13 +1,23 @@
 //! One turn of a worker.
 ghost use Rattle.std.specs.Prelude.{◌≡◌, ◌<◌, length, OnOk};
+ghost use Rattle.std.specs.Option.{option_copied};
 ghost use Rattle.step_runner.specs.State.{IsStateOf, IsOn};
-ghost use Rattle.step_runner.specs.Turns.{after_turn_at, after_turn};
+ghost use Rattle.step_runner.specs.Turns.{next_call, after_turn_at, after_turn};
 
 use crate::map_turn::take_map_turn;
 use crate::state::State;
 use std::alloc::{AllocError, Global};
 use sync_model::Call;
 use workload::Workload;
+
+/// The call before which a worker stands, unless its script has ended.
+pub fn next_call<'a>(workload: &'a Workload, worker: u32, state: &State) -> Option<&'a Call>
+    requires of { IsStateOf workload.now state.now }
+    requires worker { worker < workload.now.workers }
+    ensures { option_copied result ≡ next_call workload.now worker state.now }
+{
+    workload.script(worker).get(state.completed(worker))
+}
 
 /// Takes a turn of a worker that stands before the call, by the kind of the call's object.
 fn take_turn_at(
@@ -37,11 +47,8 @@ pub fn take_turn(
     ensures turn { OnOk result (state.new ≡ after_turn workload.now worker state.old) }
     ensures of { OnOk result (IsStateOf workload.now state.new) }
 {
-    let script = workload.script(worker);
-    let completed = state.completed(worker);
-    if completed < script.len() {
-        take_turn_at(alloc, &script[completed], worker, state)
-    } else {
-        Ok(())
+    match next_call(workload, worker, state) {
+        None => Ok(()),
+        Some(call) => take_turn_at(alloc, call, worker, state),
     }
 }

@@ -5,6 +5,7 @@ use Rattle.sync_model.specs.declared.journal.Deed.{Deed}
 use Rattle.sync_model.specs.declared.journal.Deed.TheVariants.{Event, Refused, Halt}
 use Rattle.sync_model.specs.declared.journal.Entry.{Entry}
 use Rattle.sync_model.specs.Front.{AtLeast}
+use Rattle.sync_model.specs.Log as log
 
 -- the first list begins with the second
 abbrev pub Begins : {A : Type 0} → List A → List A → Type 0
@@ -46,6 +47,17 @@ module _ {E R : Type 0} where
   is_such test (Event e r) = test e r
   is_such test (Refused e m) = false
   is_such test (Halt m) = false
+
+  -- an entry's event, before those of the later entries
+  abbrev pub logged : ℕ → Deed E R → List (log.Entry E R) → List (log.Entry E R)
+  logged c (Event e r) later = log.entry c e r ∷ later
+  logged c (Refused e m) later = later
+  logged c (Halt m) later = later
+
+  -- the log of the events that the machine took
+  abbrev pub log_of : List (Entry E R) → List (log.Entry E R)
+  log_of [] = []
+  log_of (x ∷ xs) = logged x.caller x.deed (log_of xs)
 
   -- the front knows all that the releasing entries knew
   abbrev pub Covers : (E → R → Bool) → List ℕ → List (Entry E R) → Type 0

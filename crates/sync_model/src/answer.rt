@@ -4,7 +4,7 @@ ghost use Rattle.std.specs.Prelude.{◌≡◌};
 use crate::misuse::Misuse;
 
 /// The answer of a call on an object that may have been halted.
-#[derive(Clone, Copy, Debug)]
+#[derive(Clone, Copy, Debug, PartialEq, Eq)]
 pub enum Answer<R> {
     /// The call was made, and this is the reply of the object's machine.
     Done(R),

@@ -2,6 +2,7 @@
 //! trait says when a call may fail; beside it stand a fake in memory and the real thing.
 #![tactic(auto)]
 
+pub mod at;
 pub mod clock;
 mod failing_calls;
 pub mod fault;
@@ -16,6 +17,7 @@ pub mod system_clock;
 pub mod system_sources;
 pub mod writer_sink;
 
+pub use at::At;
 pub use clock::Clock;
 pub use fault::{Failed, OpenFault};
 pub use mem_clock::MemClock;

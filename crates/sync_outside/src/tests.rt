@@ -1,13 +1,14 @@
 ghost use Rattle.std.specs.Prelude.{◌≡◌};
 
 use crate::{
-    Clock, Failed, MemClock, MemFile, MemSink, MemSources, OpenFault, Sink, Sources, SystemClock,
-    SystemSources, WriterSink,
+    At, Clock, Failed, MemClock, MemFile, MemSink, MemSources, OpenFault, Sink, Sources,
+    SystemClock, SystemSources, WriterSink,
 };
 use std::alloc::{AllocError, Global};
 use std::io::{Error, ErrorKind, Write};
 use std::test::Fail;
 use std::{env, fs, io, thread};
+use sync_model::FrontNote;
 
 // All bytes under a name, read four at a time, or the fault that came.
 fn whole<S: Sources>(
@@ -103,6 +104,11 @@ fn clocks_show_their_moments(rt: HostRuntime) -> Result<(), Fail> {
     let (first, second) = thread::join(&rt, || clock.now(), || clock.now());
     assert_eq!(rt; (first.min(second), first.max(second)), (5, 9));
     assert_eq!(rt; (clock.now(), clock.now(), clock.now()), (7, 7, 7));
+    let at: At<FrontNote, MemClock> = At {
+        home: &(),
+        clock: &clock,
+    };
+    assert_eq!(rt; at.clock.now(), 7);
     assert_eq!(rt; MemClock::new(Vec::new(rt.alloc())).now(), 0);
 
     let machine = SystemClock::new(&rt);

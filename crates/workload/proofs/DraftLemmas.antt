@@ -1,16 +1,19 @@
 -- A draft with one more line keeps its tables.
-use Rattle.std.proofs.Common.{◌≡◌, ℕ, zero, suc, ◌+◌, ◌-◌, ◌<◌, ◌≤◌, Bool, true, false, cond, eqb, ◌&&◌, not, List, [], ◌∷◌, ◌++◌, map, length, get_or, set, replicate, Option, Some, None, refl, sym, ap, ◌∙◌, arith}
-use Rattle.std.specs.Prelude.{is_some, slice_get}
+use Rattle.std.proofs.Common.{◌≡◌, ℕ, zero, suc, ◌+◌, ◌-◌, ◌<◌, ◌≤◌, Bool, true, false, cond, eqb, ◌&&◌, not, List, [], ◌∷◌, ◌++◌, map, length, get_or, set, replicate, Option, Some, None, refl, sym, ap, subst, ◌∙◌, append_assoc, arith}
+use Rattle.std.specs.Prelude.{is_some, nat_lt, slice_get}
 use Rattle.std.specs.Option.{option_or}
 use Rattle.std.specs.List.{list_all}
 use Rattle.std.specs.Str.{bytes_eq}
 use Rattle.std.specs.Ordering.{nat_cmp}
 use Rattle.std.specs.Cmp.Lexicographic.{slice_cmp, nat_list_cmp_total}
 use Rattle.std.specs.FinMap.{FinMap, get, insert, empty, from_entries, get-empty, get-insert}
-use Rattle.std.proofs.lemmas.Bool.{eqb-true, eq-eqb, ltb-true}
+use Rattle.std.proofs.lemmas.Bool.{eqb-true, eq-eqb, ltb-true, leb-true}
+use Rattle.std.proofs.lemmas.List.Folds.{list_any-append}
+use Rattle.sync_model.specs.Name.{is_name}
+use Rattle.workload.specs.declared.limits.TheConstants.{MAX_CALLS, MAX_KEYS, MAX_TURNS, MAX_WORKERS}
 use Rattle.std.proofs.lemmas.Slice.Eq.{bytes_eq-Decides}
 use Rattle.std.proofs.lemmas.Map.Text.{is_eq-slice_cmp}
-use Rattle.std.proofs.lemmas.List.{length-set, length-append, length-replicate}
+use Rattle.std.proofs.lemmas.List.{length-set, length-append, length-replicate, append-nil}
 use Rattle.std.proofs.lemmas.List.Sums.{sum_by-set}
 use Rattle.sync_model.specs.declared.call.Call.{Call}
 use Rattle.sync_model.specs.declared.call.Call.TheVariants as calls
@@ -22,11 +25,12 @@ use Rattle.workload.specs.declared.line.Line.TheVariants as lines
 use Rattle.workload.specs.declared.turn.Turn.{Turn}
 use Rattle.workload.specs.declared.turn.Turn.TheVariants as turns
 use Rattle.workload.specs.Plan.{Plan, object_of, has_call, is_on, is_turn, is_valid}
-use Rattle.workload.specs.Draft.{Draft, declared, declared_from, names_object, with_call, is_item, may_follow, call_count, keys_of, all_keys}
+use Rattle.workload.specs.Draft.{Draft, declared, declared_from, names_object, with_call, is_call, is_item, may_follow, count_of, limit_of, call_count, key_count, keys_of, all_keys, distinct_count}
+use Rattle.workload.specs.Readable.{may_declare, IsReadable}
 use Rattle.workload.specs.Index.{IsIndexed, with_keys, marks}
 use Rattle.workload.proofs.Passing.{both, pair, all_mono, all_set, all_append, all_at}
 use Rattle.workload.proofs.Follows.{object_follows, schedule_follows, call_follows}
-use Rattle.workload.proofs.KeyLemmas.{keys_with_call}
+use Rattle.workload.proofs.KeyLemmas.{keys_with_call, keys_more, distinct_same}
 
 or_none : (o : Option Declared) → option_or o None ≡ o
 or_none None = refl
@@ -114,20 +118,44 @@ names_more table os o new table-is q =
     ] refl)
     ∙ sym (declared_more 0 q os o)
 
+-- one more object may be declared behind the others
+declare_more : (os others : List ObjectLine) (o : ObjectLine) → may_declare others os ≡ true
+    → (is_name o.name && (not (is_some (declared_from 0 o.name (others ++ os))) && nat_lt (count_of o.kind (others ++ os)) (limit_of o.kind))) ≡ true
+    → may_declare others (os ++ o ∷ []) ≡ true
+declare_more [] others o h here =
+    pair _ true (subst (λ (x : List ObjectLine). (is_name o.name && (not (is_some (declared_from 0 o.name x)) && nat_lt (count_of o.kind x) (limit_of o.kind))) ≡ true) (append-nil others) here) refl
+declare_more (p ∷ os) others o h here =
+    let first = is_name p.name && (not (is_some (declared_from 0 p.name others)) && nat_lt (count_of p.kind others) (limit_of p.kind)) in
+    let parts = both first (may_declare (others ++ p ∷ []) os) h in
+    pair first (may_declare (others ++ p ∷ []) (os ++ o ∷ [])) parts.0
+    (declare_more os (others ++ p ∷ []) o parts.1
+    (subst (λ (x : List ObjectLine). (is_name o.name && (not (is_some (declared_from 0 o.name x)) && nat_lt (count_of o.kind x) (limit_of o.kind))) ≡ true) (sym (append_assoc others (p ∷ []) os)) here))
+
 -- one more object keeps the tables
 pub indexed_object : (plan : Plan) (worker : Option ℕ) (table : FinMap (slice_cmp nat_cmp) Declared) (seen : FinMap (slice_cmp nat_cmp) (Unit {0})) (number : ℕ) (o : ObjectLine)
     → IsIndexed plan worker table seen number → may_follow (record { plan = plan; current = worker }) (lines.Object o) ≡ true
     → IsIndexed (record plan { objects = plan.objects ++ o ∷ [] }) worker (insert table o.name (record { place = length plan.objects; kind = o.kind })) seen number
 indexed_object plan worker table seen number o h follows =
-    let v = valid_parts plan h.valid in
+    let r = h.readable in
+    let v = valid_parts plan r.valid in
     let new = (object_follows (record { plan = plan; current = worker }) o follows).new in
     record {
-      valid = valid_from (record plan { objects = plan.objects ++ o ∷ [] }) (record {
-        scripts = v.scripts;
-        calls = all_mono (list_all (λ call. is_on (slice_get plan.objects (object_of call)) call)) (list_all (λ call. is_on (slice_get (plan.objects ++ o ∷ []) (object_of call)) call))
-            (λ script. all_mono _ _ (λ call. get_more plan.objects o (object_of call) call) script) plan.scripts v.calls;
-        turns = v.turns;
-      });
+      readable = record {
+        valid = valid_from (record plan { objects = plan.objects ++ o ∷ [] }) (record {
+          scripts = v.scripts;
+          calls = all_mono (list_all (λ call. is_on (slice_get plan.objects (object_of call)) call)) (list_all (λ call. is_on (slice_get (plan.objects ++ o ∷ []) (object_of call)) call))
+              (λ script. all_mono _ _ (λ call. get_more plan.objects o (object_of call) call) script) plan.scripts v.calls;
+          turns = v.turns;
+        });
+        some_workers = r.some_workers;
+        few_workers = r.few_workers;
+        objects = declare_more plan.objects [] o r.objects follows;
+        calls = r.calls;
+        call_room = r.call_room;
+        key_room = r.key_room;
+        items = r.items;
+        turn_room = r.turn_room;
+      };
       current = h.current;
       names = names_more table plan.objects o new h.names;
       keys = h.keys;
@@ -143,14 +171,25 @@ pub indexed_turns : (plan : Plan) (worker : Option ℕ) (table : FinMap (slice_c
     → IsIndexed plan worker table seen number → may_follow (record { plan = plan; current = worker }) (lines.Schedule more) ≡ true
     → IsIndexed (record plan { schedule = plan.schedule ++ more }) worker table seen number
 indexed_turns plan worker table seen number more h follows =
-    let v = valid_parts plan h.valid in
+    let r = h.readable in
+    let v = valid_parts plan r.valid in
     let items = (schedule_follows (record { plan = plan; current = worker }) more follows).items in
     record {
-      valid = valid_from (record plan { schedule = plan.schedule ++ more }) (record {
-        scripts = v.scripts;
-        calls = v.calls;
-        turns = all_append (is_turn plan.workers) plan.schedule more v.turns (all_mono (is_item plan.workers) (is_turn plan.workers) (item_is_turn plan.workers) more items);
-      });
+      readable = record {
+        valid = valid_from (record plan { schedule = plan.schedule ++ more }) (record {
+          scripts = v.scripts;
+          calls = v.calls;
+          turns = all_append (is_turn plan.workers) plan.schedule more v.turns (all_mono (is_item plan.workers) (is_turn plan.workers) (item_is_turn plan.workers) more items);
+        });
+        some_workers = r.some_workers;
+        few_workers = r.few_workers;
+        objects = r.objects;
+        calls = r.calls;
+        call_room = r.call_room;
+        key_room = r.key_room;
+        items = all_append (is_item plan.workers) plan.schedule more r.items items;
+        turn_room = omega (arith, length-append plan.schedule more, leb-true (length plan.schedule + length more) MAX_TURNS (schedule_follows (record { plan = plan; current = worker }) more follows).room);
+      };
       current = h.current;
       names = h.names;
       keys = h.keys;
@@ -162,21 +201,38 @@ pub indexed_call : (plan : Plan) (worker : ℕ) (table : FinMap (slice_cmp nat_c
     → IsIndexed plan (Some worker) table seen number → may_follow (record { plan = plan; current = Some worker }) (lines.Call name call) ≡ true
     → IsIndexed (record plan { scripts = set plan.scripts worker (get_or plan.scripts worker [] ++ call ∷ []) }) (Some worker) table (with_keys seen (keys_of call)) (number + 1)
 indexed_call plan worker table seen number name call h follows =
-    let v = valid_parts plan h.valid in
-    let on : is_on (slice_get plan.objects (object_of call)) call ≡ true = names_is_on name plan.objects call (call_follows (record { plan = plan; current = Some worker }) name call follows).on in
+    let r = h.readable in
+    let v = valid_parts plan r.valid in
+    let parts = call_follows (record { plan = plan; current = Some worker }) name call follows in
+    let on : is_on (slice_get plan.objects (object_of call)) call ≡ true = names_is_on name plan.objects call parts.on in
     let here : worker < length plan.scripts = omega (arith, ltb-true worker plan.workers h.current, v.scripts) in
     let script = get_or plan.scripts worker [] in
     let test : Call → Bool = λ c. is_on (slice_get plan.objects (object_of c)) c in
+    let grown : call_count (set plan.scripts worker (script ++ call ∷ [])) ≡ call_count plan.scripts + 1 = omega (arith, sum_by-set length plan.scripts worker (script ++ call ∷ []) [] here, length-append script (call ∷ [])) in
     record {
-      valid = valid_from (record plan { scripts = set plan.scripts worker (script ++ call ∷ []) }) (record {
-        scripts = length-set plan.scripts worker (script ++ call ∷ []) ∙ v.scripts;
-        calls = all_set (list_all test) plan.scripts worker (script ++ call ∷ []) (all_append test script (call ∷ []) (all_at test plan.scripts worker v.calls) (pair (test call) true on refl)) v.calls;
-        turns = v.turns;
-      });
+      readable = record {
+        valid = valid_from (record plan { scripts = set plan.scripts worker (script ++ call ∷ []) }) (record {
+          scripts = length-set plan.scripts worker (script ++ call ∷ []) ∙ v.scripts;
+          calls = all_set (list_all test) plan.scripts worker (script ++ call ∷ []) (all_append test script (call ∷ []) (all_at test plan.scripts worker v.calls) (pair (test call) true on refl)) v.calls;
+          turns = v.turns;
+        });
+        some_workers = r.some_workers;
+        few_workers = r.few_workers;
+        objects = r.objects;
+        calls = all_set (list_all is_call) plan.scripts worker (script ++ call ∷ []) (all_append is_call script (call ∷ []) (all_at is_call plan.scripts worker r.calls) (pair (is_call call) true parts.call refl)) r.calls;
+        call_room = omega (arith, grown, ltb-true (call_count plan.scripts) MAX_CALLS parts.room);
+        key_room = omega (
+          arith,
+          distinct_same (all_keys (set plan.scripts worker (script ++ call ∷ []))) (keys_of call ++ all_keys plan.scripts) (λ q. keys_more (bytes_eq q) plan.scripts worker call here ∙ sym (list_any-append (bytes_eq q) (keys_of call) (all_keys plan.scripts))),
+          leb-true (key_count plan.scripts (keys_of call)) MAX_KEYS parts.keys,
+        );
+        items = r.items;
+        turn_room = r.turn_room;
+      };
       current = h.current;
       names = h.names;
       keys = keys_with_call seen plan.scripts worker call here h.keys;
-      calls = omega (arith, h.calls, sum_by-set length plan.scripts worker (script ++ call ∷ []) [] here, length-append script (call ∷ []));
+      calls = omega (arith, h.calls, grown);
     }
 
 all_empty : {X : Type 0} (p : X → Bool) (n : ℕ) → list_all (list_all p) (replicate n []) ≡ true
@@ -192,13 +248,23 @@ no_calls zero = refl
 no_calls (suc n) = no_calls n
 
 -- the tables of a draft without lines
-pub indexed_start : (workers : ℕ) → IsIndexed (record { workers = workers; objects = []; scripts = replicate workers []; schedule = [] }) None empty empty 0
-indexed_start workers = record {
-  valid = valid_from (record { workers = workers; objects = []; scripts = replicate workers []; schedule = [] }) (record {
-    scripts = length-replicate workers [];
-    calls = all_empty (λ call. is_on (slice_get [] (object_of call)) call) workers;
-    turns = refl;
-  });
+pub indexed_start : (workers : ℕ) → 0 < workers → workers ≤ MAX_WORKERS → IsIndexed (record { workers = workers; objects = []; scripts = replicate workers []; schedule = [] }) None empty empty 0
+indexed_start workers some few = record {
+  readable = record {
+    valid = valid_from (record { workers = workers; objects = []; scripts = replicate workers []; schedule = [] }) (record {
+      scripts = length-replicate workers [];
+      calls = all_empty (λ call. is_on (slice_get [] (object_of call)) call) workers;
+      turns = refl;
+    });
+    some_workers = some;
+    few_workers = few;
+    objects = refl;
+    calls = all_empty is_call workers;
+    call_room = omega (arith, no_calls workers);
+    key_room = omega (arith, ap distinct_count (no_keys workers));
+    items = refl;
+    turn_room = omega arith;
+  };
   current = refl;
   names = λ name. get-empty (slice_cmp nat_cmp) name;
   keys = ap (λ (ks : List (List ℕ)). from_entries {R = slice_cmp nat_cmp} (marks ks)) (sym (no_keys workers));

@@ -1,5 +1,5 @@
 -- The keys of the calls, as a set.
-use Rattle.std.proofs.Common.{◌≡◌, ℕ, zero, suc, ◌+◌, ◌<◌, Bool, true, false, cond, ◌||◌, List, [], ◌∷◌, ◌++◌, map, length, get_or, set, Option, Some, None, refl, sym, ap, ◌∙◌, arith}
+use Rattle.std.proofs.Common.{◌≡◌, ℕ, zero, suc, ◌+◌, ◌<◌, ◌≤◌, Bool, true, false, cond, ◌||◌, List, [], ◌∷◌, ◌++◌, map, length, get_or, set, Option, Some, None, refl, sym, ap, ◌∙◌, arith}
 use Rattle.std.specs.Prelude.{is_some}
 use Rattle.std.specs.List.{list_any, flat_map}
 use Rattle.std.specs.Str.{bytes_eq}
@@ -12,7 +12,7 @@ use Rattle.sync_model.specs.declared.call.Call.{Call}
 use Rattle.workload.specs.Draft.{keys_of, all_keys, distinct_count}
 use Rattle.workload.specs.Index.{marks, with_keys}
 
-abbrev Keys : Type 0
+abbrev pub Keys : Type 0
 Keys = FinMap (slice_cmp nat_cmp) (Unit {0})
 
 is_some_cond : {X : Type 0} (b : Bool) (x : X) (o : Option X) → is_some (cond b (Some x) o) ≡ (b || is_some o)
@@ -45,7 +45,7 @@ same_marks (Some u) None e = absurd cc
 same_marks (Some u) (Some v) e = refl
 
 -- two sets with the same names are one
-same_keys : (m n : Keys) → ((q : List ℕ) → is_some (get m q) ≡ is_some (get n q)) → m ≡ n
+pub same_keys : (m n : Keys) → ((q : List ℕ) → is_some (get m q) ≡ is_some (get n q)) → m ≡ n
 same_keys m n e = same_map nat_list_cmp_total (slice_cmp-IsAntisymmetric nat_cmp-IsAntisymmetric) m n (λ q. same_marks (get m q) (get n q) (e q))
 
 or_swap : (a b c : Bool) → (a || (b || c)) ≡ (b || (a || c))
@@ -102,3 +102,17 @@ keys_with_call seen scripts i call lt is =
     ∙ ap (λ (b : Bool). list_any (bytes_eq q) (keys_of call) || b) (ap (λ (m : Keys). is_some (get m q)) is ∙ has_name (all_keys scripts) q)
     ∙ sym (keys_more (bytes_eq q) scripts i call lt)
     ∙ sym (has_name (all_keys (set scripts i (get_or scripts i [] ++ call ∷ []))) q))
+
+-- ---- how many different names there are
+
+pub distinct_more : (xs ys : List (List ℕ)) → distinct_count ys ≤ distinct_count (xs ++ ys)
+distinct_more [] ys = omega arith
+distinct_more (x ∷ xs) ys =
+    elim (list_any (bytes_eq x) (xs ++ ys)) as (λ b. distinct_count ys ≤ cond b (distinct_count (xs ++ ys)) (distinct_count (xs ++ ys) + 1)) [
+      | true ↦ distinct_more xs ys
+      | false ↦ omega (arith, distinct_more xs ys)
+    ]
+
+pub distinct_same : (xs ys : List (List ℕ)) → ((q : List ℕ) → list_any (bytes_eq q) xs ≡ list_any (bytes_eq q) ys) → distinct_count xs ≡ distinct_count ys
+distinct_same xs ys e =
+    sym (len_names xs) ∙ ap len (same_keys _ _ (λ q. has_name xs q ∙ e q ∙ sym (has_name ys q))) ∙ len_names ys

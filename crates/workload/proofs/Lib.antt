@@ -9,3 +9,9 @@ pub mod ReadLemmas
 pub mod OneReading
 pub mod SameLine
 pub mod NoReason
+pub mod PrintLemmas
+pub mod LineTexts
+pub mod FollowOn
+pub mod CanonicalFollows
+pub mod CanonicalReads
+pub mod EachText

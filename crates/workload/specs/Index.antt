@@ -5,7 +5,8 @@ use Rattle.std.specs.Ordering.{nat_cmp}
 use Rattle.std.specs.Cmp.Lexicographic.{slice_cmp}
 use Rattle.std.specs.FinMap.{FinMap, get, insert, from_entries}
 use Rattle.workload.specs.declared.object.Declared.{Declared}
-use Rattle.workload.specs.Plan.{Plan, is_valid}
+use Rattle.workload.specs.Plan.{Plan}
+use Rattle.workload.specs.Readable.{IsReadable}
 use Rattle.workload.specs.Draft.{declared_from, all_keys, call_count}
 
 -- names with nothing at each
@@ -14,7 +15,7 @@ marks names = map (λ name. (name, tt)) names
 
 -- the tables say of the plan what they are asked
 pub record IsIndexed (plan : Plan) (worker : Option ℕ) (table : FinMap (slice_cmp nat_cmp) Declared) (seen : FinMap (slice_cmp nat_cmp) (Unit {0})) (number : ℕ) : Type 0 where
-  pub valid : is_valid plan ≡ true
+  pub readable : IsReadable plan
   pub current : option_map_or (λ w. nat_lt w plan.workers) worker true ≡ true
   pub names : (name : List ℕ) → get table name ≡ declared_from 0 name plan.objects
   pub keys : seen ≡ from_entries (marks (all_keys plan.scripts))

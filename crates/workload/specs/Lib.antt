@@ -1,9 +1,11 @@
+pub mod Canonical
 pub mod Checks
 pub mod Draft
 pub mod Index
 pub mod Lines
 pub mod LineResult
 pub mod Plan
+pub mod Readable
 pub mod Reads
 pub mod Reason
 pub mod Words

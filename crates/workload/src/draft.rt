@@ -1,5 +1,6 @@
 //! What the lines of a text say so far.
 ghost use Rattle.std.specs.Prelude.{◌≡◌, ◌≤◌, ◌<◌, ◌+◌, ◌∷◌, [], true, length, nat_lt, is_some, replicate, IfOk, OnOk};
+ghost use Rattle.workload.specs.declared.limits.TheConstants.{MAX_WORKERS};
 ghost use Rattle.workload.specs.Index.{with_keys};
 ghost use Rattle.workload.specs.Draft.{started, with_line, may_follow, declared, count_of, count_together, limit_of, call_count, key_count, keys_of};
 
@@ -88,6 +89,8 @@ fn insert_keys(alloc: Global, keys: &mut ByName<()>, call: &Call) -> Result<(), 
 impl Draft {
     /// The draft behind the first line.
     pub fn start(alloc: Global, workers: u32) -> Result<Self, AllocError>
+        requires some { 0 < workers }
+        requires few { workers ≤ MAX_WORKERS }
         ensures { IfOk result (λ draft. draft ≡ started workers) }
     {
         Ok(Draft {

@@ -1,5 +1,7 @@
 //! Laws of the grammar.
-ghost use Rattle.std.specs.Prelude.{◌≡◌, ℕ, List};
+ghost use Rattle.std.specs.Prelude.{◌≡◌, ◌⊎◌, ℕ, List};
+ghost use Rattle.workload.specs.Canonical.{canonical};
+ghost use Rattle.workload.specs.Readable.{IsReadable};
 ghost use Rattle.workload.specs.declared.reason.Reason.{Reason};
 ghost use Rattle.workload.specs.Plan.{Plan};
 ghost use Rattle.workload.specs.Reads.{Reads, IsRefused};
@@ -12,4 +14,14 @@ pub fn one_reading()
 /// No text is both read and refused.
 pub fn read_or_refused()
     ensures { (bytes : List ℕ) (plan : Plan) (line : ℕ) (reason : Reason) → Reads bytes plan → IsRefused bytes line reason → ⊥ }
+{}
+
+/// Each text is read or refused.
+pub fn each_text()
+    ensures { (bytes : List ℕ) → ((plan : Plan) × Reads bytes plan) ⊎ ((line : ℕ) × (reason : Reason) × IsRefused bytes line reason) }
+{}
+
+/// Two workloads with one canonical text are equal.
+pub fn one_text()
+    ensures { (p q : Plan) → IsReadable p → IsReadable q → canonical p ≡ canonical q → p ≡ q }
 {}

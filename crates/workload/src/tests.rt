@@ -145,3 +145,28 @@ fn the_parts_of_a_workload(rt: HostRuntime) -> Result<(), Fail> {
     );
     Ok(())
 }
+
+#[test]
+fn the_canonical_text(rt: HostRuntime) -> Result<(), Fail> {
+    let cases: [(&[u8], &[u8]); 4] = [
+        (
+            b"workers 1\nmap t\nworker 0\nstore t apple 5\nload t apple\n",
+            b"workers 1\nmap t\nworker 0\nstore t apple 5\nload t apple\n",
+        ),
+        (b" # none\n workers  2", b"workers 2\nworker 0\nworker 1\n"),
+        (
+            b"workers 2\nworker 1\nmap u\nload u k\nworker 0\nmap t\nstore t k 0\nworker 1\nload t k\n",
+            b"workers 2\nmap u\nmap t\nworker 0\nstore t k 0\nworker 1\nload u k\nload t k\n",
+        ),
+        (
+            b"workers 2\nschedule 0 1 0 1\nschedule 0 @5 0 1 1\n",
+            b"workers 2\nworker 0\nworker 1\nschedule 0 1 0 1 0 @5 0 1\nschedule 1\n",
+        ),
+    ];
+    for (text, canonical) in cases {
+        let workload = parse(rt.alloc(), text).ok().ok_or("the text is read")?;
+        let printed = print(rt.alloc(), &workload)?;
+        assert_eq!(rt; printed.as_slice(), canonical, "at {text:?}");
+    }
+    Ok(())
+}

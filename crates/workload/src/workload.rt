@@ -1,6 +1,7 @@
 //! A workload that was read.
 ghost use Rattle.std.specs.Prelude.{◌≡◌, ◌<◌, true, length, get_or, []};
 ghost use Rattle.workload.specs.Plan.{is_valid};
+ghost use Rattle.workload.specs.Readable.{IsReadable};
 
 use crate::object::ObjectLine;
 use crate::turn::Turn;
@@ -18,14 +19,14 @@ pub struct Workload {
 }
 
 impl Model for Workload {
-    ghost use Rattle.std.specs.Prelude.{◌≡◌, true};
-    ghost use Rattle.workload.specs.Plan.{Plan, is_valid};
+    ghost use Rattle.workload.specs.Plan.{Plan};
+    ghost use Rattle.workload.specs.Readable.{IsReadable};
 
     ghost Value = { Plan };
 
     ghost view = { λ w. record { workers = w.workers; objects = w.objects; scripts = w.scripts; schedule = w.schedule } };
 
-    ghost invariant = { λ w. is_valid (record { workers = w.workers; objects = w.objects; scripts = w.scripts; schedule = w.schedule }) ≡ true };
+    ghost invariant = { λ w. IsReadable (record { workers = w.workers; objects = w.objects; scripts = w.scripts; schedule = w.schedule }) };
 }
 
 impl Workload {
@@ -36,7 +37,7 @@ impl Workload {
         scripts: Seq<Seq<Call>>,
         schedule: Seq<Turn>,
     ) -> Self
-        requires { is_valid (record { workers = workers; objects = objects; scripts = scripts; schedule = schedule }) ≡ true }
+        requires { IsReadable (record { workers = workers; objects = objects; scripts = scripts; schedule = schedule }) }
         ensures { result ≡ record { workers = workers; objects = objects; scripts = scripts; schedule = schedule } }
     {
         Workload {
@@ -51,6 +52,7 @@ impl Workload {
     pub fn workers(&self) -> u32
         ensures workers { result ≡ self.now.workers }
         ensures valid { is_valid self.now ≡ true }
+        ensures readable { IsReadable self.now }
     {
         self.workers
     }

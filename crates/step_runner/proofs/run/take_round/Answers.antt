@@ -1,7 +1,7 @@
 use Rattle.std.proofs.Common.{sym, ap, ◌∙◌}
 use Rattle.step_runner.specs.State.{State}
 use Rattle.step_runner.specs.Turns.{after_turn}
-use Rattle.step_runner.proofs.TurnLemmas.{round_more}
+use Rattle.step_runner.proofs.RoundLemmas.{round_more}
 use Rattle.step_runner.proofs.run.take_round.Goals as goal
 
 pub loop-worker-preserved : goal.loop-worker-preserved

@@ -2,7 +2,7 @@ use Rattle.std.proofs.Common.{◌≡◌, ◌<◌, false, true, sym, subst}
 use Rattle.step_runner.specs.State.{State}
 use Rattle.step_runner.specs.Turns.{has_ended}
 use Rattle.step_runner.proofs.Left.{left}
-use Rattle.step_runner.proofs.TurnLemmas.{IsOnTheWay, sets_out, arrives, one_round, round_smaller}
+use Rattle.step_runner.proofs.RoundLemmas.{IsOnTheWay, sets_out, arrives, one_round, round_smaller}
 use Rattle.step_runner.proofs.run.take_rounds.Goals as goal
 
 pub loop-alloc-init : goal.loop-alloc-init

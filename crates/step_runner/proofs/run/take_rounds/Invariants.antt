@@ -1,5 +1,5 @@
 use Rattle.step_runner.proofs.Left.{left}
-use Rattle.step_runner.proofs.TurnLemmas.{IsOnTheWay}
+use Rattle.step_runner.proofs.RoundLemmas.{IsOnTheWay}
 use Rattle.step_runner.proofs.run.take_rounds.Given as goal
 
 abbrev pub invariant-loop-alloc : goal.invariant-loop-alloc

@@ -1,0 +1,12 @@
+use Rattle.mutex_core.specs.MutexMachine.{start}
+use Rattle.mutex_core.proofs.Validity.{start-valid, next-valid, after-valid}
+use Rattle.mutex_core.proofs.laws.validity.Goals as goal
+
+pub returns-clause-begins : goal.returns-clause-begins
+returns-clause-begins c = start-valid
+
+pub returns-clause-goes_on : goal.returns-clause-goes_on
+returns-clause-goes_on c = next-valid
+
+pub returns-clause-always : goal.returns-clause-always
+returns-clause-always c callers journal = after-valid (start callers) journal (start-valid callers)

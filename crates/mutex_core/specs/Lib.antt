@@ -1,0 +1,6 @@
+pub mod Starving
+pub mod MutexMachine
+pub mod MutexCore
+pub mod Edges
+pub mod Exclusion
+pub mod HandOff

@@ -1,0 +1,169 @@
+//! Worked runs, event by event.
+use super::MutexCore;
+use crate::event::MutexEvent;
+use crate::place::Place;
+use crate::reply::{Arrival, MutexReply, Resumption, Unlocking};
+use std::test::Fail;
+use sync_model::Misuse;
+
+/// An event of a caller, and what it should be answered.
+type Row = (u32, MutexEvent, MutexReply);
+
+/// One event, where the caller is at the place that the event needs.
+fn step(mutex: &mut MutexCore, caller: u32, event: MutexEvent) -> MutexReply {
+    if caller >= mutex.callers {
+        return MutexReply::Still;
+    }
+    let place = mutex.place(caller);
+    match event {
+        MutexEvent::Arrive { now } if place == Place::Out => MutexReply::Arrived(mutex.arrive(
+            caller, now,
+        )),
+        MutexEvent::Try if place == Place::Out => MutexReply::Tried(mutex.try_arrive(caller)),
+        MutexEvent::Unlock => MutexReply::Unlocked(mutex.unlock(caller)),
+        MutexEvent::Woken { now } if place == Place::Woken || place == Place::Handed =>
+            MutexReply::Resumed(mutex.woken(caller, now)),
+        _ => MutexReply::Still,
+    }
+}
+
+/// Three callers, of which one waits until the moment `late`, when the mutex is taken from it again.
+/// What comes after depends on whether it starves.
+fn passed_over(late: u64) -> [Row; 8] {
+    [
+        (
+            0,
+            MutexEvent::Arrive { now: 0 },
+            MutexReply::Arrived(Arrival::Acquired),
+        ),
+        (
+            1,
+            MutexEvent::Arrive { now: 0 },
+            MutexReply::Arrived(Arrival::Queued(1)),
+        ),
+        (0, MutexEvent::Try, MutexReply::Tried(false)),
+        (
+            0,
+            MutexEvent::Unlock,
+            MutexReply::Unlocked(Unlocking::Woke(1)),
+        ),
+        (
+            0,
+            MutexEvent::Arrive { now: 0 },
+            MutexReply::Arrived(Arrival::Acquired),
+        ),
+        (
+            2,
+            MutexEvent::Arrive { now: late },
+            MutexReply::Arrived(Arrival::Queued(2)),
+        ),
+        (2, MutexEvent::Woken { now: late }, MutexReply::Still),
+        (
+            1,
+            MutexEvent::Woken { now: late },
+            MutexReply::Resumed(Resumption::Requeued),
+        ),
+    ]
+}
+
+#[test]
+fn starvation_mode_hands_the_mutex_on(rt: HostRuntime) -> Result<(), Fail> {
+    let late = 1_000_001;
+    let mut mutex = MutexCore::new(rt.alloc(), 3)?;
+    for (caller, event, reply) in passed_over(late) {
+        assert_eq!(rt; step(&mut mutex, caller, event), reply);
+    }
+    let rows: [Row; 9] = [
+        (
+            0,
+            MutexEvent::Unlock,
+            MutexReply::Unlocked(Unlocking::Handed(1)),
+        ),
+        (0, MutexEvent::Try, MutexReply::Tried(false)),
+        (
+            0,
+            MutexEvent::Unlock,
+            MutexReply::Unlocked(Unlocking::Misuse(Misuse::UnlockOfUnlockedMutex)),
+        ),
+        (2, MutexEvent::Woken { now: late }, MutexReply::Still),
+        (
+            1,
+            MutexEvent::Woken { now: late },
+            MutexReply::Resumed(Resumption::Acquired),
+        ),
+        (
+            1,
+            MutexEvent::Unlock,
+            MutexReply::Unlocked(Unlocking::Handed(2)),
+        ),
+        (
+            2,
+            MutexEvent::Woken { now: late },
+            MutexReply::Resumed(Resumption::Acquired),
+        ),
+        (2, MutexEvent::Unlock, MutexReply::Unlocked(Unlocking::Free)),
+        (0, MutexEvent::Try, MutexReply::Tried(true)),
+    ];
+    for (caller, event, reply) in rows {
+        assert_eq!(rt; step(&mut mutex, caller, event), reply);
+    }
+    Ok(())
+}
+
+#[test]
+fn waiting_for_the_threshold_itself_is_no_starving(rt: HostRuntime) -> Result<(), Fail> {
+    let late = 1_000_000;
+    let mut mutex = MutexCore::new(rt.alloc(), 3)?;
+    for (caller, event, reply) in passed_over(late) {
+        assert_eq!(rt; step(&mut mutex, caller, event), reply);
+    }
+    let rows: [Row; 8] = [
+        (
+            0,
+            MutexEvent::Unlock,
+            MutexReply::Unlocked(Unlocking::Woke(1)),
+        ),
+        (0, MutexEvent::Try, MutexReply::Tried(true)),
+        (0, MutexEvent::Unlock, MutexReply::Unlocked(Unlocking::Free)),
+        (
+            1,
+            MutexEvent::Woken { now: late },
+            MutexReply::Resumed(Resumption::Acquired),
+        ),
+        (
+            1,
+            MutexEvent::Unlock,
+            MutexReply::Unlocked(Unlocking::Woke(2)),
+        ),
+        (
+            2,
+            MutexEvent::Woken { now: late },
+            MutexReply::Resumed(Resumption::Acquired),
+        ),
+        (2, MutexEvent::Unlock, MutexReply::Unlocked(Unlocking::Free)),
+        (
+            2,
+            MutexEvent::Unlock,
+            MutexReply::Unlocked(Unlocking::Misuse(Misuse::UnlockOfUnlockedMutex)),
+        ),
+    ];
+    for (caller, event, reply) in rows {
+        assert_eq!(rt; step(&mut mutex, caller, event), reply);
+    }
+    Ok(())
+}
+
+#[test]
+fn a_locked_mutex_belongs_to_nobody(rt: HostRuntime) -> Result<(), Fail> {
+    let mut mutex = MutexCore::new(rt.alloc(), 2)?;
+    assert_eq!(rt;
+        step(&mut mutex, 0, MutexEvent::Arrive { now: 5 }),
+        MutexReply::Arrived(Arrival::Acquired)
+    );
+    assert_eq!(rt;
+        step(&mut mutex, 1, MutexEvent::Unlock),
+        MutexReply::Unlocked(Unlocking::Free)
+    );
+    assert_eq!(rt; step(&mut mutex, 2, MutexEvent::Unlock), MutexReply::Still);
+    Ok(())
+}

@@ -1,0 +1,173 @@
+-- Passes that are brought together in one seat, and dealt out again.
+use Rattle.std.proofs.Common.{Bool, ◌≡◌, ◌≢◌, ℕ, zero, suc, ◌+◌, ◌<◌, List, [], ◌∷◌, ◌++◌, length, length-append, replicate, get_or, set, slice_get, Option, Some, refl, sym, ap, ◌∙◌, subst, arith}
+use Rattle.std.proofs.lemmas.List.{length-replicate}
+use Rattle.std.proofs.lemmas.Option.{slice_get-get_or}
+use mathlib.Core.Logic.{dite}
+use mathlib.Core.Option.{some}
+use native.Mathlib.Decide.{ℕ_discrete}
+use lib.ListN.{get_elem?}
+use Rattle.atomic_table.specs.declared.shared.Seat.{Seat}
+use Rattle.atomic_table.proofs.Lists.{at_longer}
+use Rattle.sync_model.specs.declared.journal.Entry.{Entry}
+use Rattle.sync_model.specs.Journal.{Begins, by}
+use Rattle.ruled_object.specs.declared.cell.Cell.{Cell}
+use Rattle.ruled_object.specs.declared.object.Object.{Object}
+use Rattle.ruled_object.specs.declared.pass.Pass.{Pass}
+use Rattle.ruled_object.specs.declared.rule.Begin.{Begin}
+use Rattle.ruled_object.specs.declared.view.Stage.TheVariants.{Idle}
+use Rattle.ruled_object.specs.declared.view.View.{View}
+use Rattle.ruled_object.specs.Gathered.{AreAllPasses, SamePasses, Gathered, Dealing, IsDealt, IsWhole}
+use Rattle.ruled_object.specs.Passes.{own_of, own_by, seen_by, SamePass, callers_of}
+use Rattle.ruled_object.specs.Steps.{Sat, first_of, others_of, joined, kept, dealt, Learns}
+use Rattle.ruled_object.proofs.Calls.{own_is}
+use Rattle.ruled_object.proofs.Journals.{begins_all, past_end}
+use Rattle.ruled_object.proofs.Steps.{in_blank}
+
+module _ {A : Type 0} where
+  at_second : (xs ys : List A) (i : ℕ) (y : A) → get_elem? ys i ≡ some y → get_elem? (xs ++ ys) (length xs + i) ≡ some y
+  at_second [] ys i y e = let same : i ≡ 0 + i = omega arith in subst (λ (k : ℕ). get_elem? ys k ≡ some y) same e
+  at_second (x ∷ xs) ys i y e = let same : suc (length xs + i) ≡ suc (length xs) + i = omega arith in subst (λ (k : ℕ). get_elem? (x ∷ (xs ++ ys)) k ≡ some y) same (at_second xs ys i y e)
+
+  pub get_set_same : (xs : List A) (i : ℕ) (a b : A) → slice_get (set xs i a) i ≡ Some b → a ≡ b
+  get_set_same [] i a b e = (cc)
+  get_set_same (x ∷ xs) zero a b e = (cc)
+  get_set_same (x ∷ xs) (suc i) a b e = get_set_same xs i a b e
+
+  pub get_set_other : (xs : List A) (i j : ℕ) (a : A) → j ≢ i → slice_get (set xs i a) j ≡ slice_get xs j
+  get_set_other [] i j a ne = refl
+  get_set_other (x ∷ xs) zero zero a ne = absurd (ne refl)
+  get_set_other (x ∷ xs) zero (suc j) a ne = refl
+  get_set_other (x ∷ xs) (suc i) zero a ne = refl
+  get_set_other (x ∷ xs) (suc i) (suc j) a ne = get_set_other xs i j a (λ e. ne (ap suc e))
+
+  others_at : (xs : List A) (i : ℕ) → get_elem? (others_of xs) i ≡ get_elem? xs (suc i)
+  others_at [] i = refl
+  others_at (x ∷ xs) i = refl
+
+  one_less : (xs : List A) → 0 < length xs → length (others_of xs) + 1 ≡ length xs
+  one_less [] h = absurd (omega arith)
+  one_less (x ∷ xs) h = omega arith
+
+  just_one : (xs : List A) → 0 < length xs → length (first_of xs) ≡ 1
+  just_one [] h = absurd (omega arith)
+  just_one (x ∷ xs) h = refl
+
+module _ {E R : Type 0} where
+  own_of_first : (owns : List (List (Entry E R))) → own_of (first_of owns) ≡ own_of owns
+  own_of_first [] = refl
+  own_of_first (own ∷ owns) = refl
+
+  pub no_entries : (n i : ℕ) (own : List (Entry E R)) → get_elem? (replicate n []) i ≡ some own → own ≡ []
+  no_entries n i own e = sym (in_blank n i [] own e).1
+
+  pub some_left : (n callers : ℕ) (log : List (Entry E R)) (v : View E R) → Dealing n log (replicate callers []) v → n < callers → 0 < length v.owns
+  some_left n callers log v d below = let count = d.count in let sized = length-replicate {A = List (Entry E R)} callers [] in omega arith
+
+  -- the seat lets the next caller go
+  pub dealing_on : (n : ℕ) (log : List (Entry E R)) (owns : List (List (Entry E R))) (v : View E R) → 0 < length v.owns → Dealing n log owns v → Dealing (n + 1) log owns (kept v)
+  dealing_on n log owns v some_own d = let count = d.count in let less = one_less v.owns some_own in let number = d.number in record {
+    stage = d.stage;
+    seen = d.seen;
+    number = omega arith;
+    count = omega arith;
+    owns = λ i. let same : n + suc i ≡ (n + 1) + i = omega arith in others_at v.owns i ∙ (d.owns (suc i) ∙ ap (get_elem? owns) same);
+  }
+
+module _ {S N E R : Type 0} where
+  abbrev pub pass_of : ℕ → ℕ → Seat (Option (Cell S N)) (View E R) → Pass S N E R
+  pass_of number left seat = record { number = number; left = left; seat = seat }
+
+  -- one pass more is taken in
+  pub gathered_on : (n : ℕ) (passes : List (Pass S N E R)) (pass : Pass S N E R) (v : View E R) → slice_get passes n ≡ Some pass → length pass.seat.me.0.owns ≡ 1 → Gathered n passes v
+      → Gathered (n + 1) passes (joined v pass.seat.me.0)
+  gathered_on n passes pass v at_n one d = let w : View E R = pass.seat.me.0 in let count = d.count in record {
+    stage = d.stage;
+    number = d.number;
+    count = omega (arith, length-append v.owns w.owns);
+    owns = λ i p below at_i. dite (ℕ_discrete i n)
+        (λ is. let same : pass ≡ p = (let e : Some pass ≡ Some p = sym at_n ∙ (ap (slice_get passes) (sym is) ∙ at_i) in (cc)) in
+        let place : length v.owns + 0 ≡ i = omega arith in let some_own : 0 < length w.owns = omega arith in
+        subst (λ (k : ℕ). get_elem? (v.owns ++ w.owns) k ≡ some (own_by p)) place (at_second v.owns w.owns 0 (own_by p) (own_is w.owns some_own ∙ ap (λ (x : Pass S N E R). some (own_by x)) same)))
+        (λ other. at_longer v.owns w.owns i (own_by p) (d.owns i p (omega arith) at_i));
+    heard = λ i p below at_i. dite (ℕ_discrete i n)
+        (λ is. let same : pass ≡ p = (let e : Some pass ≡ Some p = sym at_n ∙ (ap (slice_get passes) (sym is) ∙ at_i) in (cc)) in
+        (length v.heard + 0, at_second v.heard (w.seen ∷ w.heard) 0 (seen_by p) (ap (λ (x : Pass S N E R). some (seen_by x)) same)))
+        (λ other. let h = d.heard i p (omega arith) at_i in (h.0, at_longer v.heard (w.seen ∷ w.heard) h.0 (seen_by p) h.1));
+  }
+
+  at_same : (old new : List (Pass S N E R)) (i : ℕ) (pass : Pass S N E R) → length new ≡ length old → slice_get new i ≡ Some pass → slice_get old i ≡ Some (get_or old i pass)
+  at_same old new i pass sized at_i = let below = past_end new pass i at_i in slice_get-get_or old i pass (omega arith)
+
+  pub same_through : (a b c : List (Pass S N E R)) → SamePasses a b → SamePasses b c → SamePasses a c
+  same_through a b c d e = record {
+    count = e.count ∙ d.count;
+    each = λ i p q at_a at_c. let middle = at_same b c i q e.count at_c in let first = d.each i p (get_or b i q) at_a middle in let second = e.each i (get_or b i q) q middle at_c in (second.0 ∙ first.0, second.1 ∙ first.1);
+  }
+
+  pub still_numbered : {M H : Type 0} (object : Object M N S E R H) (old new : List (Pass S N E R)) → AreAllPasses object old → SamePasses old new → (i : ℕ) (pass : Pass S N E R) → slice_get new i ≡ Some pass → pass.number ≡ i
+  still_numbered object old new all same i pass at_i = let before = at_same old new i pass same.count at_i in (same.each i (get_or old i pass) pass before at_i).0 ∙ (all.each i (get_or old i pass) before).1
+
+  -- one pass is changed, and stays its caller's
+  pub same_on : (old passes : List (Pass S N E R)) (n : ℕ) (before after : Pass S N E R) → slice_get old n ≡ Some before → SamePass before after → length (set passes n after) ≡ length passes
+      → SamePasses old passes → SamePasses old (set passes n after)
+  same_on old passes n before after at_n same sized d = record {
+    count = sized ∙ d.count;
+    each = λ i p q at_old at_new. dite (ℕ_discrete i n)
+        (λ is. let e : before ≡ p = (let f : Some before ≡ Some p = sym at_n ∙ (ap (slice_get old) (sym is) ∙ at_old) in (cc)) in
+        let f : after ≡ q = get_set_same passes n after q (ap (slice_get (set passes n after)) (sym is) ∙ at_new) in
+        subst (λ (x : Pass S N E R × Pass S N E R). SamePass x.0 x.1) (λ k. (e k, f k)) same)
+        (λ other. d.each i p q at_old (sym (get_set_other passes n i after other) ∙ at_new));
+  }
+
+-- the pass that is dealt out
+pub is_dealt : {M N S E R H : Type 0} (object : Object M N S E R H) (n : ℕ) (log : List (Entry E R)) (all : List (List (Entry E R))) (v : View E R) (pass : Pass S N E R) → Dealing n log all v → 0 < length v.owns
+    → n < callers_of object → pass.seat.table_id ≡ object.table.shared.table_id → pass.seat.me ≡ (dealt v, []) → pass.number ≡ n → IsDealt object n log all pass
+is_dealt {M} {N} {S} {E} {R} {H} object n log all v pass d some_own below table me number =
+    let owns : pass.seat.me.0.owns ≡ first_of v.owns = ap (λ (m : Sat S N E R). m.0.owns) me in
+    let same : n + 0 ≡ n = omega arith in record {
+      is = record {
+        table = table;
+        caller = subst (λ (k : ℕ). k < callers_of object) (sym number) below;
+        number = ap (λ (m : Sat S N E R). m.0.number) me ∙ (d.number ∙ sym number);
+        one = ap (λ (xs : List (List (Entry E R))). length xs) owns ∙ just_one v.owns some_own;
+        turn = ap (λ (m : Sat S N E R). m.0.stage) me;
+        empty = ap (λ (m : Sat S N E R). m.1) me;
+      };
+      number = number;
+      seen = ap (λ (m : Sat S N E R). m.0.seen) me ∙ d.seen;
+      own = ap (get_elem? all) (sym same) ∙ (sym (d.owns 0) ∙ (own_is v.owns some_own ∙ ap (λ (x : List (Entry E R)). some x) (sym (ap own_of owns ∙ own_of_first v.owns))));
+    }
+
+module _ {S N E R H : Type 0} (next : S → ℕ → E → S × R) (halts : Bool) (frees takes : E → R → Bool) (front : N → List ℕ) (at : H → N → Type 0) (begin : Begin S N) where
+  -- what the seat that gathered all passes learns with the turn
+  pub whole : (passes : List (Pass S N E R)) (v : View E R) (log : List (Entry E R)) (cell : Cell S N) → length passes ≡ begin.callers → Gathered (length passes) passes v
+      → Learns next halts frees takes front at begin v log cell → IsWhole next halts frees takes begin.state log passes
+  whole passes v log cell count d learns = record {
+    follows = learns.lawful.follows;
+    edges = learns.lawful.edges;
+    owns = λ i pass at_i. let number = d.number in let same : v.number + i ≡ i = omega arith in (learns.owns i (own_by pass) (d.owns i pass (past_end passes pass i at_i) at_i)).1 ∙ ap (λ (c : ℕ). by c log) same;
+    seen = λ i pass at_i. let h = d.heard i pass (past_end passes pass i at_i) at_i in learns.heard h.0 (seen_by pass) h.1;
+    callers = λ c past. learns.lawful.callers c (omega arith);
+  }
+
+  -- and what the passes say that it deals out again
+  pub whole_again : {M : Type 0} (object : Object M N S E R H) (passes : List (Pass S N E R)) (v : View E R) (log : List (Entry E R)) (cell : Cell S N) → length passes ≡ begin.callers → v.number ≡ 0
+      → ((i : ℕ) (pass : Pass S N E R) → slice_get passes i ≡ Some pass → IsDealt object i log v.owns pass)
+      → Learns next halts frees takes front at begin v log cell → IsWhole next halts frees takes begin.state log passes
+  whole_again object passes v log cell count from_first dealt learns = record {
+    follows = learns.lawful.follows;
+    edges = learns.lawful.edges;
+    owns = λ i pass at_i. let same : v.number + i ≡ i = omega arith in (learns.owns i (own_by pass) (dealt i pass at_i).own).1 ∙ ap (λ (c : ℕ). by c log) same;
+    seen = λ i pass at_i. subst (Begins log) (sym (dealt i pass at_i).seen) (begins_all log);
+    callers = λ c past. learns.lawful.callers c (omega arith);
+  }
+
+-- all callers are still to be dealt out
+pub dealing_all : {E R : Type 0} (v : View E R) → v.stage ≡ Idle → v.number ≡ 0 → Dealing 0 v.seen v.owns v
+dealing_all v idle from_first = record {
+  stage = idle;
+  seen = refl;
+  number = from_first;
+  count = omega arith;
+  owns = λ i. let same : i ≡ 0 + i = omega arith in ap (get_elem? v.owns) same;
+}

@@ -1,0 +1,5 @@
+pub mod Calls
+pub mod Gathering
+pub mod Journals
+pub mod Pairs
+pub mod Steps

@@ -1,0 +1,409 @@
+-- Each step on an object's table keeps its rule.
+use Rattle.std.proofs.Common.{◌≡◌, ◌≢◌, ℕ, zero, suc, ◌+◌, ◌<◌, Bool, cond, eqb, eq-eqb, ne_eqb, ◌⊎◌, inl, inr, ⊎_elim, List, [], ◌∷◌, ◌++◌, length, replicate, get_or, set, Option, Some, None, refl, sym, ap, ◌∙◌, subst, arith, length-set, length-append, get_or-set_same}
+use Rattle.std.proofs.lemmas.List.{length-replicate}
+use mathlib.Core.Logic.{dite}
+use mathlib.Core.Option.{some, none, some-ne-none, some-injective}
+use native.Mathlib.Decide.{ℕ_discrete}
+use prog.Atomic.{either}
+use lib.ListN.{get_elem?}
+use lib.Seq.{set-get_or}
+use Rattle.atomic_table.specs.Table.{State, Me, keeps, stepped, Allows, Enters, Splits, Joins, opening, Final, Seen}
+use Rattle.atomic_table.specs.Table as table
+use Rattle.atomic_table.proofs.Lists.{at_set, at_snoc, set_here, set_else, set_again, at_longer}
+use Rattle.sync_model.specs.declared.journal.Entry.{Entry}
+use Rattle.sync_model.specs.Journal.{Begins, by}
+use Rattle.ruled_object.specs.declared.cell.Cell.{Cell}
+use Rattle.ruled_object.specs.declared.rule.Begin.{Begin}
+use Rattle.ruled_object.specs.declared.view.Stage.{Stage}
+use Rattle.ruled_object.specs.declared.view.Stage.TheVariants.{Idle, Making, Taken}
+use Rattle.ruled_object.specs.declared.view.View.{View}
+use Rattle.ruled_object.specs.Rule.{HasTurn, Homes, AtStage, Owned, Fits, Lawful, Lies, Rests, Kept}
+use Rattle.ruled_object.specs.Steps.{Sat, first_of, others_of, blank, first_view, taken, added, gave, dealt, kept, joined, made, Learns, TakesTurn, TakesRest, MayAdd, MayGive}
+use Rattle.ruled_object.proofs.Journals.{begins_all, begins_more, by_here, by_other, follows_snoc, edges_snoc}
+
+module _ {V : Type 0} where
+  -- what is true of the seat that stepped, and of each other, is true of all
+  each_after : (P : ℕ → V → Type 0) (vs : List V) (me : ℕ) (w : V) → P me w → ((j : ℕ) (u : V) → j ≢ me → get_elem? vs j ≡ some u → P j u) → (j : ℕ) (u : V) → get_elem? (set vs me w) j ≡ some u → P j u
+  each_after P vs me w mine others j u e = ⊎_elim (λ (t : (j ≡ me) × (w ≡ u)). subst (λ (x : ℕ × V). P x.0 x.1) (λ i. (sym t.0 i, t.1 i)) mine)
+      (λ (t : (j ≢ me) × (get_elem? vs j ≡ some u)). others j u t.0 t.1) (at_set vs me j w u e)
+
+  there : (vs : List V) (i : ℕ) (v : V) → get_elem? vs i ≡ some v → i < length vs
+  there [] i v e = absurd (some-ne-none v (sym e))
+  there (x ∷ xs) zero v e = omega arith
+  there (x ∷ xs) (suc i) v e = let h = there xs i v e in omega arith
+
+  pub in_blank : (n i : ℕ) (x y : V) → get_elem? (replicate n x) i ≡ some y → (i < n) × (x ≡ y)
+  in_blank zero i x y e = absurd (some-ne-none y (sym e))
+  in_blank (suc n) zero x y e = (omega arith, some-injective x y e)
+  in_blank (suc n) (suc i) x y e = let t = in_blank n i x y e in let h = t.0 in (omega arith, t.1)
+
+  in_first : (xs : List V) (i : ℕ) (y : V) → get_elem? (first_of xs) i ≡ some y → (i ≡ 0) × (get_elem? xs 0 ≡ some y)
+  in_first [] i y e = absurd (some-ne-none y (sym e))
+  in_first (x ∷ xs) zero y e = (refl, e)
+  in_first (x ∷ xs) (suc i) y e = absurd (some-ne-none y (sym e))
+
+  in_others : (xs : List V) (i : ℕ) (y : V) → get_elem? (others_of xs) i ≡ some y → get_elem? xs (suc i) ≡ some y
+  in_others [] i y e = absurd (some-ne-none y (sym e))
+  in_others (x ∷ xs) i y e = e
+
+  in_both : (xs ys : List V) (i : ℕ) (z : V) → get_elem? (xs ++ ys) i ≡ some z → (get_elem? xs i ≡ some z) ⊎ ((j : ℕ) × (length xs + j ≡ i) × (get_elem? ys j ≡ some z))
+  in_both [] ys i z e = inr (i, omega arith, e)
+  in_both (x ∷ xs) ys zero z e = inl e
+  in_both (x ∷ xs) ys (suc i) z e = ⊎_elim (λ t. inl t) (λ t. let s = t.1 in inr (t.0, omega arith, t.2)) (in_both xs ys i z e)
+
+  -- what stands in a list with one more item stands in the list, or is that item
+  at_end : (l : List V) (a b : V) (j : ℕ) → get_elem? (l ++ a ∷ []) j ≡ some b → (get_elem? l j ≡ some b) ⊎ ((j ≡ length l) × (a ≡ b))
+  at_end [] a b zero e = inr (refl, some-injective a b e)
+  at_end [] a b (suc j) e = absurd (some-ne-none b (sym e))
+  at_end (x ∷ xs) a b zero e = inl e
+  at_end (x ∷ xs) a b (suc j) e = ⊎_elim (λ t. inl t) (λ t. inr (ap suc t.0, t.1)) (at_end xs a b j e)
+
+  first_there : (xs : List V) (i : ℕ) → i < length xs → (x : V) × (get_elem? xs i ≡ some x)
+  first_there [] i h = absurd (omega arith)
+  first_there (x ∷ xs) zero h = (x, refl)
+  first_there (x ∷ xs) (suc i) h = first_there xs i (omega arith)
+
+module _ {E R : Type 0} where
+  in_added : (xs : List (List (Entry E R))) (e : Entry E R) (i : ℕ) (y : List (Entry E R)) → get_elem? (added xs e) i ≡ some y
+      → ((i ≡ 0) × ((own : List (Entry E R)) × (get_elem? xs 0 ≡ some own) × (y ≡ own ++ e ∷ []))) ⊎ ((i ≢ 0) × (get_elem? xs i ≡ some y))
+  in_added [] e i y is = absurd (some-ne-none y (sym is))
+  in_added (x ∷ xs) e zero y is = inl (refl, (x, refl, sym (some-injective (x ++ e ∷ []) y is)))
+  in_added (x ∷ xs) e (suc i) y is = inr ((λ h. omega arith), is)
+
+  heard_more : (log seen : List (Entry E R)) (heard : List (List (Entry E R))) → Begins log seen → ((i : ℕ) (xs : List (Entry E R)) → get_elem? heard i ≡ some xs → Begins log xs)
+      → (i : ℕ) (xs : List (Entry E R)) → get_elem? (seen ∷ heard) i ≡ some xs → Begins log xs
+  heard_more log seen heard one all zero xs e = subst (Begins log) (some-injective seen xs e) one
+  heard_more log seen heard one all (suc i) xs e = all i xs e
+
+module _ {S N E R : Type 0} (callers : ℕ) where
+  -- what another seat knows stays so
+  fits_on : (log log' : List (Entry E R)) (word word' turn turn' : ℕ) (homes homes' : Homes S N) (claim claim' : ℕ → ℕ) (j : ℕ) (v : View E R)
+      → ((xs : List (Entry E R)) → Begins log xs → Begins log' xs) → ((c : ℕ) → claim c ≡ j → (claim' c ≡ j) × (by c log' ≡ by c log))
+      → (AtStage log word homes turn j v.seen v.stage → AtStage log' word' homes' turn' j v.seen v.stage)
+      → Fits callers log word homes turn claim j v → Fits callers log' word' homes' turn' claim' j v
+  fits_on log log' word word' turn turn' homes homes' claim claim' j v more same still f = record {
+    seen = more v.seen f.seen;
+    heard = λ i xs e. more xs (f.heard i xs e);
+    owns = λ i xs e. let o = f.owns i xs e in let s = same (v.number + i) o.1 in (o.0, s.0, o.2 ∙ sym s.1);
+    stage = still f.stage;
+  }
+
+  -- a seat without the turn doesn't mind who has it
+  idle_on : (log log' : List (Entry E R)) (word word' turn turn' : ℕ) (homes homes' : Homes S N) (j : ℕ) (seen : List (Entry E R)) (st : Stage)
+      → (HasTurn st → ⊥) → AtStage log word homes turn j seen st → AtStage log' word' homes' turn' j seen st
+  idle_on log log' word word' turn turn' homes homes' j seen Idle without f = tt
+  idle_on log log' word word' turn turn' homes homes' j seen Making without f = absurd (without tt)
+  idle_on log log' word word' turn turn' homes homes' j seen Taken without f = absurd (without tt)
+
+  -- a seat with the turn is the one that has it, and the word isn't 0
+  turn_is : (log : List (Entry E R)) (word turn : ℕ) (homes : Homes S N) (j : ℕ) (seen : List (Entry E R)) (st : Stage) → AtStage log word homes turn j seen st → HasTurn st → (j ≡ turn) × (word ≢ 0)
+  turn_is log word turn homes j seen Idle f h = absurd h
+  turn_is log word turn homes j seen Making f h = let e = f.0 in (f.1, λ z. absurd (omega arith))
+  turn_is log word turn homes j seen Taken f h = let e = f.0 in (f.1, λ z. absurd (omega arith))
+
+module _ {S N E R H : Type 0} (next : S → ℕ → E → S × R) (halts : Bool) (frees takes : E → R → Bool) (front : N → List ℕ) (at : H → N → Type 0) (begin : Begin S N) where
+  abbrev St : Type 0
+  St = State (Option (Cell S N)) (View E R)
+
+  abbrev Rule : St → Type 0
+  Rule = Kept next halts frees takes front at begin
+
+  abbrev word_of : St → ℕ
+  word_of s = get_or s.words 0 0
+
+  abbrev V : Type 0
+  V = View E R
+
+  abbrev Log : Type 0
+  Log = List (Entry E R)
+
+  abbrev M : Type 0
+  M = Sat S N E R
+
+  abbrev Cl : Type 0
+  Cl = Cell S N
+
+  abbrev Legal : Log → Type 0
+  Legal = Lawful next halts frees takes front at begin
+
+  abbrev Left : Log → Cl → Type 0
+  Left = Lies next halts frees takes front at begin
+
+  -- the making seat stands for all callers
+  pub opens : 0 < begin.callers → Rule (opening (2 ∷ []) (None ∷ []) (first_view begin.callers))
+  opens some_caller = record {
+    log = [];
+    turn = 0;
+    claim = λ c. 0;
+    wide = refl;
+    lawful = record { follows = tt; edges = λ i j x y before e. (cc); callers = λ c _. refl };
+    each = λ j v e. let t = in_first (first_view begin.callers ∷ []) j v e in let hs : Homes S N = some None ∷ [] in
+        subst (λ (z : ℕ × V). Fits begin.callers [] 2 hs 0 (λ c. 0) z.0 z.1) (λ i. (sym t.0 i, some-injective (first_view begin.callers) v t.1 i)) record {
+          seen = begins_all [];
+          heard = λ i xs is. absurd (some-ne-none xs (sym is));
+          owns = λ i xs is. let u = in_blank begin.callers i [] xs is in let h = u.0 in (omega arith, refl, sym u.1);
+          stage = (refl, refl, refl, refl);
+        };
+    free = λ e. absurd (omega arith);
+    busy = λ _. (first_view begin.callers, refl, tt, subst (λ (z : ℕ). 0 < z) (sym (length-replicate {A = List (Entry E R)} begin.callers [])) some_caller);
+  }
+
+  -- a step of the seat that has the turn then or before: it sets the word, what lies in the slot, and the history
+  turned : (s : St) (r : Rule s) (id : ℕ) (v w : V) (n : ℕ) (hs : Homes S N) (log : Log) (turn : ℕ) → get_elem? s.views id ≡ some v → Legal log
+      → Fits begin.callers log n hs turn r.claim id w → ((xs : Log) → Begins r.log xs → Begins log xs) → ((c : ℕ) → r.claim c ≢ id → by c log ≡ by c r.log)
+      → ((j : ℕ) (u : V) → j ≢ id → get_elem? s.views j ≡ some u → HasTurn u.stage → ⊥) → (n ≡ 0 → Rests next halts frees takes front at begin log hs)
+      → (n ≢ 0 → (turn ≡ id) × HasTurn w.stage × (0 < length w.owns)) → Rule record { words = set s.words 0 n; homes = hs; views = set s.views id w }
+  turned s r id v w n hs log turn at_me lawful mine more same alone free busy =
+      let wide = r.wide in let now : get_or (set s.words 0 n) 0 0 ≡ n = get_or-set_same s.words 0 n 0 (omega arith) in record {
+        log = log;
+        turn = turn;
+        claim = r.claim;
+        wide = length-set s.words 0 n ∙ wide;
+        lawful = lawful;
+        each = subst (λ (z : ℕ). (j : ℕ) (u : V) → get_elem? (set s.views id w) j ≡ some u → Fits begin.callers log z hs turn r.claim j u) (sym now)
+            (each_after (Fits begin.callers log n hs turn r.claim) s.views id w mine
+            (λ j u other e. fits_on begin.callers r.log log (word_of s) n r.turn turn s.homes hs r.claim r.claim j u more (λ c is. (is, same c (λ k. other (sym is ∙ k))))
+            (idle_on begin.callers r.log log (word_of s) n r.turn turn s.homes hs j u.seen u.stage (alone j u other e)) (r.each j u e)));
+        free = λ e. free (sym now ∙ e);
+        busy = λ ne. let b = busy (λ e. ne (now ∙ e)) in (w, subst (λ (z : ℕ). get_elem? (set s.views id w) z ≡ some w) (sym b.0) (set_here s.views id w (there s.views id v at_me)), b.1, b.2);
+      }
+
+  -- a step that changes nothing
+  unmoved : (s : St) → Rule s → (id : ℕ) (v : V) → get_elem? s.views id ≡ some v → Rule record { words = set s.words 0 (word_of s); homes = s.homes; views = set s.views id v }
+  unmoved s r id v at_me = subst (λ (x : List ℕ × List V). Rule record { words = x.0; homes = s.homes; views = x.1 }) (λ i. (sym (set-get_or s.words 0 0) i, sym (set_again s.views id v at_me) i)) r
+
+  -- no other seat has the turn
+  one_turn : (s : St) (r : Rule s) (id : ℕ) → id ≡ r.turn → (j : ℕ) (u : V) → j ≢ id → get_elem? s.views j ≡ some u → HasTurn u.stage → ⊥
+  one_turn s r id mine j u other e h = let t = turn_is begin.callers r.log (word_of s) r.turn s.homes j u.seen u.stage (r.each j u e).stage h in other (t.0 ∙ sym mine)
+
+  -- the making seat takes the empty slot
+  pub makes : (id : ℕ) (me : M) → me.0.stage ≡ Making → me.1 ≡ [] → 0 < length me.0.owns → Allows Rule 1 id me 0 (λ _. 1) (λ _. made me)
+  makes id me making empty some_own s r one at_me _ =
+      let v : V = me.0 in let w : V = record v { stage = Taken } in let f = r.each id v at_me in
+      let st : AtStage r.log (word_of s) s.homes r.turn id v.seen Making = subst (λ (z : Stage). AtStage r.log (word_of s) s.homes r.turn id v.seen z) making f.stage in (
+        w,
+        table.takes 0 None,
+        st.3,
+        turned s r id v w 1 (set s.homes 0 none) r.log id at_me r.lawful record { seen = f.seen; heard = f.heard; owns = f.owns; stage = (refl, refl, st.2) }
+            (λ xs b. b) (λ c _. refl) (one_turn s r id st.1) (λ e. absurd (omega arith)) (λ _. (refl, tt, some_own)),
+        (λ i. (w, (0, None) ∷ empty i)),
+      )
+
+  -- a seat takes the turn where nobody has it
+  pub takes_turn : (id : ℕ) (me : M) → me.1 ≡ [] → 0 < length me.0.owns → Allows Rule 1 id me 0 (λ x. either (eqb x 0) 1 x) (TakesTurn next halts frees takes front at begin me)
+  takes_turn id me empty some_own s r one at_me _ = let v : V = me.0 in let f = r.each id v at_me in dite (ℕ_discrete (word_of s) 0)
+      (λ is_free. let rest = r.free is_free in let w : V = taken v r.log in (
+        w,
+        table.takes 0 (Some rest.0),
+        rest.1,
+        subst (λ b. Rule (stepped s 0 (either b 1 (word_of s)) id me.1 w (table.takes 0 (Some rest.0)))) (sym (eq-eqb (word_of s) 0 is_free))
+            (turned s r id v w 1 (set s.homes 0 none) r.log id at_me r.lawful record { seen = begins_all r.log; heard = f.heard; owns = f.owns; stage = (refl, refl, refl) }
+            (λ xs b. b) (λ c _. refl) (λ j u _ e h. let t = turn_is begin.callers r.log (word_of s) r.turn s.homes j u.seen u.stage (r.each j u e).stage h in t.1 is_free) (λ e. absurd (omega arith)) (λ _. (refl, tt, some_own))),
+        (
+          (λ _. (r.log, rest.0, (λ i. (w, (0, Some rest.0) ∷ empty i)), record { seen = f.seen; heard = f.heard; owns = λ i xs e. let o = f.owns i xs e in (o.0, o.2); lawful = r.lawful; lies = rest.2 })),
+          λ ne. absurd (ne is_free),
+        ),
+      ))
+      (λ is_busy. (
+        v,
+        keeps,
+        tt,
+        subst (λ b. Rule (stepped s 0 (either b 1 (word_of s)) id me.1 v keeps)) (sym (ne_eqb (word_of s) 0 is_busy)) (unmoved s r id v at_me),
+        ((λ e. absurd (is_busy e)), λ _. refl),
+      ))
+
+  -- the seat with the turn gives it back, with one entry more or with none
+  gives_plain : (id : ℕ) (v : V) (cell : Cl) → v.stage ≡ Taken → Left v.seen cell → Allows Rule 1 id (v, (0, Some cell) ∷ []) 0 (λ _. 0) (λ _ n. n ≡ (gave v None, []))
+  gives_plain id v cell holder left s r one at_me _ =
+      let w : V = gave v None in let hs : Homes S N = set s.homes 0 (some (Some cell)) in let f = r.each id v at_me in
+      let st : AtStage r.log (word_of s) s.homes r.turn id v.seen Taken = subst (λ (z : Stage). AtStage r.log (word_of s) s.homes r.turn id v.seen z) holder f.stage in (
+        w,
+        table.gives,
+        tt,
+        turned s r id v w 0 hs r.log id at_me r.lawful record { seen = f.seen; heard = f.heard; owns = f.owns; stage = tt } (λ xs b. b) (λ c _. refl) (one_turn s r id st.1)
+            (λ _. (cell, set_here s.homes 0 (some (Some cell)) (omega arith), subst (λ (z : Log). Left z cell) (sym st.2) left)) (λ ne. absurd (ne refl)),
+        refl,
+      )
+
+  gives_entry : (id : ℕ) (v : V) (e : Entry E R) (cell : Cl) → v.stage ≡ Taken → 0 < length v.owns → MayAdd next halts frees takes front at begin v e cell
+      → Allows Rule 1 id (v, (0, Some cell) ∷ []) 0 (λ _. 0) (λ _ n. n ≡ (gave v (Some e), []))
+  gives_entry id v e cell holder some_own adds s r one at_me _ =
+      let w : V = gave v (Some e) in let hs : Homes S N = set s.homes 0 (some (Some cell)) in let f = r.each id v at_me in
+      let st : AtStage r.log (word_of s) s.homes r.turn id v.seen Taken = subst (λ (z : Stage). AtStage r.log (word_of s) s.homes r.turn id v.seen z) holder f.stage in
+      let lawful : Legal v.seen = subst Legal st.2 r.lawful in
+      let log : Log = v.seen ++ e ∷ [] in
+      let first = first_there v.owns 0 some_own in
+      let own = f.owns 0 first.0 first.1 in
+      let below = own.0 in
+      let mine : e.caller ≡ v.number = adds.caller in
+      let claimed : r.claim e.caller ≡ id = ap r.claim (let k : e.caller ≡ v.number + 0 = omega arith in k) ∙ own.1 in (
+        w,
+        table.gives,
+        tt,
+        turned s r id v w 0 hs log id at_me
+            record {
+              follows = follows_snoc next halts begin.state None v.seen e lawful.follows adds.right;
+              edges = edges_snoc frees takes v.seen e lawful.edges adds.edge;
+              callers = λ c past. by_other c v.seen e (λ k. let j = k in absurd (omega arith)) ∙ lawful.callers c past;
+            }
+            record {
+              seen = begins_all log;
+              heard = λ i xs is. begins_more v.seen (e ∷ []) xs (subst (λ (z : Log). Begins z xs) st.2 (f.heard i xs is));
+              owns = λ i xs is. ⊎_elim
+                  (λ t. let u = t.1 in let o = f.owns 0 u.0 u.1 in let c : ℕ = v.number + i in let z : v.number + 0 ≡ c = (let k = t.0 in omega arith) in let here : e.caller ≡ c = omega arith in
+                  subst (λ (x : ℕ). Owned begin.callers log r.claim id x xs) z
+                  (o.0, o.1, u.2 ∙ (ap (λ (y : Log). y ++ e ∷ []) (o.2 ∙ ap (by (v.number + 0)) st.2) ∙ sym (by_here (v.number + 0) v.seen e (here ∙ sym z)))))
+                  (λ t. let o = f.owns i xs t.1 in let ne = t.0 in (o.0, o.1, o.2 ∙ (ap (by (v.number + i)) st.2 ∙ sym (by_other (v.number + i) v.seen e (λ k. ne (omega arith))))))
+                  (in_added v.owns e i xs is);
+              stage = tt;
+            }
+            (λ xs b. begins_more v.seen (e ∷ []) xs (subst (λ (z : Log). Begins z xs) st.2 b))
+            (λ c ne. by_other c v.seen e (λ k. ne (ap r.claim (sym k) ∙ claimed)) ∙ ap (by c) (sym st.2)) (one_turn s r id st.1)
+            (λ _. (cell, set_here s.homes 0 (some (Some cell)) (omega arith), adds.lies)) (λ ne. absurd (ne refl)),
+        refl,
+      )
+
+  pub gives_turn : (id : ℕ) (me : M) (told : Option (Entry E R)) (cell : Cl) → me.0.stage ≡ Taken → me.1 ≡ (0, Some cell) ∷ [] → 0 < length me.0.owns
+      → MayGive next halts frees takes front at begin me.0 told cell → Allows Rule 1 id me 0 (λ _. 0) (λ _ n. n ≡ (gave me.0 told, []))
+  gives_turn id me None cell holder held some_own may = subst (λ (c : List (ℕ × Option Cl)). Allows Rule 1 id (me.0, c) 0 (λ _. 0) (λ _ n. n ≡ (gave me.0 None, []))) (sym held)
+      (gives_plain id me.0 cell holder may)
+  gives_turn id me (Some e) cell holder held some_own may = subst (λ (c : List (ℕ × Option Cl)). Allows Rule 1 id (me.0, c) 0 (λ _. 0) (λ _ n. n ≡ (gave me.0 (Some e), []))) (sym held)
+      (gives_entry id me.0 e cell holder some_own may)
+
+  -- a new seat knows nothing
+  pub comes : Enters Rule 1 0 (λ _ w. w ≡ blank)
+  comes s r one _ = (
+    blank,
+    record {
+      log = r.log;
+      turn = r.turn;
+      claim = r.claim;
+      wide = r.wide;
+      lawful = r.lawful;
+      each = λ j v e. ⊎_elim (r.each j v)
+          (λ (t : blank ≡ v). subst (Fits begin.callers r.log (word_of s) s.homes r.turn r.claim j) t
+          record { seen = (r.log, refl); heard = λ i xs is. absurd (some-ne-none xs (sym is)); owns = λ i xs is. absurd (some-ne-none xs (sym is)); stage = tt })
+          (at_snoc s.views blank v j e);
+      free = r.free;
+      busy = λ ne. let b = r.busy ne in (b.0, at_longer s.views (blank ∷ []) r.turn b.0 b.1, b.2, b.3);
+    },
+    refl,
+  )
+
+  -- a seat takes in another, which stands for the next callers and hasn't the turn
+  pub joins : (id : ℕ) (v : V) (other : ℕ) (w : V) → w.stage ≡ Idle → (0 < length w.owns → v.number + length v.owns ≡ w.number) → Joins Rule id v other w (joined v w) blank
+  joins id v other w idle next_callers s r at_me apart at_it =
+      let both : V = joined v w in let vs : List V = set s.views id both in
+      let at_w : get_elem? s.views other ≡ some w = sym (set_else s.views id other both apart) ∙ at_it in
+      let f = r.each id v at_me in let g = r.each other w at_w in
+      let claim : ℕ → ℕ = λ c. cond (eqb (r.claim c) other) id (r.claim c) in
+      let stays : (c j : ℕ) → r.claim c ≡ j → j ≢ other → claim c ≡ j = λ c j is ne. ap (λ (b : Bool). cond b id (r.claim c)) (ne_eqb (r.claim c) other (λ k. ne (sym is ∙ k))) ∙ is in
+      let Q : ℕ → V → Type 0 = λ j u. Fits begin.callers r.log (word_of s) s.homes r.turn claim j u in record {
+        log = r.log;
+        turn = r.turn;
+        claim = claim;
+        wide = r.wide;
+        lawful = r.lawful;
+        each = each_after Q vs other blank record { seen = (r.log, refl); heard = λ i xs is. absurd (some-ne-none xs (sym is)); owns = λ i xs is. absurd (some-ne-none xs (sym is)); stage = tt }
+            (λ j u ne e. each_after (λ i x. i ≢ other → Q i x) s.views id both
+            (λ _. record {
+              seen = f.seen;
+              heard = λ i xs is. ⊎_elim (f.heard i xs) (λ t. heard_more r.log w.seen w.heard g.seen g.heard t.0 xs t.2) (in_both v.heard (w.seen ∷ w.heard) i xs is);
+              owns = λ i xs is. ⊎_elim (λ t. let o = f.owns i xs t in (o.0, stays (v.number + i) id o.1 (λ k. apart (sym k)), o.2))
+                  (λ t. let o = g.owns t.0 xs t.2 in let inside = there w.owns t.0 xs t.2 in let sum = t.1 in let run = next_callers (omega arith) in
+                  let same : w.number + t.0 ≡ v.number + i = omega arith in
+                  subst (λ (c : ℕ). Owned begin.callers r.log claim id c xs) same (o.0, ap (λ (b : Bool). cond b id (r.claim (w.number + t.0))) (eq-eqb (r.claim (w.number + t.0)) other o.1), o.2))
+                  (in_both v.owns w.owns i xs is);
+              stage = f.stage;
+            })
+            (λ i x away at_x alive. fits_on begin.callers r.log r.log (word_of s) (word_of s) r.turn r.turn s.homes s.homes r.claim claim i x (λ xs b. b) (λ c is. (stays c i is alive, refl)) (λ k. k) (r.each i x at_x))
+            j u e ne);
+        free = r.free;
+        busy = λ ne. let b = r.busy ne in dite (ℕ_discrete r.turn other)
+            (λ is. let same = some-injective b.0 w (sym b.1 ∙ (ap (get_elem? s.views) is ∙ at_w)) in absurd (subst HasTurn (ap (λ (x : V). x.stage) same ∙ idle) b.2))
+            (λ not_it. dite (ℕ_discrete r.turn id)
+            (λ is. let same = some-injective b.0 v (sym b.1 ∙ (ap (get_elem? s.views) is ∙ at_me)) in let some_own : 0 < length v.owns = subst (λ (x : V). 0 < length x.owns) same b.3 in (
+              both,
+              set_else vs other r.turn blank not_it ∙ (ap (get_elem? vs) is ∙ set_here s.views id both (there s.views id v at_me)),
+              subst (λ (x : V). HasTurn x.stage) same b.2,
+              omega (arith, length-append v.owns w.owns),
+            ))
+            (λ not_me. (b.0, set_else vs other r.turn blank not_it ∙ (set_else s.views id r.turn both not_me ∙ b.1), b.2, b.3)));
+      }
+
+  -- a new seat stands for the first caller of another's
+  pub deals : (id : ℕ) (v : V) → v.stage ≡ Idle → 0 < length v.owns → Splits Rule id v (kept v) (dealt v)
+  deals id v idle some_own s r at_me =
+      let left : V = kept v in let right : V = dealt v in let vs : List V = set s.views id left in let n : ℕ = length vs in
+      let f = r.each id v at_me in let first = first_there v.owns 0 some_own in let own = f.owns 0 first.0 first.1 in
+      let mine : r.claim v.number ≡ id = ap r.claim (let k : v.number ≡ v.number + 0 = omega arith in k) ∙ own.1 in
+      let claim : ℕ → ℕ = λ c. cond (eqb c v.number) n (r.claim c) in
+      let stays : (c j : ℕ) → r.claim c ≡ j → c ≢ v.number → claim c ≡ j = λ c j is ne. ap (λ (b : Bool). cond b n (r.claim c)) (ne_eqb c v.number ne) ∙ is in
+      let Q : ℕ → V → Type 0 = λ j u. Fits begin.callers r.log (word_of s) s.homes r.turn claim j u in record {
+        log = r.log;
+        turn = r.turn;
+        claim = claim;
+        wide = r.wide;
+        lawful = r.lawful;
+        each = λ j u e. ⊎_elim
+            (λ t. each_after Q s.views id left
+            record {
+              seen = f.seen;
+              heard = f.heard;
+              owns = λ i xs is. let o = f.owns (suc i) xs (in_others v.owns i xs is) in let same : v.number + suc i ≡ (v.number + 1) + i = omega arith in
+                  subst (λ (c : ℕ). Owned begin.callers r.log claim id c xs) same (o.0, stays (v.number + suc i) id o.1 (λ k. omega arith), o.2);
+              stage = f.stage;
+            }
+            (λ i x away at_x. fits_on begin.callers r.log r.log (word_of s) (word_of s) r.turn r.turn s.homes s.homes r.claim claim i x (λ xs b. b)
+            (λ c is. (stays c i is (λ k. away (sym is ∙ (ap r.claim k ∙ mine))), refl)) (λ k. k) (r.each i x at_x))
+            j u t)
+            (λ t. subst (λ (z : ℕ × V). Q z.0 z.1) (λ i. (sym t.0 i, t.1 i)) record {
+              seen = f.seen;
+              heard = λ i xs is. absurd (some-ne-none xs (sym is));
+              owns = λ i xs is. let k = in_first v.owns i xs is in let o = f.owns 0 xs k.1 in let z = k.0 in let same : v.number + 0 ≡ v.number + i = omega arith in
+                  subst (λ (c : ℕ). Owned begin.callers r.log claim n c xs) same
+                  (o.0, ap (λ (b : Bool). cond b n (r.claim (v.number + 0))) (eq-eqb (v.number + 0) v.number (let h : v.number + 0 ≡ v.number = omega arith in h)), o.2);
+              stage = tt;
+            })
+            (at_end vs right u j e);
+        free = r.free;
+        busy = λ ne. let b = r.busy ne in (
+          b.0,
+          at_longer vs (right ∷ []) r.turn b.0 (set_else s.views id r.turn left (λ is. let same = some-injective b.0 v (sym b.1 ∙ (ap (get_elem? s.views) is ∙ at_me)) in
+              absurd (subst HasTurn (ap (λ (x : V). x.stage) same ∙ idle) b.2)) ∙ b.1),
+          b.2,
+          b.3,
+        );
+      }
+
+  -- what a seat that stands for all callers knows when the table is closed
+  abbrev pub Ended : V → List (Option Cl) → Type 0
+  Ended v slots = (log : Log) × (cell : Cl) × (get_elem? slots 0 ≡ some (Some cell)) × Learns next halts frees takes front at begin v log cell
+
+  -- where a seat without the turn stands for all callers, nobody has the turn
+  at_rest : (s : St) (r : Rule s) (id : ℕ) (v : V) → get_elem? s.views id ≡ some v → v.stage ≡ Idle → v.number ≡ 0 → length v.owns ≡ begin.callers → word_of s ≡ 0
+  at_rest s r id v at_me idle from_first all = dite (ℕ_discrete (word_of s) 0) (λ z. z)
+      (λ is_busy. let b = r.busy is_busy in let u : V = b.0 in
+      let its = first_there u.owns 0 b.3 in let theirs = (r.each r.turn u b.1).owns 0 its.0 its.1 in let below = theirs.0 in
+      let mine = first_there v.owns (u.number + 0) (omega arith) in let ours = (r.each id v at_me).owns (u.number + 0) mine.0 mine.1 in
+      let same_claim : r.claim (v.number + (u.number + 0)) ≡ r.claim (u.number + 0) = ap r.claim (let k : v.number + (u.number + 0) ≡ u.number + 0 = omega arith in k) in
+      let is : r.turn ≡ id = sym theirs.1 ∙ (sym same_claim ∙ ours.1) in
+      let same = some-injective u v (sym b.1 ∙ (ap (get_elem? s.views) is ∙ at_me)) in absurd (subst HasTurn (ap (λ (x : V). x.stage) same ∙ idle) b.2))
+
+  pub ends : (id : ℕ) (v : V) (words : List ℕ) (slots : List (Option Cl)) → v.stage ≡ Idle → v.number ≡ 0 → length v.owns ≡ begin.callers → Final (Seen Rule id v) words slots → Ended v slots
+  ends id v words slots idle from_first all (s, seen, same_words, same_slots, values) =
+      let r = seen.0 in let f = r.each id v seen.1 in let rest = r.free (at_rest s r id v seen.1 idle from_first all) in
+      (r.log, rest.0, values 0 (Some rest.0) rest.1, record { seen = f.seen; heard = f.heard; owns = λ i xs e. let o = f.owns i xs e in (o.0, o.2); lawful = r.lawful; lies = rest.2 })
+
+  -- a seat that stands for all callers, and hasn't the turn, takes it
+  pub takes_rest : (id : ℕ) (me : M) → me.1 ≡ [] → me.0.stage ≡ Idle → me.0.number ≡ 0 → length me.0.owns ≡ begin.callers → 0 < begin.callers
+      → Allows Rule 1 id me 0 (λ _. 1) (λ _. TakesRest next halts frees takes front at begin me)
+  takes_rest id me empty idle from_first all some_caller s r one at_me _ =
+      let v : V = me.0 in let f = r.each id v at_me in let is_free = at_rest s r id v at_me idle from_first all in let rest = r.free is_free in let w : V = taken v r.log in (
+        w,
+        table.takes 0 (Some rest.0),
+        rest.1,
+        turned s r id v w 1 (set s.homes 0 none) r.log id at_me r.lawful record { seen = begins_all r.log; heard = f.heard; owns = f.owns; stage = (refl, refl, refl) }
+            (λ xs b. b) (λ c _. refl) (λ j u _ e h. let t = turn_is begin.callers r.log (word_of s) r.turn s.homes j u.seen u.stage (r.each j u e).stage h in t.1 is_free) (λ e. absurd (omega arith)) (λ _. (refl, tt, omega arith)),
+        (r.log, rest.0, (λ i. (w, (0, Some rest.0) ∷ empty i)), record { seen = f.seen; heard = f.heard; owns = λ i xs e. let o = f.owns i xs e in (o.0, o.2); lawful = r.lawful; lies = rest.2 }),
+      )

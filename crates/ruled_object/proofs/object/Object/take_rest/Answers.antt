@@ -1,0 +1,31 @@
+use Rattle.std.proofs.Common.{rules, ◌∷◌, Some, ap, sym, ◌∙◌, subst}
+use Rattle.atomic_table.specs.Table.{Allows, rest}
+use Rattle.ruled_object.specs.Rule.{Kept}
+use Rattle.ruled_object.specs.Steps.{IfBegun, TakesRest}
+use Rattle.ruled_object.proofs.Steps.{takes_rest}
+use Rattle.ruled_object.proofs.object.Object.take_rest.Goals as goal
+
+pub store-requires : goal.store-requires
+store-requires g c =
+    let m = g.M.Machine in
+    let n = g.N.Note in
+    let begin = c.args.self.now.table.shared.key in
+    let seat = c.args.seat.now in
+    let all = c.requires.all in (
+      search rules,
+      search rules,
+      subst (λ slots. Allows (Kept m.next m.HALTS m.frees m.takes n.front n.at begin) slots seat.id seat.me 0 (λ _. 1)
+          (λ _ after. IfBegun g.K.Begun.begun (λ b. TakesRest m.next m.HALTS m.frees m.takes n.front n.at b seat.me after))) (sym c.args.self.now.sized.1)
+          (subst (λ told. Allows (Kept m.next m.HALTS m.frees m.takes n.front n.at begin) 1 seat.id seat.me 0 (λ _. 1)
+          (λ _ after. IfBegun told (λ b. TakesRest m.next m.HALTS m.frees m.takes n.front n.at b seat.me after))) (sym c.requires.begun)
+          (takes_rest m.next m.HALTS m.frees m.takes n.front n.at begin seat.id seat.me c.requires.seat.1 all.0 all.1 all.2 c.args.self.now.callers.1)),
+    )
+
+pub exchange-requires : goal.exchange-requires
+exchange-requires g c =
+    let m = g.M.Machine in
+    let n = g.N.Note in
+    let me = c.store.new.seat.me in
+    let took = subst (λ b. IfBegun b (λ begin. TakesRest m.next m.HALTS m.frees m.takes n.front n.at begin c.args.seat.now.me me)) c.requires.begun c.store.ensures.2 in
+    let held = ap (λ z. z.1) took.2 in
+    (search rules, (Some took.1, held ∙ ap (λ slots. (0, Some took.1) ∷ rest slots) (sym held)))

@@ -1,0 +1,24 @@
+-- What one event does to the cell in the slot.
+use Rattle.std.specs.Prelude.{◌≡◌, ℕ, Bool, true, List}
+use Rattle.sync_model.specs.declared.answer.Answer.{Answer}
+use Rattle.sync_model.specs.declared.answer.Answer.TheVariants.{Done, Halted}
+use Rattle.sync_model.specs.declared.journal.Deed.{Deed}
+use Rattle.sync_model.specs.declared.journal.Deed.TheVariants.{Event, Refused}
+use Rattle.sync_model.specs.Front.{AtLeast}
+use Rattle.sync_model.specs.Journal.{halt_next, is_such, state_next, Right}
+use Rattle.ruled_object.specs.declared.cell.Cell.{Cell}
+
+-- an event with its answer, as the journal has it
+abbrev pub deed_of : {E R : Type 0} → E → Answer R → Deed E R
+deed_of e (Done r) = Event e r
+deed_of e (Halted m) = Refused e m
+
+-- A deed of a caller that is right at this cell, with the front that the caller's note then has.
+-- An acquiring event's front is at least what releasing ones left, and a releasing one leaves its front.
+pub record Acts {S N E R : Type 0} (next : S → ℕ → E → S × R) (halts : Bool) (frees takes : E → R → Bool) (front : N → List ℕ) (caller : ℕ) (deed : Deed E R) (known : List ℕ) (old new : Cell S N) : Type 0 where
+  pub right : Right next halts old.state old.halted caller deed
+  pub state : new.state ≡ state_next next old.state caller deed
+  pub halted : new.halted ≡ halt_next old.halted deed
+  pub more : AtLeast (front new.note) (front old.note)
+  pub left : is_such frees deed ≡ true → AtLeast (front new.note) known
+  pub taken : is_such takes deed ≡ true → AtLeast known (front old.note)

@@ -1,0 +1,61 @@
+-- All passes of an object together.
+use Rattle.std.specs.Prelude.{◌≡◌, ℕ, ◌+◌, ◌<◌, ◌≤◌, Bool, List, [], Some, None, length, slice_get}
+use mathlib.Core.Option.{some}
+use lib.ListN.{get_elem?}
+use Rattle.sync_model.specs.declared.journal.Entry.{Entry}
+use Rattle.sync_model.specs.Journal.{Begins, by, KeepsEdges, Follows}
+use Rattle.ruled_object.specs.declared.object.Object.{Object}
+use Rattle.ruled_object.specs.declared.pass.Pass.{Pass}
+use Rattle.ruled_object.specs.declared.view.Stage.TheVariants.{Idle}
+use Rattle.ruled_object.specs.declared.view.View.{View}
+use Rattle.ruled_object.specs.Passes.{number_of, left_of, seen_by, own_by, callers_of, IsPassOf, SamePass}
+
+-- all passes of the object, in order of number
+pub record AreAllPasses {M N S E R H : Type 0} (object : Object M N S E R H) (passes : List (Pass S N E R)) : Type 0 where
+  pub count : length passes ≡ callers_of object
+  pub each : (i : ℕ) (pass : Pass S N E R) → slice_get passes i ≡ Some pass → IsPassOf object pass × (number_of pass ≡ i)
+
+module _ {S N E R : Type 0} where
+  -- the same callers' passes, good for as many calls
+  pub record SamePasses (old new : List (Pass S N E R)) : Type 0 where
+    pub count : length new ≡ length old
+    pub each : (i : ℕ) (before after : Pass S N E R) → slice_get old i ≡ Some before → slice_get new i ≡ Some after → SamePass before after
+
+  -- one seat knows all that the first n of these passes knew, and stands for their callers
+  pub record Gathered (n : ℕ) (passes : List (Pass S N E R)) (v : View E R) : Type 0 where
+    pub stage : v.stage ≡ Idle
+    pub number : v.number ≡ 0
+    pub count : length v.owns ≡ n
+    pub owns : (i : ℕ) (pass : Pass S N E R) → i < n → slice_get passes i ≡ Some pass → get_elem? v.owns i ≡ some (own_by pass)
+    pub heard : (i : ℕ) (pass : Pass S N E R) → i < n → slice_get passes i ≡ Some pass → (j : ℕ) × (get_elem? v.heard j ≡ some (seen_by pass))
+
+module _ {E R : Type 0} where
+  -- one seat has seen this history, and stands for all callers but the first n, whose entries these are
+  pub record Dealing (n : ℕ) (log : List (Entry E R)) (all : List (List (Entry E R))) (v : View E R) : Type 0 where
+    pub stage : v.stage ≡ Idle
+    pub seen : v.seen ≡ log
+    pub number : v.number ≡ n
+    pub count : length v.owns + n ≡ length all
+    pub owns : (i : ℕ) → get_elem? v.owns i ≡ get_elem? all (n + i)
+
+-- the pass of caller n, which has seen this history
+pub record IsDealt {M N S E R H : Type 0} (object : Object M N S E R H) (n : ℕ) (log : List (Entry E R)) (all : List (List (Entry E R))) (pass : Pass S N E R) : Type 0 where
+  pub is : IsPassOf object pass
+  pub number : number_of pass ≡ n
+  pub seen : seen_by pass ≡ log
+  pub own : get_elem? all n ≡ some (own_by pass)
+
+-- the history is all that the passes' callers did: each entry stands in exactly one pass's own list, and what each has seen is a beginning of it
+pub record IsWhole {S N E R : Type 0} (next : S → ℕ → E → S × R) (halts : Bool) (frees takes : E → R → Bool) (start : S) (log : List (Entry E R)) (passes : List (Pass S N E R)) : Type 0 where
+  pub follows : Follows next halts start None log
+  pub edges : KeepsEdges frees takes log
+  pub owns : (i : ℕ) (pass : Pass S N E R) → slice_get passes i ≡ Some pass → own_by pass ≡ by i log
+  pub seen : (i : ℕ) (pass : Pass S N E R) → slice_get passes i ≡ Some pass → Begins log (seen_by pass)
+  pub callers : (c : ℕ) → length passes ≤ c → by c log ≡ []
+
+-- all passes of a new object, in order of number, each good for so many calls. Nothing was done yet
+pub record AreNew {M N S E R H : Type 0} (object : Object M N S E R H) (calls : ℕ) (passes : List (Pass S N E R)) : Type 0 where
+  pub all : AreAllPasses object passes
+  pub left : (i : ℕ) (pass : Pass S N E R) → slice_get passes i ≡ Some pass → left_of pass ≡ calls
+  pub seen : (i : ℕ) (pass : Pass S N E R) → slice_get passes i ≡ Some pass → seen_by pass ≡ []
+  pub own : (i : ℕ) (pass : Pass S N E R) → slice_get passes i ≡ Some pass → own_by pass ≡ []

@@ -1,0 +1,105 @@
+-- What each step on an object's table tells its seat.
+use Rattle.std.specs.Prelude.{◌≡◌, ◌≢◌, ℕ, ◌+◌, ◌<◌, Bool, true, List, [], ◌∷◌, ◌++◌, Option, Some, None, length, replicate}
+use mathlib.Core.Option.{some}
+use lib.ListN.{get_elem?}
+use Rattle.atomic_table.specs.Table.{Me}
+use Rattle.atomic_table.specs.declared.shared.Seat.{Seat}
+use Rattle.sync_model.specs.declared.journal.Entry.{Entry}
+use Rattle.sync_model.specs.Journal.{Begins, halt_of, by, is_such, Covers, state_after, Right}
+use Rattle.ruled_object.specs.declared.cell.Cell.{Cell}
+use Rattle.ruled_object.specs.declared.rule.Begin.{Begin}
+use Rattle.ruled_object.specs.declared.view.Stage.TheVariants.{Idle, Making, Taken}
+use Rattle.ruled_object.specs.declared.view.View.{View}
+use Rattle.ruled_object.specs.Rule.{Lawful, Lies}
+
+-- a seat: its view, and the slots that it has taken
+abbrev pub Sat : Type 0 → Type 0 → Type 0 → Type 0 → Type 0
+Sat S N E R = Me (Option (Cell S N)) (View E R)
+
+-- the first of a list, as a list
+abbrev pub first_of : {A : Type 0} → List A → List A
+first_of [] = []
+first_of (x ∷ xs) = x ∷ []
+
+-- all but the first
+abbrev pub others_of : {A : Type 0} → List A → List A
+others_of [] = []
+others_of (x ∷ xs) = xs
+
+module _ {E R : Type 0} where
+  -- a seat that knows nothing and stands for nobody
+  abbrev pub blank : View E R
+  blank = record { stage = Idle; seen = []; knew = 0; heard = []; number = 0; owns = [] }
+
+  -- the seat that makes the object stands for all callers
+  abbrev pub first_view : ℕ → View E R
+  first_view callers = record { stage = Making; seen = []; knew = 0; heard = []; number = 0; owns = replicate callers [] }
+
+  -- the view with the turn, after it has seen this history
+  abbrev pub taken : View E R → List (Entry E R) → View E R
+  taken v log = record v { stage = Taken; seen = log; knew = length v.seen }
+
+  -- one more entry of the first caller
+  abbrev pub added : List (List (Entry E R)) → Entry E R → List (List (Entry E R))
+  added [] e = []
+  added (own ∷ owns) e = (own ++ e ∷ []) ∷ owns
+
+  -- the view after it gave the turn back, with an entry or with none
+  abbrev pub gave : View E R → Option (Entry E R) → View E R
+  gave v None = record v { stage = Idle }
+  gave v (Some e) = record v { stage = Idle; seen = v.seen ++ e ∷ []; owns = added v.owns e }
+
+  -- the view of a new seat, for the first caller that a seat stood for
+  abbrev pub dealt : View E R → View E R
+  dealt v = record { stage = Idle; seen = v.seen; knew = 0; heard = []; number = v.number; owns = first_of v.owns }
+
+  -- what the seat keeps, which stands for the other callers
+  abbrev pub kept : View E R → View E R
+  kept v = record v { number = v.number + 1; owns = others_of v.owns }
+
+  -- the view after a seat took in another's
+  abbrev pub joined : View E R → View E R → View E R
+  joined v w = record v { heard = v.heard ++ w.seen ∷ w.heard; owns = v.owns ++ w.owns }
+
+module _ {S N E R : Type 0} where
+  -- the making seat took the slot, which was empty
+  abbrev pub made : Sat S N E R → Sat S N E R → Type 0
+  made m n = n ≡ (record m.0 { stage = Taken }, (0, None) ∷ [])
+
+module _ {S N E R H : Type 0} (next : S → ℕ → E → S × R) (halts : Bool) (frees takes : E → R → Bool) (front : N → List ℕ) (at : H → N → Type 0) (begin : Begin S N) where
+  -- what a seat learns with the turn: the history, of which all that it knew is a part, and the cell that it left
+  pub record Learns (v : View E R) (log : List (Entry E R)) (cell : Cell S N) : Type 0 where
+    pub seen : Begins log v.seen
+    pub heard : (i : ℕ) (xs : List (Entry E R)) → get_elem? v.heard i ≡ some xs → Begins log xs
+    pub owns : (i : ℕ) (xs : List (Entry E R)) → get_elem? v.owns i ≡ some xs → (v.number + i < begin.callers) × (xs ≡ by (v.number + i) log)
+    pub lawful : Lawful next halts frees takes front at begin log
+    pub lies : Lies next halts frees takes front at begin log cell
+
+  -- the seat took the turn, which nobody had
+  abbrev pub TakesRest : Sat S N E R → Sat S N E R → Type 0
+  TakesRest m n = (log : List (Entry E R)) × (cell : Cell S N) × (n ≡ (taken m.0 log, (0, Some cell) ∷ [])) × Learns m.0 log cell
+
+  -- the seat took the turn where it found 0, and else nothing changed
+  abbrev pub TakesTurn : Sat S N E R → ℕ → Sat S N E R → Type 0
+  TakesTurn m found n = (found ≡ 0 → TakesRest m n) × (found ≢ 0 → n ≡ m)
+
+  -- the entry stands right behind the history, and the cell is what both leave
+  pub record MayAdd (v : View E R) (e : Entry E R) (cell : Cell S N) : Type 0 where
+    pub caller : e.caller ≡ v.number
+    pub right : Right next halts (state_after next begin.state v.seen) (halt_of v.seen) e.caller e.deed
+    pub edge : is_such takes e.deed ≡ true → Covers frees e.front v.seen
+    pub lies : Lies next halts frees takes front at begin (v.seen ++ e ∷ []) cell
+
+  -- what is to be shown where the turn is given back
+  abbrev pub MayGive : View E R → Option (Entry E R) → Cell S N → Type 0
+  MayGive v None cell = Lies next halts frees takes front at begin v.seen cell
+  MayGive v (Some e) cell = MayAdd v e cell
+
+-- it is the same seat, whatever it knows and holds
+abbrev pub IsSameSeat : {S V : Type 0} → Seat S V → Seat S V → Type 0
+IsSameSeat old new = (new.table_id ≡ old.table_id) × (new.id ≡ old.id)
+
+-- this holds of how the object began, where a step is told of it
+abbrev pub IfBegun : {S N : Type 0} → Option (Begin S N) → (Begin S N → Type 0) → Type 0
+IfBegun None P = Unit {0}
+IfBegun (Some begin) P = P begin

@@ -1,0 +1,61 @@
+//! Calls on an object.
+ghost use Rattle.std.specs.Prelude.{◌≡◌, ℕ, false, IsTrue};
+ghost use Rattle.sync_model.specs.declared.misuse.Misuse.{Misuse};
+ghost use Rattle.sync_model.specs.declared.answer.Answer.TheVariants.{Halted};
+ghost use Rattle.sync_model.specs.declared.journal.Deed.TheVariants.{Halt};
+ghost use Rattle.sync_model.specs.declared.journal.Entry.{Entry};
+ghost use Rattle.sync_model.specs.Front.{AtLeast};
+ghost use Rattle.sync_model.specs.Note.{SameHome};
+ghost use Rattle.ruled_object.specs.Cells.{deed_of};
+ghost use Rattle.ruled_object.specs.Passes.{start_of, IsHomeOf, IsPassOf, Adds, SamePass};
+
+use crate::cell::deed;
+use crate::object::Object;
+use crate::pass::PassOf;
+use std::marker::Brand;
+use std::sync::Wait;
+use sync_model::{Answer, Deed, Machine, Misuse, Note};
+
+impl<M: Machine, N: Note> Object<M, N> {
+    /// Makes one event. It is one entry of the object's one history, placed at the step that gives the turn back: all
+    /// that the caller had seen of the history stands before it. Where a halt stands before it the answer is `Halted`,
+    /// with the first halt's misuse, and the machine stays as it was; else the answer is the machine's reply.
+    ///
+    /// An event that acquires synchronizes after each earlier one that releases: the caller's note then knows all that
+    /// theirs knew.
+    pub fn call<R: Wait>(
+        &self,
+        rt: &R,
+        home: &N::Home,
+        pass: &mut PassOf<M, N>,
+        note: &mut N,
+        event: M::Event,
+    ) -> Answer<M::Reply>
+        requires pass { IsPassOf self.now pass.old }
+        requires home { IsHomeOf N.at self.now home.now × N.at home.now note.old }
+        ensures pass { IsPassOf self.now pass.new × SamePass pass.old pass.new }
+        ensures entry { (e : Entry M.Event M.Reply) × Adds M.next M.HALTS M.frees M.takes (start_of self.now) pass.old e pass.new × (e.deed ≡ deed_of event result) × (e.front ≡ N.front note.new) }
+        ensures note { SameHome N.at note.old note.new × (N.own note.new ≡ N.own note.old) × AtLeast (N.front note.new) (N.front note.old) }
+        ensures halts { M.HALTS ≡ false → (m : Misuse) → result ≡ Halted m → ⊥ }
+    {
+        let mut cell = self.take_turn::<Brand, R>(rt, &mut pass.seat);
+        let answer = cell.apply::<M>(home, pass.number, note, event);
+        let deed = deed(event, &answer);
+        self.give_entry::<Brand>(&mut pass.seat, cell, pass.number, &deed, note);
+        answer
+    }
+
+    /// Halts the object by a misuse. It is one entry of the history, placed as a call's is. The first halt is kept: from
+    /// then on each event is answered `Halted` with its misuse. It neither releases nor acquires, so the note is read alone.
+    pub fn halt<R: Wait>(&self, rt: &R, pass: &mut PassOf<M, N>, note: &N, misuse: Misuse)
+        requires halts { IsTrue M.HALTS }
+        requires pass { IsPassOf self.now pass.old }
+        ensures pass { IsPassOf self.now pass.new × SamePass pass.old pass.new }
+        ensures entry { (e : Entry M.Event M.Reply) × Adds M.next M.HALTS M.frees M.takes (start_of self.now) pass.old e pass.new × (e.deed ≡ Halt misuse) × (e.front ≡ N.front note.now) }
+    {
+        let mut cell = self.take_turn::<Brand, R>(rt, &mut pass.seat);
+        cell.halt::<M>(misuse, note);
+        let deed = Deed::Halt(misuse);
+        self.give_entry::<Brand>(&mut pass.seat, cell, pass.number, &deed, note);
+    }
+}

@@ -1,0 +1,45 @@
+//! What all passes together know of an object's history.
+ghost use Rattle.std.specs.Prelude.{◌≡◌, ℕ, false, List, None};
+ghost use Rattle.sync_model.specs.declared.journal.Entry.{Entry};
+ghost use Rattle.sync_model.specs.Journal.{halt_of, state_after};
+ghost use Rattle.ruled_object.specs.Gathered.{AreAllPasses, SamePasses, IsWhole};
+ghost use Rattle.ruled_object.specs.Passes.{start_of};
+
+use crate::cell::Cell;
+use crate::object::Object;
+use crate::pass::PassOf;
+use crate::rule::Silent;
+use std::marker::Brand;
+use sync_model::{Machine, Misuse, Note};
+
+impl<M: Machine, N: Note> Object<M, N> {
+    /// The misuse of the history's first halt, and `None` exactly where there is none. It takes all passes, so that no
+    /// call is under way, and adds no entry. Afterwards each pass has seen all of the history.
+    pub fn first_halt(&self, passes: &mut [PassOf<M, N>]) -> Option<Misuse>
+        requires { AreAllPasses self.now passes.old }
+        ensures passes { AreAllPasses self.now passes.new × SamePasses passes.old passes.new }
+        ensures history { (log : List (Entry M.Event M.Reply)) × (result ≡ halt_of log) × IsWhole M.next M.HALTS M.frees M.takes (start_of self.now) log passes.old × IsWhole M.next M.HALTS M.frees M.takes (start_of self.now) log passes.new }
+        ensures halts { M.HALTS ≡ false → result ≡ None }
+    {
+        let mut all = self.gather(passes);
+        let cell = self.take_rest::<Brand>(&mut all);
+        let halted = cell.halted;
+        self.give_turn::<Silent>(&mut all, cell);
+        self.deal_out(&mut all, passes);
+        halted
+    }
+
+    /// Ends the object, with all its passes, and gives the machine's state after the whole history: each entry of it
+    /// stands in exactly one pass's own list.
+    pub fn finish(self, mut passes: Vec<PassOf<M, N>>) -> M::State
+        requires { AreAllPasses self passes.items }
+        ensures { (log : List (Entry M.Event M.Reply)) × IsWhole M.next M.HALTS M.frees M.takes (start_of self) log passes.items × (result ≡ state_after M.next (start_of self) log) }
+    {
+        let all = self.gather(&mut passes);
+        let Object { table, .. } = self;
+        let mut closed = table.close_with(all);
+        let Cell { state, .. } = closed.take(0).unwrap();
+        closed.free();
+        state
+    }
+}

@@ -1,0 +1,22 @@
+//! One machine shared by its callers, with one history.
+#![tactic(auto)]
+
+mod call;
+pub mod cell;
+mod finish;
+mod gather;
+pub mod laws;
+mod new;
+pub mod object;
+mod park;
+pub mod pass;
+pub mod rule;
+mod turn;
+pub mod view;
+
+pub use new::MAX_CALLS;
+pub use object::Object;
+pub use pass::{Pass, PassOf};
+
+#[cfg(test)]
+mod tests;

@@ -1,0 +1,25 @@
+//! An object that callers share.
+ghost use Rattle.std.specs.Prelude.{◌≡◌, ◌<◌, vec_len};
+
+use crate::cell::Cell;
+use crate::rule::{Begin, Turns};
+use crate::view::View;
+use atomic_table::Table;
+use std::alloc::Global;
+use std::thread::Parker;
+use sync_model::{Machine, Note};
+
+/// One machine, shared by its callers. Who has the turn moves the cell out of the slot and back.
+#[derive(Drop)]
+pub struct Object<M: Machine, N: Note> {
+    pub(crate) table: Table<
+        Option<Cell<M::State, N>>,
+        View<M::Event, M::Reply>,
+        Begin<M::State, N>,
+        Turns<M, N>,
+        Global,
+    >,
+    pub(crate) parkers: Vec<Parker>,
+    ghost sized: { (table.shared.table_id.words ≡ 1) × (table.shared.table_id.slots ≡ 1) },
+    ghost callers: { (vec_len parkers ≡ table.shared.key.callers) × (0 < table.shared.key.callers) },
+}

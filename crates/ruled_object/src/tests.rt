@@ -1,0 +1,3 @@
+mod machines;
+mod one_thread;
+mod threads;

@@ -1,0 +1,4 @@
+pub mod RwMachine
+pub mod RwCore
+pub mod Edges
+pub mod Admission

@@ -1,0 +1,168 @@
+//! Worked runs, event by event.
+use super::RwCore;
+use crate::event::RwEvent;
+use crate::place::Place;
+use crate::reply::{Arrival, Resumption, RwReply, Unlocking};
+use std::test::Fail;
+use sync_model::Misuse;
+
+/// An event of a caller, what it should be answered, and the caller's place after it.
+type Row = (u32, RwEvent, RwReply, Place);
+
+/// One event, where the caller is at the place that the event needs.
+fn step(lock: &mut RwCore, caller: u32, event: RwEvent) -> RwReply {
+    if caller >= lock.callers {
+        return RwReply::Still;
+    }
+    let place = lock.place(caller);
+    match event {
+        RwEvent::ReadArrive if place == Place::Out => RwReply::Arrived(lock.r_arrive(caller)),
+        RwEvent::ReadTry if place == Place::Out => RwReply::Tried(lock.r_try(caller)),
+        RwEvent::ReadUnlock => RwReply::Unlocked(lock.r_unlock(caller)),
+        RwEvent::WriteArrive { now } if place == Place::Out => RwReply::Arrived(lock.w_arrive(
+            caller, now,
+        )),
+        RwEvent::WriteTry if place == Place::Out => RwReply::Tried(lock.w_try(caller)),
+        RwEvent::WriteWoken { now } if place == Place::Woken || place == Place::Handed =>
+            RwReply::Resumed(lock.w_woken(caller, now)),
+        RwEvent::WriteUnlock => RwReply::Unlocked(lock.w_unlock(caller)),
+        RwEvent::Leave if place == Place::Granted || place == Place::Admitted => {
+            lock.leave(caller);
+            RwReply::Left
+        }
+        _ => RwReply::Still,
+    }
+}
+
+/// The place of a caller, `Out` for a number that is none.
+fn place(lock: &RwCore, caller: u32) -> Place {
+    if caller < lock.callers {
+        lock.place(caller)
+    } else {
+        Place::Out
+    }
+}
+
+#[test]
+fn a_waiting_writer_holds_back_new_readers(rt: HostRuntime) -> Result<(), Fail> {
+    let mut lock = RwCore::new(rt.alloc(), 4)?;
+    let rows: [Row; 9] = [
+        (
+            0,
+            RwEvent::ReadArrive,
+            RwReply::Arrived(Arrival::Acquired),
+            Place::Out,
+        ),
+        (
+            1,
+            RwEvent::WriteArrive { now: 0 },
+            RwReply::Arrived(Arrival::Queued),
+            Place::Waiting,
+        ),
+        (
+            2,
+            RwEvent::ReadArrive,
+            RwReply::Arrived(Arrival::Queued),
+            Place::Queued,
+        ),
+        (3, RwEvent::ReadTry, RwReply::Tried(false), Place::Out),
+        (
+            0,
+            RwEvent::ReadUnlock,
+            RwReply::Unlocked(Unlocking::Done),
+            Place::Out,
+        ),
+        (1, RwEvent::Leave, RwReply::Left, Place::Out),
+        (
+            1,
+            RwEvent::WriteUnlock,
+            RwReply::Unlocked(Unlocking::Done),
+            Place::Out,
+        ),
+        (2, RwEvent::Leave, RwReply::Left, Place::Out),
+        (
+            2,
+            RwEvent::ReadUnlock,
+            RwReply::Unlocked(Unlocking::Done),
+            Place::Out,
+        ),
+    ];
+    for (caller, event, reply, after) in rows {
+        if event == RwEvent::Leave {
+            let before = if caller == 1 {
+                Place::Granted
+            } else {
+                Place::Admitted
+            };
+            assert_eq!(rt; place(&lock, caller), before);
+        }
+        assert_eq!(rt; step(&mut lock, caller, event), reply);
+        assert_eq!(rt; place(&lock, caller), after);
+    }
+    Ok(())
+}
+
+#[test]
+fn writers_queue_at_the_inner_mutex(rt: HostRuntime) -> Result<(), Fail> {
+    let mut lock = RwCore::new(rt.alloc(), 3)?;
+    let rows: [Row; 12] = [
+        (0, RwEvent::ReadTry, RwReply::Tried(true), Place::Out),
+        (1, RwEvent::WriteTry, RwReply::Tried(false), Place::Out),
+        (
+            0,
+            RwEvent::WriteUnlock,
+            RwReply::Unlocked(Unlocking::Misuse(Misuse::UnlockOfUnlockedRwMutex)),
+            Place::Out,
+        ),
+        (
+            2,
+            RwEvent::ReadUnlock,
+            RwReply::Unlocked(Unlocking::Done),
+            Place::Out,
+        ),
+        (1, RwEvent::WriteTry, RwReply::Tried(true), Place::Out),
+        (
+            2,
+            RwEvent::ReadUnlock,
+            RwReply::Unlocked(Unlocking::Misuse(Misuse::RUnlockOfUnlockedRwMutex)),
+            Place::Out,
+        ),
+        (
+            2,
+            RwEvent::WriteArrive { now: 0 },
+            RwReply::Arrived(Arrival::Queued),
+            Place::Queued,
+        ),
+        (2, RwEvent::Leave, RwReply::Still, Place::Queued),
+        (
+            0,
+            RwEvent::WriteUnlock,
+            RwReply::Unlocked(Unlocking::Done),
+            Place::Out,
+        ),
+        (
+            0,
+            RwEvent::ReadArrive,
+            RwReply::Arrived(Arrival::Acquired),
+            Place::Out,
+        ),
+        (
+            2,
+            RwEvent::WriteWoken { now: 0 },
+            RwReply::Resumed(Resumption::Queued),
+            Place::Waiting,
+        ),
+        (
+            0,
+            RwEvent::ReadUnlock,
+            RwReply::Unlocked(Unlocking::Done),
+            Place::Out,
+        ),
+    ];
+    for (caller, event, reply, after) in rows {
+        assert_eq!(rt; step(&mut lock, caller, event), reply);
+        assert_eq!(rt; place(&lock, caller), after);
+    }
+    assert_eq!(rt; place(&lock, 2), Place::Granted);
+    Ok(())
+}

@@ -1,0 +1,9 @@
+pub mod Places
+pub mod LogLemmas
+pub mod GroupLemmas
+pub mod NotifyLemmas
+pub mod OnceLemmas
+pub mod PoolCounts
+pub mod PoolMaps
+pub mod PoolRoom
+pub mod PoolOrigins

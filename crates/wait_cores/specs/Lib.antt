@@ -1,0 +1,9 @@
+pub mod GroupLaws
+pub mod GroupMachine
+pub mod NotifyLaws
+pub mod NotifyMachine
+pub mod OnceLaws
+pub mod OnceMachine
+pub mod PoolLaws
+pub mod PoolMachine
+pub mod PoolParts

@@ -1,0 +1,267 @@
+//! `sync.WaitGroup` as a machine: a counter, and callers that wait until it is 0.
+ghost use Rattle.std.specs.Prelude.{◌≡◌, ℕ, ◌<◌, ◌≤◌, map, IfOk};
+ghost use Rattle.std.specs.List.{list_any};
+ghost use Rattle.wait_cores.specs.GroupMachine.{start, next, callers_of, place_of, reply_of_wait, reply_of_result, is_reused, is_waiting, released};
+
+use std::alloc::{AllocError, Global};
+use std::marker::Model;
+use sync_model::Misuse;
+
+/// The highest counter, 2^31 - 1.
+pub const MAX_COUNTER: u32 = 2147483647;
+
+/// What a caller does at a wait group.
+#[derive(Clone, Copy, Debug, PartialEq, Eq)]
+pub enum GroupEvent {
+    /// Adds to the counter, or takes from it.
+    Add(i32),
+    /// Comes to wait until the counter is 0.
+    Wait,
+    /// Returns from a wait, having been released.
+    Leave,
+}
+
+/// What an event at a wait group answers.
+#[derive(Clone, Copy, Debug, PartialEq, Eq)]
+pub enum GroupReply {
+    /// The event was made; of a wait, that it returned at once.
+    Done,
+    /// The caller waits.
+    Queued,
+    /// The event is a misuse of the group.
+    Misused(Misuse),
+    /// The caller isn't at the place that the event needs, and nothing changed.
+    Still,
+}
+
+/// Where a caller stands at a wait group.
+#[derive(Clone, Copy, Debug, PartialEq, Eq)]
+pub enum GroupPlace {
+    /// It doesn't wait.
+    Out,
+    /// It waits for the counter to be 0.
+    Waiting,
+    /// The counter was 0, and it may leave.
+    Released,
+}
+
+impl GroupPlace {
+    // Where the caller stands once those who wait are released.
+    fn released(self) -> Self
+        ensures { result ≡ released self }
+    {
+        match self {
+            GroupPlace::Waiting => GroupPlace::Released,
+            GroupPlace::Out | GroupPlace::Released => self,
+        }
+    }
+}
+
+/// What `GroupCore::wait` answers.
+#[derive(Clone, Copy, Debug, PartialEq, Eq)]
+pub enum GroupWait {
+    /// The counter is 0: the wait returned at once.
+    Done,
+    /// The caller waits.
+    Queued,
+}
+
+impl From<GroupWait> for GroupReply {
+    ghost from_gives = { λ wait reply. reply ≡ reply_of_wait wait };
+
+    fn from(wait: GroupWait) -> Self {
+        match wait {
+            GroupWait::Done => GroupReply::Done,
+            GroupWait::Queued => GroupReply::Queued,
+        }
+    }
+}
+
+impl From<Result<(), Misuse>> for GroupReply {
+    ghost from_gives = { λ outcome reply. reply ≡ reply_of_result outcome };
+
+    fn from(outcome: Result<(), Misuse>) -> Self {
+        match outcome {
+            Ok(()) => GroupReply::Done,
+            Err(misuse) => GroupReply::Misused(misuse),
+        }
+    }
+}
+
+/// The state of a wait group: its counter, 0 to 2^31 - 1, and where each caller stands.
+#[derive(Debug, Drop)]
+pub struct GroupCore {
+    counter: u32,
+    places: Vec<GroupPlace>,
+}
+
+impl Model for GroupCore {
+    ghost use Rattle.wait_cores.specs.GroupMachine.{GroupState};
+
+    ghost Value = { GroupState };
+
+    ghost view = { λ c. record { counter = c.counter; places = c.places.items } };
+}
+
+impl GroupCore {
+    /// A group with counter 0 at which nobody waits, for callers 0 to `callers - 1`. This call alone takes memory.
+    pub fn new(alloc: Global, callers: u32) -> Result<Self, AllocError>
+        requires some { 1 ≤ callers }
+        requires few { callers ≤ 64 }
+        ensures start { IfOk result (λ core. core ≡ start callers) }
+        ensures callers { IfOk result (λ core. callers_of core ≡ callers) }
+    {
+        Ok(GroupCore {
+            counter: 0,
+            places: vec![in alloc; GroupPlace::Out; callers as usize]?,
+        })
+    }
+
+    /// Adds to the counter, and releases all who wait where it comes to 0. Refused, with nothing changed, exactly where
+    /// the counter would be below 0 or above 2^31 - 1.
+    pub fn add(&mut self, delta: i32) -> Result<(), Misuse>
+        ensures step { (caller : ℕ) → caller < callers_of self.old
+            → next self.old caller (GroupEvent.Add delta) ≡ (self.new, reply_of_result result) }
+        ensures callers { callers_of self.new ≡ callers_of self.old }
+    {
+        match self.counter.checked_add_signed(delta) {
+            Some(counter) if counter <= MAX_COUNTER => {
+                self.counter = counter;
+                if counter == 0 {
+                    release(&mut self.places);
+                }
+                Ok(())
+            }
+            _ => Err(Misuse::NegativeWaitGroupCounter),
+        }
+    }
+
+    /// Comes to wait until the counter is 0.
+    pub fn wait(&mut self, caller: u32) -> GroupWait
+        requires is_caller { caller < callers_of self.old }
+        requires is_out { place_of self.old caller ≡ GroupPlace.Out }
+        ensures step { next self.old caller GroupEvent.Wait ≡ (self.new, reply_of_wait result) }
+        ensures callers { callers_of self.new ≡ callers_of self.old }
+    {
+        if self.counter == 0 {
+            return GroupWait::Done;
+        }
+        self.places[caller as usize] = GroupPlace::Waiting;
+        GroupWait::Queued
+    }
+
+    /// Takes a released caller out. It is a misuse exactly where the group is in use again, with a counter other than 0
+    /// or somebody who waits.
+    pub fn leave(&mut self, caller: u32) -> Result<(), Misuse>
+        requires { place_of self.old caller ≡ GroupPlace.Released }
+        ensures step { next self.old caller GroupEvent.Leave ≡ (self.new, reply_of_result result) }
+        ensures callers { callers_of self.new ≡ callers_of self.old }
+    {
+        let reused = self.is_reused();
+        self.places[caller as usize] = GroupPlace::Out;
+        if reused {
+            Err(Misuse::WaitGroupReused)
+        } else {
+            Ok(())
+        }
+    }
+
+    /// Where the caller stands.
+    pub fn place(&self, caller: u32) -> GroupPlace
+        requires { caller < callers_of self.now }
+        ensures { result ≡ place_of self.now caller }
+    {
+        self.places[caller as usize]
+    }
+
+    /// What an event of a caller does, whoever it is and wherever it stands: the call of that event, or nothing where the
+    /// call's conditions aren't met.
+    pub fn step(&mut self, caller: u32, event: GroupEvent) -> GroupReply
+        ensures step { next self.old caller event ≡ (self.new, result) }
+        ensures callers { callers_of self.new ≡ callers_of self.old }
+    {
+        if caller as usize >= self.places.len() {
+            return GroupReply::Still;
+        }
+        match (event, self.place(caller)) {
+            (GroupEvent::Add(delta), _) => self.add(delta).into(),
+            (GroupEvent::Wait, GroupPlace::Out) => self.wait(caller).into(),
+            (GroupEvent::Leave, GroupPlace::Released) => self.leave(caller).into(),
+            _ => GroupReply::Still,
+        }
+    }
+
+    // Whether the group is in use again: its counter isn't 0, or somebody waits.
+    fn is_reused(&self) -> bool
+        ensures { result ≡ is_reused self.now }
+    {
+        self.counter != 0 || somebody_waits(&self.places)
+    }
+}
+
+// Whether somebody waits.
+fn somebody_waits(places: &[GroupPlace]) -> bool
+    ensures { result ≡ list_any is_waiting places.now }
+{
+    places
+        .iter()
+        .any(|place| matches!(place, GroupPlace::Waiting))
+}
+
+// Releases all who wait.
+fn release(places: &mut [GroupPlace])
+    ensures { places.new ≡ map released places.old }
+{
+    for place in places.iter_mut() {
+        *place = place.released();
+    }
+}
+
+#[cfg(test)]
+mod tests {
+    use super::*;
+    use std::test::Fail;
+
+    #[test]
+    fn counts_and_releases(rt: HostRuntime) -> Result<(), Fail> {
+        let mut group = GroupCore::new(rt.alloc(), 2)?;
+        let table = [
+            // From 0 to the highest counter, which one more is past; and back to 0, which one less is below.
+            (0, GroupEvent::Add(2147483647), GroupReply::Done),
+            (
+                0,
+                GroupEvent::Add(1),
+                GroupReply::Misused(Misuse::NegativeWaitGroupCounter),
+            ),
+            (0, GroupEvent::Add(-2147483647), GroupReply::Done),
+            (
+                1,
+                GroupEvent::Add(-1),
+                GroupReply::Misused(Misuse::NegativeWaitGroupCounter),
+            ),
+            (1, GroupEvent::Wait, GroupReply::Done),
+            // A wait that is released and leaves while the counter is 0.
+            (0, GroupEvent::Add(1), GroupReply::Done),
+            (1, GroupEvent::Wait, GroupReply::Queued),
+            (1, GroupEvent::Leave, GroupReply::Still),
+            (0, GroupEvent::Add(-1), GroupReply::Done),
+            (1, GroupEvent::Leave, GroupReply::Done),
+            // Used again before a released waiter has left, which is out then.
+            (0, GroupEvent::Add(1), GroupReply::Done),
+            (1, GroupEvent::Wait, GroupReply::Queued),
+            (0, GroupEvent::Add(-1), GroupReply::Done),
+            (0, GroupEvent::Add(1), GroupReply::Done),
+            (
+                1,
+                GroupEvent::Leave,
+                GroupReply::Misused(Misuse::WaitGroupReused),
+            ),
+            (1, GroupEvent::Leave, GroupReply::Still),
+            (2, GroupEvent::Add(1), GroupReply::Still),
+        ];
+        for (caller, event, reply) in table {
+            assert_eq!(rt; group.step(caller, event), reply, "{caller} at {event:?}");
+        }
+        Ok(())
+    }
+}

@@ -1,0 +1,39 @@
+//! Where the items of a pool come from and where they go.
+ghost use Rattle.std.specs.Prelude.{◌≡◌, ◌≢◌, ℕ, ◌+◌, ◌<◌, Bool, if◌then◌else◌, slice_get, ◌∷◌, ◌++◌};
+ghost use Rattle.wait_cores.specs.PoolParts.{PoolPart};
+ghost use Rattle.wait_cores.specs.PoolMachine.{PoolState, start, next};
+ghost use Rattle.wait_cores.specs.PoolLaws.{Log, IsLog, state_after, put_by, held, kept_count, got_count, swept_count, ComeFrom, is_full, private_at};
+
+use crate::pool_event::{PoolEvent, PoolReply};
+
+/// Nothing is lost and nothing made: of the items that pass any test, as that of being a certain one, those that were kept are
+/// those that looks took, those that the pool holds and those that sweeps removed.
+pub fn conserves_items()
+    ensures { (callers room : ℕ) (test : ℕ → Bool) (log : Log ℕ) → IsLog callers room log
+        → kept_count test log ≡ got_count test log + held test (state_after callers room log)
+        + swept_count test (start callers room) log }
+{}
+
+/// Each item that a look takes was put by one earlier put, no other look takes that put's item, and at most one sweep stands
+/// between.
+pub fn gives_each_once()
+    ensures { (callers room : ℕ) (log : Log ℕ) → IsLog callers room log → (origin : ℕ → ℕ) × ComeFrom log origin }
+{}
+
+/// A put is dropped exactly where the caller's own part holds a private item and `room` shared ones.
+pub fn drops_where_full()
+    ensures { (callers room : ℕ) (before rest : Log ℕ) (caller item : ℕ) (reply : PoolReply ℕ)
+        → caller < callers → IsLog callers room (before ++ put_by caller item reply ∷ rest)
+        → (own : PoolPart ℕ) × (slice_get (state_after callers room before).primary caller ≡ Some own)
+        × (reply ≡ (if is_full room own then PoolReply.Dropped item else PoolReply.Kept)) }
+{}
+
+/// The private item of another part is never taken: no event of a caller but a sweep changes it, in either generation.
+pub fn leaves_private_items()
+    ensures primary { (state : PoolState ℕ) (caller other : ℕ) (event : PoolEvent ℕ)
+        → event ≢ PoolEvent.Sweep → other ≢ caller
+        → private_at (next state caller event).0.primary other ≡ private_at state.primary other }
+    ensures victims { (state : PoolState ℕ) (caller other : ℕ) (event : PoolEvent ℕ)
+        → event ≢ PoolEvent.Sweep → other ≢ caller
+        → private_at (next state caller event).0.victims other ≡ private_at state.victims other }
+{}

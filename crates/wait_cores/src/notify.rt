@@ -1,0 +1,174 @@
+//! `sync.Cond` as a machine: tickets are taken in order and notified in that order.
+ghost use Rattle.std.specs.Prelude.{◌≡◌, ℕ, ◌<◌, ◌≤◌, IfOk};
+ghost use Rattle.wait_cores.specs.NotifyMachine.{start, next, callers_of, place_of};
+
+use std::alloc::{AllocError, Global};
+use std::marker::Model;
+
+/// What a caller does at a cond.
+#[derive(Clone, Copy, Debug, PartialEq, Eq)]
+pub enum NotifyEvent {
+    /// Takes the next ticket, to wait with it.
+    Ticket,
+    /// Notifies the oldest ticket that isn't notified yet, if there is one.
+    Signal,
+    /// Notifies every ticket that was taken.
+    Broadcast,
+    /// Leaves, its ticket being notified.
+    Leave,
+}
+
+/// What an event at a cond answers.
+#[derive(Clone, Copy, Debug, PartialEq, Eq)]
+pub enum NotifyReply {
+    /// The event was made.
+    Done,
+    /// The caller isn't at the place that the event needs, and nothing changed.
+    Still,
+}
+
+/// Where a caller stands at a cond.
+#[derive(Clone, Copy, Debug, PartialEq, Eq)]
+pub enum NotifyPlace {
+    /// It has no ticket.
+    Out,
+    /// Its ticket isn't notified yet.
+    Waiting,
+    /// Its ticket is notified, and it may leave.
+    Notified,
+}
+
+/// The state of a cond: the next ticket, how many are notified, and the ticket that each caller took last.
+#[derive(Debug, Drop)]
+pub struct NotifyCore {
+    next_ticket: u64,
+    notified: u64,
+    tickets: Vec<Option<u64>>,
+}
+
+impl Model for NotifyCore {
+    ghost use Rattle.wait_cores.specs.NotifyMachine.{NotifyState};
+
+    ghost Value = { NotifyState };
+
+    ghost view = { λ c. record { next_ticket = c.next_ticket; notified = c.notified; tickets = c.tickets.items } };
+}
+
+impl NotifyCore {
+    /// A cond at which nobody waits, for callers 0 to `callers - 1`. This call alone takes memory.
+    pub fn new(alloc: Global, callers: u32) -> Result<Self, AllocError>
+        requires some { 1 ≤ callers }
+        requires few { callers ≤ 64 }
+        ensures start { IfOk result (λ core. core ≡ start callers) }
+        ensures callers { IfOk result (λ core. callers_of core ≡ callers) }
+    {
+        Ok(NotifyCore {
+            next_ticket: 0,
+            notified: 0,
+            tickets: vec![in alloc; None; callers as usize]?,
+        })
+    }
+
+    /// Gives the caller the next ticket, in place of any that it has.
+    pub fn ticket(&mut self, caller: u32)
+        requires { caller < callers_of self.old }
+        ensures step { next self.old caller NotifyEvent.Ticket ≡ (self.new, NotifyReply.Done) }
+        ensures callers { callers_of self.new ≡ callers_of self.old }
+    {
+        self.tickets[caller as usize] = Some(self.next_ticket);
+        self.next_ticket = self.next_ticket.saturating_add(1);
+    }
+
+    /// Notifies the oldest ticket that isn't notified. Where there is none, nothing is kept for a later one.
+    pub fn signal(&mut self)
+        ensures step { (caller : ℕ) → caller < callers_of self.old
+            → next self.old caller NotifyEvent.Signal ≡ (self.new, NotifyReply.Done) }
+        ensures callers { callers_of self.new ≡ callers_of self.old }
+    {
+        if self.notified < self.next_ticket {
+            self.notified += 1;
+        }
+    }
+
+    /// Notifies every ticket that was taken.
+    pub fn broadcast(&mut self)
+        ensures step { (caller : ℕ) → caller < callers_of self.old
+            → next self.old caller NotifyEvent.Broadcast ≡ (self.new, NotifyReply.Done) }
+        ensures callers { callers_of self.new ≡ callers_of self.old }
+    {
+        self.notified = self.next_ticket;
+    }
+
+    /// Takes a notified caller out.
+    pub fn leave(&mut self, caller: u32)
+        requires { place_of self.old caller ≡ NotifyPlace.Notified }
+        ensures step { next self.old caller NotifyEvent.Leave ≡ (self.new, NotifyReply.Done) }
+        ensures callers { callers_of self.new ≡ callers_of self.old }
+    {
+        self.tickets[caller as usize] = None;
+    }
+
+    /// Where the caller stands.
+    pub fn place(&self, caller: u32) -> NotifyPlace
+        requires { caller < callers_of self.now }
+        ensures { result ≡ place_of self.now caller }
+    {
+        match self.tickets[caller as usize] {
+            None => NotifyPlace::Out,
+            Some(ticket) if ticket < self.notified => NotifyPlace::Notified,
+            Some(_) => NotifyPlace::Waiting,
+        }
+    }
+
+    /// What an event of a caller does, whoever it is and wherever it stands: the call of that event, or nothing where the
+    /// call's conditions aren't met.
+    pub fn step(&mut self, caller: u32, event: NotifyEvent) -> NotifyReply
+        ensures step { next self.old caller event ≡ (self.new, result) }
+        ensures callers { callers_of self.new ≡ callers_of self.old }
+    {
+        if caller as usize >= self.tickets.len() {
+            return NotifyReply::Still;
+        }
+        match (event, self.place(caller)) {
+            (NotifyEvent::Ticket, _) => self.ticket(caller),
+            (NotifyEvent::Signal, _) => self.signal(),
+            (NotifyEvent::Broadcast, _) => self.broadcast(),
+            (NotifyEvent::Leave, NotifyPlace::Notified) => self.leave(caller),
+            (NotifyEvent::Leave, _) => return NotifyReply::Still,
+        }
+        NotifyReply::Done
+    }
+}
+
+#[cfg(test)]
+mod tests {
+    use super::*;
+    use std::test::Fail;
+
+    #[test]
+    fn notifies_in_order(rt: HostRuntime) -> Result<(), Fail> {
+        let mut cond = NotifyCore::new(rt.alloc(), 3)?;
+        let table = [
+            // A signal that finds nobody is lost.
+            (2, NotifyEvent::Signal, NotifyReply::Done),
+            (0, NotifyEvent::Ticket, NotifyReply::Done),
+            (1, NotifyEvent::Ticket, NotifyReply::Done),
+            (0, NotifyEvent::Leave, NotifyReply::Still),
+            // One at a time, in the order of the tickets.
+            (2, NotifyEvent::Signal, NotifyReply::Done),
+            (1, NotifyEvent::Leave, NotifyReply::Still),
+            (0, NotifyEvent::Leave, NotifyReply::Done),
+            (0, NotifyEvent::Leave, NotifyReply::Still),
+            // All at once.
+            (0, NotifyEvent::Ticket, NotifyReply::Done),
+            (2, NotifyEvent::Broadcast, NotifyReply::Done),
+            (0, NotifyEvent::Leave, NotifyReply::Done),
+            (1, NotifyEvent::Leave, NotifyReply::Done),
+            (3, NotifyEvent::Signal, NotifyReply::Still),
+        ];
+        for (caller, event, reply) in table {
+            assert_eq!(rt; cond.step(caller, event), reply, "{caller} at {event:?}");
+        }
+        Ok(())
+    }
+}

@@ -1,0 +1,236 @@
+//! `sync.Once` as a machine: one caller runs the function, and every return has what it came to.
+ghost use Rattle.std.specs.Prelude.{◌≡◌, ℕ, ◌<◌, ◌≤◌, IfOk};
+ghost use Rattle.wait_cores.specs.OnceMachine.{start, next, callers_of, place_of, runner_of, reply_of};
+
+use std::alloc::{AllocError, Global};
+use std::marker::Model;
+
+/// What a caller does at a once whose function comes to a `T`.
+#[derive(Clone, Copy, Debug, PartialEq, Eq)]
+pub enum OnceEvent<T> {
+    /// Comes to have the function run.
+    Begin,
+    /// Ends the function, which it runs, with what the function came to.
+    End(T),
+    /// Returns, having been released.
+    Leave,
+}
+
+/// What an event at a once answers.
+#[derive(Clone, Copy, Debug, PartialEq, Eq)]
+pub enum OnceReply<T> {
+    /// The caller is to run the function.
+    Run,
+    /// Another caller runs it, or this one does: the caller waits.
+    Queued,
+    /// The function has ended, with this.
+    Done(T),
+    /// What the function came to is kept.
+    Ended,
+    /// The caller has left, with what the function came to.
+    Left(T),
+    /// The caller isn't at the place that the event needs, and nothing changed.
+    Still,
+}
+
+/// How far a once has come.
+#[derive(Clone, Copy, Debug, PartialEq, Eq)]
+pub enum OnceProgress<T> {
+    /// Nobody has begun the function.
+    NotRun,
+    /// This caller runs it.
+    Running(u32),
+    /// It has ended, with this.
+    Ended(T),
+}
+
+/// Where a caller stands at a once.
+#[derive(Clone, Copy, Debug, PartialEq, Eq)]
+pub enum OncePlace {
+    /// It doesn't wait.
+    Out,
+    /// It waits for the end of the function.
+    Waiting,
+    /// The function has ended, and it may leave.
+    Released,
+}
+
+/// What `OnceCore::begin` answers.
+#[derive(Clone, Copy, Debug, PartialEq, Eq)]
+pub enum Begun<T> {
+    /// The caller is to run the function.
+    Run,
+    /// The function is being run: the caller waits.
+    Queued,
+    /// The function has ended, with this.
+    Done(T),
+}
+
+impl<T> From<Begun<T>> for OnceReply<T> {
+    ghost from_gives = { λ begun reply. reply ≡ reply_of begun };
+
+    fn from(begun: Begun<T>) -> Self {
+        match begun {
+            Begun::Run => OnceReply::Run,
+            Begun::Queued => OnceReply::Queued,
+            Begun::Done(kept) => OnceReply::Done(kept),
+        }
+    }
+}
+
+/// The state of a once, and who waits there.
+#[derive(Debug, Drop)]
+pub struct OnceCore<T> {
+    progress: OnceProgress<T>,
+    waits: Vec<bool>,
+}
+
+impl<T> Model for OnceCore<T> {
+    ghost use Rattle.wait_cores.specs.OnceMachine.{OnceState};
+
+    ghost Value = { OnceState T };
+
+    ghost view = { λ c. record { progress = c.progress; waits = c.waits.items } };
+}
+
+impl<T: Copy> OnceCore<T> {
+    /// A once that hasn't run, for callers 0 to `callers - 1`. This call alone takes memory.
+    pub fn new(alloc: Global, callers: u32) -> Result<Self, AllocError>
+        requires some { 1 ≤ callers }
+        requires few { callers ≤ 64 }
+        ensures start { IfOk result (λ core. core ≡ start callers) }
+        ensures callers { IfOk result (λ core. callers_of core ≡ callers) }
+    {
+        Ok(OnceCore {
+            progress: OnceProgress::NotRun,
+            waits: vec![in alloc; false; callers as usize]?,
+        })
+    }
+
+    /// Comes to have the function run: the first caller runs it, others wait for its end, and after that nobody waits.
+    pub fn begin(&mut self, caller: u32) -> Begun<T>
+        requires is_caller { caller < callers_of self.old }
+        requires is_out { place_of self.old caller ≡ OncePlace.Out }
+        ensures step { next self.old caller OnceEvent.Begin ≡ (self.new, reply_of result) }
+        ensures callers { callers_of self.new ≡ callers_of self.old }
+    {
+        match self.progress {
+            OnceProgress::NotRun => {
+                self.progress = OnceProgress::Running(caller);
+                Begun::Run
+            }
+            OnceProgress::Running(_) => {
+                self.waits[caller as usize] = true;
+                Begun::Queued
+            }
+            OnceProgress::Ended(kept) => Begun::Done(kept),
+        }
+    }
+
+    /// Keeps what the function came to, an error too, and releases all who wait.
+    pub fn end(&mut self, caller: u32, kept: T)
+        requires is_caller { caller < callers_of self.old }
+        requires is_runner { runner_of self.old ≡ Some caller }
+        ensures step { next self.old caller (OnceEvent.End kept) ≡ (self.new, OnceReply.Ended) }
+        ensures callers { callers_of self.new ≡ callers_of self.old }
+    {
+        self.progress = OnceProgress::Ended(kept);
+    }
+
+    /// Takes a released caller out, with what the function came to.
+    pub fn leave(&mut self, caller: u32) -> T
+        requires { place_of self.old caller ≡ OncePlace.Released }
+        ensures step { next self.old caller OnceEvent.Leave ≡ (self.new, OnceReply.Left result) }
+        ensures callers { callers_of self.new ≡ callers_of self.old }
+    {
+        match self.progress {
+            OnceProgress::Ended(kept) => {
+                self.waits[caller as usize] = false;
+                kept
+            }
+            _ => unreachable!(),
+        }
+    }
+
+    /// The caller that runs the function, if one does.
+    pub fn runner(&self) -> Option<u32>
+        ensures { result ≡ runner_of self.now }
+    {
+        match self.progress {
+            OnceProgress::Running(caller) => Some(caller),
+            _ => None,
+        }
+    }
+
+    /// Where the caller stands. The one that runs the function is out, unless it waits for itself.
+    pub fn place(&self, caller: u32) -> OncePlace
+        requires { caller < callers_of self.now }
+        ensures { result ≡ place_of self.now caller }
+    {
+        if !self.waits[caller as usize] {
+            return OncePlace::Out;
+        }
+        match self.progress {
+            OnceProgress::Ended(_) => OncePlace::Released,
+            _ => OncePlace::Waiting,
+        }
+    }
+
+    /// What an event of a caller does, whoever it is and wherever it stands: the call of that event, or nothing where the
+    /// call's conditions aren't met.
+    pub fn step(&mut self, caller: u32, event: OnceEvent<T>) -> OnceReply<T>
+        ensures step { next self.old caller event ≡ (self.new, result) }
+        ensures callers { callers_of self.new ≡ callers_of self.old }
+    {
+        if caller as usize >= self.waits.len() {
+            return OnceReply::Still;
+        }
+        match (event, self.place(caller)) {
+            (OnceEvent::Begin, OncePlace::Out) => self.begin(caller).into(),
+            (OnceEvent::End(kept), _) if self.runner() == Some(caller) => {
+                self.end(caller, kept);
+                OnceReply::Ended
+            }
+            (OnceEvent::Leave, OncePlace::Released) => OnceReply::Left(self.leave(caller)),
+            _ => OnceReply::Still,
+        }
+    }
+}
+
+#[cfg(test)]
+mod tests {
+    use super::*;
+    use std::test::Fail;
+
+    #[test]
+    fn runs_once(rt: HostRuntime) -> Result<(), Fail> {
+        let mut once = OnceCore::new(rt.alloc(), 2)?;
+        let table = [
+            (1, OnceEvent::Leave, OnceReply::Still),
+            (0, OnceEvent::Begin, OnceReply::Run),
+            (1, OnceEvent::Begin, OnceReply::Queued),
+            (1, OnceEvent::End(7), OnceReply::Still),
+            (1, OnceEvent::Leave, OnceReply::Still),
+            (0, OnceEvent::End(5), OnceReply::Ended),
+            (0, OnceEvent::End(6), OnceReply::Still),
+            (0, OnceEvent::Begin, OnceReply::Done(5)),
+            (1, OnceEvent::Leave, OnceReply::Left(5)),
+            (1, OnceEvent::Begin, OnceReply::Done(5)),
+            (2, OnceEvent::Begin, OnceReply::Still),
+        ];
+        for (caller, event, reply) in table {
+            assert_eq!(rt; once.step(caller, event), reply, "{caller} at {event:?}");
+        }
+        Ok(())
+    }
+
+    #[test]
+    fn waits_for_itself(rt: HostRuntime) -> Result<(), Fail> {
+        let mut once = OnceCore::new(rt.alloc(), 1)?;
+        assert_eq!(rt; once.step(0, OnceEvent::Begin), OnceReply::<u64>::Run);
+        assert_eq!(rt; once.runner(), Some(0));
+        assert_eq!(rt; once.step(0, OnceEvent::Begin), OnceReply::Queued);
+        assert_eq!(rt; once.step(0, OnceEvent::Leave), OnceReply::Still);
+        Ok(())
+    }
+}

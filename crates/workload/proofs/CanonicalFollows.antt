@@ -1,0 +1,349 @@
+-- The canonical lines of a readable workload follow one another.
+use Rattle.std.proofs.Common.{◌≡◌, ℕ, zero, suc, ◌+◌, ◌-◌, ◌*◌, ◌<◌, ◌≤◌, min, max, Bool, true, false, cond, eqb, ◌&&◌, ◌||◌, not, List, [], ◌∷◌, ◌++◌, map, length, get_or, set, take, drop, replicate, Option, Some, None, refl, sym, ap, subst, ◌∙◌, append_assoc, arith}
+use Rattle.std.specs.Prelude.{nat_lt, nat_le, is_some, slice_get, sum_by, fold}
+use Rattle.std.specs.List.{list_all, list_any, flat_map, onto_first}
+use Rattle.std.proofs.Math.Seq.{set-append_seam, get_or-append_seam}
+use Rattle.std.proofs.lemmas.Grind.{flat_map-append}
+use Rattle.std.proofs.lemmas.List.Sums.{sum_by-append}
+use Rattle.std.specs.Str.{bytes_eq}
+use Rattle.std.specs.Ordering.{nat_cmp}
+use Rattle.std.specs.Cmp.Lexicographic.{slice_cmp}
+use Rattle.std.specs.FinMap.{len, from_entries}
+use Rattle.std.proofs.lemmas.Bool.{eqb-true, eq-eqb, lt-ltb, le-leb, ltb-true, leb-true}
+use Rattle.std.proofs.lemmas.List.{append-nil, length-append, length-map, length-take, length-drop, take-append-drop}
+use Rattle.std.proofs.lemmas.List.Folds.{list_any-append, list_all-append}
+use Rattle.std.proofs.lemmas.Slice.Eq.{bytes_eq-Decides}
+use Rattle.sync_model.specs.Name.{is_name}
+use Rattle.sync_model.specs.declared.call.Call.{Call}
+use Rattle.workload.specs.declared.limits.TheConstants.{MAX_CALLS, MAX_KEYS, MAX_TURNS, MAX_WORKERS, MAX_MAPS}
+use Rattle.workload.specs.declared.object.Declared.{Declared}
+use Rattle.workload.specs.declared.object.ObjectKind.{ObjectKind}
+use Rattle.workload.specs.declared.object.ObjectKind.TheVariants as kinds
+use Rattle.workload.specs.declared.object.ObjectLine.{ObjectLine}
+use Rattle.workload.specs.declared.line.Line.{Line}
+use Rattle.workload.specs.declared.line.Line.TheVariants as lines
+use Rattle.workload.specs.declared.turn.Turn.{Turn}
+use Rattle.workload.specs.Plan.{Plan, object_of, has_call, is_on}
+use Rattle.workload.specs.Draft.{Draft, started, with_line, may_follow, declared, declared_from, count_of, count_together, limit_of, names_object, is_call, is_item, keys_of, all_keys, distinct_count, key_count, call_count}
+use Rattle.workload.specs.Canonical.{name_of, call_line, script_lines, eights, canonical_lines}
+use Rattle.workload.specs.Readable.{may_declare, IsReadable}
+use Rattle.workload.proofs.Passing.{both, pair, not_true, all_at, all_append}
+use Rattle.workload.proofs.KeyLemmas.{distinct_more, distinct_same}
+use Rattle.workload.proofs.DraftLemmas.{declared_more, valid_parts}
+use Rattle.workload.proofs.PrintLemmas.{eights_first}
+use Rattle.workload.proofs.FollowOn.{FollowOn, follow_append, follow_to}
+
+-- ---- objects
+
+pub objects_follow : (os : List ObjectLine) (d : Draft) → may_declare d.plan.objects os ≡ true → FollowOn d (map (λ o. lines.Object o) os) (record d { plan = record d.plan { objects = d.plan.objects ++ os } })
+objects_follow [] d h = ap (λ (x : List ObjectLine). record d { plan = record d.plan { objects = x } }) (append-nil d.plan.objects)
+objects_follow (o ∷ os) d h =
+    let here = is_name o.name && (not (is_some (declared_from 0 o.name d.plan.objects)) && nat_lt (count_of o.kind d.plan.objects) (limit_of o.kind)) in
+    let parts = both here (may_declare (d.plan.objects ++ o ∷ []) os) h in
+    let next : Draft = record d { plan = record d.plan { objects = d.plan.objects ++ o ∷ [] } } in (
+      parts.0,
+      tt,
+      follow_to (map (λ x. lines.Object x) os) next _ _
+          (ap (λ (x : List ObjectLine). record d { plan = record d.plan { objects = x } }) (append_assoc d.plan.objects (o ∷ []) os))
+          (objects_follow os next parts.1),
+    )
+
+is_map : (k : ObjectKind) → count_together kinds.Map k ≡ true
+is_map kinds.Map = refl
+
+map_count : (os : List ObjectLine) (n : ℕ) → fold (λ a x. a + cond (count_together kinds.Map x.kind) 1 0) n os ≡ n + length os
+map_count [] n = omega arith
+map_count (o ∷ os) n = map_count os (n + cond (count_together kinds.Map o.kind) 1 0) ∙ rw (is_map o.kind) (omega arith)
+
+few_others : (k : ObjectKind) (others : List ObjectLine) → nat_lt (count_of k others) (limit_of k) ≡ true → length others < MAX_MAPS
+few_others kinds.Map others h = omega (arith, ltb-true (count_of kinds.Map others) MAX_MAPS h, map_count others 0)
+
+-- there are at most 16 objects
+few_objects : (os others : List ObjectLine) → length others ≤ MAX_MAPS → may_declare others os ≡ true → length others + length os ≤ MAX_MAPS
+few_objects [] others few h = omega arith
+few_objects (o ∷ os) others few h =
+    let room = nat_lt (count_of o.kind others) (limit_of o.kind) in
+    let new = not (is_some (declared_from 0 o.name others)) in
+    let parts = both (is_name o.name && (new && room)) (may_declare (others ++ o ∷ []) os) h in
+    let less = few_others o.kind others (both new room (both (is_name o.name) (new && room) parts.0).1).1 in
+    let rest = few_objects os (others ++ o ∷ []) (omega (arith, length-append others (o ∷ []))) parts.1 in
+    omega (arith, rest, length-append others (o ∷ []))
+
+-- ---- names
+
+declared_append : (i : ℕ) (q : List ℕ) (xs ys : List ObjectLine) → declared_from i q xs ≡ None → declared_from i q (xs ++ ys) ≡ declared_from (i + length xs) q ys
+declared_append i q [] ys h = ap (λ (n : ℕ). declared_from n q ys) (omega arith)
+declared_append i q (x ∷ xs) ys h =
+    elim (bytes_eq q x.name) as (λ b. cond b (Some (record { place = i; kind = x.kind })) (declared_from (i + 1) q xs) ≡ None → cond b (Some (record { place = i; kind = x.kind })) (declared_from (i + 1) q (xs ++ ys)) ≡ declared_from (i + length (x ∷ xs)) q ys) [
+      | true ↦ λ e. absurd cc
+      | false ↦ λ e. declared_append (i + 1) q xs ys e ∙ ap (λ (n : ℕ). declared_from n q ys) (omega arith)
+    ] h
+
+none_is : (o : Option Declared) → is_some o ≡ false → o ≡ None
+none_is None e = refl
+none_is (Some d) e = absurd cc
+
+same_object : (p o : ObjectLine) → Some p ≡ Some o → p ≡ o
+same_object p o e = cc
+
+-- the object at a place, where all names are new, is the one that its name finds
+found_in : (os others : List ObjectLine) (k : ℕ) (o : ObjectLine) → may_declare others os ≡ true → slice_get os k ≡ Some o → (is_name o.name ≡ true) × (declared_from 0 o.name (others ++ os) ≡ Some (record { place = length others + k; kind = o.kind }))
+found_in [] others k o h g = absurd cc
+found_in (p ∷ os) others zero o h g =
+    let room = nat_lt (count_of p.kind others) (limit_of p.kind) in
+    let new = not (is_some (declared_from 0 p.name others)) in
+    let parts = both (is_name p.name && (new && room)) (may_declare (others ++ p ∷ []) os) h in
+    let named = both (is_name p.name) (new && room) parts.0 in
+    let absent = none_is (declared_from 0 p.name others) (not_true (is_some (declared_from 0 p.name others)) (both new room named.1).0) in
+    let here : declared_from 0 p.name (others ++ p ∷ os) ≡ Some (record { place = length others + 0; kind = p.kind }) =
+    declared_append 0 p.name others (p ∷ os) absent
+    ∙ ap (λ (b : Bool). cond b (Some (record { place = 0 + length others; kind = p.kind })) (declared_from (0 + length others + 1) p.name os)) ((bytes_eq-Decides p.name p.name).1 refl)
+    ∙ ap (λ (n : ℕ). Some (record { place = n; kind = p.kind })) (omega arith) in
+    subst (λ (x : ObjectLine). (is_name x.name ≡ true) × (declared_from 0 x.name (others ++ p ∷ os) ≡ Some (record { place = length others + 0; kind = x.kind }))) (same_object p o g) (named.0, here)
+found_in (p ∷ os) others (suc k) o h g =
+    let here = is_name p.name && (not (is_some (declared_from 0 p.name others)) && nat_lt (count_of p.kind others) (limit_of p.kind)) in
+    let parts = both here (may_declare (others ++ p ∷ []) os) h in
+    let rest = found_in os (others ++ p ∷ []) k o parts.1 g in (
+      rest.0,
+      ap (declared_from 0 o.name) (sym (append_assoc others (p ∷ []) os)) ∙ rest.1
+          ∙ ap (λ (n : ℕ). Some (record { place = n; kind = o.kind })) (omega (arith, length-append others (p ∷ []))),
+    )
+
+-- ---- limits
+
+or5 : (r c d f m : Bool) → (r || (c || (d || (f || m)))) ≡ (d || ((f || (c || r)) || m))
+or5 true true true true m = refl
+or5 true true true false m = refl
+or5 true true false true m = refl
+or5 true true false false m = refl
+or5 true false true true m = refl
+or5 true false true false m = refl
+or5 true false false true m = refl
+or5 true false false false m = refl
+or5 false true true true m = refl
+or5 false true true false m = refl
+or5 false true false true m = refl
+or5 false true false false m = refl
+or5 false false true true m = refl
+or5 false false true false m = refl
+or5 false false false true m = refl
+or5 false false false false m = refl
+
+module _ (p : List ℕ → Bool) where
+  -- the keys of calls in another order
+  keys_turned : (r c d f m : List (List ℕ)) → list_any p (r ++ (c ++ (d ++ (f ++ m)))) ≡ list_any p (d ++ ((f ++ (c ++ r)) ++ m))
+  keys_turned r c d f m =
+      list_any-append p r (c ++ (d ++ (f ++ m)))
+      ∙ ap (λ (b : Bool). list_any p r || b) (list_any-append p c (d ++ (f ++ m)) ∙ ap (λ (b : Bool). list_any p c || b) (list_any-append p d (f ++ m) ∙ ap (λ (b : Bool). list_any p d || b) (list_any-append p f m)))
+      ∙ or5 (list_any p r) (list_any p c) (list_any p d) (list_any p f) (list_any p m)
+      ∙ sym (list_any-append p d ((f ++ (c ++ r)) ++ m)
+      ∙ ap (λ (b : Bool). list_any p d || b) (list_any-append p (f ++ (c ++ r)) m
+      ∙ ap (λ (b : Bool). b || list_any p m) (list_any-append p f (c ++ r) ∙ ap (λ (b : Bool). list_any p f || b) (list_any-append p c r))))
+
+  or_comm : (a b : Bool) → (a || b) ≡ (b || a)
+  or_comm true true = refl
+  or_comm true false = refl
+  or_comm false true = refl
+  or_comm false false = refl
+
+  keys_swapped : (a b : List (List ℕ)) → list_any p (a ++ b) ≡ list_any p (b ++ a)
+  keys_swapped a b = list_any-append p a b ∙ or_comm (list_any p a) (list_any p b) ∙ sym (list_any-append p b a)
+
+distinct_front : (a b : List (List ℕ)) → distinct_count a ≤ distinct_count (a ++ b)
+distinct_front a b = omega (arith, distinct_same (a ++ b) (b ++ a) (λ q. keys_swapped (bytes_eq q) a b), distinct_more b a)
+
+-- ---- scripts
+
+all_keys-middle : (done : List (List Call)) (script : List Call) (more : List (List Call)) → all_keys (done ++ (script ∷ more)) ≡ all_keys done ++ (flat_map keys_of script ++ all_keys more)
+all_keys-middle done script more = flat_map-append (flat_map keys_of) done (script ∷ more)
+
+-- one more call keeps the limit on keys where all calls do
+keys_fit : (done : List (List Call)) (front rest : List Call) (c : Call) (more : List (List Call)) → key_count (done ++ (front ∷ more)) (keys_of c) ≤ distinct_count (all_keys (done ++ ((front ++ (c ∷ rest)) ∷ more)))
+keys_fit done front rest c more =
+    let d = all_keys done in
+    let f = flat_map keys_of front in
+    let r = flat_map keys_of rest in
+    let m = all_keys more in
+    let now = ap (λ (ks : List (List ℕ)). distinct_count (keys_of c ++ ks)) (all_keys-middle done front more) in
+    let then : distinct_count (all_keys (done ++ ((front ++ (c ∷ rest)) ∷ more))) ≡ distinct_count (d ++ ((f ++ (keys_of c ++ r)) ++ m)) =
+    ap distinct_count (all_keys-middle done (front ++ (c ∷ rest)) more ∙ ap (λ (ks : List (List ℕ)). d ++ (ks ++ m)) (flat_map-append keys_of front (c ∷ rest))) in
+    omega (arith, now, then, distinct_more r (keys_of c ++ (d ++ (f ++ m))), distinct_same (r ++ (keys_of c ++ (d ++ (f ++ m)))) (d ++ ((f ++ (keys_of c ++ r)) ++ m)) (λ q. keys_turned (bytes_eq q) r (keys_of c) d f m))
+
+calls-middle : (done : List (List Call)) (script : List Call) (more : List (List Call)) → call_count (done ++ (script ∷ more)) ≡ call_count done + (length script + call_count more)
+calls-middle done script more = omega (arith, sum_by-append length done (script ∷ more), sum_by-append length (script ∷ []) more)
+
+-- a call on an object that is there is named by its name
+call_named : (objects : List ObjectLine) (c : Call) → may_declare [] objects ≡ true → is_on (slice_get objects (object_of c)) c ≡ true
+    → (is_name (name_of (slice_get objects (object_of c))) ≡ true) × (names_object (declared_from 0 (name_of (slice_get objects (object_of c))) objects) c ≡ true)
+call_named objects c new on =
+    elim (slice_get objects (object_of c)) as (λ o. slice_get objects (object_of c) ≡ o → is_on o c ≡ true → (is_name (name_of o) ≡ true) × (names_object (declared_from 0 (name_of o) objects) c ≡ true)) [
+      | None ↦ λ at h. absurd cc
+      | Some o ↦ λ at h.
+          let found = found_in objects [] (object_of c) o new at in
+          (found.0, rw found.1 (pair (eqb (0 + object_of c) (object_of c)) (has_call o.kind c) (eq-eqb (0 + object_of c) (object_of c) (omega arith)) h))
+    ] refl on
+
+-- a draft by its parts
+abbrev at : ℕ → List ObjectLine → List Turn → List (List Call) → Option ℕ → Draft
+at workers objects schedule scripts worker = record { plan = record { workers = workers; objects = objects; scripts = scripts; schedule = schedule }; current = worker }
+
+-- what the calls of a script need
+record CallsFit (objects : List ObjectLine) (done : List (List Call)) (front rest : List Call) (more : List (List Call)) : Type 0 where
+  on : list_all (λ call. is_on (slice_get objects (object_of call)) call) rest ≡ true
+  fits : list_all is_call rest ≡ true
+  room : call_count (done ++ ((front ++ rest) ∷ more)) ≤ MAX_CALLS
+  keys : distinct_count (all_keys (done ++ ((front ++ rest) ∷ more))) ≤ MAX_KEYS
+
+calls_follow : (workers : ℕ) (objects : List ObjectLine) (schedule : List Turn) (done : List (List Call)) (rest front : List Call) (more : List (List Call)) → may_declare [] objects ≡ true → CallsFit objects done front rest more
+    → FollowOn (at workers objects schedule (done ++ (front ∷ more)) (Some (length done))) (map (call_line objects) rest) (at workers objects schedule (done ++ ((front ++ rest) ∷ more)) (Some (length done)))
+calls_follow workers objects schedule done [] front more new fit = ap (λ (f : List Call). at workers objects schedule (done ++ (f ∷ more)) (Some (length done))) (append-nil front)
+calls_follow workers objects schedule done (c ∷ rest) front more new fit =
+    let d = at workers objects schedule (done ++ (front ∷ more)) (Some (length done)) in
+    let test : Call → Bool = λ call. is_on (slice_get objects (object_of call)) call in
+    let on = both (test c) (list_all test rest) fit.on in
+    let fits = both (is_call c) (list_all is_call rest) fit.fits in
+    let named = call_named objects c new on.0 in
+    let room : nat_lt (call_count (done ++ (front ∷ more))) MAX_CALLS ≡ true =
+    lt-ltb (call_count (done ++ (front ∷ more))) MAX_CALLS (omega (arith, fit.room, calls-middle done front more, calls-middle done (front ++ (c ∷ rest)) more, length-append front (c ∷ rest))) in
+    let keys : nat_le (key_count (done ++ (front ∷ more)) (keys_of c)) MAX_KEYS ≡ true =
+    le-leb (key_count (done ++ (front ∷ more)) (keys_of c)) MAX_KEYS (omega (arith, fit.keys, keys_fit done front rest c more)) in
+    let follows : may_follow d (call_line objects c) ≡ true = rw (named.0, named.1, fits.0, room, keys) refl in
+    let moved : front ++ (c ∷ rest) ≡ (front ++ c ∷ []) ++ rest = sym (append_assoc front (c ∷ []) rest) in
+    let put : set (done ++ (front ∷ more)) (length done) (get_or (done ++ (front ∷ more)) (length done) [] ++ c ∷ []) ≡ done ++ ((front ++ c ∷ []) ∷ more) =
+    ap (λ (f : List Call). set (done ++ (front ∷ more)) (length done) (f ++ c ∷ [])) (get_or-append_seam done front more []) ∙ set-append_seam done front more (front ++ c ∷ []) in
+    let next : FollowOn (at workers objects schedule (done ++ ((front ++ c ∷ []) ∷ more)) (Some (length done))) (map (call_line objects) rest) (at workers objects schedule (done ++ (((front ++ c ∷ []) ++ rest) ∷ more)) (Some (length done))) =
+    calls_follow workers objects schedule done rest (front ++ c ∷ []) more new (record {
+      on = on.1;
+      fits = fits.1;
+      room = subst (λ (f : List Call). call_count (done ++ (f ∷ more)) ≤ MAX_CALLS) moved fit.room;
+      keys = subst (λ (f : List Call). distinct_count (all_keys (done ++ (f ∷ more))) ≤ MAX_KEYS) moved fit.keys;
+    }) in (
+      follows,
+      tt,
+      subst (λ (s : List (List Call)). FollowOn (at workers objects schedule s (Some (length done))) (map (call_line objects) rest) (at workers objects schedule (done ++ ((front ++ (c ∷ rest)) ∷ more)) (Some (length done)))) (sym put)
+          (follow_to (map (call_line objects) rest) _ _ _ (ap (λ (f : List Call). at workers objects schedule (done ++ (f ∷ more)) (Some (length done))) (sym moved)) next),
+    )
+
+empty_keys : (n : ℕ) → all_keys (replicate n []) ≡ []
+empty_keys zero = refl
+empty_keys (suc n) = empty_keys n
+
+empty_calls : (n : ℕ) → call_count (replicate n []) ≡ 0
+empty_calls zero = refl
+empty_calls (suc n) = empty_calls n
+
+-- what the scripts need
+record ScriptsFit (objects : List ObjectLine) (done rest : List (List Call)) : Type 0 where
+  on : list_all (list_all (λ call. is_on (slice_get objects (object_of call)) call)) rest ≡ true
+  fits : list_all (list_all is_call) rest ≡ true
+  room : call_count (done ++ rest) ≤ MAX_CALLS
+  keys : distinct_count (all_keys (done ++ rest)) ≤ MAX_KEYS
+
+scripts_follow : (workers : ℕ) (objects : List ObjectLine) (schedule : List Turn) (rest done : List (List Call)) (worker : Option ℕ) → may_declare [] objects ≡ true → length done + length rest ≡ workers → ScriptsFit objects done rest
+    → (last : Option ℕ) × FollowOn (at workers objects schedule (done ++ replicate (length rest) []) worker) (script_lines objects (length done) rest) (at workers objects schedule (done ++ rest) last)
+scripts_follow workers objects schedule [] done worker new count fit = (worker, refl)
+scripts_follow workers objects schedule (s ∷ rest) done worker new count fit =
+    let test : Call → Bool = λ call. is_on (slice_get objects (object_of call)) call in
+    let on = both (list_all test s) (list_all (list_all test) rest) fit.on in
+    let fits = both (list_all is_call s) (list_all (list_all is_call) rest) fit.fits in
+    let more = replicate (length rest) [] in
+    let moved : done ++ (s ∷ rest) ≡ (done ++ s ∷ []) ++ rest = sym (append_assoc done (s ∷ []) rest) in
+    let room : call_count (done ++ (s ∷ more)) ≤ MAX_CALLS = omega (arith, fit.room, calls-middle done s more, calls-middle done s rest, empty_calls (length rest)) in
+    let some_keys : distinct_count (all_keys (done ++ (s ∷ more))) ≤ MAX_KEYS =
+    omega (
+      arith,
+      fit.keys,
+      ap distinct_count (all_keys-middle done s more ∙ ap (λ (ks : List (List ℕ)). all_keys done ++ (flat_map keys_of s ++ ks)) (empty_keys (length rest)) ∙ ap (λ (ks : List (List ℕ)). all_keys done ++ ks) (append-nil (flat_map keys_of s))),
+      ap distinct_count (all_keys-middle done s rest ∙ sym (append_assoc (all_keys done) (flat_map keys_of s) (all_keys rest))),
+      distinct_front (all_keys done ++ flat_map keys_of s) (all_keys rest),
+    ) in
+    let calls = calls_follow workers objects schedule done s [] more new (record { on = on.0; fits = fits.0; room = room; keys = some_keys }) in
+    let inside : nat_lt (length done) workers ≡ true = lt-ltb (length done) workers (omega arith) in
+    let behind = scripts_follow workers objects schedule rest (done ++ s ∷ []) (Some (length done)) new (omega (arith, length-append done (s ∷ []))) (record {
+      on = on.1;
+      fits = fits.1;
+      room = subst (λ (x : List (List Call)). call_count x ≤ MAX_CALLS) moved fit.room;
+      keys = subst (λ (x : List (List Call)). distinct_count (all_keys x) ≤ MAX_KEYS) moved fit.keys;
+    }) in
+    let here : FollowOn (at workers objects schedule (done ++ ([] ∷ more)) worker) (lines.Worker (length done) ∷ map (call_line objects) s) (at workers objects schedule ((done ++ s ∷ []) ++ more) (Some (length done))) =
+    (inside, tt, follow_to (map (call_line objects) s) _ _ _ (ap (λ (x : List (List Call)). at workers objects schedule x (Some (length done))) (sym (append_assoc done (s ∷ []) more))) calls) in
+    let others : FollowOn (at workers objects schedule ((done ++ s ∷ []) ++ more) (Some (length done))) (script_lines objects (length done + 1) rest) (at workers objects schedule (done ++ (s ∷ rest)) behind.0) =
+    subst (λ (n : ℕ). FollowOn (at workers objects schedule ((done ++ s ∷ []) ++ more) (Some (length done))) (script_lines objects n rest) (at workers objects schedule (done ++ (s ∷ rest)) behind.0)) (length-append done (s ∷ []))
+    (follow_to (script_lines objects (length (done ++ s ∷ [])) rest) _ _ _ (ap (λ (x : List (List Call)). at workers objects schedule x behind.0) (sym moved)) behind.1) in (
+      behind.0,
+      follow_append (lines.Worker (length done) ∷ map (call_line objects) s) (script_lines objects (length done + 1) rest)
+          (at workers objects schedule (done ++ ([] ∷ more)) worker) (at workers objects schedule ((done ++ s ∷ []) ++ more) (Some (length done))) (at workers objects schedule (done ++ (s ∷ rest)) behind.0) here others,
+    )
+
+-- ---- the schedule
+
+schedule_follows : (n : ℕ) (workers : ℕ) (objects : List ObjectLine) (scripts : List (List Call)) (worker : Option ℕ) (ts before : List Turn) → length ts ≤ n → list_all (is_item workers) ts ≡ true → length before + length ts ≤ MAX_TURNS
+    → FollowOn (at workers objects before scripts worker) (map (λ x. lines.Schedule x) (eights 7 ts)) (at workers objects (before ++ ts) scripts worker)
+schedule_follows n workers objects scripts worker [] before short items room = ap (λ (x : List Turn). at workers objects x scripts worker) (append-nil before)
+schedule_follows zero workers objects scripts worker (t ∷ ts) before short items room = absurd (omega arith)
+schedule_follows (suc n) workers objects scripts worker (t ∷ ts) before short items room =
+    let all = t ∷ ts in
+    let first = take 8 all in
+    let rest = drop 8 all in
+    let whole : first ++ rest ≡ all = take-append-drop 8 all in
+    let parts = both (list_all (is_item workers) first) (list_all (is_item workers) rest) (sym (list_all-append (is_item workers) first rest) ∙ ap (list_all (is_item workers)) whole ∙ items) in
+    let some : nat_lt 0 (length first) ≡ true = lt-ltb 0 (length first) (omega (arith, length-take 8 all)) in
+    let fits : nat_le (length before + length first) MAX_TURNS ≡ true = le-leb (length before + length first) MAX_TURNS (omega (arith, length-take 8 all)) in
+    let follows : may_follow (at workers objects before scripts worker) (lines.Schedule first) ≡ true = pair (nat_lt 0 (length first)) _ some (pair (list_all (is_item workers) first) _ parts.0 fits) in
+    let behind = schedule_follows n workers objects scripts worker rest (before ++ first) (omega (arith, length-drop 8 all)) parts.1 (omega (arith, length-append before first, length-take 8 all, length-drop 8 all)) in
+    subst (λ (chunks : List (List Turn)). FollowOn (at workers objects before scripts worker) (map (λ x. lines.Schedule x) chunks) (at workers objects (before ++ all) scripts worker)) (sym (eights_first 7 all (omega arith))) (
+      follows,
+      omega (arith, length-take 8 all),
+      follow_to (map (λ x. lines.Schedule x) (eights 7 rest)) _ _ _ (ap (λ (x : List Turn). at workers objects x scripts worker) (append_assoc before first rest ∙ ap (λ (x : List Turn). before ++ x) whole)) behind,
+    )
+
+one_or_more : (t : Turn) (xs : List (List Turn)) → length (onto_first t xs) ≡ max 1 (length xs)
+one_or_more t [] = refl
+one_or_more t (x ∷ xs) = omega arith
+
+eights_count : (more : ℕ) (ts : List Turn) → more ≤ 7 → 8 * length (eights more ts) + more ≤ length ts + 14
+eights_count more [] le = omega arith
+eights_count zero (t ∷ ts) le = omega (arith, eights_count 7 ts (omega arith))
+eights_count (suc more) (t ∷ ts) le = omega (arith, one_or_more t (eights more ts), eights_count more ts (omega arith))
+
+-- ---- all of them
+
+script_count : (objects : List ObjectLine) (n : ℕ) (scripts : List (List Call)) → length (script_lines objects n scripts) ≡ length scripts + call_count scripts
+script_count objects n [] = refl
+script_count objects n (s ∷ ss) =
+    omega (arith, length-append (lines.Worker n ∷ map (call_line objects) s) (script_lines objects (n + 1) ss), length-map s (call_line objects), script_count objects (n + 1) ss, sum_by-append length (s ∷ []) ss)
+
+-- the canonical lines of a readable workload follow one another, and make it
+pub canonical_follows : (plan : Plan) → IsReadable plan → (e : Draft) × FollowOn (started plan.workers) (canonical_lines plan) e × (e.plan ≡ plan)
+canonical_follows plan h =
+    let v = valid_parts plan h.valid in
+    let first = objects_follow plan.objects (started plan.workers) h.objects in
+    let second = scripts_follow plan.workers plan.objects [] plan.scripts [] None h.objects (omega (arith, v.scripts)) (record { on = v.calls; fits = h.calls; room = h.call_room; keys = h.key_room }) in
+    let third = schedule_follows (length plan.schedule) plan.workers plan.objects plan.scripts second.0 plan.schedule [] (omega arith) h.items (omega (arith, h.turn_room)) in
+    let start : at plan.workers plan.objects [] (replicate plan.workers []) None ≡ at plan.workers plan.objects [] (replicate (length plan.scripts) []) None = ap (λ (n : ℕ). at plan.workers plan.objects [] (replicate n []) None) (sym v.scripts) in
+    let objects = map (λ o. lines.Object o) plan.objects in
+    let scripts = script_lines plan.objects 0 plan.scripts in
+    let schedule = map (λ x. lines.Schedule x) (eights 7 plan.schedule) in (
+      at plan.workers plan.objects plan.schedule plan.scripts second.0,
+      follow_append objects (scripts ++ schedule) (started plan.workers) _ _ (follow_to objects (started plan.workers) _ _ start first) (follow_append scripts schedule _ _ _ second.1 third),
+      refl,
+    )
+
+-- and are not many
+pub canonical_count : (plan : Plan) → IsReadable plan → length (canonical_lines plan) ≤ 32548
+canonical_count plan h =
+    let v = valid_parts plan h.valid in
+    omega (
+      arith,
+      v.scripts,
+      h.few_workers,
+      h.call_room,
+      h.turn_room,
+      few_objects plan.objects [] (omega arith) h.objects,
+      length-append (map (λ o. lines.Object o) plan.objects) (script_lines plan.objects 0 plan.scripts ++ map (λ x. lines.Schedule x) (eights 7 plan.schedule)),
+      length-append (script_lines plan.objects 0 plan.scripts) (map (λ x. lines.Schedule x) (eights 7 plan.schedule)),
+      length-map plan.objects (λ o. lines.Object o),
+      length-map (eights 7 plan.schedule) (λ x. lines.Schedule x),
+      script_count plan.objects 0 plan.scripts,
+      eights_count 7 plan.schedule (omega arith),
+    )

@@ -1,0 +1,18 @@
+-- The canonical text of a readable workload is read as it.
+use Rattle.std.proofs.Common.{◌≡◌, ℕ, ◌+◌, ◌*◌, ◌≤◌, List, Option, None, length, subst, ap, arith}
+use Rattle.workload.specs.declared.limits.TheConstants.{MAX_INPUT}
+use Rattle.workload.specs.Lines.{lines_of}
+use Rattle.workload.specs.Plan.{Plan}
+use Rattle.workload.specs.Readable.{IsReadable}
+use Rattle.workload.specs.Reads.{Reads, ReadsOn}
+use Rattle.workload.specs.Canonical.{canonical, canonical_lines}
+use Rattle.workload.proofs.FollowOn.{reads_all, all_length}
+use Rattle.workload.proofs.CanonicalFollows.{canonical_follows, canonical_count}
+
+pub canonical_reads : (plan : Plan) → IsReadable plan → Reads (canonical plan) plan
+canonical_reads plan h =
+    let follows = canonical_follows plan h in
+    record {
+      fits = omega (arith, all_length plan.workers (canonical_lines plan) follows.0 h.few_workers follows.1, canonical_count plan h);
+      lines = subst (λ (p : Plan). ReadsOn (lines_of (canonical plan)) None p) follows.2 (reads_all plan.workers (canonical_lines plan) follows.0 h.some_workers h.few_workers follows.1);
+    }

@@ -1,0 +1,270 @@
+-- Each text is read or refused.
+use Rattle.std.proofs.Common.{◌≡◌, ℕ, zero, suc, ◌+◌, ◌-◌, ◌^◌, ◌<◌, ◌≤◌, max, Bool, true, false, cond, eqb, ◌&&◌, not, List, [], ◌∷◌, ◌++◌, map, length, Option, Some, None, refl, sym, ap, subst, ◌∙◌, arith, inl, inr, ◌⊎◌}
+use Rattle.std.specs.Prelude.{nat_lt, nat_le, is_some, codes}
+use Rattle.std.specs.List.{list_all, flat_map, AllByRecursion}
+use Rattle.std.specs.Fmt.{decimal}
+use Rattle.std.specs.Str.{bytes_eq}
+use Rattle.std.proofs.lemmas.Bool.{eqb-true, eq-eqb, ltb-true, leb-true, cases_lt}
+use Rattle.std.proofs.lemmas.Slice.Eq.{bytes_eq-Decides}
+use Rattle.std.proofs.lemmas.List.{length-map}
+use Rattle.sync_model.specs.Name.{is_name}
+use Rattle.sync_model.specs.declared.call.Call.{Call}
+use Rattle.sync_model.specs.declared.call.Call.TheVariants as calls
+use Rattle.sync_model.specs.declared.map_object.MapCall.{MapCall}
+use Rattle.sync_model.specs.declared.map_object.MapCall.TheVariants as map_calls
+use Rattle.workload.specs.declared.keyword.Keyword.{Keyword}
+use Rattle.workload.specs.declared.keyword.Keyword.TheVariants as keywords
+use Rattle.workload.specs.declared.keyword.Verb.{Verb}
+use Rattle.workload.specs.declared.keyword.Verb.TheVariants as verbs
+use Rattle.workload.specs.declared.limits.TheConstants.{MAX_CALLS, MAX_KEYS, MAX_TURNS, MAX_VALUE, MAX_WORKERS, MAX_INPUT}
+use Rattle.workload.specs.declared.object.Declared.{Declared}
+use Rattle.workload.specs.declared.object.ObjectKind.{ObjectKind}
+use Rattle.workload.specs.declared.object.ObjectKind.TheVariants as kinds
+use Rattle.workload.specs.declared.line.Line.{Line}
+use Rattle.workload.specs.declared.line.Line.TheVariants as lines
+use Rattle.workload.specs.declared.reason.Reason.{Reason}
+use Rattle.workload.specs.declared.reason.Reason.TheVariants.{NoWorkersLine, LineTooLong, BadByte, WrongNumberOfWords, BadName, BadNumber, CallOutsideWorker, LimitReached, InputTooLong}
+use Rattle.workload.specs.declared.turn.Turn.{Turn}
+use Rattle.workload.specs.declared.turn.Turn.TheVariants as turns
+use Rattle.workload.specs.Plan.{Plan, object_of, has_call}
+use Rattle.workload.specs.Lines.{lines_of, words_of, is_short, is_clean, is_significant}
+use Rattle.workload.specs.Words.{keyword_word, keyword_of, keyword_at, keyword_in, keywords_known, spelled, first_spelled, verb_word, verb_of, operands_of, turn_word, is_number, is_number_to, number_of}
+use Rattle.workload.specs.Draft.{Draft, started, with_line, declared, may_follow, is_item, count_of, limit_of, call_count, key_count}
+use Rattle.workload.specs.Checks.{Check, first_failing, form_of, form_checks, object_checks, worker_checks, item_checks, line_checks, first_checks, word_checks, checks_of, reason_of}
+use Rattle.workload.specs.Reads.{Says, IsRead, ReadsOn, Reads, FirstFault, IsRefused}
+use Rattle.workload.proofs.Passing.{both, pair}
+use Rattle.workload.proofs.Numbers.{decimal-number_of}
+use Rattle.workload.proofs.OneReading.{IsSmall, read_small}
+
+-- ---- checks that all pass
+
+-- each of them does
+pub all_pass : (checks : List Check) → first_failing checks ≡ None → AllByRecursion (λ (check : Check). check.0 ≡ true) checks
+all_pass [] h = tt
+all_pass (x ∷ xs) h =
+    elim x.0 as (λ b. cond b (first_failing xs) (Some x.1) ≡ None → (b ≡ true) × AllByRecursion (λ (check : Check). check.0 ≡ true) xs) [
+      | true ↦ λ e. (refl, all_pass xs e)
+      | false ↦ λ e. absurd cc
+    ] h
+
+pub both_pass : (xs ys : List Check) → first_failing (xs ++ ys) ≡ None → (first_failing xs ≡ None) × (first_failing ys ≡ None)
+both_pass [] ys h = (refl, h)
+both_pass (x ∷ xs) ys h =
+    elim x.0 as (λ b. cond b (first_failing (xs ++ ys)) (Some x.1) ≡ None → (cond b (first_failing xs) (Some x.1) ≡ None) × (first_failing ys ≡ None)) [
+      | true ↦ λ e. both_pass xs ys e
+      | false ↦ λ e. absurd cc
+    ] h
+
+-- ---- words
+
+spells : AllByRecursion (λ (e : List ℕ × Keyword). e.0 ≡ keyword_word e.1) keywords_known
+spells = (refl, (refl, (refl, (refl, (refl, (refl, tt))))))
+
+same_some : (k l : Keyword) → Some k ≡ Some l → k ≡ l
+same_some k l e = cc
+
+keyword_from : (entries : List (List ℕ × Keyword)) (word : List ℕ) (k : Keyword) → AllByRecursion (λ (e : List ℕ × Keyword). e.0 ≡ keyword_word e.1) entries → keyword_in entries word ≡ Some k → word ≡ keyword_word k
+keyword_from [] word k all h = absurd cc
+keyword_from (e ∷ entries) word k all h =
+    elim (bytes_eq word e.0) as (λ b. bytes_eq word e.0 ≡ b → cond b (Some e.1) (keyword_in entries word) ≡ Some k → word ≡ keyword_word k) [
+      | true ↦ λ t s. (bytes_eq-Decides word e.0).0 t ∙ all.0 ∙ ap keyword_word (same_some e.1 k s)
+      | false ↦ λ f s. keyword_from entries word k all.1 s
+    ] refl h
+
+number_words : (word : List ℕ) → is_number word ≡ true → number_of word ≤ MAX_VALUE → decimal (number_of word) ≡ word
+number_words word is small = decimal-number_of word is (omega arith)
+
+not_both_ways : {X : Type 0} {b : Bool} → b ≡ true → b ≡ false → X
+not_both_ways t f = absurd cc
+
+-- ---- lines
+
+-- a line that the words say, with what it may follow
+abbrev Said : Draft → List (List ℕ) → Type 0
+Said d words = (l : Line) × (may_follow d l ≡ true) × (words ≡ spelled l)
+
+said_as : (d : Draft) (word : List ℕ) (k : Keyword) (words : List (List ℕ)) → keyword_at word ≡ Some k → Said d (keyword_word k ∷ words) → Said d (word ∷ words)
+said_as d word k words is said = (said.0, said.1, ap (λ (w : List ℕ). w ∷ words) (keyword_from keywords_known word k spells is) ∙ said.2)
+
+object_said : (d : Draft) (kind : ObjectKind) (words : List (List ℕ)) → first_failing (line_checks d (Some (keywords.Object kind)) words) ≡ None → Said d (keyword_word (keywords.Object kind) ∷ words)
+object_said d kind [] h = absurd cc
+object_said d kind (name ∷ []) h =
+    let all = all_pass (line_checks d (Some (keywords.Object kind)) (name ∷ [])) h in
+    let new = not (is_some (declared d name)) in
+    let room = nat_lt (count_of kind d.plan.objects) (limit_of kind) in
+    (lines.Object (record { name = name; kind = kind }), pair (is_name name) (new && room) all.0 (pair new room all.1.0 all.1.1.0), refl)
+object_said d kind (name ∷ other ∷ words) h = absurd cc
+
+worker_words : (workers : ℕ) (word : List ℕ) → workers ≤ MAX_WORKERS → first_failing (worker_checks workers word) ≡ None → (nat_lt (number_of word) workers ≡ true) × (decimal (number_of word) ≡ word)
+worker_words workers word few h =
+    let all = all_pass (worker_checks workers word) h in
+    (all.1.0, number_words word all.0 (omega (arith, ltb-true (number_of word) workers all.1.0)))
+
+worker_said : (d : Draft) (words : List (List ℕ)) → d.plan.workers ≤ MAX_WORKERS → first_failing (line_checks d (Some keywords.Worker) words) ≡ None → Said d (keyword_word keywords.Worker ∷ words)
+worker_said d [] few h = absurd cc
+worker_said d (word ∷ []) few h =
+    let number = worker_words d.plan.workers word few h in
+    (lines.Worker (number_of word), number.0, ap (λ (w : List ℕ). codes "worker" ∷ w ∷ []) (sym number.1))
+worker_said d (word ∷ other ∷ words) few h = absurd cc
+
+item_said : (workers : ℕ) (word : List ℕ) → workers ≤ MAX_WORKERS → first_failing (item_checks workers word) ≡ None → (t : Turn) × (is_item workers t ≡ true) × (word ≡ turn_word t)
+item_said workers [] few h = absurd cc
+item_said workers (byte ∷ bytes) few h =
+    elim (eqb byte 64) as (λ b. eqb byte 64 ≡ b → first_failing (cond b ((is_number_to MAX_VALUE bytes, BadNumber) ∷ []) (worker_checks workers (byte ∷ bytes))) ≡ None → (t : Turn) × (is_item workers t ≡ true) × (byte ∷ bytes ≡ turn_word t)) [
+      | true ↦ λ at e.
+          let parts = both (is_number bytes) (nat_le (number_of bytes) MAX_VALUE) (all_pass ((is_number_to MAX_VALUE bytes, BadNumber) ∷ []) e).0 in
+          let word = number_words bytes parts.0 (leb-true (number_of bytes) MAX_VALUE parts.1) in
+          (turns.Moment (number_of bytes), parts.1, ap (λ (b : ℕ). b ∷ bytes) (eqb-true byte 64 at) ∙ ap (λ (w : List ℕ). 64 ∷ w) (sym word))
+      | false ↦ λ other e.
+          let number = worker_words workers (byte ∷ bytes) few e in
+          (turns.Worker (number_of (byte ∷ bytes)), number.0, sym number.1)
+    ] refl h
+
+items_said : (workers : ℕ) (words : List (List ℕ)) → workers ≤ MAX_WORKERS → first_failing (flat_map (item_checks workers) words) ≡ None → (ts : List Turn) × (list_all (is_item workers) ts ≡ true) × (words ≡ map turn_word ts)
+items_said workers [] few h = ([], refl, refl)
+items_said workers (word ∷ words) few h =
+    let parts = both_pass (item_checks workers word) (flat_map (item_checks workers) words) h in
+    let first = item_said workers word few parts.0 in
+    let others = items_said workers words few parts.1 in (
+      first.0 ∷ others.0,
+      pair (is_item workers first.0) (list_all (is_item workers) others.0) first.1 others.1,
+      ap (λ (w : List ℕ). w ∷ words) first.2 ∙ ap (λ (ws : List (List ℕ)). turn_word first.0 ∷ ws) others.2,
+    )
+
+schedule_said : (d : Draft) (words : List (List ℕ)) → d.plan.workers ≤ MAX_WORKERS → first_failing (line_checks d (Some keywords.Schedule) words) ≡ None → Said d (keyword_word keywords.Schedule ∷ words)
+schedule_said d words few h =
+    let some_words = nat_lt 0 (length words) in
+    let limit : List Check = (nat_le (length d.plan.schedule + length words) MAX_TURNS, LimitReached) ∷ [] in
+    let one = both_pass ((some_words, WrongNumberOfWords) ∷ []) (flat_map (item_checks d.plan.workers) words ++ limit) h in
+    let two = both_pass (flat_map (item_checks d.plan.workers) words) limit one.1 in
+    let items = items_said d.plan.workers words few two.0 in
+    let first = (all_pass ((some_words, WrongNumberOfWords) ∷ []) one.0).0 in
+    let room = (all_pass limit two.1).0 in
+    let many : length words ≡ length items.0 = ap length items.2 ∙ length-map items.0 turn_word in (
+      lines.Schedule items.0,
+      pair (nat_lt 0 (length items.0)) (list_all (is_item d.plan.workers) items.0 && nat_le (length d.plan.schedule + length items.0) MAX_TURNS) (ap (λ (n : ℕ). nat_lt 0 n) (sym many) ∙ first)
+          (pair (list_all (is_item d.plan.workers) items.0) (nat_le (length d.plan.schedule + length items.0) MAX_TURNS) items.1 (ap (λ (n : ℕ). nat_le (length d.plan.schedule + n) MAX_TURNS) (sym many) ∙ room)),
+      ap (λ (ws : List (List ℕ)). codes "schedule" ∷ ws) items.2,
+    )
+
+-- ---- calls
+
+abbrev CallSaid : Draft → List ℕ → Verb → List (List ℕ) → Type 0
+CallSaid d name verb words = (c : Call) × (verb_of c ≡ verb) × (operands_of c ≡ words) × (may_follow d (lines.Call name c) ≡ true)
+
+itself : (n : ℕ) → eqb n n ≡ true
+itself n = eq-eqb n n refl
+
+kind_said : (d : Draft) (name : List ℕ) (place : ℕ) (kind : ObjectKind) → declared d name ≡ Some (record { place = place; kind = kind }) → is_some d.current ≡ true → is_name name ≡ true → (verb : Verb) (words : List (List ℕ)) → first_failing (form_checks d (form_of verb kind) words) ≡ None → CallSaid d name verb words
+kind_said d name place kinds.Map at current named verbs.Load [] h = absurd cc
+kind_said d name place kinds.Map at current named verbs.Load (k ∷ []) h =
+    let all = all_pass (form_checks d (form_of verbs.Load kinds.Map) (k ∷ [])) h in
+    (calls.Map place (map_calls.Load k), refl, refl, rw (current, named, at, itself place, all.1.0, all.1.1.0, all.1.1.1.0) refl)
+kind_said d name place kinds.Map at current named verbs.Load (k ∷ other ∷ words) h = absurd (omega (arith, eqb-true (length (k ∷ other ∷ words)) 1 (all_pass (form_checks d (form_of verbs.Load kinds.Map) (k ∷ other ∷ words)) h).0))
+kind_said d name place kinds.Map at current named verbs.Store [] h = absurd cc
+kind_said d name place kinds.Map at current named verbs.Store (k ∷ []) h = absurd cc
+kind_said d name place kinds.Map at current named verbs.Store (k ∷ v ∷ []) h =
+    let all = all_pass (form_checks d (form_of verbs.Store kinds.Map) (k ∷ v ∷ [])) h in
+    let value = both (is_number v) (nat_le (number_of v) MAX_VALUE) all.1.1.0 in
+    let word = number_words v value.0 (leb-true (number_of v) MAX_VALUE value.1) in
+    (calls.Map place (map_calls.Store k (number_of v)), refl, ap (λ (w : List ℕ). k ∷ w ∷ []) word, rw (current, named, at, itself place, all.1.0, value.1, all.1.1.1.0, all.1.1.1.1.0) refl)
+kind_said d name place kinds.Map at current named verbs.Store (k ∷ v ∷ other ∷ words) h = absurd (omega (arith, eqb-true (length (k ∷ v ∷ other ∷ words)) 2 (all_pass (form_checks d (form_of verbs.Store kinds.Map) (k ∷ v ∷ other ∷ words)) h).0))
+
+call_said : (d : Draft) (verb : Verb) (words : List (List ℕ)) → first_failing (line_checks d (Some (keywords.Call verb)) words) ≡ None → Said d (keyword_word (keywords.Call verb) ∷ words)
+call_said d verb [] h = absurd (no_words d.current h)
+  where
+    no_words : (current : Option ℕ) → first_failing ((is_some current, CallOutsideWorker) ∷ (false, WrongNumberOfWords) ∷ []) ≡ None → ⊥
+    no_words None h = cc
+    no_words (Some w) h = cc
+call_said d verb (name ∷ words) h =
+    let one = both_pass ((is_some d.current, CallOutsideWorker) ∷ (is_name name, BadName) ∷ []) (object_checks d (declared d name) verb words) h in
+    let front = all_pass ((is_some d.current, CallOutsideWorker) ∷ (is_name name, BadName) ∷ []) one.0 in
+    found_said (declared d name) refl front.0 front.1.0 one.1
+  where
+    found_said : (o : Option Declared) → declared d name ≡ o → is_some d.current ≡ true → is_name name ≡ true → first_failing (object_checks d o verb words) ≡ None → Said d (keyword_word (keywords.Call verb) ∷ name ∷ words)
+    found_said None is current named h = absurd cc
+    found_said (Some found) is current named h =
+        let said = kind_said d name found.place found.kind is current named verb words h in
+        (lines.Call name said.0, said.3, ap (λ (v : Verb). verb_word v ∷ name ∷ words) (sym said.1) ∙ ap (λ (ws : List (List ℕ)). verb_word (verb_of said.0) ∷ name ∷ ws) (sym said.2))
+
+line_said : (d : Draft) (word : List ℕ) (k : Option Keyword) (words : List (List ℕ)) → d.plan.workers ≤ MAX_WORKERS → keyword_at word ≡ k → first_failing (line_checks d k words) ≡ None → Said d (word ∷ words)
+line_said d word None words few is h = absurd cc
+line_said d word (Some keywords.Workers) words few is h = absurd cc
+line_said d word (Some (keywords.Object kind)) words few is h = said_as d word (keywords.Object kind) words is (object_said d kind words h)
+line_said d word (Some keywords.Worker) words few is h = said_as d word keywords.Worker words is (worker_said d words few h)
+line_said d word (Some keywords.Schedule) words few is h = said_as d word keywords.Schedule words is (schedule_said d words few h)
+line_said d word (Some (keywords.Call verb)) words few is h = said_as d word (keywords.Call verb) words is (call_said d verb words h)
+
+first_said : (word : List ℕ) (words : List (List ℕ)) → first_failing (first_checks word words) ≡ None → (after : Option Draft) × Says None (word ∷ words) after
+first_said word [] h = absurd (no_words (bytes_eq word (codes "workers")) h)
+  where
+    no_words : (b : Bool) → first_failing ((b, NoWorkersLine) ∷ (false, WrongNumberOfWords) ∷ []) ≡ None → ⊥
+    no_words true h = cc
+    no_words false h = cc
+first_said word (number ∷ []) h =
+    let all = all_pass (first_checks word (number ∷ [])) h in
+    let parts = both (is_number_to MAX_WORKERS number) (nat_lt 0 (number_of number)) all.1.0 in
+    let value = both (is_number number) (nat_le (number_of number) MAX_WORKERS) parts.0 in
+    let few = leb-true (number_of number) MAX_WORKERS value.1 in
+    let digits = number_words number value.0 (omega arith) in (
+      Some (started (number_of number)),
+      (
+        number_of number,
+        ltb-true 0 (number_of number) parts.1,
+        few,
+        ap (λ (w : List ℕ). w ∷ number ∷ []) ((bytes_eq-Decides word (codes "workers")).0 all.0) ∙ ap (λ (w : List ℕ). codes "workers" ∷ w ∷ []) (sym digits),
+        refl,
+      ),
+    )
+first_said word (number ∷ other ∷ words) h = absurd (too_many (bytes_eq word (codes "workers")) h)
+  where
+    too_many : (b : Bool) → first_failing ((b, NoWorkersLine) ∷ (false, WrongNumberOfWords) ∷ []) ≡ None → ⊥
+    too_many true h = cc
+    too_many false h = cc
+
+words_said : (before : Option Draft) (words : List (List ℕ)) → IsSmall before → is_significant words ≡ true → first_failing (word_checks before words) ≡ None → (after : Option Draft) × Says before words after
+words_said before [] small says h = absurd cc
+words_said None (word ∷ words) small says h = first_said word words h
+words_said (Some d) (word ∷ words) small says h =
+    let said = line_said d word (keyword_at word) words small refl h in
+    (Some (with_line d said.0), (said.0, said.1, said.2, refl))
+
+-- a line that passes all its checks is read
+line_reads : (before : Option Draft) (line : List ℕ) → IsSmall before → reason_of before line ≡ None → (after : Option Draft) × IsRead before line after
+line_reads before line small h =
+    let front : List Check = (is_short line, LineTooLong) ∷ (is_clean line, BadByte) ∷ [] in
+    let one = both_pass front (cond (is_significant (words_of line)) (word_checks before (words_of line)) []) h in
+    let good = all_pass front one.0 in
+    elim (is_significant (words_of line)) as (λ b. is_significant (words_of line) ≡ b → first_failing (cond b (word_checks before (words_of line)) []) ≡ None → (after : Option Draft) × IsRead before line after) [
+      | true ↦ λ t e.
+          let said = words_said before (words_of line) small t e in
+          (said.0, record { short = good.0; clean = good.1.0; silent = λ f. not_both_ways t f; says = λ _. said.1 })
+      | false ↦ λ f e. (before, record { short = good.0; clean = good.1.0; silent = λ _. refl; says = λ t. not_both_ways t f })
+    ] refl one.1
+
+abbrev Ends : List (List ℕ) → Option Draft → ℕ → Type 0
+Ends lines before next = ((plan : Plan) × ReadsOn lines before plan) ⊎ ((line : ℕ) × (reason : Reason) × FirstFault lines before next line reason)
+
+lines_end : (lines : List (List ℕ)) (before : Option Draft) (next : ℕ) → IsSmall before → Ends lines before next
+lines_end [] None next small = inr (max 1 (next - 1), NoWorkersLine, (refl, refl))
+lines_end [] (Some d) next small = inl (d.plan, refl)
+lines_end (line ∷ lines) before next small =
+    elim (reason_of before line) as (λ r. reason_of before line ≡ r → Ends (line ∷ lines) before next) [
+      | Some reason ↦ λ is. inr (next, reason, inl (refl, is))
+      | None ↦ λ is.
+          let read = line_reads before line small is in
+          elim (lines_end lines read.0 (next + 1) (read_small before line read.0 small read.1)) [
+            | inl rest ↦ inl (rest.0, (read.0, read.1, rest.1))
+            | inr fault ↦ inr (fault.0, fault.1, inr (read.0, read.1, fault.2))
+          ]
+    ] refl
+
+pub each_text : (bytes : List ℕ) → ((plan : Plan) × Reads bytes plan) ⊎ ((line : ℕ) × (reason : Reason) × IsRefused bytes line reason)
+each_text bytes =
+    elim (cases_lt MAX_INPUT (length bytes)) [
+      | inl long ↦ inr (0, InputTooLong, inl (long, refl, refl))
+      | inr fits ↦ elim (lines_end (lines_of bytes) None 1 tt) [
+        | inl read ↦ inl (read.0, record { fits = fits; lines = read.1 })
+        | inr fault ↦ inr (fault.0, fault.1, inr (fits, fault.2))
+      ]
+    ]

@@ -1,0 +1,253 @@
+-- The text of a line, and the words that it is cut into again.
+use Rattle.std.proofs.Common.{◌≡◌, ◌≢◌, ℕ, zero, suc, ◌+◌, ◌*◌, ◌^◌, ◌<◌, ◌≤◌, Bool, true, false, cond, eqb, ◌&&◌, ◌||◌, not, List, [], ◌∷◌, ◌++◌, map, length, refl, sym, ap, subst, ◌∙◌, append_assoc, arith, inl, inr}
+use Rattle.std.specs.Prelude.{nat_le, nat_lt, All, codes}
+use Rattle.std.specs.List.{filter, list_all, slice_split, onto_first, flat_map, join_with_byte}
+use Rattle.std.specs.Str.{all_ascii_digits}
+use Rattle.std.specs.Fmt.{decimal}
+use Rattle.std.proofs.lemmas.Bool.{eqb-true, leb-true, le-leb, ltb-true}
+use Rattle.std.proofs.lemmas.Bool.Decides.{nat_tests}
+use Rattle.std.proofs.lemmas.List.{length-append}
+use Rattle.std.proofs.lemmas.Fmt.{digits_decimal, decimal_nonempty, length-decimal-le}
+use Rattle.std.proofs.lemmas.List.{append-nil}
+use Rattle.std.proofs.lemmas.List.Splits.{slice_split-cons_yes, slice_split-cons_no}
+use Rattle.sync_model.specs.Name.{is_name, is_letter, is_name_byte}
+use Rattle.sync_model.specs.declared.call.Call.{Call}
+use Rattle.sync_model.specs.declared.call.Call.TheVariants as calls
+use Rattle.sync_model.specs.declared.map_object.MapCall.{MapCall}
+use Rattle.sync_model.specs.declared.map_object.MapCall.TheVariants as map_calls
+use Rattle.workload.specs.declared.keyword.Verb.{Verb}
+use Rattle.workload.specs.declared.keyword.Verb.TheVariants as verbs
+use Rattle.workload.specs.declared.limits.TheConstants.{MAX_LINE, MAX_VALUE, MAX_WORKERS}
+use Rattle.workload.specs.declared.object.ObjectKind.{ObjectKind}
+use Rattle.workload.specs.declared.object.ObjectKind.TheVariants as kinds
+use Rattle.workload.specs.declared.line.Line.{Line}
+use Rattle.workload.specs.declared.line.Line.TheVariants as lines
+use Rattle.workload.specs.declared.turn.Turn.{Turn}
+use Rattle.workload.specs.declared.turn.Turn.TheVariants as turns
+use Rattle.workload.specs.Words.{spelled, first_spelled, kind_word, verb_word, verb_of, map_verb, operands_of, map_operands, turn_word}
+use Rattle.workload.specs.Draft.{Draft, may_follow, is_call, is_map_call, is_item}
+use Rattle.workload.proofs.Follows.{object_follows, schedule_follows, call_follows}
+use Rattle.workload.proofs.Numbers.{numerals}
+use Rattle.workload.specs.Lines.{lines_of, words_of, is_short, is_clean, is_printable, is_filled, is_significant}
+use Rattle.workload.specs.Canonical.{text_line}
+use Rattle.workload.proofs.Passing.{both, pair, all_append, all_mono}
+
+-- a byte of a word: printable, and no space
+abbrev pub is_word_byte : ℕ → Bool
+is_word_byte byte = nat_le 33 byte && nat_le byte 126
+
+-- a word has bytes, and all of them are such
+abbrev pub is_word : List ℕ → Bool
+is_word word = is_filled word && list_all is_word_byte word
+
+abbrev space : ℕ → Bool
+space byte = eqb byte 32
+
+no_space : (byte : ℕ) → is_word_byte byte ≡ true → space byte ≡ false
+no_space byte h =
+    let low = leb-true 33 byte (both (nat_le 33 byte) (nat_le byte 126) h).0 in
+    elim (eqb byte 32) as (λ b. eqb byte 32 ≡ b → b ≡ false) [
+      | true ↦ λ t. absurd (omega (arith, eqb-true byte 32 t))
+      | false ↦ λ f. refl
+    ] refl
+
+-- a word of a text, and the rest of it behind a space
+split_word : (word rest : List ℕ) → list_all is_word_byte word ≡ true → slice_split space (word ++ 32 ∷ rest) ≡ word ∷ slice_split space rest
+split_word [] rest h = slice_split-cons_yes space 32 rest refl
+split_word (byte ∷ word) rest h =
+    let parts = both (is_word_byte byte) (list_all is_word_byte word) h in
+    slice_split-cons_no space byte (word ++ 32 ∷ rest) (no_space byte parts.0) ∙ ap (onto_first byte) (split_word word rest parts.1)
+
+split_last : (word : List ℕ) → list_all is_word_byte word ≡ true → slice_split space word ≡ word ∷ []
+split_last [] h = refl
+split_last (byte ∷ word) h =
+    let parts = both (is_word_byte byte) (list_all is_word_byte word) h in
+    slice_split-cons_no space byte word (no_space byte parts.0) ∙ ap (onto_first byte) (split_last word parts.1)
+
+split_joined : (word : List ℕ) (words : List (List ℕ)) → list_all is_word (word ∷ words) ≡ true → slice_split space (join_with_byte 32 (word ∷ words)) ≡ word ∷ words
+split_joined word [] h = split_last word (both (is_filled word) (list_all is_word_byte word) (both (is_word word) true h).0).1
+split_joined word (next ∷ words) h =
+    let parts = both (is_word word) (list_all is_word (next ∷ words)) h in
+    split_word word (join_with_byte 32 (next ∷ words)) (both (is_filled word) (list_all is_word_byte word) parts.0).1
+    ∙ ap (λ (ws : List (List ℕ)). word ∷ ws) (split_joined next words parts.1)
+
+all_filled : (words : List (List ℕ)) → list_all is_word words ≡ true → filter is_filled words ≡ words
+all_filled [] h = refl
+all_filled (word ∷ words) h =
+    let parts = both (is_word word) (list_all is_word words) h in
+    let filled = (both (is_filled word) (list_all is_word_byte word) parts.0).0 in
+    rw filled (ap (λ (ws : List (List ℕ)). word ∷ ws) (all_filled words parts.1))
+
+-- words joined by spaces are cut into these words
+pub words_of-join : (word : List ℕ) (words : List (List ℕ)) → list_all is_word (word ∷ words) ≡ true → words_of (join_with_byte 32 (word ∷ words)) ≡ word ∷ words
+words_of-join word words h = ap (filter is_filled) (split_joined word words h) ∙ all_filled (word ∷ words) h
+
+printable : (byte : ℕ) → is_word_byte byte ≡ true → is_printable byte ≡ true
+printable byte h =
+    let parts = both (nat_le 33 byte) (nat_le byte 126) h in
+    pair (nat_le 32 byte) (nat_le byte 126) (le-leb 32 byte (omega (arith, leb-true 33 byte parts.0))) parts.1
+
+-- and hold no other bytes
+pub is_clean-join : (words : List (List ℕ)) → list_all is_word words ≡ true → is_clean (join_with_byte 32 words) ≡ true
+is_clean-join [] h = refl
+is_clean-join (word ∷ []) h = all_mono is_word_byte is_printable printable word (both (is_filled word) (list_all is_word_byte word) (both (is_word word) true h).0).1
+is_clean-join (word ∷ next ∷ words) h =
+    let parts = both (is_word word) (list_all is_word (next ∷ words)) h in
+    all_append is_printable word (32 ∷ join_with_byte 32 (next ∷ words))
+    (all_mono is_word_byte is_printable printable word (both (is_filled word) (list_all is_word_byte word) parts.0).1)
+    (is_clean-join (next ∷ words) parts.1)
+
+no_feed : (byte : ℕ) → is_printable byte ≡ true → eqb byte 10 ≡ false
+no_feed byte h =
+    let low = leb-true 32 byte (both (nat_le 32 byte) (nat_le byte 126) h).0 in
+    elim (eqb byte 10) as (λ b. eqb byte 10 ≡ b → b ≡ false) [
+      | true ↦ λ t. absurd (omega (arith, eqb-true byte 10 t))
+      | false ↦ λ f. refl
+    ] refl
+
+-- a clean line and its line feed are the first line of a text
+pub lines_of-line : (line rest : List ℕ) → is_clean line ≡ true → lines_of (line ++ 10 ∷ rest) ≡ line ∷ lines_of rest
+lines_of-line [] rest h = refl
+lines_of-line (byte ∷ line) rest h =
+    let parts = both (is_printable byte) (list_all is_printable line) h in
+    rw (no_feed byte parts.0) (ap (onto_first byte) (lines_of-line line rest parts.1))
+
+-- ---- which words a text has
+
+-- what words take on a line, each behind a space
+abbrev widths : List (List ℕ) → ℕ
+widths [] = 0
+widths (word ∷ words) = suc (length word) + widths words
+
+filled : (word : List ℕ) → 0 < length word → is_filled word ≡ true
+filled word h =
+    elim (eqb (length word) 0) as (λ b. eqb (length word) 0 ≡ b → not b ≡ true) [
+      | true ↦ λ t. absurd (omega (arith, eqb-true (length word) 0 t))
+      | false ↦ λ f. refl
+    ] refl
+
+letter_is : (byte : ℕ) → is_letter byte ≡ true → is_word_byte byte ≡ true
+letter_is byte h =
+    let parts = both (nat_le 97 byte) (nat_le byte 122) h in
+    let low = leb-true 97 byte parts.0 in
+    let high = leb-true byte 122 parts.1 in
+    pair (nat_le 33 byte) (nat_le byte 126) (le-leb 33 byte (omega arith)) (le-leb byte 126 (omega arith))
+
+name_byte_is : (byte : ℕ) → is_name_byte byte ≡ true → is_word_byte byte ≡ true
+name_byte_is byte h = grind (arith, nat_tests)
+
+pub name_is_word : (name : List ℕ) → is_name name ≡ true → (is_word name ≡ true) × (length name ≤ 32)
+name_is_word [] h = absurd cc
+name_is_word (first ∷ rest) h =
+    let parts = both (nat_le (length (first ∷ rest)) 32 && is_letter first) (list_all is_name_byte rest) h in
+    let front = both (nat_le (length (first ∷ rest)) 32) (is_letter first) parts.0 in
+    (pair (is_filled (first ∷ rest)) (list_all is_word_byte (first ∷ rest)) (filled (first ∷ rest) (omega arith)) (pair (is_word_byte first) (list_all is_word_byte rest) (letter_is first front.1) (all_mono is_name_byte is_word_byte name_byte_is rest parts.1)), leb-true _ _ front.0)
+
+digits_are : (ds : List ℕ) → all_ascii_digits ds ≡ true → list_all is_word_byte ds ≡ true
+digits_are [] h = refl
+digits_are (d ∷ ds) h =
+    let parts = both (nat_le 48 d && nat_le d 57) (all_ascii_digits ds) h in
+    let range = both (nat_le 48 d) (nat_le d 57) parts.0 in
+    let low = leb-true 48 d range.0 in
+    let high = leb-true d 57 range.1 in
+    pair (is_word_byte d) (list_all is_word_byte ds) (pair (nat_le 33 d) (nat_le d 126) (le-leb 33 d (omega arith)) (le-leb d 126 (omega arith))) (digits_are ds parts.1)
+
+pub decimal_is_word : (n : ℕ) → n < 2 ^ 64 → (is_word (decimal n) ≡ true) × (length (decimal n) ≤ 20)
+decimal_is_word n small = (
+  pair (is_filled (decimal n)) (list_all is_word_byte (decimal n)) (filled (decimal n) (decimal_nonempty n small)) (digits_are (decimal n) (digits_decimal numerals n small)),
+  length-decimal-le 20 n (omega arith) (omega arith) small,
+)
+
+-- words that fit a line
+pub record FitsLine (words : List (List ℕ)) : Type 0 where
+  pub all : list_all is_word words ≡ true
+  pub short : length (join_with_byte 32 words) ≤ MAX_LINE
+
+length-join : (word : List ℕ) (words : List (List ℕ)) → length (join_with_byte 32 (word ∷ words)) ≡ length word + widths words
+length-join word [] = omega arith
+length-join word (next ∷ words) = omega (arith, length-append word (32 ∷ join_with_byte 32 (next ∷ words)), length-join next words)
+
+turn_is_word : (workers : ℕ) (t : Turn) → workers ≤ MAX_WORKERS → is_item workers t ≡ true → (is_word (turn_word t) ≡ true) × (length (turn_word t) ≤ 20)
+turn_is_word workers (turns.Worker i) few h = decimal_is_word i (omega (arith, ltb-true i workers h))
+turn_is_word workers (turns.Moment m) few h =
+    let small = leb-true m MAX_VALUE h in
+    let digits = decimal_is_word m (omega arith) in (
+      pair (is_filled (64 ∷ decimal m)) (list_all is_word_byte (64 ∷ decimal m)) (filled (64 ∷ decimal m) (omega arith)) (both (is_filled (decimal m)) (list_all is_word_byte (decimal m)) digits.0).1,
+      omega (arith, length-decimal-le 19 m (omega arith) (omega arith) (omega arith)),
+    )
+
+turn_words : (workers : ℕ) (ts : List Turn) → workers ≤ MAX_WORKERS → list_all (is_item workers) ts ≡ true → (list_all is_word (map turn_word ts) ≡ true) × (widths (map turn_word ts) ≤ 21 * length ts)
+turn_words workers [] few h = (refl, omega arith)
+turn_words workers (t ∷ ts) few h =
+    let parts = both (is_item workers t) (list_all (is_item workers) ts) h in
+    let first = turn_is_word workers t few parts.0 in
+    let others = turn_words workers ts few parts.1 in
+    (pair (is_word (turn_word t)) (list_all is_word (map turn_word ts)) first.0 others.0, omega (arith, first.1, others.1))
+
+map_operands_fit : (c : MapCall (List ℕ)) → is_map_call c ≡ true → (list_all is_word (map_operands c) ≡ true) × (widths (map_operands c) ≤ 60)
+map_operands_fit (map_calls.Load k) h =
+    let key = name_is_word k h in
+    (pair (is_word k) true key.0 refl, omega (arith, key.1))
+map_operands_fit (map_calls.Store k n) h =
+    let parts = both (is_name k) (nat_le n MAX_VALUE) h in
+    let key = name_is_word k parts.0 in
+    let value = decimal_is_word n (omega (arith, leb-true n MAX_VALUE parts.1)) in
+    (pair (is_word k) (list_all is_word (decimal n ∷ [])) key.0 (pair (is_word (decimal n)) true value.0 refl), omega (arith, key.1, value.1))
+
+verb_fits : (v : Verb) → (is_word (verb_word v) ≡ true) × (length (verb_word v) ≤ 20)
+verb_fits verbs.Load = (refl, omega arith)
+verb_fits verbs.Store = (refl, omega arith)
+
+call_fits : (name : List ℕ) (c : Call) → is_name name ≡ true → is_call c ≡ true → FitsLine (verb_word (verb_of c) ∷ name ∷ operands_of c)
+call_fits name (calls.Map i c) named h =
+    let first = verb_fits (map_verb c) in
+    let second = name_is_word name named in
+    let others = map_operands_fit c h in
+    record {
+      all = pair (is_word (verb_word (map_verb c))) (list_all is_word (name ∷ map_operands c)) first.0 (pair (is_word name) (list_all is_word (map_operands c)) second.0 others.0);
+      short = omega (arith, length-join (verb_word (map_verb c)) (name ∷ map_operands c), first.1, second.1, others.1);
+    }
+
+kind_fits : (k : ObjectKind) → (is_word (kind_word k) ≡ true) × (length (kind_word k) ≤ 20)
+kind_fits kinds.Map = (refl, omega arith)
+
+-- a schedule line of at most eight items, and any other line
+abbrev pub IsNarrow : Line → Type 0
+IsNarrow (lines.Object o) = Unit {0}
+IsNarrow (lines.Worker w) = Unit {0}
+IsNarrow (lines.Schedule ts) = length ts ≤ 8
+IsNarrow (lines.Call n c) = Unit {0}
+
+-- a line that may follow fits
+pub line_fits : (d : Draft) (l : Line) → d.plan.workers ≤ MAX_WORKERS → may_follow d l ≡ true → IsNarrow l → FitsLine (spelled l)
+line_fits d (lines.Object o) few f narrow =
+    let first = kind_fits o.kind in
+    let second = name_is_word o.name (object_follows d o f).name in
+    record {
+      all = pair (is_word (kind_word o.kind)) (list_all is_word (o.name ∷ [])) first.0 (pair (is_word o.name) true second.0 refl);
+      short = omega (arith, length-join (kind_word o.kind) (o.name ∷ []), first.1, second.1);
+    }
+line_fits d (lines.Worker w) few f narrow =
+    let second = decimal_is_word w (omega (arith, ltb-true w d.plan.workers f)) in
+    record {
+      all = pair true (list_all is_word (decimal w ∷ [])) refl (pair (is_word (decimal w)) true second.0 refl);
+      short = omega (arith, length-join (codes "worker") (decimal w ∷ []), second.1);
+    }
+line_fits d (lines.Schedule ts) few f narrow =
+    let items = turn_words d.plan.workers ts few (schedule_follows d ts f).items in
+    record {
+      all = pair true (list_all is_word (map turn_word ts)) refl items.0;
+      short = omega (arith, length-join (codes "schedule") (map turn_word ts), items.1, narrow);
+    }
+line_fits d (lines.Call n c) few f narrow =
+    let h = call_follows d n c f in
+    call_fits n c h.name h.call
+
+-- the first line fits
+pub filled_pair : (workers : ℕ) → workers < 2 ^ 64 → FitsLine (first_spelled workers)
+filled_pair workers small =
+    let second = decimal_is_word workers small in
+    record {
+      all = pair true (list_all is_word (decimal workers ∷ [])) refl (pair (is_word (decimal workers)) true second.0 refl);
+      short = omega (arith, length-join (codes "workers") (decimal workers ∷ []), second.1);
+    }

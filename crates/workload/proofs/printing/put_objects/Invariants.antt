@@ -1,0 +1,9 @@
+use Rattle.std.proofs.Common.{◌≡◌, ◌+◌, ◌++◌, ◌∷◌, [], drop, map, length}
+use Rattle.workload.specs.declared.line.Line.TheVariants as lines
+use Rattle.workload.specs.Words.{turn_word, spelled}
+use Rattle.workload.specs.Canonical.{text_line, call_line, script_lines, eights, lines_text, behind_spaces}
+use Rattle.workload.proofs.printing.put_objects.Given as goal
+
+abbrev pub invariant-loop-object : goal.invariant-loop-object
+invariant-loop-object l =
+    l.text.items ++ lines_text (map (λ object. lines.Object object) (drop l.object-index l.objects)) ≡ l.initial.text.items ++ lines_text (map (λ object. lines.Object object) l.objects)

@@ -1,0 +1,52 @@
+-- The canonical text of a workload.
+use Rattle.std.specs.Prelude.{ℕ, zero, suc, ◌+◌, List, [], ◌∷◌, ◌++◌, map, Option, Some, None, slice_get}
+use Rattle.std.specs.List.{flat_map, join_with_byte, onto_first}
+use Rattle.sync_model.specs.declared.call.Call.{Call}
+use Rattle.workload.specs.declared.line.Line.{Line}
+use Rattle.workload.specs.declared.line.Line.TheVariants as lines
+use Rattle.workload.specs.declared.object.ObjectLine.{ObjectLine}
+use Rattle.workload.specs.declared.turn.Turn.{Turn}
+use Rattle.workload.specs.Plan.{Plan, object_of}
+use Rattle.workload.specs.Words.{spelled, first_spelled}
+
+-- words joined by one space, and a line feed
+abbrev pub text_line : List (List ℕ) → List ℕ
+text_line words = join_with_byte 32 words ++ 10 ∷ []
+
+-- the name of the object at a place
+abbrev pub name_of : Option ObjectLine → List ℕ
+name_of None = []
+name_of (Some object) = object.name
+
+abbrev pub call_line : List ObjectLine → Call → Line
+call_line objects call = lines.Call (name_of (slice_get objects (object_of call))) call
+
+-- a `worker` line for each worker, from one on, and its calls behind it
+abbrev pub script_lines : List ObjectLine → ℕ → List (List Call) → List Line
+script_lines objects worker [] = []
+script_lines objects worker (script ∷ scripts) = (lines.Worker worker ∷ map (call_line objects) script) ++ script_lines objects (worker + 1) scripts
+
+-- eight items a line, where so many more than the first go on its line
+abbrev pub eights : ℕ → List Turn → List (List Turn)
+eights more [] = []
+eights zero (turn ∷ turns) = (turn ∷ []) ∷ eights 7 turns
+eights (suc more) (turn ∷ turns) = onto_first turn (eights more turns)
+
+-- the lines behind the first: objects, scripts, schedule
+abbrev pub canonical_lines : Plan → List Line
+canonical_lines plan =
+    map (λ object. lines.Object object) plan.objects
+    ++ (script_lines plan.objects 0 plan.scripts
+    ++ map (λ turns. lines.Schedule turns) (eights 7 plan.schedule))
+
+-- the text of lines behind the first
+abbrev pub lines_text : List Line → List ℕ
+lines_text lines = flat_map (λ line. text_line (spelled line)) lines
+
+-- the canonical text
+abbrev pub canonical : Plan → List ℕ
+canonical plan = text_line (first_spelled plan.workers) ++ lines_text (canonical_lines plan)
+
+-- words, each behind a space
+abbrev pub behind_spaces : List (List ℕ) → List ℕ
+behind_spaces words = flat_map (λ word. 32 ∷ word) words

@@ -1,0 +1,27 @@
+-- The workloads that have a text.
+use Rattle.std.specs.Prelude.{◌≡◌, ℕ, ◌<◌, ◌≤◌, Bool, true, ◌&&◌, not, nat_lt, List, [], ◌∷◌, ◌++◌, length, is_some}
+use Rattle.std.specs.List.{list_all}
+use Rattle.sync_model.specs.Name.{is_name}
+use Rattle.workload.specs.declared.limits.TheConstants.{MAX_CALLS, MAX_KEYS, MAX_TURNS, MAX_WORKERS}
+use Rattle.workload.specs.declared.object.ObjectLine.{ObjectLine}
+use Rattle.workload.specs.Plan.{Plan, is_valid}
+use Rattle.workload.specs.Draft.{declared_from, count_of, limit_of, is_call, is_item, call_count, all_keys, distinct_count}
+
+-- objects that may be declared behind others: each has a name that is new, and keeps its limit
+abbrev pub may_declare : List ObjectLine → List ObjectLine → Bool
+may_declare others [] = true
+may_declare others (object ∷ objects) =
+    (is_name object.name && (not (is_some (declared_from 0 object.name others)) && nat_lt (count_of object.kind others) (limit_of object.kind)))
+    && may_declare (others ++ object ∷ []) objects
+
+-- every name is one, every number is in range, and every limit is kept
+pub record IsReadable (plan : Plan) : Type 0 where
+  pub valid : is_valid plan ≡ true
+  pub some_workers : 0 < plan.workers
+  pub few_workers : plan.workers ≤ MAX_WORKERS
+  pub objects : may_declare [] plan.objects ≡ true
+  pub calls : list_all (list_all is_call) plan.scripts ≡ true
+  pub call_room : call_count plan.scripts ≤ MAX_CALLS
+  pub key_room : distinct_count (all_keys plan.scripts) ≤ MAX_KEYS
+  pub items : list_all (is_item plan.workers) plan.schedule ≡ true
+  pub turn_room : length plan.schedule ≤ MAX_TURNS

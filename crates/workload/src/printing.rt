@@ -1,0 +1,261 @@
+//! The canonical text of a workload.
+ghost use Rattle.std.specs.Prelude.{◌≡◌, ◌+◌, ◌∷◌, ◌++◌, [], map, IfOk, OnOk, length, slice_get};
+ghost use Rattle.std.specs.List.{flat_map, join_with_byte};
+ghost use Rattle.std.specs.Fmt.{decimal};
+ghost use Rattle.workload.specs.Words.{turn_word, kind_word, verb_word, verb_of, operands_of, map_operands, spelled, first_spelled};
+ghost use Rattle.workload.specs.declared.line.Line.TheVariants as Line;
+ghost use Rattle.workload.specs.Plan.{is_valid, is_on, object_of};
+ghost use Rattle.workload.specs.Reads.{Reads};
+ghost use Rattle.workload.specs.Canonical.{text_line, call_line, script_lines, eights, canonical_lines, canonical, behind_spaces, lines_text, name_of};
+
+use crate::keyword::Verb;
+use crate::object::{ObjectKind, ObjectLine};
+use crate::turn::Turn;
+use crate::workload::Workload;
+use std::alloc::{AllocError, Global};
+use sync_model::{Call, MapCall, Name};
+
+/// Writes a word behind a space.
+fn put_word(text: &mut Vec<u8>, word: &[u8]) -> Result<(), AllocError>
+    ensures { OnOk result (text.new.items ≡ text.old.items ++ 32 ∷ word.now) }
+{
+    text.push(b' ')?;
+    text.extend_from_slice(word)
+}
+
+/// Writes a number behind a space.
+fn put_number(alloc: Global, text: &mut Vec<u8>, number: u64) -> Result<(), AllocError>
+    ensures { OnOk result (text.new.items ≡ text.old.items ++ 32 ∷ decimal number) }
+{
+    let digits = number.to_string(alloc)?;
+    put_word(text, digits.as_bytes())
+}
+
+/// Writes the operands of a call of a map, each behind a space.
+fn put_map_operands(
+    alloc: Global,
+    text: &mut Vec<u8>,
+    call: &MapCall<Name>,
+) -> Result<(), AllocError>
+    ensures { OnOk result (text.new.items ≡ text.old.items ++ behind_spaces (map_operands call.now)) }
+{
+    match call {
+        MapCall::Load { key } => put_word(text, key.as_bytes()),
+        MapCall::Store { key, value } => {
+            put_word(text, key.as_bytes())?;
+            put_number(alloc, text, *value)
+        }
+    }
+}
+
+/// The word of a call.
+fn verb_text(verb: Verb) -> &'static [u8]
+    ensures { result.now ≡ verb_word verb }
+{
+    match verb {
+        Verb::Load => b"load",
+        Verb::Store => b"store",
+    }
+}
+
+/// The word of a kind of object.
+fn kind_text(kind: ObjectKind) -> &'static [u8]
+    ensures { result.now ≡ kind_word kind }
+{
+    match kind {
+        ObjectKind::Map => b"map",
+    }
+}
+
+/// Which call it is.
+fn verb(call: &Call) -> Verb
+    ensures { result ≡ verb_of call.now }
+{
+    match call {
+        Call::Map { call, .. } => match call {
+            MapCall::Load { .. } => Verb::Load,
+            MapCall::Store { .. } => Verb::Store,
+        },
+    }
+}
+
+/// Writes the operands of a call, each behind a space.
+fn put_operands(alloc: Global, text: &mut Vec<u8>, call: &Call) -> Result<(), AllocError>
+    ensures { OnOk result (text.new.items ≡ text.old.items ++ behind_spaces (operands_of call.now)) }
+{
+    match call {
+        Call::Map { call, .. } => put_map_operands(alloc, text, call),
+    }
+}
+
+/// Writes the line of a call on the object of a name.
+fn put_call(alloc: Global, text: &mut Vec<u8>, name: &[u8], call: &Call) -> Result<(), AllocError>
+    ensures { OnOk result (text.new.items ≡ text.old.items ++ text_line (spelled (Line.Call name.now call.now))) }
+{
+    text.extend_from_slice(verb_text(verb(call)))?;
+    put_word(text, name)?;
+    put_operands(alloc, text, call)?;
+    text.push(b'\n')?;
+    Ok(())
+}
+
+/// Writes the line of an object.
+fn put_object(text: &mut Vec<u8>, object: &ObjectLine) -> Result<(), AllocError>
+    ensures { OnOk result (text.new.items ≡ text.old.items ++ text_line (spelled (Line.Object object.now))) }
+{
+    text.extend_from_slice(kind_text(object.kind))?;
+    put_word(text, object.name.as_bytes())?;
+    text.push(b'\n')?;
+    Ok(())
+}
+
+/// Writes a line of a word and a number.
+fn put_numbered(
+    alloc: Global,
+    text: &mut Vec<u8>,
+    word: &[u8],
+    number: u32,
+) -> Result<(), AllocError>
+    ensures { OnOk result (text.new.items ≡ text.old.items ++ text_line (word.now ∷ decimal number ∷ [])) }
+{
+    text.extend_from_slice(word)?;
+    put_number(alloc, text, u64::from(number))?;
+    text.push(b'\n')?;
+    Ok(())
+}
+
+/// Writes an item of the schedule behind a space.
+fn put_turn(alloc: Global, text: &mut Vec<u8>, turn: Turn) -> Result<(), AllocError>
+    ensures { OnOk result (text.new.items ≡ text.old.items ++ 32 ∷ turn_word turn) }
+{
+    match turn {
+        Turn::Worker(worker) => put_number(alloc, text, u64::from(worker)),
+        Turn::Moment(moment) => {
+            text.extend_from_slice(b" @")?;
+            let digits = moment.to_string(alloc)?;
+            text.extend_from_slice(digits.as_bytes())
+        }
+    }
+}
+
+/// Writes the lines of the objects.
+fn put_objects(text: &mut Vec<u8>, objects: &[ObjectLine]) -> Result<(), AllocError>
+    ensures { OnOk result (text.new.items ≡ text.old.items ++ lines_text (map (λ object. Line.Object object) objects.now)) }
+{
+    for object in objects {
+        put_object(text, object)?;
+    }
+    Ok(())
+}
+
+/// The name of the object at a place, or nothing where there is none.
+fn name_at(objects: &[ObjectLine], place: usize) -> &[u8]
+    ensures { result.now ≡ name_of (slice_get objects.now place) }
+{
+    match objects.get(place) {
+        None => &[],
+        Some(object) => object.name.as_bytes(),
+    }
+}
+
+/// The place of the object of a call.
+fn place_of(call: &Call) -> usize
+    ensures { result ≡ object_of call.now }
+{
+    match call {
+        Call::Map { object, .. } => *object,
+    }
+}
+
+/// Writes the lines of calls.
+fn put_calls(
+    alloc: Global,
+    text: &mut Vec<u8>,
+    objects: &[ObjectLine],
+    calls: &[Call],
+) -> Result<(), AllocError>
+    ensures { OnOk result (text.new.items ≡ text.old.items ++ lines_text (map (call_line objects.now) calls.now)) }
+{
+    for call in calls {
+        put_call(alloc, text, name_at(objects, place_of(call)), call)?;
+    }
+    Ok(())
+}
+
+/// Writes a `worker` line and the lines of the worker's calls.
+fn put_script(
+    alloc: Global,
+    text: &mut Vec<u8>,
+    objects: &[ObjectLine],
+    worker: u32,
+    script: &[Call],
+) -> Result<(), AllocError>
+    ensures { OnOk result (text.new.items ≡ text.old.items ++ lines_text (Line.Worker worker ∷ map (call_line objects.now) script.now)) }
+{
+    put_numbered(alloc, text, b"worker", worker)?;
+    put_calls(alloc, text, objects, script)
+}
+
+/// Writes a `schedule` line.
+fn put_turns(alloc: Global, text: &mut Vec<u8>, turns: &[Turn]) -> Result<(), AllocError>
+    ensures { OnOk result (text.new.items ≡ text.old.items ++ text_line (spelled (Line.Schedule turns.now))) }
+{
+    text.extend_from_slice(b"schedule")?;
+    for turn in turns {
+        put_turn(alloc, text, *turn)?;
+    }
+    text.push(b'\n')?;
+    Ok(())
+}
+
+/// Writes the `schedule` lines, of eight items each.
+fn put_schedule(alloc: Global, text: &mut Vec<u8>, schedule: &[Turn]) -> Result<(), AllocError>
+    ensures { OnOk result (text.new.items ≡ text.old.items ++ lines_text (map (λ turns. Line.Schedule turns) (eights 7 schedule.now))) }
+{
+    let mut rest = schedule;
+    while !rest.is_empty() {
+        let (turns, behind) = rest.split_at(rest.len().min(8));
+        put_turns(alloc, text, turns)?;
+        rest = behind;
+    }
+    Ok(())
+}
+
+/// Writes the lines of all workers.
+fn put_scripts(alloc: Global, text: &mut Vec<u8>, workload: &Workload) -> Result<(), AllocError>
+    ensures { OnOk result (text.new.items ≡ text.old.items ++ lines_text (script_lines workload.now.objects 0 workload.now.scripts)) }
+{
+    for worker in 0..workload.workers() {
+        put_script(
+            alloc,
+            text,
+            workload.objects(),
+            worker,
+            workload.script(worker),
+        )?;
+    }
+    Ok(())
+}
+
+/// Writes the lines behind the first one.
+fn put_lines(alloc: Global, text: &mut Vec<u8>, workload: &Workload) -> Result<(), AllocError>
+    ensures { OnOk result (text.new.items ≡ text.old.items ++ lines_text (canonical_lines workload.now)) }
+{
+    put_objects(text, workload.objects())?;
+    put_scripts(alloc, text, workload)?;
+    put_schedule(alloc, text, workload.schedule())
+}
+
+/// The canonical text of a workload: the `workers` line, the objects in order of declaration, for each
+/// worker from 0 up a `worker` line and its calls, and the schedule, eight items a line.
+///
+/// It is read as the workload again.
+pub fn print(alloc: Global, workload: &Workload) -> Result<Vec<u8>, AllocError>
+    ensures text { IfOk result (λ text. text.items ≡ canonical workload.now) }
+    ensures read { IfOk result (λ text. Reads text.items workload.now) }
+{
+    let mut text = Vec::new(alloc);
+    put_numbered(alloc, &mut text, b"workers", workload.workers())?;
+    put_lines(alloc, &mut text, workload)?;
+    Ok(text)
+}
