@@ -10,10 +10,9 @@ mod program;
 mod report;
 mod status;
 mod step;
-mod words;
-
 #[cfg(test)]
 mod tests;
+mod words;
 
 use crate::message::say;
 use crate::program::gosync;

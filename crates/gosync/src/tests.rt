@@ -69,9 +69,11 @@ fn run(alloc: Global, row: &Row) -> Result<Ran, AllocError> {
 /// Whether the program answers and writes what the row says.
 fn comes_out(alloc: Global, row: &Row) -> Result<bool, AllocError> {
     let ran = run(alloc, row)?;
-    Ok(ran.status.code() == row.status
-        && ran.out.as_bytes() == row.report.as_bytes()
-        && ran.err.as_bytes() == row.message.as_bytes())
+    Ok(
+        ran.status.code() == row.status
+            && ran.out.as_bytes() == row.report.as_bytes()
+            && ran.err.as_bytes() == row.message.as_bytes(),
+    )
 }
 
 #[test]
@@ -173,7 +175,11 @@ fn a_fault_outside_is_status_3(rt: HostRuntime) -> Result<(), Fail> {
         ("gosync step w.txt", &[1], "gosync: cannot read w.txt\n"),
         ("gosync step w.txt", &[2], "gosync: cannot read w.txt\n"),
         ("gosync step w.txt", &[3], "gosync: cannot read w.txt\n"),
-        ("gosync step none.txt", &[], "gosync: cannot read none.txt\n"),
+        (
+            "gosync step none.txt",
+            &[],
+            "gosync: cannot read none.txt\n",
+        ),
         ("gosync step -", &[], "gosync: cannot read -\n"),
     ];
     for (words, source, message) in faults {
@@ -188,7 +194,10 @@ fn a_fault_outside_is_status_3(rt: HostRuntime) -> Result<(), Fail> {
     let reports: [(&[u64], &str); 3] = [
         (&[1], ""),
         (&[2], "0.0 store t apple 5 -> ok\n"),
-        (&[3], "0.0 store t apple 5 -> ok\n0.1 load t apple -> 5 true\n"),
+        (
+            &[3],
+            "0.0 store t apple 5 -> ok\n0.1 load t apple -> 5 true\n",
+        ),
     ];
     for (out, report) in reports {
         let row = Row {
