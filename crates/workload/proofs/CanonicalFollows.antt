@@ -1,35 +1,31 @@
 -- The canonical lines of a readable workload follow one another.
-use Rattle.std.proofs.Common.{◌≡◌, ℕ, zero, suc, ◌+◌, ◌-◌, ◌*◌, ◌<◌, ◌≤◌, min, max, Bool, true, false, cond, eqb, ◌&&◌, ◌||◌, not, List, [], ◌∷◌, ◌++◌, map, length, get_or, set, take, drop, replicate, Option, Some, None, refl, sym, ap, subst, ◌∙◌, append_assoc, arith}
-use Rattle.std.specs.Prelude.{nat_lt, nat_le, is_some, slice_get, sum_by, fold}
+use Rattle.std.proofs.Common.{◌≡◌, ℕ, zero, suc, ◌+◌, ◌*◌, ◌<◌, ◌≤◌, max, Bool, true, false, cond, eqb, ◌&&◌, ◌||◌, not, List, [], ◌∷◌, ◌++◌, map, length, get_or, set, take, drop, replicate, Option, Some, None, refl, sym, ap, subst, ◌∙◌, append_assoc, arith}
+use Rattle.std.specs.Prelude.{nat_lt, nat_le, is_some, slice_get, fold}
 use Rattle.std.specs.List.{list_all, list_any, flat_map, onto_first}
 use Rattle.std.proofs.Math.Seq.{set-append_seam, get_or-append_seam}
 use Rattle.std.proofs.lemmas.Grind.{flat_map-append}
 use Rattle.std.proofs.lemmas.List.Sums.{sum_by-append}
 use Rattle.std.specs.Str.{bytes_eq}
-use Rattle.std.specs.Ordering.{nat_cmp}
-use Rattle.std.specs.Cmp.Lexicographic.{slice_cmp}
-use Rattle.std.specs.FinMap.{len, from_entries}
-use Rattle.std.proofs.lemmas.Bool.{eqb-true, eq-eqb, lt-ltb, le-leb, ltb-true, leb-true}
+use Rattle.std.proofs.lemmas.Bool.{eq-eqb, lt-ltb, le-leb, ltb-true}
 use Rattle.std.proofs.lemmas.List.{append-nil, length-append, length-map, length-take, length-drop, take-append-drop}
 use Rattle.std.proofs.lemmas.List.Folds.{list_any-append, list_all-append}
 use Rattle.std.proofs.lemmas.Slice.Eq.{bytes_eq-Decides}
 use Rattle.sync_model.specs.Name.{is_name}
 use Rattle.sync_model.specs.declared.call.Call.{Call}
-use Rattle.workload.specs.declared.limits.TheConstants.{MAX_CALLS, MAX_KEYS, MAX_TURNS, MAX_WORKERS, MAX_MAPS}
+use Rattle.workload.specs.declared.limits.TheConstants.{MAX_CALLS, MAX_KEYS, MAX_TURNS, MAX_MAPS}
 use Rattle.workload.specs.declared.object.Declared.{Declared}
 use Rattle.workload.specs.declared.object.ObjectKind.{ObjectKind}
 use Rattle.workload.specs.declared.object.ObjectKind.TheVariants as kinds
 use Rattle.workload.specs.declared.object.ObjectLine.{ObjectLine}
-use Rattle.workload.specs.declared.line.Line.{Line}
 use Rattle.workload.specs.declared.line.Line.TheVariants as lines
 use Rattle.workload.specs.declared.turn.Turn.{Turn}
 use Rattle.workload.specs.Plan.{Plan, object_of, has_call, is_on}
-use Rattle.workload.specs.Draft.{Draft, started, with_line, may_follow, declared, declared_from, count_of, count_together, limit_of, names_object, is_call, is_item, keys_of, all_keys, distinct_count, key_count, call_count}
+use Rattle.workload.specs.Draft.{Draft, started, may_follow, declared_from, count_of, count_together, limit_of, names_object, is_call, is_item, keys_of, all_keys, distinct_count, key_count, call_count}
 use Rattle.workload.specs.Canonical.{name_of, call_line, script_lines, eights, canonical_lines}
 use Rattle.workload.specs.Readable.{may_declare, IsReadable}
-use Rattle.workload.proofs.Passing.{both, pair, not_true, all_at, all_append}
+use Rattle.workload.proofs.Passing.{both, pair, not_true}
 use Rattle.workload.proofs.KeyLemmas.{distinct_more, distinct_same}
-use Rattle.workload.proofs.DraftLemmas.{declared_more, valid_parts}
+use Rattle.workload.proofs.DraftLemmas.{valid_parts}
 use Rattle.workload.proofs.PrintLemmas.{eights_first}
 use Rattle.workload.proofs.FollowOn.{FollowOn, follow_append, follow_to}
 

@@ -1,6 +1,5 @@
 -- The canonical text of a readable workload is read as it.
-use Rattle.std.proofs.Common.{◌≡◌, ℕ, ◌+◌, ◌*◌, ◌≤◌, List, Option, None, length, subst, ap, arith}
-use Rattle.workload.specs.declared.limits.TheConstants.{MAX_INPUT}
+use Rattle.std.proofs.Common.{None, subst, arith}
 use Rattle.workload.specs.Lines.{lines_of}
 use Rattle.workload.specs.Plan.{Plan}
 use Rattle.workload.specs.Readable.{IsReadable}

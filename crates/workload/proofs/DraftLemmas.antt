@@ -1,5 +1,5 @@
 -- A draft with one more line keeps its tables.
-use Rattle.std.proofs.Common.{◌≡◌, ℕ, zero, suc, ◌+◌, ◌-◌, ◌<◌, ◌≤◌, Bool, true, false, cond, eqb, ◌&&◌, not, List, [], ◌∷◌, ◌++◌, map, length, get_or, set, replicate, Option, Some, None, refl, sym, ap, subst, ◌∙◌, append_assoc, arith}
+use Rattle.std.proofs.Common.{◌≡◌, ℕ, zero, suc, ◌+◌, ◌-◌, ◌<◌, ◌≤◌, Bool, true, false, cond, eqb, ◌&&◌, not, List, [], ◌∷◌, ◌++◌, length, get_or, set, replicate, Option, Some, None, refl, sym, ap, subst, ◌∙◌, append_assoc, arith}
 use Rattle.std.specs.Prelude.{is_some, nat_lt, slice_get}
 use Rattle.std.specs.Option.{option_or}
 use Rattle.std.specs.List.{list_all}
@@ -16,17 +16,14 @@ use Rattle.std.proofs.lemmas.Map.Text.{is_eq-slice_cmp}
 use Rattle.std.proofs.lemmas.List.{length-set, length-append, length-replicate, append-nil}
 use Rattle.std.proofs.lemmas.List.Sums.{sum_by-set}
 use Rattle.sync_model.specs.declared.call.Call.{Call}
-use Rattle.sync_model.specs.declared.call.Call.TheVariants as calls
-use Rattle.workload.specs.declared.object.ObjectKind.{ObjectKind}
-use Rattle.workload.specs.declared.object.ObjectKind.TheVariants as kinds
 use Rattle.workload.specs.declared.object.ObjectLine.{ObjectLine}
 use Rattle.workload.specs.declared.object.Declared.{Declared}
 use Rattle.workload.specs.declared.line.Line.TheVariants as lines
 use Rattle.workload.specs.declared.turn.Turn.{Turn}
 use Rattle.workload.specs.declared.turn.Turn.TheVariants as turns
 use Rattle.workload.specs.Plan.{Plan, object_of, has_call, is_on, is_turn, is_valid}
-use Rattle.workload.specs.Draft.{Draft, declared, declared_from, names_object, with_call, is_call, is_item, may_follow, count_of, limit_of, call_count, key_count, keys_of, all_keys, distinct_count}
-use Rattle.workload.specs.Readable.{may_declare, IsReadable}
+use Rattle.workload.specs.Draft.{declared_from, names_object, is_call, is_item, may_follow, count_of, limit_of, call_count, key_count, keys_of, all_keys, distinct_count}
+use Rattle.workload.specs.Readable.{may_declare}
 use Rattle.workload.specs.Index.{IsIndexed, with_keys, marks}
 use Rattle.workload.proofs.Passing.{both, pair, all_mono, all_set, all_append, all_at}
 use Rattle.workload.proofs.Follows.{object_follows, schedule_follows, call_follows}

@@ -1,7 +1,6 @@
 -- Lines that may follow one after the other, and their text.
-use Rattle.std.proofs.Common.{◌≡◌, ℕ, zero, suc, ◌+◌, ◌*◌, ◌^◌, ◌<◌, ◌≤◌, Bool, true, false, cond, ◌&&◌, List, [], ◌∷◌, ◌++◌, map, length, Option, Some, None, refl, sym, ap, subst, ◌∙◌, append_assoc, arith}
-use Rattle.std.specs.Prelude.{nat_le}
-use Rattle.std.specs.List.{flat_map, join_with_byte}
+use Rattle.std.proofs.Common.{◌≡◌, ℕ, ◌+◌, ◌*◌, ◌<◌, ◌≤◌, Bool, true, false, List, [], ◌∷◌, ◌++◌, length, Option, Some, None, refl, sym, ap, subst, ◌∙◌, append_assoc, arith}
+use Rattle.std.specs.List.{join_with_byte}
 use Rattle.std.specs.Fmt.{decimal}
 use Rattle.std.proofs.lemmas.Bool.{le-leb}
 use Rattle.std.proofs.lemmas.List.{length-append}
@@ -11,15 +10,13 @@ use Rattle.workload.specs.declared.keyword.Verb.TheVariants as verbs
 use Rattle.workload.specs.declared.limits.TheConstants.{MAX_LINE, MAX_WORKERS}
 use Rattle.workload.specs.declared.object.ObjectKind.TheVariants as kinds
 use Rattle.workload.specs.declared.line.Line.{Line}
-use Rattle.workload.specs.declared.line.Line.TheVariants as lines
-use Rattle.workload.specs.Lines.{lines_of, words_of, is_short, is_clean, is_significant}
-use Rattle.workload.specs.Plan.{Plan}
+use Rattle.workload.specs.Lines.{lines_of, words_of, is_clean, is_significant}
 use Rattle.workload.specs.Words.{spelled, first_spelled, keyword_word, keyword_of, arguments_of}
 use Rattle.workload.specs.Draft.{Draft, started, with_line, may_follow}
 use Rattle.workload.specs.Reads.{Says, IsRead, ReadsOn}
 use Rattle.workload.specs.Canonical.{text_line, lines_text}
 use Rattle.workload.proofs.OneReading.{line_small}
-use Rattle.workload.proofs.LineTexts.{words_of-join, is_clean-join, lines_of-line, FitsLine, IsNarrow, line_fits, decimal_is_word, filled_pair}
+use Rattle.workload.proofs.LineTexts.{words_of-join, is_clean-join, lines_of-line, FitsLine, IsNarrow, line_fits, filled_pair}
 
 -- the lines may follow one another, from one draft to another
 abbrev pub FollowOn : Draft → List Line → Draft → Type 0

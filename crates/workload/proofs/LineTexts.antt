@@ -1,14 +1,13 @@
 -- The text of a line, and the words that it is cut into again.
-use Rattle.std.proofs.Common.{◌≡◌, ◌≢◌, ℕ, zero, suc, ◌+◌, ◌*◌, ◌^◌, ◌<◌, ◌≤◌, Bool, true, false, cond, eqb, ◌&&◌, ◌||◌, not, List, [], ◌∷◌, ◌++◌, map, length, refl, sym, ap, subst, ◌∙◌, append_assoc, arith, inl, inr}
-use Rattle.std.specs.Prelude.{nat_le, nat_lt, All, codes}
-use Rattle.std.specs.List.{filter, list_all, slice_split, onto_first, flat_map, join_with_byte}
+use Rattle.std.proofs.Common.{◌≡◌, ℕ, suc, ◌+◌, ◌*◌, ◌^◌, ◌<◌, ◌≤◌, Bool, true, false, eqb, ◌&&◌, not, List, [], ◌∷◌, ◌++◌, map, length, refl, ap, ◌∙◌, arith}
+use Rattle.std.specs.Prelude.{nat_le, codes}
+use Rattle.std.specs.List.{filter, list_all, slice_split, onto_first, join_with_byte}
 use Rattle.std.specs.Str.{all_ascii_digits}
 use Rattle.std.specs.Fmt.{decimal}
 use Rattle.std.proofs.lemmas.Bool.{eqb-true, leb-true, le-leb, ltb-true}
 use Rattle.std.proofs.lemmas.Bool.Decides.{nat_tests}
 use Rattle.std.proofs.lemmas.List.{length-append}
 use Rattle.std.proofs.lemmas.Fmt.{digits_decimal, decimal_nonempty, length-decimal-le}
-use Rattle.std.proofs.lemmas.List.{append-nil}
 use Rattle.std.proofs.lemmas.List.Splits.{slice_split-cons_yes, slice_split-cons_no}
 use Rattle.sync_model.specs.Name.{is_name, is_letter, is_name_byte}
 use Rattle.sync_model.specs.declared.call.Call.{Call}
@@ -28,8 +27,7 @@ use Rattle.workload.specs.Words.{spelled, first_spelled, kind_word, verb_word, v
 use Rattle.workload.specs.Draft.{Draft, may_follow, is_call, is_map_call, is_item}
 use Rattle.workload.proofs.Follows.{object_follows, schedule_follows, call_follows}
 use Rattle.workload.proofs.Numbers.{numerals}
-use Rattle.workload.specs.Lines.{lines_of, words_of, is_short, is_clean, is_printable, is_filled, is_significant}
-use Rattle.workload.specs.Canonical.{text_line}
+use Rattle.workload.specs.Lines.{lines_of, words_of, is_clean, is_printable, is_filled}
 use Rattle.workload.proofs.Passing.{both, pair, all_append, all_mono}
 
 -- a byte of a word: printable, and no space

@@ -1,24 +1,20 @@
 -- A line that is read has no reason to be refused.
-use Rattle.std.proofs.Common.{◌≡◌, ◌≢◌, ℕ, zero, suc, ◌+◌, ◌^◌, ◌<◌, ◌≤◌, Bool, true, false, cond, eqb, ◌&&◌, not, List, [], ◌∷◌, ◌++◌, map, length, Option, Some, None, refl, sym, ap, subst, ◌∙◌, arith, ⊎_elim}
-use Rattle.std.specs.Prelude.{nat_lt, nat_le, is_some, codes}
+use Rattle.std.proofs.Common.{◌≡◌, ℕ, ◌+◌, ◌^◌, ◌<◌, ◌≤◌, Bool, true, false, cond, eqb, List, [], ◌∷◌, map, length, Option, Some, None, refl, sym, ap, subst, ◌∙◌, arith, ⊎_elim}
+use Rattle.std.specs.Prelude.{nat_lt, nat_le, is_some}
 use Rattle.std.specs.List.{list_all, flat_map}
 use Rattle.std.specs.Fmt.{decimal}
-use Rattle.std.specs.Str.{bytes_eq}
-use Rattle.std.proofs.lemmas.Bool.{eqb-true, ltb-true, leb-true, lt-ltb, le-leb, eq-eqb}
+use Rattle.std.proofs.lemmas.Bool.{eqb-true, ltb-true, leb-true, lt-ltb, le-leb}
 use Rattle.std.proofs.lemmas.List.{length-map}
 use Rattle.sync_model.specs.Name.{is_name}
 use Rattle.sync_model.specs.declared.call.Call.{Call}
 use Rattle.sync_model.specs.declared.call.Call.TheVariants as calls
-use Rattle.sync_model.specs.declared.map_object.MapCall.{MapCall}
 use Rattle.sync_model.specs.declared.map_object.MapCall.TheVariants as map_calls
 use Rattle.workload.specs.declared.keyword.Keyword.{Keyword}
 use Rattle.workload.specs.declared.keyword.Keyword.TheVariants as keywords
-use Rattle.workload.specs.declared.keyword.Operand.{Operand}
-use Rattle.workload.specs.declared.limits.TheConstants.{MAX_CALLS, MAX_KEYS, MAX_TURNS, MAX_VALUE, MAX_WORKERS, MAX_INPUT}
+use Rattle.workload.specs.declared.limits.TheConstants.{MAX_CALLS, MAX_KEYS, MAX_TURNS, MAX_VALUE, MAX_WORKERS}
 use Rattle.workload.specs.declared.object.Declared.{Declared}
 use Rattle.workload.specs.declared.object.ObjectKind.{ObjectKind}
 use Rattle.workload.specs.declared.object.ObjectKind.TheVariants as kinds
-use Rattle.workload.specs.declared.object.ObjectLine.{ObjectLine}
 use Rattle.workload.specs.declared.line.Line.{Line}
 use Rattle.workload.specs.declared.line.Line.TheVariants as lines
 use Rattle.workload.specs.declared.reason.Reason.{Reason}
@@ -26,17 +22,17 @@ use Rattle.workload.specs.declared.reason.Reason.TheVariants.{BadNumber, LimitRe
 use Rattle.workload.specs.declared.turn.Turn.{Turn}
 use Rattle.workload.specs.declared.turn.Turn.TheVariants as turns
 use Rattle.workload.specs.Plan.{Plan, object_of, has_call}
-use Rattle.workload.specs.Lines.{lines_of, words_of, is_short, is_clean, is_significant}
-use Rattle.workload.specs.Words.{keyword_word, keyword_of, keyword_at, arguments_of, spelled, first_spelled, verb_of, operands_of, map_operands, turn_word, is_number, is_number_to, number_of}
-use Rattle.workload.specs.Draft.{Draft, declared, may_follow, names_object, is_call, is_map_call, is_item, keys_of, call_count, key_count}
-use Rattle.workload.specs.Checks.{Check, first_failing, form_of, operand_checks, key_operands, limit_checks, form_checks, worker_checks, item_checks, line_checks, word_checks, checks_of, reason_of}
+use Rattle.workload.specs.Lines.{lines_of, words_of, is_significant}
+use Rattle.workload.specs.Words.{keyword_of, arguments_of, verb_of, operands_of, turn_word, is_number, is_number_to}
+use Rattle.workload.specs.Draft.{Draft, declared, may_follow, names_object, is_call, is_item, keys_of, call_count, key_count}
+use Rattle.workload.specs.Checks.{first_failing, form_of, form_checks, worker_checks, item_checks, line_checks, word_checks, reason_of}
 use Rattle.workload.specs.Reads.{Says, IsRead, ReadsOn, Reads, FirstFault, IsRefused}
-use Rattle.workload.proofs.Passing.{both, pair}
+use Rattle.workload.proofs.Passing.{both}
 use Rattle.workload.proofs.Follows.{object_follows, schedule_follows, call_follows}
 use Rattle.workload.proofs.Numbers.{is_number-decimal, number_of-decimal}
-use Rattle.workload.proofs.CheckLemmas.{passes_first, items_pass, turns_pass}
+use Rattle.workload.proofs.CheckLemmas.{items_pass, turns_pass}
 use Rattle.workload.proofs.SameLine.{keyword_at-keyword_word}
-use Rattle.workload.proofs.OneReading.{IsSmall, read_small, same_read}
+use Rattle.workload.proofs.OneReading.{IsSmall, read_small, same_read, some_is}
 
 worker_passes : (workers i : ℕ) → workers ≤ MAX_WORKERS → nat_lt i workers ≡ true → first_failing (worker_checks workers (decimal i)) ≡ None
 worker_passes workers i few lt =
@@ -127,6 +123,9 @@ read_passes before line after small h =
       | false ↦ λ f. refl
     ] refl)
 
+none_some : (reason : Reason) → None ≡ Some reason → ⊥
+none_some reason e = cc
+
 not_both : (lines : List (List ℕ)) (before : Option Draft) (next line : ℕ) (reason : Reason) (plan : Plan) → IsSmall before → ReadsOn lines before plan → FirstFault lines before next line reason → ⊥
 not_both [] None next line reason plan small h k = h
 not_both [] (Some d) next line reason plan small h k = k
@@ -137,9 +136,6 @@ not_both (text ∷ texts) before next line reason plan small h k =
     let same = same_read before text h.0 on.0 small h.1 on.1 in
     not_both texts h.0 (next + 1) line reason plan (read_small before text h.0 small h.1) h.2 (subst (λ (d : Option Draft). FirstFault texts d (next + 1) line reason) (sym same) on.2))
     k
-  where
-    none_some : (reason : Reason) → None ≡ Some reason → ⊥
-    none_some reason e = cc
 
 pub read_or_refused : (bytes : List ℕ) (plan : Plan) (line : ℕ) (reason : Reason) → Reads bytes plan → IsRefused bytes line reason → ⊥
 read_or_refused bytes plan line reason h k =
@@ -147,3 +143,33 @@ read_or_refused bytes plan line reason h k =
     (λ long. omega (arith, h.fits, long.0))
     (λ fault. not_both (lines_of bytes) None 1 line reason plan tt h.lines fault.1)
     k
+
+one_fault : (lines : List (List ℕ)) (before : Option Draft) (next line other : ℕ) (reason why : Reason) → IsSmall before → FirstFault lines before next line reason → FirstFault lines before next other why → (line ≡ other) × (reason ≡ why)
+one_fault [] None next line other reason why small h k = (h.0 ∙ sym k.0, h.1 ∙ sym k.1)
+one_fault [] (Some d) next line other reason why small h k = absurd h
+one_fault (text ∷ texts) before next line other reason why small h k =
+    ⊎_elim
+    (λ here. ⊎_elim
+    (λ there. (here.0 ∙ sym there.0, some_is reason why (sym here.1 ∙ there.1)))
+    (λ on. absurd (none_some reason (sym (read_passes before text on.0 small on.1) ∙ here.1)))
+    k)
+    (λ on. ⊎_elim
+    (λ there. absurd (none_some why (sym (read_passes before text on.0 small on.1) ∙ there.1)))
+    (λ also.
+    let same = same_read before text on.0 also.0 small on.1 also.1 in
+    one_fault texts on.0 (next + 1) line other reason why (read_small before text on.0 small on.1) on.2 (subst (λ (d : Option Draft). FirstFault texts d (next + 1) other why) (sym same) also.2))
+    k)
+    h
+
+pub one_refusal : (bytes : List ℕ) (line other : ℕ) (reason why : Reason) → IsRefused bytes line reason → IsRefused bytes other why → (line ≡ other) × (reason ≡ why)
+one_refusal bytes line other reason why h k =
+    ⊎_elim
+    (λ long. ⊎_elim
+    (λ also. (long.1 ∙ sym also.1, long.2 ∙ sym also.2))
+    (λ fault. absurd (omega (arith, long.0, fault.0)))
+    k)
+    (λ fault. ⊎_elim
+    (λ long. absurd (omega (arith, long.0, fault.0)))
+    (λ also. one_fault (lines_of bytes) None 1 line other reason why tt fault.1 also.1)
+    k)
+    h

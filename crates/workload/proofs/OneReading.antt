@@ -1,5 +1,5 @@
 -- No two workloads are read from the same bytes.
-use Rattle.std.proofs.Common.{◌≡◌, ℕ, ◌≤◌, Bool, true, false, List, [], ◌∷◌, Option, Some, None, refl, sym, ap, subst, ◌∙◌, arith}
+use Rattle.std.proofs.Common.{◌≡◌, ℕ, ◌≤◌, true, false, List, [], ◌∷◌, Option, Some, None, refl, sym, ap, subst, ◌∙◌, arith}
 use Rattle.std.specs.Prelude.{MatchOption}
 use Rattle.std.specs.Fmt.{decimal}
 use Rattle.std.proofs.lemmas.Fmt.{decimal_injective}
@@ -8,7 +8,6 @@ use Rattle.workload.specs.declared.line.Line.{Line}
 use Rattle.workload.specs.declared.line.Line.TheVariants as lines
 use Rattle.workload.specs.Plan.{Plan}
 use Rattle.workload.specs.Lines.{lines_of, words_of, is_significant}
-use Rattle.workload.specs.Words.{spelled}
 use Rattle.workload.specs.Draft.{Draft, started, with_line}
 use Rattle.workload.specs.Reads.{Says, IsRead, ReadsOn, Reads}
 use Rattle.workload.proofs.SameLine.{same_line}
@@ -20,7 +19,7 @@ IsSmall draft = MatchOption draft (Unit {0}) (λ d. d.plan.workers ≤ MAX_WORKE
 one_word : (x y : List ℕ) (a b : List ℕ) → a ∷ x ∷ [] ≡ b ∷ y ∷ [] → x ≡ y
 one_word x y a b e = cc
 
-some_is : {X : Type 0} (x y : X) → Some x ≡ Some y → x ≡ y
+pub some_is : {X : Type 0} (x y : X) → Some x ≡ Some y → x ≡ y
 some_is x y e = cc
 
 pub line_small : (d : Draft) (line : Line) → d.plan.workers ≤ MAX_WORKERS → (with_line d line).plan.workers ≤ MAX_WORKERS

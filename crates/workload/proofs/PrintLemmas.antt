@@ -1,6 +1,6 @@
 -- The canonical text, piece by piece.
-use Rattle.std.proofs.Common.{◌≡◌, ℕ, zero, suc, ◌+◌, ◌<◌, ◌≤◌, length, take, drop, min, arith, inl, inr, List, [], ◌∷◌, ◌++◌, map, refl, sym, ap, ◌∙◌, append_assoc}
-use Rattle.std.specs.List.{flat_map, join_with_byte, onto_first}
+use Rattle.std.proofs.Common.{◌≡◌, ℕ, zero, suc, ◌<◌, length, take, drop, min, arith, inl, inr, List, [], ◌∷◌, ◌++◌, map, refl, sym, ap, ◌∙◌, append_assoc}
+use Rattle.std.specs.List.{join_with_byte, onto_first}
 use Rattle.std.proofs.lemmas.List.{append-nil, take_all, drop_all}
 use Rattle.std.proofs.lemmas.Bool.{cases_lt}
 use Rattle.workload.specs.declared.line.Line.TheVariants as lines

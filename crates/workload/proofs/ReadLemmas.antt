@@ -1,5 +1,5 @@
 -- Reading line by line.
-use Rattle.std.proofs.Common.{◌≡◌, ℕ, ◌+◌, Bool, true, false, List, [], ◌∷◌, Option, Some, None, refl, inl, inr}
+use Rattle.std.proofs.Common.{ℕ, ◌+◌, List, ◌∷◌, Option, None, refl, inl, inr}
 use Rattle.workload.specs.declared.fault.LineFault.{LineFault}
 use Rattle.workload.specs.declared.fault.LineFault.TheVariants as line_faults
 use Rattle.workload.specs.declared.reason.Reason.{Reason}

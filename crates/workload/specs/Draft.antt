@@ -1,5 +1,5 @@
 -- What the lines of a text say so far, and which line may follow them.
-use Rattle.std.specs.Prelude.{ℕ, Bool, true, false, ◌&&◌, ◌+◌, ◌-◌, ◌^◌, not, cond, nat_lt, nat_le, ◌==◌, List, [], ◌∷◌, ◌++◌, length, Option, Some, None, is_some, set, get_or, slice_get, count_by, sum_by, replicate, map}
+use Rattle.std.specs.Prelude.{ℕ, Bool, true, false, ◌&&◌, ◌+◌, not, cond, nat_lt, nat_le, ◌==◌, List, [], ◌∷◌, ◌++◌, length, Option, Some, None, is_some, set, get_or, count_by, sum_by, replicate}
 use Rattle.std.specs.List.{list_all, list_any, flat_map}
 use Rattle.std.specs.Str.{bytes_eq}
 use Rattle.sync_model.specs.Name.{is_name}
@@ -16,7 +16,7 @@ use Rattle.workload.specs.declared.line.Line.{Line}
 use Rattle.workload.specs.declared.line.Line.TheVariants as lines
 use Rattle.workload.specs.declared.turn.Turn.{Turn}
 use Rattle.workload.specs.declared.turn.Turn.TheVariants as turns
-use Rattle.workload.specs.Plan.{Plan, object_of, has_call, is_turn}
+use Rattle.workload.specs.Plan.{Plan, object_of, has_call}
 
 -- the workload that the lines so far say, and the worker whose calls follow
 pub record Draft : Type 0 where

@@ -1,5 +1,5 @@
 -- What the reading of a line, or of a word of it, answers.
-use Rattle.std.specs.Prelude.{◌≡◌, codes, ◌<◌, ◌≤◌, map, ℕ, Bool, true, false, ◌==◌, List, [], ◌∷◌, length, Option, Some, None, Result, MatchResult}
+use Rattle.std.specs.Prelude.{◌≡◌, codes, ◌<◌, ◌≤◌, map, ℕ, true, false, ◌==◌, List, [], ◌∷◌, length, Option, Some, None, Result, MatchResult}
 use Rattle.std.specs.List.{list_all, flat_map}
 use Rattle.std.specs.Fmt.{decimal}
 use Rattle.sync_model.specs.declared.call.Call.{Call}

@@ -1,5 +1,5 @@
 -- The lines of a text and the words of a line.
-use Rattle.std.specs.Prelude.{ℕ, Bool, true, false, ◌&&◌, not, cond, nat_le, ◌==◌, List, [], ◌∷◌, length}
+use Rattle.std.specs.Prelude.{ℕ, Bool, false, ◌&&◌, not, cond, nat_le, ◌==◌, List, [], ◌∷◌, length}
 use Rattle.std.specs.List.{filter, list_all, slice_split, onto_first}
 use Rattle.workload.specs.declared.limits.TheConstants.{MAX_LINE}
 

@@ -1,5 +1,5 @@
 -- Which workload a text is read as, and where and why one is refused.
-use Rattle.std.specs.Prelude.{◌≡◌, ℕ, Bool, true, false, ◌&&◌, ◌+◌, ◌-◌, ◌≤◌, ◌<◌, ◌⊎◌, max, cond, List, [], ◌∷◌, length, Option, Some, None}
+use Rattle.std.specs.Prelude.{◌≡◌, ℕ, true, false, ◌+◌, ◌-◌, ◌≤◌, ◌<◌, ◌⊎◌, max, List, [], ◌∷◌, length, Option, Some, None}
 use Rattle.workload.specs.declared.limits.TheConstants.{MAX_INPUT, MAX_WORKERS}
 use Rattle.workload.specs.declared.fault.ParseFault.{ParseFault}
 use Rattle.workload.specs.declared.fault.ParseFault.TheVariants as faults

@@ -16,6 +16,11 @@ pub fn read_or_refused()
     ensures { (bytes : List ℕ) (plan : Plan) (line : ℕ) (reason : Reason) → Reads bytes plan → IsRefused bytes line reason → ⊥ }
 {}
 
+/// A text is refused at one line, and for one reason.
+pub fn one_refusal()
+    ensures { (bytes : List ℕ) (line other : ℕ) (reason why : Reason) → IsRefused bytes line reason → IsRefused bytes other why → (line ≡ other) × (reason ≡ why) }
+{}
+
 /// Each text is read or refused.
 pub fn each_text()
     ensures { (bytes : List ℕ) → ((plan : Plan) × Reads bytes plan) ⊎ ((line : ℕ) × (reason : Reason) × IsRefused bytes line reason) }

@@ -1,4 +1,4 @@
-use Rattle.std.proofs.Common.{◌≡◌, ◌≤◌, ◌+◌, arith}
+use Rattle.std.proofs.Common.{◌+◌, arith}
 use Rattle.workload.proofs.Numbers.{digit_in, number_more, number_front}
 use Rattle.workload.proofs.number.value.Goals as goal
 

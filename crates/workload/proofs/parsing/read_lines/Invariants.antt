@@ -1,5 +1,4 @@
-use Rattle.std.proofs.Common.{◌≡◌, ℕ, ◌+◌, ◌≤◌, ◌<◌, List, Option, None, length}
-use Rattle.workload.specs.declared.reason.Reason.{Reason}
+use Rattle.std.proofs.Common.{◌+◌, ◌≤◌, length}
 use Rattle.workload.specs.Lines.{lines_of}
 use Rattle.workload.proofs.ReadLemmas.{Goes}
 use Rattle.workload.proofs.parsing.read_lines.Given as goal

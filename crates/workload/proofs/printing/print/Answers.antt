@@ -1,4 +1,4 @@
-use Rattle.std.proofs.Common.{◌≡◌, ◌++◌, sym, ap, subst, ◌∙◌}
+use Rattle.std.proofs.Common.{◌++◌, sym, ap, subst, ◌∙◌}
 use Rattle.workload.specs.Words.{first_spelled}
 use Rattle.workload.specs.Reads.{Reads}
 use Rattle.workload.specs.Canonical.{text_line, lines_text, canonical_lines}

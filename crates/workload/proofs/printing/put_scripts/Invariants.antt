@@ -1,7 +1,5 @@
-use Rattle.std.proofs.Common.{◌≡◌, ◌+◌, ◌++◌, ◌∷◌, [], drop, map, length}
-use Rattle.workload.specs.declared.line.Line.TheVariants as lines
-use Rattle.workload.specs.Words.{turn_word, spelled}
-use Rattle.workload.specs.Canonical.{text_line, call_line, script_lines, eights, lines_text, behind_spaces}
+use Rattle.std.proofs.Common.{◌≡◌, ◌++◌, drop}
+use Rattle.workload.specs.Canonical.{script_lines, lines_text}
 use Rattle.workload.proofs.printing.put_scripts.Given as goal
 
 abbrev pub invariant-loop-worker : goal.invariant-loop-worker

@@ -1,0 +1,5 @@
+use Rattle.workload.proofs.NoReason.{one_refusal}
+use Rattle.workload.proofs.laws.one_refusal.Goals as goal
+
+pub returns : goal.returns
+returns c = λ bytes line other reason why h k. one_refusal bytes line other reason why h k
