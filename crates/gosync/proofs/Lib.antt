@@ -1,3 +1,4 @@
+pub mod CallWords
 pub mod Lines
 pub mod MessageTexts
 pub mod Reading

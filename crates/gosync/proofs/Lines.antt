@@ -1,5 +1,6 @@
 -- The lines of a report, one after the other.
-use Rattle.std.proofs.Common.{◌≡◌, ℕ, suc, ◌+◌, List, [], ◌∷◌, ◌++◌, ◌<◌, ◌≤◌, Bool, false, ◌&&◌, true, length, get_or, drop, refl, sym, ap, ◌∙◌, add-one}
+use Rattle.std.proofs.Common.{◌≡◌, ℕ, zero, suc, ◌+◌, List, [], ◌∷◌, ◌++◌, ◌<◌, ◌≤◌, Bool, false, ◌&&◌, true, length, get_or, drop, refl, sym, ap, ◌∙◌, add-one, arith}
+use Rattle.std.specs.List.{list_all}
 use Rattle.std.proofs.Math.Seq.{drop-cons}
 use Rattle.sync_model.specs.declared.call.Call.{Call}
 use Rattle.sync_model.specs.declared.call.Reply.{Reply}
@@ -40,6 +41,20 @@ drop_item xs i d lt = drop-cons xs i d lt ∙ ap (λ n. get_or xs i d ∷ drop n
 pub drop_script : (scripts : List (List Call)) (i : ℕ) → i < length scripts → drop i scripts ≡ get_or scripts i [] ∷ drop (i + 1) scripts
 drop_script scripts i lt = drop-cons scripts i [] lt ∙ ap (λ n. get_or scripts i [] ∷ drop n scripts) (sym (add-one i))
 
+and_left : (a b : Bool) → (a && b) ≡ true → a ≡ true
+and_left true b e = refl
+and_left false b e = e
+
+and_right : (a b : Bool) → (a && b) ≡ true → b ≡ true
+and_right true b e = e
+and_right false b e = absurd cc
+
+-- what each item of a list passes, the one at an index does
+pub all_at : {X : Type 0} (p : X → Bool) (xs : List X) (i : ℕ) (x : X) → list_all p xs ≡ true → i < length xs → x ≡ get_or xs i x → p x ≡ true
+all_at p [] i x all lt e = absurd (omega arith)
+all_at p (y ∷ xs) zero x all lt e = ap p e ∙ and_left (p y) (list_all p xs) all
+all_at p (y ∷ xs) (suc i) x all lt e = all_at p xs i x (and_right (p y) (list_all p xs) all) (omega arith) e
+
 true_false : true ≡ false → ⊥
 true_false e = cc
 
@@ -50,10 +65,6 @@ not_below i n e =
       | inl lt ↦ absurd (true_false (sym (lt-ltb i n lt) ∙ e))
       | inr le ↦ le
     ]
-
-and_left : (a b : Bool) → (a && b) ≡ true → a ≡ true
-and_left true b e = refl
-and_left false b e = e
 
 -- there is a script for each worker
 pub scripts_are : (plan : Plan) → is_valid plan ≡ true → length plan.scripts ≡ plan.workers

@@ -1,5 +1,5 @@
 -- The report: a line for each completed call, worker by worker, and then, where every script has ended, a line for each value that an object holds.
-use Rattle.std.specs.Prelude.{ℕ, ◌+◌, List, [], ◌∷◌, ◌++◌, codes, Some, None, slice_get}
+use Rattle.std.specs.Prelude.{ℕ, ◌+◌, Bool, true, false, List, [], ◌∷◌, ◌++◌, map, codes, Some, None, slice_get}
 use Rattle.std.specs.List.{flat_map}
 use Rattle.std.specs.Option.{option_map_or}
 use Rattle.std.specs.Fmt.{decimal}
@@ -7,14 +7,16 @@ use Rattle.sync_model.specs.declared.call.Call.{Call}
 use Rattle.sync_model.specs.declared.call.Reply.{Reply}
 use Rattle.sync_model.specs.declared.call.Reply.TheVariants as replies
 use Rattle.sync_model.specs.declared.map_object.MapReply.{MapReply}
-use Rattle.sync_model.specs.declared.map_object.MapReply.TheVariants.{Done, Found}
+use Rattle.sync_model.specs.declared.map_object.MapReply.TheVariants as map_replies
+use Rattle.sync_model.specs.declared.atomic_object.AtomicReply.{AtomicReply}
+use Rattle.sync_model.specs.declared.atomic_object.AtomicReply.TheVariants as atomic_replies
 use Rattle.workload.specs.declared.line.Line.TheVariants as lines
 use Rattle.workload.specs.declared.object.ObjectLine.{ObjectLine}
 use Rattle.workload.specs.Plan.{Plan, object_of}
-use Rattle.workload.specs.Words.{spelled}
+use Rattle.workload.specs.Words.{number_word, spelled}
 use Rattle.step_runner.specs.declared.ends.End.{End}
-use Rattle.step_runner.specs.declared.ends.End.TheVariants.{Pair}
-use Rattle.step_runner.specs.declared.outcome.Report.{Report}
+use Rattle.step_runner.specs.declared.ends.End.TheVariants.{Number, Pair}
+use Rattle.step_runner.specs.Pairs.{left_by}
 use Rattle.step_runner.specs.declared.outcome.Outcome.{Outcome}
 use Rattle.step_runner.specs.declared.outcome.Outcome.TheVariants as outcomes
 
@@ -30,14 +32,37 @@ name_at objects place = option_map_or (λ object. object.name) (slice_get object
 abbrev pub call_words : List ObjectLine → Call → List (List ℕ)
 call_words objects call = spelled (lines.Call (name_at objects (object_of call)) call)
 
--- a reply of a map: nothing, or the value that was there and whether one was
+abbrev pub truth_text : Bool → List ℕ
+truth_text true = codes "true"
+truth_text false = codes "false"
+
+-- a reply of a map: nothing, the value that was there or is there now and whether one was there, or whether the value was the old one
 abbrev pub map_reply_text : MapReply → List ℕ
-map_reply_text Done = codes "ok"
-map_reply_text (Found None) = codes "- false"
-map_reply_text (Found (Some value)) = decimal value ++ codes " true"
+map_reply_text map_replies.Done = codes "ok"
+map_reply_text (map_replies.Found None) = codes "- false"
+map_reply_text (map_replies.Found (Some value)) = decimal value ++ codes " true"
+map_reply_text (map_replies.Settled value loaded) = decimal value ++ codes " " ++ truth_text loaded
+map_reply_text (map_replies.Compared is_old) = truth_text is_old
+
+-- a key that a `range` shows: `KEY=VALUE`
+abbrev pub pair_text : List ℕ × ℕ → List ℕ
+pair_text pair = pair.0 ++ codes "=" ++ decimal pair.1
+
+-- the keys that a `range` shows, with one space between two
+abbrev pub pairs_text : List (List ℕ × ℕ) → List ℕ
+pairs_text [] = codes "-"
+pairs_text (pair ∷ pairs) = pair_text pair ++ spaced (map pair_text pairs)
+
+-- a reply of an atomic: nothing, a number, or whether it was the old one
+abbrev pub atomic_reply_text : AtomicReply → List ℕ
+atomic_reply_text atomic_replies.Done = codes "ok"
+atomic_reply_text (atomic_replies.Held number) = number_word number
+atomic_reply_text (atomic_replies.Compared is_old) = truth_text is_old
 
 abbrev pub reply_text : Reply → List ℕ
 reply_text (replies.Map reply) = map_reply_text reply
+reply_text (replies.Pairs pairs) = pairs_text pairs
+reply_text (replies.Atomic reply) = atomic_reply_text reply
 
 -- the line of a completed call: `WORKER.INDEX CALL -> REPLY`
 abbrev pub call_line : List ObjectLine → ℕ → ℕ → Call → Reply → List ℕ
@@ -56,18 +81,13 @@ workers_text objects worker (script ∷ scripts) (replies ∷ rest) = calls_text
 workers_text objects worker [] replies = []
 workers_text objects worker (script ∷ scripts) [] = []
 
--- the line of a key that is there in a map at the end: `end NAME KEY VALUE`
+-- the line of an atomic at the end, `end NAME VALUE`, and of a key that is there in a map, `end NAME KEY VALUE`
 abbrev pub end_line : List ObjectLine → End → List ℕ
+end_line objects (Number object number) = codes "end" ++ spaced (name_at objects object ∷ number_word number ∷ []) ++ codes "\n"
 end_line objects (Pair object key value) = codes "end" ++ spaced (name_at objects object ∷ key ∷ decimal value ∷ []) ++ codes "\n"
 
 abbrev pub ends_text : List ObjectLine → List End → List ℕ
 ends_text objects ends = flat_map (end_line objects) ends
-
--- what a run leaves behind
-abbrev pub left_by : Outcome → Report
-left_by (outcomes.Done left) = left
-left_by (outcomes.Misused left misuse) = left
-left_by (outcomes.Deadlocked left) = left
 
 -- the end lines come only where every script has ended
 abbrev pub ends_of : Outcome → List End

@@ -2,8 +2,8 @@
 ghost use Rattle.std.specs.Prelude.{◌≡◌, ◌≤◌, vec_capacity};
 ghost use Rattle.gosync.specs.ReportText.{end_line};
 
-use crate::call_line::name_at;
-use crate::line::{LINE_ROOM, push, push_number_word, push_word};
+use crate::call_words::name_at;
+use crate::line::{LINE_ROOM, push, push_atomic_word, push_number_word, push_word};
 use step_runner::End;
 use workload::ObjectLine;
 
@@ -16,6 +16,10 @@ pub fn set_end_line(line: &mut Vec<u8>, objects: &[ObjectLine], end: &End)
     line.clear();
     push(line, b"end");
     match end {
+        End::Number { object, number } => {
+            push_word(line, name_at(objects, *object));
+            push_atomic_word(line, *number);
+        }
         End::Pair { object, key, value } => {
             push_word(line, name_at(objects, *object));
             push_word(line, key.as_bytes());

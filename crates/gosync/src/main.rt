@@ -2,11 +2,13 @@
 #![tactic(auto)]
 
 mod call_line;
+mod call_words;
 mod end_line;
 mod input;
 mod line;
 mod message;
 mod program;
+mod reply;
 mod report;
 mod status;
 mod step;

@@ -1,7 +1,10 @@
 //! The report of a run.
-ghost use Rattle.std.specs.Prelude.{◌≡◌, ◌≤◌, ◌<◌, [], length, get_or, vec_capacity, OnOk, OnErr};
+ghost use Rattle.std.specs.Prelude.{◌≡◌, ◌≤◌, ◌<◌, true, [], length, get_or, vec_capacity, OnOk, OnErr};
+ghost use Rattle.std.specs.List.{list_all};
 ghost use Rattle.sync_outside.specs.Bytes.{Appends, AppendsFront};
 ghost use Rattle.sync_outside.specs.Faults.{Rose};
+ghost use Rattle.workload.specs.declared.limits.TheConstants.{MAX_KEYS};
+ghost use Rattle.step_runner.specs.Pairs.{has_pairs_to, has_few_pairs};
 ghost use Rattle.gosync.specs.ReportText.{call_line, calls_text, workers_text, ends_text, report_text};
 
 use crate::call_line::set_call_line;
@@ -21,6 +24,7 @@ fn write_calls<O: Sink>(
     out: &mut O,
 ) -> Result<(), Failed>
     requires worker { worker < workload.now.workers }
+    requires pairs { list_all (has_pairs_to MAX_KEYS) replies.now ≡ true }
     requires room { LINE_ROOM ≤ vec_capacity line.old }
     ensures ok { OnOk result (Appends (O.contents out.old) (O.contents out.new) (calls_text workload.now.objects worker 0 (get_or workload.now.scripts worker []) replies.now)) }
     ensures err { OnErr result (AppendsFront (O.contents out.old) (O.contents out.new) (calls_text workload.now.objects worker 0 (get_or workload.now.scripts worker []) replies.now)) }
@@ -46,6 +50,7 @@ fn write_workers<O: Sink>(
     line: &mut Vec<u8>,
     out: &mut O,
 ) -> Result<(), Failed>
+    requires pairs { list_all (list_all (has_pairs_to MAX_KEYS)) replies.now ≡ true }
     requires room { LINE_ROOM ≤ vec_capacity line.old }
     ensures ok { OnOk result (Appends (O.contents out.old) (O.contents out.new) (workers_text workload.now.objects 0 workload.now.scripts replies.now)) }
     ensures err { OnErr result (AppendsFront (O.contents out.old) (O.contents out.new) (workers_text workload.now.objects 0 workload.now.scripts replies.now)) }
@@ -85,14 +90,16 @@ fn write_ends<O: Sink>(
 /// Writes the report of what a run of a workload came to: first a line for each completed call,
 /// worker by worker, and then, where every script has ended, a line for each value that an object
 /// holds. Each line is one write. It takes no memory: a line is made in the buffer `line`, which has
-/// room for 262,144 bytes.
+/// room for 262,144 bytes. For that no reply may show more pairs than a workload has keys, which those
+/// of a run don't.
 pub fn report<O: Sink>(
     workload: &Workload,
     outcome: &Outcome,
     line: &mut Vec<u8>,
     out: &mut O,
 ) -> Result<(), Failed>
-    requires { LINE_ROOM ≤ vec_capacity line.old }
+    requires pairs { has_few_pairs outcome.now ≡ true }
+    requires room { LINE_ROOM ≤ vec_capacity line.old }
     ensures ok { OnOk result (Appends (O.contents out.old) (O.contents out.new) (report_text workload.now outcome.now)) }
     ensures err { OnErr result (AppendsFront (O.contents out.old) (O.contents out.new) (report_text workload.now outcome.now)) }
     ensures failed { OnErr result (Rose (O.faults out.old) (O.faults out.new)) }

@@ -54,16 +54,21 @@ fn words_of(alloc: Global, line: &str) -> Result<Vec<String>, AllocError> {
     Ok(words)
 }
 
-fn run(alloc: Global, row: &Row) -> Result<Ran, AllocError> {
+/// Runs a row on this text, with room for so many bytes of the report.
+fn run_on(alloc: Global, text: &str, room: usize, row: &Row) -> Result<Ran, AllocError> {
     let mut files = Vec::new(alloc);
     let name = String::from_str(alloc, "w.txt")?;
-    files.push(MemFile::new(name, Vec::from_slice(alloc, row.text.as_bytes())?))?;
+    files.push(MemFile::new(name, Vec::from_slice(alloc, text.as_bytes())?))?;
     let mut src = MemSources::new(files, Vec::from_slice(alloc, row.source)?);
-    let mut out = MemSink::new(alloc, 10_000, Vec::from_slice(alloc, row.out)?)?;
+    let mut out = MemSink::new(alloc, room, Vec::from_slice(alloc, row.out)?)?;
     let mut err = MemSink::new(alloc, 1_000, Vec::from_slice(alloc, row.err)?)?;
     let words = words_of(alloc, row.words)?;
     let status = gosync(alloc, &words, &mut src, &mut out, &mut err);
     Ok(Ran { status, out, err })
+}
+
+fn run(alloc: Global, row: &Row) -> Result<Ran, AllocError> {
+    run_on(alloc, row.text, 10_000, row)
 }
 
 /// Whether the program answers and writes what the row says.
@@ -104,6 +109,104 @@ fn a_text_is_run_and_reported(rt: HostRuntime) -> Result<(), Fail> {
             ..STEP
         };
         assert!(rt; comes_out(rt.alloc(), &row)?, "{text}");
+    }
+    Ok(())
+}
+
+#[test]
+fn the_calls_of_maps_and_atomics_are_reported(rt: HostRuntime) -> Result<(), Fail> {
+    let table = [
+        (
+            "workers 1\nmap t\nworker 0\ncad t apple 0\n",
+            "0.0 cad t apple 0 -> false\n",
+        ),
+        (
+            "workers 1\nmap t\nworker 0\nswap t k 1\nswap t k 2\n",
+            "0.0 swap t k 1 -> - false\n0.1 swap t k 2 -> 1 true\nend t k 2\n",
+        ),
+        (
+            "workers 1\nmap t\nworker 0\nlos t k 7\nlos t k 8\nrange t\nclear t\nrange t\n",
+            "0.0 los t k 7 -> 7 false\n0.1 los t k 8 -> 7 true\n0.2 range t -> k=7\n0.3 clear t -> ok\n0.4 range t -> -\n",
+        ),
+        (
+            "workers 1\nint32 a\nworker 0\nstore a 2147483647\nadd a 1\n",
+            "0.0 store a 2147483647 -> ok\n0.1 add a 1 -> -2147483648\nend a -2147483648\n",
+        ),
+        (
+            "workers 1\nint32 a\nworker 0\nadd a 1\nadd a -1\ncas a 0 1\n",
+            "0.0 add a 1 -> 1\n0.1 add a -1 -> 0\n0.2 cas a 0 1 -> true\nend a 1\n",
+        ),
+        (
+            "workers 1\nuint64 u\nworker 0\nstore u 18446744073709551615\nadd u 2\nand u 3\nor u 8\n",
+            "0.0 store u 18446744073709551615 -> ok\n0.1 add u 2 -> 1\n0.2 and u 3 -> 1\n0.3 or u 8 -> 1\nend u 9\n",
+        ),
+        (
+            "workers 1\nbool b\nworker 0\ncas b false true\nswap b false\nload b\n",
+            "0.0 cas b false true -> true\n0.1 swap b false -> true\n0.2 load b -> false\nend b false\n",
+        ),
+        (
+            "workers 1\nmap t\nint64 a\nuint32 u\nworker 0\nstore t b 2\nstore t a 1\nrange t\nlad t b\ncas t a 1 3\nstore a -9223372036854775808\n",
+            "0.0 store t b 2 -> ok\n0.1 store t a 1 -> ok\n0.2 range t -> a=1 b=2\n0.3 lad t b -> 2 true\n0.4 cas t a 1 3 -> true\n0.5 store a -9223372036854775808 -> ok\nend a -9223372036854775808\nend u 0\nend t a 3\n",
+        ),
+    ];
+    for (text, report) in table {
+        let row = Row {
+            text,
+            report,
+            ..STEP
+        };
+        assert!(rt; comes_out(rt.alloc(), &row)?, "{text}");
+    }
+    Ok(())
+}
+
+// How often a call stands behind the lines before it, and then the status, the bytes of the report and
+// the line on the error output.
+#[test]
+fn calls_and_ranges_are_limited(rt: HostRuntime) -> Result<(), Fail> {
+    let table = [
+        (
+            "workers 1\nint64 a\nworker 0\n",
+            "load a\n",
+            20_000,
+            0,
+            388_898,
+            "",
+        ),
+        (
+            "workers 1\nint64 a\nworker 0\n",
+            "load a\n",
+            20_001,
+            1,
+            0,
+            "gosync: line 20004: limit reached\n",
+        ),
+        (
+            "workers 1\nmap t\nworker 0\n",
+            "range t\n",
+            64,
+            0,
+            1_142,
+            "",
+        ),
+        (
+            "workers 1\nmap t\nworker 0\n",
+            "range t\n",
+            65,
+            1,
+            0,
+            "gosync: line 68: limit reached\n",
+        ),
+    ];
+    for (before, call, times, status, bytes, message) in table {
+        let mut text = String::from_str(rt.alloc(), before)?;
+        for _ in 0..times {
+            text.push_str(call)?;
+        }
+        let ran = run_on(rt.alloc(), &text, 400_000, &STEP)?;
+        assert_eq!(rt; ran.status.code(), status, "{times}");
+        assert_eq!(rt; ran.out.as_bytes().len(), bytes, "{times}");
+        assert_eq!(rt; ran.err.as_bytes(), message.as_bytes(), "{times}");
     }
     Ok(())
 }

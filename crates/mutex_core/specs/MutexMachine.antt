@@ -139,6 +139,21 @@ at_place (event.Woken now) _ caller s = still s
 abbrev pub next : State → ℕ → MutexEvent → State × MutexReply
 next s caller event = if nat_lt caller s.callers then at_place event (place_of s caller) caller s else still s
 
+-- whether the place is one that the event needs
+abbrev pub is_needed : MutexEvent → Place → Bool
+is_needed (event.Arrive now) place.Out = true
+is_needed (event.Arrive now) _ = false
+is_needed event.Try place.Out = true
+is_needed event.Try _ = false
+is_needed event.Unlock _ = true
+is_needed (event.Woken now) place.Woken = true
+is_needed (event.Woken now) place.Handed = true
+is_needed (event.Woken now) _ = false
+
+-- whether a caller of the mutex is at a place that the event needs
+abbrev pub may_make : State → ℕ → MutexEvent → Bool
+may_make s caller event = nat_lt caller s.callers && is_needed event (place_of s caller)
+
 -- whether a woken waiter is in flight
 abbrev pub is_woken : Flight → Bool
 is_woken flight.Nobody = false

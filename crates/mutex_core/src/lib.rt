@@ -4,6 +4,7 @@
 
 pub mod event;
 pub mod laws;
+pub mod machine;
 pub mod mutex;
 pub mod place;
 pub mod reply;

@@ -59,3 +59,19 @@ read_releases entry = is_read entry.event && is_released entry.reply
 
 abbrev pub write_releases : Entry RwEvent RwReply → Bool
 write_releases entry = not (is_read entry.event) && is_released entry.reply
+
+-- An answer that takes part in an edge of Go's memory model. An unlock that isn't a misuse releases; what completes a
+-- lock acquires, a granted or admitted caller's leaving among it.
+abbrev pub releases : RwReply → Bool
+releases reply = is_released reply
+
+abbrev pub acquires : RwReply → Bool
+acquires (Arrived arrival.Acquired) = true
+acquires (Arrived arrival.Queued) = false
+acquires (Tried acquired) = acquired
+acquires (Unlocked _) = false
+acquires (Resumed resumption.Acquired) = true
+acquires (Resumed resumption.Queued) = false
+acquires (Resumed resumption.Requeued) = false
+acquires Left = true
+acquires Still = false

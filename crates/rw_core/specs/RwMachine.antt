@@ -1,5 +1,5 @@
 -- The reader/writer lock: what each event does, and what it is answered.
-use Rattle.std.specs.Prelude.{◌≡◌, ℕ, ◌<◌, ◌≤◌, ◌+◌, ◌-◌, ◌^◌, Bool, true, false, not, ◌==◌, nat_lt, if◌then◌else◌, IsTrue, IsFalse, List, [], ◌∷◌, ◌++◌, length, filter}
+use Rattle.std.specs.Prelude.{◌≡◌, ℕ, ◌<◌, ◌≤◌, ◌+◌, ◌-◌, ◌^◌, Bool, true, false, ◌&&◌, not, ◌==◌, nat_lt, if◌then◌else◌, IsTrue, IsFalse, List, [], ◌∷◌, ◌++◌, length, filter}
 use Rattle.std.specs.List.{list_any}
 use Rattle.sync_model.specs.declared.misuse.Misuse.TheVariants.{RUnlockOfUnlockedRwMutex, UnlockOfUnlockedRwMutex}
 use Rattle.mutex_core.specs.MutexMachine as mutex
@@ -182,6 +182,29 @@ at_place event.Leave _ caller s = still s
 -- the machine: what an event of a caller does, and what it is answered
 abbrev pub next : State → ℕ → RwEvent → State × RwReply
 next s caller event = if nat_lt caller s.callers then at_place event (place_of s caller) caller s else still s
+
+-- whether the place is one that the event needs
+abbrev pub is_needed : RwEvent → Place → Bool
+is_needed event.ReadArrive place.Out = true
+is_needed event.ReadArrive _ = false
+is_needed event.ReadTry place.Out = true
+is_needed event.ReadTry _ = false
+is_needed event.ReadUnlock _ = true
+is_needed (event.WriteArrive now) place.Out = true
+is_needed (event.WriteArrive now) _ = false
+is_needed event.WriteTry place.Out = true
+is_needed event.WriteTry _ = false
+is_needed (event.WriteWoken now) place.Woken = true
+is_needed (event.WriteWoken now) place.Handed = true
+is_needed (event.WriteWoken now) _ = false
+is_needed event.WriteUnlock _ = true
+is_needed event.Leave place.Granted = true
+is_needed event.Leave place.Admitted = true
+is_needed event.Leave _ = false
+
+-- whether a caller of the lock is at a place that the event needs
+abbrev pub may_make : State → ℕ → RwEvent → Bool
+may_make s caller event = nat_lt caller s.callers && is_needed event (place_of s caller)
 
 -- how often the caller is in the list
 abbrev pub count_of : ℕ → List ℕ → ℕ

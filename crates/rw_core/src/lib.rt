@@ -5,6 +5,7 @@
 pub mod event;
 pub mod laws;
 mod list;
+pub mod machine;
 pub mod place;
 pub mod reply;
 pub mod rw;

@@ -198,6 +198,13 @@ impl RwCore {
         }
     }
 
+    /// How many callers it has.
+    pub fn callers(&self) -> u32
+        ensures { result ≡ self.now.callers }
+    {
+        self.callers
+    }
+
     /// Where a caller is.
     pub fn place(&self, caller: u32) -> Place
         requires { caller < self.now.callers }

@@ -3,6 +3,7 @@ use Rattle.std.proofs.Common.{◌≡◌, ◌≢◌, ℕ, zero, suc, ◌+◌, ◌
 use Rattle.std.specs.Prelude.{slice_get}
 use Rattle.std.specs.List.{list_all}
 use Rattle.std.specs.Option.{option_map, option_map_or, unwrap_or}
+use Rattle.std.specs.FinMap.{entries}
 use Rattle.std.proofs.lemmas.Bool.{eqb-true, eqb-false}
 use Rattle.std.proofs.lemmas.List.{length-set, length-append, length-replicate, get_or-set_same, get_or-set_other}
 use Rattle.std.proofs.lemmas.Option.{slice_get-map, slice_get_past, slice_get_within, slice_get_cases, unwrap_or-slice_get}
@@ -12,7 +13,12 @@ use Rattle.sync_model.specs.declared.call.Call.TheVariants as calls
 use Rattle.sync_model.specs.declared.call.Reply.{Reply}
 use Rattle.sync_model.specs.declared.call.Reply.TheVariants as replies
 use Rattle.sync_model.specs.declared.map_object.MapCall.{MapCall}
+use Rattle.sync_model.specs.declared.atomic_object.AtomicKind.{AtomicKind}
+use Rattle.sync_model.specs.declared.atomic_object.Number.{Number}
+use Rattle.sync_model.specs.declared.atomic_object.AtomicCall.{AtomicCall}
 use Rattle.sync_model.specs.SequentialMap.{map_reply, map_after}
+use Rattle.sync_model.specs.SequentialAtomic.{is_atomic_call, atomic_reply, atomic_after}
+use Rattle.sync_model.specs.SequentialAtomic as atomics
 use Rattle.workload.specs.declared.object.ObjectKind.{ObjectKind}
 use Rattle.workload.specs.declared.object.ObjectKind.TheVariants as kinds
 use Rattle.workload.specs.declared.object.ObjectLine.{ObjectLine}
@@ -21,9 +27,11 @@ use Rattle.workload.specs.declared.turn.Turn.TheVariants as items
 use Rattle.workload.specs.Plan.{Plan, object_of, has_call, is_on, is_turn, is_valid}
 use Rattle.step_runner.specs.declared.object_state.ObjectState.{ObjectState}
 use Rattle.step_runner.specs.declared.object_state.ObjectState.TheVariants as states
-use Rattle.step_runner.specs.State.{State, start, new_object, new_objects, kind_of, with_reply, IsStateOf, IsOn}
-use Rattle.step_runner.specs.MapTurn.{map_turn}
+use Rattle.step_runner.specs.State.{State, start, new_object, new_objects, kind_of, with_reply, with_object, IsStateOf, IsOn}
+use Rattle.step_runner.specs.MapTurn.{map_turn, range_turn}
+use Rattle.step_runner.specs.AtomicTurn.{atomic_turn}
 use Rattle.step_runner.specs.Turns.{next_call, after_turn, after_turn_at, after_item, after_items}
+use Rattle.step_runner.proofs.AtomicTypes.{after_type, zero_type}
 use Rattle.step_runner.proofs.Left.{left_at}
 
 -- what two tests that pass together say
@@ -63,25 +71,53 @@ call_is_on plan worker s call valid is =
     let all = (both (list_all (list_all on) plan.scripts) (list_all (is_turn plan.workers) plan.schedule) (both (eqb (length plan.scripts) plan.workers) _ valid).1).0 in
     all_get on (get_or plan.scripts worker []) (length (get_or s.replies worker [])) call (all_at on plan.scripts worker all) is
 
-kind_case : (kind : ObjectKind) (object : ℕ) (call : MapCall (List ℕ)) → has_call kind (calls.Map object call) ≡ true → Some kind ≡ Some kinds.Map
-kind_case kinds.Map object call e = refl
-
-map_kind : (o : Option ObjectLine) (object : ℕ) (call : MapCall (List ℕ)) → is_on o (calls.Map object call) ≡ true → option_map (λ (line : ObjectLine). line.kind) o ≡ Some kinds.Map
-map_kind None object call e = absurd cc
-map_kind (Some line) object call e = kind_case line.kind object call e
-
--- the object of a map's call is a map
-map_is_there : (plan : Plan) (s : State) (worker object : ℕ) (call : MapCall (List ℕ)) → IsStateOf plan s → next_call plan worker s ≡ Some (calls.Map object call)
-    → option_map kind_of (slice_get s.objects object) ≡ Some kinds.Map
-map_is_there plan s worker object call of is =
+-- the kind of an object is the one that the plan says
+kind_there : (plan : Plan) (s : State) (object : ℕ) → IsStateOf plan s → option_map kind_of (slice_get s.objects object) ≡ option_map (λ (line : ObjectLine). line.kind) (slice_get plan.objects object)
+kind_there plan s object of =
     sym (slice_get-map kind_of s.objects object)
     ∙ ap (λ (ks : List ObjectKind). slice_get ks object) of.objects
     ∙ slice_get-map (λ (line : ObjectLine). line.kind) plan.objects object
-    ∙ map_kind (slice_get plan.objects object) object call (call_is_on plan worker s (calls.Map object call) of.valid is)
+
+map_case : (kind : ObjectKind) (object : ℕ) (call : MapCall (List ℕ)) → has_call kind (calls.Map object call) ≡ true → Some kind ≡ Some kinds.Map
+map_case kinds.Map object call e = refl
+map_case (kinds.Atomic kind) object call e = absurd cc
+
+-- the object of a map's call is a map
+map_kind : (o : Option ObjectLine) (object : ℕ) (call : MapCall (List ℕ)) → is_on o (calls.Map object call) ≡ true → option_map (λ (line : ObjectLine). line.kind) o ≡ Some kinds.Map
+map_kind None object call e = absurd cc
+map_kind (Some line) object call e = map_case line.kind object call e
+
+range_case : (kind : ObjectKind) (object : ℕ) → has_call kind (calls.Range object) ≡ true → Some kind ≡ Some kinds.Map
+range_case kinds.Map object e = refl
+range_case (kinds.Atomic kind) object e = absurd cc
+
+-- and so is that of a `range`
+range_kind : (o : Option ObjectLine) (object : ℕ) → is_on o (calls.Range object) ≡ true → option_map (λ (line : ObjectLine). line.kind) o ≡ Some kinds.Map
+range_kind None object e = absurd cc
+range_kind (Some line) object e = range_case line.kind object e
+
+-- a kind of object that has the call of an atomic
+abbrev HasAtomic : Option ObjectKind → AtomicCall → Type 0
+HasAtomic o call = (kind : AtomicKind) × (o ≡ Some (kinds.Atomic kind)) × (is_atomic_call kind call ≡ true)
+
+atomic_case : (kind : ObjectKind) (object : ℕ) (call : AtomicCall) → has_call kind (calls.Atomic object call) ≡ true → HasAtomic (Some kind) call
+atomic_case kinds.Map object call e = absurd cc
+atomic_case (kinds.Atomic kind) object call e = (kind, refl, e)
+
+-- the object of an atomic's call is an atomic of a type that has it
+atomic_kind : (o : Option ObjectLine) (object : ℕ) (call : AtomicCall) → is_on o (calls.Atomic object call) ≡ true → HasAtomic (option_map (λ (line : ObjectLine). line.kind) o) call
+atomic_kind None object call e = absurd cc
+atomic_kind (Some line) object call e = atomic_case line.kind object call e
 
 -- the object of the call before which a worker stands is there
 pub next_is_on : (plan : Plan) (worker : ℕ) (s : State) (call : Call) → IsStateOf plan s → next_call plan worker s ≡ Some call → IsOn call s
-next_is_on plan worker s (calls.Map object call) of is = map_is_there plan s worker object call of is
+next_is_on plan worker s (calls.Map object call) of is =
+    kind_there plan s object of ∙ map_kind (slice_get plan.objects object) object call (call_is_on plan worker s (calls.Map object call) of.valid is)
+next_is_on plan worker s (calls.Range object) of is =
+    kind_there plan s object of ∙ range_kind (slice_get plan.objects object) object (call_is_on plan worker s (calls.Range object) of.valid is)
+next_is_on plan worker s (calls.Atomic object call) of is =
+    subst (λ (o : Option ObjectKind). HasAtomic o call) (sym (kind_there plan s object of))
+    (atomic_kind (slice_get plan.objects object) object call (call_is_on plan worker s (calls.Atomic object call) of.valid is))
 
 -- ---- one turn
 
@@ -95,11 +131,11 @@ alike : (o : Option ObjectState) (next : ObjectState) → option_map kind_of o �
 alike None next e = absurd cc
 alike (Some object) next e = cc
 
--- a worker's call is completed, and an object's contents change
-completes : (plan : Plan) (worker : ℕ) (s : State) (call : Call) (object : ℕ) (next : ObjectState) (reply : Reply)
-    → IsStateOf plan s → worker < plan.workers → next_call plan worker s ≡ Some call → option_map kind_of (slice_get s.objects object) ≡ Some (kind_of next)
-    → IsTurn plan worker s (with_reply worker reply (record s { objects = set s.objects object next }))
-completes plan worker s call object next reply of below is there =
+-- a worker's call is completed, whatever became of the objects
+replies_more : (plan : Plan) (worker : ℕ) (s : State) (call : Call) (objects : List ObjectState) (reply : Reply)
+    → IsStateOf plan s → worker < plan.workers → next_call plan worker s ≡ Some call → map kind_of objects ≡ map kind_of s.objects
+    → IsTurn plan worker s (with_reply worker reply (record s { objects = objects }))
+replies_more plan worker s call objects reply of below is same =
     let more = get_or s.replies worker [] ++ reply ∷ [] in
     let here : worker < length s.replies = omega (arith, of.workers) in
     let room : length (get_or s.replies worker []) < length (get_or plan.scripts worker []) = slice_get_within _ _ call is in
@@ -107,7 +143,7 @@ completes plan worker s call object next reply of below is there =
     record {
       of = record {
         valid = of.valid;
-        objects = map-set_same kind_of s.objects object next next (alike (slice_get s.objects object) next there ∙ ap kind_of (unwrap_or-slice_get s.objects object next)) ∙ of.objects;
+        objects = same ∙ of.objects;
         workers = length-set s.replies worker more ∙ of.workers;
         within = λ k. elim (eqb k worker) as (λ b. eqb k worker ≡ b → length (get_or (set s.replies worker more) k []) ≤ length (get_or plan.scripts k [])) [
           | true ↦ λ e. let same : k ≡ worker = eqb-true k worker e in rw same (omega (arith, own, room))
@@ -118,6 +154,14 @@ completes plan worker s call object next reply of below is there =
       others = λ k other. ap (λ (done : List Reply). length (get_or plan.scripts k []) - length done) (get_or-set_other s.replies worker k more [] other);
     }
 
+-- a worker's call is completed, and an object's contents change
+completes : (plan : Plan) (worker : ℕ) (s : State) (call : Call) (object : ℕ) (next : ObjectState) (reply : Reply)
+    → IsStateOf plan s → worker < plan.workers → next_call plan worker s ≡ Some call → option_map kind_of (slice_get s.objects object) ≡ Some (kind_of next)
+    → IsTurn plan worker s (with_reply worker reply (with_object object next s))
+completes plan worker s call object next reply of below is there =
+    replies_more plan worker s call (set s.objects object next) reply of below is
+    (map-set_same kind_of s.objects object next next (alike (slice_get s.objects object) next there ∙ ap kind_of (unwrap_or-slice_get s.objects object next)))
+
 -- nothing happens
 stays : (plan : Plan) (worker : ℕ) (s : State) → IsStateOf plan s → left_at plan.scripts s.replies worker ≡ 0 → IsTurn plan worker s s
 stays plan worker s of none = record { of = of; own = omega (arith, none); others = λ k other. refl }
@@ -127,12 +171,37 @@ stays plan worker s of none = record { of = of; own = omega (arith, none); other
 map_turn_is : (plan : Plan) (worker : ℕ) (s : State) (object : ℕ) (call : MapCall (List ℕ)) → IsStateOf plan s → worker < plan.workers → next_call plan worker s ≡ Some (calls.Map object call)
     → (o : Option ObjectState) → slice_get s.objects object ≡ o → option_map kind_of o ≡ Some kinds.Map → IsTurn plan worker s (map_turn o object call worker s)
 map_turn_is plan worker s object call of below is None at there = absurd cc
-map_turn_is plan worker s object call of below is (Some (states.Map entries)) at there =
-    completes plan worker s (calls.Map object call) object (states.Map (map_after call entries)) (replies.Map (map_reply call entries)) of below is (ap (option_map kind_of) at)
+map_turn_is plan worker s object call of below is (Some (states.Map m)) at there =
+    completes plan worker s (calls.Map object call) object (states.Map (map_after call m)) (replies.Map (map_reply call m)) of below is (ap (option_map kind_of) at)
+map_turn_is plan worker s object call of below is (Some (states.Atomic number)) at there = absurd cc
+
+range_turn_is : (plan : Plan) (worker : ℕ) (s : State) (object : ℕ) → IsStateOf plan s → worker < plan.workers → next_call plan worker s ≡ Some (calls.Range object)
+    → (o : Option ObjectState) → option_map kind_of o ≡ Some kinds.Map → IsTurn plan worker s (range_turn o worker s)
+range_turn_is plan worker s object of below is None there = absurd cc
+range_turn_is plan worker s object of below is (Some (states.Map m)) there =
+    replies_more plan worker s (calls.Range object) s.objects (replies.Pairs (entries m)) of below is refl
+range_turn_is plan worker s object of below is (Some (states.Atomic number)) there = absurd cc
+
+-- the types of an atomic and of the kind that has its call
+pub type_is : (number : Number) (kind : AtomicKind) → Some (kinds.Atomic (atomics.kind_of number)) ≡ Some (kinds.Atomic kind) → atomics.kind_of number ≡ kind
+type_is number kind e = cc
+
+atomic_turn_is : (plan : Plan) (worker : ℕ) (s : State) (object : ℕ) (call : AtomicCall) → IsStateOf plan s → worker < plan.workers → next_call plan worker s ≡ Some (calls.Atomic object call)
+    → (o : Option ObjectState) → slice_get s.objects object ≡ o → HasAtomic (option_map kind_of o) call → IsTurn plan worker s (atomic_turn o object call worker s)
+atomic_turn_is plan worker s object call of below is None at on = absurd (let e = on.1 in cc)
+atomic_turn_is plan worker s object call of below is (Some (states.Map m)) at on = absurd (let e = on.1 in cc)
+atomic_turn_is plan worker s object call of below is (Some (states.Atomic number)) at on =
+    let has : is_atomic_call (atomics.kind_of number) call ≡ true = subst (λ (kind : AtomicKind). is_atomic_call kind call ≡ true) (sym (type_is number on.0 on.1)) on.2 in
+    completes plan worker s (calls.Atomic object call) object (states.Atomic (atomic_after call number)) (replies.Atomic (atomic_reply call number)) of below is
+    (ap (option_map kind_of) at ∙ ap (λ (kind : AtomicKind). Some (kinds.Atomic kind)) (sym (after_type call number has)))
 
 turn_at_is : (plan : Plan) (worker : ℕ) (s : State) (call : Call) → IsStateOf plan s → worker < plan.workers → next_call plan worker s ≡ Some call → IsTurn plan worker s (after_turn_at call worker s)
 turn_at_is plan worker s (calls.Map object call) of below is =
-    map_turn_is plan worker s object call of below is (slice_get s.objects object) refl (map_is_there plan s worker object call of is)
+    map_turn_is plan worker s object call of below is (slice_get s.objects object) refl (next_is_on plan worker s (calls.Map object call) of is)
+turn_at_is plan worker s (calls.Range object) of below is =
+    range_turn_is plan worker s object of below is (slice_get s.objects object) (next_is_on plan worker s (calls.Range object) of is)
+turn_at_is plan worker s (calls.Atomic object call) of below is =
+    atomic_turn_is plan worker s object call of below is (slice_get s.objects object) refl (next_is_on plan worker s (calls.Atomic object call) of is)
 
 -- ---- any turn
 
@@ -199,6 +268,7 @@ items_of plan (item ∷ items) s of = items_of plan items (after_item plan item 
 
 new_kind : (kind : ObjectKind) → kind_of (new_object kind) ≡ kind
 new_kind kinds.Map = refl
+new_kind (kinds.Atomic kind) = ap (λ (type : AtomicKind). kinds.Atomic type) (zero_type kind)
 
 new_kinds : (lines : List ObjectLine) → map kind_of (new_objects lines) ≡ map (λ (line : ObjectLine). line.kind) lines
 new_kinds [] = refl

@@ -11,7 +11,8 @@ use Rattle.workload.specs.Draft.{call_count}
 use Rattle.step_runner.specs.declared.outcome.Outcome.{Outcome}
 use Rattle.step_runner.specs.declared.outcome.Outcome.TheVariants.{Done, Deadlocked}
 use Rattle.step_runner.specs.State.{State, start}
-use Rattle.step_runner.specs.MapTurn.{map_turn}
+use Rattle.step_runner.specs.MapTurn.{map_turn, range_turn}
+use Rattle.step_runner.specs.AtomicTurn.{atomic_turn}
 use Rattle.step_runner.specs.Ends.{ends_of}
 
 -- the call before which a worker stands, unless its script has ended
@@ -21,6 +22,8 @@ next_call plan worker s = slice_get (get_or plan.scripts worker []) (length (get
 -- the state after a turn of a worker that stands before the call
 abbrev pub after_turn_at : Call → ℕ → State → State
 after_turn_at (calls.Map object call) worker s = map_turn (slice_get s.objects object) object call worker s
+after_turn_at (calls.Range object) worker s = range_turn (slice_get s.objects object) worker s
+after_turn_at (calls.Atomic object call) worker s = atomic_turn (slice_get s.objects object) object call worker s
 
 -- the state after a turn of a worker: one whose script has ended makes no event
 abbrev pub after_turn : Plan → ℕ → State → State

@@ -1,14 +1,19 @@
 //! What the objects hold when every script has ended.
 ghost use Rattle.std.specs.Prelude.{◌≡◌, ◌++◌, IfOk, OnOk};
-ghost use Rattle.step_runner.specs.Ends.{map_ends, ends_of};
+ghost use Rattle.step_runner.specs.Ends.{numbers_from, map_ends, pairs_from, ends_of};
 
 use crate::object_state::ObjectState;
 use std::alloc::{AllocError, Global};
-use sync_model::{ByName, Name, Seq};
+use sync_model::{ByName, Name, Number, Seq};
 
 /// A value that an object holds at the end.
 #[derive(Debug, Drop)]
 pub enum End {
+    /// The number of an atomic, which is named by its place among the workload's objects.
+    Number {
+        object: usize,
+        number: Number,
+    },
     /// A key that is there in a map, which is named by its place among the workload's objects, with its value.
     Pair {
         object: usize,
@@ -17,8 +22,24 @@ pub enum End {
     },
 }
 
+/// Adds the number of each atomic, in order of declaration.
+fn push_numbers(ends: &mut Seq<End>, objects: &[ObjectState]) -> Result<(), AllocError>
+    ensures { OnOk result (ends.new ≡ ends.old ++ numbers_from 0 objects.now) }
+{
+    for (object, held) in objects.iter().enumerate() {
+        match held {
+            ObjectState::Map(_) => {}
+            ObjectState::Atomic(number) => ends.push(End::Number {
+                object,
+                number: *number,
+            })?,
+        }
+    }
+    Ok(())
+}
+
 /// Adds the keys of a map, in byte order.
-fn push_pairs(
+fn push_map(
     alloc: Global,
     ends: &mut Seq<End>,
     object: usize,
@@ -32,15 +53,26 @@ fn push_pairs(
     Ok(())
 }
 
-/// What the objects hold, in the order of the report: the pairs of each map in order of declaration.
+/// Adds the keys of each map, in order of declaration.
+fn push_pairs(alloc: Global, ends: &mut Seq<End>, objects: &[ObjectState]) -> Result<(), AllocError>
+    ensures { OnOk result (ends.new ≡ ends.old ++ pairs_from 0 objects.now) }
+{
+    for (object, held) in objects.iter().enumerate() {
+        match held {
+            ObjectState::Map(map) => push_map(alloc, ends, object, map)?,
+            ObjectState::Atomic(_) => {}
+        }
+    }
+    Ok(())
+}
+
+/// What the objects hold, in the order of the report: the number of each atomic in order of declaration,
+/// and then the pairs of each map in order of declaration.
 pub fn ends(alloc: Global, objects: &[ObjectState]) -> Result<Seq<End>, AllocError>
     ensures { IfOk result (λ ends. ends ≡ ends_of objects.now) }
 {
     let mut ends = Seq::new(alloc);
-    for (place, object) in objects.iter().enumerate() {
-        match object {
-            ObjectState::Map(map) => push_pairs(alloc, &mut ends, place, map)?,
-        }
-    }
+    push_numbers(&mut ends, objects)?;
+    push_pairs(alloc, &mut ends, objects)?;
     Ok(ends)
 }

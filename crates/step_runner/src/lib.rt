@@ -2,6 +2,7 @@
 //! does, and what the run comes to.
 #![tactic(auto)]
 
+pub mod atomic_turn;
 pub mod ends;
 pub mod laws;
 pub mod map_turn;

@@ -3,7 +3,7 @@ ghost use Rattle.std.specs.Prelude.{◌≡◌};
 ghost use Rattle.step_runner.specs.State.{new_object};
 
 use std::alloc::Global;
-use sync_model::ByName;
+use sync_model::{ByName, Number};
 use workload::ObjectKind;
 
 /// What an object holds between two turns, by its kind.
@@ -11,6 +11,8 @@ use workload::ObjectKind;
 pub enum ObjectState {
     /// The values of a map by its keys.
     Map(ByName<u64>),
+    /// The number of an atomic, which is of the atomic's type.
+    Atomic(Number),
 }
 
 impl ObjectState {
@@ -20,6 +22,7 @@ impl ObjectState {
     {
         match kind {
             ObjectKind::Map => ObjectState::Map(ByName::new(alloc)),
+            ObjectKind::Atomic(kind) => ObjectState::Atomic(kind.zero()),
         }
     }
 }

@@ -1,6 +1,7 @@
 //! The run of a workload by its schedule.
-ghost use Rattle.std.specs.Prelude.{◌≡◌, IfOk, OnOk};
+ghost use Rattle.std.specs.Prelude.{◌≡◌, true, IfOk, OnOk};
 ghost use Rattle.workload.specs.Draft.{call_count};
+ghost use Rattle.step_runner.specs.Pairs.{has_few_pairs};
 ghost use Rattle.step_runner.specs.State.{IsStateOf};
 ghost use Rattle.step_runner.specs.Turns.{after_items, round, rounds, has_ended, outcome_of, turns};
 
@@ -84,9 +85,10 @@ fn outcome(alloc: Global, workload: &Workload, state: State) -> Result<Outcome, 
 ///
 /// The schedule's items are taken in order: a worker's number gives that worker one turn. After the
 /// schedule come rounds, in which each worker from 0 up takes one turn, until every script has ended.
-/// Only want of memory is an `Err`.
+/// Only want of memory is an `Err`. No reply shows more pairs than a workload may have keys.
 pub fn stepped(alloc: Global, workload: &Workload) -> Result<Outcome, AllocError>
-    ensures { IfOk result (λ outcome. outcome ≡ turns workload.now) }
+    ensures outcome { IfOk result (λ outcome. outcome ≡ turns workload.now) }
+    ensures pairs { IfOk result (λ outcome. has_few_pairs outcome ≡ true) }
 {
     let mut state = State::start(alloc, workload)?;
     take_schedule(alloc, workload, &mut state)?;

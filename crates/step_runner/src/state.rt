@@ -1,5 +1,6 @@
 //! What a run knows between two turns.
 ghost use Rattle.std.specs.Prelude.{◌≡◌, ◌<◌, [], length, get_or, replicate, IfOk, OnOk};
+ghost use Rattle.workload.specs.Readable.{IsReadable};
 ghost use Rattle.step_runner.specs.State.{IsStateOf, new_objects, start, with_reply};
 
 use crate::object_state::ObjectState;
@@ -54,6 +55,7 @@ impl State {
     pub fn start(alloc: Global, workload: &Workload) -> Result<Self, AllocError>
         ensures start { IfOk result (λ state. state ≡ start workload.now) }
         ensures of { IfOk result (IsStateOf workload.now) }
+        ensures readable { IfOk result (λ _. IsReadable workload.now) }
     {
         let objects = new_objects(alloc, workload.objects())?;
         let replies = no_replies(alloc, workload.workers())?;

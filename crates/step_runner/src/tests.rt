@@ -1,28 +1,73 @@
 use crate::{End, Outcome, Report, stepped};
 use std::alloc::{AllocError, Global};
 use std::test::Fail;
-use sync_model::{MapReply, Reply};
+use sync_model::{AtomicReply, MapReply, Name, Number, Reply};
 use workload::parse;
+
+fn push_number(alloc: Global, text: &mut String, number: Number) -> Result<(), AllocError> {
+    let word = match number {
+        Number::Int32(n) => format!(in alloc; "{n}")?,
+        Number::Int64(n) => format!(in alloc; "{n}")?,
+        Number::Uint32(n) => format!(in alloc; "{n}")?,
+        Number::Uint64(n) => format!(in alloc; "{n}")?,
+        Number::Bool(n) => format!(in alloc; "{n}")?,
+    };
+    text.push_str(&word)
+}
+
+fn push_map_reply(alloc: Global, text: &mut String, reply: &MapReply) -> Result<(), AllocError> {
+    let word = match reply {
+        MapReply::Done => format!(in alloc; " ok")?,
+        MapReply::Found(None) => format!(in alloc; " -")?,
+        MapReply::Found(Some(value)) => format!(in alloc; " {value}")?,
+        MapReply::Settled { value, loaded } => format!(in alloc; " {value}:{loaded}")?,
+        MapReply::Compared(same) => format!(in alloc; " {same}")?,
+    };
+    text.push_str(&word)
+}
+
+fn push_pairs(alloc: Global, text: &mut String, pairs: &[(Name, u64)]) -> Result<(), AllocError> {
+    text.push_str(" [")?;
+    for (key, value) in pairs {
+        let key = str::from_utf8(key.as_bytes()).unwrap_or("not text");
+        let word = format!(in alloc; "{key}={value},")?;
+        text.push_str(&word)?;
+    }
+    text.push_str("]")
+}
 
 fn push_reply(alloc: Global, text: &mut String, reply: &Reply) -> Result<(), AllocError> {
     match reply {
-        Reply::Map(MapReply::Done) => text.push_str(" ok"),
-        Reply::Map(MapReply::Found(None)) => text.push_str(" -"),
-        Reply::Map(MapReply::Found(Some(value))) => {
-            let word = format!(in alloc; " {value}")?;
+        Reply::Map(reply) => push_map_reply(alloc, text, reply),
+        Reply::Pairs(pairs) => push_pairs(alloc, text, pairs.as_slice()),
+        Reply::Atomic(AtomicReply::Done) => text.push_str(" ok"),
+        Reply::Atomic(AtomicReply::Compared(same)) => {
+            let word = format!(in alloc; " {same}")?;
             text.push_str(&word)
+        }
+        Reply::Atomic(AtomicReply::Held(number)) => {
+            text.push_str(" ")?;
+            push_number(alloc, text, *number)
         }
     }
 }
 
 fn push_end(alloc: Global, text: &mut String, end: &End) -> Result<(), AllocError> {
-    let End::Pair { object, key, value } = end;
-    let key = str::from_utf8(key.as_bytes()).unwrap_or("not text");
-    let words = format!(in alloc; " {object}.{key}={value}")?;
-    text.push_str(&words)
+    match end {
+        End::Number { object, number } => {
+            let word = format!(in alloc; " {object}=")?;
+            text.push_str(&word)?;
+            push_number(alloc, text, *number)
+        }
+        End::Pair { object, key, value } => {
+            let key = str::from_utf8(key.as_bytes()).unwrap_or("not text");
+            let words = format!(in alloc; " {object}.{key}={value}")?;
+            text.push_str(&words)
+        }
+    }
 }
 
-// The replies of each worker, and what the maps hold at the end.
+// The replies of each worker, and what the objects hold at the end.
 fn told(alloc: Global, report: &Report) -> Result<String, AllocError> {
     let mut text = String::new(alloc);
     for replies in report.replies.as_slice() {
@@ -68,7 +113,7 @@ fn workers_take_turns_by_the_schedule_and_then_in_rounds(rt: HostRuntime) -> Res
 }
 
 #[test]
-fn ends_are_in_order_of_declaration_and_of_bytes(rt: HostRuntime) -> Result<(), Fail> {
+fn ends_are_atomics_and_then_maps_in_order_of_declaration(rt: HostRuntime) -> Result<(), Fail> {
     let table = [
         ("workers 1\nworker 0\n", " /"),
         ("workers 1\nmap t\nworker 0\nload t apple\n", " - /"),
@@ -76,9 +121,123 @@ fn ends_are_in_order_of_declaration_and_of_bytes(rt: HostRuntime) -> Result<(), 
             "workers 1\nmap t\nmap a\nworker 0\nstore a k 3\nstore t kb 2\nstore t k 1\n",
             " ok ok ok / 0.k=1 0.kb=2 1.k=3",
         ),
+        (
+            "workers 1\nmap t\nbool b\nmap a\nuint32 u\nworker 0\nstore t k 1\nstore a k 2\nstore u 3\n",
+            " ok ok ok / 1=false 3=3 0.k=1 2.k=2",
+        ),
     ];
     for (text, want) in table {
         let got = told_of(rt.alloc(), text)?;
+        assert_eq!(rt; got.as_deref(), Some(want), "{text}");
+    }
+    Ok(())
+}
+
+// Each call on the map that `before` makes, with its reply, and what a `range` shows then.
+#[test]
+fn each_call_of_a_map_at_an_absent_key_and_at_a_key_that_is_there(
+    rt: HostRuntime,
+) -> Result<(), Fail> {
+    let absent = "";
+    let named = "store t k 5\n";
+    let other = "store t k 0\n";
+    let table = [
+        (absent, "load t k", " - []"),
+        (named, "load t k", " 5 [k=5,]"),
+        (other, "load t k", " 0 [k=0,]"),
+        (absent, "store t k 5", " ok [k=5,]"),
+        (named, "store t k 5", " ok [k=5,]"),
+        (other, "store t k 5", " ok [k=5,]"),
+        (absent, "los t k 5", " 5:false [k=5,]"),
+        (named, "los t k 5", " 5:true [k=5,]"),
+        (other, "los t k 5", " 0:true [k=0,]"),
+        (absent, "lad t k", " - []"),
+        (named, "lad t k", " 5 []"),
+        (other, "lad t k", " 0 []"),
+        (absent, "delete t k", " ok []"),
+        (named, "delete t k", " ok []"),
+        (other, "delete t k", " ok []"),
+        (absent, "swap t k 5", " - [k=5,]"),
+        (named, "swap t k 5", " 5 [k=5,]"),
+        (other, "swap t k 5", " 0 [k=5,]"),
+        (absent, "cas t k 5 7", " false []"),
+        (absent, "cas t k 0 7", " false []"),
+        (named, "cas t k 5 7", " true [k=7,]"),
+        (other, "cas t k 5 7", " false [k=0,]"),
+        (absent, "cad t k 5", " false []"),
+        (absent, "cad t k 0", " false []"),
+        (named, "cad t k 5", " true []"),
+        (other, "cad t k 5", " false [k=0,]"),
+        (absent, "clear t", " ok []"),
+        (named, "clear t", " ok []"),
+        (other, "clear t", " ok []"),
+    ];
+    for (before, call, want) in table {
+        let calls = format!(in rt.alloc(); "worker 1\n{call}\nrange t\n")?;
+        let text = format!(in rt.alloc();
+            "workers 2\nmap u\nmap t\nworker 0\n{before}{calls}schedule 0 1 1\n"
+        )?;
+        let want = if before.is_empty() {
+            format!(in rt.alloc(); " /{want} /")?
+        } else {
+            format!(in rt.alloc(); " ok /{want} /")?
+        };
+        let got = told_of(rt.alloc(), &text)?.unwrap_or(String::new(rt.alloc()));
+        assert!(rt; got.starts_with(want.as_str()), "{text}");
+    }
+    Ok(())
+}
+
+#[test]
+fn a_range_shows_the_keys_of_its_map_in_byte_order(rt: HostRuntime) -> Result<(), Fail> {
+    let text =
+        "workers 2\nmap u\nmap t\nworker 0\nstore t b 2\nstore t a 1\nstore u z 9\nstore t ab 3\nrange t\nstore t a 4\nworker 1\nrange t\nrange u\nschedule 1 0 0 0 0 0 0 1\n";
+    let got = told_of(rt.alloc(), text)?;
+    assert_eq!(rt;
+        got.as_deref(),
+        Some(" ok ok ok ok [a=1,ab=3,b=2,] ok / [] [z=9,] / 0.z=9 1.a=4 1.ab=3 1.b=2")
+    );
+    Ok(())
+}
+
+// Each type at both ends of its range: the least number, the greatest, and what wraps there.
+#[test]
+fn atomics_wrap_at_the_ends_of_their_ranges(rt: HostRuntime) -> Result<(), Fail> {
+    let table = [
+        (
+            "int32",
+            "store a 2147483647\nadd a 1\nadd a -1\nswap a -2147483648\nadd a -1\nload a\n",
+            " ok -2147483648 2147483647 2147483647 2147483647 2147483647 / 0=2147483647",
+        ),
+        (
+            "int64",
+            "store a 9223372036854775807\nadd a 1\nswap a -9223372036854775808\nadd a -1\n",
+            " ok -9223372036854775808 -9223372036854775808 9223372036854775807 / 0=9223372036854775807",
+        ),
+        (
+            "uint32",
+            "store a 4294967295\nadd a 2\nadd a 4294967295\nand a 4294967295\nor a 4294967295\n",
+            " ok 1 0 0 0 / 0=4294967295",
+        ),
+        (
+            "uint64",
+            "store a 18446744073709551615\nadd a 2\nand a 3\nor a 8\nswap a 18446744073709551615\n",
+            " ok 1 1 1 9 / 0=18446744073709551615",
+        ),
+        (
+            "int32",
+            "or a -2147483648\nand a -1\ncas a -2147483648 5\ncas a -2147483648 6\n",
+            " 0 -2147483648 true false / 0=5",
+        ),
+        (
+            "bool",
+            "cas a false true\nswap a false\nload a\nstore a true\ncas a false false\n",
+            " true true false ok false / 0=true",
+        ),
+    ];
+    for (kind, calls, want) in table {
+        let text = format!(in rt.alloc(); "workers 1\n{kind} a\nworker 0\n{calls}")?;
+        let got = told_of(rt.alloc(), &text)?;
         assert_eq!(rt; got.as_deref(), Some(want), "{text}");
     }
     Ok(())

@@ -4,7 +4,8 @@ ghost use Rattle.std.specs.Option.{option_copied};
 ghost use Rattle.step_runner.specs.State.{IsStateOf, IsOn};
 ghost use Rattle.step_runner.specs.Turns.{next_call, after_turn_at, after_turn};
 
-use crate::map_turn::take_map_turn;
+use crate::atomic_turn::take_atomic_turn;
+use crate::map_turn::{take_map_turn, take_range_turn};
 use crate::state::State;
 use std::alloc::{AllocError, Global};
 use sync_model::Call;
@@ -32,6 +33,8 @@ fn take_turn_at(
 {
     match call {
         Call::Map { object, call } => take_map_turn(alloc, state, worker, *object, call),
+        Call::Range { object } => take_range_turn(alloc, state, worker, *object),
+        Call::Atomic { object, call } => take_atomic_turn(state, worker, *object, *call),
     }
 }
 

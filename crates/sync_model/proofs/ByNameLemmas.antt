@@ -1,17 +1,17 @@
 -- A sorted table of vectors of bytes is the finite map of its entries.
-use Rattle.std.proofs.Common.{◌≡◌, ℕ, Bool, true, false, ◌&&◌, cond, List, [], ◌∷◌, map, length, Option, Some, None, refl, sym, ap, ◌∙◌}
+use Rattle.std.proofs.Common.{◌≡◌, ℕ, Bool, true, false, ◌&&◌, cond, List, [], ◌∷◌, map, length, Some, None, refl, sym, ap, ◌∙◌}
 use Rattle.std.specs.Global.{Vec}
-use Rattle.std.specs.Ordering.{nat_cmp, eq_by_cmp, match_ordering}
+use Rattle.std.specs.Ordering.{nat_cmp, eq_by_cmp, is_eq, match_ordering}
 use Rattle.std.specs.declared.cmp.Ordering.{Ordering}
 use Rattle.std.specs.declared.cmp.Ordering.TheVariants.{Less, Equal, Greater}
 use Rattle.std.specs.Cmp.Lexicographic.{slice_cmp, nat_list_cmp_total}
-use Rattle.std.specs.Map.{lookup, keys_of}
+use Rattle.std.specs.Map.{lookup, keys_of, remove_entry}
 use Rattle.std.specs.List.{AllByRecursion}
 use Rattle.std.specs.List.Sorted.{IsStrictlySortedBy}
 use Rattle.std.proofs.lemmas.Map.Keys.{sorted_head, sorted_tail}
 use Rattle.std.proofs.lemmas.List.{length-map, nil_from_length}
 use Rattle.std.specs.BTreeMap.{is_at, insert_entry}
-use Rattle.std.specs.FinMap.{FinMap, get, insert, from_entries, find, put, same_map, len, len-entries, entries, entries-insert, empty, len-empty, get-insert, get-from_entries, slice_cmp-IsAntisymmetric, nat_cmp-IsAntisymmetric}
+use Rattle.std.specs.FinMap.{get, insert, remove, from_entries, find, put, same_map, len, len-entries, entries, entries-insert, empty, len-empty, get-insert, get-remove, get-from_entries, slice_cmp-IsAntisymmetric, nat_cmp-IsAntisymmetric}
 use Rattle.std.specs.FinMap.Entries.{find-put, by_order}
 use Rattle.sync_model.specs.Name.{is_name}
 use Rattle.sync_model.specs.ByName.{by_bytes, all_names}
@@ -23,6 +23,11 @@ and_left false b e = e
 and_right : (a b : Bool) → (a && b) ≡ true → b ≡ true
 and_right true b e = e
 and_right false b e = absurd cc
+
+equal_of : (r : Ordering) → is_eq r ≡ true → r ≡ Equal
+equal_of Less e = absurd cc
+equal_of Equal e = refl
+equal_of Greater e = absurd cc
 
 -- the order of vectors of bytes, by their items
 abbrev pub vec_cmp : Vec ℕ → Vec ℕ → Ordering
@@ -59,6 +64,44 @@ module _ {X : Type 0} where
       ∙ find-put (slice_cmp nat_cmp) nat_list_cmp_total q k.items v (pairs es)
       ∙ sym (get-insert nat_list_cmp_total (by_bytes es) k.items v q
       ∙ ap (cond (eq_by_cmp (slice_cmp nat_cmp) q k.items) (Some v)) (get-from_entries nat_list_cmp_total (pairs es) q)))
+
+  -- to remove an entry leaves what the finite map has at the other names
+  find-remove_entry : (es : List (Vec ℕ × X)) (key q : List ℕ) → eq_by_cmp (slice_cmp nat_cmp) q key ≡ false → find (slice_cmp nat_cmp) q (pairs (remove_entry (is_at (λ k. slice_cmp nat_cmp key k.items)) es)) ≡ find (slice_cmp nat_cmp) q (pairs es)
+  find-remove_entry [] key q apart = refl
+  find-remove_entry (e ∷ es) key q apart =
+      elim (slice_cmp nat_cmp key e.0.items) as (λ r. slice_cmp nat_cmp key e.0.items ≡ r → find (slice_cmp nat_cmp) q (pairs (cond (is_eq r) es (e ∷ remove_entry (is_at (λ k. slice_cmp nat_cmp key k.items)) es))) ≡ find (slice_cmp nat_cmp) q (pairs (e ∷ es))) [
+        | Equal ↦ λ is.
+            let same : key ≡ e.0.items = slice_cmp-IsAntisymmetric nat_cmp-IsAntisymmetric key e.0.items is in
+            let other : eq_by_cmp (slice_cmp nat_cmp) q e.0.items ≡ false = ap (eq_by_cmp (slice_cmp nat_cmp) q) (sym same) ∙ apart in
+            rw other refl
+        | Less ↦ λ is. ap (cond (eq_by_cmp (slice_cmp nat_cmp) q e.0.items) (Some e.1)) (find-remove_entry es key q apart)
+        | Greater ↦ λ is. ap (cond (eq_by_cmp (slice_cmp nat_cmp) q e.0.items) (Some e.1)) (find-remove_entry es key q apart)
+      ] refl
+
+  -- to remove an entry, so that none is left at its name, is to remove the name from the finite map
+  pub by_bytes-remove_entry : (es rest : List (Vec ℕ × X)) (key : List ℕ) → rest ≡ remove_entry (is_at (λ k. slice_cmp nat_cmp key k.items)) es → lookup (is_at (λ k. slice_cmp nat_cmp key k.items)) rest ≡ None → by_bytes rest ≡ remove (by_bytes es) key
+  by_bytes-remove_entry es rest key is none =
+      same_map nat_list_cmp_total (slice_cmp-IsAntisymmetric nat_cmp-IsAntisymmetric) _ _ (λ q.
+      elim (eq_by_cmp (slice_cmp nat_cmp) q key) as (λ b. eq_by_cmp (slice_cmp nat_cmp) q key ≡ b → get (by_bytes rest) q ≡ cond b None (get (by_bytes es) q)) [
+        | true ↦ λ same.
+            let name : q ≡ key = slice_cmp-IsAntisymmetric nat_cmp-IsAntisymmetric q key (equal_of (slice_cmp nat_cmp q key) same) in
+            ap (get (by_bytes rest)) name ∙ get-by_bytes rest key ∙ none
+        | false ↦ λ apart.
+            get-from_entries nat_list_cmp_total (pairs rest) q
+            ∙ ap (λ (x : List (Vec ℕ × X)). find (slice_cmp nat_cmp) q (pairs x)) is
+            ∙ find-remove_entry es key q apart
+            ∙ sym (get-from_entries nat_list_cmp_total (pairs es) q)
+      ] refl
+      ∙ sym (get-remove nat_list_cmp_total (by_bytes es) key q))
+
+  -- the names that are left
+  pub all_names-remove_entry : (test : Vec ℕ → Bool) (es : List (Vec ℕ × X)) → all_names es ≡ true → all_names (remove_entry test es) ≡ true
+  all_names-remove_entry test [] h = refl
+  all_names-remove_entry test (e ∷ es) h =
+      elim (test e.0) as (λ b. all_names (cond b es (e ∷ remove_entry test es)) ≡ true) [
+        | true ↦ and_right (is_name e.0.items) (all_names es) h
+        | false ↦ rw (and_left (is_name e.0.items) (all_names es) h) (all_names-remove_entry test es (and_right (is_name e.0.items) (all_names es) h))
+      ]
 
   names_of_match : (r : Ordering) (k : Vec ℕ) (v : X) (e : Vec ℕ × X) (es inserted : List (Vec ℕ × X)) → all_names (e ∷ es) ≡ true → is_name k.items ≡ true → all_names inserted ≡ true →
       all_names (match_ordering r ((k, v) ∷ e ∷ es) ((e.0, v) ∷ es) (e ∷ inserted)) ≡ true

@@ -1,1 +1,3 @@
 pub mod ByNameLemmas
+pub mod MapLemmas
+pub mod AtomicLemmas

@@ -2,7 +2,10 @@ pub mod ByName
 pub mod Front
 pub mod Journal
 pub mod Log
+pub mod MapLaws
 pub mod Misuse
 pub mod Name
 pub mod Note
+pub mod SequentialAtomic
 pub mod SequentialMap
+pub mod WordLayout

@@ -63,6 +63,21 @@ impl<X: Copy> ByName<X> {
         Ok(())
     }
 
+    /// Removes a name, and answers the value that it had. It takes no memory.
+    pub fn remove(&mut self, name: &[u8]) -> Option<X>
+        ensures value { result ≡ finite.get self.old name.now }
+        ensures rest { self.new ≡ finite.remove self.old name.now }
+    {
+        self.entries.remove(name)
+    }
+
+    /// Removes every name. It takes no memory.
+    pub fn clear(&mut self)
+        ensures { self.new ≡ finite.empty }
+    {
+        self.entries.clear();
+    }
+
     /// How many names have a value.
     pub fn len(&self) -> usize
         ensures len { result ≡ finite.len self.now }

@@ -1,12 +1,18 @@
 //! The calls that a script makes, by kind of object.
+use crate::atomic_object::{AtomicCall, AtomicReply};
 use crate::map_object::{MapCall, MapReply};
 use crate::name::Name;
+use crate::seq::Seq;
 
 /// A call on an object, which is named by its place among the workload's objects.
 #[derive(Debug, Drop)]
 pub enum Call {
     /// A call on a map.
     Map { object: usize, call: MapCall<Name> },
+    /// All keys of a map with their values: `Map.Range`.
+    Range { object: usize },
+    /// A call on an atomic.
+    Atomic { object: usize, call: AtomicCall },
 }
 
 /// What a call answers.
@@ -14,4 +20,8 @@ pub enum Call {
 pub enum Reply {
     /// The reply of a map.
     Map(MapReply),
+    /// The keys that a `Range` showed, each with its value.
+    Pairs(Seq<(Name, u64)>),
+    /// The reply of an atomic.
+    Atomic(AtomicReply),
 }

@@ -1,8 +1,9 @@
-//! The calls on shared maps, as a caller's own record has them. No value of these types is made.
+//! The calls on shared maps and atomics, as a caller's own record has them. No value of these types is made.
+use crate::atomic_object::{AtomicCall, AtomicReply};
 use crate::map_object::{MapCall, MapReply};
 use std::collections::LinkedList;
 
-/// A shared call: a call on a map, whose keys are numbers, or a step of a cursor over one.
+/// A shared call: a call on a map, whose keys are numbers, a step of a cursor over one, or a call on an atomic.
 #[derive(Debug, Drop)]
 pub enum SharedCall {
     /// A call on a map, named by its place among the maps.
@@ -11,6 +12,8 @@ pub enum SharedCall {
     Begin { map: u32 },
     /// One step of the cursor that the caller's shared call of this number began.
     Next { begin: u64 },
+    /// A call on an atomic, named by its place among the atomics.
+    Atomic { atomic: u32, call: AtomicCall },
 }
 
 /// What a shared call answers.
@@ -22,6 +25,8 @@ pub enum SharedReply {
     Begun,
     /// The next key with its value, or `None` where there is none left.
     Shown(Option<(u32, u64)>),
+    /// The reply of an atomic.
+    Atomic(AtomicReply),
 }
 
 /// One shared call of a caller.

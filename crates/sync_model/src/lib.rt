@@ -4,11 +4,13 @@
 #![tactic(auto)]
 
 pub mod answer;
+pub mod atomic_object;
 pub mod by_name;
 pub mod call;
 pub mod front_note;
 pub mod item;
 pub mod journal;
+pub mod laws;
 pub mod machine;
 pub mod map_object;
 pub mod misuse;
@@ -17,6 +19,7 @@ pub mod note;
 pub mod seq;
 
 pub use answer::Answer;
+pub use atomic_object::{AtomicCall, AtomicKind, AtomicReply, Number};
 pub use by_name::ByName;
 pub use call::{Call, Reply};
 pub use front_note::{FrontNote, MAX_CALLERS};
@@ -28,3 +31,6 @@ pub use misuse::Misuse;
 pub use name::Name;
 pub use note::Note;
 pub use seq::Seq;
+
+#[cfg(test)]
+mod tests;

@@ -1,8 +1,11 @@
 pub mod Places
 pub mod LogLemmas
 pub mod GroupLemmas
+pub mod GroupStandingLemmas
+pub mod NotifyAnswers
 pub mod NotifyLemmas
 pub mod OnceLemmas
+pub mod OnceStandingLemmas
 pub mod PoolCounts
 pub mod PoolMaps
 pub mod PoolRoom

@@ -13,7 +13,7 @@ use Rattle.wait_cores.specs.declared.pool_event.PoolReply.TheVariants.{Kept, Dro
 use Rattle.sync_model.specs.Log.{entry, after, Follows}
 use Rattle.wait_cores.specs.PoolParts.{PoolPart, empty, emptied, put_in, put_beside, take_own, take_tail, take_victim, head_of, tail_of, private_or}
 use Rattle.wait_cores.specs.PoolMachine.{PoolState, start, next, made, with_primary, with_victims, callers_of}
-use Rattle.wait_cores.specs.PoolLaws.{Log, is_full}
+use Rattle.wait_cores.specs.PoolLaws.{Log, is_full, answers, answers_put, answers_look, NamesPart}
 use Rattle.wait_cores.proofs.Places.{get-set_either, get-replicate}
 use Rattle.wait_cores.proofs.LogLemmas.{follows_rest}
 
@@ -189,3 +189,65 @@ module _ {X : Type 0} where
             ∙ put_at_part (nat_lt caller (length s.primary)) s caller item (slice_get s.primary caller) there.0 (is_within caller (length s.primary) (omega arith)) there.1
             ∙ put_reply room there.0.private there.0 item refl (is.primary caller there.0 there.1),
       )
+
+  put_answer : (private : Option X) (part : PoolPart X) (item : X) → answers_put (put_beside private part item).1 ≡ true
+  put_answer None part item = refl
+  put_answer (Some held) part item = by_test (nat_lt (length part.shared) part.room) where
+    by_test : (b : Bool) → answers_put (cond {A = PoolPart X × PoolReply X} b (record part { shared = item ∷ part.shared }, Kept) (part, Dropped item)).1 ≡ true
+    by_test true = refl
+    by_test false = refl
+
+  head_answer : (shared : List X) (part : PoolPart X) → answers_look (head_of shared part).1 ≡ true
+  head_answer [] part = refl
+  head_answer (item ∷ rest) part = refl
+
+  tail_answer : (tail : Option X) (part : PoolPart X) → answers_look (tail_of tail part).1 ≡ true
+  tail_answer (Some item) part = refl
+  tail_answer None part = refl
+
+  take_tail_answer : (part : PoolPart X) → answers_look (take_tail part).1 ≡ true
+  take_tail_answer part = tail_answer (slice_get part.shared (length part.shared - 1)) part
+
+  private_answer : (private : Option X) (other : PoolPart X → PoolPart X × PoolReply X) (part : PoolPart X) → answers_look (other part).1 ≡ true → answers_look (private_or private other part).1 ≡ true
+  private_answer (Some item) other part is = refl
+  private_answer None other part is = is
+
+  primary_answer : (test : PoolReply X → Bool) (change : PoolPart X → PoolPart X × PoolReply X) (s : PoolState X) (at : ℕ) (o : Option (PoolPart X)) (part : PoolPart X)
+      → o ≡ Some part → ((p : PoolPart X) → test (change p).1 ≡ true) → test (with_primary (option_map change o) s at).1 ≡ true
+  primary_answer test change s at (Some found) part is each = each found
+  primary_answer test change s at None part is each = cc
+
+  victims_answer : (test : PoolReply X → Bool) (change : PoolPart X → PoolPart X × PoolReply X) (s : PoolState X) (at : ℕ) (o : Option (PoolPart X)) (part : PoolPart X)
+      → o ≡ Some part → ((p : PoolPart X) → test (change p).1 ≡ true) → test (with_victims (option_map change o) s at).1 ≡ true
+  victims_answer test change s at (Some found) part is each = each found
+  victims_answer test change s at None part is each = cc
+
+  victim_answer : (b : Bool) (p : PoolPart X) → answers_look ((cond {A = PoolPart X → PoolPart X × PoolReply X} b take_victim take_tail) p).1 ≡ true
+  victim_answer true p = private_answer p.private take_tail p (take_tail_answer p)
+  victim_answer false p = take_tail_answer p
+
+  made_answer : (callers room : ℕ) (s : PoolState X) (c : ℕ) (event : PoolEvent X) → IsRoomy callers room s → c < callers → NamesPart callers event → answers event (made s c event).1 ≡ true
+  made_answer callers room s c (Put item) is below names =
+      let parts = is.primary_parts in let there = part_there s.primary c (omega arith) in
+      primary_answer answers_put (λ p. put_in p item) s c (slice_get s.primary c) there.0 there.1 (λ p. put_answer p.private p item)
+  made_answer callers room s c LookOwn is below names =
+      let parts = is.primary_parts in let there = part_there s.primary c (omega arith) in
+      primary_answer answers_look take_own s c (slice_get s.primary c) there.0 there.1 (λ p. private_answer p.private (λ q. head_of q.shared q) p (head_answer p.shared p))
+  made_answer callers room s c (LookOther part) is below names =
+      let parts = is.primary_parts in let there = part_there s.primary part (omega arith) in
+      primary_answer answers_look take_tail s part (slice_get s.primary part) there.0 there.1 take_tail_answer
+  made_answer callers room s c (LookVictim part) is below names =
+      let parts = is.victim_parts in let there = part_there s.victims part (omega arith) in
+      victims_answer answers_look (cond {A = PoolPart X → PoolPart X × PoolReply X} (part == c) take_victim take_tail) s part (slice_get s.victims part) there.0 there.1 (victim_answer (part == c))
+  made_answer callers room s c Sweep is below names = refl
+
+  answer_if : (b : Bool) (s : PoolState X) (c : ℕ) (event : PoolEvent X) → b ≡ true → answers event (made s c event).1 ≡ true → answers event (cond b (made s c event) (s, Still)).1 ≡ true
+  answer_if true s c event below is = is
+  answer_if false s c event below is = cc
+
+  pub knows-answers : (callers room : ℕ) (log : Log X) (c : ℕ) (event : PoolEvent X) → c < callers → NamesPart callers event → answers event (next (after next (start callers room) log) c event).1 ≡ true
+  knows-answers callers room log c event below names =
+      let s : PoolState X = after next (start callers room) log in
+      let is : IsRoomy callers room s = room_after callers room (start callers room) log (start_roomy callers room) in
+      let parts : length s.primary ≡ callers = is.primary_parts in
+      answer_if (nat_lt c (callers_of s)) s c event (is_within c (length s.primary) (omega arith)) (made_answer callers room s c event is below names)

@@ -1,9 +1,12 @@
+pub mod Edges
 pub mod GroupLaws
 pub mod GroupMachine
+pub mod GroupStanding
 pub mod NotifyLaws
 pub mod NotifyMachine
 pub mod OnceLaws
 pub mod OnceMachine
+pub mod OnceStanding
 pub mod PoolLaws
 pub mod PoolMachine
 pub mod PoolParts

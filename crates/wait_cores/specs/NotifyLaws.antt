@@ -65,3 +65,10 @@ pending_of state = state.next_ticket - state.notified
 -- a ticket that so many others stand before is notified in these events: by a broadcast, or when each before it and then it had its signal
 abbrev pub NotifiesAfter : ℕ → Log → Type 0
 NotifiesAfter pending log = IsTrue (list_any is_broadcast log) ⊎ (pending < count_by is_signal log)
+
+-- each event of a caller of the cond is made, but a leaving, which is where the caller's ticket is notified
+abbrev pub answers : NotifyEvent → NotifyReply → Bool
+answers Ticket reply = is_done reply
+answers Signal reply = is_done reply
+answers Broadcast reply = is_done reply
+answers Leave reply = true

@@ -1,11 +1,11 @@
 -- What is said of the logs of a pool.
-use Rattle.std.specs.Prelude.{ℕ, zero, suc, ◌≡◌, ◌≤◌, ◌+◌, ◌==◌, ◌&&◌, Bool, true, false, if◌then◌else◌, List, [], ◌∷◌, length, take, slice_get, Option, Some, None, is_some, option_map, count_by}
+use Rattle.std.specs.Prelude.{ℕ, zero, suc, ◌≡◌, ◌<◌, ◌≤◌, ◌+◌, ◌==◌, ◌&&◌, Bool, true, false, if◌then◌else◌, List, [], ◌∷◌, length, take, slice_get, Option, Some, None, is_some, option_map, count_by}
 use Rattle.std.specs.List.{sum_by}
 use Rattle.std.specs.Option.{option_and_then}
 use Rattle.wait_cores.specs.declared.pool_event.PoolEvent.{PoolEvent}
-use Rattle.wait_cores.specs.declared.pool_event.PoolEvent.TheVariants.{Put}
+use Rattle.wait_cores.specs.declared.pool_event.PoolEvent.TheVariants.{Put, LookOwn, LookOther, LookVictim, Sweep}
 use Rattle.wait_cores.specs.declared.pool_event.PoolReply.{PoolReply}
-use Rattle.wait_cores.specs.declared.pool_event.PoolReply.TheVariants.{Kept, Item, Swept}
+use Rattle.wait_cores.specs.declared.pool_event.PoolReply.TheVariants.{Kept, Dropped, Item, Nothing, Swept, Still}
 use Rattle.sync_model.specs.Log.{Entry, entry, after, Follows}
 use Rattle.wait_cores.specs.PoolParts.{PoolPart}
 use Rattle.wait_cores.specs.PoolMachine.{PoolState, start, next}
@@ -108,3 +108,35 @@ module _ {X : Type 0} where
   -- the private item of a part
   abbrev pub private_at : List (PoolPart X) → ℕ → Option X
   private_at parts part = option_and_then (λ (p : PoolPart X). p.private) (slice_get parts part)
+
+  -- an event that names a part names one of so many
+  abbrev pub NamesPart : ℕ → PoolEvent X → Type 0
+  NamesPart parts (Put item) = Unit {0}
+  NamesPart parts LookOwn = Unit {0}
+  NamesPart parts (LookOther part) = part < parts
+  NamesPart parts (LookVictim part) = part < parts
+  NamesPart parts Sweep = Unit {0}
+
+  abbrev pub answers_put : PoolReply X → Bool
+  answers_put Kept = true
+  answers_put (Dropped item) = true
+  answers_put (Item item) = false
+  answers_put Nothing = false
+  answers_put Swept = false
+  answers_put Still = false
+
+  abbrev pub answers_look : PoolReply X → Bool
+  answers_look (Item item) = true
+  answers_look Nothing = true
+  answers_look Kept = false
+  answers_look (Dropped item) = false
+  answers_look Swept = false
+  answers_look Still = false
+
+  -- what an event of a caller of the pool, about one of its parts, may be answered
+  abbrev pub answers : PoolEvent X → PoolReply X → Bool
+  answers (Put item) reply = answers_put reply
+  answers LookOwn reply = answers_look reply
+  answers (LookOther part) reply = answers_look reply
+  answers (LookVictim part) reply = answers_look reply
+  answers Sweep reply = is_swept reply

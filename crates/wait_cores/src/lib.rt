@@ -4,6 +4,7 @@
 
 pub mod group;
 pub mod laws;
+pub mod machines;
 pub mod notify;
 pub mod once;
 mod part;

@@ -1,6 +1,6 @@
 -- The canonical lines of a readable workload follow one another.
 use Rattle.std.proofs.Common.{◌≡◌, ℕ, zero, suc, ◌+◌, ◌*◌, ◌<◌, ◌≤◌, max, Bool, true, false, cond, eqb, ◌&&◌, ◌||◌, not, List, [], ◌∷◌, ◌++◌, map, length, get_or, set, take, drop, replicate, Option, Some, None, refl, sym, ap, subst, ◌∙◌, append_assoc, arith}
-use Rattle.std.specs.Prelude.{nat_lt, nat_le, is_some, slice_get, fold}
+use Rattle.std.specs.Prelude.{nat_lt, nat_le, is_some, slice_get, count_by}
 use Rattle.std.specs.List.{list_all, list_any, flat_map, onto_first}
 use Rattle.std.proofs.Math.Seq.{set-append_seam, get_or-append_seam}
 use Rattle.std.proofs.lemmas.Grind.{flat_map-append}
@@ -12,7 +12,8 @@ use Rattle.std.proofs.lemmas.List.Folds.{list_any-append, list_all-append}
 use Rattle.std.proofs.lemmas.Slice.Eq.{bytes_eq-Decides}
 use Rattle.sync_model.specs.Name.{is_name}
 use Rattle.sync_model.specs.declared.call.Call.{Call}
-use Rattle.workload.specs.declared.limits.TheConstants.{MAX_CALLS, MAX_KEYS, MAX_TURNS, MAX_MAPS}
+use Rattle.sync_model.specs.declared.atomic_object.AtomicKind.TheVariants as types
+use Rattle.workload.specs.declared.limits.TheConstants.{MAX_CALLS, MAX_KEYS, MAX_RANGES, MAX_TURNS}
 use Rattle.workload.specs.declared.object.Declared.{Declared}
 use Rattle.workload.specs.declared.object.ObjectKind.{ObjectKind}
 use Rattle.workload.specs.declared.object.ObjectKind.TheVariants as kinds
@@ -20,7 +21,7 @@ use Rattle.workload.specs.declared.object.ObjectLine.{ObjectLine}
 use Rattle.workload.specs.declared.line.Line.TheVariants as lines
 use Rattle.workload.specs.declared.turn.Turn.{Turn}
 use Rattle.workload.specs.Plan.{Plan, object_of, has_call, is_on}
-use Rattle.workload.specs.Draft.{Draft, started, may_follow, declared_from, count_of, count_together, limit_of, names_object, is_call, is_item, keys_of, all_keys, distinct_count, key_count, call_count}
+use Rattle.workload.specs.Draft.{Draft, started, may_follow, declared_from, count_of, count_together, limit_of, names_object, is_call, is_item, keys_of, all_keys, distinct_count, key_count, call_count, is_range, range_count}
 use Rattle.workload.specs.Canonical.{name_of, call_line, script_lines, eights, canonical_lines}
 use Rattle.workload.specs.Readable.{may_declare, IsReadable}
 use Rattle.workload.proofs.Passing.{both, pair, not_true}
@@ -44,26 +45,63 @@ objects_follow (o ∷ os) d h =
           (objects_follow os next parts.1),
     )
 
-is_map : (k : ObjectKind) → count_together kinds.Map k ≡ true
-is_map kinds.Map = refl
+-- how many objects count with a kind: those of one more object too
+counts_more : (k : ObjectKind) (others : List ObjectLine) (o : ObjectLine) → count_of k (others ++ o ∷ []) ≡ count_of k others + cond (count_together k o.kind) 1 0
+counts_more k others o = omega (arith, sum_by-append (λ (x : ObjectLine). cond (count_together k x.kind) 1 0) others (o ∷ []))
 
-map_count : (os : List ObjectLine) (n : ℕ) → fold (λ a x. a + cond (count_together kinds.Map x.kind) 1 0) n os ≡ n + length os
-map_count [] n = omega arith
-map_count (o ∷ os) n = map_count os (n + cond (count_together kinds.Map o.kind) 1 0) ∙ rw (is_map o.kind) (omega arith)
+-- kinds that count together have one limit, and one count
+same_limit : (k l : ObjectKind) (os : List ObjectLine) → count_together k l ≡ true → (count_of k os ≡ count_of l os) × (limit_of k ≡ limit_of l)
+same_limit kinds.Map kinds.Map os e = (refl, refl)
+same_limit kinds.Map (kinds.Atomic l) os e = absurd cc
+same_limit (kinds.Atomic k) kinds.Map os e = absurd cc
+same_limit (kinds.Atomic k) (kinds.Atomic l) os e = (refl, refl)
 
-few_others : (k : ObjectKind) (others : List ObjectLine) → nat_lt (count_of k others) (limit_of k) ≡ true → length others < MAX_MAPS
-few_others kinds.Map others h = omega (arith, ltb-true (count_of kinds.Map others) MAX_MAPS h, map_count others 0)
+counts_one : (b : Bool) → b ≡ true → ◌≡◌ {A = ℕ} (cond b 1 0) 1
+counts_one true e = refl
+counts_one false e = absurd cc
 
--- there are at most 16 objects
-few_objects : (os others : List ObjectLine) → length others ≤ MAX_MAPS → may_declare others os ≡ true → length others + length os ≤ MAX_MAPS
-few_objects [] others few h = omega arith
-few_objects (o ∷ os) others few h =
+counts_none : (b : Bool) → b ≡ false → ◌≡◌ {A = ℕ} (cond b 1 0) 0
+counts_none true e = absurd cc
+counts_none false e = refl
+
+-- one more object within its limit keeps each kind within its own
+limit_kept : (k : ObjectKind) (others : List ObjectLine) (o : ObjectLine) → nat_lt (count_of o.kind others) (limit_of o.kind) ≡ true → count_of k others ≤ limit_of k → count_of k (others ++ o ∷ []) ≤ limit_of k
+limit_kept k others o room within =
+    elim (count_together k o.kind) as (λ b. count_together k o.kind ≡ b → count_of k (others ++ o ∷ []) ≤ limit_of k) [
+      | true ↦ λ t.
+          let same = same_limit k o.kind others t in
+          let one : ◌≡◌ {A = ℕ} (cond (count_together k o.kind) 1 0) 1 = counts_one (count_together k o.kind) t in
+          omega (arith, counts_more k others o, one, same.0, same.1, ltb-true (count_of o.kind others) (limit_of o.kind) room)
+      | false ↦ λ f.
+          let none : ◌≡◌ {A = ℕ} (cond (count_together k o.kind) 1 0) 0 = counts_none (count_together k o.kind) f in
+          omega (arith, counts_more k others o, none, within)
+    ] refl
+
+-- each kind of object keeps its limit
+limits_kept : (k : ObjectKind) (os others : List ObjectLine) → count_of k others ≤ limit_of k → may_declare others os ≡ true → count_of k (others ++ os) ≤ limit_of k
+limits_kept k [] others within h = subst (λ (x : List ObjectLine). count_of k x ≤ limit_of k) (sym (append-nil others)) within
+limits_kept k (o ∷ os) others within h =
     let room = nat_lt (count_of o.kind others) (limit_of o.kind) in
     let new = not (is_some (declared_from 0 o.name others)) in
     let parts = both (is_name o.name && (new && room)) (may_declare (others ++ o ∷ []) os) h in
-    let less = few_others o.kind others (both new room (both (is_name o.name) (new && room) parts.0).1).1 in
-    let rest = few_objects os (others ++ o ∷ []) (omega (arith, length-append others (o ∷ []))) parts.1 in
-    omega (arith, rest, length-append others (o ∷ []))
+    let fits = (both new room (both (is_name o.name) (new && room) parts.0).1).1 in
+    subst (λ (x : List ObjectLine). count_of k x ≤ limit_of k) (append_assoc others (o ∷ []) os) (limits_kept k os (others ++ o ∷ []) (limit_kept k others o fits within) parts.1)
+
+-- each object counts with one kind
+kinds_counted : (os : List ObjectLine) → length os ≡ count_of kinds.Map os + count_of (kinds.Atomic types.Bool) os
+kinds_counted [] = refl
+kinds_counted (o ∷ os) =
+    let maps = sum_by-append (λ (x : ObjectLine). cond (count_together kinds.Map x.kind) 1 0) (o ∷ []) os in
+    let atomics = sum_by-append (λ (x : ObjectLine). cond (count_together (kinds.Atomic types.Bool) x.kind) 1 0) (o ∷ []) os in
+    omega (arith, maps, atomics, one_kind o.kind, kinds_counted os)
+  where
+    one_kind : (k : ObjectKind) → ◌≡◌ {A = ℕ} (cond (count_together kinds.Map k) 1 0 + cond (count_together (kinds.Atomic types.Bool) k) 1 0) 1
+    one_kind kinds.Map = refl
+    one_kind (kinds.Atomic k) = refl
+
+-- there are at most 16 maps and 64 atomics
+few_objects : (os : List ObjectLine) → may_declare [] os ≡ true → length os ≤ 80
+few_objects os h = omega (arith, kinds_counted os, limits_kept kinds.Map os [] (omega arith) h, limits_kept (kinds.Atomic types.Bool) os [] (omega arith) h)
 
 -- ---- names
 
@@ -168,6 +206,17 @@ keys_fit done front rest c more =
 calls-middle : (done : List (List Call)) (script : List Call) (more : List (List Call)) → call_count (done ++ (script ∷ more)) ≡ call_count done + (length script + call_count more)
 calls-middle done script more = omega (arith, sum_by-append length done (script ∷ more), sum_by-append length (script ∷ []) more)
 
+ranges-middle : (done : List (List Call)) (script : List Call) (more : List (List Call)) → range_count (done ++ (script ∷ more)) ≡ range_count done + (count_by is_range script + range_count more)
+ranges-middle done script more =
+    let ranges : List Call → ℕ = λ calls. count_by is_range calls in
+    omega (arith, sum_by-append ranges done (script ∷ more), sum_by-append ranges (script ∷ []) more)
+
+-- one more call keeps the limit on `range` calls where all calls do
+ranges_fit : (done : List (List Call)) (front rest : List Call) (c : Call) (more : List (List Call)) → range_count (done ++ (front ∷ more)) + count_by is_range (c ∷ []) ≤ range_count (done ++ ((front ++ (c ∷ rest)) ∷ more))
+ranges_fit done front rest c more =
+    let one : Call → ℕ = λ call. cond (is_range call) 1 0 in
+    omega (arith, ranges-middle done front more, ranges-middle done (front ++ (c ∷ rest)) more, sum_by-append one front (c ∷ rest), sum_by-append one (c ∷ []) rest)
+
 -- a call on an object that is there is named by its name
 call_named : (objects : List ObjectLine) (c : Call) → may_declare [] objects ≡ true → is_on (slice_get objects (object_of c)) c ≡ true
     → (is_name (name_of (slice_get objects (object_of c))) ≡ true) × (names_object (declared_from 0 (name_of (slice_get objects (object_of c))) objects) c ≡ true)
@@ -189,6 +238,7 @@ record CallsFit (objects : List ObjectLine) (done : List (List Call)) (front res
   fits : list_all is_call rest ≡ true
   room : call_count (done ++ ((front ++ rest) ∷ more)) ≤ MAX_CALLS
   keys : distinct_count (all_keys (done ++ ((front ++ rest) ∷ more))) ≤ MAX_KEYS
+  ranges : range_count (done ++ ((front ++ rest) ∷ more)) ≤ MAX_RANGES
 
 calls_follow : (workers : ℕ) (objects : List ObjectLine) (schedule : List Turn) (done : List (List Call)) (rest front : List Call) (more : List (List Call)) → may_declare [] objects ≡ true → CallsFit objects done front rest more
     → FollowOn (at workers objects schedule (done ++ (front ∷ more)) (Some (length done))) (map (call_line objects) rest) (at workers objects schedule (done ++ ((front ++ rest) ∷ more)) (Some (length done)))
@@ -203,7 +253,9 @@ calls_follow workers objects schedule done (c ∷ rest) front more new fit =
     lt-ltb (call_count (done ++ (front ∷ more))) MAX_CALLS (omega (arith, fit.room, calls-middle done front more, calls-middle done (front ++ (c ∷ rest)) more, length-append front (c ∷ rest))) in
     let keys : nat_le (key_count (done ++ (front ∷ more)) (keys_of c)) MAX_KEYS ≡ true =
     le-leb (key_count (done ++ (front ∷ more)) (keys_of c)) MAX_KEYS (omega (arith, fit.keys, keys_fit done front rest c more)) in
-    let follows : may_follow d (call_line objects c) ≡ true = rw (named.0, named.1, fits.0, room, keys) refl in
+    let ranges : nat_le (range_count (done ++ (front ∷ more)) + count_by is_range (c ∷ [])) MAX_RANGES ≡ true =
+    le-leb (range_count (done ++ (front ∷ more)) + count_by is_range (c ∷ [])) MAX_RANGES (omega (arith, fit.ranges, ranges_fit done front rest c more)) in
+    let follows : may_follow d (call_line objects c) ≡ true = rw (named.0, named.1, fits.0, room, keys, ranges) refl in
     let moved : front ++ (c ∷ rest) ≡ (front ++ c ∷ []) ++ rest = sym (append_assoc front (c ∷ []) rest) in
     let put : set (done ++ (front ∷ more)) (length done) (get_or (done ++ (front ∷ more)) (length done) [] ++ c ∷ []) ≡ done ++ ((front ++ c ∷ []) ∷ more) =
     ap (λ (f : List Call). set (done ++ (front ∷ more)) (length done) (f ++ c ∷ [])) (get_or-append_seam done front more []) ∙ set-append_seam done front more (front ++ c ∷ []) in
@@ -213,6 +265,7 @@ calls_follow workers objects schedule done (c ∷ rest) front more new fit =
       fits = fits.1;
       room = subst (λ (f : List Call). call_count (done ++ (f ∷ more)) ≤ MAX_CALLS) moved fit.room;
       keys = subst (λ (f : List Call). distinct_count (all_keys (done ++ (f ∷ more))) ≤ MAX_KEYS) moved fit.keys;
+      ranges = subst (λ (f : List Call). range_count (done ++ (f ∷ more)) ≤ MAX_RANGES) moved fit.ranges;
     }) in (
       follows,
       tt,
@@ -224,6 +277,10 @@ empty_keys : (n : ℕ) → all_keys (replicate n []) ≡ []
 empty_keys zero = refl
 empty_keys (suc n) = empty_keys n
 
+empty_ranges : (n : ℕ) → range_count (replicate n []) ≡ 0
+empty_ranges zero = refl
+empty_ranges (suc n) = empty_ranges n
+
 empty_calls : (n : ℕ) → call_count (replicate n []) ≡ 0
 empty_calls zero = refl
 empty_calls (suc n) = empty_calls n
@@ -234,6 +291,7 @@ record ScriptsFit (objects : List ObjectLine) (done rest : List (List Call)) : T
   fits : list_all (list_all is_call) rest ≡ true
   room : call_count (done ++ rest) ≤ MAX_CALLS
   keys : distinct_count (all_keys (done ++ rest)) ≤ MAX_KEYS
+  ranges : range_count (done ++ rest) ≤ MAX_RANGES
 
 scripts_follow : (workers : ℕ) (objects : List ObjectLine) (schedule : List Turn) (rest done : List (List Call)) (worker : Option ℕ) → may_declare [] objects ≡ true → length done + length rest ≡ workers → ScriptsFit objects done rest
     → (last : Option ℕ) × FollowOn (at workers objects schedule (done ++ replicate (length rest) []) worker) (script_lines objects (length done) rest) (at workers objects schedule (done ++ rest) last)
@@ -253,13 +311,15 @@ scripts_follow workers objects schedule (s ∷ rest) done worker new count fit =
       ap distinct_count (all_keys-middle done s rest ∙ sym (append_assoc (all_keys done) (flat_map keys_of s) (all_keys rest))),
       distinct_front (all_keys done ++ flat_map keys_of s) (all_keys rest),
     ) in
-    let calls = calls_follow workers objects schedule done s [] more new (record { on = on.0; fits = fits.0; room = room; keys = some_keys }) in
+    let some_ranges : range_count (done ++ (s ∷ more)) ≤ MAX_RANGES = omega (arith, fit.ranges, ranges-middle done s more, ranges-middle done s rest, empty_ranges (length rest)) in
+    let calls = calls_follow workers objects schedule done s [] more new (record { on = on.0; fits = fits.0; room = room; keys = some_keys; ranges = some_ranges }) in
     let inside : nat_lt (length done) workers ≡ true = lt-ltb (length done) workers (omega arith) in
     let behind = scripts_follow workers objects schedule rest (done ++ s ∷ []) (Some (length done)) new (omega (arith, length-append done (s ∷ []))) (record {
       on = on.1;
       fits = fits.1;
       room = subst (λ (x : List (List Call)). call_count x ≤ MAX_CALLS) moved fit.room;
       keys = subst (λ (x : List (List Call)). distinct_count (all_keys x) ≤ MAX_KEYS) moved fit.keys;
+      ranges = subst (λ (x : List (List Call)). range_count x ≤ MAX_RANGES) moved fit.ranges;
     }) in
     let here : FollowOn (at workers objects schedule (done ++ ([] ∷ more)) worker) (lines.Worker (length done) ∷ map (call_line objects) s) (at workers objects schedule ((done ++ s ∷ []) ++ more) (Some (length done))) =
     (inside, tt, follow_to (map (call_line objects) s) _ _ _ (ap (λ (x : List (List Call)). at workers objects schedule x (Some (length done))) (sym (append_assoc done (s ∷ []) more))) calls) in
@@ -314,7 +374,7 @@ pub canonical_follows : (plan : Plan) → IsReadable plan → (e : Draft) × Fol
 canonical_follows plan h =
     let v = valid_parts plan h.valid in
     let first = objects_follow plan.objects (started plan.workers) h.objects in
-    let second = scripts_follow plan.workers plan.objects [] plan.scripts [] None h.objects (omega (arith, v.scripts)) (record { on = v.calls; fits = h.calls; room = h.call_room; keys = h.key_room }) in
+    let second = scripts_follow plan.workers plan.objects [] plan.scripts [] None h.objects (omega (arith, v.scripts)) (record { on = v.calls; fits = h.calls; room = h.call_room; keys = h.key_room; ranges = h.range_room }) in
     let third = schedule_follows (length plan.schedule) plan.workers plan.objects plan.scripts second.0 plan.schedule [] (omega arith) h.items (omega (arith, h.turn_room)) in
     let start : at plan.workers plan.objects [] (replicate plan.workers []) None ≡ at plan.workers plan.objects [] (replicate (length plan.scripts) []) None = ap (λ (n : ℕ). at plan.workers plan.objects [] (replicate n []) None) (sym v.scripts) in
     let objects = map (λ o. lines.Object o) plan.objects in
@@ -326,7 +386,7 @@ canonical_follows plan h =
     )
 
 -- and are not many
-pub canonical_count : (plan : Plan) → IsReadable plan → length (canonical_lines plan) ≤ 32548
+pub canonical_count : (plan : Plan) → IsReadable plan → length (canonical_lines plan) ≤ 32612
 canonical_count plan h =
     let v = valid_parts plan h.valid in
     omega (
@@ -335,7 +395,7 @@ canonical_count plan h =
       h.few_workers,
       h.call_room,
       h.turn_room,
-      few_objects plan.objects [] (omega arith) h.objects,
+      few_objects plan.objects h.objects,
       length-append (map (λ o. lines.Object o) plan.objects) (script_lines plan.objects 0 plan.scripts ++ map (λ x. lines.Schedule x) (eights 7 plan.schedule)),
       length-append (script_lines plan.objects 0 plan.scripts) (map (λ x. lines.Schedule x) (eights 7 plan.schedule)),
       length-map plan.objects (λ o. lines.Object o),

@@ -15,7 +15,7 @@ use Rattle.workload.specs.declared.reason.Reason.{Reason}
 use Rattle.workload.specs.declared.turn.Turn.{Turn}
 use Rattle.workload.specs.Words.{turn_word}
 use Rattle.workload.specs.Draft.{Draft, declared}
-use Rattle.workload.specs.Checks.{Check, first_failing, form_checks, limit_checks, form_of, call_checks, line_checks, item_checks}
+use Rattle.workload.specs.Checks.{Check, first_failing, form_checks, limit_checks, form_of, ranges_in, call_checks, line_checks, item_checks}
 use Rattle.workload.specs.LineResult.{IsFault, form_words, PassesWith}
 
 -- checks behind one that fails don't count
@@ -36,27 +36,42 @@ passes_first (x ∷ xs) ys e =
       | false ↦ λ h. absurd cc
     ] e
 
-pub form_fails : (d : Draft) (form : Option (List Operand)) (words : List (List ℕ)) (r : Reason) → first_failing (form_words form words) ≡ Some r → first_failing (form_checks d form words) ≡ Some r
-form_fails d None words r e = e
-form_fails d (Some form) words r e = fails_first (form_words (Some form) words) _ r e
+pub form_fails : (d : Draft) (verb : Verb) (form : Option (List Operand)) (words : List (List ℕ)) (r : Reason) → first_failing (form_words form words) ≡ Some r → first_failing (form_checks d verb form words) ≡ Some r
+form_fails d verb None words r e = e
+form_fails d verb (Some form) words r e = fails_first (form_words (Some form) words) _ r e
 
-pub form_passes : (d : Draft) (form : Option (List Operand)) (words keys : List (List ℕ)) → PassesWith form words keys → first_failing (form_checks d form words) ≡ first_failing (limit_checks d keys)
-form_passes d None words keys h = absurd h
-form_passes d (Some form) words keys h = passes_first (form_words (Some form) words) _ h.1 ∙ ap (λ (ks : List (List ℕ)). first_failing (limit_checks d ks)) h.0
+pub form_passes : (d : Draft) (verb : Verb) (form : Option (List Operand)) (words keys : List (List ℕ)) → PassesWith form words keys → first_failing (form_checks d verb form words) ≡ first_failing (limit_checks d keys (ranges_in verb))
+form_passes d verb None words keys h = absurd h
+form_passes d verb (Some form) words keys h = passes_first (form_words (Some form) words) _ h.1 ∙ ap (λ (ks : List (List ℕ)). first_failing (limit_checks d ks (ranges_in verb))) h.0
 
 pub fault_first : (xs ys : List Check) (f : LineFault) → IsFault xs f → IsFault (xs ++ ys) f
 fault_first xs ys faults.Memory h = tt
 fault_first xs ys (faults.Refused r) h = fails_first xs ys r h
 
-fault_form : (d : Draft) (form : Option (List Operand)) (words : List (List ℕ)) (f : LineFault) → IsFault (form_words form words) f → IsFault (form_checks d form words) f
-fault_form d form words faults.Memory h = tt
-fault_form d form words (faults.Refused r) h = form_fails d form words r h
+fault_form : (d : Draft) (verb : Verb) (form : Option (List Operand)) (words : List (List ℕ)) (f : LineFault) → IsFault (form_words form words) f → IsFault (form_checks d verb form words) f
+fault_form d verb form words faults.Memory h = tt
+fault_form d verb form words (faults.Refused r) h = form_fails d verb form words r h
+
+-- a fault of one check is one of all, where those before it pass
+pub behind_one : (a b : Check) (rest : List Check) (f : LineFault) → a.0 ≡ true → IsFault (b ∷ []) f → IsFault (a ∷ b ∷ rest) f
+behind_one a b rest faults.Memory passes h = tt
+behind_one a b rest (faults.Refused r) passes h = rw passes (fails_first (b ∷ []) rest r h)
+
+pub behind_two : (a b c : Check) (rest : List Check) (f : LineFault) → a.0 ≡ true → b.0 ≡ true → IsFault (c ∷ []) f → IsFault (a ∷ b ∷ c ∷ rest) f
+behind_two a b c rest faults.Memory first second h = tt
+behind_two a b c rest (faults.Refused r) first second h = rw (first, second) (fails_first (c ∷ []) rest r h)
+
+-- what a form that passes leaves of a call's checks: the limits
+pub call_passes : (d : Draft) (verb : Verb) (name : List ℕ) (words keys : List (List ℕ)) (found : Declared) (f : LineFault) → is_some d.current ≡ true → is_name name ≡ true → declared d name ≡ Some found
+    → PassesWith (form_of verb found.kind) words keys → IsFault (limit_checks d keys (ranges_in verb)) f → IsFault (call_checks d verb (name ∷ words)) f
+call_passes d verb name words keys found faults.Memory current named is passes h = tt
+call_passes d verb name words keys found (faults.Refused r) current named is passes h = rw (current, named, is) (form_passes d verb (form_of verb found.kind) words keys passes ∙ h)
 
 -- a fault in the operands is one of the line
 pub call_fails : (d : Draft) (verb : Verb) (name : List ℕ) (words : List (List ℕ)) (found : Declared) (f : LineFault) → is_some d.current ≡ true → is_name name ≡ true → declared d name ≡ Some found
     → IsFault (form_words (form_of verb found.kind) words) f → IsFault (call_checks d verb (name ∷ words)) f
 call_fails d verb name words found faults.Memory current named is h = tt
-call_fails d verb name words found (faults.Refused r) current named is h = rw (current, named, is) (form_fails d (form_of verb found.kind) words r h)
+call_fails d verb name words found (faults.Refused r) current named is h = rw (current, named, is) (form_fails d verb (form_of verb found.kind) words r h)
 
 -- a fault in the items is one of the line
 pub turns_fail : (d : Draft) (words : List (List ℕ)) (f : LineFault) → nat_lt 0 (length words) ≡ true → IsFault (flat_map (item_checks d.plan.workers) words) f → IsFault (line_checks d (Some keywords.Schedule) words) f
@@ -82,6 +97,17 @@ pub turns_more : (turns : List Turn) (turn : Turn) (word : List ℕ) (rest all :
 turns_more [] turn word rest all is h = ap (λ (w : List ℕ). w ∷ rest) is ∙ h
 turns_more (t ∷ turns) turn word rest all is h =
     ap (λ (ws : List (List ℕ)). turn_word t ∷ ws) (turns_more turns turn word rest (map turn_word turns ++ (word ∷ rest)) is refl) ∙ h
+
+-- a list of two items, and of three
+pub two_items : {X : Type 0} (xs : List X) (d : X) → length xs ≡ 2 → xs ≡ get_or xs 0 d ∷ get_or xs 1 d ∷ []
+two_items [] d e = absurd (omega arith)
+two_items (x ∷ []) d e = absurd (omega arith)
+two_items (x ∷ y ∷ []) d e = refl
+two_items (x ∷ y ∷ z ∷ xs) d e = absurd (omega arith)
+
+pub three_items : {X : Type 0} (xs : List X) (d : X) → length xs ≡ 3 → xs ≡ get_or xs 0 d ∷ get_or xs 1 d ∷ get_or xs 2 d ∷ []
+three_items [] d e = absurd (omega arith)
+three_items {X = X} (x ∷ xs) d e = ap (λ (ys : List X). x ∷ ys) (two_items xs d (omega arith))
 
 -- a list of one item
 pub one_item : {X : Type 0} (xs : List X) (d : X) → length xs ≡ 1 → xs ≡ get_or xs 0 d ∷ []

@@ -1,6 +1,6 @@
 -- A draft with one more line keeps its tables.
 use Rattle.std.proofs.Common.{◌≡◌, ℕ, zero, suc, ◌+◌, ◌-◌, ◌<◌, ◌≤◌, Bool, true, false, cond, eqb, ◌&&◌, not, List, [], ◌∷◌, ◌++◌, length, get_or, set, replicate, Option, Some, None, refl, sym, ap, subst, ◌∙◌, append_assoc, arith}
-use Rattle.std.specs.Prelude.{is_some, nat_lt, slice_get}
+use Rattle.std.specs.Prelude.{is_some, nat_lt, slice_get, count_by}
 use Rattle.std.specs.Option.{option_or}
 use Rattle.std.specs.List.{list_all}
 use Rattle.std.specs.Str.{bytes_eq}
@@ -10,11 +10,11 @@ use Rattle.std.specs.FinMap.{FinMap, get, insert, empty, from_entries, get-empty
 use Rattle.std.proofs.lemmas.Bool.{eqb-true, eq-eqb, ltb-true, leb-true}
 use Rattle.std.proofs.lemmas.List.Folds.{list_any-append}
 use Rattle.sync_model.specs.Name.{is_name}
-use Rattle.workload.specs.declared.limits.TheConstants.{MAX_CALLS, MAX_KEYS, MAX_TURNS, MAX_WORKERS}
+use Rattle.workload.specs.declared.limits.TheConstants.{MAX_CALLS, MAX_KEYS, MAX_RANGES, MAX_TURNS, MAX_WORKERS}
 use Rattle.std.proofs.lemmas.Slice.Eq.{bytes_eq-Decides}
 use Rattle.std.proofs.lemmas.Map.Text.{is_eq-slice_cmp}
 use Rattle.std.proofs.lemmas.List.{length-set, length-append, length-replicate, append-nil}
-use Rattle.std.proofs.lemmas.List.Sums.{sum_by-set}
+use Rattle.std.proofs.lemmas.List.Sums.{sum_by-set, sum_by-append}
 use Rattle.sync_model.specs.declared.call.Call.{Call}
 use Rattle.workload.specs.declared.object.ObjectLine.{ObjectLine}
 use Rattle.workload.specs.declared.object.Declared.{Declared}
@@ -22,7 +22,7 @@ use Rattle.workload.specs.declared.line.Line.TheVariants as lines
 use Rattle.workload.specs.declared.turn.Turn.{Turn}
 use Rattle.workload.specs.declared.turn.Turn.TheVariants as turns
 use Rattle.workload.specs.Plan.{Plan, object_of, has_call, is_on, is_turn, is_valid}
-use Rattle.workload.specs.Draft.{declared_from, names_object, is_call, is_item, may_follow, count_of, limit_of, call_count, key_count, keys_of, all_keys, distinct_count}
+use Rattle.workload.specs.Draft.{declared_from, names_object, is_call, is_item, may_follow, count_of, limit_of, call_count, key_count, keys_of, all_keys, distinct_count, is_range, range_count}
 use Rattle.workload.specs.Readable.{may_declare}
 use Rattle.workload.specs.Index.{IsIndexed, with_keys, marks}
 use Rattle.workload.proofs.Passing.{both, pair, all_mono, all_set, all_append, all_at}
@@ -129,10 +129,10 @@ declare_more (p ∷ os) others o h here =
     (subst (λ (x : List ObjectLine). (is_name o.name && (not (is_some (declared_from 0 o.name x)) && nat_lt (count_of o.kind x) (limit_of o.kind))) ≡ true) (sym (append_assoc others (p ∷ []) os)) here))
 
 -- one more object keeps the tables
-pub indexed_object : (plan : Plan) (worker : Option ℕ) (table : FinMap (slice_cmp nat_cmp) Declared) (seen : FinMap (slice_cmp nat_cmp) (Unit {0})) (number : ℕ) (o : ObjectLine)
-    → IsIndexed plan worker table seen number → may_follow (record { plan = plan; current = worker }) (lines.Object o) ≡ true
-    → IsIndexed (record plan { objects = plan.objects ++ o ∷ [] }) worker (insert table o.name (record { place = length plan.objects; kind = o.kind })) seen number
-indexed_object plan worker table seen number o h follows =
+pub indexed_object : (plan : Plan) (worker : Option ℕ) (table : FinMap (slice_cmp nat_cmp) Declared) (seen : FinMap (slice_cmp nat_cmp) (Unit {0})) (number many : ℕ) (o : ObjectLine)
+    → IsIndexed plan worker table seen number many → may_follow (record { plan = plan; current = worker }) (lines.Object o) ≡ true
+    → IsIndexed (record plan { objects = plan.objects ++ o ∷ [] }) worker (insert table o.name (record { place = length plan.objects; kind = o.kind })) seen number many
+indexed_object plan worker table seen number many o h follows =
     let r = h.readable in
     let v = valid_parts plan r.valid in
     let new = (object_follows (record { plan = plan; current = worker }) o follows).new in
@@ -150,6 +150,7 @@ indexed_object plan worker table seen number o h follows =
         calls = r.calls;
         call_room = r.call_room;
         key_room = r.key_room;
+        range_room = r.range_room;
         items = r.items;
         turn_room = r.turn_room;
       };
@@ -157,6 +158,7 @@ indexed_object plan worker table seen number o h follows =
       names = names_more table plan.objects o new h.names;
       keys = h.keys;
       calls = h.calls;
+      ranges = h.ranges;
     }
 
 item_is_turn : (workers : ℕ) (turn : Turn) → is_item workers turn ≡ true → is_turn workers turn ≡ true
@@ -164,10 +166,10 @@ item_is_turn workers (turns.Worker worker) e = e
 item_is_turn workers (turns.Moment moment) e = refl
 
 -- more turns keep the tables
-pub indexed_turns : (plan : Plan) (worker : Option ℕ) (table : FinMap (slice_cmp nat_cmp) Declared) (seen : FinMap (slice_cmp nat_cmp) (Unit {0})) (number : ℕ) (more : List Turn)
-    → IsIndexed plan worker table seen number → may_follow (record { plan = plan; current = worker }) (lines.Schedule more) ≡ true
-    → IsIndexed (record plan { schedule = plan.schedule ++ more }) worker table seen number
-indexed_turns plan worker table seen number more h follows =
+pub indexed_turns : (plan : Plan) (worker : Option ℕ) (table : FinMap (slice_cmp nat_cmp) Declared) (seen : FinMap (slice_cmp nat_cmp) (Unit {0})) (number many : ℕ) (more : List Turn)
+    → IsIndexed plan worker table seen number many → may_follow (record { plan = plan; current = worker }) (lines.Schedule more) ≡ true
+    → IsIndexed (record plan { schedule = plan.schedule ++ more }) worker table seen number many
+indexed_turns plan worker table seen number many more h follows =
     let r = h.readable in
     let v = valid_parts plan r.valid in
     let items = (schedule_follows (record { plan = plan; current = worker }) more follows).items in
@@ -184,6 +186,7 @@ indexed_turns plan worker table seen number more h follows =
         calls = r.calls;
         call_room = r.call_room;
         key_room = r.key_room;
+        range_room = r.range_room;
         items = all_append (is_item plan.workers) plan.schedule more r.items items;
         turn_room = omega (arith, length-append plan.schedule more, leb-true (length plan.schedule + length more) MAX_TURNS (schedule_follows (record { plan = plan; current = worker }) more follows).room);
       };
@@ -191,13 +194,14 @@ indexed_turns plan worker table seen number more h follows =
       names = h.names;
       keys = h.keys;
       calls = h.calls;
+      ranges = h.ranges;
     }
 
 -- one more call keeps the tables
-pub indexed_call : (plan : Plan) (worker : ℕ) (table : FinMap (slice_cmp nat_cmp) Declared) (seen : FinMap (slice_cmp nat_cmp) (Unit {0})) (number : ℕ) (name : List ℕ) (call : Call)
-    → IsIndexed plan (Some worker) table seen number → may_follow (record { plan = plan; current = Some worker }) (lines.Call name call) ≡ true
-    → IsIndexed (record plan { scripts = set plan.scripts worker (get_or plan.scripts worker [] ++ call ∷ []) }) (Some worker) table (with_keys seen (keys_of call)) (number + 1)
-indexed_call plan worker table seen number name call h follows =
+pub indexed_call : (plan : Plan) (worker : ℕ) (table : FinMap (slice_cmp nat_cmp) Declared) (seen : FinMap (slice_cmp nat_cmp) (Unit {0})) (number many : ℕ) (name : List ℕ) (call : Call)
+    → IsIndexed plan (Some worker) table seen number many → may_follow (record { plan = plan; current = Some worker }) (lines.Call name call) ≡ true
+    → IsIndexed (record plan { scripts = set plan.scripts worker (get_or plan.scripts worker [] ++ call ∷ []) }) (Some worker) table (with_keys seen (keys_of call)) (number + 1) (many + count_by is_range (call ∷ []))
+indexed_call plan worker table seen number many name call h follows =
     let r = h.readable in
     let v = valid_parts plan r.valid in
     let parts = call_follows (record { plan = plan; current = Some worker }) name call follows in
@@ -206,6 +210,9 @@ indexed_call plan worker table seen number name call h follows =
     let script = get_or plan.scripts worker [] in
     let test : Call → Bool = λ c. is_on (slice_get plan.objects (object_of c)) c in
     let grown : call_count (set plan.scripts worker (script ++ call ∷ [])) ≡ call_count plan.scripts + 1 = omega (arith, sum_by-set length plan.scripts worker (script ++ call ∷ []) [] here, length-append script (call ∷ [])) in
+    let ranges : List Call → ℕ = λ calls. count_by is_range calls in
+    let more : range_count (set plan.scripts worker (script ++ call ∷ [])) ≡ range_count plan.scripts + count_by is_range (call ∷ []) =
+    omega (arith, sum_by-set ranges plan.scripts worker (script ++ call ∷ []) [] here, sum_by-append (λ (c : Call). cond (is_range c) 1 0) script (call ∷ [])) in
     record {
       readable = record {
         valid = valid_from (record plan { scripts = set plan.scripts worker (script ++ call ∷ []) }) (record {
@@ -223,6 +230,7 @@ indexed_call plan worker table seen number name call h follows =
           distinct_same (all_keys (set plan.scripts worker (script ++ call ∷ []))) (keys_of call ++ all_keys plan.scripts) (λ q. keys_more (bytes_eq q) plan.scripts worker call here ∙ sym (list_any-append (bytes_eq q) (keys_of call) (all_keys plan.scripts))),
           leb-true (key_count plan.scripts (keys_of call)) MAX_KEYS parts.keys,
         );
+        range_room = omega (arith, more, leb-true (range_count plan.scripts + count_by is_range (call ∷ [])) MAX_RANGES parts.ranges);
         items = r.items;
         turn_room = r.turn_room;
       };
@@ -230,6 +238,7 @@ indexed_call plan worker table seen number name call h follows =
       names = h.names;
       keys = keys_with_call seen plan.scripts worker call here h.keys;
       calls = omega (arith, h.calls, grown);
+      ranges = omega (arith, h.ranges, more);
     }
 
 all_empty : {X : Type 0} (p : X → Bool) (n : ℕ) → list_all (list_all p) (replicate n []) ≡ true
@@ -240,12 +249,16 @@ no_keys : (n : ℕ) → all_keys (replicate n []) ≡ []
 no_keys zero = refl
 no_keys (suc n) = no_keys n
 
+no_ranges : (n : ℕ) → range_count (replicate n []) ≡ 0
+no_ranges zero = refl
+no_ranges (suc n) = no_ranges n
+
 no_calls : (n : ℕ) → call_count (replicate n []) ≡ 0
 no_calls zero = refl
 no_calls (suc n) = no_calls n
 
 -- the tables of a draft without lines
-pub indexed_start : (workers : ℕ) → 0 < workers → workers ≤ MAX_WORKERS → IsIndexed (record { workers = workers; objects = []; scripts = replicate workers []; schedule = [] }) None empty empty 0
+pub indexed_start : (workers : ℕ) → 0 < workers → workers ≤ MAX_WORKERS → IsIndexed (record { workers = workers; objects = []; scripts = replicate workers []; schedule = [] }) None empty empty 0 0
 indexed_start workers some few = record {
   readable = record {
     valid = valid_from (record { workers = workers; objects = []; scripts = replicate workers []; schedule = [] }) (record {
@@ -259,6 +272,7 @@ indexed_start workers some few = record {
     calls = all_empty is_call workers;
     call_room = omega (arith, no_calls workers);
     key_room = omega (arith, ap distinct_count (no_keys workers));
+    range_room = omega (arith, no_ranges workers);
     items = refl;
     turn_room = omega arith;
   };
@@ -266,4 +280,5 @@ indexed_start workers some few = record {
   names = λ name. get-empty (slice_cmp nat_cmp) name;
   keys = ap (λ (ks : List (List ℕ)). from_entries {R = slice_cmp nat_cmp} (marks ks)) (sym (no_keys workers));
   calls = sym (no_calls workers);
+  ranges = sym (no_ranges workers);
 }

@@ -1,6 +1,6 @@
 -- Each text is read or refused.
-use Rattle.std.proofs.Common.{◌≡◌, ℕ, ◌+◌, ◌-◌, ◌≤◌, max, Bool, true, false, cond, eqb, ◌&&◌, not, List, [], ◌∷◌, ◌++◌, map, length, Option, Some, None, refl, sym, ap, ◌∙◌, arith, inl, inr, ◌⊎◌}
-use Rattle.std.specs.Prelude.{nat_lt, nat_le, is_some, codes}
+use Rattle.std.proofs.Common.{◌≡◌, ℕ, ◌+◌, ◌-◌, ◌≤◌, max, Bool, true, false, cond, eqb, ◌&&◌, not, List, [], ◌∷◌, ◌++◌, map, length, Option, Some, None, refl, sym, ap, subst, ◌∙◌, arith, inl, inr, ◌⊎◌}
+use Rattle.std.specs.Prelude.{nat_lt, nat_le, is_some, codes, count_by}
 use Rattle.std.specs.List.{list_all, flat_map, AllByRecursion}
 use Rattle.std.specs.Fmt.{decimal}
 use Rattle.std.specs.Str.{bytes_eq}
@@ -11,11 +11,18 @@ use Rattle.sync_model.specs.Name.{is_name}
 use Rattle.sync_model.specs.declared.call.Call.{Call}
 use Rattle.sync_model.specs.declared.call.Call.TheVariants as calls
 use Rattle.sync_model.specs.declared.map_object.MapCall.TheVariants as map_calls
+use Rattle.sync_model.specs.declared.atomic_object.AtomicKind.{AtomicKind}
+use Rattle.sync_model.specs.declared.atomic_object.AtomicKind.TheVariants as types
+use Rattle.sync_model.specs.declared.atomic_object.Number.{Number}
+use Rattle.sync_model.specs.declared.atomic_object.AtomicCall.TheVariants as atomic_calls
+use Rattle.sync_model.specs.SequentialAtomic.{has_bits, is_of}
 use Rattle.workload.specs.declared.keyword.Keyword.{Keyword}
 use Rattle.workload.specs.declared.keyword.Keyword.TheVariants as keywords
 use Rattle.workload.specs.declared.keyword.Verb.{Verb}
 use Rattle.workload.specs.declared.keyword.Verb.TheVariants as verbs
-use Rattle.workload.specs.declared.limits.TheConstants.{MAX_TURNS, MAX_VALUE, MAX_WORKERS, MAX_INPUT}
+use Rattle.workload.specs.declared.keyword.Operand.{Operand}
+use Rattle.workload.specs.declared.keyword.Operand.TheVariants as operands
+use Rattle.workload.specs.declared.limits.TheConstants.{MAX_RANGES, MAX_TURNS, MAX_VALUE, MAX_WORKERS, MAX_INPUT}
 use Rattle.workload.specs.declared.object.Declared.{Declared}
 use Rattle.workload.specs.declared.object.ObjectKind.{ObjectKind}
 use Rattle.workload.specs.declared.object.ObjectKind.TheVariants as kinds
@@ -25,13 +32,18 @@ use Rattle.workload.specs.declared.reason.Reason.{Reason}
 use Rattle.workload.specs.declared.reason.Reason.TheVariants.{NoWorkersLine, LineTooLong, BadByte, WrongNumberOfWords, BadName, BadNumber, CallOutsideWorker, LimitReached, InputTooLong}
 use Rattle.workload.specs.declared.turn.Turn.{Turn}
 use Rattle.workload.specs.declared.turn.Turn.TheVariants as turns
-use Rattle.workload.specs.Plan.{Plan}
+use Rattle.workload.specs.Plan.{Plan, object_of, has_call}
 use Rattle.workload.specs.Lines.{lines_of, words_of, is_short, is_clean, is_significant}
-use Rattle.workload.specs.Words.{keyword_word, keyword_at, keyword_in, keywords_known, spelled, verb_word, verb_of, operands_of, turn_word, is_number, is_number_to, number_of}
-use Rattle.workload.specs.Draft.{Draft, started, with_line, declared, may_follow, is_item, count_of, limit_of}
-use Rattle.workload.specs.Checks.{Check, first_failing, form_of, form_checks, object_checks, worker_checks, item_checks, line_checks, first_checks, word_checks, reason_of}
+use Rattle.workload.specs.Words.{keyword_word, keyword_at, spelled, verb_word, verb_of, operands_of, number_word, turn_word, is_number, is_number_to, number_of}
+use Rattle.workload.specs.Draft.{Draft, started, with_line, declared, may_follow, names_object, is_call, is_value, is_item, is_range, keys_of, count_of, limit_of, range_count}
+use Rattle.workload.specs.Checks.{Check, first_failing, map_form, bits_form, atomic_form, form_of, key_operands, ranges_in, limit_checks, form_checks, object_checks, worker_checks, item_checks, line_checks, first_checks, word_checks, reason_of}
 use Rattle.workload.specs.Reads.{Says, IsRead, ReadsOn, Reads, FirstFault, IsRefused}
 use Rattle.workload.proofs.Passing.{both, pair}
+use Rattle.workload.specs.LineResult.{form_words, PassesWith}
+use Rattle.workload.proofs.Keywords.{keyword_from}
+use Rattle.workload.proofs.CallWords.{number_at, number_said}
+use Rattle.workload.proofs.CallForms.{call_form, ranges_of}
+use Rattle.workload.proofs.CheckLemmas.{form_passes}
 use Rattle.workload.proofs.Numbers.{decimal-number_of}
 use Rattle.workload.proofs.OneReading.{IsSmall, read_small}
 
@@ -56,20 +68,6 @@ both_pass (x ∷ xs) ys h =
 
 -- ---- words
 
-spells : AllByRecursion (λ (e : List ℕ × Keyword). e.0 ≡ keyword_word e.1) keywords_known
-spells = (refl, (refl, (refl, (refl, (refl, (refl, tt))))))
-
-same_some : (k l : Keyword) → Some k ≡ Some l → k ≡ l
-same_some k l e = cc
-
-keyword_from : (entries : List (List ℕ × Keyword)) (word : List ℕ) (k : Keyword) → AllByRecursion (λ (e : List ℕ × Keyword). e.0 ≡ keyword_word e.1) entries → keyword_in entries word ≡ Some k → word ≡ keyword_word k
-keyword_from [] word k all h = absurd cc
-keyword_from (e ∷ entries) word k all h =
-    elim (bytes_eq word e.0) as (λ b. bytes_eq word e.0 ≡ b → cond b (Some e.1) (keyword_in entries word) ≡ Some k → word ≡ keyword_word k) [
-      | true ↦ λ t s. (bytes_eq-Decides word e.0).0 t ∙ all.0 ∙ ap keyword_word (same_some e.1 k s)
-      | false ↦ λ f s. keyword_from entries word k all.1 s
-    ] refl h
-
 number_words : (word : List ℕ) → is_number word ≡ true → number_of word ≤ MAX_VALUE → decimal (number_of word) ≡ word
 number_words word is small = decimal-number_of word is (omega arith)
 
@@ -83,7 +81,7 @@ abbrev Said : Draft → List (List ℕ) → Type 0
 Said d words = (l : Line) × (may_follow d l ≡ true) × (words ≡ spelled l)
 
 said_as : (d : Draft) (word : List ℕ) (k : Keyword) (words : List (List ℕ)) → keyword_at word ≡ Some k → Said d (keyword_word k ∷ words) → Said d (word ∷ words)
-said_as d word k words is said = (said.0, said.1, ap (λ (w : List ℕ). w ∷ words) (keyword_from keywords_known word k spells is) ∙ said.2)
+said_as d word k words is said = (said.0, said.1, ap (λ (w : List ℕ). w ∷ words) (keyword_from word k is) ∙ said.2)
 
 object_said : (d : Draft) (kind : ObjectKind) (words : List (List ℕ)) → first_failing (line_checks d (Some (keywords.Object kind)) words) ≡ None → Said d (keyword_word (keywords.Object kind) ∷ words)
 object_said d kind [] h = absurd cc
@@ -151,23 +149,133 @@ schedule_said d words few h =
 abbrev CallSaid : Draft → List ℕ → Verb → List (List ℕ) → Type 0
 CallSaid d name verb words = (c : Call) × (verb_of c ≡ verb) × (operands_of c ≡ words) × (may_follow d (lines.Call name c) ≡ true)
 
-itself : (n : ℕ) → eqb n n ≡ true
-itself n = eq-eqb n n refl
+-- ---- the operands that words spell
 
-kind_said : (d : Draft) (name : List ℕ) (place : ℕ) (kind : ObjectKind) → declared d name ≡ Some (record { place = place; kind = kind }) → is_some d.current ≡ true → is_name name ≡ true → (verb : Verb) (words : List (List ℕ)) → first_failing (form_checks d (form_of verb kind) words) ≡ None → CallSaid d name verb words
-kind_said d name place kinds.Map at current named verbs.Load [] h = absurd cc
-kind_said d name place kinds.Map at current named verbs.Load (k ∷ []) h =
-    let all = all_pass (form_checks d (form_of verbs.Load kinds.Map) (k ∷ [])) h in
-    (calls.Map place (map_calls.Load k), refl, refl, rw (current, named, at, itself place, all.1.0, all.1.1.0, all.1.1.1.0) refl)
-kind_said d name place kinds.Map at current named verbs.Load (k ∷ other ∷ words) h = absurd (omega (arith, eqb-true (length (k ∷ other ∷ words)) 1 (all_pass (form_checks d (form_of verbs.Load kinds.Map) (k ∷ other ∷ words)) h).0))
-kind_said d name place kinds.Map at current named verbs.Store [] h = absurd cc
-kind_said d name place kinds.Map at current named verbs.Store (k ∷ []) h = absurd cc
-kind_said d name place kinds.Map at current named verbs.Store (k ∷ v ∷ []) h =
-    let all = all_pass (form_checks d (form_of verbs.Store kinds.Map) (k ∷ v ∷ [])) h in
-    let value = both (is_number v) (nat_le (number_of v) MAX_VALUE) all.1.1.0 in
-    let word = number_words v value.0 (leb-true (number_of v) MAX_VALUE value.1) in
-    (calls.Map place (map_calls.Store k (number_of v)), refl, ap (λ (w : List ℕ). k ∷ w ∷ []) word, rw (current, named, at, itself place, all.1.0, value.1, all.1.1.1.0, all.1.1.1.1.0) refl)
-kind_said d name place kinds.Map at current named verbs.Store (k ∷ v ∷ other ∷ words) h = absurd (omega (arith, eqb-true (length (k ∷ v ∷ other ∷ words)) 2 (all_pass (form_checks d (form_of verbs.Store kinds.Map) (k ∷ v ∷ other ∷ words)) h).0))
+none_said : (words : List (List ℕ)) → first_failing (form_words (Some []) words) ≡ None → words ≡ []
+none_said [] h = refl
+none_said (word ∷ words) h = absurd (omega (arith, eqb-true (length (word ∷ words)) 0 (all_pass (form_words (Some []) (word ∷ words)) h).0))
+
+key_said : (words : List (List ℕ)) → first_failing (form_words (Some (operands.Key ∷ [])) words) ≡ None → (k : List ℕ) × (is_name k ≡ true) × (words ≡ k ∷ [])
+key_said [] h = absurd cc
+key_said (k ∷ []) h =
+    let all = all_pass (form_words (Some (operands.Key ∷ [])) (k ∷ [])) h in
+    (k, all.1.0, refl)
+key_said (k ∷ other ∷ words) h = absurd (omega (arith, eqb-true (length (k ∷ other ∷ words)) 1 (all_pass (form_words (Some (operands.Key ∷ [])) (k ∷ other ∷ words)) h).0))
+
+value_said : (word : List ℕ) → is_number_to MAX_VALUE word ≡ true → (is_value (number_of word) ≡ true) × (word ≡ decimal (number_of word))
+value_said word h =
+    let parts = both (is_number word) (nat_le (number_of word) MAX_VALUE) h in
+    (parts.1, sym (number_words word parts.0 (leb-true (number_of word) MAX_VALUE parts.1)))
+
+pair_said : (words : List (List ℕ)) → first_failing (form_words (Some (operands.Key ∷ operands.Value ∷ [])) words) ≡ None → (k : List ℕ) × (v : ℕ) × (is_name k ≡ true) × (is_value v ≡ true) × (words ≡ k ∷ decimal v ∷ [])
+pair_said [] h = absurd cc
+pair_said (k ∷ []) h = absurd cc
+pair_said (k ∷ v ∷ []) h =
+    let all = all_pass (form_words (Some (operands.Key ∷ operands.Value ∷ [])) (k ∷ v ∷ [])) h in
+    let value = value_said v all.1.1.0 in
+    (k, number_of v, all.1.0, value.0, ap (λ (w : List ℕ). k ∷ w ∷ []) value.1)
+pair_said (k ∷ v ∷ other ∷ words) h = absurd (omega (arith, eqb-true (length (k ∷ v ∷ other ∷ words)) 2 (all_pass (form_words (Some (operands.Key ∷ operands.Value ∷ [])) (k ∷ v ∷ other ∷ words)) h).0))
+
+exchange_said : (words : List (List ℕ)) → first_failing (form_words (Some (operands.Key ∷ operands.Value ∷ operands.Value ∷ [])) words) ≡ None
+    → (k : List ℕ) × (v : ℕ) × (w : ℕ) × (is_name k ≡ true) × (is_value v ≡ true) × (is_value w ≡ true) × (words ≡ k ∷ decimal v ∷ decimal w ∷ [])
+exchange_said [] h = absurd cc
+exchange_said (k ∷ []) h = absurd cc
+exchange_said (k ∷ v ∷ []) h = absurd cc
+exchange_said (k ∷ v ∷ w ∷ []) h =
+    let all = all_pass (form_words (Some (operands.Key ∷ operands.Value ∷ operands.Value ∷ [])) (k ∷ v ∷ w ∷ [])) h in
+    let first = value_said v all.1.1.0 in
+    let second = value_said w all.1.1.1.0 in
+    (k, number_of v, number_of w, all.1.0, first.0, second.0, ap (λ (x : List ℕ). k ∷ x ∷ w ∷ []) first.1 ∙ ap (λ (x : List ℕ). k ∷ decimal (number_of v) ∷ x ∷ []) second.1)
+exchange_said (k ∷ v ∷ w ∷ other ∷ words) h = absurd (omega (arith, eqb-true (length (k ∷ v ∷ w ∷ other ∷ words)) 3 (all_pass (form_words (Some (operands.Key ∷ operands.Value ∷ operands.Value ∷ [])) (k ∷ v ∷ w ∷ other ∷ words)) h).0))
+
+number_alone_said : (kind : AtomicKind) (words : List (List ℕ)) → first_failing (form_words (Some (operands.Number kind ∷ [])) words) ≡ None → (x : Number) × (is_of kind x ≡ true) × (words ≡ number_word x ∷ [])
+number_alone_said kind [] h = absurd cc
+number_alone_said kind (w ∷ []) h =
+    let all = all_pass (form_words (Some (operands.Number kind ∷ [])) (w ∷ [])) h in
+    let said = number_said kind w all.1.0 in
+    (number_at kind w, said.0, ap (λ (x : List ℕ). x ∷ []) (sym said.1))
+number_alone_said kind (w ∷ other ∷ words) h = absurd (omega (arith, eqb-true (length (w ∷ other ∷ words)) 1 (all_pass (form_words (Some (operands.Number kind ∷ [])) (w ∷ other ∷ words)) h).0))
+
+numbers_said : (kind : AtomicKind) (words : List (List ℕ)) → first_failing (form_words (Some (operands.Number kind ∷ operands.Number kind ∷ [])) words) ≡ None
+    → (x : Number) × (y : Number) × (is_of kind x ≡ true) × (is_of kind y ≡ true) × (words ≡ number_word x ∷ number_word y ∷ [])
+numbers_said kind [] h = absurd cc
+numbers_said kind (v ∷ []) h = absurd cc
+numbers_said kind (v ∷ w ∷ []) h =
+    let all = all_pass (form_words (Some (operands.Number kind ∷ operands.Number kind ∷ [])) (v ∷ w ∷ [])) h in
+    let first = number_said kind v all.1.0 in
+    let second = number_said kind w all.1.1.0 in
+    (number_at kind v, number_at kind w, first.0, second.0, ap (λ (x : List ℕ). x ∷ w ∷ []) (sym first.1) ∙ ap (λ (x : List ℕ). number_word (number_at kind v) ∷ x ∷ []) (sym second.1))
+numbers_said kind (v ∷ w ∷ other ∷ words) h = absurd (omega (arith, eqb-true (length (v ∷ w ∷ other ∷ words)) 2 (all_pass (form_words (Some (operands.Number kind ∷ operands.Number kind ∷ [])) (v ∷ w ∷ other ∷ words)) h).0))
+
+bits_said : (kind : AtomicKind) (words : List (List ℕ)) → first_failing (form_words (bits_form kind) words) ≡ None → (x : Number) × ((has_bits kind && is_of kind x) ≡ true) × (words ≡ number_word x ∷ [])
+bits_said types.Int32 words h = number_alone_said types.Int32 words h
+bits_said types.Int64 words h = number_alone_said types.Int64 words h
+bits_said types.Uint32 words h = number_alone_said types.Uint32 words h
+bits_said types.Uint64 words h = number_alone_said types.Uint64 words h
+bits_said types.Bool words h = absurd cc
+
+-- ---- the call that words spell
+
+abbrev Spelled : ObjectKind → ℕ → Verb → List (List ℕ) → Type 0
+Spelled kind place verb words = (c : Call) × (verb_of c ≡ verb) × (operands_of c ≡ words) × (object_of c ≡ place) × (has_call kind c ≡ true) × (is_call c ≡ true)
+
+keyed : (k : List ℕ) → is_name k ≡ true → (list_all is_name (k ∷ []) && true) ≡ true
+keyed k h = rw h refl
+
+paired : (k : List ℕ) (v : ℕ) → is_name k ≡ true → is_value v ≡ true → (list_all is_name (k ∷ []) && list_all is_value (v ∷ [])) ≡ true
+paired k v h i = rw (h, i) refl
+
+map_spelled : (place : ℕ) (verb : Verb) (words : List (List ℕ)) → first_failing (form_words (map_form verb) words) ≡ None → Spelled kinds.Map place verb words
+map_spelled place verbs.Load words h = let said = key_said words h in (calls.Map place (map_calls.Load said.0), refl, sym said.2, refl, refl, keyed said.0 said.1)
+map_spelled place verbs.LoadAndDelete words h = let said = key_said words h in (calls.Map place (map_calls.LoadAndDelete said.0), refl, sym said.2, refl, refl, keyed said.0 said.1)
+map_spelled place verbs.Delete words h = let said = key_said words h in (calls.Map place (map_calls.Delete said.0), refl, sym said.2, refl, refl, keyed said.0 said.1)
+map_spelled place verbs.Store words h = let said = pair_said words h in (calls.Map place (map_calls.Store said.0 said.1), refl, sym said.4, refl, refl, paired said.0 said.1 said.2 said.3)
+map_spelled place verbs.LoadOrStore words h = let said = pair_said words h in (calls.Map place (map_calls.LoadOrStore said.0 said.1), refl, sym said.4, refl, refl, paired said.0 said.1 said.2 said.3)
+map_spelled place verbs.Swap words h = let said = pair_said words h in (calls.Map place (map_calls.Swap said.0 said.1), refl, sym said.4, refl, refl, paired said.0 said.1 said.2 said.3)
+map_spelled place verbs.CompareAndDelete words h = let said = pair_said words h in (calls.Map place (map_calls.CompareAndDelete said.0 said.1), refl, sym said.4, refl, refl, paired said.0 said.1 said.2 said.3)
+map_spelled place verbs.CompareAndSwap words h = let said = exchange_said words h in (calls.Map place (map_calls.CompareAndSwap said.0 said.1 said.2), refl, sym said.6, refl, refl, rw (said.3, said.4, said.5) refl)
+map_spelled place verbs.Clear words h = (calls.Map place map_calls.Clear, refl, sym (none_said words h), refl, refl, refl)
+map_spelled place verbs.Range words h = (calls.Range place, refl, sym (none_said words h), refl, refl, refl)
+map_spelled place verbs.Add words h = absurd cc
+map_spelled place verbs.And words h = absurd cc
+map_spelled place verbs.Or words h = absurd cc
+
+atomic_spelled : (kind : AtomicKind) (place : ℕ) (verb : Verb) (words : List (List ℕ)) → first_failing (form_words (atomic_form kind verb) words) ≡ None → Spelled (kinds.Atomic kind) place verb words
+atomic_spelled kind place verbs.Load words h = (calls.Atomic place atomic_calls.Load, refl, sym (none_said words h), refl, refl, refl)
+atomic_spelled kind place verbs.Store words h = let said = number_alone_said kind words h in (calls.Atomic place (atomic_calls.Store said.0), refl, sym said.2, refl, said.1, refl)
+atomic_spelled kind place verbs.Swap words h = let said = number_alone_said kind words h in (calls.Atomic place (atomic_calls.Swap said.0), refl, sym said.2, refl, said.1, refl)
+atomic_spelled kind place verbs.Add words h = let said = bits_said kind words h in (calls.Atomic place (atomic_calls.Add said.0), refl, sym said.2, refl, said.1, refl)
+atomic_spelled kind place verbs.And words h = let said = bits_said kind words h in (calls.Atomic place (atomic_calls.And said.0), refl, sym said.2, refl, said.1, refl)
+atomic_spelled kind place verbs.Or words h = let said = bits_said kind words h in (calls.Atomic place (atomic_calls.Or said.0), refl, sym said.2, refl, said.1, refl)
+atomic_spelled kind place verbs.CompareAndSwap words h = let said = numbers_said kind words h in (calls.Atomic place (atomic_calls.CompareAndSwap said.0 said.1), refl, sym said.4, refl, pair (is_of kind said.0) (is_of kind said.1) said.2 said.3, refl)
+atomic_spelled kind place verbs.LoadOrStore words h = absurd cc
+atomic_spelled kind place verbs.LoadAndDelete words h = absurd cc
+atomic_spelled kind place verbs.Delete words h = absurd cc
+atomic_spelled kind place verbs.CompareAndDelete words h = absurd cc
+atomic_spelled kind place verbs.Clear words h = absurd cc
+atomic_spelled kind place verbs.Range words h = absurd cc
+
+spelled_on : (kind : ObjectKind) (place : ℕ) (verb : Verb) (words : List (List ℕ)) → first_failing (form_words (form_of verb kind) words) ≡ None → Spelled kind place verb words
+spelled_on kinds.Map place verb words h = map_spelled place verb words h
+spelled_on (kinds.Atomic kind) place verb words h = atomic_spelled kind place verb words h
+
+-- the checks of the operands alone
+operands_pass : (d : Draft) (verb : Verb) (form : Option (List Operand)) (words : List (List ℕ)) → first_failing (form_checks d verb form words) ≡ None → first_failing (form_words form words) ≡ None
+operands_pass d verb None words h = h
+operands_pass d verb (Some form) words h = (both_pass (form_words (Some form) words) (limit_checks d (key_operands form words) (ranges_in verb)) h).0
+
+kind_said : (d : Draft) (name : List ℕ) (place : ℕ) (kind : ObjectKind) → declared d name ≡ Some (record { place = place; kind = kind }) → is_some d.current ≡ true → is_name name ≡ true → (verb : Verb) (words : List (List ℕ)) → first_failing (form_checks d verb (form_of verb kind) words) ≡ None → CallSaid d name verb words
+kind_said d name place kind at current named verb words h =
+    let form = form_of verb kind in
+    let said = spelled_on kind place verb words (operands_pass d verb form words h) in
+    let c = said.0 in
+    let passes : PassesWith form words (keys_of c) =
+    subst (λ (ws : List (List ℕ)). PassesWith form ws (keys_of c)) said.2 (subst (λ (v : Verb). PassesWith (form_of v kind) (operands_of c) (keys_of c)) said.1 (call_form kind c said.4 said.5)) in
+    let limits = all_pass (limit_checks d (keys_of c) (ranges_in verb)) (sym (form_passes d verb form words (keys_of c) passes) ∙ h) in
+    let on : names_object (declared d name) c ≡ true = rw at (pair (eqb place (object_of c)) (has_call kind c) (eq-eqb place (object_of c) (sym said.3)) said.4) in
+    let many : ranges_in verb ≡ count_by is_range (c ∷ []) = ap ranges_in (sym said.1) ∙ sym (ranges_of c) in
+    let ranges : nat_le (range_count d.plan.scripts + count_by is_range (c ∷ [])) MAX_RANGES ≡ true = ap (λ (n : ℕ). nat_le (range_count d.plan.scripts + n) MAX_RANGES) (sym many) ∙ limits.1.1.0 in
+    (c, said.1, said.2, rw (current, named, on, said.5, limits.0, limits.1.0, ranges) refl)
 
 call_said : (d : Draft) (verb : Verb) (words : List (List ℕ)) → first_failing (line_checks d (Some (keywords.Call verb)) words) ≡ None → Said d (keyword_word (keywords.Call verb) ∷ words)
 call_said d verb [] h = absurd (no_words d.current h)

@@ -4,6 +4,7 @@ use Rattle.std.specs.List.{join_with_byte}
 use Rattle.std.specs.Fmt.{decimal}
 use Rattle.std.proofs.lemmas.Bool.{le-leb}
 use Rattle.std.proofs.lemmas.List.{length-append}
+use Rattle.sync_model.specs.declared.atomic_object.AtomicKind.TheVariants as types
 use Rattle.workload.specs.declared.keyword.Keyword.{Keyword}
 use Rattle.workload.specs.declared.keyword.Keyword.TheVariants as keywords
 use Rattle.workload.specs.declared.keyword.Verb.TheVariants as verbs
@@ -34,10 +35,26 @@ follow_to xs d e f same h = subst (λ (x : Draft). FollowOn d xs x) same h
 significant : (k : Keyword) (rest : List (List ℕ)) → is_significant (keyword_word k ∷ rest) ≡ true
 significant keywords.Workers rest = refl
 significant (keywords.Object kinds.Map) rest = refl
+significant (keywords.Object (kinds.Atomic types.Int32)) rest = refl
+significant (keywords.Object (kinds.Atomic types.Int64)) rest = refl
+significant (keywords.Object (kinds.Atomic types.Uint32)) rest = refl
+significant (keywords.Object (kinds.Atomic types.Uint64)) rest = refl
+significant (keywords.Object (kinds.Atomic types.Bool)) rest = refl
 significant keywords.Worker rest = refl
 significant keywords.Schedule rest = refl
 significant (keywords.Call verbs.Load) rest = refl
 significant (keywords.Call verbs.Store) rest = refl
+significant (keywords.Call verbs.LoadOrStore) rest = refl
+significant (keywords.Call verbs.LoadAndDelete) rest = refl
+significant (keywords.Call verbs.Delete) rest = refl
+significant (keywords.Call verbs.Swap) rest = refl
+significant (keywords.Call verbs.CompareAndSwap) rest = refl
+significant (keywords.Call verbs.CompareAndDelete) rest = refl
+significant (keywords.Call verbs.Clear) rest = refl
+significant (keywords.Call verbs.Range) rest = refl
+significant (keywords.Call verbs.Add) rest = refl
+significant (keywords.Call verbs.And) rest = refl
+significant (keywords.Call verbs.Or) rest = refl
 
 not_silent : {X : Type 0} (b : Bool) → b ≡ true → b ≡ false → X
 not_silent b t f = absurd cc

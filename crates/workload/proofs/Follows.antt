@@ -1,14 +1,14 @@
 -- What a line that may follow says, part by part.
-use Rattle.std.proofs.Common.{◌≡◌, ℕ, ◌+◌, true, false, ◌&&◌, not, List, length}
-use Rattle.std.specs.Prelude.{is_some, nat_lt, nat_le}
+use Rattle.std.proofs.Common.{◌≡◌, ℕ, ◌+◌, true, false, ◌&&◌, not, List, [], ◌∷◌, length}
+use Rattle.std.specs.Prelude.{is_some, nat_lt, nat_le, count_by}
 use Rattle.std.specs.List.{list_all}
 use Rattle.sync_model.specs.Name.{is_name}
 use Rattle.sync_model.specs.declared.call.Call.{Call}
-use Rattle.workload.specs.declared.limits.TheConstants.{MAX_CALLS, MAX_KEYS, MAX_TURNS}
+use Rattle.workload.specs.declared.limits.TheConstants.{MAX_CALLS, MAX_KEYS, MAX_RANGES, MAX_TURNS}
 use Rattle.workload.specs.declared.object.ObjectLine.{ObjectLine}
 use Rattle.workload.specs.declared.line.Line.TheVariants as lines
 use Rattle.workload.specs.declared.turn.Turn.{Turn}
-use Rattle.workload.specs.Draft.{Draft, declared, count_of, limit_of, call_count, key_count, keys_of, names_object, is_call, is_item, may_follow}
+use Rattle.workload.specs.Draft.{Draft, declared, count_of, limit_of, call_count, key_count, range_count, is_range, keys_of, names_object, is_call, is_item, may_follow}
 use Rattle.workload.proofs.Passing.{both, not_true}
 
 pub record ObjectFollows (d : Draft) (o : ObjectLine) : Type 0 where
@@ -44,15 +44,18 @@ pub record CallFollows (d : Draft) (object : List ℕ) (made : Call) : Type 0 wh
   pub call : is_call made ≡ true
   pub room : nat_lt (call_count d.plan.scripts) MAX_CALLS ≡ true
   pub keys : nat_le (key_count d.plan.scripts (keys_of made)) MAX_KEYS ≡ true
+  pub ranges : nat_le (range_count d.plan.scripts + count_by is_range (made ∷ [])) MAX_RANGES ≡ true
 
 pub call_follows : (d : Draft) (name : List ℕ) (call : Call) → may_follow d (lines.Call name call) ≡ true → CallFollows d name call
 call_follows d name call e =
     let on = names_object (declared d name) call in
     let room = nat_lt (call_count d.plan.scripts) MAX_CALLS in
     let keys = nat_le (key_count d.plan.scripts (keys_of call)) MAX_KEYS in
-    let p1 = both (is_some d.current) (is_name name && (on && (is_call call && (room && keys)))) e in
-    let p2 = both (is_name name) (on && (is_call call && (room && keys))) p1.1 in
-    let p3 = both on (is_call call && (room && keys)) p2.1 in
-    let p4 = both (is_call call) (room && keys) p3.1 in
-    let p5 = both room keys p4.1 in
-    record { current = p1.0; name = p2.0; on = p3.0; call = p4.0; room = p5.0; keys = p5.1 }
+    let ranges = nat_le (range_count d.plan.scripts + count_by is_range (call ∷ [])) MAX_RANGES in
+    let p1 = both (is_some d.current) (is_name name && (on && (is_call call && (room && (keys && ranges))))) e in
+    let p2 = both (is_name name) (on && (is_call call && (room && (keys && ranges)))) p1.1 in
+    let p3 = both on (is_call call && (room && (keys && ranges))) p2.1 in
+    let p4 = both (is_call call) (room && (keys && ranges)) p3.1 in
+    let p5 = both room (keys && ranges) p4.1 in
+    let p6 = both keys ranges p5.1 in
+    record { current = p1.0; name = p2.0; on = p3.0; call = p4.0; room = p5.0; keys = p6.0; ranges = p6.1 }

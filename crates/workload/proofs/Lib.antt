@@ -1,10 +1,13 @@
 pub mod DraftLemmas
 pub mod Follows
 pub mod KeyLemmas
+mod Keywords
 pub mod LineLemmas
 pub mod Numbers
 pub mod Passing
-pub mod CheckLemmas
+pub mod CallForms
+mod CallWords
+mod CheckLemmas
 pub mod ReadLemmas
 pub mod OneReading
 pub mod SameLine

@@ -1,15 +1,24 @@
 -- The text of a line, and the words that it is cut into again.
-use Rattle.std.proofs.Common.{◌≡◌, ℕ, suc, ◌+◌, ◌*◌, ◌^◌, ◌<◌, ◌≤◌, Bool, true, false, eqb, ◌&&◌, not, List, [], ◌∷◌, ◌++◌, map, length, refl, ap, ◌∙◌, arith}
+use Rattle.std.proofs.Common.{◌≡◌, ℕ, suc, ◌+◌, ◌*◌, ◌^◌, ◌<◌, ◌≤◌, Bool, true, false, eqb, ◌&&◌, not, List, [], ◌∷◌, ◌++◌, map, length, ℤ, pos, negsuc, Option, Some, None, refl, ap, ◌∙◌, arith}
 use Rattle.std.specs.Prelude.{nat_le, codes}
 use Rattle.std.specs.List.{filter, list_all, slice_split, onto_first, join_with_byte}
 use Rattle.std.specs.Str.{all_ascii_digits}
-use Rattle.std.specs.Fmt.{decimal}
+use Rattle.std.specs.Fmt.{decimal, signed_decimal}
+use Rattle.std.specs.Option.{option_to_list}
 use Rattle.std.proofs.lemmas.Bool.{eqb-true, leb-true, le-leb, ltb-true}
 use Rattle.std.proofs.lemmas.Bool.Decides.{nat_tests}
 use Rattle.std.proofs.lemmas.List.{length-append}
 use Rattle.std.proofs.lemmas.Fmt.{digits_decimal, decimal_nonempty, length-decimal-le}
 use Rattle.std.proofs.lemmas.List.Splits.{slice_split-cons_yes, slice_split-cons_no}
 use Rattle.sync_model.specs.Name.{is_name, is_letter, is_name_byte}
+use Rattle.sync_model.specs.declared.atomic_object.AtomicKind.{AtomicKind}
+use Rattle.sync_model.specs.declared.atomic_object.AtomicKind.TheVariants as types
+use Rattle.sync_model.specs.declared.atomic_object.Number.{Number}
+use Rattle.sync_model.specs.declared.atomic_object.Number.TheVariants as numbers
+use Rattle.sync_model.specs.declared.atomic_object.AtomicCall.{AtomicCall}
+use Rattle.sync_model.specs.declared.atomic_object.AtomicCall.TheVariants as atomic_calls
+use Rattle.sync_model.specs.SequentialMap.{map_key}
+use Rattle.sync_model.specs.SequentialAtomic.{has_bits, is_signed, is_of, is_atomic_call}
 use Rattle.sync_model.specs.declared.call.Call.{Call}
 use Rattle.sync_model.specs.declared.call.Call.TheVariants as calls
 use Rattle.sync_model.specs.declared.map_object.MapCall.{MapCall}
@@ -23,8 +32,11 @@ use Rattle.workload.specs.declared.line.Line.{Line}
 use Rattle.workload.specs.declared.line.Line.TheVariants as lines
 use Rattle.workload.specs.declared.turn.Turn.{Turn}
 use Rattle.workload.specs.declared.turn.Turn.TheVariants as turns
-use Rattle.workload.specs.Words.{spelled, first_spelled, kind_word, verb_word, verb_of, map_verb, operands_of, map_operands, turn_word}
-use Rattle.workload.specs.Draft.{Draft, may_follow, is_call, is_map_call, is_item}
+use Rattle.workload.specs.Words.{spelled, first_spelled, kind_word, verb_word, verb_of, operands_of, map_values, map_operands, atomic_operands, number_word, turn_word}
+use Rattle.workload.specs.Plan.{object_of, has_call}
+use Rattle.workload.specs.declared.object.Declared.{Declared}
+use Rattle.workload.proofs.CallWords.{narrow}
+use Rattle.workload.specs.Draft.{Draft, declared, may_follow, names_object, is_call, is_map_call, is_value, is_item}
 use Rattle.workload.proofs.Follows.{object_follows, schedule_follows, call_follows}
 use Rattle.workload.proofs.Numbers.{numerals}
 use Rattle.workload.specs.Lines.{lines_of, words_of, is_clean, is_printable, is_filled}
@@ -182,32 +194,115 @@ turn_words workers (t ∷ ts) few h =
     let others = turn_words workers ts few parts.1 in
     (pair (is_word (turn_word t)) (list_all is_word (map turn_word ts)) first.0 others.0, omega (arith, first.1, others.1))
 
-map_operands_fit : (c : MapCall (List ℕ)) → is_map_call c ≡ true → (list_all is_word (map_operands c) ≡ true) × (widths (map_operands c) ≤ 60)
-map_operands_fit (map_calls.Load k) h =
-    let key = name_is_word k h in
-    (pair (is_word k) true key.0 refl, omega (arith, key.1))
-map_operands_fit (map_calls.Store k n) h =
-    let parts = both (is_name k) (nat_le n MAX_VALUE) h in
-    let key = name_is_word k parts.0 in
-    let value = decimal_is_word n (omega (arith, leb-true n MAX_VALUE parts.1)) in
-    (pair (is_word k) (list_all is_word (decimal n ∷ [])) key.0 (pair (is_word (decimal n)) true value.0 refl), omega (arith, key.1, value.1))
+values_fit : (vs : List ℕ) → list_all is_value vs ≡ true → (list_all is_word (map decimal vs) ≡ true) × (widths (map decimal vs) ≤ 21 * length vs)
+values_fit [] h = (refl, omega arith)
+values_fit (v ∷ vs) h =
+    let parts = both (is_value v) (list_all is_value vs) h in
+    let first = decimal_is_word v (omega (arith, leb-true v MAX_VALUE parts.0)) in
+    let others = values_fit vs parts.1 in
+    (pair (is_word (decimal v)) (list_all is_word (map decimal vs)) first.0 others.0, omega (arith, first.1, others.1))
+
+two_values : (c : MapCall (List ℕ)) → length (map_values c) ≤ 2
+two_values (map_calls.Load k) = omega arith
+two_values (map_calls.Store k v) = omega arith
+two_values (map_calls.LoadOrStore k v) = omega arith
+two_values (map_calls.LoadAndDelete k) = omega arith
+two_values (map_calls.Delete k) = omega arith
+two_values (map_calls.Swap k v) = omega arith
+two_values (map_calls.CompareAndSwap k v w) = omega arith
+two_values (map_calls.CompareAndDelete k v) = omega arith
+two_values map_calls.Clear = omega arith
+
+keyed_fit : (key : Option (List ℕ)) (vs : List ℕ) → list_all is_name (option_to_list key) ≡ true → list_all is_value vs ≡ true → length vs ≤ 2
+    → (list_all is_word (option_to_list key ++ map decimal vs) ≡ true) × (widths (option_to_list key ++ map decimal vs) ≤ 80)
+keyed_fit None vs named h few =
+    let values = values_fit vs h in
+    (values.0, omega (arith, values.1))
+keyed_fit (Some k) vs named h few =
+    let key = name_is_word k (both (is_name k) true named).0 in
+    let values = values_fit vs h in
+    (pair (is_word k) (list_all is_word (map decimal vs)) key.0 values.0, omega (arith, key.1, values.1))
+
+map_operands_fit : (c : MapCall (List ℕ)) → is_map_call c ≡ true → (list_all is_word (map_operands c) ≡ true) × (widths (map_operands c) ≤ 80)
+map_operands_fit c h =
+    let parts = both (list_all is_name (option_to_list (map_key c))) (list_all is_value (map_values c)) h in
+    keyed_fit (map_key c) (map_values c) parts.0 parts.1 (two_values c)
+
+signed_is_word : (z : ℤ) → is_signed (2 ^ 63) z ≡ true → (is_word (signed_decimal z) ≡ true) × (length (signed_decimal z) ≤ 20)
+signed_is_word (pos n) h = decimal_is_word n (omega (arith, ltb-true n (2 ^ 63) h))
+signed_is_word (negsuc n) h =
+    let small = ltb-true n (2 ^ 63) h in
+    let digits = decimal_is_word (suc n) (omega arith) in (
+      pair (is_filled (45 ∷ decimal (suc n))) (list_all is_word_byte (45 ∷ decimal (suc n))) (filled (45 ∷ decimal (suc n)) (omega arith)) (both (is_filled (decimal (suc n))) (list_all is_word_byte (decimal (suc n))) digits.0).1,
+      omega (arith, length-decimal-le 19 (suc n) (omega arith) (omega arith) (omega arith)),
+    )
+
+number_is_word : (k : AtomicKind) (x : Number) → is_of k x ≡ true → (is_word (number_word x) ≡ true) × (length (number_word x) ≤ 20)
+number_is_word types.Int32 (numbers.Int32 z) h = signed_is_word z (narrow z h)
+number_is_word types.Int64 (numbers.Int64 z) h = signed_is_word z h
+number_is_word types.Uint32 (numbers.Uint32 n) h = decimal_is_word n (omega (arith, ltb-true n (2 ^ 32) h))
+number_is_word types.Uint64 (numbers.Uint64 n) h = decimal_is_word n (ltb-true n (2 ^ 64) h)
+number_is_word types.Bool (numbers.Bool true) h = (refl, omega arith)
+number_is_word types.Bool (numbers.Bool false) h = (refl, omega arith)
+number_is_word k x h = absurd cc
+
+one_number : (k : AtomicKind) (x : Number) → is_of k x ≡ true → (list_all is_word (number_word x ∷ []) ≡ true) × (widths (number_word x ∷ []) ≤ 80)
+one_number k x h =
+    let word = number_is_word k x h in
+    (pair (is_word (number_word x)) true word.0 refl, omega (arith, word.1))
+
+atomic_operands_fit : (k : AtomicKind) (c : AtomicCall) → is_atomic_call k c ≡ true → (list_all is_word (atomic_operands c) ≡ true) × (widths (atomic_operands c) ≤ 80)
+atomic_operands_fit k atomic_calls.Load h = (refl, omega arith)
+atomic_operands_fit k (atomic_calls.Store v) h = one_number k v h
+atomic_operands_fit k (atomic_calls.Swap v) h = one_number k v h
+atomic_operands_fit k (atomic_calls.Add v) h = one_number k v (both (has_bits k) (is_of k v) h).1
+atomic_operands_fit k (atomic_calls.And v) h = one_number k v (both (has_bits k) (is_of k v) h).1
+atomic_operands_fit k (atomic_calls.Or v) h = one_number k v (both (has_bits k) (is_of k v) h).1
+atomic_operands_fit k (atomic_calls.CompareAndSwap v w) h =
+    let both_are = both (is_of k v) (is_of k w) h in
+    let first = number_is_word k v both_are.0 in
+    let second = number_is_word k w both_are.1 in
+    (pair (is_word (number_word v)) (list_all is_word (number_word w ∷ [])) first.0 (pair (is_word (number_word w)) true second.0 refl), omega (arith, first.1, second.1))
+
+operands_fit : (kind : ObjectKind) (c : Call) → has_call kind c ≡ true → is_call c ≡ true → (list_all is_word (operands_of c) ≡ true) × (widths (operands_of c) ≤ 80)
+operands_fit kind (calls.Map i c) on h = map_operands_fit c h
+operands_fit kind (calls.Range i) on h = (refl, omega arith)
+operands_fit (kinds.Atomic k) (calls.Atomic i c) on h = atomic_operands_fit k c on
+operands_fit kinds.Map (calls.Atomic i c) on h = absurd cc
 
 verb_fits : (v : Verb) → (is_word (verb_word v) ≡ true) × (length (verb_word v) ≤ 20)
 verb_fits verbs.Load = (refl, omega arith)
 verb_fits verbs.Store = (refl, omega arith)
+verb_fits verbs.LoadOrStore = (refl, omega arith)
+verb_fits verbs.LoadAndDelete = (refl, omega arith)
+verb_fits verbs.Delete = (refl, omega arith)
+verb_fits verbs.Swap = (refl, omega arith)
+verb_fits verbs.CompareAndSwap = (refl, omega arith)
+verb_fits verbs.CompareAndDelete = (refl, omega arith)
+verb_fits verbs.Clear = (refl, omega arith)
+verb_fits verbs.Range = (refl, omega arith)
+verb_fits verbs.Add = (refl, omega arith)
+verb_fits verbs.And = (refl, omega arith)
+verb_fits verbs.Or = (refl, omega arith)
 
-call_fits : (name : List ℕ) (c : Call) → is_name name ≡ true → is_call c ≡ true → FitsLine (verb_word (verb_of c) ∷ name ∷ operands_of c)
-call_fits name (calls.Map i c) named h =
-    let first = verb_fits (map_verb c) in
+call_fits : (o : Option Declared) (name : List ℕ) (c : Call) → names_object o c ≡ true → is_name name ≡ true → is_call c ≡ true → FitsLine (verb_word (verb_of c) ∷ name ∷ operands_of c)
+call_fits None name c on named h = absurd cc
+call_fits (Some found) name c on named h =
+    let first = verb_fits (verb_of c) in
     let second = name_is_word name named in
-    let others = map_operands_fit c h in
+    let others = operands_fit found.kind c (both (eqb found.place (object_of c)) (has_call found.kind c) on).1 h in
     record {
-      all = pair (is_word (verb_word (map_verb c))) (list_all is_word (name ∷ map_operands c)) first.0 (pair (is_word name) (list_all is_word (map_operands c)) second.0 others.0);
-      short = omega (arith, length-join (verb_word (map_verb c)) (name ∷ map_operands c), first.1, second.1, others.1);
+      all = pair (is_word (verb_word (verb_of c))) (list_all is_word (name ∷ operands_of c)) first.0 (pair (is_word name) (list_all is_word (operands_of c)) second.0 others.0);
+      short = omega (arith, length-join (verb_word (verb_of c)) (name ∷ operands_of c), first.1, second.1, others.1);
     }
 
 kind_fits : (k : ObjectKind) → (is_word (kind_word k) ≡ true) × (length (kind_word k) ≤ 20)
 kind_fits kinds.Map = (refl, omega arith)
+kind_fits (kinds.Atomic types.Int32) = (refl, omega arith)
+kind_fits (kinds.Atomic types.Int64) = (refl, omega arith)
+kind_fits (kinds.Atomic types.Uint32) = (refl, omega arith)
+kind_fits (kinds.Atomic types.Uint64) = (refl, omega arith)
+kind_fits (kinds.Atomic types.Bool) = (refl, omega arith)
 
 -- a schedule line of at most eight items, and any other line
 abbrev pub IsNarrow : Line → Type 0
@@ -239,7 +334,7 @@ line_fits d (lines.Schedule ts) few f narrow =
     }
 line_fits d (lines.Call n c) few f narrow =
     let h = call_follows d n c f in
-    call_fits n c h.name h.call
+    call_fits (declared d n) n c h.on h.name h.call
 
 -- the first line fits
 pub filled_pair : (workers : ℕ) → workers < 2 ^ 64 → FitsLine (first_spelled workers)

@@ -1,6 +1,6 @@
 -- A line that is read has no reason to be refused.
 use Rattle.std.proofs.Common.{◌≡◌, ℕ, ◌+◌, ◌^◌, ◌<◌, ◌≤◌, Bool, true, false, cond, eqb, List, [], ◌∷◌, map, length, Option, Some, None, refl, sym, ap, subst, ◌∙◌, arith, ⊎_elim}
-use Rattle.std.specs.Prelude.{nat_lt, nat_le, is_some}
+use Rattle.std.specs.Prelude.{nat_lt, nat_le, is_some, count_by}
 use Rattle.std.specs.List.{list_all, flat_map}
 use Rattle.std.specs.Fmt.{decimal}
 use Rattle.std.proofs.lemmas.Bool.{eqb-true, ltb-true, leb-true, lt-ltb, le-leb}
@@ -11,7 +11,7 @@ use Rattle.sync_model.specs.declared.call.Call.TheVariants as calls
 use Rattle.sync_model.specs.declared.map_object.MapCall.TheVariants as map_calls
 use Rattle.workload.specs.declared.keyword.Keyword.{Keyword}
 use Rattle.workload.specs.declared.keyword.Keyword.TheVariants as keywords
-use Rattle.workload.specs.declared.limits.TheConstants.{MAX_CALLS, MAX_KEYS, MAX_TURNS, MAX_VALUE, MAX_WORKERS}
+use Rattle.workload.specs.declared.limits.TheConstants.{MAX_CALLS, MAX_KEYS, MAX_RANGES, MAX_TURNS, MAX_VALUE, MAX_WORKERS}
 use Rattle.workload.specs.declared.object.Declared.{Declared}
 use Rattle.workload.specs.declared.object.ObjectKind.{ObjectKind}
 use Rattle.workload.specs.declared.object.ObjectKind.TheVariants as kinds
@@ -24,25 +24,21 @@ use Rattle.workload.specs.declared.turn.Turn.TheVariants as turns
 use Rattle.workload.specs.Plan.{Plan, object_of, has_call}
 use Rattle.workload.specs.Lines.{lines_of, words_of, is_significant}
 use Rattle.workload.specs.Words.{keyword_of, arguments_of, verb_of, operands_of, turn_word, is_number, is_number_to}
-use Rattle.workload.specs.Draft.{Draft, declared, may_follow, names_object, is_call, is_item, keys_of, call_count, key_count}
-use Rattle.workload.specs.Checks.{first_failing, form_of, form_checks, worker_checks, item_checks, line_checks, word_checks, reason_of}
+use Rattle.workload.specs.Draft.{Draft, declared, may_follow, names_object, is_call, is_item, keys_of, call_count, key_count, is_range, range_count}
+use Rattle.workload.specs.Checks.{first_failing, form_of, form_checks, ranges_in, worker_checks, item_checks, line_checks, word_checks, reason_of}
 use Rattle.workload.specs.Reads.{Says, IsRead, ReadsOn, Reads, FirstFault, IsRefused}
 use Rattle.workload.proofs.Passing.{both}
 use Rattle.workload.proofs.Follows.{object_follows, schedule_follows, call_follows}
 use Rattle.workload.proofs.Numbers.{is_number-decimal, number_of-decimal}
-use Rattle.workload.proofs.CheckLemmas.{items_pass, turns_pass}
-use Rattle.workload.proofs.SameLine.{keyword_at-keyword_word}
+use Rattle.workload.proofs.CheckLemmas.{form_passes, items_pass, turns_pass}
+use Rattle.workload.proofs.CallForms.{value_passes, call_form, ranges_of}
+use Rattle.workload.proofs.Keywords.{keyword_at-keyword_word}
 use Rattle.workload.proofs.OneReading.{IsSmall, read_small, same_read, some_is}
 
 worker_passes : (workers i : ℕ) → workers ≤ MAX_WORKERS → nat_lt i workers ≡ true → first_failing (worker_checks workers (decimal i)) ≡ None
 worker_passes workers i few lt =
     let small : i < 2 ^ 64 = omega (arith, ltb-true i workers lt) in
     rw (is_number-decimal i small, number_of-decimal i small, lt) refl
-
-value_passes : (n : ℕ) → nat_le n MAX_VALUE ≡ true → is_number_to MAX_VALUE (decimal n) ≡ true
-value_passes n le =
-    let small : n < 2 ^ 64 = omega (arith, leb-true n MAX_VALUE le) in
-    rw (is_number-decimal n small, number_of-decimal n small, le) refl
 
 -- a word of digits doesn't begin with `@`, so it is checked as a worker's number
 item_is_worker : (workers : ℕ) (word : List ℕ) → is_number word ≡ true → item_checks workers word ≡ worker_checks workers word
@@ -70,23 +66,20 @@ items_all_pass workers (t ∷ ts) few p =
     items_pass workers (turn_word t) (map turn_word ts) (item_passes workers t few parts.0) ∙ items_all_pass workers ts few parts.1
 
 form_of_call : (d : Draft) (found : Declared) (c : Call) → has_call found.kind c ≡ true → is_call c ≡ true → nat_lt (call_count d.plan.scripts) MAX_CALLS ≡ true → nat_le (key_count d.plan.scripts (keys_of c)) MAX_KEYS ≡ true
-    → first_failing (form_checks d (form_of (verb_of c) found.kind) (operands_of c)) ≡ None
-form_of_call d found c on fits room keys = on_kind found.kind c on fits room keys
-  where
-    on_kind : (kind : ObjectKind) (c : Call) → has_call kind c ≡ true → is_call c ≡ true → nat_lt (call_count d.plan.scripts) MAX_CALLS ≡ true → nat_le (key_count d.plan.scripts (keys_of c)) MAX_KEYS ≡ true
-        → first_failing (form_checks d (form_of (verb_of c) kind) (operands_of c)) ≡ None
-    on_kind kinds.Map (calls.Map i (map_calls.Load k)) on fits room keys = rw (fits, room, keys) refl
-    on_kind kinds.Map (calls.Map i (map_calls.Store k n)) on fits room keys =
-        let parts = both (is_name k) (nat_le n MAX_VALUE) fits in
-        rw (parts.0, value_passes n parts.1, room, keys) refl
+    → nat_le (range_count d.plan.scripts + count_by is_range (c ∷ [])) MAX_RANGES ≡ true
+    → first_failing (form_checks d (verb_of c) (form_of (verb_of c) found.kind) (operands_of c)) ≡ None
+form_of_call d found c on fits room keys ranges =
+    let few : nat_le (range_count d.plan.scripts + ranges_in (verb_of c)) MAX_RANGES ≡ true = ap (λ (n : ℕ). nat_le (range_count d.plan.scripts + n) MAX_RANGES) (sym (ranges_of c)) ∙ ranges in
+    form_passes d (verb_of c) (form_of (verb_of c) found.kind) (operands_of c) (keys_of c) (call_form found.kind c on fits) ∙ rw (room, keys, few) refl
 
 call_passes : (d : Draft) (o : Option Declared) (n : List ℕ) (c : Call) → declared d n ≡ o → names_object o c ≡ true → is_some d.current ≡ true → is_name n ≡ true → is_call c ≡ true
     → nat_lt (call_count d.plan.scripts) MAX_CALLS ≡ true → nat_le (key_count d.plan.scripts (keys_of c)) MAX_KEYS ≡ true
+    → nat_le (range_count d.plan.scripts + count_by is_range (c ∷ [])) MAX_RANGES ≡ true
     → first_failing (line_checks d (Some (keywords.Call (verb_of c))) (n ∷ operands_of c)) ≡ None
-call_passes d None n c is on current name fits room keys = absurd cc
-call_passes d (Some found) n c is on current name fits room keys =
+call_passes d None n c is on current name fits room keys ranges = absurd cc
+call_passes d (Some found) n c is on current name fits room keys ranges =
     let has = (both (eqb found.place (object_of c)) (has_call found.kind c) on).1 in
-    rw (current, name, is) (form_of_call d found c has fits room keys)
+    rw (current, name, is) (form_of_call d found c has fits room keys ranges)
 
 line_passes : (d : Draft) (l : Line) → d.plan.workers ≤ MAX_WORKERS → may_follow d l ≡ true → first_failing (line_checks d (Some (keyword_of l)) (arguments_of l)) ≡ None
 line_passes d (lines.Object o) few f =
@@ -100,7 +93,7 @@ line_passes d (lines.Schedule ts) few f =
     ∙ ap (λ (b : Bool). cond b None (Some LimitReached)) (ap (λ (n : ℕ). nat_le (length d.plan.schedule + n) MAX_TURNS) (length-map ts turn_word) ∙ h.room)
 line_passes d (lines.Call n c) few f =
     let h = call_follows d n c f in
-    call_passes d (declared d n) n c refl h.on h.current h.name h.call h.room h.keys
+    call_passes d (declared d n) n c refl h.on h.current h.name h.call h.room h.keys h.ranges
 
 words_pass : (before : Option Draft) (words : List (List ℕ)) (after : Option Draft) → IsSmall before → Says before words after → first_failing (word_checks before words) ≡ None
 words_pass None words after small h =

@@ -10,8 +10,13 @@ use Rattle.sync_model.specs.declared.call.Call.{Call}
 use Rattle.sync_model.specs.declared.call.Call.TheVariants as calls
 use Rattle.sync_model.specs.declared.map_object.MapCall.{MapCall}
 use Rattle.sync_model.specs.declared.map_object.MapCall.TheVariants as map_calls
+use Rattle.sync_model.specs.declared.atomic_object.AtomicKind.{AtomicKind}
+use Rattle.sync_model.specs.declared.atomic_object.AtomicKind.TheVariants as types
+use Rattle.sync_model.specs.declared.atomic_object.AtomicCall.{AtomicCall}
+use Rattle.sync_model.specs.SequentialAtomic.{is_atomic_call}
 use Rattle.workload.specs.declared.keyword.Keyword.{Keyword}
 use Rattle.workload.specs.declared.keyword.Keyword.TheVariants as keywords
+use Rattle.workload.specs.declared.keyword.Verb.{Verb}
 use Rattle.workload.specs.declared.keyword.Verb.TheVariants as verbs
 use Rattle.workload.specs.declared.limits.TheConstants.{MAX_VALUE, MAX_WORKERS}
 use Rattle.workload.specs.declared.object.Declared.{Declared}
@@ -22,20 +27,13 @@ use Rattle.workload.specs.declared.line.Line.TheVariants as lines
 use Rattle.workload.specs.declared.turn.Turn.{Turn}
 use Rattle.workload.specs.declared.turn.Turn.TheVariants as turns
 use Rattle.workload.specs.Plan.{object_of, has_call}
-use Rattle.workload.specs.Words.{keyword_word, keyword_of, keyword_at, arguments_of, spelled, verb_of, map_verb, operands_of, map_operands, turn_word, is_number}
+use Rattle.workload.specs.Words.{keyword_word, keyword_of, keyword_at, arguments_of, spelled, verb_of, map_verb, atomic_verb, operands_of, map_operands, atomic_operands, turn_word, is_number}
 use Rattle.workload.specs.Draft.{Draft, declared, may_follow, names_object, is_call, is_map_call, is_item}
 use Rattle.workload.proofs.Passing.{both}
 use Rattle.workload.proofs.Follows.{schedule_follows, call_follows}
 use Rattle.workload.proofs.Numbers.{is_number-decimal}
-
--- each keyword is read back from its word
-pub keyword_at-keyword_word : (k : Keyword) → keyword_at (keyword_word k) ≡ Some k
-keyword_at-keyword_word keywords.Workers = refl
-keyword_at-keyword_word (keywords.Object kinds.Map) = refl
-keyword_at-keyword_word keywords.Worker = refl
-keyword_at-keyword_word keywords.Schedule = refl
-keyword_at-keyword_word (keywords.Call verbs.Load) = refl
-keyword_at-keyword_word (keywords.Call verbs.Store) = refl
+use Rattle.workload.proofs.Keywords.{keyword_at-keyword_word}
+use Rattle.workload.proofs.CallWords.{map_call_at, map_call_spelled, atomic_call_at, atomic_call_spelled}
 
 some_is : {X : Type 0} (x y : X) → Some x ≡ Some y → x ≡ y
 some_is x y e = cc
@@ -71,15 +69,22 @@ same_turns workers (t ∷ ts) (u ∷ us) few p q e =
     ap (λ (x : Turn). x ∷ ts) first ∙ ap (λ (xs : List Turn). u ∷ xs) others
 
 same_map_call : (c d : MapCall (List ℕ)) → is_map_call c ≡ true → is_map_call d ≡ true → map_verb c ≡ map_verb d → map_operands c ≡ map_operands d → c ≡ d
-same_map_call (map_calls.Load k) (map_calls.Load l) p q v e = ap (λ (x : List ℕ). map_calls.Load x) (heads k l [] [] e).0
-same_map_call (map_calls.Store k m) (map_calls.Store l n) p q v e =
-    let words = heads k l (decimal m ∷ []) (decimal n ∷ []) e in
-    let value = (heads (decimal m) (decimal n) [] [] words.1).0 in
-    let small_m = leb-true m MAX_VALUE (both (is_name k) (nat_le m MAX_VALUE) p).1 in
-    let small_n = leb-true n MAX_VALUE (both (is_name l) (nat_le n MAX_VALUE) q).1 in
-    ap (λ (x : List ℕ). map_calls.Store x m) words.0 ∙ ap (λ (x : ℕ). map_calls.Store l x) (decimal_injective m n (omega arith) (omega arith) value)
-same_map_call (map_calls.Load k) (map_calls.Store l n) p q v e = absurd cc
-same_map_call (map_calls.Store k m) (map_calls.Load l) p q v e = absurd cc
+same_map_call c d p q v e = some_is c d (sym (map_call_spelled c p) ∙ ap (λ (x : Verb). map_call_at x (map_operands c)) v ∙ ap (map_call_at (map_verb d)) e ∙ map_call_spelled d q)
+
+same_atomic_call : (kind : AtomicKind) (c d : AtomicCall) → is_atomic_call kind c ≡ true → is_atomic_call kind d ≡ true → atomic_verb c ≡ atomic_verb d → atomic_operands c ≡ atomic_operands d → c ≡ d
+same_atomic_call kind c d p q v e = some_is c d (sym (atomic_call_spelled kind c p) ∙ ap (λ (x : Verb). atomic_call_at kind x (atomic_operands c)) v ∙ ap (atomic_call_at kind (atomic_verb d)) e ∙ atomic_call_spelled kind d q)
+
+-- no call of a map's calls is spelled as `range`
+no_range : (c : MapCall (List ℕ)) → map_verb c ≡ verbs.Range → ⊥
+no_range (map_calls.Load k) e = cc
+no_range (map_calls.Store k v) e = cc
+no_range (map_calls.LoadOrStore k v) e = cc
+no_range (map_calls.LoadAndDelete k) e = cc
+no_range (map_calls.Delete k) e = cc
+no_range (map_calls.Swap k v) e = cc
+no_range (map_calls.CompareAndSwap k v w) e = cc
+no_range (map_calls.CompareAndDelete k v) e = cc
+no_range map_calls.Clear e = cc
 
 -- a name gives the object of a call
 named : (o : Option Declared) (c d : Call) → names_object o c ≡ true → names_object o d ≡ true → object_of c ≡ object_of d
@@ -88,9 +93,26 @@ named (Some found) c d p q =
     sym (eqb-true found.place (object_of c) (both (eqb found.place (object_of c)) (has_call found.kind c) p).0)
     ∙ eqb-true found.place (object_of d) (both (eqb found.place (object_of d)) (has_call found.kind d) q).0
 
+same_call_on : (kind : ObjectKind) (c d : Call) → object_of c ≡ object_of d → has_call kind c ≡ true → has_call kind d ≡ true → is_call c ≡ true → is_call d ≡ true → verb_of c ≡ verb_of d → operands_of c ≡ operands_of d → c ≡ d
+same_call_on kinds.Map (calls.Map i c) (calls.Map j d) at on_c on_d p q v e = ap (λ (n : ℕ). calls.Map n c) at ∙ ap (λ (x : MapCall (List ℕ)). calls.Map j x) (same_map_call c d p q v e)
+same_call_on kinds.Map (calls.Range i) (calls.Range j) at on_c on_d p q v e = ap (λ (n : ℕ). calls.Range n) at
+same_call_on kinds.Map (calls.Map i c) (calls.Range j) at on_c on_d p q v e = absurd (no_range c v)
+same_call_on kinds.Map (calls.Range i) (calls.Map j d) at on_c on_d p q v e = absurd (no_range d (sym v))
+same_call_on (kinds.Atomic k) (calls.Atomic i c) (calls.Atomic j d) at on_c on_d p q v e = ap (λ (n : ℕ). calls.Atomic n c) at ∙ ap (λ (x : AtomicCall). calls.Atomic j x) (same_atomic_call k c d on_c on_d v e)
+same_call_on kinds.Map (calls.Atomic i c) d at on_c on_d p q v e = absurd cc
+same_call_on kinds.Map c (calls.Atomic j d) at on_c on_d p q v e = absurd cc
+same_call_on (kinds.Atomic k) (calls.Map i c) d at on_c on_d p q v e = absurd cc
+same_call_on (kinds.Atomic k) (calls.Range i) d at on_c on_d p q v e = absurd cc
+same_call_on (kinds.Atomic k) c (calls.Map j d) at on_c on_d p q v e = absurd cc
+same_call_on (kinds.Atomic k) c (calls.Range j) at on_c on_d p q v e = absurd cc
+
 same_call : (o : Option Declared) (c d : Call) → names_object o c ≡ true → names_object o d ≡ true → is_call c ≡ true → is_call d ≡ true → verb_of c ≡ verb_of d → operands_of c ≡ operands_of d → c ≡ d
-same_call o (calls.Map i c) (calls.Map j d) on_c on_d p q v e =
-    ap (λ (n : ℕ). calls.Map n c) (named o (calls.Map i c) (calls.Map j d) on_c on_d) ∙ ap (λ (x : MapCall (List ℕ)). calls.Map j x) (same_map_call c d p q v e)
+same_call None c d on_c on_d p q v e = absurd cc
+same_call (Some found) c d on_c on_d p q v e =
+    same_call_on found.kind c d (named (Some found) c d on_c on_d)
+    (both (eqb found.place (object_of c)) (has_call found.kind c) on_c).1
+    (both (eqb found.place (object_of d)) (has_call found.kind d) on_d).1
+    p q v e
 
 same_arguments : (d : Draft) (l m : Line) → d.plan.workers ≤ MAX_WORKERS → may_follow d l ≡ true → may_follow d m ≡ true → keyword_of l ≡ keyword_of m → arguments_of l ≡ arguments_of m → l ≡ m
 same_arguments d (lines.Object o) (lines.Object p) few f g k e =

@@ -3,7 +3,9 @@ use Rattle.std.specs.Prelude.{ℕ, Bool, false, ◌&&◌, ◌+◌, not, cond, na
 use Rattle.std.specs.List.{flat_map}
 use Rattle.std.specs.Str.{bytes_eq}
 use Rattle.sync_model.specs.Name.{is_name}
-use Rattle.workload.specs.declared.limits.TheConstants.{MAX_CALLS, MAX_KEYS, MAX_TURNS, MAX_VALUE, MAX_WORKERS}
+use Rattle.sync_model.specs.declared.atomic_object.AtomicKind.{AtomicKind}
+use Rattle.sync_model.specs.SequentialAtomic.{has_bits}
+use Rattle.workload.specs.declared.limits.TheConstants.{MAX_CALLS, MAX_KEYS, MAX_RANGES, MAX_TURNS, MAX_VALUE, MAX_WORKERS}
 use Rattle.workload.specs.declared.keyword.Keyword.{Keyword}
 use Rattle.workload.specs.declared.keyword.Keyword.TheVariants as keywords
 use Rattle.workload.specs.declared.keyword.Verb.{Verb}
@@ -16,8 +18,8 @@ use Rattle.workload.specs.declared.object.Declared.{Declared}
 use Rattle.workload.specs.declared.reason.Reason.{Reason}
 use Rattle.workload.specs.declared.reason.Reason.TheVariants.{NoWorkersLine, LineTooLong, BadByte, UnknownWord, WrongNumberOfWords, BadName, NameTaken, UnknownName, WrongKind, BadNumber, NoSuchWorker, CallOutsideWorker, LimitReached}
 use Rattle.workload.specs.Lines.{is_short, is_clean, words_of, is_significant}
-use Rattle.workload.specs.Words.{keyword_at, is_number, is_number_to, number_of}
-use Rattle.workload.specs.Draft.{Draft, declared, limit_of, count_of, call_count, key_count}
+use Rattle.workload.specs.Words.{keyword_at, is_number, is_number_to, is_number_word, number_of}
+use Rattle.workload.specs.Draft.{Draft, declared, limit_of, count_of, call_count, key_count, range_count}
 
 -- whether a check passes, and the reason that it fails for
 abbrev pub Check : Type 0
@@ -28,14 +30,46 @@ abbrev pub first_failing : List Check → Option Reason
 first_failing [] = None
 first_failing (check ∷ checks) = cond check.0 (first_failing checks) (Some check.1)
 
--- the operands of a call on an object of a kind, behind the object's name
+-- the operands of a call of a map, behind its name, where a map has the call
+abbrev pub map_form : Verb → Option (List Operand)
+map_form verbs.Load = Some (operands.Key ∷ [])
+map_form verbs.Store = Some (operands.Key ∷ operands.Value ∷ [])
+map_form verbs.LoadOrStore = Some (operands.Key ∷ operands.Value ∷ [])
+map_form verbs.LoadAndDelete = Some (operands.Key ∷ [])
+map_form verbs.Delete = Some (operands.Key ∷ [])
+map_form verbs.Swap = Some (operands.Key ∷ operands.Value ∷ [])
+map_form verbs.CompareAndSwap = Some (operands.Key ∷ operands.Value ∷ operands.Value ∷ [])
+map_form verbs.CompareAndDelete = Some (operands.Key ∷ operands.Value ∷ [])
+map_form verbs.Clear = Some []
+map_form verbs.Range = Some []
+map_form verbs.Add = None
+map_form verbs.And = None
+map_form verbs.Or = None
+
+-- one number of this type, where it is one that has bits
+abbrev pub bits_form : AtomicKind → Option (List Operand)
+bits_form kind = cond (has_bits kind) (Some (operands.Number kind ∷ [])) None
+
+-- the operands of a call of an atomic of this type
+abbrev pub atomic_form : AtomicKind → Verb → Option (List Operand)
+atomic_form kind verbs.Load = Some []
+atomic_form kind verbs.Store = Some (operands.Number kind ∷ [])
+atomic_form kind verbs.Swap = Some (operands.Number kind ∷ [])
+atomic_form kind verbs.Add = bits_form kind
+atomic_form kind verbs.And = bits_form kind
+atomic_form kind verbs.Or = bits_form kind
+atomic_form kind verbs.CompareAndSwap = Some (operands.Number kind ∷ operands.Number kind ∷ [])
+atomic_form kind verb = None
+
+-- the operands of a call on an object of a kind
 abbrev pub form_of : Verb → ObjectKind → Option (List Operand)
-form_of verbs.Load kinds.Map = Some (operands.Key ∷ [])
-form_of verbs.Store kinds.Map = Some (operands.Key ∷ operands.Value ∷ [])
+form_of verb kinds.Map = map_form verb
+form_of verb (kinds.Atomic kind) = atomic_form kind verb
 
 abbrev pub operand_check : Operand → List ℕ → Check
 operand_check operands.Key word = (is_name word, BadName)
 operand_check operands.Value word = (is_number_to MAX_VALUE word, BadNumber)
+operand_check (operands.Number kind) word = (is_number_word kind word, BadNumber)
 
 -- the operands from left to right
 abbrev pub operand_checks : List Operand → List (List ℕ) → List Check
@@ -49,20 +83,28 @@ key_operands [] words = []
 key_operands (form ∷ forms) [] = []
 key_operands (operands.Key ∷ forms) (word ∷ words) = word ∷ key_operands forms words
 key_operands (operands.Value ∷ forms) (word ∷ words) = key_operands forms words
+key_operands (operands.Number kind ∷ forms) (word ∷ words) = key_operands forms words
 
--- the limits on calls, of one more call with these keys
-abbrev pub limit_checks : Draft → List (List ℕ) → List Check
-limit_checks d keys =
-    (nat_lt (call_count d.plan.scripts) MAX_CALLS, LimitReached) ∷ (nat_le (key_count d.plan.scripts keys) MAX_KEYS, LimitReached) ∷ []
+-- how many `range` calls a call of this word is
+abbrev pub ranges_in : Verb → ℕ
+ranges_in verbs.Range = 1
+ranges_in verb = 0
 
-abbrev pub form_checks : Draft → Option (List Operand) → List (List ℕ) → List Check
-form_checks d None words = (false, WrongKind) ∷ []
-form_checks d (Some form) words =
-    (length words == length form, WrongNumberOfWords) ∷ operand_checks form words ++ limit_checks d (key_operands form words)
+-- the limits on calls, of one more call with these keys, which is so many `range` calls
+abbrev pub limit_checks : Draft → List (List ℕ) → ℕ → List Check
+limit_checks d keys ranges =
+    (nat_lt (call_count d.plan.scripts) MAX_CALLS, LimitReached)
+    ∷ (nat_le (key_count d.plan.scripts keys) MAX_KEYS, LimitReached)
+    ∷ (nat_le (range_count d.plan.scripts + ranges) MAX_RANGES, LimitReached) ∷ []
+
+abbrev pub form_checks : Draft → Verb → Option (List Operand) → List (List ℕ) → List Check
+form_checks d verb None words = (false, WrongKind) ∷ []
+form_checks d verb (Some form) words =
+    (length words == length form, WrongNumberOfWords) ∷ operand_checks form words ++ limit_checks d (key_operands form words) (ranges_in verb)
 
 abbrev pub object_checks : Draft → Option Declared → Verb → List (List ℕ) → List Check
 object_checks d None verb words = (false, UnknownName) ∷ []
-object_checks d (Some found) verb words = form_checks d (form_of verb found.kind) words
+object_checks d (Some found) verb words = form_checks d verb (form_of verb found.kind) words
 
 abbrev pub call_checks : Draft → Verb → List (List ℕ) → List Check
 call_checks d verb [] = (is_some d.current, CallOutsideWorker) ∷ (false, WrongNumberOfWords) ∷ []

@@ -1,13 +1,14 @@
 -- What the lines of a text say so far, and which line may follow them.
 use Rattle.std.specs.Prelude.{ℕ, Bool, true, false, ◌&&◌, ◌+◌, not, cond, nat_lt, nat_le, ◌==◌, List, [], ◌∷◌, ◌++◌, length, Option, Some, None, is_some, set, get_or, count_by, sum_by, replicate}
 use Rattle.std.specs.List.{list_all, list_any, flat_map}
+use Rattle.std.specs.Option.{option_to_list}
 use Rattle.std.specs.Str.{bytes_eq}
 use Rattle.sync_model.specs.Name.{is_name}
 use Rattle.sync_model.specs.declared.call.Call.{Call}
 use Rattle.sync_model.specs.declared.call.Call.TheVariants as calls
 use Rattle.sync_model.specs.declared.map_object.MapCall.{MapCall}
-use Rattle.sync_model.specs.declared.map_object.MapCall.TheVariants as map_calls
-use Rattle.workload.specs.declared.limits.TheConstants.{MAX_CALLS, MAX_KEYS, MAX_MAPS, MAX_TURNS, MAX_VALUE}
+use Rattle.sync_model.specs.SequentialMap.{map_key}
+use Rattle.workload.specs.declared.limits.TheConstants.{MAX_ATOMICS, MAX_CALLS, MAX_KEYS, MAX_MAPS, MAX_RANGES, MAX_TURNS, MAX_VALUE}
 use Rattle.workload.specs.declared.object.ObjectKind.{ObjectKind}
 use Rattle.workload.specs.declared.object.ObjectKind.TheVariants as kinds
 use Rattle.workload.specs.declared.object.ObjectLine.{ObjectLine}
@@ -17,6 +18,7 @@ use Rattle.workload.specs.declared.line.Line.TheVariants as lines
 use Rattle.workload.specs.declared.turn.Turn.{Turn}
 use Rattle.workload.specs.declared.turn.Turn.TheVariants as turns
 use Rattle.workload.specs.Plan.{Plan, object_of, has_call}
+use Rattle.workload.specs.Words.{map_values}
 
 -- the workload that the lines so far say, and the worker whose calls follow
 pub record Draft : Type 0 where
@@ -50,21 +52,22 @@ declared d name = declared_from 0 name d.plan.objects
 -- how many objects of a kind a text may have
 abbrev pub limit_of : ObjectKind → ℕ
 limit_of kinds.Map = MAX_MAPS
+limit_of (kinds.Atomic kind) = MAX_ATOMICS
 
 -- the kinds that count together
 abbrev pub count_together : ObjectKind → ObjectKind → Bool
 count_together kinds.Map kinds.Map = true
+count_together (kinds.Atomic kind) (kinds.Atomic other) = true
+count_together kind other = false
 
 abbrev pub count_of : ObjectKind → List ObjectLine → ℕ
 count_of kind objects = count_by (λ object. count_together kind object.kind) objects
 
 -- the keys of a call
-abbrev pub map_keys : MapCall (List ℕ) → List (List ℕ)
-map_keys (map_calls.Load key) = key ∷ []
-map_keys (map_calls.Store key value) = key ∷ []
-
 abbrev pub keys_of : Call → List (List ℕ)
-keys_of (calls.Map object call) = map_keys call
+keys_of (calls.Map object call) = option_to_list (map_key call)
+keys_of (calls.Range object) = []
+keys_of (calls.Atomic object call) = []
 
 -- the keys of all calls
 abbrev pub all_keys : List (List Call) → List (List ℕ)
@@ -83,13 +86,28 @@ key_count scripts more = distinct_count (more ++ all_keys scripts)
 abbrev pub call_count : List (List Call) → ℕ
 call_count scripts = sum_by length scripts
 
--- whether the numbers and keys of a call are in range
-abbrev pub is_map_call : MapCall (List ℕ) → Bool
-is_map_call (map_calls.Load key) = is_name key
-is_map_call (map_calls.Store key value) = is_name key && nat_le value MAX_VALUE
+-- whether it is a `range` call
+abbrev pub is_range : Call → Bool
+is_range (calls.Range object) = true
+is_range call = false
 
+-- how many `range` calls there are, all workers together
+abbrev pub range_count : List (List Call) → ℕ
+range_count scripts = sum_by (count_by is_range) scripts
+
+-- whether a value of a map is in range
+abbrev pub is_value : ℕ → Bool
+is_value value = nat_le value MAX_VALUE
+
+-- whether the key and the values of a call are in range
+abbrev pub is_map_call : MapCall (List ℕ) → Bool
+is_map_call call = list_all is_name (option_to_list (map_key call)) && list_all is_value (map_values call)
+
+-- the same of a call of any kind; of an atomic's numbers the kind of the object says it
 abbrev pub is_call : Call → Bool
 is_call (calls.Map object call) = is_map_call call
+is_call (calls.Range object) = true
+is_call (calls.Atomic object call) = true
 
 -- whether the name is that of the call's object
 abbrev pub names_object : Option Declared → Call → Bool
@@ -110,4 +128,5 @@ may_follow d (lines.Schedule schedule) =
     nat_lt 0 (length schedule) && (list_all (is_item d.plan.workers) schedule && nat_le (length d.plan.schedule + length schedule) MAX_TURNS)
 may_follow d (lines.Call name call) =
     is_some d.current && (is_name name && (names_object (declared d name) call && (is_call call
-    && (nat_lt (call_count d.plan.scripts) MAX_CALLS && nat_le (key_count d.plan.scripts (keys_of call)) MAX_KEYS))))
+    && (nat_lt (call_count d.plan.scripts) MAX_CALLS && (nat_le (key_count d.plan.scripts (keys_of call)) MAX_KEYS
+    && nat_le (range_count d.plan.scripts + count_by is_range (call ∷ [])) MAX_RANGES)))))

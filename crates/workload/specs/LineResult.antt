@@ -1,23 +1,27 @@
 -- What the reading of a line, or of a word of it, answers.
-use Rattle.std.specs.Prelude.{◌≡◌, codes, ◌<◌, ◌≤◌, map, ℕ, true, false, ◌==◌, List, [], ◌∷◌, length, Option, Some, None, Result, MatchResult}
+use Rattle.std.specs.Prelude.{◌≡◌, codes, ◌<◌, ◌≤◌, map, ℕ, true, false, ◌==◌, List, [], ◌∷◌, length, count_by, Option, Some, None, Result, MatchResult}
+use Rattle.std.specs.Option.{option_to_list}
 use Rattle.std.specs.List.{list_all, flat_map}
 use Rattle.std.specs.Fmt.{decimal}
 use Rattle.sync_model.specs.declared.call.Call.{Call}
 use Rattle.sync_model.specs.declared.map_object.MapCall.{MapCall}
+use Rattle.sync_model.specs.declared.atomic_object.AtomicKind.{AtomicKind}
+use Rattle.sync_model.specs.declared.atomic_object.AtomicCall.{AtomicCall}
+use Rattle.sync_model.specs.SequentialAtomic.{is_atomic_call}
+use Rattle.sync_model.specs.SequentialMap.{map_key}
 use Rattle.workload.specs.declared.fault.LineFault.{LineFault}
 use Rattle.workload.specs.declared.fault.LineFault.TheVariants as faults
 use Rattle.workload.specs.declared.keyword.Keyword.{Keyword}
 use Rattle.workload.specs.declared.keyword.Operand.{Operand}
 use Rattle.workload.specs.declared.keyword.Verb.{Verb}
-use Rattle.workload.specs.declared.object.ObjectKind.TheVariants as kinds
 use Rattle.workload.specs.declared.object.Declared.{Declared}
 use Rattle.workload.specs.declared.turn.Turn.{Turn}
 use Rattle.workload.specs.declared.limits.TheConstants.{MAX_WORKERS}
 use Rattle.workload.specs.declared.reason.Reason.TheVariants.{WrongKind, WrongNumberOfWords}
 use Rattle.workload.specs.declared.line.Line.{Line}
-use Rattle.workload.specs.Words.{spelled, keyword_of, arguments_of, keyword_at, map_verb, map_operands, verb_of, operands_of, turn_word}
-use Rattle.workload.specs.Draft.{Draft, may_follow, is_map_call, is_call, is_item, map_keys, keys_of, names_object}
-use Rattle.workload.specs.Checks.{Check, first_failing, line_checks, form_of, operand_checks, key_operands, item_checks, first_checks}
+use Rattle.workload.specs.Words.{spelled, keyword_of, arguments_of, keyword_at, map_verb, map_operands, atomic_verb, atomic_operands, verb_of, operands_of, turn_word}
+use Rattle.workload.specs.Draft.{Draft, may_follow, is_map_call, is_call, is_item, is_range, keys_of, names_object}
+use Rattle.workload.specs.Checks.{Check, first_failing, line_checks, map_form, atomic_form, form_of, operand_checks, ranges_in, key_operands, item_checks, first_checks}
 
 -- the fault is the first check that fails, unless memory ran out
 abbrev pub IsFault : List Check → LineFault → Type 0
@@ -48,18 +52,29 @@ abbrev pub PassesWith : Option (List Operand) → List (List ℕ) → List (List
 PassesWith None words keys = ⊥
 PassesWith (Some form) words keys = (key_operands form words ≡ keys) × (first_failing (form_words (Some form) words) ≡ None)
 
+-- words of this form, which are these keys and then numbers spelled so, or the first check of them that fails
+abbrev pub IsOperands : {X : Type 0} → (X → Type 0) → List Operand → List (List ℕ) → Result X LineFault → Type 0
+IsOperands Is form words result = MatchResult result (λ x. Is x × (first_failing (form_words (Some form) words) ≡ None)) (IsFault (form_words (Some form) words))
+
 -- a call of a map with these operands, or the first check of them that fails
 abbrev pub IsMapCall : Verb → List (List ℕ) → Result (MapCall (List ℕ)) LineFault → Type 0
 IsMapCall verb words result =
     MatchResult result
-    (λ call. (map_verb call ≡ verb) × (map_operands call ≡ words) × (is_map_call call ≡ true) × PassesWith (form_of verb kinds.Map) words (map_keys call))
-    (IsFault (form_words (form_of verb kinds.Map) words))
+    (λ call. (map_verb call ≡ verb) × (map_operands call ≡ words) × (is_map_call call ≡ true) × PassesWith (map_form verb) words (option_to_list (map_key call)))
+    (IsFault (form_words (map_form verb) words))
+
+-- a call of an atomic of this type with these operands, or the first check of them that fails
+abbrev pub IsAtomicCall : AtomicKind → Verb → List (List ℕ) → Result AtomicCall LineFault → Type 0
+IsAtomicCall kind verb words result =
+    MatchResult result
+    (λ call. (atomic_verb call ≡ verb) × (atomic_operands call ≡ words) × (is_atomic_call kind call ≡ true) × PassesWith (atomic_form kind verb) words [])
+    (IsFault (form_words (atomic_form kind verb) words))
 
 -- a call on the object that was found, or the first check that fails
 abbrev pub IsCallOn : Declared → Verb → List (List ℕ) → Result Call LineFault → Type 0
 IsCallOn found verb words result =
     MatchResult result
-    (λ call. (verb_of call ≡ verb) × (operands_of call ≡ words) × (is_call call ≡ true) × (names_object (Some found) call ≡ true) × PassesWith (form_of verb found.kind) words (keys_of call))
+    (λ call. (verb_of call ≡ verb) × (operands_of call ≡ words) × (is_call call ≡ true) × (names_object (Some found) call ≡ true) × (count_by is_range (call ∷ []) ≡ ranges_in verb) × PassesWith (form_of verb found.kind) words (keys_of call))
     (IsFault (form_words (form_of verb found.kind) words))
 
 -- the items of a schedule, or the first check that fails

@@ -3,6 +3,7 @@ use Rattle.std.specs.Prelude.{ℕ, Bool, true, false, ◌&&◌, nat_lt, ◌==◌
 use Rattle.std.specs.List.{list_all}
 use Rattle.sync_model.specs.declared.call.Call.{Call}
 use Rattle.sync_model.specs.declared.call.Call.TheVariants as calls
+use Rattle.sync_model.specs.SequentialAtomic.{is_atomic_call}
 use Rattle.workload.specs.declared.object.ObjectKind.{ObjectKind}
 use Rattle.workload.specs.declared.object.ObjectKind.TheVariants as kinds
 use Rattle.workload.specs.declared.object.ObjectLine.{ObjectLine}
@@ -18,10 +19,15 @@ pub record Plan : Type 0 where
 -- the object on which a call is made, by its place among the objects
 abbrev pub object_of : Call → ℕ
 object_of (calls.Map object call) = object
+object_of (calls.Range object) = object
+object_of (calls.Atomic object call) = object
 
--- whether an object of this kind has the call
+-- whether an object of this kind has the call: an atomic's operands are of its type, and in its range
 abbrev pub has_call : ObjectKind → Call → Bool
 has_call kinds.Map (calls.Map object call) = true
+has_call kinds.Map (calls.Range object) = true
+has_call (kinds.Atomic kind) (calls.Atomic object call) = is_atomic_call kind call
+has_call kind call = false
 
 -- whether a call is on an object that is there and has it
 abbrev pub is_on : Option ObjectLine → Call → Bool

@@ -2,10 +2,10 @@
 use Rattle.std.specs.Prelude.{◌≡◌, ◌<◌, ◌≤◌, Bool, true, ◌&&◌, not, nat_lt, List, [], ◌∷◌, ◌++◌, length, is_some}
 use Rattle.std.specs.List.{list_all}
 use Rattle.sync_model.specs.Name.{is_name}
-use Rattle.workload.specs.declared.limits.TheConstants.{MAX_CALLS, MAX_KEYS, MAX_TURNS, MAX_WORKERS}
+use Rattle.workload.specs.declared.limits.TheConstants.{MAX_CALLS, MAX_KEYS, MAX_RANGES, MAX_TURNS, MAX_WORKERS}
 use Rattle.workload.specs.declared.object.ObjectLine.{ObjectLine}
 use Rattle.workload.specs.Plan.{Plan, is_valid}
-use Rattle.workload.specs.Draft.{declared_from, count_of, limit_of, is_call, is_item, call_count, all_keys, distinct_count}
+use Rattle.workload.specs.Draft.{declared_from, count_of, limit_of, is_call, is_item, call_count, all_keys, distinct_count, range_count}
 
 -- objects that may be declared behind others: each has a name that is new, and keeps its limit
 abbrev pub may_declare : List ObjectLine → List ObjectLine → Bool
@@ -23,5 +23,6 @@ pub record IsReadable (plan : Plan) : Type 0 where
   pub calls : list_all (list_all is_call) plan.scripts ≡ true
   pub call_room : call_count plan.scripts ≤ MAX_CALLS
   pub key_room : distinct_count (all_keys plan.scripts) ≤ MAX_KEYS
+  pub range_room : range_count plan.scripts ≤ MAX_RANGES
   pub items : list_all (is_item plan.workers) plan.schedule ≡ true
   pub turn_room : length plan.schedule ≤ MAX_TURNS

@@ -1,12 +1,20 @@
 -- How the lines of a text are spelled, as words.
-use Rattle.std.specs.Prelude.{ℕ, Bool, true, false, ◌&&◌, cond, nat_le, ◌==◌, List, [], ◌∷◌, length, map, codes, Option, Some, None}
-use Rattle.std.specs.Fmt.{decimal}
+use Rattle.std.specs.Prelude.{ℕ, ◌^◌, ◌-◌, Bool, true, false, ◌&&◌, ◌||◌, cond, nat_lt, nat_le, ◌==◌, List, [], ◌∷◌, ◌++◌, length, map, codes, Option, Some, None}
+use Rattle.std.specs.Option.{option_to_list}
+use Rattle.std.specs.Fmt.{decimal, signed_decimal}
 use Rattle.std.specs.Str.{bytes_eq, all_ascii_digits}
 use Rattle.std.specs.Str.Parse.{digits_value}
 use Rattle.sync_model.specs.declared.call.Call.{Call}
 use Rattle.sync_model.specs.declared.call.Call.TheVariants as calls
 use Rattle.sync_model.specs.declared.map_object.MapCall.{MapCall}
 use Rattle.sync_model.specs.declared.map_object.MapCall.TheVariants as map_calls
+use Rattle.sync_model.specs.declared.atomic_object.AtomicKind.{AtomicKind}
+use Rattle.sync_model.specs.declared.atomic_object.AtomicKind.TheVariants as types
+use Rattle.sync_model.specs.declared.atomic_object.Number.{Number}
+use Rattle.sync_model.specs.declared.atomic_object.Number.TheVariants as numbers
+use Rattle.sync_model.specs.declared.atomic_object.AtomicCall.{AtomicCall}
+use Rattle.sync_model.specs.declared.atomic_object.AtomicCall.TheVariants as atomic_calls
+use Rattle.sync_model.specs.SequentialMap.{map_key}
 use Rattle.workload.specs.declared.keyword.Keyword.{Keyword}
 use Rattle.workload.specs.declared.keyword.Keyword.TheVariants as keywords
 use Rattle.workload.specs.declared.keyword.Verb.{Verb}
@@ -21,11 +29,27 @@ use Rattle.workload.specs.declared.turn.Turn.TheVariants as turns
 -- the word of a kind of object
 abbrev pub kind_word : ObjectKind → List ℕ
 kind_word kinds.Map = codes "map"
+kind_word (kinds.Atomic types.Int32) = codes "int32"
+kind_word (kinds.Atomic types.Int64) = codes "int64"
+kind_word (kinds.Atomic types.Uint32) = codes "uint32"
+kind_word (kinds.Atomic types.Uint64) = codes "uint64"
+kind_word (kinds.Atomic types.Bool) = codes "bool"
 
 -- the word of a call
 abbrev pub verb_word : Verb → List ℕ
 verb_word verbs.Load = codes "load"
 verb_word verbs.Store = codes "store"
+verb_word verbs.LoadOrStore = codes "los"
+verb_word verbs.LoadAndDelete = codes "lad"
+verb_word verbs.Delete = codes "delete"
+verb_word verbs.Swap = codes "swap"
+verb_word verbs.CompareAndSwap = codes "cas"
+verb_word verbs.CompareAndDelete = codes "cad"
+verb_word verbs.Clear = codes "clear"
+verb_word verbs.Range = codes "range"
+verb_word verbs.Add = codes "add"
+verb_word verbs.And = codes "and"
+verb_word verbs.Or = codes "or"
 
 -- the word that a line begins with
 abbrev pub keyword_word : Keyword → List ℕ
@@ -39,17 +63,70 @@ keyword_word (keywords.Call verb) = verb_word verb
 abbrev pub map_verb : {K : Type 0} → MapCall K → Verb
 map_verb (map_calls.Load key) = verbs.Load
 map_verb (map_calls.Store key value) = verbs.Store
+map_verb (map_calls.LoadOrStore key value) = verbs.LoadOrStore
+map_verb (map_calls.LoadAndDelete key) = verbs.LoadAndDelete
+map_verb (map_calls.Delete key) = verbs.Delete
+map_verb (map_calls.Swap key value) = verbs.Swap
+map_verb (map_calls.CompareAndSwap key old new) = verbs.CompareAndSwap
+map_verb (map_calls.CompareAndDelete key old) = verbs.CompareAndDelete
+map_verb map_calls.Clear = verbs.Clear
+
+abbrev pub atomic_verb : AtomicCall → Verb
+atomic_verb atomic_calls.Load = verbs.Load
+atomic_verb (atomic_calls.Store value) = verbs.Store
+atomic_verb (atomic_calls.Swap value) = verbs.Swap
+atomic_verb (atomic_calls.Add operand) = verbs.Add
+atomic_verb (atomic_calls.And operand) = verbs.And
+atomic_verb (atomic_calls.Or operand) = verbs.Or
+atomic_verb (atomic_calls.CompareAndSwap old new) = verbs.CompareAndSwap
 
 abbrev pub verb_of : Call → Verb
 verb_of (calls.Map object call) = map_verb call
+verb_of (calls.Range object) = verbs.Range
+verb_of (calls.Atomic object call) = atomic_verb call
 
--- the words behind the object's name
+-- the values of a call of a map, in order
+abbrev pub map_values : {K : Type 0} → MapCall K → List ℕ
+map_values (map_calls.Load key) = []
+map_values (map_calls.Store key value) = value ∷ []
+map_values (map_calls.LoadOrStore key value) = value ∷ []
+map_values (map_calls.LoadAndDelete key) = []
+map_values (map_calls.Delete key) = []
+map_values (map_calls.Swap key value) = value ∷ []
+map_values (map_calls.CompareAndSwap key old new) = old ∷ new ∷ []
+map_values (map_calls.CompareAndDelete key old) = old ∷ []
+map_values map_calls.Clear = []
+
+-- the numbers of a call of an atomic, in order
+abbrev pub atomic_numbers : AtomicCall → List Number
+atomic_numbers atomic_calls.Load = []
+atomic_numbers (atomic_calls.Store value) = value ∷ []
+atomic_numbers (atomic_calls.Swap value) = value ∷ []
+atomic_numbers (atomic_calls.Add operand) = operand ∷ []
+atomic_numbers (atomic_calls.And operand) = operand ∷ []
+atomic_numbers (atomic_calls.Or operand) = operand ∷ []
+atomic_numbers (atomic_calls.CompareAndSwap old new) = old ∷ new ∷ []
+
+-- a number of an atomic
+abbrev pub number_word : Number → List ℕ
+number_word (numbers.Int32 z) = signed_decimal z
+number_word (numbers.Int64 z) = signed_decimal z
+number_word (numbers.Uint32 n) = decimal n
+number_word (numbers.Uint64 n) = decimal n
+number_word (numbers.Bool false) = codes "false"
+number_word (numbers.Bool true) = codes "true"
+
+-- the words behind the object's name: the key, and then values
 abbrev pub map_operands : MapCall (List ℕ) → List (List ℕ)
-map_operands (map_calls.Load key) = key ∷ []
-map_operands (map_calls.Store key value) = key ∷ decimal value ∷ []
+map_operands call = option_to_list (map_key call) ++ map decimal (map_values call)
+
+abbrev pub atomic_operands : AtomicCall → List (List ℕ)
+atomic_operands call = map number_word (atomic_numbers call)
 
 abbrev pub operands_of : Call → List (List ℕ)
 operands_of (calls.Map object call) = map_operands call
+operands_of (calls.Range object) = []
+operands_of (calls.Atomic object call) = atomic_operands call
 
 -- an item of a schedule: a worker's number, or a moment behind an `@`
 abbrev pub turn_word : Turn → List ℕ
@@ -84,8 +161,24 @@ keywords_known =
     ∷ (codes "worker", keywords.Worker)
     ∷ (codes "schedule", keywords.Schedule)
     ∷ (codes "map", keywords.Object kinds.Map)
+    ∷ (codes "int32", keywords.Object (kinds.Atomic types.Int32))
+    ∷ (codes "int64", keywords.Object (kinds.Atomic types.Int64))
+    ∷ (codes "uint32", keywords.Object (kinds.Atomic types.Uint32))
+    ∷ (codes "uint64", keywords.Object (kinds.Atomic types.Uint64))
+    ∷ (codes "bool", keywords.Object (kinds.Atomic types.Bool))
     ∷ (codes "load", keywords.Call verbs.Load)
     ∷ (codes "store", keywords.Call verbs.Store)
+    ∷ (codes "los", keywords.Call verbs.LoadOrStore)
+    ∷ (codes "lad", keywords.Call verbs.LoadAndDelete)
+    ∷ (codes "delete", keywords.Call verbs.Delete)
+    ∷ (codes "swap", keywords.Call verbs.Swap)
+    ∷ (codes "cas", keywords.Call verbs.CompareAndSwap)
+    ∷ (codes "cad", keywords.Call verbs.CompareAndDelete)
+    ∷ (codes "clear", keywords.Call verbs.Clear)
+    ∷ (codes "range", keywords.Call verbs.Range)
+    ∷ (codes "add", keywords.Call verbs.Add)
+    ∷ (codes "and", keywords.Call verbs.And)
+    ∷ (codes "or", keywords.Call verbs.Or)
     ∷ []
 
 -- the keyword that a table has for a word
@@ -108,3 +201,16 @@ number_of word = digits_value 10 word
 -- whether a word is a number of at most this value
 abbrev pub is_number_to : ℕ → List ℕ → Bool
 is_number_to most word = is_number word && nat_le (number_of word) most
+
+-- whether a word is a number from -bound to bound - 1; a `-` stands before no 0
+abbrev pub is_signed_word : ℕ → List ℕ → Bool
+is_signed_word bound [] = false
+is_signed_word bound (byte ∷ bytes) = cond (byte == 45) (is_number_to bound bytes && nat_lt 0 (number_of bytes)) (is_number_to (bound - 1) (byte ∷ bytes))
+
+-- whether a word is a number of an atomic of this type
+abbrev pub is_number_word : AtomicKind → List ℕ → Bool
+is_number_word types.Int32 word = is_signed_word (2 ^ 31) word
+is_number_word types.Int64 word = is_signed_word (2 ^ 63) word
+is_number_word types.Uint32 word = is_number_to (2 ^ 32 - 1) word
+is_number_word types.Uint64 word = is_number_to (2 ^ 64 - 1) word
+is_number_word types.Bool word = bytes_eq word (codes "true") || bytes_eq word (codes "false")

@@ -1,17 +1,18 @@
 //! What the lines of a text say so far.
-ghost use Rattle.std.specs.Prelude.{◌≡◌, ◌≤◌, ◌<◌, ◌+◌, ◌∷◌, [], true, length, nat_lt, is_some, replicate, IfOk, OnOk};
+ghost use Rattle.std.specs.Prelude.{◌≡◌, ◌≤◌, ◌<◌, ◌+◌, ◌∷◌, [], true, length, nat_lt, is_some, count_by, replicate, IfOk, OnOk};
+ghost use Rattle.std.specs.Option.{option_copied, option_to_list};
 ghost use Rattle.workload.specs.declared.limits.TheConstants.{MAX_WORKERS};
 ghost use Rattle.workload.specs.Index.{with_keys};
-ghost use Rattle.workload.specs.Draft.{started, with_line, may_follow, declared, count_of, count_together, limit_of, call_count, key_count, keys_of};
+ghost use Rattle.workload.specs.Draft.{started, with_line, may_follow, declared, count_of, count_together, limit_of, call_count, key_count, keys_of, is_range, range_count};
 
-use crate::limits::MAX_MAPS;
+use crate::limits::{MAX_ATOMICS, MAX_MAPS};
 use crate::line::Line;
 use crate::object::{Declared, ObjectKind, ObjectLine};
 use crate::turn::Turn;
 use crate::workload::Workload;
 use std::alloc::{AllocError, Global};
 use std::marker::Model;
-use sync_model::{ByName, Call, MapCall, Name, Seq};
+use sync_model::{ByName, Call, Name, Seq};
 
 /// The workload that the lines so far say, the worker whose calls follow, and tables of the names
 /// and keys, so that no look-up scans a list.
@@ -25,6 +26,7 @@ pub struct Draft {
     names: ByName<Declared>,
     keys: ByName<()>,
     calls: usize,
+    ranges: usize,
 }
 
 impl Model for Draft {
@@ -35,7 +37,7 @@ impl Model for Draft {
 
     ghost view = { λ d. record { plan = record { workers = d.workers; objects = d.objects; scripts = d.scripts; schedule = d.schedule }; current = d.current } };
 
-    ghost invariant = { λ d. IsIndexed (record { workers = d.workers; objects = d.objects; scripts = d.scripts; schedule = d.schedule }) d.current d.names d.keys d.calls };
+    ghost invariant = { λ d. IsIndexed (record { workers = d.workers; objects = d.objects; scripts = d.scripts; schedule = d.schedule }) d.current d.names d.keys d.calls d.ranges };
 }
 
 /// As many empty scripts as there are workers.
@@ -54,6 +56,8 @@ fn counts_together(kind: ObjectKind, other: ObjectKind) -> bool
 {
     match (kind, other) {
         (ObjectKind::Map, ObjectKind::Map) => true,
+        (ObjectKind::Atomic(_), ObjectKind::Atomic(_)) => true,
+        _ => false,
     }
 }
 
@@ -71,6 +75,7 @@ fn limit(kind: ObjectKind) -> usize
 {
     match kind {
         ObjectKind::Map => MAX_MAPS,
+        ObjectKind::Atomic(_) => MAX_ATOMICS,
     }
 }
 
@@ -78,11 +83,29 @@ fn limit(kind: ObjectKind) -> usize
 fn insert_keys(alloc: Global, keys: &mut ByName<()>, call: &Call) -> Result<(), AllocError>
     ensures { OnOk result (keys.new ≡ with_keys keys.old (keys_of call.now)) }
 {
+    match call_key(call) {
+        None => Ok(()),
+        Some(key) => keys.insert(alloc, key.as_bytes(), ()),
+    }
+}
+
+/// The key of a call, if it has one.
+pub fn call_key(call: &Call) -> Option<&Name>
+    ensures { keys_of call.now ≡ option_to_list (option_copied result) }
+{
     match call {
-        Call::Map { call, .. } => match call {
-            MapCall::Load { key } => keys.insert(alloc, key.as_bytes(), ()),
-            MapCall::Store { key, .. } => keys.insert(alloc, key.as_bytes(), ()),
-        },
+        Call::Map { call, .. } => call.key(),
+        Call::Range { .. } | Call::Atomic { .. } => None,
+    }
+}
+
+/// How many `range` calls a call is: one or none.
+fn ranges_in(call: &Call) -> usize
+    ensures { result ≡ count_by is_range (call.now ∷ []) }
+{
+    match call {
+        Call::Range { .. } => 1,
+        Call::Map { .. } | Call::Atomic { .. } => 0,
     }
 }
 
@@ -102,6 +125,7 @@ impl Draft {
             names: ByName::new(alloc),
             keys: ByName::new(alloc),
             calls: 0,
+            ranges: 0,
         })
     }
 
@@ -140,6 +164,13 @@ impl Draft {
         self.calls
     }
 
+    /// How many `range` calls there are, all workers together.
+    pub fn ranges(&self) -> usize
+        ensures { result ≡ range_count self.now.plan.scripts }
+    {
+        self.ranges
+    }
+
     /// How many items the schedule has.
     pub fn turns(&self) -> usize
         ensures { result ≡ length self.now.plan.schedule }
@@ -148,13 +179,23 @@ impl Draft {
     }
 
     /// How many different keys there are with one that a call brings.
-    pub fn keys_with(&self, key: &[u8]) -> usize
+    fn keys_with(&self, key: &[u8]) -> usize
         ensures { result ≡ key_count self.now.plan.scripts (key.now ∷ []) }
     {
         if self.keys.get(key).is_some() {
             self.keys.len()
         } else {
             self.keys.len() + 1
+        }
+    }
+
+    /// How many different keys there are with that of one more call, if it has one.
+    pub fn keys_with_call(&self, call: &Call) -> usize
+        ensures { result ≡ key_count self.now.plan.scripts (keys_of call.now) }
+    {
+        match call_key(call) {
+            None => self.keys.len(),
+            Some(key) => self.keys_with(key.as_bytes()),
         }
     }
 
@@ -171,6 +212,7 @@ impl Draft {
             mut names,
             keys,
             calls,
+            ranges,
         } = self;
         let declared = Declared {
             place: objects.len(),
@@ -187,6 +229,7 @@ impl Draft {
             names,
             keys,
             calls,
+            ranges,
         })
     }
 
@@ -203,6 +246,7 @@ impl Draft {
             names,
             keys,
             calls,
+            ranges,
         } = self;
         Draft {
             workers,
@@ -213,6 +257,7 @@ impl Draft {
             names,
             keys,
             calls,
+            ranges,
         }
     }
 
@@ -229,6 +274,7 @@ impl Draft {
             names,
             keys,
             calls,
+            ranges,
         } = self;
         schedule.extend_from_slice(turns)?;
         Ok(Draft {
@@ -240,6 +286,7 @@ impl Draft {
             names,
             keys,
             calls,
+            ranges,
         })
     }
 
@@ -256,11 +303,13 @@ impl Draft {
             names,
             mut keys,
             calls,
+            ranges,
         } = self;
         let Some(worker) = current else {
             unreachable!()
         };
         insert_keys(alloc, &mut keys, &call)?;
+        let more_ranges = ranges_in(&call);
         scripts.push_at(worker as usize, call)?;
         Ok(Draft {
             workers,
@@ -271,6 +320,7 @@ impl Draft {
             names,
             keys,
             calls: calls + 1,
+            ranges: ranges + more_ranges,
         })
     }
 

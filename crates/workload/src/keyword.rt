@@ -3,6 +3,7 @@ ghost use Rattle.std.specs.Prelude.{◌≡◌, map};
 ghost use Rattle.workload.specs.Words.{keyword_in, keyword_at};
 
 use crate::object::ObjectKind;
+use sync_model::AtomicKind;
 
 /// What a line's first word announces.
 #[derive(Clone, Copy, Debug, PartialEq, Eq)]
@@ -24,6 +25,21 @@ pub enum Keyword {
 pub enum Verb {
     Load,
     Store,
+    /// `los`
+    LoadOrStore,
+    /// `lad`
+    LoadAndDelete,
+    Delete,
+    Swap,
+    /// `cas`
+    CompareAndSwap,
+    /// `cad`
+    CompareAndDelete,
+    Clear,
+    Range,
+    Add,
+    And,
+    Or,
 }
 
 /// What a word of a call behind the object's name stands for.
@@ -33,16 +49,49 @@ pub enum Operand {
     Key,
     /// A value of a map, 0 to 2^63 - 1.
     Value,
+    /// A number of an atomic of this type.
+    Number(AtomicKind),
 }
 
 /// The words that a line may begin with.
-pub const KEYWORDS: [(&[u8], Keyword); 6] = [
+pub const KEYWORDS: [(&[u8], Keyword); 22] = [
     (b"workers", Keyword::Workers),
     (b"worker", Keyword::Worker),
     (b"schedule", Keyword::Schedule),
     (b"map", Keyword::Object(ObjectKind::Map)),
+    (
+        b"int32",
+        Keyword::Object(ObjectKind::Atomic(AtomicKind::Int32)),
+    ),
+    (
+        b"int64",
+        Keyword::Object(ObjectKind::Atomic(AtomicKind::Int64)),
+    ),
+    (
+        b"uint32",
+        Keyword::Object(ObjectKind::Atomic(AtomicKind::Uint32)),
+    ),
+    (
+        b"uint64",
+        Keyword::Object(ObjectKind::Atomic(AtomicKind::Uint64)),
+    ),
+    (
+        b"bool",
+        Keyword::Object(ObjectKind::Atomic(AtomicKind::Bool)),
+    ),
     (b"load", Keyword::Call(Verb::Load)),
     (b"store", Keyword::Call(Verb::Store)),
+    (b"los", Keyword::Call(Verb::LoadOrStore)),
+    (b"lad", Keyword::Call(Verb::LoadAndDelete)),
+    (b"delete", Keyword::Call(Verb::Delete)),
+    (b"swap", Keyword::Call(Verb::Swap)),
+    (b"cas", Keyword::Call(Verb::CompareAndSwap)),
+    (b"cad", Keyword::Call(Verb::CompareAndDelete)),
+    (b"clear", Keyword::Call(Verb::Clear)),
+    (b"range", Keyword::Call(Verb::Range)),
+    (b"add", Keyword::Call(Verb::Add)),
+    (b"and", Keyword::Call(Verb::And)),
+    (b"or", Keyword::Call(Verb::Or)),
 ];
 
 fn find_keyword(table: &[(&[u8], Keyword)], word: &[u8]) -> Option<Keyword>

@@ -15,6 +15,12 @@ pub const MAX_CALLS: usize = 20_000;
 /// The most maps.
 pub const MAX_MAPS: usize = 16;
 
+/// The most atomics, of all types together.
+pub const MAX_ATOMICS: usize = 64;
+
+/// The most `range` calls, of all workers together.
+pub const MAX_RANGES: usize = 64;
+
 /// The most different keys, over all maps.
 pub const MAX_KEYS: usize = 4_096;
 

@@ -1,8 +1,18 @@
 //! Numbers of a text.
-ghost use Rattle.std.specs.Prelude.{◌≡◌, ℕ, ◌<◌, ◌^◌, ◌+◌, ◌-◌, ◌*◌, Bool, true, false, ◌≤◌, MatchOption, OnSome, IfSome, IfNone};
-ghost use Rattle.std.specs.Fmt.{decimal};
-ghost use Rattle.std.specs.Str.{all_ascii_digits};
-ghost use Rattle.workload.specs.Words.{is_number, is_number_to, number_of};
+ghost use Rattle.std.specs.Prelude.{◌≡◌, ℕ, ◌<◌, ◌^◌, ◌+◌, ◌-◌, ◌*◌, Bool, true, false, ◌≤◌, ◌∷◌, ◌&&◌, ◌||◌, nat_lt, codes, MatchOption, OnSome, IfSome, IfNone};
+ghost use Rattle.std.specs.Fmt.{decimal, signed_decimal};
+ghost use Rattle.std.specs.Str.{all_ascii_digits, bytes_eq};
+ghost use Rattle.sync_model.specs.declared.atomic_object.Number.TheVariants as Number;
+ghost use Rattle.sync_model.specs.SequentialAtomic.{is_signed, is_of};
+ghost use Rattle.workload.specs.Words.{is_number, is_number_to, is_signed_word, is_number_word, number_word, number_of};
+
+use sync_model::{AtomicKind, Number};
+
+/// One past the greatest `i32`.
+const INT32_BOUND: u64 = 2_147_483_648;
+
+/// One past the greatest `i64`.
+const INT64_BOUND: u64 = 9_223_372_036_854_775_808;
 
 /// Whether a word is a number: digits without a leading zero.
 pub fn is_number(word: &[u8]) -> bool
@@ -59,4 +69,64 @@ pub fn number(word: &[u8], most: u64) -> Option<u64>
     }
     let value = value(word)?;
     if value <= most { Some(value) } else { None }
+}
+
+/// The number below 0 that a word behind a `-` stands for, where it is at least -bound.
+fn negative(digits: &[u8], bound: u64) -> Option<i64>
+    requires { bound ≤ 2 ^ 63 }
+    ensures none { IfNone result ((is_number_to bound digits.now && nat_lt 0 (number_of digits.now)) ≡ false) }
+    ensures passes { OnSome result ((is_number_to bound digits.now && nat_lt 0 (number_of digits.now)) ≡ true) }
+    ensures range { IfSome result (λ z. is_signed bound z ≡ true) }
+    ensures spelled { IfSome result (λ z. signed_decimal z ≡ 45 ∷ digits.now) }
+{
+    let magnitude = number(digits, bound)?;
+    let below_one = magnitude.checked_sub(1)?;
+    Some(-1 - below_one as i64)
+}
+
+/// The number that a word is, where it is one from -bound to bound - 1.
+fn signed(word: &[u8], bound: u64) -> Option<i64>
+    requires some { 0 < bound }
+    requires fits { bound ≤ 2 ^ 63 }
+    ensures none { IfNone result (is_signed_word bound word.now ≡ false) }
+    ensures passes { OnSome result (is_signed_word bound word.now ≡ true) }
+    ensures range { IfSome result (λ z. is_signed bound z ≡ true) }
+    ensures spelled { IfSome result (λ z. signed_decimal z ≡ word.now) }
+{
+    match word.split_first() {
+        None => None,
+        Some((b'-', digits)) => negative(digits, bound),
+        Some(_) => Some(number(word, bound - 1)? as i64),
+    }
+}
+
+/// The truth value that a word is, if it is one.
+fn truth(word: &[u8]) -> Option<bool>
+    ensures none { IfNone result ((bytes_eq word.now (codes "true") || bytes_eq word.now (codes "false")) ≡ false) }
+    ensures passes { OnSome result ((bytes_eq word.now (codes "true") || bytes_eq word.now (codes "false")) ≡ true) }
+    ensures spelled { IfSome result (λ b. number_word (Number.Bool b) ≡ word.now) }
+{
+    if word == b"true".as_slice() {
+        Some(true)
+    } else if word == b"false".as_slice() {
+        Some(false)
+    } else {
+        None
+    }
+}
+
+/// The number of an atomic of this type that a word is, if it is one.
+pub fn atomic_number(kind: AtomicKind, word: &[u8]) -> Option<Number>
+    ensures none { IfNone result (is_number_word kind word.now ≡ false) }
+    ensures passes { OnSome result (is_number_word kind word.now ≡ true) }
+    ensures of { IfSome result (λ n. is_of kind n ≡ true) }
+    ensures spelled { IfSome result (λ n. number_word n ≡ word.now) }
+{
+    match kind {
+        AtomicKind::Int32 => Some(Number::Int32(signed(word, INT32_BOUND)? as i32)),
+        AtomicKind::Int64 => Some(Number::Int64(signed(word, INT64_BOUND)?)),
+        AtomicKind::Uint32 => Some(Number::Uint32(number(word, u64::from(u32::MAX))? as u32)),
+        AtomicKind::Uint64 => Some(Number::Uint64(number(word, u64::MAX)?)),
+        AtomicKind::Bool => Some(Number::Bool(truth(word)?)),
+    }
 }

@@ -1,11 +1,13 @@
 //! The objects that a workload declares.
-use sync_model::Name;
+use sync_model::{AtomicKind, Name};
 
 /// What an object is, with what its line says of it.
 #[derive(Clone, Copy, Debug, PartialEq, Eq)]
 pub enum ObjectKind {
     /// A map, which is empty at the start.
     Map,
+    /// An atomic of this type, which is 0 or false at the start.
+    Atomic(AtomicKind),
 }
 
 /// An object as a workload declares it.

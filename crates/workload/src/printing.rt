@@ -2,7 +2,7 @@
 ghost use Rattle.std.specs.Prelude.{◌≡◌, ◌+◌, ◌∷◌, ◌++◌, [], map, IfOk, OnOk, length, slice_get};
 ghost use Rattle.std.specs.List.{flat_map, join_with_byte};
 ghost use Rattle.std.specs.Fmt.{decimal};
-ghost use Rattle.workload.specs.Words.{turn_word, kind_word, verb_word, verb_of, operands_of, map_operands, spelled, first_spelled};
+ghost use Rattle.workload.specs.Words.{turn_word, kind_word, verb_word, map_verb, atomic_verb, verb_of, number_word, map_values, map_operands, atomic_operands, operands_of, spelled, first_spelled};
 ghost use Rattle.workload.specs.declared.line.Line.TheVariants as Line;
 ghost use Rattle.workload.specs.Plan.{is_valid, is_on, object_of};
 ghost use Rattle.workload.specs.Reads.{Reads};
@@ -13,7 +13,7 @@ use crate::object::{ObjectKind, ObjectLine};
 use crate::turn::Turn;
 use crate::workload::Workload;
 use std::alloc::{AllocError, Global};
-use sync_model::{Call, MapCall, Name};
+use sync_model::{AtomicCall, AtomicKind, Call, MapCall, Name, Number};
 
 /// Writes a word behind a space.
 fn put_word(text: &mut Vec<u8>, word: &[u8]) -> Result<(), AllocError>
@@ -31,6 +31,40 @@ fn put_number(alloc: Global, text: &mut Vec<u8>, number: u64) -> Result<(), Allo
     put_word(text, digits.as_bytes())
 }
 
+/// Writes a number of an atomic behind a space.
+fn put_atomic_number(alloc: Global, text: &mut Vec<u8>, number: Number) -> Result<(), AllocError>
+    ensures { OnOk result (text.new.items ≡ text.old.items ++ 32 ∷ number_word number) }
+{
+    match number {
+        Number::Int32(n) => put_word(text, n.to_string(alloc)?.as_bytes()),
+        Number::Int64(n) => put_word(text, n.to_string(alloc)?.as_bytes()),
+        Number::Uint32(n) => put_number(alloc, text, u64::from(n)),
+        Number::Uint64(n) => put_number(alloc, text, n),
+        Number::Bool(false) => put_word(text, b"false"),
+        Number::Bool(true) => put_word(text, b"true"),
+    }
+}
+
+/// Writes the values of a call of a map, each behind a space.
+fn put_map_values(alloc: Global, text: &mut Vec<u8>, call: &MapCall<Name>) -> Result<(), AllocError>
+    ensures { OnOk result (text.new.items ≡ text.old.items ++ behind_spaces (map decimal (map_values call.now))) }
+{
+    match call {
+        MapCall::Store { value, .. }
+        | MapCall::LoadOrStore { value, .. }
+        | MapCall::Swap { value, .. } => put_number(alloc, text, *value),
+        MapCall::CompareAndDelete { old, .. } => put_number(alloc, text, *old),
+        MapCall::CompareAndSwap { old, new, .. } => {
+            put_number(alloc, text, *old)?;
+            put_number(alloc, text, *new)
+        }
+        MapCall::Load { .. }
+        | MapCall::LoadAndDelete { .. }
+        | MapCall::Delete { .. }
+        | MapCall::Clear => Ok(()),
+    }
+}
+
 /// Writes the operands of a call of a map, each behind a space.
 fn put_map_operands(
     alloc: Global,
@@ -39,22 +73,53 @@ fn put_map_operands(
 ) -> Result<(), AllocError>
     ensures { OnOk result (text.new.items ≡ text.old.items ++ behind_spaces (map_operands call.now)) }
 {
+    if let Some(key) = call.key() {
+        put_word(text, key.as_bytes())?;
+    }
+    put_map_values(alloc, text, call)
+}
+
+/// Writes the operands of a call of an atomic, each behind a space.
+fn put_atomic_operands(
+    alloc: Global,
+    text: &mut Vec<u8>,
+    call: AtomicCall,
+) -> Result<(), AllocError>
+    ensures { OnOk result (text.new.items ≡ text.old.items ++ behind_spaces (atomic_operands call)) }
+{
     match call {
-        MapCall::Load { key } => put_word(text, key.as_bytes()),
-        MapCall::Store { key, value } => {
-            put_word(text, key.as_bytes())?;
-            put_number(alloc, text, *value)
+        AtomicCall::Load => Ok(()),
+        AtomicCall::Store { value } | AtomicCall::Swap { value } => {
+            put_atomic_number(alloc, text, value)
+        }
+        AtomicCall::Add { operand } | AtomicCall::And { operand } | AtomicCall::Or { operand } => {
+            put_atomic_number(alloc, text, operand)
+        }
+        AtomicCall::CompareAndSwap { old, new } => {
+            put_atomic_number(alloc, text, old)?;
+            put_atomic_number(alloc, text, new)
         }
     }
 }
 
 /// The word of a call.
-fn verb_text(verb: Verb) -> &'static [u8]
+pub fn verb_text(verb: Verb) -> &'static [u8]
     ensures { result.now ≡ verb_word verb }
 {
     match verb {
         Verb::Load => b"load",
         Verb::Store => b"store",
+        Verb::LoadOrStore => b"los",
+        Verb::LoadAndDelete => b"lad",
+        Verb::Delete => b"delete",
+        Verb::Swap => b"swap",
+        Verb::CompareAndSwap => b"cas",
+        Verb::CompareAndDelete => b"cad",
+        Verb::Clear => b"clear",
+        Verb::Range => b"range",
+        Verb::Add => b"add",
+        Verb::And => b"and",
+        Verb::Or => b"or",
     }
 }
 
@@ -64,18 +129,54 @@ fn kind_text(kind: ObjectKind) -> &'static [u8]
 {
     match kind {
         ObjectKind::Map => b"map",
+        ObjectKind::Atomic(AtomicKind::Int32) => b"int32",
+        ObjectKind::Atomic(AtomicKind::Int64) => b"int64",
+        ObjectKind::Atomic(AtomicKind::Uint32) => b"uint32",
+        ObjectKind::Atomic(AtomicKind::Uint64) => b"uint64",
+        ObjectKind::Atomic(AtomicKind::Bool) => b"bool",
+    }
+}
+
+/// Which call of a map it is.
+pub fn map_verb(call: &MapCall<Name>) -> Verb
+    ensures { result ≡ map_verb call.now }
+{
+    match call {
+        MapCall::Load { .. } => Verb::Load,
+        MapCall::Store { .. } => Verb::Store,
+        MapCall::LoadOrStore { .. } => Verb::LoadOrStore,
+        MapCall::LoadAndDelete { .. } => Verb::LoadAndDelete,
+        MapCall::Delete { .. } => Verb::Delete,
+        MapCall::Swap { .. } => Verb::Swap,
+        MapCall::CompareAndSwap { .. } => Verb::CompareAndSwap,
+        MapCall::CompareAndDelete { .. } => Verb::CompareAndDelete,
+        MapCall::Clear => Verb::Clear,
+    }
+}
+
+/// Which call of an atomic it is.
+pub fn atomic_verb(call: AtomicCall) -> Verb
+    ensures { result ≡ atomic_verb call }
+{
+    match call {
+        AtomicCall::Load => Verb::Load,
+        AtomicCall::Store { .. } => Verb::Store,
+        AtomicCall::Swap { .. } => Verb::Swap,
+        AtomicCall::Add { .. } => Verb::Add,
+        AtomicCall::And { .. } => Verb::And,
+        AtomicCall::Or { .. } => Verb::Or,
+        AtomicCall::CompareAndSwap { .. } => Verb::CompareAndSwap,
     }
 }
 
 /// Which call it is.
-fn verb(call: &Call) -> Verb
+pub fn verb(call: &Call) -> Verb
     ensures { result ≡ verb_of call.now }
 {
     match call {
-        Call::Map { call, .. } => match call {
-            MapCall::Load { .. } => Verb::Load,
-            MapCall::Store { .. } => Verb::Store,
-        },
+        Call::Map { call, .. } => map_verb(call),
+        Call::Range { .. } => Verb::Range,
+        Call::Atomic { call, .. } => atomic_verb(*call),
     }
 }
 
@@ -85,6 +186,8 @@ fn put_operands(alloc: Global, text: &mut Vec<u8>, call: &Call) -> Result<(), Al
 {
     match call {
         Call::Map { call, .. } => put_map_operands(alloc, text, call),
+        Call::Range { .. } => Ok(()),
+        Call::Atomic { call, .. } => put_atomic_operands(alloc, text, *call),
     }
 }
 
@@ -163,7 +266,7 @@ fn place_of(call: &Call) -> usize
     ensures { result ≡ object_of call.now }
 {
     match call {
-        Call::Map { object, .. } => *object,
+        Call::Map { object, .. } | Call::Range { object } | Call::Atomic { object, .. } => *object,
     }
 }
 

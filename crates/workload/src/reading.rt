@@ -1,25 +1,27 @@
 //! One line, read after those before it.
-ghost use Rattle.std.specs.Prelude.{◌≡◌, ℕ, ◌∷◌, [], ◌<◌, ◌≤◌, true, map, length, MatchResult, Some, None};
+ghost use Rattle.std.specs.Prelude.{◌≡◌, ◌≢◌, ℕ, ◌∷◌, [], ◌<◌, ◌≤◌, true, map, length, MatchResult, Some, None};
 ghost use Rattle.std.specs.Fmt.{decimal};
 ghost use Rattle.sync_model.specs.Name.{is_name};
-ghost use Rattle.workload.specs.Words.{keyword_at, is_number_to, turn_word, verb_of, operands_of};
+ghost use Rattle.workload.specs.Words.{keyword_at, is_number_to, is_number_word, number_word, turn_word, verb_of, operands_of};
 ghost use Rattle.workload.specs.Draft.{declared, is_call, is_item, keys_of};
-ghost use Rattle.workload.specs.Checks.{worker_checks, item_checks, operand_check, operand_checks, form_of, limit_checks, first_failing};
+ghost use Rattle.workload.specs.Checks.{worker_checks, item_checks, operand_check, operand_checks, form_of, bits_form, ranges_in, limit_checks, first_failing};
+ghost use Rattle.sync_model.specs.SequentialAtomic.{has_bits, is_of};
+ghost use Rattle.workload.specs.declared.object.ObjectKind.TheVariants as ObjectKind;
 ghost use Rattle.workload.specs.declared.limits.TheConstants.{MAX_VALUE};
-ghost use Rattle.workload.specs.LineResult.{IsFault, IsMapCall, IsCallOn, IsTurns, IsWorkers, IsLineOf, IsLine};
+ghost use Rattle.workload.specs.LineResult.{IsFault, form_words, IsOperands, IsMapCall, IsAtomicCall, IsCallOn, IsTurns, IsWorkers, IsLineOf, IsLine};
 
 use crate::draft::Draft;
 use crate::fault::LineFault;
 use crate::keyword::{Keyword, Operand, Verb, read_keyword};
-use crate::limits::{MAX_CALLS, MAX_KEYS, MAX_TURNS, MAX_VALUE, MAX_WORKERS};
+use crate::limits::{MAX_CALLS, MAX_KEYS, MAX_RANGES, MAX_TURNS, MAX_VALUE, MAX_WORKERS};
 use crate::line::Line;
-use crate::number::{is_number, number};
+use crate::number::{atomic_number, is_number, number};
 use crate::object::{Declared, ObjectKind, ObjectLine};
 use crate::reason::Reason;
 use crate::turn::Turn;
 use std::alloc::Global;
 use sync_model::name::is_name;
-use sync_model::{Call, MapCall, Name, Seq};
+use sync_model::{AtomicCall, AtomicKind, Call, MapCall, Name, Number, Seq};
 
 /// The name that a word is.
 fn read_name(alloc: Global, word: &[u8]) -> Result<Name, LineFault>
@@ -73,48 +75,193 @@ fn read_value(word: &[u8]) -> Result<u64, LineFault>
     }
 }
 
-/// The operands of a call of a map.
+/// A number of an atomic of this type.
+fn read_number(kind: AtomicKind, word: &[u8]) -> Result<Number, LineFault>
+    ensures { MatchResult result (λ n. (number_word n ≡ word.now) × (is_of kind n ≡ true) × (is_number_word kind word.now ≡ true)) (IsFault (operand_check (Operand.Number kind) word.now ∷ [])) }
+{
+    match atomic_number(kind, word) {
+        None => Err(LineFault::Refused(Reason::BadNumber)),
+        Some(number) => Ok(number),
+    }
+}
+
+/// No operands.
+fn read_none(words: &[&[u8]]) -> Result<(), LineFault>
+    ensures { IsOperands (λ _. map (λ word. word.now) words.now ≡ []) [] (map (λ word. word.now) words.now) result }
+{
+    let [] = words else {
+        return Err(LineFault::Refused(Reason::WrongNumberOfWords));
+    };
+    Ok(())
+}
+
+/// A key.
+fn read_key(alloc: Global, words: &[&[u8]]) -> Result<Name, LineFault>
+    ensures { IsOperands (λ key. (is_name key ≡ true) × (map (λ word. word.now) words.now ≡ key ∷ [])) (Operand.Key ∷ []) (map (λ word. word.now) words.now) result }
+{
+    let [key] = words else {
+        return Err(LineFault::Refused(Reason::WrongNumberOfWords));
+    };
+    read_name(alloc, key)
+}
+
+/// A key and a value.
+fn read_pair(alloc: Global, words: &[&[u8]]) -> Result<(Name, u64), LineFault>
+    ensures { IsOperands (λ pair. (is_name pair.0 ≡ true) × (pair.1 ≤ MAX_VALUE) × (map (λ word. word.now) words.now ≡ pair.0 ∷ decimal pair.1 ∷ [])) (Operand.Key ∷ Operand.Value ∷ []) (map (λ word. word.now) words.now) result }
+{
+    let [key, value] = words else {
+        return Err(LineFault::Refused(Reason::WrongNumberOfWords));
+    };
+    Ok((read_name(alloc, key)?, read_value(value)?))
+}
+
+/// A key, an old value and a new one.
+fn read_exchange(alloc: Global, words: &[&[u8]]) -> Result<(Name, u64, u64), LineFault>
+    ensures { IsOperands (λ all. (is_name all.0 ≡ true) × (all.1 ≤ MAX_VALUE) × (all.2 ≤ MAX_VALUE) × (map (λ word. word.now) words.now ≡ all.0 ∷ decimal all.1 ∷ decimal all.2 ∷ [])) (Operand.Key ∷ Operand.Value ∷ Operand.Value ∷ []) (map (λ word. word.now) words.now) result }
+{
+    let [key, old, new] = words else {
+        return Err(LineFault::Refused(Reason::WrongNumberOfWords));
+    };
+    Ok((read_name(alloc, key)?, read_value(old)?, read_value(new)?))
+}
+
+/// A call of a map, `range` aside, which is read before.
 fn read_map_call(alloc: Global, verb: Verb, words: &[&[u8]]) -> Result<MapCall<Name>, LineFault>
+    requires { verb ≢ Verb.Range }
     ensures { IsMapCall verb (map (λ word. word.now) words.now) result }
 {
     match verb {
-        Verb::Load => {
-            let [key] = words else {
-                return Err(LineFault::Refused(Reason::WrongNumberOfWords));
-            };
-            let key = read_name(alloc, key)?;
-            Ok(MapCall::Load { key })
-        }
+        Verb::Load => Ok(MapCall::Load {
+            key: read_key(alloc, words)?,
+        }),
         Verb::Store => {
-            let [key, value] = words else {
-                return Err(LineFault::Refused(Reason::WrongNumberOfWords));
-            };
-            let key = read_name(alloc, key)?;
-            let value = read_value(value)?;
+            let (key, value) = read_pair(alloc, words)?;
             Ok(MapCall::Store { key, value })
         }
+        Verb::LoadOrStore => {
+            let (key, value) = read_pair(alloc, words)?;
+            Ok(MapCall::LoadOrStore { key, value })
+        }
+        Verb::LoadAndDelete => Ok(MapCall::LoadAndDelete {
+            key: read_key(alloc, words)?,
+        }),
+        Verb::Delete => Ok(MapCall::Delete {
+            key: read_key(alloc, words)?,
+        }),
+        Verb::Swap => {
+            let (key, value) = read_pair(alloc, words)?;
+            Ok(MapCall::Swap { key, value })
+        }
+        Verb::CompareAndSwap => {
+            let (key, old, new) = read_exchange(alloc, words)?;
+            Ok(MapCall::CompareAndSwap { key, old, new })
+        }
+        Verb::CompareAndDelete => {
+            let (key, old) = read_pair(alloc, words)?;
+            Ok(MapCall::CompareAndDelete { key, old })
+        }
+        Verb::Clear => {
+            read_none(words)?;
+            Ok(MapCall::Clear)
+        }
+        _ => Err(LineFault::Refused(Reason::WrongKind)),
+    }
+}
+
+/// A number of an atomic of this type, alone.
+fn read_one_number(kind: AtomicKind, words: &[&[u8]]) -> Result<Number, LineFault>
+    ensures { IsOperands (λ n. (is_of kind n ≡ true) × (map (λ word. word.now) words.now ≡ number_word n ∷ [])) (Operand.Number kind ∷ []) (map (λ word. word.now) words.now) result }
+{
+    let [number] = words else {
+        return Err(LineFault::Refused(Reason::WrongNumberOfWords));
+    };
+    read_number(kind, number)
+}
+
+/// Two numbers of an atomic of this type.
+fn read_two_numbers(kind: AtomicKind, words: &[&[u8]]) -> Result<(Number, Number), LineFault>
+    ensures { IsOperands (λ pair. (is_of kind pair.0 ≡ true) × (is_of kind pair.1 ≡ true) × (map (λ word. word.now) words.now ≡ number_word pair.0 ∷ number_word pair.1 ∷ [])) (Operand.Number kind ∷ Operand.Number kind ∷ []) (map (λ word. word.now) words.now) result }
+{
+    let [first, second] = words else {
+        return Err(LineFault::Refused(Reason::WrongNumberOfWords));
+    };
+    Ok((read_number(kind, first)?, read_number(kind, second)?))
+}
+
+/// A number for `add`, `and` or `or`, which a bool hasn't.
+fn read_bits(kind: AtomicKind, words: &[&[u8]]) -> Result<Number, LineFault>
+    ensures { MatchResult result (λ n. (has_bits kind ≡ true) × (is_of kind n ≡ true) × (map (λ word. word.now) words.now ≡ number_word n ∷ []) × (first_failing (form_words (bits_form kind) (map (λ word. word.now) words.now)) ≡ None)) (IsFault (form_words (bits_form kind) (map (λ word. word.now) words.now))) }
+{
+    match kind {
+        AtomicKind::Bool => Err(LineFault::Refused(Reason::WrongKind)),
+        _ => read_one_number(kind, words),
+    }
+}
+
+/// A call of an atomic of this type.
+fn read_atomic_call(kind: AtomicKind, verb: Verb, words: &[&[u8]]) -> Result<AtomicCall, LineFault>
+    ensures { IsAtomicCall kind verb (map (λ word. word.now) words.now) result }
+{
+    match verb {
+        Verb::Load => {
+            read_none(words)?;
+            Ok(AtomicCall::Load)
+        }
+        Verb::Store => Ok(AtomicCall::Store {
+            value: read_one_number(kind, words)?,
+        }),
+        Verb::Swap => Ok(AtomicCall::Swap {
+            value: read_one_number(kind, words)?,
+        }),
+        Verb::Add => Ok(AtomicCall::Add {
+            operand: read_bits(kind, words)?,
+        }),
+        Verb::And => Ok(AtomicCall::And {
+            operand: read_bits(kind, words)?,
+        }),
+        Verb::Or => Ok(AtomicCall::Or {
+            operand: read_bits(kind, words)?,
+        }),
+        Verb::CompareAndSwap => {
+            let (old, new) = read_two_numbers(kind, words)?;
+            Ok(AtomicCall::CompareAndSwap { old, new })
+        }
+        _ => Err(LineFault::Refused(Reason::WrongKind)),
     }
 }
 
 /// Whether one more call is within the limits.
-fn check_limits(draft: &Draft, call: &Call) -> Result<(), LineFault>
-    ensures { MatchResult result (λ _. first_failing (limit_checks draft.now (keys_of call.now)) ≡ None) (IsFault (limit_checks draft.now (keys_of call.now))) }
+fn check_limits(draft: &Draft, verb: Verb, call: &Call) -> Result<(), LineFault>
+    ensures { MatchResult result (λ _. first_failing (limit_checks draft.now (keys_of call.now) (ranges_in verb)) ≡ None) (IsFault (limit_checks draft.now (keys_of call.now) (ranges_in verb))) }
 {
-    if draft.calls() >= MAX_CALLS || draft.keys_with(key_of(call)) > MAX_KEYS {
+    let ranges = match verb {
+        Verb::Range => draft.ranges().saturating_add(1),
+        _ => draft.ranges(),
+    };
+    if draft.calls() >= MAX_CALLS || draft.keys_with_call(call) > MAX_KEYS || ranges > MAX_RANGES {
         return Err(LineFault::Refused(Reason::LimitReached));
     }
     Ok(())
 }
 
-/// The key that a call brings.
-fn key_of(call: &Call) -> &[u8]
-    ensures { keys_of call.now ≡ result.now ∷ [] }
+/// A call on a map that is declared at this place.
+fn read_call_on_map(
+    alloc: Global,
+    object: usize,
+    verb: Verb,
+    words: &[&[u8]],
+) -> Result<Call, LineFault>
+    ensures { IsCallOn (record { place = object; kind = ObjectKind.Map }) verb (map (λ word. word.now) words.now) result }
 {
-    match call {
-        Call::Map { call, .. } => match call {
-            MapCall::Load { key } => key.as_bytes(),
-            MapCall::Store { key, .. } => key.as_bytes(),
-        },
+    match verb {
+        Verb::Range => {
+            read_none(words)?;
+            Ok(Call::Range { object })
+        }
+        _ => Ok(Call::Map {
+            object,
+            call: read_map_call(alloc, verb, words)?,
+        }),
     }
 }
 
@@ -128,9 +275,10 @@ fn read_call_on(
     ensures { IsCallOn found verb (map (λ word. word.now) words.now) result }
 {
     match found.kind {
-        ObjectKind::Map => Ok(Call::Map {
+        ObjectKind::Map => read_call_on_map(alloc, found.place, verb, words),
+        ObjectKind::Atomic(kind) => Ok(Call::Atomic {
             object: found.place,
-            call: read_map_call(alloc, verb, words)?,
+            call: read_atomic_call(kind, verb, words)?,
         }),
     }
 }
@@ -155,7 +303,7 @@ fn read_call(
         return Err(LineFault::Refused(Reason::UnknownName));
     };
     let call = read_call_on(alloc, found, verb, words)?;
-    check_limits(draft, &call)?;
+    check_limits(draft, verb, &call)?;
     Ok(Line::Call(object, call))
 }
 

@@ -148,7 +148,15 @@ fn the_parts_of_a_workload(rt: HostRuntime) -> Result<(), Fail> {
 
 #[test]
 fn the_canonical_text(rt: HostRuntime) -> Result<(), Fail> {
-    let cases: [(&[u8], &[u8]); 4] = [
+    let cases: [(&[u8], &[u8]); 6] = [
+        (
+            b"workers 1\nmap t\nint32 a\nint64 b\nuint32 c\nuint64 d\nbool e\nworker 0\nstore a -2147483648\nadd b -1\nand c 7\nor d 18446744073709551615\ncas e false true\nswap e true\nload a\n",
+            b"workers 1\nmap t\nint32 a\nint64 b\nuint32 c\nuint64 d\nbool e\nworker 0\nstore a -2147483648\nadd b -1\nand c 7\nor d 18446744073709551615\ncas e false true\nswap e true\nload a\n",
+        ),
+        (
+            b"workers 1\nmap t\nworker 0\nlos t k 1\nlad t k\ndelete t k\nswap t k 2\ncas t k 2 3\ncad t k 3\nclear t\nrange t\n",
+            b"workers 1\nmap t\nworker 0\nlos t k 1\nlad t k\ndelete t k\nswap t k 2\ncas t k 2 3\ncad t k 3\nclear t\nrange t\n",
+        ),
         (
             b"workers 1\nmap t\nworker 0\nstore t apple 5\nload t apple\n",
             b"workers 1\nmap t\nworker 0\nstore t apple 5\nload t apple\n",
@@ -167,6 +175,144 @@ fn the_canonical_text(rt: HostRuntime) -> Result<(), Fail> {
         let workload = parse(rt.alloc(), text).ok().ok_or("the text is read")?;
         let printed = print(rt.alloc(), &workload)?;
         assert_eq!(rt; printed.as_slice(), canonical, "at {text:?}");
+    }
+    Ok(())
+}
+
+#[test]
+fn each_operand_is_refused_past_its_range(rt: HostRuntime) -> Result<(), Fail> {
+    let cases: [(&[u8], &[u8]); 20] = [
+        (b"int32", b"add a -2147483649"),
+        (b"int32", b"add a 2147483648"),
+        (b"int64", b"store a -9223372036854775809"),
+        (b"int64", b"swap a 9223372036854775808"),
+        (b"uint32", b"and a -1"),
+        (b"uint32", b"or a 4294967296"),
+        (b"uint64", b"cas a 0 -1"),
+        (b"uint64", b"cas a 18446744073709551616 0"),
+        (b"bool", b"store a 1"),
+        (b"bool", b"cas a true 0"),
+        (b"bool", b"swap a True"),
+        (b"int32", b"add a -0"),
+        (b"int32", b"add a +1"),
+        (b"int32", b"add a --1"),
+        (b"int32", b"add a -"),
+        (b"int32", b"add a -01"),
+        (b"int64", b"add a 1.0"),
+        (b"map", b"los a k 9223372036854775808"),
+        (b"map", b"cas a k 0 -1"),
+        (b"map", b"cad a k 01"),
+    ];
+    for (kind, call) in cases {
+        let mut text = Vec::new(rt.alloc());
+        text.extend_from_slice(b"workers 1\n")?;
+        text.extend_from_slice(kind)?;
+        text.extend_from_slice(b" a\nworker 0\n")?;
+        text.extend_from_slice(call)?;
+        assert_eq!(rt;
+            fault_of(rt.alloc(), &text)?,
+            Some((4, Reason::BadNumber)),
+            "at {text:?}"
+        );
+    }
+    Ok(())
+}
+
+#[test]
+fn each_kind_of_object_has_its_calls(rt: HostRuntime) -> Result<(), Fail> {
+    let cases: [(&[u8], &[u8], Option<Reason>); 44] = [
+        (b"map", b"load a k", None),
+        (b"map", b"store a k 9223372036854775807", None),
+        (b"map", b"los a k 0", None),
+        (b"map", b"lad a k", None),
+        (b"map", b"delete a k", None),
+        (b"map", b"swap a k 1", None),
+        (b"map", b"cas a k 1 2", None),
+        (b"map", b"cad a k 1", None),
+        (b"map", b"clear a", None),
+        (b"map", b"range a", None),
+        (b"map", b"add a 1", Some(Reason::WrongKind)),
+        (b"map", b"and a", Some(Reason::WrongKind)),
+        (b"map", b"or a k 1", Some(Reason::WrongKind)),
+        (b"map", b"los a k", Some(Reason::WrongNumberOfWords)),
+        (b"map", b"lad a k 1", Some(Reason::WrongNumberOfWords)),
+        (b"map", b"cas a 9 x", Some(Reason::WrongNumberOfWords)),
+        (b"map", b"cas a 9 x y", Some(Reason::BadName)),
+        (b"map", b"clear a k", Some(Reason::WrongNumberOfWords)),
+        (b"map", b"range a k", Some(Reason::WrongNumberOfWords)),
+        (b"int32", b"load a", None),
+        (b"int32", b"store a -2147483648", None),
+        (b"int32", b"add a 2147483647", None),
+        (b"int64", b"store a -9223372036854775808", None),
+        (b"int64", b"swap a 9223372036854775807", None),
+        (b"uint32", b"and a 0", None),
+        (b"uint32", b"or a 4294967295", None),
+        (b"uint64", b"cas a 0 18446744073709551615", None),
+        (b"bool", b"load a", None),
+        (b"bool", b"store a true", None),
+        (b"bool", b"swap a false", None),
+        (b"bool", b"cas a false true", None),
+        (b"bool", b"add a 1", Some(Reason::WrongKind)),
+        (b"bool", b"and a true", Some(Reason::WrongKind)),
+        (b"bool", b"or a", Some(Reason::WrongKind)),
+        (b"int64", b"los a k 1", Some(Reason::WrongKind)),
+        (b"int64", b"lad a k", Some(Reason::WrongKind)),
+        (b"int64", b"delete a k", Some(Reason::WrongKind)),
+        (b"int64", b"cad a k 1", Some(Reason::WrongKind)),
+        (b"int64", b"clear a", Some(Reason::WrongKind)),
+        (b"int64", b"range a", Some(Reason::WrongKind)),
+        (b"int64", b"load a k", Some(Reason::WrongNumberOfWords)),
+        (b"int64", b"store a", Some(Reason::WrongNumberOfWords)),
+        (b"int64", b"cas a 1", Some(Reason::WrongNumberOfWords)),
+        (b"int64", b"cas a 1 2 3", Some(Reason::WrongNumberOfWords)),
+    ];
+    for (kind, call, reason) in cases {
+        let mut text = Vec::new(rt.alloc());
+        text.extend_from_slice(b"workers 1\n")?;
+        text.extend_from_slice(kind)?;
+        text.extend_from_slice(b" a\nworker 0\n")?;
+        text.extend_from_slice(call)?;
+        let fault = fault_of(rt.alloc(), &text)?.map(|(_, reason)| reason);
+        assert_eq!(rt; fault, reason, "at {text:?}");
+    }
+    Ok(())
+}
+
+// A text of one worker with so many objects of a kind, and so many calls `range t` on a map.
+fn text_of_many(
+    alloc: Global,
+    kind: &[u8],
+    objects: usize,
+    ranges: usize,
+) -> Result<Vec<u8>, Fail> {
+    let mut text = Vec::new(alloc);
+    text.extend_from_slice(b"workers 1\nmap t\nworker 0\n")?;
+    for number in 0..objects {
+        text.extend_from_slice(kind)?;
+        text.extend_from_slice(b" o")?;
+        text.extend_from_slice(number.to_string(alloc)?.as_bytes())?;
+        text.push(b'\n')?;
+    }
+    for _ in 0..ranges {
+        text.extend_from_slice(b"range t\n")?;
+    }
+    Ok(text)
+}
+
+#[test]
+fn limits_on_objects_and_ranges(rt: HostRuntime) -> Result<(), Fail> {
+    let cases: [(&[u8], usize, usize, Option<u32>); 6] = [
+        (b"map", 15, 0, None),
+        (b"map", 16, 0, Some(19)),
+        (b"uint64", 64, 0, None),
+        (b"bool", 65, 0, Some(68)),
+        (b"map", 0, 64, None),
+        (b"map", 0, 65, Some(68)),
+    ];
+    for (kind, objects, ranges, line) in cases {
+        let text = text_of_many(rt.alloc(), kind, objects, ranges)?;
+        let fault = fault_of(rt.alloc(), &text)?;
+        assert_eq!(rt; fault, line.map(|line| (line, Reason::LimitReached)));
     }
     Ok(())
 }

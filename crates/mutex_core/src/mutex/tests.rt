@@ -1,31 +1,12 @@
 //! Worked runs, event by event.
 use super::MutexCore;
 use crate::event::MutexEvent;
-use crate::place::Place;
 use crate::reply::{Arrival, MutexReply, Resumption, Unlocking};
 use std::test::Fail;
-use sync_model::Misuse;
+use sync_model::{Machine, Misuse};
 
 /// An event of a caller, and what it should be answered.
 type Row = (u32, MutexEvent, MutexReply);
-
-/// One event, where the caller is at the place that the event needs.
-fn step(mutex: &mut MutexCore, caller: u32, event: MutexEvent) -> MutexReply {
-    if caller >= mutex.callers {
-        return MutexReply::Still;
-    }
-    let place = mutex.place(caller);
-    match event {
-        MutexEvent::Arrive { now } if place == Place::Out => MutexReply::Arrived(mutex.arrive(
-            caller, now,
-        )),
-        MutexEvent::Try if place == Place::Out => MutexReply::Tried(mutex.try_arrive(caller)),
-        MutexEvent::Unlock => MutexReply::Unlocked(mutex.unlock(caller)),
-        MutexEvent::Woken { now } if place == Place::Woken || place == Place::Handed =>
-            MutexReply::Resumed(mutex.woken(caller, now)),
-        _ => MutexReply::Still,
-    }
-}
 
 /// Three callers, of which one waits until the moment `late`, when the mutex is taken from it again.
 /// What comes after depends on whether it starves.
@@ -71,7 +52,7 @@ fn starvation_mode_hands_the_mutex_on(rt: HostRuntime) -> Result<(), Fail> {
     let late = 1_000_001;
     let mut mutex = MutexCore::new(rt.alloc(), 3)?;
     for (caller, event, reply) in passed_over(late) {
-        assert_eq!(rt; step(&mut mutex, caller, event), reply);
+        assert_eq!(rt; MutexCore::step(&mut mutex, caller, event), reply);
     }
     let rows: [Row; 9] = [
         (
@@ -105,7 +86,7 @@ fn starvation_mode_hands_the_mutex_on(rt: HostRuntime) -> Result<(), Fail> {
         (0, MutexEvent::Try, MutexReply::Tried(true)),
     ];
     for (caller, event, reply) in rows {
-        assert_eq!(rt; step(&mut mutex, caller, event), reply);
+        assert_eq!(rt; MutexCore::step(&mut mutex, caller, event), reply);
     }
     Ok(())
 }
@@ -115,7 +96,7 @@ fn waiting_for_the_threshold_itself_is_no_starving(rt: HostRuntime) -> Result<()
     let late = 1_000_000;
     let mut mutex = MutexCore::new(rt.alloc(), 3)?;
     for (caller, event, reply) in passed_over(late) {
-        assert_eq!(rt; step(&mut mutex, caller, event), reply);
+        assert_eq!(rt; MutexCore::step(&mut mutex, caller, event), reply);
     }
     let rows: [Row; 8] = [
         (
@@ -148,7 +129,7 @@ fn waiting_for_the_threshold_itself_is_no_starving(rt: HostRuntime) -> Result<()
         ),
     ];
     for (caller, event, reply) in rows {
-        assert_eq!(rt; step(&mut mutex, caller, event), reply);
+        assert_eq!(rt; MutexCore::step(&mut mutex, caller, event), reply);
     }
     Ok(())
 }
@@ -157,13 +138,16 @@ fn waiting_for_the_threshold_itself_is_no_starving(rt: HostRuntime) -> Result<()
 fn a_locked_mutex_belongs_to_nobody(rt: HostRuntime) -> Result<(), Fail> {
     let mut mutex = MutexCore::new(rt.alloc(), 2)?;
     assert_eq!(rt;
-        step(&mut mutex, 0, MutexEvent::Arrive { now: 5 }),
+        MutexCore::step(&mut mutex, 0, MutexEvent::Arrive { now: 5 }),
         MutexReply::Arrived(Arrival::Acquired)
     );
     assert_eq!(rt;
-        step(&mut mutex, 1, MutexEvent::Unlock),
+        MutexCore::step(&mut mutex, 1, MutexEvent::Unlock),
         MutexReply::Unlocked(Unlocking::Free)
     );
-    assert_eq!(rt; step(&mut mutex, 2, MutexEvent::Unlock), MutexReply::Still);
+    assert_eq!(rt;
+        MutexCore::step(&mut mutex, 2, MutexEvent::Unlock),
+        MutexReply::Still
+    );
     Ok(())
 }

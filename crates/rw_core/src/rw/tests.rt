@@ -4,35 +4,10 @@ use crate::event::RwEvent;
 use crate::place::Place;
 use crate::reply::{Arrival, Resumption, RwReply, Unlocking};
 use std::test::Fail;
-use sync_model::Misuse;
+use sync_model::{Machine, Misuse};
 
 /// An event of a caller, what it should be answered, and the caller's place after it.
 type Row = (u32, RwEvent, RwReply, Place);
-
-/// One event, where the caller is at the place that the event needs.
-fn step(lock: &mut RwCore, caller: u32, event: RwEvent) -> RwReply {
-    if caller >= lock.callers {
-        return RwReply::Still;
-    }
-    let place = lock.place(caller);
-    match event {
-        RwEvent::ReadArrive if place == Place::Out => RwReply::Arrived(lock.r_arrive(caller)),
-        RwEvent::ReadTry if place == Place::Out => RwReply::Tried(lock.r_try(caller)),
-        RwEvent::ReadUnlock => RwReply::Unlocked(lock.r_unlock(caller)),
-        RwEvent::WriteArrive { now } if place == Place::Out => RwReply::Arrived(lock.w_arrive(
-            caller, now,
-        )),
-        RwEvent::WriteTry if place == Place::Out => RwReply::Tried(lock.w_try(caller)),
-        RwEvent::WriteWoken { now } if place == Place::Woken || place == Place::Handed =>
-            RwReply::Resumed(lock.w_woken(caller, now)),
-        RwEvent::WriteUnlock => RwReply::Unlocked(lock.w_unlock(caller)),
-        RwEvent::Leave if place == Place::Granted || place == Place::Admitted => {
-            lock.leave(caller);
-            RwReply::Left
-        }
-        _ => RwReply::Still,
-    }
-}
 
 /// The place of a caller, `Out` for a number that is none.
 fn place(lock: &RwCore, caller: u32) -> Place {
@@ -96,7 +71,7 @@ fn a_waiting_writer_holds_back_new_readers(rt: HostRuntime) -> Result<(), Fail> 
             };
             assert_eq!(rt; place(&lock, caller), before);
         }
-        assert_eq!(rt; step(&mut lock, caller, event), reply);
+        assert_eq!(rt; RwCore::step(&mut lock, caller, event), reply);
         assert_eq!(rt; place(&lock, caller), after);
     }
     Ok(())
@@ -160,7 +135,7 @@ fn writers_queue_at_the_inner_mutex(rt: HostRuntime) -> Result<(), Fail> {
         ),
     ];
     for (caller, event, reply, after) in rows {
-        assert_eq!(rt; step(&mut lock, caller, event), reply);
+        assert_eq!(rt; RwCore::step(&mut lock, caller, event), reply);
         assert_eq!(rt; place(&lock, caller), after);
     }
     assert_eq!(rt; place(&lock, 2), Place::Granted);

@@ -1,8 +1,9 @@
 //! When a wait of a wait group returns, and what a misuse leaves.
-ghost use Rattle.std.specs.Prelude.{◌≡◌, ◌≢◌, ℕ, ◌∷◌, ◌++◌, slice_set, IsFalse};
+ghost use Rattle.std.specs.Prelude.{◌≡◌, ◌≢◌, ℕ, ◌<◌, false, IsTrue, ◌∷◌, ◌++◌, slice_set, IsFalse};
 ghost use Rattle.std.specs.List.{list_any};
 ghost use Rattle.sync_model.specs.Log.{Follows};
-ghost use Rattle.wait_cores.specs.GroupMachine.{GroupState, next, is_waiting};
+ghost use Rattle.wait_cores.specs.GroupMachine.{GroupState, start, next, callers_of, is_waiting};
+ghost use Rattle.wait_cores.specs.GroupStanding.{answers, waits_at, waits_after};
 ghost use Rattle.wait_cores.specs.GroupLaws.{Log, WasZero, state_after, wait_by, leave_by};
 
 use crate::group::{GroupEvent, GroupPlace, GroupReply};
@@ -33,4 +34,18 @@ pub fn misuses_change_nothing()
     ensures reuse { (state : GroupState) (caller : ℕ) (event : GroupEvent)
         → (next state caller event).1 ≡ GroupReply.Misused Misuse.WaitGroupReused
         → (next state caller event).0 ≡ record state { places = slice_set state.places caller GroupPlace.Out } }
+{}
+
+/// A caller knows from its own answers whether it waits: nobody else's event lets it in or out. So it knows what its events may
+/// be answered.
+pub fn knows_where_it_stands()
+    ensures own { (state : GroupState) (caller : ℕ) (event : GroupEvent)
+        → waits_at (next state caller event).0 caller ≡ waits_after (waits_at state caller) event (next state caller event).1 }
+    ensures others { (state : GroupState) (caller other : ℕ) (event : GroupEvent)
+        → caller ≢ other → waits_at (next state other event).0 caller ≡ waits_at state caller }
+    ensures answers { (state : GroupState) (caller : ℕ) (event : GroupEvent)
+        → caller < callers_of state → IsTrue (answers (waits_at state caller) event (next state caller event).1) }
+    ensures callers { (state : GroupState) (caller : ℕ) (event : GroupEvent)
+        → callers_of (next state caller event).0 ≡ callers_of state }
+    ensures first { (callers caller : ℕ) → waits_at (start callers) caller ≡ false }
 {}

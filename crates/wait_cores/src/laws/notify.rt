@@ -1,10 +1,10 @@
 //! When a ticket of a cond is notified.
 ghost use Rattle.std.specs.Prelude.{◌≡◌, ℕ, ◌<◌, ◌≤◌, ◌-◌, ◌^◌, ◌==◌, min, not, ◌∷◌, ◌++◌, count_by, IsTrue};
 ghost use Rattle.std.specs.List.{list_all};
-ghost use Rattle.wait_cores.specs.NotifyMachine.{place_of};
-ghost use Rattle.wait_cores.specs.NotifyLaws.{Log, IsLog, state_after, ticket_by, leave_by, is_ticket, pending_of, NotifiesAfter};
+ghost use Rattle.wait_cores.specs.NotifyMachine.{NotifyState, next, callers_of, place_of};
+ghost use Rattle.wait_cores.specs.NotifyLaws.{Log, IsLog, state_after, ticket_by, leave_by, is_ticket, pending_of, answers, NotifiesAfter};
 
-use crate::notify::NotifyPlace;
+use crate::notify::{NotifyEvent, NotifyPlace};
 
 /// A caller leaves only after its ticket was notified. Between the ticket and the leaving stands a broadcast, or more signals
 /// than there were tickets pending before it: signals notify in the order of the tickets, and a signal that found no ticket
@@ -31,4 +31,12 @@ pub fn counts_tickets()
         → (state_after callers log).next_ticket ≡ min (count_by is_ticket log) (2 ^ 64 - 1) }
     ensures notified { (callers : ℕ) (log : Log) → IsLog callers log
         → (state_after callers log).notified ≤ (state_after callers log).next_ticket }
+{}
+
+/// Each event of a caller of the cond is made, but a leaving of one that isn't notified.
+pub fn answers_its_callers()
+    ensures answers { (state : NotifyState) (caller : ℕ) (event : NotifyEvent)
+        → caller < callers_of state → IsTrue (answers event (next state caller event).1) }
+    ensures callers { (state : NotifyState) (caller : ℕ) (event : NotifyEvent)
+        → callers_of (next state caller event).0 ≡ callers_of state }
 {}

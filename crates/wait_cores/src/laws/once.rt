@@ -1,5 +1,8 @@
 //! How often the function of a once runs, and what its callers return with.
-ghost use Rattle.std.specs.Prelude.{◌≡◌, ℕ, ◌≤◌, ◌∷◌, ◌++◌, count_by};
+ghost use Rattle.std.specs.Prelude.{◌≡◌, ◌≢◌, ℕ, ◌<◌, ◌≤◌, false, IsTrue, ◌∷◌, ◌++◌, count_by};
+ghost use Rattle.wait_cores.specs.declared.once.OnceEvent.{OnceEvent};
+ghost use Rattle.wait_cores.specs.OnceMachine.{OnceState, start, next, callers_of};
+ghost use Rattle.wait_cores.specs.OnceStanding.{answers, waits_at, runs_at, waits_after, runs_after};
 ghost use Rattle.wait_cores.specs.OnceLaws.{Made, Log, IsLog, begins, ends, returned_in, kept_by};
 
 /// The function is begun at most once, and ends no more often than it was begun.
@@ -12,4 +15,22 @@ pub fn runs_once<T: Copy>()
 pub fn returns_what_is_kept<T: Copy>()
     ensures { (callers : ℕ) (before rest : Log T) (e : Made T) (value : T)
         → IsLog callers (before ++ e ∷ rest) → returned_in e.reply ≡ Some value → kept_by before ≡ Some value }
+{}
+
+/// A caller knows from its own answers whether it waits, and whether it runs the function: nobody else's event lets it in or
+/// out, or ends its run. So it knows what its events may be answered.
+pub fn knows_where_it_stands<T: Copy>()
+    ensures own_wait { (state : OnceState T) (caller : ℕ) (event : OnceEvent T)
+        → waits_at (next state caller event).0 caller ≡ waits_after (waits_at state caller) (next state caller event).1 }
+    ensures own_run { (state : OnceState T) (caller : ℕ) (event : OnceEvent T)
+        → runs_at (next state caller event).0 caller ≡ runs_after (runs_at state caller) (next state caller event).1 }
+    ensures others_wait { (state : OnceState T) (caller other : ℕ) (event : OnceEvent T)
+        → caller ≢ other → waits_at (next state other event).0 caller ≡ waits_at state caller }
+    ensures others_run { (state : OnceState T) (caller other : ℕ) (event : OnceEvent T)
+        → caller ≢ other → runs_at (next state other event).0 caller ≡ runs_at state caller }
+    ensures answers { (state : OnceState T) (caller : ℕ) (event : OnceEvent T)
+        → caller < callers_of state → IsTrue (answers (waits_at state caller) (runs_at state caller) event (next state caller event).1) }
+    ensures callers { (state : OnceState T) (caller : ℕ) (event : OnceEvent T)
+        → callers_of (next state caller event).0 ≡ callers_of state }
+    ensures first { (callers caller : ℕ) → (waits_at {T = T} (start callers) caller ≡ false) × (runs_at {T = T} (start callers) caller ≡ false) }
 {}

@@ -1,8 +1,8 @@
 //! Where the items of a pool come from and where they go.
-ghost use Rattle.std.specs.Prelude.{◌≡◌, ◌≢◌, ℕ, ◌+◌, ◌<◌, Bool, if◌then◌else◌, slice_get, ◌∷◌, ◌++◌};
+ghost use Rattle.std.specs.Prelude.{◌≡◌, ◌≢◌, ℕ, ◌+◌, ◌<◌, Bool, if◌then◌else◌, slice_get, IsTrue, ◌∷◌, ◌++◌};
 ghost use Rattle.wait_cores.specs.PoolParts.{PoolPart};
 ghost use Rattle.wait_cores.specs.PoolMachine.{PoolState, start, next};
-ghost use Rattle.wait_cores.specs.PoolLaws.{Log, IsLog, state_after, put_by, held, kept_count, got_count, swept_count, ComeFrom, is_full, private_at};
+ghost use Rattle.wait_cores.specs.PoolLaws.{Log, IsLog, state_after, put_by, held, kept_count, got_count, swept_count, ComeFrom, is_full, private_at, answers, NamesPart};
 
 use crate::pool_event::{PoolEvent, PoolReply};
 
@@ -36,4 +36,10 @@ pub fn leaves_private_items()
     ensures victims { (state : PoolState ℕ) (caller other : ℕ) (event : PoolEvent ℕ)
         → event ≢ PoolEvent.Sweep → other ≢ caller
         → private_at (next state caller event).0.victims other ≡ private_at state.victims other }
+{}
+
+/// An event of a caller of the pool, about one of its parts, is answered as such an event is, and never `Still`.
+pub fn answers_its_callers()
+    ensures { (callers room : ℕ) (log : Log ℕ) (caller : ℕ) (event : PoolEvent ℕ)
+        → caller < callers → NamesPart callers event → IsTrue (answers event (next (state_after callers room log) caller event).1) }
 {}

@@ -1,10 +1,18 @@
 use Rattle.std.proofs.Common.{◌+◌, length, drop, sym, ap, subst, ◌∙◌, arith}
 use Rattle.std.proofs.lemmas.Bool.{ltb-true}
 use Rattle.sync_outside.specs.Bytes.{Appends, AppendsFront}
+use Rattle.workload.specs.declared.limits.TheConstants.{MAX_KEYS}
+use Rattle.step_runner.specs.Pairs.{has_pairs_to}
 use Rattle.gosync.specs.ReportText.{call_line, calls_text}
-use Rattle.gosync.proofs.Lines.{drop_at, calls_step}
+use Rattle.gosync.proofs.Lines.{all_at, drop_at, calls_step}
 use Rattle.gosync.proofs.Writing.{goes_on, goes_cut, on_err}
 use Rattle.gosync.proofs.report.write_calls.Goals as goal
+
+pub set_call_line-requires-clause-pairs : goal.set_call_line-requires-clause-pairs
+set_call_line-requires-clause-pairs g c =
+    let replies = c.args.replies.now in
+    let i = c.loop-index.index in
+    all_at (has_pairs_to MAX_KEYS) replies i c.in-Some.reply.now c.requires.pairs (ltb-true i (length replies) (sym c.in-Some.ensures.lookup.0)) c.in-Some.ensures.lookup.1
 
 pub returns-in_err-write-clause-err : goal.returns-in_err-write-clause-err
 returns-in_err-write-clause-err g c =

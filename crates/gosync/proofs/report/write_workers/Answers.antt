@@ -1,11 +1,22 @@
-use Rattle.std.proofs.Common.{◌+◌, ◌<◌, [], length, get_or, drop, sym, ap, subst, arith}
+use Rattle.std.proofs.Common.{◌+◌, ◌<◌, [], length, get_or, drop, sym, ap, ◌∙◌, subst, arith}
 use Rattle.std.proofs.lemmas.Bool.{ltb-true}
 use Rattle.std.proofs.Math.ListN.{drop_of_length-le}
 use Rattle.sync_outside.specs.Bytes.{Appends, AppendsFront}
+use Rattle.std.specs.List.{list_all}
+use Rattle.workload.specs.declared.limits.TheConstants.{MAX_KEYS}
+use Rattle.step_runner.specs.Pairs.{has_pairs_to}
 use Rattle.gosync.specs.ReportText.{calls_text}
-use Rattle.gosync.proofs.Lines.{drop_at, drop_script, not_below, scripts_are, workers_step, workers_none}
+use Rattle.gosync.proofs.Lines.{all_at, drop_at, drop_script, not_below, scripts_are, workers_step, workers_none}
 use Rattle.gosync.proofs.Writing.{goes_on, goes_cut, goes_end, on_err}
 use Rattle.gosync.proofs.report.write_workers.Goals as goal
+
+pub write_calls-requires-clause-pairs : goal.write_calls-requires-clause-pairs
+write_calls-requires-clause-pairs g c =
+    let replies = c.args.replies.now in
+    let i = c.loop-worker.worker in
+    let completed = c.in-Some.completed.now in
+    ap (list_all (has_pairs_to MAX_KEYS)) c.as_slice.ensures
+    ∙ all_at (list_all (has_pairs_to MAX_KEYS)) replies i completed c.requires.pairs (ltb-true i (length replies) (sym c.in-Some.ensures.lookup.0)) c.in-Some.ensures.lookup.1
 
 pub returns-in_default-clause-ok : goal.returns-in_default-clause-ok
 returns-in_default-clause-ok g c =

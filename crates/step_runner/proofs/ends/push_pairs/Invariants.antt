@@ -1,6 +1,6 @@
-use Rattle.std.proofs.Common.{◌≡◌, ◌++◌, map}
-use Rattle.step_runner.specs.declared.ends.End.TheVariants.{Pair}
+use Rattle.std.proofs.Common.{◌≡◌, ◌++◌, drop}
+use Rattle.step_runner.specs.Ends.{pairs_from}
 use Rattle.step_runner.proofs.ends.push_pairs.Given as goal
 
-abbrev pub invariant-loop-key : goal.invariant-loop-key
-invariant-loop-key l = l.ends ≡ l.initial.ends ++ map (λ entry. Pair l.object entry.0 entry.1) l.yielded
+abbrev pub invariant-loop-object : goal.invariant-loop-object
+invariant-loop-object l = l.ends ++ pairs_from l.object (drop l.object l.objects) ≡ l.initial.ends ++ pairs_from 0 l.objects

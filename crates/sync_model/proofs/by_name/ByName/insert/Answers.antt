@@ -1,4 +1,4 @@
-use Rattle.std.proofs.Common.{sym, ap, ◌∙◌}
+use Rattle.std.proofs.Common.{ap, ◌∙◌}
 use Rattle.std.specs.FinMap.{insert}
 use Rattle.sync_model.specs.Name.{is_name}
 use Rattle.sync_model.specs.ByName.{by_bytes, all_names}

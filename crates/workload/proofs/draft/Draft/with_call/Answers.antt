@@ -18,7 +18,7 @@ invariant_of-result c =
     let d = c.self.inside in
     let plan : Plan = record { workers = d.workers; objects = d.objects; scripts = d.scripts; schedule = d.schedule } in
     let worker = c.in-Some.worker in
-    let indexed = subst (λ w. IsIndexed plan w d.names d.keys d.calls) c.in-Some.is c.self.invariant in
+    let indexed = subst (λ w. IsIndexed plan w d.names d.keys d.calls d.ranges) c.in-Some.is c.self.invariant in
     let follows = subst (λ draft. may_follow draft (lines.Call c.args.name c.args.call) ≡ true) (sym c.self.view_is) c.requires in
     let at : may_follow (record { plan = plan; current = Some worker }) (lines.Call c.args.name c.args.call) ≡ true = subst (λ w. may_follow (record { plan = plan; current = w }) (lines.Call c.args.name c.args.call) ≡ true) c.in-Some.is follows in
-    rw (c.in_ok-push_at.ensures.ok, c.in_ok-insert_keys.ensures) (indexed_call plan worker d.names d.keys d.calls c.args.name c.args.call indexed at)
+    rw (c.ranges_in-more_ranges.ensures, c.in_ok-push_at.ensures.ok, c.in_ok-insert_keys.ensures) (indexed_call plan worker d.names d.keys d.calls d.ranges c.args.name c.args.call indexed at)

@@ -1,0 +1,20 @@
+-- How long words are.
+use Rattle.std.proofs.Common.{◌≤◌, length, arith}
+use Rattle.workload.specs.declared.keyword.Verb.{Verb}
+use Rattle.workload.specs.declared.keyword.Verb.TheVariants.{Load, Store, LoadOrStore, LoadAndDelete, Delete, Swap, CompareAndSwap, CompareAndDelete, Clear, Range, Add, And, Or}
+use Rattle.workload.specs.Words.{verb_word}
+
+pub verb_short : (verb : Verb) → length (verb_word verb) ≤ 6
+verb_short Load = omega arith
+verb_short Store = omega arith
+verb_short LoadOrStore = omega arith
+verb_short LoadAndDelete = omega arith
+verb_short Delete = omega arith
+verb_short Swap = omega arith
+verb_short CompareAndSwap = omega arith
+verb_short CompareAndDelete = omega arith
+verb_short Clear = omega arith
+verb_short Range = omega arith
+verb_short Add = omega arith
+verb_short And = omega arith
+verb_short Or = omega arith

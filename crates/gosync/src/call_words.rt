@@ -1,0 +1,113 @@
+//! The words of a call in a line of the report, as a workload's text spells them.
+ghost use Rattle.std.specs.Prelude.{◌≡◌, ◌+◌, ◌≤◌, ◌++◌, ◌∷◌, length, map, vec_len, vec_capacity};
+ghost use Rattle.std.specs.Fmt.{decimal};
+ghost use Rattle.workload.specs.Words.{verb_word, verb_of, map_values, map_operands, atomic_operands};
+ghost use Rattle.gosync.specs.ReportText.{spaced, name_at, call_words};
+
+use crate::line::{push_atomic_word, push_number_word, push_word};
+use sync_model::{AtomicCall, Call, MapCall, Name};
+use workload::ObjectLine;
+use workload::printing::{verb, verb_text};
+
+/// The most bytes that the words of a call have in a line: a word of up to 6 bytes, two names and two
+/// numbers, each behind a space.
+pub const WORDS_ROOM: usize = 115;
+
+/// The name of the object at a place.
+pub fn name_at(objects: &[ObjectLine], place: usize) -> &[u8]
+    ensures name { result.now ≡ name_at objects.now place }
+    ensures short { length result.now ≤ 32 }
+{
+    match objects.get(place) {
+        Some(object) => object.name.as_bytes(),
+        None => b"",
+    }
+}
+
+/// Adds the word of a call behind a space.
+#[tactic(auto, using(crate::proofs::CallWords::verb_short))]
+fn push_verb(line: &mut Vec<u8>, call: &Call)
+    requires { vec_len line.old + 7 ≤ vec_capacity line.old }
+    ensures text { line.new.items ≡ line.old.items ++ 32 ∷ verb_word (verb_of call.now) }
+    ensures len { vec_len line.new ≤ vec_len line.old + 7 }
+    ensures room { vec_capacity line.old ≤ vec_capacity line.new }
+{
+    push_word(line, verb_text(verb(call)));
+}
+
+/// Adds the values of a call of a map, each behind a space.
+fn push_map_values(line: &mut Vec<u8>, call: &MapCall<Name>)
+    requires { vec_len line.old + 42 ≤ vec_capacity line.old }
+    ensures text { line.new.items ≡ line.old.items ++ spaced (map decimal (map_values call.now)) }
+    ensures len { vec_len line.new ≤ vec_len line.old + 42 }
+    ensures room { vec_capacity line.old ≤ vec_capacity line.new }
+{
+    match call {
+        MapCall::Store { value, .. }
+        | MapCall::LoadOrStore { value, .. }
+        | MapCall::Swap { value, .. } => push_number_word(line, *value),
+        MapCall::CompareAndDelete { old, .. } => push_number_word(line, *old),
+        MapCall::CompareAndSwap { old, new, .. } => {
+            push_number_word(line, *old);
+            push_number_word(line, *new);
+        }
+        MapCall::Load { .. }
+        | MapCall::LoadAndDelete { .. }
+        | MapCall::Delete { .. }
+        | MapCall::Clear => {}
+    }
+}
+
+/// Adds the operands of a call of a map, each behind a space.
+fn push_map_operands(line: &mut Vec<u8>, call: &MapCall<Name>)
+    requires { vec_len line.old + 75 ≤ vec_capacity line.old }
+    ensures text { line.new.items ≡ line.old.items ++ spaced (map_operands call.now) }
+    ensures len { vec_len line.new ≤ vec_len line.old + 75 }
+    ensures room { vec_capacity line.old ≤ vec_capacity line.new }
+{
+    if let Some(key) = call.key() {
+        push_word(line, key.as_bytes());
+    }
+    push_map_values(line, call);
+}
+
+/// Adds the operands of a call of an atomic, each behind a space.
+fn push_atomic_operands(line: &mut Vec<u8>, call: AtomicCall)
+    requires { vec_len line.old + 75 ≤ vec_capacity line.old }
+    ensures text { line.new.items ≡ line.old.items ++ spaced (atomic_operands call) }
+    ensures len { vec_len line.new ≤ vec_len line.old + 75 }
+    ensures room { vec_capacity line.old ≤ vec_capacity line.new }
+{
+    match call {
+        AtomicCall::Load => {}
+        AtomicCall::Store { value } | AtomicCall::Swap { value } => push_atomic_word(line, value),
+        AtomicCall::Add { operand } | AtomicCall::And { operand } | AtomicCall::Or { operand } => {
+            push_atomic_word(line, operand);
+        }
+        AtomicCall::CompareAndSwap { old, new } => {
+            push_atomic_word(line, old);
+            push_atomic_word(line, new);
+        }
+    }
+}
+
+/// Adds the words of a call, each behind a space.
+pub fn push_call(line: &mut Vec<u8>, objects: &[ObjectLine], call: &Call)
+    requires { vec_len line.old + WORDS_ROOM ≤ vec_capacity line.old }
+    ensures text { line.new.items ≡ line.old.items ++ spaced (call_words objects.now call.now) }
+    ensures len { vec_len line.new ≤ vec_len line.old + WORDS_ROOM }
+    ensures room { vec_capacity line.old ≤ vec_capacity line.new }
+{
+    push_verb(line, call);
+    match call {
+        Call::Map { object, call } => {
+            push_word(line, name_at(objects, *object));
+            push_map_operands(line, call);
+        }
+        Call::Range { object } => push_word(line, name_at(objects, *object)),
+        Call::Atomic { object, call } => {
+            push_word(line, name_at(objects, *object));
+            push_atomic_operands(line, *call);
+        }
+    }
+}

@@ -1,0 +1,107 @@
+//! A reply in a line of the report.
+ghost use Rattle.std.specs.Prelude.{◌≡◌, ◌+◌, ◌*◌, ◌≤◌, ◌++◌, true, length, map, vec_len, vec_capacity};
+ghost use Rattle.workload.specs.declared.limits.TheConstants.{MAX_KEYS};
+ghost use Rattle.step_runner.specs.Pairs.{has_pairs_to};
+ghost use Rattle.gosync.specs.ReportText.{spaced, map_reply_text, pair_text, pairs_text, atomic_reply_text, reply_text};
+
+use crate::line::{push, push_atomic_number, push_number, push_truth};
+use sync_model::{AtomicReply, MapReply, Name, Reply};
+
+/// The most bytes of a reply: 4,096 pairs, each of a key of 32 bytes, `=`, a value of 20 digits, and a
+/// space before the next.
+pub const REPLY_ROOM: usize = 221_184;
+
+/// Adds a reply of a map.
+fn push_map_reply(line: &mut Vec<u8>, reply: &MapReply)
+    requires { vec_len line.old + 30 ≤ vec_capacity line.old }
+    ensures text { line.new.items ≡ line.old.items ++ map_reply_text reply.now }
+    ensures len { vec_len line.new ≤ vec_len line.old + 30 }
+    ensures room { vec_capacity line.old ≤ vec_capacity line.new }
+{
+    match reply {
+        MapReply::Done => push(line, b"ok"),
+        MapReply::Found(None) => push(line, b"- false"),
+        MapReply::Found(Some(value)) => {
+            push_number(line, *value);
+            push(line, b" true");
+        }
+        MapReply::Settled { value, loaded } => {
+            push_number(line, *value);
+            push(line, b" ");
+            push_truth(line, *loaded);
+        }
+        MapReply::Compared(is_old) => push_truth(line, *is_old),
+    }
+}
+
+/// Adds a key with its value.
+fn push_pair(line: &mut Vec<u8>, pair: &(Name, u64))
+    requires { vec_len line.old + 53 ≤ vec_capacity line.old }
+    ensures text { line.new.items ≡ line.old.items ++ pair_text pair.now }
+    ensures len { vec_len line.new ≤ vec_len line.old + 53 }
+    ensures room { vec_capacity line.old ≤ vec_capacity line.new }
+{
+    let (key, value) = pair;
+    push(line, key.as_bytes());
+    push(line, b"=");
+    push_number(line, *value);
+}
+
+/// Adds keys with their values, each behind a space.
+fn push_more_pairs(line: &mut Vec<u8>, pairs: &[(Name, u64)])
+    requires { vec_len line.old + 54 * length pairs.now ≤ vec_capacity line.old }
+    ensures text { line.new.items ≡ line.old.items ++ spaced (map pair_text pairs.now) }
+    ensures len { vec_len line.new ≤ vec_len line.old + 54 * length pairs.now }
+    ensures room { vec_capacity line.old ≤ vec_capacity line.new }
+{
+    for pair in pairs {
+        push(line, b" ");
+        push_pair(line, pair);
+    }
+}
+
+/// Adds the keys that a `range` shows, with their values.
+fn push_pairs(line: &mut Vec<u8>, pairs: &[(Name, u64)])
+    requires few { length pairs.now ≤ MAX_KEYS }
+    requires room { vec_len line.old + REPLY_ROOM ≤ vec_capacity line.old }
+    ensures text { line.new.items ≡ line.old.items ++ pairs_text pairs.now }
+    ensures len { vec_len line.new ≤ vec_len line.old + REPLY_ROOM }
+    ensures room { vec_capacity line.old ≤ vec_capacity line.new }
+{
+    match pairs.split_first() {
+        None => push(line, b"-"),
+        Some((first, rest)) => {
+            push_pair(line, first);
+            push_more_pairs(line, rest);
+        }
+    }
+}
+
+/// Adds a reply of an atomic.
+fn push_atomic_reply(line: &mut Vec<u8>, reply: AtomicReply)
+    requires { vec_len line.old + 30 ≤ vec_capacity line.old }
+    ensures text { line.new.items ≡ line.old.items ++ atomic_reply_text reply }
+    ensures len { vec_len line.new ≤ vec_len line.old + 30 }
+    ensures room { vec_capacity line.old ≤ vec_capacity line.new }
+{
+    match reply {
+        AtomicReply::Done => push(line, b"ok"),
+        AtomicReply::Held(number) => push_atomic_number(line, number),
+        AtomicReply::Compared(is_old) => push_truth(line, is_old),
+    }
+}
+
+/// Adds a reply.
+pub fn push_reply(line: &mut Vec<u8>, reply: &Reply)
+    requires pairs { has_pairs_to MAX_KEYS reply.now ≡ true }
+    requires room { vec_len line.old + REPLY_ROOM ≤ vec_capacity line.old }
+    ensures text { line.new.items ≡ line.old.items ++ reply_text reply.now }
+    ensures len { vec_len line.new ≤ vec_len line.old + REPLY_ROOM }
+    ensures room { vec_capacity line.old ≤ vec_capacity line.new }
+{
+    match reply {
+        Reply::Map(reply) => push_map_reply(line, reply),
+        Reply::Pairs(pairs) => push_pairs(line, pairs.as_slice()),
+        Reply::Atomic(reply) => push_atomic_reply(line, *reply),
+    }
+}

@@ -1,0 +1,5 @@
+//! Laws of the one-thread objects, in the words of their users. Each is the contract of a function that does nothing.
+
+pub mod atomics;
+pub mod layout;
+pub mod maps;

@@ -1,0 +1,111 @@
+-- A call passes the checks of its form.
+use Rattle.std.proofs.Common.{◌≡◌, ℕ, ◌^◌, ◌<◌, true, ◌&&◌, List, [], ◌∷◌, Option, Some, None, refl, ap, ◌∙◌, arith}
+use Rattle.std.specs.Prelude.{nat_le, count_by}
+use Rattle.std.specs.List.{list_all}
+use Rattle.std.specs.Option.{option_to_list}
+use Rattle.std.specs.Fmt.{decimal}
+use Rattle.std.proofs.lemmas.Bool.{leb-true}
+use Rattle.sync_model.specs.Name.{is_name}
+use Rattle.sync_model.specs.declared.call.Call.{Call}
+use Rattle.sync_model.specs.declared.call.Call.TheVariants as calls
+use Rattle.sync_model.specs.declared.map_object.MapCall.{MapCall}
+use Rattle.sync_model.specs.declared.map_object.MapCall.TheVariants as map_calls
+use Rattle.sync_model.specs.declared.atomic_object.AtomicKind.{AtomicKind}
+use Rattle.sync_model.specs.declared.atomic_object.AtomicKind.TheVariants as types
+use Rattle.sync_model.specs.declared.atomic_object.Number.{Number}
+use Rattle.sync_model.specs.declared.atomic_object.AtomicCall.{AtomicCall}
+use Rattle.sync_model.specs.declared.atomic_object.AtomicCall.TheVariants as atomic_calls
+use Rattle.sync_model.specs.SequentialMap.{map_key}
+use Rattle.sync_model.specs.SequentialAtomic.{has_bits, is_of, is_atomic_call}
+use Rattle.workload.specs.declared.limits.TheConstants.{MAX_VALUE}
+use Rattle.workload.specs.declared.object.ObjectKind.{ObjectKind}
+use Rattle.workload.specs.declared.object.ObjectKind.TheVariants as kinds
+use Rattle.workload.specs.Plan.{has_call}
+use Rattle.workload.specs.Words.{map_verb, map_operands, atomic_verb, atomic_operands, verb_of, operands_of, number_word, is_number_to, is_number_word}
+use Rattle.workload.specs.Draft.{keys_of, is_call, is_map_call, is_value, is_range}
+use Rattle.workload.specs.Checks.{first_failing, map_form, atomic_form, bits_form, form_of, ranges_in}
+use Rattle.workload.specs.LineResult.{form_words, PassesWith}
+use Rattle.workload.proofs.Passing.{both}
+use Rattle.workload.proofs.Numbers.{is_number-decimal, number_of-decimal}
+use Rattle.workload.proofs.CallWords.{number_passes}
+
+pub value_passes : (n : ℕ) → nat_le n MAX_VALUE ≡ true → is_number_to MAX_VALUE (decimal n) ≡ true
+value_passes n le =
+    let small : n < 2 ^ 64 = omega (arith, leb-true n MAX_VALUE le) in
+    rw (is_number-decimal n small, number_of-decimal n small, le) refl
+
+-- the key of a call, and one value or two behind it
+named : (k : List ℕ) (vs : List ℕ) → (list_all is_name (k ∷ []) && list_all is_value vs) ≡ true → is_name k ≡ true
+named k vs h = (both (is_name k) true (both (list_all is_name (k ∷ [])) (list_all is_value vs) h).0).0
+
+valued : (k : List ℕ) (v : ℕ) (vs : List ℕ) → (list_all is_name (k ∷ []) && list_all is_value (v ∷ vs)) ≡ true → (is_number_to MAX_VALUE (decimal v) ≡ true) × (list_all is_value vs ≡ true)
+valued k v vs h =
+    let values = both (is_value v) (list_all is_value vs) (both (list_all is_name (k ∷ [])) (list_all is_value (v ∷ vs)) h).1 in
+    (value_passes v values.0, values.1)
+
+map_passes : (c : MapCall (List ℕ)) → is_map_call c ≡ true → PassesWith (map_form (map_verb c)) (map_operands c) (option_to_list (map_key c))
+map_passes (map_calls.Load k) h = (refl, rw (named k [] h) refl)
+map_passes (map_calls.Store k v) h = (refl, rw (named k (v ∷ []) h, (valued k v [] h).0) refl)
+map_passes (map_calls.LoadOrStore k v) h = (refl, rw (named k (v ∷ []) h, (valued k v [] h).0) refl)
+map_passes (map_calls.LoadAndDelete k) h = (refl, rw (named k [] h) refl)
+map_passes (map_calls.Delete k) h = (refl, rw (named k [] h) refl)
+map_passes (map_calls.Swap k v) h = (refl, rw (named k (v ∷ []) h, (valued k v [] h).0) refl)
+map_passes (map_calls.CompareAndSwap k v w) h =
+    let first = valued k v (w ∷ []) h in
+    let second = value_passes w (both (is_value w) true first.1).0 in
+    (refl, rw (named k (v ∷ w ∷ []) h, first.0, second) refl)
+map_passes (map_calls.CompareAndDelete k v) h = (refl, rw (named k (v ∷ []) h, (valued k v [] h).0) refl)
+map_passes map_calls.Clear h = (refl, refl)
+
+bits_pass : (k : AtomicKind) (v : Number) → (has_bits k && is_of k v) ≡ true → PassesWith (bits_form k) (number_word v ∷ []) []
+bits_pass types.Int32 v h = (refl, rw (number_passes types.Int32 v h) refl)
+bits_pass types.Int64 v h = (refl, rw (number_passes types.Int64 v h) refl)
+bits_pass types.Uint32 v h = (refl, rw (number_passes types.Uint32 v h) refl)
+bits_pass types.Uint64 v h = (refl, rw (number_passes types.Uint64 v h) refl)
+bits_pass types.Bool v h = absurd cc
+
+atomic_passes : (k : AtomicKind) (c : AtomicCall) → is_atomic_call k c ≡ true → PassesWith (atomic_form k (atomic_verb c)) (atomic_operands c) []
+atomic_passes k atomic_calls.Load h = (refl, refl)
+atomic_passes k (atomic_calls.Store v) h = (refl, rw (number_passes k v h) refl)
+atomic_passes k (atomic_calls.Swap v) h = (refl, rw (number_passes k v h) refl)
+atomic_passes k (atomic_calls.Add v) h = bits_pass k v h
+atomic_passes k (atomic_calls.And v) h = bits_pass k v h
+atomic_passes k (atomic_calls.Or v) h = bits_pass k v h
+atomic_passes k (atomic_calls.CompareAndSwap v w) h =
+    let numbers = both (is_of k v) (is_of k w) h in
+    (refl, rw (number_passes k v numbers.0, number_passes k w numbers.1) refl)
+
+-- a call that the kind of its object has
+pub call_form : (kind : ObjectKind) (c : Call) → has_call kind c ≡ true → is_call c ≡ true → PassesWith (form_of (verb_of c) kind) (operands_of c) (keys_of c)
+call_form kinds.Map (calls.Map i c) on h = map_passes c h
+call_form kinds.Map (calls.Range i) on h = (refl, refl)
+call_form (kinds.Atomic k) (calls.Atomic i c) on h = atomic_passes k c on
+call_form kinds.Map (calls.Atomic i c) on h = absurd cc
+call_form (kinds.Atomic k) (calls.Map i c) on h = absurd cc
+call_form (kinds.Atomic k) (calls.Range i) on h = absurd cc
+
+-- the word of a call says whether it is a `range` call
+pub ranges_of : (c : Call) → count_by is_range (c ∷ []) ≡ ranges_in (verb_of c)
+ranges_of (calls.Map i c) = no_range c
+  where
+    no_range : (c : MapCall (List ℕ)) → 0 ≡ ranges_in (map_verb c)
+    no_range (map_calls.Load k) = refl
+    no_range (map_calls.Store k v) = refl
+    no_range (map_calls.LoadOrStore k v) = refl
+    no_range (map_calls.LoadAndDelete k) = refl
+    no_range (map_calls.Delete k) = refl
+    no_range (map_calls.Swap k v) = refl
+    no_range (map_calls.CompareAndSwap k v w) = refl
+    no_range (map_calls.CompareAndDelete k v) = refl
+    no_range map_calls.Clear = refl
+ranges_of (calls.Range i) = refl
+ranges_of (calls.Atomic i c) = no_range c
+  where
+    no_range : (c : AtomicCall) → 0 ≡ ranges_in (atomic_verb c)
+    no_range atomic_calls.Load = refl
+    no_range (atomic_calls.Store v) = refl
+    no_range (atomic_calls.Swap v) = refl
+    no_range (atomic_calls.Add v) = refl
+    no_range (atomic_calls.And v) = refl
+    no_range (atomic_calls.Or v) = refl
+    no_range (atomic_calls.CompareAndSwap v w) = refl

@@ -1,0 +1,7 @@
+use Rattle.workload.specs.declared.keyword.Keyword.TheVariants as keywords
+use Rattle.std.proofs.Common.{Some, sym, ap, ◌∙◌}
+use Rattle.workload.proofs.Keywords.{line_of_keyword}
+use Rattle.workload.proofs.reading.read_line.Goals as goal
+
+pub returns-in-Some-Call : goal.returns-in-Some-Call
+returns-in-Some-Call c = line_of_keyword c.args.draft.now c.args.word.now (keywords.Call c.in-Some-Call.verb) _ c.read_call.result (sym c.read_keyword.ensures ∙ c.in-Some-Call.is ∙ ap Some c.in-Some-Call.field-0-is) c.read_call.ensures
