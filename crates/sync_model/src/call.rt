@@ -1,5 +1,6 @@
 //! The calls that a script makes, by kind of object.
 use crate::atomic_object::{AtomicCall, AtomicReply};
+use crate::lock_call::{LockReply, MutexCall, RwMutexCall};
 use crate::map_object::{MapCall, MapReply};
 use crate::name::Name;
 use crate::seq::Seq;
@@ -13,6 +14,10 @@ pub enum Call {
     Range { object: usize },
     /// A call on an atomic.
     Atomic { object: usize, call: AtomicCall },
+    /// A call on a mutex.
+    Mutex { object: usize, call: MutexCall },
+    /// A call on a reader/writer mutex.
+    RwMutex { object: usize, call: RwMutexCall },
 }
 
 /// What a call answers.
@@ -24,4 +29,6 @@ pub enum Reply {
     Pairs(Seq<(Name, u64)>),
     /// The reply of an atomic.
     Atomic(AtomicReply),
+    /// The reply of a mutex or a reader/writer mutex.
+    Lock(LockReply),
 }
