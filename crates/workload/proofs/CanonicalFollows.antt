@@ -97,6 +97,7 @@ kinds_counted (o ∷ os) =
   where
     one_if : ObjectKind → ObjectKind → ℕ
     one_if k l = cond (count_together k l) 1 0
+
     one_kind : (k : ObjectKind) → one_if kinds.Map k + (one_if (kinds.Atomic types.Bool) k + (one_if kinds.Mutex k + one_if kinds.RwMutex k)) ≡ 1
     one_kind kinds.Map = refl
     one_kind (kinds.Atomic k) = refl

@@ -79,13 +79,13 @@ same_atomic_call : (kind : AtomicKind) (c d : AtomicCall) → is_atomic_call kin
 same_atomic_call kind c d p q v e = some_is c d (sym (atomic_call_spelled kind c p) ∙ ap (λ (x : Verb). atomic_call_at kind x (atomic_operands c)) v ∙ ap (atomic_call_at kind (atomic_verb d)) e ∙ atomic_call_spelled kind d q)
 
 -- the call of a mutex that a word is, and of a reader/writer mutex
-mutex_call_at : Verb → Option MutexCall
+abbrev mutex_call_at : Verb → Option MutexCall
 mutex_call_at verbs.Lock = Some mutex_calls.Lock
 mutex_call_at verbs.Unlock = Some mutex_calls.Unlock
 mutex_call_at verbs.TryLock = Some mutex_calls.TryLock
 mutex_call_at verb = None
 
-rw_mutex_call_at : Verb → Option RwMutexCall
+abbrev rw_mutex_call_at : Verb → Option RwMutexCall
 rw_mutex_call_at verbs.Lock = Some rw_mutex_calls.Lock
 rw_mutex_call_at verbs.Unlock = Some rw_mutex_calls.Unlock
 rw_mutex_call_at verbs.TryLock = Some rw_mutex_calls.TryLock

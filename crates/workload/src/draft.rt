@@ -99,7 +99,8 @@ pub fn call_key(call: &Call) -> Option<&Name>
 {
     match call {
         Call::Map { call, .. } => call.key(),
-        Call::Range { .. } | Call::Atomic { .. } | Call::Mutex { .. } | Call::RwMutex { .. } => None,
+        Call::Range { .. } | Call::Atomic { .. } | Call::Mutex { .. } | Call::RwMutex { .. } =>
+            None,
     }
 }
 

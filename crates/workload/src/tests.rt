@@ -94,7 +94,11 @@ fn each_check_refuses_what_fails_it(rt: HostRuntime) -> Result<(), Fail> {
         (b"workers 1\nrwmutex m 1\n", 2, Reason::WrongNumberOfWords),
         (b"workers 1\nmutex 9\n", 2, Reason::BadName),
         (b"workers 1\nmutex m\nrwmutex m\n", 3, Reason::NameTaken),
-        (b"workers 1\nmutex m\nlock m\n", 3, Reason::CallOutsideWorker),
+        (
+            b"workers 1\nmutex m\nlock m\n",
+            3,
+            Reason::CallOutsideWorker,
+        ),
         (
             b"workers 1\nworker 0\nlock\n",
             3,
