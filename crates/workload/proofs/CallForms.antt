@@ -1,5 +1,5 @@
 -- A call passes the checks of its form.
-use Rattle.std.proofs.Common.{◌≡◌, ℕ, ◌^◌, ◌<◌, true, ◌&&◌, List, [], ◌∷◌, Option, Some, None, refl, ap, ◌∙◌, arith}
+use Rattle.std.proofs.Common.{◌≡◌, ℕ, ◌^◌, ◌<◌, true, ◌&&◌, List, [], ◌∷◌, refl, arith}
 use Rattle.std.specs.Prelude.{nat_le, count_by}
 use Rattle.std.specs.List.{list_all}
 use Rattle.std.specs.Option.{option_to_list}
@@ -25,10 +25,10 @@ use Rattle.workload.specs.declared.limits.TheConstants.{MAX_VALUE}
 use Rattle.workload.specs.declared.object.ObjectKind.{ObjectKind}
 use Rattle.workload.specs.declared.object.ObjectKind.TheVariants as kinds
 use Rattle.workload.specs.Plan.{has_call}
-use Rattle.workload.specs.Words.{map_verb, map_operands, atomic_verb, atomic_operands, mutex_verb, rw_mutex_verb, verb_of, operands_of, number_word, is_number_to, is_number_word}
+use Rattle.workload.specs.Words.{map_verb, map_operands, atomic_verb, atomic_operands, mutex_verb, rw_mutex_verb, verb_of, operands_of, number_word, is_number_to}
 use Rattle.workload.specs.Draft.{keys_of, is_call, is_map_call, is_value, is_range}
-use Rattle.workload.specs.Checks.{first_failing, map_form, atomic_form, bits_form, mutex_form, rw_mutex_form, form_of, ranges_in}
-use Rattle.workload.specs.LineResult.{form_words, PassesWith}
+use Rattle.workload.specs.Checks.{map_form, atomic_form, bits_form, mutex_form, rw_mutex_form, form_of, ranges_in}
+use Rattle.workload.specs.LineResult.{PassesWith}
 use Rattle.workload.proofs.Passing.{both}
 use Rattle.workload.proofs.Numbers.{is_number-decimal, number_of-decimal}
 use Rattle.workload.proofs.CallWords.{number_passes}

@@ -1,5 +1,5 @@
 -- The words that lines begin with, and back.
-use Rattle.std.proofs.Common.{◌≡◌, ℕ, Bool, true, false, cond, List, [], ◌∷◌, Option, Some, None, refl, sym, ap, subst, ◌∙◌}
+use Rattle.std.proofs.Common.{◌≡◌, ℕ, true, false, cond, List, [], ◌∷◌, Option, Some, refl, sym, ap, subst, ◌∙◌}
 use Rattle.std.specs.Prelude.{Result, Ok, Err}
 use Rattle.std.specs.Str.{bytes_eq}
 use Rattle.std.specs.List.{AllByRecursion}
@@ -11,7 +11,7 @@ use Rattle.workload.specs.declared.keyword.Verb.TheVariants as verbs
 use Rattle.workload.specs.declared.object.ObjectKind.TheVariants as kinds
 use Rattle.workload.specs.declared.fault.LineFault.{LineFault}
 use Rattle.workload.specs.declared.line.Line.{Line}
-use Rattle.workload.specs.Words.{keyword_word, keyword_of, arguments_of, keyword_at, keyword_in, keywords_known, spelled}
+use Rattle.workload.specs.Words.{keyword_word, keyword_of, keyword_at, keyword_in, keywords_known}
 use Rattle.workload.specs.Draft.{Draft}
 use Rattle.workload.specs.Checks.{line_checks}
 use Rattle.workload.specs.LineResult.{IsFault, IsLineOf, IsLine}
