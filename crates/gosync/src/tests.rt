@@ -160,6 +160,98 @@ fn the_calls_of_maps_and_atomics_are_reported(rt: HostRuntime) -> Result<(), Fai
     Ok(())
 }
 
+#[test]
+fn locks_are_taken_and_reported(rt: HostRuntime) -> Result<(), Fail> {
+    let table = [
+        (
+            "workers 3\nmutex m\nworker 0\nlock m\nunlock m\nlock m\nunlock m\ntrylock m\nworker 1\nlock m\nunlock m\nworker 2\nlock m\nunlock m\nschedule 0 1 0 0 @1000001 2 1 0 2 2 0\n",
+            "0.0 lock m -> ok\n0.1 unlock m -> ok\n0.2 lock m -> ok\n0.3 unlock m -> ok\n0.4 trylock m -> false\n1.0 lock m -> ok\n1.1 unlock m -> ok\n2.0 lock m -> ok\n2.1 unlock m -> ok\n",
+        ),
+        (
+            "workers 3\nmutex m\nworker 0\nlock m\nunlock m\nlock m\nunlock m\ntrylock m\nunlock m\nworker 1\nlock m\nunlock m\nworker 2\nlock m\nunlock m\nschedule 0 1 0 0 @1000000 2 1 0 2 2 0\n",
+            "0.0 lock m -> ok\n0.1 unlock m -> ok\n0.2 lock m -> ok\n0.3 unlock m -> ok\n0.4 trylock m -> true\n0.5 unlock m -> ok\n1.0 lock m -> ok\n1.1 unlock m -> ok\n2.0 lock m -> ok\n2.1 unlock m -> ok\n",
+        ),
+        (
+            "workers 2\nmutex m\nworker 0\nlock m\nworker 1\nunlock m\n",
+            "0.0 lock m -> ok\n1.0 unlock m -> ok\n",
+        ),
+        (
+            "workers 4\nrwmutex w\nworker 0\nrlock w\nrunlock w\nworker 1\nlock w\nunlock w\nworker 2\nrlock w\nrunlock w\nworker 3\ntryrlock w\n",
+            "0.0 rlock w -> ok\n0.1 runlock w -> ok\n1.0 lock w -> ok\n1.1 unlock w -> ok\n2.0 rlock w -> ok\n2.1 runlock w -> ok\n3.0 tryrlock w -> false\n",
+        ),
+        (
+            "workers 1\nrwmutex w\nworker 0\ntryrlock w\ntrylock w\nrunlock w\ntrylock w\ntryrlock w\nunlock w\n",
+            "0.0 tryrlock w -> true\n0.1 trylock w -> false\n0.2 runlock w -> ok\n0.3 trylock w -> true\n0.4 tryrlock w -> false\n0.5 unlock w -> ok\n",
+        ),
+    ];
+    for (text, report) in table {
+        let row = Row {
+            text,
+            report,
+            ..STEP
+        };
+        assert!(rt; comes_out(rt.alloc(), &row)?, "{text}");
+    }
+    Ok(())
+}
+
+#[test]
+fn a_misuse_or_a_deadlock_ends_the_run(rt: HostRuntime) -> Result<(), Fail> {
+    let table = [
+        (
+            "workers 1\nmutex m\nworker 0\nunlock m\n",
+            "",
+            "fatal error: sync: unlock of unlocked mutex\n",
+        ),
+        (
+            "workers 2\nmutex a\nmutex b\nworker 0\nlock a\nlock b\nworker 1\nlock b\nlock a\n",
+            "0.0 lock a -> ok\n1.0 lock b -> ok\n",
+            "fatal error: all goroutines are asleep - deadlock!\n",
+        ),
+        (
+            "workers 2\nmutex m\nmutex d\nworker 0\nlock m\nlock m\nworker 1\nunlock d\nschedule 0 0 1\n",
+            "0.0 lock m -> ok\n",
+            "fatal error: sync: unlock of unlocked mutex\n",
+        ),
+        (
+            "workers 2\nmutex m\nrwmutex w\nworker 0\nlock m\nlock m\nworker 1\nrunlock w\nschedule 0 0 1\n",
+            "0.0 lock m -> ok\n",
+            "fatal error: sync: RUnlock of unlocked RWMutex\n",
+        ),
+        (
+            "workers 2\nmutex m\nrwmutex w\nworker 0\nlock m\nlock m\nworker 1\nunlock w\nschedule 0 0 1\n",
+            "0.0 lock m -> ok\n",
+            "fatal error: sync: Unlock of unlocked RWMutex\n",
+        ),
+        (
+            "workers 1\nmutex m\nint64 a\nworker 0\nadd a 1\nunlock m\nadd a 1\n",
+            "0.0 add a 1 -> 1\n",
+            "fatal error: sync: unlock of unlocked mutex\n",
+        ),
+    ];
+    for (text, report, message) in table {
+        let row = Row {
+            text,
+            status: 2,
+            report,
+            message,
+            ..STEP
+        };
+        assert!(rt; comes_out(rt.alloc(), &row)?, "{text}");
+    }
+    // Behind a write that failed there is no text of Go's.
+    let row = Row {
+        text: "workers 1\nmutex m\nworker 0\nlock m\nunlock m\nunlock m\n",
+        status: 3,
+        out: &[2],
+        report: "0.0 lock m -> ok\n",
+        message: "gosync: cannot write the report\n",
+        ..STEP
+    };
+    assert!(rt; comes_out(rt.alloc(), &row)?);
+    Ok(())
+}
+
 // How often a call stands behind the lines before it, and then the status, the bytes of the report and
 // the line on the error output.
 #[test]
