@@ -6,3 +6,4 @@ pub mod Room
 pub mod Turns
 pub mod Runs
 pub mod Admissions
+pub mod UsedUp
