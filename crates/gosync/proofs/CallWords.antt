@@ -1,10 +1,10 @@
 -- How long words are.
 use Rattle.std.proofs.Common.{◌≤◌, length, arith}
 use Rattle.workload.specs.declared.keyword.Verb.{Verb}
-use Rattle.workload.specs.declared.keyword.Verb.TheVariants.{Load, Store, LoadOrStore, LoadAndDelete, Delete, Swap, CompareAndSwap, CompareAndDelete, Clear, Range, Add, And, Or}
+use Rattle.workload.specs.declared.keyword.Verb.TheVariants.{Load, Store, LoadOrStore, LoadAndDelete, Delete, Swap, CompareAndSwap, CompareAndDelete, Clear, Range, Add, And, Or, Lock, Unlock, TryLock, RLock, RUnlock, TryRLock}
 use Rattle.workload.specs.Words.{verb_word}
 
-pub verb_short : (verb : Verb) → length (verb_word verb) ≤ 6
+pub verb_short : (verb : Verb) → length (verb_word verb) ≤ 8
 verb_short Load = omega arith
 verb_short Store = omega arith
 verb_short LoadOrStore = omega arith
@@ -18,3 +18,9 @@ verb_short Range = omega arith
 verb_short Add = omega arith
 verb_short And = omega arith
 verb_short Or = omega arith
+verb_short Lock = omega arith
+verb_short Unlock = omega arith
+verb_short TryLock = omega arith
+verb_short RLock = omega arith
+verb_short RUnlock = omega arith
+verb_short TryRLock = omega arith

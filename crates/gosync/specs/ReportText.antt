@@ -10,6 +10,8 @@ use Rattle.sync_model.specs.declared.map_object.MapReply.{MapReply}
 use Rattle.sync_model.specs.declared.map_object.MapReply.TheVariants as map_replies
 use Rattle.sync_model.specs.declared.atomic_object.AtomicReply.{AtomicReply}
 use Rattle.sync_model.specs.declared.atomic_object.AtomicReply.TheVariants as atomic_replies
+use Rattle.sync_model.specs.declared.lock_call.LockReply.{LockReply}
+use Rattle.sync_model.specs.declared.lock_call.LockReply.TheVariants as lock_replies
 use Rattle.workload.specs.declared.line.Line.TheVariants as lines
 use Rattle.workload.specs.declared.object.ObjectLine.{ObjectLine}
 use Rattle.workload.specs.Plan.{Plan, object_of}
@@ -59,10 +61,16 @@ atomic_reply_text atomic_replies.Done = codes "ok"
 atomic_reply_text (atomic_replies.Held number) = number_word number
 atomic_reply_text (atomic_replies.Compared is_old) = truth_text is_old
 
+-- a reply of a lock: nothing, or whether a try took it
+abbrev pub lock_reply_text : LockReply → List ℕ
+lock_reply_text lock_replies.Done = codes "ok"
+lock_reply_text (lock_replies.Tried is_taken) = truth_text is_taken
+
 abbrev pub reply_text : Reply → List ℕ
 reply_text (replies.Map reply) = map_reply_text reply
 reply_text (replies.Pairs pairs) = pairs_text pairs
 reply_text (replies.Atomic reply) = atomic_reply_text reply
+reply_text (replies.Lock reply) = lock_reply_text reply
 
 -- the line of a completed call: `WORKER.INDEX CALL -> REPLY`
 abbrev pub call_line : List ObjectLine → ℕ → ℕ → Call → Reply → List ℕ

@@ -9,9 +9,9 @@ use sync_model::{AtomicCall, Call, MapCall, Name};
 use workload::ObjectLine;
 use workload::printing::{verb, verb_text};
 
-/// The most bytes that the words of a call have in a line: a word of up to 6 bytes, two names and two
+/// The most bytes that the words of a call have in a line: a word of up to 8 bytes, two names and two
 /// numbers, each behind a space.
-pub const WORDS_ROOM: usize = 115;
+pub const WORDS_ROOM: usize = 117;
 
 /// The name of the object at a place.
 pub fn name_at(objects: &[ObjectLine], place: usize) -> &[u8]
@@ -27,9 +27,9 @@ pub fn name_at(objects: &[ObjectLine], place: usize) -> &[u8]
 /// Adds the word of a call behind a space.
 #[tactic(auto, using(crate::proofs::CallWords::verb_short))]
 fn push_verb(line: &mut Vec<u8>, call: &Call)
-    requires { vec_len line.old + 7 ≤ vec_capacity line.old }
+    requires { vec_len line.old + 9 ≤ vec_capacity line.old }
     ensures text { line.new.items ≡ line.old.items ++ 32 ∷ verb_word (verb_of call.now) }
-    ensures len { vec_len line.new ≤ vec_len line.old + 7 }
+    ensures len { vec_len line.new ≤ vec_len line.old + 9 }
     ensures room { vec_capacity line.old ≤ vec_capacity line.new }
 {
     push_word(line, verb_text(verb(call)));
@@ -104,7 +104,9 @@ pub fn push_call(line: &mut Vec<u8>, objects: &[ObjectLine], call: &Call)
             push_word(line, name_at(objects, *object));
             push_map_operands(line, call);
         }
-        Call::Range { object } => push_word(line, name_at(objects, *object)),
+        Call::Range { object } | Call::Mutex { object, .. } | Call::RwMutex { object, .. } => {
+            push_word(line, name_at(objects, *object));
+        }
         Call::Atomic { object, call } => {
             push_word(line, name_at(objects, *object));
             push_atomic_operands(line, *call);

@@ -2,10 +2,10 @@
 ghost use Rattle.std.specs.Prelude.{◌≡◌, ◌+◌, ◌*◌, ◌≤◌, ◌++◌, true, length, map, vec_len, vec_capacity};
 ghost use Rattle.workload.specs.declared.limits.TheConstants.{MAX_KEYS};
 ghost use Rattle.step_runner.specs.Pairs.{has_pairs_to};
-ghost use Rattle.gosync.specs.ReportText.{spaced, map_reply_text, pair_text, pairs_text, atomic_reply_text, reply_text};
+ghost use Rattle.gosync.specs.ReportText.{spaced, map_reply_text, pair_text, pairs_text, atomic_reply_text, lock_reply_text, reply_text};
 
 use crate::line::{push, push_atomic_number, push_number, push_truth};
-use sync_model::{AtomicReply, MapReply, Name, Reply};
+use sync_model::{AtomicReply, LockReply, MapReply, Name, Reply};
 
 /// The most bytes of a reply: 4,096 pairs, each of a key of 32 bytes, `=`, a value of 20 digits, and a
 /// space before the next.
@@ -91,6 +91,19 @@ fn push_atomic_reply(line: &mut Vec<u8>, reply: AtomicReply)
     }
 }
 
+/// Adds a reply of a mutex or a reader/writer mutex.
+fn push_lock_reply(line: &mut Vec<u8>, reply: LockReply)
+    requires { vec_len line.old + 5 ≤ vec_capacity line.old }
+    ensures text { line.new.items ≡ line.old.items ++ lock_reply_text reply }
+    ensures len { vec_len line.new ≤ vec_len line.old + 5 }
+    ensures room { vec_capacity line.old ≤ vec_capacity line.new }
+{
+    match reply {
+        LockReply::Done => push(line, b"ok"),
+        LockReply::Tried(is_taken) => push_truth(line, is_taken),
+    }
+}
+
 /// Adds a reply.
 pub fn push_reply(line: &mut Vec<u8>, reply: &Reply)
     requires pairs { has_pairs_to MAX_KEYS reply.now ≡ true }
@@ -103,5 +116,6 @@ pub fn push_reply(line: &mut Vec<u8>, reply: &Reply)
         Reply::Map(reply) => push_map_reply(line, reply),
         Reply::Pairs(pairs) => push_pairs(line, pairs.as_slice()),
         Reply::Atomic(reply) => push_atomic_reply(line, *reply),
+        Reply::Lock(reply) => push_lock_reply(line, *reply),
     }
 }

@@ -15,15 +15,19 @@ use Rattle.sync_model.specs.declared.atomic_object.AtomicKind.TheVariants as typ
 use Rattle.sync_model.specs.declared.atomic_object.Number.{Number}
 use Rattle.sync_model.specs.declared.atomic_object.AtomicCall.{AtomicCall}
 use Rattle.sync_model.specs.declared.atomic_object.AtomicCall.TheVariants as atomic_calls
+use Rattle.sync_model.specs.declared.lock_call.MutexCall.{MutexCall}
+use Rattle.sync_model.specs.declared.lock_call.MutexCall.TheVariants as mutex_calls
+use Rattle.sync_model.specs.declared.lock_call.RwMutexCall.{RwMutexCall}
+use Rattle.sync_model.specs.declared.lock_call.RwMutexCall.TheVariants as rw_mutex_calls
 use Rattle.sync_model.specs.SequentialMap.{map_key}
 use Rattle.sync_model.specs.SequentialAtomic.{has_bits, is_of, is_atomic_call}
 use Rattle.workload.specs.declared.limits.TheConstants.{MAX_VALUE}
 use Rattle.workload.specs.declared.object.ObjectKind.{ObjectKind}
 use Rattle.workload.specs.declared.object.ObjectKind.TheVariants as kinds
 use Rattle.workload.specs.Plan.{has_call}
-use Rattle.workload.specs.Words.{map_verb, map_operands, atomic_verb, atomic_operands, verb_of, operands_of, number_word, is_number_to, is_number_word}
+use Rattle.workload.specs.Words.{map_verb, map_operands, atomic_verb, atomic_operands, mutex_verb, rw_mutex_verb, verb_of, operands_of, number_word, is_number_to, is_number_word}
 use Rattle.workload.specs.Draft.{keys_of, is_call, is_map_call, is_value, is_range}
-use Rattle.workload.specs.Checks.{first_failing, map_form, atomic_form, bits_form, form_of, ranges_in}
+use Rattle.workload.specs.Checks.{first_failing, map_form, atomic_form, bits_form, mutex_form, rw_mutex_form, form_of, ranges_in}
 use Rattle.workload.specs.LineResult.{form_words, PassesWith}
 use Rattle.workload.proofs.Passing.{both}
 use Rattle.workload.proofs.Numbers.{is_number-decimal, number_of-decimal}
@@ -75,14 +79,27 @@ atomic_passes k (atomic_calls.CompareAndSwap v w) h =
     let numbers = both (is_of k v) (is_of k w) h in
     (refl, rw (number_passes k v numbers.0, number_passes k w numbers.1) refl)
 
+mutex_passes : (c : MutexCall) → PassesWith (mutex_form (mutex_verb c)) [] []
+mutex_passes mutex_calls.Lock = (refl, refl)
+mutex_passes mutex_calls.Unlock = (refl, refl)
+mutex_passes mutex_calls.TryLock = (refl, refl)
+
+rw_mutex_passes : (c : RwMutexCall) → PassesWith (rw_mutex_form (rw_mutex_verb c)) [] []
+rw_mutex_passes rw_mutex_calls.Lock = (refl, refl)
+rw_mutex_passes rw_mutex_calls.Unlock = (refl, refl)
+rw_mutex_passes rw_mutex_calls.TryLock = (refl, refl)
+rw_mutex_passes rw_mutex_calls.RLock = (refl, refl)
+rw_mutex_passes rw_mutex_calls.RUnlock = (refl, refl)
+rw_mutex_passes rw_mutex_calls.TryRLock = (refl, refl)
+
 -- a call that the kind of its object has
 pub call_form : (kind : ObjectKind) (c : Call) → has_call kind c ≡ true → is_call c ≡ true → PassesWith (form_of (verb_of c) kind) (operands_of c) (keys_of c)
 call_form kinds.Map (calls.Map i c) on h = map_passes c h
 call_form kinds.Map (calls.Range i) on h = (refl, refl)
 call_form (kinds.Atomic k) (calls.Atomic i c) on h = atomic_passes k c on
-call_form kinds.Map (calls.Atomic i c) on h = absurd cc
-call_form (kinds.Atomic k) (calls.Map i c) on h = absurd cc
-call_form (kinds.Atomic k) (calls.Range i) on h = absurd cc
+call_form kinds.Mutex (calls.Mutex i c) on h = mutex_passes c
+call_form kinds.RwMutex (calls.RwMutex i c) on h = rw_mutex_passes c
+call_form kind c on h = absurd cc
 
 -- the word of a call says whether it is a `range` call
 pub ranges_of : (c : Call) → count_by is_range (c ∷ []) ≡ ranges_in (verb_of c)
@@ -109,3 +126,18 @@ ranges_of (calls.Atomic i c) = no_range c
     no_range (atomic_calls.And v) = refl
     no_range (atomic_calls.Or v) = refl
     no_range (atomic_calls.CompareAndSwap v w) = refl
+ranges_of (calls.Mutex i c) = no_range c
+  where
+    no_range : (c : MutexCall) → 0 ≡ ranges_in (mutex_verb c)
+    no_range mutex_calls.Lock = refl
+    no_range mutex_calls.Unlock = refl
+    no_range mutex_calls.TryLock = refl
+ranges_of (calls.RwMutex i c) = no_range c
+  where
+    no_range : (c : RwMutexCall) → 0 ≡ ranges_in (rw_mutex_verb c)
+    no_range rw_mutex_calls.Lock = refl
+    no_range rw_mutex_calls.Unlock = refl
+    no_range rw_mutex_calls.TryLock = refl
+    no_range rw_mutex_calls.RLock = refl
+    no_range rw_mutex_calls.RUnlock = refl
+    no_range rw_mutex_calls.TryRLock = refl

@@ -52,9 +52,10 @@ counts_more k others o = omega (arith, sum_by-append (λ (x : ObjectLine). cond 
 -- kinds that count together have one limit, and one count
 same_limit : (k l : ObjectKind) (os : List ObjectLine) → count_together k l ≡ true → (count_of k os ≡ count_of l os) × (limit_of k ≡ limit_of l)
 same_limit kinds.Map kinds.Map os e = (refl, refl)
-same_limit kinds.Map (kinds.Atomic l) os e = absurd cc
-same_limit (kinds.Atomic k) kinds.Map os e = absurd cc
 same_limit (kinds.Atomic k) (kinds.Atomic l) os e = (refl, refl)
+same_limit kinds.Mutex kinds.Mutex os e = (refl, refl)
+same_limit kinds.RwMutex kinds.RwMutex os e = (refl, refl)
+same_limit k l os e = absurd cc
 
 counts_one : (b : Bool) → b ≡ true → ◌≡◌ {A = ℕ} (cond b 1 0) 1
 counts_one true e = refl
@@ -88,20 +89,26 @@ limits_kept k (o ∷ os) others within h =
     subst (λ (x : List ObjectLine). count_of k x ≤ limit_of k) (append_assoc others (o ∷ []) os) (limits_kept k os (others ++ o ∷ []) (limit_kept k others o fits within) parts.1)
 
 -- each object counts with one kind
-kinds_counted : (os : List ObjectLine) → length os ≡ count_of kinds.Map os + count_of (kinds.Atomic types.Bool) os
+kinds_counted : (os : List ObjectLine) → length os ≡ count_of kinds.Map os + (count_of (kinds.Atomic types.Bool) os + (count_of kinds.Mutex os + count_of kinds.RwMutex os))
 kinds_counted [] = refl
 kinds_counted (o ∷ os) =
-    let maps = sum_by-append (λ (x : ObjectLine). cond (count_together kinds.Map x.kind) 1 0) (o ∷ []) os in
-    let atomics = sum_by-append (λ (x : ObjectLine). cond (count_together (kinds.Atomic types.Bool) x.kind) 1 0) (o ∷ []) os in
-    omega (arith, maps, atomics, one_kind o.kind, kinds_counted os)
+    let with_one = λ (k : ObjectKind). sum_by-append (λ (x : ObjectLine). cond (count_together k x.kind) 1 0) (o ∷ []) os in
+    omega (arith, with_one kinds.Map, with_one (kinds.Atomic types.Bool), with_one kinds.Mutex, with_one kinds.RwMutex, one_kind o.kind, kinds_counted os)
   where
-    one_kind : (k : ObjectKind) → ◌≡◌ {A = ℕ} (cond (count_together kinds.Map k) 1 0 + cond (count_together (kinds.Atomic types.Bool) k) 1 0) 1
+    one_if : ObjectKind → ObjectKind → ℕ
+    one_if k l = cond (count_together k l) 1 0
+
+    one_kind : (k : ObjectKind) → one_if kinds.Map k + (one_if (kinds.Atomic types.Bool) k + (one_if kinds.Mutex k + one_if kinds.RwMutex k)) ≡ 1
     one_kind kinds.Map = refl
     one_kind (kinds.Atomic k) = refl
+    one_kind kinds.Mutex = refl
+    one_kind kinds.RwMutex = refl
 
--- there are at most 16 maps and 64 atomics
-few_objects : (os : List ObjectLine) → may_declare [] os ≡ true → length os ≤ 80
-few_objects os h = omega (arith, kinds_counted os, limits_kept kinds.Map os [] (omega arith) h, limits_kept (kinds.Atomic types.Bool) os [] (omega arith) h)
+-- there are at most 16 maps, 64 atomics, 32 mutexes and 32 reader/writer mutexes
+few_objects : (os : List ObjectLine) → may_declare [] os ≡ true → length os ≤ 144
+few_objects os h =
+    let few = λ (k : ObjectKind). limits_kept k os [] (omega arith) h in
+    omega (arith, kinds_counted os, few kinds.Map, few (kinds.Atomic types.Bool), few kinds.Mutex, few kinds.RwMutex)
 
 -- ---- names
 
@@ -386,7 +393,7 @@ canonical_follows plan h =
     )
 
 -- and are not many
-pub canonical_count : (plan : Plan) → IsReadable plan → length (canonical_lines plan) ≤ 32612
+pub canonical_count : (plan : Plan) → IsReadable plan → length (canonical_lines plan) ≤ 32676
 canonical_count plan h =
     let v = valid_parts plan h.valid in
     omega (

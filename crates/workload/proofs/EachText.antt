@@ -15,6 +15,8 @@ use Rattle.sync_model.specs.declared.atomic_object.AtomicKind.{AtomicKind}
 use Rattle.sync_model.specs.declared.atomic_object.AtomicKind.TheVariants as types
 use Rattle.sync_model.specs.declared.atomic_object.Number.{Number}
 use Rattle.sync_model.specs.declared.atomic_object.AtomicCall.TheVariants as atomic_calls
+use Rattle.sync_model.specs.declared.lock_call.MutexCall.TheVariants as mutex_calls
+use Rattle.sync_model.specs.declared.lock_call.RwMutexCall.TheVariants as rw_mutex_calls
 use Rattle.sync_model.specs.SequentialAtomic.{has_bits, is_of}
 use Rattle.workload.specs.declared.keyword.Keyword.{Keyword}
 use Rattle.workload.specs.declared.keyword.Keyword.TheVariants as keywords
@@ -36,7 +38,7 @@ use Rattle.workload.specs.Plan.{Plan, object_of, has_call}
 use Rattle.workload.specs.Lines.{lines_of, words_of, is_short, is_clean, is_significant}
 use Rattle.workload.specs.Words.{keyword_word, keyword_at, spelled, verb_word, verb_of, operands_of, number_word, turn_word, is_number, is_number_to, number_of}
 use Rattle.workload.specs.Draft.{Draft, started, with_line, declared, may_follow, names_object, is_call, is_value, is_item, is_range, keys_of, count_of, limit_of, range_count}
-use Rattle.workload.specs.Checks.{Check, first_failing, map_form, bits_form, atomic_form, form_of, key_operands, ranges_in, limit_checks, form_checks, object_checks, worker_checks, item_checks, line_checks, first_checks, word_checks, reason_of}
+use Rattle.workload.specs.Checks.{Check, first_failing, map_form, bits_form, atomic_form, mutex_form, rw_mutex_form, form_of, key_operands, ranges_in, limit_checks, form_checks, object_checks, worker_checks, item_checks, line_checks, first_checks, word_checks, reason_of}
 use Rattle.workload.specs.Reads.{Says, IsRead, ReadsOn, Reads, FirstFault, IsRefused}
 use Rattle.workload.proofs.Passing.{both, pair}
 use Rattle.workload.specs.LineResult.{form_words, PassesWith}
@@ -236,9 +238,7 @@ map_spelled place verbs.CompareAndDelete words h = let said = pair_said words h 
 map_spelled place verbs.CompareAndSwap words h = let said = exchange_said words h in (calls.Map place (map_calls.CompareAndSwap said.0 said.1 said.2), refl, sym said.6, refl, refl, rw (said.3, said.4, said.5) refl)
 map_spelled place verbs.Clear words h = (calls.Map place map_calls.Clear, refl, sym (none_said words h), refl, refl, refl)
 map_spelled place verbs.Range words h = (calls.Range place, refl, sym (none_said words h), refl, refl, refl)
-map_spelled place verbs.Add words h = absurd cc
-map_spelled place verbs.And words h = absurd cc
-map_spelled place verbs.Or words h = absurd cc
+map_spelled place verb words h = absurd cc
 
 atomic_spelled : (kind : AtomicKind) (place : ℕ) (verb : Verb) (words : List (List ℕ)) → first_failing (form_words (atomic_form kind verb) words) ≡ None → Spelled (kinds.Atomic kind) place verb words
 atomic_spelled kind place verbs.Load words h = (calls.Atomic place atomic_calls.Load, refl, sym (none_said words h), refl, refl, refl)
@@ -248,16 +248,28 @@ atomic_spelled kind place verbs.Add words h = let said = bits_said kind words h 
 atomic_spelled kind place verbs.And words h = let said = bits_said kind words h in (calls.Atomic place (atomic_calls.And said.0), refl, sym said.2, refl, said.1, refl)
 atomic_spelled kind place verbs.Or words h = let said = bits_said kind words h in (calls.Atomic place (atomic_calls.Or said.0), refl, sym said.2, refl, said.1, refl)
 atomic_spelled kind place verbs.CompareAndSwap words h = let said = numbers_said kind words h in (calls.Atomic place (atomic_calls.CompareAndSwap said.0 said.1), refl, sym said.4, refl, pair (is_of kind said.0) (is_of kind said.1) said.2 said.3, refl)
-atomic_spelled kind place verbs.LoadOrStore words h = absurd cc
-atomic_spelled kind place verbs.LoadAndDelete words h = absurd cc
-atomic_spelled kind place verbs.Delete words h = absurd cc
-atomic_spelled kind place verbs.CompareAndDelete words h = absurd cc
-atomic_spelled kind place verbs.Clear words h = absurd cc
-atomic_spelled kind place verbs.Range words h = absurd cc
+atomic_spelled kind place verb words h = absurd cc
+
+mutex_spelled : (place : ℕ) (verb : Verb) (words : List (List ℕ)) → first_failing (form_words (mutex_form verb) words) ≡ None → Spelled kinds.Mutex place verb words
+mutex_spelled place verbs.Lock words h = (calls.Mutex place mutex_calls.Lock, refl, sym (none_said words h), refl, refl, refl)
+mutex_spelled place verbs.Unlock words h = (calls.Mutex place mutex_calls.Unlock, refl, sym (none_said words h), refl, refl, refl)
+mutex_spelled place verbs.TryLock words h = (calls.Mutex place mutex_calls.TryLock, refl, sym (none_said words h), refl, refl, refl)
+mutex_spelled place verb words h = absurd cc
+
+rw_mutex_spelled : (place : ℕ) (verb : Verb) (words : List (List ℕ)) → first_failing (form_words (rw_mutex_form verb) words) ≡ None → Spelled kinds.RwMutex place verb words
+rw_mutex_spelled place verbs.Lock words h = (calls.RwMutex place rw_mutex_calls.Lock, refl, sym (none_said words h), refl, refl, refl)
+rw_mutex_spelled place verbs.Unlock words h = (calls.RwMutex place rw_mutex_calls.Unlock, refl, sym (none_said words h), refl, refl, refl)
+rw_mutex_spelled place verbs.TryLock words h = (calls.RwMutex place rw_mutex_calls.TryLock, refl, sym (none_said words h), refl, refl, refl)
+rw_mutex_spelled place verbs.RLock words h = (calls.RwMutex place rw_mutex_calls.RLock, refl, sym (none_said words h), refl, refl, refl)
+rw_mutex_spelled place verbs.RUnlock words h = (calls.RwMutex place rw_mutex_calls.RUnlock, refl, sym (none_said words h), refl, refl, refl)
+rw_mutex_spelled place verbs.TryRLock words h = (calls.RwMutex place rw_mutex_calls.TryRLock, refl, sym (none_said words h), refl, refl, refl)
+rw_mutex_spelled place verb words h = absurd cc
 
 spelled_on : (kind : ObjectKind) (place : ℕ) (verb : Verb) (words : List (List ℕ)) → first_failing (form_words (form_of verb kind) words) ≡ None → Spelled kind place verb words
 spelled_on kinds.Map place verb words h = map_spelled place verb words h
 spelled_on (kinds.Atomic kind) place verb words h = atomic_spelled kind place verb words h
+spelled_on kinds.Mutex place verb words h = mutex_spelled place verb words h
+spelled_on kinds.RwMutex place verb words h = rw_mutex_spelled place verb words h
 
 -- the checks of the operands alone
 operands_pass : (d : Draft) (verb : Verb) (form : Option (List Operand)) (words : List (List ℕ)) → first_failing (form_checks d verb form words) ≡ None → first_failing (form_words form words) ≡ None

@@ -40,6 +40,8 @@ significant (keywords.Object (kinds.Atomic types.Int64)) rest = refl
 significant (keywords.Object (kinds.Atomic types.Uint32)) rest = refl
 significant (keywords.Object (kinds.Atomic types.Uint64)) rest = refl
 significant (keywords.Object (kinds.Atomic types.Bool)) rest = refl
+significant (keywords.Object kinds.Mutex) rest = refl
+significant (keywords.Object kinds.RwMutex) rest = refl
 significant keywords.Worker rest = refl
 significant keywords.Schedule rest = refl
 significant (keywords.Call verbs.Load) rest = refl
@@ -55,6 +57,12 @@ significant (keywords.Call verbs.Range) rest = refl
 significant (keywords.Call verbs.Add) rest = refl
 significant (keywords.Call verbs.And) rest = refl
 significant (keywords.Call verbs.Or) rest = refl
+significant (keywords.Call verbs.Lock) rest = refl
+significant (keywords.Call verbs.Unlock) rest = refl
+significant (keywords.Call verbs.TryLock) rest = refl
+significant (keywords.Call verbs.RLock) rest = refl
+significant (keywords.Call verbs.RUnlock) rest = refl
+significant (keywords.Call verbs.TryRLock) rest = refl
 
 not_silent : {X : Type 0} (b : Bool) → b ≡ true → b ≡ false → X
 not_silent b t f = absurd cc

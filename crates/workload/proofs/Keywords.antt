@@ -25,6 +25,8 @@ keyword_at-keyword_word (keywords.Object (kinds.Atomic types.Int64)) = refl
 keyword_at-keyword_word (keywords.Object (kinds.Atomic types.Uint32)) = refl
 keyword_at-keyword_word (keywords.Object (kinds.Atomic types.Uint64)) = refl
 keyword_at-keyword_word (keywords.Object (kinds.Atomic types.Bool)) = refl
+keyword_at-keyword_word (keywords.Object kinds.Mutex) = refl
+keyword_at-keyword_word (keywords.Object kinds.RwMutex) = refl
 keyword_at-keyword_word keywords.Worker = refl
 keyword_at-keyword_word keywords.Schedule = refl
 keyword_at-keyword_word (keywords.Call verbs.Load) = refl
@@ -40,10 +42,16 @@ keyword_at-keyword_word (keywords.Call verbs.Range) = refl
 keyword_at-keyword_word (keywords.Call verbs.Add) = refl
 keyword_at-keyword_word (keywords.Call verbs.And) = refl
 keyword_at-keyword_word (keywords.Call verbs.Or) = refl
+keyword_at-keyword_word (keywords.Call verbs.Lock) = refl
+keyword_at-keyword_word (keywords.Call verbs.Unlock) = refl
+keyword_at-keyword_word (keywords.Call verbs.TryLock) = refl
+keyword_at-keyword_word (keywords.Call verbs.RLock) = refl
+keyword_at-keyword_word (keywords.Call verbs.RUnlock) = refl
+keyword_at-keyword_word (keywords.Call verbs.TryRLock) = refl
 
 -- each entry of the table has its keyword's word
 spells : AllByRecursion (λ (e : List ℕ × Keyword). e.0 ≡ keyword_word e.1) keywords_known
-spells = (refl, (refl, (refl, (refl, (refl, (refl, (refl, (refl, (refl, (refl, (refl, (refl, (refl, (refl, (refl, (refl, (refl, (refl, (refl, (refl, (refl, (refl, tt))))))))))))))))))))))
+spells = (refl, (refl, (refl, (refl, (refl, (refl, (refl, (refl, (refl, (refl, (refl, (refl, (refl, (refl, (refl, (refl, (refl, (refl, (refl, (refl, (refl, (refl, (refl, (refl, (refl, (refl, (refl, (refl, (refl, (refl, tt))))))))))))))))))))))))))))))
 
 same_some : (k l : Keyword) → Some k ≡ Some l → k ≡ l
 same_some k l e = cc

@@ -268,7 +268,9 @@ operands_fit : (kind : ObjectKind) (c : Call) → has_call kind c ≡ true → i
 operands_fit kind (calls.Map i c) on h = map_operands_fit c h
 operands_fit kind (calls.Range i) on h = (refl, omega arith)
 operands_fit (kinds.Atomic k) (calls.Atomic i c) on h = atomic_operands_fit k c on
-operands_fit kinds.Map (calls.Atomic i c) on h = absurd cc
+operands_fit kind (calls.Mutex i c) on h = (refl, omega arith)
+operands_fit kind (calls.RwMutex i c) on h = (refl, omega arith)
+operands_fit kind (calls.Atomic i c) on h = absurd cc
 
 verb_fits : (v : Verb) → (is_word (verb_word v) ≡ true) × (length (verb_word v) ≤ 20)
 verb_fits verbs.Load = (refl, omega arith)
@@ -284,6 +286,12 @@ verb_fits verbs.Range = (refl, omega arith)
 verb_fits verbs.Add = (refl, omega arith)
 verb_fits verbs.And = (refl, omega arith)
 verb_fits verbs.Or = (refl, omega arith)
+verb_fits verbs.Lock = (refl, omega arith)
+verb_fits verbs.Unlock = (refl, omega arith)
+verb_fits verbs.TryLock = (refl, omega arith)
+verb_fits verbs.RLock = (refl, omega arith)
+verb_fits verbs.RUnlock = (refl, omega arith)
+verb_fits verbs.TryRLock = (refl, omega arith)
 
 call_fits : (o : Option Declared) (name : List ℕ) (c : Call) → names_object o c ≡ true → is_name name ≡ true → is_call c ≡ true → FitsLine (verb_word (verb_of c) ∷ name ∷ operands_of c)
 call_fits None name c on named h = absurd cc
@@ -303,6 +311,8 @@ kind_fits (kinds.Atomic types.Int64) = (refl, omega arith)
 kind_fits (kinds.Atomic types.Uint32) = (refl, omega arith)
 kind_fits (kinds.Atomic types.Uint64) = (refl, omega arith)
 kind_fits (kinds.Atomic types.Bool) = (refl, omega arith)
+kind_fits kinds.Mutex = (refl, omega arith)
+kind_fits kinds.RwMutex = (refl, omega arith)
 
 -- a schedule line of at most eight items, and any other line
 abbrev pub IsNarrow : Line → Type 0

@@ -13,6 +13,10 @@ use Rattle.sync_model.specs.declared.map_object.MapCall.TheVariants as map_calls
 use Rattle.sync_model.specs.declared.atomic_object.AtomicKind.{AtomicKind}
 use Rattle.sync_model.specs.declared.atomic_object.AtomicKind.TheVariants as types
 use Rattle.sync_model.specs.declared.atomic_object.AtomicCall.{AtomicCall}
+use Rattle.sync_model.specs.declared.lock_call.MutexCall.{MutexCall}
+use Rattle.sync_model.specs.declared.lock_call.MutexCall.TheVariants as mutex_calls
+use Rattle.sync_model.specs.declared.lock_call.RwMutexCall.{RwMutexCall}
+use Rattle.sync_model.specs.declared.lock_call.RwMutexCall.TheVariants as rw_mutex_calls
 use Rattle.sync_model.specs.SequentialAtomic.{is_atomic_call}
 use Rattle.workload.specs.declared.keyword.Keyword.{Keyword}
 use Rattle.workload.specs.declared.keyword.Keyword.TheVariants as keywords
@@ -27,7 +31,7 @@ use Rattle.workload.specs.declared.line.Line.TheVariants as lines
 use Rattle.workload.specs.declared.turn.Turn.{Turn}
 use Rattle.workload.specs.declared.turn.Turn.TheVariants as turns
 use Rattle.workload.specs.Plan.{object_of, has_call}
-use Rattle.workload.specs.Words.{keyword_word, keyword_of, keyword_at, arguments_of, spelled, verb_of, map_verb, atomic_verb, operands_of, map_operands, atomic_operands, turn_word, is_number}
+use Rattle.workload.specs.Words.{keyword_word, keyword_of, keyword_at, arguments_of, spelled, verb_of, map_verb, atomic_verb, mutex_verb, rw_mutex_verb, operands_of, map_operands, atomic_operands, turn_word, is_number}
 use Rattle.workload.specs.Draft.{Draft, declared, may_follow, names_object, is_call, is_map_call, is_item}
 use Rattle.workload.proofs.Passing.{both}
 use Rattle.workload.proofs.Follows.{schedule_follows, call_follows}
@@ -74,6 +78,41 @@ same_map_call c d p q v e = some_is c d (sym (map_call_spelled c p) ∙ ap (λ (
 same_atomic_call : (kind : AtomicKind) (c d : AtomicCall) → is_atomic_call kind c ≡ true → is_atomic_call kind d ≡ true → atomic_verb c ≡ atomic_verb d → atomic_operands c ≡ atomic_operands d → c ≡ d
 same_atomic_call kind c d p q v e = some_is c d (sym (atomic_call_spelled kind c p) ∙ ap (λ (x : Verb). atomic_call_at kind x (atomic_operands c)) v ∙ ap (atomic_call_at kind (atomic_verb d)) e ∙ atomic_call_spelled kind d q)
 
+-- the call of a mutex that a word is, and of a reader/writer mutex
+abbrev mutex_call_at : Verb → Option MutexCall
+mutex_call_at verbs.Lock = Some mutex_calls.Lock
+mutex_call_at verbs.Unlock = Some mutex_calls.Unlock
+mutex_call_at verbs.TryLock = Some mutex_calls.TryLock
+mutex_call_at verb = None
+
+abbrev rw_mutex_call_at : Verb → Option RwMutexCall
+rw_mutex_call_at verbs.Lock = Some rw_mutex_calls.Lock
+rw_mutex_call_at verbs.Unlock = Some rw_mutex_calls.Unlock
+rw_mutex_call_at verbs.TryLock = Some rw_mutex_calls.TryLock
+rw_mutex_call_at verbs.RLock = Some rw_mutex_calls.RLock
+rw_mutex_call_at verbs.RUnlock = Some rw_mutex_calls.RUnlock
+rw_mutex_call_at verbs.TryRLock = Some rw_mutex_calls.TryRLock
+rw_mutex_call_at verb = None
+
+mutex_call_spelled : (c : MutexCall) → mutex_call_at (mutex_verb c) ≡ Some c
+mutex_call_spelled mutex_calls.Lock = refl
+mutex_call_spelled mutex_calls.Unlock = refl
+mutex_call_spelled mutex_calls.TryLock = refl
+
+rw_mutex_call_spelled : (c : RwMutexCall) → rw_mutex_call_at (rw_mutex_verb c) ≡ Some c
+rw_mutex_call_spelled rw_mutex_calls.Lock = refl
+rw_mutex_call_spelled rw_mutex_calls.Unlock = refl
+rw_mutex_call_spelled rw_mutex_calls.TryLock = refl
+rw_mutex_call_spelled rw_mutex_calls.RLock = refl
+rw_mutex_call_spelled rw_mutex_calls.RUnlock = refl
+rw_mutex_call_spelled rw_mutex_calls.TryRLock = refl
+
+same_mutex_call : (c d : MutexCall) → mutex_verb c ≡ mutex_verb d → c ≡ d
+same_mutex_call c d v = some_is c d (sym (mutex_call_spelled c) ∙ ap mutex_call_at v ∙ mutex_call_spelled d)
+
+same_rw_mutex_call : (c d : RwMutexCall) → rw_mutex_verb c ≡ rw_mutex_verb d → c ≡ d
+same_rw_mutex_call c d v = some_is c d (sym (rw_mutex_call_spelled c) ∙ ap rw_mutex_call_at v ∙ rw_mutex_call_spelled d)
+
 -- no call of a map's calls is spelled as `range`
 no_range : (c : MapCall (List ℕ)) → map_verb c ≡ verbs.Range → ⊥
 no_range (map_calls.Load k) e = cc
@@ -99,12 +138,9 @@ same_call_on kinds.Map (calls.Range i) (calls.Range j) at on_c on_d p q v e = ap
 same_call_on kinds.Map (calls.Map i c) (calls.Range j) at on_c on_d p q v e = absurd (no_range c v)
 same_call_on kinds.Map (calls.Range i) (calls.Map j d) at on_c on_d p q v e = absurd (no_range d (sym v))
 same_call_on (kinds.Atomic k) (calls.Atomic i c) (calls.Atomic j d) at on_c on_d p q v e = ap (λ (n : ℕ). calls.Atomic n c) at ∙ ap (λ (x : AtomicCall). calls.Atomic j x) (same_atomic_call k c d on_c on_d v e)
-same_call_on kinds.Map (calls.Atomic i c) d at on_c on_d p q v e = absurd cc
-same_call_on kinds.Map c (calls.Atomic j d) at on_c on_d p q v e = absurd cc
-same_call_on (kinds.Atomic k) (calls.Map i c) d at on_c on_d p q v e = absurd cc
-same_call_on (kinds.Atomic k) (calls.Range i) d at on_c on_d p q v e = absurd cc
-same_call_on (kinds.Atomic k) c (calls.Map j d) at on_c on_d p q v e = absurd cc
-same_call_on (kinds.Atomic k) c (calls.Range j) at on_c on_d p q v e = absurd cc
+same_call_on kinds.Mutex (calls.Mutex i c) (calls.Mutex j d) at on_c on_d p q v e = ap (λ (n : ℕ). calls.Mutex n c) at ∙ ap (λ (x : MutexCall). calls.Mutex j x) (same_mutex_call c d v)
+same_call_on kinds.RwMutex (calls.RwMutex i c) (calls.RwMutex j d) at on_c on_d p q v e = ap (λ (n : ℕ). calls.RwMutex n c) at ∙ ap (λ (x : RwMutexCall). calls.RwMutex j x) (same_rw_mutex_call c d v)
+same_call_on kind c d at on_c on_d p q v e = absurd cc
 
 same_call : (o : Option Declared) (c d : Call) → names_object o c ≡ true → names_object o d ≡ true → is_call c ≡ true → is_call d ≡ true → verb_of c ≡ verb_of d → operands_of c ≡ operands_of d → c ≡ d
 same_call None c d on_c on_d p q v e = absurd cc

@@ -42,9 +42,7 @@ map_form verbs.CompareAndSwap = Some (operands.Key ∷ operands.Value ∷ operan
 map_form verbs.CompareAndDelete = Some (operands.Key ∷ operands.Value ∷ [])
 map_form verbs.Clear = Some []
 map_form verbs.Range = Some []
-map_form verbs.Add = None
-map_form verbs.And = None
-map_form verbs.Or = None
+map_form verb = None
 
 -- one number of this type, where it is one that has bits
 abbrev pub bits_form : AtomicKind → Option (List Operand)
@@ -61,10 +59,29 @@ atomic_form kind verbs.Or = bits_form kind
 atomic_form kind verbs.CompareAndSwap = Some (operands.Number kind ∷ operands.Number kind ∷ [])
 atomic_form kind verb = None
 
+-- a call of a mutex has no operands
+abbrev pub mutex_form : Verb → Option (List Operand)
+mutex_form verbs.Lock = Some []
+mutex_form verbs.Unlock = Some []
+mutex_form verbs.TryLock = Some []
+mutex_form verb = None
+
+-- nor has one of a reader/writer mutex
+abbrev pub rw_mutex_form : Verb → Option (List Operand)
+rw_mutex_form verbs.Lock = Some []
+rw_mutex_form verbs.Unlock = Some []
+rw_mutex_form verbs.TryLock = Some []
+rw_mutex_form verbs.RLock = Some []
+rw_mutex_form verbs.RUnlock = Some []
+rw_mutex_form verbs.TryRLock = Some []
+rw_mutex_form verb = None
+
 -- the operands of a call on an object of a kind
 abbrev pub form_of : Verb → ObjectKind → Option (List Operand)
 form_of verb kinds.Map = map_form verb
 form_of verb (kinds.Atomic kind) = atomic_form kind verb
+form_of verb kinds.Mutex = mutex_form verb
+form_of verb kinds.RwMutex = rw_mutex_form verb
 
 abbrev pub operand_check : Operand → List ℕ → Check
 operand_check operands.Key word = (is_name word, BadName)

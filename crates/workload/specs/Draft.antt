@@ -8,7 +8,7 @@ use Rattle.sync_model.specs.declared.call.Call.{Call}
 use Rattle.sync_model.specs.declared.call.Call.TheVariants as calls
 use Rattle.sync_model.specs.declared.map_object.MapCall.{MapCall}
 use Rattle.sync_model.specs.SequentialMap.{map_key}
-use Rattle.workload.specs.declared.limits.TheConstants.{MAX_ATOMICS, MAX_CALLS, MAX_KEYS, MAX_MAPS, MAX_RANGES, MAX_TURNS, MAX_VALUE}
+use Rattle.workload.specs.declared.limits.TheConstants.{MAX_ATOMICS, MAX_CALLS, MAX_KEYS, MAX_MAPS, MAX_MUTEXES, MAX_RANGES, MAX_RW_MUTEXES, MAX_TURNS, MAX_VALUE}
 use Rattle.workload.specs.declared.object.ObjectKind.{ObjectKind}
 use Rattle.workload.specs.declared.object.ObjectKind.TheVariants as kinds
 use Rattle.workload.specs.declared.object.ObjectLine.{ObjectLine}
@@ -53,11 +53,15 @@ declared d name = declared_from 0 name d.plan.objects
 abbrev pub limit_of : ObjectKind → ℕ
 limit_of kinds.Map = MAX_MAPS
 limit_of (kinds.Atomic kind) = MAX_ATOMICS
+limit_of kinds.Mutex = MAX_MUTEXES
+limit_of kinds.RwMutex = MAX_RW_MUTEXES
 
 -- the kinds that count together
 abbrev pub count_together : ObjectKind → ObjectKind → Bool
 count_together kinds.Map kinds.Map = true
 count_together (kinds.Atomic kind) (kinds.Atomic other) = true
+count_together kinds.Mutex kinds.Mutex = true
+count_together kinds.RwMutex kinds.RwMutex = true
 count_together kind other = false
 
 abbrev pub count_of : ObjectKind → List ObjectLine → ℕ
@@ -68,6 +72,8 @@ abbrev pub keys_of : Call → List (List ℕ)
 keys_of (calls.Map object call) = option_to_list (map_key call)
 keys_of (calls.Range object) = []
 keys_of (calls.Atomic object call) = []
+keys_of (calls.Mutex object call) = []
+keys_of (calls.RwMutex object call) = []
 
 -- the keys of all calls
 abbrev pub all_keys : List (List Call) → List (List ℕ)
@@ -108,6 +114,8 @@ abbrev pub is_call : Call → Bool
 is_call (calls.Map object call) = is_map_call call
 is_call (calls.Range object) = true
 is_call (calls.Atomic object call) = true
+is_call (calls.Mutex object call) = true
+is_call (calls.RwMutex object call) = true
 
 -- whether the name is that of the call's object
 abbrev pub names_object : Option Declared → Call → Bool

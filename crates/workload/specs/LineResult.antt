@@ -7,6 +7,8 @@ use Rattle.sync_model.specs.declared.call.Call.{Call}
 use Rattle.sync_model.specs.declared.map_object.MapCall.{MapCall}
 use Rattle.sync_model.specs.declared.atomic_object.AtomicKind.{AtomicKind}
 use Rattle.sync_model.specs.declared.atomic_object.AtomicCall.{AtomicCall}
+use Rattle.sync_model.specs.declared.lock_call.MutexCall.{MutexCall}
+use Rattle.sync_model.specs.declared.lock_call.RwMutexCall.{RwMutexCall}
 use Rattle.sync_model.specs.SequentialAtomic.{is_atomic_call}
 use Rattle.sync_model.specs.SequentialMap.{map_key}
 use Rattle.workload.specs.declared.fault.LineFault.{LineFault}
@@ -19,9 +21,9 @@ use Rattle.workload.specs.declared.turn.Turn.{Turn}
 use Rattle.workload.specs.declared.limits.TheConstants.{MAX_WORKERS}
 use Rattle.workload.specs.declared.reason.Reason.TheVariants.{WrongKind, WrongNumberOfWords}
 use Rattle.workload.specs.declared.line.Line.{Line}
-use Rattle.workload.specs.Words.{spelled, keyword_of, arguments_of, keyword_at, map_verb, map_operands, atomic_verb, atomic_operands, verb_of, operands_of, turn_word}
+use Rattle.workload.specs.Words.{spelled, keyword_of, arguments_of, keyword_at, map_verb, map_operands, atomic_verb, atomic_operands, mutex_verb, rw_mutex_verb, verb_of, operands_of, turn_word}
 use Rattle.workload.specs.Draft.{Draft, may_follow, is_map_call, is_call, is_item, is_range, keys_of, names_object}
-use Rattle.workload.specs.Checks.{Check, first_failing, line_checks, map_form, atomic_form, form_of, operand_checks, ranges_in, key_operands, item_checks, first_checks}
+use Rattle.workload.specs.Checks.{Check, first_failing, line_checks, map_form, atomic_form, mutex_form, rw_mutex_form, form_of, operand_checks, ranges_in, key_operands, item_checks, first_checks}
 
 -- the fault is the first check that fails, unless memory ran out
 abbrev pub IsFault : List Check → LineFault → Type 0
@@ -69,6 +71,20 @@ IsAtomicCall kind verb words result =
     MatchResult result
     (λ call. (atomic_verb call ≡ verb) × (atomic_operands call ≡ words) × (is_atomic_call kind call ≡ true) × PassesWith (atomic_form kind verb) words [])
     (IsFault (form_words (atomic_form kind verb) words))
+
+-- a call of a mutex without operands, or the first check that fails
+abbrev pub IsMutexCall : Verb → List (List ℕ) → Result MutexCall LineFault → Type 0
+IsMutexCall verb words result =
+    MatchResult result
+    (λ call. (mutex_verb call ≡ verb) × (words ≡ []) × PassesWith (mutex_form verb) words [])
+    (IsFault (form_words (mutex_form verb) words))
+
+-- the same of a reader/writer mutex
+abbrev pub IsRwMutexCall : Verb → List (List ℕ) → Result RwMutexCall LineFault → Type 0
+IsRwMutexCall verb words result =
+    MatchResult result
+    (λ call. (rw_mutex_verb call ≡ verb) × (words ≡ []) × PassesWith (rw_mutex_form verb) words [])
+    (IsFault (form_words (rw_mutex_form verb) words))
 
 -- a call on the object that was found, or the first check that fails
 abbrev pub IsCallOn : Declared → Verb → List (List ℕ) → Result Call LineFault → Type 0

@@ -21,12 +21,16 @@ abbrev pub object_of : Call → ℕ
 object_of (calls.Map object call) = object
 object_of (calls.Range object) = object
 object_of (calls.Atomic object call) = object
+object_of (calls.Mutex object call) = object
+object_of (calls.RwMutex object call) = object
 
 -- whether an object of this kind has the call: an atomic's operands are of its type, and in its range
 abbrev pub has_call : ObjectKind → Call → Bool
 has_call kinds.Map (calls.Map object call) = true
 has_call kinds.Map (calls.Range object) = true
 has_call (kinds.Atomic kind) (calls.Atomic object call) = is_atomic_call kind call
+has_call kinds.Mutex (calls.Mutex object call) = true
+has_call kinds.RwMutex (calls.RwMutex object call) = true
 has_call kind call = false
 
 -- whether a call is on an object that is there and has it

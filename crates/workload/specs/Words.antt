@@ -14,6 +14,10 @@ use Rattle.sync_model.specs.declared.atomic_object.Number.{Number}
 use Rattle.sync_model.specs.declared.atomic_object.Number.TheVariants as numbers
 use Rattle.sync_model.specs.declared.atomic_object.AtomicCall.{AtomicCall}
 use Rattle.sync_model.specs.declared.atomic_object.AtomicCall.TheVariants as atomic_calls
+use Rattle.sync_model.specs.declared.lock_call.MutexCall.{MutexCall}
+use Rattle.sync_model.specs.declared.lock_call.MutexCall.TheVariants as mutex_calls
+use Rattle.sync_model.specs.declared.lock_call.RwMutexCall.{RwMutexCall}
+use Rattle.sync_model.specs.declared.lock_call.RwMutexCall.TheVariants as rw_mutex_calls
 use Rattle.sync_model.specs.SequentialMap.{map_key}
 use Rattle.workload.specs.declared.keyword.Keyword.{Keyword}
 use Rattle.workload.specs.declared.keyword.Keyword.TheVariants as keywords
@@ -34,6 +38,8 @@ kind_word (kinds.Atomic types.Int64) = codes "int64"
 kind_word (kinds.Atomic types.Uint32) = codes "uint32"
 kind_word (kinds.Atomic types.Uint64) = codes "uint64"
 kind_word (kinds.Atomic types.Bool) = codes "bool"
+kind_word kinds.Mutex = codes "mutex"
+kind_word kinds.RwMutex = codes "rwmutex"
 
 -- the word of a call
 abbrev pub verb_word : Verb → List ℕ
@@ -50,6 +56,12 @@ verb_word verbs.Range = codes "range"
 verb_word verbs.Add = codes "add"
 verb_word verbs.And = codes "and"
 verb_word verbs.Or = codes "or"
+verb_word verbs.Lock = codes "lock"
+verb_word verbs.Unlock = codes "unlock"
+verb_word verbs.TryLock = codes "trylock"
+verb_word verbs.RLock = codes "rlock"
+verb_word verbs.RUnlock = codes "runlock"
+verb_word verbs.TryRLock = codes "tryrlock"
 
 -- the word that a line begins with
 abbrev pub keyword_word : Keyword → List ℕ
@@ -80,10 +92,25 @@ atomic_verb (atomic_calls.And operand) = verbs.And
 atomic_verb (atomic_calls.Or operand) = verbs.Or
 atomic_verb (atomic_calls.CompareAndSwap old new) = verbs.CompareAndSwap
 
+abbrev pub mutex_verb : MutexCall → Verb
+mutex_verb mutex_calls.Lock = verbs.Lock
+mutex_verb mutex_calls.Unlock = verbs.Unlock
+mutex_verb mutex_calls.TryLock = verbs.TryLock
+
+abbrev pub rw_mutex_verb : RwMutexCall → Verb
+rw_mutex_verb rw_mutex_calls.Lock = verbs.Lock
+rw_mutex_verb rw_mutex_calls.Unlock = verbs.Unlock
+rw_mutex_verb rw_mutex_calls.TryLock = verbs.TryLock
+rw_mutex_verb rw_mutex_calls.RLock = verbs.RLock
+rw_mutex_verb rw_mutex_calls.RUnlock = verbs.RUnlock
+rw_mutex_verb rw_mutex_calls.TryRLock = verbs.TryRLock
+
 abbrev pub verb_of : Call → Verb
 verb_of (calls.Map object call) = map_verb call
 verb_of (calls.Range object) = verbs.Range
 verb_of (calls.Atomic object call) = atomic_verb call
+verb_of (calls.Mutex object call) = mutex_verb call
+verb_of (calls.RwMutex object call) = rw_mutex_verb call
 
 -- the values of a call of a map, in order
 abbrev pub map_values : {K : Type 0} → MapCall K → List ℕ
@@ -127,6 +154,8 @@ abbrev pub operands_of : Call → List (List ℕ)
 operands_of (calls.Map object call) = map_operands call
 operands_of (calls.Range object) = []
 operands_of (calls.Atomic object call) = atomic_operands call
+operands_of (calls.Mutex object call) = []
+operands_of (calls.RwMutex object call) = []
 
 -- an item of a schedule: a worker's number, or a moment behind an `@`
 abbrev pub turn_word : Turn → List ℕ
@@ -166,6 +195,8 @@ keywords_known =
     ∷ (codes "uint32", keywords.Object (kinds.Atomic types.Uint32))
     ∷ (codes "uint64", keywords.Object (kinds.Atomic types.Uint64))
     ∷ (codes "bool", keywords.Object (kinds.Atomic types.Bool))
+    ∷ (codes "mutex", keywords.Object kinds.Mutex)
+    ∷ (codes "rwmutex", keywords.Object kinds.RwMutex)
     ∷ (codes "load", keywords.Call verbs.Load)
     ∷ (codes "store", keywords.Call verbs.Store)
     ∷ (codes "los", keywords.Call verbs.LoadOrStore)
@@ -179,6 +210,12 @@ keywords_known =
     ∷ (codes "add", keywords.Call verbs.Add)
     ∷ (codes "and", keywords.Call verbs.And)
     ∷ (codes "or", keywords.Call verbs.Or)
+    ∷ (codes "lock", keywords.Call verbs.Lock)
+    ∷ (codes "unlock", keywords.Call verbs.Unlock)
+    ∷ (codes "trylock", keywords.Call verbs.TryLock)
+    ∷ (codes "rlock", keywords.Call verbs.RLock)
+    ∷ (codes "runlock", keywords.Call verbs.RUnlock)
+    ∷ (codes "tryrlock", keywords.Call verbs.TryRLock)
     ∷ []
 
 -- the keyword that a table has for a word

@@ -5,7 +5,7 @@ ghost use Rattle.workload.specs.declared.limits.TheConstants.{MAX_WORKERS};
 ghost use Rattle.workload.specs.Index.{with_keys};
 ghost use Rattle.workload.specs.Draft.{started, with_line, may_follow, declared, count_of, count_together, limit_of, call_count, key_count, keys_of, is_range, range_count};
 
-use crate::limits::{MAX_ATOMICS, MAX_MAPS};
+use crate::limits::{MAX_ATOMICS, MAX_MAPS, MAX_MUTEXES, MAX_RW_MUTEXES};
 use crate::line::Line;
 use crate::object::{Declared, ObjectKind, ObjectLine};
 use crate::turn::Turn;
@@ -57,6 +57,8 @@ fn counts_together(kind: ObjectKind, other: ObjectKind) -> bool
     match (kind, other) {
         (ObjectKind::Map, ObjectKind::Map) => true,
         (ObjectKind::Atomic(_), ObjectKind::Atomic(_)) => true,
+        (ObjectKind::Mutex, ObjectKind::Mutex) => true,
+        (ObjectKind::RwMutex, ObjectKind::RwMutex) => true,
         _ => false,
     }
 }
@@ -76,6 +78,8 @@ fn limit(kind: ObjectKind) -> usize
     match kind {
         ObjectKind::Map => MAX_MAPS,
         ObjectKind::Atomic(_) => MAX_ATOMICS,
+        ObjectKind::Mutex => MAX_MUTEXES,
+        ObjectKind::RwMutex => MAX_RW_MUTEXES,
     }
 }
 
@@ -95,7 +99,8 @@ pub fn call_key(call: &Call) -> Option<&Name>
 {
     match call {
         Call::Map { call, .. } => call.key(),
-        Call::Range { .. } | Call::Atomic { .. } => None,
+        Call::Range { .. } | Call::Atomic { .. } | Call::Mutex { .. } | Call::RwMutex { .. } =>
+            None,
     }
 }
 
@@ -105,7 +110,7 @@ fn ranges_in(call: &Call) -> usize
 {
     match call {
         Call::Range { .. } => 1,
-        Call::Map { .. } | Call::Atomic { .. } => 0,
+        Call::Map { .. } | Call::Atomic { .. } | Call::Mutex { .. } | Call::RwMutex { .. } => 0,
     }
 }
 

@@ -40,6 +40,15 @@ pub enum Verb {
     Add,
     And,
     Or,
+    Lock,
+    Unlock,
+    TryLock,
+    /// `rlock`
+    RLock,
+    /// `runlock`
+    RUnlock,
+    /// `tryrlock`
+    TryRLock,
 }
 
 /// What a word of a call behind the object's name stands for.
@@ -54,7 +63,7 @@ pub enum Operand {
 }
 
 /// The words that a line may begin with.
-pub const KEYWORDS: [(&[u8], Keyword); 22] = [
+pub const KEYWORDS: [(&[u8], Keyword); 30] = [
     (b"workers", Keyword::Workers),
     (b"worker", Keyword::Worker),
     (b"schedule", Keyword::Schedule),
@@ -79,6 +88,8 @@ pub const KEYWORDS: [(&[u8], Keyword); 22] = [
         b"bool",
         Keyword::Object(ObjectKind::Atomic(AtomicKind::Bool)),
     ),
+    (b"mutex", Keyword::Object(ObjectKind::Mutex)),
+    (b"rwmutex", Keyword::Object(ObjectKind::RwMutex)),
     (b"load", Keyword::Call(Verb::Load)),
     (b"store", Keyword::Call(Verb::Store)),
     (b"los", Keyword::Call(Verb::LoadOrStore)),
@@ -92,6 +103,12 @@ pub const KEYWORDS: [(&[u8], Keyword); 22] = [
     (b"add", Keyword::Call(Verb::Add)),
     (b"and", Keyword::Call(Verb::And)),
     (b"or", Keyword::Call(Verb::Or)),
+    (b"lock", Keyword::Call(Verb::Lock)),
+    (b"unlock", Keyword::Call(Verb::Unlock)),
+    (b"trylock", Keyword::Call(Verb::TryLock)),
+    (b"rlock", Keyword::Call(Verb::RLock)),
+    (b"runlock", Keyword::Call(Verb::RUnlock)),
+    (b"tryrlock", Keyword::Call(Verb::TryRLock)),
 ];
 
 fn find_keyword(table: &[(&[u8], Keyword)], word: &[u8]) -> Option<Keyword>

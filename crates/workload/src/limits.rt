@@ -18,6 +18,12 @@ pub const MAX_MAPS: usize = 16;
 /// The most atomics, of all types together.
 pub const MAX_ATOMICS: usize = 64;
 
+/// The most mutexes, reader/writer ones aside.
+pub const MAX_MUTEXES: usize = 32;
+
+/// The most reader/writer mutexes.
+pub const MAX_RW_MUTEXES: usize = 32;
+
 /// The most `range` calls, of all workers together.
 pub const MAX_RANGES: usize = 64;
 

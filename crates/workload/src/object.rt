@@ -8,6 +8,10 @@ pub enum ObjectKind {
     Map,
     /// An atomic of this type, which is 0 or false at the start.
     Atomic(AtomicKind),
+    /// A mutex, which is unlocked at the start.
+    Mutex,
+    /// A reader/writer mutex, which is unlocked at the start.
+    RwMutex,
 }
 
 /// An object as a workload declares it.

@@ -2,7 +2,7 @@
 ghost use Rattle.std.specs.Prelude.{◌≡◌, ◌+◌, ◌∷◌, ◌++◌, [], map, IfOk, OnOk, length, slice_get};
 ghost use Rattle.std.specs.List.{flat_map, join_with_byte};
 ghost use Rattle.std.specs.Fmt.{decimal};
-ghost use Rattle.workload.specs.Words.{turn_word, kind_word, verb_word, map_verb, atomic_verb, verb_of, number_word, map_values, map_operands, atomic_operands, operands_of, spelled, first_spelled};
+ghost use Rattle.workload.specs.Words.{turn_word, kind_word, verb_word, map_verb, atomic_verb, mutex_verb, rw_mutex_verb, verb_of, number_word, map_values, map_operands, atomic_operands, operands_of, spelled, first_spelled};
 ghost use Rattle.workload.specs.declared.line.Line.TheVariants as Line;
 ghost use Rattle.workload.specs.Plan.{is_valid, is_on, object_of};
 ghost use Rattle.workload.specs.Reads.{Reads};
@@ -13,7 +13,7 @@ use crate::object::{ObjectKind, ObjectLine};
 use crate::turn::Turn;
 use crate::workload::Workload;
 use std::alloc::{AllocError, Global};
-use sync_model::{AtomicCall, AtomicKind, Call, MapCall, Name, Number};
+use sync_model::{AtomicCall, AtomicKind, Call, MapCall, MutexCall, Name, Number, RwMutexCall};
 
 /// Writes a word behind a space.
 fn put_word(text: &mut Vec<u8>, word: &[u8]) -> Result<(), AllocError>
@@ -120,6 +120,12 @@ pub fn verb_text(verb: Verb) -> &'static [u8]
         Verb::Add => b"add",
         Verb::And => b"and",
         Verb::Or => b"or",
+        Verb::Lock => b"lock",
+        Verb::Unlock => b"unlock",
+        Verb::TryLock => b"trylock",
+        Verb::RLock => b"rlock",
+        Verb::RUnlock => b"runlock",
+        Verb::TryRLock => b"tryrlock",
     }
 }
 
@@ -134,6 +140,8 @@ fn kind_text(kind: ObjectKind) -> &'static [u8]
         ObjectKind::Atomic(AtomicKind::Uint32) => b"uint32",
         ObjectKind::Atomic(AtomicKind::Uint64) => b"uint64",
         ObjectKind::Atomic(AtomicKind::Bool) => b"bool",
+        ObjectKind::Mutex => b"mutex",
+        ObjectKind::RwMutex => b"rwmutex",
     }
 }
 
@@ -169,6 +177,31 @@ pub fn atomic_verb(call: AtomicCall) -> Verb
     }
 }
 
+/// Which call of a mutex it is.
+pub fn mutex_verb(call: MutexCall) -> Verb
+    ensures { result ≡ mutex_verb call }
+{
+    match call {
+        MutexCall::Lock => Verb::Lock,
+        MutexCall::Unlock => Verb::Unlock,
+        MutexCall::TryLock => Verb::TryLock,
+    }
+}
+
+/// Which call of a reader/writer mutex it is.
+pub fn rw_mutex_verb(call: RwMutexCall) -> Verb
+    ensures { result ≡ rw_mutex_verb call }
+{
+    match call {
+        RwMutexCall::Lock => Verb::Lock,
+        RwMutexCall::Unlock => Verb::Unlock,
+        RwMutexCall::TryLock => Verb::TryLock,
+        RwMutexCall::RLock => Verb::RLock,
+        RwMutexCall::RUnlock => Verb::RUnlock,
+        RwMutexCall::TryRLock => Verb::TryRLock,
+    }
+}
+
 /// Which call it is.
 pub fn verb(call: &Call) -> Verb
     ensures { result ≡ verb_of call.now }
@@ -177,6 +210,8 @@ pub fn verb(call: &Call) -> Verb
         Call::Map { call, .. } => map_verb(call),
         Call::Range { .. } => Verb::Range,
         Call::Atomic { call, .. } => atomic_verb(*call),
+        Call::Mutex { call, .. } => mutex_verb(*call),
+        Call::RwMutex { call, .. } => rw_mutex_verb(*call),
     }
 }
 
@@ -186,8 +221,8 @@ fn put_operands(alloc: Global, text: &mut Vec<u8>, call: &Call) -> Result<(), Al
 {
     match call {
         Call::Map { call, .. } => put_map_operands(alloc, text, call),
-        Call::Range { .. } => Ok(()),
         Call::Atomic { call, .. } => put_atomic_operands(alloc, text, *call),
+        Call::Range { .. } | Call::Mutex { .. } | Call::RwMutex { .. } => Ok(()),
     }
 }
 
@@ -266,7 +301,11 @@ fn place_of(call: &Call) -> usize
     ensures { result ≡ object_of call.now }
 {
     match call {
-        Call::Map { object, .. } | Call::Range { object } | Call::Atomic { object, .. } => *object,
+        Call::Map { object, .. }
+        | Call::Range { object }
+        | Call::Atomic { object, .. }
+        | Call::Mutex { object, .. }
+        | Call::RwMutex { object, .. } => *object,
     }
 }
 

@@ -8,7 +8,7 @@ ghost use Rattle.workload.specs.Checks.{worker_checks, item_checks, operand_chec
 ghost use Rattle.sync_model.specs.SequentialAtomic.{has_bits, is_of};
 ghost use Rattle.workload.specs.declared.object.ObjectKind.TheVariants as ObjectKind;
 ghost use Rattle.workload.specs.declared.limits.TheConstants.{MAX_VALUE};
-ghost use Rattle.workload.specs.LineResult.{IsFault, form_words, IsOperands, IsMapCall, IsAtomicCall, IsCallOn, IsTurns, IsWorkers, IsLineOf, IsLine};
+ghost use Rattle.workload.specs.LineResult.{IsFault, form_words, IsOperands, IsMapCall, IsAtomicCall, IsMutexCall, IsRwMutexCall, IsCallOn, IsTurns, IsWorkers, IsLineOf, IsLine};
 
 use crate::draft::Draft;
 use crate::fault::LineFault;
@@ -21,7 +21,9 @@ use crate::reason::Reason;
 use crate::turn::Turn;
 use std::alloc::Global;
 use sync_model::name::is_name;
-use sync_model::{AtomicCall, AtomicKind, Call, MapCall, Name, Number, Seq};
+use sync_model::{
+    AtomicCall, AtomicKind, Call, MapCall, MutexCall, Name, Number, RwMutexCall, Seq,
+};
 
 /// The name that a word is.
 fn read_name(alloc: Global, word: &[u8]) -> Result<Name, LineFault>
@@ -230,6 +232,60 @@ fn read_atomic_call(kind: AtomicKind, verb: Verb, words: &[&[u8]]) -> Result<Ato
     }
 }
 
+/// A call of a mutex.
+fn read_mutex_call(verb: Verb, words: &[&[u8]]) -> Result<MutexCall, LineFault>
+    ensures { IsMutexCall verb (map (λ word. word.now) words.now) result }
+{
+    match verb {
+        Verb::Lock => {
+            read_none(words)?;
+            Ok(MutexCall::Lock)
+        }
+        Verb::Unlock => {
+            read_none(words)?;
+            Ok(MutexCall::Unlock)
+        }
+        Verb::TryLock => {
+            read_none(words)?;
+            Ok(MutexCall::TryLock)
+        }
+        _ => Err(LineFault::Refused(Reason::WrongKind)),
+    }
+}
+
+/// A call of a reader/writer mutex.
+fn read_rw_mutex_call(verb: Verb, words: &[&[u8]]) -> Result<RwMutexCall, LineFault>
+    ensures { IsRwMutexCall verb (map (λ word. word.now) words.now) result }
+{
+    match verb {
+        Verb::Lock => {
+            read_none(words)?;
+            Ok(RwMutexCall::Lock)
+        }
+        Verb::Unlock => {
+            read_none(words)?;
+            Ok(RwMutexCall::Unlock)
+        }
+        Verb::TryLock => {
+            read_none(words)?;
+            Ok(RwMutexCall::TryLock)
+        }
+        Verb::RLock => {
+            read_none(words)?;
+            Ok(RwMutexCall::RLock)
+        }
+        Verb::RUnlock => {
+            read_none(words)?;
+            Ok(RwMutexCall::RUnlock)
+        }
+        Verb::TryRLock => {
+            read_none(words)?;
+            Ok(RwMutexCall::TryRLock)
+        }
+        _ => Err(LineFault::Refused(Reason::WrongKind)),
+    }
+}
+
 /// Whether one more call is within the limits.
 fn check_limits(draft: &Draft, verb: Verb, call: &Call) -> Result<(), LineFault>
     ensures { MatchResult result (λ _. first_failing (limit_checks draft.now (keys_of call.now) (ranges_in verb)) ≡ None) (IsFault (limit_checks draft.now (keys_of call.now) (ranges_in verb))) }
@@ -279,6 +335,14 @@ fn read_call_on(
         ObjectKind::Atomic(kind) => Ok(Call::Atomic {
             object: found.place,
             call: read_atomic_call(kind, verb, words)?,
+        }),
+        ObjectKind::Mutex => Ok(Call::Mutex {
+            object: found.place,
+            call: read_mutex_call(verb, words)?,
+        }),
+        ObjectKind::RwMutex => Ok(Call::RwMutex {
+            object: found.place,
+            call: read_rw_mutex_call(verb, words)?,
         }),
     }
 }

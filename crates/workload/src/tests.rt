@@ -14,7 +14,7 @@ fn fault_of(alloc: Global, text: &[u8]) -> Result<Option<(u32, Reason)>, Fail> {
 
 #[test]
 fn each_check_refuses_what_fails_it(rt: HostRuntime) -> Result<(), Fail> {
-    let cases: [(&[u8], u32, Reason); 44] = [
+    let cases: [(&[u8], u32, Reason); 54] = [
         (b"", 1, Reason::NoWorkersLine),
         (b"\n", 1, Reason::NoWorkersLine),
         (b"# nothing\n\n  \n", 3, Reason::NoWorkersLine),
@@ -90,6 +90,32 @@ fn each_check_refuses_what_fails_it(rt: HostRuntime) -> Result<(), Fail> {
             4,
             Reason::BadNumber,
         ),
+        (b"workers 1\nmutex\n", 2, Reason::WrongNumberOfWords),
+        (b"workers 1\nrwmutex m 1\n", 2, Reason::WrongNumberOfWords),
+        (b"workers 1\nmutex 9\n", 2, Reason::BadName),
+        (b"workers 1\nmutex m\nrwmutex m\n", 3, Reason::NameTaken),
+        (
+            b"workers 1\nmutex m\nlock m\n",
+            3,
+            Reason::CallOutsideWorker,
+        ),
+        (
+            b"workers 1\nworker 0\nlock\n",
+            3,
+            Reason::WrongNumberOfWords,
+        ),
+        (b"workers 1\nworker 0\nrlock M\n", 3, Reason::BadName),
+        (b"workers 1\nworker 0\nlock m\n", 3, Reason::UnknownName),
+        (
+            b"workers 1\nmutex m\nworker 0\ntryrlock m\n",
+            4,
+            Reason::WrongKind,
+        ),
+        (
+            b"workers 1\nrwmutex w\nworker 0\nrunlock w w\n",
+            4,
+            Reason::WrongNumberOfWords,
+        ),
         (b"workers 1\nschedule\n", 2, Reason::WrongNumberOfWords),
         (b"workers 1\nschedule 9 x\n", 2, Reason::NoSuchWorker),
         (b"workers 1\nschedule x 9\n", 2, Reason::BadNumber),
@@ -112,12 +138,13 @@ fn each_check_refuses_what_fails_it(rt: HostRuntime) -> Result<(), Fail> {
 
 #[test]
 fn what_keeps_the_limits_is_read(rt: HostRuntime) -> Result<(), Fail> {
-    let cases: [&[u8]; 9] = [
+    let cases: [&[u8]; 10] = [
         b"workers 1\nworker 0\n",
         b"workers 32",
         b"  # a comment\n\n  workers   1  \n worker 0\n",
         b"workers 1\nmap a23456789_123456789_123456789_12\n",
         b"workers 1\nmap map\nworker 0\nload map map\n",
+        b"workers 1\nmutex lock\nrwmutex mutex\nworker 0\nlock lock\nrlock mutex\n",
         b"workers 1\nmap t\nworker 0\nstore t k 9223372036854775807\n",
         b"workers 2\nschedule 0 1 @0 @9223372036854775807\n",
         b"workers 1\nmap t\nworker 0\nstore t apple 5\nload t apple\n",
@@ -148,7 +175,7 @@ fn the_parts_of_a_workload(rt: HostRuntime) -> Result<(), Fail> {
 
 #[test]
 fn the_canonical_text(rt: HostRuntime) -> Result<(), Fail> {
-    let cases: [(&[u8], &[u8]); 6] = [
+    let cases: [(&[u8], &[u8]); 7] = [
         (
             b"workers 1\nmap t\nint32 a\nint64 b\nuint32 c\nuint64 d\nbool e\nworker 0\nstore a -2147483648\nadd b -1\nand c 7\nor d 18446744073709551615\ncas e false true\nswap e true\nload a\n",
             b"workers 1\nmap t\nint32 a\nint64 b\nuint32 c\nuint64 d\nbool e\nworker 0\nstore a -2147483648\nadd b -1\nand c 7\nor d 18446744073709551615\ncas e false true\nswap e true\nload a\n",
@@ -160,6 +187,10 @@ fn the_canonical_text(rt: HostRuntime) -> Result<(), Fail> {
         (
             b"workers 1\nmap t\nworker 0\nstore t apple 5\nload t apple\n",
             b"workers 1\nmap t\nworker 0\nstore t apple 5\nload t apple\n",
+        ),
+        (
+            b"workers 1\nworker 0\nmutex m\nlock m\ntrylock m\nunlock m\nrwmutex w\nlock w\ntrylock w\nunlock w\nrlock w\ntryrlock w\nrunlock w\n",
+            b"workers 1\nmutex m\nrwmutex w\nworker 0\nlock m\ntrylock m\nunlock m\nlock w\ntrylock w\nunlock w\nrlock w\ntryrlock w\nrunlock w\n",
         ),
         (b" # none\n workers  2", b"workers 2\nworker 0\nworker 1\n"),
         (
@@ -220,7 +251,7 @@ fn each_operand_is_refused_past_its_range(rt: HostRuntime) -> Result<(), Fail> {
 
 #[test]
 fn each_kind_of_object_has_its_calls(rt: HostRuntime) -> Result<(), Fail> {
-    let cases: [(&[u8], &[u8], Option<Reason>); 44] = [
+    let cases: [(&[u8], &[u8], Option<Reason>); 64] = [
         (b"map", b"load a k", None),
         (b"map", b"store a k 9223372036854775807", None),
         (b"map", b"los a k 0", None),
@@ -265,6 +296,26 @@ fn each_kind_of_object_has_its_calls(rt: HostRuntime) -> Result<(), Fail> {
         (b"int64", b"store a", Some(Reason::WrongNumberOfWords)),
         (b"int64", b"cas a 1", Some(Reason::WrongNumberOfWords)),
         (b"int64", b"cas a 1 2 3", Some(Reason::WrongNumberOfWords)),
+        (b"map", b"lock a", Some(Reason::WrongKind)),
+        (b"int64", b"rlock a", Some(Reason::WrongKind)),
+        (b"mutex", b"lock a", None),
+        (b"mutex", b"unlock a", None),
+        (b"mutex", b"trylock a", None),
+        (b"mutex", b"rlock a", Some(Reason::WrongKind)),
+        (b"mutex", b"runlock a", Some(Reason::WrongKind)),
+        (b"mutex", b"tryrlock a a", Some(Reason::WrongKind)),
+        (b"mutex", b"load a", Some(Reason::WrongKind)),
+        (b"mutex", b"lock a a", Some(Reason::WrongNumberOfWords)),
+        (b"mutex", b"trylock a 1", Some(Reason::WrongNumberOfWords)),
+        (b"rwmutex", b"lock a", None),
+        (b"rwmutex", b"unlock a", None),
+        (b"rwmutex", b"trylock a", None),
+        (b"rwmutex", b"rlock a", None),
+        (b"rwmutex", b"runlock a", None),
+        (b"rwmutex", b"tryrlock a", None),
+        (b"rwmutex", b"rlock a a", Some(Reason::WrongNumberOfWords)),
+        (b"rwmutex", b"store a k", Some(Reason::WrongKind)),
+        (b"rwmutex", b"range a", Some(Reason::WrongKind)),
     ];
     for (kind, call, reason) in cases {
         let mut text = Vec::new(rt.alloc());
@@ -301,11 +352,15 @@ fn text_of_many(
 
 #[test]
 fn limits_on_objects_and_ranges(rt: HostRuntime) -> Result<(), Fail> {
-    let cases: [(&[u8], usize, usize, Option<u32>); 6] = [
+    let cases: [(&[u8], usize, usize, Option<u32>); 10] = [
         (b"map", 15, 0, None),
         (b"map", 16, 0, Some(19)),
         (b"uint64", 64, 0, None),
         (b"bool", 65, 0, Some(68)),
+        (b"mutex", 32, 0, None),
+        (b"mutex", 33, 0, Some(36)),
+        (b"rwmutex", 32, 0, None),
+        (b"rwmutex", 33, 0, Some(36)),
         (b"map", 0, 64, None),
         (b"map", 0, 65, Some(68)),
     ];
