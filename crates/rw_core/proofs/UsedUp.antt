@@ -221,16 +221,12 @@ next-uses law s c e h after = omega (arith, next-moves law s c e h, left-is s h,
 
 -- ---- the callers
 
-callers-announced : (s : State) (c : ℕ) (at_once later : RwReply) → (announced c at_once later s).0.callers ≡ s.callers
-callers-announced s c at_once later = by_readers (s.readers == 0)
-  where
-    by_readers : (b : Bool) → (if b then (record s { writer = writer.Holding }, at_once) else (record s { writer = writer.Waiting c }, later)).0.callers ≡ s.callers
-    by_readers true = refl
-    by_readers false = refl
-
 callers-if : (n : ℕ) (b : Bool) (s t : State × RwReply) → s.0.callers ≡ n → t.0.callers ≡ n → (if b then s else t).0.callers ≡ n
 callers-if n true s t e f = e
 callers-if n false s t e f = f
+
+callers-announced : (s : State) (c : ℕ) (at_once later : RwReply) → (announced c at_once later s).0.callers ≡ s.callers
+callers-announced s c at_once later = callers-if s.callers (s.readers == 0) _ _ refl refl
 
 callers-last_read : (w : Writer) (s : State) → (last_read w s).callers ≡ s.callers
 callers-last_read writer.Nobody s = refl

@@ -1,12 +1,17 @@
 //! One turn of a worker.
-ghost use Rattle.std.specs.Prelude.{◌≡◌, ◌<◌, length, OnOk};
+ghost use Rattle.std.specs.Prelude.{◌≡◌, ℕ, ◌<◌, slice_get, Some, IfOk};
 ghost use Rattle.std.specs.Option.{option_copied};
-ghost use Rattle.step_runner.specs.State.{IsStateOf, IsOn};
-ghost use Rattle.step_runner.specs.Turns.{next_call, after_turn_at, after_turn};
+ghost use Rattle.step_runner.specs.State.{IsStateOf, IsOn, IsLockOf};
+ghost use Rattle.step_runner.specs.Turns.{next_call, turn_at, turn_of};
 
 use crate::atomic_turn::take_atomic_turn;
+use crate::laws;
 use crate::map_turn::{take_map_turn, take_range_turn};
+use crate::mutex_turn::take_mutex_turn;
+use crate::object_state::ObjectState;
+use crate::rw_mutex_turn::take_rw_mutex_turn;
 use crate::state::State;
+use crate::step::{Answer, Step};
 use std::alloc::{AllocError, Global};
 use sync_model::Call;
 use workload::Workload;
@@ -23,35 +28,45 @@ pub fn next_call<'a>(workload: &'a Workload, worker: u32, state: &State) -> Opti
 /// Takes a turn of a worker that stands before the call, by the kind of the call's object.
 fn take_turn_at(
     alloc: Global,
+    objects: &mut [ObjectState],
     call: &Call,
     worker: u32,
-    state: &mut State,
-) -> Result<(), AllocError>
-    requires worker { worker < length state.old.replies }
-    requires on { IsOn call.now state.old }
-    ensures { OnOk result (state.new ≡ after_turn_at call.now worker state.old) }
+    moment: u64,
+) -> Result<Answer, AllocError>
+    requires on { IsOn call.now objects.old }
+    requires locks { (workers : ℕ) × (worker < workers) × ((place : ℕ) (object : ObjectState) → slice_get objects.old place ≡ Some object → IsLockOf workers object) }
+    ensures { IfOk result (λ answer. turn_at call.now worker moment objects.old ≡ (objects.new, answer)) }
 {
     match call {
-        Call::Map { object, call } => take_map_turn(alloc, state, worker, *object, call),
-        Call::Range { object } => take_range_turn(alloc, state, worker, *object),
-        Call::Atomic { object, call } => take_atomic_turn(state, worker, *object, *call),
+        Call::Map { object, call } => take_map_turn(alloc, &mut objects[*object], call),
+        Call::Range { object } => take_range_turn(alloc, &objects[*object]),
+        Call::Atomic { object, call } => Ok(take_atomic_turn(&mut objects[*object], *call)),
+        Call::Mutex { object, call } =>
+            Ok(take_mutex_turn(&mut objects[*object], worker, *call, moment)),
+        Call::RwMutex { object, call } =>
+            Ok(take_rw_mutex_turn(&mut objects[*object], worker, *call, moment)),
     }
 }
 
-/// Gives a worker one turn. Where its script has ended nothing happens.
+/// Gives a worker one turn. Where its script has ended it makes no event.
 pub fn take_turn(
     alloc: Global,
     workload: &Workload,
     worker: u32,
     state: &mut State,
-) -> Result<(), AllocError>
+) -> Result<Step, AllocError>
     requires of { IsStateOf workload.now state.old }
     requires worker { worker < workload.now.workers }
-    ensures turn { OnOk result (state.new ≡ after_turn workload.now worker state.old) }
-    ensures of { OnOk result (IsStateOf workload.now state.new) }
+    ensures turn { IfOk result (λ step. turn_of workload.now worker state.old ≡ (state.new, step)) }
+    ensures of { IfOk result (λ _. IsStateOf workload.now state.new) }
 {
+    laws::validity();
     match next_call(workload, worker, state) {
-        None => Ok(()),
-        Some(call) => take_turn_at(alloc, call, worker, state),
+        None => Ok(Step::Still),
+        Some(call) => {
+            let moment = state.moment;
+            let answer = take_turn_at(alloc, &mut state.objects, call, worker, moment)?;
+            state.settle(worker, answer)
+        }
     }
 }
