@@ -72,7 +72,7 @@ pub fn admission()
 pub fn events_are_used_up()
     ensures { (state : State) (caller : ℕ) (event : RwEvent) → IsValid state
         → events_left (next state caller event).0 + used_by (next state caller event).1
-            ≤ events_left state + given_by (next state caller event).1 }
+        ≤ events_left state + given_by (next state caller event).1 }
 {
     laws::validity();
     laws::events_are_used_up();

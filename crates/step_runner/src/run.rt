@@ -149,7 +149,6 @@ pub fn stepped(alloc: Global, workload: &Workload) -> Result<Outcome, AllocError
     ensures outcome { IfOk result (λ outcome. outcome ≡ turns workload.now) }
     ensures pairs { IfOk result (λ outcome. has_few_pairs outcome ≡ true) }
 {
-    laws::pairs_are_few();
     let mut state = State::start(alloc, workload)?;
     let ending = take_all(alloc, workload, &mut state)?;
     outcome(alloc, state, ending)
