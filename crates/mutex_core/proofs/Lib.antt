@@ -5,3 +5,4 @@ pub mod Journals
 pub mod Turns
 pub mod HandsOver
 pub mod UsedUp
+pub mod Unmoved

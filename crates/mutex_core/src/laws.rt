@@ -12,13 +12,15 @@ ghost use Rattle.mutex_core.specs.Exclusion.{TakesTurns};
 ghost use Rattle.mutex_core.specs.HandOff.{HandsOff};
 
 /// What is true of the unlocked mutex stays true with each event, and so in every run. The callers stay
-/// the same.
+/// the same, and an event that is answered `Still` changes nothing.
 pub fn validity()
     ensures begins { (callers : ℕ) → IsValid (start callers) }
     ensures goes_on { (state : State) (caller : ℕ) (event : MutexEvent)
         → IsValid state → IsValid (next state caller event).0 }
     ensures same_callers { (state : State) (caller : ℕ) (event : MutexEvent)
         → (next state caller event).0.callers ≡ state.callers }
+    ensures unmoved { (state : State) (caller : ℕ) (event : MutexEvent)
+        → (next state caller event).1 ≡ MutexReply.Still → (next state caller event).0 ≡ state }
     ensures always { (callers : ℕ) (journal : Journal) → IsValid (after next (start callers) journal) }
 {}
 

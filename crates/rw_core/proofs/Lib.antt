@@ -7,3 +7,4 @@ pub mod Turns
 pub mod Runs
 pub mod Admissions
 pub mod UsedUp
+pub mod Unmoved

@@ -14,13 +14,15 @@ ghost use Rattle.rw_core.specs.Edges.{Journal, is_acquired, read_acquires, read_
 use mutex_core::laws;
 
 /// What is true of the unlocked lock stays true with each event, and so in every run. The callers stay
-/// the same.
+/// the same, and an event that is answered `Still` changes nothing.
 pub fn validity()
     ensures begins { (callers : ℕ) → IsValid (start callers) }
     ensures goes_on { (state : State) (caller : ℕ) (event : RwEvent)
         → IsValid state → IsValid (next state caller event).0 }
     ensures same_callers { (state : State) (caller : ℕ) (event : RwEvent)
         → (next state caller event).0.callers ≡ state.callers }
+    ensures unmoved { (state : State) (caller : ℕ) (event : RwEvent)
+        → (next state caller event).1 ≡ RwReply.Still → (next state caller event).0 ≡ state }
     ensures always { (callers : ℕ) (journal : Journal) → IsValid (after next (start callers) journal) }
 {
     laws::validity();

@@ -1,4 +1,5 @@
 use Rattle.mutex_core.specs.MutexMachine.{start}
+use Rattle.mutex_core.proofs.Unmoved.{next-unmoved}
 use Rattle.mutex_core.proofs.Validity.{start-valid, next-valid, after-valid, callers-next}
 use Rattle.mutex_core.proofs.laws.validity.Goals as goal
 
@@ -13,3 +14,6 @@ returns-clause-always c callers journal = after-valid (start callers) journal (s
 
 pub returns-clause-same_callers : goal.returns-clause-same_callers
 returns-clause-same_callers c = callers-next
+
+pub returns-clause-unmoved : goal.returns-clause-unmoved
+returns-clause-unmoved c = next-unmoved

@@ -1,4 +1,5 @@
 use Rattle.rw_core.proofs.Runs.{start-valid, keeps, run-valid}
+use Rattle.rw_core.proofs.Unmoved.{next-unmoved}
 use Rattle.rw_core.proofs.UsedUp.{callers-next}
 use Rattle.rw_core.proofs.laws.validity.Goals as goal
 
@@ -13,3 +14,6 @@ returns-clause-same_callers c = callers-next
 
 pub returns-clause-always : goal.returns-clause-always
 returns-clause-always c = run-valid (record { begins = c.validity.ensures.begins; goes_on = c.validity.ensures.goes_on })
+
+pub returns-clause-unmoved : goal.returns-clause-unmoved
+returns-clause-unmoved c = next-unmoved
