@@ -1,8 +1,3 @@
 mod AtomicTypes
 mod KeyLemmas
-mod Left
-mod MadeLemmas
-mod PairLemmas
-mod RangeLemmas
-mod RoundLemmas
-mod TurnLemmas
+mod ObjectTurns
