@@ -1,3 +1,5 @@
 mod AtomicTypes
 mod KeyLemmas
 mod ObjectTurns
+mod StartLemmas
+mod TurnLemmas

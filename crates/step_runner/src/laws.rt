@@ -46,6 +46,8 @@ pub fn events_use_something_up()
     ensures made { (plan : Plan) (worker : ℕ) (old new : State) → IsStateOf plan old → turn_of plan worker old ≡ (new, steps.Made) → left_to_do plan new < left_to_do plan old }
     ensures misused { (plan : Plan) (worker : ℕ) (old new : State) (misuse : Misuse) → IsStateOf plan old → turn_of plan worker old ≡ (new, steps.Misused misuse) → new.replies ≡ old.replies }
 {
+    mutex_core::laws::validity();
+    rw_core::laws::validity();
     mutex_core::laws::events_are_used_up();
     rw_core::laws::events_are_used_up();
 }
