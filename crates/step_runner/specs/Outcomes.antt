@@ -33,14 +33,14 @@ pub record IsDone (plan : Plan) (report : Report) : Type 0 where
   pub state : State
   pub comes : ComesTo plan state
   pub ended : has_ended plan state ≡ true
-  pub report : report ≡ record { replies = state.replies; ends = ends_of state.objects }
+  pub leaves : report ≡ record { replies = state.replies; ends = ends_of state.objects }
 
 -- a turn of the schedule, or of some round, was a misuse
 pub record IsMisused (plan : Plan) (report : Report) (misuse : Misuse) : Type 0 where
   pub state : State
   pub count : ℕ
   pub is : items_of plan (plan.schedule ++ rounds count plan.workers) (start plan) ≡ (state, steps.Misused misuse)
-  pub report : report ≡ record { replies = state.replies; ends = [] }
+  pub leaves : report ≡ record { replies = state.replies; ends = [] }
 
 -- a whole round makes no event, and a script has calls left
 pub record IsDeadlocked (plan : Plan) (report : Report) : Type 0 where
@@ -48,7 +48,7 @@ pub record IsDeadlocked (plan : Plan) (report : Report) : Type 0 where
   pub comes : ComesTo plan state
   pub going : has_ended plan state ≡ false
   pub still : items_of plan (round plan.workers) state ≡ (state, steps.Still)
-  pub report : report ≡ record { replies = state.replies; ends = [] }
+  pub leaves : report ≡ record { replies = state.replies; ends = [] }
 
 -- whether a call is on a map or an atomic: such a call is completed in its first turn
 abbrev pub never_waits : Call → Bool
