@@ -46,15 +46,8 @@ use Rattle.step_runner.specs.MutexTurn as of_mutex
 use Rattle.step_runner.specs.RwMutexTurn.{rw_mutex_turn}
 use Rattle.step_runner.specs.RwMutexTurn as of_rw
 use Rattle.step_runner.specs.LeftToDo.{object_left}
+use Rattle.step_runner.specs.Turns.{turn_on}
 use Rattle.step_runner.proofs.AtomicTypes.{after_type}
-
--- a turn at the object of its call
-abbrev pub turn_on : Call → ℕ → ℕ → ObjectState → ObjectState × Answer
-turn_on (calls.Map object call) worker moment = map_turn call
-turn_on (calls.Range object) worker moment = range_turn
-turn_on (calls.Atomic object call) worker moment = atomic_turn call
-turn_on (calls.Mutex object call) worker moment = mutex_turn call worker moment
-turn_on (calls.RwMutex object call) worker moment = rw_mutex_turn call worker moment
 
 -- ---- what the locks' laws say
 

@@ -67,30 +67,30 @@ so_far_misused (steps.Misused other) f s t misuse goes_on is = absurd (true_fals
 -- what is so far with what is left makes the whole
 pub record SoFar (plan : Plan) (left : List Turn) (s : State) (so_far : Step) (whole : State × Step) : Type 0 where
   pub goes_on : is_misused so_far ≡ false
-  pub whole : and_then (s, so_far) (items_of plan left) ≡ whole
+  pub makes : and_then (s, so_far) (items_of plan left) ≡ whole
 
 pub next_still : (plan : Plan) (item : Turn) (left : List Turn) (s t : State) (so_far : Step) (whole : State × Step) → SoFar plan (item ∷ left) s so_far whole → item_of plan item s ≡ (t, steps.Still) → SoFar plan left t so_far whole
 next_still plan item left s t so_far whole before is = record {
   goes_on = before.goes_on;
-  whole = ap (λ x. and_then x (items_of plan left)) (sym (so_far_still so_far (item_of plan item) s t before.goes_on is))
-      ∙ sym (then_assoc (s, so_far) (item_of plan item) (items_of plan left)) ∙ before.whole;
+  makes = ap (λ x. and_then x (items_of plan left)) (sym (so_far_still so_far (item_of plan item) s t before.goes_on is))
+      ∙ sym (then_assoc (s, so_far) (item_of plan item) (items_of plan left)) ∙ before.makes;
 }
 
 pub next_made : (plan : Plan) (item : Turn) (left : List Turn) (s t : State) (so_far : Step) (whole : State × Step) → SoFar plan (item ∷ left) s so_far whole → item_of plan item s ≡ (t, steps.Made) → SoFar plan left t steps.Made whole
 next_made plan item left s t so_far whole before is = record {
   goes_on = refl;
-  whole = ap (λ x. and_then x (items_of plan left)) (sym (so_far_made so_far (item_of plan item) s t before.goes_on is))
-      ∙ sym (then_assoc (s, so_far) (item_of plan item) (items_of plan left)) ∙ before.whole;
+  makes = ap (λ x. and_then x (items_of plan left)) (sym (so_far_made so_far (item_of plan item) s t before.goes_on is))
+      ∙ sym (then_assoc (s, so_far) (item_of plan item) (items_of plan left)) ∙ before.makes;
 }
 
 pub next_misused : (plan : Plan) (item : Turn) (left : List Turn) (s t : State) (so_far : Step) (whole : State × Step) (misuse : Misuse)
     → SoFar plan (item ∷ left) s so_far whole → item_of plan item s ≡ (t, steps.Misused misuse) → whole ≡ (t, steps.Misused misuse)
 next_misused plan item left s t so_far whole misuse before is =
-    sym before.whole ∙ then_assoc (s, so_far) (item_of plan item) (items_of plan left)
+    sym before.makes ∙ then_assoc (s, so_far) (item_of plan item) (items_of plan left)
     ∙ ap (λ x. and_then x (items_of plan left)) (so_far_misused so_far (item_of plan item) s t misuse before.goes_on is)
 
 pub none_left : (plan : Plan) (s : State) (so_far : Step) (whole : State × Step) → SoFar plan [] s so_far whole → whole ≡ (s, so_far)
-none_left plan s so_far whole before = sym before.whole ∙ then_ends (s, so_far)
+none_left plan s so_far whole before = sym before.makes ∙ then_ends (s, so_far)
 
 -- ---- what turns in order keep, and use up
 

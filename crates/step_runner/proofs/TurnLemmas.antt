@@ -12,7 +12,14 @@ use Rattle.sync_model.specs.declared.call.Call.{Call}
 use Rattle.sync_model.specs.declared.call.Call.TheVariants as calls
 use Rattle.sync_model.specs.declared.call.Reply.{Reply}
 use Rattle.sync_model.specs.declared.misuse.Misuse.{Misuse}
+use Rattle.sync_model.specs.declared.lock_call.MutexCall.{MutexCall}
+use Rattle.sync_model.specs.declared.lock_call.RwMutexCall.{RwMutexCall}
+use Rattle.sync_model.specs.declared.map_object.MapCall.{MapCall}
+use Rattle.sync_model.specs.declared.atomic_object.AtomicCall.{AtomicCall}
+use Rattle.sync_model.specs.declared.atomic_object.AtomicKind.{AtomicKind}
+use Rattle.sync_model.specs.SequentialAtomic.{is_atomic_call}
 use Rattle.workload.specs.declared.object.ObjectKind.{ObjectKind}
+use Rattle.workload.specs.declared.object.ObjectKind.TheVariants as kinds
 use Rattle.workload.specs.declared.object.ObjectLine.{ObjectLine}
 use Rattle.workload.specs.Plan.{Plan, object_of, has_call, is_on, is_turn, is_valid}
 use Rattle.step_runner.specs.declared.step.Answer.{Answer}
@@ -21,9 +28,9 @@ use Rattle.step_runner.specs.declared.step.Step.{Step}
 use Rattle.step_runner.specs.declared.step.Step.TheVariants as steps
 use Rattle.step_runner.specs.declared.object_state.ObjectState.{ObjectState}
 use Rattle.step_runner.specs.State.{State, kind_of, with_reply, IsStateOf, IsLockOf}
-use Rattle.step_runner.specs.Turns.{next_call, with_object, at_object, turn_at, settled, settled_with, turn_of}
+use Rattle.step_runner.specs.Turns.{next_call, turn_on, with_object, turn_at, settled, settled_with, turn_of}
 use Rattle.step_runner.specs.LeftToDo.{object_left, calls_left, left_to_do}
-use Rattle.step_runner.proofs.ObjectTurns.{turn_on, MutexLaw, RwLaw, MutexUses, RwUses, Keeps, turn_keeps, Uses, turn_uses}
+use Rattle.step_runner.proofs.ObjectTurns.{MutexLaw, RwLaw, MutexUses, RwUses, Keeps, turn_keeps, Uses, turn_uses}
 
 -- what two tests that pass together say
 pub both : (a b : Bool) → (a && b) ≡ true → (a ≡ true) × (b ≡ true)
@@ -136,16 +143,16 @@ stands plan worker s call of is =
 abbrev pub moved : Call → ℕ → ObjectState → State → State
 moved call worker object s = record s { objects = set s.objects (object_of call) (turn_on call worker s.moment object).0 }
 
-at_object_is : (place : ℕ) (turn : ObjectState → ObjectState × Answer) (objects : List ObjectState) (object : ObjectState) → slice_get objects place ≡ Some object → at_object place turn objects ≡ with_object place objects (turn object)
-at_object_is place turn objects object at = ap (λ o. option_map_or (λ object. with_object place objects (turn object)) o (objects, answers.Still)) at
-
 turn_at_is : (call : Call) (worker moment : ℕ) (objects : List ObjectState) (object : ObjectState) → slice_get objects (object_of call) ≡ Some object
     → turn_at call worker moment objects ≡ with_object (object_of call) objects (turn_on call worker moment object)
-turn_at_is (calls.Map place call) worker moment objects object at = at_object_is place (turn_on (calls.Map place call) worker moment) objects object at
-turn_at_is (calls.Range place) worker moment objects object at = at_object_is place (turn_on (calls.Range place) worker moment) objects object at
-turn_at_is (calls.Atomic place call) worker moment objects object at = at_object_is place (turn_on (calls.Atomic place call) worker moment) objects object at
-turn_at_is (calls.Mutex place call) worker moment objects object at = at_object_is place (turn_on (calls.Mutex place call) worker moment) objects object at
-turn_at_is (calls.RwMutex place call) worker moment objects object at = at_object_is place (turn_on (calls.RwMutex place call) worker moment) objects object at
+turn_at_is call worker moment objects object at = ap (λ o. option_map_or (λ object. with_object (object_of call) objects (turn_on call worker moment object)) o (objects, answers.Still)) at
+
+-- a turn, by what it makes of the object of the call
+pub turn_is : (plan : Plan) (worker : ℕ) (s : State) (call : Call) (object : ObjectState) → Stands plan worker s call object
+    → turn_of plan worker s ≡ settled worker (turn_on call worker s.moment object).1 (moved call worker object s)
+turn_is plan worker s call object st =
+    ap (λ o. option_map_or (λ call. settled_with worker (turn_at call worker s.moment s.objects) s) o (s, steps.Still)) st.next
+    ∙ ap (λ (step : List ObjectState × Answer). settled_with worker step s) (turn_at_is call worker s.moment s.objects object st.at)
 
 -- by what the turn is answered
 pub record Cases (P : State × Step → Type 0) (plan : Plan) (worker : ℕ) (s : State) : Type 0 where
@@ -270,3 +277,38 @@ turn_used mutex_law rw_law mutex_uses rw_uses plan worker s of = turn_cases (Ste
   where
     uses : (call : Call) (object : ObjectState) → Stands plan worker s call object → (a : Answer) → (turn_on call worker s.moment object).1 ≡ a → Uses object (turn_on call worker s.moment object).0 a
     uses call object st a is = subst (Uses object (turn_on call worker s.moment object).0) is (turn_uses mutex_uses rw_uses plan.workers call worker s.moment object (of.locks (object_of call) object st.at))
+
+-- ---- the object of the call before which a worker stands
+
+pub map_kind : (kind : ObjectKind) (place : ℕ) (call : MapCall (List ℕ)) → has_call kind (calls.Map place call) ≡ true → kind ≡ kinds.Map
+map_kind kinds.Map place call has = refl
+map_kind (kinds.Atomic kind) place call has = absurd cc
+map_kind kinds.Mutex place call has = absurd cc
+map_kind kinds.RwMutex place call has = absurd cc
+
+pub range_kind : (kind : ObjectKind) (place : ℕ) → has_call kind (calls.Range place) ≡ true → kind ≡ kinds.Map
+range_kind kinds.Map place has = refl
+range_kind (kinds.Atomic kind) place has = absurd cc
+range_kind kinds.Mutex place has = absurd cc
+range_kind kinds.RwMutex place has = absurd cc
+
+abbrev pub AtomicKindOf : ObjectKind → AtomicCall → Type 0
+AtomicKindOf k call = (kind : AtomicKind) × (k ≡ kinds.Atomic kind) × (is_atomic_call kind call ≡ true)
+
+pub atomic_kind : (kind : ObjectKind) (place : ℕ) (call : AtomicCall) → has_call kind (calls.Atomic place call) ≡ true → AtomicKindOf kind call
+atomic_kind kinds.Map place call has = absurd cc
+atomic_kind (kinds.Atomic kind) place call has = (kind, refl, has)
+atomic_kind kinds.Mutex place call has = absurd cc
+atomic_kind kinds.RwMutex place call has = absurd cc
+
+pub mutex_kind : (kind : ObjectKind) (place : ℕ) (call : MutexCall) → has_call kind (calls.Mutex place call) ≡ true → kind ≡ kinds.Mutex
+mutex_kind kinds.Map place call has = absurd cc
+mutex_kind (kinds.Atomic kind) place call has = absurd cc
+mutex_kind kinds.Mutex place call has = refl
+mutex_kind kinds.RwMutex place call has = absurd cc
+
+pub rw_kind : (kind : ObjectKind) (place : ℕ) (call : RwMutexCall) → has_call kind (calls.RwMutex place call) ≡ true → kind ≡ kinds.RwMutex
+rw_kind kinds.Map place call has = absurd cc
+rw_kind (kinds.Atomic kind) place call has = absurd cc
+rw_kind kinds.Mutex place call has = absurd cc
+rw_kind kinds.RwMutex place call has = refl

@@ -1,14 +1,10 @@
 -- What a run knows between two turns.
 use Rattle.std.specs.Prelude.{◌≡◌, ℕ, ◌≤◌, true, List, [], ◌∷◌, ◌++◌, map, length, get_or, set, replicate, slice_get, Some}
-use Rattle.std.specs.Option.{option_map}
 use Rattle.std.specs.FinMap.{empty}
 use Rattle.mutex_core.specs.MutexMachine as mutex
 use Rattle.rw_core.specs.RwMachine as rw
-use Rattle.sync_model.specs.SequentialAtomic.{zero_of, is_atomic_call}
+use Rattle.sync_model.specs.SequentialAtomic.{zero_of}
 use Rattle.sync_model.specs.SequentialAtomic as atomics
-use Rattle.sync_model.specs.declared.atomic_object.AtomicKind.{AtomicKind}
-use Rattle.sync_model.specs.declared.call.Call.{Call}
-use Rattle.sync_model.specs.declared.call.Call.TheVariants as calls
 use Rattle.sync_model.specs.declared.call.Reply.{Reply}
 use Rattle.workload.specs.declared.object.ObjectKind.{ObjectKind}
 use Rattle.workload.specs.declared.object.ObjectKind.TheVariants as kinds
@@ -65,11 +61,3 @@ pub record IsStateOf (plan : Plan) (s : State) : Type 0 where
   pub locks : (place : ℕ) (object : ObjectState) → slice_get s.objects place ≡ Some object → IsLockOf plan.workers object
   pub workers : length s.replies ≡ plan.workers
   pub within : (worker : ℕ) → length (get_or s.replies worker []) ≤ length (get_or plan.scripts worker [])
-
--- the object of a call is there, and of the kind that has the call: an atomic's operands are of its type, and in its range
-abbrev pub IsOn : Call → List ObjectState → Type 0
-IsOn (calls.Map object call) objects = option_map kind_of (slice_get objects object) ≡ Some kinds.Map
-IsOn (calls.Range object) objects = option_map kind_of (slice_get objects object) ≡ Some kinds.Map
-IsOn (calls.Atomic object call) objects = (kind : AtomicKind) × (option_map kind_of (slice_get objects object) ≡ Some (kinds.Atomic kind)) × (is_atomic_call kind call ≡ true)
-IsOn (calls.Mutex object call) objects = option_map kind_of (slice_get objects object) ≡ Some kinds.Mutex
-IsOn (calls.RwMutex object call) objects = option_map kind_of (slice_get objects object) ≡ Some kinds.RwMutex

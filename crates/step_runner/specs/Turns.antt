@@ -6,7 +6,7 @@ use Rattle.sync_model.specs.declared.call.Call.{Call}
 use Rattle.sync_model.specs.declared.call.Call.TheVariants as calls
 use Rattle.workload.specs.declared.turn.Turn.{Turn}
 use Rattle.workload.specs.declared.turn.Turn.TheVariants as items
-use Rattle.workload.specs.Plan.{Plan}
+use Rattle.workload.specs.Plan.{Plan, object_of}
 use Rattle.step_runner.specs.declared.step.Answer.{Answer}
 use Rattle.step_runner.specs.declared.step.Answer.TheVariants as answers
 use Rattle.step_runner.specs.declared.step.Step.{Step}
@@ -30,20 +30,21 @@ use Rattle.step_runner.specs.Ends.{ends_of}
 abbrev pub next_call : Plan → ℕ → State → Option Call
 next_call plan worker s = slice_get (get_or plan.scripts worker []) (length (get_or s.replies worker []))
 
--- what a turn at an object does to the objects: to no other one
+-- the turn of a worker that stands before the call, at a moment, as the call's object has it
+abbrev pub turn_on : Call → ℕ → ℕ → ObjectState → ObjectState × Answer
+turn_on (calls.Map object call) worker moment = map_turn call
+turn_on (calls.Range object) worker moment = range_turn
+turn_on (calls.Atomic object call) worker moment = atomic_turn call
+turn_on (calls.Mutex object call) worker moment = mutex_turn call worker moment
+turn_on (calls.RwMutex object call) worker moment = rw_mutex_turn call worker moment
+
+-- it leaves every other object alone
 abbrev pub with_object : ℕ → List ObjectState → ObjectState × Answer → List ObjectState × Answer
 with_object place objects step = (set objects place step.0, step.1)
 
-abbrev pub at_object : ℕ → (ObjectState → ObjectState × Answer) → List ObjectState → List ObjectState × Answer
-at_object place turn objects = option_map_or (λ object. with_object place objects (turn object)) (slice_get objects place) (objects, answers.Still)
-
--- the turn of a worker that stands before the call, at a moment
 abbrev pub turn_at : Call → ℕ → ℕ → List ObjectState → List ObjectState × Answer
-turn_at (calls.Map object call) worker moment objects = at_object object (map_turn call) objects
-turn_at (calls.Range object) worker moment objects = at_object object range_turn objects
-turn_at (calls.Atomic object call) worker moment objects = at_object object (atomic_turn call) objects
-turn_at (calls.Mutex object call) worker moment objects = at_object object (mutex_turn call worker moment) objects
-turn_at (calls.RwMutex object call) worker moment objects = at_object object (rw_mutex_turn call worker moment) objects
+turn_at call worker moment objects =
+    option_map_or (λ object. with_object (object_of call) objects (turn_on call worker moment object)) (slice_get objects (object_of call)) (objects, answers.Still)
 
 -- what an answer means for the worker and for the run
 abbrev pub settled : ℕ → Answer → State → State × Step

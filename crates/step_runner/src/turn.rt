@@ -1,8 +1,9 @@
 //! One turn of a worker.
-ghost use Rattle.std.specs.Prelude.{◌≡◌, ℕ, ◌<◌, slice_get, Some, IfOk};
+ghost use Rattle.std.specs.Prelude.{◌≡◌, ℕ, ◌<◌, true, IfOk};
 ghost use Rattle.std.specs.Option.{option_copied};
-ghost use Rattle.step_runner.specs.State.{IsStateOf, IsOn, IsLockOf};
-ghost use Rattle.step_runner.specs.Turns.{next_call, turn_at, turn_of};
+ghost use Rattle.workload.specs.Plan.{object_of, has_call};
+ghost use Rattle.step_runner.specs.State.{IsStateOf, IsLockOf, kind_of};
+ghost use Rattle.step_runner.specs.Turns.{next_call, turn_on, turn_of};
 
 use crate::atomic_turn::take_atomic_turn;
 use crate::laws;
@@ -25,26 +26,37 @@ pub fn next_call<'a>(workload: &'a Workload, worker: u32, state: &State) -> Opti
     workload.script(worker).get(state.completed(worker))
 }
 
-/// Takes a turn of a worker that stands before the call, by the kind of the call's object.
-fn take_turn_at(
+/// The place of a call's object.
+fn object_of(call: &Call) -> usize
+    ensures { result ≡ object_of call.now }
+{
+    match call {
+        Call::Map { object, .. } => *object,
+        Call::Range { object } => *object,
+        Call::Atomic { object, .. } => *object,
+        Call::Mutex { object, .. } => *object,
+        Call::RwMutex { object, .. } => *object,
+    }
+}
+
+/// Takes a turn of a worker that stands before the call, at the call's object and by its kind.
+fn take_turn_on(
     alloc: Global,
-    objects: &mut [ObjectState],
+    object: &mut ObjectState,
     call: &Call,
     worker: u32,
     moment: u64,
 ) -> Result<Answer, AllocError>
-    requires on { IsOn call.now objects.old }
-    requires locks { (workers : ℕ) × (worker < workers) × ((place : ℕ) (object : ObjectState) → slice_get objects.old place ≡ Some object → IsLockOf workers object) }
-    ensures { IfOk result (λ answer. turn_at call.now worker moment objects.old ≡ (objects.new, answer)) }
+    requires has { has_call (kind_of object.old) call.now ≡ true }
+    requires lock { (workers : ℕ) × (worker < workers) × IsLockOf workers object.old }
+    ensures { IfOk result (λ answer. turn_on call.now worker moment object.old ≡ (object.new, answer)) }
 {
     match call {
-        Call::Map { object, call } => take_map_turn(alloc, &mut objects[*object], call),
-        Call::Range { object } => take_range_turn(alloc, &objects[*object]),
-        Call::Atomic { object, call } => Ok(take_atomic_turn(&mut objects[*object], *call)),
-        Call::Mutex { object, call } =>
-            Ok(take_mutex_turn(&mut objects[*object], worker, *call, moment)),
-        Call::RwMutex { object, call } =>
-            Ok(take_rw_mutex_turn(&mut objects[*object], worker, *call, moment)),
+        Call::Map { call, .. } => take_map_turn(alloc, object, call),
+        Call::Range { .. } => take_range_turn(alloc, object),
+        Call::Atomic { call, .. } => Ok(take_atomic_turn(object, *call)),
+        Call::Mutex { call, .. } => Ok(take_mutex_turn(object, worker, *call, moment)),
+        Call::RwMutex { call, .. } => Ok(take_rw_mutex_turn(object, worker, *call, moment)),
     }
 }
 
@@ -65,7 +77,8 @@ pub fn take_turn(
         None => Ok(Step::Still),
         Some(call) => {
             let moment = state.moment;
-            let answer = take_turn_at(alloc, &mut state.objects, call, worker, moment)?;
+            let object = &mut state.objects[object_of(call)];
+            let answer = take_turn_on(alloc, object, call, worker, moment)?;
             state.settle(worker, answer)
         }
     }
