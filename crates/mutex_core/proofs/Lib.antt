@@ -4,3 +4,5 @@ pub mod Room
 pub mod Journals
 pub mod Turns
 pub mod HandsOver
+pub mod UsedUp
+pub mod Unmoved

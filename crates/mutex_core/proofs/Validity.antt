@@ -162,7 +162,7 @@ callers-at_place (event.Woken now) place.Woken c s = callers-resumed s.callers s
 callers-at_place (event.Woken now) place.Handed c s = callers-resumed s.callers s.locked s.woken s.starving s.queue s.flight now
 callers-at_place (event.Woken now) _ c s = refl
 
-callers-next : (s : State) (c : ℕ) (e : MutexEvent) → (next s c e).0.callers ≡ s.callers
+pub callers-next : (s : State) (c : ℕ) (e : MutexEvent) → (next s c e).0.callers ≡ s.callers
 callers-next s c e = callers-open s.callers (nat_lt c s.callers) _ _ (callers-at_place e (place_of s c) c s) refl
 
 -- the callers stay the same

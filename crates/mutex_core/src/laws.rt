@@ -1,20 +1,26 @@
 //! What holds of every run of the machine, whatever its callers do, from the unlocked mutex on. A
 //! journal lists who did what, and what it was answered.
-ghost use Rattle.std.specs.Prelude.{◌≡◌, ℕ, ◌<◌, false, IsTrue, ◌∷◌, ◌++◌};
+ghost use Rattle.std.specs.Prelude.{◌≡◌, ℕ, ◌+◌, ◌<◌, ◌≤◌, false, IsTrue, ◌∷◌, ◌++◌};
 ghost use Rattle.std.specs.List.{list_any};
 ghost use Rattle.sync_model.specs.Log.{Entry, after, Follows};
 ghost use Rattle.mutex_core.specs.declared.event.MutexEvent.{MutexEvent};
 ghost use Rattle.mutex_core.specs.declared.reply.MutexReply.{MutexReply};
 ghost use Rattle.mutex_core.specs.MutexMachine.{next, start, IsValid, State};
+ghost use Rattle.mutex_core.specs.EventsLeft.{events_left, given_by, used_by};
 ghost use Rattle.mutex_core.specs.Edges.{Journal, acquires, releases};
 ghost use Rattle.mutex_core.specs.Exclusion.{TakesTurns};
 ghost use Rattle.mutex_core.specs.HandOff.{HandsOff};
 
-/// What is true of the unlocked mutex stays true with each event, and so in every run.
+/// What is true of the unlocked mutex stays true with each event, and so in every run. The callers stay
+/// the same, and an event that is answered `Still` changes nothing.
 pub fn validity()
     ensures begins { (callers : ℕ) → IsValid (start callers) }
     ensures goes_on { (state : State) (caller : ℕ) (event : MutexEvent)
         → IsValid state → IsValid (next state caller event).0 }
+    ensures same_callers { (state : State) (caller : ℕ) (event : MutexEvent)
+        → (next state caller event).0.callers ≡ state.callers }
+    ensures unmoved { (state : State) (caller : ℕ) (event : MutexEvent)
+        → (next state caller event).1 ≡ MutexReply.Still → (next state caller event).0 ≡ state }
     ensures always { (callers : ℕ) (journal : Journal) → IsValid (after next (start callers) journal) }
 {}
 
@@ -39,4 +45,13 @@ pub fn hand_off()
         → IsTrue (after next (start callers) earlier).locked
         → IsTrue (after next (start callers) earlier).starving
         → HandsOff (after next (start callers) earlier).queue unlock.reply later }
+{}
+
+/// Callers can't go on for ever without completing a call. One that queues uses up two of the events
+/// that are left, and one that goes back to the queue uses up one. Only a call that is completed gives
+/// any back, and that one at most: an unlock that tells a waiter, or a lock that had to wait.
+pub fn events_are_used_up()
+    ensures { (state : State) (caller : ℕ) (event : MutexEvent) → IsValid state
+        → events_left (next state caller event).0 + used_by (next state caller event).1
+        ≤ events_left state + given_by (next state caller event).1 }
 {}

@@ -1,6 +1,6 @@
 //! What holds of every run of the machine, whatever its callers do, from the unlocked lock on. A
 //! journal lists who did what, and what it was answered.
-ghost use Rattle.std.specs.Prelude.{◌≡◌, ℕ, ◌<◌, ◌≤◌, IsTrue, ◌∷◌, ◌++◌, length, filter};
+ghost use Rattle.std.specs.Prelude.{◌≡◌, ℕ, ◌+◌, ◌<◌, ◌≤◌, IsTrue, ◌∷◌, ◌++◌, length, filter};
 ghost use Rattle.std.specs.List.{list_any};
 ghost use Rattle.sync_model.specs.Log.{Entry, after, Follows};
 ghost use Rattle.rw_core.specs.declared.event.RwEvent.{RwEvent};
@@ -8,13 +8,22 @@ ghost use Rattle.rw_core.specs.declared.reply.RwReply.{RwReply};
 ghost use Rattle.rw_core.specs.declared.reply.Unlocking.{Unlocking};
 ghost use Rattle.rw_core.specs.RwMachine.{State, next, start, is_announced, IsValid};
 ghost use Rattle.rw_core.specs.Admission.{Admits};
+ghost use Rattle.rw_core.specs.EventsLeft.{events_left, given_by, used_by};
 ghost use Rattle.rw_core.specs.Edges.{Journal, is_acquired, read_acquires, read_releases, write_acquires, write_releases};
 
 use mutex_core::laws;
 
-/// What is true of the unlocked lock stays true.
+/// What is true of the unlocked lock stays true with each event, and so in every run. The callers stay
+/// the same, and an event that is answered `Still` changes nothing.
 pub fn validity()
-    ensures { (callers : ℕ) (journal : Journal) → IsValid (after next (start callers) journal) }
+    ensures begins { (callers : ℕ) → IsValid (start callers) }
+    ensures goes_on { (state : State) (caller : ℕ) (event : RwEvent)
+        → IsValid state → IsValid (next state caller event).0 }
+    ensures same_callers { (state : State) (caller : ℕ) (event : RwEvent)
+        → (next state caller event).0.callers ≡ state.callers }
+    ensures unmoved { (state : State) (caller : ℕ) (event : RwEvent)
+        → (next state caller event).1 ≡ RwReply.Still → (next state caller event).0 ≡ state }
+    ensures always { (callers : ℕ) (journal : Journal) → IsValid (after next (start callers) journal) }
 {
     laws::validity();
 }
@@ -58,3 +67,15 @@ pub fn admission()
         → (next state caller RwEvent.WriteUnlock).1 ≡ RwReply.Unlocked Unlocking.Done
         → Admits state (next state caller RwEvent.WriteUnlock).0 }
 {}
+
+/// Callers can't go on for ever without completing a call. One that queues uses up two of the events
+/// that are left, and a writer that goes on and waits again uses up one. Only a call that is completed
+/// gives any back: an unlock or a writer's lock that had to wait one at most, and a leave two.
+pub fn events_are_used_up()
+    ensures { (state : State) (caller : ℕ) (event : RwEvent) → IsValid state
+        → events_left (next state caller event).0 + used_by (next state caller event).1
+        ≤ events_left state + given_by (next state caller event).1 }
+{
+    laws::validity();
+    laws::events_are_used_up();
+}

@@ -1,8 +1,7 @@
 mod AtomicTypes
 mod KeyLemmas
-mod Left
-mod MadeLemmas
-mod PairLemmas
-mod RangeLemmas
+mod ObjectTurns
 mod RoundLemmas
+mod RunLemmas
+mod StartLemmas
 mod TurnLemmas

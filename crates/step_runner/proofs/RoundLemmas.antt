@@ -1,82 +1,53 @@
--- Rounds, and the end of a run.
-use Rattle.std.proofs.Common.{◌≡◌, ◌≢◌, ℕ, zero, suc, ◌+◌, ◌-◌, ◌<◌, ◌≤◌, Bool, true, false, cond, eqb, not, List, [], ◌∷◌, map, length, get_or, Option, Some, None, refl, sym, ap, ◌∙◌, subst, arith}
-use Rattle.std.specs.Prelude.{is_some, nat_lt}
+-- Rounds, and what comes behind every script's end.
+use Rattle.std.proofs.Common.{◌≡◌, ◌≢◌, ℕ, zero, suc, ◌+◌, ◌-◌, ◌<◌, ◌≤◌, Bool, true, false, eqb, List, [], ◌∷◌, ◌++◌, map, length, get_or, Option, Some, None, refl, sym, ap, ◌∙◌, subst, inl, inr, arith}
+use Rattle.std.specs.Prelude.{is_some, not, nat_lt, slice_get, if◌then◌else◌, ◌&&◌}
 use Rattle.std.specs.List.{list_all, range_with_len}
+use Rattle.std.specs.Option.{option_map_or}
 use Rattle.std.proofs.lemmas.Bool.{eqb-true, eqb-false, ltb-true, ltb-false}
-use Rattle.std.proofs.lemmas.List.FromFn.{map-range_with_len_more}
+use Rattle.std.proofs.lemmas.Option.{slice_get_past, slice_get_cases}
 use Rattle.sync_model.specs.declared.call.Call.{Call}
 use Rattle.sync_model.specs.declared.call.Reply.{Reply}
 use Rattle.workload.specs.declared.turn.Turn.{Turn}
 use Rattle.workload.specs.declared.turn.Turn.TheVariants as items
-use Rattle.workload.specs.Plan.{Plan, is_valid}
-use Rattle.workload.specs.Draft.{call_count}
-use Rattle.step_runner.specs.declared.outcome.Report.{Report}
-use Rattle.step_runner.specs.declared.outcome.Outcome.TheVariants as outcomes
-use Rattle.step_runner.specs.Ends.{ends_of}
-use Rattle.step_runner.specs.State.{State, start, IsStateOf}
-use Rattle.step_runner.specs.Turns.{next_call, after_turn, after_turn_at, after_item, after_items, round, order, has_ended, outcome_of}
-use Rattle.step_runner.specs.Turns as turning
-use Rattle.step_runner.proofs.Left.{left, left_at, left_falls, left_none, left_bound}
-use Rattle.step_runner.proofs.TurnLemmas.{both, both_true, true_false, valid_scripts, IsTurn, none_left, none_next, no_turn, after_turn_is, after_items-append, items_of, start_is}
+use Rattle.workload.specs.Plan.{Plan}
+use Rattle.step_runner.specs.declared.step.Step.{Step}
+use Rattle.step_runner.specs.declared.step.Step.TheVariants as steps
+use Rattle.step_runner.specs.declared.outcome.Ending.{Ending}
+use Rattle.step_runner.specs.declared.outcome.Ending.TheVariants as endings
+use Rattle.step_runner.specs.LeftToDo.{left_to_do}
+use Rattle.step_runner.specs.Outcomes.{rounds}
+use Rattle.step_runner.specs.State.{State, with_moment, IsStateOf}
+use Rattle.step_runner.specs.Turns.{next_call, turn_at, settled_with, turn_of, item_of, with_event, and_then, items_of, round, has_ended, behind_round, rounds_of, all_rounds, behind_schedule}
+use Rattle.step_runner.proofs.TurnLemmas.{both, both_true, true_false, valid_scripts}
+use Rattle.step_runner.proofs.RunLemmas.{items_append, GoesOn, UsesUp, turns_of, ItemsUse, items_valid, workers_use}
 
--- ---- a round
+-- ---- the workers whose scripts have ended
 
--- the turns of the workers below one more
-pub round_more : (plan : Plan) (n : ℕ) (s : State) → after_items plan (round (n + 1)) s ≡ after_turn plan n (after_items plan (round n) s)
-round_more plan n s =
-    ap (λ (turns : List Turn). after_items plan turns s) (map-range_with_len_more (λ (worker : ℕ). items.Worker worker) 0 n n (omega arith))
-    ∙ after_items-append plan (round n) (items.Worker n ∷ []) s
+some_none : {X : Type 0} (x : X) → Some x ≡ None → ⊥
+some_none x e = cc
 
--- what a round takes: a call from each worker that has one left
-pub record IsRound (plan : Plan) (workers : ℕ) (old new : State) : Type 0 where
-  pub of : IsStateOf plan new
-  pub below : (k : ℕ) → k < workers → left_at plan.scripts new.replies k ≤ left_at plan.scripts old.replies k - 1
-  pub others : (k : ℕ) → workers ≤ k → left_at plan.scripts new.replies k ≡ left_at plan.scripts old.replies k
+-- how many calls of a worker are left
+abbrev left_at : Plan → State → ℕ → ℕ
+left_at plan s worker = length (get_or plan.scripts worker []) - length (get_or s.replies worker [])
 
-one_more : (plan : Plan) (n : ℕ) (old new next : State) → IsRound plan n old new → IsTurn plan n new next → IsRound plan (suc n) old next
-one_more plan n old new next round turn = record {
-  of = turn.of;
-  below = λ k below. elim (eqb k n) as (λ b. eqb k n ≡ b → left_at plan.scripts next.replies k ≤ left_at plan.scripts old.replies k - 1) [
-    | true ↦ λ e.
-        let same : k ≡ n = eqb-true k n e in
-        let here : left_at plan.scripts new.replies n ≡ left_at plan.scripts old.replies n = round.others n (omega arith) in
-        rw same (omega (arith, turn.own, here))
-    | false ↦ λ e.
-        let apart : k ≢ n = eqb-false k n e in
-        let here : left_at plan.scripts new.replies k ≤ left_at plan.scripts old.replies k - 1 = round.below k (omega arith) in
-        omega (arith, turn.others k apart, here)
-  ] refl;
-  others = λ k past. turn.others k (λ (e : k ≡ n). omega arith) ∙ round.others k (omega arith);
-}
+none_left_at : (plan : Plan) (worker : ℕ) (s : State) → next_call plan worker s ≡ None → left_at plan s worker ≡ 0
+none_left_at plan worker s is =
+    let script = get_or plan.scripts worker [] in
+    let done = length (get_or s.replies worker []) in
+    elim (slice_get_cases script done).1 as (λ c. length script - done ≡ 0) [
+      | inl found ↦ absurd (some_none found.0 (sym found.2 ∙ is))
+      | inr past ↦ omega (arith, past.0)
+    ]
 
-round_is : (plan : Plan) (n : ℕ) (s : State) → IsStateOf plan s → IsRound plan n s (after_items plan (round n) s)
-round_is plan zero s of = record { of = of; below = λ k below. absurd (omega arith); others = λ k past. refl }
-round_is plan (suc n) s of =
-    let so_far = after_items plan (round n) s in
-    let before = round_is plan n s of in
-    let next : suc n ≡ n + 1 = omega arith in
-    subst (IsRound plan (suc n) s) (sym (ap (λ (m : ℕ). after_items plan (round m) s) next ∙ round_more plan n s)) (one_more plan n s so_far (after_turn plan n so_far) before (after_turn_is plan n so_far before.of))
+none_next : (plan : Plan) (worker : ℕ) (s : State) → left_at plan s worker ≡ 0 → next_call plan worker s ≡ None
+none_next plan worker s none = slice_get_past (get_or plan.scripts worker []) (length (get_or s.replies worker [])) (omega (arith, none))
 
 past_end : (scripts : List (List Call)) (k : ℕ) → length scripts ≤ k → length (get_or scripts k []) ≡ 0
 past_end [] k past = refl
 past_end (script ∷ scripts) zero past = absurd (omega arith)
 past_end (script ∷ scripts) (suc k) past = past_end scripts k (omega arith)
 
--- a whole round takes a call in all at the least, if any is left
-pub round_falls : (plan : Plan) (s : State) → IsStateOf plan s → left plan.scripts (after_items plan (round plan.workers) s).replies ≤ left plan.scripts s.replies - 1
-round_falls plan s of =
-    let next = after_items plan (round plan.workers) s in
-    let round = round_is plan plan.workers s of in
-    left_falls plan.scripts s.replies next.replies (λ k. elim (nat_lt k plan.workers) as (λ b. nat_lt k plan.workers ≡ b → left_at plan.scripts next.replies k ≤ left_at plan.scripts s.replies k - 1) [
-      | true ↦ λ e. round.below k (ltb-true k plan.workers e)
-      | false ↦ λ e.
-          let past : length plan.scripts ≤ k = omega (arith, valid_scripts plan of.valid, ltb-false k plan.workers e) in
-          let none : length (get_or plan.scripts k []) ≡ 0 = past_end plan.scripts k past in
-          omega (arith, none)
-    ] refl)
-
--- ---- the end
-
+-- what holds of each number of a range
 all_from : (p : ℕ → Bool) (a n : ℕ) → ((k : ℕ) → a ≤ k → k < a + n → p k ≡ true) → list_all p (range_with_len a n) ≡ true
 all_from p a zero each = refl
 all_from p a (suc n) each = both_true (p a) (list_all p (range_with_len (a + 1) n)) (each a (omega arith) (omega arith)) (all_from p (a + 1) n (λ k from below. each k (omega arith) (omega arith)))
@@ -90,99 +61,121 @@ each_from p a (suc n) all k from below =
       | false ↦ λ e. let apart : a ≢ k = eqb-false a k e in each_from p (a + 1) n parts.1 k (omega arith) (omega arith)
     ] refl
 
+-- whether a worker's script has ended
+abbrev pub is_at_end : Plan → State → ℕ → Bool
+is_at_end plan s worker = not (is_some (next_call plan worker s))
+
 -- where no worker stands before a call, every script has ended
 pub ended_where : (plan : Plan) (s : State) → ((k : ℕ) → k < plan.workers → next_call plan k s ≡ None) → has_ended plan s ≡ true
-ended_where plan s none = all_from (λ worker. not (is_some (next_call plan worker s))) 0 plan.workers (λ k from below. ap (λ (o : Option Call). not (is_some o)) (none k (omega arith)))
+ended_where plan s none = all_from (is_at_end plan s) 0 plan.workers (λ k from below. ap (λ (o : Option Call). not (is_some o)) (none k (omega arith)))
 
 not_some : {X : Type 0} (o : Option X) → not (is_some o) ≡ true → o ≡ None
 not_some None e = refl
 not_some (Some x) e = absurd cc
 
 -- and back
-pub none_where : (plan : Plan) (s : State) → IsStateOf plan s → has_ended plan s ≡ true → (k : ℕ) → left_at plan.scripts s.replies k ≡ 0
-none_where plan s of ended k = elim (nat_lt k plan.workers) as (λ b. nat_lt k plan.workers ≡ b → left_at plan.scripts s.replies k ≡ 0) [
-  | true ↦ λ e. none_left plan k s (not_some (next_call plan k s) (each_from (λ worker. not (is_some (next_call plan worker s))) 0 plan.workers ended k (omega arith) (omega (arith, ltb-true k plan.workers e))))
+pub ended_next : (plan : Plan) (s : State) → IsStateOf plan s → has_ended plan s ≡ true → (k : ℕ) → next_call plan k s ≡ None
+ended_next plan s of ended k = elim (nat_lt k plan.workers) as (λ b. nat_lt k plan.workers ≡ b → next_call plan k s ≡ None) [
+  | true ↦ λ e. not_some (next_call plan k s) (each_from (is_at_end plan s) 0 plan.workers ended k (omega arith) (omega (arith, ltb-true k plan.workers e)))
   | false ↦ λ e.
       let past : length plan.scripts ≤ k = omega (arith, valid_scripts plan of.valid, ltb-false k plan.workers e) in
       let none : length (get_or plan.scripts k []) ≡ 0 = past_end plan.scripts k past in
-      omega (arith, none)
+      none_next plan k s (omega (arith, none))
 ] refl
 
 -- where a worker stands before a call, not every script has ended
 pub not_ended : (plan : Plan) (s : State) (worker : ℕ) → IsStateOf plan s → is_some (next_call plan worker s) ≡ true → has_ended plan s ≡ false
 not_ended plan s worker of some = elim (has_ended plan s) as (λ b. has_ended plan s ≡ b → b ≡ false) [
-  | true ↦ λ e. absurd (true_false (sym some ∙ ap is_some (none_next plan worker s (none_where plan s of e worker))))
+  | true ↦ λ e. absurd (true_false (sym some ∙ ap is_some (ended_next plan s of e worker)))
   | false ↦ λ e. refl
 ] refl
 
--- the state at the end stays
-item_at_end : (plan : Plan) (s : State) → ((k : ℕ) → left_at plan.scripts s.replies k ≡ 0) → (item : Turn) → after_item plan item s ≡ s
-item_at_end plan s none (items.Worker worker) = no_turn plan worker s (none worker)
-item_at_end plan s none (items.Moment moment) = refl
+-- a worker whose script has ended makes no event
+pub no_turn : (plan : Plan) (worker : ℕ) (s : State) → next_call plan worker s ≡ None → turn_of plan worker s ≡ (s, steps.Still)
+no_turn plan worker s none = ap (λ o. option_map_or (λ call. settled_with worker (turn_at call worker s.moment s.objects) s) o (s, steps.Still)) none
 
-items_at_end : (plan : Plan) (s : State) → ((k : ℕ) → left_at plan.scripts s.replies k ≡ 0) → (turns : List Turn) → after_items plan turns s ≡ s
-items_at_end plan s none [] = refl
-items_at_end plan s none (item ∷ turns) = ap (λ (t : State). after_items plan turns t) (item_at_end plan s none item) ∙ items_at_end plan s none turns
+-- nothing follows the end, but that the clock may be set
+pub nothing_follows : (plan : Plan) (s : State) → ((k : ℕ) → next_call plan k s ≡ None) → (list : List Turn) → (moment : ℕ) × (items_of plan list s ≡ (with_moment moment s, steps.Still))
+nothing_follows plan s none [] = (s.moment, refl)
+nothing_follows plan s none (items.Worker worker ∷ rest) =
+    let later = nothing_follows plan s none rest in
+    (later.0, ap (λ x. and_then x (items_of plan rest)) (no_turn plan worker s (none worker)) ∙ later.1)
+nothing_follows plan s none (items.Moment moment ∷ rest) = nothing_follows plan (with_moment moment s) none rest
 
-pub stays_at_end : (plan : Plan) (s : State) (turns : List Turn) → IsStateOf plan s → has_ended plan s ≡ true → after_items plan turns s ≡ s
-stays_at_end plan s turns of ended = items_at_end plan s (none_where plan s of ended) turns
+no_turns : (plan : Plan) (s : State) → ((k : ℕ) → next_call plan k s ≡ None) → (workers : List ℕ) → items_of plan (turns_of workers) s ≡ (s, steps.Still)
+no_turns plan s none [] = refl
+no_turns plan s none (worker ∷ workers) = ap (λ x. and_then x (items_of plan (turns_of workers))) (no_turn plan worker s (none worker)) ∙ no_turns plan s none workers
 
--- ---- enough rounds
+-- ---- rounds
 
--- rounds from here on come to the same as the rounds of a run, and there are enough of them
-pub record IsOnTheWay (plan : Plan) (first s : State) : Type 0 where
-  pub of : IsStateOf plan s
-  pub rounds : ℕ
-  pub enough : left plan.scripts s.replies ≤ rounds
-  pub same : after_items plan (turning.rounds rounds plan.workers) s ≡ after_items plan (turning.rounds (call_count plan.scripts) plan.workers) first
+round_uses : (plan : Plan) → GoesOn plan → UsesUp plan → (s : State) → IsStateOf plan s → ItemsUse plan s (items_of plan (round plan.workers) s)
+round_uses plan goes_on uses s of = workers_use plan goes_on uses (range_with_len 0 plan.workers) s of
 
-pub sets_out : (plan : Plan) (s : State) → IsStateOf plan s → IsOnTheWay plan s s
-sets_out plan s of = record { of = of; rounds = call_count plan.scripts; enough = left_bound plan.scripts s.replies; same = refl }
+round_valid : (plan : Plan) → GoesOn plan → (s : State) → IsStateOf plan s → IsStateOf plan (items_of plan (round plan.workers) s).0
+round_valid plan goes_on s of = items_valid plan goes_on (round plan.workers) s of
 
-pub arrives : (plan : Plan) (first s : State) → IsOnTheWay plan first s → has_ended plan s ≡ true → s ≡ after_items plan (turning.rounds (call_count plan.scripts) plan.workers) first
-arrives plan first s way ended = sym (stays_at_end plan s (turning.rounds way.rounds plan.workers) way.of ended) ∙ way.same
+-- the same rest for each state with less to do
+same_behind : (plan : Plan) (s : State) (x : State × Step) (f g : State → State × Ending) → ItemsUse plan s x → IsStateOf plan x.0
+    → ((t : State) → IsStateOf plan t → left_to_do plan t < left_to_do plan s → f t ≡ g t) → behind_round x f ≡ behind_round x g
+same_behind plan s (t, steps.Still) f g uses of same = refl
+same_behind plan s (t, steps.Made) f g uses of same = same t of uses
+same_behind plan s (t, steps.Misused misuse) f g uses of same = refl
 
--- a call is left where a script has not ended
-pub some_left : (plan : Plan) (s : State) → has_ended plan s ≡ false → 0 < left plan.scripts s.replies
-some_left plan s going = elim (left plan.scripts s.replies) as (λ n. left plan.scripts s.replies ≡ n → 0 < n) [
-  | zero ↦ λ e. absurd (true_false (sym (ended_where plan s (λ k below. none_next plan k s (left_none plan.scripts s.replies e k))) ∙ going))
-  | suc n ↦ λ e. omega arith
+same_rounds : (plan : Plan) → GoesOn plan → UsesUp plan → (n m : ℕ) (s : State) → IsStateOf plan s → left_to_do plan s < n → left_to_do plan s < m → rounds_of n plan s ≡ rounds_of m plan s
+same_rounds plan goes_on uses zero m s of below other = absurd (omega (arith, below))
+same_rounds plan goes_on uses (suc n) zero s of below other = absurd (omega (arith, other))
+same_rounds plan goes_on uses (suc n) (suc m) s of below other =
+    ap (λ x. if has_ended plan s then (s, endings.Done) else x)
+    (same_behind plan s (items_of plan (round plan.workers) s) (rounds_of n plan) (rounds_of m plan) (round_uses plan goes_on uses s of) (round_valid plan goes_on s of)
+    (λ t of_t less. same_rounds plan goes_on uses n m t of_t (omega (arith, below, less)) (omega (arith, other, less))))
+
+pub enough : (plan : Plan) → GoesOn plan → UsesUp plan → (n : ℕ) (s : State) → IsStateOf plan s → left_to_do plan s < n → rounds_of n plan s ≡ all_rounds plan s
+enough plan goes_on uses n s of below = same_rounds plan goes_on uses n (left_to_do plan s + 1) s of below (omega arith)
+
+-- all rounds, by the first of them
+abbrev pub first_of_all : Plan → State → State × Ending
+first_of_all plan s = if has_ended plan s then (s, endings.Done) else behind_round (items_of plan (round plan.workers) s) (all_rounds plan)
+
+pub one_by_one : (plan : Plan) → GoesOn plan → UsesUp plan → (s : State) → IsStateOf plan s → all_rounds plan s ≡ first_of_all plan s
+one_by_one plan goes_on uses s of =
+    let next : left_to_do plan s + 1 ≡ suc (left_to_do plan s) = omega arith in
+    ap (λ n. rounds_of n plan s) next
+    ∙ ap (λ x. if has_ended plan s then (s, endings.Done) else x)
+    (same_behind plan s (items_of plan (round plan.workers) s) (rounds_of (left_to_do plan s) plan) (all_rounds plan) (round_uses plan goes_on uses s of) (round_valid plan goes_on s of)
+    (λ t of_t less. enough plan goes_on uses (left_to_do plan s) t of_t less))
+
+-- the same where it is known whether every script has ended, and what the round comes to
+pub where_ended : (plan : Plan) → GoesOn plan → UsesUp plan → (s : State) → IsStateOf plan s → has_ended plan s ≡ true → all_rounds plan s ≡ (s, endings.Done)
+where_ended plan goes_on uses s of ended =
+    one_by_one plan goes_on uses s of ∙ ap (λ b. if b then (s, endings.Done) else behind_round (items_of plan (round plan.workers) s) (all_rounds plan)) ended
+
+pub where_going : (plan : Plan) → GoesOn plan → UsesUp plan → (s : State) (x : State × Step) → IsStateOf plan s → has_ended plan s ≡ false → items_of plan (round plan.workers) s ≡ x → all_rounds plan s ≡ behind_round x (all_rounds plan)
+where_going plan goes_on uses s x of going is =
+    one_by_one plan goes_on uses s of ∙ ap (λ b. if b then (s, endings.Done) else behind_round (items_of plan (round plan.workers) s) (all_rounds plan)) going
+    ∙ ap (λ y. behind_round y (all_rounds plan)) is
+
+-- a round that makes an event or a misuse comes before the end
+pub round_at_end : (plan : Plan) (s : State) → IsStateOf plan s → has_ended plan s ≡ true → items_of plan (round plan.workers) s ≡ (s, steps.Still)
+round_at_end plan s of ended = no_turns plan s (ended_next plan s of ended) (range_with_len 0 plan.workers)
+
+-- a round that makes an event leaves less to do
+pub round_less : (plan : Plan) → GoesOn plan → UsesUp plan → (s t : State) → IsStateOf plan s → items_of plan (round plan.workers) s ≡ (t, steps.Made) → left_to_do plan t < left_to_do plan s
+round_less plan goes_on uses s t of is = subst (ItemsUse plan s) is (round_uses plan goes_on uses s of)
+
+pub round_same : (plan : Plan) → GoesOn plan → UsesUp plan → (s t : State) → IsStateOf plan s → items_of plan (round plan.workers) s ≡ (t, steps.Still) → t ≡ s
+round_same plan goes_on uses s t of is = subst (ItemsUse plan s) is (round_uses plan goes_on uses s of)
+
+pub round_of : (plan : Plan) → GoesOn plan → (s t : State) (step : Step) → IsStateOf plan s → items_of plan (round plan.workers) s ≡ (t, step) → IsStateOf plan t
+round_of plan goes_on s t step of is = subst (λ x. IsStateOf plan x.0) is (round_valid plan goes_on s of)
+
+-- where a round comes to something, not every script had ended
+pub going_before : (plan : Plan) (s t : State) (step : Step) → IsStateOf plan s → items_of plan (round plan.workers) s ≡ (t, step) → (steps.Still ≡ step → ⊥) → has_ended plan s ≡ false
+going_before plan s t step of is some = elim (has_ended plan s) as (λ b. has_ended plan s ≡ b → b ≡ false) [
+  | true ↦ λ e. absurd (some (ap (λ (x : State × Step). x.1) (sym (round_at_end plan s of e) ∙ is)))
+  | false ↦ λ e. refl
 ] refl
 
-goes_on : (plan : Plan) (first s : State) (n : ℕ) → IsStateOf plan s → left plan.scripts s.replies ≤ n → has_ended plan s ≡ false
-    → after_items plan (turning.rounds n plan.workers) s ≡ after_items plan (turning.rounds (call_count plan.scripts) plan.workers) first → IsOnTheWay plan first (after_items plan (round plan.workers) s)
-goes_on plan first s zero of enough going same =
-    let some : 0 < left plan.scripts s.replies = some_left plan s going in
-    absurd (omega arith)
-goes_on plan first s (suc n) of enough going same = record {
-  of = items_of plan (round plan.workers) s of;
-  rounds = n;
-  enough = omega (arith, round_falls plan s of);
-  same = sym (after_items-append plan (round plan.workers) (turning.rounds n plan.workers) s) ∙ same;
-}
-
-pub one_round : (plan : Plan) (first s : State) → IsOnTheWay plan first s → has_ended plan s ≡ false → IsOnTheWay plan first (after_items plan (round plan.workers) s)
-one_round plan first s way going = goes_on plan first s way.rounds way.of way.enough going way.same
-
-pub round_smaller : (plan : Plan) (s : State) → IsStateOf plan s → has_ended plan s ≡ false → left plan.scripts (after_items plan (round plan.workers) s).replies < left plan.scripts s.replies
-round_smaller plan s of going = omega (arith, round_falls plan s of, some_left plan s going)
-
--- ---- the end of a run
-
-pub ends_in : (plan : Plan) (n : ℕ) (s : State) → IsStateOf plan s → left plan.scripts s.replies ≤ n → has_ended plan (after_items plan (turning.rounds n plan.workers) s) ≡ true
-ends_in plan zero s of enough = ended_where plan s (λ k below. none_next plan k s (left_none plan.scripts s.replies (omega arith) k))
-ends_in plan (suc n) s of enough =
-    let next = after_items plan (round plan.workers) s in
-    let rest : has_ended plan (after_items plan (turning.rounds n plan.workers) next) ≡ true = ends_in plan n next (items_of plan (round plan.workers) s of) (omega (arith, round_falls plan s of)) in
-    subst (λ (t : State). has_ended plan t ≡ true) (sym (after_items-append plan (round plan.workers) (turning.rounds n plan.workers) s)) rest
-
-pub order_ends : (plan : Plan) → is_valid plan ≡ true → has_ended plan (after_items plan (order plan) (start plan)) ≡ true
-order_ends plan valid =
-    let scheduled = after_items plan plan.schedule (start plan) in
-    let of = items_of plan plan.schedule (start plan) (start_is plan valid) in
-    subst (λ (t : State). has_ended plan t ≡ true) (sym (after_items-append plan plan.schedule (turning.rounds (call_count plan.scripts) plan.workers) (start plan)))
-    (ends_in plan (call_count plan.scripts) scheduled of (left_bound plan.scripts scheduled.replies))
-
+-- replies for all calls where every script has ended
 same_lengths : (scripts : List (List Call)) (replies : List (List Reply)) → length replies ≡ length scripts → ((k : ℕ) → length (get_or replies k []) ≡ length (get_or scripts k [])) → map length replies ≡ map length scripts
 same_lengths [] [] e each = refl
 same_lengths [] (r ∷ rs) e each = absurd (omega arith)
@@ -192,12 +185,6 @@ same_lengths (c ∷ cs) (r ∷ rs) e each =
     let first : length r ≡ length c = each 0 in
     λ i. first i ∷ rest i
 
-pub done_at_end : (plan : Plan) (s : State) → IsStateOf plan s → has_ended plan s ≡ true
-    → (report : Report) × (outcome_of plan s ≡ outcomes.Done report) × (map length report.replies ≡ map length plan.scripts)
-done_at_end plan s of ended =
-    let report : Report = record { replies = s.replies; ends = ends_of s.objects } in
-    let missing : Report = record { replies = s.replies; ends = [] } in (
-      report,
-      ap (λ (b : Bool). cond b (outcomes.Done report) (outcomes.Deadlocked missing)) ended,
-      same_lengths plan.scripts s.replies (of.workers ∙ sym (valid_scripts plan of.valid)) (λ k. omega (arith, none_where plan s of ended k, of.within k)),
-    )
+pub all_replied : (plan : Plan) (s : State) → IsStateOf plan s → has_ended plan s ≡ true → map length s.replies ≡ map length plan.scripts
+all_replied plan s of ended =
+    same_lengths plan.scripts s.replies (of.workers ∙ sym (valid_scripts plan of.valid)) (λ k. omega (arith, none_left_at plan k s (ended_next plan s of ended k), of.within k))

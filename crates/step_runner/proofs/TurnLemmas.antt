@@ -1,38 +1,36 @@
--- What turns do to a state, whatever the workload.
-use Rattle.std.proofs.Common.{◌≡◌, ◌≢◌, ℕ, zero, suc, ◌+◌, ◌-◌, ◌<◌, ◌≤◌, Bool, true, false, eqb, ◌&&◌, List, [], ◌∷◌, ◌++◌, map, length, get_or, set, replicate, Option, Some, None, refl, sym, ap, ◌∙◌, subst, inl, inr, arith}
-use Rattle.std.specs.Prelude.{slice_get}
+-- What one turn does to a state, whatever the workload.
+use Rattle.std.proofs.Common.{◌≡◌, ◌≢◌, ℕ, zero, suc, ◌+◌, ◌-◌, ◌*◌, ◌<◌, ◌≤◌, ◌⊎◌, Bool, true, false, eqb, ◌&&◌, List, [], ◌∷◌, ◌++◌, map, length, get_or, set, replicate, Option, Some, None, refl, sym, ap, ◌∙◌, subst, inl, inr, arith}
+use Rattle.std.specs.Prelude.{slice_get, sum_by}
 use Rattle.std.specs.List.{list_all}
-use Rattle.std.specs.Option.{option_map, option_map_or, unwrap_or}
-use Rattle.std.specs.FinMap.{entries}
+use Rattle.std.specs.Option.{option_map, option_map_or}
 use Rattle.std.proofs.lemmas.Bool.{eqb-true, eqb-false}
-use Rattle.std.proofs.lemmas.List.{length-set, length-append, length-replicate, get_or-set_same, get_or-set_other}
-use Rattle.std.proofs.lemmas.Option.{slice_get-map, slice_get_past, slice_get_within, slice_get_cases, unwrap_or-slice_get}
+use Rattle.std.proofs.lemmas.List.{length-set, length-append, length-replicate, get_or-set_same, get_or-set_other, set-get_or}
+use Rattle.std.proofs.lemmas.List.Sums.{sum_by-cons, sum_by-set}
+use Rattle.std.proofs.lemmas.Option.{slice_get-map, slice_get_past, slice_get_within, slice_get_cases, get_or_from_slice_get}
 use Rattle.std.proofs.Math.Seq.{map-set_same}
 use Rattle.sync_model.specs.declared.call.Call.{Call}
 use Rattle.sync_model.specs.declared.call.Call.TheVariants as calls
 use Rattle.sync_model.specs.declared.call.Reply.{Reply}
-use Rattle.sync_model.specs.declared.call.Reply.TheVariants as replies
+use Rattle.sync_model.specs.declared.misuse.Misuse.{Misuse}
+use Rattle.sync_model.specs.declared.lock_call.MutexCall.{MutexCall}
+use Rattle.sync_model.specs.declared.lock_call.RwMutexCall.{RwMutexCall}
 use Rattle.sync_model.specs.declared.map_object.MapCall.{MapCall}
-use Rattle.sync_model.specs.declared.atomic_object.AtomicKind.{AtomicKind}
-use Rattle.sync_model.specs.declared.atomic_object.Number.{Number}
 use Rattle.sync_model.specs.declared.atomic_object.AtomicCall.{AtomicCall}
-use Rattle.sync_model.specs.SequentialMap.{map_reply, map_after}
-use Rattle.sync_model.specs.SequentialAtomic.{is_atomic_call, atomic_reply, atomic_after}
-use Rattle.sync_model.specs.SequentialAtomic as atomics
+use Rattle.sync_model.specs.declared.atomic_object.AtomicKind.{AtomicKind}
+use Rattle.sync_model.specs.SequentialAtomic.{is_atomic_call}
 use Rattle.workload.specs.declared.object.ObjectKind.{ObjectKind}
 use Rattle.workload.specs.declared.object.ObjectKind.TheVariants as kinds
 use Rattle.workload.specs.declared.object.ObjectLine.{ObjectLine}
-use Rattle.workload.specs.declared.turn.Turn.{Turn}
-use Rattle.workload.specs.declared.turn.Turn.TheVariants as items
 use Rattle.workload.specs.Plan.{Plan, object_of, has_call, is_on, is_turn, is_valid}
+use Rattle.step_runner.specs.declared.step.Answer.{Answer}
+use Rattle.step_runner.specs.declared.step.Answer.TheVariants as answers
+use Rattle.step_runner.specs.declared.step.Step.{Step}
+use Rattle.step_runner.specs.declared.step.Step.TheVariants as steps
 use Rattle.step_runner.specs.declared.object_state.ObjectState.{ObjectState}
-use Rattle.step_runner.specs.declared.object_state.ObjectState.TheVariants as states
-use Rattle.step_runner.specs.State.{State, start, new_object, new_objects, kind_of, with_reply, with_object, IsStateOf, IsOn}
-use Rattle.step_runner.specs.MapTurn.{map_turn, range_turn}
-use Rattle.step_runner.specs.AtomicTurn.{atomic_turn}
-use Rattle.step_runner.specs.Turns.{next_call, after_turn, after_turn_at, after_item, after_items}
-use Rattle.step_runner.proofs.AtomicTypes.{after_type, zero_type}
-use Rattle.step_runner.proofs.Left.{left_at}
+use Rattle.step_runner.specs.State.{State, kind_of, with_reply, IsStateOf, IsLockOf}
+use Rattle.step_runner.specs.Turns.{next_call, turn_on, with_object, turn_at, settled, settled_with, turn_of}
+use Rattle.step_runner.specs.LeftToDo.{object_left, calls_left, left_to_do}
+use Rattle.step_runner.proofs.ObjectTurns.{MutexLaw, RwLaw, MutexUses, RwUses, Keeps, turn_keeps, Uses, turn_uses}
 
 -- what two tests that pass together say
 pub both : (a b : Bool) → (a && b) ≡ true → (a ≡ true) × (b ≡ true)
@@ -46,16 +44,28 @@ both_true false b e f = absurd cc
 pub true_false : true ≡ false → ⊥
 true_false e = cc
 
+-- an element is found behind a write: it stood there before, or is the one written
+pub set_get : {X : Type 0} (xs : List X) (i k : ℕ) (next found : X) → slice_get (set xs i next) k ≡ Some found → (slice_get xs k ≡ Some found) ⊎ (next ≡ found)
+set_get [] i k next found e = inl e
+set_get (x ∷ xs) zero zero next found e = inr cc
+set_get (x ∷ xs) zero (suc k) next found e = inl e
+set_get (x ∷ xs) (suc i) zero next found e = inl e
+set_get (x ∷ xs) (suc i) (suc k) next found e = set_get xs i k next found e
+
+-- an element that is written back changes nothing
+pub set_back : {X : Type 0} (xs : List X) (i : ℕ) (x : X) → slice_get xs i ≡ Some x → set xs i x ≡ xs
+set_back xs i x at = subst (λ y. set xs i y ≡ xs) (get_or_from_slice_get xs i x x at) (set-get_or xs i x)
+
 -- ---- what a valid plan says of a call
 
-all_get : {X : Type 0} (p : X → Bool) (xs : List X) (i : ℕ) (x : X) → list_all p xs ≡ true → slice_get xs i ≡ Some x → p x ≡ true
+pub all_get : {X : Type 0} (p : X → Bool) (xs : List X) (i : ℕ) (x : X) → list_all p xs ≡ true → slice_get xs i ≡ Some x → p x ≡ true
 all_get p [] i x e is = absurd cc
 all_get p (y ∷ xs) zero x e is =
     let same : y ≡ x = cc in
     subst (λ z. p z ≡ true) same (both (p y) (list_all p xs) e).0
 all_get p (y ∷ xs) (suc i) x e is = all_get p xs i x (both (p y) (list_all p xs) e).1 is
 
-all_at : {X : Type 0} (p : X → Bool) (lists : List (List X)) (i : ℕ) → list_all (list_all p) lists ≡ true → list_all p (get_or lists i []) ≡ true
+pub all_at : {X : Type 0} (p : X → Bool) (lists : List (List X)) (i : ℕ) → list_all (list_all p) lists ≡ true → list_all p (get_or lists i []) ≡ true
 all_at p [] i e = refl
 all_at p (xs ∷ lists) zero e = (both (list_all p xs) (list_all (list_all p) lists) e).0
 all_at p (xs ∷ lists) (suc i) e = all_at p lists i (both (list_all p xs) (list_all (list_all p) lists) e).1
@@ -64,163 +74,53 @@ pub valid_scripts : (plan : Plan) → is_valid plan ≡ true → length plan.scr
 valid_scripts plan e =
     eqb-true (length plan.scripts) plan.workers (both (eqb (length plan.scripts) plan.workers) _ e).0
 
+abbrev on_plan : Plan → Call → Bool
+on_plan plan call = is_on (slice_get plan.objects (object_of call)) call
+
+valid_rest : (plan : Plan) → is_valid plan ≡ true → (list_all (list_all (on_plan plan)) plan.scripts ≡ true) × (list_all (is_turn plan.workers) plan.schedule ≡ true)
+valid_rest plan e =
+    both (list_all (list_all (on_plan plan)) plan.scripts) (list_all (is_turn plan.workers) plan.schedule)
+    (both (eqb (length plan.scripts) plan.workers) (list_all (list_all (on_plan plan)) plan.scripts && list_all (is_turn plan.workers) plan.schedule) e).1
+
+pub valid_schedule : (plan : Plan) → is_valid plan ≡ true → list_all (is_turn plan.workers) plan.schedule ≡ true
+valid_schedule plan e = (valid_rest plan e).1
+
 -- the call before which a worker stands is on an object that has it
 call_is_on : (plan : Plan) (worker : ℕ) (s : State) (call : Call) → is_valid plan ≡ true → next_call plan worker s ≡ Some call → is_on (slice_get plan.objects (object_of call)) call ≡ true
 call_is_on plan worker s call valid is =
-    let on : Call → Bool = λ c. is_on (slice_get plan.objects (object_of c)) c in
-    let all = (both (list_all (list_all on) plan.scripts) (list_all (is_turn plan.workers) plan.schedule) (both (eqb (length plan.scripts) plan.workers) _ valid).1).0 in
-    all_get on (get_or plan.scripts worker []) (length (get_or s.replies worker [])) call (all_at on plan.scripts worker all) is
+    all_get (on_plan plan) (get_or plan.scripts worker []) (length (get_or s.replies worker [])) call (all_at (on_plan plan) plan.scripts worker (valid_rest plan valid).0) is
 
 -- the kind of an object is the one that the plan says
-kind_there : (plan : Plan) (s : State) (object : ℕ) → IsStateOf plan s → option_map kind_of (slice_get s.objects object) ≡ option_map (λ (line : ObjectLine). line.kind) (slice_get plan.objects object)
+pub kind_there : (plan : Plan) (s : State) (object : ℕ) → IsStateOf plan s → option_map kind_of (slice_get s.objects object) ≡ option_map (λ (line : ObjectLine). line.kind) (slice_get plan.objects object)
 kind_there plan s object of =
     sym (slice_get-map kind_of s.objects object)
     ∙ ap (λ (ks : List ObjectKind). slice_get ks object) of.objects
     ∙ slice_get-map (λ (line : ObjectLine). line.kind) plan.objects object
 
-map_case : (kind : ObjectKind) (object : ℕ) (call : MapCall (List ℕ)) → has_call kind (calls.Map object call) ≡ true → Some kind ≡ Some kinds.Map
-map_case kinds.Map object call e = refl
-map_case (kinds.Atomic kind) object call e = absurd cc
-
--- the object of a map's call is a map
-map_kind : (o : Option ObjectLine) (object : ℕ) (call : MapCall (List ℕ)) → is_on o (calls.Map object call) ≡ true → option_map (λ (line : ObjectLine). line.kind) o ≡ Some kinds.Map
-map_kind None object call e = absurd cc
-map_kind (Some line) object call e = map_case line.kind object call e
-
-range_case : (kind : ObjectKind) (object : ℕ) → has_call kind (calls.Range object) ≡ true → Some kind ≡ Some kinds.Map
-range_case kinds.Map object e = refl
-range_case (kinds.Atomic kind) object e = absurd cc
-
--- and so is that of a `range`
-range_kind : (o : Option ObjectLine) (object : ℕ) → is_on o (calls.Range object) ≡ true → option_map (λ (line : ObjectLine). line.kind) o ≡ Some kinds.Map
-range_kind None object e = absurd cc
-range_kind (Some line) object e = range_case line.kind object e
-
--- a kind of object that has the call of an atomic
-abbrev HasAtomic : Option ObjectKind → AtomicCall → Type 0
-HasAtomic o call = (kind : AtomicKind) × (o ≡ Some (kinds.Atomic kind)) × (is_atomic_call kind call ≡ true)
-
-atomic_case : (kind : ObjectKind) (object : ℕ) (call : AtomicCall) → has_call kind (calls.Atomic object call) ≡ true → HasAtomic (Some kind) call
-atomic_case kinds.Map object call e = absurd cc
-atomic_case (kinds.Atomic kind) object call e = (kind, refl, e)
-
--- the object of an atomic's call is an atomic of a type that has it
-atomic_kind : (o : Option ObjectLine) (object : ℕ) (call : AtomicCall) → is_on o (calls.Atomic object call) ≡ true → HasAtomic (option_map (λ (line : ObjectLine). line.kind) o) call
-atomic_kind None object call e = absurd cc
-atomic_kind (Some line) object call e = atomic_case line.kind object call e
-
--- the object of the call before which a worker stands is there
-pub next_is_on : (plan : Plan) (worker : ℕ) (s : State) (call : Call) → IsStateOf plan s → next_call plan worker s ≡ Some call → IsOn call s
-next_is_on plan worker s (calls.Map object call) of is =
-    kind_there plan s object of ∙ map_kind (slice_get plan.objects object) object call (call_is_on plan worker s (calls.Map object call) of.valid is)
-next_is_on plan worker s (calls.Range object) of is =
-    kind_there plan s object of ∙ range_kind (slice_get plan.objects object) object (call_is_on plan worker s (calls.Range object) of.valid is)
-next_is_on plan worker s (calls.Atomic object call) of is =
-    subst (λ (o : Option ObjectKind). HasAtomic o call) (sym (kind_there plan s object of))
-    (atomic_kind (slice_get plan.objects object) object call (call_is_on plan worker s (calls.Atomic object call) of.valid is))
-
--- ---- one turn
-
--- a turn keeps what states keep, and takes a call from what its worker has left
-pub record IsTurn (plan : Plan) (worker : ℕ) (old new : State) : Type 0 where
-  pub of : IsStateOf plan new
-  pub own : left_at plan.scripts new.replies worker ≡ left_at plan.scripts old.replies worker - 1
-  pub others : (k : ℕ) → k ≢ worker → left_at plan.scripts new.replies k ≡ left_at plan.scripts old.replies k
-
-alike : (o : Option ObjectState) (next : ObjectState) → option_map kind_of o ≡ Some (kind_of next) → kind_of next ≡ kind_of (unwrap_or o next)
-alike None next e = absurd cc
-alike (Some object) next e = cc
-
--- a worker's call is completed, whatever became of the objects
-replies_more : (plan : Plan) (worker : ℕ) (s : State) (call : Call) (objects : List ObjectState) (reply : Reply)
-    → IsStateOf plan s → worker < plan.workers → next_call plan worker s ≡ Some call → map kind_of objects ≡ map kind_of s.objects
-    → IsTurn plan worker s (with_reply worker reply (record s { objects = objects }))
-replies_more plan worker s call objects reply of below is same =
-    let more = get_or s.replies worker [] ++ reply ∷ [] in
-    let here : worker < length s.replies = omega (arith, of.workers) in
-    let room : length (get_or s.replies worker []) < length (get_or plan.scripts worker []) = slice_get_within _ _ call is in
-    let own = ap (length {A = Reply}) (get_or-set_same s.replies worker more [] here) ∙ length-append (get_or s.replies worker []) (reply ∷ []) in
-    record {
-      of = record {
-        valid = of.valid;
-        objects = same ∙ of.objects;
-        workers = length-set s.replies worker more ∙ of.workers;
-        within = λ k. elim (eqb k worker) as (λ b. eqb k worker ≡ b → length (get_or (set s.replies worker more) k []) ≤ length (get_or plan.scripts k [])) [
-          | true ↦ λ e. let same : k ≡ worker = eqb-true k worker e in rw same (omega (arith, own, room))
-          | false ↦ λ e. let apart : k ≢ worker = eqb-false k worker e in rw get_or-set_other (of.within k)
-        ] refl;
-      };
-      own = omega (arith, own, room);
-      others = λ k other. ap (λ (done : List Reply). length (get_or plan.scripts k []) - length done) (get_or-set_other s.replies worker k more [] other);
-    }
-
--- a worker's call is completed, and an object's contents change
-completes : (plan : Plan) (worker : ℕ) (s : State) (call : Call) (object : ℕ) (next : ObjectState) (reply : Reply)
-    → IsStateOf plan s → worker < plan.workers → next_call plan worker s ≡ Some call → option_map kind_of (slice_get s.objects object) ≡ Some (kind_of next)
-    → IsTurn plan worker s (with_reply worker reply (with_object object next s))
-completes plan worker s call object next reply of below is there =
-    replies_more plan worker s call (set s.objects object next) reply of below is
-    (map-set_same kind_of s.objects object next next (alike (slice_get s.objects object) next there ∙ ap kind_of (unwrap_or-slice_get s.objects object next)))
-
--- nothing happens
-stays : (plan : Plan) (worker : ℕ) (s : State) → IsStateOf plan s → left_at plan.scripts s.replies worker ≡ 0 → IsTurn plan worker s s
-stays plan worker s of none = record { of = of; own = omega (arith, none); others = λ k other. refl }
-
--- ---- the turn at each kind of call
-
-map_turn_is : (plan : Plan) (worker : ℕ) (s : State) (object : ℕ) (call : MapCall (List ℕ)) → IsStateOf plan s → worker < plan.workers → next_call plan worker s ≡ Some (calls.Map object call)
-    → (o : Option ObjectState) → slice_get s.objects object ≡ o → option_map kind_of o ≡ Some kinds.Map → IsTurn plan worker s (map_turn o object call worker s)
-map_turn_is plan worker s object call of below is None at there = absurd cc
-map_turn_is plan worker s object call of below is (Some (states.Map m)) at there =
-    completes plan worker s (calls.Map object call) object (states.Map (map_after call m)) (replies.Map (map_reply call m)) of below is (ap (option_map kind_of) at)
-map_turn_is plan worker s object call of below is (Some (states.Atomic number)) at there = absurd cc
-
-range_turn_is : (plan : Plan) (worker : ℕ) (s : State) (object : ℕ) → IsStateOf plan s → worker < plan.workers → next_call plan worker s ≡ Some (calls.Range object)
-    → (o : Option ObjectState) → option_map kind_of o ≡ Some kinds.Map → IsTurn plan worker s (range_turn o worker s)
-range_turn_is plan worker s object of below is None there = absurd cc
-range_turn_is plan worker s object of below is (Some (states.Map m)) there =
-    replies_more plan worker s (calls.Range object) s.objects (replies.Pairs (entries m)) of below is refl
-range_turn_is plan worker s object of below is (Some (states.Atomic number)) there = absurd cc
-
--- the types of an atomic and of the kind that has its call
-pub type_is : (number : Number) (kind : AtomicKind) → Some (kinds.Atomic (atomics.kind_of number)) ≡ Some (kinds.Atomic kind) → atomics.kind_of number ≡ kind
-type_is number kind e = cc
-
-atomic_turn_is : (plan : Plan) (worker : ℕ) (s : State) (object : ℕ) (call : AtomicCall) → IsStateOf plan s → worker < plan.workers → next_call plan worker s ≡ Some (calls.Atomic object call)
-    → (o : Option ObjectState) → slice_get s.objects object ≡ o → HasAtomic (option_map kind_of o) call → IsTurn plan worker s (atomic_turn o object call worker s)
-atomic_turn_is plan worker s object call of below is None at on = absurd (let e = on.1 in cc)
-atomic_turn_is plan worker s object call of below is (Some (states.Map m)) at on = absurd (let e = on.1 in cc)
-atomic_turn_is plan worker s object call of below is (Some (states.Atomic number)) at on =
-    let has : is_atomic_call (atomics.kind_of number) call ≡ true = subst (λ (kind : AtomicKind). is_atomic_call kind call ≡ true) (sym (type_is number on.0 on.1)) on.2 in
-    completes plan worker s (calls.Atomic object call) object (states.Atomic (atomic_after call number)) (replies.Atomic (atomic_reply call number)) of below is
-    (ap (option_map kind_of) at ∙ ap (λ (kind : AtomicKind). Some (kinds.Atomic kind)) (sym (after_type call number has)))
-
-turn_at_is : (plan : Plan) (worker : ℕ) (s : State) (call : Call) → IsStateOf plan s → worker < plan.workers → next_call plan worker s ≡ Some call → IsTurn plan worker s (after_turn_at call worker s)
-turn_at_is plan worker s (calls.Map object call) of below is =
-    map_turn_is plan worker s object call of below is (slice_get s.objects object) refl (next_is_on plan worker s (calls.Map object call) of is)
-turn_at_is plan worker s (calls.Range object) of below is =
-    range_turn_is plan worker s object of below is (slice_get s.objects object) (next_is_on plan worker s (calls.Range object) of is)
-turn_at_is plan worker s (calls.Atomic object call) of below is =
-    atomic_turn_is plan worker s object call of below is (slice_get s.objects object) refl (next_is_on plan worker s (calls.Atomic object call) of is)
-
--- ---- any turn
-
+-- where no call is next, none is left
 some_none : {X : Type 0} (x : X) → Some x ≡ None → ⊥
 some_none x e = cc
 
--- no call is left where none is next
-pub none_left : (plan : Plan) (worker : ℕ) (s : State) → next_call plan worker s ≡ None → left_at plan.scripts s.replies worker ≡ 0
-none_left plan worker s is =
-    let script = get_or plan.scripts worker [] in
-    let done = length (get_or s.replies worker []) in
-    elim (slice_get_cases script done).1 as (λ c. length script - done ≡ 0) [
-      | inl found ↦ absurd (some_none found.0 (sym found.2 ∙ is))
-      | inr past ↦ omega (arith, past.0)
-    ]
+-- an object that has the call
+abbrev Has : Option ObjectState → Call → Type 0
+Has o call = (object : ObjectState) × (o ≡ Some object) × (has_call (kind_of object) call ≡ true)
 
--- and back
-pub none_next : (plan : Plan) (worker : ℕ) (s : State) → left_at plan.scripts s.replies worker ≡ 0 → next_call plan worker s ≡ None
-none_next plan worker s none = slice_get_past (get_or plan.scripts worker []) (length (get_or s.replies worker [])) (omega (arith, none))
+found : (o : Option ObjectState) (l : Option ObjectLine) (call : Call) → option_map kind_of o ≡ option_map (λ (line : ObjectLine). line.kind) l → is_on l call ≡ true → Has o call
+found None None call e on = absurd cc
+found None (Some line) call e on = absurd cc
+found (Some object) None call e on = absurd cc
+found (Some object) (Some line) call e on =
+    let same : kind_of object ≡ line.kind = cc in
+    (object, refl, subst (λ kind. has_call kind call ≡ true) (sym same) on)
+
+-- ---- the cases of a turn
+
+-- a worker stands before the call, whose object holds this
+pub record Stands (plan : Plan) (worker : ℕ) (s : State) (call : Call) (object : ObjectState) : Type 0 where
+  pub next : next_call plan worker s ≡ Some call
+  pub at : slice_get s.objects (object_of call) ≡ Some object
+  pub has : has_call (kind_of object) call ≡ true
+  pub below : worker < plan.workers
 
 in_range : (scripts : List (List Call)) (worker : ℕ) → 0 < length (get_or scripts worker []) → worker < length scripts
 in_range [] worker some = absurd (omega arith)
@@ -228,76 +128,187 @@ in_range (script ∷ scripts) zero some = omega arith
 in_range (script ∷ scripts) (suc worker) some = omega (arith, in_range scripts worker some)
 
 -- a worker that has a call left is there
-is_there : (plan : Plan) (worker : ℕ) (s : State) (call : Call) → IsStateOf plan s → next_call plan worker s ≡ Some call → worker < plan.workers
-is_there plan worker s call of is =
+is_there : (plan : Plan) (worker : ℕ) (s : State) (call : Call) → is_valid plan ≡ true → next_call plan worker s ≡ Some call → worker < plan.workers
+is_there plan worker s call valid is =
     let room : length (get_or s.replies worker []) < length (get_or plan.scripts worker []) = slice_get_within _ _ call is in
     let there : worker < length plan.scripts = in_range plan.scripts worker (omega arith) in
-    omega (arith, there, valid_scripts plan of.valid)
+    omega (arith, there, valid_scripts plan valid)
 
-turn_is : (plan : Plan) (worker : ℕ) (s : State) → IsStateOf plan s → (o : Option Call) → next_call plan worker s ≡ o → IsTurn plan worker s (option_map_or (λ call. after_turn_at call worker s) o s)
-turn_is plan worker s of None is = stays plan worker s of (none_left plan worker s is)
-turn_is plan worker s of (Some call) is = turn_at_is plan worker s call of (is_there plan worker s call of is) is
+pub stands : (plan : Plan) (worker : ℕ) (s : State) (call : Call) → IsStateOf plan s → next_call plan worker s ≡ Some call → (object : ObjectState) × Stands plan worker s call object
+stands plan worker s call of is =
+    let has = found (slice_get s.objects (object_of call)) (slice_get plan.objects (object_of call)) call (kind_there plan s (object_of call) of) (call_is_on plan worker s call of.valid is) in
+    (has.0, record { next = is; at = has.1; has = has.2; below = is_there plan worker s call of.valid is })
 
-pub after_turn_is : (plan : Plan) (worker : ℕ) (s : State) → IsStateOf plan s → IsTurn plan worker s (after_turn plan worker s)
-after_turn_is plan worker s of = turn_is plan worker s of (next_call plan worker s) refl
+-- the state with what the turn makes of the object
+abbrev pub moved : Call → ℕ → ObjectState → State → State
+moved call worker object s = record s { objects = set s.objects (object_of call) (turn_on call worker s.moment object).0 }
 
-turn_at_next : (plan : Plan) (worker : ℕ) (s : State) (call : Call) → next_call plan worker s ≡ Some call → after_turn plan worker s ≡ after_turn_at call worker s
-turn_at_next plan worker s call is = ap (λ o. option_map_or (λ call. after_turn_at call worker s) o s) is
+turn_at_is : (call : Call) (worker moment : ℕ) (objects : List ObjectState) (object : ObjectState) → slice_get objects (object_of call) ≡ Some object
+    → turn_at call worker moment objects ≡ with_object (object_of call) objects (turn_on call worker moment object)
+turn_at_is call worker moment objects object at = ap (λ o. option_map_or (λ object. with_object (object_of call) objects (turn_on call worker moment object)) o (objects, answers.Still)) at
 
-pub no_turn : (plan : Plan) (worker : ℕ) (s : State) → left_at plan.scripts s.replies worker ≡ 0 → after_turn plan worker s ≡ s
-no_turn plan worker s none = ap (λ o. option_map_or (λ call. after_turn_at call worker s) o s) (none_next plan worker s none)
+-- a turn, by what it makes of the object of the call
+pub turn_is : (plan : Plan) (worker : ℕ) (s : State) (call : Call) (object : ObjectState) → Stands plan worker s call object
+    → turn_of plan worker s ≡ settled worker (turn_on call worker s.moment object).1 (moved call worker object s)
+turn_is plan worker s call object st =
+    ap (λ o. option_map_or (λ call. settled_with worker (turn_at call worker s.moment s.objects) s) o (s, steps.Still)) st.next
+    ∙ ap (λ (step : List ObjectState × Answer). settled_with worker step s) (turn_at_is call worker s.moment s.objects object st.at)
 
-pub turn_at_of : (plan : Plan) (worker : ℕ) (s : State) (call : Call) → IsStateOf plan s → next_call plan worker s ≡ Some call → IsStateOf plan (after_turn_at call worker s)
-turn_at_of plan worker s call of is = subst (IsStateOf plan) (turn_at_next plan worker s call is) (after_turn_is plan worker s of).of
+-- by what the turn is answered
+pub record Cases (P : State × Step → Type 0) (plan : Plan) (worker : ℕ) (s : State) : Type 0 where
+  pub ended : next_call plan worker s ≡ None → P (s, steps.Still)
+  pub still : (call : Call) (object : ObjectState) → Stands plan worker s call object → (turn_on call worker s.moment object).1 ≡ answers.Still → P (moved call worker object s, steps.Still)
+  pub waits : (call : Call) (object : ObjectState) → Stands plan worker s call object → (turn_on call worker s.moment object).1 ≡ answers.Waits → P (moved call worker object s, steps.Made)
+  pub completed : (call : Call) (object : ObjectState) (reply : Reply) → Stands plan worker s call object → (turn_on call worker s.moment object).1 ≡ answers.Completed reply → P (with_reply worker reply (moved call worker object s), steps.Made)
+  pub misused : (call : Call) (object : ObjectState) (misuse : Misuse) → Stands plan worker s call object → (turn_on call worker s.moment object).1 ≡ answers.Misused misuse → P (moved call worker object s, steps.Misused misuse)
 
--- ---- many turns
+by_answer : (P : State × Step → Type 0) (plan : Plan) (worker : ℕ) (s : State) → Cases P plan worker s → (call : Call) (object : ObjectState) → Stands plan worker s call object
+    → (a : Answer) → (turn_on call worker s.moment object).1 ≡ a → P (settled worker a (moved call worker object s))
+by_answer P plan worker s cases call object st answers.Still is = cases.still call object st is
+by_answer P plan worker s cases call object st answers.Waits is = cases.waits call object st is
+by_answer P plan worker s cases call object st (answers.Completed reply) is = cases.completed call object reply st is
+by_answer P plan worker s cases call object st (answers.Misused misuse) is = cases.misused call object misuse st is
 
-pub after_items-append : (plan : Plan) (first rest : List Turn) (s : State) → after_items plan (first ++ rest) s ≡ after_items plan rest (after_items plan first s)
-after_items-append plan [] rest s = refl
-after_items-append plan (item ∷ first) rest s = after_items-append plan first rest (after_item plan item s)
+by_next : (P : State × Step → Type 0) (plan : Plan) (worker : ℕ) (s : State) → IsStateOf plan s → Cases P plan worker s → (o : Option Call) → next_call plan worker s ≡ o
+    → P (option_map_or (λ call. settled_with worker (turn_at call worker s.moment s.objects) s) o (s, steps.Still))
+by_next P plan worker s of cases None is = cases.ended is
+by_next P plan worker s of cases (Some call) is =
+    let st = stands plan worker s call of is in
+    subst (λ (step : List ObjectState × Answer). P (settled_with worker step s)) (sym (turn_at_is call worker s.moment s.objects st.0 st.1.at))
+    (by_answer P plan worker s cases call st.0 st.1 (turn_on call worker s.moment st.0).1 refl)
 
-item_of : (plan : Plan) (item : Turn) (s : State) → IsStateOf plan s → IsStateOf plan (after_item plan item s)
-item_of plan (items.Worker worker) s of = (after_turn_is plan worker s of).of
-item_of plan (items.Moment moment) s of = of
+pub turn_cases : (P : State × Step → Type 0) (plan : Plan) (worker : ℕ) (s : State) → IsStateOf plan s → Cases P plan worker s → P (turn_of plan worker s)
+turn_cases P plan worker s of cases = by_next P plan worker s of cases (next_call plan worker s) refl
 
-pub items_of : (plan : Plan) (items : List Turn) (s : State) → IsStateOf plan s → IsStateOf plan (after_items plan items s)
-items_of plan [] s of = of
-items_of plan (item ∷ items) s of = items_of plan items (after_item plan item s) (item_of plan item s of)
+-- ---- the state behind a turn
 
--- ---- the start
+pub moved_of : MutexLaw → RwLaw → (plan : Plan) (worker : ℕ) (s : State) (call : Call) (object : ObjectState) → IsStateOf plan s → Stands plan worker s call object → IsStateOf plan (moved call worker object s)
+moved_of mutex_law rw_law plan worker s call object of st =
+    let next = (turn_on call worker s.moment object).0 in
+    let keeps = turn_keeps mutex_law rw_law plan.workers call worker s.moment object st.has in
+    record {
+      valid = of.valid;
+      objects = map-set_same kind_of s.objects (object_of call) next next (keeps.kind ∙ ap kind_of (sym (get_or_from_slice_get s.objects (object_of call) object next st.at))) ∙ of.objects;
+      locks = λ place other is. elim (set_get s.objects (object_of call) place next other is) [
+        | inl old ↦ of.locks place other old
+        | inr new ↦ subst (IsLockOf plan.workers) new (keeps.lock (of.locks (object_of call) object st.at))
+      ];
+      workers = of.workers;
+      within = of.within;
+    }
 
-new_kind : (kind : ObjectKind) → kind_of (new_object kind) ≡ kind
-new_kind kinds.Map = refl
-new_kind (kinds.Atomic kind) = ap (λ (type : AtomicKind). kinds.Atomic type) (zero_type kind)
+-- one reply more
+pub replied_more : (worker : ℕ) (reply : Reply) (s : State) → worker < length s.replies → length (get_or (with_reply worker reply s).replies worker []) ≡ length (get_or s.replies worker []) + 1
+replied_more worker reply s here =
+    let more = get_or s.replies worker [] ++ reply ∷ [] in
+    ap (length {A = Reply}) (get_or-set_same s.replies worker more [] here) ∙ length-append (get_or s.replies worker []) (reply ∷ [])
 
-new_kinds : (lines : List ObjectLine) → map kind_of (new_objects lines) ≡ map (λ (line : ObjectLine). line.kind) lines
-new_kinds [] = refl
-new_kinds (line ∷ lines) = λ i. new_kind line.kind i ∷ new_kinds lines i
+pub replied_other : (worker other : ℕ) (reply : Reply) (s : State) → other ≢ worker → get_or (with_reply worker reply s).replies other [] ≡ get_or s.replies other []
+replied_other worker other reply s apart = get_or-set_other s.replies worker other (get_or s.replies worker [] ++ reply ∷ []) [] apart
 
-pub none_yet : (n k : ℕ) → length (get_or (replicate {A = List Reply} n []) k []) ≡ 0
-none_yet zero k = refl
-none_yet (suc n) zero = refl
-none_yet (suc n) (suc k) = none_yet n k
-
-pub start_is : (plan : Plan) → is_valid plan ≡ true → IsStateOf plan (start plan)
-start_is plan valid = record {
-  valid = valid;
-  objects = new_kinds plan.objects;
-  workers = length-replicate plan.workers [];
-  within = λ k. omega (arith, none_yet plan.workers k);
-}
-
--- ---- the calls of one worker
-
--- how many replies a turn adds
-pub count_own : (plan : Plan) (worker : ℕ) (s : State) (call : Call) → IsStateOf plan s → next_call plan worker s ≡ Some call
-    → length (get_or (after_turn plan worker s).replies worker []) ≡ length (get_or s.replies worker []) + 1
-count_own plan worker s call of is =
+pub replied_of : (plan : Plan) (worker : ℕ) (s : State) (call : Call) (reply : Reply) → IsStateOf plan s → worker < plan.workers → next_call plan worker s ≡ Some call → IsStateOf plan (with_reply worker reply s)
+replied_of plan worker s call reply of below is =
+    let here : worker < length s.replies = omega (arith, of.workers) in
     let room : length (get_or s.replies worker []) < length (get_or plan.scripts worker []) = slice_get_within _ _ call is in
-    let turn = after_turn_is plan worker s of in
-    omega (arith, turn.own, turn.of.within worker, room)
+    let own = replied_more worker reply s here in
+    record {
+      valid = of.valid;
+      objects = of.objects;
+      locks = of.locks;
+      workers = length-set s.replies worker (get_or s.replies worker [] ++ reply ∷ []) ∙ of.workers;
+      within = λ k. elim (eqb k worker) as (λ b. eqb k worker ≡ b → length (get_or (with_reply worker reply s).replies k []) ≤ length (get_or plan.scripts k [])) [
+        | true ↦ λ e. let same : k ≡ worker = eqb-true k worker e in rw same (omega (arith, own, room))
+        | false ↦ λ e. let apart : k ≢ worker = eqb-false k worker e in omega (arith, ap (length {A = Reply}) (replied_other worker k reply s apart), of.within k)
+      ] refl;
+    }
 
-pub count_other : (plan : Plan) (worker other : ℕ) (s : State) → IsStateOf plan s → other ≢ worker → length (get_or (after_turn plan worker s).replies other []) ≡ length (get_or s.replies other [])
-count_other plan worker other s of apart =
-    let turn = after_turn_is plan worker s of in
-    omega (arith, turn.others other apart, turn.of.within other, of.within other)
+-- a turn keeps what states keep
+pub turn_valid : MutexLaw → RwLaw → (plan : Plan) (worker : ℕ) (s : State) → IsStateOf plan s → IsStateOf plan (turn_of plan worker s).0
+turn_valid mutex_law rw_law plan worker s of = turn_cases (λ step. IsStateOf plan step.0) plan worker s of (record {
+  ended = λ is. of;
+  still = λ call object st is. moved_of mutex_law rw_law plan worker s call object of st;
+  waits = λ call object st is. moved_of mutex_law rw_law plan worker s call object of st;
+  completed = λ call object reply st is. replied_of plan worker (moved call worker object s) call reply (moved_of mutex_law rw_law plan worker s call object of st) st.below st.next;
+  misused = λ call object misuse st is. moved_of mutex_law rw_law plan worker s call object of st;
+})
+
+-- ---- what is left to do behind a turn
+
+sum_within : (scripts : List (List Call)) (replies : List (List Reply)) → ((k : ℕ) → length (get_or replies k []) ≤ length (get_or scripts k [])) → sum_by length replies ≤ sum_by length scripts
+sum_within [] [] within = omega arith
+sum_within [] (done ∷ replies) within = omega (arith, within 0, sum_within [] replies (λ k. within (suc k)), sum_by-cons (length {A = Reply}) done replies)
+sum_within (script ∷ scripts) [] within = omega arith
+sum_within (script ∷ scripts) (done ∷ replies) within =
+    omega (arith, within 0, sum_within scripts replies (λ k. within (suc k)), sum_by-cons (length {A = Reply}) done replies, sum_by-cons (length {A = Call}) script scripts)
+
+replied_left : (plan : Plan) (worker : ℕ) (s : State) (reply : Reply) → worker < length s.replies → IsStateOf plan (with_reply worker reply s) → calls_left plan (with_reply worker reply s) + 1 ≡ calls_left plan s
+replied_left plan worker s reply here of =
+    let more = get_or s.replies worker [] ++ reply ∷ [] in
+    let sum = sum_by-set (length {A = Reply}) s.replies worker more [] here in
+    let within = sum_within plan.scripts (with_reply worker reply s).replies of.within in
+    omega (arith, sum, within, length-append (get_or s.replies worker []) (reply ∷ []))
+
+moved_left : (plan : Plan) (worker : ℕ) (s : State) (call : Call) (object : ObjectState) → Stands plan worker s call object
+    → sum_by object_left (moved call worker object s).objects + object_left object ≡ sum_by object_left s.objects + object_left (turn_on call worker s.moment object).0
+moved_left plan worker s call object st =
+    let next = (turn_on call worker s.moment object).0 in
+    ap (λ o. sum_by object_left (moved call worker object s).objects + object_left o) (sym (get_or_from_slice_get s.objects (object_of call) object object st.at))
+    ∙ sum_by-set object_left s.objects (object_of call) next object (slice_get_within s.objects (object_of call) object st.at)
+
+-- no event: the state stays; an event: less is left to do; a misuse: no call is completed
+abbrev pub StepUses : Plan → State → State × Step → Type 0
+StepUses plan s (t, steps.Still) = t ≡ s
+StepUses plan s (t, steps.Made) = left_to_do plan t < left_to_do plan s
+StepUses plan s (t, steps.Misused misuse) = t.replies ≡ s.replies
+
+pub turn_used : MutexLaw → RwLaw → MutexUses → RwUses → (plan : Plan) (worker : ℕ) (s : State) → IsStateOf plan s → StepUses plan s (turn_of plan worker s)
+turn_used mutex_law rw_law mutex_uses rw_uses plan worker s of = turn_cases (StepUses plan s) plan worker s of (record {
+  ended = λ is. refl;
+  still = λ call object st is.
+      let back : (turn_on call worker s.moment object).0 ≡ object = uses call object st answers.Still is in
+      ap (λ (objects : List ObjectState). record s { objects = objects }) (ap (set s.objects (object_of call)) back ∙ set_back s.objects (object_of call) object st.at);
+  waits = λ call object st is. omega (arith, uses call object st answers.Waits is, moved_left plan worker s call object st);
+  completed = λ call object reply st is.
+      let valid = moved_of mutex_law rw_law plan worker s call object of st in
+      let fewer = replied_left plan worker (moved call worker object s) reply (omega (arith, of.workers, st.below)) (replied_of plan worker (moved call worker object s) call reply valid st.below st.next) in
+      omega (arith, uses call object st (answers.Completed reply) is, moved_left plan worker s call object st, fewer);
+  misused = λ call object misuse st is. refl;
+})
+  where
+    uses : (call : Call) (object : ObjectState) → Stands plan worker s call object → (a : Answer) → (turn_on call worker s.moment object).1 ≡ a → Uses object (turn_on call worker s.moment object).0 a
+    uses call object st a is = subst (Uses object (turn_on call worker s.moment object).0) is (turn_uses mutex_uses rw_uses plan.workers call worker s.moment object (of.locks (object_of call) object st.at))
+
+-- ---- the object of the call before which a worker stands
+
+pub map_kind : (kind : ObjectKind) (place : ℕ) (call : MapCall (List ℕ)) → has_call kind (calls.Map place call) ≡ true → kind ≡ kinds.Map
+map_kind kinds.Map place call has = refl
+map_kind (kinds.Atomic kind) place call has = absurd cc
+map_kind kinds.Mutex place call has = absurd cc
+map_kind kinds.RwMutex place call has = absurd cc
+
+pub range_kind : (kind : ObjectKind) (place : ℕ) → has_call kind (calls.Range place) ≡ true → kind ≡ kinds.Map
+range_kind kinds.Map place has = refl
+range_kind (kinds.Atomic kind) place has = absurd cc
+range_kind kinds.Mutex place has = absurd cc
+range_kind kinds.RwMutex place has = absurd cc
+
+abbrev pub AtomicKindOf : ObjectKind → AtomicCall → Type 0
+AtomicKindOf k call = (kind : AtomicKind) × (k ≡ kinds.Atomic kind) × (is_atomic_call kind call ≡ true)
+
+pub atomic_kind : (kind : ObjectKind) (place : ℕ) (call : AtomicCall) → has_call kind (calls.Atomic place call) ≡ true → AtomicKindOf kind call
+atomic_kind kinds.Map place call has = absurd cc
+atomic_kind (kinds.Atomic kind) place call has = (kind, refl, has)
+atomic_kind kinds.Mutex place call has = absurd cc
+atomic_kind kinds.RwMutex place call has = absurd cc
+
+pub mutex_kind : (kind : ObjectKind) (place : ℕ) (call : MutexCall) → has_call kind (calls.Mutex place call) ≡ true → kind ≡ kinds.Mutex
+mutex_kind kinds.Map place call has = absurd cc
+mutex_kind (kinds.Atomic kind) place call has = absurd cc
+mutex_kind kinds.Mutex place call has = refl
+mutex_kind kinds.RwMutex place call has = absurd cc
+
+pub rw_kind : (kind : ObjectKind) (place : ℕ) (call : RwMutexCall) → has_call kind (calls.RwMutex place call) ≡ true → kind ≡ kinds.RwMutex
+rw_kind kinds.Map place call has = absurd cc
+rw_kind (kinds.Atomic kind) place call has = absurd cc
+rw_kind kinds.Mutex place call has = absurd cc
+rw_kind kinds.RwMutex place call has = refl

@@ -8,10 +8,12 @@ use Rattle.step_runner.specs.declared.object_state.ObjectState.TheVariants as st
 use Rattle.step_runner.specs.declared.ends.End.{End}
 use Rattle.step_runner.specs.declared.ends.End.TheVariants.{Number, Pair}
 
--- the number of an object at a place, which a map hasn't
+-- the number of an object at a place: only an atomic has one
 abbrev pub numbers_of : ℕ → ObjectState → List End
 numbers_of object (states.Map m) = []
 numbers_of object (states.Atomic number) = Number object number ∷ []
+numbers_of object (states.Mutex m) = []
+numbers_of object (states.RwMutex m) = []
 
 -- the number of each atomic in order of declaration, from a place on
 abbrev pub numbers_from : ℕ → List ObjectState → List End
@@ -22,10 +24,12 @@ numbers_from place (object ∷ objects) = numbers_of place object ++ numbers_fro
 abbrev pub map_ends : ℕ → FinMap (slice_cmp nat_cmp) ℕ → List End
 map_ends object m = map (λ entry. Pair object entry.0 entry.1) (entries m)
 
--- the pairs of an object at a place, which an atomic hasn't
+-- the pairs of an object at a place: only a map has any
 abbrev pub pairs_of : ℕ → ObjectState → List End
 pairs_of object (states.Map m) = map_ends object m
 pairs_of object (states.Atomic number) = []
+pairs_of object (states.Mutex m) = []
+pairs_of object (states.RwMutex m) = []
 
 -- the pairs of each map in order of declaration, from a place on
 abbrev pub pairs_from : ℕ → List ObjectState → List End

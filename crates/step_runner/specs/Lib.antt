@@ -1,7 +1,11 @@
 pub mod AtomicTurn
 pub mod Ends
-pub mod MapTurn
+pub mod LeftToDo
 pub mod MadeCalls
+pub mod MapTurn
+pub mod MutexTurn
+pub mod Outcomes
 pub mod Pairs
+pub mod RwMutexTurn
 pub mod State
 pub mod Turns

@@ -1,21 +1,20 @@
--- The turn of a worker that stands before a call of a map.
-use Rattle.std.specs.Prelude.{ℕ, List, Option, Some, None}
+-- The turns of a worker that stands before a call of a map: the whole call. An object of another kind has no such call.
+use Rattle.std.specs.Prelude.{ℕ, List}
 use Rattle.std.specs.FinMap.{entries}
 use Rattle.sync_model.specs.SequentialMap.{map_reply, map_after}
 use Rattle.sync_model.specs.declared.call.Reply.TheVariants as replies
 use Rattle.sync_model.specs.declared.map_object.MapCall.{MapCall}
+use Rattle.step_runner.specs.declared.step.Answer.{Answer}
+use Rattle.step_runner.specs.declared.step.Answer.TheVariants.{Completed, Still}
 use Rattle.step_runner.specs.declared.object_state.ObjectState.{ObjectState}
 use Rattle.step_runner.specs.declared.object_state.ObjectState.TheVariants as states
-use Rattle.step_runner.specs.State.{State, with_reply, with_object}
 
--- the whole call, on the map at the place; no other object has it
-abbrev pub map_turn : Option ObjectState → ℕ → MapCall (List ℕ) → ℕ → State → State
-map_turn None object call worker s = s
-map_turn (Some (states.Map m)) object call worker s = with_reply worker (replies.Map (map_reply call m)) (with_object object (states.Map (map_after call m)) s)
-map_turn (Some (states.Atomic number)) object call worker s = s
+-- a call on the map
+abbrev pub map_turn : MapCall (List ℕ) → ObjectState → ObjectState × Answer
+map_turn call (states.Map m) = (states.Map (map_after call m), Completed (replies.Map (map_reply call m)))
+map_turn call object = (object, Still)
 
--- the whole `range`, which shows the keys in byte order, each with its value, and changes no map
-abbrev pub range_turn : Option ObjectState → ℕ → State → State
-range_turn None worker s = s
-range_turn (Some (states.Map m)) worker s = with_reply worker (replies.Pairs (entries m)) s
-range_turn (Some (states.Atomic number)) worker s = s
+-- a `range`, which shows the keys in byte order, each with its value, and changes no map
+abbrev pub range_turn : ObjectState → ObjectState × Answer
+range_turn (states.Map m) = (states.Map m, Completed (replies.Pairs (entries m)))
+range_turn object = (object, Still)

@@ -13,6 +13,7 @@ abbrev pub has_pairs_to : ℕ → Reply → Bool
 has_pairs_to most (replies.Map reply) = true
 has_pairs_to most (replies.Pairs pairs) = nat_le (length pairs) most
 has_pairs_to most (replies.Atomic reply) = true
+has_pairs_to most (replies.Lock reply) = true
 
 -- what a run leaves behind
 abbrev pub left_by : Outcome → Report

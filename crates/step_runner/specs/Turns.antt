@@ -1,67 +1,134 @@
 -- The run of a workload by its schedule: who takes a turn when, what a turn does, and what it comes to.
-use Rattle.std.specs.Prelude.{ℕ, zero, suc, Bool, not, List, [], ◌∷◌, ◌++◌, map, length, get_or, slice_get, Option, is_some, cond}
+use Rattle.std.specs.Prelude.{ℕ, zero, suc, ◌+◌, Bool, not, List, [], ◌∷◌, ◌++◌, map, length, get_or, set, slice_get, Option, is_some, if◌then◌else◌}
 use Rattle.std.specs.List.{list_all, range_with_len}
 use Rattle.std.specs.Option.{option_map_or}
 use Rattle.sync_model.specs.declared.call.Call.{Call}
 use Rattle.sync_model.specs.declared.call.Call.TheVariants as calls
 use Rattle.workload.specs.declared.turn.Turn.{Turn}
 use Rattle.workload.specs.declared.turn.Turn.TheVariants as items
-use Rattle.workload.specs.Plan.{Plan}
-use Rattle.workload.specs.Draft.{call_count}
+use Rattle.workload.specs.Plan.{Plan, object_of}
+use Rattle.step_runner.specs.declared.step.Answer.{Answer}
+use Rattle.step_runner.specs.declared.step.Answer.TheVariants as answers
+use Rattle.step_runner.specs.declared.step.Step.{Step}
+use Rattle.step_runner.specs.declared.step.Step.TheVariants as steps
+use Rattle.step_runner.specs.declared.outcome.Ending.{Ending}
+use Rattle.step_runner.specs.declared.outcome.Ending.TheVariants as endings
 use Rattle.step_runner.specs.declared.outcome.Outcome.{Outcome}
-use Rattle.step_runner.specs.declared.outcome.Outcome.TheVariants.{Done, Deadlocked}
-use Rattle.step_runner.specs.State.{State, start}
+use Rattle.step_runner.specs.declared.outcome.Outcome.TheVariants as outcomes
+use Rattle.step_runner.specs.declared.object_state.ObjectState.{ObjectState}
+use Rattle.step_runner.specs.State.{State, start, with_reply, with_moment}
 use Rattle.step_runner.specs.MapTurn.{map_turn, range_turn}
 use Rattle.step_runner.specs.AtomicTurn.{atomic_turn}
+use Rattle.step_runner.specs.MutexTurn.{mutex_turn}
+use Rattle.step_runner.specs.RwMutexTurn.{rw_mutex_turn}
+use Rattle.step_runner.specs.LeftToDo.{left_to_do}
 use Rattle.step_runner.specs.Ends.{ends_of}
+
+-- ---- a turn
 
 -- the call before which a worker stands, unless its script has ended
 abbrev pub next_call : Plan → ℕ → State → Option Call
 next_call plan worker s = slice_get (get_or plan.scripts worker []) (length (get_or s.replies worker []))
 
--- the state after a turn of a worker that stands before the call
-abbrev pub after_turn_at : Call → ℕ → State → State
-after_turn_at (calls.Map object call) worker s = map_turn (slice_get s.objects object) object call worker s
-after_turn_at (calls.Range object) worker s = range_turn (slice_get s.objects object) worker s
-after_turn_at (calls.Atomic object call) worker s = atomic_turn (slice_get s.objects object) object call worker s
+-- the turn of a worker that stands before the call, at a moment, as the call's object has it
+abbrev pub turn_on : Call → ℕ → ℕ → ObjectState → ObjectState × Answer
+turn_on (calls.Map object call) worker moment = map_turn call
+turn_on (calls.Range object) worker moment = range_turn
+turn_on (calls.Atomic object call) worker moment = atomic_turn call
+turn_on (calls.Mutex object call) worker moment = mutex_turn call worker moment
+turn_on (calls.RwMutex object call) worker moment = rw_mutex_turn call worker moment
 
--- the state after a turn of a worker: one whose script has ended makes no event
-abbrev pub after_turn : Plan → ℕ → State → State
-after_turn plan worker s = option_map_or (λ call. after_turn_at call worker s) (next_call plan worker s) s
+-- it leaves every other object alone
+abbrev pub with_object : ℕ → List ObjectState → ObjectState × Answer → List ObjectState × Answer
+with_object place objects step = (set objects place step.0, step.1)
 
--- the state after an item of a schedule: a moment sets the clock, which no call reads yet
-abbrev pub after_item : Plan → Turn → State → State
-after_item plan (items.Worker worker) s = after_turn plan worker s
-after_item plan (items.Moment moment) s = s
+abbrev pub turn_at : Call → ℕ → ℕ → List ObjectState → List ObjectState × Answer
+turn_at call worker moment objects =
+    option_map_or (λ object. with_object (object_of call) objects (turn_on call worker moment object)) (slice_get objects (object_of call)) (objects, answers.Still)
 
--- the state after items, taken in order
+-- what an answer means for the worker and for the run
+abbrev pub settled : ℕ → Answer → State → State × Step
+settled worker answers.Still s = (s, steps.Still)
+settled worker answers.Waits s = (s, steps.Made)
+settled worker (answers.Completed reply) s = (with_reply worker reply s, steps.Made)
+settled worker (answers.Misused misuse) s = (s, steps.Misused misuse)
+
+abbrev pub settled_with : ℕ → List ObjectState × Answer → State → State × Step
+settled_with worker step s = settled worker step.1 (record s { objects = step.0 })
+
+-- a turn of a worker: one whose script has ended makes no event
+abbrev pub turn_of : Plan → ℕ → State → State × Step
+turn_of plan worker s = option_map_or (λ call. settled_with worker (turn_at call worker s.moment s.objects) s) (next_call plan worker s) (s, steps.Still)
+
+-- ---- turns in order
+
+-- an item of a schedule: a worker takes a turn, or the clock is set, which is no event
+abbrev pub item_of : Plan → Turn → State → State × Step
+item_of plan (items.Worker worker) s = turn_of plan worker s
+item_of plan (items.Moment moment) s = (with_moment moment s, steps.Still)
+
+-- an event was made before
+abbrev pub with_event : State × Step → State × Step
+with_event (s, steps.Still) = (s, steps.Made)
+with_event (s, steps.Made) = (s, steps.Made)
+with_event (s, steps.Misused misuse) = (s, steps.Misused misuse)
+
+-- what follows takes place unless a turn was a misuse
+abbrev pub and_then : State × Step → (State → State × Step) → State × Step
+and_then (s, steps.Still) rest = rest s
+and_then (s, steps.Made) rest = with_event (rest s)
+and_then (s, steps.Misused misuse) rest = (s, steps.Misused misuse)
+
+-- items, taken in order
+abbrev pub items_of : Plan → List Turn → State → State × Step
+items_of plan [] s = (s, steps.Still)
+items_of plan (item ∷ rest) s = and_then (item_of plan item s) (items_of plan rest)
+
+-- the state behind them
 abbrev pub after_items : Plan → List Turn → State → State
-after_items plan [] s = s
-after_items plan (item ∷ rest) s = after_items plan rest (after_item plan item s)
+after_items plan items s = (items_of plan items s).0
+
+-- ---- the run
 
 -- a round: each worker from 0 up takes one turn
 abbrev pub round : ℕ → List Turn
 round workers = map (λ worker. items.Worker worker) (range_with_len 0 workers)
 
-abbrev pub rounds : ℕ → ℕ → List Turn
-rounds zero workers = []
-rounds (suc n) workers = round workers ++ rounds n workers
-
--- the order of the turns: the schedule, and then rounds, of which as many as there are calls suffice
-abbrev pub order : Plan → List Turn
-order plan = plan.schedule ++ rounds (call_count plan.scripts) plan.workers
-
 -- whether every script has ended: no worker stands before a call
 abbrev pub has_ended : Plan → State → Bool
 has_ended plan s = list_all (λ worker. not (is_some (next_call plan worker s))) (range_with_len 0 plan.workers)
 
--- what a run comes to whose last state is this one
-abbrev pub outcome_of : Plan → State → Outcome
-outcome_of plan s =
-    cond (has_ended plan s)
-    (Done (record { replies = s.replies; ends = ends_of s.objects }))
-    (Deadlocked (record { replies = s.replies; ends = [] }))
+-- how a run ends or goes on behind a round
+abbrev pub behind_round : State × Step → (State → State × Ending) → State × Ending
+behind_round (s, steps.Still) rest = (s, endings.Deadlocked)
+behind_round (s, steps.Made) rest = rest s
+behind_round (s, steps.Misused misuse) rest = (s, endings.Misused misuse)
+
+-- rounds until the run ends, so many at most
+abbrev pub rounds_of : ℕ → Plan → State → State × Ending
+rounds_of zero plan s = (s, endings.Deadlocked)
+rounds_of (suc n) plan s = if has_ended plan s then (s, endings.Done) else behind_round (items_of plan (round plan.workers) s) (rounds_of n plan)
+
+-- as many as suffice: each round makes an event, and each event lowers what is left to do
+abbrev pub all_rounds : Plan → State → State × Ending
+all_rounds plan s = rounds_of (left_to_do plan s + 1) plan s
+
+-- what is behind the schedule
+abbrev pub behind_schedule : Plan → State × Step → State × Ending
+behind_schedule plan (s, steps.Still) = all_rounds plan s
+behind_schedule plan (s, steps.Made) = all_rounds plan s
+behind_schedule plan (s, steps.Misused misuse) = (s, endings.Misused misuse)
+
+-- the schedule's items in order, and then rounds
+abbrev pub whole_run : Plan → State × Ending
+whole_run plan = behind_schedule plan (items_of plan plan.schedule (start plan))
+
+-- what the run leaves behind
+abbrev pub outcome_of : State × Ending → Outcome
+outcome_of (s, endings.Done) = outcomes.Done (record { replies = s.replies; ends = ends_of s.objects })
+outcome_of (s, endings.Misused misuse) = outcomes.Misused (record { replies = s.replies; ends = [] }) misuse
+outcome_of (s, endings.Deadlocked) = outcomes.Deadlocked (record { replies = s.replies; ends = [] })
 
 -- what the run by the schedule comes to
 abbrev pub turns : Plan → Outcome
-turns plan = outcome_of plan (after_items plan (order plan) (start plan))
+turns plan = outcome_of (whole_run plan)

@@ -28,11 +28,11 @@ fn push_numbers(ends: &mut Seq<End>, objects: &[ObjectState]) -> Result<(), Allo
 {
     for (object, held) in objects.iter().enumerate() {
         match held {
-            ObjectState::Map(_) => {}
             ObjectState::Atomic(number) => ends.push(End::Number {
                 object,
                 number: *number,
             })?,
+            _ => {}
         }
     }
     Ok(())
@@ -60,7 +60,7 @@ fn push_pairs(alloc: Global, ends: &mut Seq<End>, objects: &[ObjectState]) -> Re
     for (object, held) in objects.iter().enumerate() {
         match held {
             ObjectState::Map(map) => push_map(alloc, ends, object, map)?,
-            ObjectState::Atomic(_) => {}
+            _ => {}
         }
     }
     Ok(())

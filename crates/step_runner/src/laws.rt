@@ -1,51 +1,116 @@
 //! What every run by schedule keeps.
-ghost use Rattle.std.specs.Prelude.{◌≡◌, ◌≤◌, ℕ, true, List, [], Some, map, length, take, get_or, slice_get};
+ghost use Rattle.std.specs.Prelude.{◌≡◌, ◌↔◌, ◌+◌, ◌<◌, ◌≤◌, ℕ, true, List, [], Some, map, length, take, get_or, slice_get};
 ghost use Rattle.std.specs.List.{list_all, list_any};
 ghost use Rattle.std.specs.Str.{bytes_eq};
 ghost use Rattle.std.specs.Ordering.{nat_cmp};
 ghost use Rattle.std.specs.Cmp.Lexicographic.{slice_cmp};
 ghost use Rattle.std.specs.FinMap.{FinMap, contains_key};
 ghost use Rattle.sync_model.specs.declared.atomic_object.Number.{Number};
+ghost use Rattle.sync_model.specs.declared.misuse.Misuse.{Misuse};
 ghost use Rattle.sync_model.specs.SequentialAtomic as atomics;
 ghost use Rattle.sync_model.specs.SequentialAtomic.{is_of};
+ghost use Rattle.mutex_core.specs.MutexMachine as mutex;
+ghost use Rattle.rw_core.specs.RwMachine as rw;
 ghost use Rattle.workload.specs.Draft.{all_keys, distinct_count};
 ghost use Rattle.workload.specs.declared.turn.Turn.{Turn};
 ghost use Rattle.workload.specs.Plan.{Plan, is_valid};
+ghost use Rattle.step_runner.specs.declared.step.Step.TheVariants as steps;
 ghost use Rattle.step_runner.specs.declared.outcome.Report.{Report};
 ghost use Rattle.step_runner.specs.declared.outcome.Outcome.TheVariants as outcomes;
 ghost use Rattle.step_runner.specs.declared.object_state.ObjectState.TheVariants as states;
+ghost use Rattle.step_runner.specs.LeftToDo.{left_to_do};
 ghost use Rattle.step_runner.specs.Pairs.{has_pairs_to};
 ghost use Rattle.step_runner.specs.MadeCalls.{made_calls, calls_of};
-ghost use Rattle.step_runner.specs.State.{State, IsStateOf, start, kind_of};
-ghost use Rattle.step_runner.specs.Turns.{after_items, order, has_ended, turns};
+ghost use Rattle.step_runner.specs.Outcomes.{IsDone, IsMisused, IsDeadlocked, never_waits};
+ghost use Rattle.step_runner.specs.State.{State, IsStateOf, start, kind_of, with_moment};
+ghost use Rattle.step_runner.specs.Turns.{turn_of, items_of, after_items, has_ended, rounds_of, all_rounds, turns};
 
 use sync_model::laws::atomics::calls_keep_the_type;
 
-/// Every run ends: as many rounds as there are calls suffice. The outcome is Done, and each worker has
-/// as many replies as calls.
-pub fn every_script_ends()
-    ensures ended { (plan : Plan) → is_valid plan ≡ true → has_ended plan (after_items plan (order plan) (start plan)) ≡ true }
-    ensures done { (plan : Plan) → is_valid plan ≡ true → (report : Report) × (turns plan ≡ outcomes.Done report) × (map length report.replies ≡ map length plan.scripts) }
-{}
+/// What is true of the state in which a run begins stays true with each turn, and so at every moment:
+/// each object is of the kind that the workload says, each lock is in a state that its machine comes to,
+/// and no worker has more replies than its script has calls.
+pub fn validity()
+    ensures begins { (plan : Plan) → is_valid plan ≡ true → IsStateOf plan (start plan) }
+    ensures goes_on { (plan : Plan) (worker : ℕ) (state : State) → IsStateOf plan state → IsStateOf plan (turn_of plan worker state).0 }
+    ensures always { (plan : Plan) (items : List Turn) → is_valid plan ≡ true → IsStateOf plan (after_items plan items (start plan)) }
+{
+    mutex_core::laws::validity();
+    rw_core::laws::validity();
+}
+
+/// A turn without an event changes nothing, and each event lowers what is left to do. A misuse completes
+/// no call.
+pub fn events_use_something_up()
+    ensures still { (plan : Plan) (worker : ℕ) (old new : State) → IsStateOf plan old → turn_of plan worker old ≡ (new, steps.Still) → new ≡ old }
+    ensures made { (plan : Plan) (worker : ℕ) (old new : State) → IsStateOf plan old → turn_of plan worker old ≡ (new, steps.Made) → left_to_do plan new < left_to_do plan old }
+    ensures misused { (plan : Plan) (worker : ℕ) (old new : State) (misuse : Misuse) → IsStateOf plan old → turn_of plan worker old ≡ (new, steps.Misused misuse) → new.replies ≡ old.replies }
+{
+    mutex_core::laws::validity();
+    rw_core::laws::validity();
+    mutex_core::laws::events_are_used_up();
+    rw_core::laws::events_are_used_up();
+}
+
+/// Every run ends, in one of the three ways: one round more than is left to do is enough, and any more
+/// rounds come to the same.
+pub fn runs_come_to_rest()
+    ensures { (plan : Plan) (state : State) (rounds : ℕ) → IsStateOf plan state → left_to_do plan state < rounds → rounds_of rounds plan state ≡ all_rounds plan state }
+{
+    validity();
+    events_use_something_up();
+}
+
+/// A run is Done exactly where its schedule and some whole rounds bring every script to its end, and then
+/// each call has its reply; it is Misused exactly where one of their turns is a misuse; and it is
+/// Deadlocked exactly where a whole round behind them makes no event while a script has calls left.
+pub fn outcomes_are_exact()
+    ensures done { (plan : Plan) (report : Report) → is_valid plan ≡ true → turns plan ≡ outcomes.Done report ↔ IsDone plan report }
+    ensures misused { (plan : Plan) (report : Report) (misuse : Misuse) → is_valid plan ≡ true → turns plan ≡ outcomes.Misused report misuse ↔ IsMisused plan report misuse }
+    ensures deadlocked { (plan : Plan) (report : Report) → is_valid plan ≡ true → turns plan ≡ outcomes.Deadlocked report ↔ IsDeadlocked plan report }
+    ensures complete { (plan : Plan) (report : Report) → is_valid plan ≡ true → turns plan ≡ outcomes.Done report → map length report.replies ≡ map length plan.scripts }
+{
+    validity();
+    events_use_something_up();
+}
+
+/// Where every call is on a map or an atomic the run is Done, and each worker has as many replies as
+/// calls.
+pub fn scripts_that_never_wait_end()
+    ensures { (plan : Plan) → is_valid plan ≡ true → list_all (list_all never_waits) plan.scripts ≡ true
+        → (report : Report) × (turns plan ≡ outcomes.Done report) × (map length report.replies ≡ map length plan.scripts) }
+{
+    validity();
+    events_use_something_up();
+}
 
 /// At no moment has a worker more replies than its script has calls.
 pub fn replies_stay_within_scripts()
     ensures { (plan : Plan) (items : List Turn) (worker : ℕ) → is_valid plan ≡ true → length (get_or (after_items plan items (start plan)).replies worker []) ≤ length (get_or plan.scripts worker []) }
-{}
+{
+    validity();
+}
 
-/// At every moment the calls that a worker has made are the first of its script, in order, as many as
-/// it has replies.
+/// At every moment the calls that a worker has completed are the first of its script, in order, as many
+/// as it has replies.
 pub fn calls_are_made_in_order()
     ensures { (plan : Plan) (items : List Turn) (worker : ℕ) → is_valid plan ≡ true → calls_of worker (made_calls plan items (start plan)) ≡ take (length (get_or (after_items plan items (start plan)).replies worker [])) (get_or plan.scripts worker []) }
-{}
+{
+    validity();
+}
 
-/// At every moment each object is of the kind that the workload says, and an atomic holds a number in the
-/// range of its type.
+/// At every moment each object is of the kind that the workload says, an atomic holds a number in the
+/// range of its type, and a lock is in a state that its machine comes to, with the workers as its callers.
 pub fn objects_keep_their_kinds()
     ensures kinds { (plan : Plan) (items : List Turn) → is_valid plan ≡ true → map kind_of (after_items plan items (start plan)).objects ≡ map (λ line. line.kind) plan.objects }
     ensures ranges { (plan : Plan) (items : List Turn) (object : ℕ) (number : Number) → is_valid plan ≡ true → slice_get (after_items plan items (start plan)).objects object ≡ Some (states.Atomic number)
         → is_of (atomics.kind_of number) number ≡ true }
+    ensures mutexes { (plan : Plan) (items : List Turn) (object : ℕ) (m : mutex.State) → is_valid plan ≡ true → slice_get (after_items plan items (start plan)).objects object ≡ Some (states.Mutex m)
+        → mutex.IsValid m × (m.callers ≡ plan.workers) }
+    ensures rw_mutexes { (plan : Plan) (items : List Turn) (object : ℕ) (m : rw.State) → is_valid plan ≡ true → slice_get (after_items plan items (start plan)).objects object ≡ Some (states.RwMutex m)
+        → rw.IsValid m × (m.callers ≡ plan.workers) }
 {
+    validity();
     calls_keep_the_type();
 }
 
@@ -60,7 +125,9 @@ pub fn pairs_are_few()
     ensures { (plan : Plan) (items : List Turn) → list_all (list_all (has_pairs_to (distinct_count (all_keys plan.scripts)))) (after_items plan items (start plan)).replies ≡ true }
 {}
 
-/// Once every script has ended, nothing that is left of the schedule has an effect.
+/// Once every script has ended, nothing that is left of the schedule makes an event or has an effect, but
+/// that the clock may be set.
 pub fn nothing_follows_the_end()
-    ensures { (plan : Plan) (state : State) (items : List Turn) → IsStateOf plan state → has_ended plan state ≡ true → after_items plan items state ≡ state }
+    ensures { (plan : Plan) (state : State) (items : List Turn) → IsStateOf plan state → has_ended plan state ≡ true
+        → (moment : ℕ) × (items_of plan items state ≡ (with_moment moment state, steps.Still)) }
 {}

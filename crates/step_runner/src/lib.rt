@@ -6,16 +6,20 @@ pub mod atomic_turn;
 pub mod ends;
 pub mod laws;
 pub mod map_turn;
+pub mod mutex_turn;
 pub mod object_state;
 pub mod outcome;
 pub mod run;
+pub mod rw_mutex_turn;
 pub mod state;
+pub mod step;
 pub mod turn;
 
 pub use ends::End;
 pub use object_state::ObjectState;
-pub use outcome::{Outcome, Report};
+pub use outcome::{Ending, Outcome, Report};
 pub use run::stepped;
+pub use step::{Answer, Step};
 
 #[cfg(test)]
 mod tests;

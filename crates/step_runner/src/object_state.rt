@@ -1,8 +1,10 @@
 //! The objects of a run.
-ghost use Rattle.std.specs.Prelude.{◌≡◌};
+ghost use Rattle.std.specs.Prelude.{◌≡◌, ◌≤◌, IfOk};
 ghost use Rattle.step_runner.specs.State.{new_object};
 
-use std::alloc::Global;
+use mutex_core::MutexCore;
+use rw_core::RwCore;
+use std::alloc::{AllocError, Global};
 use sync_model::{ByName, Number};
 use workload::ObjectKind;
 
@@ -13,16 +15,24 @@ pub enum ObjectState {
     Map(ByName<u64>),
     /// The number of an atomic, which is of the atomic's type.
     Atomic(Number),
+    /// The machine of a mutex, whose callers are the workers.
+    Mutex(MutexCore),
+    /// The machine of a reader/writer mutex, whose callers are the workers.
+    RwMutex(RwCore),
 }
 
 impl ObjectState {
-    /// An object as a run begins with it. It takes no memory.
-    pub fn new(alloc: Global, kind: ObjectKind) -> Self
-        ensures { result ≡ new_object kind }
+    /// An object as a run of so many workers begins with it.
+    pub fn new(alloc: Global, workers: u32, kind: ObjectKind) -> Result<Self, AllocError>
+        requires some { 1 ≤ workers }
+        requires few { workers ≤ 64 }
+        ensures { IfOk result (λ object. object ≡ new_object workers kind) }
     {
         match kind {
-            ObjectKind::Map => ObjectState::Map(ByName::new(alloc)),
-            ObjectKind::Atomic(kind) => ObjectState::Atomic(kind.zero()),
+            ObjectKind::Map => Ok(ObjectState::Map(ByName::new(alloc))),
+            ObjectKind::Atomic(kind) => Ok(ObjectState::Atomic(kind.zero())),
+            ObjectKind::Mutex => Ok(ObjectState::Mutex(MutexCore::new(alloc, workers)?)),
+            ObjectKind::RwMutex => Ok(ObjectState::RwMutex(RwCore::new(alloc, workers)?)),
         }
     }
 }

@@ -2,6 +2,17 @@
 use crate::ends::End;
 use sync_model::{Misuse, Reply, Seq};
 
+/// How a run ends.
+#[derive(Clone, Copy, Debug, PartialEq, Eq)]
+pub enum Ending {
+    /// Every script has ended.
+    Done,
+    /// A turn was a misuse, which ended the run at once.
+    Misused(Misuse),
+    /// A whole round made no event while a script had calls left.
+    Deadlocked,
+}
+
 /// What a run leaves behind.
 #[derive(Debug, Drop)]
 pub struct Report {
@@ -11,14 +22,14 @@ pub struct Report {
     pub ends: Seq<End>,
 }
 
-/// How a run ends.
+/// How a run ends, with what it leaves behind.
 #[derive(Debug, Drop)]
 pub enum Outcome {
     /// Every script has ended.
     Done(Report),
-    /// A turn was a misuse, which ended the run at once. No call of today's kinds of objects can be one.
+    /// A turn was a misuse, which ended the run at once. That call isn't completed.
     Misused(Report, Misuse),
-    /// A whole round made no event while a script had calls left. No call of today's kinds of objects
-    /// waits, so this can't come yet.
+    /// A whole round made no event while a script had calls left: all workers that have calls left wait
+    /// for each other, or for one that has ended its script.
     Deadlocked(Report),
 }

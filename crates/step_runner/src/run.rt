@@ -1,43 +1,77 @@
 //! The run of a workload by its schedule.
-ghost use Rattle.std.specs.Prelude.{◌≡◌, true, IfOk, OnOk};
-ghost use Rattle.workload.specs.Draft.{call_count};
+ghost use Rattle.std.specs.Prelude.{◌≡◌, true, IfOk};
+ghost use Rattle.workload.specs.Plan.{is_turn};
 ghost use Rattle.step_runner.specs.Pairs.{has_few_pairs};
 ghost use Rattle.step_runner.specs.State.{IsStateOf};
-ghost use Rattle.step_runner.specs.Turns.{after_items, round, rounds, has_ended, outcome_of, turns};
+ghost use Rattle.step_runner.specs.Turns.{item_of, items_of, round, has_ended, all_rounds, behind_schedule, outcome_of, turns};
 
 use crate::ends::ends;
-use crate::outcome::{Outcome, Report};
+use crate::laws;
+use crate::outcome::{Ending, Outcome, Report};
 use crate::state::State;
+use crate::step::Step;
 use crate::turn::{next_call, take_turn};
 use std::alloc::{AllocError, Global};
 use sync_model::Seq;
 use workload::{Turn, Workload};
 
-/// Takes the items of the schedule in order. A moment has no effect: no call reads the clock yet.
-fn take_schedule(alloc: Global, workload: &Workload, state: &mut State) -> Result<(), AllocError>
-    requires { IsStateOf workload.now state.old }
-    ensures after { OnOk result (state.new ≡ after_items workload.now workload.now.schedule state.old) }
-    ensures of { OnOk result (IsStateOf workload.now state.new) }
+/// Takes an item of the schedule. A moment sets the clock, which is no event.
+fn take_item(
+    alloc: Global,
+    workload: &Workload,
+    item: Turn,
+    state: &mut State,
+) -> Result<Step, AllocError>
+    requires of { IsStateOf workload.now state.old }
+    requires item { is_turn workload.now.workers item ≡ true }
+    ensures item { IfOk result (λ step. item_of workload.now item state.old ≡ (state.new, step)) }
+    ensures of { IfOk result (λ _. IsStateOf workload.now state.new) }
 {
-    for item in workload.schedule() {
-        match item {
-            Turn::Worker(worker) => take_turn(alloc, workload, *worker, state)?,
-            Turn::Moment(_) => {}
+    match item {
+        Turn::Worker(worker) => take_turn(alloc, workload, worker, state),
+        Turn::Moment(moment) => {
+            state.moment = moment;
+            Ok(Step::Still)
         }
     }
-    Ok(())
 }
 
-/// Takes a round: each worker from 0 up takes one turn.
-fn take_round(alloc: Global, workload: &Workload, state: &mut State) -> Result<(), AllocError>
+/// Takes the items of the schedule in order, to the first misuse.
+fn take_schedule(
+    alloc: Global,
+    workload: &Workload,
+    state: &mut State,
+) -> Result<Step, AllocError>
     requires { IsStateOf workload.now state.old }
-    ensures after { OnOk result (state.new ≡ after_items workload.now (round workload.now.workers) state.old) }
-    ensures of { OnOk result (IsStateOf workload.now state.new) }
+    ensures items { IfOk result (λ step. items_of workload.now workload.now.schedule state.old ≡ (state.new, step)) }
+    ensures of { IfOk result (λ _. IsStateOf workload.now state.new) }
 {
-    for worker in 0..workload.workers() {
-        take_turn(alloc, workload, worker, state)?;
+    let mut so_far = Step::Still;
+    for item in workload.schedule() {
+        match take_item(alloc, workload, *item, state)? {
+            Step::Still => {}
+            Step::Made => so_far = Step::Made,
+            Step::Misused(misuse) => return Ok(Step::Misused(misuse)),
+        }
     }
-    Ok(())
+    Ok(so_far)
+}
+
+/// Takes a round, to the first misuse: each worker from 0 up takes one turn.
+fn take_round(alloc: Global, workload: &Workload, state: &mut State) -> Result<Step, AllocError>
+    requires { IsStateOf workload.now state.old }
+    ensures items { IfOk result (λ step. items_of workload.now (round workload.now.workers) state.old ≡ (state.new, step)) }
+    ensures of { IfOk result (λ _. IsStateOf workload.now state.new) }
+{
+    let mut so_far = Step::Still;
+    for worker in 0..workload.workers() {
+        match take_turn(alloc, workload, worker, state)? {
+            Step::Still => {}
+            Step::Made => so_far = Step::Made,
+            Step::Misused(misuse) => return Ok(Step::Misused(misuse)),
+        }
+    }
+    Ok(so_far)
 }
 
 /// Whether every script has ended.
@@ -53,45 +87,69 @@ fn has_ended(workload: &Workload, state: &State) -> bool
     true
 }
 
-/// Takes rounds until every script has ended.
-fn take_rounds(alloc: Global, workload: &Workload, state: &mut State) -> Result<(), AllocError>
+/// Takes rounds until every script has ended, a turn is a misuse, or a whole round makes no event.
+fn take_rounds(alloc: Global, workload: &Workload, state: &mut State) -> Result<Ending, AllocError>
     requires { IsStateOf workload.now state.old }
-    ensures after { OnOk result (state.new ≡ after_items workload.now (rounds (call_count workload.now.scripts) workload.now.workers) state.old) }
-    ensures of { OnOk result (IsStateOf workload.now state.new) }
+    ensures { IfOk result (λ ending. all_rounds workload.now state.old ≡ (state.new, ending)) }
 {
+    laws::events_use_something_up();
+    laws::runs_come_to_rest();
     while !has_ended(workload, state) {
-        take_round(alloc, workload, state)?;
+        match take_round(alloc, workload, state)? {
+            Step::Still => return Ok(Ending::Deadlocked),
+            Step::Made => {}
+            Step::Misused(misuse) => return Ok(Ending::Misused(misuse)),
+        }
     }
-    Ok(())
+    Ok(Ending::Done)
 }
 
-/// What the run comes to whose last state this is.
-fn outcome(alloc: Global, workload: &Workload, state: State) -> Result<Outcome, AllocError>
-    requires { IsStateOf workload.now state }
-    ensures { IfOk result (λ outcome. outcome ≡ outcome_of workload.now state) }
+/// Takes the schedule, and behind it rounds unless a turn of the schedule was a misuse.
+fn take_all(alloc: Global, workload: &Workload, state: &mut State) -> Result<Ending, AllocError>
+    requires { IsStateOf workload.now state.old }
+    ensures { IfOk result (λ ending. behind_schedule workload.now (items_of workload.now workload.now.schedule state.old) ≡ (state.new, ending)) }
 {
-    let has_ended = has_ended(workload, &state);
-    let State { objects, replies } = state;
-    if has_ended {
-        let ends = ends(alloc, &objects)?;
-        Ok(Outcome::Done(Report { replies, ends }))
-    } else {
-        let ends = Seq::new(alloc);
-        Ok(Outcome::Deadlocked(Report { replies, ends }))
+    match take_schedule(alloc, workload, state)? {
+        Step::Still | Step::Made => take_rounds(alloc, workload, state),
+        Step::Misused(misuse) => Ok(Ending::Misused(misuse)),
+    }
+}
+
+/// What a run that ends in this state leaves behind.
+fn outcome(alloc: Global, state: State, ending: Ending) -> Result<Outcome, AllocError>
+    ensures { IfOk result (λ outcome. outcome ≡ outcome_of (state, ending)) }
+{
+    let State {
+        objects, replies, ..
+    } = state;
+    match ending {
+        Ending::Done => {
+            let ends = ends(alloc, &objects)?;
+            Ok(Outcome::Done(Report { replies, ends }))
+        }
+        Ending::Misused(misuse) => {
+            let ends = Seq::new(alloc);
+            Ok(Outcome::Misused(Report { replies, ends }, misuse))
+        }
+        Ending::Deadlocked => {
+            let ends = Seq::new(alloc);
+            Ok(Outcome::Deadlocked(Report { replies, ends }))
+        }
     }
 }
 
 /// Runs a workload by its schedule, on one thread.
 ///
-/// The schedule's items are taken in order: a worker's number gives that worker one turn. After the
-/// schedule come rounds, in which each worker from 0 up takes one turn, until every script has ended.
-/// Only want of memory is an `Err`. No reply shows more pairs than a workload may have keys.
+/// The schedule's items are taken in order: a worker's number gives that worker one turn, and a moment
+/// sets the clock, which stands at 0 before. After the schedule come rounds, in which each worker from 0
+/// up takes one turn. The run ends once every script has ended, at the first turn that is a misuse, or
+/// behind a round in which nobody made an event. Only want of memory is an `Err`. No reply shows more
+/// pairs than a workload may have keys.
 pub fn stepped(alloc: Global, workload: &Workload) -> Result<Outcome, AllocError>
     ensures outcome { IfOk result (λ outcome. outcome ≡ turns workload.now) }
     ensures pairs { IfOk result (λ outcome. has_few_pairs outcome ≡ true) }
 {
     let mut state = State::start(alloc, workload)?;
-    take_schedule(alloc, workload, &mut state)?;
-    take_rounds(alloc, workload, &mut state)?;
-    outcome(alloc, workload, state)
+    let ending = take_all(alloc, workload, &mut state)?;
+    outcome(alloc, state, ending)
 }

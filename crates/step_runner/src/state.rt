@@ -1,17 +1,21 @@
 //! What a run knows between two turns.
-ghost use Rattle.std.specs.Prelude.{◌≡◌, ◌<◌, [], length, get_or, replicate, IfOk, OnOk};
+ghost use Rattle.std.specs.Prelude.{◌≡◌, ◌<◌, ◌≤◌, [], length, get_or, replicate, IfOk, OnOk};
 ghost use Rattle.workload.specs.Readable.{IsReadable};
 ghost use Rattle.step_runner.specs.State.{IsStateOf, new_objects, start, with_reply};
+ghost use Rattle.step_runner.specs.Turns.{settled};
 
+use crate::laws;
 use crate::object_state::ObjectState;
+use crate::step::{Answer, Step};
 use std::alloc::{AllocError, Global};
 use std::marker::Model;
 use sync_model::{Reply, Seq};
 use workload::{ObjectLine, Workload};
 
-/// The objects, and for each worker the replies to its calls so far.
+/// The clock's moment, the objects, and for each worker the replies to its calls so far.
 #[derive(Debug, Drop)]
 pub struct State {
+    pub(crate) moment: u64,
     pub(crate) objects: Vec<ObjectState>,
     pub(crate) replies: Seq<Seq<Reply>>,
 }
@@ -25,16 +29,22 @@ impl Model for State {
 
     ghost coded = { Prim.hlevel (codes, object.the_row.coded) };
 
-    ghost view = { λ s. record { objects = s.objects.items; replies = s.replies } };
+    ghost view = { λ s. record { moment = s.moment; objects = s.objects.items; replies = s.replies } };
 }
 
-/// The objects of a workload as a run begins with them.
-fn new_objects(alloc: Global, lines: &[ObjectLine]) -> Result<Vec<ObjectState>, AllocError>
-    ensures { IfOk result (λ objects. objects.items ≡ new_objects lines.now) }
+/// The objects of a workload as a run of so many workers begins with them.
+fn new_objects(
+    alloc: Global,
+    workers: u32,
+    lines: &[ObjectLine],
+) -> Result<Vec<ObjectState>, AllocError>
+    requires some { 1 ≤ workers }
+    requires few { workers ≤ 64 }
+    ensures { IfOk result (λ objects. objects.items ≡ new_objects workers lines.now) }
 {
     let mut objects = Vec::new(alloc);
     for line in lines {
-        objects.push(ObjectState::new(alloc, line.kind))?;
+        objects.push(ObjectState::new(alloc, workers, line.kind)?)?;
     }
     Ok(objects)
 }
@@ -51,15 +61,21 @@ fn no_replies(alloc: Global, workers: u32) -> Result<Seq<Seq<Reply>>, AllocError
 }
 
 impl State {
-    /// The state in which a run begins.
+    /// The state in which a run begins. The clock stands at 0.
     pub fn start(alloc: Global, workload: &Workload) -> Result<Self, AllocError>
         ensures start { IfOk result (λ state. state ≡ start workload.now) }
         ensures of { IfOk result (IsStateOf workload.now) }
         ensures readable { IfOk result (λ _. IsReadable workload.now) }
     {
-        let objects = new_objects(alloc, workload.objects())?;
-        let replies = no_replies(alloc, workload.workers())?;
-        Ok(State { objects, replies })
+        laws::validity();
+        let workers = workload.workers();
+        let objects = new_objects(alloc, workers, workload.objects())?;
+        let replies = no_replies(alloc, workers)?;
+        Ok(State {
+            moment: 0,
+            objects,
+            replies,
+        })
     }
 
     /// How many calls of a worker are completed.
@@ -71,10 +87,26 @@ impl State {
     }
 
     /// Completes a worker's call with its reply.
-    pub fn complete(&mut self, worker: u32, reply: Reply) -> Result<(), AllocError>
+    fn complete(&mut self, worker: u32, reply: Reply) -> Result<(), AllocError>
         requires { worker < length self.old.replies }
         ensures { OnOk result (self.new ≡ with_reply worker reply self.old) }
     {
         self.replies.push_at(worker as usize, reply)
+    }
+
+    /// Settles what a turn means for its worker: only an answer that completes the call adds a reply.
+    pub fn settle(&mut self, worker: u32, answer: Answer) -> Result<Step, AllocError>
+        requires { worker < length self.old.replies }
+        ensures { IfOk result (λ step. settled worker answer self.old ≡ (self.new, step)) }
+    {
+        match answer {
+            Answer::Still => Ok(Step::Still),
+            Answer::Waits => Ok(Step::Made),
+            Answer::Completed(reply) => {
+                self.complete(worker, reply)?;
+                Ok(Step::Made)
+            }
+            Answer::Misused(misuse) => Ok(Step::Misused(misuse)),
+        }
     }
 }

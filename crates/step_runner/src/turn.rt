@@ -1,12 +1,18 @@
 //! One turn of a worker.
-ghost use Rattle.std.specs.Prelude.{◌≡◌, ◌<◌, length, OnOk};
+ghost use Rattle.std.specs.Prelude.{◌≡◌, ℕ, ◌<◌, true, IfOk};
 ghost use Rattle.std.specs.Option.{option_copied};
-ghost use Rattle.step_runner.specs.State.{IsStateOf, IsOn};
-ghost use Rattle.step_runner.specs.Turns.{next_call, after_turn_at, after_turn};
+ghost use Rattle.workload.specs.Plan.{object_of, has_call};
+ghost use Rattle.step_runner.specs.State.{IsStateOf, IsLockOf, kind_of};
+ghost use Rattle.step_runner.specs.Turns.{next_call, turn_on, turn_of};
 
 use crate::atomic_turn::take_atomic_turn;
+use crate::laws;
 use crate::map_turn::{take_map_turn, take_range_turn};
+use crate::mutex_turn::take_mutex_turn;
+use crate::object_state::ObjectState;
+use crate::rw_mutex_turn::take_rw_mutex_turn;
 use crate::state::State;
+use crate::step::{Answer, Step};
 use std::alloc::{AllocError, Global};
 use sync_model::Call;
 use workload::Workload;
@@ -20,38 +26,60 @@ pub fn next_call<'a>(workload: &'a Workload, worker: u32, state: &State) -> Opti
     workload.script(worker).get(state.completed(worker))
 }
 
-/// Takes a turn of a worker that stands before the call, by the kind of the call's object.
-fn take_turn_at(
-    alloc: Global,
-    call: &Call,
-    worker: u32,
-    state: &mut State,
-) -> Result<(), AllocError>
-    requires worker { worker < length state.old.replies }
-    requires on { IsOn call.now state.old }
-    ensures { OnOk result (state.new ≡ after_turn_at call.now worker state.old) }
+/// The place of a call's object.
+fn object_of(call: &Call) -> usize
+    ensures { result ≡ object_of call.now }
 {
     match call {
-        Call::Map { object, call } => take_map_turn(alloc, state, worker, *object, call),
-        Call::Range { object } => take_range_turn(alloc, state, worker, *object),
-        Call::Atomic { object, call } => take_atomic_turn(state, worker, *object, *call),
+        Call::Map { object, .. } => *object,
+        Call::Range { object } => *object,
+        Call::Atomic { object, .. } => *object,
+        Call::Mutex { object, .. } => *object,
+        Call::RwMutex { object, .. } => *object,
     }
 }
 
-/// Gives a worker one turn. Where its script has ended nothing happens.
+/// Takes a turn of a worker that stands before the call, at the call's object and by its kind.
+fn take_turn_on(
+    alloc: Global,
+    object: &mut ObjectState,
+    call: &Call,
+    worker: u32,
+    moment: u64,
+) -> Result<Answer, AllocError>
+    requires has { has_call (kind_of object.old) call.now ≡ true }
+    requires lock { (workers : ℕ) × (worker < workers) × IsLockOf workers object.old }
+    ensures { IfOk result (λ answer. turn_on call.now worker moment object.old ≡ (object.new, answer)) }
+{
+    match call {
+        Call::Map { call, .. } => take_map_turn(alloc, object, call),
+        Call::Range { .. } => take_range_turn(alloc, object),
+        Call::Atomic { call, .. } => Ok(take_atomic_turn(object, *call)),
+        Call::Mutex { call, .. } => Ok(take_mutex_turn(object, worker, *call, moment)),
+        Call::RwMutex { call, .. } => Ok(take_rw_mutex_turn(object, worker, *call, moment)),
+    }
+}
+
+/// Gives a worker one turn. Where its script has ended it makes no event.
 pub fn take_turn(
     alloc: Global,
     workload: &Workload,
     worker: u32,
     state: &mut State,
-) -> Result<(), AllocError>
+) -> Result<Step, AllocError>
     requires of { IsStateOf workload.now state.old }
     requires worker { worker < workload.now.workers }
-    ensures turn { OnOk result (state.new ≡ after_turn workload.now worker state.old) }
-    ensures of { OnOk result (IsStateOf workload.now state.new) }
+    ensures turn { IfOk result (λ step. turn_of workload.now worker state.old ≡ (state.new, step)) }
+    ensures of { IfOk result (λ _. IsStateOf workload.now state.new) }
 {
+    laws::validity();
     match next_call(workload, worker, state) {
-        None => Ok(()),
-        Some(call) => take_turn_at(alloc, call, worker, state),
+        None => Ok(Step::Still),
+        Some(call) => {
+            let moment = state.moment;
+            let object = &mut state.objects[object_of(call)];
+            let answer = take_turn_on(alloc, object, call, worker, moment)?;
+            state.settle(worker, answer)
+        }
     }
 }

@@ -1,5 +1,6 @@
 use Rattle.mutex_core.specs.MutexMachine.{start}
-use Rattle.mutex_core.proofs.Validity.{start-valid, next-valid, after-valid}
+use Rattle.mutex_core.proofs.Unmoved.{next-unmoved}
+use Rattle.mutex_core.proofs.Validity.{start-valid, next-valid, after-valid, callers-next}
 use Rattle.mutex_core.proofs.laws.validity.Goals as goal
 
 pub returns-clause-begins : goal.returns-clause-begins
@@ -10,3 +11,9 @@ returns-clause-goes_on c = next-valid
 
 pub returns-clause-always : goal.returns-clause-always
 returns-clause-always c callers journal = after-valid (start callers) journal (start-valid callers)
+
+pub returns-clause-same_callers : goal.returns-clause-same_callers
+returns-clause-same_callers c = callers-next
+
+pub returns-clause-unmoved : goal.returns-clause-unmoved
+returns-clause-unmoved c = next-unmoved

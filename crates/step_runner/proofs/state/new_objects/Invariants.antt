@@ -3,4 +3,4 @@ use Rattle.step_runner.specs.State.{new_objects}
 use Rattle.step_runner.proofs.state.new_objects.Given as goal
 
 abbrev pub invariant-loop-line : goal.invariant-loop-line
-invariant-loop-line l = l.objects.items ++ new_objects (drop l.line-index l.lines) ≡ new_objects l.lines
+invariant-loop-line l = l.objects.items ++ new_objects l.workers (drop l.line-index l.lines) ≡ new_objects l.workers l.lines

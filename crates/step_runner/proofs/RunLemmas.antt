@@ -1,0 +1,160 @@
+-- Turns in order.
+use Rattle.std.proofs.Common.{◌≡◌, ℕ, zero, suc, ◌+◌, ◌-◌, ◌<◌, ◌≤◌, Bool, true, false, List, [], ◌∷◌, ◌++◌, map, length, drop, Option, Some, None, refl, sym, ap, ◌∙◌, subst, arith}
+use Rattle.std.specs.Prelude.{is_some, not}
+use Rattle.std.specs.List.{list_all}
+use Rattle.sync_model.specs.declared.misuse.Misuse.{Misuse}
+use Rattle.sync_model.specs.declared.call.Call.{Call}
+use Rattle.workload.specs.declared.turn.Turn.{Turn}
+use Rattle.workload.specs.declared.turn.Turn.TheVariants as items
+use Rattle.workload.specs.Plan.{Plan}
+use Rattle.step_runner.specs.declared.step.Step.{Step}
+use Rattle.step_runner.specs.declared.step.Step.TheVariants as steps
+use Rattle.step_runner.specs.LeftToDo.{left_to_do}
+use Rattle.step_runner.specs.Outcomes.{is_misused}
+use Rattle.step_runner.specs.State.{State, with_moment, IsStateOf}
+use Rattle.step_runner.specs.Turns.{next_call, turn_of, item_of, with_event, and_then, items_of}
+use Rattle.step_runner.proofs.TurnLemmas.{StepUses, true_false}
+
+-- ---- one after the other
+
+again : (x : State × Step) → with_event (with_event x) ≡ with_event x
+again (s, steps.Still) = refl
+again (s, steps.Made) = refl
+again (s, steps.Misused misuse) = refl
+
+event_first : (x : State × Step) (f : State → State × Step) → with_event (and_then x f) ≡ and_then (with_event x) f
+event_first (s, steps.Still) f = refl
+event_first (s, steps.Made) f = again (f s)
+event_first (s, steps.Misused misuse) f = refl
+
+pub then_assoc : (x : State × Step) (f g : State → State × Step) → and_then x (λ s. and_then (f s) g) ≡ and_then (and_then x f) g
+then_assoc (s, steps.Still) f g = refl
+then_assoc (s, steps.Made) f g = event_first (f s) g
+then_assoc (s, steps.Misused misuse) f g = refl
+
+pub then_ends : (x : State × Step) → and_then x (λ s. (s, steps.Still)) ≡ x
+then_ends (s, steps.Still) = refl
+then_ends (s, steps.Made) = refl
+then_ends (s, steps.Misused misuse) = refl
+
+then_same : (x : State × Step) (f g : State → State × Step) → ((s : State) → f s ≡ g s) → and_then x f ≡ and_then x g
+then_same (s, steps.Still) f g same = same s
+then_same (s, steps.Made) f g same = ap with_event (same s)
+then_same (s, steps.Misused misuse) f g same = refl
+
+pub items_append : (plan : Plan) (first rest : List Turn) (s : State) → items_of plan (first ++ rest) s ≡ and_then (items_of plan first s) (items_of plan rest)
+items_append plan [] rest s = refl
+items_append plan (item ∷ first) rest s =
+    then_same (item_of plan item s) (items_of plan (first ++ rest)) (λ t. and_then (items_of plan first t) (items_of plan rest)) (items_append plan first rest)
+    ∙ then_assoc (item_of plan item s) (items_of plan first) (items_of plan rest)
+
+-- what was so far, and one turn more
+pub so_far_still : (so_far : Step) (f : State → State × Step) (s t : State) → is_misused so_far ≡ false → f s ≡ (t, steps.Still) → and_then (s, so_far) f ≡ (t, so_far)
+so_far_still steps.Still f s t goes_on is = is
+so_far_still steps.Made f s t goes_on is = ap with_event is
+so_far_still (steps.Misused misuse) f s t goes_on is = absurd (true_false goes_on)
+
+pub so_far_made : (so_far : Step) (f : State → State × Step) (s t : State) → is_misused so_far ≡ false → f s ≡ (t, steps.Made) → and_then (s, so_far) f ≡ (t, steps.Made)
+so_far_made steps.Still f s t goes_on is = is
+so_far_made steps.Made f s t goes_on is = ap with_event is
+so_far_made (steps.Misused misuse) f s t goes_on is = absurd (true_false goes_on)
+
+pub so_far_misused : (so_far : Step) (f : State → State × Step) (s t : State) (misuse : Misuse) → is_misused so_far ≡ false → f s ≡ (t, steps.Misused misuse) → and_then (s, so_far) f ≡ (t, steps.Misused misuse)
+so_far_misused steps.Still f s t misuse goes_on is = is
+so_far_misused steps.Made f s t misuse goes_on is = ap with_event is
+so_far_misused (steps.Misused other) f s t misuse goes_on is = absurd (true_false goes_on)
+
+-- what is so far with what is left makes the whole
+pub record SoFar (plan : Plan) (left : List Turn) (s : State) (so_far : Step) (whole : State × Step) : Type 0 where
+  pub goes_on : is_misused so_far ≡ false
+  pub makes : and_then (s, so_far) (items_of plan left) ≡ whole
+
+pub next_still : (plan : Plan) (item : Turn) (left : List Turn) (s t : State) (so_far : Step) (whole : State × Step) → SoFar plan (item ∷ left) s so_far whole → item_of plan item s ≡ (t, steps.Still) → SoFar plan left t so_far whole
+next_still plan item left s t so_far whole before is = record {
+  goes_on = before.goes_on;
+  makes = ap (λ x. and_then x (items_of plan left)) (sym (so_far_still so_far (item_of plan item) s t before.goes_on is))
+      ∙ sym (then_assoc (s, so_far) (item_of plan item) (items_of plan left)) ∙ before.makes;
+}
+
+pub next_made : (plan : Plan) (item : Turn) (left : List Turn) (s t : State) (so_far : Step) (whole : State × Step) → SoFar plan (item ∷ left) s so_far whole → item_of plan item s ≡ (t, steps.Made) → SoFar plan left t steps.Made whole
+next_made plan item left s t so_far whole before is = record {
+  goes_on = refl;
+  makes = ap (λ x. and_then x (items_of plan left)) (sym (so_far_made so_far (item_of plan item) s t before.goes_on is))
+      ∙ sym (then_assoc (s, so_far) (item_of plan item) (items_of plan left)) ∙ before.makes;
+}
+
+pub next_misused : (plan : Plan) (item : Turn) (left : List Turn) (s t : State) (so_far : Step) (whole : State × Step) (misuse : Misuse)
+    → SoFar plan (item ∷ left) s so_far whole → item_of plan item s ≡ (t, steps.Misused misuse) → whole ≡ (t, steps.Misused misuse)
+next_misused plan item left s t so_far whole misuse before is =
+    sym before.makes ∙ then_assoc (s, so_far) (item_of plan item) (items_of plan left)
+    ∙ ap (λ x. and_then x (items_of plan left)) (so_far_misused so_far (item_of plan item) s t misuse before.goes_on is)
+
+pub none_left : (plan : Plan) (s : State) (so_far : Step) (whole : State × Step) → SoFar plan [] s so_far whole → whole ≡ (s, so_far)
+none_left plan s so_far whole before = sym before.makes ∙ then_ends (s, so_far)
+
+-- ---- what turns in order keep, and use up
+
+-- what the laws say of a turn
+abbrev pub GoesOn : Plan → Type 0
+GoesOn plan = (worker : ℕ) (s : State) → IsStateOf plan s → IsStateOf plan (turn_of plan worker s).0
+
+abbrev pub UsesUp : Plan → Type 0
+UsesUp plan = (worker : ℕ) (s : State) → IsStateOf plan s → StepUses plan s (turn_of plan worker s)
+
+uses_by : (plan : Plan) (s : State) (x : State × Step) → ((t : State) → x ≡ (t, steps.Still) → t ≡ s) → ((t : State) → x ≡ (t, steps.Made) → left_to_do plan t < left_to_do plan s)
+    → ((t : State) (misuse : Misuse) → x ≡ (t, steps.Misused misuse) → t.replies ≡ s.replies) → StepUses plan s x
+uses_by plan s (t, steps.Still) still made misused = still t refl
+uses_by plan s (t, steps.Made) still made misused = made t refl
+uses_by plan s (t, steps.Misused misuse) still made misused = misused t misuse refl
+
+pub uses_up : (plan : Plan) → ((worker : ℕ) (s t : State) → IsStateOf plan s → turn_of plan worker s ≡ (t, steps.Still) → t ≡ s)
+    → ((worker : ℕ) (s t : State) → IsStateOf plan s → turn_of plan worker s ≡ (t, steps.Made) → left_to_do plan t < left_to_do plan s)
+    → ((worker : ℕ) (s t : State) (misuse : Misuse) → IsStateOf plan s → turn_of plan worker s ≡ (t, steps.Misused misuse) → t.replies ≡ s.replies) → UsesUp plan
+uses_up plan still made misused worker s of =
+    uses_by plan s (turn_of plan worker s) (λ t. still worker s t of) (λ t. made worker s t of) (λ t misuse. misused worker s t misuse of)
+
+event_valid : (plan : Plan) (x : State × Step) → IsStateOf plan x.0 → IsStateOf plan (with_event x).0
+event_valid plan (s, steps.Still) of = of
+event_valid plan (s, steps.Made) of = of
+event_valid plan (s, steps.Misused misuse) of = of
+
+pub then_valid : (plan : Plan) (x : State × Step) (f : State → State × Step) → IsStateOf plan x.0 → ((s : State) → IsStateOf plan s → IsStateOf plan (f s).0) → IsStateOf plan (and_then x f).0
+then_valid plan (s, steps.Still) f of later = later s of
+then_valid plan (s, steps.Made) f of later = event_valid plan (f s) (later s of)
+then_valid plan (s, steps.Misused misuse) f of later = of
+
+pub moment_valid : (plan : Plan) (moment : ℕ) (s : State) → IsStateOf plan s → IsStateOf plan (with_moment moment s)
+moment_valid plan moment s of = record { valid = of.valid; objects = of.objects; locks = of.locks; workers = of.workers; within = of.within }
+
+pub item_valid : (plan : Plan) → GoesOn plan → (item : Turn) (s : State) → IsStateOf plan s → IsStateOf plan (item_of plan item s).0
+item_valid plan goes_on (items.Worker worker) s of = goes_on worker s of
+item_valid plan goes_on (items.Moment moment) s of = moment_valid plan moment s of
+
+pub items_valid : (plan : Plan) → GoesOn plan → (list : List Turn) (s : State) → IsStateOf plan s → IsStateOf plan (items_of plan list s).0
+items_valid plan goes_on [] s of = of
+items_valid plan goes_on (item ∷ rest) s of = then_valid plan (item_of plan item s) (items_of plan rest) (item_valid plan goes_on item s of) (items_valid plan goes_on rest)
+
+-- turns of workers, with no moment between them
+abbrev pub turns_of : List ℕ → List Turn
+turns_of workers = map (λ worker. items.Worker worker) workers
+
+-- no event: the state stays; an event: less is left to do
+abbrev pub ItemsUse : Plan → State → State × Step → Type 0
+ItemsUse plan s (t, steps.Still) = t ≡ s
+ItemsUse plan s (t, steps.Made) = left_to_do plan t < left_to_do plan s
+ItemsUse plan s (t, steps.Misused misuse) = Unit {0}
+
+event_uses : (plan : Plan) (s t : State) (x : State × Step) → left_to_do plan t < left_to_do plan s → ItemsUse plan t x → ItemsUse plan s (with_event x)
+event_uses plan s t (u, steps.Still) less same = subst (λ v. left_to_do plan v < left_to_do plan s) (sym same) less
+event_uses plan s t (u, steps.Made) less lesser = omega (arith, less, lesser)
+event_uses plan s t (u, steps.Misused misuse) less same = tt
+
+then_uses : (plan : Plan) (s : State) (x : State × Step) (f : State → State × Step) → StepUses plan s x → ItemsUse plan x.0 (f x.0) → ItemsUse plan s (and_then x f)
+then_uses plan s (t, steps.Still) f same later = subst (λ u. ItemsUse plan u (f t)) same later
+then_uses plan s (t, steps.Made) f less later = event_uses plan s t (f t) less later
+then_uses plan s (t, steps.Misused misuse) f less later = tt
+
+pub workers_use : (plan : Plan) → GoesOn plan → UsesUp plan → (workers : List ℕ) (s : State) → IsStateOf plan s → ItemsUse plan s (items_of plan (turns_of workers) s)
+workers_use plan goes_on uses [] s of = refl
+workers_use plan goes_on uses (worker ∷ workers) s of =
+    then_uses plan s (turn_of plan worker s) (items_of plan (turns_of workers)) (uses worker s of) (workers_use plan goes_on uses workers (turn_of plan worker s).0 (goes_on worker s of))
