@@ -11,8 +11,10 @@ use Rattle.sync_model.specs.Front.{AtLeast}
 use Rattle.sync_model.specs.Note.{SameHome, Holding}
 use Rattle.sync_model.specs.Log as log
 use Rattle.sync_model.specs.Journal.{halt_next, halt_after, halt_of, by, logged, log_of, state_next, Right, Follows}
-use Rattle.ruled_object.specs.Growth.{Placed, entries_of, deeds_of, halt_before, MeetsHalt, KeepsNote}
-use Rattle.go_locks.specs.Calls.{waits_next, waits_by}
+use Rattle.ruled_object.specs.declared.pass.Pass.{Pass}
+use Rattle.ruled_object.specs.Growth.{Placed, entries_of, deeds_of, halt_before, MeetsHalt, KeepsNote, Grows}
+use Rattle.ruled_object.specs.Passes.{own_by}
+use Rattle.go_locks.specs.Calls.{Did, waits_next, waits_by}
 
 module _ {E R : Type 0} where
   halt_before-snoc : (es : List (Placed E R)) (p : Placed E R) → halt_before (es ++ p ∷ []) ≡ halt_of p.before
@@ -73,3 +75,25 @@ module _ {S E R : Type 0} (next : S → ℕ → E → S × R) (after : Bool → 
       let rest : List (Entry E R) = xs in
       logged_on s c w x x.deed rest (log_of rest) refl follows.0 unhalted
           (λ opens v. waits_log (state_next next s x.caller x.deed) c v xs (subst (λ (h : Option Misuse). Follows next true (state_next next s x.caller x.deed) h rest) opens follows.1) (subst (λ (h : Option Misuse). halt_after h rest ≡ None) opens unhalted))
+
+module _ {S N E R : Type 0} (next : S → ℕ → E → S × R) (start : S) where
+  -- a call of one event
+  pub did_one : {A : Type 0} (spells : List (Deed E R) → Answer A → Type 0) (clocked : List (Deed E R) → Type 0) (old new : Pass S N E R) (from to : List ℕ) (answer : Answer A) (p : Placed E R) (d : Deed E R) → p.entry.deed ≡ d
+      → Grows next true start old from (p ∷ []) new to → spells (d ∷ []) answer → MeetsHalt (p ∷ []) answer → clocked (d ∷ []) → Did next start spells clocked old from answer new to
+  did_one spells clocked old new from to answer p d is grows spelt meets timed = record {
+    entries = p ∷ [];
+    grows = grows;
+    spelt = subst (λ (z : Deed E R). spells (z ∷ []) answer) (sym is) spelt;
+    halted = meets;
+    moments = subst (λ (z : Deed E R). clocked (z ∷ [])) (sym is) timed;
+  }
+
+  -- the caller waits or doesn't by what it did
+  pub free_after : (after : Bool → R → Bool) (old new : Pass S N E R) (from to : List ℕ) (es : List (Placed E R)) → Grows next true start old from es new to → waits_by after false (own_by old) ≡ false → waits_deeds after false (deeds_of es) ≡ false
+      → waits_by after false (own_by new) ≡ false
+  free_after after old new from to es grows free ends =
+      ap (λ (z : List (Entry E R)). waits_by after false z) grows.mine ∙ (waits_entries after false (own_by old) es ∙ (ap (λ (w : Bool). waits_deeds after w (deeds_of es)) free ∙ ends))
+
+  pub free_one : (after : Bool → R → Bool) (old new : Pass S N E R) (from to : List ℕ) (p : Placed E R) (d : Deed E R) → p.entry.deed ≡ d → Grows next true start old from (p ∷ []) new to → waits_by after false (own_by old) ≡ false → waits_next after false d ≡ false
+      → waits_by after false (own_by new) ≡ false
+  free_one after old new from to p d is grows free ends = free_after after old new from to (p ∷ []) grows free (ap (λ (z : Deed E R). waits_next after false z) is ∙ ends)

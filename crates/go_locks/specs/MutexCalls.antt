@@ -12,6 +12,7 @@ use Rattle.mutex_core.specs.declared.reply.MutexReply.{MutexReply}
 use Rattle.mutex_core.specs.declared.reply.MutexReply.TheVariants.{Arrived, Tried, Unlocked, Resumed, Still}
 use Rattle.mutex_core.specs.declared.reply.Arrival.TheVariants.{Acquired as AtOnce, Queued}
 use Rattle.mutex_core.specs.declared.reply.Resumption.TheVariants.{Acquired, Requeued}
+use Rattle.mutex_core.specs.declared.reply.Unlocking.{Unlocking}
 use Rattle.mutex_core.specs.declared.reply.Unlocking.TheVariants.{Free, Woke, Handed, Misuse as IsMisuse}
 
 abbrev pub MutexDeed : Type 0
@@ -35,12 +36,16 @@ pub data Tries : List MutexDeed → Answer Bool → Type 0 where
   tried : (acquired : Bool) → Tries (Event Try (Tried acquired) ∷ []) (Done acquired)
   refused : (m : Misuse) → Tries (Refused Try m ∷ []) (Halted m)
 
--- `unlock`: one event, and a misuse where the machine answers one
+-- what an unlock answers, by what the machine does
+abbrev pub answer_of : Unlocking → Result (Unit {0}) Misuse
+answer_of Free = Ok tt
+answer_of (Woke ticket) = Ok tt
+answer_of (Handed ticket) = Ok tt
+answer_of (IsMisuse m) = Err m
+
+-- `unlock`: one event, and a misuse exactly where the machine answers one
 pub data Unlocks : List MutexDeed → Answer (Result (Unit {0}) Misuse) → Type 0 where
-  free : Unlocks (Event Unlock (Unlocked Free) ∷ []) (Done (Ok tt))
-  woke : (ticket : ℕ) → Unlocks (Event Unlock (Unlocked (Woke ticket)) ∷ []) (Done (Ok tt))
-  handed : (ticket : ℕ) → Unlocks (Event Unlock (Unlocked (Handed ticket)) ∷ []) (Done (Ok tt))
-  misuse : (m : Misuse) → Unlocks (Event Unlock (Unlocked (IsMisuse m)) ∷ []) (Done (Err m))
+  unlocked : (unlocking : Unlocking) → Unlocks (Event Unlock (Unlocked unlocking) ∷ []) (Done (answer_of unlocking))
   refused : (m : Misuse) → Unlocks (Refused Unlock m ∷ []) (Halted m)
 
 -- the end of a `lock` that waits

@@ -3,6 +3,7 @@ ghost use Rattle.std.specs.Prelude.{◌≡◌, ◌⊎◌, ◌<◌, [], ◌∷◌
 ghost use Rattle.sync_model.specs.declared.answer.Answer.TheVariants.{Done};
 ghost use Rattle.mutex_core.specs.declared.event.MutexEvent.{MutexEvent};
 ghost use Rattle.mutex_core.specs.declared.reply.MutexReply.{MutexReply};
+ghost use Rattle.mutex_core.specs.declared.reply.Unlocking.{Unlocking};
 ghost use Rattle.mutex_core.specs.declared.place.Place.{Place};
 ghost use Rattle.mutex_core.specs.Edges.{acquires, releases};
 ghost use Rattle.mutex_core.specs.MutexMachine.{State, next, is_needed};
@@ -12,13 +13,26 @@ ghost use Rattle.ruled_object.specs.Cells.{deed_of};
 ghost use Rattle.ruled_object.specs.Growth.{Placed, Grows, IsLawful, MeetsHalt, KeepsNote};
 ghost use Rattle.ruled_object.specs.Passes.{own_by, IsPassOf, SamePass};
 ghost use Rattle.go_locks.specs.Calls.{waits_by};
+ghost use Rattle.go_locks.specs.MutexCalls.{answer_of};
 ghost use Rattle.go_locks.specs.Mutexes.{mutex_callers, mutex_start, IsHomeOfMutex};
 
 use super::{Mutex, MutexPass};
 use crate::making::make;
-use mutex_core::{MutexCore, MutexEvent, MutexReply, laws};
+use mutex_core::{Arrival, MutexCore, MutexEvent, MutexReply, Resumption, Unlocking, laws};
 use std::sync::Wait;
-use sync_model::{Answer, Note};
+use sync_model::{Answer, Misuse, Note};
+
+// Whether the caller has the mutex from this answer on.
+pub(super) fn has_mutex(reply: &MutexReply) -> bool
+    ensures { result ≡ acquires reply.now }
+{
+    matches!(
+        reply,
+        MutexReply::Arrived(Arrival::Acquired)
+            | MutexReply::Tried(true)
+            | MutexReply::Resumed(Resumption::Acquired)
+    )
+}
 
 impl<N: Note> Mutex<N> {
     // Makes one event. A caller between two calls gets an answer to what it may make there, and any other may be answered
@@ -50,11 +64,20 @@ impl<N: Note> Mutex<N> {
         make::<MutexCore, N, R>(&self.object, rt, home, pass, note, event)
     }
 
-    // Wakes a caller that was told to go on. A ticket is its caller's number.
-    pub(super) fn wake(&self, ticket: u32) {
-        if ticket < self.callers {
-            self.object.unpark(ticket);
+    // Wakes the caller that an unlock told to go on, whose number its ticket is, and says whether it was a misuse.
+    pub(super) fn unlocked(&self, reply: MutexReply) -> Result<(), Misuse>
+        ensures { (unlocking : Unlocking) → reply ≡ MutexReply.Unlocked unlocking → result ≡ answer_of unlocking }
+    {
+        match reply {
+            MutexReply::Unlocked(Unlocking::Misuse(misuse)) => return Err(misuse),
+            MutexReply::Unlocked(Unlocking::Woke(ticket) | Unlocking::Handed(ticket))
+                if ticket < self.callers =>
+            {
+                self.object.unpark(ticket)
+            }
+            _ => {}
         }
+        Ok(())
     }
 
     // Wakes all callers but this one.
