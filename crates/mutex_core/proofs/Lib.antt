@@ -6,3 +6,4 @@ pub mod Turns
 pub mod HandsOver
 pub mod UsedUp
 pub mod Unmoved
+pub mod Standing

@@ -5,3 +5,4 @@ pub mod Edges
 pub mod Exclusion
 pub mod HandOff
 pub mod EventsLeft
+pub mod Standing

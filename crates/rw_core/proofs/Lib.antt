@@ -8,3 +8,5 @@ pub mod Runs
 pub mod Admissions
 pub mod UsedUp
 pub mod Unmoved
+pub mod Answers
+pub mod Standing

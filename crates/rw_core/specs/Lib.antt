@@ -3,3 +3,4 @@ pub mod RwCore
 pub mod Edges
 pub mod Admission
 pub mod EventsLeft
+pub mod Standing
