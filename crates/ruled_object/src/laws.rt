@@ -1,13 +1,44 @@
-//! What holds of every journal.
-ghost use Rattle.std.specs.Prelude.{◌≡◌, List, None};
+//! What holds of every journal, and how the entries of several calls stand in it.
+ghost use Rattle.std.specs.Prelude.{◌≡◌, ℕ, List, [], ◌∷◌, ◌++◌, None};
+ghost use Rattle.sync_model.specs.declared.answer.Answer.{Answer};
 ghost use Rattle.sync_model.specs.declared.journal.Entry.{Entry};
+ghost use Rattle.sync_model.specs.Front.{AtLeast};
 ghost use Rattle.sync_model.specs.Journal.{Follows, log_of, state_after};
 ghost use Rattle.sync_model.specs.Log as log;
+ghost use Rattle.ruled_object.specs.declared.object.Object.{Object};
+ghost use Rattle.ruled_object.specs.declared.pass.Pass.{Pass};
+ghost use Rattle.ruled_object.specs.Cells.{deed_of};
+ghost use Rattle.ruled_object.specs.Growth.{Placed, Grows, IsLawful, MeetsHalt};
+ghost use Rattle.ruled_object.specs.Passes.{number_of, start_of, IsPassOf, Adds, IsSpent};
 
-use sync_model::Machine;
+use sync_model::{Machine, Note};
 
 /// The events that a machine took, of a journal that follows it, are a log of the machine for one thread: the replies
 /// are the machine's, and they lead to the same state. So what holds of every log holds of an object that is shared.
 pub fn journal_is_log<M: Machine>()
     ensures { (start : M.State) (journal : List (Entry M.Event M.Reply)) → Follows M.next M.HALTS start None journal → log.Follows M.next start (log_of journal) × (log.after M.next start (log_of journal) ≡ state_after M.next start journal) }
+{}
+
+/// What several calls of one caller add to the history. A call that only spends from its pass adds nothing; a call of
+/// the object adds one entry, and its answer is `Halted` exactly where that entry has a halt before its place; and what
+/// two calls add, one after the other, they add together.
+pub fn growth<M: Machine, N: Note>()
+    ensures nothing { (start : M.State) (old new : Pass M.State N M.Event M.Reply) (front : List ℕ)
+        → IsSpent old new → Grows M.next M.HALTS start old front [] new front }
+    ensures one { (start : M.State) (old new : Pass M.State N M.Event M.Reply) (e : Entry M.Event M.Reply) (event : M.Event) (answer : Answer M.Reply) (from to : List ℕ)
+        → Adds M.next M.HALTS M.frees M.takes start old e new → number_of new ≡ number_of old
+        → e.deed ≡ deed_of event answer → e.front ≡ to → AtLeast to from
+        → (p : Placed M.Event M.Reply) × (p.entry ≡ e) × Grows M.next M.HALTS start old from (p ∷ []) new to × MeetsHalt (p ∷ []) answer }
+    ensures both { (start : M.State) (old mid new : Pass M.State N M.Event M.Reply) (es fs : List (Placed M.Event M.Reply)) (from between to : List ℕ)
+        → Grows M.next M.HALTS start old from es mid between → Grows M.next M.HALTS start mid between fs new to
+        → Grows M.next M.HALTS start old from (es ++ fs) new to }
+    ensures lawful { (start : M.State) (old new : Pass M.State N M.Event M.Reply) (e : Entry M.Event M.Reply)
+        → Adds M.next M.HALTS M.frees M.takes start old e new → number_of new ≡ number_of old
+        → IsLawful M.next M.HALTS M.frees M.takes start new }
+{}
+
+/// A pass that was spent from is still a pass of its object.
+pub fn spending<M: Machine, N: Note>()
+    ensures { (object : Object M N M.State M.Event M.Reply N.Home) (old new : Pass M.State N M.Event M.Reply)
+        → IsPassOf object old → IsSpent old new → IsPassOf object new }
 {}

@@ -1,0 +1,71 @@
+-- Entries of one caller that stand one after the other.
+use Rattle.std.proofs.Common.{◌≡◌, ℕ, Bool, List, [], ◌∷◌, ◌++◌, slice_index, refl, sym, ap, ◌∙◌, subst, append_assoc, arith}
+use Rattle.std.specs.List.{AllByRecursion}
+use Rattle.sync_model.specs.declared.answer.Answer.{Answer}
+use Rattle.sync_model.specs.declared.answer.Answer.TheVariants.{Done, Halted}
+use Rattle.sync_model.specs.declared.journal.Entry.{Entry}
+use Rattle.sync_model.specs.Front.{AtLeast}
+use Rattle.sync_model.specs.Journal.{halt_of, Rising, state_after, Right}
+use Rattle.ruled_object.specs.declared.pass.Pass.{Pass}
+use Rattle.ruled_object.specs.Cells.{deed_of}
+use Rattle.ruled_object.specs.Growth.{Placed, entries_of, Leads, MeetsHalt, IsRight, Grows}
+use Rattle.ruled_object.specs.Passes.{number_of, seen_by, own_by, Adds}
+
+module _ {E R : Type 0} where
+  entries-append : (es fs : List (Placed E R)) → entries_of (es ++ fs) ≡ entries_of es ++ entries_of fs
+  entries-append [] fs = refl
+  entries-append (e ∷ es) fs = ap (λ (z : List (Entry E R)). e.entry ∷ z) (entries-append es fs)
+
+  leads-append : (seen mid now : List (Entry E R)) (es fs : List (Placed E R)) → Leads seen es mid → Leads mid fs now → Leads seen (es ++ fs) now
+  leads-append seen mid now [] fs at_first then_on = subst (λ (z : List (Entry E R)). Leads z fs now) at_first then_on
+  leads-append seen mid now (e ∷ es) fs at_first then_on = (at_first.0, at_first.1, leads-append (e.before ++ e.entry ∷ []) mid now es fs at_first.2 then_on)
+
+  rising_from : (low from to : List ℕ) (es : List (Placed E R)) → AtLeast from low → Rising from (entries_of es) to → Rising low (entries_of es) to
+  rising_from low from to [] more rising = λ c. let a = more c in let b = rising c in omega arith
+  rising_from low from to (e ∷ es) more rising = ((λ c. let a = more c in let b = rising.0 c in omega arith), rising.1)
+
+  rising-append : (from between to : List ℕ) (es fs : List (Placed E R)) → Rising from (entries_of es) between → Rising between (entries_of fs) to → Rising from (entries_of (es ++ fs)) to
+  rising-append from between to [] fs at_first then_on = rising_from from between to fs at_first then_on
+  rising-append from between to (e ∷ es) fs at_first then_on = (at_first.0, rising-append e.entry.front between to es fs at_first.1 then_on)
+
+module _ {S E R : Type 0} (next : S → ℕ → E → S × R) (halts : Bool) (start : S) where
+  right-append : (caller : ℕ) (es fs : List (Placed E R)) → AllByRecursion (IsRight next halts start caller) es → AllByRecursion (IsRight next halts start caller) fs → AllByRecursion (IsRight next halts start caller) (es ++ fs)
+  right-append caller [] fs at_first then_on = then_on
+  right-append caller (e ∷ es) fs at_first then_on = (at_first.0, right-append caller es fs at_first.1 then_on)
+
+  -- an answer is Halted exactly where a halt stands before
+  meets : (caller : ℕ) (p : Placed E R) (event : E) (answer : Answer R) → Right next halts (state_after next start p.before) (halt_of p.before) caller (deed_of event answer) → MeetsHalt (p ∷ []) answer
+  meets caller p event (Done reply) right = right.0
+  meets caller p event (Halted misuse) right = right
+
+module _ {S N E R : Type 0} (next : S → ℕ → E → S × R) (halts : Bool) (start : S) where
+  -- one entry
+  pub grows_one : (frees takes : E → R → Bool) (old new : Pass S N E R) (e : Entry E R) (event : E) (answer : Answer R) (from to : List ℕ) → Adds next halts frees takes start old e new
+      → number_of new ≡ number_of old → e.deed ≡ deed_of event answer → e.front ≡ to → AtLeast to from
+      → (p : Placed E R) × (p.entry ≡ e) × Grows next halts start old from (p ∷ []) new to × MeetsHalt (p ∷ []) answer
+  grows_one frees takes old new e event answer from to adds number deed front more =
+      let p : Placed E R = record { before = seen_by old ++ adds.between; entry = e } in (
+        p,
+        refl,
+        record {
+          history = ((adds.between, refl), adds.knew, adds.history);
+          mine = adds.mine;
+          right = ((adds.caller, adds.right), tt);
+          fronts = ((λ c. let a = more c in let same = ap (λ (z : List ℕ). slice_index z c) front in omega arith), (λ c. let same = ap (λ (z : List ℕ). slice_index z c) front in omega arith));
+          number = number;
+        },
+        meets next halts start (number_of old) p event answer (subst (Right next halts (state_after next start p.before) (halt_of p.before) (number_of old)) deed adds.right),
+      )
+
+  -- the entries of two calls
+  pub grows_both : (old mid new : Pass S N E R) (es fs : List (Placed E R)) (from between to : List ℕ) → Grows next halts start old from es mid between → Grows next halts start mid between fs new to
+      → Grows next halts start old from (es ++ fs) new to
+  grows_both old mid new es fs from between to at_first then_on = record {
+    history = leads-append (seen_by old) (seen_by mid) (seen_by new) es fs at_first.history then_on.history;
+    mine =
+        then_on.mine
+        ∙ (ap (λ (z : List (Entry E R)). z ++ entries_of fs) at_first.mine ∙ (append_assoc (own_by old) (entries_of es) (entries_of fs) ∙ sym (ap (λ (z : List (Entry E R)). own_by old ++ z) (entries-append es fs))));
+    right = right-append next halts start (number_of old) es fs at_first.right (subst (λ (c : ℕ). AllByRecursion (IsRight next halts start c) fs) at_first.number then_on.right);
+    fronts = rising-append from between to es fs at_first.fronts then_on.fronts;
+    number = then_on.number ∙ at_first.number;
+  }

@@ -1,0 +1,10 @@
+use Rattle.ruled_object.proofs.Growth.{grows_one, grows_both}
+use Rattle.ruled_object.proofs.laws.growth.Goals as goal
+
+pub returns-clause-one : goal.returns-clause-one
+returns-clause-one g c start old new e event answer from to adds number deed front more =
+    let m = g.M.Machine in grows_one m.next m.HALTS start m.frees m.takes old new e event answer from to adds number deed front more
+
+pub returns-clause-both : goal.returns-clause-both
+returns-clause-both g c start old mid new es fs from between to at_first then_on =
+    let m = g.M.Machine in grows_both m.next m.HALTS start old mid new es fs from between to at_first then_on

@@ -1,0 +1,68 @@
+-- What several entries of one caller, made one after the other, show of the history. A call of the layers above is such a list.
+use Rattle.std.specs.Prelude.{◌≡◌, ℕ, Bool, List, [], ◌∷◌, ◌++◌, Option, Some, None, length, map}
+use Rattle.std.specs.List.{AllByRecursion}
+use Rattle.sync_model.specs.declared.misuse.Misuse.{Misuse}
+use Rattle.sync_model.specs.declared.answer.Answer.{Answer}
+use Rattle.sync_model.specs.declared.answer.Answer.TheVariants.{Done, Halted}
+use Rattle.sync_model.specs.declared.journal.Deed.{Deed}
+use Rattle.sync_model.specs.declared.journal.Entry.{Entry}
+use Rattle.sync_model.specs.Front.{AtLeast}
+use Rattle.sync_model.specs.Journal.{Begins, halt_of, by, KeepsEdges, Rising, state_after, Right, Follows}
+use Rattle.sync_model.specs.Note.{SameHome, Holding}
+use Rattle.ruled_object.specs.declared.pass.Pass.{Pass}
+use Rattle.ruled_object.specs.Passes.{number_of, seen_by, own_by}
+
+-- an entry at its place: the history that stands before it
+pub record Placed (E R : Type 0) : Type 0 where
+  pub before : List (Entry E R)
+  pub entry : Entry E R
+
+module _ {E R : Type 0} where
+  -- the entries, and what they did
+  abbrev pub entries_of : List (Placed E R) → List (Entry E R)
+  entries_of es = map (λ p. p.entry) es
+
+  abbrev pub deeds_of : List (Placed E R) → List (Deed E R)
+  deeds_of es = map (λ p. p.entry.deed) es
+
+  -- from what a caller had seen to what it has seen: each entry stands behind all that the caller had seen before it
+  abbrev pub Leads : List (Entry E R) → List (Placed E R) → List (Entry E R) → Type 0
+  Leads seen [] now = now ≡ seen
+  Leads seen (p ∷ es) now = Begins p.before seen × (p.entry.knew ≡ length seen) × Leads (p.before ++ p.entry ∷ []) es now
+
+  -- the misuse of the first halt before the place of the last of these entries
+  abbrev pub halt_before : List (Placed E R) → Option Misuse
+  halt_before [] = None
+  halt_before (p ∷ []) = halt_of p.before
+  halt_before (p ∷ (q ∷ es)) = halt_before (q ∷ es)
+
+  -- An answer is Halted exactly where a halt stands before the place of the last entry, and then by the first one's misuse.
+  abbrev pub MeetsHalt : {A : Type 0} → List (Placed E R) → Answer A → Type 0
+  MeetsHalt es (Done answer) = halt_before es ≡ None
+  MeetsHalt es (Halted misuse) = halt_before es ≡ Some misuse
+
+module _ {S E R : Type 0} where
+  -- the entry is the caller's, and right where it stands
+  abbrev pub IsRight : (S → ℕ → E → S × R) → Bool → S → ℕ → Placed E R → Type 0
+  IsRight next halts start caller p =
+      (p.entry.caller ≡ caller) × Right next halts (state_after next start p.before) (halt_of p.before) caller p.entry.deed
+
+-- The pass's caller made these entries, in order, and no others. `from` is the front of its note before them, and `to` the front after them.
+pub record Grows {S N E R : Type 0} (next : S → ℕ → E → S × R) (halts : Bool) (start : S) (old : Pass S N E R) (from : List ℕ) (es : List (Placed E R)) (new : Pass S N E R) (to : List ℕ) : Type 0 where
+  pub history : Leads (seen_by old) es (seen_by new)
+  pub mine : own_by new ≡ own_by old ++ entries_of es
+  pub right : AllByRecursion (IsRight next halts start (number_of old)) es
+  pub fronts : Rising from (entries_of es) to
+  pub number : number_of new ≡ number_of old
+
+-- What a pass shows of the history follows the machine from its start, keeps the edge law, and has of its caller what the pass has.
+pub record IsLawful {S N E R : Type 0} (next : S → ℕ → E → S × R) (halts : Bool) (frees takes : E → R → Bool) (start : S) (pass : Pass S N E R) : Type 0 where
+  pub own : own_by pass ≡ by (number_of pass) (seen_by pass)
+  pub follows : Follows next halts start None (seen_by pass)
+  pub edges : KeepsEdges frees takes (seen_by pass)
+
+-- the note stays its holder's and at its home, and what it knows never gets less
+pub record KeepsNote {H N : Type 0} (at : H → N → Type 0) (own : N → Option Holding) (front : N → List ℕ) (old new : N) : Type 0 where
+  pub home : SameHome at old new
+  pub kept : own new ≡ own old
+  pub rises : AtLeast (front new) (front old)
