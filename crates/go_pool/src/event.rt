@@ -1,0 +1,42 @@
+//! One event of a caller.
+ghost use Rattle.std.specs.Prelude.{◌≡◌, ℕ, ◌∷◌, [], IsTrue};
+ghost use Rattle.sync_model.specs.declared.answer.Answer.TheVariants.{Done, Halted};
+ghost use Rattle.wait_cores.specs.PoolLaws.{NamesPart};
+ghost use Rattle.ruled_object.specs.Cells.{deed_of};
+ghost use Rattle.ruled_object.specs.Growth.{KeepsNote, MeetsHalt};
+ghost use Rattle.ruled_object.specs.Passes.{SamePass};
+ghost use Rattle.go_pool.specs.Pools.{Placed, parts_of, IsHomeOf, IsPassOf, IsLawful, Grows};
+ghost use Rattle.go_pool.specs.Events.{Answers};
+
+use crate::pool::{Pool, PoolPass};
+use ruled_object::laws::{growth, journal_is_log};
+use std::sync::Wait;
+use sync_model::{Answer, Note};
+use wait_cores::laws::pool::answers_its_callers;
+use wait_cores::{PoolCore, PoolEvent, PoolReply};
+
+impl<N: Note> Pool<N> {
+    // Makes one event about a part of the pool. It is one entry of that part's journal.
+    pub(crate) fn make<R: Wait>(
+        &self,
+        rt: &R,
+        home: &N::Home,
+        pass: &mut PoolPass<N>,
+        note: &mut N,
+        event: PoolEvent<u64>,
+    ) -> Answer<PoolReply<u64>>
+        requires part { NamesPart (parts_of self.now) event }
+        requires pass { IsPassOf self.now pass.old }
+        requires home { IsHomeOf N.at self.now home.now × N.at home.now note.old }
+        ensures pass { IsPassOf self.now pass.new × SamePass pass.old pass.new }
+        ensures note { KeepsNote N.at N.own N.front note.old note.new }
+        ensures event { (p : Placed) × Grows self.now pass.old (N.front note.old) (p ∷ []) pass.new (N.front note.new) × (p.entry.deed ≡ deed_of event result) × MeetsHalt (p ∷ []) result }
+        ensures journal { IsLawful self.now pass.new }
+        ensures answers { Answers event result }
+    {
+        growth::<PoolCore, N>();
+        journal_is_log::<PoolCore>();
+        answers_its_callers();
+        self.object.call(rt, home, pass, note, event)
+    }
+}
