@@ -4,3 +4,4 @@ pub mod Room
 pub mod Journals
 pub mod Turns
 pub mod HandsOver
+pub mod Standing

@@ -4,3 +4,4 @@ pub mod MutexCore
 pub mod Edges
 pub mod Exclusion
 pub mod HandOff
+pub mod Standing

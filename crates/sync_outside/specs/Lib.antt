@@ -2,4 +2,5 @@ pub mod Bytes
 pub mod Calls
 pub mod Faults
 pub mod Memory
+pub mod Moments
 pub mod System

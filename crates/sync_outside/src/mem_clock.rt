@@ -1,4 +1,7 @@
 //! A clock that shows given moments.
+ghost use Rattle.std.specs.Prelude.{◌≡◌};
+ghost use Rattle.sync_outside.specs.Moments.{moments_of, IsShown};
+
 use crate::clock::Clock;
 use std::sync::atomic::{AtomicUsize, Ordering};
 
@@ -13,7 +16,9 @@ pub struct MemClock {
 
 impl MemClock {
     /// A clock that shows these moments, in nanoseconds.
-    pub fn new(moments: Vec<u64>) -> Self {
+    pub fn new(moments: Vec<u64>) -> Self
+        ensures { moments_of result ≡ moments.items }
+    {
         MemClock {
             moments,
             shown: AtomicUsize::new(0),
@@ -22,6 +27,8 @@ impl MemClock {
 }
 
 impl Clock for MemClock {
+    ghost shows = { λ clock moment. IsShown clock moment };
+
     fn now(&self) -> u64 {
         let last = self.moments.len().saturating_sub(1);
         let next = |place: usize| { if place < last { Some(place + 1) } else { None } };
@@ -29,6 +36,6 @@ impl Clock for MemClock {
             .shown
             .fetch_update(Ordering::SeqCst, Ordering::SeqCst, next)
             .unwrap_or(last);
-        self.moments.get(place).copied().unwrap_or(0)
+        self.moments.get(place.min(last)).copied().unwrap_or(0)
     }
 }

@@ -1,0 +1,246 @@
+-- A caller's own answers say whether it waits.
+use Rattle.std.proofs.Common.{◌≡◌, ℕ, ◌⊎◌, inl, inr, Bool, true, false, ◌||◌, ◌&&◌, List, [], ◌∷◌, ◌++◌, refl, ap, sym, subst, ◌∙◌}
+use Rattle.std.specs.Prelude.{nat_eq, nat_lt, ◌==◌, if◌then◌else◌}
+use Rattle.std.specs.List.{list_any, IsDistinct, AllByRecursion}
+use Rattle.std.proofs.lemmas.Bool.{false≢true, eqb-true, eq-eqb}
+use Rattle.sync_model.specs.Log.{after, Follows}
+use Rattle.mutex_core.specs.declared.event.MutexEvent.{MutexEvent}
+use Rattle.mutex_core.specs.declared.event.MutexEvent.TheVariants as event
+use Rattle.mutex_core.specs.declared.place.Place.{Place}
+use Rattle.mutex_core.specs.declared.place.Place.TheVariants as place
+use Rattle.mutex_core.specs.declared.reply.MutexReply.{MutexReply}
+use Rattle.mutex_core.specs.declared.reply.MutexReply.TheVariants.{Arrived, Tried, Unlocked, Resumed, Still}
+use Rattle.mutex_core.specs.declared.reply.Arrival.TheVariants as arrival
+use Rattle.mutex_core.specs.declared.reply.Resumption.TheVariants as resumption
+use Rattle.mutex_core.specs.declared.waiter.Waiter.{Waiter}
+use Rattle.mutex_core.specs.declared.waiter.Flight.{Flight}
+use Rattle.mutex_core.specs.declared.waiter.Flight.TheVariants as flight
+use Rattle.mutex_core.specs.MutexMachine.{State, start, is_of, place_in, place_by, place_of, arrived, tried, unlocked, resumed, still, at_place, next, is_needed, may_make, waiting_by, IsValid}
+use Rattle.mutex_core.specs.Edges.{Journal}
+use Rattle.mutex_core.specs.Standing.{is_answer, waits_after, is_waiting}
+use Rattle.mutex_core.proofs.Validity.{state, next-valid, start-valid}
+use Rattle.mutex_core.proofs.Waiting.{callers_of, waiting_by-push, list_any-callers_of}
+
+no : {A : Type 0} → false ≡ true → A
+no e = absurd (false≢true e)
+
+-- those that wait
+abbrev pub waiting : State → List ℕ
+waiting s = waiting_by s.flight s.queue
+
+-- what a caller's answer does to those that wait
+abbrev Shifts : ℕ → MutexReply → List ℕ → List ℕ → Type 0
+Shifts caller (Arrived arrival.Acquired) old new = new ≡ old
+Shifts caller (Arrived (arrival.Queued _)) old new = new ≡ old ++ caller ∷ []
+Shifts caller (Tried _) old new = new ≡ old
+Shifts caller (Unlocked _) old new = new ≡ old
+Shifts caller (Resumed resumption.Acquired) old new = old ≡ caller ∷ new
+Shifts caller (Resumed resumption.Requeued) old new = new ≡ old
+Shifts caller Still old new = new ≡ old
+
+abbrev ShiftsBy : ℕ → State → State × MutexReply → Type 0
+ShiftsBy caller s step = Shifts caller step.1 (waiting s) (waiting step.0)
+
+arrived-shifts : (n : ℕ) (l k v : Bool) (q : List Waiter) (f : Flight) (c now : ℕ) → ShiftsBy c (state n l k v q f) (arrived (state n l k v q f) c now)
+arrived-shifts n false k false q f c now = refl
+arrived-shifts n true k v q f c now = waiting_by-push f q (record { caller = c; arrival = now; asked = false })
+arrived-shifts n false k true q f c now = waiting_by-push f q (record { caller = c; arrival = now; asked = false })
+
+tried-shifts : (n : ℕ) (l k v : Bool) (q : List Waiter) (f : Flight) (c : ℕ) → ShiftsBy c (state n l k v q f) (tried (state n l k v q f))
+tried-shifts n false k false q f c = refl
+tried-shifts n true k v q f c = refl
+tried-shifts n false k true q f c = refl
+
+unlocked-shifts : (n : ℕ) (l k v : Bool) (q : List Waiter) (f : Flight) (c : ℕ) → IsValid (state n l k v q f) → ShiftsBy c (state n l k v q f) (unlocked (state n l k v q f))
+unlocked-shifts n false k v q f c h = refl
+unlocked-shifts n true k true [] f c h = refl
+unlocked-shifts n true k false [] f c h = refl
+unlocked-shifts n true k true (w ∷ q) flight.Nobody c h = refl
+unlocked-shifts n true k true (w ∷ q) (flight.Woken x) c h = no (cc (h.unwoken refl, h.woken))
+unlocked-shifts n true k true (w ∷ q) flight.Handed c h = refl
+unlocked-shifts n true false false (w ∷ q) flight.Nobody c h = refl
+unlocked-shifts n true false false (w ∷ q) (flight.Woken x) c h = no h.woken
+unlocked-shifts n true false false (w ∷ q) flight.Handed c h = no (cc h.handed)
+unlocked-shifts n true true false (w ∷ q) f c h = refl
+
+-- the place of a waiter that goes on
+abbrev IsInFlight : Place → Type 0
+IsInFlight p = (p ≡ place.Woken) ⊎ (p ≡ place.Handed)
+
+not_queued : (q : List Waiter) (c : ℕ) → IsInFlight (place_in q c) → ⊥
+not_queued q c at = by_test (list_any (is_of c) q) at
+  where
+    by_test : (b : Bool) → IsInFlight (if b then place.Waiting else place.Out) → ⊥
+    by_test true (inl e) = cc
+    by_test true (inr e) = cc
+    by_test false (inl e) = cc
+    by_test false (inr e) = cc
+
+-- who goes on is the first of those that wait
+first_by : (b : Bool) (p : Place) (q : List Waiter) (c d : ℕ) → (c == d) ≡ b → IsInFlight (if b then p else place_in q c) → c ≡ d
+first_by true p q c d same at = eqb-true c d same
+first_by false p q c d same at = absurd (not_queued q c at)
+
+resumed-shifts : (n : ℕ) (l k v : Bool) (q : List Waiter) (f : Flight) (c now : ℕ) → IsInFlight (place_by f q c) → ShiftsBy c (state n l k v q f) (resumed f q now (state n l k v q f))
+resumed-shifts n l k v q flight.Nobody c now at = refl
+resumed-shifts n l k v [] flight.Handed c now at = refl
+resumed-shifts n l k v (w ∷ q) flight.Handed c now at =
+    ap (λ (x : ℕ). x ∷ callers_of q) (sym (first_by (is_of c w) place.Handed q c w.caller refl at))
+resumed-shifts n true k v q (flight.Woken w) c now at = refl
+resumed-shifts n false k v q (flight.Woken w) c now at =
+    ap (λ (x : ℕ). x ∷ callers_of q) (sym (first_by (is_of c w) place.Woken q c w.caller refl at))
+
+at_place-shifts : (e : MutexEvent) (p : Place) (c : ℕ) (s : State) → place_of s c ≡ p → IsValid s → ShiftsBy c s (at_place e p c s)
+at_place-shifts (event.Arrive now) place.Out c s at h = arrived-shifts s.callers s.locked s.woken s.starving s.queue s.flight c now
+at_place-shifts (event.Arrive now) _ c s at h = refl
+at_place-shifts event.Try place.Out c s at h = tried-shifts s.callers s.locked s.woken s.starving s.queue s.flight c
+at_place-shifts event.Try _ c s at h = refl
+at_place-shifts event.Unlock _ c s at h = unlocked-shifts s.callers s.locked s.woken s.starving s.queue s.flight c h
+at_place-shifts (event.Woken now) place.Woken c s at h = resumed-shifts s.callers s.locked s.woken s.starving s.queue s.flight c now (inl at)
+at_place-shifts (event.Woken now) place.Handed c s at h = resumed-shifts s.callers s.locked s.woken s.starving s.queue s.flight c now (inr at)
+at_place-shifts (event.Woken now) _ c s at h = refl
+
+next-shifts : (s : State) (c : ℕ) (e : MutexEvent) → IsValid s → ShiftsBy c s (next s c e)
+next-shifts s c e h = by_test (nat_lt c s.callers)
+  where
+    by_test : (b : Bool) → ShiftsBy c s (if b then at_place e (place_of s c) c s else still s)
+    by_test true = at_place-shifts e (place_of s c) c s refl h
+    by_test false = refl
+
+-- it isn't among those that wait
+abbrev Absent : ℕ → List ℕ → Type 0
+Absent c xs = list_any (nat_eq c) xs ≡ false
+
+or-parts : (a b : Bool) → (a || b) ≡ false → (a ≡ false) × (b ≡ false)
+or-parts true b e = no (sym e)
+or-parts false b e = (refl, e)
+
+absent-push : (c d : ℕ) (xs : List ℕ) → Absent c xs → nat_eq c d ≡ false → Absent c (xs ++ d ∷ [])
+absent-push c d [] out other = rw other refl
+absent-push c d (x ∷ xs) out other = let parts = or-parts (nat_eq c x) _ out in rw (parts.0, absent-push c d xs parts.1 other) refl
+
+absent-apart : (c : ℕ) (xs : List ℕ) → AllByRecursion (λ y. nat_eq c y ≡ false) xs → Absent c xs
+absent-apart c [] apart = refl
+absent-apart c (x ∷ xs) apart = rw (apart.0, absent-apart c xs apart.1) refl
+
+absent-rest : (c : ℕ) (xs : List ℕ) → IsDistinct nat_eq (c ∷ xs) → Absent c xs
+unfolding IsDistinct
+absent-rest c xs apart = absent-apart c xs apart.0
+
+other-way : (c d : ℕ) → (d == c) ≡ false → nat_eq c d ≡ false
+other-way c d other = by_test (nat_eq c d) refl
+  where
+    by_test : (b : Bool) → nat_eq c d ≡ b → b ≡ false
+    by_test true same = no (sym other ∙ eq-eqb d c (sym (eqb-true c d same)))
+    by_test false same = refl
+
+-- after its own answer
+own-absent : (c : ℕ) (r : MutexReply) (old new : List ℕ) (w : Bool) → Shifts c r old new → IsDistinct nat_eq old → (w ≡ false → Absent c old) → waits_after w r ≡ false → Absent c new
+own-absent c (Arrived arrival.Acquired) old new w shifts apart out is = subst (Absent c) (sym shifts) (out is)
+own-absent c (Arrived (arrival.Queued _)) old new w shifts apart out is = no (sym is)
+own-absent c (Tried _) old new w shifts apart out is = subst (Absent c) (sym shifts) (out is)
+own-absent c (Unlocked _) old new w shifts apart out is = subst (Absent c) (sym shifts) (out is)
+own-absent c (Resumed resumption.Acquired) old new w shifts apart out is = absent-rest c new (subst (IsDistinct nat_eq) shifts apart)
+own-absent c (Resumed resumption.Requeued) old new w shifts apart out is = subst (Absent c) (sym shifts) (out is)
+own-absent c Still old new w shifts apart out is = subst (Absent c) (sym shifts) (out is)
+
+-- after another caller's answer
+other-absent : (c d : ℕ) (r : MutexReply) (old new : List ℕ) → Shifts d r old new → nat_eq c d ≡ false → Absent c old → Absent c new
+other-absent c d (Arrived arrival.Acquired) old new shifts other out = subst (Absent c) (sym shifts) out
+other-absent c d (Arrived (arrival.Queued _)) old new shifts other out = subst (Absent c) (sym shifts) (absent-push c d old out other)
+other-absent c d (Tried _) old new shifts other out = subst (Absent c) (sym shifts) out
+other-absent c d (Unlocked _) old new shifts other out = subst (Absent c) (sym shifts) out
+other-absent c d (Resumed resumption.Acquired) old new shifts other out = (or-parts (nat_eq c d) _ (subst (Absent c) shifts out)).1
+other-absent c d (Resumed resumption.Requeued) old new shifts other out = subst (Absent c) (sym shifts) out
+other-absent c d Still old new shifts other out = subst (Absent c) (sym shifts) out
+
+-- whoever was answered
+step-absent : (c d : ℕ) (r : MutexReply) (old new : List ℕ) (w : Bool) → Shifts d r old new → IsDistinct nat_eq old → (w ≡ false → Absent c old) → (if d == c then waits_after w r else w) ≡ false → Absent c new
+step-absent c d r old new w shifts apart out is = by_test (d == c) refl is
+  where
+    by_test : (b : Bool) → (d == c) ≡ b → (if b then waits_after w r else w) ≡ false → Absent c new
+    by_test true same is = own-absent c r old new w (subst (λ (x : ℕ). Shifts x r old new) (eqb-true d c same) shifts) apart out is
+    by_test false other is = other-absent c d r old new shifts (other-way c d other) (out is)
+
+after-absent : (s : State) (c : ℕ) (w : Bool) (journal : Journal) → IsValid s → (w ≡ false → Absent c (waiting s)) → Follows next s journal → is_waiting w c journal ≡ false → Absent c (waiting (after next s journal))
+after-absent s c w [] h out follows is = out is
+after-absent s c w (entry ∷ journal) h out follows is =
+    let t = next s entry.caller entry.event in
+    after-absent t.0 c (if entry.caller == c then waits_after w entry.reply else w) journal (next-valid s entry.caller entry.event h)
+    (λ free. step-absent c entry.caller entry.reply (waiting s) (waiting t.0) w (subst (λ (r : MutexReply). Shifts entry.caller r (waiting s) (waiting t.0)) follows.0 (next-shifts s entry.caller entry.event h)) h.apart out free)
+    follows.1 is
+
+out_in : (q : List Waiter) (c : ℕ) → Absent c (callers_of q) → place_in q c ≡ place.Out
+out_in q c out = let none : list_any (is_of c) q ≡ false = sym (list_any-callers_of c q) ∙ out in rw none refl
+
+-- who isn't among those that wait is out
+absent-out : (f : Flight) (q : List Waiter) (c : ℕ) → Absent c (waiting_by f q) → place_by f q c ≡ place.Out
+absent-out flight.Nobody q c out = out_in q c out
+absent-out (flight.Woken w) q c out = let parts = or-parts (is_of c w) _ out in rw (parts.0, out_in q c parts.1) refl
+absent-out flight.Handed [] c out = refl
+absent-out flight.Handed (w ∷ q) c out = let parts = or-parts (is_of c w) _ out in rw (parts.0, out_in q c parts.1) refl
+
+pub stands : (callers : ℕ) (journal : Journal) (caller : ℕ) → Follows next (start callers) journal → is_waiting false caller journal ≡ false → place_of (after next (start callers) journal) caller ≡ place.Out
+stands callers journal caller follows is =
+    let s = after next (start callers) journal in
+    absent-out s.flight s.queue caller (after-absent (start callers) caller false journal (start-valid callers) (λ _. refl) follows is)
+
+-- the answers to an event
+arrived-answer : (n : ℕ) (l k v : Bool) (q : List Waiter) (f : Flight) (c now : ℕ) → is_answer (event.Arrive now) (arrived (state n l k v q f) c now).1 ≡ true
+arrived-answer n false k false q f c now = refl
+arrived-answer n true k v q f c now = refl
+arrived-answer n false k true q f c now = refl
+
+tried-answer : (n : ℕ) (l k v : Bool) (q : List Waiter) (f : Flight) → is_answer event.Try (tried (state n l k v q f)).1 ≡ true
+tried-answer n false k false q f = refl
+tried-answer n true k v q f = refl
+tried-answer n false k true q f = refl
+
+unlocked-answer : (n : ℕ) (l k v : Bool) (q : List Waiter) (f : Flight) → is_answer event.Unlock (unlocked (state n l k v q f)).1 ≡ true
+unlocked-answer n false k v q f = refl
+unlocked-answer n true k v [] f = refl
+unlocked-answer n true k true (w ∷ q) f = refl
+unlocked-answer n true true false (w ∷ q) f = refl
+unlocked-answer n true false false (w ∷ q) f = refl
+
+resumed-answer : (n : ℕ) (l k v : Bool) (q : List Waiter) (f : Flight) (c now : ℕ) → IsInFlight (place_by f q c) → is_answer (event.Woken now) (resumed f q now (state n l k v q f)).1 ≡ true
+resumed-answer n l k v q flight.Nobody c now at = absurd (not_queued q c at)
+resumed-answer n l k v [] flight.Handed c now (inl e) = cc
+resumed-answer n l k v [] flight.Handed c now (inr e) = cc
+resumed-answer n l k v (w ∷ q) flight.Handed c now at = refl
+resumed-answer n true k v q (flight.Woken w) c now at = refl
+resumed-answer n false k v q (flight.Woken w) c now at = refl
+
+at_place-answer : (e : MutexEvent) (p : Place) (c : ℕ) (s : State) → place_of s c ≡ p → is_needed e p ≡ true → is_answer e (at_place e p c s).1 ≡ true
+at_place-answer (event.Arrive now) place.Out c s at needed = arrived-answer s.callers s.locked s.woken s.starving s.queue s.flight c now
+at_place-answer (event.Arrive now) _ c s at needed = no needed
+at_place-answer event.Try place.Out c s at needed = tried-answer s.callers s.locked s.woken s.starving s.queue s.flight
+at_place-answer event.Try _ c s at needed = no needed
+at_place-answer event.Unlock _ c s at needed = unlocked-answer s.callers s.locked s.woken s.starving s.queue s.flight
+at_place-answer (event.Woken now) place.Woken c s at needed = resumed-answer s.callers s.locked s.woken s.starving s.queue s.flight c now (inl at)
+at_place-answer (event.Woken now) place.Handed c s at needed = resumed-answer s.callers s.locked s.woken s.starving s.queue s.flight c now (inr at)
+at_place-answer (event.Woken now) _ c s at needed = no needed
+
+pub answers : (s : State) (c : ℕ) (e : MutexEvent) → may_make s c e ≡ true → is_answer e (next s c e).1 ≡ true
+answers s c e may = by_test (nat_lt c s.callers) may
+  where
+    by_test : (b : Bool) → (b && is_needed e (place_of s c)) ≡ true → is_answer e (if b then at_place e (place_of s c) c s else still s).1 ≡ true
+    by_test true may = at_place-answer e (place_of s c) c s refl may
+    by_test false may = no may
+
+at_place-still : (e : MutexEvent) (p : Place) (c : ℕ) (s : State) → is_needed e p ≡ false → at_place e p c s ≡ still s
+at_place-still (event.Arrive now) place.Out c s needed = no (sym needed)
+at_place-still (event.Arrive now) _ c s needed = refl
+at_place-still event.Try place.Out c s needed = no (sym needed)
+at_place-still event.Try _ c s needed = refl
+at_place-still event.Unlock _ c s needed = no (sym needed)
+at_place-still (event.Woken now) place.Woken c s needed = no (sym needed)
+at_place-still (event.Woken now) place.Handed c s needed = no (sym needed)
+at_place-still (event.Woken now) _ c s needed = refl
+
+pub stays : (s : State) (c : ℕ) (e : MutexEvent) → may_make s c e ≡ false → next s c e ≡ still s
+stays s c e may = by_test (nat_lt c s.callers) may
+  where
+    by_test : (b : Bool) → (b && is_needed e (place_of s c)) ≡ false → (if b then at_place e (place_of s c) c s else still s) ≡ still s
+    by_test true may = at_place-still e (place_of s c) c s may
+    by_test false may = refl
