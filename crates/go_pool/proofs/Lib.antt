@@ -1,1 +1,4 @@
+pub mod Drops
 pub mod EventLemmas
+pub mod Finding
+pub mod Looked

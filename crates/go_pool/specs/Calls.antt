@@ -1,5 +1,5 @@
 -- Which events a call makes, in order, and how it answers by them.
-use Rattle.std.specs.Prelude.{◌≡◌, ℕ, zero, suc, ◌+◌, ◌*◌, ◌%◌, ◌<◌, nat_lt, if◌then◌else◌, List, [], ◌∷◌, ◌++◌}
+use Rattle.std.specs.Prelude.{◌≡◌, ℕ, zero, suc, ◌+◌, ◌*◌, ◌%◌, ◌<◌, nat_lt, if◌then◌else◌, List, [], ◌∷◌, ◌++◌, Option, Some, None}
 use Rattle.sync_model.specs.declared.answer.Answer.{Answer}
 use Rattle.sync_model.specs.declared.answer.Answer.TheVariants.{Done, Halted}
 use Rattle.sync_model.specs.declared.journal.Deed.{Deed}
@@ -31,6 +31,12 @@ Sweeps deeds (Halted misuse) = deeds ≡ Refused Sweep misuse ∷ []
 abbrev pub look : ℕ → ℕ → ℕ → PoolEvent ℕ
 look callers caller zero = LookOwn
 look callers caller (suc k) = if nat_lt (suc k) callers then LookOther ((caller + suc k) % callers) else LookVictim ((caller + suc k) % callers)
+
+-- what one look did, and the item that it took
+abbrev pub Looks : PoolEvent ℕ → Deed (PoolEvent ℕ) (PoolReply ℕ) → Answer (Option ℕ) → Type 0
+Looks event deed (Done (Some item)) = deed ≡ Event event (reply.Item item)
+Looks event deed (Done None) = deed ≡ Event event reply.Nothing
+Looks event deed (Halted misuse) = deed ≡ Refused event misuse
 
 -- the first k looks, each of which finds nothing
 abbrev pub nothing_in : ℕ → ℕ → ℕ → Deeds

@@ -12,11 +12,15 @@ use Rattle.ruled_object.specs.Growth as growth
 use Rattle.ruled_object.specs.Passes as object
 use Rattle.go_pool.specs.declared.pool.Pool.{Pool}
 
+-- an entry of a part's journal
+abbrev pub Made : Type 0
+Made = Entry (PoolEvent ℕ) (PoolReply ℕ)
+
 -- what was done on a part, in its one order
 abbrev pub Journal : Type 0
-Journal = List (Entry (PoolEvent ℕ) (PoolReply ℕ))
+Journal = List Made
 
--- an entry of a part's journal, at its place
+-- an entry at its place
 abbrev pub Placed : Type 0
 Placed = growth.Placed (PoolEvent ℕ) (PoolReply ℕ)
 
@@ -60,6 +64,10 @@ module _ {N H : Type 0} where
   -- the caller made these entries, in order and no others, each in the journal of the part that it is about; the fronts along them never fall
   abbrev pub Grows : Pool N H → PoolPass N → List ℕ → List Placed → PoolPass N → List ℕ → Type 0
   Grows pool old from es new to = growth.Grows next true (start (parts_of pool) (room_of pool)) old from es new to
+
+  -- the caller made this one entry more
+  abbrev pub Adds : Pool N H → PoolPass N → Made → PoolPass N → Type 0
+  Adds pool old e new = object.Adds next true pool_releases pool_acquires (start (parts_of pool) (room_of pool)) old e new
 
   -- what a pass shows of each part's journal follows the machine, keeps the edge law, and has of its caller what the pass has
   abbrev pub IsLawful : Pool N H → PoolPass N → Type 0

@@ -5,8 +5,7 @@ ghost use Rattle.ruled_object.specs.Passes.{callers_of, start_of};
 
 use ruled_object::{MAX_CALLS, Object, PassOf};
 use std::alloc::{AllocError, Global};
-use std::sync::Wait;
-use sync_model::{MAX_CALLERS, Misuse, Note};
+use sync_model::{MAX_CALLERS, Note};
 use wait_cores::PoolCore;
 
 /// The pass of one caller to a pool.
@@ -25,12 +24,8 @@ pub struct Pool<N: Note> {
 }
 
 impl<N: Note> Pool<N> {
-    ghost use Rattle.std.specs.Prelude.{IfOk, IsTrue, ℕ, List};
-    ghost use Rattle.sync_model.specs.declared.journal.Deed.TheVariants.{Halt};
-    ghost use Rattle.sync_model.specs.Journal.{halt_of};
-    ghost use Rattle.ruled_object.specs.Gathered.{SamePasses};
-    ghost use Rattle.go_pool.specs.Pools.{Placed, Journal, parts_of, room_of, fresh_of, left_of, number_of, AreNew, AreAllPasses, IsHomeOf, IsPassOf, IsLawful, IsWhole, Grows};
-    ghost use Rattle.ruled_object.specs.Growth.{deeds_of};
+    ghost use Rattle.std.specs.Prelude.{IfOk};
+    ghost use Rattle.go_pool.specs.Pools.{parts_of, room_of, fresh_of, AreNew, IsHomeOf};
 
     /// An empty pool for callers 0 to `callers - 1`, and their passes, each good for `calls` calls. Each caller's part has
     /// room for a private item and `room` shared ones, in memory that is taken here. `fresh` is what a get answers that
