@@ -1,5 +1,5 @@
 -- What contracts see of a pool and of the passes to it. One object keeps all parts, so the journal of each part is that object's.
-use Rattle.std.specs.Prelude.{◌≡◌, ℕ, ◌+◌, true, List}
+use Rattle.std.specs.Prelude.{◌≡◌, ℕ, ◌+◌, true, List, Some, slice_get}
 use Rattle.sync_model.specs.declared.journal.Entry.{Entry}
 use Rattle.sync_model.specs.Journal as journals
 use Rattle.wait_cores.specs.declared.pool_event.PoolEvent.{PoolEvent}
@@ -48,6 +48,10 @@ module _ {N H : Type 0} where
   -- it is the pass of one caller to this pool
   abbrev pub IsPassOf : Pool N H → PoolPass N → Type 0
   IsPassOf pool pass = object.IsPassOf pool.object pass
+
+  -- each of these is a pass of the pool
+  abbrev pub ArePasses : Pool N H → List (PoolPass N) → Type 0
+  ArePasses pool passes = (i : ℕ) (pass : PoolPass N) → slice_get passes i ≡ Some pass → IsPassOf pool pass
 
   -- all passes of the pool, in order of number
   abbrev pub AreAllPasses : Pool N H → List (PoolPass N) → Type 0

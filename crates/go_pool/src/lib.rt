@@ -12,3 +12,6 @@ mod sweep;
 
 pub use pool::{Pool, PoolPass};
 pub use pool_get::PoolGet;
+
+#[cfg(test)]
+mod tests;

@@ -33,7 +33,7 @@ returns-clause-answers g c =
     let front = follows_front next true first None before (made.0 ∷ []) (subst (Follows next true first None) adds.history adds.follows) in
     let logged = c.journal_is_log.ensures first before front in
     let right : Right next true (state_after next first before) (halt_of before) caller (deed_of c.args.event c.call.result) =
-        subst (λ d. Right next true (state_after next first before) (halt_of before) caller d) made.2 adds.right in
+    subst (λ d. Right next true (state_after next first before) (halt_of before) caller d) made.2 adds.right in
     let below : caller < pool.callers = subst (λ (n : ℕ). caller < n) pool.count c.requires.pass.caller in
     let law = c.answers_its_callers.ensures pool.callers pool.room (log_of before) caller c.args.event below c.requires.part in
     let here = subst (λ (s : PoolState ℕ). IsTrue (answers c.args.event (next (log.after next s (log_of before)) caller c.args.event).1)) (sym pool.begun) law in
