@@ -1,0 +1,50 @@
+-- Which events a call makes, in order, and how it answers by them.
+use Rattle.std.specs.Prelude.{◌≡◌, ℕ, zero, suc, ◌+◌, ◌*◌, ◌%◌, ◌<◌, nat_lt, if◌then◌else◌, List, [], ◌∷◌, ◌++◌, Option, Some, None}
+use Rattle.sync_model.specs.declared.answer.Answer.{Answer}
+use Rattle.sync_model.specs.declared.answer.Answer.TheVariants.{Done, Halted}
+use Rattle.sync_model.specs.declared.journal.Deed.{Deed}
+use Rattle.sync_model.specs.declared.journal.Deed.TheVariants.{Event, Refused}
+use Rattle.wait_cores.specs.declared.pool_event.PoolEvent.{PoolEvent}
+use Rattle.wait_cores.specs.declared.pool_event.PoolEvent.TheVariants.{Put, LookOwn, LookOther, LookVictim, Sweep}
+use Rattle.wait_cores.specs.declared.pool_event.PoolPut.{PoolPut}
+use Rattle.wait_cores.specs.declared.pool_event.PoolReply.{PoolReply}
+use Rattle.wait_cores.specs.declared.pool_event.PoolReply.TheVariants as reply
+use Rattle.wait_cores.specs.PoolParts.{reply_of_put}
+use Rattle.go_pool.specs.declared.pool_get.PoolGet.{PoolGet}
+use Rattle.go_pool.specs.declared.pool_get.PoolGet.TheVariants.{Item, New}
+
+-- what events did on the parts of a pool
+abbrev pub Deeds : Type 0
+Deeds = List (Deed (PoolEvent ℕ) (PoolReply ℕ))
+
+-- a put is one event, and answers what that is answered
+abbrev pub Puts : ℕ → Deeds → Answer PoolPut → Type 0
+Puts item deeds (Done put) = deeds ≡ Event (Put item) (reply_of_put put) ∷ []
+Puts item deeds (Halted misuse) = deeds ≡ Refused (Put item) misuse ∷ []
+
+-- a sweep is one event
+abbrev pub Sweeps : Deeds → Answer Unit → Type 0
+Sweeps deeds (Done done) = deeds ≡ Event Sweep reply.Swept ∷ []
+Sweeps deeds (Halted misuse) = deeds ≡ Refused Sweep misuse ∷ []
+
+-- the look number k, from 0, of a get by a caller of so many. It begins at the own part and goes round all parts, and then round the victims in the same way
+abbrev pub look : ℕ → ℕ → ℕ → PoolEvent ℕ
+look callers caller zero = LookOwn
+look callers caller (suc k) = if nat_lt (suc k) callers then LookOther ((caller + suc k) % callers) else LookVictim ((caller + suc k) % callers)
+
+-- what one look did, and the item that it took
+abbrev pub Looks : PoolEvent ℕ → Deed (PoolEvent ℕ) (PoolReply ℕ) → Answer (Option ℕ) → Type 0
+Looks event deed (Done (Some item)) = deed ≡ Event event (reply.Item item)
+Looks event deed (Done None) = deed ≡ Event event reply.Nothing
+Looks event deed (Halted misuse) = deed ≡ Refused event misuse
+
+-- the first k looks, each of which finds nothing
+abbrev pub nothing_in : ℕ → ℕ → ℕ → Deeds
+nothing_in callers caller zero = []
+nothing_in callers caller (suc k) = nothing_in callers caller k ++ Event (look callers caller k) reply.Nothing ∷ []
+
+-- A get is its looks. Each finds nothing, up to the first that takes an item; new is answered where all find nothing.
+abbrev pub Gets : ℕ → ℕ → ℕ → Deeds → Answer PoolGet → Type 0
+Gets callers caller fresh deeds (Done (Item item)) = (k : ℕ) × (k < 2 * callers) × (deeds ≡ nothing_in callers caller k ++ Event (look callers caller k) (reply.Item item) ∷ [])
+Gets callers caller fresh deeds (Done (New value)) = (value ≡ fresh) × (deeds ≡ nothing_in callers caller (2 * callers))
+Gets callers caller fresh deeds (Halted misuse) = (k : ℕ) × (k < 2 * callers) × (deeds ≡ nothing_in callers caller k ++ Refused (look callers caller k) misuse ∷ [])

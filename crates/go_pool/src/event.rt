@@ -1,0 +1,75 @@
+//! One event of a caller.
+ghost use Rattle.std.specs.Prelude.{◌≡◌, ℕ, ◌<◌, List, ◌∷◌, []};
+ghost use Rattle.wait_cores.specs.PoolLaws.{NamesPart};
+ghost use Rattle.ruled_object.specs.Cells.{deed_of};
+ghost use Rattle.ruled_object.specs.Growth.{KeepsNote, MeetsHalt};
+ghost use Rattle.ruled_object.specs.Passes.{SamePass};
+ghost use Rattle.go_pool.specs.Pools.{Placed, left_of, parts_of, IsHomeOf, IsPassOf, IsLawful, IsOneLess, Grows};
+ghost use Rattle.go_pool.specs.Events.{Answers};
+
+use crate::pool::{Pool, PoolPass};
+use ruled_object::laws::{growth, journal_is_log, spending};
+use std::sync::Wait;
+use sync_model::{Answer, Note};
+use wait_cores::laws::pool::answers_its_callers;
+use wait_cores::{PoolCore, PoolEvent, PoolReply};
+
+impl<N: Note> Pool<N> {
+    // Takes one call off the pass, and adds nothing to any journal.
+    pub(crate) fn spend(&self, pass: &mut PoolPass<N>)
+        requires pass { IsPassOf self.now pass.old }
+        requires left { 0 < left_of pass.old }
+        ensures pass { IsPassOf self.now pass.new × IsOneLess pass.old pass.new }
+        ensures nothing { (front : List ℕ) → Grows self.now pass.old front [] pass.new front }
+    {
+        growth::<PoolCore, N>();
+        spending::<PoolCore, N>();
+        pass.spend();
+    }
+
+    // Makes one event about a part of the pool. It is one entry of that part's journal.
+    pub(crate) fn make<R: Wait>(
+        &self,
+        rt: &R,
+        home: &N::Home,
+        pass: &mut PoolPass<N>,
+        note: &mut N,
+        event: PoolEvent<u64>,
+    ) -> Answer<PoolReply<u64>>
+        requires part { NamesPart (parts_of self.now) event }
+        requires pass { IsPassOf self.now pass.old }
+        requires home { IsHomeOf N.at self.now home.now × N.at home.now note.old }
+        ensures pass { IsPassOf self.now pass.new × SamePass pass.old pass.new }
+        ensures note { KeepsNote N.at N.own N.front note.old note.new }
+        ensures event { (p : Placed) × Grows self.now pass.old (N.front note.old) (p ∷ []) pass.new (N.front note.new) × (p.entry.deed ≡ deed_of event result) × MeetsHalt (p ∷ []) result }
+        ensures journal { IsLawful self.now pass.new }
+        ensures answers { Answers event result }
+    {
+        growth::<PoolCore, N>();
+        journal_is_log::<PoolCore>();
+        answers_its_callers();
+        self.object.call(rt, home, pass, note, event)
+    }
+    // Takes one call off the pass, and makes one event.
+    pub(crate) fn call_once<R: Wait>(
+        &self,
+        rt: &R,
+        home: &N::Home,
+        pass: &mut PoolPass<N>,
+        note: &mut N,
+        event: PoolEvent<u64>,
+    ) -> Answer<PoolReply<u64>>
+        requires part { NamesPart (parts_of self.now) event }
+        requires pass { IsPassOf self.now pass.old × (0 < left_of pass.old) }
+        requires home { IsHomeOf N.at self.now home.now × N.at home.now note.old }
+        ensures pass { IsPassOf self.now pass.new × IsOneLess pass.old pass.new }
+        ensures note { KeepsNote N.at N.own N.front note.old note.new }
+        ensures event { (p : Placed) × Grows self.now pass.old (N.front note.old) (p ∷ []) pass.new (N.front note.new) × (p.entry.deed ≡ deed_of event result) × MeetsHalt (p ∷ []) result }
+        ensures journal { IsLawful self.now pass.new }
+        ensures answers { Answers event result }
+    {
+        growth::<PoolCore, N>();
+        self.spend(pass);
+        self.make(rt, home, pass, note, event)
+    }
+}

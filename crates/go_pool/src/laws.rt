@@ -1,0 +1,17 @@
+//! What a look of a get finds.
+ghost use Rattle.std.specs.Prelude.{◌≡◌, ℕ, [], Contains};
+ghost use Rattle.wait_cores.specs.declared.pool_event.PoolEvent.{PoolEvent};
+ghost use Rattle.wait_cores.specs.PoolMachine.{PoolState, next};
+ghost use Rattle.go_pool.specs.Items.{takeable};
+
+use wait_cores::PoolReply;
+
+/// A look is answered that there is nothing only where there is no item that the caller may take by it, and the item that it
+/// takes is one of those. What the caller may take of its own part are the private item and the shared ones; of another's
+/// part, in either generation, the shared ones alone.
+pub fn looks_find_what_is_there()
+    ensures nothing { (state : PoolState ℕ) (caller : ℕ) (event : PoolEvent ℕ)
+        → (next state caller event).1 ≡ PoolReply.Nothing → takeable state caller event ≡ [] }
+    ensures item { (state : PoolState ℕ) (caller : ℕ) (event : PoolEvent ℕ) (item : ℕ)
+        → (next state caller event).1 ≡ PoolReply.Item item → Contains (takeable state caller event) item }
+{}

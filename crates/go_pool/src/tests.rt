@@ -1,0 +1,3 @@
+mod one_thread;
+mod setup;
+mod threads;
