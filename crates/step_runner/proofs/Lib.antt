@@ -1,6 +1,9 @@
 mod AtomicTypes
 mod KeyLemmas
+mod MadeLemmas
 mod ObjectTurns
+mod PairLemmas
+mod RangeLemmas
 mod RoundLemmas
 mod RunLemmas
 mod StartLemmas
