@@ -1,6 +1,8 @@
 mod AtomicTypes
+mod EndLemmas
 mod KeyLemmas
 mod MadeLemmas
+mod NeverWaits
 mod ObjectTurns
 mod PairLemmas
 mod RangeLemmas

@@ -164,6 +164,9 @@ run_keeps plan P kept has = schedule_keeps plan P kept (items_of plan plan.sched
 pub moment_valid : (plan : Plan) (moment : ℕ) (s : State) → IsStateOf plan s → IsStateOf plan (with_moment moment s)
 moment_valid plan moment s of = record { valid = of.valid; objects = of.objects; locks = of.locks; workers = of.workers; within = of.within }
 
+pub item_valid : (plan : Plan) → GoesOn plan → (item : Turn) (s : State) → IsStateOf plan s → IsStateOf plan (item_of plan item s).0
+item_valid plan goes_on item s of = item_keeps plan (IsStateOf plan) (record { turn = goes_on; moment = moment_valid plan }) item s of
+
 pub items_valid : (plan : Plan) → GoesOn plan → (list : List Turn) (s : State) → IsStateOf plan s → IsStateOf plan (items_of plan list s).0
 items_valid plan goes_on list s of = items_keep plan (IsStateOf plan) (record { turn = goes_on; moment = moment_valid plan }) list s of
 
