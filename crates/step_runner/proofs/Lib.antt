@@ -1,6 +1,11 @@
 mod AtomicTypes
+mod EndLemmas
 mod KeyLemmas
+mod MadeLemmas
+mod NeverWaits
 mod ObjectTurns
+mod PairLemmas
+mod RangeLemmas
 mod RoundLemmas
 mod RunLemmas
 mod StartLemmas

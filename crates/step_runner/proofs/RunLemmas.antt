@@ -1,7 +1,6 @@
 -- Turns in order.
 use Rattle.std.proofs.Common.{◌≡◌, ℕ, zero, suc, ◌+◌, ◌-◌, ◌<◌, ◌≤◌, Bool, true, false, List, [], ◌∷◌, ◌++◌, map, length, drop, Option, Some, None, refl, sym, ap, ◌∙◌, subst, arith}
-use Rattle.std.specs.Prelude.{is_some, not}
-use Rattle.std.specs.List.{list_all}
+use Rattle.std.specs.Prelude.{if◌then◌else◌}
 use Rattle.sync_model.specs.declared.misuse.Misuse.{Misuse}
 use Rattle.sync_model.specs.declared.call.Call.{Call}
 use Rattle.workload.specs.declared.turn.Turn.{Turn}
@@ -11,8 +10,10 @@ use Rattle.step_runner.specs.declared.step.Step.{Step}
 use Rattle.step_runner.specs.declared.step.Step.TheVariants as steps
 use Rattle.step_runner.specs.LeftToDo.{left_to_do}
 use Rattle.step_runner.specs.Outcomes.{is_misused}
-use Rattle.step_runner.specs.State.{State, with_moment, IsStateOf}
-use Rattle.step_runner.specs.Turns.{next_call, turn_of, item_of, with_event, and_then, items_of}
+use Rattle.step_runner.specs.declared.outcome.Ending.{Ending}
+use Rattle.step_runner.specs.declared.outcome.Ending.TheVariants as endings
+use Rattle.step_runner.specs.State.{State, start, with_moment, IsStateOf}
+use Rattle.step_runner.specs.Turns.{turn_of, item_of, with_event, and_then, items_of, round, has_ended, behind_round, rounds_of, behind_schedule, whole_run}
 use Rattle.step_runner.proofs.TurnLemmas.{StepUses, true_false}
 
 -- ---- one after the other
@@ -113,26 +114,61 @@ pub uses_up : (plan : Plan) → ((worker : ℕ) (s t : State) → IsStateOf plan
 uses_up plan still made misused worker s of =
     uses_by plan s (turn_of plan worker s) (λ t. still worker s t of) (λ t. made worker s t of) (λ t misuse. misused worker s t misuse of)
 
-event_valid : (plan : Plan) (x : State × Step) → IsStateOf plan x.0 → IsStateOf plan (with_event x).0
-event_valid plan (s, steps.Still) of = of
-event_valid plan (s, steps.Made) of = of
-event_valid plan (s, steps.Misused misuse) of = of
+-- what each turn keeps, and the clock has nothing to do with, items keep
+event_keeps : (P : State → Type 0) (x : State × Step) → P x.0 → P (with_event x).0
+event_keeps P (s, steps.Still) has = has
+event_keeps P (s, steps.Made) has = has
+event_keeps P (s, steps.Misused misuse) has = has
 
-pub then_valid : (plan : Plan) (x : State × Step) (f : State → State × Step) → IsStateOf plan x.0 → ((s : State) → IsStateOf plan s → IsStateOf plan (f s).0) → IsStateOf plan (and_then x f).0
-then_valid plan (s, steps.Still) f of later = later s of
-then_valid plan (s, steps.Made) f of later = event_valid plan (f s) (later s of)
-then_valid plan (s, steps.Misused misuse) f of later = of
+then_keeps : (P : State → Type 0) (x : State × Step) (f : State → State × Step) → P x.0 → ((s : State) → P s → P (f s).0) → P (and_then x f).0
+then_keeps P (s, steps.Still) f has later = later s has
+then_keeps P (s, steps.Made) f has later = event_keeps P (f s) (later s has)
+then_keeps P (s, steps.Misused misuse) f has later = has
+
+pub record Kept (plan : Plan) (P : State → Type 0) : Type 0 where
+  pub turn : (worker : ℕ) (s : State) → P s → P (turn_of plan worker s).0
+  pub moment : (moment : ℕ) (s : State) → P s → P (with_moment moment s)
+
+item_keeps : (plan : Plan) (P : State → Type 0) → Kept plan P → (item : Turn) (s : State) → P s → P (item_of plan item s).0
+item_keeps plan P kept (items.Worker worker) s has = kept.turn worker s has
+item_keeps plan P kept (items.Moment moment) s has = kept.moment moment s has
+
+pub items_keep : (plan : Plan) (P : State → Type 0) → Kept plan P → (list : List Turn) (s : State) → P s → P (items_of plan list s).0
+items_keep plan P kept [] s has = has
+items_keep plan P kept (item ∷ rest) s has = then_keeps P (item_of plan item s) (items_of plan rest) (item_keeps plan P kept item s has) (items_keep plan P kept rest)
+
+-- and whole runs do
+behind_keeps : (plan : Plan) (P : State → Type 0) (x : State × Step) (f : State → State × Ending) → P x.0 → ((s : State) → P s → P (f s).0) → P (behind_round x f).0
+behind_keeps plan P (s, steps.Still) f has later = has
+behind_keeps plan P (s, steps.Made) f has later = later s has
+behind_keeps plan P (s, steps.Misused misuse) f has later = has
+
+either_keeps : (P : State → Type 0) (b : Bool) (s : State) (x : State × Ending) → P s → P x.0 → P (if b then (s, endings.Done) else x).0
+either_keeps P true s x has other = has
+either_keeps P false s x has other = other
+
+rounds_keep : (plan : Plan) (P : State → Type 0) → Kept plan P → (n : ℕ) (s : State) → P s → P (rounds_of n plan s).0
+rounds_keep plan P kept zero s has = has
+rounds_keep plan P kept (suc n) s has =
+    either_keeps P (has_ended plan s) s (behind_round (items_of plan (round plan.workers) s) (rounds_of n plan)) has
+    (behind_keeps plan P (items_of plan (round plan.workers) s) (rounds_of n plan) (items_keep plan P kept (round plan.workers) s has) (rounds_keep plan P kept n))
+
+schedule_keeps : (plan : Plan) (P : State → Type 0) → Kept plan P → (x : State × Step) → P x.0 → P (behind_schedule plan x).0
+schedule_keeps plan P kept (s, steps.Still) has = rounds_keep plan P kept (left_to_do plan s + 1) s has
+schedule_keeps plan P kept (s, steps.Made) has = rounds_keep plan P kept (left_to_do plan s + 1) s has
+schedule_keeps plan P kept (s, steps.Misused misuse) has = has
+
+pub run_keeps : (plan : Plan) (P : State → Type 0) → Kept plan P → P (start plan) → P (whole_run plan).0
+run_keeps plan P kept has = schedule_keeps plan P kept (items_of plan plan.schedule (start plan)) (items_keep plan P kept plan.schedule (start plan) has)
 
 pub moment_valid : (plan : Plan) (moment : ℕ) (s : State) → IsStateOf plan s → IsStateOf plan (with_moment moment s)
 moment_valid plan moment s of = record { valid = of.valid; objects = of.objects; locks = of.locks; workers = of.workers; within = of.within }
 
 pub item_valid : (plan : Plan) → GoesOn plan → (item : Turn) (s : State) → IsStateOf plan s → IsStateOf plan (item_of plan item s).0
-item_valid plan goes_on (items.Worker worker) s of = goes_on worker s of
-item_valid plan goes_on (items.Moment moment) s of = moment_valid plan moment s of
+item_valid plan goes_on item s of = item_keeps plan (IsStateOf plan) (record { turn = goes_on; moment = moment_valid plan }) item s of
 
 pub items_valid : (plan : Plan) → GoesOn plan → (list : List Turn) (s : State) → IsStateOf plan s → IsStateOf plan (items_of plan list s).0
-items_valid plan goes_on [] s of = of
-items_valid plan goes_on (item ∷ rest) s of = then_valid plan (item_of plan item s) (items_of plan rest) (item_valid plan goes_on item s of) (items_valid plan goes_on rest)
+items_valid plan goes_on list s of = items_keep plan (IsStateOf plan) (record { turn = goes_on; moment = moment_valid plan }) list s of
 
 -- turns of workers, with no moment between them
 abbrev pub turns_of : List ℕ → List Turn

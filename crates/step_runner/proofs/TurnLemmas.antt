@@ -27,7 +27,7 @@ use Rattle.step_runner.specs.declared.step.Answer.TheVariants as answers
 use Rattle.step_runner.specs.declared.step.Step.{Step}
 use Rattle.step_runner.specs.declared.step.Step.TheVariants as steps
 use Rattle.step_runner.specs.declared.object_state.ObjectState.{ObjectState}
-use Rattle.step_runner.specs.State.{State, kind_of, with_reply, IsStateOf, IsLockOf}
+use Rattle.step_runner.specs.State.{State, kind_of, with_reply, IsStateOf, IsLockOf, IsReady}
 use Rattle.step_runner.specs.Turns.{next_call, turn_on, with_object, turn_at, settled, settled_with, turn_of}
 use Rattle.step_runner.specs.LeftToDo.{object_left, calls_left, left_to_do}
 use Rattle.step_runner.proofs.ObjectTurns.{MutexLaw, RwLaw, MutexUses, RwUses, Keeps, turn_keeps, Uses, turn_uses}
@@ -146,13 +146,6 @@ moved call worker object s = record s { objects = set s.objects (object_of call)
 turn_at_is : (call : Call) (worker moment : ℕ) (objects : List ObjectState) (object : ObjectState) → slice_get objects (object_of call) ≡ Some object
     → turn_at call worker moment objects ≡ with_object (object_of call) objects (turn_on call worker moment object)
 turn_at_is call worker moment objects object at = ap (λ o. option_map_or (λ object. with_object (object_of call) objects (turn_on call worker moment object)) o (objects, answers.Still)) at
-
--- a turn, by what it makes of the object of the call
-pub turn_is : (plan : Plan) (worker : ℕ) (s : State) (call : Call) (object : ObjectState) → Stands plan worker s call object
-    → turn_of plan worker s ≡ settled worker (turn_on call worker s.moment object).1 (moved call worker object s)
-turn_is plan worker s call object st =
-    ap (λ o. option_map_or (λ call. settled_with worker (turn_at call worker s.moment s.objects) s) o (s, steps.Still)) st.next
-    ∙ ap (λ (step : List ObjectState × Answer). settled_with worker step s) (turn_at_is call worker s.moment s.objects object st.at)
 
 -- by what the turn is answered
 pub record Cases (P : State × Step → Type 0) (plan : Plan) (worker : ℕ) (s : State) : Type 0 where
@@ -312,3 +305,18 @@ rw_kind kinds.Map place call has = absurd cc
 rw_kind (kinds.Atomic kind) place call has = absurd cc
 rw_kind kinds.Mutex place call has = absurd cc
 rw_kind kinds.RwMutex place call has = refl
+
+-- ---- a turn, by what its parts come to
+
+-- the object of the call before which a worker stands is ready for it
+pub next_ready : (plan : Plan) (worker : ℕ) (s : State) (call : Call) → IsStateOf plan s → next_call plan worker s ≡ Some call → (object : ObjectState) × IsReady worker call s.objects object
+next_ready plan worker s call of is =
+    let st = stands plan worker s call of is in
+    (st.0, record { there = st.1.at; has = st.1.has; lock = (plan.workers, st.1.below, of.locks (object_of call) st.0 st.1.at) })
+
+-- what settling it comes to
+pub turn_before : (plan : Plan) (worker : ℕ) (s : State) (call : Call) (objects : List ObjectState) (answer : Answer) → next_call plan worker s ≡ Some call
+    → turn_at call worker s.moment s.objects ≡ (objects, answer) → turn_of plan worker s ≡ settled worker answer (record s { objects = objects })
+turn_before plan worker s call objects answer next turn =
+    ap (λ o. option_map_or (λ call. settled_with worker (turn_at call worker s.moment s.objects) s) o (s, steps.Still)) next
+    ∙ ap (λ (step : List ObjectState × Answer). settled_with worker step s) turn

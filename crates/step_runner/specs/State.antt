@@ -1,15 +1,16 @@
 -- What a run knows between two turns.
-use Rattle.std.specs.Prelude.{◌≡◌, ℕ, ◌≤◌, true, List, [], ◌∷◌, ◌++◌, map, length, get_or, set, replicate, slice_get, Some}
+use Rattle.std.specs.Prelude.{◌≡◌, ℕ, ◌<◌, ◌≤◌, true, List, [], ◌∷◌, ◌++◌, map, length, get_or, set, replicate, slice_get, Some}
 use Rattle.std.specs.FinMap.{empty}
 use Rattle.mutex_core.specs.MutexMachine as mutex
 use Rattle.rw_core.specs.RwMachine as rw
 use Rattle.sync_model.specs.SequentialAtomic.{zero_of}
 use Rattle.sync_model.specs.SequentialAtomic as atomics
+use Rattle.sync_model.specs.declared.call.Call.{Call}
 use Rattle.sync_model.specs.declared.call.Reply.{Reply}
 use Rattle.workload.specs.declared.object.ObjectKind.{ObjectKind}
 use Rattle.workload.specs.declared.object.ObjectKind.TheVariants as kinds
 use Rattle.workload.specs.declared.object.ObjectLine.{ObjectLine}
-use Rattle.workload.specs.Plan.{Plan, is_valid}
+use Rattle.workload.specs.Plan.{Plan, object_of, has_call, is_valid}
 use Rattle.step_runner.specs.declared.object_state.ObjectState.{ObjectState}
 use Rattle.step_runner.specs.declared.object_state.ObjectState.TheVariants as states
 
@@ -61,3 +62,9 @@ pub record IsStateOf (plan : Plan) (s : State) : Type 0 where
   pub locks : (place : ℕ) (object : ObjectState) → slice_get s.objects place ≡ Some object → IsLockOf plan.workers object
   pub workers : length s.replies ≡ plan.workers
   pub within : (worker : ℕ) → length (get_or s.replies worker []) ≤ length (get_or plan.scripts worker [])
+
+-- the object of a call is there and has the call, and where it is a lock the worker is a caller of it
+pub record IsReady (worker : ℕ) (call : Call) (objects : List ObjectState) (object : ObjectState) : Type 0 where
+  pub there : slice_get objects (object_of call) ≡ Some object
+  pub has : has_call (kind_of object) call ≡ true
+  pub lock : (workers : ℕ) × (worker < workers) × IsLockOf workers object

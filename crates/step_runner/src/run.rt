@@ -93,7 +93,7 @@ fn take_rounds(alloc: Global, workload: &Workload, state: &mut State) -> Result<
     ensures { IfOk result (λ ending. all_rounds workload.now state.old ≡ (state.new, ending)) }
 {
     laws::events_use_something_up();
-    laws::runs_come_to_rest();
+    laws::validity();
     while !has_ended(workload, state) {
         match take_round(alloc, workload, state)? {
             Step::Still => return Ok(Ending::Deadlocked),

@@ -2,8 +2,8 @@
 ghost use Rattle.std.specs.Prelude.{◌≡◌, ℕ, ◌<◌, true, IfOk};
 ghost use Rattle.std.specs.Option.{option_copied};
 ghost use Rattle.workload.specs.Plan.{object_of, has_call};
-ghost use Rattle.step_runner.specs.State.{IsStateOf, IsLockOf, kind_of};
-ghost use Rattle.step_runner.specs.Turns.{next_call, turn_on, turn_of};
+ghost use Rattle.step_runner.specs.State.{IsStateOf, IsLockOf, IsReady, kind_of};
+ghost use Rattle.step_runner.specs.Turns.{next_call, turn_on, turn_at, turn_of};
 
 use crate::atomic_turn::take_atomic_turn;
 use crate::laws;
@@ -60,6 +60,21 @@ fn take_turn_on(
     }
 }
 
+/// Takes a turn of a worker that stands before the call, which leaves every other object alone.
+fn take_turn_at(
+    alloc: Global,
+    objects: &mut [ObjectState],
+    call: &Call,
+    worker: u32,
+    moment: u64,
+) -> Result<Answer, AllocError>
+    requires { (object : ObjectState) × IsReady worker call.now objects.old object }
+    ensures { IfOk result (λ answer. turn_at call.now worker moment objects.old ≡ (objects.new, answer)) }
+{
+    let object = &mut objects[object_of(call)];
+    take_turn_on(alloc, object, call, worker, moment)
+}
+
 /// Gives a worker one turn. Where its script has ended it makes no event.
 pub fn take_turn(
     alloc: Global,
@@ -77,8 +92,7 @@ pub fn take_turn(
         None => Ok(Step::Still),
         Some(call) => {
             let moment = state.moment;
-            let object = &mut state.objects[object_of(call)];
-            let answer = take_turn_on(alloc, object, call, worker, moment)?;
+            let answer = take_turn_at(alloc, &mut state.objects, call, worker, moment)?;
             state.settle(worker, answer)
         }
     }

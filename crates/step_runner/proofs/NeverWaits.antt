@@ -1,0 +1,151 @@
+-- Scripts of calls on maps and atomics alone.
+use Rattle.std.proofs.Common.{◌≡◌, ℕ, zero, suc, ◌+◌, ◌<◌, Bool, true, false, List, [], ◌∷◌, ◌++◌, map, length, get_or, Option, Some, None, refl, sym, ap, ◌∙◌, subst}
+use Rattle.std.specs.Prelude.{is_some, not, slice_get}
+use Rattle.std.specs.List.{list_all, range_with_len}
+use Rattle.sync_model.specs.declared.call.Call.{Call}
+use Rattle.sync_model.specs.declared.call.Call.TheVariants as calls
+use Rattle.sync_model.specs.declared.call.Reply.{Reply}
+use Rattle.sync_model.specs.declared.map_object.MapCall.{MapCall}
+use Rattle.sync_model.specs.declared.atomic_object.AtomicCall.{AtomicCall}
+use Rattle.sync_model.specs.declared.misuse.Misuse.{Misuse}
+use Rattle.workload.specs.declared.turn.Turn.{Turn}
+use Rattle.workload.specs.declared.turn.Turn.TheVariants as items
+use Rattle.workload.specs.Plan.{Plan, has_call}
+use Rattle.step_runner.specs.declared.step.Answer.{Answer}
+use Rattle.step_runner.specs.declared.step.Answer.TheVariants as answers
+use Rattle.step_runner.specs.declared.step.Step.{Step}
+use Rattle.step_runner.specs.declared.step.Step.TheVariants as steps
+use Rattle.step_runner.specs.declared.outcome.Ending.{Ending}
+use Rattle.step_runner.specs.declared.outcome.Ending.TheVariants as endings
+use Rattle.step_runner.specs.declared.outcome.Report.{Report}
+use Rattle.step_runner.specs.declared.outcome.Outcome.{Outcome}
+use Rattle.step_runner.specs.declared.outcome.Outcome.TheVariants as outcomes
+use Rattle.step_runner.specs.declared.object_state.ObjectState.{ObjectState}
+use Rattle.step_runner.specs.declared.object_state.ObjectState.TheVariants as states
+use Rattle.step_runner.specs.Ends.{ends_of}
+use Rattle.step_runner.specs.MapTurn.{map_turn, range_turn}
+use Rattle.step_runner.specs.AtomicTurn.{atomic_turn}
+use Rattle.step_runner.specs.Outcomes.{rounds, is_misused, never_waits}
+use Rattle.step_runner.specs.State.{State, kind_of, with_moment, start, IsStateOf}
+use Rattle.step_runner.specs.Turns.{next_call, turn_on, turn_of, item_of, with_event, and_then, items_of, round, has_ended, whole_run, outcome_of, turns}
+use Rattle.step_runner.proofs.TurnLemmas.{true_false, both_true, all_get, all_at, Stands, moved, turn_cases, StepUses}
+use Rattle.step_runner.proofs.RunLemmas.{GoesOn, UsesUp, turns_of, item_valid}
+use Rattle.step_runner.proofs.EndLemmas.{done_replied, is_done, is_misused_by, is_deadlocked, state_of}
+
+-- ---- one turn
+
+abbrev IsCompleted : Answer → Type 0
+IsCompleted answers.Still = ⊥
+IsCompleted answers.Waits = ⊥
+IsCompleted (answers.Completed reply) = Unit {0}
+IsCompleted (answers.Misused misuse) = ⊥
+
+map_completes : (place : ℕ) (call : MapCall (List ℕ)) (o : ObjectState) → has_call (kind_of o) (calls.Map place call) ≡ true → IsCompleted (map_turn call o).1
+map_completes place call (states.Map m) has = tt
+map_completes place call (states.Atomic number) has = absurd cc
+map_completes place call (states.Mutex m) has = absurd cc
+map_completes place call (states.RwMutex m) has = absurd cc
+
+range_completes : (place : ℕ) (o : ObjectState) → has_call (kind_of o) (calls.Range place) ≡ true → IsCompleted (range_turn o).1
+range_completes place (states.Map m) has = tt
+range_completes place (states.Atomic number) has = absurd cc
+range_completes place (states.Mutex m) has = absurd cc
+range_completes place (states.RwMutex m) has = absurd cc
+
+atomic_completes : (place : ℕ) (call : AtomicCall) (o : ObjectState) → has_call (kind_of o) (calls.Atomic place call) ≡ true → IsCompleted (atomic_turn call o).1
+atomic_completes place call (states.Map m) has = absurd cc
+atomic_completes place call (states.Atomic number) has = tt
+atomic_completes place call (states.Mutex m) has = absurd cc
+atomic_completes place call (states.RwMutex m) has = absurd cc
+
+completes : (call : Call) (worker moment : ℕ) (o : ObjectState) → never_waits call ≡ true → has_call (kind_of o) call ≡ true → IsCompleted (turn_on call worker moment o).1
+completes (calls.Map place call) worker moment o never has = map_completes place call o has
+completes (calls.Range place) worker moment o never has = range_completes place o has
+completes (calls.Atomic place call) worker moment o never has = atomic_completes place call o has
+completes (calls.Mutex place call) worker moment o never has = absurd cc
+completes (calls.RwMutex place call) worker moment o never has = absurd cc
+
+-- a turn is no misuse, and it makes an event unless the script has ended
+abbrev Goes : Plan → ℕ → State → Step → Type 0
+Goes plan worker s steps.Still = next_call plan worker s ≡ None
+Goes plan worker s steps.Made = Unit {0}
+Goes plan worker s (steps.Misused misuse) = ⊥
+
+abbrev AllNever : Plan → Type 0
+AllNever plan = list_all (list_all never_waits) plan.scripts ≡ true
+
+never_next : (plan : Plan) (worker : ℕ) (s : State) (call : Call) → AllNever plan → next_call plan worker s ≡ Some call → never_waits call ≡ true
+never_next plan worker s call all is = all_get never_waits (get_or plan.scripts worker []) (length (get_or s.replies worker [])) call (all_at never_waits plan.scripts worker all) is
+
+turn_goes : (plan : Plan) (worker : ℕ) (s : State) → AllNever plan → IsStateOf plan s → Goes plan worker s (turn_of plan worker s).1
+turn_goes plan worker s all of = turn_cases (λ step. Goes plan worker s step.1) plan worker s of (record {
+  ended = λ is. is;
+  still = λ call object st is. absurd (subst IsCompleted is (completed call object st));
+  waits = λ call object st is. tt;
+  completed = λ call object reply st is. tt;
+  misused = λ call object misuse st is. subst IsCompleted is (completed call object st);
+})
+  where
+    completed : (call : Call) (object : ObjectState) → Stands plan worker s call object → IsCompleted (turn_on call worker s.moment object).1
+    completed call object st = completes call worker s.moment object (never_next plan worker s call all st.next) st.has
+
+-- ---- turns in order
+
+event_goes : (x : State × Step) → is_misused x.1 ≡ false → is_misused (with_event x).1 ≡ false
+event_goes (s, steps.Still) goes = refl
+event_goes (s, steps.Made) goes = refl
+event_goes (s, steps.Misused misuse) goes = goes
+
+then_goes : (x : State × Step) (f : State → State × Step) → is_misused x.1 ≡ false → is_misused (f x.0).1 ≡ false → is_misused (and_then x f).1 ≡ false
+then_goes (s, steps.Still) f goes later = later
+then_goes (s, steps.Made) f goes later = event_goes (f s) later
+then_goes (s, steps.Misused misuse) f goes later = goes
+
+no_misuse : (plan : Plan) (worker : ℕ) (s : State) (step : Step) → Goes plan worker s step → is_misused step ≡ false
+no_misuse plan worker s steps.Still goes = refl
+no_misuse plan worker s steps.Made goes = refl
+no_misuse plan worker s (steps.Misused misuse) goes = absurd goes
+
+item_goes : (plan : Plan) (item : Turn) (s : State) → AllNever plan → IsStateOf plan s → is_misused (item_of plan item s).1 ≡ false
+item_goes plan (items.Worker worker) s all of = no_misuse plan worker s (turn_of plan worker s).1 (turn_goes plan worker s all of)
+item_goes plan (items.Moment moment) s all of = refl
+
+items_go : (plan : Plan) → GoesOn plan → AllNever plan → (list : List Turn) (s : State) → IsStateOf plan s → is_misused (items_of plan list s).1 ≡ false
+items_go plan goes_on all [] s of = refl
+items_go plan goes_on all (item ∷ rest) s of =
+    then_goes (item_of plan item s) (items_of plan rest) (item_goes plan item s all of) (items_go plan goes_on all rest (item_of plan item s).0 (item_valid plan goes_on item s of))
+
+-- where a number of workers make no event, their scripts have ended
+event_made : (x : State × Step) (t : State) → with_event x ≡ (t, steps.Still) → ⊥
+event_made (s, steps.Still) t is = let e : steps.Made ≡ steps.Still = ap (λ (x : State × Step). x.1) is in cc
+event_made (s, steps.Made) t is = let e : steps.Made ≡ steps.Still = ap (λ (x : State × Step). x.1) is in cc
+event_made (s, steps.Misused misuse) t is = let e : steps.Misused misuse ≡ steps.Still = ap (λ (x : State × Step). x.1) is in cc
+
+still_first : (plan : Plan) (worker : ℕ) (s t : State) (x : State × Step) (f : State → State × Step) → StepUses plan s x → Goes plan worker s x.1 → and_then x f ≡ (t, steps.Still) → (next_call plan worker s ≡ None) × (f s ≡ (t, steps.Still))
+still_first plan worker s t (u, steps.Still) f same goes is = (goes, subst (λ v. f v ≡ (t, steps.Still)) same is)
+still_first plan worker s t (u, steps.Made) f less goes is = absurd (event_made (f u) t is)
+still_first plan worker s t (u, steps.Misused misuse) f same goes is = absurd goes
+
+still_ended : (plan : Plan) → UsesUp plan → AllNever plan → (workers : List ℕ) (s t : State) → IsStateOf plan s → items_of plan (turns_of workers) s ≡ (t, steps.Still)
+    → list_all (λ worker. not (is_some (next_call plan worker s))) workers ≡ true
+still_ended plan uses all [] s t of is = refl
+still_ended plan uses all (worker ∷ workers) s t of is =
+    let parts = still_first plan worker s t (turn_of plan worker s) (items_of plan (turns_of workers)) (uses worker s of) (turn_goes plan worker s all of) is in
+    both_true (not (is_some (next_call plan worker s))) (list_all (λ w. not (is_some (next_call plan w s))) workers)
+    (ap (λ (o : Option Call). not (is_some o)) parts.0) (still_ended plan uses all workers s t of parts.1)
+
+-- ---- the run
+
+-- a run of such scripts is no misuse and no deadlock
+done_by : (plan : Plan) → GoesOn plan → UsesUp plan → AllNever plan → IsStateOf plan (start plan) → (x : Outcome) → turns plan ≡ x → (report : Report) × (turns plan ≡ outcomes.Done report) × (map length report.replies ≡ map length plan.scripts)
+done_by plan goes_on uses all of (outcomes.Done report) is = (report, is, done_replied plan goes_on uses of report (is_done plan goes_on uses of report is))
+done_by plan goes_on uses all of (outcomes.Misused report misuse) is =
+    let misused = is_misused_by plan goes_on uses of report misuse is in
+    absurd (true_false (ap (λ (y : State × Step). is_misused y.1) (sym misused.is) ∙ items_go plan goes_on all (plan.schedule ++ rounds misused.count plan.workers) (start plan) of))
+done_by plan goes_on uses all of (outcomes.Deadlocked report) is =
+    let dead = is_deadlocked plan goes_on uses of report is in
+    let valid = state_of plan goes_on uses dead.state of dead.comes in
+    absurd (true_false (sym (still_ended plan uses all (range_with_len 0 plan.workers) dead.state dead.state valid dead.still) ∙ dead.going))
+
+pub never_waiting_ends : (plan : Plan) → GoesOn plan → UsesUp plan → AllNever plan → IsStateOf plan (start plan) → (report : Report) × (turns plan ≡ outcomes.Done report) × (map length report.replies ≡ map length plan.scripts)
+never_waiting_ends plan goes_on uses all of = done_by plan goes_on uses all of (turns plan) refl

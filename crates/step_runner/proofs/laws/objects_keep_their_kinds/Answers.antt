@@ -1,0 +1,16 @@
+use Rattle.step_runner.specs.declared.object_state.ObjectState.TheVariants as states
+use Rattle.step_runner.proofs.RangeLemmas.{in_range}
+use Rattle.step_runner.proofs.laws.objects_keep_their_kinds.Goals as goal
+
+pub returns-clause-kinds : goal.returns-clause-kinds
+returns-clause-kinds c plan items valid = (c.validity.ensures.always plan items valid).objects
+
+pub returns-clause-ranges : goal.returns-clause-ranges
+returns-clause-ranges c plan items object number valid at =
+    in_range c.calls_keep_the_type.ensures.start c.calls_keep_the_type.ensures.after plan (c.validity.ensures.goes_on plan) (c.validity.ensures.begins plan valid) items object (states.Atomic number) at
+
+pub returns-clause-mutexes : goal.returns-clause-mutexes
+returns-clause-mutexes c plan items object m valid at = (c.validity.ensures.always plan items valid).locks object (states.Mutex m) at
+
+pub returns-clause-rw_mutexes : goal.returns-clause-rw_mutexes
+returns-clause-rw_mutexes c plan items object m valid at = (c.validity.ensures.always plan items valid).locks object (states.RwMutex m) at
