@@ -1,3 +1,4 @@
 pub mod Spelling
 pub mod MutexStanding
 pub mod MutexCalls
+pub mod RwStanding

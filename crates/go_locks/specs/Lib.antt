@@ -1,3 +1,5 @@
 pub mod Calls
-pub mod Mutexes
 pub mod MutexCalls
+pub mod Mutexes
+pub mod RwCalls
+pub mod RwMutexes

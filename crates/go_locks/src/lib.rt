@@ -3,5 +3,7 @@
 
 mod making;
 pub mod mutex;
+pub mod rw_mutex;
 
 pub use mutex::{Mutex, MutexPass};
+pub use rw_mutex::{RwMutex, RwPass};
