@@ -2,3 +2,4 @@ pub mod Spelling
 pub mod MutexStanding
 pub mod MutexCalls
 pub mod RwStanding
+pub mod RwCalls
