@@ -3,3 +3,4 @@ pub mod MutexStanding
 pub mod MutexCalls
 pub mod RwStanding
 pub mod RwCalls
+pub mod Logs

@@ -1,4 +1,5 @@
 pub mod Calls
+pub mod Exclusion
 pub mod MutexCalls
 pub mod Mutexes
 pub mod RwCalls
