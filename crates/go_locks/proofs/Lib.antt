@@ -4,3 +4,4 @@ pub mod MutexCalls
 pub mod RwStanding
 pub mod RwCalls
 pub mod Logs
+pub mod Halts

@@ -4,6 +4,7 @@ ghost use Rattle.ruled_object.specs.Passes.{callers_of, start_of};
 ghost use Rattle.rw_core.specs.RwMachine.{start};
 
 mod events;
+mod halts;
 mod making;
 mod read;
 mod write;
