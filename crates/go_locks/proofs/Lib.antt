@@ -1,3 +1,7 @@
 pub mod Spelling
 pub mod MutexStanding
 pub mod MutexCalls
+pub mod RwStanding
+pub mod RwCalls
+pub mod Logs
+pub mod Halts

@@ -1,6 +1,7 @@
 -- What the entries of a call show, one after the other.
 use Rattle.std.proofs.Common.{◌≡◌, ℕ, Bool, true, false, cond, List, [], ◌∷◌, ◌++◌, Option, Some, None, refl, sym, ap, subst, ◌∙◌, arith}
 use Rattle.std.specs.Prelude.{◌==◌, if◌then◌else◌, map}
+use Rattle.std.specs.List.{AllByRecursion}
 use Rattle.sync_model.specs.declared.misuse.Misuse.{Misuse}
 use Rattle.sync_model.specs.declared.answer.Answer.{Answer}
 use Rattle.sync_model.specs.declared.answer.Answer.TheVariants.{Done, Halted}
@@ -97,3 +98,7 @@ module _ {S N E R : Type 0} (next : S → ℕ → E → S × R) (start : S) wher
   pub free_one : (after : Bool → R → Bool) (old new : Pass S N E R) (from to : List ℕ) (p : Placed E R) (d : Deed E R) → p.entry.deed ≡ d → Grows next true start old from (p ∷ []) new to → waits_by after false (own_by old) ≡ false → waits_next after false d ≡ false
       → waits_by after false (own_by new) ≡ false
   free_one after old new from to p d is grows free ends = free_after after old new from to (p ∷ []) grows free (ap (λ (z : Deed E R). waits_next after false z) is ∙ ends)
+
+pub all-snoc : {X : Type 0} (P : X → Type 0) (xs : List X) (x : X) → AllByRecursion P xs → P x → AllByRecursion P (xs ++ x ∷ [])
+all-snoc P [] x all here = (here, tt)
+all-snoc P (y ∷ xs) x all here = (all.0, all-snoc P xs x all.1 here)

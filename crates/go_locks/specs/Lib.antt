@@ -1,3 +1,6 @@
 pub mod Calls
-pub mod Mutexes
+pub mod Exclusion
 pub mod MutexCalls
+pub mod Mutexes
+pub mod RwCalls
+pub mod RwMutexes

@@ -48,10 +48,6 @@ pub data Unlocks : List MutexDeed → Answer (Result (Unit {0}) Misuse) → Type
   unlocked : (unlocking : Unlocking) → Unlocks (Event Unlock (Unlocked unlocking) ∷ []) (Done (answer_of unlocking))
   refused : (m : Misuse) → Unlocks (Refused Unlock m ∷ []) (Halted m)
 
--- the end of a `lock` that waits
-abbrev pub EndsLock : List MutexDeed → Answer (Unit {0}) → Type 0
-EndsLock deeds answer = (before : List MutexDeed) → Waits before → Locks (before ++ deeds) answer
-
 -- the moment of an event is one that the clock may show
 abbrev pub IsTimed : (ℕ → Type 0) → MutexEvent → Type 0
 IsTimed shows (Arrive now) = shows now

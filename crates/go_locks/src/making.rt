@@ -5,7 +5,7 @@ ghost use Rattle.sync_model.specs.Journal.{by, halt_of, log_of, state_after, Fol
 ghost use Rattle.ruled_object.specs.declared.pass.Pass.{Pass};
 ghost use Rattle.ruled_object.specs.Cells.{deed_of};
 ghost use Rattle.ruled_object.specs.Growth.{Placed, Grows, IsLawful, MeetsHalt, KeepsNote};
-ghost use Rattle.ruled_object.specs.Passes.{left_of, number_of, own_by, start_of, IsHomeOf, IsPassOf, SamePass};
+ghost use Rattle.ruled_object.specs.Passes.{callers_of, left_of, number_of, own_by, start_of, IsHomeOf, IsPassOf, SamePass};
 
 use ruled_object::laws;
 use ruled_object::{Object, PassOf};
@@ -52,4 +52,15 @@ pub(crate) fn make<M: Machine, N: Note, R: Wait>(
     laws::growth::<M, N>();
     laws::journal_is_log::<M>();
     object.call(rt, home, pass, note, event)
+}
+
+// Wakes all callers but one.
+pub(crate) fn wake_others<M: Machine, N: Note>(object: &Object<M, N>, callers: u32, caller: u32)
+    requires { callers_of object.now ≡ callers }
+{
+    for other in 0..callers {
+        if other != caller {
+            object.unpark(other);
+        }
+    }
 }

@@ -5,6 +5,7 @@ ghost use Rattle.mutex_core.specs.MutexMachine.{start};
 
 mod calls;
 mod events;
+mod halts;
 mod making;
 
 use mutex_core::MutexCore;

@@ -1,4 +1,4 @@
-//! One event on a running mutex, and who is woken after it.
+//! One event on a running mutex, and who is woken by an unlock.
 ghost use Rattle.std.specs.Prelude.{◌≡◌, ◌⊎◌, ◌<◌, [], ◌∷◌, ◌++◌, true, false, List, ℕ};
 ghost use Rattle.sync_model.specs.declared.answer.Answer.TheVariants.{Done};
 ghost use Rattle.mutex_core.specs.declared.event.MutexEvent.{MutexEvent};
@@ -78,14 +78,5 @@ impl<N: Note> Mutex<N> {
             _ => {}
         }
         Ok(())
-    }
-
-    // Wakes all callers but this one.
-    pub(super) fn wake_others(&self, caller: u32) {
-        for other in 0..self.callers {
-            if other != caller {
-                self.object.unpark(other);
-            }
-        }
     }
 }

@@ -1,0 +1,69 @@
+use Rattle.std.proofs.Common.{◌≡◌, [], ◌∷◌, ◌++◌, refl, sym, ap, subst, ◌∙◌}
+use Rattle.sync_model.specs.declared.answer.Answer.TheVariants.{Done, Halted}
+use Rattle.sync_model.specs.declared.journal.Deed.TheVariants.{Event, Refused}
+use Rattle.rw_core.specs.declared.event.RwEvent.TheVariants.{Leave}
+use Rattle.rw_core.specs.declared.reply.RwReply.TheVariants.{Left}
+use Rattle.ruled_object.specs.Cells.{deed_of}
+use Rattle.ruled_object.specs.Growth.{deeds_of, MeetsHalt}
+use Rattle.go_locks.specs.RwCalls.{ReadWaits, ReadLocks, admitted, halted, IsClocked, AreClocked}
+use Rattle.go_locks.proofs.Spelling.{deeds-snoc, all-snoc, keeps_both}
+use Rattle.go_locks.proofs.RwCalls.{leave_has, leave_waits}
+use Rattle.go_locks.proofs.rw_mutex.RwMutex.wait_to_read.Goals as goal
+
+pub returns-in-Halted-clause-events : goal.returns-in-Halted-clause-events
+returns-in-Halted-clause-events g c first from es grows waits timed =
+    let so_far = c.loop.invariant.4 first from es grows waits timed in
+    let entry = c.event.ensures.entry in
+    let misuse = c.in-Halted.misuse in
+    let shows = g.C.Clock.shows c.args.at.now.clock.now in
+    let deed = entry.2 ∙ ap (deed_of Leave) c.in-Halted.is in
+    let grown = entry.3 first from so_far.0 so_far.1 in
+    let deeds = deeds-snoc so_far.0 entry.0 (Refused Leave misuse) deed in
+    record {
+      entries = so_far.0 ++ entry.0 ∷ [];
+      grows = grown.0;
+      spelt = subst (λ ds. ReadLocks ds (Halted misuse)) (sym deeds) (halted (deeds_of so_far.0) misuse so_far.2);
+      halted = subst (MeetsHalt (so_far.0 ++ entry.0 ∷ [])) c.in-Halted.is grown.1;
+      moments = subst (AreClocked shows) (sym deeds) (all-snoc (IsClocked shows) (deeds_of so_far.0) (Refused Leave misuse) so_far.3 tt);
+    }
+
+pub returns-then-has_lock-clause-events : goal.returns-then-has_lock-clause-events
+returns-then-has_lock-clause-events g c first from es grows waits timed =
+    let so_far = c.loop.invariant.4 first from es grows waits timed in
+    let entry = c.event.ensures.entry in
+    let reply = c.in-Done.reply in
+    let shows = g.C.Clock.shows c.args.at.now.clock.now in
+    let is = leave_has reply (c.event.ensures.answered reply c.in-Done.is) (sym c.has_lock.ensures ∙ c.if-has_lock.true) in
+    let deed = entry.2 ∙ (ap (deed_of Leave) c.in-Done.is ∙ ap (Event Leave) is) in
+    let grown = entry.3 first from so_far.0 so_far.1 in
+    let deeds = deeds-snoc so_far.0 entry.0 (Event Leave Left) deed in
+    record {
+      entries = so_far.0 ++ entry.0 ∷ [];
+      grows = grown.0;
+      spelt = subst (λ ds. ReadLocks ds (Done tt)) (sym deeds) (admitted (deeds_of so_far.0) so_far.2);
+      halted = subst (MeetsHalt (so_far.0 ++ entry.0 ∷ [])) c.in-Done.is grown.1;
+      moments = subst (AreClocked shows) (sym deeds) (all-snoc (IsClocked shows) (deeds_of so_far.0) (Event Leave Left) so_far.3 tt);
+    }
+
+pub loop-preserved : goal.loop-preserved
+loop-preserved g c =
+    let n = g.N.Note in
+    let entry = c.event.ensures.entry in
+    let reply = c.in-Done.reply in
+    let shows = g.C.Clock.shows c.args.at.now.clock.now in
+    let deed = entry.2 ∙ ap (deed_of Leave) c.in-Done.is in
+    let before = c.loop.invariant.2 in
+    let same = c.event.ensures.pass.1 in (
+      (tt, tt),
+      c.event.ensures.pass.0,
+      (same.0 ∙ before.0, same.1 ∙ before.1),
+      keeps_both n.at n.own n.front c.args.note.now c.loop.note c.event.new.note c.loop.invariant.3 c.event.ensures.note,
+      (λ first from es grows waits timed.
+          let so_far = c.loop.invariant.4 first from es grows waits timed in
+          let deeds = deeds-snoc so_far.0 entry.0 (Event Leave reply) deed in (
+            so_far.0 ++ entry.0 ∷ [],
+            (entry.3 first from so_far.0 so_far.1).0,
+            subst ReadWaits (sym deeds) (leave_waits reply (deeds_of so_far.0) (c.event.ensures.answered reply c.in-Done.is) (sym c.has_lock.ensures ∙ c.if-has_lock.false) so_far.2),
+            subst (AreClocked shows) (sym deeds) (all-snoc (IsClocked shows) (deeds_of so_far.0) (Event Leave reply) so_far.3 tt),
+          )),
+    )

@@ -1,0 +1,45 @@
+//! Halting a mutex by a misuse.
+ghost use Rattle.std.specs.Prelude.{◌≡◌, true};
+ghost use Rattle.sync_model.specs.declared.journal.Deed.TheVariants.{Halt};
+ghost use Rattle.sync_model.specs.declared.journal.Entry.{Entry};
+ghost use Rattle.sync_model.specs.Journal.{halt_of};
+ghost use Rattle.mutex_core.specs.declared.event.MutexEvent.{MutexEvent};
+ghost use Rattle.mutex_core.specs.declared.reply.MutexReply.{MutexReply};
+ghost use Rattle.mutex_core.specs.Edges.{acquires, releases};
+ghost use Rattle.mutex_core.specs.MutexMachine.{next};
+ghost use Rattle.ruled_object.specs.Gathered.{SamePasses, IsWhole};
+ghost use Rattle.ruled_object.specs.Passes.{Adds, SamePass};
+ghost use Rattle.go_locks.specs.Mutexes.{MutexJournal, mutex_start, IsPassOfMutex, AreAllOfMutex};
+
+use super::{Mutex, MutexPass};
+use crate::making::wake_others;
+use std::sync::Wait;
+use sync_model::{Misuse, Note};
+
+impl<N: Note> Mutex<N> {
+    /// Halts the mutex by a misuse: from then on each event of its callers, the waiting ones' too, is answered `Halted`. The
+    /// first halt is kept. It is one entry of the journal, neither releases nor acquires, and takes nothing off the calls
+    /// that are left.
+    pub fn halt<R: Wait>(&self, rt: &R, pass: &mut MutexPass<N>, note: &N, misuse: Misuse)
+        requires { IsPassOfMutex self.now pass.old }
+        ensures pass { IsPassOfMutex self.now pass.new × SamePass pass.old pass.new }
+        ensures entry { (e : Entry MutexEvent MutexReply)
+            × Adds next true (λ event reply. releases reply) (λ event reply. acquires reply) (mutex_start self.now) pass.old e pass.new
+            × (e.deed ≡ Halt misuse) × (e.front ≡ N.front note.now) }
+    {
+        self.object.halt(rt, pass, note, misuse);
+        wake_others(&self.object, self.callers, pass.number());
+    }
+
+    /// The misuse of the journal's first halt, and `None` exactly where there is none. It takes all passes, so that no
+    /// call is under way, and adds no entry. Afterwards each pass has seen the whole journal.
+    pub fn first_halt(&self, passes: &mut [MutexPass<N>]) -> Option<Misuse>
+        requires { AreAllOfMutex self.now passes.old }
+        ensures passes { AreAllOfMutex self.now passes.new × SamePasses passes.old passes.new }
+        ensures history { (log : MutexJournal) × (result ≡ halt_of log)
+            × IsWhole next true (λ event reply. releases reply) (λ event reply. acquires reply) (mutex_start self.now) log passes.old
+            × IsWhole next true (λ event reply. releases reply) (λ event reply. acquires reply) (mutex_start self.now) log passes.new }
+    {
+        self.object.first_halt(passes)
+    }
+}
