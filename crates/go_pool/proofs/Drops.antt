@@ -1,12 +1,11 @@
 -- What a put found in its caller's part.
-use Rattle.std.proofs.Common.{◌≡◌, ℕ, ◌<◌, Bool, true, false, List, [], ◌∷◌, ◌++◌, Option, Some, None, refl, sym, ap, ◌∙◌, subst}
+use Rattle.std.proofs.Common.{◌≡◌, ℕ, ◌<◌, Bool, true, false, List, [], ◌∷◌, ◌++◌, Some, None, refl, sym, ap, ◌∙◌, subst}
 use Rattle.std.specs.Prelude.{if◌then◌else◌, slice_get}
 use Rattle.sync_model.specs.declared.journal.Deed.{Deed}
 use Rattle.sync_model.specs.declared.journal.Deed.TheVariants.{Event, Refused, Halt}
 use Rattle.sync_model.specs.declared.journal.Entry.{Entry}
 use Rattle.sync_model.specs.Journal.{Follows, log_of, logged, state_after}
 use Rattle.sync_model.specs.Log as log
-use Rattle.wait_cores.specs.declared.pool_event.PoolEvent.{PoolEvent}
 use Rattle.wait_cores.specs.declared.pool_event.PoolEvent.TheVariants.{Put}
 use Rattle.wait_cores.specs.declared.pool_event.PoolReply.{PoolReply}
 use Rattle.wait_cores.specs.declared.pool_event.PoolReply.TheVariants.{Kept, Dropped}

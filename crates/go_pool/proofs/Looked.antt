@@ -1,5 +1,5 @@
 -- How the looks of a get add up.
-use Rattle.std.proofs.Common.{◌≡◌, ℕ, suc, ◌+◌, ◌*◌, ◌<◌, true, List, [], ◌∷◌, ◌++◌, Option, Some, None, refl, sym, ap, ◌∙◌, subst, add-one}
+use Rattle.std.proofs.Common.{◌≡◌, ℕ, ◌+◌, ◌*◌, ◌<◌, true, List, [], ◌∷◌, ◌++◌, Option, Some, None, refl, sym, ap, ◌∙◌, subst, add-one}
 use Rattle.sync_model.specs.declared.answer.Answer.{Answer}
 use Rattle.sync_model.specs.declared.answer.Answer.TheVariants.{Done, Halted}
 use Rattle.sync_model.specs.declared.journal.Deed.{Deed}
@@ -12,7 +12,7 @@ use Rattle.ruled_object.specs.Growth.{deeds_of, halt_before, MeetsHalt}
 use Rattle.ruled_object.specs.Growth as growth
 use Rattle.go_pool.specs.declared.pool.Pool.{Pool}
 use Rattle.go_pool.specs.declared.pool_get.PoolGet.{PoolGet}
-use Rattle.go_pool.specs.declared.pool_get.PoolGet.TheVariants.{Item, New}
+use Rattle.go_pool.specs.declared.pool_get.PoolGet.TheVariants.{Item}
 use Rattle.go_pool.specs.Calls.{Deeds, Gets, Looks, look, nothing_in}
 use Rattle.go_pool.specs.Pools.{Placed, PoolPass, parts_of, number_of, Grows}
 
