@@ -59,7 +59,7 @@ keeps_both at own front a b c x y = record {
 
 -- a caller's own entries say whether it waits, as the log of what the machine took does, where no halt stands
 module _ {S E R : Type 0} (next : S → ℕ → E → S × R) (after : Bool → R → Bool) (is_waiting : Bool → ℕ → List (log.Entry E R) → Bool) (none : (w : Bool) (c : ℕ) → is_waiting w c [] ≡ w)
-  (more : (w : Bool) (c : ℕ) (e : log.Entry E R) (es : List (log.Entry E R)) → is_waiting w c (e ∷ es) ≡ is_waiting (if e.caller == c then after w e.reply else w) c es) where
+    (more : (w : Bool) (c : ℕ) (e : log.Entry E R) (es : List (log.Entry E R)) → is_waiting w c (e ∷ es) ≡ is_waiting (if e.caller == c then after w e.reply else w) c es) where
   logged_on : (s : S) (c : ℕ) (w : Bool) (x : Entry E R) (d : Deed E R) (xs : List (Entry E R)) (later : List (log.Entry E R)) → x.deed ≡ d → Right next true s None x.caller d → halt_after (halt_next None d) xs ≡ None
       → (halt_next None d ≡ None → (v : Bool) → is_waiting v c later ≡ waits_by after v (by c xs)) → is_waiting w c (logged x.caller d later) ≡ waits_by after w (cond (x.caller == c) (x ∷ by c xs) (by c xs))
   logged_on s c w x (Event e r) xs later is right unhalted on = more w c (log.entry x.caller e r) later ∙ by_test (x.caller == c)
@@ -75,7 +75,7 @@ module _ {S E R : Type 0} (next : S → ℕ → E → S × R) (after : Bool → 
   waits_log s c w (x ∷ xs) follows unhalted =
       let rest : List (Entry E R) = xs in
       logged_on s c w x x.deed rest (log_of rest) refl follows.0 unhalted
-          (λ opens v. waits_log (state_next next s x.caller x.deed) c v xs (subst (λ (h : Option Misuse). Follows next true (state_next next s x.caller x.deed) h rest) opens follows.1) (subst (λ (h : Option Misuse). halt_after h rest ≡ None) opens unhalted))
+      (λ opens v. waits_log (state_next next s x.caller x.deed) c v xs (subst (λ (h : Option Misuse). Follows next true (state_next next s x.caller x.deed) h rest) opens follows.1) (subst (λ (h : Option Misuse). halt_after h rest ≡ None) opens unhalted))
 
 module _ {S N E R : Type 0} (next : S → ℕ → E → S × R) (start : S) where
   -- a call of one event

@@ -1,5 +1,6 @@
 pub mod Calls
 pub mod Exclusion
+pub mod Fresh
 pub mod MutexCalls
 pub mod Mutexes
 pub mod RwCalls

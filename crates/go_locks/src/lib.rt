@@ -8,3 +8,6 @@ pub mod rw_mutex;
 
 pub use mutex::{Mutex, MutexPass};
 pub use rw_mutex::{RwMutex, RwPass};
+
+#[cfg(test)]
+mod tests;

@@ -7,8 +7,7 @@ ghost use Rattle.ruled_object.specs.Cells.{deed_of};
 ghost use Rattle.ruled_object.specs.Growth.{Placed, Grows, IsLawful, MeetsHalt, KeepsNote};
 ghost use Rattle.ruled_object.specs.Passes.{callers_of, left_of, number_of, own_by, start_of, IsHomeOf, IsPassOf, SamePass};
 
-use ruled_object::laws;
-use ruled_object::{Object, PassOf};
+use ruled_object::{Object, PassOf, laws};
 use std::sync::Wait;
 use sync_model::{Answer, Machine, Note};
 
@@ -42,8 +41,8 @@ pub(crate) fn make<M: Machine, N: Note, R: Wait>(
         × Grows M.next M.HALTS (start_of object.now) pass.old (N.front note.old) (p ∷ []) pass.new (N.front note.new)
         × (p.entry.deed ≡ deed_of event result)
         × ((first : Pass M.State N M.Event M.Reply) (from : List ℕ) (es : List (Placed M.Event M.Reply))
-            → Grows M.next M.HALTS (start_of object.now) first from es pass.old (N.front note.old)
-            → Grows M.next M.HALTS (start_of object.now) first from (es ++ p ∷ []) pass.new (N.front note.new) × MeetsHalt (es ++ p ∷ []) result)
+        → Grows M.next M.HALTS (start_of object.now) first from es pass.old (N.front note.old)
+        → Grows M.next M.HALTS (start_of object.now) first from (es ++ p ∷ []) pass.new (N.front note.new) × MeetsHalt (es ++ p ∷ []) result)
         × (own_by pass.old ≡ by (number_of pass.old) p.before)
         × Follows M.next M.HALTS (start_of object.now) None p.before
         × log.Follows M.next (start_of object.now) (log_of p.before)

@@ -9,8 +9,8 @@ mod making;
 mod read;
 mod write;
 
-use rw_core::RwCore;
 use ruled_object::{Object, PassOf};
+use rw_core::RwCore;
 use sync_model::Note;
 
 /// A reader/writer mutual exclusion lock for threads: any number of readers hold it, or one writer. A reader that comes

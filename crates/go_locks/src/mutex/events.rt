@@ -54,8 +54,8 @@ impl<N: Note> Mutex<N> {
             × Grows next true (mutex_start self.now) pass.old (N.front note.old) (p ∷ []) pass.new (N.front note.new)
             × (p.entry.deed ≡ deed_of event result)
             × ((first : Pass State N MutexEvent MutexReply) (from : List ℕ) (es : List (Placed MutexEvent MutexReply))
-                → Grows next true (mutex_start self.now) first from es pass.old (N.front note.old)
-                → Grows next true (mutex_start self.now) first from (es ++ p ∷ []) pass.new (N.front note.new) × MeetsHalt (es ++ p ∷ []) result) }
+            → Grows next true (mutex_start self.now) first from es pass.old (N.front note.old)
+            → Grows next true (mutex_start self.now) first from (es ++ p ∷ []) pass.new (N.front note.new) × MeetsHalt (es ++ p ∷ []) result) }
         ensures answered { (reply : MutexReply) → result ≡ Done reply → (is_answer event reply ≡ true) ⊎ (reply ≡ MutexReply.Still) }
         ensures out { (reply : MutexReply) → result ≡ Done reply → waits_by waits_after false (own_by pass.old) ≡ false
             → is_needed event Place.Out ≡ true → is_answer event reply ≡ true }
@@ -71,10 +71,7 @@ impl<N: Note> Mutex<N> {
         match reply {
             MutexReply::Unlocked(Unlocking::Misuse(misuse)) => return Err(misuse),
             MutexReply::Unlocked(Unlocking::Woke(ticket) | Unlocking::Handed(ticket))
-                if ticket < self.callers =>
-            {
-                self.object.unpark(ticket)
-            }
+                if ticket < self.callers => { self.object.unpark(ticket) }
             _ => {}
         }
         Ok(())

@@ -18,9 +18,8 @@ ghost use Rattle.go_locks.specs.RwMutexes.{rw_callers, rw_start, IsHomeOfRwMutex
 
 use super::{RwMutex, RwPass};
 use crate::making::{make, wake_others};
-use rw_core::laws;
 use rw_core::reply::{Arrival, Resumption, Unlocking};
-use rw_core::{RwCore, RwEvent, RwReply};
+use rw_core::{RwCore, RwEvent, RwReply, laws};
 use std::sync::Wait;
 use sync_model::{Answer, Misuse, Note};
 
@@ -57,8 +56,8 @@ impl<N: Note> RwMutex<N> {
             × Grows next true (rw_start self.now) pass.old (N.front note.old) (p ∷ []) pass.new (N.front note.new)
             × (p.entry.deed ≡ deed_of event result)
             × ((first : Pass State N RwEvent RwReply) (from : List ℕ) (es : List (Placed RwEvent RwReply))
-                → Grows next true (rw_start self.now) first from es pass.old (N.front note.old)
-                → Grows next true (rw_start self.now) first from (es ++ p ∷ []) pass.new (N.front note.new) × MeetsHalt (es ++ p ∷ []) result) }
+            → Grows next true (rw_start self.now) first from es pass.old (N.front note.old)
+            → Grows next true (rw_start self.now) first from (es ++ p ∷ []) pass.new (N.front note.new) × MeetsHalt (es ++ p ∷ []) result) }
         ensures answered { (reply : RwReply) → result ≡ Done reply → (is_answer event reply ≡ true) ⊎ (reply ≡ RwReply.Still) }
         ensures out { (reply : RwReply) → result ≡ Done reply → waits_by waits_after false (own_by pass.old) ≡ false
             → is_needed event Place.Out ≡ true → is_answer event reply ≡ true }

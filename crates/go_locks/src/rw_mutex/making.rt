@@ -4,8 +4,8 @@ ghost use Rattle.rw_core.specs.RwMachine.{start};
 ghost use Rattle.go_locks.specs.RwMutexes.{rw_callers, rw_start, IsHomeOfRwMutex, AreNewOfRwMutex};
 
 use super::{RwMutex, RwPass};
-use rw_core::RwCore;
 use ruled_object::{MAX_CALLS, Object};
+use rw_core::RwCore;
 use std::alloc::{AllocError, Global};
 use sync_model::{MAX_CALLERS, Note};
 

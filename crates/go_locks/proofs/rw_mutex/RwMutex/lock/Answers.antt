@@ -43,7 +43,7 @@ returns-in-Halted-clause-events g c =
     let grown = entry.3 old from [] (c.spend.ensures.nothing start from) in
     let deed = entry.2 ∙ ap (deed_of (WriteArrive now)) c.in-Halted.is in
     did_one next start WriteLocks (AreClocked (g.C.Clock.shows c.args.at.now.clock.now)) old new from to (Halted c.in-Halted.misuse) entry.0 (Refused (WriteArrive now) c.in-Halted.misuse) deed grown.0 (refused now c.in-Halted.misuse)
-        (subst (MeetsHalt (entry.0 ∷ [])) c.in-Halted.is grown.1) (c.now-now.ensures, tt)
+    (subst (MeetsHalt (entry.0 ∷ [])) c.in-Halted.is grown.1) (c.now-now.ensures, tt)
 
 pub returns-then-has_lock-clause-pass : goal.returns-then-has_lock-clause-pass
 returns-then-has_lock-clause-pass g c =
@@ -79,7 +79,7 @@ returns-then-has_lock-clause-events g c =
     let is = write_has now reply answer (sym c.has_lock.ensures ∙ c.if-has_lock.true) in
     let deed = entry.2 ∙ (ap (deed_of (WriteArrive now)) c.in-Done.is ∙ ap (Event (WriteArrive now)) is) in
     did_one next start WriteLocks (AreClocked (g.C.Clock.shows c.args.at.now.clock.now)) old new from to (Done tt) entry.0 (Event (WriteArrive now) (Arrived Acquired)) deed grown.0 (at_once now)
-        (subst (MeetsHalt (entry.0 ∷ [])) c.in-Done.is grown.1) (c.now-now.ensures, tt)
+    (subst (MeetsHalt (entry.0 ∷ [])) c.in-Done.is grown.1) (c.now-now.ensures, tt)
 
 pub returns-else-has_lock-clause-events : goal.returns-else-has_lock-clause-events
 returns-else-has_lock-clause-events g c =

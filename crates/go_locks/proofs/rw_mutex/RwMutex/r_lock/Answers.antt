@@ -41,7 +41,7 @@ returns-in-Halted-clause-events g c =
     let grown = entry.3 old from [] (c.spend.ensures.nothing start from) in
     let deed = entry.2 ∙ ap (deed_of ReadArrive) c.in-Halted.is in
     did_one next start ReadLocks (AreClocked (g.C.Clock.shows c.args.at.now.clock.now)) old new from to (Halted c.in-Halted.misuse) entry.0 (Refused ReadArrive c.in-Halted.misuse) deed grown.0 (refused c.in-Halted.misuse)
-        (subst (MeetsHalt (entry.0 ∷ [])) c.in-Halted.is grown.1) (tt, tt)
+    (subst (MeetsHalt (entry.0 ∷ [])) c.in-Halted.is grown.1) (tt, tt)
 
 pub returns-then-has_lock-clause-pass : goal.returns-then-has_lock-clause-pass
 returns-then-has_lock-clause-pass g c =
@@ -75,7 +75,7 @@ returns-then-has_lock-clause-events g c =
     let is = read_has reply answer (sym c.has_lock.ensures ∙ c.if-has_lock.true) in
     let deed = entry.2 ∙ (ap (deed_of ReadArrive) c.in-Done.is ∙ ap (Event ReadArrive) is) in
     did_one next start ReadLocks (AreClocked (g.C.Clock.shows c.args.at.now.clock.now)) old new from to (Done tt) entry.0 (Event ReadArrive (Arrived Acquired)) deed grown.0 at_once
-        (subst (MeetsHalt (entry.0 ∷ [])) c.in-Done.is grown.1) (tt, tt)
+    (subst (MeetsHalt (entry.0 ∷ [])) c.in-Done.is grown.1) (tt, tt)
 
 pub returns-else-has_lock-clause-events : goal.returns-else-has_lock-clause-events
 returns-else-has_lock-clause-events g c =

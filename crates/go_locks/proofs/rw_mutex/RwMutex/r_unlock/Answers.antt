@@ -72,4 +72,4 @@ returns-in-Done-clause-events g c =
     let deed = entry.2 ∙ (ap (deed_of ReadUnlock) c.in-Done.is ∙ ap (Event ReadUnlock) is.1) in
     let answer : c.unlocked.result ≡ answer_of is.0 = c.unlocked.ensures is.0 is.1 in
     did_one next start (Unlocks ReadUnlock) (AreClocked (g.C.Clock.shows c.args.at.now.clock.now)) old new from to _ entry.0 (Event ReadUnlock (Unlocked is.0)) deed grown.0
-        (subst (λ r. Unlocks ReadUnlock (Event ReadUnlock (Unlocked is.0) ∷ []) (Done r)) (sym answer) (unlocked is.0)) (subst (MeetsHalt (entry.0 ∷ [])) c.in-Done.is grown.1) (tt, tt)
+    (subst (λ r. Unlocks ReadUnlock (Event ReadUnlock (Unlocked is.0) ∷ []) (Done r)) (sym answer) (unlocked is.0)) (subst (MeetsHalt (entry.0 ∷ [])) c.in-Done.is grown.1) (tt, tt)

@@ -73,4 +73,4 @@ returns-in-Done-clause-events g c =
     let deed = entry.2 ∙ (ap (deed_of WriteTry) c.in-Done.is ∙ ap (Event WriteTry) is.1) in
     let answer : c.has_lock.result ≡ is.0 = c.has_lock.ensures ∙ ap acquires is.1 in
     did_one next start (Tries WriteTry) (AreClocked (g.C.Clock.shows c.args.at.now.clock.now)) old new from to _ entry.0 (Event WriteTry (Tried is.0)) deed grown.0
-        (subst (λ b. Tries WriteTry (Event WriteTry (Tried is.0) ∷ []) (Done b)) (sym answer) (tried is.0)) (subst (MeetsHalt (entry.0 ∷ [])) c.in-Done.is grown.1) (tt, tt)
+    (subst (λ b. Tries WriteTry (Event WriteTry (Tried is.0) ∷ []) (Done b)) (sym answer) (tried is.0)) (subst (MeetsHalt (entry.0 ∷ [])) c.in-Done.is grown.1) (tt, tt)

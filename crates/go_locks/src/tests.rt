@@ -1,0 +1,3 @@
+mod fresh;
+mod one_thread;
+mod threads;

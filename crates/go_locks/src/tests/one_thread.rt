@@ -1,0 +1,136 @@
+use super::fresh::{knows, last, last_rw, mutex, nothing, rw_mutex};
+use std::test::Fail;
+use sync_model::{Answer, FrontNote, Misuse};
+use sync_outside::{At, MemClock};
+
+#[test]
+fn two_callers_by_turns_and_a_halt(rt: HostRuntime) -> Result<(), Fail> {
+    let (mutex, mut passes) = mutex(rt.alloc(), 2)?;
+    let mut one = last(&mutex, &mut passes);
+    let mut zero = last(&mutex, &mut passes);
+    let clock = MemClock::new(Vec::new(rt.alloc()));
+    let at: At<FrontNote, MemClock> = At {
+        home: &(),
+        clock: &clock,
+    };
+    let (mut first, mut second) = (knows(7), nothing());
+
+    assert_eq!(rt;
+        mutex.lock(&rt, &at, &mut zero, &mut first),
+        Answer::Done(())
+    );
+    assert_eq!(rt;
+        mutex.try_lock(&rt, &at, &mut one, &mut second),
+        Answer::Done(false)
+    );
+    // A try that fails makes no edge.
+    assert_eq!(rt; second.count(0), 0);
+    assert_eq!(rt;
+        mutex.unlock(&rt, &at, &mut zero, &mut first),
+        Answer::Done(Ok(()))
+    );
+    assert_eq!(rt; second.count(0), 0);
+    assert_eq!(rt;
+        mutex.try_lock(&rt, &at, &mut one, &mut second),
+        Answer::Done(true)
+    );
+    // What the unlocker knew, the holder knows.
+    assert_eq!(rt; second.count(0), 7);
+    assert_eq!(rt;
+        mutex.unlock(&rt, &at, &mut zero, &mut first),
+        Answer::Done(Ok(()))
+    );
+    let misuse = Misuse::UnlockOfUnlockedMutex;
+    assert_eq!(rt;
+        mutex.unlock(&rt, &at, &mut zero, &mut first),
+        Answer::Done(Err(misuse))
+    );
+    mutex.halt(&rt, &mut zero, &first, misuse);
+    assert_eq!(rt;
+        mutex.lock(&rt, &at, &mut one, &mut second),
+        Answer::Halted(misuse)
+    );
+    assert_eq!(rt; (zero.left(), one.left()), (999_996, 999_997));
+    Ok(())
+}
+
+#[test]
+fn readers_share_and_keep_a_writer_out(rt: HostRuntime) -> Result<(), Fail> {
+    let (lock, mut passes) = rw_mutex(rt.alloc(), 2)?;
+    let mut one = last_rw(&lock, &mut passes);
+    let mut zero = last_rw(&lock, &mut passes);
+    let clock = MemClock::new(Vec::new(rt.alloc()));
+    let at: At<FrontNote, MemClock> = At {
+        home: &(),
+        clock: &clock,
+    };
+    let (mut first, mut second) = (knows(3), nothing());
+
+    assert_eq!(rt;
+        lock.r_lock(&rt, &at, &mut zero, &mut first),
+        Answer::Done(())
+    );
+    assert_eq!(rt;
+        lock.try_lock(&rt, &at, &mut one, &mut second),
+        Answer::Done(false)
+    );
+    assert_eq!(rt;
+        lock.r_lock(&rt, &at, &mut one, &mut second),
+        Answer::Done(())
+    );
+    assert_eq!(rt;
+        lock.r_unlock(&rt, &at, &mut zero, &mut first),
+        Answer::Done(Ok(()))
+    );
+    assert_eq!(rt;
+        lock.r_unlock(&rt, &at, &mut one, &mut second),
+        Answer::Done(Ok(()))
+    );
+    let misuse = Misuse::RUnlockOfUnlockedRwMutex;
+    assert_eq!(rt;
+        lock.r_unlock(&rt, &at, &mut zero, &mut first),
+        Answer::Done(Err(misuse))
+    );
+    // The writer knows what the readers knew.
+    assert_eq!(rt; second.count(0), 0);
+    assert_eq!(rt;
+        lock.lock(&rt, &at, &mut one, &mut second),
+        Answer::Done(())
+    );
+    assert_eq!(rt; second.count(0), 3);
+    assert_eq!(rt;
+        lock.try_r_lock(&rt, &at, &mut zero, &mut first),
+        Answer::Done(false)
+    );
+    assert_eq!(rt;
+        lock.unlock(&rt, &at, &mut one, &mut second),
+        Answer::Done(Ok(()))
+    );
+    let misuse = Misuse::UnlockOfUnlockedRwMutex;
+    assert_eq!(rt;
+        lock.unlock(&rt, &at, &mut one, &mut second),
+        Answer::Done(Err(misuse))
+    );
+    assert_eq!(rt;
+        lock.try_r_lock(&rt, &at, &mut zero, &mut first),
+        Answer::Done(true)
+    );
+    lock.halt(&rt, &mut zero, &first, misuse);
+    assert_eq!(rt;
+        lock.try_lock(&rt, &at, &mut one, &mut second),
+        Answer::Halted(misuse)
+    );
+    Ok(())
+}
+
+#[test]
+fn the_first_halt_is_found(rt: HostRuntime) -> Result<(), Fail> {
+    let (mutex, mut passes) = mutex(rt.alloc(), 1)?;
+    let mut pass = last(&mutex, &mut passes);
+    mutex.halt(&rt, &mut pass, &nothing(), Misuse::WaitGroupReused);
+    mutex.halt(&rt, &mut pass, &nothing(), Misuse::NegativeWaitGroupCounter);
+    let (lock, mut passes) = rw_mutex(rt.alloc(), 1)?;
+    let mut pass = last_rw(&lock, &mut passes);
+    lock.halt(&rt, &mut pass, &nothing(), Misuse::WaitGroupReused);
+    Ok(())
+}
