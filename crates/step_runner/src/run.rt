@@ -37,11 +37,7 @@ fn take_item(
 }
 
 /// Takes the items of the schedule in order, to the first misuse.
-fn take_schedule(
-    alloc: Global,
-    workload: &Workload,
-    state: &mut State,
-) -> Result<Step, AllocError>
+fn take_schedule(alloc: Global, workload: &Workload, state: &mut State) -> Result<Step, AllocError>
     requires { IsStateOf workload.now state.old }
     ensures items { IfOk result (λ step. items_of workload.now workload.now.schedule state.old ≡ (state.new, step)) }
     ensures of { IfOk result (λ _. IsStateOf workload.now state.new) }
@@ -120,7 +116,9 @@ fn outcome(alloc: Global, state: State, ending: Ending) -> Result<Outcome, Alloc
     ensures { IfOk result (λ outcome. outcome ≡ outcome_of (state, ending)) }
 {
     let State {
-        objects, replies, ..
+        objects,
+        replies,
+        ..
     } = state;
     match ending {
         Ending::Done => {
