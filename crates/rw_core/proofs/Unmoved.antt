@@ -1,5 +1,5 @@
 -- An event that is answered `Still` changes nothing.
-use Rattle.std.proofs.Common.{◌≡◌, ℕ, ◌-◌, Bool, true, false, List, [], ◌∷◌, ◌++◌, length, refl}
+use Rattle.std.proofs.Common.{◌≡◌, ℕ, Bool, true, false, refl}
 use Rattle.std.specs.Prelude.{nat_lt, ◌==◌, if◌then◌else◌}
 use Rattle.mutex_core.specs.MutexMachine as mutex
 use Rattle.mutex_core.specs.declared.event.MutexEvent.TheVariants as mutex_event
@@ -12,11 +12,9 @@ use Rattle.rw_core.specs.declared.event.RwEvent.TheVariants as event
 use Rattle.rw_core.specs.declared.place.Place.{Place}
 use Rattle.rw_core.specs.declared.place.Place.TheVariants as place
 use Rattle.rw_core.specs.declared.reply.RwReply.{RwReply}
-use Rattle.rw_core.specs.declared.reply.RwReply.TheVariants.{Arrived, Tried, Unlocked, Resumed, Left, Still}
-use Rattle.rw_core.specs.declared.reply.Arrival.TheVariants as arrival
-use Rattle.rw_core.specs.declared.reply.Resumption.TheVariants as resumption
+use Rattle.rw_core.specs.declared.reply.RwReply.TheVariants.{Unlocked, Still}
 use Rattle.rw_core.specs.declared.reply.Unlocking.TheVariants as unlocking
-use Rattle.rw_core.specs.RwMachine.{State, is_announced, is_holding, place_of, announced, write_arrived, write_resumed, write_tried, still, at_place, next}
+use Rattle.rw_core.specs.RwMachine.{State, is_announced, is_holding, place_of, write_arrived, write_resumed, write_tried, still, at_place, next}
 
 abbrev Unmoved : State → State × RwReply → Type 0
 Unmoved s step = step.1 ≡ Still → step.0 ≡ s

@@ -1,32 +1,21 @@
 -- How a run ends.
-use Rattle.std.proofs.Common.{◌≡◌, ℕ, zero, suc, ◌+◌, ◌<◌, Bool, true, false, List, [], ◌∷◌, ◌++◌, map, length, Option, Some, None, refl, sym, ap, ◌∙◌, subst, arith}
-use Rattle.std.specs.Prelude.{is_some, not, slice_get, get_or, if◌then◌else◌}
-use Rattle.std.specs.List.{list_all, range_with_len}
-use Rattle.sync_model.specs.declared.call.Call.{Call}
-use Rattle.sync_model.specs.declared.call.Call.TheVariants as calls
-use Rattle.sync_model.specs.declared.call.Reply.{Reply}
+use Rattle.std.proofs.Common.{◌≡◌, ℕ, zero, suc, ◌+◌, ◌<◌, Bool, true, false, [], ◌++◌, map, length, refl, sym, ap, ◌∙◌, subst, arith}
+use Rattle.std.specs.Prelude.{if◌then◌else◌}
 use Rattle.sync_model.specs.declared.misuse.Misuse.{Misuse}
-use Rattle.workload.specs.declared.turn.Turn.{Turn}
-use Rattle.workload.specs.Plan.{Plan, has_call, is_valid}
-use Rattle.step_runner.specs.declared.step.Answer.{Answer}
-use Rattle.step_runner.specs.declared.step.Answer.TheVariants as answers
+use Rattle.workload.specs.Plan.{Plan}
 use Rattle.step_runner.specs.declared.step.Step.{Step}
 use Rattle.step_runner.specs.declared.step.Step.TheVariants as steps
 use Rattle.step_runner.specs.declared.outcome.Ending.{Ending}
 use Rattle.step_runner.specs.declared.outcome.Ending.TheVariants as endings
 use Rattle.step_runner.specs.declared.outcome.Report.{Report}
-use Rattle.step_runner.specs.declared.outcome.Outcome.{Outcome}
 use Rattle.step_runner.specs.declared.outcome.Outcome.TheVariants as outcomes
-use Rattle.step_runner.specs.declared.object_state.ObjectState.{ObjectState}
-use Rattle.step_runner.specs.declared.object_state.ObjectState.TheVariants as states
-use Rattle.step_runner.specs.Ends.{ends_of}
 use Rattle.step_runner.specs.LeftToDo.{left_to_do}
-use Rattle.step_runner.specs.Outcomes.{rounds, is_misused, ComesTo, IsDone, IsMisused, IsDeadlocked, never_waits}
-use Rattle.step_runner.specs.State.{State, kind_of, start, IsStateOf}
-use Rattle.step_runner.specs.Turns.{next_call, turn_on, turn_of, with_event, and_then, items_of, round, has_ended, behind_round, rounds_of, all_rounds, behind_schedule, whole_run, outcome_of, turns}
-use Rattle.step_runner.proofs.TurnLemmas.{true_false, both_true, all_get, all_at, Stands, moved, turn_cases, StepUses}
-use Rattle.step_runner.proofs.RunLemmas.{then_ends, items_append, GoesOn, UsesUp, turns_of, items_valid}
-use Rattle.step_runner.proofs.RoundLemmas.{is_at_end, where_ended, where_going, round_same, round_less, round_of, going_before, all_replied}
+use Rattle.step_runner.specs.Outcomes.{rounds, is_misused, ComesTo, IsDone, IsMisused, IsDeadlocked}
+use Rattle.step_runner.specs.State.{State, start, IsStateOf}
+use Rattle.step_runner.specs.Turns.{with_event, and_then, items_of, round, has_ended, behind_round, rounds_of, all_rounds, behind_schedule, whole_run, outcome_of, turns}
+use Rattle.step_runner.proofs.TurnLemmas.{true_false}
+use Rattle.step_runner.proofs.RunLemmas.{items_append, GoesOn, UsesUp, items_valid}
+use Rattle.step_runner.proofs.RoundLemmas.{where_ended, where_going, round_same, round_less, round_of, going_before, all_replied}
 
 -- ---- what comes behind the schedule and some rounds
 

@@ -1,5 +1,5 @@
 -- The calls that a worker completes are those of its script, in order.
-use Rattle.std.proofs.Common.{◌≡◌, ◌≢◌, ℕ, ◌+◌, ◌<◌, ◌⊎◌, Bool, true, false, cond, eqb, List, [], ◌∷◌, ◌++◌, map, take, length, get_or, Option, Some, None, refl, sym, ap, ◌∙◌, subst, inl, inr, append-nil, append_assoc, arith}
+use Rattle.std.proofs.Common.{◌≡◌, ◌≢◌, ℕ, ◌+◌, ◌<◌, ◌⊎◌, Bool, true, false, cond, eqb, List, [], ◌∷◌, ◌++◌, map, take, length, get_or, Some, refl, sym, ap, ◌∙◌, inl, inr, append-nil, append_assoc, arith}
 use Rattle.std.specs.Prelude.{◌==◌, nat_lt, if◌then◌else◌}
 use Rattle.std.specs.List.{filter}
 use Rattle.std.specs.Option.{option_to_list}
@@ -17,7 +17,7 @@ use Rattle.step_runner.specs.State.{State, IsStateOf, start, with_moment}
 use Rattle.step_runner.specs.Turns.{next_call, turn_of, with_event, and_then, items_of, after_items}
 use Rattle.step_runner.specs.MadeCalls.{completed_by, unless_misused, made_calls, calls_of}
 use Rattle.step_runner.proofs.StartLemmas.{none_yet}
-use Rattle.step_runner.proofs.TurnLemmas.{Stands, moved, turn_cases, replied_more, replied_other, true_false}
+use Rattle.step_runner.proofs.TurnLemmas.{moved, turn_cases, replied_more, replied_other}
 use Rattle.step_runner.proofs.RunLemmas.{GoesOn, moment_valid}
 
 -- ---- the replies behind a turn

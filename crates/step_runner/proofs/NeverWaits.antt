@@ -1,13 +1,11 @@
 -- Scripts of calls on maps and atomics alone.
-use Rattle.std.proofs.Common.{◌≡◌, ℕ, zero, suc, ◌+◌, ◌<◌, Bool, true, false, List, [], ◌∷◌, ◌++◌, map, length, get_or, Option, Some, None, refl, sym, ap, ◌∙◌, subst}
-use Rattle.std.specs.Prelude.{is_some, not, slice_get}
+use Rattle.std.proofs.Common.{◌≡◌, ℕ, true, false, List, [], ◌∷◌, ◌++◌, map, length, get_or, Option, Some, None, refl, sym, ap, ◌∙◌, subst}
+use Rattle.std.specs.Prelude.{is_some, not}
 use Rattle.std.specs.List.{list_all, range_with_len}
 use Rattle.sync_model.specs.declared.call.Call.{Call}
 use Rattle.sync_model.specs.declared.call.Call.TheVariants as calls
-use Rattle.sync_model.specs.declared.call.Reply.{Reply}
 use Rattle.sync_model.specs.declared.map_object.MapCall.{MapCall}
 use Rattle.sync_model.specs.declared.atomic_object.AtomicCall.{AtomicCall}
-use Rattle.sync_model.specs.declared.misuse.Misuse.{Misuse}
 use Rattle.workload.specs.declared.turn.Turn.{Turn}
 use Rattle.workload.specs.declared.turn.Turn.TheVariants as items
 use Rattle.workload.specs.Plan.{Plan, has_call}
@@ -15,20 +13,17 @@ use Rattle.step_runner.specs.declared.step.Answer.{Answer}
 use Rattle.step_runner.specs.declared.step.Answer.TheVariants as answers
 use Rattle.step_runner.specs.declared.step.Step.{Step}
 use Rattle.step_runner.specs.declared.step.Step.TheVariants as steps
-use Rattle.step_runner.specs.declared.outcome.Ending.{Ending}
-use Rattle.step_runner.specs.declared.outcome.Ending.TheVariants as endings
 use Rattle.step_runner.specs.declared.outcome.Report.{Report}
 use Rattle.step_runner.specs.declared.outcome.Outcome.{Outcome}
 use Rattle.step_runner.specs.declared.outcome.Outcome.TheVariants as outcomes
 use Rattle.step_runner.specs.declared.object_state.ObjectState.{ObjectState}
 use Rattle.step_runner.specs.declared.object_state.ObjectState.TheVariants as states
-use Rattle.step_runner.specs.Ends.{ends_of}
 use Rattle.step_runner.specs.MapTurn.{map_turn, range_turn}
 use Rattle.step_runner.specs.AtomicTurn.{atomic_turn}
 use Rattle.step_runner.specs.Outcomes.{rounds, is_misused, never_waits}
-use Rattle.step_runner.specs.State.{State, kind_of, with_moment, start, IsStateOf}
-use Rattle.step_runner.specs.Turns.{next_call, turn_on, turn_of, item_of, with_event, and_then, items_of, round, has_ended, whole_run, outcome_of, turns}
-use Rattle.step_runner.proofs.TurnLemmas.{true_false, both_true, all_get, all_at, Stands, moved, turn_cases, StepUses}
+use Rattle.step_runner.specs.State.{State, kind_of, start, IsStateOf}
+use Rattle.step_runner.specs.Turns.{next_call, turn_on, turn_of, item_of, with_event, and_then, items_of, turns}
+use Rattle.step_runner.proofs.TurnLemmas.{true_false, both_true, all_get, all_at, Stands, turn_cases, StepUses}
 use Rattle.step_runner.proofs.RunLemmas.{GoesOn, UsesUp, turns_of, item_valid}
 use Rattle.step_runner.proofs.EndLemmas.{done_replied, is_done, is_misused_by, is_deadlocked, state_of}
 

@@ -1,14 +1,11 @@
 -- What a turn does to the object of its call.
-use Rattle.std.proofs.Common.{◌≡◌, ℕ, ◌+◌, ◌*◌, ◌<◌, ◌≤◌, Bool, true, false, List, Option, refl, sym, ap, ◌∙◌, subst, arith}
+use Rattle.std.proofs.Common.{◌≡◌, ℕ, ◌+◌, ◌<◌, ◌≤◌, true, List, refl, ap, ◌∙◌, arith}
 use Rattle.sync_model.specs.declared.call.Call.{Call}
 use Rattle.sync_model.specs.declared.call.Call.TheVariants as calls
-use Rattle.sync_model.specs.declared.call.Reply.{Reply}
-use Rattle.sync_model.specs.declared.call.Reply.TheVariants as replies
 use Rattle.sync_model.specs.declared.lock_call.MutexCall.{MutexCall}
 use Rattle.sync_model.specs.declared.lock_call.RwMutexCall.{RwMutexCall}
 use Rattle.sync_model.specs.declared.map_object.MapCall.{MapCall}
 use Rattle.sync_model.specs.declared.atomic_object.AtomicCall.{AtomicCall}
-use Rattle.sync_model.specs.SequentialAtomic.{is_atomic_call, atomic_after}
 use Rattle.mutex_core.specs.MutexMachine as mutex
 use Rattle.mutex_core.specs.EventsLeft as mutex_left
 use Rattle.mutex_core.specs.declared.event.MutexEvent.{MutexEvent}
@@ -31,7 +28,6 @@ use Rattle.rw_core.specs.declared.reply.RwReply.TheVariants as rw_reply
 use Rattle.rw_core.specs.declared.reply.Arrival.TheVariants as rw_arrival
 use Rattle.rw_core.specs.declared.reply.Resumption.TheVariants as rw_resumption
 use Rattle.rw_core.specs.declared.reply.Unlocking.TheVariants as rw_unlocking
-use Rattle.workload.specs.declared.object.ObjectKind.{ObjectKind}
 use Rattle.workload.specs.declared.object.ObjectKind.TheVariants as kinds
 use Rattle.workload.specs.Plan.{has_call}
 use Rattle.step_runner.specs.declared.step.Answer.{Answer}

@@ -1,5 +1,5 @@
 -- A `range` shows no more keys than the calls of the workload have.
-use Rattle.std.proofs.Common.{◌≡◌, ℕ, zero, suc, ◌≤◌, ◌⊎◌, Bool, true, false, ◌&&◌, ◌||◌, List, [], ◌∷◌, ◌++◌, length, get_or, set, replicate, Option, Some, None, refl, ap, ◌∙◌, subst, inl, inr, arith}
+use Rattle.std.proofs.Common.{◌≡◌, ℕ, zero, suc, ◌≤◌, Bool, true, false, ◌||◌, List, [], ◌∷◌, ◌++◌, length, get_or, set, replicate, Option, Some, None, refl, ap, ◌∙◌, subst, inl, inr, arith}
 use Rattle.std.specs.Prelude.{slice_get}
 use Rattle.std.specs.List.{list_all, list_any, flat_map}
 use Rattle.std.specs.Str.{bytes_eq}
@@ -57,7 +57,7 @@ use Rattle.step_runner.specs.RwMutexTurn.{rw_mutex_turn}
 use Rattle.step_runner.specs.RwMutexTurn as of_rw
 use Rattle.step_runner.specs.Pairs.{has_pairs_to, has_few_pairs}
 use Rattle.step_runner.specs.Turns.{next_call, turn_on, with_object, turn_at, settled, settled_with, after_items, whole_run, outcome_of, turns}
-use Rattle.step_runner.proofs.KeyLemmas.{Contents, HasKeysIn, is_among, empty_keys, call_keys, count_keys}
+use Rattle.step_runner.proofs.KeyLemmas.{HasKeysIn, is_among, empty_keys, call_keys, count_keys}
 use Rattle.step_runner.proofs.TurnLemmas.{both, both_true, set_get}
 use Rattle.step_runner.proofs.RunLemmas.{Kept, items_keep, run_keeps}
 

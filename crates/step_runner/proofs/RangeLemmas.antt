@@ -1,5 +1,5 @@
 -- An atomic stays in its type's range.
-use Rattle.std.proofs.Common.{◌≡◌, ℕ, zero, suc, true, List, [], ◌∷◌, set, Some, refl, sym, subst, inl, inr}
+use Rattle.std.proofs.Common.{◌≡◌, ℕ, zero, suc, true, List, [], ◌∷◌, Some, sym, subst, inl, inr}
 use Rattle.std.specs.Prelude.{slice_get}
 use Rattle.sync_model.specs.declared.call.Call.{Call}
 use Rattle.sync_model.specs.declared.call.Call.TheVariants as calls
@@ -16,7 +16,6 @@ use Rattle.workload.specs.declared.object.ObjectKind.TheVariants as kinds
 use Rattle.workload.specs.declared.object.ObjectLine.{ObjectLine}
 use Rattle.workload.specs.declared.turn.Turn.{Turn}
 use Rattle.workload.specs.Plan.{Plan, object_of, has_call}
-use Rattle.step_runner.specs.declared.step.Step.{Step}
 use Rattle.step_runner.specs.declared.object_state.ObjectState.{ObjectState}
 use Rattle.step_runner.specs.declared.object_state.ObjectState.TheVariants as states
 use Rattle.step_runner.specs.State.{State, start, new_object, new_objects, kind_of, IsStateOf}

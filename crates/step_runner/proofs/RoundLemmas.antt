@@ -1,6 +1,6 @@
 -- Rounds, and what comes behind every script's end.
-use Rattle.std.proofs.Common.{◌≡◌, ◌≢◌, ℕ, zero, suc, ◌+◌, ◌-◌, ◌<◌, ◌≤◌, Bool, true, false, eqb, List, [], ◌∷◌, ◌++◌, map, length, get_or, Option, Some, None, refl, sym, ap, ◌∙◌, subst, inl, inr, arith}
-use Rattle.std.specs.Prelude.{is_some, not, nat_lt, slice_get, if◌then◌else◌, ◌&&◌}
+use Rattle.std.proofs.Common.{◌≡◌, ◌≢◌, ℕ, zero, suc, ◌+◌, ◌-◌, ◌<◌, ◌≤◌, Bool, true, false, eqb, List, [], ◌∷◌, map, length, get_or, Option, Some, None, refl, sym, ap, ◌∙◌, subst, inl, inr, arith}
+use Rattle.std.specs.Prelude.{is_some, not, nat_lt, if◌then◌else◌}
 use Rattle.std.specs.List.{list_all, range_with_len}
 use Rattle.std.specs.Option.{option_map_or}
 use Rattle.std.proofs.lemmas.Bool.{eqb-true, eqb-false, ltb-true, ltb-false}
@@ -15,11 +15,10 @@ use Rattle.step_runner.specs.declared.step.Step.TheVariants as steps
 use Rattle.step_runner.specs.declared.outcome.Ending.{Ending}
 use Rattle.step_runner.specs.declared.outcome.Ending.TheVariants as endings
 use Rattle.step_runner.specs.LeftToDo.{left_to_do}
-use Rattle.step_runner.specs.Outcomes.{rounds}
 use Rattle.step_runner.specs.State.{State, with_moment, IsStateOf}
-use Rattle.step_runner.specs.Turns.{next_call, turn_at, settled_with, turn_of, item_of, with_event, and_then, items_of, round, has_ended, behind_round, rounds_of, all_rounds, behind_schedule}
+use Rattle.step_runner.specs.Turns.{next_call, turn_at, settled_with, turn_of, and_then, items_of, round, has_ended, behind_round, rounds_of, all_rounds}
 use Rattle.step_runner.proofs.TurnLemmas.{both, both_true, true_false, valid_scripts}
-use Rattle.step_runner.proofs.RunLemmas.{items_append, GoesOn, UsesUp, turns_of, ItemsUse, items_valid, workers_use}
+use Rattle.step_runner.proofs.RunLemmas.{GoesOn, UsesUp, turns_of, ItemsUse, items_valid, workers_use}
 
 -- ---- the workers whose scripts have ended
 

@@ -1,5 +1,5 @@
 -- The state in which a run begins.
-use Rattle.std.proofs.Common.{◌≡◌, ℕ, zero, suc, ◌≤◌, true, List, [], ◌∷◌, map, length, get_or, replicate, Some, refl, ap, subst, arith}
+use Rattle.std.proofs.Common.{◌≡◌, ℕ, zero, suc, true, List, [], ◌∷◌, map, length, get_or, replicate, Some, refl, ap, subst, arith}
 use Rattle.std.proofs.lemmas.List.{length-replicate}
 use Rattle.std.specs.Prelude.{slice_get}
 use Rattle.mutex_core.specs.MutexMachine as mutex
@@ -11,7 +11,7 @@ use Rattle.workload.specs.declared.object.ObjectKind.TheVariants as kinds
 use Rattle.workload.specs.declared.object.ObjectLine.{ObjectLine}
 use Rattle.workload.specs.Plan.{Plan, is_valid}
 use Rattle.step_runner.specs.declared.object_state.ObjectState.{ObjectState}
-use Rattle.step_runner.specs.State.{State, start, new_object, new_objects, kind_of, IsStateOf, IsLockOf}
+use Rattle.step_runner.specs.State.{start, new_object, new_objects, kind_of, IsStateOf, IsLockOf}
 use Rattle.step_runner.proofs.AtomicTypes.{zero_type}
 
 -- what the locks' laws say of their first states

@@ -1,12 +1,12 @@
 -- What one turn does to a state, whatever the workload.
-use Rattle.std.proofs.Common.{◌≡◌, ◌≢◌, ℕ, zero, suc, ◌+◌, ◌-◌, ◌*◌, ◌<◌, ◌≤◌, ◌⊎◌, Bool, true, false, eqb, ◌&&◌, List, [], ◌∷◌, ◌++◌, map, length, get_or, set, replicate, Option, Some, None, refl, sym, ap, ◌∙◌, subst, inl, inr, arith}
+use Rattle.std.proofs.Common.{◌≡◌, ◌≢◌, ℕ, zero, suc, ◌+◌, ◌<◌, ◌≤◌, ◌⊎◌, Bool, true, false, eqb, ◌&&◌, List, [], ◌∷◌, ◌++◌, length, get_or, set, Option, Some, None, refl, sym, ap, ◌∙◌, subst, inl, inr, arith}
 use Rattle.std.specs.Prelude.{slice_get, sum_by}
 use Rattle.std.specs.List.{list_all}
 use Rattle.std.specs.Option.{option_map, option_map_or}
 use Rattle.std.proofs.lemmas.Bool.{eqb-true, eqb-false}
-use Rattle.std.proofs.lemmas.List.{length-set, length-append, length-replicate, get_or-set_same, get_or-set_other, set-get_or}
+use Rattle.std.proofs.lemmas.List.{length-set, length-append, get_or-set_same, get_or-set_other, set-get_or}
 use Rattle.std.proofs.lemmas.List.Sums.{sum_by-cons, sum_by-set}
-use Rattle.std.proofs.lemmas.Option.{slice_get-map, slice_get_past, slice_get_within, slice_get_cases, get_or_from_slice_get}
+use Rattle.std.proofs.lemmas.Option.{slice_get-map, slice_get_within, get_or_from_slice_get}
 use Rattle.std.proofs.Math.Seq.{map-set_same}
 use Rattle.sync_model.specs.declared.call.Call.{Call}
 use Rattle.sync_model.specs.declared.call.Call.TheVariants as calls
@@ -30,7 +30,7 @@ use Rattle.step_runner.specs.declared.object_state.ObjectState.{ObjectState}
 use Rattle.step_runner.specs.State.{State, kind_of, with_reply, IsStateOf, IsLockOf, IsReady}
 use Rattle.step_runner.specs.Turns.{next_call, turn_on, with_object, turn_at, settled, settled_with, turn_of}
 use Rattle.step_runner.specs.LeftToDo.{object_left, calls_left, left_to_do}
-use Rattle.step_runner.proofs.ObjectTurns.{MutexLaw, RwLaw, MutexUses, RwUses, Keeps, turn_keeps, Uses, turn_uses}
+use Rattle.step_runner.proofs.ObjectTurns.{MutexLaw, RwLaw, MutexUses, RwUses, turn_keeps, Uses, turn_uses}
 
 -- what two tests that pass together say
 pub both : (a b : Bool) → (a && b) ≡ true → (a ≡ true) × (b ≡ true)

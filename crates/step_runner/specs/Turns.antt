@@ -1,5 +1,5 @@
 -- The run of a workload by its schedule: who takes a turn when, what a turn does, and what it comes to.
-use Rattle.std.specs.Prelude.{ℕ, zero, suc, ◌+◌, Bool, not, List, [], ◌∷◌, ◌++◌, map, length, get_or, set, slice_get, Option, is_some, if◌then◌else◌}
+use Rattle.std.specs.Prelude.{ℕ, zero, suc, ◌+◌, Bool, not, List, [], ◌∷◌, map, length, get_or, set, slice_get, Option, is_some, if◌then◌else◌}
 use Rattle.std.specs.List.{list_all, range_with_len}
 use Rattle.std.specs.Option.{option_map_or}
 use Rattle.sync_model.specs.declared.call.Call.{Call}

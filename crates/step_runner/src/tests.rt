@@ -1,7 +1,7 @@
 use crate::{End, Outcome, Report, stepped};
 use std::alloc::{AllocError, Global};
 use std::test::Fail;
-use sync_model::{AtomicReply, MapReply, Name, Number, Reply};
+use sync_model::{AtomicReply, LockReply, MapReply, Name, Number, Reply};
 use workload::parse;
 
 fn push_number(alloc: Global, text: &mut String, number: Number) -> Result<(), AllocError> {
@@ -49,6 +49,11 @@ fn push_reply(alloc: Global, text: &mut String, reply: &Reply) -> Result<(), All
             text.push_str(" ")?;
             push_number(alloc, text, *number)
         }
+        Reply::Lock(LockReply::Done) => text.push_str(" ok"),
+        Reply::Lock(LockReply::Tried(acquired)) => {
+            let word = format!(in alloc; " {acquired}")?;
+            text.push_str(&word)
+        }
     }
 }
 
@@ -82,14 +87,23 @@ fn told(alloc: Global, report: &Report) -> Result<String, AllocError> {
     Ok(text)
 }
 
-// What the run of a text comes to, unless the text is not read or its run is not Done.
+// What the run of a text comes to, unless the text is not read: what it leaves behind, and then how it
+// ends where it isn't Done.
 fn told_of(alloc: Global, text: &str) -> Result<Option<String>, AllocError> {
     let Ok(workload) = parse(alloc, text.as_bytes()) else {
         return Ok(None);
     };
     match stepped(alloc, &workload)? {
         Outcome::Done(report) => Ok(Some(told(alloc, &report)?)),
-        _ => Ok(None),
+        Outcome::Misused(report, misuse) => {
+            let left = told(alloc, &report)?;
+            let text = misuse.text();
+            Ok(Some(format!(in alloc; "{left} {text}")?))
+        }
+        Outcome::Deadlocked(report) => {
+            let left = told(alloc, &report)?;
+            Ok(Some(format!(in alloc; "{left} deadlock")?))
+        }
     }
 }
 
@@ -238,6 +252,143 @@ fn atomics_wrap_at_the_ends_of_their_ranges(rt: HostRuntime) -> Result<(), Fail>
     for (kind, calls, want) in table {
         let text = format!(in rt.alloc(); "workers 1\n{kind} a\nworker 0\n{calls}")?;
         let got = told_of(rt.alloc(), &text)?;
+        assert_eq!(rt; got.as_deref(), Some(want), "{text}");
+    }
+    Ok(())
+}
+
+// Worker 0 locks the mutex, worker 1 waits, and worker 0 unlocks it and locks it again before worker 1
+// goes on. What follows is decided by how long worker 1 has waited then.
+#[test]
+fn a_waiter_that_is_passed_over_starves_past_the_threshold(rt: HostRuntime) -> Result<(), Fail> {
+    let calls = "worker 1\nlock m\nunlock m\nworker 2\nlock m\nunlock m\n";
+    let five = "worker 0\nlock m\nunlock m\nlock m\nunlock m\ntrylock m\n";
+    let six = "worker 0\nlock m\nunlock m\nlock m\nunlock m\ntrylock m\nunlock m\n";
+    let table = [
+        (
+            five,
+            "0 1 0 0 @1000001 2 1 0 2 2 0",
+            " ok ok ok ok false / ok ok / ok ok /",
+        ),
+        (
+            six,
+            "0 1 0 0 @1000000 2 1 0 2 2 0",
+            " ok ok ok ok true ok / ok ok / ok ok /",
+        ),
+        (
+            five,
+            "@5 0 1 0 0 @1000006 2 1 0 2 2 0",
+            " ok ok ok ok false / ok ok / ok ok /",
+        ),
+        (
+            six,
+            "@1000001 0 1 0 0 @0 2 1 0 2 2 0",
+            " ok ok ok ok true ok / ok ok / ok ok /",
+        ),
+    ];
+    for (first, schedule, want) in table {
+        let text = format!(in rt.alloc();
+            "workers 3\nmutex m\n{first}{calls}schedule {schedule}\n"
+        )?;
+        let got = told_of(rt.alloc(), &text)?;
+        assert_eq!(rt; got.as_deref(), Some(want), "{text}");
+    }
+    Ok(())
+}
+
+#[test]
+fn a_mutex_by_schedule(rt: HostRuntime) -> Result<(), Fail> {
+    let table = [
+        (
+            "workers 1\nmutex m\nworker 0\nlock m\nunlock m\ntrylock m\ntrylock m\n",
+            " ok ok true false /",
+        ),
+        // A locked mutex belongs to nobody.
+        (
+            "workers 2\nmutex m\nworker 0\nlock m\nworker 1\nunlock m\n",
+            " ok / ok /",
+        ),
+        (
+            "workers 1\nmutex m\nworker 0\nunlock m\n",
+            " / fatal error: sync: unlock of unlocked mutex",
+        ),
+        // A misuse ends the run at once, inside the schedule too.
+        (
+            "workers 2\nmap t\nmutex m\nworker 0\nstore t k 1\nunlock m\nload t k\nworker 1\nload t k\nschedule 0 0 1\n",
+            " ok / / fatal error: sync: unlock of unlocked mutex",
+        ),
+        (
+            "workers 2\nmutex a\nmutex b\nworker 0\nlock a\nlock b\nworker 1\nlock b\nlock a\n",
+            " ok / ok / deadlock",
+        ),
+        (
+            "workers 1\nmutex m\nworker 0\nlock m\nlock m\n",
+            " ok / deadlock",
+        ),
+        // Done is found before a deadlock, and a waiter makes no event until it is woken.
+        (
+            "workers 2\nmutex m\nworker 0\nlock m\nunlock m\nworker 1\nlock m\nschedule 0 1 1 1 1\n",
+            " ok ok / ok /",
+        ),
+        (
+            "workers 2\nmutex m\nuint32 u\nworker 0\nlock m\nworker 1\nlock m\nadd u 1\n",
+            " ok / / deadlock",
+        ),
+    ];
+    for (text, want) in table {
+        let got = told_of(rt.alloc(), text)?;
+        assert_eq!(rt; got.as_deref(), Some(want), "{text}");
+    }
+    Ok(())
+}
+
+#[test]
+fn a_reader_writer_mutex_by_schedule(rt: HostRuntime) -> Result<(), Fail> {
+    let table = [
+        // A writer that waits holds back new readers; its unlock admits the one that waits.
+        (
+            "workers 4\nrwmutex w\nworker 0\nrlock w\nrunlock w\nworker 1\nlock w\nunlock w\nworker 2\nrlock w\nrunlock w\nworker 3\ntryrlock w\n",
+            " ok ok / ok ok / ok ok / false /",
+        ),
+        (
+            "workers 2\nrwmutex w\nworker 0\nrlock w\ntrylock w\nrunlock w\ntrylock w\ntryrlock w\nunlock w\ntryrlock w\nworker 1\n",
+            " ok false ok true false ok true / /",
+        ),
+        // Both misuses, while another worker waits.
+        (
+            "workers 2\nmutex m\nrwmutex w\nworker 0\nlock m\nlock m\nworker 1\nrunlock w\nschedule 0 0 1\n",
+            " ok / / fatal error: sync: RUnlock of unlocked RWMutex",
+        ),
+        (
+            "workers 2\nmutex m\nrwmutex w\nworker 0\nlock m\nlock m\nworker 1\nunlock w\nschedule 0 0 1\n",
+            " ok / / fatal error: sync: Unlock of unlocked RWMutex",
+        ),
+        // A writer that only waits doesn't hold the lock, nor does a reader hold a writer's.
+        (
+            "workers 3\nrwmutex w\nworker 0\nrlock w\nworker 1\nlock w\nworker 2\nunlock w\n",
+            " ok / / / fatal error: sync: Unlock of unlocked RWMutex",
+        ),
+        (
+            "workers 2\nrwmutex w\nworker 0\nlock w\nworker 1\nrunlock w\n",
+            " ok / / fatal error: sync: RUnlock of unlocked RWMutex",
+        ),
+        // A granted writer holds the lock before its own turn: another may unlock it.
+        (
+            "workers 3\nrwmutex w\nworker 0\nrlock w\nrunlock w\nworker 1\nlock w\nworker 2\nunlock w\ntrylock w\nschedule 0 1 0 2 2 1\n",
+            " ok ok / ok / ok true /",
+        ),
+        // Two writers: the second is woken at the mutex that writers go through.
+        (
+            "workers 2\nrwmutex w\nworker 0\nlock w\nunlock w\nworker 1\nlock w\nunlock w\n",
+            " ok ok / ok ok /",
+        ),
+        (
+            "workers 1\nrwmutex w\nworker 0\nrlock w\nlock w\n",
+            " ok / deadlock",
+        ),
+    ];
+    for (text, want) in table {
+        let got = told_of(rt.alloc(), text)?;
         assert_eq!(rt; got.as_deref(), Some(want), "{text}");
     }
     Ok(())

@@ -1,5 +1,4 @@
 use Rattle.std.proofs.Common.{subst}
-use Rattle.step_runner.proofs.ObjectTurns.{MutexUses, RwUses, MutexLaw, RwLaw}
 use Rattle.step_runner.proofs.TurnLemmas.{StepUses, turn_used}
 use Rattle.step_runner.proofs.laws.events_use_something_up.Goals as goal
 

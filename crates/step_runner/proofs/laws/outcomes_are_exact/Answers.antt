@@ -1,7 +1,6 @@
-use Rattle.std.proofs.Common.{◌≡◌, true}
-use Rattle.workload.specs.Plan.{Plan, is_valid}
+use Rattle.workload.specs.Plan.{Plan}
 use Rattle.step_runner.proofs.EndLemmas.{done_is, is_done, misused_is, is_misused_by, deadlocked_is, is_deadlocked, done_replied}
-use Rattle.step_runner.proofs.RunLemmas.{GoesOn, UsesUp, uses_up}
+use Rattle.step_runner.proofs.RunLemmas.{UsesUp, uses_up}
 use Rattle.step_runner.proofs.laws.outcomes_are_exact.Goals as goal
 
 uses : (c : goal.After-events_use_something_up) → (plan : Plan) → UsesUp plan

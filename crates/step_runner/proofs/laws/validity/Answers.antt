@@ -1,5 +1,4 @@
 use Rattle.step_runner.specs.State.{start}
-use Rattle.step_runner.proofs.ObjectTurns.{MutexLaw, RwLaw}
 use Rattle.step_runner.proofs.StartLemmas.{start_is}
 use Rattle.step_runner.proofs.TurnLemmas.{turn_valid}
 use Rattle.step_runner.proofs.RunLemmas.{items_valid}

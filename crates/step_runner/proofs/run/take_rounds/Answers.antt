@@ -1,6 +1,5 @@
-use Rattle.std.proofs.Common.{◌≡◌, false, true, sym, ap, ◌∙◌}
+use Rattle.std.proofs.Common.{◌≡◌, false, sym, ap, ◌∙◌}
 use Rattle.step_runner.specs.declared.step.Step.TheVariants as steps
-use Rattle.step_runner.specs.State.{State}
 use Rattle.step_runner.specs.Turns.{items_of, round, has_ended}
 use Rattle.step_runner.proofs.RunLemmas.{UsesUp, uses_up}
 use Rattle.step_runner.proofs.RoundLemmas.{where_going, round_less}
