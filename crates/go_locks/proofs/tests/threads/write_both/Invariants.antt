@@ -3,8 +3,8 @@ use Rattle.ruled_object.specs.Passes.{left_of}
 use Rattle.go_locks.specs.RwMutexes.{IsPassOfRwMutex}
 use Rattle.go_locks.proofs.tests.threads.write_both.Given as goal
 
-abbrev pub invariant-loop : goal.invariant-loop
-invariant-loop g l = record {
+abbrev pub invariant-loop-round : goal.invariant-loop-round
+invariant-loop-round g l = record {
   is : IsPassOfRwMutex l.lock l.pass;
-  left : left_of l.pass + 2 * l._round ≡ 1000000;
+  left : left_of l.pass + 2 * l.round ≡ 1000000;
 }
