@@ -150,6 +150,9 @@ fn the_first_halt_is_found(rt: HostRuntime) -> Result<(), Fail> {
     let (mutex, mut passes) = Mutex::new(rt.alloc(), 1, 0, nothing())?;
     assert_eq!(rt; mutex.first_halt(&mut passes), None);
     let mut passes = halted_twice(&rt, rt.alloc(), &mutex, passes)?;
-    assert_eq!(rt; mutex.first_halt(&mut passes), Some(Misuse::WaitGroupReused));
+    assert_eq!(rt;
+        mutex.first_halt(&mut passes),
+        Some(Misuse::WaitGroupReused)
+    );
     Ok(())
 }

@@ -1,4 +1,4 @@
-use Rattle.std.proofs.Common.{◌≡◌, ◌+◌, ◌*◌, ◌≤◌}
+use Rattle.std.proofs.Common.{◌≡◌, ◌+◌, ◌*◌}
 use Rattle.ruled_object.specs.Passes.{left_of}
 use Rattle.go_locks.specs.RwMutexes.{IsPassOfRwMutex}
 use Rattle.go_locks.proofs.tests.threads.write_both.Given as goal
