@@ -5,3 +5,4 @@ pub mod RwStanding
 pub mod RwCalls
 pub mod Logs
 pub mod Halts
+pub mod FreshPasses

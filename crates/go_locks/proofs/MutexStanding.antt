@@ -1,5 +1,5 @@
 -- Where a caller of a running Mutex stands.
-use Rattle.std.proofs.Common.{◌≡◌, ℕ, ◌<◌, Bool, true, false, ◌&&◌, List, [], Some, None, length, slice_get, refl, sym, ap, subst, ◌∙◌, lt-ltb}
+use Rattle.std.proofs.Common.{◌≡◌, ℕ, ◌<◌, true, false, List, None, refl, sym, ap, subst, ◌∙◌, lt-ltb}
 use Rattle.std.specs.Prelude.{nat_lt}
 use Rattle.sync_model.specs.Log as log
 use Rattle.sync_model.specs.Journal.{halt_of, by, log_of, state_after, Follows}
@@ -7,14 +7,13 @@ use Rattle.mutex_core.specs.declared.event.MutexEvent.{MutexEvent}
 use Rattle.mutex_core.specs.declared.reply.MutexReply.{MutexReply}
 use Rattle.mutex_core.specs.declared.place.Place.TheVariants as place
 use Rattle.mutex_core.specs.Edges.{Journal}
-use Rattle.mutex_core.specs.MutexMachine.{State, start, next, place_of, is_needed, may_make}
+use Rattle.mutex_core.specs.MutexMachine.{State, next, place_of, is_needed, may_make}
 use Rattle.mutex_core.specs.Standing.{is_answer, waits_after, is_waiting}
 use Rattle.ruled_object.specs.declared.pass.Pass.{Pass}
 use Rattle.ruled_object.specs.Gathered.{AreNew}
-use Rattle.ruled_object.specs.Passes.{own_by}
 use Rattle.go_locks.specs.declared.mutex.Mutex.{Mutex}
 use Rattle.go_locks.specs.Calls.{waits_by}
-use Rattle.go_locks.specs.Mutexes.{MutexJournal, IsPassOfMutex, AreNewOfMutex}
+use Rattle.go_locks.specs.Mutexes.{MutexJournal, AreNewOfMutex}
 use Rattle.go_locks.proofs.Spelling.{waits_log}
 
 -- what the machine's laws say of a run from this state

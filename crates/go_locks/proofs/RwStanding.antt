@@ -1,5 +1,5 @@
 -- Where a caller of a running RwMutex stands.
-use Rattle.std.proofs.Common.{◌≡◌, ℕ, ◌<◌, ◌⊎◌, inl, inr, Bool, true, false, ◌&&◌, List, [], Some, None, length, slice_get, refl, sym, ap, subst, ◌∙◌, lt-ltb}
+use Rattle.std.proofs.Common.{◌≡◌, ℕ, ◌<◌, ◌⊎◌, inl, inr, Bool, true, false, List, None, refl, sym, ap, subst, ◌∙◌, lt-ltb}
 use Rattle.std.specs.Prelude.{nat_lt}
 use Rattle.sync_model.specs.Log as log
 use Rattle.sync_model.specs.Journal.{halt_of, by, log_of, state_after, Follows}
@@ -8,14 +8,13 @@ use Rattle.rw_core.specs.declared.reply.RwReply.{RwReply}
 use Rattle.rw_core.specs.declared.reply.RwReply.TheVariants.{Still}
 use Rattle.rw_core.specs.declared.place.Place.TheVariants as place
 use Rattle.rw_core.specs.Edges.{Journal}
-use Rattle.rw_core.specs.RwMachine.{State, start, next, place_of, is_needed, may_make, still}
+use Rattle.rw_core.specs.RwMachine.{State, next, place_of, is_needed, may_make, still}
 use Rattle.rw_core.specs.Standing.{is_answer, waits_after, is_waiting}
 use Rattle.ruled_object.specs.declared.pass.Pass.{Pass}
 use Rattle.ruled_object.specs.Gathered.{AreNew}
-use Rattle.ruled_object.specs.Passes.{own_by}
 use Rattle.go_locks.specs.declared.rw_mutex.RwMutex.{RwMutex}
 use Rattle.go_locks.specs.Calls.{waits_by}
-use Rattle.go_locks.specs.RwMutexes.{RwJournal, IsPassOfRwMutex, AreNewOfRwMutex}
+use Rattle.go_locks.specs.RwMutexes.{RwJournal, AreNewOfRwMutex}
 use Rattle.go_locks.proofs.Spelling.{waits_log}
 
 -- what the machine's laws say of a run from this state

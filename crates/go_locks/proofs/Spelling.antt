@@ -1,6 +1,6 @@
 -- What the entries of a call show, one after the other.
 use Rattle.std.proofs.Common.{◌≡◌, ℕ, Bool, true, false, cond, List, [], ◌∷◌, ◌++◌, Option, Some, None, refl, sym, ap, subst, ◌∙◌, arith}
-use Rattle.std.specs.Prelude.{◌==◌, if◌then◌else◌, map}
+use Rattle.std.specs.Prelude.{◌==◌, if◌then◌else◌}
 use Rattle.std.specs.List.{AllByRecursion}
 use Rattle.sync_model.specs.declared.misuse.Misuse.{Misuse}
 use Rattle.sync_model.specs.declared.answer.Answer.{Answer}
@@ -8,8 +8,7 @@ use Rattle.sync_model.specs.declared.answer.Answer.TheVariants.{Done, Halted}
 use Rattle.sync_model.specs.declared.journal.Deed.{Deed}
 use Rattle.sync_model.specs.declared.journal.Deed.TheVariants.{Event, Refused, Halt}
 use Rattle.sync_model.specs.declared.journal.Entry.{Entry}
-use Rattle.sync_model.specs.Front.{AtLeast}
-use Rattle.sync_model.specs.Note.{SameHome, Holding}
+use Rattle.sync_model.specs.Note.{Holding}
 use Rattle.sync_model.specs.Log as log
 use Rattle.sync_model.specs.Journal.{halt_next, halt_after, halt_of, by, logged, log_of, state_next, Right, Follows}
 use Rattle.ruled_object.specs.declared.pass.Pass.{Pass}

@@ -7,6 +7,7 @@ mod calls;
 mod events;
 mod halts;
 mod making;
+mod waiting;
 
 use mutex_core::MutexCore;
 use ruled_object::{Object, PassOf};

@@ -31,7 +31,8 @@ pub(super) fn mutex(alloc: Global, callers: u32) -> Result<(Locked, Vec<LockPass
     requires { (0 < callers) × (callers ≤ 64) }
     ensures { IfOk result (λ made. AreFresh made.0 made.1.items × (vec_len made.1 ≡ callers)) }
 {
-    Mutex::new(alloc, callers, MAX_CALLS, nothing())
+    let (mutex, passes) = Mutex::new(alloc, callers, MAX_CALLS, nothing())?;
+    Ok((mutex, passes))
 }
 
 /// The pass of the last caller.
@@ -50,7 +51,8 @@ pub(super) fn rw_mutex(
     requires { (0 < callers) × (callers ≤ 64) }
     ensures { IfOk result (λ made. AreFreshRw made.0 made.1.items × (vec_len made.1 ≡ callers)) }
 {
-    RwMutex::new(alloc, callers, MAX_CALLS, nothing())
+    let (lock, passes) = RwMutex::new(alloc, callers, MAX_CALLS, nothing())?;
+    Ok((lock, passes))
 }
 
 /// The pass of the last caller.

@@ -1,4 +1,10 @@
-use super::fresh::{knows, last, last_rw, mutex, nothing, rw_mutex};
+ghost use Rattle.std.specs.Prelude.{◌≡◌, IfOk};
+ghost use Rattle.go_locks.specs.Mutexes.{mutex_callers, AreAllOfMutex};
+
+use super::fresh::{LockPass, Locked, knows, last, last_rw, mutex, nothing, rw_mutex};
+use crate::Mutex;
+use std::alloc::{AllocError, Global};
+use std::sync::Wait;
 use std::test::Fail;
 use sync_model::{Answer, FrontNote, Misuse};
 use sync_outside::{At, MemClock};
@@ -123,14 +129,30 @@ fn readers_share_and_keep_a_writer_out(rt: HostRuntime) -> Result<(), Fail> {
     Ok(())
 }
 
+// Halts a mutex of one caller twice.
+fn halted_twice<R: Wait>(
+    rt: &R,
+    alloc: Global,
+    mutex: &Locked,
+    mut passes: Vec<LockPass>,
+) -> Result<Vec<LockPass>, AllocError>
+    requires { AreAllOfMutex mutex.now passes.items × (mutex_callers mutex.now ≡ 1) }
+    ensures { IfOk result (λ after. AreAllOfMutex mutex.now after.items) }
+{
+    let mut pass = passes.pop().unwrap();
+    mutex.halt(rt, &mut pass, &nothing(), Misuse::WaitGroupReused);
+    mutex.halt(rt, &mut pass, &nothing(), Misuse::NegativeWaitGroupCounter);
+    Ok(vec![in alloc; pass]?)
+}
+
 #[test]
 fn the_first_halt_is_found(rt: HostRuntime) -> Result<(), Fail> {
-    let (mutex, mut passes) = mutex(rt.alloc(), 1)?;
-    let mut pass = last(&mutex, &mut passes);
-    mutex.halt(&rt, &mut pass, &nothing(), Misuse::WaitGroupReused);
-    mutex.halt(&rt, &mut pass, &nothing(), Misuse::NegativeWaitGroupCounter);
-    let (lock, mut passes) = rw_mutex(rt.alloc(), 1)?;
-    let mut pass = last_rw(&lock, &mut passes);
-    lock.halt(&rt, &mut pass, &nothing(), Misuse::WaitGroupReused);
+    let (mutex, mut passes) = Mutex::new(rt.alloc(), 1, 0, nothing())?;
+    assert_eq!(rt; mutex.first_halt(&mut passes), None);
+    let mut passes = halted_twice(&rt, rt.alloc(), &mutex, passes)?;
+    assert_eq!(rt;
+        mutex.first_halt(&mut passes),
+        Some(Misuse::WaitGroupReused)
+    );
     Ok(())
 }

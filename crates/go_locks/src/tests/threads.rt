@@ -35,7 +35,7 @@ fn add_locked<C: Clock, R: Wait>(
 {
     let at: At<FrontNote, C> = At { home: &(), clock };
     let mut note = nothing();
-    for _ in 0..times {
+    for round in 0..times {
         mutex.lock(rt, &at, &mut pass, &mut note);
         add_one(number);
         let _ = mutex.unlock(rt, &at, &mut pass, &mut note);
@@ -120,7 +120,7 @@ fn write_both<C: Clock, R: Wait>(
 {
     let at: At<FrontNote, C> = At { home: &(), clock };
     let mut note = nothing();
-    for _ in 0..times {
+    for round in 0..times {
         lock.lock(rt, &at, &mut pass, &mut note);
         add_one(&numbers.first);
         add_one(&numbers.second);
@@ -142,7 +142,7 @@ fn read_both<C: Clock, R: Wait>(
 {
     let at: At<FrontNote, C> = At { home: &(), clock };
     let mut note = nothing();
-    for _ in 0..times {
+    for round in 0..times {
         lock.r_lock(rt, &at, &mut pass, &mut note);
         if numbers.first.load(Ordering::SeqCst) != numbers.second.load(Ordering::SeqCst) {
             numbers.torn.fetch_add(1, Ordering::SeqCst);

@@ -1,8 +1,8 @@
 use Rattle.std.proofs.Common.{◌≡◌, subst, sym, refl, true}
 use Rattle.sync_model.specs.Log as log
-use Rattle.sync_model.specs.Journal.{log_of, state_after}
+use Rattle.sync_model.specs.Journal.{log_of}
 use Rattle.mutex_core.specs.declared.event.MutexEvent.TheVariants.{Unlock}
-use Rattle.mutex_core.specs.MutexMachine.{State, start, next}
+use Rattle.mutex_core.specs.MutexMachine.{start, next}
 use Rattle.mutex_core.specs.HandOff.{HandsOff}
 use Rattle.go_locks.proofs.Logs.{log_of-one, after-log}
 use Rattle.go_locks.proofs.laws.hand_off.Goals as goal

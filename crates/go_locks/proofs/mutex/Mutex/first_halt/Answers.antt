@@ -1,4 +1,4 @@
-use Rattle.std.proofs.Common.{◌≡◌, ap, ◌∙◌, false, true}
+use Rattle.std.proofs.Common.{ap, ◌∙◌, false, true}
 use Rattle.mutex_core.specs.Edges.{acquires, releases}
 use Rattle.mutex_core.specs.MutexMachine.{next}
 use Rattle.mutex_core.specs.Standing.{waits_after}

@@ -1,9 +1,9 @@
-use Rattle.std.proofs.Common.{◌≡◌, [], ◌∷◌, refl, sym, ap, subst, ◌∙◌, false}
+use Rattle.std.proofs.Common.{[], ◌∷◌, refl, sym, ap, subst, ◌∙◌, false}
 use Rattle.sync_model.specs.declared.answer.Answer.TheVariants.{Done, Halted}
 use Rattle.sync_model.specs.declared.journal.Deed.TheVariants.{Event, Refused}
 use Rattle.mutex_core.specs.declared.event.MutexEvent.TheVariants.{Arrive}
 use Rattle.mutex_core.specs.declared.reply.MutexReply.TheVariants.{Arrived}
-use Rattle.mutex_core.specs.declared.reply.Arrival.TheVariants.{Acquired, Queued}
+use Rattle.mutex_core.specs.declared.reply.Arrival.TheVariants.{Acquired}
 use Rattle.mutex_core.specs.MutexMachine.{next}
 use Rattle.mutex_core.specs.Standing.{waits_after}
 use Rattle.ruled_object.specs.Cells.{deed_of}

@@ -1,6 +1,6 @@
-use Rattle.std.proofs.Common.{◌≡◌, ap, sym, subst, ◌∙◌, ◌<◌, true}
+use Rattle.std.proofs.Common.{ap, sym, subst, ◌∙◌, ◌<◌, true}
 use Rattle.sync_model.specs.Journal.{halt_of, state_after, Right}
-use Rattle.rw_core.specs.RwMachine.{start, next}
+use Rattle.rw_core.specs.RwMachine.{next}
 use Rattle.ruled_object.specs.Cells.{deed_of}
 use Rattle.ruled_object.specs.Passes.{number_of, own_by, start_of}
 use Rattle.go_locks.proofs.RwStanding.{Stands, answers_any, answers_out}

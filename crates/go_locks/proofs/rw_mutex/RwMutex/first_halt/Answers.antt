@@ -1,4 +1,4 @@
-use Rattle.std.proofs.Common.{◌≡◌, ap, ◌∙◌, false, true}
+use Rattle.std.proofs.Common.{ap, ◌∙◌, false, true}
 use Rattle.rw_core.specs.Edges.{acquires, releases}
 use Rattle.rw_core.specs.RwMachine.{next}
 use Rattle.rw_core.specs.Standing.{waits_after}

@@ -1,9 +1,9 @@
-use Rattle.std.proofs.Common.{◌≡◌, [], ◌∷◌, refl, sym, ap, subst, ◌∙◌, false}
+use Rattle.std.proofs.Common.{[], ◌∷◌, refl, sym, ap, subst, ◌∙◌, false}
 use Rattle.sync_model.specs.declared.answer.Answer.TheVariants.{Done, Halted}
 use Rattle.sync_model.specs.declared.journal.Deed.TheVariants.{Event, Refused}
 use Rattle.rw_core.specs.declared.event.RwEvent.TheVariants.{ReadArrive}
 use Rattle.rw_core.specs.declared.reply.RwReply.TheVariants.{Arrived}
-use Rattle.rw_core.specs.declared.reply.Arrival.TheVariants.{Acquired, Queued}
+use Rattle.rw_core.specs.declared.reply.Arrival.TheVariants.{Acquired}
 use Rattle.rw_core.specs.RwMachine.{next}
 use Rattle.rw_core.specs.Standing.{waits_after}
 use Rattle.ruled_object.specs.Cells.{deed_of}
