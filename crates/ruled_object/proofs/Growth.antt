@@ -1,11 +1,14 @@
 -- Entries of one caller that stand one after the other.
-use Rattle.std.proofs.Common.{◌≡◌, ℕ, Bool, List, [], ◌∷◌, ◌++◌, slice_index, refl, sym, ap, ◌∙◌, subst, append_assoc, arith}
+use Rattle.std.proofs.Common.{◌≡◌, ℕ, suc, ◌+◌, Bool, Option, None, List, [], ◌∷◌, ◌++◌, length, slice_index, refl, sym, ap, ◌∙◌, subst, append_assoc, arith}
 use Rattle.std.specs.List.{AllByRecursion}
+use Rattle.std.proofs.lemmas.List.{length-append}
+use Rattle.ruled_object.proofs.Journals.{by_here}
+use Rattle.sync_model.specs.declared.misuse.Misuse.{Misuse}
 use Rattle.sync_model.specs.declared.answer.Answer.{Answer}
 use Rattle.sync_model.specs.declared.answer.Answer.TheVariants.{Done, Halted}
 use Rattle.sync_model.specs.declared.journal.Entry.{Entry}
 use Rattle.sync_model.specs.Front.{AtLeast}
-use Rattle.sync_model.specs.Journal.{halt_of, Rising, state_after, Right}
+use Rattle.sync_model.specs.Journal.{halt_next, halt_of, by, Rising, state_next, state_after, Right, Follows}
 use Rattle.ruled_object.specs.declared.pass.Pass.{Pass}
 use Rattle.ruled_object.specs.Cells.{deed_of}
 use Rattle.ruled_object.specs.Growth.{Placed, entries_of, Leads, MeetsHalt, IsRight, Grows}
@@ -27,6 +30,18 @@ module _ {E R : Type 0} where
   rising-append : (from between to : List ℕ) (es fs : List (Placed E R)) → Rising from (entries_of es) between → Rising between (entries_of fs) to → Rising from (entries_of (es ++ fs)) to
   rising-append from between to [] fs at_first then_on = rising_from from between to fs at_first then_on
   rising-append from between to (e ∷ es) fs at_first then_on = (at_first.0, rising-append e.entry.front between to es fs at_first.1 then_on)
+
+module _ {A : Type 0} where
+  snoc_front : (l m : List A) (x : A) → l ++ x ∷ [] ≡ m ++ x ∷ [] → l ≡ m
+  snoc_front [] [] x e = refl
+  snoc_front [] (y ∷ ys) x e = let n : 1 ≡ suc (length (ys ++ x ∷ [])) = ap length e in let k : length (ys ++ x ∷ []) ≡ length ys + 1 = length-append ys (x ∷ []) in absurd (omega arith)
+  snoc_front (y ∷ ys) [] x e = let n : suc (length (ys ++ x ∷ [])) ≡ 1 = ap length e in let k : length (ys ++ x ∷ []) ≡ length ys + 1 = length-append ys (x ∷ []) in absurd (omega arith)
+  snoc_front (y ∷ ys) (z ∷ zs) x e = let tails : ys ++ x ∷ [] ≡ zs ++ x ∷ [] = cc e in let heads : y ≡ z = cc e in rw (heads, snoc_front ys zs x tails) refl
+
+module _ {S E R : Type 0} (next : S → ℕ → E → S × R) where
+  follows_front : (halts : Bool) (s : S) (h : Option Misuse) (l m : List (Entry E R)) → Follows next halts s h (l ++ m) → Follows next halts s h l
+  follows_front halts s h [] m f = tt
+  follows_front halts s h (x ∷ xs) m f = (f.0, follows_front halts (state_next next s x.caller x.deed) (halt_next h x.deed) xs m f.1)
 
 module _ {S E R : Type 0} (next : S → ℕ → E → S × R) (halts : Bool) (start : S) where
   right-append : (caller : ℕ) (es fs : List (Placed E R)) → AllByRecursion (IsRight next halts start caller) es → AllByRecursion (IsRight next halts start caller) fs → AllByRecursion (IsRight next halts start caller) (es ++ fs)
@@ -69,3 +84,11 @@ module _ {S N E R : Type 0} (next : S → ℕ → E → S × R) (halts : Bool) (
     fronts = rising-append from between to es fs at_first.fronts then_on.fronts;
     number = then_on.number ∙ at_first.number;
   }
+
+  -- what stands before an entry
+  pub before_one : (frees takes : E → R → Bool) (old new : Pass S N E R) (e : Entry E R) (front : List (Entry E R)) → Adds next halts frees takes start old e new → seen_by new ≡ front ++ e ∷ []
+      → Follows next halts start None front × (by (number_of old) front ≡ own_by old)
+  before_one frees takes old new e front adds ends =
+      let whole : by (number_of old) front ++ e ∷ [] ≡ own_by old ++ e ∷ [] =
+      sym (by_here (number_of old) front e adds.caller) ∙ (ap (λ (z : List (Entry E R)). by (number_of old) z) (sym ends) ∙ (sym adds.all ∙ adds.mine)) in
+      (follows_front next halts start None front (e ∷ []) (subst (Follows next halts start None) ends adds.follows), snoc_front (by (number_of old) front) (own_by old) e whole)

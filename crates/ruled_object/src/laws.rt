@@ -3,13 +3,13 @@ ghost use Rattle.std.specs.Prelude.{◌≡◌, ℕ, List, [], ◌∷◌, ◌++�
 ghost use Rattle.sync_model.specs.declared.answer.Answer.{Answer};
 ghost use Rattle.sync_model.specs.declared.journal.Entry.{Entry};
 ghost use Rattle.sync_model.specs.Front.{AtLeast};
-ghost use Rattle.sync_model.specs.Journal.{Follows, log_of, state_after};
+ghost use Rattle.sync_model.specs.Journal.{by, Follows, log_of, state_after};
 ghost use Rattle.sync_model.specs.Log as log;
 ghost use Rattle.ruled_object.specs.declared.object.Object.{Object};
 ghost use Rattle.ruled_object.specs.declared.pass.Pass.{Pass};
 ghost use Rattle.ruled_object.specs.Cells.{deed_of};
 ghost use Rattle.ruled_object.specs.Growth.{Placed, Grows, IsLawful, MeetsHalt};
-ghost use Rattle.ruled_object.specs.Passes.{number_of, start_of, IsPassOf, Adds, IsSpent};
+ghost use Rattle.ruled_object.specs.Passes.{number_of, seen_by, own_by, IsPassOf, Adds, IsSpent};
 
 use sync_model::{Machine, Note};
 
@@ -21,7 +21,8 @@ pub fn journal_is_log<M: Machine>()
 
 /// What several calls of one caller add to the history. A call that only spends from its pass adds nothing; a call of
 /// the object adds one entry, and its answer is `Halted` exactly where that entry has a halt before its place; and what
-/// two calls add, one after the other, they add together.
+/// two calls add, one after the other, they add together. What stands before the entry of a call follows the machine,
+/// and has of its caller just what the pass had.
 pub fn growth<M: Machine, N: Note>()
     ensures nothing { (start : M.State) (old new : Pass M.State N M.Event M.Reply) (front : List ℕ)
         → IsSpent old new → Grows M.next M.HALTS start old front [] new front }
@@ -29,6 +30,9 @@ pub fn growth<M: Machine, N: Note>()
         → Adds M.next M.HALTS M.frees M.takes start old e new → number_of new ≡ number_of old
         → e.deed ≡ deed_of event answer → e.front ≡ to → AtLeast to from
         → (p : Placed M.Event M.Reply) × (p.entry ≡ e) × Grows M.next M.HALTS start old from (p ∷ []) new to × MeetsHalt (p ∷ []) answer }
+    ensures before { (start : M.State) (old new : Pass M.State N M.Event M.Reply) (e : Entry M.Event M.Reply) (front : List (Entry M.Event M.Reply))
+        → Adds M.next M.HALTS M.frees M.takes start old e new → seen_by new ≡ front ++ e ∷ []
+        → Follows M.next M.HALTS start None front × (by (number_of old) front ≡ own_by old) }
     ensures both { (start : M.State) (old mid new : Pass M.State N M.Event M.Reply) (es fs : List (Placed M.Event M.Reply)) (from between to : List ℕ)
         → Grows M.next M.HALTS start old from es mid between → Grows M.next M.HALTS start mid between fs new to
         → Grows M.next M.HALTS start old from (es ++ fs) new to }

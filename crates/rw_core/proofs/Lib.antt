@@ -6,3 +6,5 @@ pub mod Room
 pub mod Turns
 pub mod Runs
 pub mod Admissions
+pub mod Answers
+pub mod Standing

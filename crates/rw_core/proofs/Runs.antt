@@ -28,7 +28,7 @@ keeps_inner laws s c event.Leave h = tt
 pub keeps : MutexLaws → (s : State) (c : ℕ) (e : RwEvent) → IsValid s → IsValid (next s c e).0
 keeps laws s c e h = next-valid s c e (keeps_inner laws s c e h) h
 
-start-valid : MutexLaws → (n : ℕ) → IsValid (start n)
+pub start-valid : MutexLaws → (n : ℕ) → IsValid (start n)
 start-valid laws n = record {
   exclusive = λ e. refl;
   write_waits = λ e. cc;

@@ -36,7 +36,7 @@ out-nowhere s c out =
     let at = out-inner s c out in
     rw at.unannounced (omega (arith, count_of-absent c s.admitted at.unadmitted, count_of-absent c s.granted at.ungranted, count_of-absent c s.queue at.unqueued, waiting-absent s.inner c (mutex-out _ at.inner)))
 
-once-other : (q c : ℕ) → (q ≡ c → ⊥) → once q c ≡ 0
+pub once-other : (q c : ℕ) → (q ≡ c → ⊥) → once q c ≡ 0
 once-other q c other = by_test (q == c) refl
   where
     by_test : (b : Bool) → (q == c) ≡ b → ◌≡◌ {A = ℕ} (if b then 1 else 0) 0
@@ -238,7 +238,7 @@ write_resumed-valid s c now below at inner h =
     (λ x. omega (arith, keeps.counts x, h.apart x)) (λ x above. omega (arith, keeps.counts x, h.among x above)) h)
     inner
 
-announced-holding : (w : Writer) → is_holding w ≡ true → is_announced w ≡ true
+pub announced-holding : (w : Writer) → is_holding w ≡ true → is_announced w ≡ true
 announced-holding writer.Nobody e = no e
 announced-holding (writer.Waiting _) e = refl
 announced-holding writer.Holding e = refl

@@ -2,3 +2,4 @@ pub mod RwMachine
 pub mod RwCore
 pub mod Edges
 pub mod Admission
+pub mod Standing

@@ -1,13 +1,15 @@
 //! What holds of every run of the machine, whatever its callers do, from the unlocked lock on. A
 //! journal lists who did what, and what it was answered.
-ghost use Rattle.std.specs.Prelude.{◌≡◌, ℕ, ◌<◌, ◌≤◌, IsTrue, ◌∷◌, ◌++◌, length, filter};
+ghost use Rattle.std.specs.Prelude.{◌≡◌, ℕ, ◌<◌, ◌≤◌, false, IsTrue, IsFalse, ◌∷◌, ◌++◌, length, filter};
 ghost use Rattle.std.specs.List.{list_any};
 ghost use Rattle.sync_model.specs.Log.{Entry, after, Follows};
 ghost use Rattle.rw_core.specs.declared.event.RwEvent.{RwEvent};
 ghost use Rattle.rw_core.specs.declared.reply.RwReply.{RwReply};
 ghost use Rattle.rw_core.specs.declared.reply.Unlocking.{Unlocking};
-ghost use Rattle.rw_core.specs.RwMachine.{State, next, start, is_announced, IsValid};
+ghost use Rattle.rw_core.specs.RwMachine.{State, next, start, still, is_announced, may_make, place_of, IsValid};
 ghost use Rattle.rw_core.specs.Admission.{Admits};
+ghost use Rattle.rw_core.specs.Standing.{is_answer, is_waiting};
+ghost use Rattle.rw_core.specs.declared.place.Place.{Place};
 ghost use Rattle.rw_core.specs.Edges.{Journal, is_acquired, read_acquires, read_releases, write_acquires, write_releases};
 
 use mutex_core::laws;
@@ -58,3 +60,19 @@ pub fn admission()
         → (next state caller RwEvent.WriteUnlock).1 ≡ RwReply.Unlocked Unlocking.Done
         → Admits state (next state caller RwEvent.WriteUnlock).0 }
 {}
+
+/// Who is at the place that its event needs gets an answer to it, and anybody else is answered `Still`, which changes
+/// nothing. A caller knows where it stands: where its own answers don't leave it waiting, it is `Out`, whatever the others
+/// did. The callers stay the same.
+pub fn standing()
+    ensures answered { (state : State) (caller : ℕ) (event : RwEvent)
+        → IsTrue (may_make state caller event) → IsTrue (is_answer event (next state caller event).1) }
+    ensures still { (state : State) (caller : ℕ) (event : RwEvent)
+        → IsFalse (may_make state caller event) → next state caller event ≡ still state }
+    ensures out { (callers : ℕ) (journal : Journal) (caller : ℕ)
+        → Follows next (start callers) journal → IsFalse (is_waiting false caller journal)
+        → place_of (after next (start callers) journal) caller ≡ Place.Out }
+    ensures callers { (callers : ℕ) (journal : Journal) → (after next (start callers) journal).callers ≡ callers }
+{
+    laws::validity();
+}

@@ -1,4 +1,4 @@
-use Rattle.ruled_object.proofs.Growth.{grows_one, grows_both}
+use Rattle.ruled_object.proofs.Growth.{grows_one, before_one, grows_both}
 use Rattle.ruled_object.proofs.laws.growth.Goals as goal
 
 pub returns-clause-one : goal.returns-clause-one
@@ -8,3 +8,7 @@ returns-clause-one g c start old new e event answer from to adds number deed fro
 pub returns-clause-both : goal.returns-clause-both
 returns-clause-both g c start old mid new es fs from between to at_first then_on =
     let m = g.M.Machine in grows_both m.next m.HALTS start old mid new es fs from between to at_first then_on
+
+pub returns-clause-before : goal.returns-clause-before
+returns-clause-before g c start old new e front adds ends =
+    let m = g.M.Machine in before_one m.next m.HALTS start m.frees m.takes old new e front adds ends

@@ -1,0 +1,73 @@
+use Rattle.std.proofs.Common.{◌≡◌, [], ◌∷◌, ◌++◌, refl, sym, ap, subst, ◌∙◌}
+use Rattle.sync_model.specs.declared.answer.Answer.TheVariants.{Done, Halted}
+use Rattle.sync_model.specs.declared.journal.Deed.TheVariants.{Event, Refused}
+use Rattle.mutex_core.specs.declared.event.MutexEvent.TheVariants.{Woken}
+use Rattle.mutex_core.specs.declared.reply.MutexReply.TheVariants.{Resumed}
+use Rattle.mutex_core.specs.declared.reply.Resumption.TheVariants.{Acquired}
+use Rattle.ruled_object.specs.Cells.{deed_of}
+use Rattle.ruled_object.specs.Growth.{deeds_of, MeetsHalt}
+use Rattle.go_locks.specs.MutexCalls.{Waits, Locks, acquired, halted, IsClocked, AreClocked}
+use Rattle.go_locks.proofs.Spelling.{deeds-snoc, all-snoc, keeps_both}
+use Rattle.go_locks.proofs.MutexCalls.{woken_has, woken_waits}
+use Rattle.go_locks.proofs.mutex.Mutex.wait.Goals as goal
+
+pub returns-in-Halted-clause-events : goal.returns-in-Halted-clause-events
+returns-in-Halted-clause-events g c first from es grows waits timed =
+    let so_far = c.loop.invariant.4 first from es grows waits timed in
+    let entry = c.event.ensures.entry in
+    let now = c.now-now.result in
+    let misuse = c.in-Halted.misuse in
+    let shows = g.C.Clock.shows c.args.at.now.clock.now in
+    let deed = entry.2 ∙ ap (deed_of (Woken now)) c.in-Halted.is in
+    let grown = entry.3 first from so_far.0 so_far.1 in
+    let deeds = deeds-snoc so_far.0 entry.0 (Refused (Woken now) misuse) deed in
+    record {
+      entries = so_far.0 ++ entry.0 ∷ [];
+      grows = grown.0;
+      spelt = subst (λ ds. Locks ds (Halted misuse)) (sym deeds) (halted (deeds_of so_far.0) now misuse so_far.2);
+      halted = subst (MeetsHalt (so_far.0 ++ entry.0 ∷ [])) c.in-Halted.is grown.1;
+      moments = subst (AreClocked shows) (sym deeds) (all-snoc (IsClocked shows) (deeds_of so_far.0) (Refused (Woken now) misuse) so_far.3 c.now-now.ensures);
+    }
+
+pub returns-then-has_mutex-clause-events : goal.returns-then-has_mutex-clause-events
+returns-then-has_mutex-clause-events g c first from es grows waits timed =
+    let so_far = c.loop.invariant.4 first from es grows waits timed in
+    let entry = c.event.ensures.entry in
+    let now = c.now-now.result in
+    let reply = c.in-Done.reply in
+    let shows = g.C.Clock.shows c.args.at.now.clock.now in
+    let is = woken_has now reply (c.event.ensures.answered reply c.in-Done.is) (sym c.has_mutex.ensures ∙ c.if-has_mutex.true) in
+    let deed = entry.2 ∙ (ap (deed_of (Woken now)) c.in-Done.is ∙ ap (Event (Woken now)) is) in
+    let grown = entry.3 first from so_far.0 so_far.1 in
+    let deeds = deeds-snoc so_far.0 entry.0 (Event (Woken now) (Resumed Acquired)) deed in
+    record {
+      entries = so_far.0 ++ entry.0 ∷ [];
+      grows = grown.0;
+      spelt = subst (λ ds. Locks ds (Done tt)) (sym deeds) (acquired (deeds_of so_far.0) now so_far.2);
+      halted = subst (MeetsHalt (so_far.0 ++ entry.0 ∷ [])) c.in-Done.is grown.1;
+      moments = subst (AreClocked shows) (sym deeds) (all-snoc (IsClocked shows) (deeds_of so_far.0) (Event (Woken now) (Resumed Acquired)) so_far.3 c.now-now.ensures);
+    }
+
+pub loop-preserved : goal.loop-preserved
+loop-preserved g c =
+    let n = g.N.Note in
+    let entry = c.event.ensures.entry in
+    let now = c.now-now.result in
+    let reply = c.in-Done.reply in
+    let shows = g.C.Clock.shows c.args.at.now.clock.now in
+    let deed = entry.2 ∙ ap (deed_of (Woken now)) c.in-Done.is in
+    let before = c.loop.invariant.2 in
+    let same = c.event.ensures.pass.1 in (
+      (tt, tt),
+      c.event.ensures.pass.0,
+      (same.0 ∙ before.0, same.1 ∙ before.1),
+      keeps_both n.at n.own n.front c.args.note.now c.loop.note c.event.new.note c.loop.invariant.3 c.event.ensures.note,
+      (λ first from es grows waits timed.
+          let so_far = c.loop.invariant.4 first from es grows waits timed in
+          let deeds = deeds-snoc so_far.0 entry.0 (Event (Woken now) reply) deed in (
+            so_far.0 ++ entry.0 ∷ [],
+            (entry.3 first from so_far.0 so_far.1).0,
+            subst Waits (sym deeds) (woken_waits now reply (deeds_of so_far.0) (c.event.ensures.answered reply c.in-Done.is) (sym c.has_mutex.ensures ∙ c.if-has_mutex.false) so_far.2),
+            subst (AreClocked shows) (sym deeds) (all-snoc (IsClocked shows) (deeds_of so_far.0) (Event (Woken now) reply) so_far.3 c.now-now.ensures),
+          )),
+    )

@@ -1,0 +1,135 @@
+//! The calls of a running mutex.
+ghost use Rattle.std.specs.Prelude.{◌≡◌, ◌<◌, ◌+◌, ℕ, List, true};
+ghost use Rattle.mutex_core.specs.declared.event.MutexEvent.{MutexEvent};
+ghost use Rattle.mutex_core.specs.declared.reply.MutexReply.{MutexReply};
+ghost use Rattle.mutex_core.specs.Edges.{acquires, releases};
+ghost use Rattle.mutex_core.specs.MutexMachine.{State, next};
+ghost use Rattle.ruled_object.specs.declared.pass.Pass.{Pass};
+ghost use Rattle.ruled_object.specs.Growth.{Placed, deeds_of, Grows, IsLawful, KeepsNote};
+ghost use Rattle.ruled_object.specs.Passes.{left_of, number_of, IsPassOf, SamePass};
+ghost use Rattle.go_locks.specs.Calls.{Did};
+ghost use Rattle.go_locks.specs.Mutexes.{mutex_start, IsHomeOfMutex, IsPassOfMutex};
+ghost use Rattle.go_locks.specs.MutexCalls.{Waits, Locks, Tries, Unlocks, AreClocked};
+
+use super::events::has_mutex;
+use super::{Mutex, MutexPass};
+use crate::making::spend;
+use mutex_core::MutexEvent;
+use std::sync::Wait;
+use sync_model::{Answer, Misuse, Note};
+use sync_outside::{At, Clock};
+
+impl<N: Note> Mutex<N> {
+    /// Go's `Lock`: waits until the caller has the mutex. It answers `Halted` exactly where the mutex was halted before.
+    ///
+    /// Each earlier `unlock` is synchronized before it.
+    pub fn lock<C: Clock, R: Wait>(
+        &self,
+        rt: &R,
+        at: &At<N, C>,
+        pass: &mut MutexPass<N>,
+        note: &mut N,
+    ) -> Answer<()>
+        requires pass { IsPassOfMutex self.now pass.old }
+        requires left { 0 < left_of pass.old }
+        requires home { IsHomeOfMutex N.at self.now at.now.home.now × N.at at.now.home.now note.old }
+        ensures pass { IsPassOfMutex self.now pass.new × (number_of pass.new ≡ number_of pass.old) × (left_of pass.new + 1 ≡ left_of pass.old) }
+        ensures note { KeepsNote N.at N.own N.front note.old note.new }
+        ensures events { Did next (mutex_start self.now) Locks (AreClocked (C.shows at.now.clock.now)) pass.old (N.front note.old) result pass.new (N.front note.new) }
+        ensures journal { IsLawful next true (λ event reply. releases reply) (λ event reply. acquires reply) (mutex_start self.now) pass.new }
+    {
+        spend(&self.object, pass);
+        let now = at.clock.now();
+        match self.event(rt, at.home, pass, note, MutexEvent::Arrive { now }) {
+            Answer::Halted(misuse) => Answer::Halted(misuse),
+            Answer::Done(reply) => {
+                if has_mutex(&reply) {
+                    return Answer::Done(());
+                }
+                self.wait(rt, at, pass, note)
+            }
+        }
+    }
+
+    // Sleeps until the caller is told to go on, again and again, until it has the mutex. Nobody may have told it: then its
+    // event is answered `Still`, and it sleeps again. What this adds ends the `lock` that its caller has begun.
+    fn wait<C: Clock, R: Wait>(
+        &self,
+        rt: &R,
+        at: &At<N, C>,
+        pass: &mut MutexPass<N>,
+        note: &mut N,
+    ) -> Answer<()>
+        requires pass { IsPassOf self.now.object pass.old }
+        requires home { IsHomeOfMutex N.at self.now at.now.home.now × N.at at.now.home.now note.old }
+        ensures pass { IsPassOf self.now.object pass.new × SamePass pass.old pass.new }
+        ensures note { KeepsNote N.at N.own N.front note.old note.new }
+        ensures events { (first : Pass State N MutexEvent MutexReply) (from : List ℕ) (es : List (Placed MutexEvent MutexReply))
+            → Grows next true (mutex_start self.now) first from es pass.old (N.front note.old)
+            → Waits (deeds_of es) → AreClocked (C.shows at.now.clock.now) (deeds_of es)
+            → Did next (mutex_start self.now) Locks (AreClocked (C.shows at.now.clock.now)) first from result pass.new (N.front note.new) }
+        ensures journal { IsLawful next true (λ event reply. releases reply) (λ event reply. acquires reply) (mutex_start self.now) pass.new }
+    {
+        for _ in rt.forever() {
+            self.object.park(rt, pass);
+            let now = at.clock.now();
+            match self.event(rt, at.home, pass, note, MutexEvent::Woken { now }) {
+                Answer::Halted(misuse) => return Answer::Halted(misuse),
+                Answer::Done(reply) => {
+                    if has_mutex(&reply) {
+                        return Answer::Done(());
+                    }
+                }
+            }
+        }
+        unreachable!()
+    }
+
+    /// Go's `TryLock`: whether the caller has the mutex, which it has exactly where an arrival would get it at once.
+    pub fn try_lock<C: Clock, R: Wait>(
+        &self,
+        rt: &R,
+        at: &At<N, C>,
+        pass: &mut MutexPass<N>,
+        note: &mut N,
+    ) -> Answer<bool>
+        requires pass { IsPassOfMutex self.now pass.old }
+        requires left { 0 < left_of pass.old }
+        requires home { IsHomeOfMutex N.at self.now at.now.home.now × N.at at.now.home.now note.old }
+        ensures pass { IsPassOfMutex self.now pass.new × (number_of pass.new ≡ number_of pass.old) × (left_of pass.new + 1 ≡ left_of pass.old) }
+        ensures note { KeepsNote N.at N.own N.front note.old note.new }
+        ensures events { Did next (mutex_start self.now) Tries (AreClocked (C.shows at.now.clock.now)) pass.old (N.front note.old) result pass.new (N.front note.new) }
+        ensures journal { IsLawful next true (λ event reply. releases reply) (λ event reply. acquires reply) (mutex_start self.now) pass.new }
+    {
+        spend(&self.object, pass);
+        match self.event(rt, at.home, pass, note, MutexEvent::Try) {
+            Answer::Halted(misuse) => Answer::Halted(misuse),
+            Answer::Done(reply) => Answer::Done(has_mutex(&reply)),
+        }
+    }
+
+    /// Go's `Unlock`, by whichever caller. A mutex that isn't locked stays as it is: that is a misuse.
+    ///
+    /// It is synchronized before each later `lock`, and each later `try_lock` that succeeds.
+    pub fn unlock<C: Clock, R: Wait>(
+        &self,
+        rt: &R,
+        at: &At<N, C>,
+        pass: &mut MutexPass<N>,
+        note: &mut N,
+    ) -> Answer<Result<(), Misuse>>
+        requires pass { IsPassOfMutex self.now pass.old }
+        requires left { 0 < left_of pass.old }
+        requires home { IsHomeOfMutex N.at self.now at.now.home.now × N.at at.now.home.now note.old }
+        ensures pass { IsPassOfMutex self.now pass.new × (number_of pass.new ≡ number_of pass.old) × (left_of pass.new + 1 ≡ left_of pass.old) }
+        ensures note { KeepsNote N.at N.own N.front note.old note.new }
+        ensures events { Did next (mutex_start self.now) Unlocks (AreClocked (C.shows at.now.clock.now)) pass.old (N.front note.old) result pass.new (N.front note.new) }
+        ensures journal { IsLawful next true (λ event reply. releases reply) (λ event reply. acquires reply) (mutex_start self.now) pass.new }
+    {
+        spend(&self.object, pass);
+        match self.event(rt, at.home, pass, note, MutexEvent::Unlock) {
+            Answer::Halted(misuse) => Answer::Halted(misuse),
+            Answer::Done(reply) => Answer::Done(self.unlocked(reply)),
+        }
+    }
+}
