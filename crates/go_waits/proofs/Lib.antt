@@ -1,0 +1,5 @@
+pub mod Adding
+pub mod GroupStart
+pub mod StandingLemmas
+pub mod GroupAnswers
+pub mod Gathering
