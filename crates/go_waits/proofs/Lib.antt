@@ -3,3 +3,4 @@ pub mod GroupStart
 pub mod StandingLemmas
 pub mod GroupAnswers
 pub mod Gathering
+pub mod Lasts

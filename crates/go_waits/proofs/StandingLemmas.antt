@@ -22,7 +22,7 @@ halt_stays m [] = refl
 halt_stays m (x ∷ xs) = halt_stays m xs
 
 module _ {S E R W : Type 0} (next : S → ℕ → E → S × R) (at : S → ℕ → W) (out : W) (after : W → E → R → W) (own : (s : S) (c : ℕ) (e : E) → at (next s c e).0 c ≡ after (at s c) e (next s c e).1)
-  (others : (s : S) (c o : ℕ) (e : E) → c ≢ o → at (next s o e).0 c ≡ at s c) where
+    (others : (s : S) (c o : ℕ) (e : E) → c ≢ o → at (next s o e).0 c ≡ at s c) where
   one_deed : (s : S) (c o : ℕ) (d : Deed E R) → Right next true s None o d → halt_next None d ≡ None → (mine : Bool) → (o == c) ≡ mine → at (state_next next s o d) c ≡ cond mine (stand_next out after (at s c) d) (at s c)
   one_deed s c o (Event e r) right unhalted true is = let same = equal o c is in subst (λ (n : ℕ). at (next s n e).0 c ≡ after (at s c) e r) (sym same) (own s c e ∙ ap (after (at s c) e) (sym (right.1 ∙ ap (λ (n : ℕ). (next s n e).1) same)))
   one_deed s c o (Event e r) right unhalted false is = others s c o e (unequal o c is)

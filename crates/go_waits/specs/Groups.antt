@@ -76,6 +76,10 @@ module _ {N H : Type 0} where
     pub of : object.IsPassOf group.object pass
     pub between : waits_by (object.own_by pass) ≡ false
 
+  -- each of these is the pass of a caller of the group
+  abbrev pub AreGroupPasses : WaitGroup N H → List (GroupPass N) → Type 0
+  AreGroupPasses group passes = (i : ℕ) (pass : GroupPass N) → slice_get passes i ≡ Some pass → IsPassOf group pass
+
   -- all passes of the group, in order of number, each between two calls
   pub record AreAllPasses (group : WaitGroup N H) (passes : List (GroupPass N)) : Type 0 where
     pub count : length passes ≡ callers_of group

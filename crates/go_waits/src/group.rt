@@ -18,8 +18,8 @@ use wait_cores::GroupCore;
 /// of any `wait` call that it unblocks.
 #[derive(Drop)]
 pub struct WaitGroup<N: Note> {
-    object: Object<GroupCore, N>,
-    callers: u32,
+    pub(crate) object: Object<GroupCore, N>,
+    pub(crate) callers: u32,
     ghost sized: { callers_of object ≡ callers },
     ghost begins: { (start_of object).places ≡ replicate callers place.Out },
 }

@@ -6,3 +6,6 @@ pub mod leaving;
 mod making;
 
 pub use group::{GroupPass, WaitGroup};
+
+#[cfg(test)]
+mod tests;

@@ -10,8 +10,7 @@ ghost use Rattle.go_waits.specs.Standing.{stand_next};
 ghost use Rattle.go_waits.specs.Groups.{GroupMakes, GroupLeaves, IsReleased, Answers, waits_by, IsHomeOf, IsPassOf, IsGroupLawful};
 
 use super::{GroupPass, WaitGroup};
-use crate::leaving;
-use crate::making;
+use crate::{leaving, making};
 use std::sync::Wait;
 use sync_model::{Answer, Note};
 use wait_cores::laws::group::knows_where_it_stands;
