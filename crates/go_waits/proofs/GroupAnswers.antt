@@ -1,5 +1,5 @@
 -- What the events of a wait group's callers are answered, and what its calls answer by them.
-use Rattle.std.proofs.Common.{◌≡◌, ◌≢◌, ◌⊎◌, inl, inr, ℕ, ◌<◌, Bool, true, false, List, [], ◌∷◌, ◌++◌, Option, None, Result, Ok, Err, replicate, refl, sym, ap, ◌∙◌, subst, append_assoc, IsTrue}
+use Rattle.std.proofs.Common.{◌≡◌, ◌≢◌, inr, ℕ, ◌<◌, Bool, true, false, List, [], ◌∷◌, ◌++◌, None, Result, Ok, Err, refl, sym, ap, ◌∙◌, subst, append_assoc, IsTrue}
 use Rattle.sync_model.specs.declared.misuse.Misuse.{Misuse}
 use Rattle.sync_model.specs.declared.answer.Answer.{Answer}
 use Rattle.sync_model.specs.declared.answer.Answer.TheVariants.{Done, Halted}
@@ -14,7 +14,6 @@ use Rattle.wait_cores.specs.GroupMachine.{GroupState, next, callers_of}
 use Rattle.wait_cores.specs.GroupStanding.{answers, waits_at, waits_after}
 use Rattle.ruled_object.specs.Cells.{deed_of}
 use Rattle.ruled_object.specs.Growth.{Placed, Grows, entries_of, deeds_of, MeetsHalt}
-use Rattle.ruled_object.specs.Passes.{own_by}
 use Rattle.go_waits.specs.GroupCalls.{GroupDeeds, Waits, LeavesBy}
 use Rattle.go_waits.specs.Groups.{GroupJournal, GroupPass, Answers, IsReleased, IsLeft, waits_by}
 use Rattle.go_waits.specs.Making.{Makes, Leaves}

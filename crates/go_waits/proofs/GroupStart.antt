@@ -1,16 +1,15 @@
 -- The state that a group starts from.
-use Rattle.std.proofs.Common.{◌≡◌, ℕ, zero, suc, ◌+◌, ◌<◌, ◌≤◌, Bool, true, false, cond, List, [], ◌∷◌, replicate, map, refl, sym, ap, ◌∙◌, subst, arith}
+use Rattle.std.proofs.Common.{◌≡◌, ℕ, zero, suc, ◌≤◌, Bool, true, false, cond, ◌∷◌, replicate, map, refl, sym, ap, ◌∙◌, subst, arith}
 use Rattle.std.proofs.Math.Nat.{zero-add}
-use Rattle.std.specs.Prelude.{ℤ, pos, negsuc, ◌≤ℤ◌, ◌+ℤ◌, ◌==◌, nat_lt, nat_le, length, Option, Some, None}
+use Rattle.std.specs.Prelude.{ℤ, pos, negsuc, ◌≤ℤ◌, ◌+ℤ◌, ◌==◌, nat_lt, nat_le, length, Some, None}
 use Rattle.std.proofs.lemmas.Bool.Decides.{nat_tests}
 use Rattle.std.proofs.lemmas.List.{length-replicate}
 use Rattle.std.proofs.lemmas.Int.{ints}
 use Rattle.wait_cores.specs.declared.group.GroupEvent.TheVariants.{Add}
-use Rattle.wait_cores.specs.declared.group.GroupPlace.{GroupPlace}
 use Rattle.wait_cores.specs.declared.group.GroupPlace.TheVariants.{Out}
 use Rattle.wait_cores.specs.declared.group.GroupReply.{GroupReply}
 use Rattle.go_waits.specs.Groups.{IsBegun}
-use Rattle.wait_cores.specs.GroupMachine.{GroupState, start, next, added, within, released, made}
+use Rattle.wait_cores.specs.GroupMachine.{GroupState, start, next, added, within, released}
 
 released_out : (n : ℕ) → map released (replicate n Out) ≡ replicate n Out
 released_out zero = refl

@@ -1,7 +1,6 @@
 -- What one event of a caller shows, and what the leaving of a caller that waits does.
 use Rattle.std.specs.Prelude.{◌≡◌, ℕ, ◌+◌, Bool, List, [], ◌∷◌, ◌++◌, None, replicate}
 use Rattle.sync_model.specs.declared.answer.Answer.{Answer}
-use Rattle.sync_model.specs.declared.journal.Deed.{Deed}
 use Rattle.sync_model.specs.declared.journal.Deed.TheVariants.{Event}
 use Rattle.sync_model.specs.Journal.{by, Follows}
 use Rattle.ruled_object.specs.declared.pass.Pass.{Pass}

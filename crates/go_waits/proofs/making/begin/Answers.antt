@@ -1,4 +1,4 @@
-use Rattle.std.proofs.Common.{◌≡◌, ℕ, [], ◌∷◌, ap, sym, ◌∙◌, subst}
+use Rattle.std.proofs.Common.{ℕ, [], ◌∷◌, ap, sym, ◌∙◌}
 use Rattle.sync_model.specs.Journal.{by}
 use Rattle.ruled_object.specs.Passes.{number_of, own_by, start_of}
 use Rattle.go_waits.proofs.making.begin.Goals as goal

@@ -1,9 +1,8 @@
-use Rattle.std.proofs.Common.{◌≡◌, ℕ, ◌<◌, Bool, true, false, [], replicate, append-nil, refl, sym, ap, ◌∙◌, subst}
+use Rattle.std.proofs.Common.{◌≡◌, ℕ, ◌<◌, Bool, true, false, [], append-nil, sym, ap, ◌∙◌, subst}
 use Rattle.std.specs.Prelude.{length}
 use Rattle.std.proofs.lemmas.List.{length-replicate}
 use Rattle.sync_model.specs.Journal.{halt_of, state_after, Right}
-use Rattle.wait_cores.specs.declared.group.GroupPlace.{GroupPlace}
-use Rattle.wait_cores.specs.GroupMachine.{GroupState, next}
+use Rattle.wait_cores.specs.GroupMachine.{next}
 use Rattle.wait_cores.specs.GroupStanding.{waits_at, waits_after}
 use Rattle.ruled_object.specs.Passes.{number_of, own_by, start_of}
 use Rattle.go_waits.specs.Groups.{Answers, waits_by}

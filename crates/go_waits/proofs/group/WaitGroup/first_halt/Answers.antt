@@ -1,4 +1,4 @@
-use Rattle.std.proofs.Common.{◌≡◌, true, ap, sym, ◌∙◌}
+use Rattle.std.proofs.Common.{true, ap, ◌∙◌}
 use Rattle.wait_cores.specs.Edges.{group_releases, group_acquires}
 use Rattle.wait_cores.specs.GroupMachine.{next}
 use Rattle.ruled_object.specs.Passes.{start_of}

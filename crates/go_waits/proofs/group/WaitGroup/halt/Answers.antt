@@ -1,4 +1,4 @@
-use Rattle.std.proofs.Common.{◌≡◌, false, ap, ◌∙◌}
+use Rattle.std.proofs.Common.{false, ap, ◌∙◌}
 use Rattle.wait_cores.specs.GroupStanding.{waits_after}
 use Rattle.ruled_object.specs.Passes.{own_by}
 use Rattle.go_waits.specs.Groups.{waits_by}

@@ -1,9 +1,9 @@
-use Rattle.std.proofs.Common.{◌≡◌, ◌≢◌, ℕ, ◌<◌, ◌++◌, Bool, true, false, [], replicate, refl, sym, ap, ◌∙◌, subst}
+use Rattle.std.proofs.Common.{ℕ, ◌<◌, ◌++◌, true, false, sym, ap, ◌∙◌, subst}
 use Rattle.std.specs.Prelude.{length}
 use Rattle.std.proofs.lemmas.List.{length-replicate}
 use Rattle.sync_model.specs.Journal.{halt_of, state_after, Right}
 use Rattle.wait_cores.specs.declared.group.GroupEvent.TheVariants.{Leave}
-use Rattle.wait_cores.specs.GroupMachine.{GroupState, next}
+use Rattle.wait_cores.specs.GroupMachine.{next}
 use Rattle.wait_cores.specs.GroupStanding.{waits_at, waits_after}
 use Rattle.ruled_object.specs.Cells.{deed_of}
 use Rattle.ruled_object.specs.Growth.{entries_of}

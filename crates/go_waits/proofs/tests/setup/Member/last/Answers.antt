@@ -1,4 +1,4 @@
-use Rattle.std.proofs.Common.{◌≡◌, List, [], ◌∷◌, ◌++◌, length, Some, sym, ap, ◌∙◌, subst, option_to_list}
+use Rattle.std.proofs.Common.{◌≡◌, ◌++◌, length, Some, sym, ap, ◌∙◌, subst, option_to_list}
 use Rattle.std.specs.List.{slice_get}
 use Rattle.go_waits.proofs.Lasts.{within, at_last}
 use Rattle.go_waits.proofs.tests.setup.Member.last.Goals as goal
