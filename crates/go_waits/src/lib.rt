@@ -1,4 +1,4 @@
-//! `sync.Cond`, `sync.WaitGroup` and `sync.Once` of Go for callers in threads: their machines, shared.
+//! `sync.WaitGroup` of Go for callers in threads: its machine, shared.
 #![tactic(auto)]
 
 pub mod group;
