@@ -1,0 +1,88 @@
+-- How the entries of a call add up.
+use Rattle.std.proofs.Common.{◌≡◌, ℕ, zero, suc, Bool, List, [], ◌∷◌, ◌++◌, Option, replicate, append-nil, refl, sym, ap, ◌∙◌, subst, arith}
+use Rattle.sync_model.specs.declared.answer.Answer.{Answer}
+use Rattle.sync_model.specs.declared.answer.Answer.TheVariants.{Done, Halted}
+use Rattle.sync_model.specs.declared.journal.Deed.{Deed}
+use Rattle.sync_model.specs.declared.journal.Deed.TheVariants.{Event}
+use Rattle.sync_model.specs.Journal.{halt_of}
+use Rattle.sync_model.specs.Note.{Holding}
+use Rattle.ruled_object.specs.declared.pass.Pass.{Pass}
+use Rattle.ruled_object.specs.Growth.{Placed, deeds_of, entries_of, halt_before, Grows, IsRight, MeetsHalt, KeepsNote}
+use Rattle.ruled_object.specs.Passes.{own_by}
+use Rattle.go_waits.specs.Making.{Makes, Leaves}
+
+pub replicate-snoc : {A : Type 0} (n : ℕ) (x : A) → replicate n x ++ x ∷ [] ≡ replicate (suc n) x
+replicate-snoc zero x = refl
+replicate-snoc (suc n) x = ap (λ xs. x ∷ xs) (replicate-snoc n x)
+
+pub keeps_both : {H N : Type 0} (at : H → N → Type 0) (own : N → Option Holding) (front : N → List ℕ) (a b c : N) → KeepsNote at own front a b → KeepsNote at own front b c → KeepsNote at own front a c
+keeps_both at own front a b c x y = record {
+  home = λ home is. y.home home (x.home home is);
+  kept = y.kept ∙ x.kept;
+  rises = λ k. let i = x.rises k in let j = y.rises k in omega arith;
+}
+
+module _ {E R : Type 0} where
+  halt-snoc : (es : List (Placed E R)) (p : Placed E R) → halt_before (es ++ p ∷ []) ≡ halt_of p.before
+  halt-snoc [] p = refl
+  halt-snoc (e ∷ []) p = refl
+  halt-snoc (e ∷ (f ∷ es)) p = halt-snoc (f ∷ es) p
+
+  -- the last entry decides whether a call met a halt
+  pub meets-snoc : {A : Type 0} (es : List (Placed E R)) (p : Placed E R) (answer : Answer A) → MeetsHalt (p ∷ []) answer → MeetsHalt (es ++ p ∷ []) answer
+  meets-snoc es p (Done a) meets = halt-snoc es p ∙ meets
+  meets-snoc es p (Halted m) meets = halt-snoc es p ∙ meets
+
+  pub deeds-snoc : (es : List (Placed E R)) (p : Placed E R) → deeds_of (es ++ p ∷ []) ≡ deeds_of es ++ p.entry.deed ∷ []
+  deeds-snoc [] p = refl
+  deeds-snoc (e ∷ es) p = ap (λ ds. e.entry.deed ∷ ds) (deeds-snoc es p)
+
+pub entries-snoc : {E R : Type 0} (es : List (Placed E R)) (p : Placed E R) → entries_of (es ++ p ∷ []) ≡ entries_of es ++ p.entry ∷ []
+entries-snoc [] p = refl
+entries-snoc (e ∷ es) p = ap (λ xs. e.entry ∷ xs) (entries-snoc es p)
+
+-- what two calls add, they add together
+abbrev pub Both : {S E R : Type 0} → Type 0 → (S → ℕ → E → S × R) → Bool → S → Type 0
+Both {S} {E} {R} N next halts start =
+    (old mid new : Pass S N E R) (es fs : List (Placed E R)) (from between to : List ℕ) → Grows next halts start old from es mid between → Grows next halts start mid between fs new to
+    → Grows next halts start old from (es ++ fs) new to
+
+-- so far a caller that waits has tried to leave, and was answered each time that it isn't released
+pub record Tried {S N E R : Type 0} (next : S → ℕ → E → S × R) (halts : Bool) (start : S) (old : Pass S N E R) (from : List ℕ) (event : E) (still : R) (new : Pass S N E R) (to : List ℕ) : Type 0 where
+  pub tries : List (Placed E R)
+  pub grows : Grows next halts start old from tries new to
+  pub count : ℕ
+  pub in_vain : deeds_of tries ≡ replicate count (Event event still)
+
+module _ {S N E R : Type 0} (next : S → ℕ → E → S × R) (halts : Bool) (start : S) where
+  -- nothing was done
+  pub tried_none : (old : Pass S N E R) (from : List ℕ) (event : E) (still : R) → Tried next halts start old from event still old from
+  tried_none old from event still = record {
+    tries = [];
+    grows = record { history = refl; mine = sym (append-nil (own_by old)); right = tt; fronts = λ c. omega arith; number = refl };
+    count = 0;
+    in_vain = refl;
+  }
+
+  module _ (both : Both N next halts start) (old mid new : Pass S N E R) (from between to : List ℕ) (event : E) (still : R) (before : Tried next halts start old from event still mid between) where
+    -- one more try
+    pub tries_on : Makes next halts start mid between event (Done still) new to → Tried next halts start old from event still new to
+    tries_on made = record {
+      tries = before.tries ++ made.one ∷ [];
+      grows = both old mid new before.tries (made.one ∷ []) from between to before.grows made.grows;
+      count = suc before.count;
+      in_vain = deeds-snoc before.tries made.one ∙ (ap (λ (z : List (Deed E R) × Deed E R). z.0 ++ z.1 ∷ []) (λ i. (before.in_vain i, made.deed i)) ∙ replicate-snoc before.count (Event event still));
+    }
+
+    -- the last try
+    pub leaves_then : (answer : Answer R) → Makes next halts start mid between event answer new to → Leaves next halts start old from event still answer new to
+    leaves_then answer made = record {
+      tries = before.tries;
+      last = made.one;
+      grows = both old mid new before.tries (made.one ∷ []) from between to before.grows made.grows;
+      count = before.count;
+      in_vain = before.in_vain;
+      deed = made.deed;
+      halted = made.halted;
+      right = subst (λ (c : ℕ). IsRight next halts start c made.one) before.grows.number made.grows.right.0;
+    }

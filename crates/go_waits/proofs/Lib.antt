@@ -1,0 +1,6 @@
+pub mod Adding
+pub mod GroupStart
+pub mod StandingLemmas
+pub mod GroupAnswers
+pub mod Gathering
+pub mod Lasts

@@ -1,0 +1,4 @@
+pub mod Groups
+pub mod GroupCalls
+pub mod Making
+pub mod Standing

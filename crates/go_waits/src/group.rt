@@ -1,0 +1,28 @@
+//! Go's `sync.WaitGroup`, shared by threads.
+ghost use Rattle.std.specs.Prelude.{◌≡◌, replicate};
+ghost use Rattle.wait_cores.specs.declared.group.GroupPlace.TheVariants as place;
+ghost use Rattle.ruled_object.specs.Passes.{callers_of, start_of};
+
+mod calls;
+mod events;
+mod halting;
+mod making;
+
+use ruled_object::{Object, PassOf};
+use sync_model::Note;
+use wait_cores::GroupCore;
+
+/// A counter that callers wait for to be 0.
+///
+/// In the words of Go's documentation: a call to `done`, or to `add` with a number below 0, synchronizes before the return
+/// of any `wait` call that it unblocks.
+#[derive(Drop)]
+pub struct WaitGroup<N: Note> {
+    pub(crate) object: Object<GroupCore, N>,
+    pub(crate) callers: u32,
+    ghost sized: { callers_of object ≡ callers },
+    ghost begins: { (start_of object).places ≡ replicate callers place.Out },
+}
+
+/// The pass of one caller to a `WaitGroup`.
+pub type GroupPass<N> = PassOf<GroupCore, N>;

@@ -1,0 +1,3 @@
+mod group_alone;
+mod group_threads;
+mod setup;
