@@ -1,12 +1,17 @@
 -- A journal, and the log of what the machine took.
-use Rattle.std.proofs.Common.{◌≡◌, ℕ, Bool, true, ◌||◌, List, [], ◌∷◌, ◌++◌, refl, ap, ◌∙◌}
+use Rattle.std.proofs.Common.{◌≡◌, ℕ, suc, Bool, true, false, cond, ◌||◌, List, [], ◌∷◌, ◌++◌, length, refl, sym, ap, ◌∙◌}
 use Rattle.std.specs.List.{list_any}
+use Rattle.std.specs.Prelude.{filter}
 use Rattle.std.proofs.lemmas.Bool.{false≢true}
 use Rattle.sync_model.specs.declared.journal.Deed.{Deed}
 use Rattle.sync_model.specs.declared.journal.Deed.TheVariants.{Event, Refused, Halt}
 use Rattle.sync_model.specs.declared.journal.Entry.{Entry}
 use Rattle.sync_model.specs.Log as log
 use Rattle.sync_model.specs.Journal.{logged, log_of, is_such, state_next, state_after}
+
+length-choice : {A : Type 0} (b : Bool) (x : A) (xs : List A) → length (cond b (x ∷ xs) xs) ≡ cond b (suc (length xs)) (length xs)
+length-choice true x xs = refl
+length-choice false x xs = refl
 
 module _ {E R : Type 0} where
   logged-append : (c : ℕ) (d : Deed E R) (xs ys : List (log.Entry E R)) → logged c d (xs ++ ys) ≡ logged c d xs ++ ys
@@ -68,3 +73,18 @@ module _ {E R : Type 0} where
 
   pub log_of-one : (earlier later : List (Entry E R)) (x : Entry E R) (e : E) (r : R) → x.deed ≡ Event e r → log_of (earlier ++ x ∷ later) ≡ log_of earlier ++ log.entry x.caller e r ∷ log_of later
   log_of-one earlier later x e r is = log_of-append earlier (x ∷ later) ∙ ap (λ (z : List (log.Entry E R)). log_of earlier ++ z) (log_of-event x later e r is)
+
+  pub log_of-between : (earlier between later : List (Entry E R)) (second : Entry E R) (f : E) (s : R) → second.deed ≡ Event f s → log_of (earlier ++ (between ++ second ∷ later)) ≡ log_of earlier ++ (log_of between ++ log.entry second.caller f s ∷ log_of later)
+  log_of-between earlier between later second f s is = log_of-append earlier (between ++ second ∷ later) ∙ ap (λ (z : List (log.Entry E R)). log_of earlier ++ z) (log_of-one between later second f s is)
+
+  count_logged : (test : E → R → Bool) (c : ℕ) (d : Deed E R) (l : List (log.Entry E R)) → length (filter (λ e. test e.event e.reply) (logged c d l)) ≡ cond (is_such test d) (suc (length (filter (λ e. test e.event e.reply) l))) (length (filter (λ e. test e.event e.reply) l))
+  count_logged test c (Event e r) l = length-choice (test e r) (log.entry c e r) (filter (λ x. test x.event x.reply) l)
+  count_logged test c (Refused e m) l = refl
+  count_logged test c (Halt m) l = refl
+
+  -- as many entries of the journal pass as of the log
+  pub count_of-log : (test : E → R → Bool) (xs : List (Entry E R)) → length (filter (λ e. test e.event e.reply) (log_of xs)) ≡ length (filter (λ x. is_such test x.deed) xs)
+  count_of-log test [] = refl
+  count_of-log test (x ∷ xs) =
+      count_logged test x.caller x.deed (log_of xs)
+      ∙ (ap (λ (n : ℕ). cond (is_such test x.deed) (suc n) n) (count_of-log test xs) ∙ sym (length-choice (is_such test x.deed) x (filter (λ y. is_such test y.deed) xs)))

@@ -1,6 +1,6 @@
 //! What holds of every journal of a running lock. What a pass shows of the journal is such a one (`IsLawful`), and
 //! so is the whole of it after `first_halt`.
-ghost use Rattle.std.specs.Prelude.{◌≡◌, ℕ, ◌<◌, true, IsTrue, ◌∷◌, ◌++◌, None};
+ghost use Rattle.std.specs.Prelude.{◌≡◌, ℕ, ◌<◌, ◌≤◌, true, IsTrue, ◌∷◌, ◌++◌, length, filter, None};
 ghost use Rattle.std.specs.List.{list_any};
 ghost use Rattle.sync_model.specs.declared.journal.Deed.TheVariants.{Event};
 ghost use Rattle.sync_model.specs.declared.journal.Entry.{Entry};
@@ -46,7 +46,10 @@ pub fn hand_off()
 }
 
 /// Exclusion of readers and writers: after a writer has acquired the lock nobody else acquires it before a writer's
-/// unlock, and after a reader has acquired it no writer does before a reader's unlock.
+/// unlock, and after a reader has acquired it no writer does before a reader's unlock. Callers that were granted the lock
+/// or admitted hold it too: from the moment at which a writer is announced, which it is until its unlock, nobody
+/// acquires the lock before a writer's unlock, and before a writer acquires it as many unlocks of readers come as readers
+/// hold it.
 pub fn exclusion()
     ensures after_writer { (callers : ℕ) (earlier between later : RwJournal) (first second : Entry RwEvent RwReply)
         → Follows rw_lock.next true (rw_lock.start callers) None (earlier ++ first ∷ (between ++ second ∷ later))
@@ -56,7 +59,17 @@ pub fn exclusion()
         → Follows rw_lock.next true (rw_lock.start callers) None (earlier ++ first ∷ (between ++ second ∷ later))
         → IsTrue (acquires_reading first) → IsTrue (acquires_writing second)
         → IsTrue (list_any unlocks_reading between) }
+    ensures announced { (callers : ℕ) (earlier between later : RwJournal) (second : Entry RwEvent RwReply)
+        → Follows rw_lock.next true (rw_lock.start callers) None (earlier ++ (between ++ second ∷ later))
+        → IsTrue (rw_lock.is_announced (state_after rw_lock.next (rw_lock.start callers) earlier).writer)
+        → IsTrue (acquires_lock second)
+        → IsTrue (list_any unlocks_writing between) }
+    ensures beside_readers { (callers : ℕ) (earlier between later : RwJournal) (second : Entry RwEvent RwReply)
+        → Follows rw_lock.next true (rw_lock.start callers) None (earlier ++ (between ++ second ∷ later))
+        → IsTrue (acquires_writing second)
+        → (state_after rw_lock.next (rw_lock.start callers) earlier).readers ≤ length (filter unlocks_reading between) }
 {
     journal_is_log::<RwCore>();
     rw_core::laws::exclusion();
+    rw_core::laws::announced_writer();
 }
