@@ -4,3 +4,4 @@ pub mod StandingLemmas
 pub mod GroupAnswers
 pub mod Gathering
 pub mod Lasts
+pub mod OnceAnswers

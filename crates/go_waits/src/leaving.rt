@@ -3,6 +3,8 @@ ghost use Rattle.std.specs.Prelude.{◌≡◌, ◌≢◌, MatchBool};
 ghost use Rattle.sync_model.specs.declared.answer.Answer.TheVariants.{Done};
 ghost use Rattle.wait_cores.specs.declared.group.GroupEvent.TheVariants as group;
 ghost use Rattle.wait_cores.specs.declared.group.GroupReply.TheVariants as grouped;
+ghost use Rattle.wait_cores.specs.declared.once.OnceEvent.TheVariants as once;
+ghost use Rattle.wait_cores.specs.declared.once.OnceReply.TheVariants as onced;
 ghost use Rattle.ruled_object.specs.Growth.{IsLawful, KeepsNote};
 ghost use Rattle.ruled_object.specs.Passes.{start_of, IsHomeOf, IsPassOf, SamePass};
 ghost use Rattle.go_waits.specs.Making.{Leaves};
@@ -12,7 +14,7 @@ use ruled_object::laws::growth;
 use ruled_object::{Object, PassOf};
 use std::sync::Wait;
 use sync_model::{Answer, Machine, Note};
-use wait_cores::{GroupCore, GroupEvent, GroupReply};
+use wait_cores::{GroupCore, GroupEvent, GroupReply, OnceCore, OnceEvent, OnceReply};
 
 /// A machine at which callers wait, and leave once they are released.
 pub trait Waited: Machine {
@@ -42,6 +44,20 @@ impl Waited for GroupCore {
 
     fn is_still(reply: &GroupReply) -> bool {
         matches!(reply, GroupReply::Still)
+    }
+}
+
+impl<T: Copy> Waited for OnceCore<T> {
+    ghost leaving = { once.Leave };
+
+    ghost still = { onced.Still };
+
+    fn leaving() -> OnceEvent<T> {
+        OnceEvent::Leave
+    }
+
+    fn is_still(reply: &OnceReply<T>) -> bool {
+        matches!(reply, OnceReply::Still)
     }
 }
 

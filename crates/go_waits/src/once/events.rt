@@ -1,0 +1,97 @@
+//! One event of a caller of a once.
+ghost use Rattle.std.specs.Prelude.{◌≡◌, ◌<◌, false};
+ghost use Rattle.wait_cores.specs.OnceStanding.{waits_after, runs_after};
+ghost use Rattle.ruled_object.specs.Cells.{deed_of};
+ghost use Rattle.ruled_object.specs.Growth.{KeepsNote};
+ghost use Rattle.ruled_object.specs.Passes.{left_of, own_by, SamePass};
+ghost use Rattle.ruled_object.specs.Passes as object;
+ghost use Rattle.go_waits.specs.Making.{IsOneLess};
+ghost use Rattle.go_waits.specs.Standing.{stand_next};
+ghost use Rattle.go_waits.specs.Onces.{OnceMakes, OnceLeaves, IsReleased, Answers, waits_by, runs_by, IsHomeOf, IsPassOf, IsRunnerOf, IsOnceLawful};
+
+use super::{Once, OncePass};
+use crate::leaving;
+use crate::making;
+use std::sync::Wait;
+use sync_model::{Answer, Note};
+use wait_cores::laws::once::knows_where_it_stands;
+use wait_cores::{OnceCore, OnceEvent, OnceReply};
+
+impl<T: Copy, N: Note> Once<T, N> {
+    // Takes one call off the pass, and makes the first event of the call.
+    pub(super) fn come<R: Wait>(
+        &self,
+        rt: &R,
+        home: &N::Home,
+        pass: &mut OncePass<T, N>,
+        note: &mut N,
+    ) -> Answer<OnceReply<T>>
+        requires pass { IsPassOf self.now pass.old × (0 < left_of pass.old) }
+        requires home { IsHomeOf N.at self.now home.now × N.at home.now note.old }
+        ensures pass { object.IsPassOf self.now.object pass.new × IsOneLess pass.old pass.new }
+        ensures note { KeepsNote N.at N.own N.front note.old note.new }
+        ensures event { OnceMakes self.now pass.old (N.front note.old) OnceEvent.Begin result pass.new (N.front note.new) }
+        ensures answers { Answers false false OnceEvent.Begin result }
+        ensures waits { waits_by (own_by pass.new) ≡ stand_next false (λ waits event reply. waits_after waits reply) false (deed_of OnceEvent.Begin result) }
+        ensures runs { runs_by (own_by pass.new) ≡ stand_next false (λ runs event reply. runs_after runs reply) false (deed_of OnceEvent.Begin result) }
+        ensures journal { IsOnceLawful self.now pass.new }
+    {
+        knows_where_it_stands::<T>();
+        making::begin::<OnceCore<T>, N, R>(&self.object, rt, home, pass, note, OnceEvent::Begin)
+    }
+
+    // Ends the function that the caller runs.
+    pub(super) fn finish<R: Wait>(
+        &self,
+        rt: &R,
+        home: &N::Home,
+        pass: &mut OncePass<T, N>,
+        note: &mut N,
+        kept: T,
+    ) -> Answer<OnceReply<T>>
+        requires pass { IsRunnerOf self.now pass.old }
+        requires home { IsHomeOf N.at self.now home.now × N.at home.now note.old }
+        ensures pass { object.IsPassOf self.now.object pass.new × SamePass pass.old pass.new }
+        ensures note { KeepsNote N.at N.own N.front note.old note.new }
+        ensures event { OnceMakes self.now pass.old (N.front note.old) (OnceEvent.End kept) result pass.new (N.front note.new) }
+        ensures answers { Answers false true (OnceEvent.End kept) result }
+        ensures waits { waits_by (own_by pass.new) ≡ stand_next false (λ waits event reply. waits_after waits reply) false (deed_of (OnceEvent.End kept) result) }
+        ensures runs { runs_by (own_by pass.new) ≡ stand_next false (λ runs event reply. runs_after runs reply) true (deed_of (OnceEvent.End kept) result) }
+        ensures journal { IsOnceLawful self.now pass.new }
+    {
+        knows_where_it_stands::<T>();
+        making::make::<OnceCore<T>, N, R>(&self.object, rt, home, pass, note, OnceEvent::End(kept))
+    }
+
+    // Sleeps until the caller is released, and leaves.
+    pub(super) fn leave<R: Wait>(
+        &self,
+        rt: &R,
+        home: &N::Home,
+        pass: &mut OncePass<T, N>,
+        note: &mut N,
+    ) -> Answer<OnceReply<T>>
+        requires pass { object.IsPassOf self.now.object pass.old }
+        requires idle { runs_by (own_by pass.old) ≡ false }
+        requires home { IsHomeOf N.at self.now home.now × N.at home.now note.old }
+        ensures pass { object.IsPassOf self.now.object pass.new × SamePass pass.old pass.new }
+        ensures note { KeepsNote N.at N.own N.front note.old note.new }
+        ensures events { OnceLeaves self.now pass.old (N.front note.old) result pass.new (N.front note.new) }
+        ensures released { IsReleased result }
+        ensures out { waits_by (own_by pass.new) ≡ false }
+        ensures idle { runs_by (own_by pass.new) ≡ false }
+        ensures journal { IsOnceLawful self.now pass.new }
+    {
+        knows_where_it_stands::<T>();
+        leaving::leave::<OnceCore<T>, N, R>(&self.object, rt, home, pass, note)
+    }
+
+    // Wakes all callers but this one.
+    pub(super) fn wake_others(&self, caller: u32) {
+        for other in 0..self.callers {
+            if other != caller {
+                self.object.unpark(other);
+            }
+        }
+    }
+}
