@@ -5,3 +5,4 @@ pub mod GroupAnswers
 pub mod Gathering
 pub mod Lasts
 pub mod OnceAnswers
+pub mod FreshPasses

@@ -5,3 +5,4 @@ pub mod Onces
 pub mod OnceCalls
 pub mod OnceRuns
 pub mod Standing
+pub mod Fresh
