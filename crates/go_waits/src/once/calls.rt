@@ -12,11 +12,10 @@ ghost use Rattle.go_waits.specs.Onces.{runs_by, OnceGrows, OnceLeaves, IsLeft, I
 
 use super::{Once, OncePass};
 use crate::once_begun::{OnceBegun, Running};
-use ruled_object::laws::{growth, journal_is_log};
+use ruled_object::laws::growth;
 use std::sync::Wait;
 use sync_model::{Answer, Note};
 use sync_outside::{At, Clock};
-use wait_cores::laws::once::runs_once;
 use wait_cores::{OnceCore, OnceReply};
 
 impl<T: Copy, N: Note> Once<T, N> {
@@ -40,8 +39,6 @@ impl<T: Copy, N: Note> Once<T, N> {
         ensures journal { IsOnceLawful self.now pass.new }
     {
         growth::<OnceCore<T>, N>();
-        journal_is_log::<OnceCore<T>>();
-        runs_once::<T>();
         match self.come(rt, at.home, pass, note) {
             Answer::Done(OnceReply::Run) => Answer::Done(OnceBegun::Run(Running {
                 caller: pass.number(),
@@ -72,6 +69,7 @@ impl<T: Copy, N: Note> Once<T, N> {
         ensures pass { IsPassOf self.now pass.new × SamePass pass.old pass.new }
         ensures note { KeepsNote N.at N.own N.front note.old note.new }
         ensures events { (es : List (Placed (OnceEvent T) (OnceReply T))) × OnceGrows self.now pass.old (N.front note.old) es pass.new (N.front note.new) × Ends kept (deeds_of es) result × MeetsHalt es result }
+        ensures once { RunsOnce pass.new }
         ensures journal { IsOnceLawful self.now pass.new }
     {
         let Running { caller } = running;
@@ -99,6 +97,7 @@ impl<T: Copy, N: Note> Once<T, N> {
         ensures pass { IsPassOf self.now pass.new × SamePass pass.old pass.new }
         ensures note { KeepsNote N.at N.own N.front note.old note.new }
         ensures events { (answer : Answer (OnceReply T)) × OnceLeaves self.now pass.old (N.front note.old) answer pass.new (N.front note.new) × IsLeft answer result }
+        ensures once { RunsOnce pass.new }
         ensures journal { IsOnceLawful self.now pass.new }
     {
         match self.leave(rt, home, pass, note) {

@@ -6,15 +6,17 @@ ghost use Rattle.ruled_object.specs.Growth.{KeepsNote};
 ghost use Rattle.ruled_object.specs.Passes.{left_of, own_by, SamePass};
 ghost use Rattle.ruled_object.specs.Passes as object;
 ghost use Rattle.go_waits.specs.Making.{IsOneLess};
+ghost use Rattle.go_waits.specs.OnceCalls.{RunsOnce};
 ghost use Rattle.go_waits.specs.Standing.{stand_next};
 ghost use Rattle.go_waits.specs.Onces.{OnceMakes, OnceLeaves, IsReleased, Answers, waits_by, runs_by, IsHomeOf, IsPassOf, IsRunnerOf, IsOnceLawful};
 
 use super::{Once, OncePass};
 use crate::leaving;
 use crate::making;
+use ruled_object::laws::journal_is_log;
 use std::sync::Wait;
 use sync_model::{Answer, Note};
-use wait_cores::laws::once::knows_where_it_stands;
+use wait_cores::laws::once::{knows_where_it_stands, runs_once};
 use wait_cores::{OnceCore, OnceEvent, OnceReply};
 
 impl<T: Copy, N: Note> Once<T, N> {
@@ -34,9 +36,12 @@ impl<T: Copy, N: Note> Once<T, N> {
         ensures answers { Answers false false OnceEvent.Begin result }
         ensures waits { waits_by (own_by pass.new) ≡ stand_next false (λ waits event reply. waits_after waits reply) false (deed_of OnceEvent.Begin result) }
         ensures runs { runs_by (own_by pass.new) ≡ stand_next false (λ runs event reply. runs_after runs reply) false (deed_of OnceEvent.Begin result) }
+        ensures once { RunsOnce pass.new }
         ensures journal { IsOnceLawful self.now pass.new }
     {
         knows_where_it_stands::<T>();
+        journal_is_log::<OnceCore<T>>();
+        runs_once::<T>();
         making::begin::<OnceCore<T>, N, R>(&self.object, rt, home, pass, note, OnceEvent::Begin)
     }
 
@@ -57,9 +62,12 @@ impl<T: Copy, N: Note> Once<T, N> {
         ensures answers { Answers false true (OnceEvent.End kept) result }
         ensures waits { waits_by (own_by pass.new) ≡ stand_next false (λ waits event reply. waits_after waits reply) false (deed_of (OnceEvent.End kept) result) }
         ensures runs { runs_by (own_by pass.new) ≡ stand_next false (λ runs event reply. runs_after runs reply) true (deed_of (OnceEvent.End kept) result) }
+        ensures once { RunsOnce pass.new }
         ensures journal { IsOnceLawful self.now pass.new }
     {
         knows_where_it_stands::<T>();
+        journal_is_log::<OnceCore<T>>();
+        runs_once::<T>();
         making::make::<OnceCore<T>, N, R>(&self.object, rt, home, pass, note, OnceEvent::End(kept))
     }
 
@@ -80,9 +88,12 @@ impl<T: Copy, N: Note> Once<T, N> {
         ensures released { IsReleased result }
         ensures out { waits_by (own_by pass.new) ≡ false }
         ensures idle { runs_by (own_by pass.new) ≡ false }
+        ensures once { RunsOnce pass.new }
         ensures journal { IsOnceLawful self.now pass.new }
     {
         knows_where_it_stands::<T>();
+        journal_is_log::<OnceCore<T>>();
+        runs_once::<T>();
         leaving::leave::<OnceCore<T>, N, R>(&self.object, rt, home, pass, note)
     }
 

@@ -1,11 +1,12 @@
 use Rattle.std.proofs.Common.{◌≡◌, ℕ, ◌<◌, Bool, true, false, [], append-nil, refl, sym, ap, ◌∙◌, subst}
 use Rattle.std.specs.Prelude.{length}
 use Rattle.std.proofs.lemmas.List.{length-replicate}
-use Rattle.sync_model.specs.Journal.{halt_of, state_after, Right}
+use Rattle.sync_model.specs.Journal.{halt_of, log_of, state_after, Right}
+use Rattle.sync_model.specs.Log as log
 use Rattle.wait_cores.specs.declared.once.OnceEvent.TheVariants.{Begin}
 use Rattle.wait_cores.specs.OnceMachine.{OnceState, next, callers_of}
 use Rattle.wait_cores.specs.OnceStanding.{waits_at, runs_at}
-use Rattle.ruled_object.specs.Passes.{number_of, own_by, start_of}
+use Rattle.ruled_object.specs.Passes.{number_of, own_by, seen_by, start_of}
 use Rattle.go_waits.specs.Onces.{Answers, waits_by, runs_by}
 use Rattle.go_waits.specs.Standing.{stand_next}
 use Rattle.go_waits.proofs.OnceAnswers.{answers_mine, stands_then, waits_on, runs_on}
@@ -39,3 +40,10 @@ returns-clause-runs g c =
     let old = own_by c.args.pass.now in
     stands_then runs_on old (own_by c.begin.new.pass) [] made.one made.grows.mine
     ∙ (ap (λ (w : Bool). stand_next false runs_on w made.one.entry.deed) (ap runs_by (append-nil old) ∙ c.requires.pass.0.idle) ∙ ap (stand_next false runs_on false) made.deed)
+
+pub returns-clause-once : goal.returns-clause-once
+returns-clause-once g c =
+    let once = c.args.self.now in
+    let seen = seen_by c.begin.new.pass in
+    let follows = (c.journal_is_log.ensures (start_of once.object) seen c.begin.ensures.journal.follows).0 in
+    c.runs_once.ensures.begun once.callers (log_of seen) (subst (λ s. log.Follows next s (log_of seen)) once.begins follows)

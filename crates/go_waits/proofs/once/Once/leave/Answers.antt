@@ -1,12 +1,13 @@
 use Rattle.std.proofs.Common.{◌≡◌, ◌≢◌, ℕ, ◌<◌, ◌++◌, Bool, true, false, refl, sym, ap, ◌∙◌, subst}
 use Rattle.std.proofs.lemmas.List.{length-replicate}
-use Rattle.sync_model.specs.Journal.{halt_of, state_after, Right}
+use Rattle.sync_model.specs.Journal.{halt_of, log_of, state_after, Right}
+use Rattle.sync_model.specs.Log as log
 use Rattle.wait_cores.specs.declared.once.OnceEvent.TheVariants.{Leave}
 use Rattle.wait_cores.specs.OnceMachine.{OnceState, next, callers_of}
 use Rattle.wait_cores.specs.OnceStanding.{waits_at, runs_at}
 use Rattle.ruled_object.specs.Cells.{deed_of}
 use Rattle.ruled_object.specs.Growth.{entries_of}
-use Rattle.ruled_object.specs.Passes.{number_of, own_by, start_of}
+use Rattle.ruled_object.specs.Passes.{number_of, own_by, seen_by, start_of}
 use Rattle.go_waits.specs.Onces.{waits_by, runs_by}
 use Rattle.go_waits.specs.Standing.{stand_next}
 use Rattle.go_waits.proofs.OnceAnswers.{answers_here, released_by, stands_then, out_after, idle_after, idle_trying, waits_on, runs_on}
@@ -43,3 +44,10 @@ returns-clause-idle g c =
     let idle = idle_trying false old left.count left.tries left.in_vain ∙ c.requires.idle in
     stands_then runs_on old (own_by c.leave.new.pass) left.tries left.last left.grows.mine
     ∙ (ap (stand_next false runs_on runs) left.deed ∙ idle_after runs c.leave.result (returns-clause-released g c) idle)
+
+pub returns-clause-once : goal.returns-clause-once
+returns-clause-once g c =
+    let once = c.args.self.now in
+    let seen = seen_by c.leave.new.pass in
+    let follows = (c.journal_is_log.ensures (start_of once.object) seen c.leave.ensures.journal.follows).0 in
+    c.runs_once.ensures.begun once.callers (log_of seen) (subst (λ s. log.Follows next s (log_of seen)) once.begins follows)
