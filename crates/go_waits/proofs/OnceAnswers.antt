@@ -106,10 +106,6 @@ module _ {T : Type 0} where
 
 module _ {T N : Type 0} (start : OnceState T) (both : Both N next true start) (old mid new : OncePass T N) (from between to : List ℕ) (made : Makes next true start old from Begin (Done reply.Queued) mid between) (answer : Answer (OnceReply T))
   (left : Leaves next true start mid between Leave reply.Still answer new to) where
-  -- what is to be shown where a beginning answers
-  abbrev pub Begun : Answer (OnceBegun T) → Type 0
-  Begun result = (es : List (Placed (OnceEvent T) (OnceReply T))) × Grows next true start old from es new to × Begins (deeds_of es) result × MeetsHalt es result
-
   whole : (last : Deed (OnceEvent T) (OnceReply T)) → left.last.entry.deed ≡ last → LeavesBy last (deeds_of (made.one ∷ (left.tries ++ left.last ∷ [])))
   whole last ends = (
     left.count,
@@ -117,20 +113,21 @@ module _ {T N : Type 0} (start : OnceState T) (both : Both N next true start) (o
         (λ i. (made.deed i, (deeds-snoc left.tries left.last ∙ ap (λ (z : OnceDeeds {T = T} × Deed (OnceEvent T) (OnceReply T)). z.0 ++ z.1 ∷ []) (λ j. (left.in_vain j, ends j))) i)),
   )
 
-  -- a caller that queued has what is kept
-  pub begun_already : (kept : T) → IsLeft answer (Done kept) → Begun (Done (Already kept))
-  begun_already kept is = (
-    made.one ∷ (left.tries ++ left.last ∷ []),
-    both old mid new (made.one ∷ []) (left.tries ++ left.last ∷ []) from between to made.grows left.grows,
-    inr (whole (Event Leave (reply.Left kept)) (left.deed ∙ ap (deed_of Leave) is)),
-    meets-snoc {A = OnceBegun T} (made.one ∷ left.tries) left.last (Done (Already kept)) (subst (MeetsHalt (left.last ∷ [])) is left.halted),
-  )
+  spelt : (result : Answer (OnceBegun T)) → IsLeft answer result → Begins (deeds_of (made.one ∷ (left.tries ++ left.last ∷ []))) result
+  spelt (Done (Run running)) is = absurd is
+  spelt (Done (Already kept)) is = inr (whole (Event Leave (reply.Left kept)) (left.deed ∙ ap (deed_of Leave) is))
+  spelt (Halted misuse) is = inr (whole (Refused Leave misuse) (left.deed ∙ ap (deed_of Leave) is))
 
-  -- a caller that queued met a halt
-  pub begun_halted : (misuse : Misuse) → IsLeft {T = T} answer (Halted misuse) → Begun (Halted misuse)
-  begun_halted misuse is = (
+  meets : (result : Answer (OnceBegun T)) → IsLeft answer result → MeetsHalt (left.last ∷ []) result
+  meets (Done (Run running)) is = absurd is
+  meets (Done (Already kept)) is = subst (MeetsHalt (left.last ∷ [])) is left.halted
+  meets (Halted misuse) is = subst (MeetsHalt (left.last ∷ [])) is left.halted
+
+  -- a caller that queued, and then left
+  pub begins_on : (result : Answer (OnceBegun T)) → IsLeft answer result → (es : List (Placed (OnceEvent T) (OnceReply T))) × Grows next true start old from es new to × Begins (deeds_of es) result × MeetsHalt es result
+  begins_on result is = (
     made.one ∷ (left.tries ++ left.last ∷ []),
     both old mid new (made.one ∷ []) (left.tries ++ left.last ∷ []) from between to made.grows left.grows,
-    inr (whole (Refused Leave misuse) (left.deed ∙ ap (deed_of Leave) is)),
-    meets-snoc {A = OnceBegun T} (made.one ∷ left.tries) left.last (Halted misuse) (subst (MeetsHalt (left.last ∷ [])) is left.halted),
+    spelt result is,
+    meets-snoc (made.one ∷ left.tries) left.last result (meets result is),
   )

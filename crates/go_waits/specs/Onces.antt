@@ -14,6 +14,8 @@ use Rattle.ruled_object.specs.declared.pass.Pass.{Pass}
 use Rattle.ruled_object.specs.Gathered as gathered
 use Rattle.ruled_object.specs.Growth.{Placed, Grows, IsLawful}
 use Rattle.ruled_object.specs.Passes as object
+use Rattle.go_waits.specs.declared.once_begun.OnceBegun.{OnceBegun}
+use Rattle.go_waits.specs.declared.once_begun.OnceBegun.TheVariants.{Run, Already}
 use Rattle.go_waits.specs.declared.once.Once.{Once}
 use Rattle.go_waits.specs.Making.{Makes, Leaves}
 use Rattle.go_waits.specs.Standing.{stand_by}
@@ -53,9 +55,10 @@ module _ {T : Type 0} where
   IsReleased (Done reply.Still) = ⊥
   IsReleased (Halted misuse) = Unit {0}
 
-  -- what a call gives whose leaving is answered this
-  abbrev pub IsLeft : Answer (OnceReply T) → Answer T → Type 0
-  IsLeft answer (Done kept) = answer ≡ Done (reply.Left kept)
+  -- what a beginning answers whose leaving is answered this
+  abbrev pub IsLeft : Answer (OnceReply T) → Answer (OnceBegun T) → Type 0
+  IsLeft answer (Done (Run running)) = ⊥
+  IsLeft answer (Done (Already kept)) = answer ≡ Done (reply.Left kept)
   IsLeft answer (Halted misuse) = answer ≡ Halted misuse
 
 module _ {T N H : Type 0} where

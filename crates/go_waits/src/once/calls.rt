@@ -44,10 +44,7 @@ impl<T: Copy, N: Note> Once<T, N> {
                 caller: pass.number(),
             })),
             Answer::Done(OnceReply::Done(kept)) => Answer::Done(OnceBegun::Already(kept)),
-            Answer::Done(OnceReply::Queued) => match self.wait_on(rt, at.home, pass, note) {
-                Answer::Done(kept) => Answer::Done(OnceBegun::Already(kept)),
-                Answer::Halted(misuse) => Answer::Halted(misuse),
-            },
+            Answer::Done(OnceReply::Queued) => self.wait_on(rt, at.home, pass, note),
             Answer::Done(_) => unreachable!(),
             Answer::Halted(misuse) => Answer::Halted(misuse),
         }
@@ -90,18 +87,18 @@ impl<T: Copy, N: Note> Once<T, N> {
         home: &N::Home,
         pass: &mut OncePass<T, N>,
         note: &mut N,
-    ) -> Answer<T>
+    ) -> Answer<OnceBegun<T>>
         requires pass { object.IsPassOf self.now.object pass.old }
         requires idle { runs_by (own_by pass.old) ≡ false }
         requires home { IsHomeOf N.at self.now home.now × N.at home.now note.old }
-        ensures pass { IsPassOf self.now pass.new × SamePass pass.old pass.new }
+        ensures pass { StandsAs self.now pass.new result × SamePass pass.old pass.new }
         ensures note { KeepsNote N.at N.own N.front note.old note.new }
         ensures events { (answer : Answer (OnceReply T)) × OnceLeaves self.now pass.old (N.front note.old) answer pass.new (N.front note.new) × IsLeft answer result }
         ensures once { RunsOnce pass.new }
         ensures journal { IsOnceLawful self.now pass.new }
     {
         match self.leave(rt, home, pass, note) {
-            Answer::Done(OnceReply::Left(kept)) => Answer::Done(kept),
+            Answer::Done(OnceReply::Left(kept)) => Answer::Done(OnceBegun::Already(kept)),
             Answer::Done(_) => unreachable!(),
             Answer::Halted(misuse) => Answer::Halted(misuse),
         }
