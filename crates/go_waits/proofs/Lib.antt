@@ -6,3 +6,4 @@ pub mod Gathering
 pub mod Lasts
 pub mod OnceAnswers
 pub mod FreshPasses
+pub mod OnceRunning

@@ -24,6 +24,15 @@ use Rattle.go_waits.specs.Standing.{stand_next, stand_from, stand_by}
 use Rattle.go_waits.proofs.Adding.{Both, entries-snoc, deeds-snoc, meets-snoc}
 use Rattle.go_waits.proofs.StandingLemmas.{stands_by, stand-snoc, size_stays}
 
+-- what the machine's laws say
+pub record Knows (T : Type 0) : Type 0 where
+  pub own_wait : (s : OnceState T) (c : ℕ) (e : OnceEvent T) → waits_at (next s c e).0 c ≡ waits_after (waits_at s c) (next s c e).1
+  pub own_run : (s : OnceState T) (c : ℕ) (e : OnceEvent T) → runs_at (next s c e).0 c ≡ runs_after (runs_at s c) (next s c e).1
+  pub others_wait : (s : OnceState T) (c o : ℕ) (e : OnceEvent T) → c ≢ o → waits_at (next s o e).0 c ≡ waits_at s c
+  pub others_run : (s : OnceState T) (c o : ℕ) (e : OnceEvent T) → c ≢ o → runs_at (next s o e).0 c ≡ runs_at s c
+  pub answers : (s : OnceState T) (c : ℕ) (e : OnceEvent T) → c < callers_of s → IsTrue (answers (waits_at s c) (runs_at s c) e (next s c e).1)
+  pub callers : (s : OnceState T) (c : ℕ) (e : OnceEvent T) → callers_of (next s c e).0 ≡ callers_of s
+
 module _ {T : Type 0} where
   abbrev pub waits_on : Bool → OnceEvent T → OnceReply T → Bool
   waits_on waits event r = waits_after waits r
@@ -31,24 +40,15 @@ module _ {T : Type 0} where
   abbrev pub runs_on : Bool → OnceEvent T → OnceReply T → Bool
   runs_on runs event r = runs_after runs r
 
-  -- what the machine's laws say
-  pub record Knows : Type 0 where
-    pub own_wait : (s : OnceState T) (c : ℕ) (e : OnceEvent T) → waits_at (next s c e).0 c ≡ waits_after (waits_at s c) (next s c e).1
-    pub own_run : (s : OnceState T) (c : ℕ) (e : OnceEvent T) → runs_at (next s c e).0 c ≡ runs_after (runs_at s c) (next s c e).1
-    pub others_wait : (s : OnceState T) (c o : ℕ) (e : OnceEvent T) → c ≢ o → waits_at (next s o e).0 c ≡ waits_at s c
-    pub others_run : (s : OnceState T) (c o : ℕ) (e : OnceEvent T) → c ≢ o → runs_at (next s o e).0 c ≡ runs_at s c
-    pub answers : (s : OnceState T) (c : ℕ) (e : OnceEvent T) → c < callers_of s → IsTrue (answers (waits_at s c) (runs_at s c) e (next s c e).1)
-    pub callers : (s : OnceState T) (c : ℕ) (e : OnceEvent T) → callers_of (next s c e).0 ≡ callers_of s
-
   -- an answer of the machine is one that its laws allow
-  pub answers_here : Knows → (begin : OnceState T) (c : ℕ) (before : OnceJournal T) (event : OnceEvent T) (r : OnceReply T) → c < callers_of begin → r ≡ (next (state_after next begin before) c event).1
+  pub answers_here : Knows T → (begin : OnceState T) (c : ℕ) (before : OnceJournal T) (event : OnceEvent T) (r : OnceReply T) → c < callers_of begin → r ≡ (next (state_after next begin before) c event).1
       → IsTrue (answers (waits_at (state_after next begin before) c) (runs_at (state_after next begin before) c) event r)
   answers_here knows begin c before event r below right =
       let s : OnceState T = state_after next begin before in
       let here = knows.answers s c event (subst (λ (n : ℕ). c < n) (sym (size_stays next callers_of knows.callers begin before)) below) in
       subst (λ (x : OnceReply T). IsTrue (answers (waits_at s c) (runs_at s c) event x)) (sym right) here
 
-  pub answers_mine : Knows → (begin : OnceState T) (c : ℕ) (before own : OnceJournal T) (event : OnceEvent T) (answer : Answer (OnceReply T)) → c < callers_of begin → waits_at begin c ≡ false → runs_at begin c ≡ false
+  pub answers_mine : Knows T → (begin : OnceState T) (c : ℕ) (before own : OnceJournal T) (event : OnceEvent T) (answer : Answer (OnceReply T)) → c < callers_of begin → waits_at begin c ≡ false → runs_at begin c ≡ false
       → Follows next true begin None before → own ≡ by c before → Right next true (state_after next begin before) (halt_of before) c (deed_of event answer) → Answers (waits_by own) (runs_by own) event answer
   answers_mine knows begin c before own event (Done r) below out idle follows mine right =
       let s : OnceState T = state_after next begin before in
@@ -109,8 +109,8 @@ module _ {T N : Type 0} (start : OnceState T) (both : Both N next true start) (o
   whole : (last : Deed (OnceEvent T) (OnceReply T)) → left.last.entry.deed ≡ last → LeavesBy last (deeds_of (made.one ∷ (left.tries ++ left.last ∷ [])))
   whole last ends = (
     left.count,
-    ap (λ (z : Deed (OnceEvent T) (OnceReply T) × OnceDeeds {T = T}). z.0 ∷ z.1)
-        (λ i. (made.deed i, (deeds-snoc left.tries left.last ∙ ap (λ (z : OnceDeeds {T = T} × Deed (OnceEvent T) (OnceReply T)). z.0 ++ z.1 ∷ []) (λ j. (left.in_vain j, ends j))) i)),
+    ap (λ (z : Deed (OnceEvent T) (OnceReply T) × OnceDeeds T). z.0 ∷ z.1)
+        (λ i. (made.deed i, (deeds-snoc left.tries left.last ∙ ap (λ (z : OnceDeeds T × Deed (OnceEvent T) (OnceReply T)). z.0 ++ z.1 ∷ []) (λ j. (left.in_vain j, ends j))) i)),
   )
 
   spelt : (result : Answer (OnceBegun T)) → IsLeft answer result → Begins (deeds_of (made.one ∷ (left.tries ++ left.last ∷ []))) result

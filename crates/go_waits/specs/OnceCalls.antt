@@ -17,22 +17,22 @@ use Rattle.go_waits.specs.declared.once_begun.OnceBegun.TheVariants.{Run, Alread
 use Rattle.go_waits.specs.declared.once.Once.{Once}
 use Rattle.go_waits.specs.Onces.{OncePass, IsPassOf, IsRunnerOf}
 
-module _ {T : Type 0} where
-  abbrev pub OnceDeeds : Type 0
-  OnceDeeds = List (Deed (OnceEvent T) (OnceReply T))
+abbrev pub OnceDeeds : Type 0 → Type 0
+OnceDeeds T = List (Deed (OnceEvent T) (OnceReply T))
 
+module _ {T : Type 0} where
   -- a caller was queued, tried any number of times to leave before it was released, and left by this deed
-  abbrev pub LeavesBy : Deed (OnceEvent T) (OnceReply T) → OnceDeeds → Type 0
+  abbrev pub LeavesBy : Deed (OnceEvent T) (OnceReply T) → OnceDeeds T → Type 0
   LeavesBy last deeds = (tries : ℕ) × (deeds ≡ Event Begin reply.Queued ∷ (replicate tries (Event Leave reply.Still) ++ last ∷ []))
 
   -- A beginning is one event, and where that queues the leaving after it. The caller is to run the function exactly where the event says so.
-  abbrev pub Begins : OnceDeeds → Answer (OnceBegun T) → Type 0
+  abbrev pub Begins : OnceDeeds T → Answer (OnceBegun T) → Type 0
   Begins deeds (Done (Run running)) = deeds ≡ Event Begin reply.Run ∷ []
   Begins deeds (Done (Already kept)) = (deeds ≡ Event Begin (reply.Done kept) ∷ []) ⊎ LeavesBy (Event Leave (reply.Left kept)) deeds
   Begins deeds (Halted misuse) = (deeds ≡ Refused Begin misuse ∷ []) ⊎ LeavesBy (Refused Leave misuse) deeds
 
   -- an end is one event, which keeps what the function came to
-  abbrev pub Ends : T → OnceDeeds → Answer Unit → Type 0
+  abbrev pub Ends : T → OnceDeeds T → Answer Unit → Type 0
   Ends kept deeds (Done done) = deeds ≡ Event (End kept) reply.Ended ∷ []
   Ends kept deeds (Halted misuse) = deeds ≡ Refused (End kept) misuse ∷ []
 
@@ -47,6 +47,6 @@ StandsAs once pass (Done (Already kept)) = IsPassOf once pass
 StandsAs once pass (Halted misuse) = IsPassOf once pass
 
 -- What a stored function's call does and answers. Where the call runs the function, a result of it is kept and answered; else the answer is what is kept.
-abbrev pub Gives : {T : Type 0} → (T → Type 0) → OnceDeeds {T = T} → Answer T → Type 0
+abbrev pub Gives : {T : Type 0} → (T → Type 0) → OnceDeeds T → Answer T → Type 0
 Gives result deeds (Done value) = (result value × (deeds ≡ Event Begin reply.Run ∷ (Event (End value) reply.Ended ∷ []))) ⊎ Begins deeds (Done (Already value))
 Gives {T} result deeds (Halted misuse) = ((value : T) × result value × (deeds ≡ Event Begin reply.Run ∷ (Refused (End value) misuse ∷ []))) ⊎ Begins {T = T} deeds (Halted misuse)

@@ -11,7 +11,7 @@ use Rattle.go_waits.specs.declared.once_run.OnceRun.TheVariants.{Ran, Already}
 use Rattle.go_waits.specs.OnceCalls.{OnceDeeds, Begins}
 
 -- The function ran exactly where the beginning was answered that it runs; then the call ends it, and answers what the function answered.
-abbrev pub Does : {E : Type 0} → (Result Unit E → Type 0) → OnceDeeds {T = Unit {0}} → Answer (OnceRun E) → Type 0
+abbrev pub Does : {E : Type 0} → (Result Unit E → Type 0) → OnceDeeds (Unit {0}) → Answer (OnceRun E) → Type 0
 Does result deeds (Done (Ran outcome)) = result outcome × (deeds ≡ Event Begin reply.Run ∷ (Event (End tt) reply.Ended ∷ []))
 Does result deeds (Done Already) = Begins deeds (Done (begun.Already tt))
 Does {E} result deeds (Halted misuse) = ((outcome : Result Unit E) × result outcome × (deeds ≡ Event Begin reply.Run ∷ (Refused (End tt) misuse ∷ []))) ⊎ Begins {T = Unit {0}} deeds (Halted misuse)

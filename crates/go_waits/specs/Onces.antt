@@ -11,6 +11,7 @@ use Rattle.wait_cores.specs.Edges.{once_releases, once_acquires}
 use Rattle.wait_cores.specs.OnceMachine.{OnceState, next}
 use Rattle.wait_cores.specs.OnceStanding.{waits_after, runs_after, answers}
 use Rattle.ruled_object.specs.declared.pass.Pass.{Pass}
+use Rattle.ruled_object.specs.Cells.{deed_of}
 use Rattle.ruled_object.specs.Gathered as gathered
 use Rattle.ruled_object.specs.Growth.{Placed, Grows, IsLawful}
 use Rattle.ruled_object.specs.Passes as object
@@ -18,7 +19,7 @@ use Rattle.go_waits.specs.declared.once_begun.OnceBegun.{OnceBegun}
 use Rattle.go_waits.specs.declared.once_begun.OnceBegun.TheVariants.{Run, Already}
 use Rattle.go_waits.specs.declared.once.Once.{Once}
 use Rattle.go_waits.specs.Making.{Makes, Leaves}
-use Rattle.go_waits.specs.Standing.{stand_by}
+use Rattle.go_waits.specs.Standing.{stand_by, stand_next}
 
 -- an entry of a once's journal
 abbrev pub OnceMade : Type 0 → Type 0
@@ -39,6 +40,13 @@ module _ {T : Type 0} where
 
   abbrev pub runs_by : OnceJournal T → Bool
   runs_by own = stand_by false (λ runs event reply. runs_after runs reply) own
+
+  -- where it stands after an event of its own that is answered this
+  abbrev pub waits_then : Bool → OnceEvent T → Answer (OnceReply T) → Bool
+  waits_then waits event answer = stand_next false (λ waits event reply. waits_after waits reply) waits (deed_of event answer)
+
+  abbrev pub runs_then : Bool → OnceEvent T → Answer (OnceReply T) → Bool
+  runs_then runs event answer = stand_next false (λ runs event reply. runs_after runs reply) runs (deed_of event answer)
 
   -- an event that the machine took is answered as one of a caller that waits, or runs the function, or doesn't, is
   abbrev pub Answers : Bool → Bool → OnceEvent T → Answer (OnceReply T) → Type 0

@@ -1,14 +1,12 @@
 //! One event of a caller of a once.
-ghost use Rattle.std.specs.Prelude.{◌≡◌, ◌<◌, false};
-ghost use Rattle.wait_cores.specs.OnceStanding.{waits_after, runs_after};
-ghost use Rattle.ruled_object.specs.Cells.{deed_of};
+ghost use Rattle.std.specs.Prelude.{◌≡◌, ◌<◌, true, false};
 ghost use Rattle.ruled_object.specs.Growth.{KeepsNote};
 ghost use Rattle.ruled_object.specs.Passes.{left_of, own_by, SamePass};
 ghost use Rattle.ruled_object.specs.Passes as object;
 ghost use Rattle.go_waits.specs.Making.{IsOneLess};
 ghost use Rattle.go_waits.specs.OnceCalls.{RunsOnce};
-ghost use Rattle.go_waits.specs.Standing.{stand_next};
-ghost use Rattle.go_waits.specs.Onces.{OnceMakes, OnceLeaves, IsReleased, Answers, waits_by, runs_by, IsHomeOf, IsPassOf, IsRunnerOf, IsOnceLawful};
+ghost use Rattle.wait_cores.specs.declared.once.OnceEvent.{OnceEvent};
+ghost use Rattle.go_waits.specs.Onces.{OnceMakes, OnceLeaves, IsReleased, Answers, waits_by, runs_by, waits_then, runs_then, IsHomeOf, IsPassOf, IsRunnerOf, IsOnceLawful};
 
 use super::{Once, OncePass};
 use crate::leaving;
@@ -34,8 +32,8 @@ impl<T: Copy, N: Note> Once<T, N> {
         ensures note { KeepsNote N.at N.own N.front note.old note.new }
         ensures event { OnceMakes self.now pass.old (N.front note.old) OnceEvent.Begin result pass.new (N.front note.new) }
         ensures answers { Answers false false OnceEvent.Begin result }
-        ensures waits { waits_by (own_by pass.new) ≡ stand_next false (λ waits event reply. waits_after waits reply) false (deed_of OnceEvent.Begin result) }
-        ensures runs { runs_by (own_by pass.new) ≡ stand_next false (λ runs event reply. runs_after runs reply) false (deed_of OnceEvent.Begin result) }
+        ensures waits { waits_by (own_by pass.new) ≡ waits_then false OnceEvent.Begin result }
+        ensures runs { runs_by (own_by pass.new) ≡ runs_then false OnceEvent.Begin result }
         ensures once { RunsOnce pass.new }
         ensures journal { IsOnceLawful self.now pass.new }
     {
@@ -60,8 +58,8 @@ impl<T: Copy, N: Note> Once<T, N> {
         ensures note { KeepsNote N.at N.own N.front note.old note.new }
         ensures event { OnceMakes self.now pass.old (N.front note.old) (OnceEvent.End kept) result pass.new (N.front note.new) }
         ensures answers { Answers false true (OnceEvent.End kept) result }
-        ensures waits { waits_by (own_by pass.new) ≡ stand_next false (λ waits event reply. waits_after waits reply) false (deed_of (OnceEvent.End kept) result) }
-        ensures runs { runs_by (own_by pass.new) ≡ stand_next false (λ runs event reply. runs_after runs reply) true (deed_of (OnceEvent.End kept) result) }
+        ensures waits { waits_by (own_by pass.new) ≡ waits_then false (OnceEvent.End kept) result }
+        ensures runs { runs_by (own_by pass.new) ≡ runs_then true (OnceEvent.End kept) result }
         ensures once { RunsOnce pass.new }
         ensures journal { IsOnceLawful self.now pass.new }
     {

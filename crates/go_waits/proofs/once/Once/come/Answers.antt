@@ -9,7 +9,7 @@ use Rattle.wait_cores.specs.OnceStanding.{waits_at, runs_at}
 use Rattle.ruled_object.specs.Passes.{number_of, own_by, seen_by, start_of}
 use Rattle.go_waits.specs.Onces.{Answers, waits_by, runs_by}
 use Rattle.go_waits.specs.Standing.{stand_next}
-use Rattle.go_waits.proofs.OnceAnswers.{answers_mine, stands_then, waits_on, runs_on}
+use Rattle.go_waits.proofs.OnceAnswers.{Knows, answers_mine, stands_then, waits_on, runs_on}
 use Rattle.go_waits.proofs.once.Once.come.Goals as goal
 
 pub returns-clause-answers : goal.returns-clause-answers
@@ -23,7 +23,7 @@ returns-clause-answers g c =
     let out : waits_at begin (number_of pass) ≡ false = ap (λ s. waits_at s (number_of pass)) once.begins ∙ (law.first once.callers (number_of pass)).0 in
     let idle : runs_at begin (number_of pass) ≡ false = ap (λ s. runs_at s (number_of pass)) once.begins ∙ (law.first once.callers (number_of pass)).1 in
     let right = subst (λ d. Right next true (state_after next begin made.one.before) (halt_of made.one.before) (number_of pass) d) made.deed made.grows.right.0.1 in
-    let knows = record { own_wait = law.own_wait; own_run = law.own_run; others_wait = law.others_wait; others_run = law.others_run; answers = law.answers; callers = law.callers } in
+    let knows : Knows _ = record { own_wait = law.own_wait; own_run = law.own_run; others_wait = law.others_wait; others_run = law.others_run; answers = law.answers; callers = law.callers } in
     let mine = answers_mine knows begin (number_of pass) made.one.before (own_by pass) Begin c.begin.result below out idle made.follows made.own right in
     subst (λ (w : Bool). Answers w false Begin c.begin.result) c.requires.pass.0.out (subst (λ (w : Bool). Answers (waits_by (own_by pass)) w Begin c.begin.result) c.requires.pass.0.idle mine)
 

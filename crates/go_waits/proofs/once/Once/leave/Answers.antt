@@ -10,7 +10,7 @@ use Rattle.ruled_object.specs.Growth.{entries_of}
 use Rattle.ruled_object.specs.Passes.{number_of, own_by, seen_by, start_of}
 use Rattle.go_waits.specs.Onces.{waits_by, runs_by}
 use Rattle.go_waits.specs.Standing.{stand_next}
-use Rattle.go_waits.proofs.OnceAnswers.{answers_here, released_by, stands_then, out_after, idle_after, idle_trying, waits_on, runs_on}
+use Rattle.go_waits.proofs.OnceAnswers.{Knows, answers_here, released_by, stands_then, out_after, idle_after, idle_trying, waits_on, runs_on}
 use Rattle.go_waits.proofs.once.Once.leave.Goals as goal
 
 pub returns-clause-released : goal.returns-clause-released
@@ -22,7 +22,7 @@ returns-clause-released g c =
     let law = c.knows_where_it_stands.ensures in
     let below : number_of pass < callers_of begin = subst (λ (n : ℕ). number_of pass < n) (once.sized ∙ sym (ap callers_of once.begins ∙ length-replicate _ _)) c.requires.pass.caller in
     let before = left.last.before in
-    let knows = record { own_wait = law.own_wait; own_run = law.own_run; others_wait = law.others_wait; others_run = law.others_run; answers = law.answers; callers = law.callers } in
+    let knows : Knows _ = record { own_wait = law.own_wait; own_run = law.own_run; others_wait = law.others_wait; others_run = law.others_run; answers = law.answers; callers = law.callers } in
     released_by (waits_at (state_after next begin before) (number_of pass)) (runs_at (state_after next begin before) (number_of pass)) c.leave.result c.leave.ensures.released
     (λ r is.
         let right = subst (λ d. Right next true (state_after next begin before) (halt_of before) (number_of pass) d) (left.deed ∙ ap (deed_of Leave) is) left.right.1 in
