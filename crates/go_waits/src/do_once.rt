@@ -31,12 +31,12 @@ impl<N: Note> Once<(), N> {
         note: &mut N,
         function: F,
     ) -> Answer<OnceRun<E>>
-        requires function { F.pre function tt }
+        requires function { F.pre function }
         requires pass { IsPassOf self.now pass.old × (0 < left_of pass.old) }
         requires home { IsHomeOf N.at self.now at.now.home.now × N.at at.now.home.now note.old }
         ensures pass { IsPassOf self.now pass.new × IsOneLess pass.old pass.new }
         ensures note { KeepsNote N.at N.own N.front note.old note.new }
-        ensures events { (es : List (Placed (OnceEvent (Unit {0})) (OnceReply (Unit {0})))) × OnceGrows self.now pass.old (N.front note.old) es pass.new (N.front note.new) × Does (F.post function tt) (deeds_of es) result × MeetsHalt es result }
+        ensures events { (es : List (Placed (OnceEvent (Unit {0})) (OnceReply (Unit {0})))) × OnceGrows self.now pass.old (N.front note.old) es pass.new (N.front note.new) × Does (F.post function) (deeds_of es) result × MeetsHalt es result }
         ensures once { RunsOnce pass.new }
         ensures journal { IsOnceLawful self.now pass.new }
     {

@@ -63,7 +63,7 @@ impl<T: Copy, F: Fn() -> T, N: Note> OnceValue<T, F, N> {
         requires home { IsHomeOf N.at self.now.once at.now.home.now × N.at at.now.home.now note.old }
         ensures pass { IsPassOf self.now.once pass.new × IsOneLess pass.old pass.new }
         ensures note { KeepsNote N.at N.own N.front note.old note.new }
-        ensures events { (es : List (Placed (OnceEvent T) (OnceReply T))) × OnceGrows self.now.once pass.old (N.front note.old) es pass.new (N.front note.new) × Gives (F.post self.now.function tt) (deeds_of es) result × MeetsHalt es result }
+        ensures events { (es : List (Placed (OnceEvent T) (OnceReply T))) × OnceGrows self.now.once pass.old (N.front note.old) es pass.new (N.front note.new) × Gives (F.post self.now.function) (deeds_of es) result × MeetsHalt es result }
         ensures once { RunsOnce pass.new }
         ensures journal { IsOnceLawful self.now.once pass.new }
     {
