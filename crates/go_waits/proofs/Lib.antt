@@ -7,3 +7,4 @@ pub mod Lasts
 pub mod OnceAnswers
 pub mod FreshPasses
 pub mod OnceRunning
+pub mod CondAnswers

@@ -1,3 +1,5 @@
+pub mod Conds
+pub mod CondCalls
 pub mod Groups
 pub mod GroupCalls
 pub mod Making

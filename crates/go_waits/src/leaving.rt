@@ -3,6 +3,8 @@ ghost use Rattle.std.specs.Prelude.{◌≡◌, ◌≢◌, MatchBool};
 ghost use Rattle.sync_model.specs.declared.answer.Answer.TheVariants.{Done};
 ghost use Rattle.wait_cores.specs.declared.group.GroupEvent.TheVariants as group;
 ghost use Rattle.wait_cores.specs.declared.group.GroupReply.TheVariants as grouped;
+ghost use Rattle.wait_cores.specs.declared.notify.NotifyEvent.TheVariants as notify;
+ghost use Rattle.wait_cores.specs.declared.notify.NotifyReply.TheVariants as notified;
 ghost use Rattle.wait_cores.specs.declared.once.OnceEvent.TheVariants as once;
 ghost use Rattle.wait_cores.specs.declared.once.OnceReply.TheVariants as onced;
 ghost use Rattle.ruled_object.specs.Growth.{IsLawful, KeepsNote};
@@ -14,7 +16,10 @@ use ruled_object::laws::growth;
 use ruled_object::{Object, PassOf};
 use std::sync::Wait;
 use sync_model::{Answer, Machine, Note};
-use wait_cores::{GroupCore, GroupEvent, GroupReply, OnceCore, OnceEvent, OnceReply};
+use wait_cores::{
+    GroupCore, GroupEvent, GroupReply, NotifyCore, NotifyEvent, NotifyReply, OnceCore, OnceEvent,
+    OnceReply,
+};
 
 /// A machine at which callers wait, and leave once they are released.
 pub trait Waited: Machine {
@@ -31,6 +36,20 @@ pub trait Waited: Machine {
     /// Whether a caller was answered that it isn't released.
     fn is_still(reply: &Self::Reply) -> bool
         ensures { MatchBool result (reply.now ≡ still) (reply.now ≢ still) };
+}
+
+impl Waited for NotifyCore {
+    ghost leaving = { notify.Leave };
+
+    ghost still = { notified.Still };
+
+    fn leaving() -> NotifyEvent {
+        NotifyEvent::Leave
+    }
+
+    fn is_still(reply: &NotifyReply) -> bool {
+        matches!(reply, NotifyReply::Still)
+    }
 }
 
 impl Waited for GroupCore {

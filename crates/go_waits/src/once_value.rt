@@ -3,11 +3,12 @@ ghost use Rattle.std.specs.Prelude.{◌≡◌, ◌≤◌, ◌<◌, IfOk, List};
 ghost use Rattle.sync_model.specs.declared.answer.Answer.{Answer};
 ghost use Rattle.wait_cores.specs.declared.once.OnceEvent.{OnceEvent};
 ghost use Rattle.wait_cores.specs.declared.once.OnceReply.{OnceReply};
+ghost use Rattle.wait_cores.specs.OnceMachine.{start};
 ghost use Rattle.ruled_object.specs.Growth.{Placed, KeepsNote, MeetsHalt, deeds_of};
 ghost use Rattle.ruled_object.specs.Passes.{left_of, SamePass};
 ghost use Rattle.go_waits.specs.Making.{IsOneLess};
 ghost use Rattle.go_waits.specs.OnceCalls.{Gives, RunsOnce};
-ghost use Rattle.go_waits.specs.Onces.{OnceGrows, AreNew, IsHomeOf, IsPassOf, IsOnceLawful};
+ghost use Rattle.go_waits.specs.Onces.{callers_of, start_of, OnceGrows, AreNew, IsHomeOf, IsPassOf, IsOnceLawful};
 
 use crate::once::{Once, OncePass};
 use crate::once_begun::OnceBegun;
@@ -41,7 +42,7 @@ impl<T: Copy, F: Fn() -> T, N: Note> OnceValue<T, F, N> {
     ) -> Result<(Self, Vec<OncePass<T, N>>), AllocError>
         requires callers { (1 ≤ callers) × (callers ≤ MAX_CALLERS) }
         requires calls { calls ≤ MAX_CALLS }
-        ensures home { IfOk result (λ made. (home : N.Home) → N.at home note → IsHomeOf N.at made.0.once home) }
+        ensures once { IfOk result (λ made. (callers_of made.0.once ≡ callers) × (start_of made.0.once ≡ start callers) × ((home : N.Home) → N.at home note → IsHomeOf N.at made.0.once home)) }
         ensures function { IfOk result (λ made. made.0.function ≡ function) }
         ensures passes { IfOk result (λ made. AreNew made.0.once calls made.1.items) }
     {

@@ -1,3 +1,6 @@
+mod cond_alone;
+mod cond_setup;
+mod cond_threads;
 mod group_alone;
 mod group_threads;
 mod once_alone;
