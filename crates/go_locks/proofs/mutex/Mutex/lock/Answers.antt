@@ -7,8 +7,8 @@ use Rattle.go_locks.specs.Mutexes.{mutex_start}
 use Rattle.go_locks.proofs.Spelling.{did_spent}
 use Rattle.go_locks.proofs.mutex.Mutex.lock.Goals as goal
 
-pub lock_within-requires-pass : goal.lock_within-requires-pass
-lock_within-requires-pass g c = record { of = c.spend.ensures.pass.0; free = ap (waits_by waits_after false) c.spend.ensures.pass.3 ∙ c.requires.pass.free }
+pub lock_within-requires-clause-pass : goal.lock_within-requires-clause-pass
+lock_within-requires-clause-pass g c = record { of = c.spend.ensures.pass.0; free = ap (waits_by waits_after false) c.spend.ensures.pass.3 ∙ c.requires.pass.free }
 
 pub returns-clause-pass : goal.returns-clause-pass
 returns-clause-pass g c =

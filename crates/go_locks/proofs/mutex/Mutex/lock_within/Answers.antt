@@ -103,7 +103,7 @@ returns-else-has_mutex-clause-pass g c =
     let free = free_after next (mutex_start mutex) waits_after old new (g.N.Note.front c.args.note.now) (g.N.Note.front c.wait.new.note) did.entries did.grows c.requires.pass.free (locks_free did.spelt) in
     let first = c.event.ensures.pass.1 in
     let last = c.wait.ensures.pass.1 in
-    (record { of = c.wait.ensures.pass.0; free = free }, last.0 ∙ first.0, last.1 ∙ first.1)
+    (record { of = c.wait.ensures.pass.0; free = free }, (last.0 ∙ first.0, last.1 ∙ first.1))
 
 pub returns-else-has_mutex-clause-note : goal.returns-else-has_mutex-clause-note
 returns-else-has_mutex-clause-note g c = let n = g.N.Note in keeps_both n.at n.own n.front c.args.note.now c.event.new.note c.wait.new.note c.event.ensures.note c.wait.ensures.note
