@@ -68,7 +68,7 @@ module _ {N : Type 0} (start : NotifyState) (old new : CondPass N) (from to : Li
       left.count,
       deeds-snoc left.tries left.last ∙ ap (λ (z : calls.NotifyDeeds × Deed NotifyEvent NotifyReply). z.0 ++ z.1 ∷ []) (λ i. (left.in_vain i, (left.deed ∙ ap (λ (x : NotifyReply). deed_of Leave (Done x)) is) i)),
     );
-    halted = meets-snoc left.tries left.last (Done tt) left.halted;
+    halted = meets-snoc {A = Unit {0}} left.tries left.last (Done tt) left.halted;
     moments = tt;
   }
 
