@@ -105,7 +105,7 @@ module _ {T : Type 0} where
   released_by waits runs (Halted misuse) other law = tt
 
 module _ {T N : Type 0} (start : OnceState T) (both : Both N next true start) (old mid new : OncePass T N) (from between to : List ℕ) (made : Makes next true start old from Begin (Done reply.Queued) mid between) (answer : Answer (OnceReply T))
-  (left : Leaves next true start mid between Leave reply.Still answer new to) where
+    (left : Leaves next true start mid between Leave reply.Still answer new to) where
   whole : (last : Deed (OnceEvent T) (OnceReply T)) → left.last.entry.deed ≡ last → LeavesBy last (deeds_of (made.one ∷ (left.tries ++ left.last ∷ [])))
   whole last ends = (
     left.count,

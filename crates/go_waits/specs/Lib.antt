@@ -6,5 +6,6 @@ pub mod Making
 pub mod Onces
 pub mod OnceCalls
 pub mod OnceRuns
+pub mod OnceValues
 pub mod Standing
 pub mod Fresh

@@ -8,6 +8,7 @@ ghost use Rattle.ruled_object.specs.Growth.{Placed, KeepsNote, MeetsHalt, deeds_
 ghost use Rattle.ruled_object.specs.Passes.{left_of, SamePass};
 ghost use Rattle.go_waits.specs.Making.{IsOneLess};
 ghost use Rattle.go_waits.specs.OnceCalls.{Gives, RunsOnce};
+ghost use Rattle.go_waits.specs.OnceValues.{once_of, function_of};
 ghost use Rattle.go_waits.specs.Onces.{callers_of, start_of, OnceGrows, AreNew, IsHomeOf, IsPassOf, IsOnceLawful};
 
 use crate::once::{Once, OncePass};
@@ -24,8 +25,8 @@ use wait_cores::OnceCore;
 /// serves for Go's `OnceValues`.
 #[derive(Drop)]
 pub struct OnceValue<T: Copy, F, N: Note> {
-    once: Once<T, N>,
-    function: F,
+    pub(crate) once: Once<T, N>,
+    pub(crate) function: F,
 }
 
 /// A stored function that is called at most once, and that succeeds or fails: every call answers which.
@@ -42,9 +43,9 @@ impl<T: Copy, F: Fn() -> T, N: Note> OnceValue<T, F, N> {
     ) -> Result<(Self, Vec<OncePass<T, N>>), AllocError>
         requires callers { (1 ≤ callers) × (callers ≤ MAX_CALLERS) }
         requires calls { calls ≤ MAX_CALLS }
-        ensures once { IfOk result (λ made. (callers_of made.0.once ≡ callers) × (start_of made.0.once ≡ start callers) × ((home : N.Home) → N.at home note → IsHomeOf N.at made.0.once home)) }
-        ensures function { IfOk result (λ made. made.0.function ≡ function) }
-        ensures passes { IfOk result (λ made. AreNew made.0.once calls made.1.items) }
+        ensures once { IfOk result (λ made. (callers_of (once_of made.0) ≡ callers) × (start_of (once_of made.0) ≡ start callers) × ((home : N.Home) → N.at home note → IsHomeOf N.at (once_of made.0) home)) }
+        ensures function { IfOk result (λ made. function_of made.0 ≡ function) }
+        ensures passes { IfOk result (λ made. AreNew (once_of made.0) calls made.1.items) }
     {
         let (once, passes) = Once::new(alloc, callers, calls, note)?;
         Ok((OnceValue { once, function }, passes))
@@ -59,14 +60,14 @@ impl<T: Copy, F: Fn() -> T, N: Note> OnceValue<T, F, N> {
         pass: &mut OncePass<T, N>,
         note: &mut N,
     ) -> Answer<T>
-        requires function { F.IsAlwaysCallable self.now.function }
-        requires pass { IsPassOf self.now.once pass.old × (0 < left_of pass.old) }
-        requires home { IsHomeOf N.at self.now.once at.now.home.now × N.at at.now.home.now note.old }
-        ensures pass { IsPassOf self.now.once pass.new × IsOneLess pass.old pass.new }
+        requires function { F.IsAlwaysCallable (function_of self.now) }
+        requires pass { IsPassOf (once_of self.now) pass.old × (0 < left_of pass.old) }
+        requires home { IsHomeOf N.at (once_of self.now) at.now.home.now × N.at at.now.home.now note.old }
+        ensures pass { IsPassOf (once_of self.now) pass.new × IsOneLess pass.old pass.new }
         ensures note { KeepsNote N.at N.own N.front note.old note.new }
-        ensures events { (es : List (Placed (OnceEvent T) (OnceReply T))) × OnceGrows self.now.once pass.old (N.front note.old) es pass.new (N.front note.new) × Gives (F.post self.now.function) (deeds_of es) result × MeetsHalt es result }
+        ensures events { (es : List (Placed (OnceEvent T) (OnceReply T))) × OnceGrows (once_of self.now) pass.old (N.front note.old) es pass.new (N.front note.new) × Gives (F.post (function_of self.now)) (deeds_of es) result × MeetsHalt es result }
         ensures once { RunsOnce pass.new }
-        ensures journal { IsOnceLawful self.now.once pass.new }
+        ensures journal { IsOnceLawful (once_of self.now) pass.new }
     {
         growth::<OnceCore<T>, N>();
         match self.once.begin(rt, at, pass, note) {

@@ -9,8 +9,7 @@ ghost use Rattle.wait_cores.specs.declared.once.OnceEvent.{OnceEvent};
 ghost use Rattle.go_waits.specs.Onces.{OnceMakes, OnceLeaves, IsReleased, Answers, waits_by, runs_by, waits_then, runs_then, IsHomeOf, IsPassOf, IsRunnerOf, IsOnceLawful};
 
 use super::{Once, OncePass};
-use crate::leaving;
-use crate::making;
+use crate::{leaving, making};
 use ruled_object::laws::journal_is_log;
 use std::sync::Wait;
 use sync_model::{Answer, Note};

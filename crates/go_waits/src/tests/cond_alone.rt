@@ -29,7 +29,14 @@ fn a_wait_without_its_mutex_is_a_misuse(rt: HostRuntime) -> Result<(), Fail> {
     );
     let misuse = Misuse::UnlockOfUnlockedMutex;
     assert_eq!(rt;
-        cond.wait(&rt, &HERE, &mut second, &mut other, &mutex, &mut second_lock),
+        cond.wait(
+            &rt,
+            &HERE,
+            &mut second,
+            &mut other,
+            &mutex,
+            &mut second_lock
+        ),
         Answer::Done(Err(misuse))
     );
     // Neither the ticket nor the misuse makes an edge.

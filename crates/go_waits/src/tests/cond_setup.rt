@@ -35,10 +35,7 @@ pub(super) fn last_lock(_mutex: &Locked, passes: &mut Vec<LockPass>) -> LockPass
     passes.pop().unwrap()
 }
 
-pub(super) fn cond(
-    alloc: Global,
-    callers: u32,
-) -> Result<(Notified, Vec<NotifiedPass>), AllocError>
+pub(super) fn cond(alloc: Global, callers: u32) -> Result<(Notified, Vec<NotifiedPass>), AllocError>
     requires { (1 ≤ callers) × (callers ≤ 64) }
     ensures { IfOk result (λ made. AreFreshCond made.0 made.1.items × (vec_len made.1 ≡ callers)) }
 {

@@ -86,7 +86,11 @@ impl<'a> Party<'a> {
             return None;
         }
         let Party {
-            buffer, lock, room, note, ..
+            buffer,
+            lock,
+            room,
+            note,
+            ..
         } = self;
         let _ = buffer
             .has_room
@@ -99,7 +103,11 @@ impl<'a> Party<'a> {
             return None;
         }
         let Party {
-            buffer, lock, items, note, ..
+            buffer,
+            lock,
+            items,
+            note,
+            ..
         } = self;
         let _ = buffer
             .has_items

@@ -29,8 +29,14 @@ fn a_pair_of_values_is_kept(rt: HostRuntime) -> Result<(), Fail> {
     let (value, mut passes) = stored(rt.alloc(), 1, || -> (u64, u64) { (4, 5) })?;
     let mut only = last(&value.once, &mut passes);
     let mut note = knows(0);
-    assert_eq!(rt; value.call(&rt, &HERE, &mut only, &mut note), Answer::Done((4, 5)));
-    assert_eq!(rt; value.call(&rt, &HERE, &mut only, &mut note), Answer::Done((4, 5)));
+    assert_eq!(rt;
+        value.call(&rt, &HERE, &mut only, &mut note),
+        Answer::Done((4, 5))
+    );
+    assert_eq!(rt;
+        value.call(&rt, &HERE, &mut only, &mut note),
+        Answer::Done((4, 5))
+    );
     Ok(())
 }
 
@@ -41,14 +47,22 @@ fn the_end_synchronizes_before_the_return_of_each_call(rt: HostRuntime) -> Resul
     let mut first = last(&once, &mut passes);
     let mut knowing = knows(7);
     let mut learning = knows(0);
-    let ran = once.do_once(&rt, &HERE, &mut first, &mut knowing, || -> Result<(), u32> {
-        Err(3)
-    });
+    let ran = once.do_once(
+        &rt,
+        &HERE,
+        &mut first,
+        &mut knowing,
+        || -> Result<(), u32> { Err(3) },
+    );
     assert_eq!(rt; ran, Answer::Done(OnceRun::Ran(Err(3))));
     assert_eq!(rt; learning.count(0), 0);
-    let again = once.do_once(&rt, &HERE, &mut second, &mut learning, || -> Result<(), u32> {
-        Ok(())
-    });
+    let again = once.do_once(
+        &rt,
+        &HERE,
+        &mut second,
+        &mut learning,
+        || -> Result<(), u32> { Ok(()) },
+    );
     assert_eq!(rt; again, Answer::Done(OnceRun::Already));
     assert_eq!(rt; learning.count(0), 7);
     Ok(())
@@ -61,7 +75,9 @@ fn a_halt_ends_the_once(rt: HostRuntime) -> Result<(), Fail> {
     let mut note = knows(0);
     once.halt(&rt, &mut only, &note, Misuse::WaitGroupReused);
     once.halt(&rt, &mut only, &note, Misuse::NegativeWaitGroupCounter);
-    let answer = once.do_once(&rt, &HERE, &mut only, &mut note, || -> Result<(), u32> { Ok(()) });
+    let answer = once.do_once(&rt, &HERE, &mut only, &mut note, || -> Result<(), u32> {
+        Ok(())
+    });
     assert_eq!(rt; answer, Answer::Halted(Misuse::WaitGroupReused));
     Ok(())
 }

@@ -1,6 +1,7 @@
 //! Onces for the tests, and their passes.
 ghost use Rattle.std.specs.Prelude.{◌≡◌, ◌<◌, ◌≤◌, ◌+◌, IfOk, vec_len};
 ghost use Rattle.go_waits.specs.Fresh.{IsFresh, AreFresh};
+ghost use Rattle.go_waits.specs.OnceValues.{once_of, function_of};
 
 use super::setup::knows;
 use crate::once::{Once, OncePass};
@@ -39,8 +40,8 @@ pub(super) fn stored<T: Copy, F: Fn() -> T + Drop>(
     function: F,
 ) -> Result<(OnceValue<T, F, FrontNote>, Vec<OncePass<T, FrontNote>>), AllocError>
     requires { (1 ≤ callers) × (callers ≤ 64) }
-    ensures function { IfOk result (λ made. made.0.function ≡ function) }
-    ensures passes { IfOk result (λ made. AreFresh made.0.once made.1.items × (vec_len made.1 ≡ callers)) }
+    ensures function { IfOk result (λ made. function_of made.0 ≡ function) }
+    ensures passes { IfOk result (λ made. AreFresh (once_of made.0) made.1.items × (vec_len made.1 ≡ callers)) }
 {
     let (value, passes) = OnceValue::new(alloc, callers, MAX_CALLS, function, knows(0))?;
     Ok((value, passes))

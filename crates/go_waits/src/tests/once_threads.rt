@@ -84,7 +84,15 @@ fn halted_beside<R: Threads + Wait + Sync>(
         rt,
         move || -> Answer<OnceRun<u32>>
             requires { IsSync R.row × IsFresh once.now waits }
-        { once.do_once(rt, &HERE, &mut waits, &mut knows(0), || -> Result<(), u32> { Ok(()) }) },
+        {
+            once.do_once(
+                rt,
+                &HERE,
+                &mut waits,
+                &mut knows(0),
+                || -> Result<(), u32> { Ok(()) },
+            )
+        },
         move || -> ()
             requires { IsSync R.row × IsFresh once.now halts }
         { once.halt(rt, &mut halts, &knows(0), Misuse::WaitGroupReused) },
@@ -109,7 +117,8 @@ fn halted_in_mid_run<R: Threads + Wait + Sync>(
             let end = once.end(running, rt, &HERE, &mut runs, &mut note, ());
             Some((met, end))
         }
-        Answer::Done(OnceBegun::Already(())) | Answer::Halted(_) => None,
+        Answer::Done(OnceBegun::Already(())) => None,
+        Answer::Halted(_) => None,
     }
 }
 

@@ -25,8 +25,8 @@ returns-clause-released g c =
     let knows : Knows _ = record { own_wait = law.own_wait; own_run = law.own_run; others_wait = law.others_wait; others_run = law.others_run; answers = law.answers; callers = law.callers } in
     released_by (waits_at (state_after next begin before) (number_of pass)) (runs_at (state_after next begin before) (number_of pass)) c.leave.result c.leave.ensures.released
     (λ r is.
-        let right = subst (λ d. Right next true (state_after next begin before) (halt_of before) (number_of pass) d) (left.deed ∙ ap (deed_of Leave) is) left.right.1 in
-        answers_here knows begin (number_of pass) before Leave r below right.1)
+    let right = subst (λ d. Right next true (state_after next begin before) (halt_of before) (number_of pass) d) (left.deed ∙ ap (deed_of Leave) is) left.right.1 in
+    answers_here knows begin (number_of pass) before Leave r below right.1)
 
 pub returns-clause-out : goal.returns-clause-out
 returns-clause-out g c =

@@ -12,8 +12,7 @@ returns-in-Done-clause-events g c =
     let front = g.N.Note.front in
     let value = c.function-value.result in
     let first = rw c.in-Done-Run.field-0-is at c.in-Done-Run.ensures.events in
-    let last = c.in-Done.ensures.events in
-    (
+    let last = c.in-Done.ensures.events in (
       first.0 ++ last.0,
       c.growth.ensures.both (start_of c.args.self.now.once) c.args.pass.now c.begin.new.pass c.end.new.pass first.0 last.0 (front c.args.note.now) (front c.begin.new.note) (front c.end.new.note) first.1 last.1,
       inl (c.function-value.ensures, deeds_run first.0 last.0 (Event (End value) Ended) first.2 last.2),
@@ -26,8 +25,7 @@ returns-in-Halted-end-clause-events g c =
     let value = c.function-value.result in
     let misuse = c.in-Halted-end.misuse in
     let first = rw c.in-Done-Run.field-0-is at c.in-Done-Run.ensures.events in
-    let last = c.in-Halted-end.ensures.events in
-    (
+    let last = c.in-Halted-end.ensures.events in (
       first.0 ++ last.0,
       c.growth.ensures.both (start_of c.args.self.now.once) c.args.pass.now c.begin.new.pass c.end.new.pass first.0 last.0 (front c.args.note.now) (front c.begin.new.note) (front c.end.new.note) first.1 last.1,
       inl (value, c.function-value.ensures, deeds_run first.0 last.0 (Refused (End value) misuse) first.2 last.2),
