@@ -7,4 +7,4 @@ returns c =
     let made = c.in_ok-cond.ensures in
     let count = made.passes.all.count ∙ made.cond.0 in
     let ok = c.in_ok-cond.passes.ok in
-    (fresh_cond _ _ made.passes, (cc))
+    (fresh_cond c.in_ok-cond.cond _ made.passes, (cc))
