@@ -1,5 +1,5 @@
 -- What the entries of a call show, one after the other.
-use Rattle.std.proofs.Common.{◌≡◌, ℕ, Bool, true, false, cond, List, [], ◌∷◌, ◌++◌, Option, Some, None, refl, sym, ap, subst, ◌∙◌, arith}
+use Rattle.std.proofs.Common.{◌≡◌, ℕ, Bool, true, false, cond, List, [], ◌∷◌, ◌++◌, Option, Some, None, append-nil, refl, sym, ap, subst, ◌∙◌, arith}
 use Rattle.std.specs.Prelude.{◌==◌, if◌then◌else◌}
 use Rattle.std.specs.List.{AllByRecursion}
 use Rattle.sync_model.specs.declared.misuse.Misuse.{Misuse}
@@ -12,8 +12,8 @@ use Rattle.sync_model.specs.Note.{Holding}
 use Rattle.sync_model.specs.Log as log
 use Rattle.sync_model.specs.Journal.{halt_next, halt_after, halt_of, by, logged, log_of, state_next, Right, Follows}
 use Rattle.ruled_object.specs.declared.pass.Pass.{Pass}
-use Rattle.ruled_object.specs.Growth.{Placed, entries_of, deeds_of, halt_before, MeetsHalt, KeepsNote, Grows}
-use Rattle.ruled_object.specs.Passes.{own_by}
+use Rattle.ruled_object.specs.Growth.{Placed, entries_of, deeds_of, halt_before, IsRight, Leads, MeetsHalt, KeepsNote, Grows}
+use Rattle.ruled_object.specs.Passes.{own_by, seen_by}
 use Rattle.go_locks.specs.Calls.{Did, waits_next, waits_by}
 
 module _ {E R : Type 0} where
@@ -77,6 +77,27 @@ module _ {S E R : Type 0} (next : S → ℕ → E → S × R) (after : Bool → 
       (λ opens v. waits_log (state_next next s x.caller x.deed) c v xs (subst (λ (h : Option Misuse). Follows next true (state_next next s x.caller x.deed) h rest) opens follows.1) (subst (λ (h : Option Misuse). halt_after h rest ≡ None) opens unhalted))
 
 module _ {S N E R : Type 0} (next : S → ℕ → E → S × R) (start : S) where
+  -- nothing was done
+  pub grows_none : (old : Pass S N E R) (from : List ℕ) → Grows next true start old from [] old from
+  grows_none old from = record { history = refl; mine = sym (append-nil (own_by old)); right = tt; fronts = λ c. omega arith; number = refl }
+
+  -- what is added after spending from the pass is added to what its caller had before
+  pub did_spent : {A : Type 0} (spells : List (Deed E R) → Answer A → Type 0) (clocked : List (Deed E R) → Type 0) (old mid new : Pass S N E R) (from to : List ℕ) (answer : Answer A) → Grows next true start old from [] mid from
+      → Did next start spells clocked mid from answer new to → Did next start spells clocked old from answer new to
+  did_spent spells clocked old mid new from to answer spent did = record {
+    entries = did.entries;
+    grows = record {
+      history = subst (λ (seen : List (Entry E R)). Leads seen did.entries (seen_by new)) spent.history did.grows.history;
+      mine = did.grows.mine ∙ ap (λ (own : List (Entry E R)). own ++ entries_of did.entries) (spent.mine ∙ append-nil (own_by old));
+      right = subst (λ (c : ℕ). AllByRecursion (IsRight next true start c) did.entries) spent.number did.grows.right;
+      fronts = did.grows.fronts;
+      number = did.grows.number ∙ spent.number;
+    };
+    spelt = did.spelt;
+    halted = did.halted;
+    moments = did.moments;
+  }
+
   -- a call of one event
   pub did_one : {A : Type 0} (spells : List (Deed E R) → Answer A → Type 0) (clocked : List (Deed E R) → Type 0) (old new : Pass S N E R) (from to : List ℕ) (answer : Answer A) (p : Placed E R) (d : Deed E R) → p.entry.deed ≡ d
       → Grows next true start old from (p ∷ []) new to → spells (d ∷ []) answer → MeetsHalt (p ∷ []) answer → clocked (d ∷ []) → Did next start spells clocked old from answer new to

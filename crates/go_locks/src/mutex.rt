@@ -8,6 +8,7 @@ mod events;
 mod halts;
 mod making;
 mod waiting;
+mod within;
 
 use mutex_core::MutexCore;
 use ruled_object::{Object, PassOf};

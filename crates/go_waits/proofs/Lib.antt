@@ -4,3 +4,7 @@ pub mod StandingLemmas
 pub mod GroupAnswers
 pub mod Gathering
 pub mod Lasts
+pub mod OnceAnswers
+pub mod FreshPasses
+pub mod OnceRunning
+pub mod CondAnswers

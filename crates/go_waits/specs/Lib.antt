@@ -1,4 +1,11 @@
+pub mod Conds
+pub mod CondCalls
 pub mod Groups
 pub mod GroupCalls
 pub mod Making
+pub mod Onces
+pub mod OnceCalls
+pub mod OnceRuns
+pub mod OnceValues
 pub mod Standing
+pub mod Fresh

@@ -3,6 +3,10 @@ ghost use Rattle.std.specs.Prelude.{◌≡◌, ◌≢◌, MatchBool};
 ghost use Rattle.sync_model.specs.declared.answer.Answer.TheVariants.{Done};
 ghost use Rattle.wait_cores.specs.declared.group.GroupEvent.TheVariants as group;
 ghost use Rattle.wait_cores.specs.declared.group.GroupReply.TheVariants as grouped;
+ghost use Rattle.wait_cores.specs.declared.notify.NotifyEvent.TheVariants as notify;
+ghost use Rattle.wait_cores.specs.declared.notify.NotifyReply.TheVariants as notified;
+ghost use Rattle.wait_cores.specs.declared.once.OnceEvent.TheVariants as once;
+ghost use Rattle.wait_cores.specs.declared.once.OnceReply.TheVariants as onced;
 ghost use Rattle.ruled_object.specs.Growth.{IsLawful, KeepsNote};
 ghost use Rattle.ruled_object.specs.Passes.{start_of, IsHomeOf, IsPassOf, SamePass};
 ghost use Rattle.go_waits.specs.Making.{Leaves};
@@ -12,7 +16,10 @@ use ruled_object::laws::growth;
 use ruled_object::{Object, PassOf};
 use std::sync::Wait;
 use sync_model::{Answer, Machine, Note};
-use wait_cores::{GroupCore, GroupEvent, GroupReply};
+use wait_cores::{
+    GroupCore, GroupEvent, GroupReply, NotifyCore, NotifyEvent, NotifyReply, OnceCore, OnceEvent,
+    OnceReply,
+};
 
 /// A machine at which callers wait, and leave once they are released.
 pub trait Waited: Machine {
@@ -31,6 +38,20 @@ pub trait Waited: Machine {
         ensures { MatchBool result (reply.now ≡ still) (reply.now ≢ still) };
 }
 
+impl Waited for NotifyCore {
+    ghost leaving = { notify.Leave };
+
+    ghost still = { notified.Still };
+
+    fn leaving() -> NotifyEvent {
+        NotifyEvent::Leave
+    }
+
+    fn is_still(reply: &NotifyReply) -> bool {
+        matches!(reply, NotifyReply::Still)
+    }
+}
+
 impl Waited for GroupCore {
     ghost leaving = { group.Leave };
 
@@ -42,6 +63,20 @@ impl Waited for GroupCore {
 
     fn is_still(reply: &GroupReply) -> bool {
         matches!(reply, GroupReply::Still)
+    }
+}
+
+impl<T: Copy> Waited for OnceCore<T> {
+    ghost leaving = { once.Leave };
+
+    ghost still = { onced.Still };
+
+    fn leaving() -> OnceEvent<T> {
+        OnceEvent::Leave
+    }
+
+    fn is_still(reply: &OnceReply<T>) -> bool {
+        matches!(reply, OnceReply::Still)
     }
 }
 

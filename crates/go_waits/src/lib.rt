@@ -1,11 +1,23 @@
-//! `sync.WaitGroup` of Go for callers in threads: its machine, shared.
+//! `sync.Cond`, `sync.WaitGroup` and `sync.Once` of Go, with its kin, for callers in threads: the machines of `wait_cores`,
+//! which callers share.
 #![tactic(auto)]
 
+pub mod cond;
+mod do_once;
 pub mod group;
 pub mod leaving;
 mod making;
+pub mod once;
+pub mod once_begun;
+pub mod once_run;
+pub mod once_value;
 
+pub use cond::{Cond, CondPass};
 pub use group::{GroupPass, WaitGroup};
+pub use once::{Once, OncePass};
+pub use once_begun::{OnceBegun, Running};
+pub use once_run::OnceRun;
+pub use once_value::{OnceFunc, OnceValue};
 
 #[cfg(test)]
 mod tests;

@@ -1,3 +1,9 @@
+mod cond_alone;
+mod cond_setup;
+mod cond_threads;
 mod group_alone;
 mod group_threads;
+mod once_alone;
+mod once_setup;
+mod once_threads;
 mod setup;

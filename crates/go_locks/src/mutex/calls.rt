@@ -38,16 +38,7 @@ impl<N: Note> Mutex<N> {
         ensures journal { IsLawful next true (λ event reply. releases reply) (λ event reply. acquires reply) (mutex_start self.now) pass.new }
     {
         spend(&self.object, pass);
-        let now = at.clock.now();
-        match self.event(rt, at.home, pass, note, MutexEvent::Arrive { now }) {
-            Answer::Halted(misuse) => Answer::Halted(misuse),
-            Answer::Done(reply) => {
-                if has_mutex(&reply) {
-                    return Answer::Done(());
-                }
-                self.wait(rt, at, pass, note)
-            }
-        }
+        self.lock_within(rt, at, pass, note)
     }
 
     /// Go's `TryLock`: whether the caller has the mutex, which it has exactly where an arrival would get it at once.
@@ -92,9 +83,6 @@ impl<N: Note> Mutex<N> {
         ensures journal { IsLawful next true (λ event reply. releases reply) (λ event reply. acquires reply) (mutex_start self.now) pass.new }
     {
         spend(&self.object, pass);
-        match self.event(rt, at.home, pass, note, MutexEvent::Unlock) {
-            Answer::Halted(misuse) => Answer::Halted(misuse),
-            Answer::Done(reply) => Answer::Done(self.unlocked(reply)),
-        }
+        self.unlock_within(rt, at, pass, note)
     }
 }

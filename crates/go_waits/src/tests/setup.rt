@@ -21,7 +21,7 @@ impl Clock for NoClock {
 }
 
 /// Where the calls of the tests are made.
-const HERE: At<'static, FrontNote, NoClock> = At {
+pub(super) const HERE: At<'static, FrontNote, NoClock> = At {
     home: &(),
     clock: &NoClock,
 };

@@ -1,75 +1,24 @@
-use Rattle.std.proofs.Common.{◌≡◌, ap, sym, subst, ◌∙◌, [], ◌∷◌, refl, false}
-use Rattle.sync_model.specs.declared.answer.Answer.TheVariants.{Done}
-use Rattle.sync_model.specs.declared.journal.Deed.TheVariants.{Event, Refused}
-use Rattle.mutex_core.specs.declared.event.MutexEvent.TheVariants.{Unlock}
-use Rattle.mutex_core.specs.declared.reply.MutexReply.TheVariants.{Unlocked}
+use Rattle.std.proofs.Common.{ap, ◌+◌, ◌∙◌, ℕ, false}
 use Rattle.mutex_core.specs.MutexMachine.{next}
 use Rattle.mutex_core.specs.Standing.{waits_after}
-use Rattle.ruled_object.specs.Cells.{deed_of}
-use Rattle.ruled_object.specs.Growth.{MeetsHalt}
 use Rattle.go_locks.specs.Calls.{waits_by}
-use Rattle.go_locks.specs.MutexCalls.{Unlocks, AreClocked, answer_of, unlocked, refused}
+use Rattle.go_locks.specs.MutexCalls.{Unlocks, AreClocked}
 use Rattle.go_locks.specs.Mutexes.{mutex_start}
-use Rattle.go_locks.proofs.Spelling.{did_one, free_one}
-use Rattle.go_locks.proofs.MutexCalls.{unlocked_is, pass_after}
+use Rattle.go_locks.proofs.Spelling.{did_spent}
 use Rattle.go_locks.proofs.mutex.Mutex.unlock.Goals as goal
 
-pub returns-in-Halted-clause-pass : goal.returns-in-Halted-clause-pass
-returns-in-Halted-clause-pass g c =
-    let mutex = c.args.self.now in
-    let start = mutex_start mutex in
-    let old = c.args.pass.now in
-    let new = c.event.new.pass in
-    let from = g.N.Note.front c.args.note.now in
-    let to = g.N.Note.front c.event.new.note in
-    let entry = c.event.ensures.entry in
-    let grows = (entry.3 old from [] (c.spend.ensures.nothing start from)).0 in
-    let deed = entry.2 ∙ ap (deed_of Unlock) c.in-Halted.is in
-    let free = free_one next start waits_after old new from to entry.0 (Refused Unlock c.in-Halted.misuse) deed grows c.requires.pass.free refl in
-    pass_after mutex old c.spend.new.pass new c.spend.ensures.pass.1 c.spend.ensures.pass.2 c.event.ensures.pass.0 c.event.ensures.pass.1 free
+pub unlock_within-requires-clause-pass : goal.unlock_within-requires-clause-pass
+unlock_within-requires-clause-pass g c = record { of = c.spend.ensures.pass.0; free = ap (waits_by waits_after false) c.spend.ensures.pass.3 ∙ c.requires.pass.free }
 
-pub returns-in-Halted-clause-events : goal.returns-in-Halted-clause-events
-returns-in-Halted-clause-events g c =
-    let mutex = c.args.self.now in
-    let start = mutex_start mutex in
-    let old = c.args.pass.now in
-    let new = c.event.new.pass in
-    let from = g.N.Note.front c.args.note.now in
-    let to = g.N.Note.front c.event.new.note in
-    let entry = c.event.ensures.entry in
-    let grown = entry.3 old from [] (c.spend.ensures.nothing start from) in
-    let deed = entry.2 ∙ ap (deed_of Unlock) c.in-Halted.is in
-    did_one next start Unlocks (AreClocked (g.C.Clock.shows c.args.at.now.clock.now)) old new from to _ entry.0 (Refused Unlock c.in-Halted.misuse) deed grown.0 (refused c.in-Halted.misuse) (subst (MeetsHalt (entry.0 ∷ [])) c.in-Halted.is grown.1) (tt, tt)
+pub returns-clause-pass : goal.returns-clause-pass
+returns-clause-pass g c =
+    let spent = c.spend.ensures.pass in
+    let after = c.unlock_within.ensures.pass in
+    (after.0, after.1.0 ∙ spent.1, ap (λ (n : ℕ). n + 1) after.1.1 ∙ spent.2)
 
-pub returns-in-Done-clause-pass : goal.returns-in-Done-clause-pass
-returns-in-Done-clause-pass g c =
-    let mutex = c.args.self.now in
-    let start = mutex_start mutex in
-    let old = c.args.pass.now in
-    let new = c.event.new.pass in
+pub returns-clause-events : goal.returns-clause-events
+returns-clause-events g c =
+    let start = mutex_start c.args.self.now in
     let from = g.N.Note.front c.args.note.now in
-    let to = g.N.Note.front c.event.new.note in
-    let entry = c.event.ensures.entry in
-    let grows = (entry.3 old from [] (c.spend.ensures.nothing start from)).0 in
-    let reply = c.in-Done.reply in
-    let is = unlocked_is reply (c.event.ensures.out reply c.in-Done.is (ap (waits_by waits_after false) c.spend.ensures.pass.3 ∙ c.requires.pass.free) refl) in
-    let deed = entry.2 ∙ (ap (deed_of Unlock) c.in-Done.is ∙ ap (Event Unlock) is.1) in
-    let free = free_one next start waits_after old new from to entry.0 (Event Unlock (Unlocked is.0)) deed grows c.requires.pass.free refl in
-    pass_after mutex old c.spend.new.pass new c.spend.ensures.pass.1 c.spend.ensures.pass.2 c.event.ensures.pass.0 c.event.ensures.pass.1 free
-
-pub returns-in-Done-clause-events : goal.returns-in-Done-clause-events
-returns-in-Done-clause-events g c =
-    let mutex = c.args.self.now in
-    let start = mutex_start mutex in
-    let old = c.args.pass.now in
-    let new = c.event.new.pass in
-    let from = g.N.Note.front c.args.note.now in
-    let to = g.N.Note.front c.event.new.note in
-    let entry = c.event.ensures.entry in
-    let grown = entry.3 old from [] (c.spend.ensures.nothing start from) in
-    let reply = c.in-Done.reply in
-    let is = unlocked_is reply (c.event.ensures.out reply c.in-Done.is (ap (waits_by waits_after false) c.spend.ensures.pass.3 ∙ c.requires.pass.free) refl) in
-    let deed = entry.2 ∙ (ap (deed_of Unlock) c.in-Done.is ∙ ap (Event Unlock) is.1) in
-    let answer : c.unlocked.result ≡ answer_of is.0 = c.unlocked.ensures is.0 is.1 in
-    did_one next start Unlocks (AreClocked (g.C.Clock.shows c.args.at.now.clock.now)) old new from to _ entry.0 (Event Unlock (Unlocked is.0)) deed grown.0
-    (subst (λ r. Unlocks (Event Unlock (Unlocked is.0) ∷ []) (Done r)) (sym answer) (unlocked is.0)) (subst (MeetsHalt (entry.0 ∷ [])) c.in-Done.is grown.1) (tt, tt)
+    let to = g.N.Note.front c.unlock_within.new.note in
+    did_spent next start Unlocks (AreClocked (g.C.Clock.shows c.args.at.now.clock.now)) c.args.pass.now c.spend.new.pass c.unlock_within.new.pass from to c.unlock_within.result (c.spend.ensures.nothing start from) c.unlock_within.ensures.events

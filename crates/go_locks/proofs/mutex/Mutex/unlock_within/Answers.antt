@@ -1,0 +1,74 @@
+use Rattle.std.proofs.Common.{◌≡◌, ap, sym, subst, ◌∙◌, [], ◌∷◌, refl, false}
+use Rattle.sync_model.specs.declared.answer.Answer.TheVariants.{Done}
+use Rattle.sync_model.specs.declared.journal.Deed.TheVariants.{Event, Refused}
+use Rattle.mutex_core.specs.declared.event.MutexEvent.TheVariants.{Unlock}
+use Rattle.mutex_core.specs.declared.reply.MutexReply.TheVariants.{Unlocked}
+use Rattle.mutex_core.specs.MutexMachine.{next}
+use Rattle.mutex_core.specs.Standing.{waits_after}
+use Rattle.ruled_object.specs.Cells.{deed_of}
+use Rattle.ruled_object.specs.Growth.{MeetsHalt}
+use Rattle.go_locks.specs.MutexCalls.{Unlocks, AreClocked, answer_of, unlocked, refused}
+use Rattle.go_locks.specs.Mutexes.{mutex_start}
+use Rattle.go_locks.proofs.Spelling.{grows_none, did_one, free_one}
+use Rattle.go_locks.proofs.MutexCalls.{unlocked_is}
+use Rattle.go_locks.proofs.mutex.Mutex.unlock_within.Goals as goal
+
+pub returns-in-Halted-clause-pass : goal.returns-in-Halted-clause-pass
+returns-in-Halted-clause-pass g c =
+    let mutex = c.args.self.now in
+    let start = mutex_start mutex in
+    let old = c.args.pass.now in
+    let new = c.event.new.pass in
+    let from = g.N.Note.front c.args.note.now in
+    let to = g.N.Note.front c.event.new.note in
+    let entry = c.event.ensures.entry in
+    let grows = (entry.3 old from [] (grows_none next start old from)).0 in
+    let deed = entry.2 ∙ ap (deed_of Unlock) c.in-Halted.is in
+    let free = free_one next start waits_after old new from to entry.0 (Refused Unlock c.in-Halted.misuse) deed grows c.requires.pass.free refl in
+    (record { of = c.event.ensures.pass.0; free = free }, c.event.ensures.pass.1)
+
+pub returns-in-Halted-clause-events : goal.returns-in-Halted-clause-events
+returns-in-Halted-clause-events g c =
+    let mutex = c.args.self.now in
+    let start = mutex_start mutex in
+    let old = c.args.pass.now in
+    let new = c.event.new.pass in
+    let from = g.N.Note.front c.args.note.now in
+    let to = g.N.Note.front c.event.new.note in
+    let entry = c.event.ensures.entry in
+    let grown = entry.3 old from [] (grows_none next start old from) in
+    let deed = entry.2 ∙ ap (deed_of Unlock) c.in-Halted.is in
+    did_one next start Unlocks (AreClocked (g.C.Clock.shows c.args.at.now.clock.now)) old new from to _ entry.0 (Refused Unlock c.in-Halted.misuse) deed grown.0 (refused c.in-Halted.misuse) (subst (MeetsHalt (entry.0 ∷ [])) c.in-Halted.is grown.1) (tt, tt)
+
+pub returns-in-Done-clause-pass : goal.returns-in-Done-clause-pass
+returns-in-Done-clause-pass g c =
+    let mutex = c.args.self.now in
+    let start = mutex_start mutex in
+    let old = c.args.pass.now in
+    let new = c.event.new.pass in
+    let from = g.N.Note.front c.args.note.now in
+    let to = g.N.Note.front c.event.new.note in
+    let entry = c.event.ensures.entry in
+    let grows = (entry.3 old from [] (grows_none next start old from)).0 in
+    let reply = c.in-Done.reply in
+    let is = unlocked_is reply (c.event.ensures.out reply c.in-Done.is c.requires.pass.free refl) in
+    let deed = entry.2 ∙ (ap (deed_of Unlock) c.in-Done.is ∙ ap (Event Unlock) is.1) in
+    let free = free_one next start waits_after old new from to entry.0 (Event Unlock (Unlocked is.0)) deed grows c.requires.pass.free refl in
+    (record { of = c.event.ensures.pass.0; free = free }, c.event.ensures.pass.1)
+
+pub returns-in-Done-clause-events : goal.returns-in-Done-clause-events
+returns-in-Done-clause-events g c =
+    let mutex = c.args.self.now in
+    let start = mutex_start mutex in
+    let old = c.args.pass.now in
+    let new = c.event.new.pass in
+    let from = g.N.Note.front c.args.note.now in
+    let to = g.N.Note.front c.event.new.note in
+    let entry = c.event.ensures.entry in
+    let grown = entry.3 old from [] (grows_none next start old from) in
+    let reply = c.in-Done.reply in
+    let is = unlocked_is reply (c.event.ensures.out reply c.in-Done.is c.requires.pass.free refl) in
+    let deed = entry.2 ∙ (ap (deed_of Unlock) c.in-Done.is ∙ ap (Event Unlock) is.1) in
+    let answer : c.unlocked.result ≡ answer_of is.0 = c.unlocked.ensures is.0 is.1 in
+    did_one next start Unlocks (AreClocked (g.C.Clock.shows c.args.at.now.clock.now)) old new from to _ entry.0 (Event Unlock (Unlocked is.0)) deed grown.0
+    (subst (λ r. Unlocks (Event Unlock (Unlocked is.0) ∷ []) (Done r)) (sym answer) (unlocked is.0)) (subst (MeetsHalt (entry.0 ∷ [])) c.in-Done.is grown.1) (tt, tt)

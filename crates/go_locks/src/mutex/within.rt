@@ -1,0 +1,76 @@
+//! `unlock` and `lock` as parts of a longer call, which takes one off the calls that are left: a cond's `wait`.
+ghost use Rattle.std.specs.Prelude.{◌<◌, true};
+ghost use Rattle.mutex_core.specs.Edges.{acquires, releases};
+ghost use Rattle.mutex_core.specs.MutexMachine.{next};
+ghost use Rattle.ruled_object.specs.Growth.{IsLawful, KeepsNote};
+ghost use Rattle.ruled_object.specs.Passes.{left_of, IsSpent, SamePass};
+ghost use Rattle.go_locks.specs.Calls.{Did};
+ghost use Rattle.go_locks.specs.Mutexes.{mutex_start, IsHomeOfMutex, IsPassOfMutex};
+ghost use Rattle.go_locks.specs.MutexCalls.{Locks, Unlocks, AreClocked};
+
+use super::events::has_mutex;
+use super::{Mutex, MutexPass};
+use mutex_core::{MutexCore, MutexEvent};
+use ruled_object::laws::spending;
+use std::sync::Wait;
+use sync_model::{Answer, Misuse, Note};
+use sync_outside::{At, Clock};
+
+impl<N: Note> Mutex<N> {
+    /// Takes one off the calls that are left, for a longer call. It is no event.
+    pub fn spend_within(&self, pass: &mut MutexPass<N>)
+        requires { IsPassOfMutex self.now pass.old × (0 < left_of pass.old) }
+        ensures { IsPassOfMutex self.now pass.new × IsSpent pass.old pass.new }
+    {
+        spending::<MutexCore, N>();
+        pass.spend();
+    }
+
+    /// The events of `lock`, and its answer. It takes nothing off the calls that are left.
+    pub fn lock_within<C: Clock, R: Wait>(
+        &self,
+        rt: &R,
+        at: &At<N, C>,
+        pass: &mut MutexPass<N>,
+        note: &mut N,
+    ) -> Answer<()>
+        requires pass { IsPassOfMutex self.now pass.old }
+        requires home { IsHomeOfMutex N.at self.now at.now.home.now × N.at at.now.home.now note.old }
+        ensures pass { IsPassOfMutex self.now pass.new × SamePass pass.old pass.new }
+        ensures note { KeepsNote N.at N.own N.front note.old note.new }
+        ensures events { Did next (mutex_start self.now) Locks (AreClocked (C.shows at.now.clock.now)) pass.old (N.front note.old) result pass.new (N.front note.new) }
+        ensures journal { IsLawful next true (λ event reply. releases reply) (λ event reply. acquires reply) (mutex_start self.now) pass.new }
+    {
+        let now = at.clock.now();
+        match self.event(rt, at.home, pass, note, MutexEvent::Arrive { now }) {
+            Answer::Halted(misuse) => Answer::Halted(misuse),
+            Answer::Done(reply) => {
+                if has_mutex(&reply) {
+                    return Answer::Done(());
+                }
+                self.wait(rt, at, pass, note)
+            }
+        }
+    }
+
+    /// The event of `unlock`, and its answer. It takes nothing off the calls that are left.
+    pub fn unlock_within<C: Clock, R: Wait>(
+        &self,
+        rt: &R,
+        at: &At<N, C>,
+        pass: &mut MutexPass<N>,
+        note: &mut N,
+    ) -> Answer<Result<(), Misuse>>
+        requires pass { IsPassOfMutex self.now pass.old }
+        requires home { IsHomeOfMutex N.at self.now at.now.home.now × N.at at.now.home.now note.old }
+        ensures pass { IsPassOfMutex self.now pass.new × SamePass pass.old pass.new }
+        ensures note { KeepsNote N.at N.own N.front note.old note.new }
+        ensures events { Did next (mutex_start self.now) Unlocks (AreClocked (C.shows at.now.clock.now)) pass.old (N.front note.old) result pass.new (N.front note.new) }
+        ensures journal { IsLawful next true (λ event reply. releases reply) (λ event reply. acquires reply) (mutex_start self.now) pass.new }
+    {
+        match self.event(rt, at.home, pass, note, MutexEvent::Unlock) {
+            Answer::Halted(misuse) => Answer::Halted(misuse),
+            Answer::Done(reply) => Answer::Done(self.unlocked(reply)),
+        }
+    }
+}

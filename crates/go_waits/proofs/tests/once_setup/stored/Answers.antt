@@ -1,0 +1,10 @@
+use Rattle.std.proofs.Common.{◌∙◌}
+use Rattle.go_waits.proofs.FreshPasses.{fresh}
+use Rattle.go_waits.proofs.tests.once_setup.stored.Goals as goal
+
+pub returns-clause-passes : goal.returns-clause-passes
+returns-clause-passes g c =
+    let made = c.in_ok-value.ensures in
+    let count = made.passes.all.count ∙ made.once.0 in
+    let ok = c.in_ok-value.passes.ok in
+    (fresh _ _ made.passes, (cc))

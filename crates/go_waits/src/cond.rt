@@ -1,0 +1,29 @@
+//! Go's `sync.Cond`, shared by threads, whose L is a `Mutex`.
+ghost use Rattle.std.specs.Prelude.{◌≡◌};
+ghost use Rattle.wait_cores.specs.NotifyMachine.{start};
+ghost use Rattle.ruled_object.specs.Passes.{callers_of, start_of};
+
+mod calls;
+mod events;
+mod halting;
+mod making;
+mod waiting;
+
+use ruled_object::{Object, PassOf};
+use sync_model::Note;
+use wait_cores::NotifyCore;
+
+/// A point where callers that hold a mutex wait to be notified.
+///
+/// In the words of Go's documentation: a call to `broadcast` or `signal` synchronizes before any `wait` call that it
+/// unblocks.
+#[derive(Drop)]
+pub struct Cond<N: Note> {
+    pub(crate) object: Object<NotifyCore, N>,
+    pub(crate) callers: u32,
+    ghost sized: { callers_of object ≡ callers },
+    ghost begins: { start_of object ≡ start callers },
+}
+
+/// The pass of one caller to a `Cond`.
+pub type CondPass<N> = PassOf<NotifyCore, N>;

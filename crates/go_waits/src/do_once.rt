@@ -1,0 +1,56 @@
+//! Go's `Once.Do`.
+ghost use Rattle.std.specs.Prelude.{◌≡◌, ◌<◌, List};
+ghost use Rattle.wait_cores.specs.declared.once.OnceEvent.{OnceEvent};
+ghost use Rattle.wait_cores.specs.declared.once.OnceReply.{OnceReply};
+ghost use Rattle.ruled_object.specs.Growth.{Placed, KeepsNote, MeetsHalt, deeds_of};
+ghost use Rattle.ruled_object.specs.Passes.{left_of};
+ghost use Rattle.go_waits.specs.Making.{IsOneLess};
+ghost use Rattle.go_waits.specs.OnceCalls.{RunsOnce};
+ghost use Rattle.go_waits.specs.OnceRuns.{Does};
+ghost use Rattle.go_waits.specs.Onces.{OnceGrows, IsHomeOf, IsPassOf, IsOnceLawful};
+
+use crate::once::{Once, OncePass};
+use crate::once_begun::OnceBegun;
+use crate::once_run::OnceRun;
+use ruled_object::laws::growth;
+use std::sync::Wait;
+use sync_model::{Answer, Note};
+use sync_outside::{At, Clock};
+use wait_cores::OnceCore;
+
+impl<N: Note> Once<(), N> {
+    /// Go's `Do`: calls the function where no call did before, and else waits for the return of the one that did. The
+    /// function isn't called again, whether it succeeded or failed.
+    ///
+    /// The return from the function synchronizes before the return of each call.
+    pub fn do_once<E: Drop, F: FnOnce() -> Result<(), E> + Drop, C: Clock, R: Wait>(
+        &self,
+        rt: &R,
+        at: &At<N, C>,
+        pass: &mut OncePass<(), N>,
+        note: &mut N,
+        function: F,
+    ) -> Answer<OnceRun<E>>
+        requires function { F.pre function }
+        requires pass { IsPassOf self.now pass.old × (0 < left_of pass.old) }
+        requires home { IsHomeOf N.at self.now at.now.home.now × N.at at.now.home.now note.old }
+        ensures pass { IsPassOf self.now pass.new × IsOneLess pass.old pass.new }
+        ensures note { KeepsNote N.at N.own N.front note.old note.new }
+        ensures events { (es : List (Placed (OnceEvent (Unit {0})) (OnceReply (Unit {0})))) × OnceGrows self.now pass.old (N.front note.old) es pass.new (N.front note.new) × Does (F.post function) (deeds_of es) result × MeetsHalt es result }
+        ensures once { RunsOnce pass.new }
+        ensures journal { IsOnceLawful self.now pass.new }
+    {
+        growth::<OnceCore<()>, N>();
+        match self.begin(rt, at, pass, note) {
+            Answer::Done(OnceBegun::Run(running)) => {
+                let outcome = function();
+                match self.end(running, rt, at, pass, note, ()) {
+                    Answer::Done(()) => Answer::Done(OnceRun::Ran(outcome)),
+                    Answer::Halted(misuse) => Answer::Halted(misuse),
+                }
+            }
+            Answer::Done(OnceBegun::Already(())) => Answer::Done(OnceRun::Already),
+            Answer::Halted(misuse) => Answer::Halted(misuse),
+        }
+    }
+}

@@ -1,0 +1,28 @@
+//! Go's `sync.Once`, shared by threads, which keeps what its function came to.
+ghost use Rattle.std.specs.Prelude.{◌≡◌};
+ghost use Rattle.wait_cores.specs.OnceMachine.{start};
+ghost use Rattle.ruled_object.specs.Passes.{callers_of, start_of};
+
+mod calls;
+mod events;
+mod halting;
+mod making;
+
+use ruled_object::{Object, PassOf};
+use sync_model::Note;
+use wait_cores::OnceCore;
+
+/// A function that is run once, whoever comes first, and what it came to.
+///
+/// In the words of Go's documentation: the return from the function synchronizes before the return from any call on the
+/// once.
+#[derive(Drop)]
+pub struct Once<T: Copy, N: Note> {
+    pub(crate) object: Object<OnceCore<T>, N>,
+    pub(crate) callers: u32,
+    ghost sized: { callers_of object ≡ callers },
+    ghost begins: { start_of object ≡ start callers },
+}
+
+/// The pass of one caller to a `Once`.
+pub type OncePass<T, N> = PassOf<OnceCore<T>, N>;

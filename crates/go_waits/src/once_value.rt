@@ -1,0 +1,85 @@
+//! Go's `sync.OnceFunc` and `sync.OnceValue`: a function that is called once, whose result each call answers.
+ghost use Rattle.std.specs.Prelude.{◌≡◌, ◌≤◌, ◌<◌, IfOk, List};
+ghost use Rattle.sync_model.specs.declared.answer.Answer.{Answer};
+ghost use Rattle.wait_cores.specs.declared.once.OnceEvent.{OnceEvent};
+ghost use Rattle.wait_cores.specs.declared.once.OnceReply.{OnceReply};
+ghost use Rattle.wait_cores.specs.OnceMachine.{start};
+ghost use Rattle.ruled_object.specs.Growth.{Placed, KeepsNote, MeetsHalt, deeds_of};
+ghost use Rattle.ruled_object.specs.Passes.{left_of, SamePass};
+ghost use Rattle.go_waits.specs.Making.{IsOneLess};
+ghost use Rattle.go_waits.specs.OnceCalls.{Gives, RunsOnce};
+ghost use Rattle.go_waits.specs.OnceValues.{once_of, function_of};
+ghost use Rattle.go_waits.specs.Onces.{callers_of, start_of, OnceGrows, AreNew, IsHomeOf, IsPassOf, IsOnceLawful};
+
+use crate::once::{Once, OncePass};
+use crate::once_begun::OnceBegun;
+use ruled_object::MAX_CALLS;
+use ruled_object::laws::growth;
+use std::alloc::{AllocError, Global};
+use std::sync::Wait;
+use sync_model::{Answer, MAX_CALLERS, Note};
+use sync_outside::{At, Clock};
+use wait_cores::OnceCore;
+
+/// A stored function that is called at most once, by the first call, and whose result every call answers. A pair of values
+/// serves for Go's `OnceValues`.
+#[derive(Drop)]
+pub struct OnceValue<T: Copy, F, N: Note> {
+    pub(crate) once: Once<T, N>,
+    pub(crate) function: F,
+}
+
+/// A stored function that is called at most once, and that succeeds or fails: every call answers which.
+pub type OnceFunc<E, F, N> = OnceValue<Result<(), E>, F, N>;
+
+impl<T: Copy, F: Fn() -> T, N: Note> OnceValue<T, F, N> {
+    /// A function that hasn't been called, for callers 0 to `callers - 1`, and their passes, each good for `calls` calls.
+    pub fn new(
+        alloc: Global,
+        callers: u32,
+        calls: u64,
+        function: F,
+        note: N,
+    ) -> Result<(Self, Vec<OncePass<T, N>>), AllocError>
+        requires callers { (1 ≤ callers) × (callers ≤ MAX_CALLERS) }
+        requires calls { calls ≤ MAX_CALLS }
+        ensures once { IfOk result (λ made. (callers_of (once_of made.0) ≡ callers) × (start_of (once_of made.0) ≡ start callers) × ((home : N.Home) → N.at home note → IsHomeOf N.at (once_of made.0) home)) }
+        ensures function { IfOk result (λ made. function_of made.0 ≡ function) }
+        ensures passes { IfOk result (λ made. AreNew (once_of made.0) calls made.1.items) }
+    {
+        let (once, passes) = Once::new(alloc, callers, calls, note)?;
+        Ok((OnceValue { once, function }, passes))
+    }
+
+    /// The function's result. The first call calls it, and each other one waits for its return, which synchronizes before
+    /// that call's.
+    pub fn call<C: Clock, R: Wait>(
+        &self,
+        rt: &R,
+        at: &At<N, C>,
+        pass: &mut OncePass<T, N>,
+        note: &mut N,
+    ) -> Answer<T>
+        requires function { F.IsAlwaysCallable (function_of self.now) }
+        requires pass { IsPassOf (once_of self.now) pass.old × (0 < left_of pass.old) }
+        requires home { IsHomeOf N.at (once_of self.now) at.now.home.now × N.at at.now.home.now note.old }
+        ensures pass { IsPassOf (once_of self.now) pass.new × IsOneLess pass.old pass.new }
+        ensures note { KeepsNote N.at N.own N.front note.old note.new }
+        ensures events { (es : List (Placed (OnceEvent T) (OnceReply T))) × OnceGrows (once_of self.now) pass.old (N.front note.old) es pass.new (N.front note.new) × Gives (F.post (function_of self.now)) (deeds_of es) result × MeetsHalt es result }
+        ensures once { RunsOnce pass.new }
+        ensures journal { IsOnceLawful (once_of self.now) pass.new }
+    {
+        growth::<OnceCore<T>, N>();
+        match self.once.begin(rt, at, pass, note) {
+            Answer::Done(OnceBegun::Run(running)) => {
+                let value = (self.function)();
+                match self.once.end(running, rt, at, pass, note, value) {
+                    Answer::Done(()) => Answer::Done(value),
+                    Answer::Halted(misuse) => Answer::Halted(misuse),
+                }
+            }
+            Answer::Done(OnceBegun::Already(kept)) => Answer::Done(kept),
+            Answer::Halted(misuse) => Answer::Halted(misuse),
+        }
+    }
+}

@@ -1,0 +1,134 @@
+ghost use Rattle.std.specs.Thread.{IsSync};
+ghost use Rattle.go_waits.specs.Fresh.{IsFresh};
+
+use super::once_setup::{last, once};
+use super::setup::{HERE, knows};
+use crate::once::{Once, OncePass};
+use crate::once_begun::OnceBegun;
+use crate::once_run::OnceRun;
+use std::sync::Wait;
+use std::sync::atomic::{AtomicU64, Ordering};
+use std::test::Fail;
+use std::thread::{Threads, join};
+use sync_model::{Answer, FrontNote, Misuse};
+
+type Shared = Once<(), FrontNote>;
+
+type SharedPass = OncePass<(), FrontNote>;
+
+// Comes with a function that counts itself, and says how often it was 1 that this call ran it.
+fn run<R: Wait>(rt: &R, once: &Shared, mut pass: SharedPass, counted: &AtomicU64) -> u64
+    requires { IsFresh once.now pass }
+{
+    let answer = once.do_once(rt, &HERE, &mut pass, &mut knows(0), || -> Result<(), u32> {
+        counted.fetch_add(1, Ordering::SeqCst);
+        Ok(())
+    });
+    match answer {
+        Answer::Done(OnceRun::Ran(Ok(()))) => 1,
+        _ => 0,
+    }
+}
+
+// Two callers race, each in a thread of its own.
+fn two_race<R: Threads + Wait + Sync>(
+    rt: &R,
+    once: &Shared,
+    counted: &AtomicU64,
+    one: SharedPass,
+    other: SharedPass,
+) -> (u64, u64)
+    requires { IsFresh once.now one × IsFresh once.now other }
+{
+    join(
+        rt,
+        move || -> u64
+            requires { IsSync R.row × IsFresh once.now one }
+        { run(rt, once, one, counted) },
+        move || -> u64
+            requires { IsSync R.row × IsFresh once.now other }
+        { run(rt, once, other, counted) },
+    )
+}
+
+#[test]
+fn one_of_four_threads_runs_the_function(rt: HostRuntime) -> Result<(), Fail> {
+    let (once, mut passes) = once(rt.alloc(), 4)?;
+    let fourth = last(&once, &mut passes);
+    let third = last(&once, &mut passes);
+    let second = last(&once, &mut passes);
+    let first = last(&once, &mut passes);
+    let counted = AtomicU64::new(0);
+    let (left, right) = join(
+        &rt,
+        || two_race(&rt, &once, &counted, first, second),
+        || two_race(&rt, &once, &counted, third, fourth),
+    );
+    let ran = [left.0, left.1, right.0, right.1];
+    assert_eq!(rt; ran.iter().filter(|times| **times == 1).count(), 1);
+    assert_eq!(rt; counted.load(Ordering::SeqCst), 1);
+    Ok(())
+}
+
+// One caller waits for the end of the function, and another halts the once.
+fn halted_beside<R: Threads + Wait + Sync>(
+    rt: &R,
+    once: &Shared,
+    mut waits: SharedPass,
+    mut halts: SharedPass,
+) -> bool
+    requires { IsFresh once.now waits × IsFresh once.now halts }
+{
+    let halted = Answer::Halted(Misuse::WaitGroupReused);
+    let answer = join(
+        rt,
+        move || -> Answer<OnceRun<u32>>
+            requires { IsSync R.row × IsFresh once.now waits }
+        {
+            once.do_once(
+                rt,
+                &HERE,
+                &mut waits,
+                &mut knows(0),
+                || -> Result<(), u32> { Ok(()) },
+            )
+        },
+        move || -> ()
+            requires { IsSync R.row × IsFresh once.now halts }
+        { once.halt(rt, &mut halts, &knows(0), Misuse::WaitGroupReused) },
+    );
+    answer.0 == halted
+}
+
+// One caller runs the function while another waits and a third halts the once; then it ends it.
+fn halted_in_mid_run<R: Threads + Wait + Sync>(
+    rt: &R,
+    once: &Shared,
+    mut runs: SharedPass,
+    waits: SharedPass,
+    halts: SharedPass,
+) -> Option<(bool, Answer<()>)>
+    requires { IsFresh once.now runs × IsFresh once.now waits × IsFresh once.now halts }
+{
+    let mut note = knows(0);
+    match once.begin(rt, &HERE, &mut runs, &mut note) {
+        Answer::Done(OnceBegun::Run(running)) => {
+            let met = halted_beside(rt, once, waits, halts);
+            let end = once.end(running, rt, &HERE, &mut runs, &mut note, ());
+            Some((met, end))
+        }
+        Answer::Done(OnceBegun::Already(())) => None,
+        Answer::Halted(_) => None,
+    }
+}
+
+#[test]
+fn callers_that_wait_and_run_meet_the_halt(rt: HostRuntime) -> Result<(), Fail> {
+    let (once, mut passes) = once(rt.alloc(), 3)?;
+    let third = last(&once, &mut passes);
+    let second = last(&once, &mut passes);
+    let first = last(&once, &mut passes);
+    let met = halted_in_mid_run(&rt, &once, first, second, third);
+    assert_eq!(rt; met, Some((true, Answer::Halted(Misuse::WaitGroupReused))));
+    Ok(())
+}
