@@ -13,7 +13,8 @@ use Rattle.ruled_object.specs.Growth as growth
 use Rattle.go_pool.specs.declared.pool.Pool.{Pool}
 use Rattle.go_pool.specs.declared.pool_get.PoolGet.{PoolGet}
 use Rattle.go_pool.specs.declared.pool_get.PoolGet.TheVariants.{Item}
-use Rattle.go_pool.specs.Calls.{Deeds, Gets, Looks, look, nothing_in}
+use Rattle.wait_cores.specs.Looks.{look}
+use Rattle.go_pool.specs.Calls.{Deeds, Gets, Looks, nothing_in}
 use Rattle.go_pool.specs.Pools.{Placed, PoolPass, parts_of, number_of, Grows}
 
 -- what two calls add, they add together

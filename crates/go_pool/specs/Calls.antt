@@ -1,14 +1,15 @@
 -- Which events a call makes, in order, and how it answers by them.
-use Rattle.std.specs.Prelude.{◌≡◌, ℕ, zero, suc, ◌+◌, ◌*◌, ◌%◌, ◌<◌, nat_lt, if◌then◌else◌, List, [], ◌∷◌, ◌++◌, Option, Some, None}
+use Rattle.std.specs.Prelude.{◌≡◌, ℕ, zero, suc, ◌*◌, ◌<◌, List, [], ◌∷◌, ◌++◌, Option, Some, None}
 use Rattle.sync_model.specs.declared.answer.Answer.{Answer}
 use Rattle.sync_model.specs.declared.answer.Answer.TheVariants.{Done, Halted}
 use Rattle.sync_model.specs.declared.journal.Deed.{Deed}
 use Rattle.sync_model.specs.declared.journal.Deed.TheVariants.{Event, Refused}
 use Rattle.wait_cores.specs.declared.pool_event.PoolEvent.{PoolEvent}
-use Rattle.wait_cores.specs.declared.pool_event.PoolEvent.TheVariants.{Put, LookOwn, LookOther, LookVictim, Sweep}
+use Rattle.wait_cores.specs.declared.pool_event.PoolEvent.TheVariants.{Put, Sweep}
 use Rattle.wait_cores.specs.declared.pool_event.PoolPut.{PoolPut}
 use Rattle.wait_cores.specs.declared.pool_event.PoolReply.{PoolReply}
 use Rattle.wait_cores.specs.declared.pool_event.PoolReply.TheVariants as reply
+use Rattle.wait_cores.specs.Looks.{look}
 use Rattle.wait_cores.specs.PoolParts.{reply_of_put}
 use Rattle.go_pool.specs.declared.pool_get.PoolGet.{PoolGet}
 use Rattle.go_pool.specs.declared.pool_get.PoolGet.TheVariants.{Item, New}
@@ -26,11 +27,6 @@ Puts item deeds (Halted misuse) = deeds ≡ Refused (Put item) misuse ∷ []
 abbrev pub Sweeps : Deeds → Answer Unit → Type 0
 Sweeps deeds (Done done) = deeds ≡ Event Sweep reply.Swept ∷ []
 Sweeps deeds (Halted misuse) = deeds ≡ Refused Sweep misuse ∷ []
-
--- the look number k, from 0, of a get by a caller of so many. It begins at the own part and goes round all parts, and then round the victims in the same way
-abbrev pub look : ℕ → ℕ → ℕ → PoolEvent ℕ
-look callers caller zero = LookOwn
-look callers caller (suc k) = if nat_lt (suc k) callers then LookOther ((caller + suc k) % callers) else LookVictim ((caller + suc k) % callers)
 
 -- what one look did, and the item that it took
 abbrev pub Looks : PoolEvent ℕ → Deed (PoolEvent ℕ) (PoolReply ℕ) → Answer (Option ℕ) → Type 0

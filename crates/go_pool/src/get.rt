@@ -1,9 +1,10 @@
 //! Getting an item of a pool.
 ghost use Rattle.std.specs.Prelude.{◌≡◌, ℕ, ◌<◌, ◌*◌, ◌∷◌, [], List};
+ghost use Rattle.wait_cores.specs.Looks.{look};
 ghost use Rattle.wait_cores.specs.PoolLaws.{NamesPart};
 ghost use Rattle.ruled_object.specs.Growth.{KeepsNote, MeetsHalt, deeds_of};
 ghost use Rattle.ruled_object.specs.Passes.{SamePass};
-ghost use Rattle.go_pool.specs.Calls.{Gets, Looks, look};
+ghost use Rattle.go_pool.specs.Calls.{Gets, Looks};
 ghost use Rattle.go_pool.specs.Items.{ComesFromPuts, IsLook};
 ghost use Rattle.go_pool.specs.Pools.{Placed, parts_of, fresh_of, left_of, number_of, IsHomeOf, IsPassOf, IsLawful, IsOneLess, Grows};
 

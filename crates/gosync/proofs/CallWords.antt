@@ -1,10 +1,10 @@
 -- How long words are.
 use Rattle.std.proofs.Common.{◌≤◌, length, arith}
 use Rattle.workload.specs.declared.keyword.Verb.{Verb}
-use Rattle.workload.specs.declared.keyword.Verb.TheVariants.{Load, Store, LoadOrStore, LoadAndDelete, Delete, Swap, CompareAndSwap, CompareAndDelete, Clear, Range, Add, And, Or, Lock, Unlock, TryLock, RLock, RUnlock, TryRLock}
+use Rattle.workload.specs.declared.keyword.Verb.TheVariants.{Load, Store, LoadOrStore, LoadAndDelete, Delete, Swap, CompareAndSwap, CompareAndDelete, Clear, Range, Add, And, Or, Lock, Unlock, TryLock, RLock, RUnlock, TryRLock, Wait, Signal, Broadcast, Done, Do, Call, Value, Put, Get, Sweep}
 use Rattle.workload.specs.Words.{verb_word}
 
-pub verb_short : (verb : Verb) → length (verb_word verb) ≤ 8
+pub verb_short : (verb : Verb) → length (verb_word verb) ≤ 9
 verb_short Load = omega arith
 verb_short Store = omega arith
 verb_short LoadOrStore = omega arith
@@ -24,3 +24,13 @@ verb_short TryLock = omega arith
 verb_short RLock = omega arith
 verb_short RUnlock = omega arith
 verb_short TryRLock = omega arith
+verb_short Wait = omega arith
+verb_short Signal = omega arith
+verb_short Broadcast = omega arith
+verb_short Done = omega arith
+verb_short Do = omega arith
+verb_short Call = omega arith
+verb_short Value = omega arith
+verb_short Put = omega arith
+verb_short Get = omega arith
+verb_short Sweep = omega arith

@@ -1,8 +1,8 @@
 -- The report: a line for each completed call, worker by worker, and then, where every script has ended, a line for each value that an object holds.
-use Rattle.std.specs.Prelude.{ℕ, ◌+◌, Bool, true, false, List, [], ◌∷◌, ◌++◌, map, codes, Some, None, slice_get}
+use Rattle.std.specs.Prelude.{ℕ, ◌+◌, Bool, true, false, List, [], ◌∷◌, ◌++◌, map, codes, Option, Some, None, slice_get}
 use Rattle.std.specs.List.{flat_map}
 use Rattle.std.specs.Option.{option_map_or}
-use Rattle.std.specs.Fmt.{decimal}
+use Rattle.std.specs.Fmt.{decimal, signed_decimal}
 use Rattle.sync_model.specs.declared.call.Call.{Call}
 use Rattle.sync_model.specs.declared.call.Reply.{Reply}
 use Rattle.sync_model.specs.declared.call.Reply.TheVariants as replies
@@ -12,6 +12,10 @@ use Rattle.sync_model.specs.declared.atomic_object.AtomicReply.{AtomicReply}
 use Rattle.sync_model.specs.declared.atomic_object.AtomicReply.TheVariants as atomic_replies
 use Rattle.sync_model.specs.declared.lock_call.LockReply.{LockReply}
 use Rattle.sync_model.specs.declared.lock_call.LockReply.TheVariants as lock_replies
+use Rattle.sync_model.specs.declared.once_call.OnceReply.{OnceReply}
+use Rattle.sync_model.specs.declared.once_call.OnceReply.TheVariants as once_replies
+use Rattle.sync_model.specs.declared.pool_call.PoolReply.{PoolReply}
+use Rattle.sync_model.specs.declared.pool_call.PoolReply.TheVariants as pool_replies
 use Rattle.workload.specs.declared.line.Line.TheVariants as lines
 use Rattle.workload.specs.declared.object.ObjectLine.{ObjectLine}
 use Rattle.workload.specs.Plan.{Plan, object_of}
@@ -66,11 +70,32 @@ abbrev pub lock_reply_text : LockReply → List ℕ
 lock_reply_text lock_replies.Done = codes "ok"
 lock_reply_text (lock_replies.Tried is_taken) = truth_text is_taken
 
+-- a reply of a once: the sum that its function made, or that the function was run before
+abbrev pub once_reply_text : OnceReply → List ℕ
+once_reply_text (once_replies.Ran sum) = codes "ran " ++ signed_decimal sum
+once_reply_text once_replies.Done = codes "done"
+
+-- the code with which a once function failed, if it did
+abbrev pub once_func_reply_text : Option ℕ → List ℕ
+once_func_reply_text None = codes "ok"
+once_func_reply_text (Some code) = codes "err " ++ decimal code
+
+-- a reply of a pool: nothing, an item that was put, or a new one
+abbrev pub pool_reply_text : PoolReply → List ℕ
+pool_reply_text pool_replies.Done = codes "ok"
+pool_reply_text (pool_replies.Put item) = decimal item ++ codes " put"
+pool_reply_text pool_replies.New = codes "0 new"
+
 abbrev pub reply_text : Reply → List ℕ
 reply_text (replies.Map reply) = map_reply_text reply
 reply_text (replies.Pairs pairs) = pairs_text pairs
 reply_text (replies.Atomic reply) = atomic_reply_text reply
 reply_text (replies.Lock reply) = lock_reply_text reply
+reply_text replies.Returned = codes "ok"
+reply_text (replies.Once reply) = once_reply_text reply
+reply_text (replies.OnceFunc code) = once_func_reply_text code
+reply_text (replies.OnceValue value) = decimal value
+reply_text (replies.Pool reply) = pool_reply_text reply
 
 -- the line of a completed call: `WORKER.INDEX CALL -> REPLY`
 abbrev pub call_line : List ObjectLine → ℕ → ℕ → Call → Reply → List ℕ

@@ -1,17 +1,17 @@
 //! The words of a call in a line of the report, as a workload's text spells them.
 ghost use Rattle.std.specs.Prelude.{◌≡◌, ◌+◌, ◌≤◌, ◌++◌, ◌∷◌, length, map, vec_len, vec_capacity};
 ghost use Rattle.std.specs.Fmt.{decimal};
-ghost use Rattle.workload.specs.Words.{verb_word, verb_of, map_values, map_operands, atomic_operands};
+ghost use Rattle.workload.specs.Words.{verb_word, verb_of, map_values, map_operands, atomic_operands, group_operands, pool_operands, operands_of};
 ghost use Rattle.gosync.specs.ReportText.{spaced, name_at, call_words};
 
-use crate::line::{push_atomic_word, push_number_word, push_word};
-use sync_model::{AtomicCall, Call, MapCall, Name};
+use crate::line::{push_atomic_word, push_number_word, push_signed_word, push_word};
+use sync_model::{AtomicCall, Call, MapCall, Name, PoolCall, WaitGroupCall};
 use workload::ObjectLine;
-use workload::printing::{verb, verb_text};
+use workload::printing::{place_of, verb, verb_text};
 
-/// The most bytes that the words of a call have in a line: a word of up to 8 bytes, two names and two
+/// The most bytes that the words of a call have in a line: a word of up to 9 bytes, two names and two
 /// numbers, each behind a space.
-pub const WORDS_ROOM: usize = 117;
+pub const WORDS_ROOM: usize = 118;
 
 /// The name of the object at a place.
 pub fn name_at(objects: &[ObjectLine], place: usize) -> &[u8]
@@ -27,9 +27,9 @@ pub fn name_at(objects: &[ObjectLine], place: usize) -> &[u8]
 /// Adds the word of a call behind a space.
 #[tactic(auto, using(crate::proofs::CallWords::verb_short))]
 fn push_verb(line: &mut Vec<u8>, call: &Call)
-    requires { vec_len line.old + 9 ≤ vec_capacity line.old }
+    requires { vec_len line.old + 10 ≤ vec_capacity line.old }
     ensures text { line.new.items ≡ line.old.items ++ 32 ∷ verb_word (verb_of call.now) }
-    ensures len { vec_len line.new ≤ vec_len line.old + 9 }
+    ensures len { vec_len line.new ≤ vec_len line.old + 10 }
     ensures room { vec_capacity line.old ≤ vec_capacity line.new }
 {
     push_word(line, verb_text(verb(call)));
@@ -91,6 +91,54 @@ fn push_atomic_operands(line: &mut Vec<u8>, call: AtomicCall)
     }
 }
 
+/// Adds the operands of a call of a wait group, each behind a space.
+fn push_group_operands(line: &mut Vec<u8>, call: WaitGroupCall)
+    requires { vec_len line.old + 75 ≤ vec_capacity line.old }
+    ensures text { line.new.items ≡ line.old.items ++ spaced (group_operands call) }
+    ensures len { vec_len line.new ≤ vec_len line.old + 75 }
+    ensures room { vec_capacity line.old ≤ vec_capacity line.new }
+{
+    match call {
+        WaitGroupCall::Add(delta) => push_signed_word(line, delta),
+        WaitGroupCall::Done | WaitGroupCall::Wait => {}
+    }
+}
+
+/// Adds the operands of a call of a pool, each behind a space.
+fn push_pool_operands(line: &mut Vec<u8>, call: PoolCall)
+    requires { vec_len line.old + 75 ≤ vec_capacity line.old }
+    ensures text { line.new.items ≡ line.old.items ++ spaced (pool_operands call) }
+    ensures len { vec_len line.new ≤ vec_len line.old + 75 }
+    ensures room { vec_capacity line.old ≤ vec_capacity line.new }
+{
+    match call {
+        PoolCall::Put(item) => push_number_word(line, item),
+        PoolCall::Get | PoolCall::Sweep => {}
+    }
+}
+
+/// Adds the operands of a call, each behind a space.
+fn push_operands(line: &mut Vec<u8>, call: &Call)
+    requires { vec_len line.old + 75 ≤ vec_capacity line.old }
+    ensures text { line.new.items ≡ line.old.items ++ spaced (operands_of call.now) }
+    ensures len { vec_len line.new ≤ vec_len line.old + 75 }
+    ensures room { vec_capacity line.old ≤ vec_capacity line.new }
+{
+    match call {
+        Call::Map { call, .. } => push_map_operands(line, call),
+        Call::Atomic { call, .. } => push_atomic_operands(line, *call),
+        Call::WaitGroup { call, .. } => push_group_operands(line, *call),
+        Call::Pool { call, .. } => push_pool_operands(line, *call),
+        Call::Range { .. }
+        | Call::Mutex { .. }
+        | Call::RwMutex { .. }
+        | Call::Cond { .. }
+        | Call::Once { .. }
+        | Call::OnceFunc { .. }
+        | Call::OnceValue { .. } => {}
+    }
+}
+
 /// Adds the words of a call, each behind a space.
 pub fn push_call(line: &mut Vec<u8>, objects: &[ObjectLine], call: &Call)
     requires { vec_len line.old + WORDS_ROOM ≤ vec_capacity line.old }
@@ -99,17 +147,6 @@ pub fn push_call(line: &mut Vec<u8>, objects: &[ObjectLine], call: &Call)
     ensures room { vec_capacity line.old ≤ vec_capacity line.new }
 {
     push_verb(line, call);
-    match call {
-        Call::Map { object, call } => {
-            push_word(line, name_at(objects, *object));
-            push_map_operands(line, call);
-        }
-        Call::Range { object } | Call::Mutex { object, .. } | Call::RwMutex { object, .. } => {
-            push_word(line, name_at(objects, *object));
-        }
-        Call::Atomic { object, call } => {
-            push_word(line, name_at(objects, *object));
-            push_atomic_operands(line, *call);
-        }
-    }
+    push_word(line, name_at(objects, place_of(call)));
+    push_operands(line, call);
 }

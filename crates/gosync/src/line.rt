@@ -1,6 +1,6 @@
 //! A line of the report, in room that was taken before.
 ghost use Rattle.std.specs.Prelude.{◌≡◌, ◌+◌, ◌≤◌, ◌++◌, ◌∷◌, length, vec_len, vec_capacity};
-ghost use Rattle.std.specs.Fmt.{decimal};
+ghost use Rattle.std.specs.Fmt.{decimal, signed_decimal};
 ghost use Rattle.workload.specs.Words.{number_word};
 ghost use Rattle.gosync.specs.ReportText.{truth_text};
 
@@ -31,6 +31,17 @@ pub fn push_number(line: &mut Vec<u8>, number: u64)
     push(line, digits.format(number).as_bytes());
 }
 
+/// Adds a number that may be below 0 in decimal.
+pub fn push_signed(line: &mut Vec<u8>, number: i64)
+    requires { vec_len line.old + 20 ≤ vec_capacity line.old }
+    ensures text { line.new.items ≡ line.old.items ++ signed_decimal number }
+    ensures len { vec_len line.new ≤ vec_len line.old + 20 }
+    ensures room { vec_capacity line.old ≤ vec_capacity line.new }
+{
+    let mut digits = Buffer::new();
+    push(line, digits.format(number).as_bytes());
+}
+
 /// Adds `true` or `false`.
 pub fn push_truth(line: &mut Vec<u8>, truth: bool)
     requires { vec_len line.old + 5 ≤ vec_capacity line.old }
@@ -52,10 +63,9 @@ pub fn push_atomic_number(line: &mut Vec<u8>, number: Number)
     ensures len { vec_len line.new ≤ vec_len line.old + 20 }
     ensures room { vec_capacity line.old ≤ vec_capacity line.new }
 {
-    let mut digits = Buffer::new();
     match number {
-        Number::Int32(n) => push(line, digits.format(n).as_bytes()),
-        Number::Int64(n) => push(line, digits.format(n).as_bytes()),
+        Number::Int32(n) => push_signed(line, i64::from(n)),
+        Number::Int64(n) => push_signed(line, n),
         Number::Uint32(n) => push_number(line, u64::from(n)),
         Number::Uint64(n) => push_number(line, n),
         Number::Bool(false) => push(line, b"false"),
@@ -83,6 +93,17 @@ pub fn push_number_word(line: &mut Vec<u8>, number: u64)
 {
     push(line, b" ");
     push_number(line, number);
+}
+
+/// Adds a number that may be below 0 in decimal behind a space.
+pub fn push_signed_word(line: &mut Vec<u8>, number: i32)
+    requires { vec_len line.old + 21 ≤ vec_capacity line.old }
+    ensures text { line.new.items ≡ line.old.items ++ 32 ∷ signed_decimal number }
+    ensures len { vec_len line.new ≤ vec_len line.old + 21 }
+    ensures room { vec_capacity line.old ≤ vec_capacity line.new }
+{
+    push(line, b" ");
+    push_signed(line, i64::from(number));
 }
 
 /// Adds a number of an atomic behind a space.

@@ -2,10 +2,10 @@
 ghost use Rattle.std.specs.Prelude.{◌≡◌, ◌+◌, ◌*◌, ◌≤◌, ◌++◌, true, length, map, vec_len, vec_capacity};
 ghost use Rattle.workload.specs.declared.limits.TheConstants.{MAX_KEYS};
 ghost use Rattle.step_runner.specs.Pairs.{has_pairs_to};
-ghost use Rattle.gosync.specs.ReportText.{spaced, map_reply_text, pair_text, pairs_text, atomic_reply_text, lock_reply_text, reply_text};
+ghost use Rattle.gosync.specs.ReportText.{spaced, map_reply_text, pair_text, pairs_text, atomic_reply_text, lock_reply_text, once_reply_text, once_func_reply_text, pool_reply_text, reply_text};
 
-use crate::line::{push, push_atomic_number, push_number, push_truth};
-use sync_model::{AtomicReply, LockReply, MapReply, Name, Reply};
+use crate::line::{push, push_atomic_number, push_number, push_signed, push_truth};
+use sync_model::{AtomicReply, LockReply, MapReply, Name, OnceReply, PoolReply, Reply};
 
 /// The most bytes of a reply: 4,096 pairs, each of a key of 32 bytes, `=`, a value of 20 digits, and a
 /// space before the next.
@@ -104,6 +104,55 @@ fn push_lock_reply(line: &mut Vec<u8>, reply: LockReply)
     }
 }
 
+/// Adds a reply of a once.
+fn push_once_reply(line: &mut Vec<u8>, reply: OnceReply)
+    requires { vec_len line.old + 30 ≤ vec_capacity line.old }
+    ensures text { line.new.items ≡ line.old.items ++ once_reply_text reply }
+    ensures len { vec_len line.new ≤ vec_len line.old + 30 }
+    ensures room { vec_capacity line.old ≤ vec_capacity line.new }
+{
+    match reply {
+        OnceReply::Ran(sum) => {
+            push(line, b"ran ");
+            push_signed(line, sum);
+        }
+        OnceReply::Done => push(line, b"done"),
+    }
+}
+
+/// Adds the code with which the function of a `oncefunc` failed, if it did.
+fn push_once_func_reply(line: &mut Vec<u8>, code: Option<u32>)
+    requires { vec_len line.old + 30 ≤ vec_capacity line.old }
+    ensures text { line.new.items ≡ line.old.items ++ once_func_reply_text code }
+    ensures len { vec_len line.new ≤ vec_len line.old + 30 }
+    ensures room { vec_capacity line.old ≤ vec_capacity line.new }
+{
+    match code {
+        None => push(line, b"ok"),
+        Some(code) => {
+            push(line, b"err ");
+            push_number(line, u64::from(code));
+        }
+    }
+}
+
+/// Adds a reply of a pool.
+fn push_pool_reply(line: &mut Vec<u8>, reply: PoolReply)
+    requires { vec_len line.old + 30 ≤ vec_capacity line.old }
+    ensures text { line.new.items ≡ line.old.items ++ pool_reply_text reply }
+    ensures len { vec_len line.new ≤ vec_len line.old + 30 }
+    ensures room { vec_capacity line.old ≤ vec_capacity line.new }
+{
+    match reply {
+        PoolReply::Done => push(line, b"ok"),
+        PoolReply::Put(item) => {
+            push_number(line, item);
+            push(line, b" put");
+        }
+        PoolReply::New => push(line, b"0 new"),
+    }
+}
+
 /// Adds a reply.
 pub fn push_reply(line: &mut Vec<u8>, reply: &Reply)
     requires pairs { has_pairs_to MAX_KEYS reply.now ≡ true }
@@ -117,5 +166,10 @@ pub fn push_reply(line: &mut Vec<u8>, reply: &Reply)
         Reply::Pairs(pairs) => push_pairs(line, pairs.as_slice()),
         Reply::Atomic(reply) => push_atomic_reply(line, *reply),
         Reply::Lock(reply) => push_lock_reply(line, *reply),
+        Reply::Returned => push(line, b"ok"),
+        Reply::Once(reply) => push_once_reply(line, *reply),
+        Reply::OnceFunc(code) => push_once_func_reply(line, *code),
+        Reply::OnceValue(value) => push_number(line, *value),
+        Reply::Pool(reply) => push_pool_reply(line, *reply),
     }
 }

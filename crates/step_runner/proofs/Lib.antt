@@ -1,10 +1,14 @@
 mod AtomicTypes
 mod EndLemmas
 mod KeyLemmas
+mod MachineLaws
 mod MadeLemmas
 mod NeverWaits
-mod ObjectTurns
+mod ObjectKeeps
+mod ObjectUses
 mod PairLemmas
+mod PoolLooks
+mod Puts
 mod RangeLemmas
 mod RoundLemmas
 mod RunLemmas

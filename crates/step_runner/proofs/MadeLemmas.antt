@@ -32,15 +32,15 @@ record Completes (plan : Plan) (worker : ℕ) (s t : State) : Type 0 where
 turn_replies : (plan : Plan) (worker : ℕ) (s : State) → IsStateOf plan s → ((turn_of plan worker s).0.replies ≡ s.replies) ⊎ Completes plan worker s (turn_of plan worker s).0
 turn_replies plan worker s of = turn_cases (λ step. (step.0.replies ≡ s.replies) ⊎ Completes plan worker s step.0) plan worker s of (record {
   ended = λ is. inl refl;
-  still = λ call object st is. inl refl;
-  waits = λ call object st is. inl refl;
-  completed = λ call object reply st is. inr (record {
+  still = λ call objects takes. inl refl;
+  waits = λ call objects takes. inl refl;
+  completed = λ call objects reply takes. inr (record {
     call = call;
-    next = st.next;
-    own = replied_more worker reply (moved call worker object s) (omega (arith, of.workers, st.below));
-    others = λ k apart. replied_other worker k reply (moved call worker object s) apart;
+    next = takes.next;
+    own = replied_more worker reply (moved objects s) (omega (arith, of.workers, takes.below));
+    others = λ k apart. replied_other worker k reply (moved objects s) apart;
   });
-  misused = λ call object misuse st is. inl refl;
+  misused = λ call objects misuse takes. inl refl;
 })
 
 -- ---- the calls of a script that a worker has completed

@@ -1,4 +1,4 @@
--- Scripts of calls on maps and atomics alone.
+-- Scripts of calls on maps, atomics and pools alone.
 use Rattle.std.proofs.Common.{◌≡◌, ℕ, true, false, List, [], ◌∷◌, ◌++◌, map, length, get_or, Option, Some, None, refl, sym, ap, ◌∙◌, subst}
 use Rattle.std.specs.Prelude.{is_some, not}
 use Rattle.std.specs.List.{list_all, range_with_len}
@@ -6,9 +6,12 @@ use Rattle.sync_model.specs.declared.call.Call.{Call}
 use Rattle.sync_model.specs.declared.call.Call.TheVariants as calls
 use Rattle.sync_model.specs.declared.map_object.MapCall.{MapCall}
 use Rattle.sync_model.specs.declared.atomic_object.AtomicCall.{AtomicCall}
+use Rattle.sync_model.specs.declared.pool_call.PoolCall.{PoolCall}
+use Rattle.workload.specs.declared.object.ObjectKind.{ObjectKind}
+use Rattle.workload.specs.declared.object.ObjectKind.TheVariants as kinds
 use Rattle.workload.specs.declared.turn.Turn.{Turn}
 use Rattle.workload.specs.declared.turn.Turn.TheVariants as items
-use Rattle.workload.specs.Plan.{Plan, has_call}
+use Rattle.workload.specs.Plan.{Plan, has_call, reference_of}
 use Rattle.step_runner.specs.declared.step.Answer.{Answer}
 use Rattle.step_runner.specs.declared.step.Answer.TheVariants as answers
 use Rattle.step_runner.specs.declared.step.Step.{Step}
@@ -20,45 +23,52 @@ use Rattle.step_runner.specs.declared.object_state.ObjectState.{ObjectState}
 use Rattle.step_runner.specs.declared.object_state.ObjectState.TheVariants as states
 use Rattle.step_runner.specs.MapTurn.{map_turn, range_turn}
 use Rattle.step_runner.specs.AtomicTurn.{atomic_turn}
+use Rattle.step_runner.specs.PoolTurn.{pool_turn}
 use Rattle.step_runner.specs.Outcomes.{rounds, is_misused, never_waits}
-use Rattle.step_runner.specs.State.{State, kind_of, start, IsStateOf}
-use Rattle.step_runner.specs.Turns.{next_call, turn_on, turn_of, item_of, with_event, and_then, items_of, turns}
-use Rattle.step_runner.proofs.TurnLemmas.{true_false, both_true, all_get, all_at, Stands, turn_cases, StepUses}
+use Rattle.step_runner.specs.State.{State, kind_of, start, IsStateOf, IsReady}
+use Rattle.step_runner.specs.Turns.{next_call, turn_on, turn_at, turn_of, item_of, with_event, and_then, items_of, turns}
+use Rattle.step_runner.proofs.ObjectUses.{IsCompleted, pool_completes}
+use Rattle.step_runner.proofs.TurnLemmas.{true_false, both_true, all_get, all_at, ready, at_ready, Takes, turn_cases, StepUses}
 use Rattle.step_runner.proofs.RunLemmas.{GoesOn, UsesUp, turns_of, item_valid}
 use Rattle.step_runner.proofs.EndLemmas.{done_replied, is_done, is_misused_by, is_deadlocked, state_of}
 
 -- ---- one turn
 
-abbrev IsCompleted : Answer → Type 0
-IsCompleted answers.Still = ⊥
-IsCompleted answers.Waits = ⊥
-IsCompleted (answers.Completed reply) = Unit {0}
-IsCompleted (answers.Misused misuse) = ⊥
-
 map_completes : (place : ℕ) (call : MapCall (List ℕ)) (o : ObjectState) → has_call (kind_of o) (calls.Map place call) ≡ true → IsCompleted (map_turn call o).1
 map_completes place call (states.Map m) has = tt
-map_completes place call (states.Atomic number) has = absurd cc
-map_completes place call (states.Mutex m) has = absurd cc
-map_completes place call (states.RwMutex m) has = absurd cc
+map_completes place call o has = absurd cc
 
 range_completes : (place : ℕ) (o : ObjectState) → has_call (kind_of o) (calls.Range place) ≡ true → IsCompleted (range_turn o).1
 range_completes place (states.Map m) has = tt
-range_completes place (states.Atomic number) has = absurd cc
-range_completes place (states.Mutex m) has = absurd cc
-range_completes place (states.RwMutex m) has = absurd cc
+range_completes place o has = absurd cc
 
 atomic_completes : (place : ℕ) (call : AtomicCall) (o : ObjectState) → has_call (kind_of o) (calls.Atomic place call) ≡ true → IsCompleted (atomic_turn call o).1
-atomic_completes place call (states.Map m) has = absurd cc
 atomic_completes place call (states.Atomic number) has = tt
-atomic_completes place call (states.Mutex m) has = absurd cc
-atomic_completes place call (states.RwMutex m) has = absurd cc
+atomic_completes place call o has = absurd cc
+
+turn_completes : (place : ℕ) (call : PoolCall) (worker : ℕ) (o : ObjectState) → has_call (kind_of o) (calls.Pool place call) ≡ true → IsCompleted (pool_turn call worker o).1
+turn_completes place call worker (states.Pool p) has = pool_completes call worker p
+turn_completes place call worker o has = absurd cc
 
 completes : (call : Call) (worker moment : ℕ) (o : ObjectState) → never_waits call ≡ true → has_call (kind_of o) call ≡ true → IsCompleted (turn_on call worker moment o).1
 completes (calls.Map place call) worker moment o never has = map_completes place call o has
 completes (calls.Range place) worker moment o never has = range_completes place o has
 completes (calls.Atomic place call) worker moment o never has = atomic_completes place call o has
-completes (calls.Mutex place call) worker moment o never has = absurd cc
-completes (calls.RwMutex place call) worker moment o never has = absurd cc
+completes (calls.Pool place call) worker moment o never has = turn_completes place call worker o has
+completes call worker moment o never has = absurd cc
+
+-- an object that refers to another one has no such call
+none_referring : (kind : ObjectKind) (call : Call) (other : ℕ) → reference_of kind ≡ Some other → has_call kind call ≡ true → never_waits call ≡ true → ⊥
+none_referring (kinds.Cond place) (calls.Cond object call) other some has never = cc
+none_referring (kinds.Cond place) call other some has never = cc
+none_referring (kinds.Once place delta) (calls.Once object) other some has never = cc
+none_referring (kinds.Once place delta) call other some has never = cc
+none_referring kind call other some has never = cc
+
+at_completes : (workers worker : ℕ) (call : Call) (moment : ℕ) (objects : List ObjectState) → never_waits call ≡ true → IsReady workers worker call objects → IsCompleted (turn_at call worker moment objects).1
+at_completes workers worker call moment objects never r = at_ready (λ x. IsCompleted x.1) workers worker call moment objects r
+    (λ st. completes call worker moment r.object never st.has)
+    (λ other target st. absurd (none_referring (kind_of r.object) call other st.some st.has never))
 
 -- a turn is no misuse, and it makes an event unless the script has ended
 abbrev Goes : Plan → ℕ → State → Step → Type 0
@@ -75,14 +85,16 @@ never_next plan worker s call all is = all_get never_waits (get_or plan.scripts 
 turn_goes : (plan : Plan) (worker : ℕ) (s : State) → AllNever plan → IsStateOf plan s → Goes plan worker s (turn_of plan worker s).1
 turn_goes plan worker s all of = turn_cases (λ step. Goes plan worker s step.1) plan worker s of (record {
   ended = λ is. is;
-  still = λ call object st is. absurd (subst IsCompleted is (completed call object st));
-  waits = λ call object st is. tt;
-  completed = λ call object reply st is. tt;
-  misused = λ call object misuse st is. subst IsCompleted is (completed call object st);
+  still = λ call objects takes. absurd (completed call objects answers.Still takes);
+  waits = λ call objects takes. tt;
+  completed = λ call objects reply takes. tt;
+  misused = λ call objects misuse takes. completed call objects (answers.Misused misuse) takes;
 })
   where
-    completed : (call : Call) (object : ObjectState) → Stands plan worker s call object → IsCompleted (turn_on call worker s.moment object).1
-    completed call object st = completes call worker s.moment object (never_next plan worker s call all st.next) st.has
+    completed : (call : Call) (objects : List ObjectState) (answer : Answer) → Takes plan worker s call objects answer → IsCompleted answer
+    completed call objects answer takes =
+        subst (λ (x : List ObjectState × Answer). IsCompleted x.1) takes.turn
+        (at_completes plan.workers worker call s.moment s.objects (never_next plan worker s call all takes.next) (ready plan worker s call of takes.next))
 
 -- ---- turns in order
 

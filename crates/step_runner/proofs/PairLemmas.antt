@@ -1,6 +1,7 @@
 -- A `range` shows no more keys than the calls of the workload have.
-use Rattle.std.proofs.Common.{◌≡◌, ℕ, zero, suc, ◌≤◌, Bool, true, false, ◌||◌, List, [], ◌∷◌, ◌++◌, length, get_or, set, replicate, Option, Some, None, refl, ap, ◌∙◌, subst, inl, inr, arith}
-use Rattle.std.specs.Prelude.{slice_get}
+use Rattle.std.proofs.Common.{◌≡◌, ℕ, zero, suc, ◌*◌, ◌≤◌, Bool, true, false, ◌||◌, List, [], ◌∷◌, ◌++◌, length, get_or, set, replicate, Option, Some, None, refl, ap, ◌∙◌, subst, inl, inr, arith}
+use Rattle.std.specs.Prelude.{ℤ, slice_get}
+use Rattle.std.specs.Int.{w64, int_wrapping_add}
 use Rattle.std.specs.List.{list_all, list_any, flat_map}
 use Rattle.std.specs.Str.{bytes_eq}
 use Rattle.std.specs.Option.{option_to_list, option_map_or}
@@ -10,10 +11,19 @@ use Rattle.std.proofs.lemmas.List.Folds.{list_any-append}
 use Rattle.sync_model.specs.declared.call.Call.{Call}
 use Rattle.sync_model.specs.declared.call.Call.TheVariants as calls
 use Rattle.sync_model.specs.declared.call.Reply.{Reply}
+use Rattle.sync_model.specs.declared.call.Reply.TheVariants as replies
 use Rattle.sync_model.specs.declared.lock_call.MutexCall.{MutexCall}
 use Rattle.sync_model.specs.declared.lock_call.RwMutexCall.{RwMutexCall}
 use Rattle.sync_model.specs.declared.map_object.MapCall.{MapCall}
 use Rattle.sync_model.specs.declared.atomic_object.AtomicCall.{AtomicCall}
+use Rattle.sync_model.specs.declared.atomic_object.Number.{Number}
+use Rattle.sync_model.specs.declared.atomic_object.Number.TheVariants.{Int64}
+use Rattle.sync_model.specs.declared.once_call.OnceReply.TheVariants as once_replies
+use Rattle.sync_model.specs.declared.pool_call.PoolCall.{PoolCall}
+use Rattle.sync_model.specs.declared.pool_call.PoolCall.TheVariants as pool_calls
+use Rattle.sync_model.specs.declared.wait_call.CondCall.{CondCall}
+use Rattle.sync_model.specs.declared.wait_call.CondCall.TheVariants as cond_calls
+use Rattle.sync_model.specs.declared.wait_call.WaitGroupCall.{WaitGroupCall}
 use Rattle.sync_model.specs.SequentialMap.{map_key}
 use Rattle.mutex_core.specs.MutexMachine as mutex
 use Rattle.mutex_core.specs.declared.place.Place.{Place as MutexPlace}
@@ -33,6 +43,18 @@ use Rattle.rw_core.specs.declared.reply.RwReply.TheVariants as rw_reply
 use Rattle.rw_core.specs.declared.reply.Arrival.TheVariants as rw_arrival
 use Rattle.rw_core.specs.declared.reply.Resumption.TheVariants as rw_resumption
 use Rattle.rw_core.specs.declared.reply.Unlocking.TheVariants as rw_unlocking
+use Rattle.wait_cores.specs.NotifyMachine as notify
+use Rattle.wait_cores.specs.OnceMachine as once
+use Rattle.wait_cores.specs.PoolMachine as pool
+use Rattle.wait_cores.specs.declared.notify.NotifyPlace.{NotifyPlace}
+use Rattle.wait_cores.specs.declared.notify.NotifyPlace.TheVariants as notify_place
+use Rattle.wait_cores.specs.declared.group.GroupReply.{GroupReply}
+use Rattle.wait_cores.specs.declared.group.GroupReply.TheVariants as group_reply
+use Rattle.wait_cores.specs.declared.once.OnceReply.{OnceReply}
+use Rattle.wait_cores.specs.declared.once.OnceReply.TheVariants as once_reply
+use Rattle.wait_cores.specs.declared.pool_event.PoolEvent.{PoolEvent}
+use Rattle.wait_cores.specs.declared.pool_event.PoolReply.{PoolReply}
+use Rattle.wait_cores.specs.declared.pool_event.PoolReply.TheVariants as pool_reply
 use Rattle.workload.specs.declared.object.ObjectKind.{ObjectKind}
 use Rattle.workload.specs.declared.object.ObjectKind.TheVariants as kinds
 use Rattle.workload.specs.declared.object.ObjectLine.{ObjectLine}
@@ -48,17 +70,25 @@ use Rattle.step_runner.specs.declared.outcome.Ending.{Ending}
 use Rattle.step_runner.specs.declared.outcome.Ending.TheVariants as endings
 use Rattle.step_runner.specs.declared.object_state.ObjectState.{ObjectState}
 use Rattle.step_runner.specs.declared.object_state.ObjectState.TheVariants as states
-use Rattle.step_runner.specs.State.{State, start, new_object, new_objects}
+use Rattle.step_runner.specs.State.{State, start, new_object}
 use Rattle.step_runner.specs.MapTurn.{map_turn, range_turn}
 use Rattle.step_runner.specs.AtomicTurn.{atomic_turn}
 use Rattle.step_runner.specs.MutexTurn.{mutex_turn}
 use Rattle.step_runner.specs.MutexTurn as of_mutex
 use Rattle.step_runner.specs.RwMutexTurn.{rw_mutex_turn}
 use Rattle.step_runner.specs.RwMutexTurn as of_rw
+use Rattle.step_runner.specs.CondTurn as of_cond
+use Rattle.step_runner.specs.CondTurn.{Pair, cond_turn}
+use Rattle.step_runner.specs.WaitGroupTurn as of_group
+use Rattle.step_runner.specs.WaitGroupTurn.{group_turn}
+use Rattle.step_runner.specs.OnceTurn as of_once
+use Rattle.step_runner.specs.OnceTurn.{once_step, failure, adding_turn, once_turn, func_turn, value_turn}
+use Rattle.step_runner.specs.PoolTurn.{PoolStep, found_or, found_by, looks_of, pool_step, pool_turn}
 use Rattle.step_runner.specs.Pairs.{has_pairs_to, has_few_pairs}
-use Rattle.step_runner.specs.Turns.{next_call, turn_on, with_object, turn_at, settled, settled_with, after_items, whole_run, outcome_of, turns}
+use Rattle.step_runner.specs.Turns.{next_call, turn_on, turn_on_both, turn_at, settled, settled_with, after_items, whole_run, outcome_of, turns}
 use Rattle.step_runner.proofs.KeyLemmas.{HasKeysIn, is_among, empty_keys, call_keys, count_keys}
-use Rattle.step_runner.proofs.TurnLemmas.{both, both_true, set_get}
+use Rattle.step_runner.proofs.StartLemmas.{new_all}
+use Rattle.step_runner.proofs.TurnLemmas.{both, both_true, AllAt, all_set, at_any}
 use Rattle.step_runner.proofs.RunLemmas.{Kept, items_keep, run_keeps}
 
 -- ---- the keys of a call are among those of all calls
@@ -94,13 +124,11 @@ next_among plan worker s call is q e =
 -- the keys of a map are among the names
 abbrev HasObjectKeys : List (List ℕ) → ObjectState → Type 0
 HasObjectKeys names (states.Map m) = HasKeysIn names m
-HasObjectKeys names (states.Atomic number) = Unit {0}
-HasObjectKeys names (states.Mutex m) = Unit {0}
-HasObjectKeys names (states.RwMutex m) = Unit {0}
+HasObjectKeys names o = Unit {0}
 
 -- the keys of all maps are, and no reply shows more pairs than these
 pub record HasKeys (names : List (List ℕ)) (most : ℕ) (s : State) : Type 0 where
-  pub maps : (place : ℕ) (object : ObjectState) → slice_get s.objects place ≡ Some object → HasObjectKeys names object
+  pub maps : AllAt (HasObjectKeys names) s.objects
   pub few : list_all (list_all (has_pairs_to most)) s.replies ≡ true
 
 all_push : (p : Reply → Bool) (xs : List Reply) (x : Reply) → list_all p xs ≡ true → p x ≡ true → list_all p (xs ++ x ∷ []) ≡ true
@@ -109,14 +137,14 @@ all_push p (y ∷ xs) x e last =
     let parts = both (p y) (list_all p xs) e in
     both_true (p y) (list_all p (xs ++ x ∷ [])) parts.0 (all_push p xs x parts.1 last)
 
-all_set : (p : Reply → Bool) (lists : List (List Reply)) (worker : ℕ) (x : Reply) → list_all (list_all p) lists ≡ true → p x ≡ true → list_all (list_all p) (set lists worker (get_or lists worker [] ++ x ∷ [])) ≡ true
-all_set p [] worker x e last = refl
-all_set p (xs ∷ lists) zero x e last =
+replies_set : (p : Reply → Bool) (lists : List (List Reply)) (worker : ℕ) (x : Reply) → list_all (list_all p) lists ≡ true → p x ≡ true → list_all (list_all p) (set lists worker (get_or lists worker [] ++ x ∷ [])) ≡ true
+replies_set p [] worker x e last = refl
+replies_set p (xs ∷ lists) zero x e last =
     let parts = both (list_all p xs) (list_all (list_all p) lists) e in
     both_true (list_all p (xs ++ x ∷ [])) (list_all (list_all p) lists) (all_push p xs x parts.0 last) parts.1
-all_set p (xs ∷ lists) (suc worker) x e last =
+replies_set p (xs ∷ lists) (suc worker) x e last =
     let parts = both (list_all p xs) (list_all (list_all p) lists) e in
-    both_true (list_all p xs) (list_all (list_all p) (set lists worker (get_or lists worker [] ++ x ∷ []))) parts.0 (all_set p lists worker x parts.1 last)
+    both_true (list_all p xs) (list_all (list_all p) (set lists worker (get_or lists worker [] ++ x ∷ []))) parts.0 (replies_set p lists worker x parts.1 last)
 
 -- ---- a turn at its object
 
@@ -133,21 +161,15 @@ Keeps names most step = HasObjectKeys names step.0 × HasFew most step.1
 map_keeps : (names : List (List ℕ)) (most : ℕ) (call : MapCall (List ℕ)) (o : ObjectState) → ((q : List ℕ) → is_among (option_to_list (map_key call)) q ≡ true → is_among names q ≡ true)
     → HasObjectKeys names o → Keeps names most (map_turn call o)
 map_keeps names most call (states.Map m) named has = (call_keys names call m named has, refl)
-map_keeps names most call (states.Atomic number) named has = (tt, tt)
-map_keeps names most call (states.Mutex m) named has = (tt, tt)
-map_keeps names most call (states.RwMutex m) named has = (tt, tt)
+map_keeps names most call o named has = (has, tt)
 
 range_keeps : (names : List (List ℕ)) (most : ℕ) (o : ObjectState) → distinct_count names ≤ most → HasObjectKeys names o → Keeps names most (range_turn o)
 range_keeps names most (states.Map m) room has = (has, le-leb (length (entries m)) most (omega (arith, len-entries m, count_keys names m has, room)))
-range_keeps names most (states.Atomic number) room has = (tt, tt)
-range_keeps names most (states.Mutex m) room has = (tt, tt)
-range_keeps names most (states.RwMutex m) room has = (tt, tt)
+range_keeps names most o room has = (has, tt)
 
 atomic_keeps : (names : List (List ℕ)) (most : ℕ) (call : AtomicCall) (o : ObjectState) → HasObjectKeys names o → Keeps names most (atomic_turn call o)
-atomic_keeps names most call (states.Map m) has = (has, tt)
 atomic_keeps names most call (states.Atomic number) has = (tt, refl)
-atomic_keeps names most call (states.Mutex m) has = (tt, tt)
-atomic_keeps names most call (states.RwMutex m) has = (tt, tt)
+atomic_keeps names most call o has = (has, tt)
 
 mutex_few : (most : ℕ) (r : MutexReply) → HasFew most (of_mutex.meaning_of r)
 mutex_few most (mutex_reply.Arrived mutex_arrival.Acquired) = refl
@@ -168,10 +190,8 @@ mutex_at_few most mutex_place.Handed call worker moment m = mutex_few most (mute
 mutex_at_few most mutex_place.Out call worker moment m = mutex_few most (mutex.next m worker (of_mutex.first_event call moment)).1
 
 mutex_keeps : (names : List (List ℕ)) (most : ℕ) (call : MutexCall) (worker moment : ℕ) (o : ObjectState) → HasObjectKeys names o → Keeps names most (mutex_turn call worker moment o)
-mutex_keeps names most call worker moment (states.Map m) has = (has, tt)
-mutex_keeps names most call worker moment (states.Atomic number) has = (tt, tt)
 mutex_keeps names most call worker moment (states.Mutex m) has = (tt, mutex_at_few most (mutex.place_of m worker) call worker moment m)
-mutex_keeps names most call worker moment (states.RwMutex m) has = (tt, tt)
+mutex_keeps names most call worker moment o has = (has, tt)
 
 rw_few : (most : ℕ) (r : RwReply) → HasFew most (of_rw.meaning_of r)
 rw_few most (rw_reply.Arrived rw_arrival.Acquired) = refl
@@ -195,10 +215,57 @@ rw_at_few most rw_place.Admitted call worker moment m = rw_few most (rw.next m w
 rw_at_few most rw_place.Out call worker moment m = rw_few most (rw.next m worker (of_rw.first_event call moment)).1
 
 rw_keeps : (names : List (List ℕ)) (most : ℕ) (call : RwMutexCall) (worker moment : ℕ) (o : ObjectState) → HasObjectKeys names o → Keeps names most (rw_mutex_turn call worker moment o)
-rw_keeps names most call worker moment (states.Map m) has = (has, tt)
-rw_keeps names most call worker moment (states.Atomic number) has = (tt, tt)
-rw_keeps names most call worker moment (states.Mutex m) has = (tt, tt)
 rw_keeps names most call worker moment (states.RwMutex m) has = (tt, rw_at_few most (rw.place_of m worker) call worker moment m)
+rw_keeps names most call worker moment o has = (has, tt)
+
+group_few : (most : ℕ) (r : GroupReply) → HasFew most (of_group.meaning_of r)
+group_few most group_reply.Done = refl
+group_few most group_reply.Queued = tt
+group_few most (group_reply.Misused misuse) = tt
+group_few most group_reply.Still = tt
+
+group_keeps : (names : List (List ℕ)) (most : ℕ) (call : WaitGroupCall) (worker : ℕ) (o : ObjectState) → HasObjectKeys names o → Keeps names most (group_turn call worker o)
+group_keeps names most call worker (states.WaitGroup g first) has = (tt, group_few most (of_group.group_step call worker g).1)
+group_keeps names most call worker o has = (has, tt)
+
+once_few : {T : Type 0} (most : ℕ) (ran : Reply) (returned : T → Reply) (r : OnceReply T) → has_pairs_to most ran ≡ true → ((kept : T) → has_pairs_to most (returned kept) ≡ true) → HasFew most (of_once.meaning_of ran returned r)
+once_few most ran returned once_reply.Run few each = tt
+once_few most ran returned once_reply.Queued few each = tt
+once_few most ran returned (once_reply.Done kept) few each = each kept
+once_few most ran returned once_reply.Ended few each = few
+once_few most ran returned (once_reply.Left kept) few each = each kept
+once_few most ran returned once_reply.Still few each = tt
+
+func_keeps : (names : List (List ℕ)) (most worker : ℕ) (o : ObjectState) → HasObjectKeys names o → Keeps names most (func_turn worker o)
+func_keeps names most worker (states.OnceFunc o code) has =
+    (tt, once_few most (replies.OnceFunc (failure code)) (λ kept. replies.OnceFunc (failure kept)) (once_step code worker o).1 refl (λ kept. refl))
+func_keeps names most worker o has = (has, tt)
+
+value_keeps : (names : List (List ℕ)) (most worker : ℕ) (o : ObjectState) → HasObjectKeys names o → Keeps names most (value_turn worker o)
+value_keeps names most worker (states.OnceValue o value) has =
+    (tt, once_few most (replies.OnceValue value) (λ kept. replies.OnceValue kept) (once_step value worker o).1 refl (λ kept. refl))
+value_keeps names most worker o has = (has, tt)
+
+found_or_few : (most : ℕ) (step : pool.PoolState ℕ × PoolReply ℕ) (rest : pool.PoolState ℕ → PoolStep) → ((p : pool.PoolState ℕ) → HasFew most (rest p).1) → HasFew most (found_or step rest).1
+found_or_few most (p, pool_reply.Item item) rest later = refl
+found_or_few most (p, pool_reply.Kept) rest later = later p
+found_or_few most (p, pool_reply.Dropped item) rest later = later p
+found_or_few most (p, pool_reply.Nothing) rest later = later p
+found_or_few most (p, pool_reply.Swept) rest later = later p
+found_or_few most (p, pool_reply.Still) rest later = later p
+
+found_few : (most : ℕ) (looks : List (PoolEvent ℕ)) (worker : ℕ) (p : pool.PoolState ℕ) → HasFew most (found_by looks worker p).1
+found_few most [] worker p = refl
+found_few most (one ∷ looks) worker p = found_or_few most (pool.next p worker one) (found_by looks worker) (found_few most looks worker)
+
+pool_few : (most : ℕ) (call : PoolCall) (worker : ℕ) (p : pool.PoolState ℕ) → HasFew most (pool_step call worker p).1
+pool_few most (pool_calls.Put item) worker p = refl
+pool_few most pool_calls.Sweep worker p = refl
+pool_few most pool_calls.Get worker p = found_few most (looks_of (pool.callers_of p) worker 0 (2 * pool.callers_of p)) worker p
+
+pool_keeps : (names : List (List ℕ)) (most : ℕ) (call : PoolCall) (worker : ℕ) (o : ObjectState) → HasObjectKeys names o → Keeps names most (pool_turn call worker o)
+pool_keeps names most call worker (states.Pool p) has = (tt, pool_few most call worker p)
+pool_keeps names most call worker o has = (has, tt)
 
 turn_on_keeps : (names : List (List ℕ)) (most : ℕ) (call : Call) (worker moment : ℕ) (o : ObjectState) → ((q : List ℕ) → is_among (keys_of call) q ≡ true → is_among names q ≡ true)
     → distinct_count names ≤ most → HasObjectKeys names o → Keeps names most (turn_on call worker moment o)
@@ -207,35 +274,103 @@ turn_on_keeps names most (calls.Range object) worker moment o named room has = r
 turn_on_keeps names most (calls.Atomic object call) worker moment o named room has = atomic_keeps names most call o has
 turn_on_keeps names most (calls.Mutex object call) worker moment o named room has = mutex_keeps names most call worker moment o has
 turn_on_keeps names most (calls.RwMutex object call) worker moment o named room has = rw_keeps names most call worker moment o has
+turn_on_keeps names most (calls.WaitGroup object call) worker moment o named room has = group_keeps names most call worker o has
+turn_on_keeps names most (calls.OnceFunc object) worker moment o named room has = func_keeps names most worker o has
+turn_on_keeps names most (calls.OnceValue object) worker moment o named room has = value_keeps names most worker o has
+turn_on_keeps names most (calls.Pool object call) worker moment o named room has = pool_keeps names most call worker o has
+turn_on_keeps names most call worker moment o named room has = (has, tt)
+
+-- ---- at an object and the one to which it refers
+
+abbrev KeepsBoth : List (List ℕ) → ℕ → (ObjectState × ObjectState) × Answer → Type 0
+KeepsBoth names most step = (HasObjectKeys names step.0.0 × HasObjectKeys names step.0.1) × HasFew most step.1
+
+unlock_few : (most : ℕ) (r : MutexReply) → HasFew most (of_cond.unlock_meaning r)
+unlock_few most (mutex_reply.Arrived arrival) = tt
+unlock_few most (mutex_reply.Tried acquired) = tt
+unlock_few most (mutex_reply.Unlocked mutex_unlocking.Free) = tt
+unlock_few most (mutex_reply.Unlocked (mutex_unlocking.Woke ticket)) = tt
+unlock_few most (mutex_reply.Unlocked (mutex_unlocking.Handed ticket)) = tt
+unlock_few most (mutex_reply.Unlocked (mutex_unlocking.Misuse misuse)) = tt
+unlock_few most (mutex_reply.Resumed resumption) = tt
+unlock_few most mutex_reply.Still = tt
+
+back_few : (most : ℕ) (r : MutexReply) → HasFew most (of_cond.meaning_of r)
+back_few most (mutex_reply.Arrived mutex_arrival.Acquired) = refl
+back_few most (mutex_reply.Arrived (mutex_arrival.Queued ticket)) = tt
+back_few most (mutex_reply.Tried acquired) = refl
+back_few most (mutex_reply.Unlocked unlocking) = refl
+back_few most (mutex_reply.Resumed mutex_resumption.Acquired) = refl
+back_few most (mutex_reply.Resumed mutex_resumption.Requeued) = tt
+back_few most mutex_reply.Still = tt
+
+cond_at_few : (most : ℕ) (at : NotifyPlace) (worker moment : ℕ) (p : Pair) → HasFew most (of_cond.wait_at at worker moment p).1
+cond_at_few most notify_place.Out worker moment p = unlock_few most (mutex.next p.locker worker mutex_event.Unlock).1
+cond_at_few most notify_place.Waiting worker moment p = tt
+cond_at_few most notify_place.Notified worker moment p = back_few most (mutex.next p.locker worker (mutex_event.Arrive moment)).1
+
+cond_by_few : (most : ℕ) (at : MutexPlace) (worker moment : ℕ) (p : Pair) → HasFew most (of_cond.wait_by at worker moment p).1
+cond_by_few most mutex_place.Waiting worker moment p = tt
+cond_by_few most mutex_place.Woken worker moment p = back_few most (mutex.next p.locker worker (mutex_event.Woken moment)).1
+cond_by_few most mutex_place.Handed worker moment p = back_few most (mutex.next p.locker worker (mutex_event.Woken moment)).1
+cond_by_few most mutex_place.Out worker moment p = cond_at_few most (notify.place_of p.notify_list worker) worker moment p
+
+cond_few : (most : ℕ) (call : CondCall) (worker moment : ℕ) (p : Pair) → HasFew most (of_cond.cond_step call worker moment p).1
+cond_few most cond_calls.Wait worker moment p = cond_by_few most (mutex.place_of p.locker worker) worker moment p
+cond_few most cond_calls.Signal worker moment p = refl
+cond_few most cond_calls.Broadcast worker moment p = refl
+
+cond_keeps : (names : List (List ℕ)) (most : ℕ) (call : CondCall) (worker moment : ℕ) (o target : ObjectState) → HasObjectKeys names o → HasObjectKeys names target
+    → KeepsBoth names most (cond_turn call worker moment o target)
+cond_keeps names most call worker moment (states.Cond c place) (states.Mutex m) has there = ((tt, tt), cond_few most call worker moment (record { notify_list = c; locker = m }))
+cond_keeps names most call worker moment o target has there = ((has, there), tt)
+
+adding_keeps : (names : List (List ℕ)) (most worker : ℕ) (o : once.OnceState ℤ) (place : ℕ) (delta : ℤ) (number : Number) → KeepsBoth names most (adding_turn worker o place delta number)
+adding_keeps names most worker o place delta (Int64 held) =
+    let sum = int_wrapping_add w64 held delta in
+    ((tt, tt), once_few most (replies.Once (once_replies.Ran sum)) (λ kept. replies.Once once_replies.Done) (once_step sum worker o).1 refl (λ kept. refl))
+adding_keeps names most worker o place delta number = ((tt, tt), tt)
+
+once_keeps : (names : List (List ℕ)) (most worker : ℕ) (o target : ObjectState) → HasObjectKeys names o → HasObjectKeys names target → KeepsBoth names most (once_turn worker o target)
+once_keeps names most worker (states.Once o place delta) (states.Atomic number) has there = adding_keeps names most worker o place delta number
+once_keeps names most worker o target has there = ((has, there), tt)
+
+both_keep : (names : List (List ℕ)) (most : ℕ) (call : Call) (worker moment : ℕ) (o target : ObjectState) → HasObjectKeys names o → HasObjectKeys names target
+    → KeepsBoth names most (turn_on_both call worker moment o target)
+both_keep names most (calls.Cond object call) worker moment o target has there = cond_keeps names most call worker moment o target has there
+both_keep names most (calls.Once object) worker moment o target has there = once_keeps names most worker o target has there
+both_keep names most call worker moment o target has there = ((has, there), tt)
 
 -- ---- any turn
 
 settled_keys : (names : List (List ℕ)) (most worker : ℕ) (answer : Answer) (s : State) → HasFew most answer → HasKeys names most s → HasKeys names most (settled worker answer s).0
 settled_keys names most worker answers.Still s few has = has
 settled_keys names most worker answers.Waits s few has = has
-settled_keys names most worker (answers.Completed reply) s few has = record { maps = has.maps; few = all_set (has_pairs_to most) s.replies worker reply has.few few }
+settled_keys names most worker (answers.Completed reply) s few has = record { maps = has.maps; few = replies_set (has_pairs_to most) s.replies worker reply has.few few }
 settled_keys names most worker (answers.Misused misuse) s few has = has
 
-at_object_keys : (names : List (List ℕ)) (most : ℕ) (call : Call) (worker : ℕ) (s : State) (o : Option ObjectState) → slice_get s.objects (object_of call) ≡ o → ((q : List ℕ) → is_among (keys_of call) q ≡ true → is_among names q ≡ true)
-    → distinct_count names ≤ most → HasKeys names most s
-    → HasKeys names most (settled_with worker (option_map_or (λ object. with_object (object_of call) s.objects (turn_on call worker s.moment object)) o (s.objects, answers.Still)) s).0
-at_object_keys names most call worker s None at named room has = record { maps = has.maps; few = has.few }
-at_object_keys names most call worker s (Some object) at named room has =
-    let keeps = turn_on_keeps names most call worker s.moment object named room (has.maps (object_of call) object at) in
-    let next = (turn_on call worker s.moment object).0 in
-    settled_keys names most worker (turn_on call worker s.moment object).1 (record s { objects = set s.objects (object_of call) next }) keeps.1
-    (record {
-      maps = λ place other is. elim (set_get s.objects (object_of call) place next other is) [
-        | inl old ↦ has.maps place other old
-        | inr new ↦ subst (HasObjectKeys names) new keeps.0
-      ];
-      few = has.few;
-    })
+-- the objects behind a turn, and its answer
+abbrev ObjectsKeep : List (List ℕ) → ℕ → List ObjectState × Answer → Type 0
+ObjectsKeep names most x = AllAt (HasObjectKeys names) x.0 × HasFew most x.1
+
+at_keys : (names : List (List ℕ)) (most : ℕ) (call : Call) (worker moment : ℕ) (objects : List ObjectState) → ((q : List ℕ) → is_among (keys_of call) q ≡ true → is_among names q ≡ true)
+    → distinct_count names ≤ most → AllAt (HasObjectKeys names) objects → ObjectsKeep names most (turn_at call worker moment objects)
+at_keys names most call worker moment objects named room all = at_any (ObjectsKeep names most) call worker moment objects (all, tt)
+    (λ object at.
+    let keeps = turn_on_keeps names most call worker moment object named room (all (object_of call) object at) in
+    (all_set (HasObjectKeys names) objects (object_of call) (turn_on call worker moment object).0 all keeps.0, keeps.1))
+    (λ object other target at there.
+    let new = turn_on_both call worker moment object target in
+    let keep = both_keep names most call worker moment object target (all (object_of call) object at) (all other target there) in
+    (all_set (HasObjectKeys names) (set objects (object_of call) new.0.0) other new.0.1 (all_set (HasObjectKeys names) objects (object_of call) new.0.0 all keep.0.0) keep.0.1, keep.1))
 
 turn_keys : (plan : Plan) (most worker : ℕ) (s : State) (o : Option Call) → next_call plan worker s ≡ o → distinct_count (all_keys plan.scripts) ≤ most
     → HasKeys (all_keys plan.scripts) most s → HasKeys (all_keys plan.scripts) most (option_map_or (λ call. settled_with worker (turn_at call worker s.moment s.objects) s) o (s, steps.Still)).0
 turn_keys plan most worker s None is room has = has
-turn_keys plan most worker s (Some call) is room has = at_object_keys (all_keys plan.scripts) most call worker s (slice_get s.objects (object_of call)) refl (next_among plan worker s call is) room has
+turn_keys plan most worker s (Some call) is room has =
+    let x = turn_at call worker s.moment s.objects in
+    let keep = at_keys (all_keys plan.scripts) most call worker s.moment s.objects (next_among plan worker s call is) room has.maps in
+    settled_keys (all_keys plan.scripts) most worker x.1 (record s { objects = x.0 }) keep.1 (record { maps = keep.0; few = has.few })
 
 keys_kept : (plan : Plan) (most : ℕ) → distinct_count (all_keys plan.scripts) ≤ most → Kept plan (HasKeys (all_keys plan.scripts) most)
 keys_kept plan most room = record {
@@ -243,25 +378,16 @@ keys_kept plan most room = record {
   moment = λ moment s has. record { maps = has.maps; few = has.few };
 }
 
-new_keys : (names : List (List ℕ)) (workers : ℕ) (kind : ObjectKind) → HasObjectKeys names (new_object workers kind)
-new_keys names workers kinds.Map = empty_keys names
-new_keys names workers (kinds.Atomic kind) = tt
-new_keys names workers kinds.Mutex = tt
-new_keys names workers kinds.RwMutex = tt
-
-first_keys : (names : List (List ℕ)) (workers : ℕ) (lines : List ObjectLine) (place : ℕ) (object : ObjectState) → slice_get (new_objects workers lines) place ≡ Some object → HasObjectKeys names object
-first_keys names workers [] place object e = absurd cc
-first_keys names workers (line ∷ lines) zero object e =
-    let same : new_object workers line.kind ≡ object = cc in
-    subst (HasObjectKeys names) same (new_keys names workers line.kind)
-first_keys names workers (line ∷ lines) (suc place) object e = first_keys names workers lines place object e
+new_keys : (names : List (List ℕ)) (workers room : ℕ) (kind : ObjectKind) → HasObjectKeys names (new_object workers room kind)
+new_keys names workers room kinds.Map = empty_keys names
+new_keys names workers room kind = tt
 
 none_yet : (p : Reply → Bool) (n : ℕ) → list_all (list_all p) (replicate {A = List Reply} n []) ≡ true
 none_yet p zero = refl
 none_yet p (suc n) = none_yet p n
 
 start_keys : (plan : Plan) (most : ℕ) → HasKeys (all_keys plan.scripts) most (start plan)
-start_keys plan most = record { maps = first_keys (all_keys plan.scripts) plan.workers plan.objects; few = none_yet (has_pairs_to most) plan.workers }
+start_keys plan most = record { maps = new_all (HasObjectKeys (all_keys plan.scripts)) plan (new_keys (all_keys plan.scripts) plan.workers) 0 plan.objects; few = none_yet (has_pairs_to most) plan.workers }
 
 pub items_keys : (plan : Plan) (most : ℕ) (list : List Turn) → distinct_count (all_keys plan.scripts) ≤ most → HasKeys (all_keys plan.scripts) most (after_items plan list (start plan))
 items_keys plan most list room = items_keep plan (HasKeys (all_keys plan.scripts) most) (keys_kept plan most room) list (start plan) (start_keys plan most)

@@ -1,31 +1,46 @@
 -- An atomic stays in its type's range.
-use Rattle.std.proofs.Common.{◌≡◌, ℕ, zero, suc, true, List, [], ◌∷◌, Some, sym, subst, inl, inr}
-use Rattle.std.specs.Prelude.{slice_get}
+use Rattle.std.proofs.Common.{◌≡◌, ℕ, suc, ◌+◌, ◌-◌, ◌<◌, ◌%◌, ◌^◌, Bool, true, false, cond, nat_lt, List, set, refl, sym, subst, arith}
+use Rattle.std.specs.Prelude.{ℤ, pos, negsuc}
+use Rattle.std.specs.Int.{w64, cast_unsigned, cast_signed, int_wrapping_add}
+use Rattle.std.proofs.lemmas.Bool.{ltb-false, lt-ltb}
 use Rattle.sync_model.specs.declared.call.Call.{Call}
 use Rattle.sync_model.specs.declared.call.Call.TheVariants as calls
 use Rattle.sync_model.specs.declared.map_object.MapCall.{MapCall}
 use Rattle.sync_model.specs.declared.lock_call.MutexCall.{MutexCall}
 use Rattle.sync_model.specs.declared.lock_call.RwMutexCall.{RwMutexCall}
+use Rattle.sync_model.specs.declared.pool_call.PoolCall.{PoolCall}
+use Rattle.sync_model.specs.declared.wait_call.CondCall.{CondCall}
+use Rattle.sync_model.specs.declared.wait_call.WaitGroupCall.{WaitGroupCall}
 use Rattle.sync_model.specs.declared.atomic_object.AtomicKind.{AtomicKind}
 use Rattle.sync_model.specs.declared.atomic_object.Number.{Number}
+use Rattle.sync_model.specs.declared.atomic_object.Number.TheVariants.{Int64}
 use Rattle.sync_model.specs.declared.atomic_object.AtomicCall.{AtomicCall}
-use Rattle.sync_model.specs.SequentialAtomic.{zero_of, is_of, is_atomic_call, atomic_after}
+use Rattle.sync_model.specs.SequentialAtomic.{zero_of, is_signed, is_of, is_atomic_call, atomic_after}
 use Rattle.sync_model.specs.SequentialAtomic as atomics
+use Rattle.wait_cores.specs.OnceMachine as once
+use Rattle.wait_cores.specs.declared.once.OnceReply.{OnceReply}
+use Rattle.wait_cores.specs.declared.once.OnceReply.TheVariants as once_reply
 use Rattle.workload.specs.declared.object.ObjectKind.{ObjectKind}
 use Rattle.workload.specs.declared.object.ObjectKind.TheVariants as kinds
-use Rattle.workload.specs.declared.object.ObjectLine.{ObjectLine}
 use Rattle.workload.specs.declared.turn.Turn.{Turn}
 use Rattle.workload.specs.Plan.{Plan, object_of, has_call}
+use Rattle.step_runner.specs.declared.step.Answer.{Answer}
+use Rattle.step_runner.specs.declared.step.Answer.TheVariants as answers
 use Rattle.step_runner.specs.declared.object_state.ObjectState.{ObjectState}
 use Rattle.step_runner.specs.declared.object_state.ObjectState.TheVariants as states
-use Rattle.step_runner.specs.State.{State, start, new_object, new_objects, kind_of, IsStateOf}
+use Rattle.step_runner.specs.State.{State, start, new_object, kind_of, IsStateOf, IsReady}
 use Rattle.step_runner.specs.MapTurn.{map_turn, range_turn}
 use Rattle.step_runner.specs.AtomicTurn.{atomic_turn}
 use Rattle.step_runner.specs.MutexTurn.{mutex_turn}
 use Rattle.step_runner.specs.RwMutexTurn.{rw_mutex_turn}
-use Rattle.step_runner.specs.Turns.{turn_on, turn_of, after_items}
+use Rattle.step_runner.specs.CondTurn.{cond_turn}
+use Rattle.step_runner.specs.WaitGroupTurn.{group_turn}
+use Rattle.step_runner.specs.OnceTurn.{once_step, where_ended, adding_turn, once_turn, func_turn, value_turn}
+use Rattle.step_runner.specs.PoolTurn.{pool_turn}
+use Rattle.step_runner.specs.Turns.{turn_on, turn_on_both, turn_at, turn_of, after_items}
 use Rattle.step_runner.proofs.AtomicTypes.{after_type, zero_type}
-use Rattle.step_runner.proofs.TurnLemmas.{set_get, Stands, moved, turn_cases}
+use Rattle.step_runner.proofs.StartLemmas.{new_all}
+use Rattle.step_runner.proofs.TurnLemmas.{AllAt, all_set, ready, at_ready, Takes, turn_cases}
 use Rattle.step_runner.proofs.RunLemmas.{GoesOn, moment_valid, Kept, items_keep}
 
 -- what is known of the one-thread atomic
@@ -37,44 +52,46 @@ StaysInRange = (kind : AtomicKind) (call : AtomicCall) (held : Number) → is_of
 
 -- an atomic's number is in the range of its type
 abbrev pub IsInRange : ObjectState → Type 0
-IsInRange (states.Map m) = Unit {0}
 IsInRange (states.Atomic number) = is_of (atomics.kind_of number) number ≡ true
-IsInRange (states.Mutex m) = Unit {0}
-IsInRange (states.RwMutex m) = Unit {0}
+IsInRange o = Unit {0}
 
-abbrev pub AreInRange : List ObjectState → Type 0
-AreInRange objects = (place : ℕ) (object : ObjectState) → slice_get objects place ≡ Some object → IsInRange object
+atomic_stays : StaysInRange → (object : ℕ) (call : AtomicCall) (o : ObjectState) → has_call (kind_of o) (calls.Atomic object call) ≡ true → IsInRange o → IsInRange (atomic_turn call o).0
+atomic_stays law object call (states.Atomic held) has is =
+    subst (λ (kind : AtomicKind). is_of kind (atomic_after call held) ≡ true) (sym (after_type call held has)) (law (atomics.kind_of held) call held is has)
+atomic_stays law object call o has is = absurd cc
 
+-- no other call changes an atomic
 map_stays : (call : MapCall (List ℕ)) (o : ObjectState) → IsInRange o → IsInRange (map_turn call o).0
 map_stays call (states.Map m) is = tt
-map_stays call (states.Atomic number) is = is
-map_stays call (states.Mutex m) is = tt
-map_stays call (states.RwMutex m) is = tt
+map_stays call o is = is
 
 range_stays : (o : ObjectState) → IsInRange o → IsInRange (range_turn o).0
 range_stays (states.Map m) is = tt
-range_stays (states.Atomic number) is = is
-range_stays (states.Mutex m) is = tt
-range_stays (states.RwMutex m) is = tt
-
-atomic_stays : StaysInRange → (object : ℕ) (call : AtomicCall) (o : ObjectState) → has_call (kind_of o) (calls.Atomic object call) ≡ true → IsInRange o → IsInRange (atomic_turn call o).0
-atomic_stays law object call (states.Map m) has is = tt
-atomic_stays law object call (states.Atomic held) has is =
-    subst (λ (kind : AtomicKind). is_of kind (atomic_after call held) ≡ true) (sym (after_type call held has)) (law (atomics.kind_of held) call held is has)
-atomic_stays law object call (states.Mutex m) has is = tt
-atomic_stays law object call (states.RwMutex m) has is = tt
+range_stays o is = is
 
 mutex_stays : (call : MutexCall) (worker moment : ℕ) (o : ObjectState) → IsInRange o → IsInRange (mutex_turn call worker moment o).0
-mutex_stays call worker moment (states.Map m) is = tt
-mutex_stays call worker moment (states.Atomic number) is = is
 mutex_stays call worker moment (states.Mutex m) is = tt
-mutex_stays call worker moment (states.RwMutex m) is = tt
+mutex_stays call worker moment o is = is
 
 rw_stays : (call : RwMutexCall) (worker moment : ℕ) (o : ObjectState) → IsInRange o → IsInRange (rw_mutex_turn call worker moment o).0
-rw_stays call worker moment (states.Map m) is = tt
-rw_stays call worker moment (states.Atomic number) is = is
-rw_stays call worker moment (states.Mutex m) is = tt
 rw_stays call worker moment (states.RwMutex m) is = tt
+rw_stays call worker moment o is = is
+
+group_stays : (call : WaitGroupCall) (worker : ℕ) (o : ObjectState) → IsInRange o → IsInRange (group_turn call worker o).0
+group_stays call worker (states.WaitGroup g first) is = tt
+group_stays call worker o is = is
+
+func_stays : (worker : ℕ) (o : ObjectState) → IsInRange o → IsInRange (func_turn worker o).0
+func_stays worker (states.OnceFunc f code) is = tt
+func_stays worker o is = is
+
+value_stays : (worker : ℕ) (o : ObjectState) → IsInRange o → IsInRange (value_turn worker o).0
+value_stays worker (states.OnceValue v value) is = tt
+value_stays worker o is = is
+
+pool_stays : (call : PoolCall) (worker : ℕ) (o : ObjectState) → IsInRange o → IsInRange (pool_turn call worker o).0
+pool_stays call worker (states.Pool p) is = tt
+pool_stays call worker o is = is
 
 turn_on_stays : StaysInRange → (call : Call) (worker moment : ℕ) (o : ObjectState) → has_call (kind_of o) call ≡ true → IsInRange o → IsInRange (turn_on call worker moment o).0
 turn_on_stays law (calls.Map object call) worker moment o has is = map_stays call o is
@@ -82,28 +99,81 @@ turn_on_stays law (calls.Range object) worker moment o has is = range_stays o is
 turn_on_stays law (calls.Atomic object call) worker moment o has is = atomic_stays law object call o has is
 turn_on_stays law (calls.Mutex object call) worker moment o has is = mutex_stays call worker moment o is
 turn_on_stays law (calls.RwMutex object call) worker moment o has is = rw_stays call worker moment o is
+turn_on_stays law (calls.WaitGroup object call) worker moment o has is = group_stays call worker o is
+turn_on_stays law (calls.OnceFunc object) worker moment o has is = func_stays worker o is
+turn_on_stays law (calls.OnceValue object) worker moment o has is = value_stays worker o is
+turn_on_stays law (calls.Pool object call) worker moment o has is = pool_stays call worker o is
+turn_on_stays law call worker moment o has is = is
 
-moved_stays : StaysInRange → (plan : Plan) (worker : ℕ) (s : State) (call : Call) (object : ObjectState) → Stands plan worker s call object → AreInRange s.objects → AreInRange (moved call worker object s).objects
-moved_stays law plan worker s call object st are place other is =
-    let next = (turn_on call worker s.moment object).0 in
-    elim (set_get s.objects (object_of call) place next other is) [
-      | inl old ↦ are place other old
-      | inr new ↦ subst IsInRange new (turn_on_stays law call worker s.moment object st.has (are (object_of call) object st.at))
-    ]
+-- ---- the sum of a once
 
-turn_stays : StaysInRange → (plan : Plan) (worker : ℕ) (s : State) → IsStateOf plan s → AreInRange s.objects → AreInRange (turn_of plan worker s).0.objects
-turn_stays law plan worker s of are = turn_cases (λ step. AreInRange step.0.objects) plan worker s of (record {
+signed_by : (half n : ℕ) (b : Bool) → nat_lt n half ≡ b → n < half + half → is_signed half (cond b (pos n) (negsuc (half + half - suc n))) ≡ true
+signed_by half n true e lt = e
+signed_by half n false e lt = lt-ltb (half + half - suc n) half (omega (arith, ltb-false n half e))
+
+signed_64 : (n : ℕ) → n < 2 ^ 64 → is_signed (2 ^ 63) (cast_signed w64 n) ≡ true
+signed_64 n lt = signed_by (2 ^ 63) n (nat_lt n (2 ^ 63)) refl lt
+
+-- a sum that wraps is in range, whatever is added
+sum_in_range : (a b : ℤ) → is_signed (2 ^ 63) (int_wrapping_add w64 a b) ≡ true
+sum_in_range a b = signed_64 ((cast_unsigned w64 a + cast_unsigned w64 b) % 2 ^ 64) (omega arith)
+
+where_stays : (r : OnceReply ℤ) (new old : ℤ) → is_signed (2 ^ 63) new ≡ true → is_signed (2 ^ 63) old ≡ true → is_signed (2 ^ 63) (where_ended r new old) ≡ true
+where_stays once_reply.Ended new old is was = is
+where_stays once_reply.Run new old is was = was
+where_stays once_reply.Queued new old is was = was
+where_stays (once_reply.Done kept) new old is was = was
+where_stays (once_reply.Left kept) new old is was = was
+where_stays once_reply.Still new old is was = was
+
+abbrev BothStay : (ObjectState × ObjectState) × Answer → Type 0
+BothStay step = IsInRange step.0.0 × IsInRange step.0.1
+
+adding_stays : (worker : ℕ) (o : once.OnceState ℤ) (place : ℕ) (delta : ℤ) (number : Number) → IsInRange (states.Atomic number) → BothStay (adding_turn worker o place delta number)
+adding_stays worker o place delta (Int64 held) was =
+    (tt, where_stays (once_step (int_wrapping_add w64 held delta) worker o).1 (int_wrapping_add w64 held delta) held (sum_in_range held delta) was)
+adding_stays worker o place delta number was = (tt, was)
+
+once_stays : (worker : ℕ) (o target : ObjectState) → IsInRange o → IsInRange target → BothStay (once_turn worker o target)
+once_stays worker (states.Once o place delta) (states.Atomic number) is was = adding_stays worker o place delta number was
+once_stays worker o target is was = (is, was)
+
+cond_stays : (call : CondCall) (worker moment : ℕ) (o target : ObjectState) → IsInRange o → IsInRange target → BothStay (cond_turn call worker moment o target)
+cond_stays call worker moment (states.Cond c place) (states.Mutex m) is was = (tt, tt)
+cond_stays call worker moment o target is was = (is, was)
+
+both_stay : (call : Call) (worker moment : ℕ) (o target : ObjectState) → IsInRange o → IsInRange target → BothStay (turn_on_both call worker moment o target)
+both_stay (calls.Cond object call) worker moment o target is was = cond_stays call worker moment o target is was
+both_stay (calls.Once object) worker moment o target is was = once_stays worker o target is was
+both_stay call worker moment o target is was = (is, was)
+
+-- ---- any turn
+
+at_stays : StaysInRange → (workers worker : ℕ) (call : Call) (moment : ℕ) (objects : List ObjectState) → IsReady workers worker call objects → AllAt IsInRange objects → AllAt IsInRange (turn_at call worker moment objects).0
+at_stays law workers worker call moment objects r are = at_ready (λ x. AllAt IsInRange x.0) workers worker call moment objects r
+    (λ st. all_set IsInRange objects (object_of call) (turn_on call worker moment r.object).0 are (turn_on_stays law call worker moment r.object st.has (are (object_of call) r.object st.at)))
+    (λ other target st.
+    let new = turn_on_both call worker moment r.object target in
+    let stay = both_stay call worker moment r.object target (are (object_of call) r.object st.at) (are other target st.there) in
+    all_set IsInRange (set objects (object_of call) new.0.0) other new.0.1 (all_set IsInRange objects (object_of call) new.0.0 are stay.0) stay.1)
+
+takes_stays : StaysInRange → (plan : Plan) (worker : ℕ) (s : State) (call : Call) (objects : List ObjectState) (answer : Answer) → IsStateOf plan s → AllAt IsInRange s.objects → Takes plan worker s call objects answer → AllAt IsInRange objects
+takes_stays law plan worker s call objects answer of are takes =
+    subst (λ (x : List ObjectState × Answer). AllAt IsInRange x.0) takes.turn (at_stays law plan.workers worker call s.moment s.objects (ready plan worker s call of takes.next) are)
+
+turn_stays : StaysInRange → (plan : Plan) (worker : ℕ) (s : State) → IsStateOf plan s → AllAt IsInRange s.objects → AllAt IsInRange (turn_of plan worker s).0.objects
+turn_stays law plan worker s of are = turn_cases (λ step. AllAt IsInRange step.0.objects) plan worker s of (record {
   ended = λ is. are;
-  still = λ call object st is. moved_stays law plan worker s call object st are;
-  waits = λ call object st is. moved_stays law plan worker s call object st are;
-  completed = λ call object reply st is. moved_stays law plan worker s call object st are;
-  misused = λ call object misuse st is. moved_stays law plan worker s call object st are;
+  still = λ call objects takes. takes_stays law plan worker s call objects answers.Still of are takes;
+  waits = λ call objects takes. takes_stays law plan worker s call objects answers.Waits of are takes;
+  completed = λ call objects reply takes. takes_stays law plan worker s call objects (answers.Completed reply) of are takes;
+  misused = λ call objects misuse takes. takes_stays law plan worker s call objects (answers.Misused misuse) of are takes;
 })
 
 -- a state of the plan in which the atomics are in range
 record InRange (plan : Plan) (s : State) : Type 0 where
   of : IsStateOf plan s
-  are : AreInRange s.objects
+  are : AllAt IsInRange s.objects
 
 ranges_kept : StaysInRange → (plan : Plan) → GoesOn plan → Kept plan (InRange plan)
 ranges_kept law plan goes_on = record {
@@ -111,18 +181,9 @@ ranges_kept law plan goes_on = record {
   moment = λ moment s h. record { of = moment_valid plan moment s h.of; are = h.are };
 }
 
-new_range : BeginsInRange → (workers : ℕ) (kind : ObjectKind) → IsInRange (new_object workers kind)
-new_range law workers kinds.Map = tt
-new_range law workers (kinds.Atomic kind) = subst (λ (type : AtomicKind). is_of type (zero_of kind) ≡ true) (sym (zero_type kind)) (law kind)
-new_range law workers kinds.Mutex = tt
-new_range law workers kinds.RwMutex = tt
+new_range : BeginsInRange → (workers room : ℕ) (kind : ObjectKind) → IsInRange (new_object workers room kind)
+new_range law workers room (kinds.Atomic kind) = subst (λ (type : AtomicKind). is_of type (zero_of kind) ≡ true) (sym (zero_type kind)) (law kind)
+new_range law workers room kind = tt
 
-first_ranges : BeginsInRange → (workers : ℕ) (lines : List ObjectLine) → AreInRange (new_objects workers lines)
-first_ranges law workers [] place object e = absurd cc
-first_ranges law workers (line ∷ lines) zero object e =
-    let same : new_object workers line.kind ≡ object = cc in
-    subst IsInRange same (new_range law workers line.kind)
-first_ranges law workers (line ∷ lines) (suc place) object e = first_ranges law workers lines place object e
-
-pub in_range : BeginsInRange → StaysInRange → (plan : Plan) → GoesOn plan → IsStateOf plan (start plan) → (list : List Turn) → AreInRange (after_items plan list (start plan)).objects
-in_range begins law plan goes_on of list = (items_keep plan (InRange plan) (ranges_kept law plan goes_on) list (start plan) (record { of = of; are = first_ranges begins plan.workers plan.objects })).are
+pub in_range : BeginsInRange → StaysInRange → (plan : Plan) → GoesOn plan → IsStateOf plan (start plan) → (list : List Turn) → AllAt IsInRange (after_items plan list (start plan)).objects
+in_range begins law plan goes_on of list = (items_keep plan (InRange plan) (ranges_kept law plan goes_on) list (start plan) (record { of = of; are = new_all IsInRange plan (new_range begins plan.workers) 0 plan.objects })).are

@@ -14,6 +14,12 @@ numbers_of object (states.Map m) = []
 numbers_of object (states.Atomic number) = Number object number ∷ []
 numbers_of object (states.Mutex m) = []
 numbers_of object (states.RwMutex m) = []
+numbers_of object (states.Cond c place) = []
+numbers_of object (states.WaitGroup g first) = []
+numbers_of object (states.Once o place delta) = []
+numbers_of object (states.OnceFunc o code) = []
+numbers_of object (states.OnceValue o value) = []
+numbers_of object (states.Pool p) = []
 
 -- the number of each atomic in order of declaration, from a place on
 abbrev pub numbers_from : ℕ → List ObjectState → List End
@@ -30,6 +36,12 @@ pairs_of object (states.Map m) = map_ends object m
 pairs_of object (states.Atomic number) = []
 pairs_of object (states.Mutex m) = []
 pairs_of object (states.RwMutex m) = []
+pairs_of object (states.Cond c place) = []
+pairs_of object (states.WaitGroup g first) = []
+pairs_of object (states.Once o place delta) = []
+pairs_of object (states.OnceFunc o code) = []
+pairs_of object (states.OnceValue o value) = []
+pairs_of object (states.Pool p) = []
 
 -- the pairs of each map in order of declaration, from a place on
 abbrev pub pairs_from : ℕ → List ObjectState → List End

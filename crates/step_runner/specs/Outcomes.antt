@@ -50,10 +50,16 @@ pub record IsDeadlocked (plan : Plan) (report : Report) : Type 0 where
   pub still : items_of plan (round plan.workers) state ≡ (state, steps.Still)
   pub leaves : report ≡ record { replies = state.replies; ends = [] }
 
--- whether a call is on a map or an atomic: such a call is completed in its first turn
+-- whether a call is on a map, an atomic or a pool: such a call is completed in its first turn
 abbrev pub never_waits : Call → Bool
 never_waits (calls.Map object call) = true
 never_waits (calls.Range object) = true
 never_waits (calls.Atomic object call) = true
 never_waits (calls.Mutex object call) = false
 never_waits (calls.RwMutex object call) = false
+never_waits (calls.Cond object call) = false
+never_waits (calls.WaitGroup object call) = false
+never_waits (calls.Once object) = false
+never_waits (calls.OnceFunc object) = false
+never_waits (calls.OnceValue object) = false
+never_waits (calls.Pool object call) = true

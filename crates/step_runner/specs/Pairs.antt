@@ -14,6 +14,11 @@ has_pairs_to most (replies.Map reply) = true
 has_pairs_to most (replies.Pairs pairs) = nat_le (length pairs) most
 has_pairs_to most (replies.Atomic reply) = true
 has_pairs_to most (replies.Lock reply) = true
+has_pairs_to most replies.Returned = true
+has_pairs_to most (replies.Once reply) = true
+has_pairs_to most (replies.OnceFunc code) = true
+has_pairs_to most (replies.OnceValue value) = true
+has_pairs_to most (replies.Pool reply) = true
 
 -- what a run leaves behind
 abbrev pub left_by : Outcome → Report

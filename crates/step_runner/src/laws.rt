@@ -17,19 +17,20 @@ ghost use Rattle.workload.specs.Plan.{Plan, is_valid};
 ghost use Rattle.step_runner.specs.declared.step.Step.TheVariants as steps;
 ghost use Rattle.step_runner.specs.declared.outcome.Report.{Report};
 ghost use Rattle.step_runner.specs.declared.outcome.Outcome.TheVariants as outcomes;
+ghost use Rattle.step_runner.specs.declared.object_state.ObjectState.{ObjectState};
 ghost use Rattle.step_runner.specs.declared.object_state.ObjectState.TheVariants as states;
 ghost use Rattle.step_runner.specs.LeftToDo.{left_to_do};
 ghost use Rattle.step_runner.specs.Pairs.{has_pairs_to};
 ghost use Rattle.step_runner.specs.MadeCalls.{made_calls, calls_of};
 ghost use Rattle.step_runner.specs.Outcomes.{IsDone, IsMisused, IsDeadlocked, never_waits};
-ghost use Rattle.step_runner.specs.State.{State, IsStateOf, start, kind_of, with_moment};
+ghost use Rattle.step_runner.specs.State.{State, IsMachineOf, IsStateOf, start, kind_of, with_moment};
 ghost use Rattle.step_runner.specs.Turns.{turn_of, items_of, after_items, has_ended, rounds_of, all_rounds, turns};
 
 use sync_model::laws::atomics::calls_keep_the_type;
 
 /// What is true of the state in which a run begins stays true with each turn, and so at every moment:
-/// each object is of the kind that the workload says, each lock is in a state that its machine comes to,
-/// and no worker has more replies than its script has calls.
+/// each object is of the kind that the workload says, each object that is a machine is in a state that the
+/// machine comes to, and no worker has more replies than its script has calls.
 pub fn validity()
     ensures begins { (plan : Plan) → is_valid plan ≡ true → IsStateOf plan (start plan) }
     ensures goes_on { (plan : Plan) (worker : ℕ) (state : State) → IsStateOf plan state → IsStateOf plan (turn_of plan worker state).0 }
@@ -37,6 +38,11 @@ pub fn validity()
 {
     mutex_core::laws::validity();
     rw_core::laws::validity();
+    wait_cores::laws::notify::answers_its_callers();
+    wait_cores::laws::group::knows_where_it_stands();
+    wait_cores::laws::once::knows_where_it_stands::<i64>();
+    wait_cores::laws::once::knows_where_it_stands::<u64>();
+    wait_cores::laws::pool::keeps_its_parts();
 }
 
 /// A turn without an event changes nothing, and each event lowers what is left to do. A misuse completes
@@ -48,8 +54,17 @@ pub fn events_use_something_up()
 {
     mutex_core::laws::validity();
     rw_core::laws::validity();
+    wait_cores::laws::notify::answers_its_callers();
+    wait_cores::laws::group::knows_where_it_stands();
+    wait_cores::laws::once::knows_where_it_stands::<i64>();
+    wait_cores::laws::once::knows_where_it_stands::<u64>();
+    wait_cores::laws::pool::keeps_its_parts();
     mutex_core::laws::events_are_used_up();
     rw_core::laws::events_are_used_up();
+    wait_cores::laws::notify::events_are_used_up();
+    wait_cores::laws::group::events_are_used_up();
+    wait_cores::laws::once::events_are_used_up::<i64>();
+    wait_cores::laws::once::events_are_used_up::<u64>();
 }
 
 /// Every run ends, in one of the three ways: one round more than is left to do is enough, and any more
@@ -74,8 +89,8 @@ pub fn outcomes_are_exact()
     events_use_something_up();
 }
 
-/// Where every call is on a map or an atomic the run is Done, and each worker has as many replies as
-/// calls.
+/// Where every call is on a map, an atomic or a pool the run is Done, and each worker has as many replies
+/// as calls.
 pub fn scripts_that_never_wait_end()
     ensures { (plan : Plan) → is_valid plan ≡ true → list_all (list_all never_waits) plan.scripts ≡ true
         → (report : Report) × (turns plan ≡ outcomes.Done report) × (map length report.replies ≡ map length plan.scripts) }
@@ -100,7 +115,7 @@ pub fn calls_are_made_in_order()
 }
 
 /// At every moment each object is of the kind that the workload says, an atomic holds a number in the
-/// range of its type, and a lock is in a state that its machine comes to, with the workers as its callers.
+/// range of its type, and a machine is in a state that it comes to, with the workers as its callers.
 pub fn objects_keep_their_kinds()
     ensures kinds { (plan : Plan) (items : List Turn) → is_valid plan ≡ true → map kind_of (after_items plan items (start plan)).objects ≡ map (λ line. line.kind) plan.objects }
     ensures ranges { (plan : Plan) (items : List Turn) (object : ℕ) (number : Number) → is_valid plan ≡ true → slice_get (after_items plan items (start plan)).objects object ≡ Some (states.Atomic number)
@@ -109,6 +124,8 @@ pub fn objects_keep_their_kinds()
         → mutex.IsValid m × (m.callers ≡ plan.workers) }
     ensures rw_mutexes { (plan : Plan) (items : List Turn) (object : ℕ) (m : rw.State) → is_valid plan ≡ true → slice_get (after_items plan items (start plan)).objects object ≡ Some (states.RwMutex m)
         → rw.IsValid m × (m.callers ≡ plan.workers) }
+    ensures machines { (plan : Plan) (items : List Turn) (place : ℕ) (object : ObjectState) → is_valid plan ≡ true → slice_get (after_items plan items (start plan)).objects place ≡ Some object
+        → IsMachineOf plan.workers object }
 {
     validity();
     calls_keep_the_type();

@@ -3,17 +3,21 @@
 #![tactic(auto)]
 
 pub mod atomic_turn;
+pub mod cond_turn;
 pub mod ends;
 pub mod laws;
 pub mod map_turn;
 pub mod mutex_turn;
 pub mod object_state;
+pub mod once_turn;
 pub mod outcome;
+pub mod pool_turn;
 pub mod run;
 pub mod rw_mutex_turn;
 pub mod state;
 pub mod step;
 pub mod turn;
+pub mod wait_group_turn;
 
 pub use ends::End;
 pub use object_state::ObjectState;

@@ -1,7 +1,7 @@
 //! What a run knows between two turns.
-ghost use Rattle.std.specs.Prelude.{◌≡◌, ◌<◌, ◌≤◌, [], length, get_or, replicate, IfOk, OnOk};
+ghost use Rattle.std.specs.Prelude.{◌≡◌, ◌<◌, [], count_by, length, get_or, replicate, IfOk, OnOk};
 ghost use Rattle.workload.specs.Readable.{IsReadable};
-ghost use Rattle.step_runner.specs.State.{IsStateOf, new_objects, start, with_reply};
+ghost use Rattle.step_runner.specs.State.{IsStateOf, is_put_at, puts_at, new_objects, start, with_reply};
 ghost use Rattle.step_runner.specs.Turns.{settled};
 
 use crate::laws;
@@ -9,8 +9,8 @@ use crate::object_state::ObjectState;
 use crate::step::{Answer, Step};
 use std::alloc::{AllocError, Global};
 use std::marker::Model;
-use sync_model::{Reply, Seq};
-use workload::{ObjectLine, Workload};
+use sync_model::{Call, PoolCall, Reply, Seq};
+use workload::Workload;
 
 /// The clock's moment, the objects, and for each worker the replies to its calls so far.
 #[derive(Debug, Drop)]
@@ -32,19 +32,46 @@ impl Model for State {
     ghost view = { λ s. record { moment = s.moment; objects = s.objects.items; replies = s.replies } };
 }
 
-/// The objects of a workload as a run of so many workers begins with them.
-fn new_objects(
-    alloc: Global,
-    workers: u32,
-    lines: &[ObjectLine],
-) -> Result<Vec<ObjectState>, AllocError>
-    requires some { 1 ≤ workers }
-    requires few { workers ≤ 64 }
-    ensures { IfOk result (λ objects. objects.items ≡ new_objects workers lines.now) }
+/// Whether a call puts an item into the pool at this place.
+fn is_put_at(call: &Call, place: usize) -> bool
+    ensures { result ≡ is_put_at place call.now }
 {
+    match call {
+        Call::Pool {
+            object,
+            call: PoolCall::Put(_),
+        } => *object == place,
+        _ => false,
+    }
+}
+
+/// How many puts a script makes into the pool at this place.
+fn puts_in(script: &[Call], place: usize) -> usize
+    ensures { result ≡ count_by (is_put_at place) script.now }
+{
+    script.iter().filter(|call| is_put_at(call, place)).count()
+}
+
+/// How many puts a workload makes into the pool at this place.
+fn puts_at(workload: &Workload, place: usize) -> u32
+    ensures { result ≡ puts_at place workload.now.scripts }
+{
+    let mut puts = 0;
+    for worker in 0..workload.workers() {
+        puts += puts_in(workload.script(worker), place);
+    }
+    puts as u32
+}
+
+/// The objects of a workload as a run begins with them.
+fn new_objects(alloc: Global, workload: &Workload) -> Result<Vec<ObjectState>, AllocError>
+    ensures { IfOk result (λ objects. objects.items ≡ new_objects workload.now 0 workload.now.objects) }
+{
+    let workers = workload.workers();
     let mut objects = Vec::new(alloc);
-    for line in lines {
-        objects.push(ObjectState::new(alloc, workers, line.kind)?)?;
+    for (place, line) in workload.objects().iter().enumerate() {
+        let room = puts_at(workload, place);
+        objects.push(ObjectState::new(alloc, workers, room, line.kind)?)?;
     }
     Ok(objects)
 }
@@ -69,7 +96,7 @@ impl State {
     {
         laws::validity();
         let workers = workload.workers();
-        let objects = new_objects(alloc, workers, workload.objects())?;
+        let objects = new_objects(alloc, workload)?;
         let replies = no_replies(alloc, workers)?;
         Ok(State {
             moment: 0,

@@ -1,7 +1,7 @@
 use crate::{End, Outcome, Report, stepped};
 use std::alloc::{AllocError, Global};
 use std::test::Fail;
-use sync_model::{AtomicReply, LockReply, MapReply, Name, Number, Reply};
+use sync_model::{AtomicReply, LockReply, MapReply, Name, Number, OnceReply, PoolReply, Reply};
 use workload::parse;
 
 fn push_number(alloc: Global, text: &mut String, number: Number) -> Result<(), AllocError> {
@@ -54,6 +54,27 @@ fn push_reply(alloc: Global, text: &mut String, reply: &Reply) -> Result<(), All
             let word = format!(in alloc; " {acquired}")?;
             text.push_str(&word)
         }
+        Reply::Returned | Reply::OnceFunc(None) | Reply::Pool(PoolReply::Done) => {
+            text.push_str(" ok")
+        }
+        Reply::Once(OnceReply::Done) => text.push_str(" done"),
+        Reply::Once(OnceReply::Ran(sum)) => {
+            let words = format!(in alloc; " ran {sum}")?;
+            text.push_str(&words)
+        }
+        Reply::OnceFunc(Some(code)) => {
+            let words = format!(in alloc; " err {code}")?;
+            text.push_str(&words)
+        }
+        Reply::OnceValue(value) => {
+            let word = format!(in alloc; " {value}")?;
+            text.push_str(&word)
+        }
+        Reply::Pool(PoolReply::Put(item)) => {
+            let words = format!(in alloc; " {item} put")?;
+            text.push_str(&words)
+        }
+        Reply::Pool(PoolReply::New) => text.push_str(" 0 new"),
     }
 }
 
@@ -385,6 +406,149 @@ fn a_reader_writer_mutex_by_schedule(rt: HostRuntime) -> Result<(), Fail> {
         (
             "workers 1\nrwmutex w\nworker 0\nrlock w\nlock w\n",
             " ok / deadlock",
+        ),
+    ];
+    for (text, want) in table {
+        let got = told_of(rt.alloc(), text)?;
+        assert_eq!(rt; got.as_deref(), Some(want), "{text}");
+    }
+    Ok(())
+}
+
+#[test]
+fn a_wait_group_by_schedule(rt: HostRuntime) -> Result<(), Fail> {
+    let table = [
+        (
+            "workers 1\nwaitgroup g 0\nworker 0\nadd g 1\ndone g\ndone g\n",
+            " ok ok / panic: sync: negative WaitGroup counter",
+        ),
+        // Used again before the released worker has left.
+        (
+            "workers 2\nwaitgroup g 1\nworker 0\nwait g\nworker 1\ndone g\nadd g 1\nschedule 0 1 1 0\n",
+            " / ok ok / panic: sync: WaitGroup is reused before previous Wait has returned",
+        ),
+        // A misuse while another worker waits.
+        (
+            "workers 2\nmutex m\nwaitgroup g 0\nworker 0\nlock m\nlock m\nworker 1\ndone g\nschedule 0 0 1\n",
+            " ok / / panic: sync: negative WaitGroup counter",
+        ),
+        // A barrier: the last to come goes on at once.
+        (
+            "workers 2\nwaitgroup g 2\nworker 0\ndone g\nwait g\nworker 1\ndone g\nwait g\n",
+            " ok ok / ok ok /",
+        ),
+        // All that are released leave, each in its own turn.
+        (
+            "workers 3\nwaitgroup g 1\nworker 0\nwait g\nworker 1\nwait g\nworker 2\ndone g\n",
+            " ok / ok / ok /",
+        ),
+        (
+            "workers 1\nwaitgroup g 1\nworker 0\nwait g\n",
+            " / deadlock",
+        ),
+    ];
+    for (text, want) in table {
+        let got = told_of(rt.alloc(), text)?;
+        assert_eq!(rt; got.as_deref(), Some(want), "{text}");
+    }
+    Ok(())
+}
+
+#[test]
+fn a_cond_by_schedule(rt: HostRuntime) -> Result<(), Fail> {
+    let table = [
+        (
+            "workers 2\nmutex m\ncond c m\nworker 0\nlock m\nwait c\nunlock m\nworker 1\nlock m\nsignal c\nunlock m\n",
+            " ok ok ok / ok ok ok /",
+        ),
+        (
+            "workers 1\nmutex m\ncond c m\nworker 0\nwait c\n",
+            " / fatal error: sync: unlock of unlocked mutex",
+        ),
+        // A signal that finds nobody is lost.
+        (
+            "workers 2\nmutex m\ncond c m\nworker 0\nlock m\nwait c\nworker 1\nsignal c\nschedule 1 0\n",
+            " ok / ok / deadlock",
+        ),
+        // A signal tells the first of two that wait, a broadcast both.
+        (
+            "workers 3\nmutex m\ncond c m\nworker 0\nlock m\nwait c\nunlock m\nworker 1\nlock m\nwait c\nunlock m\nworker 2\nlock m\nsignal c\nunlock m\nschedule 0 0 1 1\n",
+            " ok ok ok / ok / ok ok ok / deadlock",
+        ),
+        (
+            "workers 3\nmutex m\ncond c m\nworker 0\nlock m\nwait c\nunlock m\nworker 1\nlock m\nwait c\nunlock m\nworker 2\nlock m\nbroadcast c\nunlock m\nschedule 0 0 1 1\n",
+            " ok ok ok / ok ok ok / ok ok ok /",
+        ),
+        // The one that was told waits for the mutex, for good where nobody unlocks it.
+        (
+            "workers 2\nmutex m\ncond c m\nworker 0\nlock m\nwait c\nworker 1\nlock m\nsignal c\n",
+            " ok / ok ok / deadlock",
+        ),
+    ];
+    for (text, want) in table {
+        let got = told_of(rt.alloc(), text)?;
+        assert_eq!(rt; got.as_deref(), Some(want), "{text}");
+    }
+    Ok(())
+}
+
+#[test]
+fn a_function_runs_once_by_schedule(rt: HostRuntime) -> Result<(), Fail> {
+    let table = [
+        (
+            "workers 2\nint64 a\nonce o a 5\noncefunc g 3\nworker 0\ndo o\ncall g\ncall g\nworker 1\ndo o\n",
+            " ran 5 err 3 err 3 / done / 0=5",
+        ),
+        // It is begun in one turn, and run in the next.
+        (
+            "workers 2\nint64 a\nonce o a 5\nworker 0\ndo o\nworker 1\nload a\nload a\nadd a 1\nschedule 0 1 0 1\n",
+            " ran 5 / 0 5 6 / 0=6",
+        ),
+        (
+            "workers 1\nint64 a\nonce o a 1\nworker 0\nstore a 9223372036854775807\ndo o\n",
+            " ok ran -9223372036854775808 / 0=-9223372036854775808",
+        ),
+        (
+            "workers 3\noncevalue v 9\nworker 0\nvalue v\nworker 1\nvalue v\nvalue v\nworker 2\nvalue v\nschedule 0 1 2\n",
+            " 9 / 9 9 / 9 /",
+        ),
+        (
+            "workers 2\noncefunc g 0\noncefunc h 7\nworker 0\ncall g\ncall h\nworker 1\ncall h\nschedule 1\n",
+            " ok err 7 / err 7 /",
+        ),
+    ];
+    for (text, want) in table {
+        let got = told_of(rt.alloc(), text)?;
+        assert_eq!(rt; got.as_deref(), Some(want), "{text}");
+    }
+    Ok(())
+}
+
+#[test]
+fn a_pool_by_schedule(rt: HostRuntime) -> Result<(), Fail> {
+    let table = [
+        (
+            "workers 1\npool p\nworker 0\nput p 7\nsweep p\nget p\nput p 8\nsweep p\nsweep p\nget p\n",
+            " ok ok 7 put ok ok ok 0 new /",
+        ),
+        // The private item of another part isn't taken.
+        (
+            "workers 2\npool p\nworker 0\nput p 1\nput p 2\nworker 1\nget p\nget p\nschedule 0 0 1 1\n",
+            " ok ok / 2 put 0 new /",
+        ),
+        // The parts of others are looked at from the next one on, and round.
+        (
+            "workers 3\npool p\nworker 0\nget p\nget p\nget p\nworker 1\nput p 10\nput p 11\nworker 2\nput p 20\nput p 21\nschedule 1 1 2 2 0 0 0\n",
+            " 11 put 21 put 0 new / ok ok / ok ok /",
+        ),
+        (
+            "workers 3\npool p\nworker 0\nput p 1\nput p 2\nworker 1\nput p 10\nput p 11\nworker 2\nget p\nget p\nschedule 0 0 1 1 2 2\n",
+            " ok ok / ok ok / 2 put 11 put /",
+        ),
+        // There is room for every put.
+        (
+            "workers 1\npool p\nworker 0\nput p 1\nput p 2\nput p 3\nget p\nget p\nget p\n",
+            " ok ok ok 1 put 3 put 2 put /",
         ),
     ];
     for (text, want) in table {

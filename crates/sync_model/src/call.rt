@@ -3,7 +3,10 @@ use crate::atomic_object::{AtomicCall, AtomicReply};
 use crate::lock_call::{LockReply, MutexCall, RwMutexCall};
 use crate::map_object::{MapCall, MapReply};
 use crate::name::Name;
+use crate::once_call::OnceReply;
+use crate::pool_call::{PoolCall, PoolReply};
 use crate::seq::Seq;
+use crate::wait_call::{CondCall, WaitGroupCall};
 
 /// A call on an object, which is named by its place among the workload's objects.
 #[derive(Debug, Drop)]
@@ -18,6 +21,18 @@ pub enum Call {
     Mutex { object: usize, call: MutexCall },
     /// A call on a reader/writer mutex.
     RwMutex { object: usize, call: RwMutexCall },
+    /// A call on a cond.
+    Cond { object: usize, call: CondCall },
+    /// A call on a wait group.
+    WaitGroup { object: usize, call: WaitGroupCall },
+    /// `Do` on a once: the first one runs the once's function, all others wait until it has returned.
+    Once { object: usize },
+    /// A call of a function made by `OnceFunc`.
+    OnceFunc { object: usize },
+    /// A call of a function made by `OnceValue`.
+    OnceValue { object: usize },
+    /// A call on a pool.
+    Pool { object: usize, call: PoolCall },
 }
 
 /// What a call answers.
@@ -31,4 +46,14 @@ pub enum Reply {
     Atomic(AtomicReply),
     /// The reply of a mutex or a reader/writer mutex.
     Lock(LockReply),
+    /// A call on a cond or a wait group returned.
+    Returned,
+    /// The reply of a once.
+    Once(OnceReply),
+    /// The code with which the function of a `OnceFunc` failed, or none where it succeeded.
+    OnceFunc(Option<u32>),
+    /// The value of a `OnceValue`.
+    OnceValue(u64),
+    /// The reply of a pool.
+    Pool(PoolReply),
 }

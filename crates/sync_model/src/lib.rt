@@ -17,7 +17,10 @@ pub mod map_object;
 pub mod misuse;
 pub mod name;
 pub mod note;
+pub mod once_call;
+pub mod pool_call;
 pub mod seq;
+pub mod wait_call;
 
 pub use answer::Answer;
 pub use atomic_object::{AtomicCall, AtomicKind, AtomicReply, Number};
@@ -32,7 +35,10 @@ pub use map_object::{MapCall, MapReply};
 pub use misuse::Misuse;
 pub use name::Name;
 pub use note::Note;
+pub use once_call::OnceReply;
+pub use pool_call::{PoolCall, PoolReply};
 pub use seq::Seq;
+pub use wait_call::{CondCall, WaitGroupCall};
 
 #[cfg(test)]
 mod tests;

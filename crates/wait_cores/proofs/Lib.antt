@@ -10,3 +10,7 @@ pub mod PoolCounts
 pub mod PoolMaps
 pub mod PoolRoom
 pub mod PoolOrigins
+pub mod GroupLeft
+pub mod NotifyLeft
+pub mod OnceLeft
+pub mod PoolParts

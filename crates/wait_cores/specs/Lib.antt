@@ -1,7 +1,9 @@
 pub mod Edges
+pub mod EventsLeft
 pub mod GroupLaws
 pub mod GroupMachine
 pub mod GroupStanding
+pub mod Looks
 pub mod NotifyLaws
 pub mod NotifyMachine
 pub mod OnceLaws

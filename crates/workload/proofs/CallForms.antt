@@ -15,6 +15,12 @@ use Rattle.sync_model.specs.declared.atomic_object.AtomicKind.TheVariants as typ
 use Rattle.sync_model.specs.declared.atomic_object.Number.{Number}
 use Rattle.sync_model.specs.declared.atomic_object.AtomicCall.{AtomicCall}
 use Rattle.sync_model.specs.declared.atomic_object.AtomicCall.TheVariants as atomic_calls
+use Rattle.sync_model.specs.declared.wait_call.CondCall.{CondCall}
+use Rattle.sync_model.specs.declared.wait_call.CondCall.TheVariants as cond_calls
+use Rattle.sync_model.specs.declared.wait_call.WaitGroupCall.{WaitGroupCall}
+use Rattle.sync_model.specs.declared.wait_call.WaitGroupCall.TheVariants as group_calls
+use Rattle.sync_model.specs.declared.pool_call.PoolCall.{PoolCall}
+use Rattle.sync_model.specs.declared.pool_call.PoolCall.TheVariants as pool_calls
 use Rattle.sync_model.specs.declared.lock_call.MutexCall.{MutexCall}
 use Rattle.sync_model.specs.declared.lock_call.MutexCall.TheVariants as mutex_calls
 use Rattle.sync_model.specs.declared.lock_call.RwMutexCall.{RwMutexCall}
@@ -25,13 +31,13 @@ use Rattle.workload.specs.declared.limits.TheConstants.{MAX_VALUE}
 use Rattle.workload.specs.declared.object.ObjectKind.{ObjectKind}
 use Rattle.workload.specs.declared.object.ObjectKind.TheVariants as kinds
 use Rattle.workload.specs.Plan.{has_call}
-use Rattle.workload.specs.Words.{map_verb, map_operands, atomic_verb, atomic_operands, mutex_verb, rw_mutex_verb, verb_of, operands_of, number_word, is_number_to}
-use Rattle.workload.specs.Draft.{keys_of, is_call, is_map_call, is_value, is_range}
-use Rattle.workload.specs.Checks.{map_form, atomic_form, bits_form, mutex_form, rw_mutex_form, form_of, ranges_in}
+use Rattle.workload.specs.Words.{map_verb, map_operands, atomic_verb, atomic_operands, mutex_verb, rw_mutex_verb, cond_verb, group_verb, group_operands, pool_verb, pool_operands, verb_of, operands_of, number_word, is_number_to}
+use Rattle.workload.specs.Draft.{keys_of, is_call, is_map_call, is_group_call, is_pool_call, is_value, is_range}
+use Rattle.workload.specs.Checks.{map_form, atomic_form, bits_form, mutex_form, rw_mutex_form, cond_form, group_form, pool_form, form_of, ranges_in}
 use Rattle.workload.specs.LineResult.{PassesWith}
 use Rattle.workload.proofs.Passing.{both}
 use Rattle.workload.proofs.Numbers.{is_number-decimal, number_of-decimal}
-use Rattle.workload.proofs.CallWords.{number_passes}
+use Rattle.workload.proofs.CallWords.{number_passes, amount_passes}
 
 pub value_passes : (n : ℕ) → nat_le n MAX_VALUE ≡ true → is_number_to MAX_VALUE (decimal n) ≡ true
 value_passes n le =
@@ -92,6 +98,21 @@ rw_mutex_passes rw_mutex_calls.RLock = (refl, refl)
 rw_mutex_passes rw_mutex_calls.RUnlock = (refl, refl)
 rw_mutex_passes rw_mutex_calls.TryRLock = (refl, refl)
 
+cond_passes : (c : CondCall) → PassesWith (cond_form (cond_verb c)) [] []
+cond_passes cond_calls.Wait = (refl, refl)
+cond_passes cond_calls.Signal = (refl, refl)
+cond_passes cond_calls.Broadcast = (refl, refl)
+
+group_passes : (c : WaitGroupCall) → is_group_call c ≡ true → PassesWith (group_form (group_verb c)) (group_operands c) []
+group_passes (group_calls.Add z) h = (refl, rw (amount_passes z h) refl)
+group_passes group_calls.Done h = (refl, refl)
+group_passes group_calls.Wait h = (refl, refl)
+
+pool_passes : (c : PoolCall) → is_pool_call c ≡ true → PassesWith (pool_form (pool_verb c)) (pool_operands c) []
+pool_passes (pool_calls.Put v) h = (refl, rw (value_passes v h) refl)
+pool_passes pool_calls.Get h = (refl, refl)
+pool_passes pool_calls.Sweep h = (refl, refl)
+
 -- a call that the kind of its object has
 pub call_form : (kind : ObjectKind) (c : Call) → has_call kind c ≡ true → is_call c ≡ true → PassesWith (form_of (verb_of c) kind) (operands_of c) (keys_of c)
 call_form kinds.Map (calls.Map i c) on h = map_passes c h
@@ -99,6 +120,12 @@ call_form kinds.Map (calls.Range i) on h = (refl, refl)
 call_form (kinds.Atomic k) (calls.Atomic i c) on h = atomic_passes k c on
 call_form kinds.Mutex (calls.Mutex i c) on h = mutex_passes c
 call_form kinds.RwMutex (calls.RwMutex i c) on h = rw_mutex_passes c
+call_form (kinds.Cond m) (calls.Cond i c) on h = cond_passes c
+call_form (kinds.WaitGroup n) (calls.WaitGroup i c) on h = group_passes c h
+call_form (kinds.Once a z) (calls.Once i) on h = (refl, refl)
+call_form (kinds.OnceFunc n) (calls.OnceFunc i) on h = (refl, refl)
+call_form (kinds.OnceValue n) (calls.OnceValue i) on h = (refl, refl)
+call_form kinds.Pool (calls.Pool i c) on h = pool_passes c h
 call_form kind c on h = absurd cc
 
 -- the word of a call says whether it is a `range` call
@@ -141,3 +168,24 @@ ranges_of (calls.RwMutex i c) = no_range c
     no_range rw_mutex_calls.RLock = refl
     no_range rw_mutex_calls.RUnlock = refl
     no_range rw_mutex_calls.TryRLock = refl
+ranges_of (calls.Cond i c) = no_range c
+  where
+    no_range : (c : CondCall) → 0 ≡ ranges_in (cond_verb c)
+    no_range cond_calls.Wait = refl
+    no_range cond_calls.Signal = refl
+    no_range cond_calls.Broadcast = refl
+ranges_of (calls.WaitGroup i c) = no_range c
+  where
+    no_range : (c : WaitGroupCall) → 0 ≡ ranges_in (group_verb c)
+    no_range (group_calls.Add z) = refl
+    no_range group_calls.Done = refl
+    no_range group_calls.Wait = refl
+ranges_of (calls.Once i) = refl
+ranges_of (calls.OnceFunc i) = refl
+ranges_of (calls.OnceValue i) = refl
+ranges_of (calls.Pool i c) = no_range c
+  where
+    no_range : (c : PoolCall) → 0 ≡ ranges_in (pool_verb c)
+    no_range (pool_calls.Put v) = refl
+    no_range pool_calls.Get = refl
+    no_range pool_calls.Sweep = refl

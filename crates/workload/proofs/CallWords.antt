@@ -9,6 +9,10 @@ use Rattle.std.proofs.lemmas.Slice.Eq.{bytes_eq-Decides}
 use Rattle.sync_model.specs.Name.{is_name}
 use Rattle.sync_model.specs.declared.map_object.MapCall.{MapCall}
 use Rattle.sync_model.specs.declared.map_object.MapCall.TheVariants as map_calls
+use Rattle.sync_model.specs.declared.wait_call.WaitGroupCall.{WaitGroupCall}
+use Rattle.sync_model.specs.declared.wait_call.WaitGroupCall.TheVariants as group_calls
+use Rattle.sync_model.specs.declared.pool_call.PoolCall.{PoolCall}
+use Rattle.sync_model.specs.declared.pool_call.PoolCall.TheVariants as pool_calls
 use Rattle.sync_model.specs.declared.atomic_object.AtomicKind.{AtomicKind}
 use Rattle.sync_model.specs.declared.atomic_object.AtomicKind.TheVariants as types
 use Rattle.sync_model.specs.declared.atomic_object.Number.{Number}
@@ -18,9 +22,10 @@ use Rattle.sync_model.specs.declared.atomic_object.AtomicCall.TheVariants as ato
 use Rattle.sync_model.specs.SequentialAtomic.{has_bits, is_signed, is_of, is_atomic_call}
 use Rattle.workload.specs.declared.keyword.Verb.{Verb}
 use Rattle.workload.specs.declared.keyword.Verb.TheVariants as verbs
-use Rattle.workload.specs.declared.limits.TheConstants.{MAX_VALUE}
-use Rattle.workload.specs.Words.{map_verb, map_operands, atomic_verb, atomic_operands, number_word, number_of, is_number, is_number_to, is_signed_word, is_number_word}
-use Rattle.workload.specs.Draft.{is_map_call, is_value}
+use Rattle.workload.specs.declared.limits.TheConstants.{MAX_AMOUNT, MAX_VALUE}
+use Rattle.workload.specs.Plan.{is_amount}
+use Rattle.workload.specs.Words.{map_verb, map_operands, atomic_verb, atomic_operands, group_verb, group_operands, pool_verb, pool_operands, is_amount_word, number_word, number_of, is_number, is_number_to, is_signed_word, is_number_word}
+use Rattle.workload.specs.Draft.{is_map_call, is_group_call, is_pool_call, is_value}
 use Rattle.workload.proofs.Passing.{both, pair}
 use Rattle.workload.proofs.Numbers.{decimal-number_of, number_of-decimal, is_number-decimal}
 
@@ -213,3 +218,73 @@ atomic_call_spelled kind (atomic_calls.Or v) h = ap (λ (x : Number). Some (atom
 atomic_call_spelled kind (atomic_calls.CompareAndSwap v w) h =
     let numbers = both (is_of kind v) (is_of kind w) h in
     ap (λ (x : Number). Some (atomic_calls.CompareAndSwap x (number_at kind (number_word w)))) (number_spelled kind v numbers.0) ∙ ap (λ (x : Number). Some (atomic_calls.CompareAndSwap v x)) (number_spelled kind w numbers.1)
+
+-- ---- amounts
+
+pub amount_small : (z : ℤ) → is_amount z ≡ true → is_signed (2 ^ 63) z ≡ true
+amount_small (pos n) h = lt-ltb n (2 ^ 63) (omega (arith, leb-true n MAX_AMOUNT h))
+amount_small (negsuc n) h = lt-ltb n (2 ^ 63) (omega (arith, ltb-true n MAX_AMOUNT h))
+
+pub amount_spelled : (z : ℤ) → is_amount z ≡ true → signed_of (signed_decimal z) ≡ z
+amount_spelled z h = signed_spelled z (amount_small z h)
+
+signed_is_amount : (z : ℤ) → is_signed MAX_AMOUNT z ≡ true → is_amount z ≡ true
+signed_is_amount (pos n) h = le-leb n MAX_AMOUNT (omega (arith, ltb-true n MAX_AMOUNT h))
+signed_is_amount (negsuc n) h = h
+
+-- a word that is an amount
+pub amount_said : (word : List ℕ) → is_amount_word word ≡ true → (is_amount (signed_of word) ≡ true) × (signed_decimal (signed_of word) ≡ word)
+amount_said [] h = absurd cc
+amount_said (byte ∷ bytes) h =
+    elim (eqb byte 45) as (λ b. eqb byte 45 ≡ b → cond b (is_number_to MAX_AMOUNT bytes && nat_lt 0 (number_of bytes)) (is_number_to MAX_AMOUNT (byte ∷ bytes)) ≡ true → (is_amount (signed_of (byte ∷ bytes)) ≡ true) × (signed_decimal (signed_of (byte ∷ bytes)) ≡ byte ∷ bytes)) [
+      | true ↦ λ sign e.
+          let word : is_signed_word MAX_AMOUNT (byte ∷ bytes) ≡ true = rw sign e in
+          let said = signed_said MAX_AMOUNT (byte ∷ bytes) (omega arith) (omega arith) word in
+          (signed_is_amount (signed_of (byte ∷ bytes)) said.0, said.1)
+      | false ↦ λ other e.
+          let value = both (is_number (byte ∷ bytes)) (nat_le (number_of (byte ∷ bytes)) MAX_AMOUNT) e in
+          let most = leb-true (number_of (byte ∷ bytes)) MAX_AMOUNT value.1 in
+          let plain = no_sign (byte ∷ bytes) value.0 in
+          (ap is_amount plain ∙ value.1, ap signed_decimal plain ∙ decimal-number_of (byte ∷ bytes) value.0 (omega arith))
+    ] refl h
+
+-- an amount is spelled as one
+pub amount_passes : (z : ℤ) → is_amount z ≡ true → is_amount_word (signed_decimal z) ≡ true
+amount_passes (pos n) h =
+    let most = leb-true n MAX_AMOUNT h in
+    plain (decimal n) (unsigned_passes MAX_AMOUNT n most (omega arith))
+  where
+    plain : (word : List ℕ) → is_number_to MAX_AMOUNT word ≡ true → is_amount_word word ≡ true
+    plain [] h = absurd cc
+    plain (byte ∷ bytes) h =
+        elim (eqb byte 45) as (λ b. eqb byte 45 ≡ b → cond b (is_number_to MAX_AMOUNT bytes && nat_lt 0 (number_of bytes)) (is_number_to MAX_AMOUNT (byte ∷ bytes)) ≡ true) [
+          | true ↦ λ sign. absurd (no_digit byte bytes (eqb-true byte 45 sign) (both (is_number (byte ∷ bytes)) (nat_le (number_of (byte ∷ bytes)) MAX_AMOUNT) h).0)
+          | false ↦ λ other. h
+        ] refl
+amount_passes (negsuc n) h = signed_passes MAX_AMOUNT (negsuc n) (omega arith) h
+
+-- ---- calls of wait groups and pools
+
+-- the call of a wait group of this word with these operands
+abbrev pub group_call_at : Verb → List (List ℕ) → Option WaitGroupCall
+group_call_at verbs.Add (v ∷ []) = Some (group_calls.Add (signed_of v))
+group_call_at verbs.Done [] = Some group_calls.Done
+group_call_at verbs.Wait [] = Some group_calls.Wait
+group_call_at verb words = None
+
+pub group_call_spelled : (c : WaitGroupCall) → is_group_call c ≡ true → group_call_at (group_verb c) (group_operands c) ≡ Some c
+group_call_spelled (group_calls.Add z) h = ap (λ (y : ℤ). Some (group_calls.Add y)) (amount_spelled z h)
+group_call_spelled group_calls.Done h = refl
+group_call_spelled group_calls.Wait h = refl
+
+-- the call of a pool of this word with these operands
+abbrev pub pool_call_at : Verb → List (List ℕ) → Option PoolCall
+pool_call_at verbs.Put (v ∷ []) = Some (pool_calls.Put (number_of v))
+pool_call_at verbs.Get [] = Some pool_calls.Get
+pool_call_at verbs.Sweep [] = Some pool_calls.Sweep
+pool_call_at verb words = None
+
+pub pool_call_spelled : (c : PoolCall) → is_pool_call c ≡ true → pool_call_at (pool_verb c) (pool_operands c) ≡ Some c
+pool_call_spelled (pool_calls.Put v) h = ap (λ (n : ℕ). Some (pool_calls.Put n)) (value_back v h)
+pool_call_spelled pool_calls.Get h = refl
+pool_call_spelled pool_calls.Sweep h = refl

@@ -6,6 +6,7 @@ use Rattle.std.proofs.Math.Seq.{set-append_seam, get_or-append_seam}
 use Rattle.std.proofs.lemmas.Grind.{flat_map-append}
 use Rattle.std.proofs.lemmas.List.Sums.{sum_by-append}
 use Rattle.std.specs.Str.{bytes_eq}
+use Rattle.std.specs.Option.{option_map, option_map_or}
 use Rattle.std.proofs.lemmas.Bool.{eq-eqb, lt-ltb, le-leb, ltb-true}
 use Rattle.std.proofs.lemmas.List.{append-nil, length-append, length-map, length-take, length-drop, take-append-drop}
 use Rattle.std.proofs.lemmas.List.Folds.{list_any-append, list_all-append}
@@ -16,46 +17,59 @@ use Rattle.sync_model.specs.declared.atomic_object.AtomicKind.TheVariants as typ
 use Rattle.workload.specs.declared.limits.TheConstants.{MAX_CALLS, MAX_KEYS, MAX_RANGES, MAX_TURNS}
 use Rattle.workload.specs.declared.object.Declared.{Declared}
 use Rattle.workload.specs.declared.object.ObjectKind.{ObjectKind}
-use Rattle.workload.specs.declared.object.ObjectKind.TheVariants as kinds
+use Rattle.workload.specs.declared.object.ObjectWord.{ObjectWord}
+use Rattle.workload.specs.declared.object.ObjectWord.TheVariants as words
 use Rattle.workload.specs.declared.object.ObjectLine.{ObjectLine}
 use Rattle.workload.specs.declared.line.Line.TheVariants as lines
 use Rattle.workload.specs.declared.turn.Turn.{Turn}
-use Rattle.workload.specs.Plan.{Plan, object_of, has_call, is_on}
-use Rattle.workload.specs.Draft.{Draft, started, may_follow, declared_from, count_of, count_together, limit_of, names_object, is_call, is_item, keys_of, all_keys, distinct_count, key_count, call_count, is_range, range_count}
-use Rattle.workload.specs.Canonical.{name_of, call_line, script_lines, eights, canonical_lines}
-use Rattle.workload.specs.Readable.{may_declare, IsReadable}
+use Rattle.workload.specs.Plan.{Plan, word_of, reference_of, is_target, refers, object_of, has_call, is_on}
+use Rattle.workload.specs.Draft.{Draft, started, may_follow, declared_from, count_of, count_together, limit_of, is_kind, names_reference, names_object, is_call, is_item, keys_of, all_keys, distinct_count, key_count, call_count, is_range, range_count}
+use Rattle.workload.specs.Canonical.{name_of, reference_name, object_line, call_line, script_lines, eights, canonical_lines}
+use Rattle.workload.specs.Readable.{may_join, may_declare, IsReadable}
 use Rattle.workload.proofs.Passing.{both, pair, not_true}
 use Rattle.workload.proofs.KeyLemmas.{distinct_more, distinct_same}
-use Rattle.workload.proofs.DraftLemmas.{valid_parts}
+use Rattle.workload.proofs.DraftLemmas.{valid_parts, declare_more}
 use Rattle.workload.proofs.PrintLemmas.{eights_first}
 use Rattle.workload.proofs.FollowOn.{FollowOn, follow_append, follow_to}
 
 -- ---- objects
 
-pub objects_follow : (os : List ObjectLine) (d : Draft) → may_declare d.plan.objects os ≡ true → FollowOn d (map (λ o. lines.Object o) os) (record d { plan = record d.plan { objects = d.plan.objects ++ os } })
-objects_follow [] d h = ap (λ (x : List ObjectLine). record d { plan = record d.plan { objects = x } }) (append-nil d.plan.objects)
-objects_follow (o ∷ os) d h =
-    let here = is_name o.name && (not (is_some (declared_from 0 o.name d.plan.objects)) && nat_lt (count_of o.kind d.plan.objects) (limit_of o.kind)) in
-    let parts = both here (may_declare (d.plan.objects ++ o ∷ []) os) h in
-    let next : Draft = record d { plan = record d.plan { objects = d.plan.objects ++ o ∷ [] } } in (
-      parts.0,
-      tt,
-      follow_to (map (λ x. lines.Object x) os) next _ _
-          (ap (λ (x : List ObjectLine). record d { plan = record d.plan { objects = x } }) (append_assoc d.plan.objects (o ∷ []) os))
-          (objects_follow os next parts.1),
-    )
+-- what an object needs that may be declared
+record Joins (others : List ObjectLine) (o : ObjectLine) : Type 0 where
+  name : is_name o.name ≡ true
+  new : is_some (declared_from 0 o.name others) ≡ false
+  reference : refers others o.kind ≡ true
+  kind : is_kind o.kind ≡ true
+  room : nat_lt (count_of (word_of o.kind) others) (limit_of (word_of o.kind)) ≡ true
 
--- how many objects count with a kind: those of one more object too
-counts_more : (k : ObjectKind) (others : List ObjectLine) (o : ObjectLine) → count_of k (others ++ o ∷ []) ≡ count_of k others + cond (count_together k o.kind) 1 0
-counts_more k others o = omega (arith, sum_by-append (λ (x : ObjectLine). cond (count_together k x.kind) 1 0) others (o ∷ []))
+joins : (others : List ObjectLine) (o : ObjectLine) → may_join others o ≡ true → Joins others o
+joins others o e =
+    let room = nat_lt (count_of (word_of o.kind) others) (limit_of (word_of o.kind)) in
+    let new = not (is_some (declared_from 0 o.name others)) in
+    let reference = refers others o.kind in
+    let p1 = both (is_name o.name) (new && (reference && (is_kind o.kind && room))) e in
+    let p2 = both new (reference && (is_kind o.kind && room)) p1.1 in
+    let p3 = both reference (is_kind o.kind && room) p2.1 in
+    let p4 = both (is_kind o.kind) room p3.1 in
+    record { name = p1.0; new = not_true (is_some (declared_from 0 o.name others)) p2.0; reference = p3.0; kind = p4.0; room = p4.1 }
 
--- kinds that count together have one limit, and one count
-same_limit : (k l : ObjectKind) (os : List ObjectLine) → count_together k l ≡ true → (count_of k os ≡ count_of l os) × (limit_of k ≡ limit_of l)
-same_limit kinds.Map kinds.Map os e = (refl, refl)
-same_limit (kinds.Atomic k) (kinds.Atomic l) os e = (refl, refl)
-same_limit kinds.Mutex kinds.Mutex os e = (refl, refl)
-same_limit kinds.RwMutex kinds.RwMutex os e = (refl, refl)
-same_limit k l os e = absurd cc
+-- how many objects count with a word: those of one more object too
+counts_more : (w : ObjectWord) (others : List ObjectLine) (o : ObjectLine) → count_of w (others ++ o ∷ []) ≡ count_of w others + cond (count_together w (word_of o.kind)) 1 0
+counts_more w others o = omega (arith, sum_by-append (λ (x : ObjectLine). cond (count_together w (word_of x.kind)) 1 0) others (o ∷ []))
+
+-- words that count together have one limit, and one count
+same_limit : (v w : ObjectWord) (os : List ObjectLine) → count_together v w ≡ true → (count_of v os ≡ count_of w os) × (limit_of v ≡ limit_of w)
+same_limit words.Map words.Map os e = (refl, refl)
+same_limit (words.Atomic k) (words.Atomic l) os e = (refl, refl)
+same_limit words.Mutex words.Mutex os e = (refl, refl)
+same_limit words.RwMutex words.RwMutex os e = (refl, refl)
+same_limit words.Cond words.Cond os e = (refl, refl)
+same_limit words.WaitGroup words.WaitGroup os e = (refl, refl)
+same_limit words.Once words.Once os e = (refl, refl)
+same_limit words.OnceFunc words.OnceFunc os e = (refl, refl)
+same_limit words.OnceValue words.OnceValue os e = (refl, refl)
+same_limit words.Pool words.Pool os e = (refl, refl)
+same_limit v w os e = absurd cc
 
 counts_one : (b : Bool) → b ≡ true → ◌≡◌ {A = ℕ} (cond b 1 0) 1
 counts_one true e = refl
@@ -65,50 +79,90 @@ counts_none : (b : Bool) → b ≡ false → ◌≡◌ {A = ℕ} (cond b 1 0) 0
 counts_none true e = absurd cc
 counts_none false e = refl
 
--- one more object within its limit keeps each kind within its own
-limit_kept : (k : ObjectKind) (others : List ObjectLine) (o : ObjectLine) → nat_lt (count_of o.kind others) (limit_of o.kind) ≡ true → count_of k others ≤ limit_of k → count_of k (others ++ o ∷ []) ≤ limit_of k
-limit_kept k others o room within =
-    elim (count_together k o.kind) as (λ b. count_together k o.kind ≡ b → count_of k (others ++ o ∷ []) ≤ limit_of k) [
+-- one more object within its limit keeps each word within its own
+limit_kept : (w : ObjectWord) (others : List ObjectLine) (o : ObjectLine) → nat_lt (count_of (word_of o.kind) others) (limit_of (word_of o.kind)) ≡ true → count_of w others ≤ limit_of w → count_of w (others ++ o ∷ []) ≤ limit_of w
+limit_kept w others o room within =
+    let word = word_of o.kind in
+    elim (count_together w word) as (λ b. count_together w word ≡ b → count_of w (others ++ o ∷ []) ≤ limit_of w) [
       | true ↦ λ t.
-          let same = same_limit k o.kind others t in
-          let one : ◌≡◌ {A = ℕ} (cond (count_together k o.kind) 1 0) 1 = counts_one (count_together k o.kind) t in
-          omega (arith, counts_more k others o, one, same.0, same.1, ltb-true (count_of o.kind others) (limit_of o.kind) room)
+          let same = same_limit w word others t in
+          let one : ◌≡◌ {A = ℕ} (cond (count_together w word) 1 0) 1 = counts_one (count_together w word) t in
+          omega (arith, counts_more w others o, one, same.0, same.1, ltb-true (count_of word others) (limit_of word) room)
       | false ↦ λ f.
-          let none : ◌≡◌ {A = ℕ} (cond (count_together k o.kind) 1 0) 0 = counts_none (count_together k o.kind) f in
-          omega (arith, counts_more k others o, none, within)
+          let none : ◌≡◌ {A = ℕ} (cond (count_together w word) 1 0) 0 = counts_none (count_together w word) f in
+          omega (arith, counts_more w others o, none, within)
     ] refl
 
--- each kind of object keeps its limit
-limits_kept : (k : ObjectKind) (os others : List ObjectLine) → count_of k others ≤ limit_of k → may_declare others os ≡ true → count_of k (others ++ os) ≤ limit_of k
-limits_kept k [] others within h = subst (λ (x : List ObjectLine). count_of k x ≤ limit_of k) (sym (append-nil others)) within
-limits_kept k (o ∷ os) others within h =
-    let room = nat_lt (count_of o.kind others) (limit_of o.kind) in
-    let new = not (is_some (declared_from 0 o.name others)) in
-    let parts = both (is_name o.name && (new && room)) (may_declare (others ++ o ∷ []) os) h in
-    let fits = (both new room (both (is_name o.name) (new && room) parts.0).1).1 in
-    subst (λ (x : List ObjectLine). count_of k x ≤ limit_of k) (append_assoc others (o ∷ []) os) (limits_kept k os (others ++ o ∷ []) (limit_kept k others o fits within) parts.1)
+-- objects of each word keep their limit
+limits_kept : (w : ObjectWord) (os others : List ObjectLine) → count_of w others ≤ limit_of w → may_declare others os ≡ true → count_of w (others ++ os) ≤ limit_of w
+limits_kept w [] others within h = subst (λ (x : List ObjectLine). count_of w x ≤ limit_of w) (sym (append-nil others)) within
+limits_kept w (o ∷ os) others within h =
+    let parts = both (may_join others o) (may_declare (others ++ o ∷ []) os) h in
+    let fits = (joins others o parts.0).room in
+    subst (λ (x : List ObjectLine). count_of w x ≤ limit_of w) (append_assoc others (o ∷ []) os) (limits_kept w os (others ++ o ∷ []) (limit_kept w others o fits within) parts.1)
 
--- each object counts with one kind
-kinds_counted : (os : List ObjectLine) → length os ≡ count_of kinds.Map os + (count_of (kinds.Atomic types.Bool) os + (count_of kinds.Mutex os + count_of kinds.RwMutex os))
-kinds_counted [] = refl
-kinds_counted (o ∷ os) =
-    let with_one = λ (k : ObjectKind). sum_by-append (λ (x : ObjectLine). cond (count_together k x.kind) 1 0) (o ∷ []) os in
-    omega (arith, with_one kinds.Map, with_one (kinds.Atomic types.Bool), with_one kinds.Mutex, with_one kinds.RwMutex, one_kind o.kind, kinds_counted os)
-  where
-    one_if : ObjectKind → ObjectKind → ℕ
-    one_if k l = cond (count_together k l) 1 0
+-- the counts of all words together, of which that of one atomic type stands for all
+abbrev counts : List ObjectLine → ℕ
+counts os =
+    count_of words.Map os + (count_of (words.Atomic types.Bool) os + (count_of words.Mutex os + (count_of words.RwMutex os + (count_of words.Cond os
+    + (count_of words.WaitGroup os + (count_of words.Once os + (count_of words.OnceFunc os + (count_of words.OnceValue os + count_of words.Pool os))))))))
 
-    one_kind : (k : ObjectKind) → one_if kinds.Map k + (one_if (kinds.Atomic types.Bool) k + (one_if kinds.Mutex k + one_if kinds.RwMutex k)) ≡ 1
-    one_kind kinds.Map = refl
-    one_kind (kinds.Atomic k) = refl
-    one_kind kinds.Mutex = refl
-    one_kind kinds.RwMutex = refl
+abbrev one_if : ObjectWord → ObjectWord → ℕ
+one_if v w = cond (count_together v w) 1 0
 
--- there are at most 16 maps, 64 atomics, 32 mutexes and 32 reader/writer mutexes
-few_objects : (os : List ObjectLine) → may_declare [] os ≡ true → length os ≤ 144
+one_word : (w : ObjectWord)
+    → one_if words.Map w + (one_if (words.Atomic types.Bool) w + (one_if words.Mutex w + (one_if words.RwMutex w + (one_if words.Cond w
+    + (one_if words.WaitGroup w + (one_if words.Once w + (one_if words.OnceFunc w + (one_if words.OnceValue w + one_if words.Pool w)))))))) ≡ 1
+one_word words.Map = refl
+one_word (words.Atomic k) = refl
+one_word words.Mutex = refl
+one_word words.RwMutex = refl
+one_word words.Cond = refl
+one_word words.WaitGroup = refl
+one_word words.Once = refl
+one_word words.OnceFunc = refl
+one_word words.OnceValue = refl
+one_word words.Pool = refl
+
+-- each object counts with one word
+words_counted : (os : List ObjectLine) → length os ≡ counts os
+words_counted [] = refl
+words_counted (o ∷ os) =
+    let with_one = λ (w : ObjectWord). sum_by-append (λ (x : ObjectLine). cond (count_together w (word_of x.kind)) 1 0) (o ∷ []) os in
+    omega (
+      arith,
+      with_one words.Map,
+      with_one (words.Atomic types.Bool),
+      with_one words.Mutex,
+      with_one words.RwMutex,
+      with_one words.Cond,
+      with_one words.WaitGroup,
+      with_one words.Once,
+      with_one words.OnceFunc,
+      with_one words.OnceValue,
+      with_one words.Pool,
+      one_word (word_of o.kind),
+      words_counted os,
+    )
+
+-- there are at most 16 maps, 64 atomics, and 32 objects of each other word
+few_objects : (os : List ObjectLine) → may_declare [] os ≡ true → length os ≤ 336
 few_objects os h =
-    let few = λ (k : ObjectKind). limits_kept k os [] (omega arith) h in
-    omega (arith, kinds_counted os, few kinds.Map, few (kinds.Atomic types.Bool), few kinds.Mutex, few kinds.RwMutex)
+    let few = λ (w : ObjectWord). limits_kept w os [] (omega arith) h in
+    omega (
+      arith,
+      words_counted os,
+      few words.Map,
+      few (words.Atomic types.Bool),
+      few words.Mutex,
+      few words.RwMutex,
+      few words.Cond,
+      few words.WaitGroup,
+      few words.Once,
+      few words.OnceFunc,
+      few words.OnceValue,
+      few words.Pool,
+    )
 
 -- ---- names
 
@@ -131,23 +185,57 @@ same_object p o e = cc
 found_in : (os others : List ObjectLine) (k : ℕ) (o : ObjectLine) → may_declare others os ≡ true → slice_get os k ≡ Some o → (is_name o.name ≡ true) × (declared_from 0 o.name (others ++ os) ≡ Some (record { place = length others + k; kind = o.kind }))
 found_in [] others k o h g = absurd cc
 found_in (p ∷ os) others zero o h g =
-    let room = nat_lt (count_of p.kind others) (limit_of p.kind) in
-    let new = not (is_some (declared_from 0 p.name others)) in
-    let parts = both (is_name p.name && (new && room)) (may_declare (others ++ p ∷ []) os) h in
-    let named = both (is_name p.name) (new && room) parts.0 in
-    let absent = none_is (declared_from 0 p.name others) (not_true (is_some (declared_from 0 p.name others)) (both new room named.1).0) in
+    let one = joins others p (both (may_join others p) (may_declare (others ++ p ∷ []) os) h).0 in
+    let absent = none_is (declared_from 0 p.name others) one.new in
     let here : declared_from 0 p.name (others ++ p ∷ os) ≡ Some (record { place = length others + 0; kind = p.kind }) =
     declared_append 0 p.name others (p ∷ os) absent
     ∙ ap (λ (b : Bool). cond b (Some (record { place = 0 + length others; kind = p.kind })) (declared_from (0 + length others + 1) p.name os)) ((bytes_eq-Decides p.name p.name).1 refl)
     ∙ ap (λ (n : ℕ). Some (record { place = n; kind = p.kind })) (omega arith) in
-    subst (λ (x : ObjectLine). (is_name x.name ≡ true) × (declared_from 0 x.name (others ++ p ∷ os) ≡ Some (record { place = length others + 0; kind = x.kind }))) (same_object p o g) (named.0, here)
+    subst (λ (x : ObjectLine). (is_name x.name ≡ true) × (declared_from 0 x.name (others ++ p ∷ os) ≡ Some (record { place = length others + 0; kind = x.kind }))) (same_object p o g) (one.name, here)
 found_in (p ∷ os) others (suc k) o h g =
-    let here = is_name p.name && (not (is_some (declared_from 0 p.name others)) && nat_lt (count_of p.kind others) (limit_of p.kind)) in
-    let parts = both here (may_declare (others ++ p ∷ []) os) h in
-    let rest = found_in os (others ++ p ∷ []) k o parts.1 g in (
+    let rest = found_in os (others ++ p ∷ []) k o (both (may_join others p) (may_declare (others ++ p ∷ []) os) h).1 g in (
       rest.0,
       ap (declared_from 0 o.name) (sym (append_assoc others (p ∷ []) os)) ∙ rest.1
           ∙ ap (λ (n : ℕ). Some (record { place = n; kind = o.kind })) (omega (arith, length-append others (p ∷ []))),
+    )
+
+-- ---- the lines of the objects
+
+get_front : (os more : List ObjectLine) (place : ℕ) (o : ObjectLine) → slice_get os place ≡ Some o → slice_get (os ++ more) place ≡ Some o
+get_front [] more place o h = absurd cc
+get_front (p ∷ os) more zero o h = h
+get_front (p ∷ os) more (suc place) o h = get_front os more place o h
+
+-- an object that refers to one of those before it names it, whatever stands behind
+reference_named : (d : Draft) (kind : ObjectKind) (more : List ObjectLine) → may_declare [] d.plan.objects ≡ true → refers d.plan.objects kind ≡ true → names_reference d kind (reference_name (d.plan.objects ++ more) kind) ≡ true
+reference_named d kind more new h = at (reference_of kind) refl h
+  where
+    there : (place : ℕ) (o : Option ObjectLine) → reference_of kind ≡ Some place → slice_get d.plan.objects place ≡ o → option_map_or (λ object. is_target kind object.kind) o false ≡ true
+        → names_reference d kind (Some (name_of (slice_get (d.plan.objects ++ more) place))) ≡ true
+    there place None is at h = absurd cc
+    there place (Some target) is at h =
+        let found = found_in d.plan.objects [] place target new at in
+        let front = get_front d.plan.objects more place target at in
+        rw (front, found.0, found.1, is) (pair (eqb (0 + place) place) (is_target kind target.kind) (eq-eqb (0 + place) place (omega arith)) h)
+
+    at : (r : Option ℕ) → reference_of kind ≡ r → option_map_or (λ place. option_map_or (λ object. is_target kind object.kind) (slice_get d.plan.objects place) false) r true ≡ true
+        → names_reference d kind (option_map (λ place. name_of (slice_get (d.plan.objects ++ more) place)) r) ≡ true
+    at None is h = rw is refl
+    at (Some place) is h = there place (slice_get d.plan.objects place) is refl h
+
+pub objects_follow : (all os : List ObjectLine) (d : Draft) → d.plan.objects ++ os ≡ all → may_declare [] d.plan.objects ≡ true → may_declare d.plan.objects os ≡ true
+    → FollowOn d (map (object_line all) os) (record d { plan = record d.plan { objects = d.plan.objects ++ os } })
+objects_follow all [] d is new h = ap (λ (x : List ObjectLine). record d { plan = record d.plan { objects = x } }) (append-nil d.plan.objects)
+objects_follow all (o ∷ os) d is new h =
+    let parts = both (may_join d.plan.objects o) (may_declare (d.plan.objects ++ o ∷ []) os) h in
+    let next : Draft = record d { plan = record d.plan { objects = d.plan.objects ++ o ∷ [] } } in
+    let one = joins d.plan.objects o parts.0 in
+    let named : names_reference d o.kind (reference_name all o.kind) ≡ true = subst (λ (x : List ObjectLine). names_reference d o.kind (reference_name x o.kind) ≡ true) is (reference_named d o.kind (o ∷ os) new one.reference) in (
+      rw (one.name, one.new, named, one.kind, one.room) refl,
+      tt,
+      follow_to (map (object_line all) os) next _ _
+          (ap (λ (x : List ObjectLine). record d { plan = record d.plan { objects = x } }) (append_assoc d.plan.objects (o ∷ []) os))
+          (objects_follow all os next (append_assoc d.plan.objects (o ∷ []) os ∙ is) (declare_more d.plan.objects [] o new parts.0) parts.1),
     )
 
 -- ---- limits
@@ -380,11 +468,11 @@ script_count objects n (s ∷ ss) =
 pub canonical_follows : (plan : Plan) → IsReadable plan → (e : Draft) × FollowOn (started plan.workers) (canonical_lines plan) e × (e.plan ≡ plan)
 canonical_follows plan h =
     let v = valid_parts plan h.valid in
-    let first = objects_follow plan.objects (started plan.workers) h.objects in
+    let first = objects_follow plan.objects plan.objects (started plan.workers) refl refl h.objects in
     let second = scripts_follow plan.workers plan.objects [] plan.scripts [] None h.objects (omega (arith, v.scripts)) (record { on = v.calls; fits = h.calls; room = h.call_room; keys = h.key_room; ranges = h.range_room }) in
     let third = schedule_follows (length plan.schedule) plan.workers plan.objects plan.scripts second.0 plan.schedule [] (omega arith) h.items (omega (arith, h.turn_room)) in
     let start : at plan.workers plan.objects [] (replicate plan.workers []) None ≡ at plan.workers plan.objects [] (replicate (length plan.scripts) []) None = ap (λ (n : ℕ). at plan.workers plan.objects [] (replicate n []) None) (sym v.scripts) in
-    let objects = map (λ o. lines.Object o) plan.objects in
+    let objects = map (object_line plan.objects) plan.objects in
     let scripts = script_lines plan.objects 0 plan.scripts in
     let schedule = map (λ x. lines.Schedule x) (eights 7 plan.schedule) in (
       at plan.workers plan.objects plan.schedule plan.scripts second.0,
@@ -393,7 +481,7 @@ canonical_follows plan h =
     )
 
 -- and are not many
-pub canonical_count : (plan : Plan) → IsReadable plan → length (canonical_lines plan) ≤ 32676
+pub canonical_count : (plan : Plan) → IsReadable plan → length (canonical_lines plan) ≤ 32868
 canonical_count plan h =
     let v = valid_parts plan h.valid in
     omega (
@@ -403,9 +491,9 @@ canonical_count plan h =
       h.call_room,
       h.turn_room,
       few_objects plan.objects h.objects,
-      length-append (map (λ o. lines.Object o) plan.objects) (script_lines plan.objects 0 plan.scripts ++ map (λ x. lines.Schedule x) (eights 7 plan.schedule)),
+      length-append (map (object_line plan.objects) plan.objects) (script_lines plan.objects 0 plan.scripts ++ map (λ x. lines.Schedule x) (eights 7 plan.schedule)),
       length-append (script_lines plan.objects 0 plan.scripts) (map (λ x. lines.Schedule x) (eights 7 plan.schedule)),
-      length-map plan.objects (λ o. lines.Object o),
+      length-map plan.objects (object_line plan.objects),
       length-map (eights 7 plan.schedule) (λ x. lines.Schedule x),
       script_count plan.objects 0 plan.scripts,
       eights_count 7 plan.schedule (omega arith),

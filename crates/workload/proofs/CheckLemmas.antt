@@ -1,22 +1,23 @@
 -- Lists of checks, one after the other.
-use Rattle.std.proofs.Common.{◌≡◌, ℕ, true, false, cond, ◌+◌, List, [], ◌∷◌, ◌++◌, map, length, get_or, arith, Option, Some, None, refl, sym, ap, ◌∙◌}
+use Rattle.std.proofs.Common.{◌≡◌, ℕ, Bool, eqb, subst, true, false, cond, ◌+◌, List, [], ◌∷◌, ◌++◌, map, length, get_or, arith, Option, Some, None, refl, sym, ap, ◌∙◌}
 use Rattle.std.specs.List.{flat_map}
 use Rattle.std.specs.Prelude.{is_some, nat_lt, nat_le}
 use Rattle.workload.specs.declared.limits.TheConstants.{MAX_TURNS}
 use Rattle.workload.specs.declared.keyword.Keyword.TheVariants as keywords
-use Rattle.workload.specs.declared.reason.Reason.TheVariants.{LimitReached}
+use Rattle.workload.specs.declared.reason.Reason.TheVariants.{LimitReached, WrongNumberOfWords}
 use Rattle.sync_model.specs.Name.{is_name}
 use Rattle.workload.specs.declared.fault.LineFault.{LineFault}
 use Rattle.workload.specs.declared.fault.LineFault.TheVariants as faults
 use Rattle.workload.specs.declared.keyword.Operand.{Operand}
 use Rattle.workload.specs.declared.keyword.Verb.{Verb}
 use Rattle.workload.specs.declared.object.Declared.{Declared}
+use Rattle.workload.specs.declared.object.ObjectWord.{ObjectWord}
 use Rattle.workload.specs.declared.reason.Reason.{Reason}
 use Rattle.workload.specs.declared.turn.Turn.{Turn}
 use Rattle.workload.specs.Words.{turn_word}
-use Rattle.workload.specs.Draft.{Draft, declared}
-use Rattle.workload.specs.Checks.{Check, first_failing, form_checks, limit_checks, form_of, ranges_in, call_checks, line_checks, item_checks}
-use Rattle.workload.specs.LineResult.{IsFault, form_words, PassesWith}
+use Rattle.workload.specs.Draft.{Draft, declared, count_of, limit_of}
+use Rattle.workload.specs.Checks.{Check, first_failing, declaration_checks, parameters_of, parameters_checks, form_checks, limit_checks, form_of, ranges_in, call_checks, line_checks, item_checks}
+use Rattle.workload.specs.LineResult.{IsFault, form_words, parameter_words, PassesWith}
 
 -- checks behind one that fails don't count
 pub fails_first : (xs ys : List Check) (r : Reason) → first_failing xs ≡ Some r → first_failing (xs ++ ys) ≡ Some r
@@ -114,3 +115,30 @@ pub one_item : {X : Type 0} (xs : List X) (d : X) → length xs ≡ 1 → xs ≡
 one_item [] d e = absurd (omega arith)
 one_item (x ∷ []) d e = refl
 one_item (x ∷ y ∷ xs) d e = absurd (omega arith)
+
+-- ---- the line of an object
+
+behind_first : (b : Bool) (why : Reason) (checks : List Check) (o : Option Reason) → b ≡ true → first_failing ((b, why) ∷ checks) ≡ o → first_failing checks ≡ o
+behind_first b why checks o passes h = subst (λ (x : Bool). cond x (first_failing checks) (Some why) ≡ o) passes h
+
+front_passes : (d : Draft) (word : ObjectWord) (name : List ℕ) (words : List (List ℕ)) (o : Option Reason) → eqb (length words) (length (parameters_of word)) ≡ true → is_name name ≡ true → is_some (declared d name) ≡ false
+    → first_failing (parameters_checks d (parameters_of word) words ++ (nat_lt (count_of word d.plan.objects) (limit_of word), LimitReached) ∷ []) ≡ o → first_failing (declaration_checks d word (name ∷ words)) ≡ o
+front_passes d word name words o count named new h = rw (count, named, new) h
+
+-- a fault in the words behind the name is one of the line
+pub object_fails : (d : Draft) (word : ObjectWord) (name : List ℕ) (words : List (List ℕ)) (f : LineFault) → eqb (length words) (length (parameters_of word)) ≡ true → is_name name ≡ true → is_some (declared d name) ≡ false
+    → IsFault (parameter_words d word words) f → IsFault (declaration_checks d word (name ∷ words)) f
+object_fails d word name words faults.Memory count named new h = tt
+object_fails d word name words (faults.Refused r) count named new h =
+    let checks = parameters_checks d (parameters_of word) words in
+    let fails = behind_first (eqb (length words) (length (parameters_of word))) WrongNumberOfWords checks (Some r) count h in
+    front_passes d word name words (Some r) count named new (fails_first checks ((nat_lt (count_of word d.plan.objects) (limit_of word), LimitReached) ∷ []) r fails)
+
+-- words that pass leave the limit
+pub object_full : (d : Draft) (word : ObjectWord) (name : List ℕ) (words : List (List ℕ)) → eqb (length words) (length (parameters_of word)) ≡ true → is_name name ≡ true → is_some (declared d name) ≡ false
+    → first_failing (parameter_words d word words) ≡ None → nat_lt (count_of word d.plan.objects) (limit_of word) ≡ false → first_failing (declaration_checks d word (name ∷ words)) ≡ Some LimitReached
+object_full d word name words count named new h full =
+    let checks = parameters_checks d (parameters_of word) words in
+    let limit : List Check = (nat_lt (count_of word d.plan.objects) (limit_of word), LimitReached) ∷ [] in
+    let passes = behind_first (eqb (length words) (length (parameters_of word))) WrongNumberOfWords checks None count h in
+    front_passes d word name words (Some LimitReached) count named new (passes_first checks limit passes ∙ ap (λ (b : Bool). cond b None (Some LimitReached)) full)

@@ -1,7 +1,7 @@
 -- A draft with one more line keeps its tables.
-use Rattle.std.proofs.Common.{◌≡◌, ℕ, zero, suc, ◌+◌, ◌-◌, ◌<◌, ◌≤◌, Bool, true, false, cond, eqb, ◌&&◌, not, List, [], ◌∷◌, ◌++◌, length, get_or, set, replicate, Option, Some, None, refl, sym, ap, subst, ◌∙◌, append_assoc, arith}
-use Rattle.std.specs.Prelude.{is_some, nat_lt, slice_get, count_by}
-use Rattle.std.specs.Option.{option_or}
+use Rattle.std.proofs.Common.{◌≡◌, ℕ, zero, suc, ◌+◌, ◌-◌, ◌<◌, ◌≤◌, Bool, true, false, cond, eqb, ◌&&◌, List, [], ◌∷◌, ◌++◌, length, get_or, set, replicate, Option, Some, None, refl, sym, ap, subst, ◌∙◌, append_assoc, arith}
+use Rattle.std.specs.Prelude.{is_some, slice_get, count_by}
+use Rattle.std.specs.Option.{option_or, option_map_or}
 use Rattle.std.specs.List.{list_all}
 use Rattle.std.specs.Str.{bytes_eq}
 use Rattle.std.specs.Ordering.{nat_cmp}
@@ -9,7 +9,6 @@ use Rattle.std.specs.Cmp.Lexicographic.{slice_cmp, nat_list_cmp_total}
 use Rattle.std.specs.FinMap.{FinMap, get, insert, empty, from_entries, get-empty, get-insert}
 use Rattle.std.proofs.lemmas.Bool.{eqb-true, eq-eqb, ltb-true, leb-true}
 use Rattle.std.proofs.lemmas.List.Folds.{list_any-append}
-use Rattle.sync_model.specs.Name.{is_name}
 use Rattle.workload.specs.declared.limits.TheConstants.{MAX_CALLS, MAX_KEYS, MAX_RANGES, MAX_TURNS, MAX_WORKERS}
 use Rattle.std.proofs.lemmas.Slice.Eq.{bytes_eq-Decides}
 use Rattle.std.proofs.lemmas.Map.Text.{is_eq-slice_cmp}
@@ -21,12 +20,14 @@ use Rattle.workload.specs.declared.object.Declared.{Declared}
 use Rattle.workload.specs.declared.line.Line.TheVariants as lines
 use Rattle.workload.specs.declared.turn.Turn.{Turn}
 use Rattle.workload.specs.declared.turn.Turn.TheVariants as turns
-use Rattle.workload.specs.Plan.{Plan, object_of, has_call, is_on, is_turn, is_valid}
-use Rattle.workload.specs.Draft.{declared_from, names_object, is_call, is_item, may_follow, count_of, limit_of, call_count, key_count, keys_of, all_keys, distinct_count, is_range, range_count}
-use Rattle.workload.specs.Readable.{may_declare}
+use Rattle.workload.specs.declared.object.ObjectKind.{ObjectKind}
+use Rattle.workload.specs.Plan.{Plan, reference_of, is_target, refers, object_of, has_call, is_on, is_turn, is_valid}
+use Rattle.workload.specs.Draft.{Draft, names_reference, declared_from, names_object, is_call, is_item, may_follow, call_count, key_count, keys_of, all_keys, distinct_count, is_range, range_count}
+use Rattle.workload.specs.Readable.{may_join, may_declare}
 use Rattle.workload.specs.Index.{IsIndexed, with_keys, marks}
 use Rattle.workload.proofs.Passing.{both, pair, all_mono, all_set, all_append, all_at}
 use Rattle.workload.proofs.Follows.{object_follows, schedule_follows, call_follows}
+use Rattle.workload.proofs.References.{some_reference}
 use Rattle.workload.proofs.KeyLemmas.{keys_with_call, keys_more, distinct_same}
 
 or_none : (o : Option Declared) → option_or o None ≡ o
@@ -60,6 +61,32 @@ found_at i name (p ∷ os) d e =
           (rest.0, omega (arith, rest.1), rw next rest.2, rest.3)
     ] e
 
+-- an object that refers to one by its name refers to it
+pub names_refers : (d : Draft) (kind : ObjectKind) (to : Option (List ℕ)) → names_reference d kind to ≡ true → refers d.plan.objects kind ≡ true
+names_refers d kind to h = at (reference_of kind) refl
+  where
+    at : (r : Option ℕ) → reference_of kind ≡ r → refers d.plan.objects kind ≡ true
+    at None is = rw is refl
+    at (Some place) is =
+        let named = some_reference d kind place to is h in
+        let there = found_at 0 named.name d.plan.objects named.found named.found_is in
+        let here : named.found.place - 0 ≡ place = omega (arith, named.place_is) in
+        let object : slice_get d.plan.objects place ≡ Some there.0 = ap (slice_get d.plan.objects) (sym here) ∙ there.2 in
+        rw (is, object, there.3) named.target
+
+-- and to the same one where one more is declared
+pub refers_more : (os : List ObjectLine) (o : ObjectLine) (kind : ObjectKind) → refers os kind ≡ true → refers (os ++ o ∷ []) kind ≡ true
+refers_more os o kind h = at (reference_of kind) h
+  where
+    there : (os : List ObjectLine) (place : ℕ) → option_map_or (λ object. is_target kind object.kind) (slice_get os place) false ≡ true → option_map_or (λ object. is_target kind object.kind) (slice_get (os ++ o ∷ []) place) false ≡ true
+    there [] place h = absurd cc
+    there (p ∷ os) zero h = h
+    there (p ∷ os) (suc place) h = there os place h
+
+    at : (r : Option ℕ) → option_map_or (λ place. option_map_or (λ object. is_target kind object.kind) (slice_get os place) false) r true ≡ true → option_map_or (λ place. option_map_or (λ object. is_target kind object.kind) (slice_get (os ++ o ∷ []) place) false) r true ≡ true
+    at None h = refl
+    at (Some place) h = there os place h
+
 -- a call whose name is that of its object is on it
 pub names_is_on : (name : List ℕ) (os : List ObjectLine) (call : Call) → names_object (declared_from 0 name os) call ≡ true → is_on (slice_get os (object_of call)) call ≡ true
 names_is_on name os call e =
@@ -83,19 +110,23 @@ pub record IsValid (plan : Plan) : Type 0 where
   pub scripts : length plan.scripts ≡ plan.workers
   pub calls : list_all (list_all (λ call. is_on (slice_get plan.objects (object_of call)) call)) plan.scripts ≡ true
   pub turns : list_all (is_turn plan.workers) plan.schedule ≡ true
+  pub references : list_all (λ object. refers plan.objects object.kind) plan.objects ≡ true
 
 pub valid_parts : (plan : Plan) → is_valid plan ≡ true → IsValid plan
 valid_parts plan e =
     let calls = list_all (list_all (λ call. is_on (slice_get plan.objects (object_of call)) call)) plan.scripts in
     let turns = list_all (is_turn plan.workers) plan.schedule in
-    let first = both (eqb (length plan.scripts) plan.workers) (calls && turns) e in
-    let second = both calls turns first.1 in
-    record { scripts = eqb-true (length plan.scripts) plan.workers first.0; calls = second.0; turns = second.1 }
+    let references = list_all (λ object. refers plan.objects object.kind) plan.objects in
+    let first = both (eqb (length plan.scripts) plan.workers) (calls && (turns && references)) e in
+    let second = both calls (turns && references) first.1 in
+    let third = both turns references second.1 in
+    record { scripts = eqb-true (length plan.scripts) plan.workers first.0; calls = second.0; turns = third.0; references = third.1 }
 
 pub valid_from : (plan : Plan) → IsValid plan → is_valid plan ≡ true
 valid_from plan v =
     pair (eqb (length plan.scripts) plan.workers) _ (eq-eqb (length plan.scripts) plan.workers v.scripts)
-    (pair (list_all (list_all (λ call. is_on (slice_get plan.objects (object_of call)) call)) plan.scripts) (list_all (is_turn plan.workers) plan.schedule) v.calls v.turns)
+    (pair (list_all (list_all (λ call. is_on (slice_get plan.objects (object_of call)) call)) plan.scripts) _ v.calls
+    (pair (list_all (is_turn plan.workers) plan.schedule) (list_all (λ object. refers plan.objects object.kind) plan.objects) v.turns v.references))
 
 no_name : (q name : List ℕ) (os : List ObjectLine) → is_some (declared_from 0 name os) ≡ false → bytes_eq q name ≡ true → declared_from 0 q os ≡ None
 no_name q name os new same =
@@ -116,26 +147,29 @@ names_more table os o new table-is q =
     ∙ sym (declared_more 0 q os o)
 
 -- one more object may be declared behind the others
-declare_more : (os others : List ObjectLine) (o : ObjectLine) → may_declare others os ≡ true
-    → (is_name o.name && (not (is_some (declared_from 0 o.name (others ++ os))) && nat_lt (count_of o.kind (others ++ os)) (limit_of o.kind))) ≡ true
-    → may_declare others (os ++ o ∷ []) ≡ true
-declare_more [] others o h here =
-    pair _ true (subst (λ (x : List ObjectLine). (is_name o.name && (not (is_some (declared_from 0 o.name x)) && nat_lt (count_of o.kind x) (limit_of o.kind))) ≡ true) (append-nil others) here) refl
+pub declare_more : (os others : List ObjectLine) (o : ObjectLine) → may_declare others os ≡ true → may_join (others ++ os) o ≡ true → may_declare others (os ++ o ∷ []) ≡ true
+declare_more [] others o h here = pair (may_join others o) true (subst (λ (x : List ObjectLine). may_join x o ≡ true) (append-nil others) here) refl
 declare_more (p ∷ os) others o h here =
-    let first = is_name p.name && (not (is_some (declared_from 0 p.name others)) && nat_lt (count_of p.kind others) (limit_of p.kind)) in
-    let parts = both first (may_declare (others ++ p ∷ []) os) h in
-    pair first (may_declare (others ++ p ∷ []) (os ++ o ∷ [])) parts.0
-    (declare_more os (others ++ p ∷ []) o parts.1
-    (subst (λ (x : List ObjectLine). (is_name o.name && (not (is_some (declared_from 0 o.name x)) && nat_lt (count_of o.kind x) (limit_of o.kind))) ≡ true) (sym (append_assoc others (p ∷ []) os)) here))
+    let parts = both (may_join others p) (may_declare (others ++ p ∷ []) os) h in
+    pair (may_join others p) (may_declare (others ++ p ∷ []) (os ++ o ∷ [])) parts.0
+    (declare_more os (others ++ p ∷ []) o parts.1 (subst (λ (x : List ObjectLine). may_join x o ≡ true) (sym (append_assoc others (p ∷ []) os)) here))
+
+-- an object whose line may follow may be declared
+pub object_joins : (d : Draft) (o : ObjectLine) (to : Option (List ℕ)) → may_follow d (lines.Object o to) ≡ true → may_join d.plan.objects o ≡ true
+object_joins d o to follows =
+    let h = object_follows d o to follows in
+    rw (h.name, h.new, names_refers d o.kind to h.reference, h.kind, h.room) refl
 
 -- one more object keeps the tables
-pub indexed_object : (plan : Plan) (worker : Option ℕ) (table : FinMap (slice_cmp nat_cmp) Declared) (seen : FinMap (slice_cmp nat_cmp) (Unit {0})) (number many : ℕ) (o : ObjectLine)
-    → IsIndexed plan worker table seen number many → may_follow (record { plan = plan; current = worker }) (lines.Object o) ≡ true
+pub indexed_object : (plan : Plan) (worker : Option ℕ) (table : FinMap (slice_cmp nat_cmp) Declared) (seen : FinMap (slice_cmp nat_cmp) (Unit {0})) (number many : ℕ) (o : ObjectLine) (to : Option (List ℕ))
+    → IsIndexed plan worker table seen number many → may_follow (record { plan = plan; current = worker }) (lines.Object o to) ≡ true
     → IsIndexed (record plan { objects = plan.objects ++ o ∷ [] }) worker (insert table o.name (record { place = length plan.objects; kind = o.kind })) seen number many
-indexed_object plan worker table seen number many o h follows =
+indexed_object plan worker table seen number many o to h follows =
     let r = h.readable in
     let v = valid_parts plan r.valid in
-    let new = (object_follows (record { plan = plan; current = worker }) o follows).new in
+    let d : Draft = record { plan = plan; current = worker } in
+    let parts = object_follows d o to follows in
+    let all = λ (x : ObjectLine). refers (plan.objects ++ o ∷ []) x.kind in
     record {
       readable = record {
         valid = valid_from (record plan { objects = plan.objects ++ o ∷ [] }) (record {
@@ -143,10 +177,13 @@ indexed_object plan worker table seen number many o h follows =
           calls = all_mono (list_all (λ call. is_on (slice_get plan.objects (object_of call)) call)) (list_all (λ call. is_on (slice_get (plan.objects ++ o ∷ []) (object_of call)) call))
               (λ script. all_mono _ _ (λ call. get_more plan.objects o (object_of call) call) script) plan.scripts v.calls;
           turns = v.turns;
+          references = all_append all plan.objects (o ∷ [])
+              (all_mono (λ x. refers plan.objects x.kind) all (λ x. refers_more plan.objects o x.kind) plan.objects v.references)
+              (pair (all o) true (refers_more plan.objects o o.kind (names_refers d o.kind to parts.reference)) refl);
         });
         some_workers = r.some_workers;
         few_workers = r.few_workers;
-        objects = declare_more plan.objects [] o r.objects follows;
+        objects = declare_more plan.objects [] o r.objects (object_joins d o to follows);
         calls = r.calls;
         call_room = r.call_room;
         key_room = r.key_room;
@@ -155,7 +192,7 @@ indexed_object plan worker table seen number many o h follows =
         turn_room = r.turn_room;
       };
       current = h.current;
-      names = names_more table plan.objects o new h.names;
+      names = names_more table plan.objects o parts.new h.names;
       keys = h.keys;
       calls = h.calls;
       ranges = h.ranges;
@@ -179,6 +216,7 @@ indexed_turns plan worker table seen number many more h follows =
           scripts = v.scripts;
           calls = v.calls;
           turns = all_append (is_turn plan.workers) plan.schedule more v.turns (all_mono (is_item plan.workers) (is_turn plan.workers) (item_is_turn plan.workers) more items);
+          references = v.references;
         });
         some_workers = r.some_workers;
         few_workers = r.few_workers;
@@ -219,6 +257,7 @@ indexed_call plan worker table seen number many name call h follows =
           scripts = length-set plan.scripts worker (script ++ call ∷ []) ∙ v.scripts;
           calls = all_set (list_all test) plan.scripts worker (script ++ call ∷ []) (all_append test script (call ∷ []) (all_at test plan.scripts worker v.calls) (pair (test call) true on refl)) v.calls;
           turns = v.turns;
+          references = v.references;
         });
         some_workers = r.some_workers;
         few_workers = r.few_workers;
@@ -265,6 +304,7 @@ indexed_start workers some few = record {
       scripts = length-replicate workers [];
       calls = all_empty (λ call. is_on (slice_get [] (object_of call)) call) workers;
       turns = refl;
+      references = refl;
     });
     some_workers = some;
     few_workers = few;

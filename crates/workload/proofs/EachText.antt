@@ -1,8 +1,9 @@
 -- Each text is read or refused.
-use Rattle.std.proofs.Common.{◌≡◌, ℕ, ◌+◌, ◌-◌, ◌≤◌, max, Bool, true, false, cond, eqb, ◌&&◌, not, List, [], ◌∷◌, ◌++◌, map, length, Option, Some, None, refl, sym, ap, subst, ◌∙◌, arith, inl, inr, ◌⊎◌}
+use Rattle.std.proofs.Common.{◌≡◌, ℕ, ℤ, ◌+◌, ◌-◌, ◌≤◌, max, Bool, true, false, cond, eqb, ◌&&◌, not, List, [], ◌∷◌, ◌++◌, map, length, Option, Some, None, refl, sym, ap, subst, ◌∙◌, arith, inl, inr, ◌⊎◌}
 use Rattle.std.specs.Prelude.{nat_lt, nat_le, is_some, codes, count_by}
 use Rattle.std.specs.List.{list_all, flat_map, AllByRecursion}
-use Rattle.std.specs.Fmt.{decimal}
+use Rattle.std.specs.Fmt.{decimal, signed_decimal}
+use Rattle.std.specs.Option.{option_to_list, option_map_or}
 use Rattle.std.specs.Str.{bytes_eq}
 use Rattle.std.proofs.lemmas.Bool.{eqb-true, eq-eqb, ltb-true, leb-true, cases_lt}
 use Rattle.std.proofs.lemmas.Slice.Eq.{bytes_eq-Decides}
@@ -15,6 +16,9 @@ use Rattle.sync_model.specs.declared.atomic_object.AtomicKind.{AtomicKind}
 use Rattle.sync_model.specs.declared.atomic_object.AtomicKind.TheVariants as types
 use Rattle.sync_model.specs.declared.atomic_object.Number.{Number}
 use Rattle.sync_model.specs.declared.atomic_object.AtomicCall.TheVariants as atomic_calls
+use Rattle.sync_model.specs.declared.wait_call.CondCall.TheVariants as cond_calls
+use Rattle.sync_model.specs.declared.wait_call.WaitGroupCall.TheVariants as group_calls
+use Rattle.sync_model.specs.declared.pool_call.PoolCall.TheVariants as pool_calls
 use Rattle.sync_model.specs.declared.lock_call.MutexCall.TheVariants as mutex_calls
 use Rattle.sync_model.specs.declared.lock_call.RwMutexCall.TheVariants as rw_mutex_calls
 use Rattle.sync_model.specs.SequentialAtomic.{has_bits, is_of}
@@ -24,26 +28,30 @@ use Rattle.workload.specs.declared.keyword.Verb.{Verb}
 use Rattle.workload.specs.declared.keyword.Verb.TheVariants as verbs
 use Rattle.workload.specs.declared.keyword.Operand.{Operand}
 use Rattle.workload.specs.declared.keyword.Operand.TheVariants as operands
-use Rattle.workload.specs.declared.limits.TheConstants.{MAX_RANGES, MAX_TURNS, MAX_VALUE, MAX_WORKERS, MAX_INPUT}
+use Rattle.workload.specs.declared.limits.TheConstants.{MAX_AMOUNT, MAX_CODE, MAX_RANGES, MAX_TURNS, MAX_VALUE, MAX_WORKERS, MAX_INPUT}
 use Rattle.workload.specs.declared.object.Declared.{Declared}
 use Rattle.workload.specs.declared.object.ObjectKind.{ObjectKind}
 use Rattle.workload.specs.declared.object.ObjectKind.TheVariants as kinds
+use Rattle.workload.specs.declared.object.ObjectLine.{ObjectLine}
+use Rattle.workload.specs.declared.object.ObjectWord.{ObjectWord}
+use Rattle.workload.specs.declared.object.ObjectWord.TheVariants as object_words
+use Rattle.workload.specs.declared.keyword.Parameter.TheVariants as parameters
 use Rattle.workload.specs.declared.line.Line.{Line}
 use Rattle.workload.specs.declared.line.Line.TheVariants as lines
 use Rattle.workload.specs.declared.reason.Reason.{Reason}
-use Rattle.workload.specs.declared.reason.Reason.TheVariants.{NoWorkersLine, LineTooLong, BadByte, WrongNumberOfWords, BadName, BadNumber, CallOutsideWorker, LimitReached, InputTooLong}
+use Rattle.workload.specs.declared.reason.Reason.TheVariants.{NoWorkersLine, LineTooLong, BadByte, WrongNumberOfWords, BadName, NameTaken, BadNumber, CallOutsideWorker, LimitReached, InputTooLong}
 use Rattle.workload.specs.declared.turn.Turn.{Turn}
 use Rattle.workload.specs.declared.turn.Turn.TheVariants as turns
-use Rattle.workload.specs.Plan.{Plan, object_of, has_call}
+use Rattle.workload.specs.Plan.{Plan, word_of, reference_of, is_target, is_amount, object_of, has_call}
 use Rattle.workload.specs.Lines.{lines_of, words_of, is_short, is_clean, is_significant}
-use Rattle.workload.specs.Words.{keyword_word, keyword_at, spelled, verb_word, verb_of, operands_of, number_word, turn_word, is_number, is_number_to, number_of}
-use Rattle.workload.specs.Draft.{Draft, started, with_line, declared, may_follow, names_object, is_call, is_value, is_item, is_range, keys_of, count_of, limit_of, range_count}
-use Rattle.workload.specs.Checks.{Check, first_failing, map_form, bits_form, atomic_form, mutex_form, rw_mutex_form, form_of, key_operands, ranges_in, limit_checks, form_checks, object_checks, worker_checks, item_checks, line_checks, first_checks, word_checks, reason_of}
+use Rattle.workload.specs.Words.{keyword_word, keyword_at, spelled, verb_word, verb_of, operands_of, kind_parameters, number_word, turn_word, is_number, is_number_to, is_amount_word, number_of}
+use Rattle.workload.specs.Draft.{Draft, started, with_line, declared, may_follow, names_object, names_reference, is_kind, is_call, is_value, is_item, is_range, keys_of, count_of, limit_of, range_count}
+use Rattle.workload.specs.Checks.{Check, first_failing, map_form, bits_form, atomic_form, mutex_form, rw_mutex_form, cond_form, group_form, pool_form, form_of, parameters_of, parameters_checks, reference_checks, is_mutex, is_int64, key_operands, ranges_in, limit_checks, form_checks, object_checks, worker_checks, item_checks, line_checks, first_checks, word_checks, reason_of}
 use Rattle.workload.specs.Reads.{Says, IsRead, ReadsOn, Reads, FirstFault, IsRefused}
 use Rattle.workload.proofs.Passing.{both, pair}
-use Rattle.workload.specs.LineResult.{form_words, PassesWith}
+use Rattle.workload.specs.LineResult.{form_words, parameter_words, PassesWith}
 use Rattle.workload.proofs.Keywords.{keyword_from}
-use Rattle.workload.proofs.CallWords.{number_at, number_said}
+use Rattle.workload.proofs.CallWords.{number_at, number_said, signed_of, amount_said}
 use Rattle.workload.proofs.CallForms.{call_form, ranges_of}
 use Rattle.workload.proofs.CheckLemmas.{form_passes}
 use Rattle.workload.proofs.Numbers.{decimal-number_of}
@@ -84,15 +92,6 @@ Said d words = (l : Line) × (may_follow d l ≡ true) × (words ≡ spelled l)
 
 said_as : (d : Draft) (word : List ℕ) (k : Keyword) (words : List (List ℕ)) → keyword_at word ≡ Some k → Said d (keyword_word k ∷ words) → Said d (word ∷ words)
 said_as d word k words is said = (said.0, said.1, ap (λ (w : List ℕ). w ∷ words) (keyword_from word k is) ∙ said.2)
-
-object_said : (d : Draft) (kind : ObjectKind) (words : List (List ℕ)) → first_failing (line_checks d (Some (keywords.Object kind)) words) ≡ None → Said d (keyword_word (keywords.Object kind) ∷ words)
-object_said d kind [] h = absurd cc
-object_said d kind (name ∷ []) h =
-    let all = all_pass (line_checks d (Some (keywords.Object kind)) (name ∷ [])) h in
-    let new = not (is_some (declared d name)) in
-    let room = nat_lt (count_of kind d.plan.objects) (limit_of kind) in
-    (lines.Object (record { name = name; kind = kind }), pair (is_name name) (new && room) all.0 (pair new room all.1.0 all.1.1.0), refl)
-object_said d kind (name ∷ other ∷ words) h = absurd cc
 
 worker_words : (workers : ℕ) (word : List ℕ) → workers ≤ MAX_WORKERS → first_failing (worker_checks workers word) ≡ None → (nat_lt (number_of word) workers ≡ true) × (decimal (number_of word) ≡ word)
 worker_words workers word few h =
@@ -144,6 +143,114 @@ schedule_said d words few h =
       pair (nat_lt 0 (length items.0)) (list_all (is_item d.plan.workers) items.0 && nat_le (length d.plan.schedule + length items.0) MAX_TURNS) (ap (λ (n : ℕ). nat_lt 0 n) (sym many) ∙ first)
           (pair (list_all (is_item d.plan.workers) items.0) (nat_le (length d.plan.schedule + length items.0) MAX_TURNS) items.1 (ap (λ (n : ℕ). nat_le (length d.plan.schedule + n) MAX_TURNS) (sym many) ∙ room)),
       ap (λ (ws : List (List ℕ)). codes "schedule" ∷ ws) items.2,
+    )
+
+-- ---- objects
+
+-- what the words behind an object's name say
+abbrev KindSaid : Draft → ObjectWord → List (List ℕ) → Type 0
+KindSaid d word words = (k : ObjectKind) × (r : Option (List ℕ)) × (word_of k ≡ word) × (names_reference d k r ≡ true) × (is_kind k ≡ true) × (words ≡ option_to_list r ++ kind_parameters k)
+
+no_words_said : (words : List (List ℕ)) → first_failing ((eqb (length words) 0, WrongNumberOfWords) ∷ []) ≡ None → words ≡ []
+no_words_said [] h = refl
+no_words_said (word ∷ words) h = absurd (omega (arith, eqb-true (length (word ∷ words)) 0 (all_pass ((eqb (length (word ∷ words)) 0, WrongNumberOfWords) ∷ []) h).0))
+
+-- a number alone
+bounded_said : (d : Draft) (most : ℕ) (words : List (List ℕ)) → most ≤ MAX_VALUE → first_failing ((eqb (length words) 1, WrongNumberOfWords) ∷ parameters_checks d (parameters.Number most ∷ []) words) ≡ None
+    → (n : ℕ) × (nat_le n most ≡ true) × (words ≡ decimal n ∷ [])
+bounded_said d most [] small h = absurd cc
+bounded_said d most (word ∷ []) small h =
+    let all = all_pass ((true, WrongNumberOfWords) ∷ (is_number_to most word, BadNumber) ∷ []) h in
+    let parts = both (is_number word) (nat_le (number_of word) most) all.1.0 in
+    let least = leb-true (number_of word) most parts.1 in
+    (number_of word, parts.1, ap (λ (w : List ℕ). w ∷ []) (sym (number_words word parts.0 (omega arith))))
+bounded_said d most (word ∷ other ∷ words) small h = absurd (omega (arith, eqb-true (length (word ∷ other ∷ words)) 1 (all_pass ((eqb (length (word ∷ other ∷ words)) 1, WrongNumberOfWords) ∷ parameters_checks d (parameters.Number most ∷ []) (word ∷ other ∷ words)) h).0))
+
+-- the name of an object whose kind passes a test
+reference_said : (d : Draft) (test : ObjectKind → Bool) (name : List ℕ) → first_failing (reference_checks d test name) ≡ None → (found : Declared) × (is_name name ≡ true) × (declared d name ≡ Some found) × (test found.kind ≡ true)
+reference_said d test name h =
+    let all = all_pass (reference_checks d test name) h in
+    at (declared d name) refl all.0 all.1.1.0
+  where
+    at : (o : Option Declared) → declared d name ≡ o → is_name name ≡ true → option_map_or (λ found. test found.kind) o false ≡ true → (found : Declared) × (is_name name ≡ true) × (declared d name ≡ Some found) × (test found.kind ≡ true)
+    at None is named h = absurd cc
+    at (Some found) is named h = (found, named, is, h)
+
+mutex_target : (k : ObjectKind) (place : ℕ) → is_mutex k ≡ true → is_target (kinds.Cond place) k ≡ true
+mutex_target kinds.Mutex place h = refl
+mutex_target k place h = absurd cc
+
+int64_target : (k : ObjectKind) (place : ℕ) (z : ℤ) → is_int64 k ≡ true → is_target (kinds.Once place z) k ≡ true
+int64_target (kinds.Atomic types.Int64) place z h = refl
+int64_target k place z h = absurd cc
+
+-- a name that is declared so is that of what an object refers to
+names_it : (d : Draft) (k : ObjectKind) (name : List ℕ) (found : Declared) → reference_of k ≡ Some found.place → is_name name ≡ true → declared d name ≡ Some found → is_target k found.kind ≡ true → names_reference d k (Some name) ≡ true
+names_it d k name found to named is target = rw (named, is, to) (pair (eqb found.place found.place) (is_target k found.kind) (eq-eqb found.place found.place refl) target)
+
+cond_said : (d : Draft) (words : List (List ℕ)) → first_failing (parameter_words d object_words.Cond words) ≡ None → KindSaid d object_words.Cond words
+cond_said d [] h = absurd cc
+cond_said d (name ∷ []) h =
+    let to = reference_said d is_mutex name (both_pass (reference_checks d is_mutex name) [] h).0 in
+    let place = to.0.place in
+    let named = names_it d (kinds.Cond place) name to.0 refl to.1 to.2 (mutex_target to.0.kind place to.3) in
+    (kinds.Cond place, Some name, refl, named, refl, refl)
+cond_said d (name ∷ other ∷ words) h = absurd (omega (arith, eqb-true (length (name ∷ other ∷ words)) 1 (all_pass (parameter_words d object_words.Cond (name ∷ other ∷ words)) h).0))
+
+once_said : (d : Draft) (words : List (List ℕ)) → first_failing (parameter_words d object_words.Once words) ≡ None → KindSaid d object_words.Once words
+once_said d [] h = absurd cc
+once_said d (name ∷ []) h = absurd cc
+once_said d (name ∷ amount ∷ []) h =
+    let amounts : List Check = (is_amount_word amount, BadNumber) ∷ [] in
+    let parts = both_pass (reference_checks d is_int64 name) amounts h in
+    let to = reference_said d is_int64 name parts.0 in
+    let said = amount_said amount (all_pass amounts parts.1).0 in
+    let place = to.0.place in
+    let z = signed_of amount in
+    let named = names_it d (kinds.Once place z) name to.0 refl to.1 to.2 (int64_target to.0.kind place z to.3) in
+    (kinds.Once place z, Some name, refl, named, said.0, ap (λ (w : List ℕ). name ∷ w ∷ []) (sym said.1))
+once_said d (name ∷ amount ∷ other ∷ words) h = absurd (omega (arith, eqb-true (length (name ∷ amount ∷ other ∷ words)) 2 (all_pass (parameter_words d object_words.Once (name ∷ amount ∷ other ∷ words)) h).0))
+
+parameters_said : (d : Draft) (word : ObjectWord) (ws : List (List ℕ)) → first_failing (parameter_words d word ws) ≡ None → KindSaid d word ws
+parameters_said d object_words.Map ws h = (kinds.Map, None, refl, refl, refl, no_words_said ws h)
+parameters_said d (object_words.Atomic k) ws h = (kinds.Atomic k, None, refl, refl, refl, no_words_said ws h)
+parameters_said d object_words.Mutex ws h = (kinds.Mutex, None, refl, refl, refl, no_words_said ws h)
+parameters_said d object_words.RwMutex ws h = (kinds.RwMutex, None, refl, refl, refl, no_words_said ws h)
+parameters_said d object_words.Cond ws h = cond_said d ws h
+parameters_said d object_words.WaitGroup ws h = let n = bounded_said d MAX_AMOUNT ws (omega arith) h in (kinds.WaitGroup n.0, None, refl, refl, n.1, n.2)
+parameters_said d object_words.Once ws h = once_said d ws h
+parameters_said d object_words.OnceFunc ws h = let n = bounded_said d MAX_CODE ws (omega arith) h in (kinds.OnceFunc n.0, None, refl, refl, n.1, n.2)
+parameters_said d object_words.OnceValue ws h = let n = bounded_said d MAX_VALUE ws (omega arith) h in (kinds.OnceValue n.0, None, refl, refl, n.1, n.2)
+parameters_said d object_words.Pool ws h = (kinds.Pool, None, refl, refl, refl, no_words_said ws h)
+
+-- a check that passes before others that do
+pass_on : (b : Bool) (reason : Reason) (others : List Check) → b ≡ true → first_failing others ≡ None → first_failing ((b, reason) ∷ others) ≡ None
+pass_on b reason others is h = rw is h
+
+-- an object line with parts that pass may follow
+object_may : (d : Draft) (o : ObjectLine) (r : Option (List ℕ)) → is_name o.name ≡ true → not (is_some (declared d o.name)) ≡ true → names_reference d o.kind r ≡ true → is_kind o.kind ≡ true
+    → nat_lt (count_of (word_of o.kind) d.plan.objects) (limit_of (word_of o.kind)) ≡ true → may_follow d (lines.Object o r) ≡ true
+object_may d o r named new to fits room = rw (named, new, to, fits, room) refl
+
+object_said : (d : Draft) (word : ObjectWord) (ws : List (List ℕ)) → first_failing (line_checks d (Some (keywords.Object word)) ws) ≡ None → Said d (keyword_word (keywords.Object word) ∷ ws)
+object_said d word [] h = absurd cc
+object_said d word (name ∷ ws) h =
+    let count = eqb (length ws) (length (parameters_of word)) in
+    let new = not (is_some (declared d name)) in
+    let front : List Check = (count, WrongNumberOfWords) ∷ (is_name name, BadName) ∷ (new, NameTaken) ∷ [] in
+    let others = parameters_checks d (parameters_of word) ws in
+    let limit : List Check = (nat_lt (count_of word d.plan.objects) (limit_of word), LimitReached) ∷ [] in
+    let one = both_pass front (others ++ limit) h in
+    let two = both_pass others limit one.1 in
+    let first = all_pass front one.0 in
+    let form = pass_on count WrongNumberOfWords others first.0 two.0 in
+    let said = parameters_said d word ws form in
+    let k = said.0 in
+    let r = said.1 in
+    let room = subst (λ (w : ObjectWord). nat_lt (count_of w d.plan.objects) (limit_of w) ≡ true) (sym said.2) (all_pass limit two.1).0 in (
+      lines.Object (record { name = name; kind = k }) r,
+      object_may d (record { name = name; kind = k }) r first.1.0 first.1.1.0 said.3 said.4 room,
+      ap (λ (w : ObjectWord). keyword_word (keywords.Object w) ∷ name ∷ ws) (sym said.2) ∙ ap (λ (x : List (List ℕ)). keyword_word (keywords.Object (word_of k)) ∷ name ∷ x) said.5,
     )
 
 -- ---- calls
@@ -265,11 +372,52 @@ rw_mutex_spelled place verbs.RUnlock words h = (calls.RwMutex place rw_mutex_cal
 rw_mutex_spelled place verbs.TryRLock words h = (calls.RwMutex place rw_mutex_calls.TryRLock, refl, sym (none_said words h), refl, refl, refl)
 rw_mutex_spelled place verb words h = absurd cc
 
+cond_spelled : (m place : ℕ) (verb : Verb) (words : List (List ℕ)) → first_failing (form_words (cond_form verb) words) ≡ None → Spelled (kinds.Cond m) place verb words
+cond_spelled m place verbs.Wait words h = (calls.Cond place cond_calls.Wait, refl, sym (none_said words h), refl, refl, refl)
+cond_spelled m place verbs.Signal words h = (calls.Cond place cond_calls.Signal, refl, sym (none_said words h), refl, refl, refl)
+cond_spelled m place verbs.Broadcast words h = (calls.Cond place cond_calls.Broadcast, refl, sym (none_said words h), refl, refl, refl)
+cond_spelled m place verb words h = absurd cc
+
+amount_alone_said : (words : List (List ℕ)) → first_failing (form_words (Some (operands.Amount ∷ [])) words) ≡ None → (z : ℤ) × (is_amount z ≡ true) × (words ≡ signed_decimal z ∷ [])
+amount_alone_said [] h = absurd cc
+amount_alone_said (w ∷ []) h =
+    let all = all_pass (form_words (Some (operands.Amount ∷ [])) (w ∷ [])) h in
+    let said = amount_said w all.1.0 in
+    (signed_of w, said.0, ap (λ (x : List ℕ). x ∷ []) (sym said.1))
+amount_alone_said (w ∷ other ∷ words) h = absurd (omega (arith, eqb-true (length (w ∷ other ∷ words)) 1 (all_pass (form_words (Some (operands.Amount ∷ [])) (w ∷ other ∷ words)) h).0))
+
+group_spelled : (n place : ℕ) (verb : Verb) (words : List (List ℕ)) → first_failing (form_words (group_form verb) words) ≡ None → Spelled (kinds.WaitGroup n) place verb words
+group_spelled n place verbs.Add words h = let said = amount_alone_said words h in (calls.WaitGroup place (group_calls.Add said.0), refl, sym said.2, refl, refl, said.1)
+group_spelled n place verbs.Done words h = (calls.WaitGroup place group_calls.Done, refl, sym (none_said words h), refl, refl, refl)
+group_spelled n place verbs.Wait words h = (calls.WaitGroup place group_calls.Wait, refl, sym (none_said words h), refl, refl, refl)
+group_spelled n place verb words h = absurd cc
+
+item_alone_said : (words : List (List ℕ)) → first_failing (form_words (Some (operands.Value ∷ [])) words) ≡ None → (v : ℕ) × (is_value v ≡ true) × (words ≡ decimal v ∷ [])
+item_alone_said [] h = absurd cc
+item_alone_said (w ∷ []) h =
+    let all = all_pass (form_words (Some (operands.Value ∷ [])) (w ∷ [])) h in
+    let said = value_said w all.1.0 in
+    (number_of w, said.0, ap (λ (x : List ℕ). x ∷ []) said.1)
+item_alone_said (w ∷ other ∷ words) h = absurd (omega (arith, eqb-true (length (w ∷ other ∷ words)) 1 (all_pass (form_words (Some (operands.Value ∷ [])) (w ∷ other ∷ words)) h).0))
+
+pool_spelled : (place : ℕ) (verb : Verb) (words : List (List ℕ)) → first_failing (form_words (pool_form verb) words) ≡ None → Spelled kinds.Pool place verb words
+pool_spelled place verbs.Put words h = let said = item_alone_said words h in (calls.Pool place (pool_calls.Put said.0), refl, sym said.2, refl, refl, said.1)
+pool_spelled place verbs.Get words h = (calls.Pool place pool_calls.Get, refl, sym (none_said words h), refl, refl, refl)
+pool_spelled place verbs.Sweep words h = (calls.Pool place pool_calls.Sweep, refl, sym (none_said words h), refl, refl, refl)
+pool_spelled place verb words h = absurd cc
+
 spelled_on : (kind : ObjectKind) (place : ℕ) (verb : Verb) (words : List (List ℕ)) → first_failing (form_words (form_of verb kind) words) ≡ None → Spelled kind place verb words
 spelled_on kinds.Map place verb words h = map_spelled place verb words h
 spelled_on (kinds.Atomic kind) place verb words h = atomic_spelled kind place verb words h
 spelled_on kinds.Mutex place verb words h = mutex_spelled place verb words h
 spelled_on kinds.RwMutex place verb words h = rw_mutex_spelled place verb words h
+spelled_on (kinds.Cond m) place verb words h = cond_spelled m place verb words h
+spelled_on (kinds.WaitGroup n) place verb words h = group_spelled n place verb words h
+spelled_on (kinds.Once a z) place verbs.Do words h = (calls.Once place, refl, sym (none_said words h), refl, refl, refl)
+spelled_on (kinds.OnceFunc n) place verbs.Call words h = (calls.OnceFunc place, refl, sym (none_said words h), refl, refl, refl)
+spelled_on (kinds.OnceValue n) place verbs.Value words h = (calls.OnceValue place, refl, sym (none_said words h), refl, refl, refl)
+spelled_on kinds.Pool place verb words h = pool_spelled place verb words h
+spelled_on kind place verb words h = absurd cc
 
 -- the checks of the operands alone
 operands_pass : (d : Draft) (verb : Verb) (form : Option (List Operand)) (words : List (List ℕ)) → first_failing (form_checks d verb form words) ≡ None → first_failing (form_words form words) ≡ None

@@ -9,7 +9,7 @@ use Rattle.workload.specs.declared.keyword.Keyword.{Keyword}
 use Rattle.workload.specs.declared.keyword.Keyword.TheVariants as keywords
 use Rattle.workload.specs.declared.keyword.Verb.TheVariants as verbs
 use Rattle.workload.specs.declared.limits.TheConstants.{MAX_LINE, MAX_WORKERS}
-use Rattle.workload.specs.declared.object.ObjectKind.TheVariants as kinds
+use Rattle.workload.specs.declared.object.ObjectWord.TheVariants as words
 use Rattle.workload.specs.declared.line.Line.{Line}
 use Rattle.workload.specs.Lines.{lines_of, words_of, is_clean, is_significant}
 use Rattle.workload.specs.Words.{spelled, first_spelled, keyword_word, keyword_of, arguments_of}
@@ -34,14 +34,20 @@ follow_to xs d e f same h = subst (λ (x : Draft). FollowOn d xs x) same h
 -- a keyword says something
 significant : (k : Keyword) (rest : List (List ℕ)) → is_significant (keyword_word k ∷ rest) ≡ true
 significant keywords.Workers rest = refl
-significant (keywords.Object kinds.Map) rest = refl
-significant (keywords.Object (kinds.Atomic types.Int32)) rest = refl
-significant (keywords.Object (kinds.Atomic types.Int64)) rest = refl
-significant (keywords.Object (kinds.Atomic types.Uint32)) rest = refl
-significant (keywords.Object (kinds.Atomic types.Uint64)) rest = refl
-significant (keywords.Object (kinds.Atomic types.Bool)) rest = refl
-significant (keywords.Object kinds.Mutex) rest = refl
-significant (keywords.Object kinds.RwMutex) rest = refl
+significant (keywords.Object words.Map) rest = refl
+significant (keywords.Object (words.Atomic types.Int32)) rest = refl
+significant (keywords.Object (words.Atomic types.Int64)) rest = refl
+significant (keywords.Object (words.Atomic types.Uint32)) rest = refl
+significant (keywords.Object (words.Atomic types.Uint64)) rest = refl
+significant (keywords.Object (words.Atomic types.Bool)) rest = refl
+significant (keywords.Object words.Mutex) rest = refl
+significant (keywords.Object words.RwMutex) rest = refl
+significant (keywords.Object words.Cond) rest = refl
+significant (keywords.Object words.WaitGroup) rest = refl
+significant (keywords.Object words.Once) rest = refl
+significant (keywords.Object words.OnceFunc) rest = refl
+significant (keywords.Object words.OnceValue) rest = refl
+significant (keywords.Object words.Pool) rest = refl
 significant keywords.Worker rest = refl
 significant keywords.Schedule rest = refl
 significant (keywords.Call verbs.Load) rest = refl
@@ -63,6 +69,16 @@ significant (keywords.Call verbs.TryLock) rest = refl
 significant (keywords.Call verbs.RLock) rest = refl
 significant (keywords.Call verbs.RUnlock) rest = refl
 significant (keywords.Call verbs.TryRLock) rest = refl
+significant (keywords.Call verbs.Wait) rest = refl
+significant (keywords.Call verbs.Signal) rest = refl
+significant (keywords.Call verbs.Broadcast) rest = refl
+significant (keywords.Call verbs.Done) rest = refl
+significant (keywords.Call verbs.Do) rest = refl
+significant (keywords.Call verbs.Call) rest = refl
+significant (keywords.Call verbs.Value) rest = refl
+significant (keywords.Call verbs.Put) rest = refl
+significant (keywords.Call verbs.Get) rest = refl
+significant (keywords.Call verbs.Sweep) rest = refl
 
 not_silent : {X : Type 0} (b : Bool) → b ≡ true → b ≡ false → X
 not_silent b t f = absurd cc

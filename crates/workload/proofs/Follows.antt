@@ -1,5 +1,5 @@
 -- What a line that may follow says, part by part.
-use Rattle.std.proofs.Common.{◌≡◌, ℕ, ◌+◌, true, false, ◌&&◌, not, List, [], ◌∷◌, length}
+use Rattle.std.proofs.Common.{◌≡◌, ℕ, ◌+◌, true, false, ◌&&◌, not, List, [], ◌∷◌, length, Option}
 use Rattle.std.specs.Prelude.{is_some, nat_lt, nat_le, count_by}
 use Rattle.std.specs.List.{list_all}
 use Rattle.sync_model.specs.Name.{is_name}
@@ -8,21 +8,27 @@ use Rattle.workload.specs.declared.limits.TheConstants.{MAX_CALLS, MAX_KEYS, MAX
 use Rattle.workload.specs.declared.object.ObjectLine.{ObjectLine}
 use Rattle.workload.specs.declared.line.Line.TheVariants as lines
 use Rattle.workload.specs.declared.turn.Turn.{Turn}
-use Rattle.workload.specs.Draft.{Draft, declared, count_of, limit_of, call_count, key_count, range_count, is_range, keys_of, names_object, is_call, is_item, may_follow}
+use Rattle.workload.specs.Plan.{word_of}
+use Rattle.workload.specs.Draft.{Draft, declared, names_reference, is_kind, count_of, limit_of, call_count, key_count, range_count, is_range, keys_of, names_object, is_call, is_item, may_follow}
 use Rattle.workload.proofs.Passing.{both, not_true}
 
-pub record ObjectFollows (d : Draft) (o : ObjectLine) : Type 0 where
+pub record ObjectFollows (d : Draft) (o : ObjectLine) (to : Option (List ℕ)) : Type 0 where
   pub name : is_name o.name ≡ true
   pub new : is_some (declared d o.name) ≡ false
-  pub room : nat_lt (count_of o.kind d.plan.objects) (limit_of o.kind) ≡ true
+  pub reference : names_reference d o.kind to ≡ true
+  pub kind : is_kind o.kind ≡ true
+  pub room : nat_lt (count_of (word_of o.kind) d.plan.objects) (limit_of (word_of o.kind)) ≡ true
 
-pub object_follows : (d : Draft) (o : ObjectLine) → may_follow d (lines.Object o) ≡ true → ObjectFollows d o
-object_follows d o e =
-    let room = nat_lt (count_of o.kind d.plan.objects) (limit_of o.kind) in
+pub object_follows : (d : Draft) (o : ObjectLine) (to : Option (List ℕ)) → may_follow d (lines.Object o to) ≡ true → ObjectFollows d o to
+object_follows d o to e =
+    let room = nat_lt (count_of (word_of o.kind) d.plan.objects) (limit_of (word_of o.kind)) in
     let new = not (is_some (declared d o.name)) in
-    let first = both (is_name o.name) (new && room) e in
-    let second = both new room first.1 in
-    record { name = first.0; new = not_true (is_some (declared d o.name)) second.0; room = second.1 }
+    let refers = names_reference d o.kind to in
+    let p1 = both (is_name o.name) (new && (refers && (is_kind o.kind && room))) e in
+    let p2 = both new (refers && (is_kind o.kind && room)) p1.1 in
+    let p3 = both refers (is_kind o.kind && room) p2.1 in
+    let p4 = both (is_kind o.kind) room p3.1 in
+    record { name = p1.0; new = not_true (is_some (declared d o.name)) p2.0; reference = p3.0; kind = p4.0; room = p4.1 }
 
 pub record ScheduleFollows (d : Draft) (turns : List Turn) : Type 0 where
   pub some : nat_lt 0 (length turns) ≡ true

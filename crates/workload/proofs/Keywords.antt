@@ -8,7 +8,7 @@ use Rattle.sync_model.specs.declared.atomic_object.AtomicKind.TheVariants as typ
 use Rattle.workload.specs.declared.keyword.Keyword.{Keyword}
 use Rattle.workload.specs.declared.keyword.Keyword.TheVariants as keywords
 use Rattle.workload.specs.declared.keyword.Verb.TheVariants as verbs
-use Rattle.workload.specs.declared.object.ObjectKind.TheVariants as kinds
+use Rattle.workload.specs.declared.object.ObjectWord.TheVariants as words
 use Rattle.workload.specs.declared.fault.LineFault.{LineFault}
 use Rattle.workload.specs.declared.line.Line.{Line}
 use Rattle.workload.specs.Words.{keyword_word, keyword_of, keyword_at, keyword_in, keywords_known}
@@ -19,14 +19,20 @@ use Rattle.workload.specs.LineResult.{IsFault, IsLineOf, IsLine}
 -- each keyword is read back from its word
 pub keyword_at-keyword_word : (k : Keyword) → keyword_at (keyword_word k) ≡ Some k
 keyword_at-keyword_word keywords.Workers = refl
-keyword_at-keyword_word (keywords.Object kinds.Map) = refl
-keyword_at-keyword_word (keywords.Object (kinds.Atomic types.Int32)) = refl
-keyword_at-keyword_word (keywords.Object (kinds.Atomic types.Int64)) = refl
-keyword_at-keyword_word (keywords.Object (kinds.Atomic types.Uint32)) = refl
-keyword_at-keyword_word (keywords.Object (kinds.Atomic types.Uint64)) = refl
-keyword_at-keyword_word (keywords.Object (kinds.Atomic types.Bool)) = refl
-keyword_at-keyword_word (keywords.Object kinds.Mutex) = refl
-keyword_at-keyword_word (keywords.Object kinds.RwMutex) = refl
+keyword_at-keyword_word (keywords.Object words.Map) = refl
+keyword_at-keyword_word (keywords.Object (words.Atomic types.Int32)) = refl
+keyword_at-keyword_word (keywords.Object (words.Atomic types.Int64)) = refl
+keyword_at-keyword_word (keywords.Object (words.Atomic types.Uint32)) = refl
+keyword_at-keyword_word (keywords.Object (words.Atomic types.Uint64)) = refl
+keyword_at-keyword_word (keywords.Object (words.Atomic types.Bool)) = refl
+keyword_at-keyword_word (keywords.Object words.Mutex) = refl
+keyword_at-keyword_word (keywords.Object words.RwMutex) = refl
+keyword_at-keyword_word (keywords.Object words.Cond) = refl
+keyword_at-keyword_word (keywords.Object words.WaitGroup) = refl
+keyword_at-keyword_word (keywords.Object words.Once) = refl
+keyword_at-keyword_word (keywords.Object words.OnceFunc) = refl
+keyword_at-keyword_word (keywords.Object words.OnceValue) = refl
+keyword_at-keyword_word (keywords.Object words.Pool) = refl
 keyword_at-keyword_word keywords.Worker = refl
 keyword_at-keyword_word keywords.Schedule = refl
 keyword_at-keyword_word (keywords.Call verbs.Load) = refl
@@ -48,10 +54,20 @@ keyword_at-keyword_word (keywords.Call verbs.TryLock) = refl
 keyword_at-keyword_word (keywords.Call verbs.RLock) = refl
 keyword_at-keyword_word (keywords.Call verbs.RUnlock) = refl
 keyword_at-keyword_word (keywords.Call verbs.TryRLock) = refl
+keyword_at-keyword_word (keywords.Call verbs.Wait) = refl
+keyword_at-keyword_word (keywords.Call verbs.Signal) = refl
+keyword_at-keyword_word (keywords.Call verbs.Broadcast) = refl
+keyword_at-keyword_word (keywords.Call verbs.Done) = refl
+keyword_at-keyword_word (keywords.Call verbs.Do) = refl
+keyword_at-keyword_word (keywords.Call verbs.Call) = refl
+keyword_at-keyword_word (keywords.Call verbs.Value) = refl
+keyword_at-keyword_word (keywords.Call verbs.Put) = refl
+keyword_at-keyword_word (keywords.Call verbs.Get) = refl
+keyword_at-keyword_word (keywords.Call verbs.Sweep) = refl
 
 -- each entry of the table has its keyword's word
 spells : AllByRecursion (λ (e : List ℕ × Keyword). e.0 ≡ keyword_word e.1) keywords_known
-spells = (refl, (refl, (refl, (refl, (refl, (refl, (refl, (refl, (refl, (refl, (refl, (refl, (refl, (refl, (refl, (refl, (refl, (refl, (refl, (refl, (refl, (refl, (refl, (refl, (refl, (refl, (refl, (refl, (refl, (refl, tt))))))))))))))))))))))))))))))
+spells = (refl, (refl, (refl, (refl, (refl, (refl, (refl, (refl, (refl, (refl, (refl, (refl, (refl, (refl, (refl, (refl, (refl, (refl, (refl, (refl, (refl, (refl, (refl, (refl, (refl, (refl, (refl, (refl, (refl, (refl, (refl, (refl, (refl, (refl, (refl, (refl, (refl, (refl, (refl, (refl, (refl, (refl, (refl, (refl, (refl, (refl, tt))))))))))))))))))))))))))))))))))))))))))))))
 
 same_some : (k l : Keyword) → Some k ≡ Some l → k ≡ l
 same_some k l e = cc

@@ -5,6 +5,7 @@ mod Keywords
 pub mod LineLemmas
 pub mod Numbers
 pub mod Passing
+pub mod References
 pub mod CallForms
 mod CallWords
 mod CheckLemmas

@@ -19,24 +19,30 @@ use Rattle.sync_model.specs.declared.atomic_object.AtomicCall.{AtomicCall}
 use Rattle.sync_model.specs.declared.atomic_object.AtomicCall.TheVariants as atomic_calls
 use Rattle.sync_model.specs.SequentialMap.{map_key}
 use Rattle.sync_model.specs.SequentialAtomic.{has_bits, is_signed, is_of, is_atomic_call}
+use Rattle.sync_model.specs.declared.wait_call.WaitGroupCall.{WaitGroupCall}
+use Rattle.sync_model.specs.declared.wait_call.WaitGroupCall.TheVariants as group_calls
+use Rattle.sync_model.specs.declared.pool_call.PoolCall.{PoolCall}
+use Rattle.sync_model.specs.declared.pool_call.PoolCall.TheVariants as pool_calls
 use Rattle.sync_model.specs.declared.call.Call.{Call}
 use Rattle.sync_model.specs.declared.call.Call.TheVariants as calls
 use Rattle.sync_model.specs.declared.map_object.MapCall.{MapCall}
 use Rattle.sync_model.specs.declared.map_object.MapCall.TheVariants as map_calls
 use Rattle.workload.specs.declared.keyword.Verb.{Verb}
 use Rattle.workload.specs.declared.keyword.Verb.TheVariants as verbs
-use Rattle.workload.specs.declared.limits.TheConstants.{MAX_LINE, MAX_VALUE, MAX_WORKERS}
+use Rattle.workload.specs.declared.limits.TheConstants.{MAX_AMOUNT, MAX_CODE, MAX_LINE, MAX_VALUE, MAX_WORKERS}
 use Rattle.workload.specs.declared.object.ObjectKind.{ObjectKind}
 use Rattle.workload.specs.declared.object.ObjectKind.TheVariants as kinds
+use Rattle.workload.specs.declared.object.ObjectWord.{ObjectWord}
+use Rattle.workload.specs.declared.object.ObjectWord.TheVariants as words
 use Rattle.workload.specs.declared.line.Line.{Line}
 use Rattle.workload.specs.declared.line.Line.TheVariants as lines
 use Rattle.workload.specs.declared.turn.Turn.{Turn}
 use Rattle.workload.specs.declared.turn.Turn.TheVariants as turns
-use Rattle.workload.specs.Words.{spelled, first_spelled, kind_word, verb_word, verb_of, operands_of, map_values, map_operands, atomic_operands, number_word, turn_word}
-use Rattle.workload.specs.Plan.{object_of, has_call}
+use Rattle.workload.specs.Words.{spelled, first_spelled, object_word, group_operands, pool_operands, kind_parameters, verb_word, verb_of, operands_of, map_values, map_operands, atomic_operands, number_word, turn_word}
+use Rattle.workload.specs.Plan.{word_of, is_amount, object_of, has_call}
 use Rattle.workload.specs.declared.object.Declared.{Declared}
-use Rattle.workload.proofs.CallWords.{narrow}
-use Rattle.workload.specs.Draft.{Draft, declared, may_follow, names_object, is_call, is_map_call, is_value, is_item}
+use Rattle.workload.proofs.CallWords.{narrow, amount_small}
+use Rattle.workload.specs.Draft.{Draft, declared, may_follow, names_object, is_call, is_map_call, is_group_call, is_pool_call, is_kind, is_reference, names_reference, is_value, is_item}
 use Rattle.workload.proofs.Follows.{object_follows, schedule_follows, call_follows}
 use Rattle.workload.proofs.Numbers.{numerals}
 use Rattle.workload.specs.Lines.{lines_of, words_of, is_clean, is_printable, is_filled}
@@ -264,12 +270,55 @@ atomic_operands_fit k (atomic_calls.CompareAndSwap v w) h =
     let second = number_is_word k w both_are.1 in
     (pair (is_word (number_word v)) (list_all is_word (number_word w ∷ [])) first.0 (pair (is_word (number_word w)) true second.0 refl), omega (arith, first.1, second.1))
 
+one_decimal : (n most : ℕ) → nat_le n most ≡ true → most < 2 ^ 64 → (list_all is_word (decimal n ∷ []) ≡ true) × (widths (decimal n ∷ []) ≤ 21)
+one_decimal n most h small =
+    let word = decimal_is_word n (omega (arith, leb-true n most h)) in
+    (pair (is_word (decimal n)) true word.0 refl, omega (arith, word.1))
+
+one_amount : (z : ℤ) → is_amount z ≡ true → (list_all is_word (signed_decimal z ∷ []) ≡ true) × (widths (signed_decimal z ∷ []) ≤ 21)
+one_amount z h =
+    let word = signed_is_word z (amount_small z h) in
+    (pair (is_word (signed_decimal z)) true word.0 refl, omega (arith, word.1))
+
+group_operands_fit : (c : WaitGroupCall) → is_group_call c ≡ true → (list_all is_word (group_operands c) ≡ true) × (widths (group_operands c) ≤ 80)
+group_operands_fit (group_calls.Add z) h = let one = one_amount z h in (one.0, omega (arith, one.1))
+group_operands_fit group_calls.Done h = (refl, omega arith)
+group_operands_fit group_calls.Wait h = (refl, omega arith)
+
+pool_operands_fit : (c : PoolCall) → is_pool_call c ≡ true → (list_all is_word (pool_operands c) ≡ true) × (widths (pool_operands c) ≤ 80)
+pool_operands_fit (pool_calls.Put v) h = let one = one_decimal v MAX_VALUE h (omega arith) in (one.0, omega (arith, one.1))
+pool_operands_fit pool_calls.Get h = (refl, omega arith)
+pool_operands_fit pool_calls.Sweep h = (refl, omega arith)
+
+parameters_fit : (k : ObjectKind) → is_kind k ≡ true → (list_all is_word (kind_parameters k) ≡ true) × (widths (kind_parameters k) ≤ 21)
+parameters_fit (kinds.WaitGroup n) h = one_decimal n MAX_AMOUNT h (omega arith)
+parameters_fit (kinds.Once a z) h = one_amount z h
+parameters_fit (kinds.OnceFunc n) h = one_decimal n MAX_CODE h (omega arith)
+parameters_fit (kinds.OnceValue n) h = one_decimal n MAX_VALUE h (omega arith)
+parameters_fit k h = (refl, omega arith)
+
+-- what stands behind an object's name: the name of what it refers to, and numbers
+references_fit : (d : Draft) (k : ObjectKind) (r : Option (List ℕ)) → names_reference d k r ≡ true → is_kind k ≡ true → (list_all is_word (option_to_list r ++ kind_parameters k) ≡ true) × (widths (option_to_list r ++ kind_parameters k) ≤ 80)
+references_fit d k None named h =
+    let numbers = parameters_fit k h in
+    (numbers.0, omega (arith, numbers.1))
+references_fit d k (Some name) named h =
+    let numbers = parameters_fit k h in
+    let first = name_is_word name (both (is_name name) (is_reference k (declared d name)) named).0 in
+    (pair (is_word name) (list_all is_word (kind_parameters k)) first.0 numbers.0, omega (arith, first.1, numbers.1))
+
 operands_fit : (kind : ObjectKind) (c : Call) → has_call kind c ≡ true → is_call c ≡ true → (list_all is_word (operands_of c) ≡ true) × (widths (operands_of c) ≤ 80)
 operands_fit kind (calls.Map i c) on h = map_operands_fit c h
 operands_fit kind (calls.Range i) on h = (refl, omega arith)
 operands_fit (kinds.Atomic k) (calls.Atomic i c) on h = atomic_operands_fit k c on
 operands_fit kind (calls.Mutex i c) on h = (refl, omega arith)
 operands_fit kind (calls.RwMutex i c) on h = (refl, omega arith)
+operands_fit kind (calls.Cond i c) on h = (refl, omega arith)
+operands_fit kind (calls.WaitGroup i c) on h = group_operands_fit c h
+operands_fit kind (calls.Once i) on h = (refl, omega arith)
+operands_fit kind (calls.OnceFunc i) on h = (refl, omega arith)
+operands_fit kind (calls.OnceValue i) on h = (refl, omega arith)
+operands_fit kind (calls.Pool i c) on h = pool_operands_fit c h
 operands_fit kind (calls.Atomic i c) on h = absurd cc
 
 verb_fits : (v : Verb) → (is_word (verb_word v) ≡ true) × (length (verb_word v) ≤ 20)
@@ -292,6 +341,16 @@ verb_fits verbs.TryLock = (refl, omega arith)
 verb_fits verbs.RLock = (refl, omega arith)
 verb_fits verbs.RUnlock = (refl, omega arith)
 verb_fits verbs.TryRLock = (refl, omega arith)
+verb_fits verbs.Wait = (refl, omega arith)
+verb_fits verbs.Signal = (refl, omega arith)
+verb_fits verbs.Broadcast = (refl, omega arith)
+verb_fits verbs.Done = (refl, omega arith)
+verb_fits verbs.Do = (refl, omega arith)
+verb_fits verbs.Call = (refl, omega arith)
+verb_fits verbs.Value = (refl, omega arith)
+verb_fits verbs.Put = (refl, omega arith)
+verb_fits verbs.Get = (refl, omega arith)
+verb_fits verbs.Sweep = (refl, omega arith)
 
 call_fits : (o : Option Declared) (name : List ℕ) (c : Call) → names_object o c ≡ true → is_name name ≡ true → is_call c ≡ true → FitsLine (verb_word (verb_of c) ∷ name ∷ operands_of c)
 call_fits None name c on named h = absurd cc
@@ -304,31 +363,41 @@ call_fits (Some found) name c on named h =
       short = omega (arith, length-join (verb_word (verb_of c)) (name ∷ operands_of c), first.1, second.1, others.1);
     }
 
-kind_fits : (k : ObjectKind) → (is_word (kind_word k) ≡ true) × (length (kind_word k) ≤ 20)
-kind_fits kinds.Map = (refl, omega arith)
-kind_fits (kinds.Atomic types.Int32) = (refl, omega arith)
-kind_fits (kinds.Atomic types.Int64) = (refl, omega arith)
-kind_fits (kinds.Atomic types.Uint32) = (refl, omega arith)
-kind_fits (kinds.Atomic types.Uint64) = (refl, omega arith)
-kind_fits (kinds.Atomic types.Bool) = (refl, omega arith)
-kind_fits kinds.Mutex = (refl, omega arith)
-kind_fits kinds.RwMutex = (refl, omega arith)
+object_word_fits : (w : ObjectWord) → (is_word (object_word w) ≡ true) × (length (object_word w) ≤ 20)
+object_word_fits words.Map = (refl, omega arith)
+object_word_fits (words.Atomic types.Int32) = (refl, omega arith)
+object_word_fits (words.Atomic types.Int64) = (refl, omega arith)
+object_word_fits (words.Atomic types.Uint32) = (refl, omega arith)
+object_word_fits (words.Atomic types.Uint64) = (refl, omega arith)
+object_word_fits (words.Atomic types.Bool) = (refl, omega arith)
+object_word_fits words.Mutex = (refl, omega arith)
+object_word_fits words.RwMutex = (refl, omega arith)
+object_word_fits words.Cond = (refl, omega arith)
+object_word_fits words.WaitGroup = (refl, omega arith)
+object_word_fits words.Once = (refl, omega arith)
+object_word_fits words.OnceFunc = (refl, omega arith)
+object_word_fits words.OnceValue = (refl, omega arith)
+object_word_fits words.Pool = (refl, omega arith)
 
 -- a schedule line of at most eight items, and any other line
 abbrev pub IsNarrow : Line → Type 0
-IsNarrow (lines.Object o) = Unit {0}
+IsNarrow (lines.Object o r) = Unit {0}
 IsNarrow (lines.Worker w) = Unit {0}
 IsNarrow (lines.Schedule ts) = length ts ≤ 8
 IsNarrow (lines.Call n c) = Unit {0}
 
 -- a line that may follow fits
 pub line_fits : (d : Draft) (l : Line) → d.plan.workers ≤ MAX_WORKERS → may_follow d l ≡ true → IsNarrow l → FitsLine (spelled l)
-line_fits d (lines.Object o) few f narrow =
-    let first = kind_fits o.kind in
-    let second = name_is_word o.name (object_follows d o f).name in
+line_fits d (lines.Object o r) few f narrow =
+    let h = object_follows d o r f in
+    let word = object_word (word_of o.kind) in
+    let rest = option_to_list r ++ kind_parameters o.kind in
+    let first = object_word_fits (word_of o.kind) in
+    let second = name_is_word o.name h.name in
+    let others = references_fit d o.kind r h.reference h.kind in
     record {
-      all = pair (is_word (kind_word o.kind)) (list_all is_word (o.name ∷ [])) first.0 (pair (is_word o.name) true second.0 refl);
-      short = omega (arith, length-join (kind_word o.kind) (o.name ∷ []), first.1, second.1);
+      all = pair (is_word word) (list_all is_word (o.name ∷ rest)) first.0 (pair (is_word o.name) (list_all is_word rest) second.0 others.0);
+      short = omega (arith, length-join word (o.name ∷ rest), first.1, second.1, others.1);
     }
 line_fits d (lines.Worker w) few f narrow =
     let second = decimal_is_word w (omega (arith, ltb-true w d.plan.workers f)) in

@@ -1,32 +1,40 @@
 -- A line that is read has no reason to be refused.
-use Rattle.std.proofs.Common.{◌≡◌, ℕ, ◌+◌, ◌^◌, ◌<◌, ◌≤◌, Bool, true, false, cond, eqb, List, [], ◌∷◌, map, length, Option, Some, None, refl, sym, ap, subst, ◌∙◌, arith, ⊎_elim}
+use Rattle.std.proofs.Common.{◌≡◌, ℕ, ℤ, ◌++◌, ◌+◌, ◌^◌, ◌<◌, ◌≤◌, Bool, true, false, cond, eqb, List, [], ◌∷◌, map, length, Option, Some, None, refl, sym, ap, subst, ◌∙◌, arith, ⊎_elim}
 use Rattle.std.specs.Prelude.{nat_lt, nat_le, is_some, count_by}
 use Rattle.std.specs.List.{list_all, flat_map}
-use Rattle.std.specs.Fmt.{decimal}
-use Rattle.std.proofs.lemmas.Bool.{eqb-true, ltb-true, lt-ltb, le-leb}
+use Rattle.std.specs.Fmt.{decimal, signed_decimal}
+use Rattle.std.specs.Option.{option_to_list}
+use Rattle.std.proofs.lemmas.Bool.{eqb-true, ltb-true, leb-true, lt-ltb, le-leb}
 use Rattle.std.proofs.lemmas.List.{length-map}
 use Rattle.sync_model.specs.Name.{is_name}
 use Rattle.sync_model.specs.declared.call.Call.{Call}
+use Rattle.sync_model.specs.declared.atomic_object.AtomicKind.TheVariants as types
 use Rattle.workload.specs.declared.keyword.Keyword.{Keyword}
 use Rattle.workload.specs.declared.keyword.Keyword.TheVariants as keywords
-use Rattle.workload.specs.declared.limits.TheConstants.{MAX_CALLS, MAX_KEYS, MAX_RANGES, MAX_TURNS, MAX_VALUE, MAX_WORKERS}
+use Rattle.workload.specs.declared.limits.TheConstants.{MAX_AMOUNT, MAX_CODE, MAX_CALLS, MAX_KEYS, MAX_RANGES, MAX_TURNS, MAX_VALUE, MAX_WORKERS}
 use Rattle.workload.specs.declared.object.Declared.{Declared}
+use Rattle.workload.specs.declared.object.ObjectKind.{ObjectKind}
+use Rattle.workload.specs.declared.object.ObjectKind.TheVariants as kinds
+use Rattle.workload.specs.declared.object.ObjectWord.{ObjectWord}
+use Rattle.workload.specs.declared.object.ObjectWord.TheVariants as words
 use Rattle.workload.specs.declared.line.Line.{Line}
 use Rattle.workload.specs.declared.line.Line.TheVariants as lines
 use Rattle.workload.specs.declared.reason.Reason.{Reason}
 use Rattle.workload.specs.declared.reason.Reason.TheVariants.{BadNumber, LimitReached}
 use Rattle.workload.specs.declared.turn.Turn.{Turn}
 use Rattle.workload.specs.declared.turn.Turn.TheVariants as turns
-use Rattle.workload.specs.Plan.{Plan, object_of, has_call}
+use Rattle.workload.specs.Plan.{Plan, word_of, reference_of, is_target, object_of, has_call}
 use Rattle.workload.specs.Lines.{lines_of, words_of, is_significant}
-use Rattle.workload.specs.Words.{keyword_of, arguments_of, verb_of, operands_of, turn_word, is_number, is_number_to}
-use Rattle.workload.specs.Draft.{Draft, declared, may_follow, names_object, is_call, is_item, keys_of, call_count, key_count, is_range, range_count}
-use Rattle.workload.specs.Checks.{first_failing, form_of, form_checks, ranges_in, worker_checks, item_checks, line_checks, word_checks, reason_of}
+use Rattle.workload.specs.Words.{keyword_of, arguments_of, verb_of, operands_of, kind_parameters, turn_word, is_number, is_number_to, is_amount_word}
+use Rattle.workload.specs.Draft.{Draft, count_of, limit_of, is_kind, names_reference, declared, may_follow, names_object, is_call, is_item, keys_of, call_count, key_count, is_range, range_count}
+use Rattle.workload.specs.Checks.{first_failing, form_of, form_checks, parameters_of, parameters_checks, reference_checks, is_mutex, is_int64, ranges_in, worker_checks, item_checks, line_checks, word_checks, reason_of}
 use Rattle.workload.specs.Reads.{Says, IsRead, ReadsOn, Reads, FirstFault, IsRefused}
 use Rattle.workload.proofs.Passing.{both}
 use Rattle.workload.proofs.Follows.{object_follows, schedule_follows, call_follows}
 use Rattle.workload.proofs.Numbers.{is_number-decimal, number_of-decimal}
-use Rattle.workload.proofs.CheckLemmas.{form_passes, items_pass, turns_pass}
+use Rattle.workload.proofs.CheckLemmas.{passes_first, form_passes, items_pass, turns_pass}
+use Rattle.workload.proofs.CallWords.{amount_passes}
+use Rattle.workload.proofs.References.{Refers, some_reference, no_reference}
 use Rattle.workload.proofs.CallForms.{value_passes, call_form, ranges_of}
 use Rattle.workload.proofs.Keywords.{keyword_at-keyword_word}
 use Rattle.workload.proofs.OneReading.{IsSmall, read_small, same_read, some_is}
@@ -77,10 +85,58 @@ call_passes d (Some found) n c is on current name fits room keys ranges =
     let has = (both (eqb found.place (object_of c)) (has_call found.kind c) on).1 in
     rw (current, name, is) (form_of_call d found c has fits room keys ranges)
 
+-- what the words behind an object's name need
+abbrev Fits : Draft → ObjectWord → List (List ℕ) → Type 0
+Fits d word words = (eqb (length words) (length (parameters_of word)) ≡ true) × (first_failing (parameters_checks d (parameters_of word) words) ≡ None)
+
+plain_fits : (d : Draft) (k : ObjectKind) (r : Option (List ℕ)) → reference_of k ≡ None → names_reference d k r ≡ true → Fits d (word_of k) (kind_parameters k) → Fits d (word_of k) (option_to_list r ++ kind_parameters k)
+plain_fits d k r none named h = subst (λ (x : Option (List ℕ)). Fits d (word_of k) (option_to_list x ++ kind_parameters k)) (sym (no_reference d k r none named)) h
+
+number_fits : (n most : ℕ) → nat_le n most ≡ true → most < 2 ^ 64 → is_number_to most (decimal n) ≡ true
+number_fits n most h small =
+    let fits : n < 2 ^ 64 = omega (arith, leb-true n most h) in
+    rw (is_number-decimal n fits, number_of-decimal n fits, h) refl
+
+-- a name that an object refers to passes its checks
+reference_passes : (d : Draft) (k : ObjectKind) (place : ℕ) (r : Option (List ℕ)) (test : ObjectKind → Bool) (h : Refers d k place r) → test h.found.kind ≡ true → first_failing (reference_checks d test h.name) ≡ None
+reference_passes d k place r test h passes = rw (h.named, h.found_is, passes) refl
+
+mutex_is : (k : ObjectKind) (place : ℕ) → is_target (kinds.Cond place) k ≡ true → is_mutex k ≡ true
+mutex_is kinds.Mutex place h = refl
+mutex_is k place h = absurd cc
+
+int64_is : (k : ObjectKind) (place : ℕ) (z : ℤ) → is_target (kinds.Once place z) k ≡ true → is_int64 k ≡ true
+int64_is (kinds.Atomic types.Int64) place z h = refl
+int64_is k place z h = absurd cc
+
+parameters_pass : (d : Draft) (k : ObjectKind) (r : Option (List ℕ)) → names_reference d k r ≡ true → is_kind k ≡ true → Fits d (word_of k) (option_to_list r ++ kind_parameters k)
+parameters_pass d (kinds.Cond place) r named h =
+    let to = some_reference d (kinds.Cond place) place r refl named in
+    let passes = reference_passes d (kinds.Cond place) place r is_mutex to (mutex_is to.found.kind place to.target) in
+    subst (λ (x : Option (List ℕ)). Fits d words.Cond (option_to_list x ++ [])) (sym to.is) (refl, passes_first (reference_checks d is_mutex to.name) [] passes)
+parameters_pass d (kinds.Once place z) r named h =
+    let to = some_reference d (kinds.Once place z) place r refl named in
+    let passes = reference_passes d (kinds.Once place z) place r is_int64 to (int64_is to.found.kind place z to.target) in
+    subst (λ (x : Option (List ℕ)). Fits d words.Once (option_to_list x ++ signed_decimal z ∷ [])) (sym to.is) (
+      refl,
+      passes_first (reference_checks d is_int64 to.name) ((is_amount_word (signed_decimal z), BadNumber) ∷ []) passes ∙ rw (amount_passes z h) refl,
+    )
+parameters_pass d (kinds.WaitGroup n) r named h = plain_fits d (kinds.WaitGroup n) r refl named (refl, rw (number_fits n MAX_AMOUNT h (omega arith)) refl)
+parameters_pass d (kinds.OnceFunc n) r named h = plain_fits d (kinds.OnceFunc n) r refl named (refl, rw (number_fits n MAX_CODE h (omega arith)) refl)
+parameters_pass d (kinds.OnceValue n) r named h = plain_fits d (kinds.OnceValue n) r refl named (refl, rw (number_fits n MAX_VALUE h (omega arith)) refl)
+parameters_pass d kinds.Map r named h = plain_fits d kinds.Map r refl named (refl, refl)
+parameters_pass d (kinds.Atomic k) r named h = plain_fits d (kinds.Atomic k) r refl named (refl, refl)
+parameters_pass d kinds.Mutex r named h = plain_fits d kinds.Mutex r refl named (refl, refl)
+parameters_pass d kinds.RwMutex r named h = plain_fits d kinds.RwMutex r refl named (refl, refl)
+parameters_pass d kinds.Pool r named h = plain_fits d kinds.Pool r refl named (refl, refl)
+
 line_passes : (d : Draft) (l : Line) → d.plan.workers ≤ MAX_WORKERS → may_follow d l ≡ true → first_failing (line_checks d (Some (keyword_of l)) (arguments_of l)) ≡ None
-line_passes d (lines.Object o) few f =
-    let h = object_follows d o f in
-    rw (h.name, h.new, h.room) refl
+line_passes d (lines.Object o r) few f =
+    let h = object_follows d o r f in
+    let word = word_of o.kind in
+    let words = option_to_list r ++ kind_parameters o.kind in
+    let passes = parameters_pass d o.kind r h.reference h.kind in
+    rw (passes.0, h.name, h.new) (passes_first (parameters_checks d (parameters_of word) words) ((nat_lt (count_of word d.plan.objects) (limit_of word), LimitReached) ∷ []) passes.1 ∙ rw h.room refl)
 line_passes d (lines.Worker i) few f = worker_passes d.plan.workers i few f
 line_passes d (lines.Schedule ts) few f =
     let h = schedule_follows d ts f in

@@ -23,7 +23,7 @@ pub some_is : {X : Type 0} (x y : X) → Some x ≡ Some y → x ≡ y
 some_is x y e = cc
 
 pub line_small : (d : Draft) (line : Line) → d.plan.workers ≤ MAX_WORKERS → (with_line d line).plan.workers ≤ MAX_WORKERS
-line_small d (lines.Object o) h = h
+line_small d (lines.Object o to) h = h
 line_small d (lines.Worker w) h = h
 line_small d (lines.Schedule ts) h = h
 line_small d (lines.Call n c) h = h

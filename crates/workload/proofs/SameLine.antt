@@ -1,7 +1,9 @@
 -- No two lines that may follow are spelled alike.
-use Rattle.std.proofs.Common.{◌≡◌, ℕ, ◌^◌, ◌<◌, ◌≤◌, true, eqb, List, [], ◌∷◌, map, Option, Some, None, refl, sym, ap, subst, ◌∙◌, arith}
+use Rattle.std.proofs.Common.{◌≡◌, ℕ, ℤ, ◌++◌, ◌^◌, ◌<◌, ◌≤◌, true, eqb, List, [], ◌∷◌, map, Option, Some, None, refl, sym, ap, subst, ◌∙◌, arith}
+use Rattle.std.specs.Prelude.{nat_le}
 use Rattle.std.specs.List.{list_all}
-use Rattle.std.specs.Fmt.{decimal}
+use Rattle.std.specs.Fmt.{decimal, signed_decimal}
+use Rattle.std.specs.Option.{option_to_list}
 use Rattle.std.proofs.lemmas.Bool.{eqb-true, ltb-true, leb-true}
 use Rattle.std.proofs.lemmas.Fmt.{decimal_injective}
 use Rattle.sync_model.specs.declared.call.Call.{Call}
@@ -10,6 +12,10 @@ use Rattle.sync_model.specs.declared.map_object.MapCall.{MapCall}
 use Rattle.sync_model.specs.declared.map_object.MapCall.TheVariants as map_calls
 use Rattle.sync_model.specs.declared.atomic_object.AtomicKind.{AtomicKind}
 use Rattle.sync_model.specs.declared.atomic_object.AtomicCall.{AtomicCall}
+use Rattle.sync_model.specs.declared.wait_call.CondCall.{CondCall}
+use Rattle.sync_model.specs.declared.wait_call.CondCall.TheVariants as cond_calls
+use Rattle.sync_model.specs.declared.wait_call.WaitGroupCall.{WaitGroupCall}
+use Rattle.sync_model.specs.declared.pool_call.PoolCall.{PoolCall}
 use Rattle.sync_model.specs.declared.lock_call.MutexCall.{MutexCall}
 use Rattle.sync_model.specs.declared.lock_call.MutexCall.TheVariants as mutex_calls
 use Rattle.sync_model.specs.declared.lock_call.RwMutexCall.{RwMutexCall}
@@ -18,7 +24,7 @@ use Rattle.sync_model.specs.SequentialAtomic.{is_atomic_call}
 use Rattle.workload.specs.declared.keyword.Keyword.{Keyword}
 use Rattle.workload.specs.declared.keyword.Verb.{Verb}
 use Rattle.workload.specs.declared.keyword.Verb.TheVariants as verbs
-use Rattle.workload.specs.declared.limits.TheConstants.{MAX_VALUE, MAX_WORKERS}
+use Rattle.workload.specs.declared.limits.TheConstants.{MAX_AMOUNT, MAX_CODE, MAX_VALUE, MAX_WORKERS}
 use Rattle.workload.specs.declared.object.Declared.{Declared}
 use Rattle.workload.specs.declared.object.ObjectKind.{ObjectKind}
 use Rattle.workload.specs.declared.object.ObjectKind.TheVariants as kinds
@@ -26,14 +32,15 @@ use Rattle.workload.specs.declared.line.Line.{Line}
 use Rattle.workload.specs.declared.line.Line.TheVariants as lines
 use Rattle.workload.specs.declared.turn.Turn.{Turn}
 use Rattle.workload.specs.declared.turn.Turn.TheVariants as turns
-use Rattle.workload.specs.Plan.{object_of, has_call}
-use Rattle.workload.specs.Words.{keyword_word, keyword_of, keyword_at, arguments_of, spelled, verb_of, map_verb, atomic_verb, mutex_verb, rw_mutex_verb, operands_of, map_operands, atomic_operands, turn_word, is_number}
-use Rattle.workload.specs.Draft.{Draft, declared, may_follow, names_object, is_call, is_map_call, is_item}
+use Rattle.workload.specs.Plan.{word_of, is_amount, reference_of, object_of, has_call}
+use Rattle.workload.specs.Words.{keyword_word, keyword_of, keyword_at, arguments_of, spelled, verb_of, map_verb, atomic_verb, mutex_verb, rw_mutex_verb, cond_verb, group_verb, pool_verb, operands_of, map_operands, atomic_operands, group_operands, pool_operands, kind_parameters, turn_word, is_number}
+use Rattle.workload.specs.Draft.{Draft, declared, may_follow, names_object, is_call, is_map_call, is_group_call, is_pool_call, is_kind, names_reference, is_item}
 use Rattle.workload.proofs.Passing.{both}
-use Rattle.workload.proofs.Follows.{schedule_follows, call_follows}
+use Rattle.workload.proofs.Follows.{object_follows, schedule_follows, call_follows}
+use Rattle.workload.proofs.References.{Refers, some_reference, no_reference}
 use Rattle.workload.proofs.Numbers.{is_number-decimal}
 use Rattle.workload.proofs.Keywords.{keyword_at-keyword_word}
-use Rattle.workload.proofs.CallWords.{map_call_at, map_call_spelled, atomic_call_at, atomic_call_spelled}
+use Rattle.workload.proofs.CallWords.{map_call_at, map_call_spelled, atomic_call_at, atomic_call_spelled, signed_of, amount_spelled, group_call_at, group_call_spelled, pool_call_at, pool_call_spelled}
 
 some_is : {X : Type 0} (x y : X) → Some x ≡ Some y → x ≡ y
 some_is x y e = cc
@@ -103,6 +110,26 @@ rw_mutex_call_spelled rw_mutex_calls.RLock = refl
 rw_mutex_call_spelled rw_mutex_calls.RUnlock = refl
 rw_mutex_call_spelled rw_mutex_calls.TryRLock = refl
 
+abbrev cond_call_at : Verb → Option CondCall
+cond_call_at verbs.Wait = Some cond_calls.Wait
+cond_call_at verbs.Signal = Some cond_calls.Signal
+cond_call_at verbs.Broadcast = Some cond_calls.Broadcast
+cond_call_at verb = None
+
+cond_call_spelled : (c : CondCall) → cond_call_at (cond_verb c) ≡ Some c
+cond_call_spelled cond_calls.Wait = refl
+cond_call_spelled cond_calls.Signal = refl
+cond_call_spelled cond_calls.Broadcast = refl
+
+same_cond_call : (c d : CondCall) → cond_verb c ≡ cond_verb d → c ≡ d
+same_cond_call c d v = some_is c d (sym (cond_call_spelled c) ∙ ap cond_call_at v ∙ cond_call_spelled d)
+
+same_group_call : (c d : WaitGroupCall) → is_group_call c ≡ true → is_group_call d ≡ true → group_verb c ≡ group_verb d → group_operands c ≡ group_operands d → c ≡ d
+same_group_call c d p q v e = some_is c d (sym (group_call_spelled c p) ∙ ap (λ (x : Verb). group_call_at x (group_operands c)) v ∙ ap (group_call_at (group_verb d)) e ∙ group_call_spelled d q)
+
+same_pool_call : (c d : PoolCall) → is_pool_call c ≡ true → is_pool_call d ≡ true → pool_verb c ≡ pool_verb d → pool_operands c ≡ pool_operands d → c ≡ d
+same_pool_call c d p q v e = some_is c d (sym (pool_call_spelled c p) ∙ ap (λ (x : Verb). pool_call_at x (pool_operands c)) v ∙ ap (pool_call_at (pool_verb d)) e ∙ pool_call_spelled d q)
+
 same_mutex_call : (c d : MutexCall) → mutex_verb c ≡ mutex_verb d → c ≡ d
 same_mutex_call c d v = some_is c d (sym (mutex_call_spelled c) ∙ ap mutex_call_at v ∙ mutex_call_spelled d)
 
@@ -136,6 +163,12 @@ same_call_on kinds.Map (calls.Range i) (calls.Map j d) at on_c on_d p q v e = ab
 same_call_on (kinds.Atomic k) (calls.Atomic i c) (calls.Atomic j d) at on_c on_d p q v e = ap (λ (n : ℕ). calls.Atomic n c) at ∙ ap (λ (x : AtomicCall). calls.Atomic j x) (same_atomic_call k c d on_c on_d v e)
 same_call_on kinds.Mutex (calls.Mutex i c) (calls.Mutex j d) at on_c on_d p q v e = ap (λ (n : ℕ). calls.Mutex n c) at ∙ ap (λ (x : MutexCall). calls.Mutex j x) (same_mutex_call c d v)
 same_call_on kinds.RwMutex (calls.RwMutex i c) (calls.RwMutex j d) at on_c on_d p q v e = ap (λ (n : ℕ). calls.RwMutex n c) at ∙ ap (λ (x : RwMutexCall). calls.RwMutex j x) (same_rw_mutex_call c d v)
+same_call_on (kinds.Cond m) (calls.Cond i c) (calls.Cond j d) at on_c on_d p q v e = ap (λ (n : ℕ). calls.Cond n c) at ∙ ap (λ (x : CondCall). calls.Cond j x) (same_cond_call c d v)
+same_call_on (kinds.WaitGroup n) (calls.WaitGroup i c) (calls.WaitGroup j d) at on_c on_d p q v e = ap (λ (n : ℕ). calls.WaitGroup n c) at ∙ ap (λ (x : WaitGroupCall). calls.WaitGroup j x) (same_group_call c d p q v e)
+same_call_on (kinds.Once a z) (calls.Once i) (calls.Once j) at on_c on_d p q v e = ap (λ (n : ℕ). calls.Once n) at
+same_call_on (kinds.OnceFunc n) (calls.OnceFunc i) (calls.OnceFunc j) at on_c on_d p q v e = ap (λ (n : ℕ). calls.OnceFunc n) at
+same_call_on (kinds.OnceValue n) (calls.OnceValue i) (calls.OnceValue j) at on_c on_d p q v e = ap (λ (n : ℕ). calls.OnceValue n) at
+same_call_on kinds.Pool (calls.Pool i c) (calls.Pool j d) at on_c on_d p q v e = ap (λ (n : ℕ). calls.Pool n c) at ∙ ap (λ (x : PoolCall). calls.Pool j x) (same_pool_call c d p q v e)
 same_call_on kind c d at on_c on_d p q v e = absurd cc
 
 same_call : (o : Option Declared) (c d : Call) → names_object o c ≡ true → names_object o d ≡ true → is_call c ≡ true → is_call d ≡ true → verb_of c ≡ verb_of d → operands_of c ≡ operands_of d → c ≡ d
@@ -146,11 +179,76 @@ same_call (Some found) c d on_c on_d p q v e =
     (both (eqb found.place (object_of d)) (has_call found.kind d) on_d).1
     p q v e
 
+-- ---- objects
+
+number_is : (most m n : ℕ) → nat_le m most ≡ true → nat_le n most ≡ true → most < 2 ^ 64 → decimal m ∷ [] ≡ decimal n ∷ [] → m ≡ n
+number_is most m n p q small e = decimal_injective m n (omega (arith, leb-true m most p)) (omega (arith, leb-true n most q)) (heads (decimal m) (decimal n) [] [] e).0
+
+amount_is : (y z : ℤ) → is_amount y ≡ true → is_amount z ≡ true → signed_decimal y ∷ [] ≡ signed_decimal z ∷ [] → y ≡ z
+amount_is y z p q e = sym (amount_spelled y p) ∙ ap signed_of (heads (signed_decimal y) (signed_decimal z) [] [] e).0 ∙ amount_spelled z q
+
+-- the words behind the name, where none of them is a name
+without : (r s : Option (List ℕ)) (xs ys : List (List ℕ)) → r ≡ None → s ≡ None → option_to_list r ++ xs ≡ option_to_list s ++ ys → xs ≡ ys
+without r s xs ys p q e = sym (ap (λ (x : Option (List ℕ)). option_to_list x ++ xs) p) ∙ e ∙ ap (λ (x : Option (List ℕ)). option_to_list x ++ ys) q
+
+-- where the first of them is a name, it is the same, and so is the place of what it names
+named_alike : (d : Draft) (k l : ObjectKind) (i j : ℕ) (r s : Option (List ℕ)) (xs ys : List (List ℕ)) → Refers d k i r → Refers d l j s → option_to_list r ++ xs ≡ option_to_list s ++ ys → (i ≡ j) × (r ≡ s) × (xs ≡ ys)
+named_alike d k l i j r s xs ys p q e =
+    let words = heads p.name q.name xs ys (sym (ap (λ (x : Option (List ℕ)). option_to_list x ++ xs) p.is) ∙ e ∙ ap (λ (x : Option (List ℕ)). option_to_list x ++ ys) q.is) in
+    let found = some_is p.found q.found (sym p.found_is ∙ ap (declared d) words.0 ∙ q.found_is) in (
+      sym p.place_is ∙ ap (λ (x : Declared). x.place) found ∙ q.place_is,
+      p.is ∙ ap (λ (n : List ℕ). Some n) words.0 ∙ sym q.is,
+      words.1,
+    )
+
+-- of an object that refers to none, its numbers say what it is
+plain : (k l : ObjectKind) → reference_of k ≡ None → is_kind k ≡ true → is_kind l ≡ true → word_of k ≡ word_of l → kind_parameters k ≡ kind_parameters l → k ≡ l
+plain kinds.Map kinds.Map none p q w e = refl
+plain (kinds.Atomic k) (kinds.Atomic l) none p q w e = cc
+plain kinds.Mutex kinds.Mutex none p q w e = refl
+plain kinds.RwMutex kinds.RwMutex none p q w e = refl
+plain (kinds.WaitGroup m) (kinds.WaitGroup n) none p q w e = ap (λ (x : ℕ). kinds.WaitGroup x) (number_is MAX_AMOUNT m n p q (omega arith) e)
+plain (kinds.OnceFunc m) (kinds.OnceFunc n) none p q w e = ap (λ (x : ℕ). kinds.OnceFunc x) (number_is MAX_CODE m n p q (omega arith) e)
+plain (kinds.OnceValue m) (kinds.OnceValue n) none p q w e = ap (λ (x : ℕ). kinds.OnceValue x) (number_is MAX_VALUE m n p q (omega arith) e)
+plain kinds.Pool kinds.Pool none p q w e = refl
+plain k l none p q w e = absurd cc
+
+plain_kind : (d : Draft) (k l : ObjectKind) (r s : Option (List ℕ)) → reference_of k ≡ None → reference_of l ≡ None → names_reference d k r ≡ true → names_reference d l s ≡ true → is_kind k ≡ true → is_kind l ≡ true → word_of k ≡ word_of l
+    → option_to_list r ++ kind_parameters k ≡ option_to_list s ++ kind_parameters l → (k ≡ l) × (r ≡ s)
+plain_kind d k l r s absent none f g p q w e =
+    let first = no_reference d k r absent f in
+    let second = no_reference d l s none g in
+    (plain k l absent p q w (without r s (kind_parameters k) (kind_parameters l) first second e), first ∙ sym second)
+
+-- the words of an object's line say what it is, and to what it refers
+same_kind : (d : Draft) (k l : ObjectKind) (r s : Option (List ℕ)) → names_reference d k r ≡ true → names_reference d l s ≡ true → is_kind k ≡ true → is_kind l ≡ true → word_of k ≡ word_of l
+    → option_to_list r ++ kind_parameters k ≡ option_to_list s ++ kind_parameters l → (k ≡ l) × (r ≡ s)
+same_kind d (kinds.Cond i) (kinds.Cond j) r s f g p q w e =
+    let alike = named_alike d (kinds.Cond i) (kinds.Cond j) i j r s [] [] (some_reference d (kinds.Cond i) i r refl f) (some_reference d (kinds.Cond j) j s refl g) e in
+    (ap (λ (n : ℕ). kinds.Cond n) alike.0, alike.1)
+same_kind d (kinds.Once i y) (kinds.Once j z) r s f g p q w e =
+    let alike = named_alike d (kinds.Once i y) (kinds.Once j z) i j r s (signed_decimal y ∷ []) (signed_decimal z ∷ []) (some_reference d (kinds.Once i y) i r refl f) (some_reference d (kinds.Once j z) j s refl g) e in
+    (ap (λ (n : ℕ). kinds.Once n y) alike.0 ∙ ap (λ (x : ℤ). kinds.Once j x) (amount_is y z p q alike.2), alike.1)
+same_kind d kinds.Map kinds.Map r s f g p q w e = plain_kind d kinds.Map kinds.Map r s refl refl f g p q w e
+same_kind d (kinds.Atomic k) (kinds.Atomic l) r s f g p q w e = plain_kind d (kinds.Atomic k) (kinds.Atomic l) r s refl refl f g p q w e
+same_kind d kinds.Mutex kinds.Mutex r s f g p q w e = plain_kind d kinds.Mutex kinds.Mutex r s refl refl f g p q w e
+same_kind d kinds.RwMutex kinds.RwMutex r s f g p q w e = plain_kind d kinds.RwMutex kinds.RwMutex r s refl refl f g p q w e
+same_kind d (kinds.WaitGroup m) (kinds.WaitGroup n) r s f g p q w e = plain_kind d (kinds.WaitGroup m) (kinds.WaitGroup n) r s refl refl f g p q w e
+same_kind d (kinds.OnceFunc m) (kinds.OnceFunc n) r s f g p q w e = plain_kind d (kinds.OnceFunc m) (kinds.OnceFunc n) r s refl refl f g p q w e
+same_kind d (kinds.OnceValue m) (kinds.OnceValue n) r s f g p q w e = plain_kind d (kinds.OnceValue m) (kinds.OnceValue n) r s refl refl f g p q w e
+same_kind d kinds.Pool kinds.Pool r s f g p q w e = plain_kind d kinds.Pool kinds.Pool r s refl refl f g p q w e
+same_kind d k l r s f g p q w e = absurd cc
+
 same_arguments : (d : Draft) (l m : Line) → d.plan.workers ≤ MAX_WORKERS → may_follow d l ≡ true → may_follow d m ≡ true → keyword_of l ≡ keyword_of m → arguments_of l ≡ arguments_of m → l ≡ m
-same_arguments d (lines.Object o) (lines.Object p) few f g k e =
-    let name = (heads o.name p.name [] [] e).0 in
-    let kind : o.kind ≡ p.kind = cc in
-    ap (λ (n : List ℕ). lines.Object (record { name = n; kind = o.kind })) name ∙ ap (λ (x : ObjectKind). lines.Object (record { name = p.name; kind = x })) kind
+same_arguments d (lines.Object o r) (lines.Object p s) few f g k e =
+    let words = heads o.name p.name (option_to_list r ++ kind_parameters o.kind) (option_to_list s ++ kind_parameters p.kind) e in
+    let first = object_follows d o r f in
+    let second = object_follows d p s g in
+    let word : word_of o.kind ≡ word_of p.kind = cc in
+    let kind = same_kind d o.kind p.kind r s first.reference second.reference first.kind second.kind word words.1 in
+    ap (λ (n : List ℕ). lines.Object (record { name = n; kind = o.kind }) r) words.0
+    ∙ ap (λ (x : ObjectKind). lines.Object (record { name = p.name; kind = x }) r) kind.0
+    ∙ ap (λ (x : Option (List ℕ)). lines.Object p x) kind.1
 same_arguments d (lines.Worker i) (lines.Worker j) few f g k e =
     ap (λ (n : ℕ). lines.Worker n) (decimal_injective i j (omega (arith, ltb-true i d.plan.workers f)) (omega (arith, ltb-true j d.plan.workers g)) (heads (decimal i) (decimal j) [] [] e).0)
 same_arguments d (lines.Schedule ts) (lines.Schedule us) few f g k e =
@@ -162,18 +260,7 @@ same_arguments d (lines.Call n c) (lines.Call m b) few f g k e =
     let on : names_object (declared d n) b ≡ true = subst (λ (x : List ℕ). names_object (declared d x) b ≡ true) (sym words.0) second.on in
     let verb : verb_of c ≡ verb_of b = cc in
     ap (λ (x : List ℕ). lines.Call x c) words.0 ∙ ap (λ (x : Call). lines.Call m x) (same_call (declared d n) c b first.on on first.call second.call verb words.1)
-same_arguments d (lines.Object o) (lines.Worker j) few f g k e = absurd cc
-same_arguments d (lines.Object o) (lines.Schedule us) few f g k e = absurd cc
-same_arguments d (lines.Object o) (lines.Call m b) few f g k e = absurd cc
-same_arguments d (lines.Worker i) (lines.Object p) few f g k e = absurd cc
-same_arguments d (lines.Worker i) (lines.Schedule us) few f g k e = absurd cc
-same_arguments d (lines.Worker i) (lines.Call m b) few f g k e = absurd cc
-same_arguments d (lines.Schedule ts) (lines.Object p) few f g k e = absurd cc
-same_arguments d (lines.Schedule ts) (lines.Worker j) few f g k e = absurd cc
-same_arguments d (lines.Schedule ts) (lines.Call m b) few f g k e = absurd cc
-same_arguments d (lines.Call n c) (lines.Object p) few f g k e = absurd cc
-same_arguments d (lines.Call n c) (lines.Worker j) few f g k e = absurd cc
-same_arguments d (lines.Call n c) (lines.Schedule us) few f g k e = absurd cc
+same_arguments d l m few f g k e = absurd cc
 
 -- the words determine the line
 pub same_line : (d : Draft) (l m : Line) → d.plan.workers ≤ MAX_WORKERS → may_follow d l ≡ true → may_follow d m ≡ true → spelled l ≡ spelled m → l ≡ m

@@ -1,12 +1,14 @@
 -- The canonical text of a workload.
 use Rattle.std.specs.Prelude.{ℕ, zero, suc, ◌+◌, List, [], ◌∷◌, ◌++◌, map, Option, Some, None, slice_get}
 use Rattle.std.specs.List.{flat_map, join_with_byte, onto_first}
+use Rattle.std.specs.Option.{option_map}
 use Rattle.sync_model.specs.declared.call.Call.{Call}
 use Rattle.workload.specs.declared.line.Line.{Line}
 use Rattle.workload.specs.declared.line.Line.TheVariants as lines
+use Rattle.workload.specs.declared.object.ObjectKind.{ObjectKind}
 use Rattle.workload.specs.declared.object.ObjectLine.{ObjectLine}
 use Rattle.workload.specs.declared.turn.Turn.{Turn}
-use Rattle.workload.specs.Plan.{Plan, object_of}
+use Rattle.workload.specs.Plan.{Plan, object_of, reference_of}
 use Rattle.workload.specs.Words.{spelled, first_spelled}
 
 -- words joined by one space, and a line feed
@@ -17,6 +19,13 @@ text_line words = join_with_byte 32 words ++ 10 ∷ []
 abbrev pub name_of : Option ObjectLine → List ℕ
 name_of None = []
 name_of (Some object) = object.name
+
+-- the name of the object to which an object refers
+abbrev pub reference_name : List ObjectLine → ObjectKind → Option (List ℕ)
+reference_name objects kind = option_map (λ place. name_of (slice_get objects place)) (reference_of kind)
+
+abbrev pub object_line : List ObjectLine → ObjectLine → Line
+object_line objects object = lines.Object object (reference_name objects object.kind)
 
 abbrev pub call_line : List ObjectLine → Call → Line
 call_line objects call = lines.Call (name_of (slice_get objects (object_of call))) call
@@ -35,7 +44,7 @@ eights (suc more) (turn ∷ turns) = onto_first turn (eights more turns)
 -- the lines behind the first: objects, scripts, schedule
 abbrev pub canonical_lines : Plan → List Line
 canonical_lines plan =
-    map (λ object. lines.Object object) plan.objects
+    map (object_line plan.objects) plan.objects
     ++ (script_lines plan.objects 0 plan.scripts
     ++ map (λ turns. lines.Schedule turns) (eights 7 plan.schedule))
 

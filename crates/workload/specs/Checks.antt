@@ -1,24 +1,30 @@
 -- Why a line is refused: its checks in their order, each with the reason where it fails.
-use Rattle.std.specs.Prelude.{ℕ, Bool, false, ◌&&◌, ◌+◌, not, cond, nat_lt, nat_le, ◌==◌, List, [], ◌∷◌, ◌++◌, length, codes, Option, Some, None, is_some}
+use Rattle.std.specs.Prelude.{ℕ, Bool, true, false, ◌&&◌, ◌+◌, not, cond, nat_lt, nat_le, ◌==◌, List, [], ◌∷◌, ◌++◌, length, codes, Option, Some, None, is_some}
 use Rattle.std.specs.List.{flat_map}
+use Rattle.std.specs.Option.{option_map_or}
 use Rattle.std.specs.Str.{bytes_eq}
 use Rattle.sync_model.specs.Name.{is_name}
 use Rattle.sync_model.specs.declared.atomic_object.AtomicKind.{AtomicKind}
+use Rattle.sync_model.specs.declared.atomic_object.AtomicKind.TheVariants as types
 use Rattle.sync_model.specs.SequentialAtomic.{has_bits}
-use Rattle.workload.specs.declared.limits.TheConstants.{MAX_CALLS, MAX_KEYS, MAX_RANGES, MAX_TURNS, MAX_VALUE, MAX_WORKERS}
+use Rattle.workload.specs.declared.limits.TheConstants.{MAX_AMOUNT, MAX_CALLS, MAX_CODE, MAX_KEYS, MAX_RANGES, MAX_TURNS, MAX_VALUE, MAX_WORKERS}
 use Rattle.workload.specs.declared.keyword.Keyword.{Keyword}
 use Rattle.workload.specs.declared.keyword.Keyword.TheVariants as keywords
 use Rattle.workload.specs.declared.keyword.Verb.{Verb}
 use Rattle.workload.specs.declared.keyword.Verb.TheVariants as verbs
 use Rattle.workload.specs.declared.keyword.Operand.{Operand}
 use Rattle.workload.specs.declared.keyword.Operand.TheVariants as operands
+use Rattle.workload.specs.declared.keyword.Parameter.{Parameter}
+use Rattle.workload.specs.declared.keyword.Parameter.TheVariants as parameters
 use Rattle.workload.specs.declared.object.ObjectKind.{ObjectKind}
 use Rattle.workload.specs.declared.object.ObjectKind.TheVariants as kinds
+use Rattle.workload.specs.declared.object.ObjectWord.{ObjectWord}
+use Rattle.workload.specs.declared.object.ObjectWord.TheVariants as words
 use Rattle.workload.specs.declared.object.Declared.{Declared}
 use Rattle.workload.specs.declared.reason.Reason.{Reason}
 use Rattle.workload.specs.declared.reason.Reason.TheVariants.{NoWorkersLine, LineTooLong, BadByte, UnknownWord, WrongNumberOfWords, BadName, NameTaken, UnknownName, WrongKind, BadNumber, NoSuchWorker, CallOutsideWorker, LimitReached}
 use Rattle.workload.specs.Lines.{is_short, is_clean, words_of, is_significant}
-use Rattle.workload.specs.Words.{keyword_at, is_number, is_number_to, is_number_word, number_of}
+use Rattle.workload.specs.Words.{keyword_at, is_number, is_number_to, is_amount_word, is_number_word, number_of}
 use Rattle.workload.specs.Draft.{Draft, declared, limit_of, count_of, call_count, key_count, range_count}
 
 -- whether a check passes, and the reason that it fails for
@@ -76,17 +82,58 @@ rw_mutex_form verbs.RUnlock = Some []
 rw_mutex_form verbs.TryRLock = Some []
 rw_mutex_form verb = None
 
+-- nor has one of a cond
+abbrev pub cond_form : Verb → Option (List Operand)
+cond_form verbs.Wait = Some []
+cond_form verbs.Signal = Some []
+cond_form verbs.Broadcast = Some []
+cond_form verb = None
+
+-- the operands of a call of a wait group
+abbrev pub group_form : Verb → Option (List Operand)
+group_form verbs.Add = Some (operands.Amount ∷ [])
+group_form verbs.Done = Some []
+group_form verbs.Wait = Some []
+group_form verb = None
+
+-- a once, and a function made by one, has one call
+abbrev pub once_form : Verb → Option (List Operand)
+once_form verbs.Do = Some []
+once_form verb = None
+
+abbrev pub once_func_form : Verb → Option (List Operand)
+once_func_form verbs.Call = Some []
+once_func_form verb = None
+
+abbrev pub once_value_form : Verb → Option (List Operand)
+once_value_form verbs.Value = Some []
+once_value_form verb = None
+
+-- the operands of a call of a pool
+abbrev pub pool_form : Verb → Option (List Operand)
+pool_form verbs.Put = Some (operands.Value ∷ [])
+pool_form verbs.Get = Some []
+pool_form verbs.Sweep = Some []
+pool_form verb = None
+
 -- the operands of a call on an object of a kind
 abbrev pub form_of : Verb → ObjectKind → Option (List Operand)
 form_of verb kinds.Map = map_form verb
 form_of verb (kinds.Atomic kind) = atomic_form kind verb
 form_of verb kinds.Mutex = mutex_form verb
 form_of verb kinds.RwMutex = rw_mutex_form verb
+form_of verb (kinds.Cond mutex) = cond_form verb
+form_of verb (kinds.WaitGroup start) = group_form verb
+form_of verb (kinds.Once atomic delta) = once_form verb
+form_of verb (kinds.OnceFunc code) = once_func_form verb
+form_of verb (kinds.OnceValue value) = once_value_form verb
+form_of verb kinds.Pool = pool_form verb
 
 abbrev pub operand_check : Operand → List ℕ → Check
 operand_check operands.Key word = (is_name word, BadName)
 operand_check operands.Value word = (is_number_to MAX_VALUE word, BadNumber)
 operand_check (operands.Number kind) word = (is_number_word kind word, BadNumber)
+operand_check operands.Amount word = (is_amount_word word, BadNumber)
 
 -- the operands from left to right
 abbrev pub operand_checks : List Operand → List (List ℕ) → List Check
@@ -99,8 +146,7 @@ abbrev pub key_operands : List Operand → List (List ℕ) → List (List ℕ)
 key_operands [] words = []
 key_operands (form ∷ forms) [] = []
 key_operands (operands.Key ∷ forms) (word ∷ words) = word ∷ key_operands forms words
-key_operands (operands.Value ∷ forms) (word ∷ words) = key_operands forms words
-key_operands (operands.Number kind ∷ forms) (word ∷ words) = key_operands forms words
+key_operands (form ∷ forms) (word ∷ words) = key_operands forms words
 
 -- how many `range` calls a call of this word is
 abbrev pub ranges_in : Verb → ℕ
@@ -128,6 +174,48 @@ call_checks d verb [] = (is_some d.current, CallOutsideWorker) ∷ (false, Wrong
 call_checks d verb (name ∷ words) =
     (is_some d.current, CallOutsideWorker) ∷ (is_name name, BadName) ∷ object_checks d (declared d name) verb words
 
+-- what the line of an object has behind the object's name
+abbrev pub parameters_of : ObjectWord → List Parameter
+parameters_of words.Cond = parameters.Mutex ∷ []
+parameters_of words.WaitGroup = parameters.Number MAX_AMOUNT ∷ []
+parameters_of words.Once = parameters.Int64 ∷ parameters.Amount ∷ []
+parameters_of words.OnceFunc = parameters.Number MAX_CODE ∷ []
+parameters_of words.OnceValue = parameters.Number MAX_VALUE ∷ []
+parameters_of word = []
+
+-- the kinds of object to which a name among them may refer
+abbrev pub is_mutex : ObjectKind → Bool
+is_mutex kinds.Mutex = true
+is_mutex kind = false
+
+abbrev pub is_int64 : ObjectKind → Bool
+is_int64 (kinds.Atomic types.Int64) = true
+is_int64 kind = false
+
+-- a name of an object that is declared before, of a kind that passes the test
+abbrev pub reference_checks : Draft → (ObjectKind → Bool) → List ℕ → List Check
+reference_checks d test word =
+    (is_name word, BadName) ∷ (is_some (declared d word), UnknownName) ∷ (option_map_or (λ found. test found.kind) (declared d word) false, WrongKind) ∷ []
+
+abbrev pub parameter_checks : Draft → Parameter → List ℕ → List Check
+parameter_checks d parameters.Mutex word = reference_checks d is_mutex word
+parameter_checks d parameters.Int64 word = reference_checks d is_int64 word
+parameter_checks d (parameters.Number most) word = (is_number_to most word, BadNumber) ∷ []
+parameter_checks d parameters.Amount word = (is_amount_word word, BadNumber) ∷ []
+
+-- the words from left to right
+abbrev pub parameters_checks : Draft → List Parameter → List (List ℕ) → List Check
+parameters_checks d [] words = []
+parameters_checks d (form ∷ forms) [] = []
+parameters_checks d (form ∷ forms) (word ∷ words) = parameter_checks d form word ++ parameters_checks d forms words
+
+-- the checks of the line of an object
+abbrev pub declaration_checks : Draft → ObjectWord → List (List ℕ) → List Check
+declaration_checks d word [] = (false, WrongNumberOfWords) ∷ []
+declaration_checks d word (name ∷ words) =
+    (length words == length (parameters_of word), WrongNumberOfWords) ∷ (is_name name, BadName) ∷ (not (is_some (declared d name)), NameTaken)
+    ∷ parameters_checks d (parameters_of word) words ++ (nat_lt (count_of word d.plan.objects) (limit_of word), LimitReached) ∷ []
+
 abbrev pub worker_checks : ℕ → List ℕ → List Check
 worker_checks workers word = (is_number word, BadNumber) ∷ (nat_lt (number_of word) workers, NoSuchWorker) ∷ []
 
@@ -145,8 +233,7 @@ one_word (word ∷ other ∷ words) checks = (false, WrongNumberOfWords) ∷ []
 abbrev pub line_checks : Draft → Option Keyword → List (List ℕ) → List Check
 line_checks d None words = (false, UnknownWord) ∷ []
 line_checks d (Some keywords.Workers) words = (false, NameTaken) ∷ []
-line_checks d (Some (keywords.Object kind)) words = one_word words (λ name.
-    (is_name name, BadName) ∷ (not (is_some (declared d name)), NameTaken) ∷ (nat_lt (count_of kind d.plan.objects) (limit_of kind), LimitReached) ∷ [])
+line_checks d (Some (keywords.Object word)) words = declaration_checks d word words
 line_checks d (Some keywords.Worker) words = one_word words (worker_checks d.plan.workers)
 line_checks d (Some keywords.Schedule) words =
     (nat_lt 0 (length words), WrongNumberOfWords) ∷ flat_map (item_checks d.plan.workers) words ++ (nat_le (length d.plan.schedule + length words) MAX_TURNS, LimitReached) ∷ []

@@ -1,23 +1,29 @@
 -- What the lines of a text say so far, and which line may follow them.
 use Rattle.std.specs.Prelude.{ℕ, Bool, true, false, ◌&&◌, ◌+◌, not, cond, nat_lt, nat_le, ◌==◌, List, [], ◌∷◌, ◌++◌, length, Option, Some, None, is_some, set, get_or, count_by, sum_by, replicate}
 use Rattle.std.specs.List.{list_all, list_any, flat_map}
-use Rattle.std.specs.Option.{option_to_list}
+use Rattle.std.specs.Option.{option_map_or, option_to_list}
 use Rattle.std.specs.Str.{bytes_eq}
 use Rattle.sync_model.specs.Name.{is_name}
 use Rattle.sync_model.specs.declared.call.Call.{Call}
 use Rattle.sync_model.specs.declared.call.Call.TheVariants as calls
 use Rattle.sync_model.specs.declared.map_object.MapCall.{MapCall}
+use Rattle.sync_model.specs.declared.wait_call.WaitGroupCall.{WaitGroupCall}
+use Rattle.sync_model.specs.declared.wait_call.WaitGroupCall.TheVariants as group_calls
+use Rattle.sync_model.specs.declared.pool_call.PoolCall.{PoolCall}
+use Rattle.sync_model.specs.declared.pool_call.PoolCall.TheVariants as pool_calls
 use Rattle.sync_model.specs.SequentialMap.{map_key}
-use Rattle.workload.specs.declared.limits.TheConstants.{MAX_ATOMICS, MAX_CALLS, MAX_KEYS, MAX_MAPS, MAX_MUTEXES, MAX_RANGES, MAX_RW_MUTEXES, MAX_TURNS, MAX_VALUE}
+use Rattle.workload.specs.declared.limits.TheConstants.{MAX_AMOUNT, MAX_ATOMICS, MAX_CALLS, MAX_CODE, MAX_KEYS, MAX_MAPS, MAX_OTHERS, MAX_RANGES, MAX_TURNS, MAX_VALUE}
 use Rattle.workload.specs.declared.object.ObjectKind.{ObjectKind}
 use Rattle.workload.specs.declared.object.ObjectKind.TheVariants as kinds
+use Rattle.workload.specs.declared.object.ObjectWord.{ObjectWord}
+use Rattle.workload.specs.declared.object.ObjectWord.TheVariants as words
 use Rattle.workload.specs.declared.object.ObjectLine.{ObjectLine}
 use Rattle.workload.specs.declared.object.Declared.{Declared}
 use Rattle.workload.specs.declared.line.Line.{Line}
 use Rattle.workload.specs.declared.line.Line.TheVariants as lines
 use Rattle.workload.specs.declared.turn.Turn.{Turn}
 use Rattle.workload.specs.declared.turn.Turn.TheVariants as turns
-use Rattle.workload.specs.Plan.{Plan, object_of, has_call}
+use Rattle.workload.specs.Plan.{Plan, word_of, reference_of, is_target, is_amount, object_of, has_call}
 use Rattle.workload.specs.Words.{map_values}
 
 -- the workload that the lines so far say, and the worker whose calls follow
@@ -36,7 +42,7 @@ with_call (Some worker) call scripts = set scripts worker (get_or scripts worker
 
 -- the draft with one more line
 abbrev pub with_line : Draft → Line → Draft
-with_line d (lines.Object object) = record d { plan = record d.plan { objects = d.plan.objects ++ object ∷ [] } }
+with_line d (lines.Object object reference) = record d { plan = record d.plan { objects = d.plan.objects ++ object ∷ [] } }
 with_line d (lines.Worker worker) = record d { current = Some worker }
 with_line d (lines.Schedule schedule) = record d { plan = record d.plan { schedule = d.plan.schedule ++ schedule } }
 with_line d (lines.Call name call) = record d { plan = record d.plan { scripts = with_call d.current call d.plan.scripts } }
@@ -49,31 +55,33 @@ declared_from place name (object ∷ objects) = cond (bytes_eq name object.name)
 abbrev pub declared : Draft → List ℕ → Option Declared
 declared d name = declared_from 0 name d.plan.objects
 
--- how many objects of a kind a text may have
-abbrev pub limit_of : ObjectKind → ℕ
-limit_of kinds.Map = MAX_MAPS
-limit_of (kinds.Atomic kind) = MAX_ATOMICS
-limit_of kinds.Mutex = MAX_MUTEXES
-limit_of kinds.RwMutex = MAX_RW_MUTEXES
+-- how many objects of a word a text may have
+abbrev pub limit_of : ObjectWord → ℕ
+limit_of words.Map = MAX_MAPS
+limit_of (words.Atomic kind) = MAX_ATOMICS
+limit_of word = MAX_OTHERS
 
--- the kinds that count together
-abbrev pub count_together : ObjectKind → ObjectKind → Bool
-count_together kinds.Map kinds.Map = true
-count_together (kinds.Atomic kind) (kinds.Atomic other) = true
-count_together kinds.Mutex kinds.Mutex = true
-count_together kinds.RwMutex kinds.RwMutex = true
-count_together kind other = false
+-- the words whose objects count together: each with itself, and those of all atomics
+abbrev pub count_together : ObjectWord → ObjectWord → Bool
+count_together words.Map words.Map = true
+count_together (words.Atomic kind) (words.Atomic other) = true
+count_together words.Mutex words.Mutex = true
+count_together words.RwMutex words.RwMutex = true
+count_together words.Cond words.Cond = true
+count_together words.WaitGroup words.WaitGroup = true
+count_together words.Once words.Once = true
+count_together words.OnceFunc words.OnceFunc = true
+count_together words.OnceValue words.OnceValue = true
+count_together words.Pool words.Pool = true
+count_together word other = false
 
-abbrev pub count_of : ObjectKind → List ObjectLine → ℕ
-count_of kind objects = count_by (λ object. count_together kind object.kind) objects
+abbrev pub count_of : ObjectWord → List ObjectLine → ℕ
+count_of word objects = count_by (λ object. count_together word (word_of object.kind)) objects
 
 -- the keys of a call
 abbrev pub keys_of : Call → List (List ℕ)
 keys_of (calls.Map object call) = option_to_list (map_key call)
-keys_of (calls.Range object) = []
-keys_of (calls.Atomic object call) = []
-keys_of (calls.Mutex object call) = []
-keys_of (calls.RwMutex object call) = []
+keys_of call = []
 
 -- the keys of all calls
 abbrev pub all_keys : List (List Call) → List (List ℕ)
@@ -109,13 +117,40 @@ is_value value = nat_le value MAX_VALUE
 abbrev pub is_map_call : MapCall (List ℕ) → Bool
 is_map_call call = list_all is_name (option_to_list (map_key call)) && list_all is_value (map_values call)
 
+-- whether the amount of a call is in range
+abbrev pub is_group_call : WaitGroupCall → Bool
+is_group_call (group_calls.Add delta) = is_amount delta
+is_group_call call = true
+
+-- whether the item of a call is in range
+abbrev pub is_pool_call : PoolCall → Bool
+is_pool_call (pool_calls.Put item) = is_value item
+is_pool_call call = true
+
 -- the same of a call of any kind; of an atomic's numbers the kind of the object says it
 abbrev pub is_call : Call → Bool
 is_call (calls.Map object call) = is_map_call call
-is_call (calls.Range object) = true
-is_call (calls.Atomic object call) = true
-is_call (calls.Mutex object call) = true
-is_call (calls.RwMutex object call) = true
+is_call (calls.WaitGroup object call) = is_group_call call
+is_call (calls.Pool object call) = is_pool_call call
+is_call call = true
+
+-- whether the numbers of an object are in range
+abbrev pub is_kind : ObjectKind → Bool
+is_kind (kinds.WaitGroup start) = nat_le start MAX_AMOUNT
+is_kind (kinds.Once atomic delta) = is_amount delta
+is_kind (kinds.OnceFunc code) = nat_le code MAX_CODE
+is_kind (kinds.OnceValue value) = is_value value
+is_kind kind = true
+
+-- whether an object refers to the one that was found
+abbrev pub is_reference : ObjectKind → Option Declared → Bool
+is_reference kind None = false
+is_reference kind (Some found) = option_map_or (λ place. found.place == place) (reference_of kind) false && is_target kind found.kind
+
+-- whether the name, or none, is that of the object to which an object refers
+abbrev pub names_reference : Draft → ObjectKind → Option (List ℕ) → Bool
+names_reference d kind None = not (is_some (reference_of kind))
+names_reference d kind (Some name) = is_name name && is_reference kind (declared d name)
 
 -- whether the name is that of the call's object
 abbrev pub names_object : Option Declared → Call → Bool
@@ -129,8 +164,9 @@ is_item workers (turns.Moment moment) = nat_le moment MAX_VALUE
 
 -- whether the line may follow
 abbrev pub may_follow : Draft → Line → Bool
-may_follow d (lines.Object object) =
-    is_name object.name && (not (is_some (declared d object.name)) && nat_lt (count_of object.kind d.plan.objects) (limit_of object.kind))
+may_follow d (lines.Object object reference) =
+    is_name object.name && (not (is_some (declared d object.name)) && (names_reference d object.kind reference && (is_kind object.kind
+    && nat_lt (count_of (word_of object.kind) d.plan.objects) (limit_of (word_of object.kind)))))
 may_follow d (lines.Worker worker) = nat_lt worker d.plan.workers
 may_follow d (lines.Schedule schedule) =
     nat_lt 0 (length schedule) && (list_all (is_item d.plan.workers) schedule && nat_le (length d.plan.schedule + length schedule) MAX_TURNS)

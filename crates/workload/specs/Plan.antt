@@ -1,11 +1,16 @@
 -- What a workload is: its workers, its objects, each worker's script, and a schedule.
-use Rattle.std.specs.Prelude.{ℕ, Bool, true, false, ◌&&◌, nat_lt, ◌==◌, List, length, Option, Some, None, slice_get}
+use Rattle.std.specs.Prelude.{ℕ, ℤ, pos, negsuc, Bool, true, false, ◌&&◌, nat_lt, nat_le, ◌==◌, List, length, Option, Some, None, slice_get}
+use Rattle.std.specs.Option.{option_map_or}
 use Rattle.std.specs.List.{list_all}
 use Rattle.sync_model.specs.declared.call.Call.{Call}
 use Rattle.sync_model.specs.declared.call.Call.TheVariants as calls
+use Rattle.sync_model.specs.declared.atomic_object.AtomicKind.TheVariants as types
 use Rattle.sync_model.specs.SequentialAtomic.{is_atomic_call}
+use Rattle.workload.specs.declared.limits.TheConstants.{MAX_AMOUNT}
 use Rattle.workload.specs.declared.object.ObjectKind.{ObjectKind}
 use Rattle.workload.specs.declared.object.ObjectKind.TheVariants as kinds
+use Rattle.workload.specs.declared.object.ObjectWord.{ObjectWord}
+use Rattle.workload.specs.declared.object.ObjectWord.TheVariants as words
 use Rattle.workload.specs.declared.object.ObjectLine.{ObjectLine}
 use Rattle.workload.specs.declared.turn.Turn.{Turn}
 use Rattle.workload.specs.declared.turn.Turn.TheVariants as turns
@@ -16,6 +21,40 @@ pub record Plan : Type 0 where
   pub scripts : List (List Call)  -- one for each worker
   pub schedule : List Turn
 
+-- the word of an object's line
+abbrev pub word_of : ObjectKind → ObjectWord
+word_of kinds.Map = words.Map
+word_of (kinds.Atomic kind) = words.Atomic kind
+word_of kinds.Mutex = words.Mutex
+word_of kinds.RwMutex = words.RwMutex
+word_of (kinds.Cond mutex) = words.Cond
+word_of (kinds.WaitGroup start) = words.WaitGroup
+word_of (kinds.Once atomic delta) = words.Once
+word_of (kinds.OnceFunc code) = words.OnceFunc
+word_of (kinds.OnceValue value) = words.OnceValue
+word_of kinds.Pool = words.Pool
+
+-- the place of the object to which an object refers
+abbrev pub reference_of : ObjectKind → Option ℕ
+reference_of (kinds.Cond mutex) = Some mutex
+reference_of (kinds.Once atomic delta) = Some atomic
+reference_of kind = None
+
+-- whether an object may refer to an object of this kind: a cond to a mutex, a once to an int64
+abbrev pub is_target : ObjectKind → ObjectKind → Bool
+is_target (kinds.Cond mutex) kinds.Mutex = true
+is_target (kinds.Once atomic delta) (kinds.Atomic types.Int64) = true
+is_target kind target = false
+
+-- whether the object to which an object refers is among these, and is one that it may refer to
+abbrev pub refers : List ObjectLine → ObjectKind → Bool
+refers objects kind = option_map_or (λ place. option_map_or (λ object. is_target kind object.kind) (slice_get objects place) false) (reference_of kind) true
+
+-- whether an amount is from -10,000 to 10,000
+abbrev pub is_amount : ℤ → Bool
+is_amount (pos n) = nat_le n MAX_AMOUNT
+is_amount (negsuc n) = nat_lt n MAX_AMOUNT
+
 -- the object on which a call is made, by its place among the objects
 abbrev pub object_of : Call → ℕ
 object_of (calls.Map object call) = object
@@ -23,6 +62,12 @@ object_of (calls.Range object) = object
 object_of (calls.Atomic object call) = object
 object_of (calls.Mutex object call) = object
 object_of (calls.RwMutex object call) = object
+object_of (calls.Cond object call) = object
+object_of (calls.WaitGroup object call) = object
+object_of (calls.Once object) = object
+object_of (calls.OnceFunc object) = object
+object_of (calls.OnceValue object) = object
+object_of (calls.Pool object call) = object
 
 -- whether an object of this kind has the call: an atomic's operands are of its type, and in its range
 abbrev pub has_call : ObjectKind → Call → Bool
@@ -31,6 +76,12 @@ has_call kinds.Map (calls.Range object) = true
 has_call (kinds.Atomic kind) (calls.Atomic object call) = is_atomic_call kind call
 has_call kinds.Mutex (calls.Mutex object call) = true
 has_call kinds.RwMutex (calls.RwMutex object call) = true
+has_call (kinds.Cond mutex) (calls.Cond object call) = true
+has_call (kinds.WaitGroup start) (calls.WaitGroup object call) = true
+has_call (kinds.Once atomic delta) (calls.Once object) = true
+has_call (kinds.OnceFunc code) (calls.OnceFunc object) = true
+has_call (kinds.OnceValue value) (calls.OnceValue object) = true
+has_call kinds.Pool (calls.Pool object call) = true
 has_call kind call = false
 
 -- whether a call is on an object that is there and has it
@@ -43,9 +94,10 @@ abbrev pub is_turn : ℕ → Turn → Bool
 is_turn workers (turns.Worker worker) = nat_lt worker workers
 is_turn workers (turns.Moment moment) = true
 
--- each number in a plan is in range
+-- each place and number in a plan is in range, and what objects refer to is of the right kind
 abbrev pub is_valid : Plan → Bool
 is_valid plan =
     (length plan.scripts == plan.workers)
     && (list_all (list_all (λ call. is_on (slice_get plan.objects (object_of call)) call)) plan.scripts
-    && list_all (is_turn plan.workers) plan.schedule)
+    && (list_all (is_turn plan.workers) plan.schedule
+    && list_all (λ object. refers plan.objects object.kind) plan.objects))

@@ -4,15 +4,19 @@ use Rattle.std.specs.List.{list_all}
 use Rattle.sync_model.specs.Name.{is_name}
 use Rattle.workload.specs.declared.limits.TheConstants.{MAX_CALLS, MAX_KEYS, MAX_RANGES, MAX_TURNS, MAX_WORKERS}
 use Rattle.workload.specs.declared.object.ObjectLine.{ObjectLine}
-use Rattle.workload.specs.Plan.{Plan, is_valid}
-use Rattle.workload.specs.Draft.{declared_from, count_of, limit_of, is_call, is_item, call_count, all_keys, distinct_count, range_count}
+use Rattle.workload.specs.Plan.{Plan, word_of, refers, is_valid}
+use Rattle.workload.specs.Draft.{declared_from, count_of, limit_of, is_kind, is_call, is_item, call_count, all_keys, distinct_count, range_count}
 
--- objects that may be declared behind others: each has a name that is new, and keeps its limit
+-- an object that may be declared behind others: its name is new, it refers to one of them if to any, its numbers are in range, and it keeps its limit
+abbrev pub may_join : List ObjectLine → ObjectLine → Bool
+may_join others object =
+    is_name object.name && (not (is_some (declared_from 0 object.name others)) && (refers others object.kind && (is_kind object.kind
+    && nat_lt (count_of (word_of object.kind) others) (limit_of (word_of object.kind)))))
+
+-- objects that may be declared behind others, one after the other
 abbrev pub may_declare : List ObjectLine → List ObjectLine → Bool
 may_declare others [] = true
-may_declare others (object ∷ objects) =
-    (is_name object.name && (not (is_some (declared_from 0 object.name others)) && nat_lt (count_of object.kind others) (limit_of object.kind)))
-    && may_declare (others ++ object ∷ []) objects
+may_declare others (object ∷ objects) = may_join others object && may_declare (others ++ object ∷ []) objects
 
 -- every name is one, every number is in range, and every limit is kept
 pub record IsReadable (plan : Plan) : Type 0 where

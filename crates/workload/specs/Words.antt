@@ -18,28 +18,44 @@ use Rattle.sync_model.specs.declared.lock_call.MutexCall.{MutexCall}
 use Rattle.sync_model.specs.declared.lock_call.MutexCall.TheVariants as mutex_calls
 use Rattle.sync_model.specs.declared.lock_call.RwMutexCall.{RwMutexCall}
 use Rattle.sync_model.specs.declared.lock_call.RwMutexCall.TheVariants as rw_mutex_calls
+use Rattle.sync_model.specs.declared.wait_call.CondCall.{CondCall}
+use Rattle.sync_model.specs.declared.wait_call.CondCall.TheVariants as cond_calls
+use Rattle.sync_model.specs.declared.wait_call.WaitGroupCall.{WaitGroupCall}
+use Rattle.sync_model.specs.declared.wait_call.WaitGroupCall.TheVariants as group_calls
+use Rattle.sync_model.specs.declared.pool_call.PoolCall.{PoolCall}
+use Rattle.sync_model.specs.declared.pool_call.PoolCall.TheVariants as pool_calls
 use Rattle.sync_model.specs.SequentialMap.{map_key}
 use Rattle.workload.specs.declared.keyword.Keyword.{Keyword}
 use Rattle.workload.specs.declared.keyword.Keyword.TheVariants as keywords
 use Rattle.workload.specs.declared.keyword.Verb.{Verb}
 use Rattle.workload.specs.declared.keyword.Verb.TheVariants as verbs
+use Rattle.workload.specs.declared.limits.TheConstants.{MAX_AMOUNT}
 use Rattle.workload.specs.declared.object.ObjectKind.{ObjectKind}
 use Rattle.workload.specs.declared.object.ObjectKind.TheVariants as kinds
+use Rattle.workload.specs.declared.object.ObjectWord.{ObjectWord}
+use Rattle.workload.specs.declared.object.ObjectWord.TheVariants as words
 use Rattle.workload.specs.declared.line.Line.{Line}
 use Rattle.workload.specs.declared.line.Line.TheVariants as lines
 use Rattle.workload.specs.declared.turn.Turn.{Turn}
 use Rattle.workload.specs.declared.turn.Turn.TheVariants as turns
+use Rattle.workload.specs.Plan.{word_of}
 
--- the word of a kind of object
-abbrev pub kind_word : ObjectKind → List ℕ
-kind_word kinds.Map = codes "map"
-kind_word (kinds.Atomic types.Int32) = codes "int32"
-kind_word (kinds.Atomic types.Int64) = codes "int64"
-kind_word (kinds.Atomic types.Uint32) = codes "uint32"
-kind_word (kinds.Atomic types.Uint64) = codes "uint64"
-kind_word (kinds.Atomic types.Bool) = codes "bool"
-kind_word kinds.Mutex = codes "mutex"
-kind_word kinds.RwMutex = codes "rwmutex"
+-- the text of an object's word
+abbrev pub object_word : ObjectWord → List ℕ
+object_word words.Map = codes "map"
+object_word (words.Atomic types.Int32) = codes "int32"
+object_word (words.Atomic types.Int64) = codes "int64"
+object_word (words.Atomic types.Uint32) = codes "uint32"
+object_word (words.Atomic types.Uint64) = codes "uint64"
+object_word (words.Atomic types.Bool) = codes "bool"
+object_word words.Mutex = codes "mutex"
+object_word words.RwMutex = codes "rwmutex"
+object_word words.Cond = codes "cond"
+object_word words.WaitGroup = codes "waitgroup"
+object_word words.Once = codes "once"
+object_word words.OnceFunc = codes "oncefunc"
+object_word words.OnceValue = codes "oncevalue"
+object_word words.Pool = codes "pool"
 
 -- the word of a call
 abbrev pub verb_word : Verb → List ℕ
@@ -62,11 +78,21 @@ verb_word verbs.TryLock = codes "trylock"
 verb_word verbs.RLock = codes "rlock"
 verb_word verbs.RUnlock = codes "runlock"
 verb_word verbs.TryRLock = codes "tryrlock"
+verb_word verbs.Wait = codes "wait"
+verb_word verbs.Signal = codes "signal"
+verb_word verbs.Broadcast = codes "broadcast"
+verb_word verbs.Done = codes "done"
+verb_word verbs.Do = codes "do"
+verb_word verbs.Call = codes "call"
+verb_word verbs.Value = codes "value"
+verb_word verbs.Put = codes "put"
+verb_word verbs.Get = codes "get"
+verb_word verbs.Sweep = codes "sweep"
 
 -- the word that a line begins with
 abbrev pub keyword_word : Keyword → List ℕ
 keyword_word keywords.Workers = codes "workers"
-keyword_word (keywords.Object kind) = kind_word kind
+keyword_word (keywords.Object word) = object_word word
 keyword_word keywords.Worker = codes "worker"
 keyword_word keywords.Schedule = codes "schedule"
 keyword_word (keywords.Call verb) = verb_word verb
@@ -105,12 +131,33 @@ rw_mutex_verb rw_mutex_calls.RLock = verbs.RLock
 rw_mutex_verb rw_mutex_calls.RUnlock = verbs.RUnlock
 rw_mutex_verb rw_mutex_calls.TryRLock = verbs.TryRLock
 
+abbrev pub cond_verb : CondCall → Verb
+cond_verb cond_calls.Wait = verbs.Wait
+cond_verb cond_calls.Signal = verbs.Signal
+cond_verb cond_calls.Broadcast = verbs.Broadcast
+
+abbrev pub group_verb : WaitGroupCall → Verb
+group_verb (group_calls.Add delta) = verbs.Add
+group_verb group_calls.Done = verbs.Done
+group_verb group_calls.Wait = verbs.Wait
+
+abbrev pub pool_verb : PoolCall → Verb
+pool_verb (pool_calls.Put item) = verbs.Put
+pool_verb pool_calls.Get = verbs.Get
+pool_verb pool_calls.Sweep = verbs.Sweep
+
 abbrev pub verb_of : Call → Verb
 verb_of (calls.Map object call) = map_verb call
 verb_of (calls.Range object) = verbs.Range
 verb_of (calls.Atomic object call) = atomic_verb call
 verb_of (calls.Mutex object call) = mutex_verb call
 verb_of (calls.RwMutex object call) = rw_mutex_verb call
+verb_of (calls.Cond object call) = cond_verb call
+verb_of (calls.WaitGroup object call) = group_verb call
+verb_of (calls.Once object) = verbs.Do
+verb_of (calls.OnceFunc object) = verbs.Call
+verb_of (calls.OnceValue object) = verbs.Value
+verb_of (calls.Pool object call) = pool_verb call
 
 -- the values of a call of a map, in order
 abbrev pub map_values : {K : Type 0} → MapCall K → List ℕ
@@ -150,12 +197,36 @@ map_operands call = option_to_list (map_key call) ++ map decimal (map_values cal
 abbrev pub atomic_operands : AtomicCall → List (List ℕ)
 atomic_operands call = map number_word (atomic_numbers call)
 
+abbrev pub group_operands : WaitGroupCall → List (List ℕ)
+group_operands (group_calls.Add delta) = signed_decimal delta ∷ []
+group_operands group_calls.Done = []
+group_operands group_calls.Wait = []
+
+abbrev pub pool_operands : PoolCall → List (List ℕ)
+pool_operands (pool_calls.Put item) = decimal item ∷ []
+pool_operands pool_calls.Get = []
+pool_operands pool_calls.Sweep = []
+
 abbrev pub operands_of : Call → List (List ℕ)
 operands_of (calls.Map object call) = map_operands call
 operands_of (calls.Range object) = []
 operands_of (calls.Atomic object call) = atomic_operands call
 operands_of (calls.Mutex object call) = []
 operands_of (calls.RwMutex object call) = []
+operands_of (calls.Cond object call) = []
+operands_of (calls.WaitGroup object call) = group_operands call
+operands_of (calls.Once object) = []
+operands_of (calls.OnceFunc object) = []
+operands_of (calls.OnceValue object) = []
+operands_of (calls.Pool object call) = pool_operands call
+
+-- the numbers of an object's line, in order
+abbrev pub kind_parameters : ObjectKind → List (List ℕ)
+kind_parameters (kinds.WaitGroup start) = decimal start ∷ []
+kind_parameters (kinds.Once atomic delta) = signed_decimal delta ∷ []
+kind_parameters (kinds.OnceFunc code) = decimal code ∷ []
+kind_parameters (kinds.OnceValue value) = decimal value ∷ []
+kind_parameters kind = []
 
 -- an item of a schedule: a worker's number, or a moment behind an `@`
 abbrev pub turn_word : Turn → List ℕ
@@ -164,13 +235,13 @@ turn_word (turns.Moment moment) = 64 ∷ decimal moment
 
 -- the words of a line behind the first one
 abbrev pub keyword_of : Line → Keyword
-keyword_of (lines.Object object) = keywords.Object object.kind
+keyword_of (lines.Object object reference) = keywords.Object (word_of object.kind)
 keyword_of (lines.Worker worker) = keywords.Worker
 keyword_of (lines.Schedule schedule) = keywords.Schedule
 keyword_of (lines.Call name call) = keywords.Call (verb_of call)
 
 abbrev pub arguments_of : Line → List (List ℕ)
-arguments_of (lines.Object object) = object.name ∷ []
+arguments_of (lines.Object object reference) = object.name ∷ option_to_list reference ++ kind_parameters object.kind
 arguments_of (lines.Worker worker) = decimal worker ∷ []
 arguments_of (lines.Schedule schedule) = map turn_word schedule
 arguments_of (lines.Call name call) = name ∷ operands_of call
@@ -189,14 +260,20 @@ keywords_known =
     (codes "workers", keywords.Workers)
     ∷ (codes "worker", keywords.Worker)
     ∷ (codes "schedule", keywords.Schedule)
-    ∷ (codes "map", keywords.Object kinds.Map)
-    ∷ (codes "int32", keywords.Object (kinds.Atomic types.Int32))
-    ∷ (codes "int64", keywords.Object (kinds.Atomic types.Int64))
-    ∷ (codes "uint32", keywords.Object (kinds.Atomic types.Uint32))
-    ∷ (codes "uint64", keywords.Object (kinds.Atomic types.Uint64))
-    ∷ (codes "bool", keywords.Object (kinds.Atomic types.Bool))
-    ∷ (codes "mutex", keywords.Object kinds.Mutex)
-    ∷ (codes "rwmutex", keywords.Object kinds.RwMutex)
+    ∷ (codes "map", keywords.Object words.Map)
+    ∷ (codes "int32", keywords.Object (words.Atomic types.Int32))
+    ∷ (codes "int64", keywords.Object (words.Atomic types.Int64))
+    ∷ (codes "uint32", keywords.Object (words.Atomic types.Uint32))
+    ∷ (codes "uint64", keywords.Object (words.Atomic types.Uint64))
+    ∷ (codes "bool", keywords.Object (words.Atomic types.Bool))
+    ∷ (codes "mutex", keywords.Object words.Mutex)
+    ∷ (codes "rwmutex", keywords.Object words.RwMutex)
+    ∷ (codes "cond", keywords.Object words.Cond)
+    ∷ (codes "waitgroup", keywords.Object words.WaitGroup)
+    ∷ (codes "once", keywords.Object words.Once)
+    ∷ (codes "oncefunc", keywords.Object words.OnceFunc)
+    ∷ (codes "oncevalue", keywords.Object words.OnceValue)
+    ∷ (codes "pool", keywords.Object words.Pool)
     ∷ (codes "load", keywords.Call verbs.Load)
     ∷ (codes "store", keywords.Call verbs.Store)
     ∷ (codes "los", keywords.Call verbs.LoadOrStore)
@@ -216,6 +293,16 @@ keywords_known =
     ∷ (codes "rlock", keywords.Call verbs.RLock)
     ∷ (codes "runlock", keywords.Call verbs.RUnlock)
     ∷ (codes "tryrlock", keywords.Call verbs.TryRLock)
+    ∷ (codes "wait", keywords.Call verbs.Wait)
+    ∷ (codes "signal", keywords.Call verbs.Signal)
+    ∷ (codes "broadcast", keywords.Call verbs.Broadcast)
+    ∷ (codes "done", keywords.Call verbs.Done)
+    ∷ (codes "do", keywords.Call verbs.Do)
+    ∷ (codes "call", keywords.Call verbs.Call)
+    ∷ (codes "value", keywords.Call verbs.Value)
+    ∷ (codes "put", keywords.Call verbs.Put)
+    ∷ (codes "get", keywords.Call verbs.Get)
+    ∷ (codes "sweep", keywords.Call verbs.Sweep)
     ∷ []
 
 -- the keyword that a table has for a word
@@ -243,6 +330,11 @@ is_number_to most word = is_number word && nat_le (number_of word) most
 abbrev pub is_signed_word : ℕ → List ℕ → Bool
 is_signed_word bound [] = false
 is_signed_word bound (byte ∷ bytes) = cond (byte == 45) (is_number_to bound bytes && nat_lt 0 (number_of bytes)) (is_number_to (bound - 1) (byte ∷ bytes))
+
+-- whether a word is a number from -10,000 to 10,000; a `-` stands before no 0
+abbrev pub is_amount_word : List ℕ → Bool
+is_amount_word [] = false
+is_amount_word (byte ∷ bytes) = cond (byte == 45) (is_number_to MAX_AMOUNT bytes && nat_lt 0 (number_of bytes)) (is_number_to MAX_AMOUNT (byte ∷ bytes))
 
 -- whether a word is a number of an atomic of this type
 abbrev pub is_number_word : AtomicKind → List ℕ → Bool

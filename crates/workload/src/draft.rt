@@ -5,9 +5,9 @@ ghost use Rattle.workload.specs.declared.limits.TheConstants.{MAX_WORKERS};
 ghost use Rattle.workload.specs.Index.{with_keys};
 ghost use Rattle.workload.specs.Draft.{started, with_line, may_follow, declared, count_of, count_together, limit_of, call_count, key_count, keys_of, is_range, range_count};
 
-use crate::limits::{MAX_ATOMICS, MAX_MAPS, MAX_MUTEXES, MAX_RW_MUTEXES};
+use crate::limits::{MAX_ATOMICS, MAX_MAPS, MAX_OTHERS};
 use crate::line::Line;
-use crate::object::{Declared, ObjectKind, ObjectLine};
+use crate::object::{Declared, ObjectLine, ObjectWord};
 use crate::turn::Turn;
 use crate::workload::Workload;
 use std::alloc::{AllocError, Global};
@@ -51,35 +51,40 @@ fn empty_scripts(alloc: Global, workers: u32) -> Result<Seq<Seq<Call>>, AllocErr
     Ok(scripts)
 }
 
-fn counts_together(kind: ObjectKind, other: ObjectKind) -> bool
-    ensures { result ≡ count_together kind other }
+fn counts_together(word: ObjectWord, other: ObjectWord) -> bool
+    ensures { result ≡ count_together word other }
 {
-    match (kind, other) {
-        (ObjectKind::Map, ObjectKind::Map) => true,
-        (ObjectKind::Atomic(_), ObjectKind::Atomic(_)) => true,
-        (ObjectKind::Mutex, ObjectKind::Mutex) => true,
-        (ObjectKind::RwMutex, ObjectKind::RwMutex) => true,
+    match (word, other) {
+        (ObjectWord::Map, ObjectWord::Map) => true,
+        (ObjectWord::Atomic(_), ObjectWord::Atomic(_)) => true,
+        (ObjectWord::Mutex, ObjectWord::Mutex) => true,
+        (ObjectWord::RwMutex, ObjectWord::RwMutex) => true,
+        (ObjectWord::Cond, ObjectWord::Cond) => true,
+        (ObjectWord::WaitGroup, ObjectWord::WaitGroup) => true,
+        (ObjectWord::Once, ObjectWord::Once) => true,
+        (ObjectWord::OnceFunc, ObjectWord::OnceFunc) => true,
+        (ObjectWord::OnceValue, ObjectWord::OnceValue) => true,
+        (ObjectWord::Pool, ObjectWord::Pool) => true,
         _ => false,
     }
 }
 
-fn count(kind: ObjectKind, objects: &[ObjectLine]) -> usize
-    ensures { result ≡ count_of kind objects.now }
+fn count(word: ObjectWord, objects: &[ObjectLine]) -> usize
+    ensures { result ≡ count_of word objects.now }
 {
     objects
         .iter()
-        .filter(|object| counts_together(kind, object.kind))
+        .filter(|object| counts_together(word, object.kind.word()))
         .count()
 }
 
-fn limit(kind: ObjectKind) -> usize
-    ensures { result ≡ limit_of kind }
+fn limit(word: ObjectWord) -> usize
+    ensures { result ≡ limit_of word }
 {
-    match kind {
-        ObjectKind::Map => MAX_MAPS,
-        ObjectKind::Atomic(_) => MAX_ATOMICS,
-        ObjectKind::Mutex => MAX_MUTEXES,
-        ObjectKind::RwMutex => MAX_RW_MUTEXES,
+    match word {
+        ObjectWord::Map => MAX_MAPS,
+        ObjectWord::Atomic(_) => MAX_ATOMICS,
+        _ => MAX_OTHERS,
     }
 }
 
@@ -99,8 +104,7 @@ pub fn call_key(call: &Call) -> Option<&Name>
 {
     match call {
         Call::Map { call, .. } => call.key(),
-        Call::Range { .. } | Call::Atomic { .. } | Call::Mutex { .. } | Call::RwMutex { .. } =>
-            None,
+        _ => None,
     }
 }
 
@@ -110,7 +114,7 @@ fn ranges_in(call: &Call) -> usize
 {
     match call {
         Call::Range { .. } => 1,
-        Call::Map { .. } | Call::Atomic { .. } | Call::Mutex { .. } | Call::RwMutex { .. } => 0,
+        _ => 0,
     }
 }
 
@@ -155,11 +159,11 @@ impl Draft {
         self.names.get(name)
     }
 
-    /// Whether one more object of a kind is within its limit.
-    pub fn has_room_for(&self, kind: ObjectKind) -> bool
-        ensures { result ≡ nat_lt (count_of kind self.now.plan.objects) (limit_of kind) }
+    /// Whether one more object of a word is within its limit.
+    pub fn has_room_for(&self, word: ObjectWord) -> bool
+        ensures { result ≡ nat_lt (count_of word self.now.plan.objects) (limit_of word) }
     {
-        count(kind, self.objects.as_slice()) < limit(kind)
+        count(word, self.objects.as_slice()) < limit(word)
     }
 
     /// How many calls there are, all workers together.
@@ -204,9 +208,14 @@ impl Draft {
         }
     }
 
-    fn with_object(self, alloc: Global, object: ObjectLine) -> Result<Self, AllocError>
-        requires { may_follow self (Line.Object object) ≡ true }
-        ensures { IfOk result (λ draft. draft ≡ with_line self (Line.Object object)) }
+    fn with_object(
+        self,
+        alloc: Global,
+        object: ObjectLine,
+        reference: Option<Name>,
+    ) -> Result<Self, AllocError>
+        requires { may_follow self (Line.Object object reference) ≡ true }
+        ensures { IfOk result (λ draft. draft ≡ with_line self (Line.Object object reference)) }
     {
         let Draft {
             workers,
@@ -335,7 +344,7 @@ impl Draft {
         ensures { IfOk result (λ draft. draft ≡ with_line self line) }
     {
         match line {
-            Line::Object(object) => self.with_object(alloc, object),
+            Line::Object(object, reference) => self.with_object(alloc, object, reference),
             Line::Worker(worker) => Ok(self.with_worker(worker)),
             Line::Schedule(turns) => self.with_turns(turns.as_slice()),
             Line::Call(name, call) => self.with_call(alloc, name, call),

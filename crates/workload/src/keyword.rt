@@ -2,7 +2,7 @@
 ghost use Rattle.std.specs.Prelude.{◌≡◌, map};
 ghost use Rattle.workload.specs.Words.{keyword_in, keyword_at};
 
-use crate::object::ObjectKind;
+use crate::object::ObjectWord;
 use sync_model::AtomicKind;
 
 /// What a line's first word announces.
@@ -10,8 +10,8 @@ use sync_model::AtomicKind;
 pub enum Keyword {
     /// The number of workers, which the first line gives.
     Workers,
-    /// An object of this kind.
-    Object(ObjectKind),
+    /// An object.
+    Object(ObjectWord),
     /// Whose calls follow.
     Worker,
     /// Items of the schedule.
@@ -49,6 +49,16 @@ pub enum Verb {
     RUnlock,
     /// `tryrlock`
     TryRLock,
+    Wait,
+    Signal,
+    Broadcast,
+    Done,
+    Do,
+    Call,
+    Value,
+    Put,
+    Get,
+    Sweep,
 }
 
 /// What a word of a call behind the object's name stands for.
@@ -56,40 +66,61 @@ pub enum Verb {
 pub enum Operand {
     /// A key of a map.
     Key,
-    /// A value of a map, 0 to 2^63 - 1.
+    /// A value of a map or a pool, 0 to 2^63 - 1.
     Value,
     /// A number of an atomic of this type.
     Number(AtomicKind),
+    /// An amount for a wait group, -10,000 to 10,000.
+    Amount,
+}
+
+/// What a word of an object's line behind the object's name stands for.
+#[derive(Clone, Copy, Debug, PartialEq, Eq)]
+pub enum Parameter {
+    /// A mutex that is declared before.
+    Mutex,
+    /// An int64 that is declared before.
+    Int64,
+    /// A number from 0 to this one.
+    Number(u64),
+    /// An amount, -10,000 to 10,000.
+    Amount,
 }
 
 /// The words that a line may begin with.
-pub const KEYWORDS: [(&[u8], Keyword); 30] = [
+pub const KEYWORDS: [(&[u8], Keyword); 46] = [
     (b"workers", Keyword::Workers),
     (b"worker", Keyword::Worker),
     (b"schedule", Keyword::Schedule),
-    (b"map", Keyword::Object(ObjectKind::Map)),
+    (b"map", Keyword::Object(ObjectWord::Map)),
     (
         b"int32",
-        Keyword::Object(ObjectKind::Atomic(AtomicKind::Int32)),
+        Keyword::Object(ObjectWord::Atomic(AtomicKind::Int32)),
     ),
     (
         b"int64",
-        Keyword::Object(ObjectKind::Atomic(AtomicKind::Int64)),
+        Keyword::Object(ObjectWord::Atomic(AtomicKind::Int64)),
     ),
     (
         b"uint32",
-        Keyword::Object(ObjectKind::Atomic(AtomicKind::Uint32)),
+        Keyword::Object(ObjectWord::Atomic(AtomicKind::Uint32)),
     ),
     (
         b"uint64",
-        Keyword::Object(ObjectKind::Atomic(AtomicKind::Uint64)),
+        Keyword::Object(ObjectWord::Atomic(AtomicKind::Uint64)),
     ),
     (
         b"bool",
-        Keyword::Object(ObjectKind::Atomic(AtomicKind::Bool)),
+        Keyword::Object(ObjectWord::Atomic(AtomicKind::Bool)),
     ),
-    (b"mutex", Keyword::Object(ObjectKind::Mutex)),
-    (b"rwmutex", Keyword::Object(ObjectKind::RwMutex)),
+    (b"mutex", Keyword::Object(ObjectWord::Mutex)),
+    (b"rwmutex", Keyword::Object(ObjectWord::RwMutex)),
+    (b"cond", Keyword::Object(ObjectWord::Cond)),
+    (b"waitgroup", Keyword::Object(ObjectWord::WaitGroup)),
+    (b"once", Keyword::Object(ObjectWord::Once)),
+    (b"oncefunc", Keyword::Object(ObjectWord::OnceFunc)),
+    (b"oncevalue", Keyword::Object(ObjectWord::OnceValue)),
+    (b"pool", Keyword::Object(ObjectWord::Pool)),
     (b"load", Keyword::Call(Verb::Load)),
     (b"store", Keyword::Call(Verb::Store)),
     (b"los", Keyword::Call(Verb::LoadOrStore)),
@@ -109,6 +140,16 @@ pub const KEYWORDS: [(&[u8], Keyword); 30] = [
     (b"rlock", Keyword::Call(Verb::RLock)),
     (b"runlock", Keyword::Call(Verb::RUnlock)),
     (b"tryrlock", Keyword::Call(Verb::TryRLock)),
+    (b"wait", Keyword::Call(Verb::Wait)),
+    (b"signal", Keyword::Call(Verb::Signal)),
+    (b"broadcast", Keyword::Call(Verb::Broadcast)),
+    (b"done", Keyword::Call(Verb::Done)),
+    (b"do", Keyword::Call(Verb::Do)),
+    (b"call", Keyword::Call(Verb::Call)),
+    (b"value", Keyword::Call(Verb::Value)),
+    (b"put", Keyword::Call(Verb::Put)),
+    (b"get", Keyword::Call(Verb::Get)),
+    (b"sweep", Keyword::Call(Verb::Sweep)),
 ];
 
 fn find_keyword(table: &[(&[u8], Keyword)], word: &[u8]) -> Option<Keyword>

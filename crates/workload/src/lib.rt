@@ -1,6 +1,7 @@
 //! Workload texts: the grammar, and how a text is read.
 #![tactic(auto)]
 
+pub mod call_reading;
 pub mod draft;
 pub mod fault;
 pub mod keyword;
@@ -9,17 +10,19 @@ pub mod limits;
 pub mod line;
 pub mod number;
 pub mod object;
+pub mod object_reading;
 pub mod parsing;
 pub mod printing;
 pub mod reading;
 pub mod reason;
 pub mod text;
 pub mod turn;
+pub mod word_reading;
 pub mod workload;
 
 pub use fault::ParseFault;
 pub use limits::MAX_INPUT;
-pub use object::{ObjectKind, ObjectLine};
+pub use object::{ObjectKind, ObjectLine, ObjectWord};
 pub use parsing::parse;
 pub use printing::print;
 pub use reason::Reason;

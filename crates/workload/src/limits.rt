@@ -18,11 +18,15 @@ pub const MAX_MAPS: usize = 16;
 /// The most atomics, of all types together.
 pub const MAX_ATOMICS: usize = 64;
 
-/// The most mutexes, reader/writer ones aside.
-pub const MAX_MUTEXES: usize = 32;
+/// The most objects of each other kind.
+pub const MAX_OTHERS: usize = 32;
 
-/// The most reader/writer mutexes.
-pub const MAX_RW_MUTEXES: usize = 32;
+/// The greatest counter of a wait group at the start, and the greatest amount that is added to one or by
+/// a once.
+pub const MAX_AMOUNT: u64 = 10_000;
+
+/// The greatest code with which the function of a `oncefunc` fails.
+pub const MAX_CODE: u64 = 1_000;
 
 /// The most `range` calls, of all workers together.
 pub const MAX_RANGES: usize = 64;
@@ -33,5 +37,5 @@ pub const MAX_KEYS: usize = 4_096;
 /// The most items of the schedule, workers' turns and moments together.
 pub const MAX_TURNS: usize = 100_000;
 
-/// The greatest value of a map, and the latest moment in nanoseconds: 2^63 - 1.
+/// The greatest value of a map, of a `oncevalue` and of a pool, and the latest moment in nanoseconds: 2^63 - 1.
 pub const MAX_VALUE: u64 = 9_223_372_036_854_775_807;

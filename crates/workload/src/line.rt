@@ -6,8 +6,8 @@ use sync_model::{Call, Name, Seq};
 /// What a line behind the `workers` line says.
 #[derive(Debug, Drop)]
 pub enum Line {
-    /// Declares an object.
-    Object(ObjectLine),
+    /// Declares an object, with the name of the object to which it refers, if it does.
+    Object(ObjectLine, Option<Name>),
     /// The calls that follow are this worker's.
     Worker(u32),
     /// More items of the schedule.

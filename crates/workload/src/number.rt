@@ -4,8 +4,10 @@ ghost use Rattle.std.specs.Fmt.{decimal, signed_decimal};
 ghost use Rattle.std.specs.Str.{all_ascii_digits, bytes_eq};
 ghost use Rattle.sync_model.specs.declared.atomic_object.Number.TheVariants as Number;
 ghost use Rattle.sync_model.specs.SequentialAtomic.{is_signed, is_of};
-ghost use Rattle.workload.specs.Words.{is_number, is_number_to, is_signed_word, is_number_word, number_word, number_of};
+ghost use Rattle.workload.specs.Words.{is_number, is_number_to, is_signed_word, is_amount_word, is_number_word, number_word, number_of};
+ghost use Rattle.workload.specs.Plan.{is_amount};
 
+use crate::limits::MAX_AMOUNT;
 use sync_model::{AtomicKind, Number};
 
 /// One past the greatest `i32`.
@@ -97,6 +99,20 @@ fn signed(word: &[u8], bound: u64) -> Option<i64>
         None => None,
         Some((b'-', digits)) => negative(digits, bound),
         Some(_) => Some(number(word, bound - 1)? as i64),
+    }
+}
+
+/// The amount that a word is, where it is a number from -10,000 to 10,000.
+pub fn amount(word: &[u8]) -> Option<i32>
+    ensures none { IfNone result (is_amount_word word.now ≡ false) }
+    ensures passes { OnSome result (is_amount_word word.now ≡ true) }
+    ensures range { IfSome result (λ z. is_amount z ≡ true) }
+    ensures spelled { IfSome result (λ z. signed_decimal z ≡ word.now) }
+{
+    match word.split_first() {
+        None => None,
+        Some((b'-', digits)) => Some(negative(digits, MAX_AMOUNT)? as i32),
+        Some(_) => Some(number(word, MAX_AMOUNT)? as i32),
     }
 }
 

@@ -1,4 +1,7 @@
 //! The objects that a workload declares.
+ghost use Rattle.std.specs.Prelude.{◌≡◌};
+ghost use Rattle.workload.specs.Plan.{word_of};
+
 use sync_model::{AtomicKind, Name};
 
 /// What an object is, with what its line says of it.
@@ -12,6 +15,34 @@ pub enum ObjectKind {
     Mutex,
     /// A reader/writer mutex, which is unlocked at the start.
     RwMutex,
+    /// A cond, whose `L` is the mutex at this place among the objects.
+    Cond { mutex: usize },
+    /// A wait group, whose counter is this at the start, 0 to 10,000.
+    WaitGroup { start: u32 },
+    /// A once, whose function adds this amount, -10,000 to 10,000, to the int64 at this place.
+    Once { atomic: usize, delta: i64 },
+    /// A function made by `OnceFunc`, which fails with this code, 1 to 1,000, or succeeds where it is 0.
+    OnceFunc { code: u32 },
+    /// A function made by `OnceValue`, which gives this value, 0 to 2^63 - 1.
+    OnceValue { value: u64 },
+    /// A pool, which is empty at the start. A new item of it is 0.
+    Pool,
+}
+
+/// The word that the line of an object begins with. Objects with one word have the same calls, and
+/// count together, as the atomics of all types do.
+#[derive(Clone, Copy, Debug, PartialEq, Eq)]
+pub enum ObjectWord {
+    Map,
+    Atomic(AtomicKind),
+    Mutex,
+    RwMutex,
+    Cond,
+    WaitGroup,
+    Once,
+    OnceFunc,
+    OnceValue,
+    Pool,
 }
 
 /// An object as a workload declares it.
@@ -30,4 +61,24 @@ pub struct Declared {
     pub place: usize,
     /// What the object is.
     pub kind: ObjectKind,
+}
+
+impl ObjectKind {
+    /// The word of the object's line.
+    pub fn word(self) -> ObjectWord
+        ensures { result ≡ word_of self }
+    {
+        match self {
+            ObjectKind::Map => ObjectWord::Map,
+            ObjectKind::Atomic(kind) => ObjectWord::Atomic(kind),
+            ObjectKind::Mutex => ObjectWord::Mutex,
+            ObjectKind::RwMutex => ObjectWord::RwMutex,
+            ObjectKind::Cond { .. } => ObjectWord::Cond,
+            ObjectKind::WaitGroup { .. } => ObjectWord::WaitGroup,
+            ObjectKind::Once { .. } => ObjectWord::Once,
+            ObjectKind::OnceFunc { .. } => ObjectWord::OnceFunc,
+            ObjectKind::OnceValue { .. } => ObjectWord::OnceValue,
+            ObjectKind::Pool => ObjectWord::Pool,
+        }
+    }
 }

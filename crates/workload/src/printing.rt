@@ -1,19 +1,23 @@
 //! The canonical text of a workload.
 ghost use Rattle.std.specs.Prelude.{◌≡◌, ◌+◌, ◌∷◌, ◌++◌, [], map, IfOk, OnOk, length, slice_get};
 ghost use Rattle.std.specs.List.{flat_map, join_with_byte};
-ghost use Rattle.std.specs.Fmt.{decimal};
-ghost use Rattle.workload.specs.Words.{turn_word, kind_word, verb_word, map_verb, atomic_verb, mutex_verb, rw_mutex_verb, verb_of, number_word, map_values, map_operands, atomic_operands, operands_of, spelled, first_spelled};
+ghost use Rattle.std.specs.Fmt.{decimal, signed_decimal};
+ghost use Rattle.std.specs.Option.{option_to_list};
+ghost use Rattle.workload.specs.Words.{turn_word, object_word, verb_word, map_verb, atomic_verb, mutex_verb, rw_mutex_verb, cond_verb, group_verb, pool_verb, verb_of, number_word, map_values, map_operands, atomic_operands, group_operands, pool_operands, kind_parameters, operands_of, spelled, first_spelled};
 ghost use Rattle.workload.specs.declared.line.Line.TheVariants as Line;
 ghost use Rattle.workload.specs.Plan.{is_valid, is_on, object_of};
 ghost use Rattle.workload.specs.Reads.{Reads};
-ghost use Rattle.workload.specs.Canonical.{text_line, call_line, script_lines, eights, canonical_lines, canonical, behind_spaces, lines_text, name_of};
+ghost use Rattle.workload.specs.Canonical.{text_line, call_line, object_line, reference_name, script_lines, eights, canonical_lines, canonical, behind_spaces, lines_text, name_of};
 
 use crate::keyword::Verb;
-use crate::object::{ObjectKind, ObjectLine};
+use crate::object::{ObjectKind, ObjectLine, ObjectWord};
 use crate::turn::Turn;
 use crate::workload::Workload;
 use std::alloc::{AllocError, Global};
-use sync_model::{AtomicCall, AtomicKind, Call, MapCall, MutexCall, Name, Number, RwMutexCall};
+use sync_model::{
+    AtomicCall, AtomicKind, Call, CondCall, MapCall, MutexCall, Name, Number, PoolCall,
+    RwMutexCall, WaitGroupCall,
+};
 
 /// Writes a word behind a space.
 fn put_word(text: &mut Vec<u8>, word: &[u8]) -> Result<(), AllocError>
@@ -31,13 +35,21 @@ fn put_number(alloc: Global, text: &mut Vec<u8>, number: u64) -> Result<(), Allo
     put_word(text, digits.as_bytes())
 }
 
+/// Writes a number that may be below 0 behind a space.
+fn put_signed(alloc: Global, text: &mut Vec<u8>, number: i64) -> Result<(), AllocError>
+    ensures { OnOk result (text.new.items ≡ text.old.items ++ 32 ∷ signed_decimal number) }
+{
+    let digits = number.to_string(alloc)?;
+    put_word(text, digits.as_bytes())
+}
+
 /// Writes a number of an atomic behind a space.
 fn put_atomic_number(alloc: Global, text: &mut Vec<u8>, number: Number) -> Result<(), AllocError>
     ensures { OnOk result (text.new.items ≡ text.old.items ++ 32 ∷ number_word number) }
 {
     match number {
-        Number::Int32(n) => put_word(text, n.to_string(alloc)?.as_bytes()),
-        Number::Int64(n) => put_word(text, n.to_string(alloc)?.as_bytes()),
+        Number::Int32(n) => put_signed(alloc, text, i64::from(n)),
+        Number::Int64(n) => put_signed(alloc, text, n),
         Number::Uint32(n) => put_number(alloc, text, u64::from(n)),
         Number::Uint64(n) => put_number(alloc, text, n),
         Number::Bool(false) => put_word(text, b"false"),
@@ -126,22 +138,38 @@ pub fn verb_text(verb: Verb) -> &'static [u8]
         Verb::RLock => b"rlock",
         Verb::RUnlock => b"runlock",
         Verb::TryRLock => b"tryrlock",
+        Verb::Wait => b"wait",
+        Verb::Signal => b"signal",
+        Verb::Broadcast => b"broadcast",
+        Verb::Done => b"done",
+        Verb::Do => b"do",
+        Verb::Call => b"call",
+        Verb::Value => b"value",
+        Verb::Put => b"put",
+        Verb::Get => b"get",
+        Verb::Sweep => b"sweep",
     }
 }
 
-/// The word of a kind of object.
-fn kind_text(kind: ObjectKind) -> &'static [u8]
-    ensures { result.now ≡ kind_word kind }
+/// The text of an object's word.
+fn object_text(word: ObjectWord) -> &'static [u8]
+    ensures { result.now ≡ object_word word }
 {
-    match kind {
-        ObjectKind::Map => b"map",
-        ObjectKind::Atomic(AtomicKind::Int32) => b"int32",
-        ObjectKind::Atomic(AtomicKind::Int64) => b"int64",
-        ObjectKind::Atomic(AtomicKind::Uint32) => b"uint32",
-        ObjectKind::Atomic(AtomicKind::Uint64) => b"uint64",
-        ObjectKind::Atomic(AtomicKind::Bool) => b"bool",
-        ObjectKind::Mutex => b"mutex",
-        ObjectKind::RwMutex => b"rwmutex",
+    match word {
+        ObjectWord::Map => b"map",
+        ObjectWord::Atomic(AtomicKind::Int32) => b"int32",
+        ObjectWord::Atomic(AtomicKind::Int64) => b"int64",
+        ObjectWord::Atomic(AtomicKind::Uint32) => b"uint32",
+        ObjectWord::Atomic(AtomicKind::Uint64) => b"uint64",
+        ObjectWord::Atomic(AtomicKind::Bool) => b"bool",
+        ObjectWord::Mutex => b"mutex",
+        ObjectWord::RwMutex => b"rwmutex",
+        ObjectWord::Cond => b"cond",
+        ObjectWord::WaitGroup => b"waitgroup",
+        ObjectWord::Once => b"once",
+        ObjectWord::OnceFunc => b"oncefunc",
+        ObjectWord::OnceValue => b"oncevalue",
+        ObjectWord::Pool => b"pool",
     }
 }
 
@@ -202,6 +230,39 @@ pub fn rw_mutex_verb(call: RwMutexCall) -> Verb
     }
 }
 
+/// Which call of a cond it is.
+pub fn cond_verb(call: CondCall) -> Verb
+    ensures { result ≡ cond_verb call }
+{
+    match call {
+        CondCall::Wait => Verb::Wait,
+        CondCall::Signal => Verb::Signal,
+        CondCall::Broadcast => Verb::Broadcast,
+    }
+}
+
+/// Which call of a wait group it is.
+pub fn group_verb(call: WaitGroupCall) -> Verb
+    ensures { result ≡ group_verb call }
+{
+    match call {
+        WaitGroupCall::Add(_) => Verb::Add,
+        WaitGroupCall::Done => Verb::Done,
+        WaitGroupCall::Wait => Verb::Wait,
+    }
+}
+
+/// Which call of a pool it is.
+pub fn pool_verb(call: PoolCall) -> Verb
+    ensures { result ≡ pool_verb call }
+{
+    match call {
+        PoolCall::Put(_) => Verb::Put,
+        PoolCall::Get => Verb::Get,
+        PoolCall::Sweep => Verb::Sweep,
+    }
+}
+
 /// Which call it is.
 pub fn verb(call: &Call) -> Verb
     ensures { result ≡ verb_of call.now }
@@ -212,6 +273,36 @@ pub fn verb(call: &Call) -> Verb
         Call::Atomic { call, .. } => atomic_verb(*call),
         Call::Mutex { call, .. } => mutex_verb(*call),
         Call::RwMutex { call, .. } => rw_mutex_verb(*call),
+        Call::Cond { call, .. } => cond_verb(*call),
+        Call::WaitGroup { call, .. } => group_verb(*call),
+        Call::Once { .. } => Verb::Do,
+        Call::OnceFunc { .. } => Verb::Call,
+        Call::OnceValue { .. } => Verb::Value,
+        Call::Pool { call, .. } => pool_verb(*call),
+    }
+}
+
+/// Writes the operands of a call of a wait group, each behind a space.
+fn put_group_operands(
+    alloc: Global,
+    text: &mut Vec<u8>,
+    call: WaitGroupCall,
+) -> Result<(), AllocError>
+    ensures { OnOk result (text.new.items ≡ text.old.items ++ behind_spaces (group_operands call)) }
+{
+    match call {
+        WaitGroupCall::Add(delta) => put_signed(alloc, text, i64::from(delta)),
+        WaitGroupCall::Done | WaitGroupCall::Wait => Ok(()),
+    }
+}
+
+/// Writes the operands of a call of a pool, each behind a space.
+fn put_pool_operands(alloc: Global, text: &mut Vec<u8>, call: PoolCall) -> Result<(), AllocError>
+    ensures { OnOk result (text.new.items ≡ text.old.items ++ behind_spaces (pool_operands call)) }
+{
+    match call {
+        PoolCall::Put(item) => put_number(alloc, text, item),
+        PoolCall::Get | PoolCall::Sweep => Ok(()),
     }
 }
 
@@ -222,7 +313,15 @@ fn put_operands(alloc: Global, text: &mut Vec<u8>, call: &Call) -> Result<(), Al
     match call {
         Call::Map { call, .. } => put_map_operands(alloc, text, call),
         Call::Atomic { call, .. } => put_atomic_operands(alloc, text, *call),
-        Call::Range { .. } | Call::Mutex { .. } | Call::RwMutex { .. } => Ok(()),
+        Call::WaitGroup { call, .. } => put_group_operands(alloc, text, *call),
+        Call::Pool { call, .. } => put_pool_operands(alloc, text, *call),
+        Call::Range { .. }
+        | Call::Mutex { .. }
+        | Call::RwMutex { .. }
+        | Call::Cond { .. }
+        | Call::Once { .. }
+        | Call::OnceFunc { .. }
+        | Call::OnceValue { .. } => Ok(()),
     }
 }
 
@@ -233,16 +332,6 @@ fn put_call(alloc: Global, text: &mut Vec<u8>, name: &[u8], call: &Call) -> Resu
     text.extend_from_slice(verb_text(verb(call)))?;
     put_word(text, name)?;
     put_operands(alloc, text, call)?;
-    text.push(b'\n')?;
-    Ok(())
-}
-
-/// Writes the line of an object.
-fn put_object(text: &mut Vec<u8>, object: &ObjectLine) -> Result<(), AllocError>
-    ensures { OnOk result (text.new.items ≡ text.old.items ++ text_line (spelled (Line.Object object.now))) }
-{
-    text.extend_from_slice(kind_text(object.kind))?;
-    put_word(text, object.name.as_bytes())?;
     text.push(b'\n')?;
     Ok(())
 }
@@ -276,16 +365,6 @@ fn put_turn(alloc: Global, text: &mut Vec<u8>, turn: Turn) -> Result<(), AllocEr
     }
 }
 
-/// Writes the lines of the objects.
-fn put_objects(text: &mut Vec<u8>, objects: &[ObjectLine]) -> Result<(), AllocError>
-    ensures { OnOk result (text.new.items ≡ text.old.items ++ lines_text (map (λ object. Line.Object object) objects.now)) }
-{
-    for object in objects {
-        put_object(text, object)?;
-    }
-    Ok(())
-}
-
 /// The name of the object at a place, or nothing where there is none.
 fn name_at(objects: &[ObjectLine], place: usize) -> &[u8]
     ensures { result.now ≡ name_of (slice_get objects.now place) }
@@ -296,8 +375,60 @@ fn name_at(objects: &[ObjectLine], place: usize) -> &[u8]
     }
 }
 
+/// Writes what the line of an object has behind the object's name, each word behind a space.
+fn put_parameters(
+    alloc: Global,
+    text: &mut Vec<u8>,
+    objects: &[ObjectLine],
+    kind: ObjectKind,
+) -> Result<(), AllocError>
+    ensures { OnOk result (text.new.items ≡ text.old.items ++ behind_spaces (option_to_list (reference_name objects.now kind) ++ kind_parameters kind)) }
+{
+    match kind {
+        ObjectKind::Cond { mutex } => put_word(text, name_at(objects, mutex)),
+        ObjectKind::WaitGroup { start } => put_number(alloc, text, u64::from(start)),
+        ObjectKind::Once { atomic, delta } => {
+            put_word(text, name_at(objects, atomic))?;
+            put_signed(alloc, text, delta)
+        }
+        ObjectKind::OnceFunc { code } => put_number(alloc, text, u64::from(code)),
+        ObjectKind::OnceValue { value } => put_number(alloc, text, value),
+        ObjectKind::Map
+        | ObjectKind::Atomic(_)
+        | ObjectKind::Mutex
+        | ObjectKind::RwMutex
+        | ObjectKind::Pool => Ok(()),
+    }
+}
+
+/// Writes the line of an object.
+fn put_object(
+    alloc: Global,
+    text: &mut Vec<u8>,
+    objects: &[ObjectLine],
+    object: &ObjectLine,
+) -> Result<(), AllocError>
+    ensures { OnOk result (text.new.items ≡ text.old.items ++ text_line (spelled (object_line objects.now object.now))) }
+{
+    text.extend_from_slice(object_text(object.kind.word()))?;
+    put_word(text, object.name.as_bytes())?;
+    put_parameters(alloc, text, objects, object.kind)?;
+    text.push(b'\n')?;
+    Ok(())
+}
+
+/// Writes the lines of the objects.
+fn put_objects(alloc: Global, text: &mut Vec<u8>, objects: &[ObjectLine]) -> Result<(), AllocError>
+    ensures { OnOk result (text.new.items ≡ text.old.items ++ lines_text (map (object_line objects.now) objects.now)) }
+{
+    for object in objects {
+        put_object(alloc, text, objects, object)?;
+    }
+    Ok(())
+}
+
 /// The place of the object of a call.
-fn place_of(call: &Call) -> usize
+pub fn place_of(call: &Call) -> usize
     ensures { result ≡ object_of call.now }
 {
     match call {
@@ -305,7 +436,13 @@ fn place_of(call: &Call) -> usize
         | Call::Range { object }
         | Call::Atomic { object, .. }
         | Call::Mutex { object, .. }
-        | Call::RwMutex { object, .. } => *object,
+        | Call::RwMutex { object, .. }
+        | Call::Cond { object, .. }
+        | Call::WaitGroup { object, .. }
+        | Call::Once { object }
+        | Call::OnceFunc { object }
+        | Call::OnceValue { object }
+        | Call::Pool { object, .. } => *object,
     }
 }
 
@@ -383,7 +520,7 @@ fn put_scripts(alloc: Global, text: &mut Vec<u8>, workload: &Workload) -> Result
 fn put_lines(alloc: Global, text: &mut Vec<u8>, workload: &Workload) -> Result<(), AllocError>
     ensures { OnOk result (text.new.items ≡ text.old.items ++ lines_text (canonical_lines workload.now)) }
 {
-    put_objects(text, workload.objects())?;
+    put_objects(alloc, text, workload.objects())?;
     put_scripts(alloc, text, workload)?;
     put_schedule(alloc, text, workload.schedule())
 }

@@ -2,6 +2,7 @@
 use super::*;
 use std::alloc::Global;
 use std::test::Fail;
+use sync_model::AtomicKind;
 
 // The fault of a text: its line and its reason, or None where it is read.
 fn fault_of(alloc: Global, text: &[u8]) -> Result<Option<(u32, Reason)>, Fail> {
@@ -175,7 +176,7 @@ fn the_parts_of_a_workload(rt: HostRuntime) -> Result<(), Fail> {
 
 #[test]
 fn the_canonical_text(rt: HostRuntime) -> Result<(), Fail> {
-    let cases: [(&[u8], &[u8]); 7] = [
+    let cases: [(&[u8], &[u8]); 8] = [
         (
             b"workers 1\nmap t\nint32 a\nint64 b\nuint32 c\nuint64 d\nbool e\nworker 0\nstore a -2147483648\nadd b -1\nand c 7\nor d 18446744073709551615\ncas e false true\nswap e true\nload a\n",
             b"workers 1\nmap t\nint32 a\nint64 b\nuint32 c\nuint64 d\nbool e\nworker 0\nstore a -2147483648\nadd b -1\nand c 7\nor d 18446744073709551615\ncas e false true\nswap e true\nload a\n",
@@ -191,6 +192,10 @@ fn the_canonical_text(rt: HostRuntime) -> Result<(), Fail> {
         (
             b"workers 1\nworker 0\nmutex m\nlock m\ntrylock m\nunlock m\nrwmutex w\nlock w\ntrylock w\nunlock w\nrlock w\ntryrlock w\nrunlock w\n",
             b"workers 1\nmutex m\nrwmutex w\nworker 0\nlock m\ntrylock m\nunlock m\nlock w\ntrylock w\nunlock w\nrlock w\ntryrlock w\nrunlock w\n",
+        ),
+        (
+            b"workers 1\nmutex m\nworker 0\ncond c m\nwait c\nsignal c\nbroadcast c\nint64 a\nonce o  a -10000\ndo o\nwaitgroup g 10000\nadd g -1\nadd g 10000\ndone g\nwait g\noncefunc f 1000\ncall f\noncevalue v 0\nvalue v\npool p\nput p 7\nget p\nsweep p\n",
+            b"workers 1\nmutex m\ncond c m\nint64 a\nonce o a -10000\nwaitgroup g 10000\noncefunc f 1000\noncevalue v 0\npool p\nworker 0\nwait c\nsignal c\nbroadcast c\ndo o\nadd g -1\nadd g 10000\ndone g\nwait g\ncall f\nvalue v\nput p 7\nget p\nsweep p\n",
         ),
         (b" # none\n workers  2", b"workers 2\nworker 0\nworker 1\n"),
         (
@@ -325,6 +330,187 @@ fn each_kind_of_object_has_its_calls(rt: HostRuntime) -> Result<(), Fail> {
         text.extend_from_slice(call)?;
         let fault = fault_of(rt.alloc(), &text)?.map(|(_, reason)| reason);
         assert_eq!(rt; fault, reason, "at {text:?}");
+    }
+    Ok(())
+}
+
+#[test]
+fn each_object_line_has_its_words(rt: HostRuntime) -> Result<(), Fail> {
+    let cases: [(&[u8], Option<Reason>); 47] = [
+        (b"cond c m", None),
+        (b"cond c", Some(Reason::WrongNumberOfWords)),
+        (b"cond 9 m x", Some(Reason::WrongNumberOfWords)),
+        (b"cond 9 m", Some(Reason::BadName)),
+        (b"cond m m", Some(Reason::NameTaken)),
+        (b"cond m 9", Some(Reason::NameTaken)),
+        (b"cond c 9", Some(Reason::BadName)),
+        (b"cond c n", Some(Reason::UnknownName)),
+        (b"cond c c", Some(Reason::UnknownName)),
+        (b"cond c w", Some(Reason::WrongKind)),
+        (b"cond c a", Some(Reason::WrongKind)),
+        (b"waitgroup g 0", None),
+        (b"waitgroup g 10000", None),
+        (b"waitgroup g", Some(Reason::WrongNumberOfWords)),
+        (b"waitgroup g 10001", Some(Reason::BadNumber)),
+        (b"waitgroup g -1", Some(Reason::BadNumber)),
+        (b"waitgroup g 01", Some(Reason::BadNumber)),
+        (b"waitgroup g m", Some(Reason::BadNumber)),
+        (b"waitgroup 9 x", Some(Reason::BadName)),
+        (b"waitgroup m x", Some(Reason::NameTaken)),
+        (b"once o a 0", None),
+        (b"once o a 10000", None),
+        (b"once o a -10000", None),
+        (b"once o a", Some(Reason::WrongNumberOfWords)),
+        (b"once o a 1 1", Some(Reason::WrongNumberOfWords)),
+        (b"once o b 1", Some(Reason::WrongKind)),
+        (b"once o m 1", Some(Reason::WrongKind)),
+        (b"once o n 1", Some(Reason::UnknownName)),
+        (b"once o o 1", Some(Reason::UnknownName)),
+        (b"once o 9 x", Some(Reason::BadName)),
+        (b"once o n x", Some(Reason::UnknownName)),
+        (b"once o b x", Some(Reason::WrongKind)),
+        (b"once o a 10001", Some(Reason::BadNumber)),
+        (b"once o a -10001", Some(Reason::BadNumber)),
+        (b"once o a -0", Some(Reason::BadNumber)),
+        (b"once o a +1", Some(Reason::BadNumber)),
+        (b"oncefunc f 0", None),
+        (b"oncefunc f 1000", None),
+        (b"oncefunc f 1001", Some(Reason::BadNumber)),
+        (b"oncefunc f", Some(Reason::WrongNumberOfWords)),
+        (b"oncevalue v 9223372036854775807", None),
+        (b"oncevalue v 9223372036854775808", Some(Reason::BadNumber)),
+        (b"oncevalue v -1", Some(Reason::BadNumber)),
+        (b"oncevalue v 1 1", Some(Reason::WrongNumberOfWords)),
+        (b"pool p", None),
+        (b"pool p 0", Some(Reason::WrongNumberOfWords)),
+        (b"pool m", Some(Reason::NameTaken)),
+    ];
+    for (line, reason) in cases {
+        let mut text = Vec::new(rt.alloc());
+        text.extend_from_slice(b"workers 1\nmutex m\nrwmutex w\nint64 a\nint32 b\n")?;
+        text.extend_from_slice(line)?;
+        let fault = fault_of(rt.alloc(), &text)?;
+        assert_eq!(rt; fault, reason.map(|reason| (6, reason)), "at {text:?}");
+    }
+    Ok(())
+}
+
+#[test]
+fn each_waiting_object_has_its_calls(rt: HostRuntime) -> Result<(), Fail> {
+    let cases: [(&[u8], Option<Reason>); 45] = [
+        (b"wait c", None),
+        (b"signal c", None),
+        (b"broadcast c", None),
+        (b"lock c", Some(Reason::WrongKind)),
+        (b"add c 1", Some(Reason::WrongKind)),
+        (b"signal c c", Some(Reason::WrongNumberOfWords)),
+        (b"add g -10000", None),
+        (b"add g 10000", None),
+        (b"done g", None),
+        (b"wait g", None),
+        (b"add g", Some(Reason::WrongNumberOfWords)),
+        (b"add g 1 1", Some(Reason::WrongNumberOfWords)),
+        (b"add g 10001", Some(Reason::BadNumber)),
+        (b"add g -10001", Some(Reason::BadNumber)),
+        (b"add g -0", Some(Reason::BadNumber)),
+        (b"add g x", Some(Reason::BadNumber)),
+        (b"done g 1", Some(Reason::WrongNumberOfWords)),
+        (b"signal g", Some(Reason::WrongKind)),
+        (b"do o", None),
+        (b"do o 1", Some(Reason::WrongNumberOfWords)),
+        (b"call o", Some(Reason::WrongKind)),
+        (b"value o", Some(Reason::WrongKind)),
+        (b"call f", None),
+        (b"call f f", Some(Reason::WrongNumberOfWords)),
+        (b"do f", Some(Reason::WrongKind)),
+        (b"value v", None),
+        (b"call v", Some(Reason::WrongKind)),
+        (b"value v 1", Some(Reason::WrongNumberOfWords)),
+        (b"put p 0", None),
+        (b"put p 9223372036854775807", None),
+        (b"get p", None),
+        (b"sweep p", None),
+        (b"put p", Some(Reason::WrongNumberOfWords)),
+        (b"put p 9223372036854775808", Some(Reason::BadNumber)),
+        (b"put p -1", Some(Reason::BadNumber)),
+        (b"get p 1", Some(Reason::WrongNumberOfWords)),
+        (b"sweep p p", Some(Reason::WrongNumberOfWords)),
+        (b"store p 1", Some(Reason::WrongKind)),
+        (b"range p", Some(Reason::WrongKind)),
+        (b"wait m", Some(Reason::WrongKind)),
+        (b"do a", Some(Reason::WrongKind)),
+        (b"put a 1", Some(Reason::WrongKind)),
+        (b"wait n", Some(Reason::UnknownName)),
+        (b"wait", Some(Reason::WrongNumberOfWords)),
+        (b"get 9", Some(Reason::BadName)),
+    ];
+    for (call, reason) in cases {
+        let mut text = Vec::new(rt.alloc());
+        text.extend_from_slice(
+            b"workers 1\nmutex m\nint64 a\ncond c m\nwaitgroup g 1\nonce o a 5\noncefunc f 3\noncevalue v 9\npool p\nworker 0\n",
+        )?;
+        text.extend_from_slice(call)?;
+        let fault = fault_of(rt.alloc(), &text)?;
+        assert_eq!(rt; fault, reason.map(|reason| (11, reason)), "at {text:?}");
+    }
+    Ok(())
+}
+
+#[test]
+fn what_an_object_line_says(rt: HostRuntime) -> Result<(), Fail> {
+    let text =
+        b"workers 1\nint64 b\nmutex n\nmutex m\nint64 a\ncond c m\nonce o a -7\nwaitgroup g 3\noncefunc f 4\noncevalue v 9\npool p\n";
+    let kinds = [
+        ObjectKind::Atomic(AtomicKind::Int64),
+        ObjectKind::Mutex,
+        ObjectKind::Mutex,
+        ObjectKind::Atomic(AtomicKind::Int64),
+        ObjectKind::Cond { mutex: 2 },
+        ObjectKind::Once {
+            atomic: 3,
+            delta: -7,
+        },
+        ObjectKind::WaitGroup { start: 3 },
+        ObjectKind::OnceFunc { code: 4 },
+        ObjectKind::OnceValue { value: 9 },
+        ObjectKind::Pool,
+    ];
+    let workload = parse(rt.alloc(), text).ok().ok_or("the text is read")?;
+    assert_eq!(rt; workload.objects().len(), kinds.len());
+    for (object, kind) in workload.objects().iter().zip(kinds) {
+        assert_eq!(rt; object.kind, kind);
+        assert_eq!(rt; object.kind.word(), kind.word());
+    }
+    Ok(())
+}
+
+#[test]
+fn limits_on_the_other_objects(rt: HostRuntime) -> Result<(), Fail> {
+    let cases: [(&[u8], &[u8]); 6] = [
+        (b"cond", b" m"),
+        (b"waitgroup", b" 0"),
+        (b"once", b" a 1"),
+        (b"oncefunc", b" 0"),
+        (b"oncevalue", b" 0"),
+        (b"pool", b""),
+    ];
+    for (kind, rest) in cases {
+        let mut text = Vec::new(rt.alloc());
+        text.extend_from_slice(b"workers 1\nmutex m\nint64 a")?;
+        for number in 0..32 {
+            text.push(b'\n')?;
+            text.extend_from_slice(kind)?;
+            text.extend_from_slice(b" o")?;
+            text.extend_from_slice(number.to_string(rt.alloc())?.as_bytes())?;
+            text.extend_from_slice(rest)?;
+        }
+        assert_eq!(rt; fault_of(rt.alloc(), &text)?, None, "at {kind:?}");
+        text.push(b'\n')?;
+        text.extend_from_slice(kind)?;
+        text.extend_from_slice(b" o")?;
+        text.extend_from_slice(rest)?;
+        let fault = fault_of(rt.alloc(), &text)?;
+        assert_eq!(rt; fault, Some((36, Reason::LimitReached)), "at {kind:?}");
     }
     Ok(())
 }

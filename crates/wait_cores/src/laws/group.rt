@@ -1,7 +1,8 @@
 //! When a wait of a wait group returns, and what a misuse leaves.
-ghost use Rattle.std.specs.Prelude.{◌≡◌, ◌≢◌, ℕ, ◌<◌, false, IsTrue, ◌∷◌, ◌++◌, slice_set, IsFalse};
+ghost use Rattle.std.specs.Prelude.{◌≡◌, ◌≢◌, ℕ, ◌+◌, ◌<◌, ◌≤◌, false, IsTrue, ◌∷◌, ◌++◌, slice_set, IsFalse};
 ghost use Rattle.std.specs.List.{list_any};
 ghost use Rattle.sync_model.specs.Log.{Follows};
+ghost use Rattle.wait_cores.specs.EventsLeft.{group_left, group_used, group_given};
 ghost use Rattle.wait_cores.specs.GroupMachine.{GroupState, start, next, callers_of, is_waiting};
 ghost use Rattle.wait_cores.specs.GroupStanding.{answers, waits_at, waits_after};
 ghost use Rattle.wait_cores.specs.GroupLaws.{Log, WasZero, state_after, wait_by, leave_by};
@@ -48,4 +49,14 @@ pub fn knows_where_it_stands()
     ensures callers { (state : GroupState) (caller : ℕ) (event : GroupEvent)
         → callers_of (next state caller event).0 ≡ callers_of state }
     ensures first { (callers caller : ℕ) → waits_at (start callers) caller ≡ false }
+{}
+
+/// Callers can't go on for ever without a call returning. One that comes to wait uses up one of the events that are left, and
+/// only one that leaves gives any back. An event that is answered `Still` changes nothing.
+pub fn events_are_used_up()
+    ensures used { (state : GroupState) (caller : ℕ) (event : GroupEvent)
+        → group_left (next state caller event).0 + group_used (next state caller event).1
+        ≤ group_left state + group_given event (next state caller event).1 }
+    ensures unmoved { (state : GroupState) (caller : ℕ) (event : GroupEvent)
+        → (next state caller event).1 ≡ GroupReply.Still → (next state caller event).0 ≡ state }
 {}

@@ -1,7 +1,8 @@
 //! When a ticket of a cond is notified.
-ghost use Rattle.std.specs.Prelude.{◌≡◌, ℕ, ◌<◌, ◌≤◌, ◌-◌, ◌^◌, ◌==◌, min, not, ◌∷◌, ◌++◌, count_by, IsTrue};
+ghost use Rattle.std.specs.Prelude.{◌≡◌, ℕ, ◌<◌, ◌≤◌, ◌+◌, ◌-◌, ◌^◌, ◌==◌, min, not, ◌∷◌, ◌++◌, count_by, IsTrue};
 ghost use Rattle.std.specs.List.{list_all};
 ghost use Rattle.wait_cores.specs.NotifyMachine.{NotifyState, next, callers_of, place_of};
+ghost use Rattle.wait_cores.specs.EventsLeft.{notify_left, notify_used, notify_given};
 ghost use Rattle.wait_cores.specs.NotifyLaws.{Log, IsLog, state_after, ticket_by, leave_by, is_ticket, pending_of, answers, NotifiesAfter};
 
 use crate::notify::{NotifyEvent, NotifyPlace};
@@ -39,4 +40,12 @@ pub fn answers_its_callers()
         → caller < callers_of state → IsTrue (answers event (next state caller event).1) }
     ensures callers { (state : NotifyState) (caller : ℕ) (event : NotifyEvent)
         → callers_of (next state caller event).0 ≡ callers_of state }
+{}
+
+/// Callers can't go on for ever without a call returning. One that takes a ticket uses up one of the events that are left, and
+/// only one that leaves gives any back.
+pub fn events_are_used_up()
+    ensures { (state : NotifyState) (caller : ℕ) (event : NotifyEvent) → caller < callers_of state
+        → notify_left (next state caller event).0 + notify_used (place_of state caller) event
+        ≤ notify_left state + notify_given event }
 {}

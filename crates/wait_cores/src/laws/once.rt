@@ -1,6 +1,8 @@
 //! How often the function of a once runs, and what its callers return with.
-ghost use Rattle.std.specs.Prelude.{◌≡◌, ◌≢◌, ℕ, ◌<◌, ◌≤◌, false, IsTrue, ◌∷◌, ◌++◌, count_by};
+ghost use Rattle.std.specs.Prelude.{◌≡◌, ◌≢◌, ℕ, ◌+◌, ◌<◌, ◌≤◌, false, IsTrue, ◌∷◌, ◌++◌, count_by};
 ghost use Rattle.wait_cores.specs.declared.once.OnceEvent.{OnceEvent};
+ghost use Rattle.wait_cores.specs.declared.once.OnceReply.TheVariants as reply;
+ghost use Rattle.wait_cores.specs.EventsLeft.{once_left, once_used, once_given};
 ghost use Rattle.wait_cores.specs.OnceMachine.{OnceState, start, next, callers_of};
 ghost use Rattle.wait_cores.specs.OnceStanding.{answers, waits_at, runs_at, waits_after, runs_after};
 ghost use Rattle.wait_cores.specs.OnceLaws.{Made, Log, IsLog, begins, ends, returned_in, kept_by};
@@ -33,4 +35,14 @@ pub fn knows_where_it_stands<T: Copy>()
     ensures callers { (state : OnceState T) (caller : ℕ) (event : OnceEvent T)
         → callers_of (next state caller event).0 ≡ callers_of state }
     ensures first { (callers caller : ℕ) → (waits_at {T = T} (start callers) caller ≡ false) × (runs_at {T = T} (start callers) caller ≡ false) }
+{}
+
+/// Callers can't go on for ever without a call returning. The one that is to run the function, and one that comes to wait, use up
+/// one of the events that are left, and only one that leaves gives any back. An event that is answered `Still` changes nothing.
+pub fn events_are_used_up<T: Copy>()
+    ensures used { (state : OnceState T) (caller : ℕ) (event : OnceEvent T)
+        → once_left (next state caller event).0 + once_used (next state caller event).1
+        ≤ once_left state + once_given (next state caller event).1 }
+    ensures unmoved { (state : OnceState T) (caller : ℕ) (event : OnceEvent T)
+        → (next state caller event).1 ≡ reply.Still → (next state caller event).0 ≡ state }
 {}

@@ -1,5 +1,5 @@
 //! Where the items of a pool come from and where they go.
-ghost use Rattle.std.specs.Prelude.{◌≡◌, ◌≢◌, ℕ, ◌+◌, ◌<◌, Bool, if◌then◌else◌, slice_get, IsTrue, ◌∷◌, ◌++◌};
+ghost use Rattle.std.specs.Prelude.{◌≡◌, ◌≢◌, ℕ, ◌+◌, ◌<◌, Bool, if◌then◌else◌, length, slice_get, IsTrue, ◌∷◌, ◌++◌};
 ghost use Rattle.wait_cores.specs.PoolParts.{PoolPart};
 ghost use Rattle.wait_cores.specs.PoolMachine.{PoolState, start, next};
 ghost use Rattle.wait_cores.specs.PoolLaws.{Log, IsLog, state_after, put_by, held, kept_count, got_count, swept_count, ComeFrom, is_full, private_at, answers, NamesPart};
@@ -42,4 +42,11 @@ pub fn leaves_private_items()
 pub fn answers_its_callers()
     ensures { (callers room : ℕ) (log : Log ℕ) (caller : ℕ) (event : PoolEvent ℕ)
         → caller < callers → NamesPart callers event → IsTrue (answers event (next (state_after callers room log) caller event).1) }
+{}
+
+/// A pool keeps as many parts as it has callers, in both generations.
+pub fn keeps_its_parts()
+    ensures { (state : PoolState ℕ) (caller callers : ℕ) (event : PoolEvent ℕ)
+        → length state.primary ≡ callers → length state.victims ≡ callers
+        → (length (next state caller event).0.primary ≡ callers) × (length (next state caller event).0.victims ≡ callers) }
 {}

@@ -10,7 +10,10 @@ returns-clause-ranges c plan items object number valid at =
     in_range c.calls_keep_the_type.ensures.start c.calls_keep_the_type.ensures.after plan (c.validity.ensures.goes_on plan) (c.validity.ensures.begins plan valid) items object (states.Atomic number) at
 
 pub returns-clause-mutexes : goal.returns-clause-mutexes
-returns-clause-mutexes c plan items object m valid at = (c.validity.ensures.always plan items valid).locks object (states.Mutex m) at
+returns-clause-mutexes c plan items object m valid at = (c.validity.ensures.always plan items valid).machines object (states.Mutex m) at
 
 pub returns-clause-rw_mutexes : goal.returns-clause-rw_mutexes
-returns-clause-rw_mutexes c plan items object m valid at = (c.validity.ensures.always plan items valid).locks object (states.RwMutex m) at
+returns-clause-rw_mutexes c plan items object m valid at = (c.validity.ensures.always plan items valid).machines object (states.RwMutex m) at
+
+pub returns-clause-machines : goal.returns-clause-machines
+returns-clause-machines c plan items place object valid at = (c.validity.ensures.always plan items valid).machines place object at

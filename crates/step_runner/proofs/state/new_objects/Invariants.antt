@@ -2,5 +2,5 @@ use Rattle.std.proofs.Common.{◌≡◌, ◌++◌, drop}
 use Rattle.step_runner.specs.State.{new_objects}
 use Rattle.step_runner.proofs.state.new_objects.Given as goal
 
-abbrev pub invariant-loop-line : goal.invariant-loop-line
-invariant-loop-line l = l.objects.items ++ new_objects l.workers (drop l.line-index l.lines) ≡ new_objects l.workers l.lines
+abbrev pub invariant-loop-place : goal.invariant-loop-place
+invariant-loop-place l = l.objects.items ++ new_objects l.workload l.place (drop l.place l.workload.objects) ≡ new_objects l.workload 0 l.workload.objects

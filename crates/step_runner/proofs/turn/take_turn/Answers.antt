@@ -1,4 +1,4 @@
-use Rattle.std.proofs.Common.{◌≡◌, List, Some, sym, ap, subst, ◌∙◌}
+use Rattle.std.proofs.Common.{◌≡◌, ℕ, List, Some, sym, ap, subst, ◌∙◌}
 use Rattle.std.specs.Prelude.{IfOk}
 use Rattle.std.specs.Vec.{with_items}
 use Rattle.std.proofs.lemmas.List.{with_items_is}
@@ -7,14 +7,15 @@ use Rattle.step_runner.specs.declared.object_state.ObjectState.{ObjectState}
 use Rattle.step_runner.specs.declared.step.Step.{Step}
 use Rattle.step_runner.specs.State.{State, IsStateOf, IsReady}
 use Rattle.step_runner.specs.Turns.{next_call, turn_at, settled, turn_of}
-use Rattle.step_runner.proofs.TurnLemmas.{next_ready, turn_before}
+use Rattle.step_runner.proofs.TurnLemmas.{ready, turn_before}
 use Rattle.step_runner.proofs.turn.take_turn.Goals as goal
 
-pub take_turn_at-requires : goal.take_turn_at-requires
-take_turn_at-requires c =
+pub take_turn_at-requires-clause-ready : goal.take_turn_at-requires-clause-ready
+take_turn_at-requires-clause-ready c =
     let objects : c.deref_mut.result.now ≡ c.args.state.now.objects = c.deref_mut.ensures.value ∙ ap (λ (s : State). s.objects) c.state.view_is in
-    let ready = next_ready c.args.workload.now c.args.worker c.args.state.now c.in-Some.call.now c.requires.of (sym c.in-Some.ensures) in
-    (ready.0, subst (λ (list : List ObjectState). IsReady c.args.worker c.in-Some.call.now list ready.0) (sym objects) ready.1)
+    subst (λ (workers : ℕ). IsReady workers c.args.worker c.in-Some.call.now c.deref_mut.result.now) (sym c.workers.ensures.workers)
+    (subst (λ (list : List ObjectState). IsReady c.args.workload.now.workers c.args.worker c.in-Some.call.now list) (sym objects)
+    (ready c.args.workload.now c.args.worker c.args.state.now c.in-Some.call.now c.requires.of (sym c.in-Some.ensures)))
 
 -- the state as its fields say it
 abbrev seen : goal.After-settle → State

@@ -5,7 +5,7 @@ use Rattle.workload.specs.declared.reason.Reason.TheVariants.{WrongNumberOfWords
 use Rattle.workload.specs.Checks.{operand_check}
 use Rattle.workload.specs.LineResult.{IsFault, form_words}
 use Rattle.workload.proofs.CheckLemmas.{behind_two, three_items}
-use Rattle.workload.proofs.reading.read_exchange.Goals as goal
+use Rattle.workload.proofs.call_reading.read_exchange.Goals as goal
 
 pub returns-in_err-read_value : goal.returns-in_err-read_value
 returns-in_err-read_value c =

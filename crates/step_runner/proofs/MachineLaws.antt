@@ -1,0 +1,77 @@
+-- What the laws of the machines say that the objects of a run are.
+use Rattle.std.proofs.Common.{◌≡◌, ℕ, ◌+◌, ◌<◌, ◌≤◌}
+use Rattle.std.specs.Prelude.{ℤ, length}
+use Rattle.mutex_core.specs.MutexMachine as mutex
+use Rattle.mutex_core.specs.EventsLeft as mutex_left
+use Rattle.mutex_core.specs.declared.event.MutexEvent.{MutexEvent}
+use Rattle.mutex_core.specs.declared.reply.MutexReply.TheVariants as mutex_reply
+use Rattle.rw_core.specs.RwMachine as rw
+use Rattle.rw_core.specs.EventsLeft as rw_left
+use Rattle.rw_core.specs.declared.event.RwEvent.{RwEvent}
+use Rattle.rw_core.specs.declared.reply.RwReply.TheVariants as rw_reply
+use Rattle.wait_cores.specs.EventsLeft.{notify_left, notify_used, notify_given, group_left, group_used, group_given, once_left, once_used, once_given}
+use Rattle.wait_cores.specs.NotifyMachine as notify
+use Rattle.wait_cores.specs.GroupMachine as group
+use Rattle.wait_cores.specs.OnceMachine as once
+use Rattle.wait_cores.specs.PoolMachine as pool
+use Rattle.wait_cores.specs.declared.notify.NotifyEvent.{NotifyEvent}
+use Rattle.wait_cores.specs.declared.group.GroupEvent.{GroupEvent}
+use Rattle.wait_cores.specs.declared.group.GroupReply.TheVariants as group_reply
+use Rattle.wait_cores.specs.declared.once.OnceEvent.{OnceEvent}
+use Rattle.wait_cores.specs.declared.once.OnceReply.TheVariants as once_reply
+use Rattle.wait_cores.specs.declared.pool_event.PoolEvent.{PoolEvent}
+
+-- ---- their states stay valid, and their callers the same
+
+pub record MutexLaw : Type 0 where
+  pub goes_on : (m : mutex.State) (c : ℕ) (e : MutexEvent) → mutex.IsValid m → mutex.IsValid (mutex.next m c e).0
+  pub same_callers : (m : mutex.State) (c : ℕ) (e : MutexEvent) → (mutex.next m c e).0.callers ≡ m.callers
+
+pub record RwLaw : Type 0 where
+  pub goes_on : (m : rw.State) (c : ℕ) (e : RwEvent) → rw.IsValid m → rw.IsValid (rw.next m c e).0
+  pub same_callers : (m : rw.State) (c : ℕ) (e : RwEvent) → (rw.next m c e).0.callers ≡ m.callers
+
+abbrev pub OnceLaw : Type 0 → Type 0
+OnceLaw T = (o : once.OnceState T) (c : ℕ) (e : OnceEvent T) → once.callers_of (once.next o c e).0 ≡ once.callers_of o
+
+pub record Laws : Type 0 where
+  pub mutexes : MutexLaw
+  pub rw_mutexes : RwLaw
+  pub conds : (s : notify.NotifyState) (c : ℕ) (e : NotifyEvent) → notify.callers_of (notify.next s c e).0 ≡ notify.callers_of s
+  pub groups : (g : group.GroupState) (c : ℕ) (e : GroupEvent) → group.callers_of (group.next g c e).0 ≡ group.callers_of g
+  pub adding : OnceLaw ℤ
+  pub giving : OnceLaw ℕ
+  pub pools : (p : pool.PoolState ℕ) (c n : ℕ) (e : PoolEvent ℕ) → length p.primary ≡ n → length p.victims ≡ n
+      → (length (pool.next p c e).0.primary ≡ n) × (length (pool.next p c e).0.victims ≡ n)
+
+-- ---- what their events use up
+
+pub record MutexUses : Type 0 where
+  pub unmoved : (m : mutex.State) (c : ℕ) (e : MutexEvent) → (mutex.next m c e).1 ≡ mutex_reply.Still → (mutex.next m c e).0 ≡ m
+  pub used : (m : mutex.State) (c : ℕ) (e : MutexEvent) → mutex.IsValid m
+      → mutex_left.events_left (mutex.next m c e).0 + mutex_left.used_by (mutex.next m c e).1 ≤ mutex_left.events_left m + mutex_left.given_by (mutex.next m c e).1
+
+pub record RwUses : Type 0 where
+  pub unmoved : (m : rw.State) (c : ℕ) (e : RwEvent) → (rw.next m c e).1 ≡ rw_reply.Still → (rw.next m c e).0 ≡ m
+  pub used : (m : rw.State) (c : ℕ) (e : RwEvent) → rw.IsValid m
+      → rw_left.events_left (rw.next m c e).0 + rw_left.used_by (rw.next m c e).1 ≤ rw_left.events_left m + rw_left.given_by (rw.next m c e).1
+
+abbrev pub NotifyUses : Type 0
+NotifyUses = (s : notify.NotifyState) (c : ℕ) (e : NotifyEvent) → c < notify.callers_of s
+    → notify_left (notify.next s c e).0 + notify_used (notify.place_of s c) e ≤ notify_left s + notify_given e
+
+pub record GroupUses : Type 0 where
+  pub unmoved : (g : group.GroupState) (c : ℕ) (e : GroupEvent) → (group.next g c e).1 ≡ group_reply.Still → (group.next g c e).0 ≡ g
+  pub used : (g : group.GroupState) (c : ℕ) (e : GroupEvent) → group_left (group.next g c e).0 + group_used (group.next g c e).1 ≤ group_left g + group_given e (group.next g c e).1
+
+pub record OnceUses (T : Type 0) : Type 0 where
+  pub unmoved : (o : once.OnceState T) (c : ℕ) (e : OnceEvent T) → (once.next o c e).1 ≡ once_reply.Still → (once.next o c e).0 ≡ o
+  pub used : (o : once.OnceState T) (c : ℕ) (e : OnceEvent T) → once_left (once.next o c e).0 + once_used (once.next o c e).1 ≤ once_left o + once_given (once.next o c e).1
+
+pub record Uses : Type 0 where
+  pub mutexes : MutexUses
+  pub rw_mutexes : RwUses
+  pub conds : NotifyUses
+  pub groups : GroupUses
+  pub adding : OnceUses ℤ
+  pub giving : OnceUses ℕ

@@ -1,0 +1,10 @@
+//! What a call on a `sync.Once` answers, whose only call is `Do`.
+
+/// What `Do` answers.
+#[derive(Clone, Copy, Debug, Drop)]
+pub enum OnceReply {
+    /// This call ran the function, which added to an int64: the sum.
+    Ran(i64),
+    /// Another call ran the function, and it has returned.
+    Done,
+}
