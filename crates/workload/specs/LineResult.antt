@@ -114,13 +114,6 @@ IsPoolCall verb words result =
     (λ call. (pool_verb call ≡ verb) × (pool_operands call ≡ words) × (is_pool_call call ≡ true) × PassesWith (pool_form verb) words [])
     (IsFault (form_words (pool_form verb) words))
 
--- the only call of an object, without operands, or the first check that fails
-abbrev pub IsOnlyCall : Option (List Operand) → List (List ℕ) → Result (Unit {0}) LineFault → Type 0
-IsOnlyCall form words result =
-    MatchResult result
-    (λ _. (words ≡ []) × PassesWith form words [])
-    (IsFault (form_words form words))
-
 -- a call on the object that was found, or the first check that fails
 abbrev pub IsCallOn : Declared → Verb → List (List ℕ) → Result Call LineFault → Type 0
 IsCallOn found verb words result =
