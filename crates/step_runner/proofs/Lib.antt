@@ -8,6 +8,7 @@ mod ObjectKeeps
 mod ObjectUses
 mod PairLemmas
 mod PoolLooks
+mod PoolRoom
 mod Puts
 mod RangeLemmas
 mod RoundLemmas

@@ -42,7 +42,8 @@ is_put_at place call = false
 abbrev pub puts_at : ℕ → List (List Call) → ℕ
 puts_at place scripts = sum_by (λ script. count_by (is_put_at place) script) scripts
 
--- an object as a run of so many workers begins with it: a wait group's counter is added to, and a pool's parts have this much room
+-- an object as a run of so many workers begins with it: a pool's parts have this much room, and a wait group's counter is added to. A start
+-- above 2^31 - 1, which no text has, would be a misuse there and leave the counter at 0
 abbrev pub new_object : ℕ → ℕ → ObjectKind → ObjectState
 new_object workers room kinds.Map = states.Map empty
 new_object workers room (kinds.Atomic kind) = states.Atomic (zero_of kind)

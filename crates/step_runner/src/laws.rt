@@ -6,11 +6,16 @@ ghost use Rattle.std.specs.Ordering.{nat_cmp};
 ghost use Rattle.std.specs.Cmp.Lexicographic.{slice_cmp};
 ghost use Rattle.std.specs.FinMap.{FinMap, contains_key};
 ghost use Rattle.sync_model.specs.declared.atomic_object.Number.{Number};
+ghost use Rattle.sync_model.specs.declared.call.Call.TheVariants as calls;
 ghost use Rattle.sync_model.specs.declared.misuse.Misuse.{Misuse};
+ghost use Rattle.sync_model.specs.declared.pool_call.PoolCall.{PoolCall};
 ghost use Rattle.sync_model.specs.SequentialAtomic as atomics;
 ghost use Rattle.sync_model.specs.SequentialAtomic.{is_of};
 ghost use Rattle.mutex_core.specs.MutexMachine as mutex;
 ghost use Rattle.rw_core.specs.RwMachine as rw;
+ghost use Rattle.wait_cores.specs.PoolMachine as pool;
+ghost use Rattle.wait_cores.specs.declared.pool_event.PoolEvent.{PoolEvent};
+ghost use Rattle.wait_cores.specs.declared.pool_event.PoolReply.{PoolReply};
 ghost use Rattle.workload.specs.Draft.{all_keys, distinct_count};
 ghost use Rattle.workload.specs.declared.turn.Turn.{Turn};
 ghost use Rattle.workload.specs.Plan.{Plan, is_valid};
@@ -24,7 +29,7 @@ ghost use Rattle.step_runner.specs.Pairs.{has_pairs_to};
 ghost use Rattle.step_runner.specs.MadeCalls.{made_calls, calls_of};
 ghost use Rattle.step_runner.specs.Outcomes.{IsDone, IsMisused, IsDeadlocked, never_waits};
 ghost use Rattle.step_runner.specs.State.{State, IsMachineOf, IsStateOf, start, kind_of, with_moment};
-ghost use Rattle.step_runner.specs.Turns.{turn_of, items_of, after_items, has_ended, rounds_of, all_rounds, turns};
+ghost use Rattle.step_runner.specs.Turns.{next_call, turn_of, items_of, after_items, has_ended, rounds_of, all_rounds, turns};
 
 use sync_model::laws::atomics::calls_keep_the_type;
 
@@ -141,6 +146,16 @@ pub fn keys_are_those_of_calls()
 pub fn pairs_are_few()
     ensures { (plan : Plan) (items : List Turn) → list_all (list_all (has_pairs_to (distinct_count (all_keys plan.scripts)))) (after_items plan items (start plan)).replies ≡ true }
 {}
+
+/// At every moment a worker that stands before a put finds room for its item: by schedule no put is dropped.
+pub fn no_put_is_dropped()
+    ensures { (plan : Plan) (items : List Turn) (worker place item : ℕ) (p : pool.PoolState ℕ) → is_valid plan ≡ true
+        → next_call plan worker (after_items plan items (start plan)) ≡ Some (calls.Pool place (PoolCall.Put item))
+        → slice_get (after_items plan items (start plan)).objects place ≡ Some (states.Pool p)
+        → (pool.next p worker (PoolEvent.Put item)).1 ≡ PoolReply.Kept }
+{
+    validity();
+}
 
 /// Once every script has ended, nothing that is left of the schedule makes an event or has an effect, but
 /// that the clock may be set.

@@ -53,7 +53,8 @@ pub enum ObjectState {
     Pool(PoolCore),
 }
 
-/// A wait group whose counter is this at the start.
+/// A wait group whose counter is this at the start. No text has a start above 10,000; one above 2^31 - 1
+/// would leave the counter at 0.
 fn new_group(alloc: Global, workers: u32, start: u32) -> Result<GroupCore, AllocError>
     requires some { 1 ≤ workers }
     requires few { workers ≤ 64 }

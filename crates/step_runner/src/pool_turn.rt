@@ -66,8 +66,9 @@ fn take_step(pool: &mut PoolCore, worker: u32, workers: u32, call: PoolCall) -> 
     }
 }
 
-/// Makes a call on a pool, which is completed in this turn. No item is lost for want of room, since the
-/// pool has room for every put of the workload.
+/// Makes a call on a pool, which is completed in this turn. What the machine answers to a put is not looked
+/// at: in a run it is kept, by the law `no_put_is_dropped`, since each part has room for every put of the
+/// workload.
 pub(crate) fn take_pool_turn(
     object: &mut ObjectState,
     worker: u32,
