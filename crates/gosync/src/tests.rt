@@ -12,18 +12,18 @@ use workload::Reason;
 /// A run of the program: its file `w.txt`, its words, the calls on its source, on its output and on its
 /// error output that fail, and then its status and what it wrote on both.
 #[derive(Clone, Copy)]
-struct Row {
-    text: &'static str,
-    words: &'static str,
-    source: &'static [u64],
-    out: &'static [u64],
-    err: &'static [u64],
+struct Row<'a> {
+    text: &'a str,
+    words: &'a str,
+    source: &'a [u64],
+    out: &'a [u64],
+    err: &'a [u64],
     status: u8,
-    report: &'static str,
-    message: &'static str,
+    report: &'a str,
+    message: &'a str,
 }
 
-const STEP: Row = Row {
+const STEP: Row<'static> = Row {
     text: "",
     words: "gosync step w.txt",
     source: &[],
@@ -35,6 +35,26 @@ const STEP: Row = Row {
 };
 
 const TWO_CALLS: &str = "workers 1\nmap t\nworker 0\nstore t apple 5\nload t apple\n";
+
+/// The lines that its report has.
+const TWO_LINES: [&str; 3] = [
+    "0.0 store t apple 5 -> ok\n",
+    "0.1 load t apple -> 5 true\n",
+    "end t apple 5\n",
+];
+
+const COND_CALLS: &str =
+    "workers 2\nmutex m\ncond c m\nworker 0\nlock m\nwait c\nunlock m\nworker 1\nlock m\nsignal c\nunlock m\n";
+
+/// The lines that its report has.
+const COND_LINES: [&str; 6] = [
+    "0.0 lock m -> ok\n",
+    "0.1 wait c -> ok\n",
+    "0.2 unlock m -> ok\n",
+    "1.0 lock m -> ok\n",
+    "1.1 signal c -> ok\n",
+    "1.2 unlock m -> ok\n",
+];
 
 const USAGE: &str = "usage: gosync run FILE | gosync step FILE | gosync make SEED\n";
 
@@ -196,6 +216,49 @@ fn locks_are_taken_and_reported(rt: HostRuntime) -> Result<(), Fail> {
 }
 
 #[test]
+fn waiting_objects_and_pools_are_reported(rt: HostRuntime) -> Result<(), Fail> {
+    let table = [
+        (
+            "workers 2\nmutex m\ncond c m\nworker 0\nlock m\nwait c\nunlock m\nworker 1\nlock m\nsignal c\nunlock m\n",
+            "0.0 lock m -> ok\n0.1 wait c -> ok\n0.2 unlock m -> ok\n1.0 lock m -> ok\n1.1 signal c -> ok\n1.2 unlock m -> ok\n",
+        ),
+        (
+            "workers 3\nmutex m\ncond c m\nworker 0\nlock m\nwait c\nunlock m\nworker 1\nlock m\nwait c\nunlock m\nworker 2\nlock m\nbroadcast c\nunlock m\nschedule 0 0 1 1\n",
+            "0.0 lock m -> ok\n0.1 wait c -> ok\n0.2 unlock m -> ok\n1.0 lock m -> ok\n1.1 wait c -> ok\n1.2 unlock m -> ok\n2.0 lock m -> ok\n2.1 broadcast c -> ok\n2.2 unlock m -> ok\n",
+        ),
+        (
+            "workers 2\nwaitgroup g 1\nworker 0\nwait g\nadd g 10000\nadd g -10000\nworker 1\ndone g\n",
+            "0.0 wait g -> ok\n0.1 add g 10000 -> ok\n0.2 add g -10000 -> ok\n1.0 done g -> ok\n",
+        ),
+        (
+            "workers 2\nint64 a\nonce o a 5\noncefunc g 3\nworker 0\ndo o\ncall g\ncall g\nworker 1\ndo o\n",
+            "0.0 do o -> ran 5\n0.1 call g -> err 3\n0.2 call g -> err 3\n1.0 do o -> done\nend a 5\n",
+        ),
+        (
+            "workers 1\nint64 a\nonce o a -7\noncefunc g 0\noncefunc h 1000\noncevalue v 9223372036854775807\noncevalue u 0\nworker 0\ndo o\ncall g\ncall h\nvalue v\nvalue v\nvalue u\n",
+            "0.0 do o -> ran -7\n0.1 call g -> ok\n0.2 call h -> err 1000\n0.3 value v -> 9223372036854775807\n0.4 value v -> 9223372036854775807\n0.5 value u -> 0\nend a -7\n",
+        ),
+        (
+            "workers 1\npool p\nworker 0\nput p 7\nsweep p\nget p\nput p 8\nsweep p\nsweep p\nget p\n",
+            "0.0 put p 7 -> ok\n0.1 sweep p -> ok\n0.2 get p -> 7 put\n0.3 put p 8 -> ok\n0.4 sweep p -> ok\n0.5 sweep p -> ok\n0.6 get p -> 0 new\n",
+        ),
+        (
+            "workers 1\npool p\nworker 0\nput p 0\nput p 9223372036854775807\nget p\nget p\n",
+            "0.0 put p 0 -> ok\n0.1 put p 9223372036854775807 -> ok\n0.2 get p -> 0 put\n0.3 get p -> 9223372036854775807 put\n",
+        ),
+    ];
+    for (text, report) in table {
+        let row = Row {
+            text,
+            report,
+            ..STEP
+        };
+        assert!(rt; comes_out(rt.alloc(), &row)?, "{text}");
+    }
+    Ok(())
+}
+
+#[test]
 fn a_misuse_or_a_deadlock_ends_the_run(rt: HostRuntime) -> Result<(), Fail> {
     let table = [
         (
@@ -222,6 +285,31 @@ fn a_misuse_or_a_deadlock_ends_the_run(rt: HostRuntime) -> Result<(), Fail> {
             "workers 2\nmutex m\nrwmutex w\nworker 0\nlock m\nlock m\nworker 1\nunlock w\nschedule 0 0 1\n",
             "0.0 lock m -> ok\n",
             "fatal error: sync: Unlock of unlocked RWMutex\n",
+        ),
+        (
+            "workers 1\nwaitgroup g 0\nworker 0\nadd g 1\ndone g\ndone g\n",
+            "0.0 add g 1 -> ok\n0.1 done g -> ok\n",
+            "panic: sync: negative WaitGroup counter\n",
+        ),
+        (
+            "workers 2\nmutex m\nwaitgroup g 0\nworker 0\nlock m\nlock m\nworker 1\ndone g\nschedule 0 0 1\n",
+            "0.0 lock m -> ok\n",
+            "panic: sync: negative WaitGroup counter\n",
+        ),
+        (
+            "workers 2\nwaitgroup g 1\nworker 0\nwait g\nworker 1\ndone g\nadd g 1\nschedule 0 1 1 0\n",
+            "1.0 done g -> ok\n1.1 add g 1 -> ok\n",
+            "panic: sync: WaitGroup is reused before previous Wait has returned\n",
+        ),
+        (
+            "workers 1\nmutex m\ncond c m\nworker 0\nwait c\n",
+            "",
+            "fatal error: sync: unlock of unlocked mutex\n",
+        ),
+        (
+            "workers 1\nint64 a\nwaitgroup g 1\nonce o a 5\nworker 0\ndo o\nwait g\n",
+            "0.0 do o -> ran 5\n",
+            "fatal error: all goroutines are asleep - deadlock!\n",
         ),
         (
             "workers 1\nmutex m\nint64 a\nworker 0\nadd a 1\nunlock m\nadd a 1\n",
@@ -360,48 +448,127 @@ fn words_that_are_not_taken_get_the_usage_line(rt: HostRuntime) -> Result<(), Fa
 }
 
 #[test]
-fn a_fault_outside_is_status_3(rt: HostRuntime) -> Result<(), Fail> {
-    let row = Row {
-        text: TWO_CALLS,
-        status: 3,
-        ..STEP
-    };
-    let faults: [(&str, &[u64], &str); 5] = [
-        ("gosync step w.txt", &[1], "gosync: cannot read w.txt\n"),
-        ("gosync step w.txt", &[2], "gosync: cannot read w.txt\n"),
-        ("gosync step w.txt", &[3], "gosync: cannot read w.txt\n"),
-        (
-            "gosync step none.txt",
-            &[],
-            "gosync: cannot read none.txt\n",
-        ),
-        ("gosync step -", &[], "gosync: cannot read -\n"),
+fn a_file_that_is_not_there_is_status_3(rt: HostRuntime) -> Result<(), Fail> {
+    let table = [
+        ("gosync step none.txt", "gosync: cannot read none.txt\n"),
+        ("gosync step -", "gosync: cannot read -\n"),
     ];
-    for (words, source, message) in faults {
+    for (words, message) in table {
         let row = Row {
+            text: TWO_CALLS,
             words,
-            source,
+            status: 3,
             message,
-            ..row
+            ..STEP
         };
         assert!(rt; comes_out(rt.alloc(), &row)?, "{message}");
     }
-    let reports: [(&[u64], &str); 3] = [
-        (&[1], ""),
-        (&[2], "0.0 store t apple 5 -> ok\n"),
+    Ok(())
+}
+
+// The calls on the source are its open, its reads and the read that finds its end.
+#[test]
+fn each_open_and_read_fails_in_turn(rt: HostRuntime) -> Result<(), Fail> {
+    let mut long = String::from_str(rt.alloc(), TWO_CALLS)?;
+    for _ in 0..100 {
+        long.push_str("# a comment of fifty bytes, which fills many lines.\n")?;
+    }
+    let table = [
+        (TWO_CALLS, 3, TWO_LINES.as_slice()),
+        (COND_CALLS, 3, COND_LINES.as_slice()),
+        (long.as_str(), 4, TWO_LINES.as_slice()),
+    ];
+    for (text, calls, lines) in table {
+        for number in 1..=calls {
+            let row = Row {
+                text,
+                source: &[number],
+                status: 3,
+                message: "gosync: cannot read w.txt\n",
+                ..STEP
+            };
+            assert!(rt; comes_out(rt.alloc(), &row)?, "{number} of {text}");
+        }
+        // No further call is made.
+        let mut report = String::new(rt.alloc());
+        for line in lines {
+            report.push_str(line)?;
+        }
+        let row = Row {
+            text,
+            source: &[calls + 1],
+            report: report.as_str(),
+            ..STEP
+        };
+        assert!(rt; comes_out(rt.alloc(), &row)?, "{text}");
+    }
+    Ok(())
+}
+
+// Each line of the report is one write.
+#[test]
+fn each_write_fails_in_turn(rt: HostRuntime) -> Result<(), Fail> {
+    let table = [
+        (TWO_CALLS, TWO_LINES.as_slice()),
+        (COND_CALLS, COND_LINES.as_slice()),
+    ];
+    for (text, lines) in table {
+        let mut report = String::new(rt.alloc());
+        let mut number = 1;
+        for line in lines {
+            let row = Row {
+                text,
+                out: &[number],
+                report: report.as_str(),
+                status: 3,
+                message: "gosync: cannot write the report\n",
+                ..STEP
+            };
+            assert!(rt; comes_out(rt.alloc(), &row)?, "{number} of {text}");
+            report.push_str(line)?;
+            number = number.saturating_add(1);
+        }
+        let row = Row {
+            text,
+            out: &[number],
+            report: report.as_str(),
+            ..STEP
+        };
+        assert!(rt; comes_out(rt.alloc(), &row)?, "{text}");
+    }
+    Ok(())
+}
+
+// A line on the error output is one to five writes. What the first of them writes stays, and the status.
+#[test]
+fn each_write_of_the_one_line_fails_in_turn(rt: HostRuntime) -> Result<(), Fail> {
+    let table = [
+        (TWO_CALLS, "gosync step x", 3, 1, ""),
+        (TWO_CALLS, "gosync step x", 3, 2, "gosync: cannot read "),
+        (TWO_CALLS, "gosync step x", 3, 3, "gosync: cannot read x"),
+        (TWO_CALLS, "gosync", 5, 1, ""),
+        ("", "gosync step w.txt", 1, 1, ""),
+        ("", "gosync step w.txt", 1, 2, "gosync: line "),
+        ("", "gosync step w.txt", 1, 3, "gosync: line 1"),
+        ("", "gosync step w.txt", 1, 4, "gosync: line 1: "),
         (
-            &[3],
-            "0.0 store t apple 5 -> ok\n0.1 load t apple -> 5 true\n",
+            "",
+            "gosync step w.txt",
+            1,
+            5,
+            "gosync: line 1: no workers line",
         ),
     ];
-    for (out, report) in reports {
+    for (text, words, status, number, message) in table {
         let row = Row {
-            out,
-            report,
-            message: "gosync: cannot write the report\n",
-            ..row
+            text,
+            words,
+            err: &[number],
+            status,
+            message,
+            ..STEP
         };
-        assert!(rt; comes_out(rt.alloc(), &row)?, "{report}");
+        assert!(rt; comes_out(rt.alloc(), &row)?, "{words}: {message}");
     }
     Ok(())
 }
