@@ -162,6 +162,7 @@ mod tests {
             (0, PoolEvent::LookOwn, PoolReply::Item(1)),
             (0, PoolEvent::LookOwn, PoolReply::Item(2)),
             (0, PoolEvent::LookOwn, PoolReply::Nothing),
+            (0, PoolEvent::LookVictim(0), PoolReply::Nothing),
             (1, PoolEvent::LookOwn, PoolReply::Still),
             (0, PoolEvent::LookOther(1), PoolReply::Still),
             // One sweep leaves an item among the victims, a second removes it.
@@ -187,7 +188,10 @@ mod tests {
             (0, PoolEvent::Put(2), PoolReply::Kept),
             (1, PoolEvent::LookOwn, PoolReply::Nothing),
             (1, PoolEvent::LookOther(0), PoolReply::Item(2)),
+            (1, PoolEvent::LookOwn, PoolReply::Nothing),
             (1, PoolEvent::LookOther(0), PoolReply::Nothing),
+            (1, PoolEvent::LookVictim(1), PoolReply::Nothing),
+            (1, PoolEvent::LookVictim(0), PoolReply::Nothing),
             (0, PoolEvent::Sweep, PoolReply::Swept),
             (1, PoolEvent::LookVictim(0), PoolReply::Nothing),
             (0, PoolEvent::LookVictim(0), PoolReply::Item(1)),
