@@ -4,10 +4,8 @@ ghost use Rattle.sync_outside.specs.Faults.{Rose};
 ghost use Rattle.workload.specs.Plan.{Plan};
 ghost use Rattle.workload.specs.Reads.{Reads};
 ghost use Rattle.step_runner.specs.Turns.{turns};
-ghost use Rattle.step_runner.specs.declared.outcome.Report.{Report};
-ghost use Rattle.step_runner.specs.declared.outcome.Outcome.TheVariants as outcomes;
 ghost use Rattle.gosync.specs.Command.{file_of};
-ghost use Rattle.gosync.specs.Messages.{code_of, message_of, Says};
+ghost use Rattle.gosync.specs.Messages.{code_of, status_of, message_of, Says};
 ghost use Rattle.gosync.specs.ComesTo.{ComesTo};
 ghost use Rattle.gosync.specs.declared.status.Status.TheVariants as statuses;
 
@@ -39,10 +37,11 @@ pub fn gosync<S: Sources, O: Sink, E: Sink>(
     // The one line on the error output, of which there is none where all is done.
     ensures says { Says (E.contents err.old) (E.contents err.new) (E.faults err.old) (E.faults err.new) (message_of (unwrap_or (file_of (map string_bytes words.now)) []) result) }
 
-    // Without a fault, a text that is read is run, and one that isn't is refused, unless memory is out.
-    ensures done { (file bytes : List ℕ) (plan : Plan) (left : Report) → file_of (map string_bytes words.now) ≡ Some file → S.contents src.old file ≡ Some bytes → Reads bytes plan → turns plan ≡ outcomes.Done left
+    // Without a fault, a text that is read is run, with the status of what its run comes to, and one that isn't read is
+    // refused, unless memory is out.
+    ensures runs { (file bytes : List ℕ) (plan : Plan) → file_of (map string_bytes words.now) ≡ Some file → S.contents src.old file ≡ Some bytes → Reads bytes plan
         → (Rose (S.open_faults src.old file) (S.open_faults src.new file) → ⊥) → (Rose (S.read_faults src.old) (S.read_faults src.new) → ⊥) → (Rose (O.faults out.old) (O.faults out.new) → ⊥)
-        → (result ≡ statuses.Done) ⊎ (result ≡ statuses.Memory) }
+        → (result ≡ status_of (turns plan)) ⊎ (result ≡ statuses.Memory) }
     ensures refused { (file bytes : List ℕ) → file_of (map string_bytes words.now) ≡ Some file → S.contents src.old file ≡ Some bytes → ((plan : Plan) → Reads bytes plan → ⊥)
         → (Rose (S.open_faults src.old file) (S.open_faults src.new file) → ⊥) → (Rose (S.read_faults src.old) (S.read_faults src.new) → ⊥)
         → (code_of result ≡ 1) ⊎ (result ≡ statuses.Memory) }
