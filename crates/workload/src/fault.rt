@@ -5,13 +5,16 @@ ghost use Rattle.workload.specs.declared.fault.LineFault.TheVariants as line_fau
 
 use crate::reason::Reason;
 use std::alloc::{AllocError, AllocFailed};
+use thiserror::Error;
 
 /// Why a text is not read.
-#[derive(Debug, Drop)]
+#[derive(Debug, Drop, Error)]
 pub enum ParseFault {
     /// The first fault of the text: its line, counted from 1, or 0 for the text as a whole.
+    #[error("line {line} is refused")]
     Refused { line: u32, reason: Reason },
     /// There was not enough memory.
+    #[error("out of memory")]
     Memory,
 }
 
