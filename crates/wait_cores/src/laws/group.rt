@@ -1,11 +1,11 @@
 //! When a wait of a wait group returns, and what a misuse leaves.
-ghost use Rattle.std.specs.Prelude.{◌≡◌, ◌≢◌, ℕ, ◌+◌, ◌<◌, ◌≤◌, false, IsTrue, ◌∷◌, ◌++◌, slice_set, IsFalse};
+ghost use Rattle.std.specs.Prelude.{◌≡◌, ◌≢◌, ℕ, pos, ◌+◌, ◌-◌, ◌^◌, ◌<◌, ◌≤◌, false, IsTrue, ◌∷◌, ◌++◌, slice_set, IsFalse};
 ghost use Rattle.std.specs.List.{list_any};
 ghost use Rattle.sync_model.specs.Log.{Follows};
 ghost use Rattle.wait_cores.specs.EventsLeft.{group_left, group_used, group_given};
 ghost use Rattle.wait_cores.specs.GroupMachine.{GroupState, start, next, callers_of, is_waiting};
 ghost use Rattle.wait_cores.specs.GroupStanding.{answers, waits_at, waits_after};
-ghost use Rattle.wait_cores.specs.GroupLaws.{Log, WasZero, state_after, wait_by, leave_by};
+ghost use Rattle.wait_cores.specs.GroupLaws.{Log, WasZero, state_after, wait_by, leave_by, additions};
 
 use crate::group::{GroupEvent, GroupPlace, GroupReply};
 use sync_model::Misuse;
@@ -25,6 +25,13 @@ pub fn waits_for_zero()
 pub fn nobody_waits_at_zero()
     ensures { (callers : ℕ) (log : Log) → (state_after callers log).counter ≡ 0
         → IsFalse (list_any is_waiting (state_after callers log).places) }
+{}
+
+/// The counter is the sum of all additions that were made, and stays in its range, 0 to 2^31 - 1.
+pub fn counts_additions()
+    ensures sum { (callers : ℕ) (log : Log) → Follows next (start callers) log
+        → pos (state_after callers log).counter ≡ additions log }
+    ensures range { (callers : ℕ) (log : Log) → (state_after callers log).counter ≤ 2 ^ 31 - 1 }
 {}
 
 /// A misuse changes nothing, but that a caller whose leaving it is is out.
