@@ -4,7 +4,7 @@ ghost use Rattle.std.specs.List.{list_any};
 ghost use Rattle.sync_model.specs.Log.{Follows};
 ghost use Rattle.wait_cores.specs.EventsLeft.{group_left, group_used, group_given};
 ghost use Rattle.wait_cores.specs.GroupMachine.{GroupState, start, next, callers_of, is_waiting};
-ghost use Rattle.wait_cores.specs.GroupStanding.{answers, waits_at, waits_after};
+ghost use Rattle.wait_cores.specs.GroupStanding.{answers, may_make, waits_at, waits_after};
 ghost use Rattle.wait_cores.specs.GroupLaws.{Log, WasZero, state_after, wait_by, leave_by, additions};
 
 use crate::group::{GroupEvent, GroupPlace, GroupReply};
@@ -66,4 +66,14 @@ pub fn events_are_used_up()
         ≤ group_left state + group_given event (next state caller event).1 }
     ensures unmoved { (state : GroupState) (caller : ℕ) (event : GroupEvent)
         → (next state caller event).1 ≡ GroupReply.Still → (next state caller event).0 ≡ state }
+{}
+
+/// An event is made exactly where its caller may make it: it is one of the group's, is out for a wait, and is
+/// released for a leaving. Any other is answered
+/// `Still` and changes nothing.
+pub fn still()
+    ensures made { (state : GroupState) (caller : ℕ) (event : GroupEvent)
+        → IsTrue (may_make state caller event) → (next state caller event).1 ≢ GroupReply.Still }
+    ensures unmade { (state : GroupState) (caller : ℕ) (event : GroupEvent)
+        → IsFalse (may_make state caller event) → next state caller event ≡ (state, GroupReply.Still) }
 {}

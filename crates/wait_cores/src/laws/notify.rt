@@ -1,8 +1,8 @@
 //! When a ticket of a cond is notified.
-ghost use Rattle.std.specs.Prelude.{◌≡◌, ◌≢◌, ℕ, ◌<◌, ◌≤◌, ◌+◌, ◌-◌, ◌^◌, ◌==◌, min, false, not, ◌∷◌, ◌++◌, count_by, IsTrue};
+ghost use Rattle.std.specs.Prelude.{◌≡◌, ◌≢◌, ℕ, ◌<◌, ◌≤◌, ◌+◌, ◌-◌, ◌^◌, ◌==◌, min, false, not, ◌∷◌, ◌++◌, count_by, IsTrue, IsFalse};
 ghost use Rattle.std.specs.List.{list_all};
 ghost use Rattle.wait_cores.specs.NotifyMachine.{NotifyState, start, next, callers_of, place_of};
-ghost use Rattle.wait_cores.specs.NotifyStanding.{has_ticket, has_after};
+ghost use Rattle.wait_cores.specs.NotifyStanding.{has_ticket, has_after, may_make};
 ghost use Rattle.wait_cores.specs.EventsLeft.{notify_left, notify_used, notify_given};
 ghost use Rattle.wait_cores.specs.NotifyLaws.{Log, IsLog, state_after, ticket_by, leave_by, is_ticket, pending_of, answers, NotifiesAfter};
 
@@ -64,4 +64,14 @@ pub fn events_are_used_up()
     ensures { (state : NotifyState) (caller : ℕ) (event : NotifyEvent) → caller < callers_of state
         → notify_left (next state caller event).0 + notify_used (place_of state caller) event
         ≤ notify_left state + notify_given event }
+{}
+
+/// An event is made exactly where its caller may make it: it is one of the cond's, and is notified for a
+/// leaving. Any other is answered
+/// `Still` and changes nothing.
+pub fn still()
+    ensures made { (state : NotifyState) (caller : ℕ) (event : NotifyEvent)
+        → IsTrue (may_make state caller event) → (next state caller event).1 ≢ NotifyReply.Still }
+    ensures unmade { (state : NotifyState) (caller : ℕ) (event : NotifyEvent)
+        → IsFalse (may_make state caller event) → next state caller event ≡ (state, NotifyReply.Still) }
 {}

@@ -2,7 +2,7 @@
 ghost use Rattle.std.specs.Prelude.{◌≡◌, ◌≢◌, ℕ, ◌+◌, ◌*◌, ◌<◌, ◌≤◌, Bool, if◌then◌else◌, length, slice_get, IsTrue, ◌∷◌, ◌++◌};
 ghost use Rattle.wait_cores.specs.Looks.{look};
 ghost use Rattle.wait_cores.specs.PoolParts.{PoolPart};
-ghost use Rattle.wait_cores.specs.PoolMachine.{PoolState, start, next};
+ghost use Rattle.wait_cores.specs.PoolMachine.{PoolState, start, next, callers_of};
 ghost use Rattle.wait_cores.specs.PoolLaws.{Log, IsLog, state_after, put_by, held, kept_count, got_count, swept_count, ComeFrom, is_full, private_at, answers, NamesPart};
 
 use crate::pool_event::{PoolEvent, PoolReply};
@@ -66,4 +66,15 @@ pub fn looks_everywhere()
         → (k : ℕ) × (k < callers) × (look callers caller k ≡ PoolEvent.LookOther part) }
     ensures victims { (callers caller part : ℕ) → caller < callers → part < callers
         → (k : ℕ) × (callers ≤ k) × (k < 2 * callers) × (look callers caller k ≡ PoolEvent.LookVictim part) }
+{}
+
+/// An event of nobody, and a look at a part that isn't there, is answered `Still` and changes nothing. Any other is made
+/// (`answers_its_callers`).
+pub fn still()
+    ensures nobody { (state : PoolState ℕ) (caller : ℕ) (event : PoolEvent ℕ)
+        → callers_of state ≤ caller → next state caller event ≡ (state, PoolReply.Still) }
+    ensures no_part { (state : PoolState ℕ) (caller part : ℕ)
+        → length state.primary ≤ part → next state caller (PoolEvent.LookOther part) ≡ (state, PoolReply.Still) }
+    ensures no_victims { (state : PoolState ℕ) (caller part : ℕ)
+        → length state.victims ≤ part → next state caller (PoolEvent.LookVictim part) ≡ (state, PoolReply.Still) }
 {}
