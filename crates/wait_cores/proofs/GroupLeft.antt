@@ -13,9 +13,7 @@ use Rattle.wait_cores.specs.declared.group.GroupPlace.{GroupPlace}
 use Rattle.wait_cores.specs.declared.group.GroupPlace.TheVariants.{Out, Waiting, Released}
 use Rattle.wait_cores.specs.GroupMachine.{GroupState, next, is_reused, released, made, added, within, wait_from, leave_from, callers_of, place_of}
 use Rattle.wait_cores.specs.EventsLeft.{left_at, group_left, group_used, given_leaving, group_given}
-
-is_below : (m n : ℕ) → nat_lt m n ≡ true → m < n
-is_below m n h = grind (arith, nat_tests)
+use Rattle.wait_cores.proofs.Comparisons.{is_below}
 
 abbrev UsesUp : GroupState → GroupEvent → GroupState × GroupReply → Type 0
 UsesUp s event n = group_left n.0 + group_used n.1 ≤ group_left s + group_given event n.1

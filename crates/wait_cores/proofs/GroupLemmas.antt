@@ -14,6 +14,7 @@ use Rattle.wait_cores.specs.GroupMachine.{GroupState, start, next, is_waiting, r
 use Rattle.wait_cores.specs.GroupLaws.{Log, WasZero}
 use Rattle.wait_cores.proofs.Places.{get-set_kept, get-set_other, get-set_within}
 use Rattle.wait_cores.proofs.LogLemmas.{follows_rest}
+use Rattle.wait_cores.proofs.Comparisons.{is_below}
 
 -- a caller that waits in the first state waits in the second, or the counter there is 0
 abbrev WaitsOn : GroupState → ℕ → GroupState → Type 0
@@ -27,9 +28,6 @@ waits_on_sum : (sum : ℕ) (b : Bool) (s : GroupState) (c : ℕ) → (b ≡ true
     → WaitsOn s c (record { counter = sum; places = cond b ps s.places })
 waits_on_sum sum true s c zero_if ps h = inr (zero_if refl)
 waits_on_sum sum false s c zero_if ps h = inl h
-
-is_below : (m n : ℕ) → nat_lt m n ≡ true → m < n
-is_below m n h = grind (arith, nat_tests)
 
 is_zero : (n : ℕ) → (n == 0) ≡ true → n ≡ 0
 is_zero n h = grind (arith, nat_tests)

@@ -14,12 +14,7 @@ use Rattle.wait_cores.specs.declared.group.GroupPlace.TheVariants.{Out, Waiting,
 use Rattle.wait_cores.specs.GroupMachine.{GroupState, start, next, is_reused, released, made, added, within, wait_from, leave_from, callers_of, place_of}
 use Rattle.wait_cores.specs.GroupStanding.{is_in, waits_at, waits_after, answers, answers_add, answers_wait, answers_leaving}
 use Rattle.wait_cores.proofs.Places.{get-set_other, get-set_within}
-
-is_within : (m n : ℕ) → m < n → nat_lt m n ≡ true
-is_within m n h = grind (arith, nat_tests)
-
-is_below : (m n : ℕ) → nat_lt m n ≡ true → m < n
-is_below m n h = grind (arith, nat_tests)
+use Rattle.wait_cores.proofs.Comparisons.{is_below, is_within}
 
 -- whether the one that stands at a place waits
 abbrev in_at : List GroupPlace → ℕ → Bool

@@ -1,3 +1,4 @@
+pub mod Comparisons
 pub mod Places
 pub mod LogLemmas
 pub mod GroupLemmas
@@ -14,3 +15,7 @@ pub mod GroupLeft
 pub mod NotifyLeft
 pub mod OnceLeft
 pub mod PoolParts
+pub mod NotifyStandingLemmas
+pub mod GroupCounts
+pub mod LooksLemmas
+pub mod Stills

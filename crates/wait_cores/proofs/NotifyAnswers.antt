@@ -9,9 +9,7 @@ use Rattle.wait_cores.specs.declared.notify.NotifyPlace.{NotifyPlace}
 use Rattle.wait_cores.specs.declared.notify.NotifyPlace.TheVariants.{Out, Waiting, Notified}
 use Rattle.wait_cores.specs.NotifyMachine.{NotifyState, next, made, leave_from, callers_of, place_of}
 use Rattle.wait_cores.specs.NotifyLaws.{answers}
-
-is_within : (m n : ℕ) → m < n → nat_lt m n ≡ true
-is_within m n h = grind (arith, nat_tests)
+use Rattle.wait_cores.proofs.Comparisons.{is_within}
 
 answer_made : (s : NotifyState) (c : ℕ) (event : NotifyEvent) → answers event (made s c event).1 ≡ true
 answer_made s c Ticket = refl

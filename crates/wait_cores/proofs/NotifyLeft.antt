@@ -13,9 +13,7 @@ use Rattle.wait_cores.specs.declared.notify.NotifyPlace.{NotifyPlace}
 use Rattle.wait_cores.specs.declared.notify.NotifyPlace.TheVariants.{Out, Waiting, Notified}
 use Rattle.wait_cores.specs.NotifyMachine.{NotifyState, next, made, leave_from, callers_of, place_of, place_with}
 use Rattle.wait_cores.specs.EventsLeft.{left_with, notify_left, notify_used, notify_given}
-
-is_within : (m n : ℕ) → m < n → nat_lt m n ≡ true
-is_within m n h = grind (arith, nat_tests)
+use Rattle.wait_cores.proofs.Comparisons.{is_within}
 
 abbrev UsesUp : NotifyState → ℕ → NotifyEvent → NotifyState × NotifyReply → Type 0
 UsesUp s c event n = notify_left n.0 + notify_used (place_of s c) event ≤ notify_left s + notify_given event

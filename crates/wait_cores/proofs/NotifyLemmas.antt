@@ -15,12 +15,7 @@ use Rattle.wait_cores.specs.NotifyMachine.{NotifyState, start, next, made, leave
 use Rattle.wait_cores.specs.NotifyLaws.{Log, Made, is_ticket, is_signal, is_broadcast, is_ticket_of, is_signal_of, is_broadcast_of, pending_of, NotifiesAfter}
 use Rattle.wait_cores.proofs.Places.{get-set_other, get-set_either, get-set_within}
 use Rattle.wait_cores.proofs.LogLemmas.{after-append, follows_first, follows_rest}
-
-is_below : (m n : ℕ) → nat_lt m n ≡ true → m < n
-is_below m n h = grind (arith, nat_tests)
-
-is_above : (m n : ℕ) → nat_lt m n ≡ false → n ≤ m
-is_above m n h = grind (arith, nat_tests)
+use Rattle.wait_cores.proofs.Comparisons.{is_above, is_below}
 
 or_first : (a b : Bool) → (a || b) ≡ false → a ≡ false
 or_first true b h = h

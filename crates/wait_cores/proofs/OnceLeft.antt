@@ -15,9 +15,7 @@ use Rattle.wait_cores.specs.declared.once.OncePlace.{OncePlace}
 use Rattle.wait_cores.specs.declared.once.OncePlace.TheVariants.{Out, Waiting, Released}
 use Rattle.wait_cores.specs.OnceMachine.{OnceState, next, made, begin_from, come_to, end_by, leave_with, callers_of, place_of, place_in, waiting_in, runner_in}
 use Rattle.wait_cores.specs.EventsLeft.{left_by, left_in, once_left, once_used, once_given}
-
-is_below : (m n : ℕ) → nat_lt m n ≡ true → m < n
-is_below m n h = grind (arith, nat_tests)
+use Rattle.wait_cores.proofs.Comparisons.{is_below}
 
 module _ {T : Type 0} where
   abbrev UsesUp : OnceState T → OnceState T × OnceReply T → Type 0

@@ -14,12 +14,7 @@ use Rattle.wait_cores.specs.declared.once.OncePlace.TheVariants.{Out, Waiting, R
 use Rattle.wait_cores.specs.OnceMachine.{OnceState, next, made, begin_from, come_to, end_by, leave_with, callers_of, place_of, place_in, runner_in}
 use Rattle.wait_cores.specs.OnceStanding.{waits_at, runs_at, runs_in, waits_after, runs_after, answers, answers_begin, answers_end, answers_leaving}
 use Rattle.wait_cores.proofs.Places.{get-set_other, get-set_within}
-
-is_within : (m n : ℕ) → m < n → nat_lt m n ≡ true
-is_within m n h = grind (arith, nat_tests)
-
-is_below : (m n : ℕ) → nat_lt m n ≡ true → m < n
-is_below m n h = grind (arith, nat_tests)
+use Rattle.wait_cores.proofs.Comparisons.{is_below, is_within}
 
 is_self : (c : ℕ) → (c == c) ≡ true
 is_self c = grind (arith, nat_tests)

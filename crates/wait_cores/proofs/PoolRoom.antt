@@ -16,12 +16,7 @@ use Rattle.wait_cores.specs.PoolMachine.{PoolState, start, next, made, with_prim
 use Rattle.wait_cores.specs.PoolLaws.{Log, is_full, answers, answers_put, answers_look, NamesPart}
 use Rattle.wait_cores.proofs.Places.{get-set_either, get-replicate}
 use Rattle.wait_cores.proofs.LogLemmas.{follows_rest}
-
-is_below : (m n : ℕ) → nat_lt m n ≡ true → m < n
-is_below m n h = grind (arith, nat_tests)
-
-is_within : (m n : ℕ) → m < n → nat_lt m n ≡ true
-is_within m n h = grind (arith, nat_tests)
+use Rattle.wait_cores.proofs.Comparisons.{is_below, is_within}
 
 full_or_not : (m n room : ℕ) → n ≡ room → m ≤ room → ((nat_lt m n ≡ true) × ((m == room) ≡ false)) ⊎ ((nat_lt m n ≡ false) × ((m == room) ≡ true))
 full_or_not m n room same h = grind (arith, nat_tests)

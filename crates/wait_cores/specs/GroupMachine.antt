@@ -1,10 +1,9 @@
 -- The machine of `sync.WaitGroup`. Go's documentation says: if the counter becomes zero, all goroutines blocked on Wait are
 -- released; if the counter goes negative, Add panics; and new Add calls must happen after all previous Wait calls have returned.
-use Rattle.std.specs.Prelude.{ℕ, ℤ, pos, negsuc, ◌+ℤ◌, ◌==◌, Bool, true, false, not, ◌||◌, nat_lt, nat_le, if◌then◌else◌, List, length, map, replicate, slice_get, slice_set, unwrap_or, Option, Some, None, Result, Ok, Err}
+use Rattle.std.specs.Prelude.{ℕ, ◌-◌, ◌^◌, ℤ, pos, negsuc, ◌+ℤ◌, ◌==◌, Bool, true, false, not, ◌||◌, nat_lt, nat_le, if◌then◌else◌, List, length, map, replicate, slice_get, slice_set, unwrap_or, Option, Some, None, Result, Ok, Err}
 use Rattle.std.specs.List.{list_any}
 use Rattle.sync_model.specs.declared.misuse.Misuse.{Misuse}
 use Rattle.sync_model.specs.declared.misuse.Misuse.TheVariants.{NegativeWaitGroupCounter, WaitGroupReused}
-use Rattle.wait_cores.specs.declared.group.TheConstants.{MAX_COUNTER}
 use Rattle.wait_cores.specs.declared.group.GroupEvent.{GroupEvent}
 use Rattle.wait_cores.specs.declared.group.GroupEvent.TheVariants.{Add, Wait, Leave}
 use Rattle.wait_cores.specs.declared.group.GroupReply.{GroupReply}
@@ -44,7 +43,7 @@ released Released = Released
 
 -- the sum, where it may be a counter: 0 to 2^31 - 1
 abbrev pub within : ℤ → Option ℕ
-within (pos sum) = if nat_le sum MAX_COUNTER then Some sum else None
+within (pos sum) = if nat_le sum (2 ^ 31 - 1) then Some sum else None
 within (negsuc below) = None
 
 -- the sum is the counter, and at 0 all are released; where it may be none, nothing changes

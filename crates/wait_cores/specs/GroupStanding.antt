@@ -1,12 +1,12 @@
 -- What a caller of a wait group knows from its own answers of where it stands.
-use Rattle.std.specs.Prelude.{ℕ, Bool, true, false}
+use Rattle.std.specs.Prelude.{ℕ, Bool, true, false, ◌&&◌, nat_lt}
 use Rattle.wait_cores.specs.declared.group.GroupEvent.{GroupEvent}
 use Rattle.wait_cores.specs.declared.group.GroupEvent.TheVariants.{Add, Wait, Leave}
 use Rattle.wait_cores.specs.declared.group.GroupReply.{GroupReply}
 use Rattle.wait_cores.specs.declared.group.GroupReply.TheVariants.{Done, Queued, Misused, Still}
 use Rattle.wait_cores.specs.declared.group.GroupPlace.{GroupPlace}
 use Rattle.wait_cores.specs.declared.group.GroupPlace.TheVariants.{Out, Waiting, Released}
-use Rattle.wait_cores.specs.GroupMachine.{GroupState, place_of}
+use Rattle.wait_cores.specs.GroupMachine.{GroupState, callers_of, place_of}
 
 -- it waits, or was released and hasn't left
 abbrev pub is_in : GroupPlace → Bool
@@ -64,3 +64,17 @@ abbrev pub answers : Bool → GroupEvent → GroupReply → Bool
 answers waits (Add delta) reply = answers_add reply
 answers waits Wait reply = answers_wait waits reply
 answers waits Leave reply = answers_leaving reply
+
+-- whether the place is one that the event needs
+abbrev pub is_needed : GroupEvent → GroupPlace → Bool
+is_needed (Add delta) place = true
+is_needed Wait Out = true
+is_needed Wait Waiting = false
+is_needed Wait Released = false
+is_needed Leave Released = true
+is_needed Leave Out = false
+is_needed Leave Waiting = false
+
+-- whether the caller may make the event: it is one of the group's, and where the event needs it
+abbrev pub may_make : GroupState → ℕ → GroupEvent → Bool
+may_make state caller event = nat_lt caller (callers_of state) && is_needed event (place_of state caller)

@@ -6,6 +6,7 @@ pub mod GroupStanding
 pub mod Looks
 pub mod NotifyLaws
 pub mod NotifyMachine
+pub mod NotifyStanding
 pub mod OnceLaws
 pub mod OnceMachine
 pub mod OnceStanding

@@ -1,12 +1,14 @@
 -- What a caller of a once knows from its own answers of where it stands.
-use Rattle.std.specs.Prelude.{ℕ, ◌==◌, Bool, true, false, slice_get, unwrap_or}
+use Rattle.std.specs.Prelude.{ℕ, ◌==◌, Bool, true, false, ◌&&◌, nat_lt, slice_get, unwrap_or}
 use Rattle.wait_cores.specs.declared.once.OnceEvent.{OnceEvent}
 use Rattle.wait_cores.specs.declared.once.OnceEvent.TheVariants.{Begin, End, Leave}
 use Rattle.wait_cores.specs.declared.once.OnceReply.{OnceReply}
 use Rattle.wait_cores.specs.declared.once.OnceReply.TheVariants as reply
 use Rattle.wait_cores.specs.declared.once.OnceProgress.{OnceProgress}
 use Rattle.wait_cores.specs.declared.once.OnceProgress.TheVariants.{NotRun, Running, Ended}
-use Rattle.wait_cores.specs.OnceMachine.{OnceState}
+use Rattle.wait_cores.specs.declared.once.OncePlace.{OncePlace}
+use Rattle.wait_cores.specs.declared.once.OncePlace.TheVariants.{Out, Waiting, Released}
+use Rattle.wait_cores.specs.OnceMachine.{OnceState, callers_of, place_of}
 
 module _ {T : Type 0} where
   -- it waits, or was released and hasn't left
@@ -83,3 +85,17 @@ module _ {T : Type 0} where
   answers waits runs Begin reply = answers_begin waits reply
   answers waits runs (End kept) reply = answers_end runs reply
   answers waits runs Leave reply = answers_leaving reply
+
+  -- whether it is where the event needs it, by its place and whether it runs the function
+  abbrev pub is_needed : OnceEvent T → OncePlace → Bool → Bool
+  is_needed Begin Out runs = true
+  is_needed Begin Waiting runs = false
+  is_needed Begin Released runs = false
+  is_needed (End kept) place runs = runs
+  is_needed Leave Released runs = true
+  is_needed Leave Out runs = false
+  is_needed Leave Waiting runs = false
+
+  -- whether the caller may make the event: it is one of the once's, and where the event needs it
+  abbrev pub may_make : OnceState T → ℕ → OnceEvent T → Bool
+  may_make state caller event = nat_lt caller (callers_of state) && is_needed event (place_of state caller) (runs_at state caller)

@@ -140,3 +140,97 @@ impl Machine for PoolCore {
         matches!(reply, PoolReply::Item(_))
     }
 }
+
+#[cfg(test)]
+mod tests {
+    use super::*;
+    use std::test::Fail;
+    use sync_model::Misuse;
+
+    // What an event of a caller is answered, whether it releases, and whether it acquires.
+    fn make<M: Machine>(
+        state: &mut M::State,
+        caller: u32,
+        event: M::Event,
+    ) -> (M::Reply, bool, bool) {
+        let reply = M::step(state, caller, event);
+        (
+            reply,
+            M::releases(&event, &reply),
+            M::acquires(&event, &reply),
+        )
+    }
+
+    #[test]
+    fn edges_of_a_cond(rt: HostRuntime) -> Result<(), Fail> {
+        let mut cond = NotifyCore::new(rt.alloc(), 1)?;
+        let table = [
+            (NotifyEvent::Leave, (NotifyReply::Still, false, false)),
+            (NotifyEvent::Signal, (NotifyReply::Done, true, false)),
+            (NotifyEvent::Ticket, (NotifyReply::Done, false, false)),
+            (NotifyEvent::Broadcast, (NotifyReply::Done, true, false)),
+            (NotifyEvent::Leave, (NotifyReply::Done, false, true)),
+        ];
+        for (event, made) in table {
+            assert_eq!(rt; make::<NotifyCore>(&mut cond, 0, event), made, "{event:?}");
+        }
+        Ok(())
+    }
+
+    #[test]
+    fn edges_of_a_wait_group(rt: HostRuntime) -> Result<(), Fail> {
+        let mut group = GroupCore::new(rt.alloc(), 1)?;
+        let misused = GroupReply::Misused(Misuse::NegativeWaitGroupCounter);
+        let table = [
+            (GroupEvent::Add(-1), (misused, false, false)),
+            (GroupEvent::Wait, (GroupReply::Done, false, true)),
+            (GroupEvent::Add(0), (GroupReply::Done, false, false)),
+            (GroupEvent::Add(1), (GroupReply::Done, false, false)),
+            (GroupEvent::Wait, (GroupReply::Queued, false, false)),
+            (GroupEvent::Add(-1), (GroupReply::Done, true, false)),
+            (GroupEvent::Leave, (GroupReply::Done, false, true)),
+        ];
+        for (event, made) in table {
+            assert_eq!(rt; make::<GroupCore>(&mut group, 0, event), made, "{event:?}");
+        }
+        Ok(())
+    }
+
+    #[test]
+    fn edges_of_a_once(rt: HostRuntime) -> Result<(), Fail> {
+        let mut once = OnceCore::new(rt.alloc(), 1)?;
+        let table = [
+            (OnceEvent::Begin, (OnceReply::Run, false, false)),
+            (OnceEvent::Begin, (OnceReply::Queued, false, false)),
+            (OnceEvent::End(5), (OnceReply::Ended, true, false)),
+            (OnceEvent::Leave, (OnceReply::Left(5), false, true)),
+            (OnceEvent::Begin, (OnceReply::Done(5), false, true)),
+            (OnceEvent::Leave, (OnceReply::Still, false, false)),
+        ];
+        for (event, made) in table {
+            assert_eq!(rt;
+                make::<OnceCore<u64>>(&mut once, 0, event),
+                made,
+                "{event:?}"
+            );
+        }
+        Ok(())
+    }
+
+    #[test]
+    fn edges_of_a_pool(rt: HostRuntime) -> Result<(), Fail> {
+        let mut pool = PoolCore::new(rt.alloc(), 1, 0)?;
+        let table = [
+            (PoolEvent::Put(1), (PoolReply::Kept, true, false)),
+            (PoolEvent::Put(2), (PoolReply::Dropped(2), false, false)),
+            (PoolEvent::LookOwn, (PoolReply::Item(1), false, true)),
+            (PoolEvent::LookOther(0), (PoolReply::Nothing, false, false)),
+            (PoolEvent::LookVictim(1), (PoolReply::Still, false, false)),
+            (PoolEvent::Sweep, (PoolReply::Swept, false, false)),
+        ];
+        for (event, made) in table {
+            assert_eq!(rt; make::<PoolCore>(&mut pool, 0, event), made, "{event:?}");
+        }
+        Ok(())
+    }
+}

@@ -1,11 +1,11 @@
 //! When a wait of a wait group returns, and what a misuse leaves.
-ghost use Rattle.std.specs.Prelude.{◌≡◌, ◌≢◌, ℕ, ◌+◌, ◌<◌, ◌≤◌, false, IsTrue, ◌∷◌, ◌++◌, slice_set, IsFalse};
+ghost use Rattle.std.specs.Prelude.{◌≡◌, ◌≢◌, ℕ, pos, ◌+◌, ◌-◌, ◌^◌, ◌<◌, ◌≤◌, false, IsTrue, ◌∷◌, ◌++◌, slice_set, IsFalse};
 ghost use Rattle.std.specs.List.{list_any};
 ghost use Rattle.sync_model.specs.Log.{Follows};
 ghost use Rattle.wait_cores.specs.EventsLeft.{group_left, group_used, group_given};
 ghost use Rattle.wait_cores.specs.GroupMachine.{GroupState, start, next, callers_of, is_waiting};
-ghost use Rattle.wait_cores.specs.GroupStanding.{answers, waits_at, waits_after};
-ghost use Rattle.wait_cores.specs.GroupLaws.{Log, WasZero, state_after, wait_by, leave_by};
+ghost use Rattle.wait_cores.specs.GroupStanding.{answers, may_make, waits_at, waits_after};
+ghost use Rattle.wait_cores.specs.GroupLaws.{Log, WasZero, state_after, wait_by, leave_by, additions};
 
 use crate::group::{GroupEvent, GroupPlace, GroupReply};
 use sync_model::Misuse;
@@ -25,6 +25,13 @@ pub fn waits_for_zero()
 pub fn nobody_waits_at_zero()
     ensures { (callers : ℕ) (log : Log) → (state_after callers log).counter ≡ 0
         → IsFalse (list_any is_waiting (state_after callers log).places) }
+{}
+
+/// The counter is the sum of all additions that were made, and stays in its range, 0 to 2^31 - 1.
+pub fn counts_additions()
+    ensures sum { (callers : ℕ) (log : Log) → Follows next (start callers) log
+        → pos (state_after callers log).counter ≡ additions log }
+    ensures range { (callers : ℕ) (log : Log) → (state_after callers log).counter ≤ 2 ^ 31 - 1 }
 {}
 
 /// A misuse changes nothing, but that a caller whose leaving it is is out.
@@ -59,4 +66,14 @@ pub fn events_are_used_up()
         ≤ group_left state + group_given event (next state caller event).1 }
     ensures unmoved { (state : GroupState) (caller : ℕ) (event : GroupEvent)
         → (next state caller event).1 ≡ GroupReply.Still → (next state caller event).0 ≡ state }
+{}
+
+/// An event is made exactly where its caller may make it: it is one of the group's, is out for a wait, and is
+/// released for a leaving. Any other is answered
+/// `Still` and changes nothing.
+pub fn still()
+    ensures made { (state : GroupState) (caller : ℕ) (event : GroupEvent)
+        → IsTrue (may_make state caller event) → (next state caller event).1 ≢ GroupReply.Still }
+    ensures unmade { (state : GroupState) (caller : ℕ) (event : GroupEvent)
+        → IsFalse (may_make state caller event) → next state caller event ≡ (state, GroupReply.Still) }
 {}

@@ -1,11 +1,12 @@
 //! When a ticket of a cond is notified.
-ghost use Rattle.std.specs.Prelude.{◌≡◌, ℕ, ◌<◌, ◌≤◌, ◌+◌, ◌-◌, ◌^◌, ◌==◌, min, not, ◌∷◌, ◌++◌, count_by, IsTrue};
+ghost use Rattle.std.specs.Prelude.{◌≡◌, ◌≢◌, ℕ, ◌<◌, ◌≤◌, ◌+◌, ◌-◌, ◌^◌, ◌==◌, min, false, not, ◌∷◌, ◌++◌, count_by, IsTrue, IsFalse};
 ghost use Rattle.std.specs.List.{list_all};
-ghost use Rattle.wait_cores.specs.NotifyMachine.{NotifyState, next, callers_of, place_of};
+ghost use Rattle.wait_cores.specs.NotifyMachine.{NotifyState, start, next, callers_of, place_of};
+ghost use Rattle.wait_cores.specs.NotifyStanding.{has_ticket, has_after, may_make};
 ghost use Rattle.wait_cores.specs.EventsLeft.{notify_left, notify_used, notify_given};
 ghost use Rattle.wait_cores.specs.NotifyLaws.{Log, IsLog, state_after, ticket_by, leave_by, is_ticket, pending_of, answers, NotifiesAfter};
 
-use crate::notify::{NotifyEvent, NotifyPlace};
+use crate::notify::{NotifyEvent, NotifyPlace, NotifyReply};
 
 /// A caller leaves only after its ticket was notified. Between the ticket and the leaving stands a broadcast, or more signals
 /// than there were tickets pending before it: signals notify in the order of the tickets, and a signal that found no ticket
@@ -42,10 +43,35 @@ pub fn answers_its_callers()
         → callers_of (next state caller event).0 ≡ callers_of state }
 {}
 
+/// A caller knows from its own answers whether it has a ticket: from the one that it takes until it leaves. Nobody else's event
+/// gives it one or takes it away, and one that has none can't leave. So a caller leaves at most once after each ticket.
+/// An event that is answered `Still` changes nothing.
+pub fn knows_where_it_stands()
+    ensures own { (state : NotifyState) (caller : ℕ) (event : NotifyEvent)
+        → has_ticket (next state caller event).0 caller ≡ has_after (has_ticket state caller) event (next state caller event).1 }
+    ensures others { (state : NotifyState) (caller other : ℕ) (event : NotifyEvent)
+        → caller ≢ other → has_ticket (next state other event).0 caller ≡ has_ticket state caller }
+    ensures leaving { (state : NotifyState) (caller : ℕ)
+        → has_ticket state caller ≡ false → (next state caller NotifyEvent.Leave).1 ≡ NotifyReply.Still }
+    ensures first { (callers caller : ℕ) → has_ticket (start callers) caller ≡ false }
+    ensures unmoved { (state : NotifyState) (caller : ℕ) (event : NotifyEvent)
+        → (next state caller event).1 ≡ NotifyReply.Still → (next state caller event).0 ≡ state }
+{}
+
 /// Callers can't go on for ever without a call returning. One that takes a ticket uses up one of the events that are left, and
 /// only one that leaves gives any back.
 pub fn events_are_used_up()
     ensures { (state : NotifyState) (caller : ℕ) (event : NotifyEvent) → caller < callers_of state
         → notify_left (next state caller event).0 + notify_used (place_of state caller) event
         ≤ notify_left state + notify_given event }
+{}
+
+/// An event is made exactly where its caller may make it: it is one of the cond's, and is notified for a
+/// leaving. Any other is answered
+/// `Still` and changes nothing.
+pub fn still()
+    ensures made { (state : NotifyState) (caller : ℕ) (event : NotifyEvent)
+        → IsTrue (may_make state caller event) → (next state caller event).1 ≢ NotifyReply.Still }
+    ensures unmade { (state : NotifyState) (caller : ℕ) (event : NotifyEvent)
+        → IsFalse (may_make state caller event) → next state caller event ≡ (state, NotifyReply.Still) }
 {}

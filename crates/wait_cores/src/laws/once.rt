@@ -1,10 +1,10 @@
 //! How often the function of a once runs, and what its callers return with.
-ghost use Rattle.std.specs.Prelude.{◌≡◌, ◌≢◌, ℕ, ◌+◌, ◌<◌, ◌≤◌, false, IsTrue, ◌∷◌, ◌++◌, count_by};
+ghost use Rattle.std.specs.Prelude.{◌≡◌, ◌≢◌, ℕ, ◌+◌, ◌<◌, ◌≤◌, false, IsTrue, IsFalse, ◌∷◌, ◌++◌, count_by};
 ghost use Rattle.wait_cores.specs.declared.once.OnceEvent.{OnceEvent};
 ghost use Rattle.wait_cores.specs.declared.once.OnceReply.TheVariants as reply;
 ghost use Rattle.wait_cores.specs.EventsLeft.{once_left, once_used, once_given};
 ghost use Rattle.wait_cores.specs.OnceMachine.{OnceState, start, next, callers_of};
-ghost use Rattle.wait_cores.specs.OnceStanding.{answers, waits_at, runs_at, waits_after, runs_after};
+ghost use Rattle.wait_cores.specs.OnceStanding.{answers, may_make, waits_at, runs_at, waits_after, runs_after};
 ghost use Rattle.wait_cores.specs.OnceLaws.{Made, Log, IsLog, begins, ends, returned_in, kept_by};
 
 /// The function is begun at most once, and ends no more often than it was begun.
@@ -45,4 +45,14 @@ pub fn events_are_used_up<T: Copy>()
         ≤ once_left state + once_given (next state caller event).1 }
     ensures unmoved { (state : OnceState T) (caller : ℕ) (event : OnceEvent T)
         → (next state caller event).1 ≡ reply.Still → (next state caller event).0 ≡ state }
+{}
+
+/// An event is made exactly where its caller may make it: it is one of the once's, is out to begin, runs the
+/// function to end it, and is released for a leaving. Any other is answered
+/// `Still` and changes nothing.
+pub fn still<T: Copy>()
+    ensures made { (state : OnceState T) (caller : ℕ) (event : OnceEvent T)
+        → IsTrue (may_make state caller event) → (next state caller event).1 ≢ reply.Still }
+    ensures unmade { (state : OnceState T) (caller : ℕ) (event : OnceEvent T)
+        → IsFalse (may_make state caller event) → next state caller event ≡ (state, reply.Still) }
 {}

@@ -1,7 +1,8 @@
 //! Where the items of a pool come from and where they go.
-ghost use Rattle.std.specs.Prelude.{◌≡◌, ◌≢◌, ℕ, ◌+◌, ◌<◌, Bool, if◌then◌else◌, length, slice_get, IsTrue, ◌∷◌, ◌++◌};
+ghost use Rattle.std.specs.Prelude.{◌≡◌, ◌≢◌, ℕ, ◌+◌, ◌*◌, ◌<◌, ◌≤◌, Bool, if◌then◌else◌, length, slice_get, IsTrue, ◌∷◌, ◌++◌};
+ghost use Rattle.wait_cores.specs.Looks.{look};
 ghost use Rattle.wait_cores.specs.PoolParts.{PoolPart};
-ghost use Rattle.wait_cores.specs.PoolMachine.{PoolState, start, next};
+ghost use Rattle.wait_cores.specs.PoolMachine.{PoolState, start, next, callers_of};
 ghost use Rattle.wait_cores.specs.PoolLaws.{Log, IsLog, state_after, put_by, held, kept_count, got_count, swept_count, ComeFrom, is_full, private_at, answers, NamesPart};
 
 use crate::pool_event::{PoolEvent, PoolReply};
@@ -44,9 +45,36 @@ pub fn answers_its_callers()
         → caller < callers → NamesPart callers event → IsTrue (answers event (next (state_after callers room log) caller event).1) }
 {}
 
+/// An event that is answered `Still` changes nothing.
+pub fn still_changes_nothing()
+    ensures { (state : PoolState ℕ) (caller : ℕ) (event : PoolEvent ℕ)
+        → (next state caller event).1 ≡ PoolReply.Still → (next state caller event).0 ≡ state }
+{}
+
 /// A pool keeps as many parts as it has callers, in both generations.
 pub fn keeps_its_parts()
     ensures { (state : PoolState ℕ) (caller callers : ℕ) (event : PoolEvent ℕ)
         → length state.primary ≡ callers → length state.victims ≡ callers
         → (length (next state caller event).0.primary ≡ callers) × (length (next state caller event).0.victims ≡ callers) }
+{}
+
+/// The looks of a get leave no place out: the first is at the caller's own part; then one is at each other part, and then one at
+/// the victims of each part.
+pub fn looks_everywhere()
+    ensures own { (callers caller : ℕ) → look callers caller 0 ≡ PoolEvent.LookOwn }
+    ensures others { (callers caller part : ℕ) → caller < callers → part < callers → part ≢ caller
+        → (k : ℕ) × (k < callers) × (look callers caller k ≡ PoolEvent.LookOther part) }
+    ensures victims { (callers caller part : ℕ) → caller < callers → part < callers
+        → (k : ℕ) × (callers ≤ k) × (k < 2 * callers) × (look callers caller k ≡ PoolEvent.LookVictim part) }
+{}
+
+/// An event of nobody, and a look at a part that isn't there, is answered `Still` and changes nothing. Any other is made
+/// (`answers_its_callers`).
+pub fn still()
+    ensures nobody { (state : PoolState ℕ) (caller : ℕ) (event : PoolEvent ℕ)
+        → callers_of state ≤ caller → next state caller event ≡ (state, PoolReply.Still) }
+    ensures no_part { (state : PoolState ℕ) (caller part : ℕ)
+        → length state.primary ≤ part → next state caller (PoolEvent.LookOther part) ≡ (state, PoolReply.Still) }
+    ensures no_victims { (state : PoolState ℕ) (caller part : ℕ)
+        → length state.victims ≤ part → next state caller (PoolEvent.LookVictim part) ≡ (state, PoolReply.Still) }
 {}
