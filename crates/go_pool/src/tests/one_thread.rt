@@ -7,6 +7,7 @@ use wait_cores::PoolPut;
 #[test]
 fn one_caller_gets_what_it_put(rt: HostRuntime) -> Result<(), Fail> {
     let (pool, mut passes) = made(rt.alloc(), 1, 1, 0, 6)?;
+    assert_eq!(rt; pool.room(), 1);
     let mut caller = Caller::last(&pool, &mut passes, knows(0)).expect(&rt, "a pass");
     for (item, answer) in [
         (1, PoolPut::Kept),
@@ -23,6 +24,7 @@ fn one_caller_gets_what_it_put(rt: HostRuntime) -> Result<(), Fail> {
         assert_eq!(rt; caller.get(&rt), Some(Answer::Done(answer)));
     }
     assert_eq!(rt; caller.left(), 0);
+    assert_eq!(rt; caller.first_halt(rt.alloc())?, None);
     Ok(())
 }
 
@@ -39,6 +41,29 @@ fn a_put_synchronizes_before_the_get_of_its_item(rt: HostRuntime) -> Result<(), 
     assert_eq!(rt; first.put(&rt, 2), Some(Answer::Done(PoolPut::Kept)));
     assert_eq!(rt; second.get(&rt), Some(Answer::Done(PoolGet::Item(2))));
     assert_eq!(rt; second.known(), 7);
+    Ok(())
+}
+
+#[test]
+fn a_get_looks_in_order(rt: HostRuntime) -> Result<(), Fail> {
+    let (pool, mut passes) = made(rt.alloc(), 3, 2, 0, 32)?;
+    let mut third = Caller::last(&pool, &mut passes, knows(0)).expect(&rt, "a pass");
+    let mut second = Caller::last(&pool, &mut passes, knows(0)).expect(&rt, "a pass");
+    let mut first = Caller::last(&pool, &mut passes, knows(0)).expect(&rt, "a pass");
+    let kept = Some(Answer::Done(PoolPut::Kept));
+    // Part p has the private item p1 and the shared ones p3 (the head) and p2 (the tail), the victims 100 more.
+    for from in [101, 1] {
+        assert_eq!(rt; first.sweep(&rt), Some(Answer::Done(())));
+        for item in [from, from + 1, from + 2] {
+            assert_eq!(rt; first.put(&rt, item), kept);
+            assert_eq!(rt; second.put(&rt, item + 10), kept);
+            assert_eq!(rt; third.put(&rt, item + 20), kept);
+        }
+    }
+    for item in [11, 13, 12, 22, 23, 2, 3, 111, 112, 113, 122, 123, 102, 103] {
+        assert_eq!(rt; second.get(&rt), Some(Answer::Done(PoolGet::Item(item))));
+    }
+    assert_eq!(rt; second.get(&rt), Some(Answer::Done(PoolGet::New(0))));
     Ok(())
 }
 
