@@ -74,16 +74,16 @@ left_next place (first ∷ script) zero call is =
 left_next place (first ∷ script) (suc n) call is = left_next place script n call is
 
 -- one call more is completed
-replied_left : (place : ℕ) (scripts : List (List Call)) (replies : List (List Reply)) (worker : ℕ) (call : Call) (reply : Reply) → worker < length replies
+one_put_fewer : (place : ℕ) (scripts : List (List Call)) (replies : List (List Reply)) (worker : ℕ) (call : Call) (reply : Reply) → worker < length replies
     → slice_get (get_or scripts worker []) (length (get_or replies worker [])) ≡ Some call
     → puts_left place scripts (set replies worker (get_or replies worker [] ++ reply ∷ [])) + put_of place call ≡ puts_left place scripts replies
-replied_left place [] replies worker call reply here is = absurd cc
-replied_left place (script ∷ scripts) [] worker call reply here is = absurd (omega (arith, here))
-replied_left place (script ∷ scripts) (done ∷ replies) zero call reply here is =
+one_put_fewer place [] replies worker call reply here is = absurd cc
+one_put_fewer place (script ∷ scripts) [] worker call reply here is = absurd (omega (arith, here))
+one_put_fewer place (script ∷ scripts) (done ∷ replies) zero call reply here is =
     let more : length (done ++ reply ∷ []) ≡ suc (length done) = omega (arith, length-append done (reply ∷ [])) in
     omega (arith, ap (left_in place script) more, left_next place script (length done) call is)
-replied_left place (script ∷ scripts) (done ∷ replies) (suc worker) call reply here is =
-    omega (arith, replied_left place scripts replies worker call reply (omega (arith, here)) is)
+one_put_fewer place (script ∷ scripts) (done ∷ replies) (suc worker) call reply here is =
+    omega (arith, one_put_fewer place scripts replies worker call reply (omega (arith, here)) is)
 
 none_made : (place : ℕ) (scripts : List (List Call)) (n : ℕ) → puts_left place scripts (replicate {A = List Reply} n []) ≡ puts_at place scripts
 none_made place [] n = refl
@@ -379,7 +379,7 @@ pub record HasRoom (plan : Plan) (s : State) : Type 0 where
 -- a put before which a worker stands is left to make
 some_left : (plan : Plan) (worker : ℕ) (s : State) (call : Call) (place : ℕ) → IsStateOf plan s → worker < plan.workers → next_call plan worker s ≡ Some call → put_of place call ≤ left_at plan s place
 some_left plan worker s call place of below is =
-    omega (arith, replied_left place plan.scripts s.replies worker call replies.Returned (omega (arith, of.workers, below)) is)
+    omega (arith, one_put_fewer place plan.scripts s.replies worker call replies.Returned (omega (arith, of.workers, below)) is)
 
 takes_fits : (plan : Plan) (worker : ℕ) (s : State) (call : Call) (objects : List ObjectState) (answer : Answer) → HasRoom plan s → Takes plan worker s call objects answer → AllFit (rest_at call (left_at plan s) answer) objects
 takes_fits plan worker s call objects answer has takes =
@@ -389,7 +389,7 @@ takes_fits plan worker s call objects answer has takes =
 completed_fits : (plan : Plan) (worker : ℕ) (s : State) (call : Call) (objects : List ObjectState) (reply : Reply) → HasRoom plan s → Takes plan worker s call objects (answers.Completed reply)
     → AllFit (left_at plan (with_reply worker reply (moved objects s))) objects
 completed_fits plan worker s call objects reply has takes place object at =
-    let fewer = replied_left place plan.scripts s.replies worker call reply (omega (arith, has.of.workers, takes.below)) takes.next in
+    let fewer = one_put_fewer place plan.scripts s.replies worker call reply (omega (arith, has.of.workers, takes.below)) takes.next in
     object_less (left_at plan (with_reply worker reply (moved objects s)) place) (left_at plan s place - put_of place call) object (omega (arith, fewer)) (takes_fits plan worker s call objects (answers.Completed reply) has takes place object at)
 
 turn_fits : (plan : Plan) (worker : ℕ) (s : State) → HasRoom plan s → AllFit (left_at plan (turn_of plan worker s).0) (turn_of plan worker s).0.objects
