@@ -1,13 +1,11 @@
 -- A pool has room for every put that is left to make on it.
-use Rattle.std.proofs.Common.{◌≡◌, ◌≢◌, ℕ, zero, suc, ◌+◌, ◌-◌, ◌*◌, ◌<◌, ◌≤◌, ◌⊎◌, Bool, true, false, cond, eqb, ◌&&◌, List, [], ◌∷◌, ◌++◌, map, drop, take, length, get_or, set, replicate, Option, Some, None, refl, sym, ap, ◌∙◌, subst, inl, inr, arith}
+use Rattle.std.proofs.Common.{◌≡◌, ℕ, zero, suc, ◌+◌, ◌-◌, ◌*◌, ◌<◌, ◌≤◌, Bool, true, false, cond, eqb, ◌&&◌, List, [], ◌∷◌, ◌++◌, map, drop, length, get_or, set, replicate, Option, Some, None, refl, ap, ◌∙◌, subst, arith}
 use Rattle.std.specs.Prelude.{ℤ, nat_lt, slice_get, count_by}
-use Rattle.std.specs.Int.{w64, int_wrapping_add}
 use Rattle.std.specs.List.{range_with_len}
 use Rattle.std.specs.Option.{option_map}
 use Rattle.std.proofs.lemmas.Bool.{eqb-false, lt-ltb}
 use Rattle.std.proofs.lemmas.List.{length-append, length-take}
 use Rattle.std.proofs.lemmas.List.Sums.{sum_by-cons}
-use Rattle.std.proofs.lemmas.Option.{slice_get_within}
 use Rattle.sync_model.specs.declared.call.Call.{Call}
 use Rattle.sync_model.specs.declared.call.Call.TheVariants as calls
 use Rattle.sync_model.specs.declared.call.Reply.{Reply}
@@ -37,7 +35,6 @@ use Rattle.workload.specs.declared.turn.Turn.{Turn}
 use Rattle.workload.specs.Plan.{Plan, object_of}
 use Rattle.step_runner.specs.declared.step.Answer.{Answer}
 use Rattle.step_runner.specs.declared.step.Answer.TheVariants as answers
-use Rattle.step_runner.specs.declared.step.Step.TheVariants as steps
 use Rattle.step_runner.specs.declared.object_state.ObjectState.{ObjectState}
 use Rattle.step_runner.specs.declared.object_state.ObjectState.TheVariants as states
 use Rattle.step_runner.specs.State.{State, is_put_at, puts_at, new_object, new_objects, start, with_reply, IsStateOf, IsReady}
@@ -48,8 +45,8 @@ use Rattle.step_runner.specs.RwMutexTurn.{rw_mutex_turn}
 use Rattle.step_runner.specs.CondTurn.{cond_turn}
 use Rattle.step_runner.specs.WaitGroupTurn.{group_turn}
 use Rattle.step_runner.specs.OnceTurn.{adding_turn, once_turn, func_turn, value_turn}
-use Rattle.step_runner.specs.PoolTurn.{PoolStep, found_or, found_by, looks_of, pool_step, pool_turn}
-use Rattle.step_runner.specs.Turns.{next_call, turn_on, turn_on_both, with_object, with_both, turn_at, turn_of, after_items}
+use Rattle.step_runner.specs.PoolTurn.{PoolStep, found_or, found_by, pool_step, pool_turn}
+use Rattle.step_runner.specs.Turns.{next_call, turn_on, turn_on_both, turn_at, turn_of, after_items}
 use Rattle.step_runner.proofs.TurnLemmas.{Takes, moved, ready, at_ready, turn_cases}
 use Rattle.step_runner.proofs.RunLemmas.{GoesOn, Kept, items_keep, moment_valid}
 
@@ -77,16 +74,16 @@ left_next place (first ∷ script) zero call is =
 left_next place (first ∷ script) (suc n) call is = left_next place script n call is
 
 -- one call more is completed
-replied_left : (place : ℕ) (scripts : List (List Call)) (replies : List (List Reply)) (worker : ℕ) (call : Call) (reply : Reply) → worker < length replies
+one_put_fewer : (place : ℕ) (scripts : List (List Call)) (replies : List (List Reply)) (worker : ℕ) (call : Call) (reply : Reply) → worker < length replies
     → slice_get (get_or scripts worker []) (length (get_or replies worker [])) ≡ Some call
     → puts_left place scripts (set replies worker (get_or replies worker [] ++ reply ∷ [])) + put_of place call ≡ puts_left place scripts replies
-replied_left place [] replies worker call reply here is = absurd cc
-replied_left place (script ∷ scripts) [] worker call reply here is = absurd (omega (arith, here))
-replied_left place (script ∷ scripts) (done ∷ replies) zero call reply here is =
+one_put_fewer place [] replies worker call reply here is = absurd cc
+one_put_fewer place (script ∷ scripts) [] worker call reply here is = absurd (omega (arith, here))
+one_put_fewer place (script ∷ scripts) (done ∷ replies) zero call reply here is =
     let more : length (done ++ reply ∷ []) ≡ suc (length done) = omega (arith, length-append done (reply ∷ [])) in
     omega (arith, ap (left_in place script) more, left_next place script (length done) call is)
-replied_left place (script ∷ scripts) (done ∷ replies) (suc worker) call reply here is =
-    omega (arith, replied_left place scripts replies worker call reply (omega (arith, here)) is)
+one_put_fewer place (script ∷ scripts) (done ∷ replies) (suc worker) call reply here is =
+    omega (arith, one_put_fewer place scripts replies worker call reply (omega (arith, here)) is)
 
 none_made : (place : ℕ) (scripts : List (List Call)) (n : ℕ) → puts_left place scripts (replicate {A = List Reply} n []) ≡ puts_at place scripts
 none_made place [] n = refl
@@ -382,7 +379,7 @@ pub record HasRoom (plan : Plan) (s : State) : Type 0 where
 -- a put before which a worker stands is left to make
 some_left : (plan : Plan) (worker : ℕ) (s : State) (call : Call) (place : ℕ) → IsStateOf plan s → worker < plan.workers → next_call plan worker s ≡ Some call → put_of place call ≤ left_at plan s place
 some_left plan worker s call place of below is =
-    omega (arith, replied_left place plan.scripts s.replies worker call replies.Returned (omega (arith, of.workers, below)) is)
+    omega (arith, one_put_fewer place plan.scripts s.replies worker call replies.Returned (omega (arith, of.workers, below)) is)
 
 takes_fits : (plan : Plan) (worker : ℕ) (s : State) (call : Call) (objects : List ObjectState) (answer : Answer) → HasRoom plan s → Takes plan worker s call objects answer → AllFit (rest_at call (left_at plan s) answer) objects
 takes_fits plan worker s call objects answer has takes =
@@ -392,7 +389,7 @@ takes_fits plan worker s call objects answer has takes =
 completed_fits : (plan : Plan) (worker : ℕ) (s : State) (call : Call) (objects : List ObjectState) (reply : Reply) → HasRoom plan s → Takes plan worker s call objects (answers.Completed reply)
     → AllFit (left_at plan (with_reply worker reply (moved objects s))) objects
 completed_fits plan worker s call objects reply has takes place object at =
-    let fewer = replied_left place plan.scripts s.replies worker call reply (omega (arith, has.of.workers, takes.below)) takes.next in
+    let fewer = one_put_fewer place plan.scripts s.replies worker call reply (omega (arith, has.of.workers, takes.below)) takes.next in
     object_less (left_at plan (with_reply worker reply (moved objects s)) place) (left_at plan s place - put_of place call) object (omega (arith, fewer)) (takes_fits plan worker s call objects (answers.Completed reply) has takes place object at)
 
 turn_fits : (plan : Plan) (worker : ℕ) (s : State) → HasRoom plan s → AllFit (left_at plan (turn_of plan worker s).0) (turn_of plan worker s).0.objects
