@@ -8,7 +8,7 @@ use Rattle.rw_core.specs.declared.reply.RwReply.{RwReply}
 use Rattle.rw_core.specs.declared.reply.RwReply.TheVariants.{Still}
 use Rattle.rw_core.specs.declared.place.Place.TheVariants as place
 use Rattle.rw_core.specs.Edges.{Journal}
-use Rattle.rw_core.specs.RwMachine.{State, next, place_of, is_needed, may_make, still}
+use Rattle.rw_core.specs.RwMachine.{State, next, place_of, is_needed, may_make}
 use Rattle.rw_core.specs.Standing.{is_answer, waits_after, is_waiting}
 use Rattle.ruled_object.specs.declared.pass.Pass.{Pass}
 use Rattle.ruled_object.specs.Gathered.{AreNew}
@@ -46,9 +46,9 @@ new_passes mutex calls passes new = record {
 }
 
 -- any caller gets an answer, or is answered Still
-pub answers_any : (c : ℕ) (s : State) (e : RwEvent) (r : RwReply) → ((may_make s c e ≡ true) → is_answer e (next s c e).1 ≡ true) → ((may_make s c e ≡ false) → next s c e ≡ still s) → r ≡ (next s c e).1 → (is_answer e r ≡ true) ⊎ (r ≡ Still)
+pub answers_any : (c : ℕ) (s : State) (e : RwEvent) (r : RwReply) → ((may_make s c e ≡ true) → is_answer e (next s c e).1 ≡ true) → ((may_make s c e ≡ false) → (next s c e).1 ≡ Still) → r ≡ (next s c e).1 → (is_answer e r ≡ true) ⊎ (r ≡ Still)
 answers_any c s e r answered stays right = by_test (may_make s c e) refl
   where
     by_test : (b : Bool) → may_make s c e ≡ b → (is_answer e r ≡ true) ⊎ (r ≡ Still)
     by_test true may = inl (subst (λ (z : RwReply). is_answer e z ≡ true) (sym right) (answered may))
-    by_test false may = inr (right ∙ ap (λ (t : State × RwReply). t.1) (stays may))
+    by_test false may = inr (right ∙ stays may)

@@ -5,5 +5,4 @@ pub mod Journals
 pub mod Turns
 pub mod HandsOver
 pub mod UsedUp
-pub mod Unmoved
 pub mod Standing

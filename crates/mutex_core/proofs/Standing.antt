@@ -244,3 +244,18 @@ stays s c e may = by_test (nat_lt c s.callers) may
     by_test : (b : Bool) → (b && is_needed e (place_of s c)) ≡ false → (if b then at_place e (place_of s c) c s else still s) ≡ still s
     by_test true may = at_place-still e (place_of s c) c s may
     by_test false may = refl
+
+-- `Still` is no answer
+still-answers-nothing : (e : MutexEvent) → is_answer e Still ≡ false
+still-answers-nothing (event.Arrive now) = refl
+still-answers-nothing event.Try = refl
+still-answers-nothing event.Unlock = refl
+still-answers-nothing (event.Woken now) = refl
+
+-- so an event that is answered `Still` was one that its caller may not make, and changes nothing
+pub unmoved : (s : State) (c : ℕ) (e : MutexEvent) → (next s c e).1 ≡ Still → (next s c e).0 ≡ s
+unmoved s c e is = by_test (may_make s c e) refl
+  where
+    by_test : (b : Bool) → may_make s c e ≡ b → (next s c e).0 ≡ s
+    by_test true may = no (sym (still-answers-nothing e) ∙ subst (λ (r : MutexReply). is_answer e r ≡ true) is (answers s c e may))
+    by_test false may = ap (λ (step : State × MutexReply). step.0) (stays s c e may)

@@ -5,7 +5,7 @@ ghost use Rattle.std.specs.List.{list_any};
 ghost use Rattle.sync_model.specs.Log.{Entry, after, Follows};
 ghost use Rattle.mutex_core.specs.declared.event.MutexEvent.{MutexEvent};
 ghost use Rattle.mutex_core.specs.declared.reply.MutexReply.{MutexReply};
-ghost use Rattle.mutex_core.specs.MutexMachine.{next, start, IsValid, State, still, may_make, place_of};
+ghost use Rattle.mutex_core.specs.MutexMachine.{next, start, IsValid, State, may_make, place_of};
 ghost use Rattle.mutex_core.specs.EventsLeft.{events_left, given_by, used_by};
 ghost use Rattle.mutex_core.specs.Edges.{Journal, acquires, releases};
 ghost use Rattle.mutex_core.specs.Exclusion.{TakesTurns};
@@ -19,11 +19,12 @@ pub fn validity()
     ensures begins { (callers : ℕ) → IsValid (start callers) }
     ensures goes_on { (state : State) (caller : ℕ) (event : MutexEvent)
         → IsValid state → IsValid (next state caller event).0 }
+    ensures always { (callers : ℕ) (journal : Journal) → IsValid (after next (start callers) journal) }
     ensures same_callers { (state : State) (caller : ℕ) (event : MutexEvent)
         → (next state caller event).0.callers ≡ state.callers }
+    ensures callers { (callers : ℕ) (journal : Journal) → (after next (start callers) journal).callers ≡ callers }
     ensures unmoved { (state : State) (caller : ℕ) (event : MutexEvent)
         → (next state caller event).1 ≡ MutexReply.Still → (next state caller event).0 ≡ state }
-    ensures always { (callers : ℕ) (journal : Journal) → IsValid (after next (start callers) journal) }
 {}
 
 /// Mutual exclusion: between two answers by which a caller has the mutex, it is unlocked. More
@@ -58,16 +59,14 @@ pub fn events_are_used_up()
         ≤ events_left state + given_by (next state caller event).1 }
 {}
 
-/// Who is at the place that its event needs gets an answer to it, and anybody else is answered `Still`, which changes
-/// nothing. A caller knows where it stands: where its own answers don't leave it waiting, it is `Out`, whatever the others
-/// did. The callers stay the same.
+/// Who is at the place that its event needs gets an answer to it, and anybody else is answered `Still`. A caller knows
+/// where it stands: where its own answers don't leave it waiting, it is `Out`, whatever the others did.
 pub fn standing()
     ensures answered { (state : State) (caller : ℕ) (event : MutexEvent)
         → IsTrue (may_make state caller event) → IsTrue (is_answer event (next state caller event).1) }
     ensures still { (state : State) (caller : ℕ) (event : MutexEvent)
-        → IsFalse (may_make state caller event) → next state caller event ≡ still state }
+        → IsFalse (may_make state caller event) → (next state caller event).1 ≡ MutexReply.Still }
     ensures out { (callers : ℕ) (journal : Journal) (caller : ℕ)
         → Follows next (start callers) journal → IsFalse (is_waiting false caller journal)
         → place_of (after next (start callers) journal) caller ≡ Place.Out }
-    ensures callers { (callers : ℕ) (journal : Journal) → (after next (start callers) journal).callers ≡ callers }
 {}

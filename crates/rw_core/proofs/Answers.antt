@@ -1,5 +1,5 @@
 -- What kind of answer each event gets, and that the callers stay the same.
-use Rattle.std.proofs.Common.{◌≡◌, ℕ, Bool, true, false, ◌&&◌, List, [], ◌∷◌, refl, sym, ◌∙◌}
+use Rattle.std.proofs.Common.{◌≡◌, ℕ, Bool, true, false, ◌&&◌, List, [], ◌∷◌, refl, ap, sym, subst, ◌∙◌}
 use Rattle.std.specs.Prelude.{nat_lt, ◌==◌, if◌then◌else◌}
 use Rattle.std.proofs.lemmas.Bool.{false≢true}
 use Rattle.sync_model.specs.Log.{after}
@@ -14,6 +14,7 @@ use Rattle.rw_core.specs.declared.event.RwEvent.TheVariants as event
 use Rattle.rw_core.specs.declared.place.Place.{Place}
 use Rattle.rw_core.specs.declared.place.Place.TheVariants as place
 use Rattle.rw_core.specs.declared.reply.RwReply.{RwReply}
+use Rattle.rw_core.specs.declared.reply.RwReply.TheVariants.{Still}
 use Rattle.rw_core.specs.declared.writer.Writer.{Writer}
 use Rattle.rw_core.specs.declared.writer.Writer.TheVariants as writer
 use Rattle.rw_core.specs.RwMachine.{State, is_announced, is_holding, place_of, still, read_arrived, read_tried, last_read, read_unlocked, announced, write_arrived, write_resumed, write_tried, write_unlocked, at_place, next, is_needed, may_make}
@@ -109,6 +110,25 @@ stays s c e may = by_test (nat_lt c s.callers) may
     by_test true may = at_place-still e (place_of s c) c s may
     by_test false may = refl
 
+-- `Still` is no answer
+still-answers-nothing : (e : RwEvent) → is_answer e Still ≡ false
+still-answers-nothing event.ReadArrive = refl
+still-answers-nothing event.ReadTry = refl
+still-answers-nothing event.ReadUnlock = refl
+still-answers-nothing (event.WriteArrive now) = refl
+still-answers-nothing event.WriteTry = refl
+still-answers-nothing (event.WriteWoken now) = refl
+still-answers-nothing event.WriteUnlock = refl
+still-answers-nothing event.Leave = refl
+
+-- so an event that is answered `Still` was one that its caller may not make, and changes nothing
+pub unmoved : (s : State) (c : ℕ) (e : RwEvent) → (next s c e).1 ≡ Still → (next s c e).0 ≡ s
+unmoved s c e is = by_test (may_make s c e) refl
+  where
+    by_test : (b : Bool) → may_make s c e ≡ b → (next s c e).0 ≡ s
+    by_test true may = no (sym (still-answers-nothing e) ∙ subst (λ (r : RwReply). is_answer e r ≡ true) is (answers s c e may))
+    by_test false may = ap (λ (step : State × RwReply). step.0) (stays s c e may)
+
 callers-at_place : (e : RwEvent) (p : Place) (c : ℕ) (s : State) → (at_place e p c s).0.callers ≡ s.callers
 callers-at_place e p c s = by_test (is_needed e p) refl
   where
@@ -116,7 +136,7 @@ callers-at_place e p c s = by_test (is_needed e p) refl
     by_test true needed = (at_place-answers e p c s needed).callers
     by_test false needed = rw (at_place-still e p c s needed) refl
 
-callers-next : (s : State) (c : ℕ) (e : RwEvent) → (next s c e).0.callers ≡ s.callers
+pub callers-next : (s : State) (c : ℕ) (e : RwEvent) → (next s c e).0.callers ≡ s.callers
 callers-next s c e = by_test (nat_lt c s.callers)
   where
     by_test : (b : Bool) → (if b then at_place e (place_of s c) c s else still s).0.callers ≡ s.callers

@@ -7,6 +7,5 @@ pub mod Turns
 pub mod Runs
 pub mod Admissions
 pub mod UsedUp
-pub mod Unmoved
 pub mod Answers
 pub mod Standing

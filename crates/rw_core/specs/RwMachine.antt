@@ -46,17 +46,19 @@ is_among caller callers = list_any (λ other. caller == other) callers
 abbrev pub without : ℕ → List ℕ → List ℕ
 without caller callers = filter (λ other. not (caller == other)) callers
 
--- whether a writer is announced, waits for readers, or holds the lock
+-- whether a writer is announced: it waits for readers, or holds the lock
 abbrev pub is_announced : Writer → Bool
 is_announced writer.Nobody = false
 is_announced (writer.Waiting _) = true
 is_announced writer.Holding = true
 
-abbrev pub is_waiting : Writer → Bool
-is_waiting writer.Nobody = false
-is_waiting (writer.Waiting _) = true
-is_waiting writer.Holding = false
+-- whether it waits for readers
+abbrev pub waits_for_readers : Writer → Bool
+waits_for_readers writer.Nobody = false
+waits_for_readers (writer.Waiting _) = true
+waits_for_readers writer.Holding = false
 
+-- whether it holds the lock
 abbrev pub is_holding : Writer → Bool
 is_holding writer.Nobody = false
 is_holding (writer.Waiting _) = false
@@ -223,7 +225,7 @@ pub record IsValid (s : State) : Type 0 where
   -- a writer and a reader don't hold the lock at once
   pub exclusive : IsTrue (is_holding s.writer) → s.readers ≡ 0
   -- a writer waits only for readers that hold the lock, and a reader only for an announced writer
-  pub write_waits : IsTrue (is_waiting s.writer) → 0 < s.readers
+  pub write_waits : IsTrue (waits_for_readers s.writer) → 0 < s.readers
   pub read_waits : IsFalse (is_announced s.writer) → s.queue ≡ []
   -- the announced writer has the inner mutex
   pub locked : s.inner.locked ≡ is_announced s.writer

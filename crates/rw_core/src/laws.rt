@@ -6,7 +6,7 @@ ghost use Rattle.sync_model.specs.Log.{Entry, after, Follows};
 ghost use Rattle.rw_core.specs.declared.event.RwEvent.{RwEvent};
 ghost use Rattle.rw_core.specs.declared.reply.RwReply.{RwReply};
 ghost use Rattle.rw_core.specs.declared.reply.Unlocking.{Unlocking};
-ghost use Rattle.rw_core.specs.RwMachine.{State, next, start, still, is_announced, may_make, place_of, IsValid};
+ghost use Rattle.rw_core.specs.RwMachine.{State, next, start, is_announced, may_make, place_of, IsValid};
 ghost use Rattle.rw_core.specs.Admission.{Admits};
 ghost use Rattle.rw_core.specs.EventsLeft.{events_left, given_by, used_by};
 ghost use Rattle.rw_core.specs.Standing.{is_answer, is_waiting};
@@ -21,11 +21,12 @@ pub fn validity()
     ensures begins { (callers : ℕ) → IsValid (start callers) }
     ensures goes_on { (state : State) (caller : ℕ) (event : RwEvent)
         → IsValid state → IsValid (next state caller event).0 }
+    ensures always { (callers : ℕ) (journal : Journal) → IsValid (after next (start callers) journal) }
     ensures same_callers { (state : State) (caller : ℕ) (event : RwEvent)
         → (next state caller event).0.callers ≡ state.callers }
+    ensures callers { (callers : ℕ) (journal : Journal) → (after next (start callers) journal).callers ≡ callers }
     ensures unmoved { (state : State) (caller : ℕ) (event : RwEvent)
         → (next state caller event).1 ≡ RwReply.Still → (next state caller event).0 ≡ state }
-    ensures always { (callers : ℕ) (journal : Journal) → IsValid (after next (start callers) journal) }
 {
     laws::validity();
 }
@@ -82,18 +83,16 @@ pub fn events_are_used_up()
     laws::events_are_used_up();
 }
 
-/// Who is at the place that its event needs gets an answer to it, and anybody else is answered `Still`, which changes
-/// nothing. A caller knows where it stands: where its own answers don't leave it waiting, it is `Out`, whatever the others
-/// did. The callers stay the same.
+/// Who is at the place that its event needs gets an answer to it, and anybody else is answered `Still`. A caller knows
+/// where it stands: where its own answers don't leave it waiting, it is `Out`, whatever the others did.
 pub fn standing()
     ensures answered { (state : State) (caller : ℕ) (event : RwEvent)
         → IsTrue (may_make state caller event) → IsTrue (is_answer event (next state caller event).1) }
     ensures still { (state : State) (caller : ℕ) (event : RwEvent)
-        → IsFalse (may_make state caller event) → next state caller event ≡ still state }
+        → IsFalse (may_make state caller event) → (next state caller event).1 ≡ RwReply.Still }
     ensures out { (callers : ℕ) (journal : Journal) (caller : ℕ)
         → Follows next (start callers) journal → IsFalse (is_waiting false caller journal)
         → place_of (after next (start callers) journal) caller ≡ Place.Out }
-    ensures callers { (callers : ℕ) (journal : Journal) → (after next (start callers) journal).callers ≡ callers }
 {
     laws::validity();
 }

@@ -60,6 +60,7 @@ impl<N: Note> Mutex<N> {
         ensures out { (reply : MutexReply) → result ≡ Done reply → waits_by waits_after false (own_by pass.old) ≡ false
             → is_needed event Place.Out ≡ true → is_answer event reply ≡ true }
     {
+        laws::validity();
         laws::standing();
         make::<MutexCore, N, R>(&self.object, rt, home, pass, note, event)
     }

@@ -62,6 +62,7 @@ impl<N: Note> RwMutex<N> {
         ensures out { (reply : RwReply) → result ≡ Done reply → waits_by waits_after false (own_by pass.old) ≡ false
             → is_needed event Place.Out ≡ true → is_answer event reply ≡ true }
     {
+        laws::validity();
         laws::standing();
         make::<RwCore, N, R>(&self.object, rt, home, pass, note, event)
     }

@@ -151,3 +151,102 @@ fn a_locked_mutex_belongs_to_nobody(rt: HostRuntime) -> Result<(), Fail> {
     );
     Ok(())
 }
+
+/// What a machine answers to an event, whether that releases, and whether it acquires.
+fn made<M: Machine>(
+    state: &mut M::State,
+    caller: u32,
+    event: M::Event,
+) -> (M::Reply, bool, bool) {
+    let reply = M::step(state, caller, event);
+    let releases = M::releases(&event, &reply);
+    let acquires = M::acquires(&event, &reply);
+    (reply, releases, acquires)
+}
+
+/// Whether a machine may be halted by a misuse.
+fn halts<M: Machine>() -> bool {
+    M::HALTS
+}
+
+#[test]
+fn unlocks_release_and_what_gives_the_mutex_acquires(rt: HostRuntime) -> Result<(), Fail> {
+    let now = 2_000_000;
+    let mut mutex = MutexCore::new(rt.alloc(), 2)?;
+    // a caller's event, the answer to it, and whether that releases and acquires
+    let rows: [(u32, MutexEvent, MutexReply, bool, bool); 11] = [
+        (
+            0,
+            MutexEvent::Arrive { now: 0 },
+            MutexReply::Arrived(Arrival::Acquired),
+            false,
+            true,
+        ),
+        (
+            1,
+            MutexEvent::Arrive { now: 0 },
+            MutexReply::Arrived(Arrival::Queued(1)),
+            false,
+            false,
+        ),
+        (
+            0,
+            MutexEvent::Try,
+            MutexReply::Tried(false),
+            false,
+            false,
+        ),
+        (
+            0,
+            MutexEvent::Unlock,
+            MutexReply::Unlocked(Unlocking::Woke(1)),
+            true,
+            false,
+        ),
+        (0, MutexEvent::Try, MutexReply::Tried(true), false, true),
+        (
+            1,
+            MutexEvent::Woken { now },
+            MutexReply::Resumed(Resumption::Requeued),
+            false,
+            false,
+        ),
+        (
+            0,
+            MutexEvent::Unlock,
+            MutexReply::Unlocked(Unlocking::Handed(1)),
+            true,
+            false,
+        ),
+        (
+            0,
+            MutexEvent::Unlock,
+            MutexReply::Unlocked(Unlocking::Misuse(Misuse::UnlockOfUnlockedMutex)),
+            false,
+            false,
+        ),
+        (
+            1,
+            MutexEvent::Woken { now },
+            MutexReply::Resumed(Resumption::Acquired),
+            false,
+            true,
+        ),
+        (
+            1,
+            MutexEvent::Unlock,
+            MutexReply::Unlocked(Unlocking::Free),
+            true,
+            false,
+        ),
+        (2, MutexEvent::Try, MutexReply::Still, false, false),
+    ];
+    for (caller, event, reply, releases, acquires) in rows {
+        let (answer, has_released, has_acquired) = made::<MutexCore>(&mut mutex, caller, event);
+        assert_eq!(rt; answer, reply);
+        assert_eq!(rt; has_released, releases);
+        assert_eq!(rt; has_acquired, acquires);
+    }
+    assert!(rt; halts::<MutexCore>());
+    Ok(())
+}

@@ -141,3 +141,96 @@ fn writers_queue_at_the_inner_mutex(rt: HostRuntime) -> Result<(), Fail> {
     assert_eq!(rt; place(&lock, 2), Place::Granted);
     Ok(())
 }
+
+/// What a machine answers to an event, whether that releases, and whether it acquires.
+fn made<M: Machine>(
+    state: &mut M::State,
+    caller: u32,
+    event: M::Event,
+) -> (M::Reply, bool, bool) {
+    let reply = M::step(state, caller, event);
+    let releases = M::releases(&event, &reply);
+    let acquires = M::acquires(&event, &reply);
+    (reply, releases, acquires)
+}
+
+/// Whether a machine may be halted by a misuse.
+fn halts<M: Machine>() -> bool {
+    M::HALTS
+}
+
+#[test]
+fn unlocks_release_and_what_completes_a_lock_acquires(rt: HostRuntime) -> Result<(), Fail> {
+    let mut lock = RwCore::new(rt.alloc(), 3)?;
+    // a caller's event, the answer to it, and whether that releases and acquires
+    let rows: [(u32, RwEvent, RwReply, bool, bool); 12] = [
+        (
+            0,
+            RwEvent::ReadArrive,
+            RwReply::Arrived(Arrival::Acquired),
+            false,
+            true,
+        ),
+        (
+            1,
+            RwEvent::WriteArrive { now: 0 },
+            RwReply::Arrived(Arrival::Queued),
+            false,
+            false,
+        ),
+        (2, RwEvent::ReadTry, RwReply::Tried(false), false, false),
+        (
+            0,
+            RwEvent::ReadUnlock,
+            RwReply::Unlocked(Unlocking::Done),
+            true,
+            false,
+        ),
+        (1, RwEvent::Leave, RwReply::Left, false, true),
+        (
+            0,
+            RwEvent::ReadUnlock,
+            RwReply::Unlocked(Unlocking::Misuse(Misuse::RUnlockOfUnlockedRwMutex)),
+            false,
+            false,
+        ),
+        (
+            1,
+            RwEvent::WriteUnlock,
+            RwReply::Unlocked(Unlocking::Done),
+            true,
+            false,
+        ),
+        (2, RwEvent::WriteTry, RwReply::Tried(true), false, true),
+        (
+            0,
+            RwEvent::WriteArrive { now: 0 },
+            RwReply::Arrived(Arrival::Queued),
+            false,
+            false,
+        ),
+        (
+            2,
+            RwEvent::WriteUnlock,
+            RwReply::Unlocked(Unlocking::Done),
+            true,
+            false,
+        ),
+        (
+            0,
+            RwEvent::WriteWoken { now: 0 },
+            RwReply::Resumed(Resumption::Acquired),
+            false,
+            true,
+        ),
+        (0, RwEvent::Leave, RwReply::Still, false, false),
+    ];
+    for (caller, event, reply, releases, acquires) in rows {
+        let (answer, has_released, has_acquired) = made::<RwCore>(&mut lock, caller, event);
+        assert_eq!(rt; answer, reply);
+        assert_eq!(rt; has_released, releases);
+        assert_eq!(rt; has_acquired, acquires);
+    }
+    assert!(rt; halts::<RwCore>());
+    Ok(())
+}

@@ -1,5 +1,6 @@
-use Rattle.mutex_core.specs.MutexMachine.{start}
-use Rattle.mutex_core.proofs.Validity.{callers-after}
+use Rattle.std.proofs.Common.{ap}
+use Rattle.mutex_core.specs.MutexMachine.{State}
+use Rattle.mutex_core.specs.declared.reply.MutexReply.{MutexReply}
 use Rattle.mutex_core.proofs.Standing.{answers, stays, stands}
 use Rattle.mutex_core.proofs.laws.standing.Goals as goal
 
@@ -7,10 +8,7 @@ pub returns-clause-answered : goal.returns-clause-answered
 returns-clause-answered c = answers
 
 pub returns-clause-still : goal.returns-clause-still
-returns-clause-still c = stays
+returns-clause-still c state caller event may = ap (λ (step : State × MutexReply). step.1) (stays state caller event may)
 
 pub returns-clause-out : goal.returns-clause-out
 returns-clause-out c = stands
-
-pub returns-clause-callers : goal.returns-clause-callers
-returns-clause-callers c callers journal = callers-after (start callers) journal

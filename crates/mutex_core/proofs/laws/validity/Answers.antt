@@ -1,6 +1,6 @@
 use Rattle.mutex_core.specs.MutexMachine.{start}
-use Rattle.mutex_core.proofs.Unmoved.{next-unmoved}
-use Rattle.mutex_core.proofs.Validity.{start-valid, next-valid, after-valid, callers-next}
+use Rattle.mutex_core.proofs.Standing.{unmoved}
+use Rattle.mutex_core.proofs.Validity.{start-valid, next-valid, after-valid, callers-next, callers-after}
 use Rattle.mutex_core.proofs.laws.validity.Goals as goal
 
 pub returns-clause-begins : goal.returns-clause-begins
@@ -15,5 +15,8 @@ returns-clause-always c callers journal = after-valid (start callers) journal (s
 pub returns-clause-same_callers : goal.returns-clause-same_callers
 returns-clause-same_callers c = callers-next
 
+pub returns-clause-callers : goal.returns-clause-callers
+returns-clause-callers c callers journal = callers-after (start callers) journal
+
 pub returns-clause-unmoved : goal.returns-clause-unmoved
-returns-clause-unmoved c = next-unmoved
+returns-clause-unmoved c = unmoved

@@ -15,5 +15,5 @@ returns-clause-out g c reply is free needed =
     let p = made.0 in
     let event = c.args.event in
     let right = subst (λ d. Right next true (state_after next begin p.before) (halt_of p.before) (number_of pass) d) (made.2 ∙ ap (λ a. deed_of event a) is) made.1.right.0.1 in
-    let laws : Stands mutex.callers begin = subst (Stands mutex.callers) (sym mutex.begins) (record { answered = c.standing.ensures.answered; out = c.standing.ensures.out mutex.callers; callers = c.standing.ensures.callers mutex.callers }) in
+    let laws : Stands mutex.callers begin = subst (Stands mutex.callers) (sym mutex.begins) (record { answered = c.standing.ensures.answered; out = c.standing.ensures.out mutex.callers; callers = c.validity.ensures.callers mutex.callers }) in
     answers_out mutex.callers (number_of pass) begin p.before (own_by pass) event reply laws (subst (λ n. number_of pass < n) mutex.sized c.requires.pass.caller) made.5 made.6 made.7 made.4 right free needed
