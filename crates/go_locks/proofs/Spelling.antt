@@ -1,5 +1,5 @@
 -- What the entries of a call show, one after the other.
-use Rattle.std.proofs.Common.{◌≡◌, ℕ, Bool, true, false, cond, List, [], ◌∷◌, ◌++◌, Option, Some, None, append-nil, refl, sym, ap, subst, ◌∙◌, arith}
+use Rattle.std.proofs.Common.{◌≡◌, ◌≢◌, ℕ, Bool, true, false, cond, List, [], ◌∷◌, ◌++◌, Option, Some, None, append-nil, refl, sym, ap, subst, ◌∙◌, arith}
 use Rattle.std.specs.Prelude.{◌==◌, if◌then◌else◌}
 use Rattle.std.specs.List.{AllByRecursion}
 use Rattle.sync_model.specs.declared.misuse.Misuse.{Misuse}
@@ -48,6 +48,11 @@ module _ {E R : Type 0} where
   halt_stays : (m : Misuse) (l : List (Entry E R)) → halt_after (Some m) l ≡ Some m
   halt_stays m [] = refl
   halt_stays m (x ∷ xs) = halt_stays m xs
+
+-- a try that doesn't succeed is answered false
+pub fails_by : (acquired : Bool) → Done acquired ≢ Done true → acquired ≡ false
+fails_by true fails = absurd (fails refl)
+fails_by false fails = refl
 
 pub keeps_both : {H N : Type 0} (at : H → N → Type 0) (own : N → Option Holding) (front : N → List ℕ) (a b c : N) → KeepsNote at own front a b → KeepsNote at own front b c → KeepsNote at own front a c
 keeps_both at own front a b c x y = record {

@@ -1,7 +1,7 @@
 //! One event on a shared machine, with all that its caller learns of the journal.
-ghost use Rattle.std.specs.Prelude.{◌≡◌, ◌<◌, ◌+◌, [], ◌∷◌, ◌++◌, List, ℕ, None};
+ghost use Rattle.std.specs.Prelude.{◌≡◌, ◌<◌, ◌+◌, [], ◌∷◌, ◌++◌, false, List, ℕ, None};
 ghost use Rattle.sync_model.specs.Log as log;
-ghost use Rattle.sync_model.specs.Journal.{by, halt_of, log_of, state_after, Follows};
+ghost use Rattle.sync_model.specs.Journal.{by, is_such, log_of, state_after, Follows};
 ghost use Rattle.ruled_object.specs.declared.pass.Pass.{Pass};
 ghost use Rattle.ruled_object.specs.Cells.{deed_of};
 ghost use Rattle.ruled_object.specs.Growth.{Placed, Grows, IsLawful, MeetsHalt, KeepsNote};
@@ -47,6 +47,7 @@ pub(crate) fn make<M: Machine, N: Note, R: Wait>(
         × Follows M.next M.HALTS (start_of object.now) None p.before
         × log.Follows M.next (start_of object.now) (log_of p.before)
         × (log.after M.next (start_of object.now) (log_of p.before) ≡ state_after M.next (start_of object.now) p.before) }
+    ensures no_edge { is_such M.takes (deed_of event result) ≡ false → N.front note.new ≡ N.front note.old }
 {
     laws::growth::<M, N>();
     laws::journal_is_log::<M>();

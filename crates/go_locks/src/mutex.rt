@@ -6,7 +6,7 @@ ghost use Rattle.mutex_core.specs.MutexMachine.{start};
 mod calls;
 mod events;
 mod halts;
-mod making;
+mod new;
 mod waiting;
 mod within;
 

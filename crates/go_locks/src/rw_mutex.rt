@@ -5,7 +5,7 @@ ghost use Rattle.rw_core.specs.RwMachine.{start};
 
 mod events;
 mod halts;
-mod making;
+mod new;
 mod read;
 mod write;
 

@@ -16,7 +16,7 @@ use Rattle.ruled_object.specs.declared.pass.Pass.{Pass}
 use Rattle.ruled_object.specs.declared.rule.Begin.{Begin}
 use Rattle.ruled_object.specs.declared.view.Stage.TheVariants.{Idle}
 use Rattle.ruled_object.specs.declared.view.View.{View}
-use Rattle.ruled_object.specs.Gathered.{AreAllPasses, SamePasses, Gathered, Dealing, IsDealt, IsWhole}
+use Rattle.ruled_object.specs.Gathered.{AreAllPasses, SamePasses, Gathered, Dealing, IsDealt, IsWhole, IsSeen}
 use Rattle.ruled_object.specs.Passes.{own_of, own_by, seen_by, SamePass, callers_of}
 use Rattle.ruled_object.specs.Steps.{Sat, first_of, others_of, joined, kept, dealt, Learns}
 use Rattle.ruled_object.proofs.Calls.{own_is}
@@ -160,6 +160,14 @@ module _ {S N E R H : Type 0} (next : S → ℕ → E → S × R) (halts : Bool)
     owns = λ i pass at_i. let same : v.number + i ≡ i = omega arith in (learns.owns i (own_by pass) (dealt i pass at_i).own).1 ∙ ap (λ (c : ℕ). by c log) same;
     seen = λ i pass at_i. subst (Begins log) (sym (dealt i pass at_i).seen) (begins_all log);
     callers = λ c past. learns.lawful.callers c (omega arith);
+  }
+
+  pub seen_again : {M : Type 0} (object : Object M N S E R H) (passes : List (Pass S N E R)) (v : View E R) (log : List (Entry E R)) (cell : Cell S N) → length passes ≡ begin.callers → v.number ≡ 0
+      → ((i : ℕ) (pass : Pass S N E R) → slice_get passes i ≡ Some pass → IsDealt object i log v.owns pass)
+      → Learns next halts frees takes front at begin v log cell → IsSeen next halts frees takes begin.state log passes
+  seen_again object passes v log cell count from_first dealt learns = record {
+    whole = whole_again object passes v log cell count from_first dealt learns;
+    all = λ i pass at_i. (dealt i pass at_i).seen;
   }
 
 -- all callers are still to be dealt out

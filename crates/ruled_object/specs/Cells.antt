@@ -1,5 +1,5 @@
 -- What one event does to the cell in the slot.
-use Rattle.std.specs.Prelude.{◌≡◌, ℕ, Bool, true, List}
+use Rattle.std.specs.Prelude.{◌≡◌, ℕ, Bool, true, false, List}
 use Rattle.sync_model.specs.declared.answer.Answer.{Answer}
 use Rattle.sync_model.specs.declared.answer.Answer.TheVariants.{Done, Halted}
 use Rattle.sync_model.specs.declared.journal.Deed.{Deed}
@@ -14,7 +14,7 @@ deed_of e (Done r) = Event e r
 deed_of e (Halted m) = Refused e m
 
 -- A deed of a caller that is right at this cell, with the front that the caller's note then has.
--- An acquiring event's front is at least what releasing ones left, and a releasing one leaves its front.
+-- An acquiring event's front is at least what releasing ones left, and a releasing one leaves its front. No other deed leaves anything.
 pub record Acts {S N E R : Type 0} (next : S → ℕ → E → S × R) (halts : Bool) (frees takes : E → R → Bool) (front : N → List ℕ) (caller : ℕ) (deed : Deed E R) (known : List ℕ) (old new : Cell S N) : Type 0 where
   pub right : Right next halts old.state old.halted caller deed
   pub state : new.state ≡ state_next next old.state caller deed
@@ -22,3 +22,4 @@ pub record Acts {S N E R : Type 0} (next : S → ℕ → E → S × R) (halts : 
   pub more : AtLeast (front new.note) (front old.note)
   pub left : is_such frees deed ≡ true → AtLeast (front new.note) known
   pub taken : is_such takes deed ≡ true → AtLeast known (front old.note)
+  pub kept : is_such frees deed ≡ false → front new.note ≡ front old.note

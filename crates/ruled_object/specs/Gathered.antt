@@ -53,6 +53,11 @@ pub record IsWhole {S N E R : Type 0} (next : S → ℕ → E → S × R) (halts
   pub seen : (i : ℕ) (pass : Pass S N E R) → slice_get passes i ≡ Some pass → Begins log (seen_by pass)
   pub callers : (c : ℕ) → length passes ≤ c → by c log ≡ []
 
+-- the same, and each pass has seen all of the history
+pub record IsSeen {S N E R : Type 0} (next : S → ℕ → E → S × R) (halts : Bool) (frees takes : E → R → Bool) (start : S) (log : List (Entry E R)) (passes : List (Pass S N E R)) : Type 0 where
+  pub whole : IsWhole next halts frees takes start log passes
+  pub all : (i : ℕ) (pass : Pass S N E R) → slice_get passes i ≡ Some pass → seen_by pass ≡ log
+
 -- all passes of a new object, in order of number, each good for so many calls. Nothing was done yet
 pub record AreNew {M N S E R H : Type 0} (object : Object M N S E R H) (calls : ℕ) (passes : List (Pass S N E R)) : Type 0 where
   pub all : AreAllPasses object passes

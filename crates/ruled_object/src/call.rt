@@ -5,6 +5,7 @@ ghost use Rattle.sync_model.specs.declared.answer.Answer.TheVariants.{Halted};
 ghost use Rattle.sync_model.specs.declared.journal.Deed.TheVariants.{Halt};
 ghost use Rattle.sync_model.specs.declared.journal.Entry.{Entry};
 ghost use Rattle.sync_model.specs.Front.{AtLeast};
+ghost use Rattle.sync_model.specs.Journal.{is_such};
 ghost use Rattle.sync_model.specs.Note.{SameHome};
 ghost use Rattle.ruled_object.specs.Cells.{deed_of};
 ghost use Rattle.ruled_object.specs.Passes.{start_of, IsHomeOf, IsPassOf, Adds, SamePass};
@@ -22,7 +23,7 @@ impl<M: Machine, N: Note> Object<M, N> {
     /// with the first halt's misuse, and the machine stays as it was; else the answer is the machine's reply.
     ///
     /// An event that acquires synchronizes after each earlier one that releases: the caller's note then knows all that
-    /// theirs knew.
+    /// theirs knew. After any other event, and after `Halted`, it knows what it knew before.
     pub fn call<R: Wait>(
         &self,
         rt: &R,
@@ -36,6 +37,7 @@ impl<M: Machine, N: Note> Object<M, N> {
         ensures pass { IsPassOf self.now pass.new × SamePass pass.old pass.new }
         ensures entry { (e : Entry M.Event M.Reply) × Adds M.next M.HALTS M.frees M.takes (start_of self.now) pass.old e pass.new × (e.deed ≡ deed_of event result) × (e.front ≡ N.front note.new) }
         ensures note { SameHome N.at note.old note.new × (N.own note.new ≡ N.own note.old) × AtLeast (N.front note.new) (N.front note.old) }
+        ensures no_edge { is_such M.takes (deed_of event result) ≡ false → N.front note.new ≡ N.front note.old }
         ensures halts { M.HALTS ≡ false → (m : Misuse) → result ≡ Halted m → ⊥ }
     {
         let mut cell = self.take_turn::<Brand, R>(rt, &mut pass.seat);

@@ -1,7 +1,8 @@
 //! What lies in the slot of an object, and what an event does to it.
-ghost use Rattle.std.specs.Prelude.{◌≡◌, ℕ, Bool, true, IsTrue, None};
+ghost use Rattle.std.specs.Prelude.{◌≡◌, ℕ, Bool, true, false, IsTrue, None};
 ghost use Rattle.sync_model.specs.declared.journal.Deed.TheVariants.{Halt};
 ghost use Rattle.sync_model.specs.Front.{AtLeast};
+ghost use Rattle.sync_model.specs.Journal.{is_such};
 ghost use Rattle.sync_model.specs.Note.{SameHome};
 ghost use Rattle.ruled_object.specs.Cells.{deed_of, Acts};
 
@@ -29,6 +30,7 @@ impl<S, N: Note> Cell<S, N> {
         ensures acts { Acts M.next M.HALTS M.frees M.takes N.front caller (deed_of event result) (N.front note.new) self.old self.new }
         ensures home { SameHome N.at self.old.note self.new.note × SameHome N.at note.old note.new }
         ensures note { (N.own note.new ≡ N.own note.old) × AtLeast (N.front note.new) (N.front note.old) }
+        ensures no_edge { is_such M.takes (deed_of event result) ≡ false → N.front note.new ≡ N.front note.old }
     {
         if let Some(misuse) = self.halted {
             return Answer::Halted(misuse);

@@ -1,5 +1,7 @@
 //! The calls of a running mutex.
-ghost use Rattle.std.specs.Prelude.{◌≡◌, ◌<◌, ◌+◌, true};
+ghost use Rattle.std.specs.Prelude.{◌≡◌, ◌≢◌, ◌<◌, ◌+◌, true};
+ghost use Rattle.sync_model.specs.declared.misuse.Misuse.{Misuse};
+ghost use Rattle.sync_model.specs.declared.answer.Answer.TheVariants.{Done, Halted};
 ghost use Rattle.mutex_core.specs.declared.event.MutexEvent.{MutexEvent};
 ghost use Rattle.mutex_core.specs.declared.reply.MutexReply.{MutexReply};
 ghost use Rattle.mutex_core.specs.Edges.{acquires, releases};
@@ -21,7 +23,7 @@ use sync_outside::{At, Clock};
 impl<N: Note> Mutex<N> {
     /// Go's `Lock`: waits until the caller has the mutex. It answers `Halted` exactly where the mutex was halted before.
     ///
-    /// Each earlier `unlock` is synchronized before it.
+    /// Each earlier `unlock` is synchronized before it, but where it is answered `Halted`: then its note knows what it knew.
     pub fn lock<C: Clock, R: Wait>(
         &self,
         rt: &R,
@@ -35,6 +37,7 @@ impl<N: Note> Mutex<N> {
         ensures pass { IsPassOfMutex self.now pass.new × (number_of pass.new ≡ number_of pass.old) × (left_of pass.new + 1 ≡ left_of pass.old) }
         ensures note { KeepsNote N.at N.own N.front note.old note.new }
         ensures events { Did next (mutex_start self.now) Locks (AreClocked (C.shows at.now.clock.now)) pass.old (N.front note.old) result pass.new (N.front note.new) }
+        ensures halted { (misuse : Misuse) → result ≡ Halted misuse → N.front note.new ≡ N.front note.old }
         ensures journal { IsLawful next true (λ event reply. releases reply) (λ event reply. acquires reply) (mutex_start self.now) pass.new }
     {
         spend(&self.object, pass);
@@ -42,6 +45,8 @@ impl<N: Note> Mutex<N> {
     }
 
     /// Go's `TryLock`: whether the caller has the mutex, which it has exactly where an arrival would get it at once.
+    ///
+    /// Each earlier `unlock` is synchronized before it where it succeeds. A try that fails makes no edge.
     pub fn try_lock<C: Clock, R: Wait>(
         &self,
         rt: &R,
@@ -55,6 +60,7 @@ impl<N: Note> Mutex<N> {
         ensures pass { IsPassOfMutex self.now pass.new × (number_of pass.new ≡ number_of pass.old) × (left_of pass.new + 1 ≡ left_of pass.old) }
         ensures note { KeepsNote N.at N.own N.front note.old note.new }
         ensures events { Did next (mutex_start self.now) Tries (AreClocked (C.shows at.now.clock.now)) pass.old (N.front note.old) result pass.new (N.front note.new) }
+        ensures no_edge { result ≢ Done true → N.front note.new ≡ N.front note.old }
         ensures journal { IsLawful next true (λ event reply. releases reply) (λ event reply. acquires reply) (mutex_start self.now) pass.new }
     {
         spend(&self.object, pass);
@@ -80,6 +86,7 @@ impl<N: Note> Mutex<N> {
         ensures pass { IsPassOfMutex self.now pass.new × (number_of pass.new ≡ number_of pass.old) × (left_of pass.new + 1 ≡ left_of pass.old) }
         ensures note { KeepsNote N.at N.own N.front note.old note.new }
         ensures events { Did next (mutex_start self.now) Unlocks (AreClocked (C.shows at.now.clock.now)) pass.old (N.front note.old) result pass.new (N.front note.new) }
+        ensures no_edge { N.front note.new ≡ N.front note.old }
         ensures journal { IsLawful next true (λ event reply. releases reply) (λ event reply. acquires reply) (mutex_start self.now) pass.new }
     {
         spend(&self.object, pass);

@@ -1,6 +1,7 @@
 //! One event on a running mutex, and who is woken by an unlock.
 ghost use Rattle.std.specs.Prelude.{◌≡◌, ◌⊎◌, ◌<◌, [], ◌∷◌, ◌++◌, true, false, List, ℕ};
-ghost use Rattle.sync_model.specs.declared.answer.Answer.TheVariants.{Done};
+ghost use Rattle.sync_model.specs.declared.misuse.Misuse.{Misuse};
+ghost use Rattle.sync_model.specs.declared.answer.Answer.TheVariants.{Done, Halted};
 ghost use Rattle.mutex_core.specs.declared.event.MutexEvent.{MutexEvent};
 ghost use Rattle.mutex_core.specs.declared.reply.MutexReply.{MutexReply};
 ghost use Rattle.mutex_core.specs.declared.reply.Unlocking.{Unlocking};
@@ -57,6 +58,8 @@ impl<N: Note> Mutex<N> {
             → Grows next true (mutex_start self.now) first from es pass.old (N.front note.old)
             → Grows next true (mutex_start self.now) first from (es ++ p ∷ []) pass.new (N.front note.new) × MeetsHalt (es ++ p ∷ []) result) }
         ensures answered { (reply : MutexReply) → result ≡ Done reply → (is_answer event reply ≡ true) ⊎ (reply ≡ MutexReply.Still) }
+        ensures halted { (misuse : Misuse) → result ≡ Halted misuse → N.front note.new ≡ N.front note.old }
+        ensures no_edge { (reply : MutexReply) → result ≡ Done reply → acquires reply ≡ false → N.front note.new ≡ N.front note.old }
         ensures out { (reply : MutexReply) → result ≡ Done reply → waits_by waits_after false (own_by pass.old) ≡ false
             → is_needed event Place.Out ≡ true → is_answer event reply ≡ true }
     {

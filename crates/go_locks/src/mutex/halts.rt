@@ -7,7 +7,7 @@ ghost use Rattle.mutex_core.specs.declared.event.MutexEvent.{MutexEvent};
 ghost use Rattle.mutex_core.specs.declared.reply.MutexReply.{MutexReply};
 ghost use Rattle.mutex_core.specs.Edges.{acquires, releases};
 ghost use Rattle.mutex_core.specs.MutexMachine.{next};
-ghost use Rattle.ruled_object.specs.Gathered.{SamePasses, IsWhole};
+ghost use Rattle.ruled_object.specs.Gathered.{SamePasses, IsWhole, IsSeen};
 ghost use Rattle.ruled_object.specs.Passes.{Adds, SamePass};
 ghost use Rattle.go_locks.specs.Mutexes.{MutexJournal, mutex_start, IsPassOfMutex, AreAllOfMutex};
 
@@ -39,6 +39,7 @@ impl<N: Note> Mutex<N> {
         ensures history { (log : MutexJournal) × (result ≡ halt_of log)
             × IsWhole next true (λ event reply. releases reply) (λ event reply. acquires reply) (mutex_start self.now) log passes.old
             × IsWhole next true (λ event reply. releases reply) (λ event reply. acquires reply) (mutex_start self.now) log passes.new }
+        ensures seen { (log : MutexJournal) × IsSeen next true (λ event reply. releases reply) (λ event reply. acquires reply) (mutex_start self.now) log passes.new }
     {
         self.object.first_halt(passes)
     }

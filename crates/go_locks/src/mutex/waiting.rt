@@ -1,5 +1,7 @@
 //! A caller of a mutex that waits.
 ghost use Rattle.std.specs.Prelude.{◌≡◌, ℕ, List, true};
+ghost use Rattle.sync_model.specs.declared.misuse.Misuse.{Misuse};
+ghost use Rattle.sync_model.specs.declared.answer.Answer.TheVariants.{Halted};
 ghost use Rattle.mutex_core.specs.declared.event.MutexEvent.{MutexEvent};
 ghost use Rattle.mutex_core.specs.declared.reply.MutexReply.{MutexReply};
 ghost use Rattle.mutex_core.specs.Edges.{acquires, releases};
@@ -36,6 +38,7 @@ impl<N: Note> Mutex<N> {
             → Grows next true (mutex_start self.now) first from es pass.old (N.front note.old)
             → Waits (deeds_of es) → AreClocked (C.shows at.now.clock.now) (deeds_of es)
             → Did next (mutex_start self.now) Locks (AreClocked (C.shows at.now.clock.now)) first from result pass.new (N.front note.new) }
+        ensures halted { (misuse : Misuse) → result ≡ Halted misuse → N.front note.new ≡ N.front note.old }
         ensures journal { IsLawful next true (λ event reply. releases reply) (λ event reply. acquires reply) (mutex_start self.now) pass.new }
     {
         for _ in rt.forever() {

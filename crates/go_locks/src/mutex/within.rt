@@ -1,5 +1,7 @@
 //! `unlock` and `lock` as parts of a longer call, which takes one off the calls that are left: a cond's `wait`.
-ghost use Rattle.std.specs.Prelude.{◌<◌, true};
+ghost use Rattle.std.specs.Prelude.{◌≡◌, ◌<◌, true};
+ghost use Rattle.sync_model.specs.declared.misuse.Misuse.{Misuse};
+ghost use Rattle.sync_model.specs.declared.answer.Answer.TheVariants.{Halted};
 ghost use Rattle.mutex_core.specs.Edges.{acquires, releases};
 ghost use Rattle.mutex_core.specs.MutexMachine.{next};
 ghost use Rattle.ruled_object.specs.Growth.{IsLawful, KeepsNote};
@@ -39,6 +41,7 @@ impl<N: Note> Mutex<N> {
         ensures pass { IsPassOfMutex self.now pass.new × SamePass pass.old pass.new }
         ensures note { KeepsNote N.at N.own N.front note.old note.new }
         ensures events { Did next (mutex_start self.now) Locks (AreClocked (C.shows at.now.clock.now)) pass.old (N.front note.old) result pass.new (N.front note.new) }
+        ensures halted { (misuse : Misuse) → result ≡ Halted misuse → N.front note.new ≡ N.front note.old }
         ensures journal { IsLawful next true (λ event reply. releases reply) (λ event reply. acquires reply) (mutex_start self.now) pass.new }
     {
         let now = at.clock.now();
@@ -66,6 +69,7 @@ impl<N: Note> Mutex<N> {
         ensures pass { IsPassOfMutex self.now pass.new × SamePass pass.old pass.new }
         ensures note { KeepsNote N.at N.own N.front note.old note.new }
         ensures events { Did next (mutex_start self.now) Unlocks (AreClocked (C.shows at.now.clock.now)) pass.old (N.front note.old) result pass.new (N.front note.new) }
+        ensures no_edge { N.front note.new ≡ N.front note.old }
         ensures journal { IsLawful next true (λ event reply. releases reply) (λ event reply. acquires reply) (mutex_start self.now) pass.new }
     {
         match self.event(rt, at.home, pass, note, MutexEvent::Unlock) {

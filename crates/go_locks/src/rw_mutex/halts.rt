@@ -7,7 +7,7 @@ ghost use Rattle.rw_core.specs.declared.event.RwEvent.{RwEvent};
 ghost use Rattle.rw_core.specs.declared.reply.RwReply.{RwReply};
 ghost use Rattle.rw_core.specs.Edges.{acquires, releases};
 ghost use Rattle.rw_core.specs.RwMachine.{next};
-ghost use Rattle.ruled_object.specs.Gathered.{SamePasses, IsWhole};
+ghost use Rattle.ruled_object.specs.Gathered.{SamePasses, IsWhole, IsSeen};
 ghost use Rattle.ruled_object.specs.Passes.{Adds, SamePass};
 ghost use Rattle.go_locks.specs.RwMutexes.{RwJournal, rw_start, IsPassOfRwMutex, AreAllOfRwMutex};
 
@@ -39,6 +39,7 @@ impl<N: Note> RwMutex<N> {
         ensures history { (log : RwJournal) × (result ≡ halt_of log)
             × IsWhole next true (λ event reply. releases reply) (λ event reply. acquires reply) (rw_start self.now) log passes.old
             × IsWhole next true (λ event reply. releases reply) (λ event reply. acquires reply) (rw_start self.now) log passes.new }
+        ensures seen { (log : RwJournal) × IsSeen next true (λ event reply. releases reply) (λ event reply. acquires reply) (rw_start self.now) log passes.new }
     {
         self.object.first_halt(passes)
     }

@@ -1,5 +1,7 @@
 //! A writer's calls of a running reader/writer lock.
-ghost use Rattle.std.specs.Prelude.{◌≡◌, ◌<◌, ◌+◌, ℕ, List, true};
+ghost use Rattle.std.specs.Prelude.{◌≡◌, ◌≢◌, ◌<◌, ◌+◌, ℕ, List, true};
+ghost use Rattle.sync_model.specs.declared.misuse.Misuse.{Misuse};
+ghost use Rattle.sync_model.specs.declared.answer.Answer.TheVariants.{Done, Halted};
 ghost use Rattle.rw_core.specs.declared.event.RwEvent.{RwEvent};
 ghost use Rattle.rw_core.specs.declared.reply.RwReply.{RwReply};
 ghost use Rattle.rw_core.specs.Edges.{acquires, releases};
@@ -37,6 +39,7 @@ impl<N: Note> RwMutex<N> {
         ensures pass { IsPassOfRwMutex self.now pass.new × (number_of pass.new ≡ number_of pass.old) × (left_of pass.new + 1 ≡ left_of pass.old) }
         ensures note { KeepsNote N.at N.own N.front note.old note.new }
         ensures events { Did next (rw_start self.now) WriteLocks (AreClocked (C.shows at.now.clock.now)) pass.old (N.front note.old) result pass.new (N.front note.new) }
+        ensures halted { (misuse : Misuse) → result ≡ Halted misuse → N.front note.new ≡ N.front note.old }
         ensures journal { IsLawful next true (λ event reply. releases reply) (λ event reply. acquires reply) (rw_start self.now) pass.new }
     {
         spend(&self.object, pass);
@@ -68,6 +71,7 @@ impl<N: Note> RwMutex<N> {
             → Grows next true (rw_start self.now) first from es pass.old (N.front note.old)
             → WriteWaits (deeds_of es) → AreClocked (C.shows at.now.clock.now) (deeds_of es)
             → Did next (rw_start self.now) WriteLocks (AreClocked (C.shows at.now.clock.now)) first from result pass.new (N.front note.new) }
+        ensures halted { (misuse : Misuse) → result ≡ Halted misuse → N.front note.new ≡ N.front note.old }
         ensures journal { IsLawful next true (λ event reply. releases reply) (λ event reply. acquires reply) (rw_start self.now) pass.new }
     {
         let mut has_slept = false;
@@ -120,6 +124,7 @@ impl<N: Note> RwMutex<N> {
         ensures pass { IsPassOfRwMutex self.now pass.new × (number_of pass.new ≡ number_of pass.old) × (left_of pass.new + 1 ≡ left_of pass.old) }
         ensures note { KeepsNote N.at N.own N.front note.old note.new }
         ensures events { Did next (rw_start self.now) (Tries RwEvent.WriteTry) (AreClocked (C.shows at.now.clock.now)) pass.old (N.front note.old) result pass.new (N.front note.new) }
+        ensures no_edge { result ≢ Done true → N.front note.new ≡ N.front note.old }
         ensures journal { IsLawful next true (λ event reply. releases reply) (λ event reply. acquires reply) (rw_start self.now) pass.new }
     {
         spend(&self.object, pass);
@@ -145,6 +150,7 @@ impl<N: Note> RwMutex<N> {
         ensures pass { IsPassOfRwMutex self.now pass.new × (number_of pass.new ≡ number_of pass.old) × (left_of pass.new + 1 ≡ left_of pass.old) }
         ensures note { KeepsNote N.at N.own N.front note.old note.new }
         ensures events { Did next (rw_start self.now) (Unlocks RwEvent.WriteUnlock) (AreClocked (C.shows at.now.clock.now)) pass.old (N.front note.old) result pass.new (N.front note.new) }
+        ensures no_edge { N.front note.new ≡ N.front note.old }
         ensures journal { IsLawful next true (λ event reply. releases reply) (λ event reply. acquires reply) (rw_start self.now) pass.new }
     {
         spend(&self.object, pass);

@@ -107,3 +107,9 @@ returns-else-has_mutex-clause-pass g c =
 
 pub returns-else-has_mutex-clause-note : goal.returns-else-has_mutex-clause-note
 returns-else-has_mutex-clause-note g c = let n = g.N.Note in keeps_both n.at n.own n.front c.args.note.now c.event.new.note c.wait.new.note c.event.ensures.note c.wait.ensures.note
+
+pub returns-in-Halted-clause-halted : goal.returns-in-Halted-clause-halted
+returns-in-Halted-clause-halted g c misuse is = c.event.ensures.halted c.in-Halted.misuse c.in-Halted.is
+
+pub returns-else-has_mutex-clause-halted : goal.returns-else-has_mutex-clause-halted
+returns-else-has_mutex-clause-halted g c misuse is = c.wait.ensures.halted misuse is ∙ c.event.ensures.no_edge c.in-Done.reply c.in-Done.is (sym c.has_mutex.ensures ∙ c.if-has_mutex.false)

@@ -11,7 +11,7 @@ use Rattle.ruled_object.specs.Growth.{MeetsHalt}
 use Rattle.go_locks.specs.Calls.{waits_by}
 use Rattle.go_locks.specs.MutexCalls.{Tries, AreClocked, tried, refused}
 use Rattle.go_locks.specs.Mutexes.{mutex_start}
-use Rattle.go_locks.proofs.Spelling.{did_one, free_one}
+use Rattle.go_locks.proofs.Spelling.{did_one, free_one, fails_by}
 use Rattle.go_locks.proofs.MutexCalls.{tried_is, pass_after}
 use Rattle.go_locks.proofs.mutex.Mutex.try_lock.Goals as goal
 
@@ -74,3 +74,9 @@ returns-in-Done-clause-events g c =
     let answer : c.has_mutex.result ≡ is.0 = c.has_mutex.ensures ∙ ap acquires is.1 in
     did_one next start Tries (AreClocked (g.C.Clock.shows c.args.at.now.clock.now)) old new from to _ entry.0 (Event Try (Tried is.0)) deed grown.0
     (subst (λ b. Tries (Event Try (Tried is.0) ∷ []) (Done b)) (sym answer) (tried is.0)) (subst (MeetsHalt (entry.0 ∷ [])) c.in-Done.is grown.1) (tt, tt)
+
+pub returns-in-Halted-clause-no_edge : goal.returns-in-Halted-clause-no_edge
+returns-in-Halted-clause-no_edge g c fails = c.event.ensures.halted c.in-Halted.misuse c.in-Halted.is
+
+pub returns-in-Done-clause-no_edge : goal.returns-in-Done-clause-no_edge
+returns-in-Done-clause-no_edge g c fails = c.event.ensures.no_edge c.in-Done.reply c.in-Done.is (sym c.has_mutex.ensures ∙ fails_by c.has_mutex.result fails)

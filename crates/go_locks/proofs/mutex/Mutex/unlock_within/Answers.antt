@@ -3,6 +3,7 @@ use Rattle.sync_model.specs.declared.answer.Answer.TheVariants.{Done}
 use Rattle.sync_model.specs.declared.journal.Deed.TheVariants.{Event, Refused}
 use Rattle.mutex_core.specs.declared.event.MutexEvent.TheVariants.{Unlock}
 use Rattle.mutex_core.specs.declared.reply.MutexReply.TheVariants.{Unlocked}
+use Rattle.mutex_core.specs.Edges.{acquires}
 use Rattle.mutex_core.specs.MutexMachine.{next}
 use Rattle.mutex_core.specs.Standing.{waits_after}
 use Rattle.ruled_object.specs.Cells.{deed_of}
@@ -72,3 +73,12 @@ returns-in-Done-clause-events g c =
     let answer : c.unlocked.result ≡ answer_of is.0 = c.unlocked.ensures is.0 is.1 in
     did_one next start Unlocks (AreClocked (g.C.Clock.shows c.args.at.now.clock.now)) old new from to _ entry.0 (Event Unlock (Unlocked is.0)) deed grown.0
     (subst (λ r. Unlocks (Event Unlock (Unlocked is.0) ∷ []) (Done r)) (sym answer) (unlocked is.0)) (subst (MeetsHalt (entry.0 ∷ [])) c.in-Done.is grown.1) (tt, tt)
+
+pub returns-in-Halted-clause-no_edge : goal.returns-in-Halted-clause-no_edge
+returns-in-Halted-clause-no_edge g c = c.event.ensures.halted c.in-Halted.misuse c.in-Halted.is
+
+pub returns-in-Done-clause-no_edge : goal.returns-in-Done-clause-no_edge
+returns-in-Done-clause-no_edge g c =
+    let reply = c.in-Done.reply in
+    let is = unlocked_is reply (c.event.ensures.out reply c.in-Done.is c.requires.pass.free refl) in
+    c.event.ensures.no_edge reply c.in-Done.is (ap acquires is.1)

@@ -70,4 +70,8 @@ loop-preserved g c =
             subst Waits (sym deeds) (woken_waits now reply (deeds_of so_far.0) (c.event.ensures.answered reply c.in-Done.is) (sym c.has_mutex.ensures ∙ c.if-has_mutex.false) so_far.2),
             subst (AreClocked shows) (sym deeds) (all-snoc (IsClocked shows) (deeds_of so_far.0) (Event (Woken now) reply) so_far.3 c.now-now.ensures),
           )),
+      c.event.ensures.no_edge reply c.in-Done.is (sym c.has_mutex.ensures ∙ c.if-has_mutex.false) ∙ c.loop.invariant.5,
     )
+
+pub returns-in-Halted-clause-halted : goal.returns-in-Halted-clause-halted
+returns-in-Halted-clause-halted g c misuse is = c.event.ensures.halted c.in-Halted.misuse c.in-Halted.is ∙ c.loop.invariant.5

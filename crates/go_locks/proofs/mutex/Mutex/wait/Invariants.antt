@@ -1,4 +1,4 @@
-use Rattle.std.proofs.Common.{ℕ, List, true}
+use Rattle.std.proofs.Common.{◌≡◌, ℕ, List, true}
 use Rattle.mutex_core.specs.declared.event.MutexEvent.{MutexEvent}
 use Rattle.mutex_core.specs.declared.reply.MutexReply.{MutexReply}
 use Rattle.mutex_core.specs.MutexMachine.{State, next}
@@ -19,3 +19,4 @@ invariant-loop g l =
     × SamePass l.fn.pass l.pass
     × KeepsNote g.N.Note.at g.N.Note.own front l.fn.note l.note
     × ((first : Pass State g.row.N.Denot MutexEvent MutexReply) (from : List ℕ) (es : List (Placed MutexEvent MutexReply)) → Grows next true start first from es l.fn.pass (front l.fn.note) → Waits (deeds_of es) → AreClocked shows (deeds_of es) → (fs : List (Placed MutexEvent MutexReply)) × Grows next true start first from fs l.pass (front l.note) × Waits (deeds_of fs) × AreClocked shows (deeds_of fs))
+    × (front l.note ≡ front l.fn.note)

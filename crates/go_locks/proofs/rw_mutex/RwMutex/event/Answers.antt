@@ -1,5 +1,6 @@
 use Rattle.std.proofs.Common.{ap, sym, subst, ◌∙◌, ◌<◌, true}
-use Rattle.sync_model.specs.Journal.{halt_of, state_after, Right}
+use Rattle.sync_model.specs.Journal.{halt_of, is_such, state_after, Right}
+use Rattle.rw_core.specs.Edges.{acquires}
 use Rattle.rw_core.specs.RwMachine.{next}
 use Rattle.ruled_object.specs.Cells.{deed_of}
 use Rattle.ruled_object.specs.Passes.{number_of, own_by, start_of}
@@ -28,3 +29,9 @@ returns-clause-answered g c reply is =
     let s = state_after next begin p.before in
     let right = subst (λ d. Right next true s (halt_of p.before) (number_of pass) d) (made.2 ∙ ap (λ a. deed_of event a) is) made.1.right.0.1 in
     answers_any (number_of pass) s event reply (c.standing.ensures.answered s (number_of pass) event) (c.standing.ensures.still s (number_of pass) event) right.1
+
+pub returns-clause-halted : goal.returns-clause-halted
+returns-clause-halted g c misuse is = c.make.ensures.no_edge (ap (λ a. is_such (λ event reply. acquires reply) (deed_of c.args.event a)) is)
+
+pub returns-clause-no_edge : goal.returns-clause-no_edge
+returns-clause-no_edge g c reply is none = c.make.ensures.no_edge (ap (λ a. is_such (λ event reply. acquires reply) (deed_of c.args.event a)) is ∙ none)

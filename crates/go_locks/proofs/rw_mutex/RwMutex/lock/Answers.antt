@@ -109,3 +109,9 @@ returns-else-has_lock-clause-pass g c =
 
 pub returns-else-has_lock-clause-note : goal.returns-else-has_lock-clause-note
 returns-else-has_lock-clause-note g c = let n = g.N.Note in keeps_both n.at n.own n.front c.args.note.now c.event.new.note c.wait_to_write.new.note c.event.ensures.note c.wait_to_write.ensures.note
+
+pub returns-in-Halted-clause-halted : goal.returns-in-Halted-clause-halted
+returns-in-Halted-clause-halted g c misuse is = c.event.ensures.halted c.in-Halted.misuse c.in-Halted.is
+
+pub returns-else-has_lock-clause-halted : goal.returns-else-has_lock-clause-halted
+returns-else-has_lock-clause-halted g c misuse is = c.wait_to_write.ensures.halted misuse is ∙ c.event.ensures.no_edge c.in-Done.reply c.in-Done.is (sym c.has_lock.ensures ∙ c.if-has_lock.false)

@@ -1,4 +1,4 @@
-use Rattle.std.proofs.Common.{ℕ, List, true}
+use Rattle.std.proofs.Common.{◌≡◌, ℕ, List, true}
 use Rattle.rw_core.specs.declared.event.RwEvent.{RwEvent}
 use Rattle.rw_core.specs.declared.reply.RwReply.{RwReply}
 use Rattle.rw_core.specs.RwMachine.{State, next}
@@ -19,3 +19,4 @@ invariant-loop g l =
     × SamePass l.fn.pass l.pass
     × KeepsNote g.N.Note.at g.N.Note.own front l.fn.note l.note
     × ((first : Pass State g.row.N.Denot RwEvent RwReply) (from : List ℕ) (es : List (Placed RwEvent RwReply)) → Grows next true start first from es l.fn.pass (front l.fn.note) → ReadWaits (deeds_of es) → AreClocked shows (deeds_of es) → (fs : List (Placed RwEvent RwReply)) × Grows next true start first from fs l.pass (front l.note) × ReadWaits (deeds_of fs) × AreClocked shows (deeds_of fs))
+    × (front l.note ≡ front l.fn.note)

@@ -70,4 +70,8 @@ loop-preserved g c =
             subst WriteWaits (sym deeds) (goes_waits shows event reply (deeds_of so_far.0) goes (c.event.ensures.answered reply c.in-Done.is) (sym c.has_lock.ensures ∙ c.if-has_lock.false) so_far.2),
             subst (AreClocked shows) (sym deeds) (all-snoc (IsClocked shows) (deeds_of so_far.0) (Event event reply) so_far.3 (goes_timed shows event goes)),
           )),
+      c.event.ensures.no_edge reply c.in-Done.is (sym c.has_lock.ensures ∙ c.if-has_lock.false) ∙ c.loop.invariant.5,
     )
+
+pub returns-in-Halted-clause-halted : goal.returns-in-Halted-clause-halted
+returns-in-Halted-clause-halted g c misuse is = c.event.ensures.halted c.in-Halted.misuse c.in-Halted.is ∙ c.loop.invariant.5
