@@ -1,5 +1,5 @@
 -- Counts of faults, which are u64s.
-use Rattle.std.specs.Prelude.{◌≡◌, ℕ, ◌+◌, ◌-◌, ◌^◌, ◌<◌, ◌⊎◌, min}
+use Rattle.std.specs.Prelude.{◌≡◌, ℕ, ◌+◌, ◌-◌, ◌^◌, ◌<◌, ◌⊎◌, min, Result, Ok, Err}
 
 -- the count is higher than before, or stands at its type's last value
 abbrev pub Rose : ℕ → ℕ → Type 0
@@ -8,3 +8,8 @@ Rose before now = (before < now) ⊎ (now ≡ 2 ^ 64 - 1)
 -- one more, up to the type's last value
 abbrev pub raised : ℕ → ℕ
 raised count = min (count + 1) (2 ^ 64 - 1)
+
+-- the count after a call with this result: one more where it failed
+abbrev pub count_after : {A E : Type 0} → Result A E → ℕ → ℕ
+count_after (Ok value) count = count
+count_after (Err error) count = raised count

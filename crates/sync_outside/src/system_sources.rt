@@ -1,7 +1,9 @@
 //! Files and standard input.
-ghost use Rattle.std.specs.Prelude.{◌≡◌, ℕ, Bool, List, None, false, length, ◌≤◌, IfOk, is_some};
-ghost use Rattle.std.specs.Io.KnownBytes.{ReadConsumes};
-ghost use Rattle.sync_outside.specs.System.{Inputs};
+ghost use Rattle.std.specs.Prelude.{◌≡◌, ℕ, Bool, List, false, length, take, ◌<◌, ◌≤◌, ◌↔◌, IsTrue, IsOk, IfOk, OnOk, OnErr, IsErrOf, is_some};
+ghost use Rattle.std.specs.Io.KnownBytes.{ReadConsumes, IsAtEnd};
+ghost use Rattle.sync_outside.specs.Bytes.{Gives};
+ghost use Rattle.sync_outside.specs.Faults.{Rose};
+ghost use Rattle.sync_outside.specs.System.{Inputs, untold, after_open, after_read};
 
 use crate::fault::{Failed, OpenFault};
 use crate::fault_count::FaultCount;
@@ -64,9 +66,9 @@ impl<'a, R: Files + Input> SystemSources<'a, R> {
 }
 
 impl<R: Files + Input> Sources for SystemSources<'_, R> {
-    ghost contents = { λ _ _. None };
+    ghost contents = { λ _ _. untold };
 
-    ghost remaining = { λ _. None };
+    ghost remaining = { λ _. untold };
 
     ghost is_open = { λ s. s.is_open };
 
@@ -74,7 +76,17 @@ impl<R: Files + Input> Sources for SystemSources<'_, R> {
 
     ghost read_faults = { λ s. s.read_faults };
 
-    fn open(&mut self, name: &str) -> Result<(), OpenFault> {
+    fn open(&mut self, name: &str) -> Result<(), OpenFault>
+        // What every source promises, of one that tells no bytes.
+        ensures opened { IsTrue self.new.is_open ↔ IsOk result }
+        ensures begins { OnOk result (untold ≡ untold) }
+        ensures failed { IsErrOf result OpenFault.Failed → Rose self.old.open_faults self.new.open_faults }
+        ensures open_faults { List ℕ → self.old.open_faults ≤ self.new.open_faults }
+        ensures read_faults { self.new.read_faults ≡ self.old.read_faults }
+
+        // What becomes of its counts.
+        ensures after { self.new ≡ after_open result self.old }
+    {
         self.opened = None;
         if name == STANDARD_INPUT {
             self.opened = Some(Opened::StandardInput(self.rt.reader()));
@@ -95,7 +107,21 @@ impl<R: Files + Input> Sources for SystemSources<'_, R> {
         }
     }
 
-    fn read(&mut self, buf: &mut [u8]) -> Result<usize, Failed> {
+    fn read(&mut self, buf: &mut [u8]) -> Result<usize, Failed>
+        requires { IsTrue self.old.is_open }
+
+        // What every source promises, of one that tells no bytes.
+        ensures fits { IfOk result (λ n. n ≤ length buf.old) }
+        ensures gives { IfOk result (λ n. Gives untold untold (take n buf.new)) }
+        ensures ends { IfOk result (λ n. n ≡ 0 → 0 < length buf.old → IsAtEnd untold) }
+        ensures err { OnErr result (untold ≡ untold) }
+        ensures failed { OnErr result (Rose self.old.read_faults self.new.read_faults) }
+        ensures read_faults { self.old.read_faults ≤ self.new.read_faults }
+        ensures open_faults { List ℕ → self.new.open_faults ≡ self.old.open_faults }
+
+        // What becomes of its counts.
+        ensures after { self.new ≡ after_read result self.old }
+    {
         let read = match &mut self.opened {
             Some(Opened::File(file)) => read_once(file, buf),
             Some(Opened::StandardInput(reader)) => read_once(reader, buf),

@@ -78,6 +78,16 @@ fn sources_in_memory_give_bytes_in_order_and_fail_at_their_calls(
     Ok(())
 }
 
+// What a write to any sink answers.
+fn written<O: Sink>(sink: &mut O, piece: &[u8]) -> Result<(), Failed> {
+    sink.write(piece)
+}
+
+// The moment that any clock shows.
+fn moment<C: Clock>(clock: &C) -> u64 {
+    clock.now()
+}
+
 #[test]
 fn sinks_in_memory_take_whole_pieces_or_nothing(rt: HostRuntime) -> Result<(), Fail> {
     let table: [(usize, &[u64], &[u8], u64); 5] = [
@@ -90,7 +100,7 @@ fn sinks_in_memory_take_whole_pieces_or_nothing(rt: HostRuntime) -> Result<(), F
     for (room, failing, want, faults) in table {
         let mut sink = MemSink::new(rt.alloc(), room, Vec::from_slice(rt.alloc(), failing)?)?;
         for piece in [b"ab".as_slice(), b"cd", b"ef", b"g"] {
-            let _ = sink.write(piece);
+            let _ = written(&mut sink, piece);
         }
         assert_eq!(rt; sink.as_bytes(), want);
         assert_eq!(rt; sink.faults(), faults);
@@ -108,12 +118,12 @@ fn clocks_show_their_moments(rt: HostRuntime) -> Result<(), Fail> {
         home: &(),
         clock: &clock,
     };
-    assert_eq!(rt; at.clock.now(), 7);
+    assert_eq!(rt; moment(at.clock), 7);
     assert_eq!(rt; MemClock::new(Vec::new(rt.alloc())).now(), 0);
 
     let machine = SystemClock::new(&rt);
     let (first, second) = thread::join(&rt, || machine.now(), || machine.now());
-    assert!(rt; first.max(second) <= machine.now());
+    assert!(rt; first.max(second) <= moment(&machine));
     Ok(())
 }
 
@@ -137,12 +147,13 @@ fn system_sources_read_files_and_count_their_faults(rt: HostRuntime) -> Result<(
     Ok(())
 }
 
-// A writer that takes two bytes at a time, is interrupted before each, and has an end.
+// A writer that takes two bytes at a time and is interrupted before each. Once its room is taken it fails, or else takes none.
 #[derive(Drop)]
 struct Slow {
     bytes: Vec<u8>,
     interrupted: bool,
     room: usize,
+    fails: bool,
 }
 
 impl Write for Slow {
@@ -150,6 +161,9 @@ impl Write for Slow {
         self.interrupted = !self.interrupted;
         if self.interrupted {
             return Err(Error::from(ErrorKind::Interrupted));
+        }
+        if self.room == 0 && self.fails {
+            return Err(Error::from(ErrorKind::Other));
         }
         let count = buf.len().min(2).min(self.room);
         self.bytes.extend_from_slice(&buf[..count])?;
@@ -164,16 +178,21 @@ impl Write for Slow {
 
 #[test]
 fn a_writer_gets_whole_pieces_by_short_writes(rt: HostRuntime) -> Result<(), Fail> {
-    let mut slow = Slow {
-        bytes: Vec::new(rt.alloc()),
-        interrupted: false,
-        room: 8,
-    };
-    let mut sink = WriterSink::new(&mut slow);
-    assert_eq!(rt; sink.write(b"hello"), Ok(()));
-    assert_eq!(rt; sink.write(b"world"), Err(Failed));
-    assert_eq!(rt; sink.faults(), 1);
-    drop(sink);
-    assert_eq!(rt; slow.bytes.as_slice(), b"hellowor".as_slice());
+    for fails in [false, true] {
+        let mut slow = Slow {
+            bytes: Vec::new(rt.alloc()),
+            interrupted: false,
+            room: 8,
+            fails,
+        };
+        let mut sink = WriterSink::new(&mut slow);
+        assert_eq!(rt; written(&mut sink, b"hello"), Ok(()));
+        assert_eq!(rt; written(&mut sink, b"world"), Err(Failed));
+        assert_eq!(rt; written(&mut sink, b""), Ok(()));
+        assert_eq!(rt; written(&mut sink, b"!"), Err(Failed));
+        assert_eq!(rt; sink.faults(), 2);
+        drop(sink);
+        assert_eq!(rt; slow.bytes.as_slice(), b"hellowor".as_slice());
+    }
     Ok(())
 }

@@ -3,7 +3,7 @@ ghost use Rattle.std.specs.Prelude.{◌≡◌, ℕ, ◌<◌, ◌≤◌, List, le
 ghost use Rattle.std.specs.Io.KnownBytes.{WriteAppends};
 ghost use Rattle.std.specs.Io.KnownBytes as known;
 ghost use Rattle.sync_outside.specs.Bytes.{Appends, AppendsFront};
-ghost use Rattle.sync_outside.specs.Faults.{Rose};
+ghost use Rattle.sync_outside.specs.Faults.{Rose, count_after};
 ghost use Rattle.sync_outside.specs.System.{AppendsSome};
 
 use crate::fault::Failed;
@@ -57,6 +57,8 @@ impl<W: Write> Sink for WriterSink<W> {
         ensures err { OnErr result (AppendsFront None None piece.now) }
         ensures failed { OnErr result (Rose self.old.faults self.new.faults) }
         ensures faults { self.old.faults ≤ self.new.faults }
+
+        ensures counted { self.new.faults ≡ count_after result self.old.faults }
 
         // What becomes of the bytes of a writer that tells them.
         ensures whole { OnOk result (known.Appends (W.contents self.old.writer) (W.contents self.new.writer) piece.now) }
