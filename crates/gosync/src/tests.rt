@@ -12,18 +12,18 @@ use workload::Reason;
 /// A run of the program: its file `w.txt`, its words, the calls on its source, on its output and on its
 /// error output that fail, and then its status and what it wrote on both.
 #[derive(Clone, Copy)]
-struct Row<'a> {
-    text: &'a str,
-    words: &'a str,
-    source: &'a [u64],
-    out: &'a [u64],
-    err: &'a [u64],
+struct Row {
+    text: &'static str,
+    words: &'static str,
+    source: &'static [u64],
+    out: &'static [u64],
+    err: &'static [u64],
     status: u8,
-    report: &'a str,
-    message: &'a str,
+    report: &'static str,
+    message: &'static str,
 }
 
-const STEP: Row<'static> = Row {
+const STEP: Row = Row {
     text: "",
     words: "gosync step w.txt",
     source: &[],
@@ -36,25 +36,8 @@ const STEP: Row<'static> = Row {
 
 const TWO_CALLS: &str = "workers 1\nmap t\nworker 0\nstore t apple 5\nload t apple\n";
 
-/// The lines that its report has.
-const TWO_LINES: [&str; 3] = [
-    "0.0 store t apple 5 -> ok\n",
-    "0.1 load t apple -> 5 true\n",
-    "end t apple 5\n",
-];
-
 const COND_CALLS: &str =
     "workers 2\nmutex m\ncond c m\nworker 0\nlock m\nwait c\nunlock m\nworker 1\nlock m\nsignal c\nunlock m\n";
-
-/// The lines that its report has.
-const COND_LINES: [&str; 6] = [
-    "0.0 lock m -> ok\n",
-    "0.1 wait c -> ok\n",
-    "0.2 unlock m -> ok\n",
-    "1.0 lock m -> ok\n",
-    "1.1 signal c -> ok\n",
-    "1.2 unlock m -> ok\n",
-];
 
 const USAGE: &str = "usage: gosync run FILE | gosync step FILE | gosync make SEED\n";
 
@@ -87,18 +70,19 @@ fn run_on(alloc: Global, text: &str, room: usize, row: &Row) -> Result<Ran, Allo
     Ok(Ran { status, out, err })
 }
 
-fn run(alloc: Global, row: &Row) -> Result<Ran, AllocError> {
-    run_on(alloc, row.text, 10_000, row)
-}
-
-/// Whether the program answers and writes what the row says.
-fn comes_out(alloc: Global, row: &Row) -> Result<bool, AllocError> {
-    let ran = run(alloc, row)?;
+/// Whether the program answers and writes on this text what the row says.
+fn comes_out_on(alloc: Global, text: &str, row: &Row) -> Result<bool, AllocError> {
+    let ran = run_on(alloc, text, 10_000, row)?;
     Ok(
         ran.status.code() == row.status
             && ran.out.as_bytes() == row.report.as_bytes()
             && ran.err.as_bytes() == row.message.as_bytes(),
     )
+}
+
+/// Whether the program answers and writes what the row says.
+fn comes_out(alloc: Global, row: &Row) -> Result<bool, AllocError> {
+    comes_out_on(alloc, row.text, row)
 }
 
 #[test]
@@ -413,12 +397,6 @@ fn a_text_that_is_not_read_names_its_first_fault(rt: HostRuntime) -> Result<(), 
         };
         assert!(rt; comes_out(rt.alloc(), &row)?, "{text}");
     }
-    let row = Row {
-        status: 1,
-        err: &[1],
-        ..STEP
-    };
-    assert!(rt; comes_out(rt.alloc(), &row)?);
     Ok(())
 }
 
@@ -466,75 +444,74 @@ fn a_file_that_is_not_there_is_status_3(rt: HostRuntime) -> Result<(), Fail> {
     Ok(())
 }
 
-// The calls on the source are its open, its reads and the read that finds its end.
+// The calls on the source are its open, its reads, of which this text takes two, and the read that finds
+// its end.
 #[test]
 fn each_open_and_read_fails_in_turn(rt: HostRuntime) -> Result<(), Fail> {
-    let mut long = String::from_str(rt.alloc(), TWO_CALLS)?;
+    let mut text = String::from_str(rt.alloc(), COND_CALLS)?;
     for _ in 0..100 {
-        long.push_str("# a comment of fifty bytes, which fills many lines.\n")?;
+        text.push_str("# a comment of fifty bytes, which fills many lines.\n")?;
     }
-    let table = [
-        (TWO_CALLS, 3, TWO_LINES.as_slice()),
-        (COND_CALLS, 3, COND_LINES.as_slice()),
-        (long.as_str(), 4, TWO_LINES.as_slice()),
-    ];
-    for (text, calls, lines) in table {
-        for number in 1..=calls {
-            let row = Row {
-                text,
-                source: &[number],
-                status: 3,
-                message: "gosync: cannot read w.txt\n",
-                ..STEP
-            };
-            assert!(rt; comes_out(rt.alloc(), &row)?, "{number} of {text}");
-        }
-        // No further call is made.
-        let mut report = String::new(rt.alloc());
-        for line in lines {
-            report.push_str(line)?;
-        }
+    let failing: [&[u64]; 4] = [&[1], &[2], &[3], &[4]];
+    for source in failing {
         let row = Row {
-            text,
-            source: &[calls + 1],
-            report: report.as_str(),
+            source,
+            status: 3,
+            message: "gosync: cannot read w.txt\n",
             ..STEP
         };
-        assert!(rt; comes_out(rt.alloc(), &row)?, "{text}");
+        assert!(rt; comes_out_on(rt.alloc(), &text, &row)?, "{source:?}");
     }
+    // A fifth call isn't made.
+    let row = Row {
+        source: &[5],
+        report: "0.0 lock m -> ok\n0.1 wait c -> ok\n0.2 unlock m -> ok\n1.0 lock m -> ok\n1.1 signal c -> ok\n1.2 unlock m -> ok\n",
+        ..STEP
+    };
+    assert!(rt; comes_out_on(rt.alloc(), &text, &row)?);
     Ok(())
 }
 
-// Each line of the report is one write.
+// Each line of the report is one write, so the lines before the one that fails are written.
 #[test]
 fn each_write_fails_in_turn(rt: HostRuntime) -> Result<(), Fail> {
-    let table = [
-        (TWO_CALLS, TWO_LINES.as_slice()),
-        (COND_CALLS, COND_LINES.as_slice()),
+    let table: [(&str, &[u64], &str); 9] = [
+        (TWO_CALLS, &[1], ""),
+        (TWO_CALLS, &[2], "0.0 store t apple 5 -> ok\n"),
+        (
+            TWO_CALLS,
+            &[3],
+            "0.0 store t apple 5 -> ok\n0.1 load t apple -> 5 true\n",
+        ),
+        (COND_CALLS, &[1], ""),
+        (COND_CALLS, &[2], "0.0 lock m -> ok\n"),
+        (COND_CALLS, &[3], "0.0 lock m -> ok\n0.1 wait c -> ok\n"),
+        (
+            COND_CALLS,
+            &[4],
+            "0.0 lock m -> ok\n0.1 wait c -> ok\n0.2 unlock m -> ok\n",
+        ),
+        (
+            COND_CALLS,
+            &[5],
+            "0.0 lock m -> ok\n0.1 wait c -> ok\n0.2 unlock m -> ok\n1.0 lock m -> ok\n",
+        ),
+        (
+            COND_CALLS,
+            &[6],
+            "0.0 lock m -> ok\n0.1 wait c -> ok\n0.2 unlock m -> ok\n1.0 lock m -> ok\n1.1 signal c -> ok\n",
+        ),
     ];
-    for (text, lines) in table {
-        let mut report = String::new(rt.alloc());
-        let mut number = 1;
-        for line in lines {
-            let row = Row {
-                text,
-                out: &[number],
-                report: report.as_str(),
-                status: 3,
-                message: "gosync: cannot write the report\n",
-                ..STEP
-            };
-            assert!(rt; comes_out(rt.alloc(), &row)?, "{number} of {text}");
-            report.push_str(line)?;
-            number = number.saturating_add(1);
-        }
+    for (text, out, report) in table {
         let row = Row {
             text,
-            out: &[number],
-            report: report.as_str(),
+            out,
+            report,
+            status: 3,
+            message: "gosync: cannot write the report\n",
             ..STEP
         };
-        assert!(rt; comes_out(rt.alloc(), &row)?, "{text}");
+        assert!(rt; comes_out(rt.alloc(), &row)?, "{out:?} of {text}");
     }
     Ok(())
 }
@@ -542,28 +519,26 @@ fn each_write_fails_in_turn(rt: HostRuntime) -> Result<(), Fail> {
 // A line on the error output is one to five writes. What the first of them writes stays, and the status.
 #[test]
 fn each_write_of_the_one_line_fails_in_turn(rt: HostRuntime) -> Result<(), Fail> {
-    let table = [
-        (TWO_CALLS, "gosync step x", 3, 1, ""),
-        (TWO_CALLS, "gosync step x", 3, 2, "gosync: cannot read "),
-        (TWO_CALLS, "gosync step x", 3, 3, "gosync: cannot read x"),
-        (TWO_CALLS, "gosync", 5, 1, ""),
-        ("", "gosync step w.txt", 1, 1, ""),
-        ("", "gosync step w.txt", 1, 2, "gosync: line "),
-        ("", "gosync step w.txt", 1, 3, "gosync: line 1"),
-        ("", "gosync step w.txt", 1, 4, "gosync: line 1: "),
+    let table: [(&str, u8, &[u64], &str); 9] = [
+        ("gosync step x", 3, &[1], ""),
+        ("gosync step x", 3, &[2], "gosync: cannot read "),
+        ("gosync step x", 3, &[3], "gosync: cannot read x"),
+        ("gosync", 5, &[1], ""),
+        ("gosync step w.txt", 1, &[1], ""),
+        ("gosync step w.txt", 1, &[2], "gosync: line "),
+        ("gosync step w.txt", 1, &[3], "gosync: line 1"),
+        ("gosync step w.txt", 1, &[4], "gosync: line 1: "),
         (
-            "",
             "gosync step w.txt",
             1,
-            5,
+            &[5],
             "gosync: line 1: no workers line",
         ),
     ];
-    for (text, words, status, number, message) in table {
+    for (words, status, err, message) in table {
         let row = Row {
-            text,
             words,
-            err: &[number],
+            err,
             status,
             message,
             ..STEP
