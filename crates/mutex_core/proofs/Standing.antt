@@ -107,25 +107,29 @@ next-shifts s c e h = by_test (nat_lt c s.callers)
     by_test true = at_place-shifts e (place_of s c) c s refl h
     by_test false = refl
 
--- it isn't among those that wait
-abbrev Absent : ℕ → List ℕ → Type 0
-Absent c xs = list_any (nat_eq c) xs ≡ false
+-- whether a caller is among those that wait
+abbrev Among : ℕ → List ℕ → Bool
+Among c xs = list_any (nat_eq c) xs
 
-or-parts : (a b : Bool) → (a || b) ≡ false → (a ≡ false) × (b ≡ false)
-or-parts true b e = no (sym e)
-or-parts false b e = (refl, e)
+among-push : (c d : ℕ) (xs : List ℕ) → nat_eq c d ≡ false → Among c (xs ++ d ∷ []) ≡ Among c xs
+among-push c d [] other = rw other refl
+among-push c d (x ∷ xs) other = ap (λ (b : Bool). nat_eq c x || b) (among-push c d xs other)
 
-absent-push : (c d : ℕ) (xs : List ℕ) → Absent c xs → nat_eq c d ≡ false → Absent c (xs ++ d ∷ [])
-absent-push c d [] out other = rw other refl
-absent-push c d (x ∷ xs) out other = let parts = or-parts (nat_eq c x) _ out in rw (parts.0, absent-push c d xs parts.1 other) refl
+among-pushed : (c : ℕ) (xs : List ℕ) → Among c (xs ++ c ∷ []) ≡ true
+among-pushed c [] = rw (eq-eqb c c refl) refl
+among-pushed c (x ∷ xs) = ap (λ (b : Bool). nat_eq c x || b) (among-pushed c xs) ∙ or-true (nat_eq c x)
+  where
+    or-true : (b : Bool) → (b || true) ≡ true
+    or-true true = refl
+    or-true false = refl
 
-absent-apart : (c : ℕ) (xs : List ℕ) → AllByRecursion (λ y. nat_eq c y ≡ false) xs → Absent c xs
-absent-apart c [] apart = refl
-absent-apart c (x ∷ xs) apart = rw (apart.0, absent-apart c xs apart.1) refl
+apart-absent : (c : ℕ) (xs : List ℕ) → AllByRecursion (λ y. nat_eq c y ≡ false) xs → Among c xs ≡ false
+apart-absent c [] apart = refl
+apart-absent c (x ∷ xs) apart = rw (apart.0, apart-absent c xs apart.1) refl
 
-absent-rest : (c : ℕ) (xs : List ℕ) → IsDistinct nat_eq (c ∷ xs) → Absent c xs
+absent-rest : (c : ℕ) (xs : List ℕ) → IsDistinct nat_eq (c ∷ xs) → Among c xs ≡ false
 unfolding IsDistinct
-absent-rest c xs apart = absent-apart c xs apart.0
+absent-rest c xs apart = apart-absent c xs apart.0
 
 other-way : (c d : ℕ) → (d == c) ≡ false → nat_eq c d ≡ false
 other-way c d other = by_test (nat_eq c d) refl
@@ -135,55 +139,84 @@ other-way c d other = by_test (nat_eq c d) refl
     by_test false same = refl
 
 -- after its own answer
-own-absent : (c : ℕ) (r : MutexReply) (old new : List ℕ) (w : Bool) → Shifts c r old new → IsDistinct nat_eq old → (w ≡ false → Absent c old) → waits_after w r ≡ false → Absent c new
-own-absent c (Arrived arrival.Acquired) old new w shifts apart out is = subst (Absent c) (sym shifts) (out is)
-own-absent c (Arrived (arrival.Queued _)) old new w shifts apart out is = no (sym is)
-own-absent c (Tried _) old new w shifts apart out is = subst (Absent c) (sym shifts) (out is)
-own-absent c (Unlocked _) old new w shifts apart out is = subst (Absent c) (sym shifts) (out is)
-own-absent c (Resumed resumption.Acquired) old new w shifts apart out is = absent-rest c new (subst (IsDistinct nat_eq) shifts apart)
-own-absent c (Resumed resumption.Requeued) old new w shifts apart out is = subst (Absent c) (sym shifts) (out is)
-own-absent c Still old new w shifts apart out is = subst (Absent c) (sym shifts) (out is)
+own-among : (c : ℕ) (r : MutexReply) (old new : List ℕ) (w : Bool) → Shifts c r old new → IsDistinct nat_eq old → Among c old ≡ w → Among c new ≡ waits_after w r
+own-among c (Arrived arrival.Acquired) old new w shifts apart is = ap (Among c) shifts ∙ is
+own-among c (Arrived (arrival.Queued _)) old new w shifts apart is = ap (Among c) shifts ∙ among-pushed c old
+own-among c (Tried _) old new w shifts apart is = ap (Among c) shifts ∙ is
+own-among c (Unlocked _) old new w shifts apart is = ap (Among c) shifts ∙ is
+own-among c (Resumed resumption.Acquired) old new w shifts apart is = absent-rest c new (subst (IsDistinct nat_eq) shifts apart)
+own-among c (Resumed resumption.Requeued) old new w shifts apart is = ap (Among c) shifts ∙ is
+own-among c Still old new w shifts apart is = ap (Among c) shifts ∙ is
 
 -- after another caller's answer
-other-absent : (c d : ℕ) (r : MutexReply) (old new : List ℕ) → Shifts d r old new → nat_eq c d ≡ false → Absent c old → Absent c new
-other-absent c d (Arrived arrival.Acquired) old new shifts other out = subst (Absent c) (sym shifts) out
-other-absent c d (Arrived (arrival.Queued _)) old new shifts other out = subst (Absent c) (sym shifts) (absent-push c d old out other)
-other-absent c d (Tried _) old new shifts other out = subst (Absent c) (sym shifts) out
-other-absent c d (Unlocked _) old new shifts other out = subst (Absent c) (sym shifts) out
-other-absent c d (Resumed resumption.Acquired) old new shifts other out = (or-parts (nat_eq c d) _ (subst (Absent c) shifts out)).1
-other-absent c d (Resumed resumption.Requeued) old new shifts other out = subst (Absent c) (sym shifts) out
-other-absent c d Still old new shifts other out = subst (Absent c) (sym shifts) out
+other-among : (c d : ℕ) (r : MutexReply) (old new : List ℕ) → Shifts d r old new → nat_eq c d ≡ false → Among c new ≡ Among c old
+other-among c d (Arrived arrival.Acquired) old new shifts other = ap (Among c) shifts
+other-among c d (Arrived (arrival.Queued _)) old new shifts other = ap (Among c) shifts ∙ among-push c d old other
+other-among c d (Tried _) old new shifts other = ap (Among c) shifts
+other-among c d (Unlocked _) old new shifts other = ap (Among c) shifts
+other-among c d (Resumed resumption.Acquired) old new shifts other = sym (ap (Among c) shifts ∙ ap (λ (b : Bool). b || Among c new) other)
+other-among c d (Resumed resumption.Requeued) old new shifts other = ap (Among c) shifts
+other-among c d Still old new shifts other = ap (Among c) shifts
 
 -- whoever was answered
-step-absent : (c d : ℕ) (r : MutexReply) (old new : List ℕ) (w : Bool) → Shifts d r old new → IsDistinct nat_eq old → (w ≡ false → Absent c old) → (if d == c then waits_after w r else w) ≡ false → Absent c new
-step-absent c d r old new w shifts apart out is = by_test (d == c) refl is
+step-among : (c d : ℕ) (r : MutexReply) (old new : List ℕ) (w : Bool) → Shifts d r old new → IsDistinct nat_eq old → Among c old ≡ w → Among c new ≡ (if d == c then waits_after w r else w)
+step-among c d r old new w shifts apart is = by_test (d == c) refl
   where
-    by_test : (b : Bool) → (d == c) ≡ b → (if b then waits_after w r else w) ≡ false → Absent c new
-    by_test true same is = own-absent c r old new w (subst (λ (x : ℕ). Shifts x r old new) (eqb-true d c same) shifts) apart out is
-    by_test false other is = other-absent c d r old new shifts (other-way c d other) (out is)
+    by_test : (b : Bool) → (d == c) ≡ b → Among c new ≡ (if b then waits_after w r else w)
+    by_test true same = own-among c r old new w (subst (λ (x : ℕ). Shifts x r old new) (eqb-true d c same) shifts) apart is
+    by_test false other = other-among c d r old new shifts (other-way c d other) ∙ is
 
-after-absent : (s : State) (c : ℕ) (w : Bool) (journal : Journal) → IsValid s → (w ≡ false → Absent c (waiting s)) → Follows next s journal → is_waiting w c journal ≡ false → Absent c (waiting (after next s journal))
-after-absent s c w [] h out follows is = out is
-after-absent s c w (entry ∷ journal) h out follows is =
+after-among : (s : State) (c : ℕ) (w : Bool) (journal : Journal) → IsValid s → Among c (waiting s) ≡ w → Follows next s journal → Among c (waiting (after next s journal)) ≡ is_waiting w c journal
+after-among s c w [] h is follows = is
+after-among s c w (entry ∷ journal) h is follows =
     let t = next s entry.caller entry.event in
-    after-absent t.0 c (if entry.caller == c then waits_after w entry.reply else w) journal (next-valid s entry.caller entry.event h)
-    (λ free. step-absent c entry.caller entry.reply (waiting s) (waiting t.0) w (subst (λ (r : MutexReply). Shifts entry.caller r (waiting s) (waiting t.0)) follows.0 (next-shifts s entry.caller entry.event h)) h.apart out free)
-    follows.1 is
+    after-among t.0 c (if entry.caller == c then waits_after w entry.reply else w) journal (next-valid s entry.caller entry.event h)
+    (step-among c entry.caller entry.reply (waiting s) (waiting t.0) w (subst (λ (r : MutexReply). Shifts entry.caller r (waiting s) (waiting t.0)) follows.0 (next-shifts s entry.caller entry.event h)) h.apart is)
+    follows.1
 
-out_in : (q : List Waiter) (c : ℕ) → Absent c (callers_of q) → place_in q c ≡ place.Out
-out_in q c out = let none : list_any (is_of c) q ≡ false = sym (list_any-callers_of c q) ∙ out in rw none refl
+-- a caller's place in the queue
+in_place : (b : Bool) (q : List Waiter) (c : ℕ) → Among c (callers_of q) ≡ b → place_in q c ≡ (if b then place.Waiting else place.Out)
+in_place b q c is = ap (λ (x : Bool). if x then place.Waiting else place.Out) (sym (list_any-callers_of c q) ∙ is)
+
+or-parts : (a b : Bool) → (a || b) ≡ false → (a ≡ false) × (b ≡ false)
+or-parts true b e = no (sym e)
+or-parts false b e = (refl, e)
 
 -- who isn't among those that wait is out
-absent-out : (f : Flight) (q : List Waiter) (c : ℕ) → Absent c (waiting_by f q) → place_by f q c ≡ place.Out
-absent-out flight.Nobody q c out = out_in q c out
-absent-out (flight.Woken w) q c out = let parts = or-parts (is_of c w) _ out in rw (parts.0, out_in q c parts.1) refl
+absent-out : (f : Flight) (q : List Waiter) (c : ℕ) → Among c (waiting_by f q) ≡ false → place_by f q c ≡ place.Out
+absent-out flight.Nobody q c out = in_place false q c out
+absent-out (flight.Woken w) q c out = let parts = or-parts (is_of c w) _ out in rw (parts.0, in_place false q c parts.1) refl
 absent-out flight.Handed [] c out = refl
-absent-out flight.Handed (w ∷ q) c out = let parts = or-parts (is_of c w) _ out in rw (parts.0, out_in q c parts.1) refl
+absent-out flight.Handed (w ∷ q) c out = let parts = or-parts (is_of c w) _ out in rw (parts.0, in_place false q c parts.1) refl
+
+-- who is among them is elsewhere
+abbrev IsElsewhere : Place → Type 0
+IsElsewhere p = p ≡ place.Out → ⊥
+
+queued-elsewhere : (q : List Waiter) (c : ℕ) → Among c (callers_of q) ≡ true → IsElsewhere (place_in q c)
+queued-elsewhere q c among = subst IsElsewhere (sym (in_place true q c among)) (λ e. cc)
+
+first-elsewhere : (p : Place) (b : Bool) (q : List Waiter) (c : ℕ) → IsElsewhere p → (b || Among c (callers_of q)) ≡ true → IsElsewhere (if b then p else place_in q c)
+first-elsewhere p true q c is among = is
+first-elsewhere p false q c is among = queued-elsewhere q c among
+
+among-elsewhere : (f : Flight) (q : List Waiter) (c : ℕ) → Among c (waiting_by f q) ≡ true → IsElsewhere (place_by f q c)
+among-elsewhere flight.Nobody q c among = queued-elsewhere q c among
+among-elsewhere (flight.Woken w) q c among = first-elsewhere place.Woken (is_of c w) q c (λ e. cc) among
+among-elsewhere flight.Handed [] c among = no among
+among-elsewhere flight.Handed (w ∷ q) c among = first-elsewhere place.Handed (is_of c w) q c (λ e. cc) among
+
+-- whether a caller is among those that wait is what its own answers say
+among_by_answers : (callers : ℕ) (journal : Journal) (caller : ℕ) → Follows next (start callers) journal → Among caller (waiting (after next (start callers) journal)) ≡ is_waiting false caller journal
+among_by_answers callers journal caller = after-among (start callers) caller false journal (start-valid callers) refl
 
 pub stands : (callers : ℕ) (journal : Journal) (caller : ℕ) → Follows next (start callers) journal → is_waiting false caller journal ≡ false → place_of (after next (start callers) journal) caller ≡ place.Out
 stands callers journal caller follows is =
-    let s = after next (start callers) journal in
-    absent-out s.flight s.queue caller (after-absent (start callers) caller false journal (start-valid callers) (λ _. refl) follows is)
+    let s = after next (start callers) journal in absent-out s.flight s.queue caller (among_by_answers callers journal caller follows ∙ is)
+
+pub waits : (callers : ℕ) (journal : Journal) (caller : ℕ) → Follows next (start callers) journal → is_waiting false caller journal ≡ true → place_of (after next (start callers) journal) caller ≡ place.Out → ⊥
+waits callers journal caller follows is =
+    let s = after next (start callers) journal in among-elsewhere s.flight s.queue caller (among_by_answers callers journal caller follows ∙ is)
 
 -- the answers to an event
 arrived-answer : (n : ℕ) (l k v : Bool) (q : List Waiter) (f : Flight) (c now : ℕ) → is_answer (event.Arrive now) (arrived (state n l k v q f) c now).1 ≡ true

@@ -1,5 +1,5 @@
 -- A caller's own answers say whether it waits.
-use Rattle.std.proofs.Common.{◌≡◌, ℕ, ◌+◌, ◌-◌, ◌<◌, ◌≤◌, ◌⊎◌, inl, inr, Bool, true, false, ◌||◌, List, [], ◌∷◌, ◌++◌, length, map, refl, ap, sym, subst, ◌∙◌, arith}
+use Rattle.std.proofs.Common.{◌≡◌, ℕ, ◌+◌, ◌-◌, ◌<◌, ◌≤◌, inl, inr, Bool, true, false, ◌||◌, List, [], ◌∷◌, ◌++◌, length, map, refl, ap, sym, subst, ◌∙◌, arith}
 use Rattle.std.specs.Prelude.{nat_lt, ◌==◌, not, cond, if◌then◌else◌}
 use Rattle.std.specs.List.{list_any}
 use Rattle.std.proofs.lemmas.Bool.{false≢true, eqb-true, eq-eqb}
@@ -25,35 +25,32 @@ use Rattle.rw_core.specs.declared.reply.Resumption.TheVariants as resumption
 use Rattle.rw_core.specs.declared.reply.Unlocking.TheVariants as unlocking
 use Rattle.rw_core.specs.declared.writer.Writer.{Writer}
 use Rattle.rw_core.specs.declared.writer.Writer.TheVariants as writer
-use Rattle.rw_core.specs.RwMachine.{State, start, is_among, without, is_holding, waits_as, place_at, place_of, still, read_arrived, read_tried, last_read, read_unlocked, announced, write_arrived, write_resumed, write_tried, write_unlocked, at_place, next, count_of, places_of, IsValid}
+use Rattle.rw_core.specs.RwMachine.{State, start, is_among, without, is_announced, is_holding, waits_as, place_at, place_of, still, read_arrived, read_tried, last_read, read_unlocked, write_arrived, write_resumed, write_tried, write_unlocked, at_place, next, count_of, places_of, IsValid}
 use Rattle.rw_core.specs.Edges.{Journal}
 use Rattle.rw_core.specs.Standing.{waits_after, is_waiting}
 use Rattle.rw_core.proofs.Callers.{once, once-same, count_of-append, count_of-push, count_of-present, count_of-without}
-use Rattle.rw_core.proofs.Inner.{Keeps, Parts, IsInFlight, arrive-cases, try-cases, unlocks, woken-cases, waiting}
+use Rattle.rw_core.proofs.Inner.{Keeps, Parts, IsInFlight, arrive-cases, try-cases, unlocks, woken-cases}
 use Rattle.rw_core.proofs.Places.{out-inner, woken-inner, handed-inner, mutex-out, mutex-woken, mutex-handed}
 use Rattle.rw_core.proofs.Runs.{MutexLaws, start-valid, keeps}
-use Rattle.rw_core.proofs.Validity.{once-other, announced-holding}
+use Rattle.rw_core.proofs.Validity.{once-other, out-nowhere, announced-holding}
 
 no : {A : Type 0} → false ≡ true → A
 no e = absurd (false≢true e)
 
 -- what a caller's answer does to the places of each caller
 abbrev Shifts : ℕ → RwReply → (ℕ → ℕ) → (ℕ → ℕ) → Type 0
-Shifts caller (Arrived arrival.Acquired) old new = (x : ℕ) → new x ≤ old x
-Shifts caller (Arrived arrival.Queued) old new = (x : ℕ) → new x ≤ old x + once x caller
-Shifts caller (Tried _) old new = (x : ℕ) → new x ≤ old x
-Shifts caller (Unlocked _) old new = (x : ℕ) → new x ≤ old x
-Shifts caller (Resumed resumption.Acquired) old new = (x : ℕ) → new x + once x caller ≤ old x
-Shifts caller (Resumed resumption.Queued) old new = (x : ℕ) → new x ≤ old x
-Shifts caller (Resumed resumption.Requeued) old new = (x : ℕ) → new x ≤ old x
-Shifts caller Left old new = (x : ℕ) → new x + once x caller ≤ old x
-Shifts caller Still old new = (x : ℕ) → new x ≤ old x
+Shifts caller (Arrived arrival.Acquired) old new = (x : ℕ) → new x ≡ old x
+Shifts caller (Arrived arrival.Queued) old new = (x : ℕ) → new x ≡ old x + once x caller
+Shifts caller (Tried _) old new = (x : ℕ) → new x ≡ old x
+Shifts caller (Unlocked _) old new = (x : ℕ) → new x ≡ old x
+Shifts caller (Resumed resumption.Acquired) old new = (x : ℕ) → new x + once x caller ≡ old x
+Shifts caller (Resumed resumption.Queued) old new = (x : ℕ) → new x ≡ old x
+Shifts caller (Resumed resumption.Requeued) old new = (x : ℕ) → new x ≡ old x
+Shifts caller Left old new = (x : ℕ) → new x + once x caller ≡ old x
+Shifts caller Still old new = (x : ℕ) → new x ≡ old x
 
 abbrev ShiftsBy : ℕ → State → State × RwReply → Type 0
 ShiftsBy caller s step = Shifts caller step.1 (λ x. places_of x s) (λ x. places_of x step.0)
-
-same : (n : ℕ) → n ≤ n
-same n = omega arith
 
 read_arrived-shifts : (n r : ℕ) (w : Writer) (q a g : List ℕ) (i : mutex.State) (c : ℕ) → ShiftsBy c (record { callers = n; readers = r; writer = w; queue = q; admitted = a; granted = g; inner = i }) (read_arrived c (record { callers = n; readers = r; writer = w; queue = q; admitted = a; granted = g; inner = i }))
 read_arrived-shifts n r writer.Nobody q a g i c = λ x. omega arith
@@ -65,7 +62,7 @@ read_tried-shifts n r writer.Nobody q a g i c = λ x. omega arith
 read_tried-shifts n r (writer.Waiting w) q a g i c = λ x. omega arith
 read_tried-shifts n r writer.Holding q a g i c = λ x. omega arith
 
-last_read-places : (n r : ℕ) (w : Writer) (q a g : List ℕ) (i : mutex.State) (x : ℕ) → places_of x (last_read w (record { callers = n; readers = r; writer = w; queue = q; admitted = a; granted = g; inner = i })) ≤ places_of x (record { callers = n; readers = r; writer = w; queue = q; admitted = a; granted = g; inner = i })
+last_read-places : (n r : ℕ) (w : Writer) (q a g : List ℕ) (i : mutex.State) (x : ℕ) → places_of x (last_read w (record { callers = n; readers = r; writer = w; queue = q; admitted = a; granted = g; inner = i })) ≡ places_of x (record { callers = n; readers = r; writer = w; queue = q; admitted = a; granted = g; inner = i })
 last_read-places n r writer.Nobody q a g i x = omega arith
 last_read-places n r (writer.Waiting w) q a g i x = omega (arith, count_of-push x g w)
 last_read-places n r writer.Holding q a g i x = omega arith
@@ -78,38 +75,53 @@ read_unlocked-shifts s c = by_count (s.readers == 0) (s.readers == 1)
     by_count false true = λ x. last_read-places s.callers s.readers s.writer s.queue s.admitted s.granted s.inner x
     by_count false false = λ x. omega arith
 
+-- where no writer is announced, or one holds the lock, nobody is the writer that waits
+unannounced-waits : (w : Writer) (x : ℕ) → is_announced w ≡ false → ◌≡◌ {A = ℕ} (if waits_as x w then 1 else 0) 0
+unannounced-waits writer.Nobody x free = refl
+unannounced-waits (writer.Waiting c) x free = no (sym free)
+unannounced-waits writer.Holding x free = no (sym free)
+
+holding-waits : (w : Writer) (x : ℕ) → is_holding w ≡ true → ◌≡◌ {A = ℕ} (if waits_as x w then 1 else 0) 0
+holding-waits writer.Nobody x holds = no holds
+holding-waits (writer.Waiting c) x holds = no holds
+holding-waits writer.Holding x holds = refl
+
+-- the writer of a state whose inner mutex is unlocked
+unlocked-waits : (s : State) → IsValid s → s.inner.locked ≡ false → (x : ℕ) → ◌≡◌ {A = ℕ} (if waits_as x s.writer then 1 else 0) 0
+unlocked-waits s h unlocked x = unannounced-waits s.writer x (sym h.locked ∙ unlocked)
+
 write_arrived-shifts : (s : State) (c now : ℕ) → c < s.callers → place_of s c ≡ place.Out → IsValid s → ShiftsBy c s (write_arrived (mutex.next s.inner c (mutex_event.Arrive now)) c s)
 write_arrived-shifts s c now below out h =
     let P : mutex.State × MutexReply → Type 0 = λ step. ShiftsBy c s (write_arrived step c s) in
     arrive-cases P s.inner c now (subst (λ (n : ℕ). c < n) (sym h.same_callers) below) (mutex-out _ (out-inner s c out).inner)
-    (λ j unlocked locked keeps. by_readers j keeps (s.readers == 0))
+    (λ j unlocked locked keeps. by_readers j keeps (unlocked-waits s h unlocked) (s.readers == 0))
     (λ j locked joins. λ x. omega (arith, joins.counts x))
   where
-    by_readers : (j : mutex.State) → Keeps s.inner j → (none : Bool) → ShiftsBy c s (if none then (record s { writer = writer.Holding; inner = j }, Arrived arrival.Acquired) else (record s { writer = writer.Waiting c; inner = j }, Arrived arrival.Queued))
-    by_readers j keeps true = λ x. omega (arith, keeps.counts x)
-    by_readers j keeps false = λ x. omega (arith, keeps.counts x)
+    by_readers : (j : mutex.State) → Keeps s.inner j → ((x : ℕ) → ◌≡◌ {A = ℕ} (if waits_as x s.writer then 1 else 0) 0) → (none : Bool) → ShiftsBy c s (if none then (record s { writer = writer.Holding; inner = j }, Arrived arrival.Acquired) else (record s { writer = writer.Waiting c; inner = j }, Arrived arrival.Queued))
+    by_readers j keeps free true = λ x. omega (arith, keeps.counts x, free x)
+    by_readers j keeps free false = λ x. omega (arith, keeps.counts x, free x)
 
 write_tried-shifts : (s : State) (c : ℕ) → c < s.callers → place_of s c ≡ place.Out → IsValid s → ShiftsBy c s (write_tried (mutex.next s.inner c mutex_event.Try) s)
 write_tried-shifts s c below out h =
     let P : mutex.State × MutexReply → Type 0 = λ step. ShiftsBy c s (write_tried step s) in
     try-cases P s.inner c (subst (λ (n : ℕ). c < n) (sym h.same_callers) below) (mutex-out _ (out-inner s c out).inner)
-    (λ j unlocked locked keeps. by_readers j keeps (s.readers == 0))
+    (λ j unlocked locked keeps. by_readers j keeps (unlocked-waits s h unlocked) (s.readers == 0))
     (λ x. omega arith)
   where
-    by_readers : (j : mutex.State) → Keeps s.inner j → (none : Bool) → ShiftsBy c s (if none then (record s { writer = writer.Holding; inner = j }, Tried true) else (s, Tried false))
-    by_readers j keeps true = λ x. omega (arith, keeps.counts x)
-    by_readers j keeps false = λ x. omega arith
+    by_readers : (j : mutex.State) → Keeps s.inner j → ((x : ℕ) → ◌≡◌ {A = ℕ} (if waits_as x s.writer then 1 else 0) 0) → (none : Bool) → ShiftsBy c s (if none then (record s { writer = writer.Holding; inner = j }, Tried true) else (s, Tried false))
+    by_readers j keeps free true = λ x. omega (arith, keeps.counts x, free x)
+    by_readers j keeps free false = λ x. omega arith
 
 write_resumed-shifts : (s : State) (c now : ℕ) → c < s.callers → IsInFlight (mutex.place_of s.inner c) → IsValid s → ShiftsBy c s (write_resumed (mutex.next s.inner c (mutex_event.Woken now)) c s)
 write_resumed-shifts s c now below at h =
     let P : mutex.State × MutexReply → Type 0 = λ step. ShiftsBy c s (write_resumed step c s) in
     woken-cases P s.inner c now (subst (λ (n : ℕ). c < n) (sym h.same_callers) below) at h.inner
-    (λ j unlocked locked parts. by_readers j parts (s.readers == 0))
+    (λ j unlocked locked parts. by_readers j parts (unlocked-waits s h unlocked) (s.readers == 0))
     (λ j locked keeps. λ x. omega (arith, keeps.counts x))
   where
-    by_readers : (j : mutex.State) → Parts c s.inner j → (none : Bool) → ShiftsBy c s (if none then (record s { writer = writer.Holding; inner = j }, Resumed resumption.Acquired) else (record s { writer = writer.Waiting c; inner = j }, Resumed resumption.Queued))
-    by_readers j parts true = λ x. omega (arith, parts.counts x)
-    by_readers j parts false = λ x. omega (arith, parts.counts x)
+    by_readers : (j : mutex.State) → Parts c s.inner j → ((x : ℕ) → ◌≡◌ {A = ℕ} (if waits_as x s.writer then 1 else 0) 0) → (none : Bool) → ShiftsBy c s (if none then (record s { writer = writer.Holding; inner = j }, Resumed resumption.Acquired) else (record s { writer = writer.Waiting c; inner = j }, Resumed resumption.Queued))
+    by_readers j parts free true = λ x. omega (arith, parts.counts x, free x)
+    by_readers j parts free false = λ x. omega (arith, parts.counts x, free x)
 
 write_unlocked-shifts : (s : State) (c : ℕ) → c < s.callers → IsValid s → ShiftsBy c s (write_unlocked (mutex.next s.inner c mutex_event.Unlock) s)
 write_unlocked-shifts s c below h = by_writer (is_holding s.writer) refl
@@ -117,20 +129,36 @@ write_unlocked-shifts s c below h = by_writer (is_holding s.writer) refl
     by_writer : (b : Bool) → is_holding s.writer ≡ b → ShiftsBy c s (if b then (record s { readers = length s.queue; writer = writer.Nobody; queue = []; admitted = s.admitted ++ s.queue; inner = (mutex.next s.inner c mutex_event.Unlock).0 }, Unlocked unlocking.Done) else (s, Unlocked (unlocking.Misuse UnlockOfUnlockedRwMutex)))
     by_writer true holds =
         let facts = unlocks s.inner c (subst (λ (n : ℕ). c < n) (sym h.same_callers) below) (h.locked ∙ announced-holding s.writer holds) h.inner in
-        λ x. omega (arith, facts.1.counts x, count_of-append x s.admitted s.queue)
+        λ x. omega (arith, facts.1.counts x, count_of-append x s.admitted s.queue, holding-waits s.writer x holds)
     by_writer false holds = λ x. omega arith
 
--- a list without a caller that is in it
-count_of-left : (c x : ℕ) (xs : List ℕ) → is_among c xs ≡ true → count_of x (without c xs) + once x c ≤ count_of x xs
-count_of-left c x [] here = no here
-count_of-left c x (y ∷ ys) here = by_test (c == y) refl here (count_of-left c x ys)
+-- a list in which a caller isn't, without it
+without-absent : (c : ℕ) (xs : List ℕ) → is_among c xs ≡ false → without c xs ≡ xs
+without-absent c [] absent = refl
+without-absent c (y ∷ ys) absent = by_test (c == y) absent (without-absent c ys)
   where
-    by_step : (k m n o : ℕ) → m + o ≤ n → (k + m) + o ≤ k + n
-    by_step k m n o le = omega (arith, le)
+    by_test : (b : Bool) → (b || is_among c ys) ≡ false → (is_among c ys ≡ false → without c ys ≡ ys) → cond (not b) (y ∷ without c ys) (without c ys) ≡ y ∷ ys
+    by_test true absent later = no (sym absent)
+    by_test false absent later = ap (λ (zs : List ℕ). y ∷ zs) (later absent)
 
-    by_test : (b : Bool) → (c == y) ≡ b → (b || is_among c ys) ≡ true → (is_among c ys ≡ true → count_of x (without c ys) + once x c ≤ count_of x ys) → count_of x (cond (not b) (y ∷ without c ys) (without c ys)) + once x c ≤ once x y + count_of x ys
-    by_test true is here later = omega (arith, count_of-without x c ys, ap (λ (z : ℕ). once x z) (eqb-true c y is))
-    by_test false is here later = by_step (once x y) _ _ _ (later here)
+-- a caller that is in a list no times isn't in it
+none-absent : (c : ℕ) (xs : List ℕ) → count_of c xs ≡ 0 → is_among c xs ≡ false
+none-absent c xs none = by_test (is_among c xs) refl
+  where
+    by_test : (b : Bool) → is_among c xs ≡ b → b ≡ false
+    by_test true here = absurd (omega (arith, count_of-present c xs here, none))
+    by_test false here = refl
+
+-- a list without a caller that is in it once
+count_of-left : (c x : ℕ) (xs : List ℕ) → is_among c xs ≡ true → count_of c xs ≤ 1 → count_of x (without c xs) + once x c ≡ count_of x xs
+count_of-left c x [] here apart = no here
+count_of-left c x (y ∷ ys) here apart = by_test (c == y) refl here apart (count_of-left c x ys)
+  where
+    by_test : (b : Bool) → (c == y) ≡ b → (b || is_among c ys) ≡ true → (if b then 1 else 0) + count_of c ys ≤ 1 → (is_among c ys ≡ true → count_of c ys ≤ 1 → count_of x (without c ys) + once x c ≡ count_of x ys) → count_of x (cond (not b) (y ∷ without c ys) (without c ys)) + once x c ≡ once x y + count_of x ys
+    by_test true is here apart later =
+        let rest = ap (count_of x) (without-absent c ys (none-absent c ys (omega (arith, apart)))) in
+        omega (arith, rest, ap (λ (z : ℕ). once x z) (eqb-true c y is))
+    by_test false is here apart later = omega (arith, later here (omega (arith, apart)))
 
 skip : (b : Bool) (p q r : Place) → (p ≡ r → false ≡ true) → (if b then p else q) ≡ r → q ≡ r
 skip true p q r never at = no (never at)
@@ -166,81 +194,75 @@ admitted-among s c at = by_test (is_among c s.admitted) at
 
 at_place-shifts : (e : RwEvent) (p : Place) (c : ℕ) (s : State) → c < s.callers → place_of s c ≡ p → IsValid s → ShiftsBy c s (at_place e p c s)
 at_place-shifts event.ReadArrive place.Out c s below at h = read_arrived-shifts s.callers s.readers s.writer s.queue s.admitted s.granted s.inner c
-at_place-shifts event.ReadArrive _ c s below at h = λ x. same (places_of x s)
+at_place-shifts event.ReadArrive _ c s below at h = λ x. refl
 at_place-shifts event.ReadTry place.Out c s below at h = read_tried-shifts s.callers s.readers s.writer s.queue s.admitted s.granted s.inner c
-at_place-shifts event.ReadTry _ c s below at h = λ x. same (places_of x s)
+at_place-shifts event.ReadTry _ c s below at h = λ x. refl
 at_place-shifts event.ReadUnlock _ c s below at h = read_unlocked-shifts s c
 at_place-shifts (event.WriteArrive now) place.Out c s below at h = write_arrived-shifts s c now below at h
-at_place-shifts (event.WriteArrive now) _ c s below at h = λ x. same (places_of x s)
+at_place-shifts (event.WriteArrive now) _ c s below at h = λ x. refl
 at_place-shifts event.WriteTry place.Out c s below at h = write_tried-shifts s c below at h
-at_place-shifts event.WriteTry _ c s below at h = λ x. same (places_of x s)
+at_place-shifts event.WriteTry _ c s below at h = λ x. refl
 at_place-shifts (event.WriteWoken now) place.Woken c s below at h = write_resumed-shifts s c now below (inl (mutex-woken _ (woken-inner s c at).inner)) h
 at_place-shifts (event.WriteWoken now) place.Handed c s below at h = write_resumed-shifts s c now below (inr (mutex-handed _ (handed-inner s c at).inner)) h
-at_place-shifts (event.WriteWoken now) _ c s below at h = λ x. same (places_of x s)
+at_place-shifts (event.WriteWoken now) _ c s below at h = λ x. refl
 at_place-shifts event.WriteUnlock _ c s below at h = write_unlocked-shifts s c below h
-at_place-shifts event.Leave place.Granted c s below at h = λ x. omega (arith, count_of-left c x s.granted (granted-among s c at))
-at_place-shifts event.Leave place.Admitted c s below at h = λ x. omega (arith, count_of-left c x s.admitted (admitted-among s c at))
-at_place-shifts event.Leave _ c s below at h = λ x. same (places_of x s)
+at_place-shifts event.Leave place.Granted c s below at h = λ x. omega (arith, count_of-left c x s.granted (granted-among s c at) (omega (arith, h.apart c)))
+at_place-shifts event.Leave place.Admitted c s below at h = λ x. omega (arith, count_of-left c x s.admitted (admitted-among s c at) (omega (arith, h.apart c)))
+at_place-shifts event.Leave _ c s below at h = λ x. refl
 
 next-shifts : (s : State) (c : ℕ) (e : RwEvent) → IsValid s → ShiftsBy c s (next s c e)
 next-shifts s c e h = by_test (nat_lt c s.callers) refl
   where
     by_test : (b : Bool) → nat_lt c s.callers ≡ b → ShiftsBy c s (if b then at_place e (place_of s c) c s else still s)
     by_test true below = at_place-shifts e (place_of s c) c s (ltb-true c s.callers below) refl h
-    by_test false below = λ x. same (places_of x s)
+    by_test false below = λ x. refl
 
-gone : (m n : ℕ) → m ≤ n → n ≡ 0 → m ≡ 0
-gone m n le none = omega (arith, le, none)
+-- at how many places a caller is that waits, or doesn't
+abbrev places_if : Bool → ℕ
+places_if waits = if waits then 1 else 0
 
 -- after its own answer
-own-gone : (c : ℕ) (r : RwReply) (old new : ℕ → ℕ) (w : Bool) → Shifts c r old new → old c ≤ 1 → (w ≡ false → old c ≡ 0) → waits_after w r ≡ false → new c ≡ 0
-own-gone c (Arrived arrival.Acquired) old new w shifts apart out is = gone (new c) (old c) (shifts c) (out is)
-own-gone c (Arrived arrival.Queued) old new w shifts apart out is = no (sym is)
-own-gone c (Tried _) old new w shifts apart out is = gone (new c) (old c) (shifts c) (out is)
-own-gone c (Unlocked _) old new w shifts apart out is = gone (new c) (old c) (shifts c) (out is)
-own-gone c (Resumed resumption.Acquired) old new w shifts apart out is = omega (arith, shifts c, once-same c, apart)
-own-gone c (Resumed resumption.Queued) old new w shifts apart out is = gone (new c) (old c) (shifts c) (out is)
-own-gone c (Resumed resumption.Requeued) old new w shifts apart out is = gone (new c) (old c) (shifts c) (out is)
-own-gone c Left old new w shifts apart out is = omega (arith, shifts c, once-same c, apart)
-own-gone c Still old new w shifts apart out is = gone (new c) (old c) (shifts c) (out is)
+own-places : (c : ℕ) (r : RwReply) (old new : ℕ → ℕ) (w : Bool) → Shifts c r old new → old c ≤ 1 → new c ≤ 1 → old c ≡ places_if w → new c ≡ places_if (waits_after w r)
+own-places c (Arrived arrival.Acquired) old new w shifts before after is = shifts c ∙ is
+own-places c (Arrived arrival.Queued) old new w shifts before after is = omega (arith, shifts c, once-same c, after)
+own-places c (Tried _) old new w shifts before after is = shifts c ∙ is
+own-places c (Unlocked _) old new w shifts before after is = shifts c ∙ is
+own-places c (Resumed resumption.Acquired) old new w shifts before after is = omega (arith, shifts c, once-same c, before)
+own-places c (Resumed resumption.Queued) old new w shifts before after is = shifts c ∙ is
+own-places c (Resumed resumption.Requeued) old new w shifts before after is = shifts c ∙ is
+own-places c Left old new w shifts before after is = omega (arith, shifts c, once-same c, before)
+own-places c Still old new w shifts before after is = shifts c ∙ is
 
 -- after another caller's answer
-other-gone : (c d : ℕ) (r : RwReply) (old new : ℕ → ℕ) → Shifts d r old new → once c d ≡ 0 → old c ≡ 0 → new c ≡ 0
-other-gone c d (Arrived arrival.Acquired) old new shifts other out = gone (new c) (old c) (shifts c) out
-other-gone c d (Arrived arrival.Queued) old new shifts other out = omega (arith, shifts c, other, out)
-other-gone c d (Tried _) old new shifts other out = gone (new c) (old c) (shifts c) out
-other-gone c d (Unlocked _) old new shifts other out = gone (new c) (old c) (shifts c) out
-other-gone c d (Resumed resumption.Acquired) old new shifts other out = omega (arith, shifts c, out)
-other-gone c d (Resumed resumption.Queued) old new shifts other out = gone (new c) (old c) (shifts c) out
-other-gone c d (Resumed resumption.Requeued) old new shifts other out = gone (new c) (old c) (shifts c) out
-other-gone c d Left old new shifts other out = omega (arith, shifts c, out)
-other-gone c d Still old new shifts other out = gone (new c) (old c) (shifts c) out
+other-places : (c d : ℕ) (r : RwReply) (old new : ℕ → ℕ) → Shifts d r old new → once c d ≡ 0 → new c ≡ old c
+other-places c d (Arrived arrival.Acquired) old new shifts other = shifts c
+other-places c d (Arrived arrival.Queued) old new shifts other = omega (arith, shifts c, other)
+other-places c d (Tried _) old new shifts other = shifts c
+other-places c d (Unlocked _) old new shifts other = shifts c
+other-places c d (Resumed resumption.Acquired) old new shifts other = omega (arith, shifts c, other)
+other-places c d (Resumed resumption.Queued) old new shifts other = shifts c
+other-places c d (Resumed resumption.Requeued) old new shifts other = shifts c
+other-places c d Left old new shifts other = omega (arith, shifts c, other)
+other-places c d Still old new shifts other = shifts c
 
 -- whoever was answered
-step-gone : (c d : ℕ) (r : RwReply) (old new : ℕ → ℕ) (w : Bool) → Shifts d r old new → old c ≤ 1 → (w ≡ false → old c ≡ 0) → (if d == c then waits_after w r else w) ≡ false → new c ≡ 0
-step-gone c d r old new w shifts apart out is = by_test (d == c) refl is
+step-places : (c d : ℕ) (r : RwReply) (old new : ℕ → ℕ) (w : Bool) → Shifts d r old new → old c ≤ 1 → new c ≤ 1 → old c ≡ places_if w → new c ≡ places_if (if d == c then waits_after w r else w)
+step-places c d r old new w shifts before after is = by_test (d == c) refl
   where
-    by_test : (b : Bool) → (d == c) ≡ b → (if b then waits_after w r else w) ≡ false → new c ≡ 0
-    by_test true here is = own-gone c r old new w (subst (λ (x : ℕ). Shifts x r old new) (eqb-true d c here) shifts) apart out is
-    by_test false other is = other-gone c d r old new shifts (once-other c d (λ e. false≢true (sym other ∙ eq-eqb d c (sym e)))) (out is)
+    by_test : (b : Bool) → (d == c) ≡ b → new c ≡ places_if (if b then waits_after w r else w)
+    by_test true here = own-places c r old new w (subst (λ (x : ℕ). Shifts x r old new) (eqb-true d c here) shifts) before after is
+    by_test false other = other-places c d r old new shifts (once-other c d (λ e. false≢true (sym other ∙ eq-eqb d c (sym e)))) ∙ is
 
-after-gone : ((s : State) (c : ℕ) (e : RwEvent) → IsValid s → IsValid (next s c e).0) → (s : State) (c : ℕ) (w : Bool) (journal : Journal) → IsValid s → (w ≡ false → places_of c s ≡ 0) → Follows next s journal → is_waiting w c journal ≡ false → places_of c (after next s journal) ≡ 0
-after-gone keeps s c w [] h out follows is = out is
-after-gone keeps s c w (entry ∷ journal) h out follows is =
+after-places : ((s : State) (c : ℕ) (e : RwEvent) → IsValid s → IsValid (next s c e).0) → (s : State) (c : ℕ) (w : Bool) (journal : Journal) → IsValid s → places_of c s ≡ places_if w → Follows next s journal → places_of c (after next s journal) ≡ places_if (is_waiting w c journal)
+after-places keeps s c w [] h is follows = is
+after-places keeps s c w (entry ∷ journal) h is follows =
     let t = next s entry.caller entry.event in
+    let valid = keeps s entry.caller entry.event h in
     let old : ℕ → ℕ = λ x. places_of x s in
     let new : ℕ → ℕ = λ x. places_of x t.0 in
-    after-gone keeps t.0 c (if entry.caller == c then waits_after w entry.reply else w) journal (keeps s entry.caller entry.event h)
-    (λ free. step-gone c entry.caller entry.reply old new w (subst (λ (r : RwReply). Shifts entry.caller r old new) follows.0 (next-shifts s entry.caller entry.event h)) (h.apart c) out free)
-    follows.1 is
-
--- a caller that is in a list no times isn't in it
-none-absent : (c : ℕ) (xs : List ℕ) → count_of c xs ≡ 0 → is_among c xs ≡ false
-none-absent c xs none = by_test (is_among c xs) refl
-  where
-    by_test : (b : Bool) → is_among c xs ≡ b → b ≡ false
-    by_test true here = absurd (omega (arith, count_of-present c xs here, none))
-    by_test false here = refl
+    after-places keeps t.0 c (if entry.caller == c then waits_after w entry.reply else w) journal valid
+    (step-places c entry.caller entry.reply old new w (subst (λ (r : RwReply). Shifts entry.caller r old new) follows.0 (next-shifts s entry.caller entry.event h)) (h.apart c) (valid.apart c) is)
+    follows.1
 
 not_once : (b : Bool) → ◌≡◌ {A = ℕ} (if b then 1 else 0) 0 → b ≡ false
 not_once true none = absurd (omega (arith, none))
@@ -274,6 +296,16 @@ nowhere-out s c none =
     let inner = inner-out s.inner.flight s.inner.queue c (omega (arith, none)) in
     rw (admitted, granted, waits, queue, inner) refl
 
+-- whether a caller is at a place is what its own answers say
+places_by_answers : MutexLaws → (callers : ℕ) (journal : Journal) (caller : ℕ) → Follows next (start callers) journal → places_of caller (after next (start callers) journal) ≡ places_if (is_waiting false caller journal)
+places_by_answers laws callers journal caller follows =
+    after-places (keeps laws) (start callers) caller false journal (start-valid laws callers) refl follows
+
 pub stands : MutexLaws → (callers : ℕ) (journal : Journal) (caller : ℕ) → Follows next (start callers) journal → is_waiting false caller journal ≡ false → place_of (after next (start callers) journal) caller ≡ place.Out
 stands laws callers journal caller follows is =
-    nowhere-out (after next (start callers) journal) caller (after-gone (keeps laws) (start callers) caller false journal (start-valid laws callers) (λ _. refl) follows is)
+    nowhere-out (after next (start callers) journal) caller (places_by_answers laws callers journal caller follows ∙ ap places_if is)
+
+pub waits : MutexLaws → (callers : ℕ) (journal : Journal) (caller : ℕ) → Follows next (start callers) journal → is_waiting false caller journal ≡ true → place_of (after next (start callers) journal) caller ≡ place.Out → ⊥
+waits laws callers journal caller follows is out =
+    let some = places_by_answers laws callers journal caller follows ∙ ap places_if is in
+    omega (arith, some, out-nowhere (after next (start callers) journal) caller out)

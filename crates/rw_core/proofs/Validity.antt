@@ -31,7 +31,7 @@ abbrev pub ValidStep : State × RwReply → Type 0
 ValidStep step = IsValid step.0
 
 -- a caller that is out is at no place
-out-nowhere : (s : State) (c : ℕ) → place_of s c ≡ place.Out → places_of c s ≡ 0
+pub out-nowhere : (s : State) (c : ℕ) → place_of s c ≡ place.Out → places_of c s ≡ 0
 out-nowhere s c out =
     let at = out-inner s c out in
     rw at.unannounced (omega (arith, count_of-absent c s.admitted at.unadmitted, count_of-absent c s.granted at.ungranted, count_of-absent c s.queue at.unqueued, waiting-absent s.inner c (mutex-out _ at.inner)))

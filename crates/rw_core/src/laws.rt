@@ -84,7 +84,8 @@ pub fn events_are_used_up()
 }
 
 /// Who is at the place that its event needs gets an answer to it, and anybody else is answered `Still`. A caller knows
-/// where it stands: where its own answers don't leave it waiting, it is `Out`, whatever the others did.
+/// where it stands: where its own answers don't leave it waiting, it is `Out`, and where they do, it isn't, whatever the
+/// others did.
 pub fn standing()
     ensures answered { (state : State) (caller : ℕ) (event : RwEvent)
         → IsTrue (may_make state caller event) → IsTrue (is_answer event (next state caller event).1) }
@@ -93,6 +94,9 @@ pub fn standing()
     ensures out { (callers : ℕ) (journal : Journal) (caller : ℕ)
         → Follows next (start callers) journal → IsFalse (is_waiting false caller journal)
         → place_of (after next (start callers) journal) caller ≡ Place.Out }
+    ensures waits { (callers : ℕ) (journal : Journal) (caller : ℕ)
+        → Follows next (start callers) journal → IsTrue (is_waiting false caller journal)
+        → place_of (after next (start callers) journal) caller ≡ Place.Out → ⊥ }
 {
     laws::validity();
 }
