@@ -143,11 +143,7 @@ fn writers_queue_at_the_inner_mutex(rt: HostRuntime) -> Result<(), Fail> {
 }
 
 /// What a machine answers to an event, whether that releases, and whether it acquires.
-fn made<M: Machine>(
-    state: &mut M::State,
-    caller: u32,
-    event: M::Event,
-) -> (M::Reply, bool, bool) {
+fn made<M: Machine>(state: &mut M::State, caller: u32, event: M::Event) -> (M::Reply, bool, bool) {
     let reply = M::step(state, caller, event);
     let releases = M::releases(&event, &reply);
     let acquires = M::acquires(&event, &reply);
