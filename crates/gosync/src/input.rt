@@ -52,7 +52,7 @@ impl From<AllocError> for InputFault {
 
 /// Reads the open file to its end, or to one byte past the longest text that is read.
 ///
-/// Each read that goes on takes at least one byte, so there are at most 8,388,610 of them.
+/// Each read that goes on takes at least one byte, so there are at most 8,388,609 of them.
 fn read_open<S: Sources>(alloc: Global, src: &mut S) -> Result<Vec<u8>, InputFault>
     requires { IsTrue (S.is_open src.old) }
     ensures bytes { IfOk result (λ bytes. IsInput (S.remaining src.old) bytes.items) }

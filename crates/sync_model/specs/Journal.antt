@@ -33,15 +33,6 @@ module _ {E R : Type 0} where
   by c [] = []
   by c (x ∷ xs) = cond (x.caller == c) (x ∷ by c xs) (by c xs)
 
-  -- where they stand, the first entry being number n
-  abbrev pub places_from : ℕ → ℕ → List (Entry E R) → List ℕ
-  places_from n c [] = []
-  places_from n c (x ∷ xs) = cond (x.caller == c) (n ∷ places_from (n + 1) c xs) (places_from (n + 1) c xs)
-
-  -- the numbers of one caller's entries
-  abbrev pub places : ℕ → List (Entry E R) → List ℕ
-  places c xs = places_from 0 c xs
-
   -- an event that the machine took, of which a test of events and replies is true
   abbrev pub is_such : (E → R → Bool) → Deed E R → Bool
   is_such test (Event e r) = test e r
