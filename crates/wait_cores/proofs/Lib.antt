@@ -18,3 +18,4 @@ pub mod PoolParts
 pub mod NotifyStandingLemmas
 pub mod GroupCounts
 pub mod LooksLemmas
+pub mod EdgeLemmas
