@@ -15,9 +15,9 @@ use Rattle.wait_cores.specs.GroupMachine.{GroupState, start, next, made, added, 
 use Rattle.wait_cores.specs.GroupLaws.{Log, added_in, additions}
 
 -- what an event adds to the counter, which stays in its range
-record Counts (s : GroupState) (event : GroupEvent) (n : GroupState × GroupReply) : Type 0 where
-  sum : pos n.0.counter ≡ pos s.counter +ℤ added_in event n.1
-  range : s.counter ≤ 2 ^ 31 - 1 → n.0.counter ≤ 2 ^ 31 - 1
+pub record Counts (s : GroupState) (event : GroupEvent) (n : GroupState × GroupReply) : Type 0 where
+  pub sum : pos n.0.counter ≡ pos s.counter +ℤ added_in event n.1
+  pub range : s.counter ≤ 2 ^ 31 - 1 → n.0.counter ≤ 2 ^ 31 - 1
 
 nothing_added : (event : GroupEvent) → added_in event Still ≡ pos 0
 nothing_added (Add delta) = refl
@@ -64,7 +64,7 @@ counts_if : (b : Bool) (s : GroupState) (d : ℕ) (event : GroupEvent) → Count
 counts_if true s d event = counts_made s d event
 counts_if false s d event = counts_still s event
 
-counts : (s : GroupState) (d : ℕ) (event : GroupEvent) → Counts s event (next s d event)
+pub counts : (s : GroupState) (d : ℕ) (event : GroupEvent) → Counts s event (next s d event)
 counts s d event = counts_if (nat_lt d (callers_of s)) s d event
 
 counts_from : (s : GroupState) (log : Log) → Follows next s log → pos (after next s log).counter ≡ pos s.counter +ℤ additions log

@@ -19,3 +19,4 @@ pub mod NotifyStandingLemmas
 pub mod GroupCounts
 pub mod LooksLemmas
 pub mod Stills
+pub mod EdgeLemmas

@@ -2,6 +2,7 @@
 ghost use Rattle.std.specs.Prelude.{◌≡◌, ◌≢◌, ℕ, pos, ◌+◌, ◌-◌, ◌^◌, ◌<◌, ◌≤◌, false, IsTrue, ◌∷◌, ◌++◌, slice_set, IsFalse};
 ghost use Rattle.std.specs.List.{list_any};
 ghost use Rattle.sync_model.specs.Log.{Follows};
+ghost use Rattle.wait_cores.specs.Edges.{group_releases, group_acquires};
 ghost use Rattle.wait_cores.specs.EventsLeft.{group_left, group_used, group_given};
 ghost use Rattle.wait_cores.specs.GroupMachine.{GroupState, start, next, callers_of, is_waiting};
 ghost use Rattle.wait_cores.specs.GroupStanding.{answers, may_make, waits_at, waits_after};
@@ -56,6 +57,20 @@ pub fn knows_where_it_stands()
     ensures callers { (state : GroupState) (caller : ℕ) (event : GroupEvent)
         → callers_of (next state caller event).0 ≡ callers_of state }
     ensures first { (callers caller : ℕ) → waits_at (start callers) caller ≡ false }
+{}
+
+/// What unblocks a wait synchronizes before its return: between a wait that queued and its leaving stands an event that releases. A
+/// return acquires, at once or with the leaving. An event that is answered `Still` or by a misuse does neither.
+pub fn synchronizes()
+    ensures unblocked { (state : GroupState) (caller : ℕ) (between rest : Log) (reply : GroupReply)
+        → reply ≢ GroupReply.Still
+        → Follows next state (wait_by caller GroupReply.Queued ∷ (between ++ leave_by caller reply ∷ rest))
+        → IsTrue (list_any (λ e. group_releases e.event e.reply) between) }
+    ensures returned { IsTrue (group_acquires GroupEvent.Wait GroupReply.Done) × IsTrue (group_acquires GroupEvent.Leave GroupReply.Done) }
+    ensures unmoved { (event : GroupEvent)
+        → IsFalse (group_releases event GroupReply.Still) × IsFalse (group_acquires event GroupReply.Still) }
+    ensures misused { (event : GroupEvent) (misuse : Misuse)
+        → IsFalse (group_releases event (GroupReply.Misused misuse)) × IsFalse (group_acquires event (GroupReply.Misused misuse)) }
 {}
 
 /// Callers can't go on for ever without a call returning. One that comes to wait uses up one of the events that are left, and

@@ -1,6 +1,7 @@
 //! When a ticket of a cond is notified.
 ghost use Rattle.std.specs.Prelude.{◌≡◌, ◌≢◌, ℕ, ◌<◌, ◌≤◌, ◌+◌, ◌-◌, ◌^◌, ◌==◌, min, false, not, ◌∷◌, ◌++◌, count_by, IsTrue, IsFalse};
-ghost use Rattle.std.specs.List.{list_all};
+ghost use Rattle.std.specs.List.{list_all, list_any};
+ghost use Rattle.wait_cores.specs.Edges.{notify_releases, notify_acquires};
 ghost use Rattle.wait_cores.specs.NotifyMachine.{NotifyState, start, next, callers_of, place_of};
 ghost use Rattle.wait_cores.specs.NotifyStanding.{has_ticket, has_after, may_make};
 ghost use Rattle.wait_cores.specs.EventsLeft.{notify_left, notify_used, notify_given};
@@ -56,6 +57,17 @@ pub fn knows_where_it_stands()
     ensures first { (callers caller : ℕ) → has_ticket (start callers) caller ≡ false }
     ensures unmoved { (state : NotifyState) (caller : ℕ) (event : NotifyEvent)
         → (next state caller event).1 ≡ NotifyReply.Still → (next state caller event).0 ≡ state }
+{}
+
+/// What unblocks a wait synchronizes before its return: between a caller's ticket and its leaving, which acquires, stands an event
+/// that releases. An event that is answered `Still` does neither.
+pub fn synchronizes()
+    ensures unblocked { (callers : ℕ) (before between rest : Log) (caller : ℕ)
+        → IsLog callers (before ++ ticket_by caller ∷ (between ++ leave_by caller ∷ rest))
+        → IsTrue (list_any (λ e. notify_releases e.event e.reply) between) }
+    ensures returned { IsTrue (notify_acquires NotifyEvent.Leave NotifyReply.Done) }
+    ensures unmoved { (event : NotifyEvent)
+        → IsFalse (notify_releases event NotifyReply.Still) × IsFalse (notify_acquires event NotifyReply.Still) }
 {}
 
 /// Callers can't go on for ever without a call returning. One that takes a ticket uses up one of the events that are left, and

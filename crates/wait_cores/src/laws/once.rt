@@ -2,6 +2,8 @@
 ghost use Rattle.std.specs.Prelude.{◌≡◌, ◌≢◌, ℕ, ◌+◌, ◌<◌, ◌≤◌, false, IsTrue, IsFalse, ◌∷◌, ◌++◌, count_by};
 ghost use Rattle.wait_cores.specs.declared.once.OnceEvent.{OnceEvent};
 ghost use Rattle.wait_cores.specs.declared.once.OnceReply.TheVariants as reply;
+ghost use Rattle.std.specs.List.{list_any};
+ghost use Rattle.wait_cores.specs.Edges.{once_releases, once_acquires};
 ghost use Rattle.wait_cores.specs.EventsLeft.{once_left, once_used, once_given};
 ghost use Rattle.wait_cores.specs.OnceMachine.{OnceState, start, next, callers_of};
 ghost use Rattle.wait_cores.specs.OnceStanding.{answers, may_make, waits_at, runs_at, waits_after, runs_after};
@@ -35,6 +37,17 @@ pub fn knows_where_it_stands<T: Copy>()
     ensures callers { (state : OnceState T) (caller : ℕ) (event : OnceEvent T)
         → callers_of (next state caller event).0 ≡ callers_of state }
     ensures first { (callers caller : ℕ) → (waits_at {T = T} (start callers) caller ≡ false) × (runs_at {T = T} (start callers) caller ≡ false) }
+{}
+
+/// The function's end synchronizes before every return: before a return, which acquires, stands an event that releases. An event
+/// that is answered `Still` does neither.
+pub fn synchronizes<T: Copy>()
+    ensures ended { (callers : ℕ) (before rest : Log T) (e : Made T) (value : T)
+        → IsLog callers (before ++ e ∷ rest) → returned_in e.reply ≡ Some value
+        → IsTrue (list_any (λ x. once_releases x.event x.reply) before) }
+    ensures returned { (e : Made T) (value : T) → returned_in e.reply ≡ Some value → IsTrue (once_acquires e.event e.reply) }
+    ensures unmoved { (event : OnceEvent T)
+        → IsFalse (once_releases event reply.Still) × IsFalse (once_acquires event reply.Still) }
 {}
 
 /// Callers can't go on for ever without a call returning. The one that is to run the function, and one that comes to wait, use up

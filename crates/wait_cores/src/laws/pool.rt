@@ -1,9 +1,10 @@
 //! Where the items of a pool come from and where they go.
-ghost use Rattle.std.specs.Prelude.{◌≡◌, ◌≢◌, ℕ, ◌+◌, ◌*◌, ◌<◌, ◌≤◌, Bool, if◌then◌else◌, length, slice_get, IsTrue, ◌∷◌, ◌++◌};
+ghost use Rattle.std.specs.Prelude.{◌≡◌, ◌≢◌, ℕ, ◌+◌, ◌*◌, ◌<◌, ◌≤◌, Bool, if◌then◌else◌, length, slice_get, IsTrue, IsFalse, ◌∷◌, ◌++◌};
+ghost use Rattle.wait_cores.specs.Edges.{pool_releases, pool_acquires};
 ghost use Rattle.wait_cores.specs.Looks.{look};
 ghost use Rattle.wait_cores.specs.PoolParts.{PoolPart};
 ghost use Rattle.wait_cores.specs.PoolMachine.{PoolState, start, next, callers_of};
-ghost use Rattle.wait_cores.specs.PoolLaws.{Log, IsLog, state_after, put_by, held, kept_count, got_count, swept_count, ComeFrom, is_full, private_at, answers, NamesPart};
+ghost use Rattle.wait_cores.specs.PoolLaws.{Made, Log, IsLog, state_after, put_by, held, kept_by, got_by, kept_count, got_count, swept_count, ComeFrom, is_full, private_at, answers, NamesPart};
 
 use crate::pool_event::{PoolEvent, PoolReply};
 
@@ -19,6 +20,15 @@ pub fn conserves_items()
 /// between.
 pub fn gives_each_once()
     ensures { (callers room : ℕ) (log : Log ℕ) → IsLog callers room log → (origin : ℕ → ℕ) × ComeFrom log origin }
+{}
+
+/// A put synchronizes before the look that takes its item: a put that is kept releases, and a look that takes an item acquires. An
+/// event that is answered `Still` does neither.
+pub fn synchronizes()
+    ensures put { (e : Made ℕ) (item : ℕ) → kept_by e ≡ Some item → IsTrue (pool_releases e.event e.reply) }
+    ensures taken { (e : Made ℕ) (item : ℕ) → got_by e ≡ Some item → IsTrue (pool_acquires e.event e.reply) }
+    ensures unmoved { (event : PoolEvent ℕ)
+        → IsFalse (pool_releases event PoolReply.Still) × IsFalse (pool_acquires event PoolReply.Still) }
 {}
 
 /// A put is dropped exactly where the caller's own part holds a private item and `room` shared ones.

@@ -1,0 +1,11 @@
+use Rattle.wait_cores.proofs.EdgeLemmas.{once-synchronizes, once-acquires, once-unmoved}
+use Rattle.wait_cores.proofs.laws.once.synchronizes.Goals as goal
+
+pub returns-clause-ended : goal.returns-clause-ended
+returns-clause-ended g c = once-synchronizes
+
+pub returns-clause-returned : goal.returns-clause-returned
+returns-clause-returned g c = once-acquires
+
+pub returns-clause-unmoved : goal.returns-clause-unmoved
+returns-clause-unmoved g c = once-unmoved
