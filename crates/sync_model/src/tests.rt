@@ -61,8 +61,10 @@ fn lists_grow_at_their_ends(rt: HostRuntime) -> Result<(), Fail> {
     let mut first: Seq<u8> = Seq::new(rt.alloc());
     assert!(rt; first.is_empty());
     first.push(1)?;
+    assert!(rt; !first.is_empty());
     first.extend_from_slice(&[2, 3])?;
     assert_eq!(rt; first.as_slice(), [1, 2, 3].as_slice());
+    let first = Seq::from_vec(first.into_vec());
     let mut lists = Seq::new(rt.alloc());
     lists.push(first)?;
     lists.push(Seq::new(rt.alloc()))?;
@@ -169,6 +171,47 @@ fn map_calls_answer_and_change_as_their_table_says(rt: HostRuntime) -> Result<()
         };
         assert_eq!(rt; map.get(b"other"), other, "{word:?} at {before:?}");
     }
+    Ok(())
+}
+
+#[test]
+fn each_call_of_a_map_but_clear_has_its_key(rt: HostRuntime) -> Result<(), Fail> {
+    let words: [&[u8]; 8] = [
+        b"load", b"store 5", b"los 5", b"lad", b"delete", b"swap 5", b"cas 5 6", b"cad 5",
+    ];
+    for word in words {
+        let call = call_of(rt.alloc(), word)?;
+        let key = call.key().map(Name::as_bytes);
+        assert_eq!(rt; key, Some(b"k".as_slice()), "{word:?}");
+    }
+    let call = call_of(rt.alloc(), b"clear")?;
+    assert!(rt; call.key().is_none());
+    Ok(())
+}
+
+// A note after it took in a copy of another.
+fn merged<N: Note>(home: &N::Home, note: N, other: N) -> N
+    requires { N.at home.now note × N.at home.now other }
+{
+    let mut note = note;
+    let mut other = other;
+    let copy = other.copy(home);
+    note.merge(home, copy);
+    note
+}
+
+#[test]
+fn a_note_takes_in_the_greater_of_two_counts(rt: HostRuntime) -> Result<(), Fail> {
+    let mut first = [0; MAX_CALLERS];
+    first[0] = 5;
+    first[63] = 1;
+    let mut second = [0; MAX_CALLERS];
+    second[0] = 2;
+    second[1] = 7;
+    second[63] = 2;
+    let note = merged(&(), FrontNote::new(first), FrontNote::new(second));
+    let counts = (note.count(0), note.count(1), note.count(2), note.count(63));
+    assert_eq!(rt; counts, (5, 7, 0, 2));
     Ok(())
 }
 

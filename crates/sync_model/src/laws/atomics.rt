@@ -33,7 +33,21 @@ pub fn only_entries_change()
     ensures { (call : AtomicCall) (held : Number) → is_atomic_entry call held ≡ false → atomic_after call held ≡ held }
 {}
 
-/// A compare-and-swap sets the atomic exactly where it holds the old number, and is an entry exactly there.
+/// Which calls are entries: a load never, and a store, a swap, an add, an and and an or always, also where they leave the
+/// number as it was. A compare-and-swap is one where it answered true.
+pub fn entries_are_seen()
+    ensures load { (held : Number) → is_atomic_entry AtomicCall.Load held ≡ false }
+    ensures store { (held value : Number) → is_atomic_entry (AtomicCall.Store value) held ≡ true }
+    ensures swap { (held value : Number) → is_atomic_entry (AtomicCall.Swap value) held ≡ true }
+    ensures add { (held operand : Number) → is_atomic_entry (AtomicCall.Add operand) held ≡ true }
+    ensures and { (held operand : Number) → is_atomic_entry (AtomicCall.And operand) held ≡ true }
+    ensures or { (held operand : Number) → is_atomic_entry (AtomicCall.Or operand) held ≡ true }
+    ensures compare_and_swap { (held old new : Number)
+        → atomic_reply (AtomicCall.CompareAndSwap old new) held
+        ≡ AtomicReply.Compared (is_atomic_entry (AtomicCall.CompareAndSwap old new) held) }
+{}
+
+/// A compare-and-swap sets the atomic exactly where it holds the old number.
 pub fn compare_and_swap_sets_over_the_old_number()
     ensures held { (held new : Number)
         → (atomic_reply (AtomicCall.CompareAndSwap held new) held ≡ AtomicReply.Compared true)
@@ -41,9 +55,23 @@ pub fn compare_and_swap_sets_over_the_old_number()
     ensures another { (held old new : Number) → held ≢ old
         → (atomic_reply (AtomicCall.CompareAndSwap old new) held ≡ AtomicReply.Compared false)
         × (atomic_after (AtomicCall.CompareAndSwap old new) held ≡ held) }
-    ensures entry { (held old new : Number)
-        → atomic_reply (AtomicCall.CompareAndSwap old new) held
-        ≡ AtomicReply.Compared (is_atomic_entry (AtomicCall.CompareAndSwap old new) held) }
+{}
+
+/// A `Bool` has no add, and and or. Those aside, an atomic has every call whose numbers are of its type.
+pub fn each_type_has_its_calls()
+    ensures truth { (operand : Number)
+        → (is_atomic_call AtomicKind.Bool (AtomicCall.Add operand) ≡ false)
+        × (is_atomic_call AtomicKind.Bool (AtomicCall.And operand) ≡ false)
+        × (is_atomic_call AtomicKind.Bool (AtomicCall.Or operand) ≡ false) }
+    ensures integer { (kind : AtomicKind) (operand : Number) → kind ≢ AtomicKind.Bool → is_of kind operand ≡ true
+        → (is_atomic_call kind (AtomicCall.Add operand) ≡ true)
+        × (is_atomic_call kind (AtomicCall.And operand) ≡ true)
+        × (is_atomic_call kind (AtomicCall.Or operand) ≡ true) }
+    ensures every { (kind : AtomicKind) (old new : Number) → is_of kind old ≡ true → is_of kind new ≡ true
+        → (is_atomic_call kind AtomicCall.Load ≡ true)
+        × (is_atomic_call kind (AtomicCall.Store new) ≡ true)
+        × (is_atomic_call kind (AtomicCall.Swap new) ≡ true)
+        × (is_atomic_call kind (AtomicCall.CompareAndSwap old new) ≡ true) }
 {}
 
 /// An atomic starts with a number of its type, holds one after each of its calls, and answers no other.

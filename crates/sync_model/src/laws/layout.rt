@@ -1,6 +1,6 @@
 //! How numbers and their words go together. The layout is one to one.
 ghost use Rattle.std.specs.Prelude.{◌≡◌, ℕ, ◌<◌, ◌^◌, true};
-ghost use Rattle.sync_model.specs.SequentialAtomic.{is_of};
+ghost use Rattle.sync_model.specs.SequentialAtomic.{is_of, zero_of};
 ghost use Rattle.sync_model.specs.WordLayout.{word_of, is_word, number_in};
 
 use crate::atomic_object::{AtomicKind, Number};
@@ -9,6 +9,11 @@ use crate::atomic_object::{AtomicKind, Number};
 pub fn each_number_has_a_word()
     ensures is_word { (kind : AtomicKind) (number : Number) → is_of kind number ≡ true → is_word kind (word_of number) ≡ true }
     ensures fits { (kind : AtomicKind) (number : Number) → is_of kind number ≡ true → word_of number < 2 ^ 64 }
+{}
+
+/// What an atomic holds at the start has the word 0, whatever its type.
+pub fn each_type_starts_with_the_word_0()
+    ensures { (kind : AtomicKind) → word_of (zero_of kind) ≡ 0 }
 {}
 
 /// A word determines its number, and each word of a type is that of a number of the type.

@@ -49,8 +49,17 @@ pub fn only_entries_change<K>()
 {}
 
 /// Which calls are entries, as their replies say: a load-or-store that stored, a load-and-delete that removed, and a
-/// compare-and-swap or compare-and-delete that answered true. A delete is one where the key was there.
+/// compare-and-swap or compare-and-delete that answered true. A delete is one where the key was there. A load never is one,
+/// and a store, a swap and a clear always are, also where they leave the map as it was.
 pub fn entries_are_seen<K>()
+    ensures load { (R : K → K → Ordering) (m : FinMap R ℕ) (key : K)
+        → is_map_entry (MapCall.Load key) m ≡ false }
+    ensures store { (R : K → K → Ordering) (m : FinMap R ℕ) (key : K) (value : ℕ)
+        → is_map_entry (MapCall.Store key value) m ≡ true }
+    ensures swap { (R : K → K → Ordering) (m : FinMap R ℕ) (key : K) (value : ℕ)
+        → is_map_entry (MapCall.Swap key value) m ≡ true }
+    ensures clear { (R : K → K → Ordering) (m : FinMap R ℕ)
+        → is_map_entry MapCall.Clear m ≡ true }
     ensures load_or_store { (R : K → K → Ordering) (m : FinMap R ℕ) (key : K) (value there : ℕ) (loaded : Bool)
         → map_reply (MapCall.LoadOrStore key value) m ≡ MapReply.Settled there loaded
         → is_map_entry (MapCall.LoadOrStore key value) m ≡ not loaded }
