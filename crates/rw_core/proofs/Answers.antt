@@ -1,5 +1,5 @@
 -- What kind of answer each event gets, and that the callers stay the same.
-use Rattle.std.proofs.Common.{◌≡◌, ℕ, Bool, true, false, ◌&&◌, List, [], ◌∷◌, refl, ap, sym, subst, ◌∙◌}
+use Rattle.std.proofs.Common.{◌≡◌, ℕ, Bool, true, false, ◌&&◌, [], ◌∷◌, refl, ap, sym, subst, ◌∙◌}
 use Rattle.std.specs.Prelude.{nat_lt, ◌==◌, if◌then◌else◌}
 use Rattle.std.proofs.lemmas.Bool.{false≢true}
 use Rattle.sync_model.specs.Log.{after}
@@ -17,7 +17,7 @@ use Rattle.rw_core.specs.declared.reply.RwReply.{RwReply}
 use Rattle.rw_core.specs.declared.reply.RwReply.TheVariants.{Still}
 use Rattle.rw_core.specs.declared.writer.Writer.{Writer}
 use Rattle.rw_core.specs.declared.writer.Writer.TheVariants as writer
-use Rattle.rw_core.specs.RwMachine.{State, is_announced, is_holding, place_of, still, read_arrived, read_tried, last_read, read_unlocked, announced, write_arrived, write_resumed, write_tried, write_unlocked, at_place, next, is_needed, may_make}
+use Rattle.rw_core.specs.RwMachine.{State, is_announced, is_holding, place_of, still, last_read, read_unlocked, write_arrived, write_resumed, write_tried, write_unlocked, at_place, next, is_needed, may_make}
 use Rattle.rw_core.specs.Edges.{Journal}
 use Rattle.rw_core.specs.Standing.{is_answer}
 

@@ -1,5 +1,5 @@
 -- A caller's own answers say whether it waits.
-use Rattle.std.proofs.Common.{◌≡◌, ℕ, ◌+◌, ◌-◌, ◌<◌, ◌≤◌, ◌⊎◌, inl, inr, Bool, true, false, ◌||◌, List, [], ◌∷◌, ◌++◌, length, map, refl, ap, sym, subst, ◌∙◌, arith}
+use Rattle.std.proofs.Common.{◌≡◌, ℕ, ◌+◌, ◌-◌, ◌<◌, ◌≤◌, inl, inr, Bool, true, false, ◌||◌, List, [], ◌∷◌, ◌++◌, length, map, refl, ap, sym, subst, ◌∙◌, arith}
 use Rattle.std.specs.Prelude.{nat_lt, ◌==◌, not, cond, if◌then◌else◌}
 use Rattle.std.specs.List.{list_any}
 use Rattle.std.proofs.lemmas.Bool.{false≢true, eqb-true, eq-eqb}
@@ -25,11 +25,11 @@ use Rattle.rw_core.specs.declared.reply.Resumption.TheVariants as resumption
 use Rattle.rw_core.specs.declared.reply.Unlocking.TheVariants as unlocking
 use Rattle.rw_core.specs.declared.writer.Writer.{Writer}
 use Rattle.rw_core.specs.declared.writer.Writer.TheVariants as writer
-use Rattle.rw_core.specs.RwMachine.{State, start, is_among, without, is_holding, waits_as, place_at, place_of, still, read_arrived, read_tried, last_read, read_unlocked, announced, write_arrived, write_resumed, write_tried, write_unlocked, at_place, next, count_of, places_of, IsValid}
+use Rattle.rw_core.specs.RwMachine.{State, start, is_among, without, is_holding, waits_as, place_at, place_of, still, read_arrived, read_tried, last_read, read_unlocked, write_arrived, write_resumed, write_tried, write_unlocked, at_place, next, count_of, places_of, IsValid}
 use Rattle.rw_core.specs.Edges.{Journal}
 use Rattle.rw_core.specs.Standing.{waits_after, is_waiting}
 use Rattle.rw_core.proofs.Callers.{once, once-same, count_of-append, count_of-push, count_of-present, count_of-without}
-use Rattle.rw_core.proofs.Inner.{Keeps, Parts, IsInFlight, arrive-cases, try-cases, unlocks, woken-cases, waiting}
+use Rattle.rw_core.proofs.Inner.{Keeps, Parts, IsInFlight, arrive-cases, try-cases, unlocks, woken-cases}
 use Rattle.rw_core.proofs.Places.{out-inner, woken-inner, handed-inner, mutex-out, mutex-woken, mutex-handed}
 use Rattle.rw_core.proofs.Runs.{MutexLaws, start-valid, keeps}
 use Rattle.rw_core.proofs.Validity.{once-other, announced-holding}

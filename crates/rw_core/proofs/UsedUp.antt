@@ -8,7 +8,6 @@ use Rattle.mutex_core.specs.declared.event.MutexEvent.{MutexEvent}
 use Rattle.mutex_core.specs.declared.event.MutexEvent.TheVariants as mutex_event
 use Rattle.mutex_core.specs.declared.reply.MutexReply.{MutexReply}
 use Rattle.mutex_core.specs.declared.reply.MutexReply.TheVariants as mutex_reply
-use Rattle.mutex_core.specs.declared.reply.Arrival.TheVariants as mutex_arrival
 use Rattle.mutex_core.specs.declared.reply.Resumption.TheVariants as mutex_resumption
 use Rattle.mutex_core.specs.declared.reply.Unlocking.TheVariants as mutex_unlocking
 use Rattle.rw_core.specs.declared.event.RwEvent.{RwEvent}

@@ -153,11 +153,7 @@ fn a_locked_mutex_belongs_to_nobody(rt: HostRuntime) -> Result<(), Fail> {
 }
 
 /// What a machine answers to an event, whether that releases, and whether it acquires.
-fn made<M: Machine>(
-    state: &mut M::State,
-    caller: u32,
-    event: M::Event,
-) -> (M::Reply, bool, bool) {
+fn made<M: Machine>(state: &mut M::State, caller: u32, event: M::Event) -> (M::Reply, bool, bool) {
     let reply = M::step(state, caller, event);
     let releases = M::releases(&event, &reply);
     let acquires = M::acquires(&event, &reply);
@@ -189,13 +185,7 @@ fn unlocks_release_and_what_gives_the_mutex_acquires(rt: HostRuntime) -> Result<
             false,
             false,
         ),
-        (
-            0,
-            MutexEvent::Try,
-            MutexReply::Tried(false),
-            false,
-            false,
-        ),
+        (0, MutexEvent::Try, MutexReply::Tried(false), false, false),
         (
             0,
             MutexEvent::Unlock,
