@@ -15,6 +15,7 @@ pub mod GroupLeft
 pub mod NotifyLeft
 pub mod OnceLeft
 pub mod PoolParts
+pub mod PoolStill
 pub mod NotifyStandingLemmas
 pub mod GroupCounts
 pub mod LooksLemmas

@@ -1,10 +1,9 @@
 -- The looks of a get go to each place.
-use Rattle.std.proofs.Common.{◌≡◌, ◌≢◌, ◌⊎◌, inl, inr, ℕ, zero, suc, ◌+◌, ◌-◌, ◌*◌, ◌<◌, ◌≤◌, true, false, cond, Bool, refl, sym, ap, ◌∙◌, arith}
-use Rattle.std.specs.Prelude.{nat_lt, ◌%◌}
+use Rattle.std.proofs.Common.{◌≡◌, ◌≢◌, ◌⊎◌, inl, inr, ℕ, zero, suc, ◌+◌, ◌-◌, ◌*◌, ◌<◌, ◌≤◌, refl, ap, ◌∙◌, arith}
+use Rattle.std.specs.Prelude.{◌%◌}
 use Rattle.std.proofs.lemmas.Bool.Decides.{nat_tests}
 use Rattle.std.proofs.lemmas.Nat.{mod-mul-add}
-use Rattle.wait_cores.specs.declared.pool_event.PoolEvent.{PoolEvent}
-use Rattle.wait_cores.specs.declared.pool_event.PoolEvent.TheVariants.{LookOwn, LookOther, LookVictim}
+use Rattle.wait_cores.specs.declared.pool_event.PoolEvent.TheVariants.{LookOther, LookVictim}
 use Rattle.wait_cores.specs.Looks.{look}
 use Rattle.wait_cores.proofs.Comparisons.{is_within, is_beyond}
 

@@ -1,5 +1,5 @@
--- A pool keeps its parts, and an event that isn't made changes nothing.
-use Rattle.std.proofs.Common.{◌≡◌, ℕ, ◌==◌, ◌-◌, Bool, true, false, cond, List, [], ◌∷◌, length, Option, Some, None, refl, ◌∙◌, length-set}
+-- A pool keeps its parts.
+use Rattle.std.proofs.Common.{◌≡◌, ℕ, ◌==◌, Bool, true, false, cond, length, Option, Some, None, ◌∙◌, length-set}
 use Rattle.std.specs.Prelude.{nat_lt}
 use Rattle.std.specs.List.{slice_get}
 use Rattle.std.specs.Option.{option_map}
@@ -7,8 +7,8 @@ use Rattle.std.proofs.lemmas.List.{length-map}
 use Rattle.wait_cores.specs.declared.pool_event.PoolEvent.{PoolEvent}
 use Rattle.wait_cores.specs.declared.pool_event.PoolEvent.TheVariants.{Put, LookOwn, LookOther, LookVictim, Sweep}
 use Rattle.wait_cores.specs.declared.pool_event.PoolReply.{PoolReply}
-use Rattle.wait_cores.specs.declared.pool_event.PoolReply.TheVariants.{Kept, Dropped, Item, Nothing, Swept, Still}
-use Rattle.wait_cores.specs.PoolParts.{PoolPart, emptied, put_in, put_beside, take_own, take_tail, take_victim, head_of, tail_of, private_or}
+use Rattle.wait_cores.specs.declared.pool_event.PoolReply.TheVariants.{Still}
+use Rattle.wait_cores.specs.PoolParts.{PoolPart, emptied, put_in, take_own, take_tail, take_victim}
 use Rattle.wait_cores.specs.PoolMachine.{PoolState, next, made, with_primary, with_victims, callers_of}
 
 abbrev HasParts : ℕ → PoolState ℕ → Type 0
@@ -35,59 +35,3 @@ if_parts false n s c event is = is
 
 pub same-parts : (s : PoolState ℕ) (c n : ℕ) (event : PoolEvent ℕ) → length s.primary ≡ n → length s.victims ≡ n → HasParts n (next s c event).0
 same-parts s c n event primary victims = if_parts (nat_lt c (callers_of s)) n s c event (primary, victims)
-
--- ---- an event that isn't made
-
--- no event on a part is answered so
-abbrev IsMade : PoolPart ℕ × PoolReply ℕ → Type 0
-IsMade n = n.1 ≡ Still → ⊥
-
-put_made : (private : Option ℕ) (part : PoolPart ℕ) (item : ℕ) → IsMade (put_beside private part item)
-put_made None part item is = cc
-put_made (Some held) part item is = by_room (nat_lt (length part.shared) part.room) is where
-  by_room : (b : Bool) → IsMade (cond {A = PoolPart ℕ × PoolReply ℕ} b (record part { shared = item ∷ part.shared }, Kept) (part, Dropped item))
-  by_room true same = cc
-  by_room false same = cc
-
-head_made : (shared : List ℕ) (part : PoolPart ℕ) → IsMade (head_of shared part)
-head_made (item ∷ rest) part is = cc
-head_made [] part is = cc
-
-tail_made : (tail : Option ℕ) (part : PoolPart ℕ) → IsMade (tail_of tail part)
-tail_made (Some item) part is = cc
-tail_made None part is = cc
-
-private_made : (private : Option ℕ) (other : PoolPart ℕ → PoolPart ℕ × PoolReply ℕ) (part : PoolPart ℕ) → IsMade (other part) → IsMade (private_or private other part)
-private_made (Some item) other part made_by is = cc
-private_made None other part made_by is = made_by is
-
-primary_still : (change : PoolPart ℕ → PoolPart ℕ × PoolReply ℕ) (o : Option (PoolPart ℕ)) (s : PoolState ℕ) (part : ℕ) → ((p : PoolPart ℕ) → IsMade (change p))
-    → (with_primary (option_map change o) s part).1 ≡ Still → (with_primary (option_map change o) s part).0 ≡ s
-primary_still change (Some p) s part all is = absurd (all p is)
-primary_still change None s part all is = refl
-
-victims_still : (change : PoolPart ℕ → PoolPart ℕ × PoolReply ℕ) (o : Option (PoolPart ℕ)) (s : PoolState ℕ) (part : ℕ) → ((p : PoolPart ℕ) → IsMade (change p))
-    → (with_victims (option_map change o) s part).1 ≡ Still → (with_victims (option_map change o) s part).0 ≡ s
-victims_still change (Some p) s part all is = absurd (all p is)
-victims_still change None s part all is = refl
-
-tail_taken : (p : PoolPart ℕ) → IsMade (take_tail p)
-tail_taken p = tail_made (slice_get p.shared (length p.shared - 1)) p
-
-victim_taken : (own : Bool) (p : PoolPart ℕ) → IsMade (cond own take_victim take_tail p)
-victim_taken true p = private_made p.private take_tail p (tail_taken p)
-victim_taken false p = tail_taken p
-
-made_still : (s : PoolState ℕ) (c : ℕ) (event : PoolEvent ℕ) → (made s c event).1 ≡ Still → (made s c event).0 ≡ s
-made_still s c (Put item) = primary_still (λ own. put_in own item) (slice_get s.primary c) s c (λ p. put_made p.private p item)
-made_still s c LookOwn = primary_still take_own (slice_get s.primary c) s c (λ p. private_made p.private (λ q. head_of q.shared q) p (head_made p.shared p))
-made_still s c (LookOther part) = primary_still take_tail (slice_get s.primary part) s part tail_taken
-made_still s c (LookVictim part) = victims_still (cond (part == c) take_victim take_tail) (slice_get s.victims part) s part (victim_taken (part == c))
-made_still s c Sweep = λ is. cc
-
-if_still : (b : Bool) (s : PoolState ℕ) (c : ℕ) (event : PoolEvent ℕ) → (cond b (made s c event) (s, Still)).1 ≡ Still → (cond b (made s c event) (s, Still)).0 ≡ s
-if_still true s c event is = made_still s c event is
-if_still false s c event is = refl
-
-pub unmoved-by_still : (s : PoolState ℕ) (c : ℕ) (event : PoolEvent ℕ) → (next s c event).1 ≡ Still → (next s c event).0 ≡ s
-unmoved-by_still s c event = if_still (nat_lt c (callers_of s)) s c event

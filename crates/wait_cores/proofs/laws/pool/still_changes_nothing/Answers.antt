@@ -1,4 +1,4 @@
-use Rattle.wait_cores.proofs.PoolParts.{unmoved-by_still}
+use Rattle.wait_cores.proofs.PoolStill.{unmoved-by_still}
 use Rattle.wait_cores.proofs.laws.pool.still_changes_nothing.Goals as goal
 
 pub returns : goal.returns
