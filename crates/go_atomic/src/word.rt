@@ -1,10 +1,10 @@
 //! Numbers in words of 64 bits. A number of 32 bits stands in the high half of its word, and the low half is 0, so one
 //! addition on the whole word wraps where the number does, and one comparison of words compares numbers.
 ghost use Rattle.std.specs.Prelude.{◌≡◌, true};
-ghost use Rattle.sync_model.specs.SequentialAtomic.{has_bits, is_of, kind_of, sum, bits_of_both, bits_of_either};
+ghost use Rattle.sync_model.specs.SequentialAtomic.{has_bits, is_of, kind_of, atomic_after};
 ghost use Rattle.sync_model.specs.WordLayout.{word_of, is_word, number_in};
 
-use sync_model::{AtomicKind, Number};
+use sync_model::{AtomicCall, AtomicKind, Number};
 
 /// The word of a number.
 pub fn to_word(number: Number) -> u64
@@ -35,34 +35,34 @@ pub fn of_word(kind: AtomicKind, word: u64) -> Number
     }
 }
 
-/// The word of the sum of a word's number and an operand, which wraps at the ends of the type's range.
+/// The word after an add to a word's number, which wraps at the ends of the type's range.
 pub fn sum_word(kind: AtomicKind, word: u64, operand: Number) -> u64
     requires has_bits { has_bits kind ≡ true }
     requires word { is_word kind word ≡ true }
     requires operand { kind_of operand ≡ kind }
-    ensures next { result ≡ word_of (sum (number_in kind word) operand) }
+    ensures next { result ≡ word_of (atomic_after (AtomicCall.Add operand) (number_in kind word)) }
     ensures is_word { is_word kind result ≡ true }
 {
     word.wrapping_add(to_word(operand))
 }
 
-/// The word of the bits that a word's number and an operand have both, in two's complement.
+/// The word after an and with a word's number: of the bits that both have, in two's complement.
 pub fn and_word(kind: AtomicKind, word: u64, operand: Number) -> u64
     requires has_bits { has_bits kind ≡ true }
     requires word { is_word kind word ≡ true }
     requires operand { kind_of operand ≡ kind }
-    ensures next { result ≡ word_of (bits_of_both (number_in kind word) operand) }
+    ensures next { result ≡ word_of (atomic_after (AtomicCall.And operand) (number_in kind word)) }
     ensures is_word { is_word kind result ≡ true }
 {
     word & to_word(operand)
 }
 
-/// The word of the bits that a word's number or an operand has, in two's complement.
+/// The word after an or with a word's number: of the bits that one of them has, in two's complement.
 pub fn or_word(kind: AtomicKind, word: u64, operand: Number) -> u64
     requires has_bits { has_bits kind ≡ true }
     requires word { is_word kind word ≡ true }
     requires operand { kind_of operand ≡ kind }
-    ensures next { result ≡ word_of (bits_of_either (number_in kind word) operand) }
+    ensures next { result ≡ word_of (atomic_after (AtomicCall.Or operand) (number_in kind word)) }
     ensures is_word { is_word kind result ≡ true }
 {
     word | to_word(operand)
