@@ -40,7 +40,6 @@ use Rattle.wait_cores.specs.declared.once.OnceEvent.TheVariants as once_event
 use Rattle.wait_cores.specs.declared.once.OncePlace.{OncePlace}
 use Rattle.wait_cores.specs.declared.once.OncePlace.TheVariants as once_place
 use Rattle.wait_cores.specs.declared.once.OnceReply.{OnceReply}
-use Rattle.wait_cores.specs.declared.once.OnceReply.TheVariants as once_reply
 use Rattle.wait_cores.specs.declared.pool_event.PoolEvent.{PoolEvent}
 use Rattle.wait_cores.specs.declared.pool_event.PoolEvent.TheVariants as pool_event
 use Rattle.wait_cores.specs.declared.pool_event.PoolReply.{PoolReply}

@@ -1,6 +1,6 @@
 -- What a turn uses up at the objects that it touches.
 use Rattle.std.proofs.Common.{◌≡◌, ℕ, ◌+◌, ◌*◌, ◌<◌, ◌≤◌, ◌==◌, Bool, true, false, cond, ◌&&◌, List, [], ◌∷◌, Option, Some, None, refl, ap, ◌∙◌, arith}
-use Rattle.std.specs.Prelude.{ℤ, negsuc, length}
+use Rattle.std.specs.Prelude.{ℤ, negsuc}
 use Rattle.std.specs.Int.{w64, int_wrapping_add}
 use Rattle.std.proofs.lemmas.Bool.{lt-ltb}
 use Rattle.sync_model.specs.declared.atomic_object.Number.{Number}
