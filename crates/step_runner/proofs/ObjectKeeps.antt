@@ -26,7 +26,6 @@ use Rattle.rw_core.specs.declared.event.RwEvent.{RwEvent}
 use Rattle.rw_core.specs.declared.event.RwEvent.TheVariants as rw_event
 use Rattle.rw_core.specs.declared.place.Place.{Place as RwPlace}
 use Rattle.rw_core.specs.declared.place.Place.TheVariants as rw_place
-use Rattle.wait_cores.specs.Looks.{look}
 use Rattle.wait_cores.specs.NotifyMachine as notify
 use Rattle.wait_cores.specs.GroupMachine as group
 use Rattle.wait_cores.specs.OnceMachine as once
@@ -41,15 +40,12 @@ use Rattle.wait_cores.specs.declared.group.GroupPlace.TheVariants as group_place
 use Rattle.wait_cores.specs.declared.once.OnceEvent.TheVariants as once_event
 use Rattle.wait_cores.specs.declared.once.OncePlace.{OncePlace}
 use Rattle.wait_cores.specs.declared.once.OncePlace.TheVariants as once_place
-use Rattle.wait_cores.specs.declared.once.OnceReply.{OnceReply}
-use Rattle.wait_cores.specs.declared.once.OnceReply.TheVariants as once_reply
 use Rattle.wait_cores.specs.declared.pool_event.PoolEvent.{PoolEvent}
 use Rattle.wait_cores.specs.declared.pool_event.PoolEvent.TheVariants as pool_event
 use Rattle.wait_cores.specs.declared.pool_event.PoolReply.{PoolReply}
 use Rattle.wait_cores.specs.declared.pool_event.PoolReply.TheVariants as pool_reply
 use Rattle.workload.specs.declared.object.ObjectKind.TheVariants as kinds
 use Rattle.workload.specs.Plan.{has_call}
-use Rattle.step_runner.specs.declared.step.Answer.{Answer}
 use Rattle.step_runner.specs.declared.object_state.ObjectState.{ObjectState}
 use Rattle.step_runner.specs.declared.object_state.ObjectState.TheVariants as states
 use Rattle.step_runner.specs.State.{kind_of, IsMachineOf}
@@ -63,7 +59,7 @@ use Rattle.step_runner.specs.CondTurn as of_cond
 use Rattle.step_runner.specs.CondTurn.{Pair, cond_turn}
 use Rattle.step_runner.specs.WaitGroupTurn as of_group
 use Rattle.step_runner.specs.WaitGroupTurn.{group_turn}
-use Rattle.step_runner.specs.OnceTurn.{out_by, turn_by, once_step, where_ended, adding_turn, once_turn, func_turn, value_turn}
+use Rattle.step_runner.specs.OnceTurn.{out_by, turn_by, once_step, adding_turn, once_turn, func_turn, value_turn}
 use Rattle.step_runner.specs.PoolTurn.{PoolStep, found_or, found_by, looks_of, pool_step, pool_turn}
 use Rattle.step_runner.specs.Turns.{turn_on, turn_on_both}
 use Rattle.step_runner.proofs.AtomicTypes.{after_type}

@@ -1,5 +1,5 @@
 -- A `range` shows no more keys than the calls of the workload have.
-use Rattle.std.proofs.Common.{◌≡◌, ℕ, zero, suc, ◌*◌, ◌≤◌, Bool, true, false, ◌||◌, List, [], ◌∷◌, ◌++◌, length, get_or, set, replicate, Option, Some, None, refl, ap, ◌∙◌, subst, inl, inr, arith}
+use Rattle.std.proofs.Common.{◌≡◌, ℕ, zero, suc, ◌*◌, ◌≤◌, Bool, true, false, ◌||◌, List, [], ◌∷◌, ◌++◌, length, get_or, set, replicate, Option, Some, None, refl, ap, ◌∙◌, arith}
 use Rattle.std.specs.Prelude.{ℤ, slice_get}
 use Rattle.std.specs.Int.{w64, int_wrapping_add}
 use Rattle.std.specs.List.{list_all, list_any, flat_map}
@@ -57,7 +57,6 @@ use Rattle.wait_cores.specs.declared.pool_event.PoolReply.{PoolReply}
 use Rattle.wait_cores.specs.declared.pool_event.PoolReply.TheVariants as pool_reply
 use Rattle.workload.specs.declared.object.ObjectKind.{ObjectKind}
 use Rattle.workload.specs.declared.object.ObjectKind.TheVariants as kinds
-use Rattle.workload.specs.declared.object.ObjectLine.{ObjectLine}
 use Rattle.workload.specs.declared.turn.Turn.{Turn}
 use Rattle.workload.specs.declared.limits.TheConstants.{MAX_KEYS}
 use Rattle.workload.specs.Plan.{Plan, object_of}

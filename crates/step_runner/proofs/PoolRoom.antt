@@ -1,13 +1,11 @@
 -- A pool has room for every put that is left to make on it.
-use Rattle.std.proofs.Common.{◌≡◌, ◌≢◌, ℕ, zero, suc, ◌+◌, ◌-◌, ◌*◌, ◌<◌, ◌≤◌, ◌⊎◌, Bool, true, false, cond, eqb, ◌&&◌, List, [], ◌∷◌, ◌++◌, map, drop, take, length, get_or, set, replicate, Option, Some, None, refl, sym, ap, ◌∙◌, subst, inl, inr, arith}
+use Rattle.std.proofs.Common.{◌≡◌, ℕ, zero, suc, ◌+◌, ◌-◌, ◌*◌, ◌<◌, ◌≤◌, Bool, true, false, cond, eqb, ◌&&◌, List, [], ◌∷◌, ◌++◌, map, drop, length, get_or, set, replicate, Option, Some, None, refl, ap, ◌∙◌, subst, arith}
 use Rattle.std.specs.Prelude.{ℤ, nat_lt, slice_get, count_by}
-use Rattle.std.specs.Int.{w64, int_wrapping_add}
 use Rattle.std.specs.List.{range_with_len}
 use Rattle.std.specs.Option.{option_map}
 use Rattle.std.proofs.lemmas.Bool.{eqb-false, lt-ltb}
 use Rattle.std.proofs.lemmas.List.{length-append, length-take}
 use Rattle.std.proofs.lemmas.List.Sums.{sum_by-cons}
-use Rattle.std.proofs.lemmas.Option.{slice_get_within}
 use Rattle.sync_model.specs.declared.call.Call.{Call}
 use Rattle.sync_model.specs.declared.call.Call.TheVariants as calls
 use Rattle.sync_model.specs.declared.call.Reply.{Reply}
@@ -37,7 +35,6 @@ use Rattle.workload.specs.declared.turn.Turn.{Turn}
 use Rattle.workload.specs.Plan.{Plan, object_of}
 use Rattle.step_runner.specs.declared.step.Answer.{Answer}
 use Rattle.step_runner.specs.declared.step.Answer.TheVariants as answers
-use Rattle.step_runner.specs.declared.step.Step.TheVariants as steps
 use Rattle.step_runner.specs.declared.object_state.ObjectState.{ObjectState}
 use Rattle.step_runner.specs.declared.object_state.ObjectState.TheVariants as states
 use Rattle.step_runner.specs.State.{State, is_put_at, puts_at, new_object, new_objects, start, with_reply, IsStateOf, IsReady}
@@ -48,8 +45,8 @@ use Rattle.step_runner.specs.RwMutexTurn.{rw_mutex_turn}
 use Rattle.step_runner.specs.CondTurn.{cond_turn}
 use Rattle.step_runner.specs.WaitGroupTurn.{group_turn}
 use Rattle.step_runner.specs.OnceTurn.{adding_turn, once_turn, func_turn, value_turn}
-use Rattle.step_runner.specs.PoolTurn.{PoolStep, found_or, found_by, looks_of, pool_step, pool_turn}
-use Rattle.step_runner.specs.Turns.{next_call, turn_on, turn_on_both, with_object, with_both, turn_at, turn_of, after_items}
+use Rattle.step_runner.specs.PoolTurn.{PoolStep, found_or, found_by, pool_step, pool_turn}
+use Rattle.step_runner.specs.Turns.{next_call, turn_on, turn_on_both, turn_at, turn_of, after_items}
 use Rattle.step_runner.proofs.TurnLemmas.{Takes, moved, ready, at_ready, turn_cases}
 use Rattle.step_runner.proofs.RunLemmas.{GoesOn, Kept, items_keep, moment_valid}
 

@@ -1,6 +1,5 @@
 use Rattle.std.proofs.Common.{◌≡◌, ◌+◌, drop}
-use Rattle.std.specs.Prelude.{count_by, sum_by}
-use Rattle.step_runner.specs.State.{is_put_at, puts_at}
+use Rattle.step_runner.specs.State.{puts_at}
 use Rattle.step_runner.proofs.state.puts_at.Given as goal
 
 abbrev pub invariant-loop-worker : goal.invariant-loop-worker
