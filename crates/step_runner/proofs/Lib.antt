@@ -1,6 +1,7 @@
 mod AtomicTypes
 mod EndLemmas
 mod KeyLemmas
+mod LogLemmas
 mod MachineLaws
 mod MadeLemmas
 mod NeverWaits

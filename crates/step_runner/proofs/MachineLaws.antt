@@ -1,8 +1,9 @@
 -- What the laws of the machines say that the objects of a run are.
 use Rattle.std.proofs.Common.{◌≡◌, ℕ, ◌+◌, ◌<◌, ◌≤◌}
-use Rattle.std.specs.Prelude.{ℤ, length}
+use Rattle.std.specs.Prelude.{ℤ, IsTrue, length}
 use Rattle.mutex_core.specs.MutexMachine as mutex
 use Rattle.mutex_core.specs.EventsLeft as mutex_left
+use Rattle.mutex_core.specs.Standing.{is_answer}
 use Rattle.mutex_core.specs.declared.event.MutexEvent.{MutexEvent}
 use Rattle.mutex_core.specs.declared.reply.MutexReply.TheVariants as mutex_reply
 use Rattle.rw_core.specs.RwMachine as rw
@@ -47,6 +48,7 @@ pub record Laws : Type 0 where
 -- ---- what their events use up
 
 pub record MutexUses : Type 0 where
+  pub answered : (m : mutex.State) (c : ℕ) (e : MutexEvent) → IsTrue (mutex.may_make m c e) → IsTrue (is_answer e (mutex.next m c e).1)
   pub unmoved : (m : mutex.State) (c : ℕ) (e : MutexEvent) → (mutex.next m c e).1 ≡ mutex_reply.Still → (mutex.next m c e).0 ≡ m
   pub used : (m : mutex.State) (c : ℕ) (e : MutexEvent) → mutex.IsValid m
       → mutex_left.events_left (mutex.next m c e).0 + mutex_left.used_by (mutex.next m c e).1 ≤ mutex_left.events_left m + mutex_left.given_by (mutex.next m c e).1

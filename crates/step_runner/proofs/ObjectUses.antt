@@ -1,6 +1,6 @@
 -- What a turn uses up at the objects that it touches.
-use Rattle.std.proofs.Common.{◌≡◌, ℕ, ◌+◌, ◌*◌, ◌<◌, ◌≤◌, ◌==◌, Bool, true, false, cond, List, [], ◌∷◌, ◌++◌, Option, Some, None, refl, ap, arith}
-use Rattle.std.specs.Prelude.{ℤ, negsuc, nat_lt}
+use Rattle.std.proofs.Common.{◌≡◌, ℕ, ◌+◌, ◌*◌, ◌<◌, ◌≤◌, ◌==◌, Bool, true, false, cond, ◌&&◌, List, [], ◌∷◌, Option, Some, None, refl, ap, ◌∙◌, arith}
+use Rattle.std.specs.Prelude.{ℤ, negsuc}
 use Rattle.std.specs.Int.{w64, int_wrapping_add}
 use Rattle.std.proofs.lemmas.Bool.{lt-ltb}
 use Rattle.sync_model.specs.declared.atomic_object.Number.{Number}
@@ -22,6 +22,7 @@ use Rattle.sync_model.specs.declared.wait_call.WaitGroupCall.{WaitGroupCall}
 use Rattle.sync_model.specs.declared.wait_call.WaitGroupCall.TheVariants as group_calls
 use Rattle.mutex_core.specs.MutexMachine as mutex
 use Rattle.mutex_core.specs.EventsLeft as mutex_left
+use Rattle.mutex_core.specs.Standing.{is_answer}
 use Rattle.mutex_core.specs.declared.event.MutexEvent.{MutexEvent}
 use Rattle.mutex_core.specs.declared.event.MutexEvent.TheVariants as mutex_event
 use Rattle.mutex_core.specs.declared.place.Place.{Place as MutexPlace}
@@ -366,18 +367,21 @@ record IsPair (worker : ℕ) (p : Pair) : Type 0 where
   at_mutex : worker < p.locker.callers
   valid : mutex.IsValid p.locker
 
-unlock_uses : (r : MutexReply) (cond_old cond_new old new : ℕ) (same : Type 0) → cond_new + 1 ≤ cond_old → new + mutex_left.used_by r ≤ old + mutex_left.given_by r
+-- an event that a caller's place at the mutex allows gets an answer to it
+has_answer : MutexUses → (m : mutex.State) (worker : ℕ) (e : MutexEvent) (at : MutexPlace) → worker < m.callers → mutex.place_of m worker ≡ at → mutex.is_needed e at ≡ true → is_answer e (mutex.next m worker e).1 ≡ true
+has_answer law m worker e at below is needed =
+    law.answered m worker e (ap (λ b. b && mutex.is_needed e (mutex.place_of m worker)) (lt-ltb worker m.callers below) ∙ ap (mutex.is_needed e) is ∙ needed)
+
+unlock_uses : (r : MutexReply) (cond_old cond_new old new : ℕ) (same : Type 0) → is_answer mutex_event.Unlock r ≡ true → cond_new + 1 ≤ cond_old → new + mutex_left.used_by r ≤ old + mutex_left.given_by r
     → UsesBy (3 * cond_old + 2 * old) (3 * cond_new + 2 * new) same (of_cond.unlock_meaning r)
-unlock_uses (mutex_reply.Arrived mutex_arrival.Acquired) cond_old cond_new old new same ticket used = omega (arith, ticket, used)
-unlock_uses (mutex_reply.Arrived (mutex_arrival.Queued other)) cond_old cond_new old new same ticket used = omega (arith, ticket, used)
-unlock_uses (mutex_reply.Tried acquired) cond_old cond_new old new same ticket used = omega (arith, ticket, used)
-unlock_uses (mutex_reply.Unlocked mutex_unlocking.Free) cond_old cond_new old new same ticket used = omega (arith, ticket, used)
-unlock_uses (mutex_reply.Unlocked (mutex_unlocking.Woke other)) cond_old cond_new old new same ticket used = omega (arith, ticket, used)
-unlock_uses (mutex_reply.Unlocked (mutex_unlocking.Handed other)) cond_old cond_new old new same ticket used = omega (arith, ticket, used)
-unlock_uses (mutex_reply.Unlocked (mutex_unlocking.Misuse misuse)) cond_old cond_new old new same ticket used = tt
-unlock_uses (mutex_reply.Resumed mutex_resumption.Acquired) cond_old cond_new old new same ticket used = omega (arith, ticket, used)
-unlock_uses (mutex_reply.Resumed mutex_resumption.Requeued) cond_old cond_new old new same ticket used = omega (arith, ticket, used)
-unlock_uses mutex_reply.Still cond_old cond_new old new same ticket used = omega (arith, ticket, used)
+unlock_uses (mutex_reply.Arrived arrival) cond_old cond_new old new same is ticket used = absurd cc
+unlock_uses (mutex_reply.Tried acquired) cond_old cond_new old new same is ticket used = absurd cc
+unlock_uses (mutex_reply.Unlocked mutex_unlocking.Free) cond_old cond_new old new same is ticket used = omega (arith, ticket, used)
+unlock_uses (mutex_reply.Unlocked (mutex_unlocking.Woke other)) cond_old cond_new old new same is ticket used = omega (arith, ticket, used)
+unlock_uses (mutex_reply.Unlocked (mutex_unlocking.Handed other)) cond_old cond_new old new same is ticket used = omega (arith, ticket, used)
+unlock_uses (mutex_reply.Unlocked (mutex_unlocking.Misuse misuse)) cond_old cond_new old new same is ticket used = tt
+unlock_uses (mutex_reply.Resumed resumption) cond_old cond_new old new same is ticket used = absurd cc
+unlock_uses mutex_reply.Still cond_old cond_new old new same is ticket used = absurd cc
 
 ticket_used : Uses → (p : Pair) (worker : ℕ) → worker < notify.callers_of p.notify_list → notify.place_of p.notify_list worker ≡ notify_place.Out
     → notify_left (notify.next p.notify_list worker notify_event.Ticket).0 + 1 ≤ notify_left p.notify_list
@@ -385,42 +389,14 @@ ticket_used uses p worker below out =
     let one : notify_used (notify.place_of p.notify_list worker) notify_event.Ticket ≡ 1 = ap (λ (at : NotifyPlace). notify_used at notify_event.Ticket) out in
     omega (arith, uses.conds p.notify_list worker notify_event.Ticket below, one)
 
--- an arrival of one that is out is answered as such
-abbrev IsArrival : MutexReply → Type 0
-IsArrival (mutex_reply.Arrived arrival) = Unit {0}
-IsArrival (mutex_reply.Tried acquired) = ⊥
-IsArrival (mutex_reply.Unlocked unlocking) = ⊥
-IsArrival (mutex_reply.Resumed resumption) = ⊥
-IsArrival mutex_reply.Still = ⊥
-
-open_arrives : (b : Bool) (m n : mutex.State) (worker : ℕ)
-    → IsArrival (cond {A = mutex.State × MutexReply} b (m, mutex_reply.Arrived mutex_arrival.Acquired) (n, mutex_reply.Arrived (mutex_arrival.Queued worker))).1
-open_arrives true m n worker = tt
-open_arrives false m n worker = tt
-
-out_arrives : (at : MutexPlace) (m : mutex.State) (worker moment : ℕ) → at ≡ mutex_place.Out → IsArrival (mutex.at_place (mutex_event.Arrive moment) at worker m).1
-out_arrives mutex_place.Out m worker moment is =
-    open_arrives (mutex.is_open m) (record m { locked = true }) (record m { queue = m.queue ++ record { caller = worker; arrival = moment; asked = false } ∷ [] }) worker
-out_arrives mutex_place.Waiting m worker moment is = absurd cc
-out_arrives mutex_place.Woken m worker moment is = absurd cc
-out_arrives mutex_place.Handed m worker moment is = absurd cc
-
-if_arrives : (b : Bool) (m : mutex.State) (worker moment : ℕ) → b ≡ true → mutex.place_of m worker ≡ mutex_place.Out
-    → IsArrival (cond b (mutex.at_place (mutex_event.Arrive moment) (mutex.place_of m worker) worker m) (mutex.still m)).1
-if_arrives true m worker moment is out = out_arrives (mutex.place_of m worker) m worker moment out
-if_arrives false m worker moment is out = absurd cc
-
-arrives : (m : mutex.State) (worker moment : ℕ) → worker < m.callers → mutex.place_of m worker ≡ mutex_place.Out → IsArrival (mutex.next m worker (mutex_event.Arrive moment)).1
-arrives m worker moment below out = if_arrives (nat_lt worker m.callers) m worker moment (lt-ltb worker m.callers below) out
-
-return_uses : (r : MutexReply) (cond_old cond_new old new : ℕ) (same : Type 0) → IsArrival r → cond_new ≤ cond_old + 1 → new + mutex_left.used_by r ≤ old + mutex_left.given_by r
+return_uses : (r : MutexReply) (moment cond_old cond_new old new : ℕ) (same : Type 0) → is_answer (mutex_event.Arrive moment) r ≡ true → cond_new ≤ cond_old + 1 → new + mutex_left.used_by r ≤ old + mutex_left.given_by r
     → UsesBy (3 * cond_old + 2 * old) (3 * cond_new + 2 * new) same (of_cond.meaning_of r)
-return_uses (mutex_reply.Arrived mutex_arrival.Acquired) cond_old cond_new old new same is left used = omega (arith, left, used)
-return_uses (mutex_reply.Arrived (mutex_arrival.Queued other)) cond_old cond_new old new same is left used = omega (arith, left, used)
-return_uses (mutex_reply.Tried acquired) cond_old cond_new old new same is left used = absurd is
-return_uses (mutex_reply.Unlocked unlocking) cond_old cond_new old new same is left used = absurd is
-return_uses (mutex_reply.Resumed resumption) cond_old cond_new old new same is left used = absurd is
-return_uses mutex_reply.Still cond_old cond_new old new same is left used = absurd is
+return_uses (mutex_reply.Arrived mutex_arrival.Acquired) moment cond_old cond_new old new same is left used = omega (arith, left, used)
+return_uses (mutex_reply.Arrived (mutex_arrival.Queued other)) moment cond_old cond_new old new same is left used = omega (arith, left, used)
+return_uses (mutex_reply.Tried acquired) moment cond_old cond_new old new same is left used = absurd cc
+return_uses (mutex_reply.Unlocked unlocking) moment cond_old cond_new old new same is left used = absurd cc
+return_uses (mutex_reply.Resumed resumption) moment cond_old cond_new old new same is left used = absurd cc
+return_uses mutex_reply.Still moment cond_old cond_new old new same is left used = absurd cc
 
 left_cond : Uses → (p : Pair) (worker : ℕ) → worker < notify.callers_of p.notify_list → notify_left (notify.next p.notify_list worker notify_event.Leave).0 ≤ notify_left p.notify_list + 1
 left_cond uses p worker below = omega (arith, uses.conds p.notify_list worker notify_event.Leave below)
@@ -430,37 +406,33 @@ cond_at_uses : Uses → (at : NotifyPlace) (worker moment : ℕ) (p : Pair) → 
 cond_at_uses uses notify_place.Out worker moment p is out at =
     let n = of_cond.wait_on worker p in
     unlock_uses (mutex.next p.locker worker mutex_event.Unlock).1 (notify_left p.notify_list) (notify_left n.0.notify_list) (mutex_left.events_left p.locker) (mutex_left.events_left n.0.locker) (n.0 ≡ p)
-    (ticket_used uses p worker is.at_cond at) (uses.mutexes.used p.locker worker mutex_event.Unlock is.valid)
+    (has_answer uses.mutexes p.locker worker mutex_event.Unlock mutex_place.Out is.at_mutex out refl) (ticket_used uses p worker is.at_cond at) (uses.mutexes.used p.locker worker mutex_event.Unlock is.valid)
 cond_at_uses uses notify_place.Waiting worker moment p is out at = refl
 cond_at_uses uses notify_place.Notified worker moment p is out at =
     let n = of_cond.return_to worker moment p in
-    return_uses (mutex.next p.locker worker (mutex_event.Arrive moment)).1 (notify_left p.notify_list) (notify_left n.0.notify_list) (mutex_left.events_left p.locker) (mutex_left.events_left n.0.locker) (n.0 ≡ p)
-    (arrives p.locker worker moment is.at_mutex out) (left_cond uses p worker is.at_cond) (uses.mutexes.used p.locker worker (mutex_event.Arrive moment) is.valid)
+    return_uses (mutex.next p.locker worker (mutex_event.Arrive moment)).1 moment (notify_left p.notify_list) (notify_left n.0.notify_list) (mutex_left.events_left p.locker) (mutex_left.events_left n.0.locker) (n.0 ≡ p)
+    (has_answer uses.mutexes p.locker worker (mutex_event.Arrive moment) mutex_place.Out is.at_mutex out refl) (left_cond uses p worker is.at_cond) (uses.mutexes.used p.locker worker (mutex_event.Arrive moment) is.valid)
 
 -- one that goes on at the mutex
-go_on_uses : (r : MutexReply) (at_cond old new : ℕ) (same : Type 0) → (r ≡ mutex_reply.Still → same) → new + mutex_left.used_by r ≤ old + mutex_left.given_by r
+go_on_uses : (r : MutexReply) (moment at_cond old new : ℕ) (same : Type 0) → is_answer (mutex_event.Woken moment) r ≡ true → new + mutex_left.used_by r ≤ old + mutex_left.given_by r
     → UsesBy (3 * at_cond + 2 * old) (3 * at_cond + 2 * new) same (of_cond.meaning_of r)
-go_on_uses (mutex_reply.Arrived mutex_arrival.Acquired) at_cond old new same unmoved used = omega (arith, used)
-go_on_uses (mutex_reply.Arrived (mutex_arrival.Queued other)) at_cond old new same unmoved used = omega (arith, used)
-go_on_uses (mutex_reply.Tried acquired) at_cond old new same unmoved used = omega (arith, used)
-go_on_uses (mutex_reply.Unlocked mutex_unlocking.Free) at_cond old new same unmoved used = omega (arith, used)
-go_on_uses (mutex_reply.Unlocked (mutex_unlocking.Woke other)) at_cond old new same unmoved used = omega (arith, used)
-go_on_uses (mutex_reply.Unlocked (mutex_unlocking.Handed other)) at_cond old new same unmoved used = omega (arith, used)
-go_on_uses (mutex_reply.Unlocked (mutex_unlocking.Misuse misuse)) at_cond old new same unmoved used = omega (arith, used)
-go_on_uses (mutex_reply.Resumed mutex_resumption.Acquired) at_cond old new same unmoved used = omega (arith, used)
-go_on_uses (mutex_reply.Resumed mutex_resumption.Requeued) at_cond old new same unmoved used = omega (arith, used)
-go_on_uses mutex_reply.Still at_cond old new same unmoved used = unmoved refl
+go_on_uses (mutex_reply.Arrived arrival) moment at_cond old new same is used = absurd cc
+go_on_uses (mutex_reply.Tried acquired) moment at_cond old new same is used = absurd cc
+go_on_uses (mutex_reply.Unlocked unlocking) moment at_cond old new same is used = absurd cc
+go_on_uses (mutex_reply.Resumed mutex_resumption.Acquired) moment at_cond old new same is used = omega (arith, used)
+go_on_uses (mutex_reply.Resumed mutex_resumption.Requeued) moment at_cond old new same is used = omega (arith, used)
+go_on_uses mutex_reply.Still moment at_cond old new same is used = absurd cc
 
-goes_on : Uses → (worker moment : ℕ) (p : Pair) → IsPair worker p → PairUses p (of_cond.go_on worker moment p)
-goes_on uses worker moment p is =
+goes_on : Uses → (at : MutexPlace) (worker moment : ℕ) (p : Pair) → IsPair worker p → mutex.place_of p.locker worker ≡ at → mutex.is_needed (mutex_event.Woken moment) at ≡ true → PairUses p (of_cond.go_on worker moment p)
+goes_on uses at worker moment p is stands needed =
     let n = of_cond.go_on worker moment p in
-    go_on_uses (mutex.next p.locker worker (mutex_event.Woken moment)).1 (notify_left p.notify_list) (mutex_left.events_left p.locker) (mutex_left.events_left n.0.locker) (n.0 ≡ p)
-    (λ still. ap (λ (m : mutex.State). record p { locker = m }) (uses.mutexes.unmoved p.locker worker (mutex_event.Woken moment) still)) (uses.mutexes.used p.locker worker (mutex_event.Woken moment) is.valid)
+    go_on_uses (mutex.next p.locker worker (mutex_event.Woken moment)).1 moment (notify_left p.notify_list) (mutex_left.events_left p.locker) (mutex_left.events_left n.0.locker) (n.0 ≡ p)
+    (has_answer uses.mutexes p.locker worker (mutex_event.Woken moment) at is.at_mutex stands needed) (uses.mutexes.used p.locker worker (mutex_event.Woken moment) is.valid)
 
 cond_by_uses : Uses → (at : MutexPlace) (worker moment : ℕ) (p : Pair) → IsPair worker p → mutex.place_of p.locker worker ≡ at → PairUses p (of_cond.wait_by at worker moment p)
 cond_by_uses uses mutex_place.Waiting worker moment p is at = refl
-cond_by_uses uses mutex_place.Woken worker moment p is at = goes_on uses worker moment p is
-cond_by_uses uses mutex_place.Handed worker moment p is at = goes_on uses worker moment p is
+cond_by_uses uses mutex_place.Woken worker moment p is at = goes_on uses mutex_place.Woken worker moment p is at refl
+cond_by_uses uses mutex_place.Handed worker moment p is at = goes_on uses mutex_place.Handed worker moment p is at refl
 cond_by_uses uses mutex_place.Out worker moment p is at = cond_at_uses uses (notify.place_of p.notify_list worker) worker moment p is at refl
 
 cond_step_uses : Uses → (call : CondCall) (worker moment : ℕ) (p : Pair) → IsPair worker p → PairUses p (of_cond.cond_step call worker moment p)

@@ -297,8 +297,8 @@ unlock_few most mutex_reply.Still = tt
 back_few : (most : ℕ) (r : MutexReply) → HasFew most (of_cond.meaning_of r)
 back_few most (mutex_reply.Arrived mutex_arrival.Acquired) = refl
 back_few most (mutex_reply.Arrived (mutex_arrival.Queued ticket)) = tt
-back_few most (mutex_reply.Tried acquired) = refl
-back_few most (mutex_reply.Unlocked unlocking) = refl
+back_few most (mutex_reply.Tried acquired) = tt
+back_few most (mutex_reply.Unlocked unlocking) = tt
 back_few most (mutex_reply.Resumed mutex_resumption.Acquired) = refl
 back_few most (mutex_reply.Resumed mutex_resumption.Requeued) = tt
 back_few most mutex_reply.Still = tt

@@ -26,26 +26,27 @@ pub record Pair : Type 0 where
   pub notify_list : notify.NotifyState
   pub locker : mutex.State
 
--- what the mutex's answer means for a wait that comes back to it: the wait returns, unless it has to wait for the mutex
+-- what the mutex's answer means for a wait that comes back to it: the wait returns, unless it has to wait for the mutex. Nothing else is an
+-- answer to an arrival or to a waiter that goes on
 abbrev pub meaning_of : MutexReply → Answer
 meaning_of (Arrived arrival.Acquired) = answers.Completed replies.Returned
 meaning_of (Arrived (arrival.Queued ticket)) = answers.Waits
 meaning_of (Resumed resumption.Acquired) = answers.Completed replies.Returned
 meaning_of (Resumed resumption.Requeued) = answers.Waits
-meaning_of (Tried acquired) = answers.Completed replies.Returned
-meaning_of (Unlocked unlocking) = answers.Completed replies.Returned
+meaning_of (Tried acquired) = answers.Still
+meaning_of (Unlocked unlocking) = answers.Still
 meaning_of Still = answers.Still
 
--- one that gives the mutex up waits, unless the mutex wasn't locked
+-- one that gives the mutex up waits, unless the mutex wasn't locked. Nothing else is an answer to an unlock
 abbrev pub unlock_meaning : MutexReply → Answer
 unlock_meaning (Unlocked (unlocking.Misuse misuse)) = answers.Misused misuse
 unlock_meaning (Unlocked unlocking.Free) = answers.Waits
 unlock_meaning (Unlocked (unlocking.Woke ticket)) = answers.Waits
 unlock_meaning (Unlocked (unlocking.Handed ticket)) = answers.Waits
-unlock_meaning (Arrived arrival) = answers.Waits
-unlock_meaning (Tried acquired) = answers.Waits
-unlock_meaning (Resumed resumption) = answers.Waits
-unlock_meaning Still = answers.Waits
+unlock_meaning (Arrived arrival) = answers.Still
+unlock_meaning (Tried acquired) = answers.Still
+unlock_meaning (Resumed resumption) = answers.Still
+unlock_meaning Still = answers.Still
 
 -- takes a ticket and unlocks the mutex
 abbrev pub wait_on : ℕ → Pair → Pair × Answer

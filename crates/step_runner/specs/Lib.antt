@@ -2,6 +2,7 @@ pub mod AtomicTurn
 pub mod CondTurn
 pub mod Ends
 pub mod LeftToDo
+pub mod MachineLogs
 pub mod MadeCalls
 pub mod MapTurn
 pub mod MutexTurn

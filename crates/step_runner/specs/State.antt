@@ -86,7 +86,8 @@ with_reply worker reply s = record s { replies = set s.replies worker (get_or s.
 abbrev pub with_moment : ℕ → State → State
 with_moment moment s = record s { moment = moment }
 
--- an object that is a machine is in a state that this comes to, and each worker is a caller of it
+-- what a turn needs of an object that is a machine: a mutex's state is valid, and the workers are the callers. MachineLogs.antt says that the
+-- machine comes to the state
 abbrev pub IsMachineOf : ℕ → ObjectState → Type 0
 IsMachineOf workers (states.Map m) = Unit {0}
 IsMachineOf workers (states.Atomic number) = Unit {0}
@@ -99,7 +100,7 @@ IsMachineOf workers (states.OnceFunc o code) = once.callers_of o ≡ workers
 IsMachineOf workers (states.OnceValue o value) = once.callers_of o ≡ workers
 IsMachineOf workers (states.Pool p) = (length p.primary ≡ workers) × (length p.victims ≡ workers)
 
--- the plan is valid, the objects and workers are its own, the machines are valid, and no worker has more replies than calls
+-- the plan is valid, the objects and workers are its own, each machine is ready for its turns, and no worker has more replies than calls
 pub record IsStateOf (plan : Plan) (s : State) : Type 0 where
   pub valid : is_valid plan ≡ true
   pub objects : map kind_of s.objects ≡ map (λ object. object.kind) plan.objects

@@ -25,17 +25,19 @@ ghost use Rattle.step_runner.specs.declared.outcome.Outcome.TheVariants as outco
 ghost use Rattle.step_runner.specs.declared.object_state.ObjectState.{ObjectState};
 ghost use Rattle.step_runner.specs.declared.object_state.ObjectState.TheVariants as states;
 ghost use Rattle.step_runner.specs.LeftToDo.{left_to_do};
+ghost use Rattle.step_runner.specs.MachineLogs.{FollowsItsMachine};
 ghost use Rattle.step_runner.specs.Pairs.{has_pairs_to};
 ghost use Rattle.step_runner.specs.MadeCalls.{made_calls, calls_of};
 ghost use Rattle.step_runner.specs.Outcomes.{IsDone, IsMisused, IsDeadlocked, never_waits};
-ghost use Rattle.step_runner.specs.State.{State, IsMachineOf, IsStateOf, start, kind_of, with_moment};
+ghost use Rattle.step_runner.specs.State.{State, IsMachineOf, IsStateOf, puts_at, start, kind_of, with_moment};
 ghost use Rattle.step_runner.specs.Turns.{next_call, turn_of, items_of, after_items, has_ended, rounds_of, all_rounds, turns};
 
 use sync_model::laws::atomics::calls_keep_the_type;
 
 /// What is true of the state in which a run begins stays true with each turn, and so at every moment:
-/// each object is of the kind that the workload says, each object that is a machine is in a state that the
-/// machine comes to, and no worker has more replies than its script has calls.
+/// each object is of the kind that the workload says, the state of each mutex and of each reader/writer
+/// mutex is valid, the workers are the callers of each machine, and no worker has more replies than its
+/// script has calls.
 pub fn validity()
     ensures begins { (plan : Plan) → is_valid plan ≡ true → IsStateOf plan (start plan) }
     ensures goes_on { (plan : Plan) (worker : ℕ) (state : State) → IsStateOf plan state → IsStateOf plan (turn_of plan worker state).0 }
@@ -64,6 +66,7 @@ pub fn events_use_something_up()
     wait_cores::laws::once::knows_where_it_stands::<i64>();
     wait_cores::laws::once::knows_where_it_stands::<u64>();
     wait_cores::laws::pool::keeps_its_parts();
+    mutex_core::laws::standing();
     mutex_core::laws::events_are_used_up();
     rw_core::laws::events_are_used_up();
     wait_cores::laws::notify::events_are_used_up();
@@ -120,7 +123,8 @@ pub fn calls_are_made_in_order()
 }
 
 /// At every moment each object is of the kind that the workload says, an atomic holds a number in the
-/// range of its type, and a machine is in a state that it comes to, with the workers as its callers.
+/// range of its type, the state of each mutex and of each reader/writer mutex is valid, and the workers are
+/// the callers of each machine.
 pub fn objects_keep_their_kinds()
     ensures kinds { (plan : Plan) (items : List Turn) → is_valid plan ≡ true → map kind_of (after_items plan items (start plan)).objects ≡ map (λ line. line.kind) plan.objects }
     ensures ranges { (plan : Plan) (items : List Turn) (object : ℕ) (number : Number) → is_valid plan ≡ true → slice_get (after_items plan items (start plan)).objects object ≡ Some (states.Atomic number)
@@ -135,6 +139,16 @@ pub fn objects_keep_their_kinds()
     validity();
     calls_keep_the_type();
 }
+
+/// At every moment, behind any items up to the first misuse, each object that is a machine is in a state that
+/// the machine reaches from its start by the events of a log that follows it. So what the laws of
+/// `mutex_core`, `rw_core` and `wait_cores` say of the state behind every such log is true of it. A wait
+/// group's log goes on behind the one `Add` of its line's number, and a pool's parts have room for every put
+/// that the scripts make there.
+pub fn objects_follow_their_machines()
+    ensures { (plan : Plan) (items : List Turn) (place : ℕ) (object : ObjectState) → slice_get (after_items plan items (start plan)).objects place ≡ Some object
+        → FollowsItsMachine plan.workers (puts_at place plan.scripts) object }
+{}
 
 /// At every moment each key that is there in a map is a key of the workload's calls.
 pub fn keys_are_those_of_calls()

@@ -16,7 +16,7 @@ laws c = record {
 
 abbrev uses : goal.After-events_are_used_up-6 → Uses
 uses c = record {
-  mutexes = record { unmoved = c.validity.ensures.unmoved; used = c.events_are_used_up.ensures };
+  mutexes = record { answered = c.standing.ensures.answered; unmoved = c.validity.ensures.unmoved; used = c.events_are_used_up.ensures };
   rw_mutexes = record { unmoved = c.validity-2.ensures.unmoved; used = c.events_are_used_up-2.ensures };
   conds = c.events_are_used_up-3.ensures;
   groups = record { unmoved = c.events_are_used_up-4.ensures.unmoved; used = c.events_are_used_up-4.ensures.used };
