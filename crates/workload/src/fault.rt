@@ -11,7 +11,7 @@ use thiserror::Error;
 #[derive(Debug, Drop, Error)]
 pub enum ParseFault {
     /// The first fault of the text: its line, counted from 1, or 0 for the text as a whole.
-    #[error("line {line} is refused")]
+    #[error("line {line}: {}", .reason.text())]
     Refused { line: u32, reason: Reason },
     /// There was not enough memory.
     #[error("out of memory")]
