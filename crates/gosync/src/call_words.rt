@@ -7,7 +7,7 @@ ghost use Rattle.gosync.specs.ReportText.{spaced, name_at, call_words};
 use crate::line::{push_atomic_word, push_number_word, push_signed_word, push_word};
 use sync_model::{AtomicCall, Call, MapCall, Name, PoolCall, WaitGroupCall};
 use workload::ObjectLine;
-use workload::printing::{place_of, verb, verb_text};
+use workload::call::{place_of, verb, verb_text};
 
 /// The most bytes that the words of a call have in a line: a word of up to 9 bytes, two names and two
 /// numbers, each behind a space.

@@ -3,7 +3,6 @@ pub mod Checks
 pub mod Draft
 pub mod Index
 pub mod Lines
-pub mod LineResult
 pub mod Plan
 pub mod Readable
 pub mod Reads
