@@ -8,7 +8,7 @@ use Rattle.workload.specs.declared.keyword.Keyword.{Keyword}
 use Rattle.workload.specs.declared.keyword.Keyword.TheVariants as keywords
 use Rattle.workload.specs.declared.keyword.Verb.TheVariants as verbs
 use Rattle.workload.specs.declared.object.ObjectWord.TheVariants as words
-use Rattle.workload.specs.Words.{keyword_word, keyword_at, keyword_in, keywords_known}
+use Rattle.workload.specs.KeywordWords.{keyword_word, keyword_at, keyword_in, keywords_known}
 
 -- each keyword is read back from its word
 pub keyword_at-keyword_word : (k : Keyword) → keyword_at (keyword_word k) ≡ Some k

@@ -25,7 +25,9 @@ use Rattle.workload.specs.declared.turn.Turn.{Turn}
 use Rattle.workload.specs.declared.turn.Turn.TheVariants as turns
 use Rattle.workload.specs.Plan.{Plan, word_of, reference_of, is_target, object_of, has_call}
 use Rattle.workload.specs.Lines.{lines_of, words_of, is_significant}
-use Rattle.workload.specs.Words.{keyword_of, arguments_of, verb_of, operands_of, kind_parameters, turn_word, is_number, is_number_to, is_amount_word}
+use Rattle.workload.specs.NumberWords.{is_number, is_number_to, is_amount_word}
+use Rattle.workload.specs.CallWords.{verb_of, operands_of}
+use Rattle.workload.specs.Words.{keyword_of, arguments_of, kind_parameters, turn_word}
 use Rattle.workload.specs.Draft.{Draft, count_of, limit_of, is_kind, names_reference, declared, may_follow, names_object, is_call, is_item, keys_of, call_count, key_count, is_range, range_count}
 use Rattle.workload.specs.Checks.{Check, first_failing, form_of, form_checks, parameters_of, parameters_checks, reference_checks, is_mutex, is_int64, ranges_in, worker_checks, item_checks, line_checks, word_checks, reason_of}
 use Rattle.workload.specs.Reads.{Says, IsRead, ReadsOn, Reads, FirstFault, IsRefused}

@@ -6,7 +6,7 @@ use Rattle.std.proofs.lemmas.Str.Parse.{IsNumeralModel, numerals_by_value, tells
 use Rattle.std.specs.Fmt.{decimal}
 use Rattle.std.proofs.lemmas.Bool.{eqb-true, eq-eqb}
 use Rattle.std.proofs.lemmas.Fmt.{decimal-digits_value, digits_value-decimal, digits_decimal, first_decimal, decimal_nonempty, decimal_digit}
-use Rattle.workload.specs.Words.{is_number, number_of}
+use Rattle.workload.specs.NumberWords.{is_number, number_of}
 use Rattle.workload.proofs.Passing.{both, pair}
 
 alone : (digit : ℕ) (digits : List ℕ) → digit ≡ 48 → cond (eqb digit 48) (eqb (length digits) 0) true ≡ true → length digits ≡ 0

@@ -24,7 +24,8 @@ use Rattle.workload.specs.declared.object.Declared.{Declared}
 use Rattle.workload.specs.declared.reason.Reason.{Reason}
 use Rattle.workload.specs.declared.reason.Reason.TheVariants.{NoWorkersLine, LineTooLong, BadByte, UnknownWord, WrongNumberOfWords, BadName, NameTaken, UnknownName, WrongKind, BadNumber, NoSuchWorker, CallOutsideWorker, LimitReached}
 use Rattle.workload.specs.Lines.{is_short, is_clean, words_of, is_significant}
-use Rattle.workload.specs.Words.{keyword_at, is_number, is_number_to, is_amount_word, is_number_word, number_of}
+use Rattle.workload.specs.KeywordWords.{keyword_at}
+use Rattle.workload.specs.NumberWords.{is_number, is_number_to, is_amount_word, is_number_word, number_of}
 use Rattle.workload.specs.Draft.{Draft, declared, limit_of, count_of, call_count, key_count, range_count}
 
 -- whether a check passes, and the reason that it fails for

@@ -1,6 +1,7 @@
 //! What the line of a call says of it before its operands: the call's word, and the place of its object.
 ghost use Rattle.std.specs.Prelude.{◌≡◌};
-ghost use Rattle.workload.specs.Words.{verb_word, map_verb, atomic_verb, mutex_verb, rw_mutex_verb, cond_verb, group_verb, pool_verb, verb_of};
+ghost use Rattle.workload.specs.KeywordWords.{verb_word};
+ghost use Rattle.workload.specs.CallWords.{map_verb, atomic_verb, mutex_verb, rw_mutex_verb, cond_verb, group_verb, pool_verb, verb_of};
 ghost use Rattle.workload.specs.Plan.{object_of};
 
 use crate::keyword::Verb;

@@ -1,19 +1,21 @@
 //! The canonical text of a workload.
-ghost use Rattle.std.specs.Prelude.{◌≡◌, ◌∷◌, ◌++◌, [], map, IfOk, OnOk, slice_get};
+ghost use Rattle.std.specs.Prelude.{◌≡◌, ◌∷◌, ◌++◌, [], map, IfOk, OnOk};
 ghost use Rattle.std.specs.Fmt.{decimal, signed_decimal};
 ghost use Rattle.std.specs.Option.{option_to_list};
-ghost use Rattle.workload.specs.Words.{turn_word, object_word, number_word, map_values, map_operands, atomic_operands, group_operands, pool_operands, kind_parameters, operands_of, spelled};
+ghost use Rattle.workload.specs.KeywordWords.{object_word};
+ghost use Rattle.workload.specs.NumberWords.{number_word};
+ghost use Rattle.workload.specs.CallWords.{map_values, map_operands, atomic_operands, group_operands, pool_operands, operands_of};
+ghost use Rattle.workload.specs.Words.{turn_word, kind_parameters, spelled};
 ghost use Rattle.workload.specs.declared.line.Line.TheVariants as Line;
 ghost use Rattle.workload.specs.Reads.{Reads};
-ghost use Rattle.workload.specs.Canonical.{text_line, call_line, object_line, reference_name, script_lines, eights, canonical_lines, canonical, behind_spaces, lines_text, name_of};
+ghost use Rattle.workload.specs.Canonical.{text_line, call_line, object_line, reference_name, script_lines, eights, canonical_lines, canonical, behind_spaces, lines_text};
 
 use std::alloc::{AllocError, Global};
-use sync_model::{
-    AtomicCall, AtomicKind, Call, MapCall, Name, Number, PoolCall, WaitGroupCall,
-};
-use workload::{ObjectKind, ObjectLine, ObjectWord, Turn, Workload};
+use sync_model::{AtomicCall, AtomicKind, Call, MapCall, Name, Number, PoolCall, WaitGroupCall};
 use workload::call::{place_of, verb, verb_text};
 use workload::laws::{canonical_reads, schedules_go_by_eights};
+use workload::object::name_at;
+use workload::{ObjectKind, ObjectLine, ObjectWord, Turn, Workload};
 
 /// Writes a word behind a space.
 fn put_word(text: &mut Vec<u8>, word: &[u8]) -> Result<(), AllocError>
@@ -212,16 +214,6 @@ fn put_turn(alloc: Global, text: &mut Vec<u8>, turn: Turn) -> Result<(), AllocEr
             let digits = moment.to_string(alloc)?;
             text.extend_from_slice(digits.as_bytes())
         }
-    }
-}
-
-/// The name of the object at a place, or nothing where there is none.
-fn name_at(objects: &[ObjectLine], place: usize) -> &[u8]
-    ensures { result.now ≡ name_of (slice_get objects.now place) }
-{
-    match objects.get(place) {
-        None => &[],
-        Some(object) => object.name.as_bytes(),
     }
 }
 

@@ -5,7 +5,7 @@ use Rattle.std.specs.Str.{all_ascii_digits}
 use Rattle.std.proofs.lemmas.Int.Digits.{digits_value_more}
 use Rattle.std.proofs.lemmas.Str.{digit_value_digit}
 use Rattle.std.proofs.lemmas.Str.Parse.{numerals_by_value, tells_all_ascii_digits, digit_at, digits_value-take-le}
-use Rattle.workload.specs.Words.{number_of}
+use Rattle.workload.specs.NumberWords.{number_of}
 
 pub digit_in : (word : List ℕ) (i : ℕ) → all_ascii_digits word ≡ true → i < length word → IsInRange 48 57 (get_or word i 0)
 digit_in word i digits lt = digit_at word i ((numerals_by_value (λ ds. all_ascii_digits ds ≡ true) tells_all_ascii_digits).to word digits) lt

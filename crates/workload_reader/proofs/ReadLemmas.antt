@@ -6,7 +6,8 @@ use Rattle.workload.specs.declared.fault.LineFault.TheVariants as line_faults
 use Rattle.workload.specs.declared.reason.Reason.{Reason}
 use Rattle.workload.specs.declared.keyword.Keyword.{Keyword}
 use Rattle.workload.specs.declared.line.Line.{Line}
-use Rattle.workload.specs.Words.{keyword_word, keyword_of, keyword_at}
+use Rattle.workload.specs.KeywordWords.{keyword_word, keyword_at}
+use Rattle.workload.specs.Words.{keyword_of}
 use Rattle.workload.specs.Draft.{Draft}
 use Rattle.workload.specs.Plan.{Plan}
 use Rattle.workload.specs.Checks.{checks_of, line_checks}

@@ -26,7 +26,9 @@ use Rattle.workload.specs.declared.object.Declared.{Declared}
 use Rattle.workload.specs.declared.turn.Turn.{Turn}
 use Rattle.workload.specs.declared.limits.TheConstants.{MAX_WORKERS}
 use Rattle.workload.specs.declared.line.Line.{Line}
-use Rattle.workload.specs.Words.{spelled, keyword_of, arguments_of, keyword_at, map_verb, map_operands, atomic_verb, atomic_operands, mutex_verb, rw_mutex_verb, cond_verb, group_verb, group_operands, pool_verb, pool_operands, verb_of, operands_of, kind_parameters, turn_word}
+use Rattle.workload.specs.KeywordWords.{keyword_at}
+use Rattle.workload.specs.CallWords.{map_verb, map_operands, atomic_verb, atomic_operands, mutex_verb, rw_mutex_verb, cond_verb, group_verb, group_operands, pool_verb, pool_operands, verb_of, operands_of}
+use Rattle.workload.specs.Words.{spelled, keyword_of, arguments_of, kind_parameters, turn_word}
 use Rattle.workload.specs.Plan.{word_of}
 use Rattle.workload.specs.Draft.{Draft, declared, may_follow, names_reference, is_kind, is_map_call, is_group_call, is_pool_call, is_call, is_item, is_range, keys_of, names_object}
 use Rattle.workload.specs.Checks.{Check, first_failing, line_checks, map_form, atomic_form, mutex_form, rw_mutex_form, cond_form, group_form, pool_form, form_of, form_words, PassesWith, parameter_words, reference_checks, ranges_in, item_checks, first_checks}

@@ -3,7 +3,7 @@ ghost use Rattle.std.specs.Prelude.{◌≡◌, ◌≢◌, ℕ, ℤ, ◌∷◌, [
 ghost use Rattle.std.specs.Fmt.{decimal, signed_decimal};
 ghost use Rattle.sync_model.specs.Name.{is_name};
 ghost use Rattle.sync_model.specs.SequentialAtomic.{has_bits, is_of};
-ghost use Rattle.workload.specs.Words.{number_word};
+ghost use Rattle.workload.specs.NumberWords.{number_word};
 ghost use Rattle.workload.specs.Plan.{is_amount};
 ghost use Rattle.workload.specs.Checks.{bits_form, first_failing, form_words};
 ghost use Rattle.workload.specs.declared.object.ObjectKind.TheVariants as ObjectKind;

@@ -3,7 +3,7 @@ ghost use Rattle.std.specs.Prelude.{◌≡◌, ◌∷◌, [], ◌≤◌, true, m
 ghost use Rattle.std.specs.Fmt.{decimal, signed_decimal};
 ghost use Rattle.sync_model.specs.Name.{is_name};
 ghost use Rattle.sync_model.specs.SequentialAtomic.{is_of};
-ghost use Rattle.workload.specs.Words.{is_number_to, is_amount_word, is_number_word, number_word};
+ghost use Rattle.workload.specs.NumberWords.{is_number_to, is_amount_word, is_number_word, number_word};
 ghost use Rattle.workload.specs.Plan.{is_amount};
 ghost use Rattle.workload.specs.Checks.{operand_check};
 ghost use Rattle.workload_reader.specs.LineResult.{IsFault, IsOperands};
@@ -11,8 +11,8 @@ ghost use Rattle.workload.specs.declared.limits.TheConstants.{MAX_VALUE};
 
 use crate::number::{amount, atomic_number, number};
 use std::alloc::Global;
-use sync_model::{AtomicKind, Name, Number};
 use sync_model::name::is_name;
+use sync_model::{AtomicKind, Name, Number};
 use workload::fault::LineFault;
 use workload::keyword::Operand;
 use workload::limits::MAX_VALUE;

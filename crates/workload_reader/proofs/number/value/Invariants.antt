@@ -1,5 +1,5 @@
 use Rattle.std.proofs.Common.{◌≡◌, take}
-use Rattle.workload.specs.Words.{number_of}
+use Rattle.workload.specs.NumberWords.{number_of}
 use Rattle.workload_reader.proofs.number.value.Given as goal
 
 abbrev pub invariant-loop-digit : goal.invariant-loop-digit
