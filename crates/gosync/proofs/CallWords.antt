@@ -2,7 +2,7 @@
 use Rattle.std.proofs.Common.{◌≤◌, length, arith}
 use Rattle.workload.specs.declared.keyword.Verb.{Verb}
 use Rattle.workload.specs.declared.keyword.Verb.TheVariants.{Load, Store, LoadOrStore, LoadAndDelete, Delete, Swap, CompareAndSwap, CompareAndDelete, Clear, Range, Add, And, Or, Lock, Unlock, TryLock, RLock, RUnlock, TryRLock, Wait, Signal, Broadcast, Done, Do, Call, Value, Put, Get, Sweep}
-use Rattle.workload.specs.Words.{verb_word}
+use Rattle.workload.specs.KeywordWords.{verb_word}
 
 pub verb_short : (verb : Verb) → length (verb_word verb) ≤ 9
 verb_short Load = omega arith

@@ -1,7 +1,6 @@
 -- The report: a line for each completed call, worker by worker, and then, where every script has ended, a line for each value that an object holds.
 use Rattle.std.specs.Prelude.{ℕ, ◌+◌, Bool, true, false, List, [], ◌∷◌, ◌++◌, map, codes, Option, Some, None, slice_get}
 use Rattle.std.specs.List.{flat_map}
-use Rattle.std.specs.Option.{option_map_or}
 use Rattle.std.specs.Fmt.{decimal, signed_decimal}
 use Rattle.sync_model.specs.declared.call.Call.{Call}
 use Rattle.sync_model.specs.declared.call.Reply.{Reply}
@@ -16,27 +15,20 @@ use Rattle.sync_model.specs.declared.once_call.OnceReply.{OnceReply}
 use Rattle.sync_model.specs.declared.once_call.OnceReply.TheVariants as once_replies
 use Rattle.sync_model.specs.declared.pool_call.PoolReply.{PoolReply}
 use Rattle.sync_model.specs.declared.pool_call.PoolReply.TheVariants as pool_replies
-use Rattle.workload.specs.declared.line.Line.TheVariants as lines
 use Rattle.workload.specs.declared.object.ObjectLine.{ObjectLine}
-use Rattle.workload.specs.Plan.{Plan, object_of}
-use Rattle.workload.specs.Words.{number_word, spelled}
+use Rattle.workload.specs.Canonical.{behind_spaces, call_line, name_of}
+use Rattle.workload.specs.Plan.{Plan}
+use Rattle.workload.specs.NumberWords.{number_word}
+use Rattle.workload.specs.Words.{spelled}
 use Rattle.step_runner.specs.declared.ends.End.{End}
 use Rattle.step_runner.specs.declared.ends.End.TheVariants.{Number, Pair}
 use Rattle.step_runner.specs.Pairs.{left_by}
 use Rattle.step_runner.specs.declared.outcome.Outcome.{Outcome}
 use Rattle.step_runner.specs.declared.outcome.Outcome.TheVariants as outcomes
 
--- the words, each behind a space
-abbrev pub spaced : List (List ℕ) → List ℕ
-spaced words = flat_map (λ word. 32 ∷ word) words
-
--- the name of the object at a place
-abbrev pub name_at : List ObjectLine → ℕ → List ℕ
-name_at objects place = option_map_or (λ object. object.name) (slice_get objects place) []
-
 -- the words of a call, as a workload's text spells them
 abbrev pub call_words : List ObjectLine → Call → List (List ℕ)
-call_words objects call = spelled (lines.Call (name_at objects (object_of call)) call)
+call_words objects call = spelled (call_line objects call)
 
 abbrev pub truth_text : Bool → List ℕ
 truth_text true = codes "true"
@@ -57,7 +49,7 @@ pair_text pair = pair.0 ++ codes "=" ++ decimal pair.1
 -- the keys that a `range` shows, with one space between two
 abbrev pub pairs_text : List (List ℕ × ℕ) → List ℕ
 pairs_text [] = codes "-"
-pairs_text (pair ∷ pairs) = pair_text pair ++ spaced (map pair_text pairs)
+pairs_text (pair ∷ pairs) = pair_text pair ++ behind_spaces (map pair_text pairs)
 
 -- a reply of an atomic: nothing, a number, or whether it was the old one
 abbrev pub atomic_reply_text : AtomicReply → List ℕ
@@ -100,7 +92,7 @@ reply_text (replies.Pool reply) = pool_reply_text reply
 -- the line of a completed call: `WORKER.INDEX CALL -> REPLY`
 abbrev pub call_line : List ObjectLine → ℕ → ℕ → Call → Reply → List ℕ
 call_line objects worker index call reply =
-    decimal worker ++ codes "." ++ decimal index ++ spaced (call_words objects call) ++ codes " -> " ++ reply_text reply ++ codes "\n"
+    decimal worker ++ codes "." ++ decimal index ++ behind_spaces (call_words objects call) ++ codes " -> " ++ reply_text reply ++ codes "\n"
 
 -- a worker's completed calls, from an index on: as many of its script as there are replies
 abbrev pub calls_text : List ObjectLine → ℕ → ℕ → List Call → List Reply → List ℕ
@@ -116,8 +108,8 @@ workers_text objects worker (script ∷ scripts) [] = []
 
 -- the line of an atomic at the end, `end NAME VALUE`, and of a key that is there in a map, `end NAME KEY VALUE`
 abbrev pub end_line : List ObjectLine → End → List ℕ
-end_line objects (Number object number) = codes "end" ++ spaced (name_at objects object ∷ number_word number ∷ []) ++ codes "\n"
-end_line objects (Pair object key value) = codes "end" ++ spaced (name_at objects object ∷ key ∷ decimal value ∷ []) ++ codes "\n"
+end_line objects (Number object number) = codes "end" ++ behind_spaces (name_of (slice_get objects object) ∷ number_word number ∷ []) ++ codes "\n"
+end_line objects (Pair object key value) = codes "end" ++ behind_spaces (name_of (slice_get objects object) ∷ key ∷ decimal value ∷ []) ++ codes "\n"
 
 abbrev pub ends_text : List ObjectLine → List End → List ℕ
 ends_text objects ends = flat_map (end_line objects) ends

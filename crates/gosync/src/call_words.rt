@@ -1,28 +1,20 @@
 //! The words of a call in a line of the report, as a workload's text spells them.
 ghost use Rattle.std.specs.Prelude.{◌≡◌, ◌+◌, ◌≤◌, ◌++◌, ◌∷◌, length, map, vec_len, vec_capacity};
 ghost use Rattle.std.specs.Fmt.{decimal};
-ghost use Rattle.workload.specs.Words.{verb_word, verb_of, map_values, map_operands, atomic_operands, group_operands, pool_operands, operands_of};
-ghost use Rattle.gosync.specs.ReportText.{spaced, name_at, call_words};
+ghost use Rattle.workload.specs.KeywordWords.{verb_word};
+ghost use Rattle.workload.specs.CallWords.{verb_of, map_values, map_operands, atomic_operands, group_operands, pool_operands, operands_of};
+ghost use Rattle.workload.specs.Canonical.{behind_spaces};
+ghost use Rattle.gosync.specs.ReportText.{call_words};
 
 use crate::line::{push_atomic_word, push_number_word, push_signed_word, push_word};
 use sync_model::{AtomicCall, Call, MapCall, Name, PoolCall, WaitGroupCall};
 use workload::ObjectLine;
-use workload::printing::{place_of, verb, verb_text};
+use workload::call::{place_of, verb, verb_text};
+use workload::object::name_at;
 
 /// The most bytes that the words of a call have in a line: a word of up to 9 bytes, two names and two
 /// numbers, each behind a space.
 pub const WORDS_ROOM: usize = 118;
-
-/// The name of the object at a place.
-pub fn name_at(objects: &[ObjectLine], place: usize) -> &[u8]
-    ensures name { result.now ≡ name_at objects.now place }
-    ensures short { length result.now ≤ 32 }
-{
-    match objects.get(place) {
-        Some(object) => object.name.as_bytes(),
-        None => b"",
-    }
-}
 
 /// Adds the word of a call behind a space.
 #[tactic(auto, using(crate::proofs::CallWords::verb_short))]
@@ -38,7 +30,7 @@ fn push_verb(line: &mut Vec<u8>, call: &Call)
 /// Adds the values of a call of a map, each behind a space.
 fn push_map_values(line: &mut Vec<u8>, call: &MapCall<Name>)
     requires { vec_len line.old + 42 ≤ vec_capacity line.old }
-    ensures text { line.new.items ≡ line.old.items ++ spaced (map decimal (map_values call.now)) }
+    ensures text { line.new.items ≡ line.old.items ++ behind_spaces (map decimal (map_values call.now)) }
     ensures len { vec_len line.new ≤ vec_len line.old + 42 }
     ensures room { vec_capacity line.old ≤ vec_capacity line.new }
 {
@@ -61,7 +53,7 @@ fn push_map_values(line: &mut Vec<u8>, call: &MapCall<Name>)
 /// Adds the operands of a call of a map, each behind a space.
 fn push_map_operands(line: &mut Vec<u8>, call: &MapCall<Name>)
     requires { vec_len line.old + 75 ≤ vec_capacity line.old }
-    ensures text { line.new.items ≡ line.old.items ++ spaced (map_operands call.now) }
+    ensures text { line.new.items ≡ line.old.items ++ behind_spaces (map_operands call.now) }
     ensures len { vec_len line.new ≤ vec_len line.old + 75 }
     ensures room { vec_capacity line.old ≤ vec_capacity line.new }
 {
@@ -74,7 +66,7 @@ fn push_map_operands(line: &mut Vec<u8>, call: &MapCall<Name>)
 /// Adds the operands of a call of an atomic, each behind a space.
 fn push_atomic_operands(line: &mut Vec<u8>, call: AtomicCall)
     requires { vec_len line.old + 75 ≤ vec_capacity line.old }
-    ensures text { line.new.items ≡ line.old.items ++ spaced (atomic_operands call) }
+    ensures text { line.new.items ≡ line.old.items ++ behind_spaces (atomic_operands call) }
     ensures len { vec_len line.new ≤ vec_len line.old + 75 }
     ensures room { vec_capacity line.old ≤ vec_capacity line.new }
 {
@@ -94,7 +86,7 @@ fn push_atomic_operands(line: &mut Vec<u8>, call: AtomicCall)
 /// Adds the operands of a call of a wait group, each behind a space.
 fn push_group_operands(line: &mut Vec<u8>, call: WaitGroupCall)
     requires { vec_len line.old + 75 ≤ vec_capacity line.old }
-    ensures text { line.new.items ≡ line.old.items ++ spaced (group_operands call) }
+    ensures text { line.new.items ≡ line.old.items ++ behind_spaces (group_operands call) }
     ensures len { vec_len line.new ≤ vec_len line.old + 75 }
     ensures room { vec_capacity line.old ≤ vec_capacity line.new }
 {
@@ -107,7 +99,7 @@ fn push_group_operands(line: &mut Vec<u8>, call: WaitGroupCall)
 /// Adds the operands of a call of a pool, each behind a space.
 fn push_pool_operands(line: &mut Vec<u8>, call: PoolCall)
     requires { vec_len line.old + 75 ≤ vec_capacity line.old }
-    ensures text { line.new.items ≡ line.old.items ++ spaced (pool_operands call) }
+    ensures text { line.new.items ≡ line.old.items ++ behind_spaces (pool_operands call) }
     ensures len { vec_len line.new ≤ vec_len line.old + 75 }
     ensures room { vec_capacity line.old ≤ vec_capacity line.new }
 {
@@ -120,7 +112,7 @@ fn push_pool_operands(line: &mut Vec<u8>, call: PoolCall)
 /// Adds the operands of a call, each behind a space.
 fn push_operands(line: &mut Vec<u8>, call: &Call)
     requires { vec_len line.old + 75 ≤ vec_capacity line.old }
-    ensures text { line.new.items ≡ line.old.items ++ spaced (operands_of call.now) }
+    ensures text { line.new.items ≡ line.old.items ++ behind_spaces (operands_of call.now) }
     ensures len { vec_len line.new ≤ vec_len line.old + 75 }
     ensures room { vec_capacity line.old ≤ vec_capacity line.new }
 {
@@ -142,7 +134,7 @@ fn push_operands(line: &mut Vec<u8>, call: &Call)
 /// Adds the words of a call, each behind a space.
 pub fn push_call(line: &mut Vec<u8>, objects: &[ObjectLine], call: &Call)
     requires { vec_len line.old + WORDS_ROOM ≤ vec_capacity line.old }
-    ensures text { line.new.items ≡ line.old.items ++ spaced (call_words objects.now call.now) }
+    ensures text { line.new.items ≡ line.old.items ++ behind_spaces (call_words objects.now call.now) }
     ensures len { vec_len line.new ≤ vec_len line.old + WORDS_ROOM }
     ensures room { vec_capacity line.old ≤ vec_capacity line.new }
 {

@@ -2,10 +2,10 @@
 ghost use Rattle.std.specs.Prelude.{◌≡◌, ◌≤◌, vec_capacity};
 ghost use Rattle.gosync.specs.ReportText.{end_line};
 
-use crate::call_words::name_at;
 use crate::line::{LINE_ROOM, push, push_atomic_word, push_number_word, push_word};
 use step_runner::End;
 use workload::ObjectLine;
+use workload::object::name_at;
 
 /// Makes the line of a value that an object holds at the end.
 pub fn set_end_line(line: &mut Vec<u8>, objects: &[ObjectLine], end: &End)

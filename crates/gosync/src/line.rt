@@ -1,7 +1,7 @@
 //! A line of the report, in room that was taken before.
 ghost use Rattle.std.specs.Prelude.{◌≡◌, ◌+◌, ◌≤◌, ◌++◌, ◌∷◌, length, vec_len, vec_capacity};
 ghost use Rattle.std.specs.Fmt.{decimal, signed_decimal};
-ghost use Rattle.workload.specs.Words.{number_word};
+ghost use Rattle.workload.specs.NumberWords.{number_word};
 ghost use Rattle.gosync.specs.ReportText.{truth_text};
 
 use itoa::Buffer;

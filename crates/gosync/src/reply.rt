@@ -2,7 +2,8 @@
 ghost use Rattle.std.specs.Prelude.{◌≡◌, ◌+◌, ◌*◌, ◌≤◌, ◌++◌, true, length, map, vec_len, vec_capacity};
 ghost use Rattle.workload.specs.declared.limits.TheConstants.{MAX_KEYS};
 ghost use Rattle.step_runner.specs.Pairs.{has_pairs_to};
-ghost use Rattle.gosync.specs.ReportText.{spaced, map_reply_text, pair_text, pairs_text, atomic_reply_text, lock_reply_text, once_reply_text, once_func_reply_text, pool_reply_text, reply_text};
+ghost use Rattle.workload.specs.Canonical.{behind_spaces};
+ghost use Rattle.gosync.specs.ReportText.{map_reply_text, pair_text, pairs_text, atomic_reply_text, lock_reply_text, once_reply_text, once_func_reply_text, pool_reply_text, reply_text};
 
 use crate::line::{push, push_atomic_number, push_number, push_signed, push_truth};
 use sync_model::{AtomicReply, LockReply, MapReply, Name, OnceReply, PoolReply, Reply};
@@ -50,7 +51,7 @@ fn push_pair(line: &mut Vec<u8>, pair: &(Name, u64))
 /// Adds keys with their values, each behind a space.
 fn push_more_pairs(line: &mut Vec<u8>, pairs: &[(Name, u64)])
     requires { vec_len line.old + 54 * length pairs.now ≤ vec_capacity line.old }
-    ensures text { line.new.items ≡ line.old.items ++ spaced (map pair_text pairs.now) }
+    ensures text { line.new.items ≡ line.old.items ++ behind_spaces (map pair_text pairs.now) }
     ensures len { vec_len line.new ≤ vec_len line.old + 54 * length pairs.now }
     ensures room { vec_capacity line.old ≤ vec_capacity line.new }
 {

@@ -16,7 +16,8 @@ use std::alloc::Global;
 use step_runner::{Outcome, stepped};
 use sync_outside::{Sink, Sources};
 use workload::laws::read_or_refused;
-use workload::{ParseFault, Workload, parse};
+use workload::{ParseFault, Workload};
+use workload_reader::parse;
 
 /// The workload that a file is read as, or how the program ends without one.
 fn read_workload<S: Sources>(alloc: Global, file: &str, src: &mut S) -> Result<Workload, Status>

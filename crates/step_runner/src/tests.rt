@@ -2,7 +2,7 @@ use crate::{End, Outcome, Report, stepped};
 use std::alloc::{AllocError, Global};
 use std::test::Fail;
 use sync_model::{AtomicReply, LockReply, MapReply, Name, Number, OnceReply, PoolReply, Reply};
-use workload::parse;
+use workload_reader::parse;
 
 fn push_number(alloc: Global, text: &mut String, number: Number) -> Result<(), AllocError> {
     let word = match number {

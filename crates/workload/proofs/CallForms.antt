@@ -31,10 +31,10 @@ use Rattle.workload.specs.declared.limits.TheConstants.{MAX_VALUE}
 use Rattle.workload.specs.declared.object.ObjectKind.{ObjectKind}
 use Rattle.workload.specs.declared.object.ObjectKind.TheVariants as kinds
 use Rattle.workload.specs.Plan.{has_call}
-use Rattle.workload.specs.Words.{map_verb, map_operands, atomic_verb, atomic_operands, mutex_verb, rw_mutex_verb, cond_verb, group_verb, group_operands, pool_verb, pool_operands, verb_of, operands_of, number_word, is_number_to}
+use Rattle.workload.specs.NumberWords.{number_word, is_number_to}
+use Rattle.workload.specs.CallWords.{map_verb, map_operands, atomic_verb, atomic_operands, mutex_verb, rw_mutex_verb, cond_verb, group_verb, group_operands, pool_verb, pool_operands, verb_of, operands_of}
 use Rattle.workload.specs.Draft.{keys_of, is_call, is_map_call, is_group_call, is_pool_call, is_value, is_range}
-use Rattle.workload.specs.Checks.{map_form, atomic_form, bits_form, mutex_form, rw_mutex_form, cond_form, group_form, pool_form, form_of, ranges_in}
-use Rattle.workload.specs.LineResult.{PassesWith}
+use Rattle.workload.specs.Checks.{PassesWith, map_form, atomic_form, bits_form, mutex_form, rw_mutex_form, cond_form, group_form, pool_form, form_of, ranges_in}
 use Rattle.workload.proofs.Passing.{both}
 use Rattle.workload.proofs.Numbers.{is_number-decimal, number_of-decimal}
 use Rattle.workload.proofs.CallWords.{number_passes, amount_passes}

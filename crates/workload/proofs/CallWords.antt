@@ -24,7 +24,8 @@ use Rattle.workload.specs.declared.keyword.Verb.{Verb}
 use Rattle.workload.specs.declared.keyword.Verb.TheVariants as verbs
 use Rattle.workload.specs.declared.limits.TheConstants.{MAX_AMOUNT, MAX_VALUE}
 use Rattle.workload.specs.Plan.{is_amount}
-use Rattle.workload.specs.Words.{map_verb, map_operands, atomic_verb, atomic_operands, group_verb, group_operands, pool_verb, pool_operands, is_amount_word, number_word, number_of, is_number, is_number_to, is_signed_word, is_number_word}
+use Rattle.workload.specs.NumberWords.{is_amount_word, number_word, number_of, is_number, is_number_to, is_signed_word, is_number_between, is_number_word}
+use Rattle.workload.specs.CallWords.{map_verb, map_operands, atomic_verb, atomic_operands, group_verb, group_operands, pool_verb, pool_operands}
 use Rattle.workload.specs.Draft.{is_map_call, is_group_call, is_pool_call, is_value}
 use Rattle.workload.proofs.Passing.{both, pair}
 use Rattle.workload.proofs.Numbers.{decimal-number_of, number_of-decimal, is_number-decimal}
@@ -169,18 +170,19 @@ number_said types.Bool word h = (refl, truth_said word h)
 unsigned_passes : (most n : ℕ) → n ≤ most → n < 2 ^ 64 → is_number_to most (decimal n) ≡ true
 unsigned_passes most n le small = rw (is_number-decimal n small, number_of-decimal n small) (le-leb n most le)
 
+-- a word of digits, which has no sign, is at most what it may be
+digits_between : (least most : ℕ) (word : List ℕ) → is_number_to most word ≡ true → is_number_between least most word ≡ true
+digits_between least most [] h = absurd cc
+digits_between least most (byte ∷ bytes) h =
+    elim (eqb byte 45) as (λ b. eqb byte 45 ≡ b → cond b (is_number_to least bytes && nat_lt 0 (number_of bytes)) (is_number_to most (byte ∷ bytes)) ≡ true) [
+      | true ↦ λ sign. absurd (no_digit byte bytes (eqb-true byte 45 sign) (both (is_number (byte ∷ bytes)) (nat_le (number_of (byte ∷ bytes)) most) h).0)
+      | false ↦ λ other. h
+    ] refl
+
 signed_passes : (bound : ℕ) (z : ℤ) → bound ≤ 2 ^ 63 → is_signed bound z ≡ true → is_signed_word bound (signed_decimal z) ≡ true
 signed_passes bound (pos n) fits h =
     let less = ltb-true n bound h in
-    plain bound (decimal n) (unsigned_passes (bound - 1) n (omega arith) (omega arith))
-  where
-    plain : (bound : ℕ) (word : List ℕ) → is_number_to (bound - 1) word ≡ true → is_signed_word bound word ≡ true
-    plain bound [] h = absurd cc
-    plain bound (byte ∷ bytes) h =
-        elim (eqb byte 45) as (λ b. eqb byte 45 ≡ b → cond b (is_number_to bound bytes && nat_lt 0 (number_of bytes)) (is_number_to (bound - 1) (byte ∷ bytes)) ≡ true) [
-          | true ↦ λ sign. absurd (no_digit byte bytes (eqb-true byte 45 sign) (both (is_number (byte ∷ bytes)) (nat_le (number_of (byte ∷ bytes)) (bound - 1)) h).0)
-          | false ↦ λ other. h
-        ] refl
+    digits_between bound (bound - 1) (decimal n) (unsigned_passes (bound - 1) n (omega arith) (omega arith))
 signed_passes bound (negsuc n) fits h =
     let less = ltb-true n bound h in
     pair (is_number_to bound (decimal (suc n))) (nat_lt 0 (number_of (decimal (suc n)))) (unsigned_passes bound (suc n) (omega arith) (omega arith)) (ap (λ (m : ℕ). nat_lt 0 m) (number_of-decimal (suc n) (omega arith)) ∙ lt-ltb 0 (suc n) (omega arith))
@@ -252,15 +254,7 @@ amount_said (byte ∷ bytes) h =
 pub amount_passes : (z : ℤ) → is_amount z ≡ true → is_amount_word (signed_decimal z) ≡ true
 amount_passes (pos n) h =
     let most = leb-true n MAX_AMOUNT h in
-    plain (decimal n) (unsigned_passes MAX_AMOUNT n most (omega arith))
-  where
-    plain : (word : List ℕ) → is_number_to MAX_AMOUNT word ≡ true → is_amount_word word ≡ true
-    plain [] h = absurd cc
-    plain (byte ∷ bytes) h =
-        elim (eqb byte 45) as (λ b. eqb byte 45 ≡ b → cond b (is_number_to MAX_AMOUNT bytes && nat_lt 0 (number_of bytes)) (is_number_to MAX_AMOUNT (byte ∷ bytes)) ≡ true) [
-          | true ↦ λ sign. absurd (no_digit byte bytes (eqb-true byte 45 sign) (both (is_number (byte ∷ bytes)) (nat_le (number_of (byte ∷ bytes)) MAX_AMOUNT) h).0)
-          | false ↦ λ other. h
-        ] refl
+    digits_between MAX_AMOUNT MAX_AMOUNT (decimal n) (unsigned_passes MAX_AMOUNT n most (omega arith))
 amount_passes (negsuc n) h = signed_passes MAX_AMOUNT (negsuc n) (omega arith) h
 
 -- ---- calls of wait groups and pools

@@ -29,7 +29,7 @@ use Rattle.workload.specs.Readable.{may_join, may_declare, IsReadable}
 use Rattle.workload.proofs.Passing.{both, pair, not_true}
 use Rattle.workload.proofs.KeyLemmas.{distinct_more, distinct_same}
 use Rattle.workload.proofs.DraftLemmas.{valid_parts, declare_more}
-use Rattle.workload.proofs.PrintLemmas.{eights_first}
+use Rattle.workload.proofs.Eights.{eights_first}
 use Rattle.workload.proofs.FollowOn.{FollowOn, follow_append, follow_to}
 
 -- ---- objects

@@ -44,16 +44,18 @@ use Rattle.workload.specs.declared.turn.Turn.{Turn}
 use Rattle.workload.specs.declared.turn.Turn.TheVariants as turns
 use Rattle.workload.specs.Plan.{Plan, word_of, reference_of, is_target, is_amount, object_of, has_call}
 use Rattle.workload.specs.Lines.{lines_of, words_of, is_short, is_clean, is_significant}
-use Rattle.workload.specs.Words.{keyword_word, keyword_at, spelled, verb_word, verb_of, operands_of, kind_parameters, number_word, turn_word, is_number, is_number_to, is_amount_word, number_of}
+use Rattle.workload.specs.KeywordWords.{keyword_word, keyword_at, verb_word}
+use Rattle.workload.specs.NumberWords.{number_word, is_number, is_number_to, is_amount_word, number_of}
+use Rattle.workload.specs.CallWords.{verb_of, operands_of}
+use Rattle.workload.specs.Words.{spelled, kind_parameters, turn_word}
 use Rattle.workload.specs.Draft.{Draft, started, with_line, declared, may_follow, names_object, names_reference, is_kind, is_call, is_value, is_item, is_range, keys_of, count_of, limit_of, range_count}
-use Rattle.workload.specs.Checks.{Check, first_failing, map_form, bits_form, atomic_form, mutex_form, rw_mutex_form, cond_form, group_form, pool_form, form_of, parameters_of, parameters_checks, reference_checks, is_mutex, is_int64, key_operands, ranges_in, limit_checks, form_checks, object_checks, worker_checks, item_checks, line_checks, first_checks, word_checks, reason_of}
+use Rattle.workload.specs.Checks.{Check, first_failing, form_words, parameter_words, PassesWith, map_form, bits_form, atomic_form, mutex_form, rw_mutex_form, cond_form, group_form, pool_form, form_of, parameters_of, parameters_checks, reference_checks, is_mutex, is_int64, key_operands, ranges_in, limit_checks, form_checks, object_checks, worker_checks, item_checks, line_checks, first_checks, word_checks, reason_of}
 use Rattle.workload.specs.Reads.{Says, IsRead, ReadsOn, Reads, FirstFault, IsRefused}
 use Rattle.workload.proofs.Passing.{both, pair}
-use Rattle.workload.specs.LineResult.{form_words, parameter_words, PassesWith}
 use Rattle.workload.proofs.Keywords.{keyword_from}
 use Rattle.workload.proofs.CallWords.{number_at, number_said, signed_of, amount_said}
 use Rattle.workload.proofs.CallForms.{call_form, ranges_of}
-use Rattle.workload.proofs.CheckLemmas.{form_passes}
+use Rattle.workload.proofs.FirstFailing.{form_passes}
 use Rattle.workload.proofs.Numbers.{decimal-number_of}
 use Rattle.workload.proofs.OneReading.{IsSmall, read_small}
 

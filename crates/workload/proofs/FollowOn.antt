@@ -12,7 +12,8 @@ use Rattle.workload.specs.declared.limits.TheConstants.{MAX_LINE, MAX_WORKERS}
 use Rattle.workload.specs.declared.object.ObjectWord.TheVariants as words
 use Rattle.workload.specs.declared.line.Line.{Line}
 use Rattle.workload.specs.Lines.{lines_of, words_of, is_clean, is_significant}
-use Rattle.workload.specs.Words.{spelled, first_spelled, keyword_word, keyword_of, arguments_of}
+use Rattle.workload.specs.KeywordWords.{keyword_word}
+use Rattle.workload.specs.Words.{spelled, first_spelled, keyword_of, arguments_of}
 use Rattle.workload.specs.Draft.{Draft, started, with_line, may_follow}
 use Rattle.workload.specs.Reads.{Says, IsRead, ReadsOn}
 use Rattle.workload.specs.Canonical.{text_line, lines_text}

@@ -1,6 +1,5 @@
 -- The words that lines begin with, and back.
-use Rattle.std.proofs.Common.{◌≡◌, ℕ, true, false, cond, List, [], ◌∷◌, Option, Some, refl, sym, ap, subst, ◌∙◌}
-use Rattle.std.specs.Prelude.{Result, Ok, Err}
+use Rattle.std.proofs.Common.{◌≡◌, ℕ, true, false, cond, List, [], ◌∷◌, Some, refl, ap, ◌∙◌}
 use Rattle.std.specs.Str.{bytes_eq}
 use Rattle.std.specs.List.{AllByRecursion}
 use Rattle.std.proofs.lemmas.Slice.Eq.{bytes_eq-Decides}
@@ -9,12 +8,7 @@ use Rattle.workload.specs.declared.keyword.Keyword.{Keyword}
 use Rattle.workload.specs.declared.keyword.Keyword.TheVariants as keywords
 use Rattle.workload.specs.declared.keyword.Verb.TheVariants as verbs
 use Rattle.workload.specs.declared.object.ObjectWord.TheVariants as words
-use Rattle.workload.specs.declared.fault.LineFault.{LineFault}
-use Rattle.workload.specs.declared.line.Line.{Line}
-use Rattle.workload.specs.Words.{keyword_word, keyword_of, keyword_at, keyword_in, keywords_known}
-use Rattle.workload.specs.Draft.{Draft}
-use Rattle.workload.specs.Checks.{line_checks}
-use Rattle.workload.specs.LineResult.{IsFault, IsLineOf, IsLine}
+use Rattle.workload.specs.KeywordWords.{keyword_word, keyword_at, keyword_in, keywords_known}
 
 -- each keyword is read back from its word
 pub keyword_at-keyword_word : (k : Keyword) → keyword_at (keyword_word k) ≡ Some k
@@ -83,9 +77,3 @@ in_table (e ∷ entries) word k all h =
 -- a word that is a keyword is that keyword's word
 pub keyword_from : (word : List ℕ) (k : Keyword) → keyword_at word ≡ Some k → word ≡ keyword_word k
 keyword_from word k h = in_table keywords_known word k spells h
-
--- a line of the keyword that the word is
-pub line_of_keyword : (d : Draft) (word : List ℕ) (k : Keyword) (arguments : List (List ℕ)) (result : Result Line LineFault) → keyword_at word ≡ Some k → IsLineOf d k arguments result → IsLine d word arguments result
-line_of_keyword d word k arguments (Ok line) is h =
-    (h.0, ap (λ (w : List ℕ). w ∷ arguments) (keyword_from word k is ∙ ap keyword_word (sym h.1)) ∙ ap (λ (ws : List (List ℕ)). keyword_word (keyword_of line) ∷ ws) (sym h.2))
-line_of_keyword d word k arguments (Err fault) is h = subst (λ (o : Option Keyword). IsFault (line_checks d o arguments) fault) (sym is) h

@@ -38,7 +38,10 @@ use Rattle.workload.specs.declared.line.Line.{Line}
 use Rattle.workload.specs.declared.line.Line.TheVariants as lines
 use Rattle.workload.specs.declared.turn.Turn.{Turn}
 use Rattle.workload.specs.declared.turn.Turn.TheVariants as turns
-use Rattle.workload.specs.Words.{spelled, first_spelled, object_word, group_operands, pool_operands, kind_parameters, verb_word, verb_of, operands_of, map_values, map_operands, atomic_operands, number_word, turn_word}
+use Rattle.workload.specs.KeywordWords.{object_word, verb_word}
+use Rattle.workload.specs.NumberWords.{number_word}
+use Rattle.workload.specs.CallWords.{group_operands, pool_operands, verb_of, operands_of, map_values, map_operands, atomic_operands}
+use Rattle.workload.specs.Words.{spelled, first_spelled, kind_parameters, turn_word}
 use Rattle.workload.specs.Plan.{word_of, is_amount, object_of, has_call}
 use Rattle.workload.specs.declared.object.Declared.{Declared}
 use Rattle.workload.proofs.CallWords.{narrow, amount_small}

@@ -25,14 +25,16 @@ use Rattle.workload.specs.declared.turn.Turn.{Turn}
 use Rattle.workload.specs.declared.turn.Turn.TheVariants as turns
 use Rattle.workload.specs.Plan.{Plan, word_of, reference_of, is_target, object_of, has_call}
 use Rattle.workload.specs.Lines.{lines_of, words_of, is_significant}
-use Rattle.workload.specs.Words.{keyword_of, arguments_of, verb_of, operands_of, kind_parameters, turn_word, is_number, is_number_to, is_amount_word}
+use Rattle.workload.specs.NumberWords.{is_number, is_number_to, is_amount_word}
+use Rattle.workload.specs.CallWords.{verb_of, operands_of}
+use Rattle.workload.specs.Words.{keyword_of, arguments_of, kind_parameters, turn_word}
 use Rattle.workload.specs.Draft.{Draft, count_of, limit_of, is_kind, names_reference, declared, may_follow, names_object, is_call, is_item, keys_of, call_count, key_count, is_range, range_count}
-use Rattle.workload.specs.Checks.{first_failing, form_of, form_checks, parameters_of, parameters_checks, reference_checks, is_mutex, is_int64, ranges_in, worker_checks, item_checks, line_checks, word_checks, reason_of}
+use Rattle.workload.specs.Checks.{Check, first_failing, form_of, form_checks, parameters_of, parameters_checks, reference_checks, is_mutex, is_int64, ranges_in, worker_checks, item_checks, line_checks, word_checks, reason_of}
 use Rattle.workload.specs.Reads.{Says, IsRead, ReadsOn, Reads, FirstFault, IsRefused}
 use Rattle.workload.proofs.Passing.{both}
 use Rattle.workload.proofs.Follows.{object_follows, schedule_follows, call_follows}
 use Rattle.workload.proofs.Numbers.{is_number-decimal, number_of-decimal}
-use Rattle.workload.proofs.CheckLemmas.{passes_first, form_passes, items_pass, turns_pass}
+use Rattle.workload.proofs.FirstFailing.{passes_first, form_passes}
 use Rattle.workload.proofs.CallWords.{amount_passes}
 use Rattle.workload.proofs.References.{Refers, some_reference, no_reference}
 use Rattle.workload.proofs.CallForms.{value_passes, call_form, ranges_of}
@@ -67,7 +69,7 @@ items_all_pass : (workers : ℕ) (ts : List Turn) → workers ≤ MAX_WORKERS �
 items_all_pass workers [] few p = refl
 items_all_pass workers (t ∷ ts) few p =
     let parts = both (is_item workers t) (list_all (is_item workers) ts) p in
-    items_pass workers (turn_word t) (map turn_word ts) (item_passes workers t few parts.0) ∙ items_all_pass workers ts few parts.1
+    passes_first (item_checks workers (turn_word t)) (flat_map (item_checks workers) (map turn_word ts)) (item_passes workers t few parts.0) ∙ items_all_pass workers ts few parts.1
 
 form_of_call : (d : Draft) (found : Declared) (c : Call) → has_call found.kind c ≡ true → is_call c ≡ true → nat_lt (call_count d.plan.scripts) MAX_CALLS ≡ true → nat_le (key_count d.plan.scripts (keys_of c)) MAX_KEYS ≡ true
     → nat_le (range_count d.plan.scripts + count_by is_range (c ∷ [])) MAX_RANGES ≡ true
@@ -141,7 +143,8 @@ line_passes d (lines.Worker i) few f = worker_passes d.plan.workers i few f
 line_passes d (lines.Schedule ts) few f =
     let h = schedule_follows d ts f in
     let some : nat_lt 0 (length (map turn_word ts)) ≡ true = rw (length-map ts turn_word) h.some in
-    turns_pass d (map turn_word ts) some (items_all_pass d.plan.workers ts few h.items)
+    let limit : List Check = (nat_le (length d.plan.schedule + length (map turn_word ts)) MAX_TURNS, LimitReached) ∷ [] in
+    rw some (passes_first (flat_map (item_checks d.plan.workers) (map turn_word ts)) limit (items_all_pass d.plan.workers ts few h.items))
     ∙ ap (λ (b : Bool). cond b None (Some LimitReached)) (ap (λ (n : ℕ). nat_le (length d.plan.schedule + n) MAX_TURNS) (length-map ts turn_word) ∙ h.room)
 line_passes d (lines.Call n c) few f =
     let h = call_follows d n c f in

@@ -1,15 +1,12 @@
 -- Numbers in digits.
-use Rattle.std.proofs.Common.{◌≡◌, ℕ, ◌+◌, ◌-◌, ◌*◌, ◌^◌, ◌<◌, ◌≤◌, zero, suc, Bool, true, false, cond, eqb, List, [], ◌∷◌, length, get_or, take, refl, ap, subst, arith}
-use Rattle.std.specs.Int.{IsInRange}
+use Rattle.std.proofs.Common.{◌≡◌, ℕ, ◌^◌, ◌<◌, zero, suc, Bool, true, false, cond, eqb, List, [], ◌∷◌, length, get_or, refl, ap, subst, arith}
 use Rattle.std.specs.Str.{all_ascii_digits}
 use Rattle.std.specs.Str.Parse.{digits_value}
-use Rattle.std.proofs.lemmas.Int.Digits.{digits_value_more}
-use Rattle.std.proofs.lemmas.Str.{digit_value_digit}
-use Rattle.std.proofs.lemmas.Str.Parse.{IsNumeralModel, numerals_by_value, tells_all_ascii_digits, digit_at, digits_value-take-le}
+use Rattle.std.proofs.lemmas.Str.Parse.{IsNumeralModel, numerals_by_value, tells_all_ascii_digits}
 use Rattle.std.specs.Fmt.{decimal}
 use Rattle.std.proofs.lemmas.Bool.{eqb-true, eq-eqb}
 use Rattle.std.proofs.lemmas.Fmt.{decimal-digits_value, digits_value-decimal, digits_decimal, first_decimal, decimal_nonempty, decimal_digit}
-use Rattle.workload.specs.Words.{is_number, number_of}
+use Rattle.workload.specs.NumberWords.{is_number, number_of}
 use Rattle.workload.proofs.Passing.{both, pair}
 
 alone : (digit : ℕ) (digits : List ℕ) → digit ≡ 48 → cond (eqb digit 48) (eqb (length digits) 0) true ≡ true → length digits ≡ 0
@@ -18,18 +15,6 @@ alone digit digits is e = eqb-true (length digits) 0 (subst (λ (b : Bool). cond
 -- the words of digits, and what they stand for
 pub numerals : IsNumeralModel (λ ds. all_ascii_digits ds ≡ true) (digits_value 10)
 numerals = numerals_by_value (λ ds. all_ascii_digits ds ≡ true) tells_all_ascii_digits
-
-pub digit_in : (word : List ℕ) (i : ℕ) → all_ascii_digits word ≡ true → i < length word → IsInRange 48 57 (get_or word i 0)
-digit_in word i digits lt = digit_at word i (numerals.to word digits) lt
-
--- one more digit
-pub number_more : (word : List ℕ) (i : ℕ) → all_ascii_digits word ≡ true → i < length word → number_of (take (i + 1) word) ≡ number_of (take i word) * 10 + (get_or word i 0 - 48)
-number_more word i digits lt =
-    omega (arith, digits_value_more 10 word i lt, digit_value_digit (get_or word i 0) (digit_in word i digits lt))
-
--- a front is at most the whole
-pub number_front : (word : List ℕ) (i : ℕ) → number_of (take i word) ≤ number_of word
-number_front word i = digits_value-take-le 10 word i (omega arith)
 
 -- a word that is a number is what the number is spelled as
 pub decimal-number_of : (word : List ℕ) → is_number word ≡ true → number_of word < 2 ^ 64 → decimal (number_of word) ≡ word

@@ -33,7 +33,10 @@ use Rattle.workload.specs.declared.line.Line.TheVariants as lines
 use Rattle.workload.specs.declared.turn.Turn.{Turn}
 use Rattle.workload.specs.declared.turn.Turn.TheVariants as turns
 use Rattle.workload.specs.Plan.{word_of, is_amount, reference_of, object_of, has_call}
-use Rattle.workload.specs.Words.{keyword_word, keyword_of, keyword_at, arguments_of, spelled, verb_of, map_verb, atomic_verb, mutex_verb, rw_mutex_verb, cond_verb, group_verb, pool_verb, operands_of, map_operands, atomic_operands, group_operands, pool_operands, kind_parameters, turn_word, is_number}
+use Rattle.workload.specs.KeywordWords.{keyword_word, keyword_at}
+use Rattle.workload.specs.NumberWords.{is_number}
+use Rattle.workload.specs.CallWords.{verb_of, map_verb, atomic_verb, mutex_verb, rw_mutex_verb, cond_verb, group_verb, pool_verb, operands_of, map_operands, atomic_operands, group_operands, pool_operands}
+use Rattle.workload.specs.Words.{keyword_of, arguments_of, spelled, kind_parameters, turn_word}
 use Rattle.workload.specs.Draft.{Draft, declared, may_follow, names_object, is_call, is_map_call, is_group_call, is_pool_call, is_kind, names_reference, is_item}
 use Rattle.workload.proofs.Passing.{both}
 use Rattle.workload.proofs.Follows.{object_follows, schedule_follows, call_follows}

@@ -1,5 +1,5 @@
 -- Why a line is refused: its checks in their order, each with the reason where it fails.
-use Rattle.std.specs.Prelude.{ℕ, Bool, true, false, ◌&&◌, ◌+◌, not, cond, nat_lt, nat_le, ◌==◌, List, [], ◌∷◌, ◌++◌, length, codes, Option, Some, None, is_some}
+use Rattle.std.specs.Prelude.{◌≡◌, ℕ, Bool, true, false, ◌&&◌, ◌+◌, not, cond, nat_lt, nat_le, ◌==◌, List, [], ◌∷◌, ◌++◌, length, codes, Option, Some, None, is_some}
 use Rattle.std.specs.List.{flat_map}
 use Rattle.std.specs.Option.{option_map_or}
 use Rattle.std.specs.Str.{bytes_eq}
@@ -24,7 +24,8 @@ use Rattle.workload.specs.declared.object.Declared.{Declared}
 use Rattle.workload.specs.declared.reason.Reason.{Reason}
 use Rattle.workload.specs.declared.reason.Reason.TheVariants.{NoWorkersLine, LineTooLong, BadByte, UnknownWord, WrongNumberOfWords, BadName, NameTaken, UnknownName, WrongKind, BadNumber, NoSuchWorker, CallOutsideWorker, LimitReached}
 use Rattle.workload.specs.Lines.{is_short, is_clean, words_of, is_significant}
-use Rattle.workload.specs.Words.{keyword_at, is_number, is_number_to, is_amount_word, is_number_word, number_of}
+use Rattle.workload.specs.KeywordWords.{keyword_at}
+use Rattle.workload.specs.NumberWords.{is_number, is_number_to, is_amount_word, is_number_word, number_of}
 use Rattle.workload.specs.Draft.{Draft, declared, limit_of, count_of, call_count, key_count, range_count}
 
 -- whether a check passes, and the reason that it fails for
@@ -35,6 +36,14 @@ Check = Bool × Reason
 abbrev pub first_failing : List Check → Option Reason
 first_failing [] = None
 first_failing (check ∷ checks) = cond check.0 (first_failing checks) (Some check.1)
+
+-- the first of some checks that fails is the first of these and others behind them
+abbrev pub FailsFirst : Type 0
+FailsFirst = (xs ys : List Check) (reason : Reason) → first_failing xs ≡ Some reason → first_failing (xs ++ ys) ≡ Some reason
+
+-- checks that all pass leave it to those behind them
+abbrev pub PassesFirst : Type 0
+PassesFirst = (xs ys : List Check) → first_failing xs ≡ None → first_failing (xs ++ ys) ≡ first_failing ys
 
 -- the operands of a call of a map, behind its name, where a map has the call
 abbrev pub map_form : Verb → Option (List Operand)
@@ -148,6 +157,16 @@ key_operands (form ∷ forms) [] = []
 key_operands (operands.Key ∷ forms) (word ∷ words) = word ∷ key_operands forms words
 key_operands (form ∷ forms) (word ∷ words) = key_operands forms words
 
+-- the count of the operands, and each of them from left to right
+abbrev pub form_words : Option (List Operand) → List (List ℕ) → List Check
+form_words None words = (false, WrongKind) ∷ []
+form_words (Some form) words = (length words == length form, WrongNumberOfWords) ∷ operand_checks form words
+
+-- the form has these keys among the words, and all checks of them pass
+abbrev pub PassesWith : Option (List Operand) → List (List ℕ) → List (List ℕ) → Type 0
+PassesWith None words keys = ⊥
+PassesWith (Some form) words keys = (key_operands form words ≡ keys) × (first_failing (form_words (Some form) words) ≡ None)
+
 -- how many `range` calls a call of this word is
 abbrev pub ranges_in : Verb → ℕ
 ranges_in verbs.Range = 1
@@ -164,6 +183,10 @@ abbrev pub form_checks : Draft → Verb → Option (List Operand) → List (List
 form_checks d verb None words = (false, WrongKind) ∷ []
 form_checks d verb (Some form) words =
     (length words == length form, WrongNumberOfWords) ∷ operand_checks form words ++ limit_checks d (key_operands form words) (ranges_in verb)
+
+-- a call whose operands pass is left to the limits
+abbrev pub LimitsAreLeft : Type 0
+LimitsAreLeft = (d : Draft) (verb : Verb) (form : Option (List Operand)) (words keys : List (List ℕ)) → PassesWith form words keys → first_failing (form_checks d verb form words) ≡ first_failing (limit_checks d keys (ranges_in verb))
 
 abbrev pub object_checks : Draft → Option Declared → Verb → List (List ℕ) → List Check
 object_checks d None verb words = (false, UnknownName) ∷ []
@@ -208,6 +231,10 @@ abbrev pub parameters_checks : Draft → List Parameter → List (List ℕ) → 
 parameters_checks d [] words = []
 parameters_checks d (form ∷ forms) [] = []
 parameters_checks d (form ∷ forms) (word ∷ words) = parameter_checks d form word ++ parameters_checks d forms words
+
+-- the count of the words behind an object's name, and each of them from left to right
+abbrev pub parameter_words : Draft → ObjectWord → List (List ℕ) → List Check
+parameter_words d word words = (length words == length (parameters_of word), WrongNumberOfWords) ∷ parameters_checks d (parameters_of word) words
 
 -- the checks of the line of an object
 abbrev pub declaration_checks : Draft → ObjectWord → List (List ℕ) → List Check

@@ -24,7 +24,7 @@ use Rattle.workload.specs.declared.line.Line.TheVariants as lines
 use Rattle.workload.specs.declared.turn.Turn.{Turn}
 use Rattle.workload.specs.declared.turn.Turn.TheVariants as turns
 use Rattle.workload.specs.Plan.{Plan, word_of, reference_of, is_target, is_amount, object_of, has_call}
-use Rattle.workload.specs.Words.{map_values}
+use Rattle.workload.specs.CallWords.{map_values}
 
 -- the workload that the lines so far say, and the worker whose calls follow
 pub record Draft : Type 0 where

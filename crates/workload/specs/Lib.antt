@@ -1,9 +1,11 @@
+pub mod CallWords
 pub mod Canonical
 pub mod Checks
 pub mod Draft
 pub mod Index
+pub mod KeywordWords
 pub mod Lines
-pub mod LineResult
+pub mod NumberWords
 pub mod Plan
 pub mod Readable
 pub mod Reads

@@ -1,6 +1,6 @@
 //! The words that a line begins with.
 ghost use Rattle.std.specs.Prelude.{◌≡◌, map};
-ghost use Rattle.workload.specs.Words.{keyword_in, keyword_at};
+ghost use Rattle.workload.specs.KeywordWords.{keyword_in, keyword_at};
 
 use crate::object::ObjectWord;
 use sync_model::AtomicKind;

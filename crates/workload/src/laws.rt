@@ -1,9 +1,15 @@
 //! Laws of the grammar.
-ghost use Rattle.std.specs.Prelude.{◌≡◌, ◌⊎◌, ℕ, ◌-◌, ◌^◌, List};
+ghost use Rattle.std.specs.Prelude.{◌≡◌, ◌⊎◌, ◌<◌, ℕ, ◌-◌, ◌^◌, ◌∷◌, true, List, Some, length, take, drop};
+ghost use Rattle.std.specs.Fmt.{decimal};
 ghost use Rattle.sync_model.specs.declared.name.TheConstants.{MAX_NAME};
-ghost use Rattle.workload.specs.Canonical.{canonical};
+ghost use Rattle.workload.specs.Canonical.{canonical, eights};
+ghost use Rattle.workload.specs.Checks.{FailsFirst, PassesFirst, LimitsAreLeft};
 ghost use Rattle.workload.specs.Readable.{IsReadable};
+ghost use Rattle.workload.specs.KeywordWords.{keyword_at, keyword_word};
+ghost use Rattle.workload.specs.NumberWords.{is_number, number_of};
+ghost use Rattle.workload.specs.declared.keyword.Keyword.{Keyword};
 ghost use Rattle.workload.specs.declared.reason.Reason.{Reason};
+ghost use Rattle.workload.specs.declared.turn.Turn.{Turn};
 ghost use Rattle.workload.specs.Plan.{Plan};
 ghost use Rattle.workload.specs.Reads.{Reads, IsRefused};
 
@@ -32,9 +38,38 @@ pub fn each_text()
     ensures { (bytes : List ℕ) → ((plan : Plan) × Reads bytes plan) ⊎ ((line : ℕ) × (reason : Reason) × IsRefused bytes line reason) }
 {}
 
+/// The canonical text of a workload is read as it.
+pub fn canonical_reads()
+    ensures { (plan : Plan) → IsReadable plan → Reads (canonical plan) plan }
+{}
+
 /// Two workloads with one canonical text are equal.
 pub fn one_text()
     ensures { (p q : Plan) → IsReadable p → IsReadable q → canonical p ≡ canonical q → p ≡ q }
+{}
+
+/// The canonical lines of a schedule have eight items each, but for the last.
+pub fn schedules_go_by_eights()
+    ensures { (turns : List Turn) → 0 < length turns → eights 7 turns ≡ take 8 turns ∷ eights 7 (drop 8 turns) }
+{}
+
+/// Each keyword is the keyword of its word, and of no other.
+pub fn keywords()
+    ensures read { (keyword : Keyword) → keyword_at (keyword_word keyword) ≡ Some keyword }
+    ensures spelled { (word : List ℕ) (keyword : Keyword) → keyword_at word ≡ Some keyword → word ≡ keyword_word keyword }
+{}
+
+/// A word that is a number below 2^64 is the decimal of what its digits stand for.
+pub fn numbers()
+    ensures { (word : List ℕ) → is_number word ≡ true → number_of word < 2 ^ 64 → decimal (number_of word) ≡ word }
+{}
+
+/// Of checks one behind the other the first that fails is the fault: where some fail, those behind them don't
+/// count, and where all pass, those behind them do. So a call whose operands pass is left to the limits.
+pub fn checks_go_in_order()
+    ensures fails { FailsFirst }
+    ensures passes { PassesFirst }
+    ensures limits { LimitsAreLeft }
 {}
 
 /// The limits of a text by their numbers, of which the grammar speaks by name.

@@ -1,33 +1,22 @@
-//! Workload texts: the grammar, and how a text is read.
+//! The grammar of workload texts: what their lines say, which workload a text is read as, where and why one
+//! is refused, and the canonical text of a workload.
 #![tactic(auto)]
 
-pub mod call_reading;
+pub mod call;
 pub mod draft;
 pub mod fault;
 pub mod keyword;
 pub mod laws;
 pub mod limits;
 pub mod line;
-pub mod number;
 pub mod object;
-pub mod object_reading;
-pub mod parsing;
-pub mod printing;
-pub mod reading;
 pub mod reason;
-pub mod text;
 pub mod turn;
-pub mod word_reading;
 pub mod workload;
 
 pub use fault::ParseFault;
 pub use limits::MAX_INPUT;
 pub use object::{ObjectKind, ObjectLine, ObjectWord};
-pub use parsing::parse;
-pub use printing::print;
 pub use reason::Reason;
 pub use turn::Turn;
 pub use workload::Workload;
-
-#[cfg(test)]
-mod tests;

@@ -1,5 +1,6 @@
 //! The objects that a workload declares.
-ghost use Rattle.std.specs.Prelude.{◌≡◌};
+ghost use Rattle.std.specs.Prelude.{◌≡◌, ◌≤◌, length, slice_get};
+ghost use Rattle.workload.specs.Canonical.{name_of};
 ghost use Rattle.workload.specs.Plan.{word_of};
 
 use sync_model::{AtomicKind, Name};
@@ -80,5 +81,16 @@ impl ObjectKind {
             ObjectKind::OnceValue { .. } => ObjectWord::OnceValue,
             ObjectKind::Pool => ObjectWord::Pool,
         }
+    }
+}
+
+/// The name of the object at a place, or nothing where there is none.
+pub fn name_at(objects: &[ObjectLine], place: usize) -> &[u8]
+    ensures name { result.now ≡ name_of (slice_get objects.now place) }
+    ensures short { length result.now ≤ 32 }
+{
+    match objects.get(place) {
+        None => &[],
+        Some(object) => object.name.as_bytes(),
     }
 }

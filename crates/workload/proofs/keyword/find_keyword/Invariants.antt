@@ -1,5 +1,5 @@
 use Rattle.std.proofs.Common.{◌≡◌, drop, map}
-use Rattle.workload.specs.Words.{keyword_in}
+use Rattle.workload.specs.KeywordWords.{keyword_in}
 use Rattle.workload.proofs.keyword.find_keyword.Given as goal
 
 abbrev pub invariant-loop-text : goal.invariant-loop-text

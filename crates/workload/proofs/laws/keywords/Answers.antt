@@ -1,0 +1,8 @@
+use Rattle.workload.proofs.Keywords.{keyword_at-keyword_word, keyword_from}
+use Rattle.workload.proofs.laws.keywords.Goals as goal
+
+pub returns-clause-read : goal.returns-clause-read
+returns-clause-read c = λ keyword. keyword_at-keyword_word keyword
+
+pub returns-clause-spelled : goal.returns-clause-spelled
+returns-clause-spelled c = λ word keyword is. keyword_from word keyword is

@@ -1,0 +1,175 @@
+//! What the line of a call says of it before its operands: the call's word, and the place of its object.
+ghost use Rattle.std.specs.Prelude.{◌≡◌};
+ghost use Rattle.workload.specs.KeywordWords.{verb_word};
+ghost use Rattle.workload.specs.CallWords.{map_verb, atomic_verb, mutex_verb, rw_mutex_verb, cond_verb, group_verb, pool_verb, verb_of};
+ghost use Rattle.workload.specs.Plan.{object_of};
+
+use crate::keyword::Verb;
+use sync_model::{
+    AtomicCall, Call, CondCall, MapCall, MutexCall, Name, PoolCall, RwMutexCall, WaitGroupCall,
+};
+
+/// The word of a call.
+pub fn verb_text(verb: Verb) -> &'static [u8]
+    ensures { result.now ≡ verb_word verb }
+{
+    match verb {
+        Verb::Load => b"load",
+        Verb::Store => b"store",
+        Verb::LoadOrStore => b"los",
+        Verb::LoadAndDelete => b"lad",
+        Verb::Delete => b"delete",
+        Verb::Swap => b"swap",
+        Verb::CompareAndSwap => b"cas",
+        Verb::CompareAndDelete => b"cad",
+        Verb::Clear => b"clear",
+        Verb::Range => b"range",
+        Verb::Add => b"add",
+        Verb::And => b"and",
+        Verb::Or => b"or",
+        Verb::Lock => b"lock",
+        Verb::Unlock => b"unlock",
+        Verb::TryLock => b"trylock",
+        Verb::RLock => b"rlock",
+        Verb::RUnlock => b"runlock",
+        Verb::TryRLock => b"tryrlock",
+        Verb::Wait => b"wait",
+        Verb::Signal => b"signal",
+        Verb::Broadcast => b"broadcast",
+        Verb::Done => b"done",
+        Verb::Do => b"do",
+        Verb::Call => b"call",
+        Verb::Value => b"value",
+        Verb::Put => b"put",
+        Verb::Get => b"get",
+        Verb::Sweep => b"sweep",
+    }
+}
+
+/// Which call of a map it is.
+pub fn map_verb(call: &MapCall<Name>) -> Verb
+    ensures { result ≡ map_verb call.now }
+{
+    match call {
+        MapCall::Load { .. } => Verb::Load,
+        MapCall::Store { .. } => Verb::Store,
+        MapCall::LoadOrStore { .. } => Verb::LoadOrStore,
+        MapCall::LoadAndDelete { .. } => Verb::LoadAndDelete,
+        MapCall::Delete { .. } => Verb::Delete,
+        MapCall::Swap { .. } => Verb::Swap,
+        MapCall::CompareAndSwap { .. } => Verb::CompareAndSwap,
+        MapCall::CompareAndDelete { .. } => Verb::CompareAndDelete,
+        MapCall::Clear => Verb::Clear,
+    }
+}
+
+/// Which call of an atomic it is.
+pub fn atomic_verb(call: AtomicCall) -> Verb
+    ensures { result ≡ atomic_verb call }
+{
+    match call {
+        AtomicCall::Load => Verb::Load,
+        AtomicCall::Store { .. } => Verb::Store,
+        AtomicCall::Swap { .. } => Verb::Swap,
+        AtomicCall::Add { .. } => Verb::Add,
+        AtomicCall::And { .. } => Verb::And,
+        AtomicCall::Or { .. } => Verb::Or,
+        AtomicCall::CompareAndSwap { .. } => Verb::CompareAndSwap,
+    }
+}
+
+/// Which call of a mutex it is.
+pub fn mutex_verb(call: MutexCall) -> Verb
+    ensures { result ≡ mutex_verb call }
+{
+    match call {
+        MutexCall::Lock => Verb::Lock,
+        MutexCall::Unlock => Verb::Unlock,
+        MutexCall::TryLock => Verb::TryLock,
+    }
+}
+
+/// Which call of a reader/writer mutex it is.
+pub fn rw_mutex_verb(call: RwMutexCall) -> Verb
+    ensures { result ≡ rw_mutex_verb call }
+{
+    match call {
+        RwMutexCall::Lock => Verb::Lock,
+        RwMutexCall::Unlock => Verb::Unlock,
+        RwMutexCall::TryLock => Verb::TryLock,
+        RwMutexCall::RLock => Verb::RLock,
+        RwMutexCall::RUnlock => Verb::RUnlock,
+        RwMutexCall::TryRLock => Verb::TryRLock,
+    }
+}
+
+/// Which call of a cond it is.
+pub fn cond_verb(call: CondCall) -> Verb
+    ensures { result ≡ cond_verb call }
+{
+    match call {
+        CondCall::Wait => Verb::Wait,
+        CondCall::Signal => Verb::Signal,
+        CondCall::Broadcast => Verb::Broadcast,
+    }
+}
+
+/// Which call of a wait group it is.
+pub fn group_verb(call: WaitGroupCall) -> Verb
+    ensures { result ≡ group_verb call }
+{
+    match call {
+        WaitGroupCall::Add(_) => Verb::Add,
+        WaitGroupCall::Done => Verb::Done,
+        WaitGroupCall::Wait => Verb::Wait,
+    }
+}
+
+/// Which call of a pool it is.
+pub fn pool_verb(call: PoolCall) -> Verb
+    ensures { result ≡ pool_verb call }
+{
+    match call {
+        PoolCall::Put(_) => Verb::Put,
+        PoolCall::Get => Verb::Get,
+        PoolCall::Sweep => Verb::Sweep,
+    }
+}
+
+/// Which call it is.
+pub fn verb(call: &Call) -> Verb
+    ensures { result ≡ verb_of call.now }
+{
+    match call {
+        Call::Map { call, .. } => map_verb(call),
+        Call::Range { .. } => Verb::Range,
+        Call::Atomic { call, .. } => atomic_verb(*call),
+        Call::Mutex { call, .. } => mutex_verb(*call),
+        Call::RwMutex { call, .. } => rw_mutex_verb(*call),
+        Call::Cond { call, .. } => cond_verb(*call),
+        Call::WaitGroup { call, .. } => group_verb(*call),
+        Call::Once { .. } => Verb::Do,
+        Call::OnceFunc { .. } => Verb::Call,
+        Call::OnceValue { .. } => Verb::Value,
+        Call::Pool { call, .. } => pool_verb(*call),
+    }
+}
+
+/// The place of the object of a call.
+pub fn place_of(call: &Call) -> usize
+    ensures { result ≡ object_of call.now }
+{
+    match call {
+        Call::Map { object, .. }
+        | Call::Range { object }
+        | Call::Atomic { object, .. }
+        | Call::Mutex { object, .. }
+        | Call::RwMutex { object, .. }
+        | Call::Cond { object, .. }
+        | Call::WaitGroup { object, .. }
+        | Call::Once { object }
+        | Call::OnceFunc { object }
+        | Call::OnceValue { object }
+        | Call::Pool { object, .. } => *object,
+    }
+}

@@ -1,0 +1,365 @@
+//! The canonical text of a workload.
+ghost use Rattle.std.specs.Prelude.{◌≡◌, ◌∷◌, ◌++◌, [], map, IfOk, OnOk};
+ghost use Rattle.std.specs.Fmt.{decimal, signed_decimal};
+ghost use Rattle.std.specs.Option.{option_to_list};
+ghost use Rattle.workload.specs.KeywordWords.{object_word};
+ghost use Rattle.workload.specs.NumberWords.{number_word};
+ghost use Rattle.workload.specs.CallWords.{map_values, map_operands, atomic_operands, group_operands, pool_operands, operands_of};
+ghost use Rattle.workload.specs.Words.{turn_word, kind_parameters, spelled};
+ghost use Rattle.workload.specs.declared.line.Line.TheVariants as Line;
+ghost use Rattle.workload.specs.Reads.{Reads};
+ghost use Rattle.workload.specs.Canonical.{text_line, call_line, object_line, reference_name, script_lines, eights, canonical_lines, canonical, behind_spaces, lines_text};
+
+use std::alloc::{AllocError, Global};
+use sync_model::{AtomicCall, AtomicKind, Call, MapCall, Name, Number, PoolCall, WaitGroupCall};
+use workload::call::{place_of, verb, verb_text};
+use workload::laws::{canonical_reads, schedules_go_by_eights};
+use workload::object::name_at;
+use workload::{ObjectKind, ObjectLine, ObjectWord, Turn, Workload};
+
+/// Writes a word behind a space.
+fn put_word(text: &mut Vec<u8>, word: &[u8]) -> Result<(), AllocError>
+    ensures { OnOk result (text.new.items ≡ text.old.items ++ 32 ∷ word.now) }
+{
+    text.push(b' ')?;
+    text.extend_from_slice(word)
+}
+
+/// Writes a number behind a space.
+fn put_number(alloc: Global, text: &mut Vec<u8>, number: u64) -> Result<(), AllocError>
+    ensures { OnOk result (text.new.items ≡ text.old.items ++ 32 ∷ decimal number) }
+{
+    let digits = number.to_string(alloc)?;
+    put_word(text, digits.as_bytes())
+}
+
+/// Writes a number that may be below 0 behind a space.
+fn put_signed(alloc: Global, text: &mut Vec<u8>, number: i64) -> Result<(), AllocError>
+    ensures { OnOk result (text.new.items ≡ text.old.items ++ 32 ∷ signed_decimal number) }
+{
+    let digits = number.to_string(alloc)?;
+    put_word(text, digits.as_bytes())
+}
+
+/// Writes a number of an atomic behind a space.
+fn put_atomic_number(alloc: Global, text: &mut Vec<u8>, number: Number) -> Result<(), AllocError>
+    ensures { OnOk result (text.new.items ≡ text.old.items ++ 32 ∷ number_word number) }
+{
+    match number {
+        Number::Int32(n) => put_signed(alloc, text, i64::from(n)),
+        Number::Int64(n) => put_signed(alloc, text, n),
+        Number::Uint32(n) => put_number(alloc, text, u64::from(n)),
+        Number::Uint64(n) => put_number(alloc, text, n),
+        Number::Bool(false) => put_word(text, b"false"),
+        Number::Bool(true) => put_word(text, b"true"),
+    }
+}
+
+/// Writes the values of a call of a map, each behind a space.
+fn put_map_values(alloc: Global, text: &mut Vec<u8>, call: &MapCall<Name>) -> Result<(), AllocError>
+    ensures { OnOk result (text.new.items ≡ text.old.items ++ behind_spaces (map decimal (map_values call.now))) }
+{
+    match call {
+        MapCall::Store { value, .. }
+        | MapCall::LoadOrStore { value, .. }
+        | MapCall::Swap { value, .. } => put_number(alloc, text, *value),
+        MapCall::CompareAndDelete { old, .. } => put_number(alloc, text, *old),
+        MapCall::CompareAndSwap { old, new, .. } => {
+            put_number(alloc, text, *old)?;
+            put_number(alloc, text, *new)
+        }
+        MapCall::Load { .. }
+        | MapCall::LoadAndDelete { .. }
+        | MapCall::Delete { .. }
+        | MapCall::Clear => Ok(()),
+    }
+}
+
+/// Writes the operands of a call of a map, each behind a space.
+fn put_map_operands(
+    alloc: Global,
+    text: &mut Vec<u8>,
+    call: &MapCall<Name>,
+) -> Result<(), AllocError>
+    ensures { OnOk result (text.new.items ≡ text.old.items ++ behind_spaces (map_operands call.now)) }
+{
+    if let Some(key) = call.key() {
+        put_word(text, key.as_bytes())?;
+    }
+    put_map_values(alloc, text, call)
+}
+
+/// Writes the operands of a call of an atomic, each behind a space.
+fn put_atomic_operands(
+    alloc: Global,
+    text: &mut Vec<u8>,
+    call: AtomicCall,
+) -> Result<(), AllocError>
+    ensures { OnOk result (text.new.items ≡ text.old.items ++ behind_spaces (atomic_operands call)) }
+{
+    match call {
+        AtomicCall::Load => Ok(()),
+        AtomicCall::Store { value } | AtomicCall::Swap { value } => {
+            put_atomic_number(alloc, text, value)
+        }
+        AtomicCall::Add { operand } | AtomicCall::And { operand } | AtomicCall::Or { operand } => {
+            put_atomic_number(alloc, text, operand)
+        }
+        AtomicCall::CompareAndSwap { old, new } => {
+            put_atomic_number(alloc, text, old)?;
+            put_atomic_number(alloc, text, new)
+        }
+    }
+}
+
+/// The text of an object's word.
+fn object_text(word: ObjectWord) -> &'static [u8]
+    ensures { result.now ≡ object_word word }
+{
+    match word {
+        ObjectWord::Map => b"map",
+        ObjectWord::Atomic(AtomicKind::Int32) => b"int32",
+        ObjectWord::Atomic(AtomicKind::Int64) => b"int64",
+        ObjectWord::Atomic(AtomicKind::Uint32) => b"uint32",
+        ObjectWord::Atomic(AtomicKind::Uint64) => b"uint64",
+        ObjectWord::Atomic(AtomicKind::Bool) => b"bool",
+        ObjectWord::Mutex => b"mutex",
+        ObjectWord::RwMutex => b"rwmutex",
+        ObjectWord::Cond => b"cond",
+        ObjectWord::WaitGroup => b"waitgroup",
+        ObjectWord::Once => b"once",
+        ObjectWord::OnceFunc => b"oncefunc",
+        ObjectWord::OnceValue => b"oncevalue",
+        ObjectWord::Pool => b"pool",
+    }
+}
+
+/// Writes the operands of a call of a wait group, each behind a space.
+fn put_group_operands(
+    alloc: Global,
+    text: &mut Vec<u8>,
+    call: WaitGroupCall,
+) -> Result<(), AllocError>
+    ensures { OnOk result (text.new.items ≡ text.old.items ++ behind_spaces (group_operands call)) }
+{
+    match call {
+        WaitGroupCall::Add(delta) => put_signed(alloc, text, i64::from(delta)),
+        WaitGroupCall::Done | WaitGroupCall::Wait => Ok(()),
+    }
+}
+
+/// Writes the operands of a call of a pool, each behind a space.
+fn put_pool_operands(alloc: Global, text: &mut Vec<u8>, call: PoolCall) -> Result<(), AllocError>
+    ensures { OnOk result (text.new.items ≡ text.old.items ++ behind_spaces (pool_operands call)) }
+{
+    match call {
+        PoolCall::Put(item) => put_number(alloc, text, item),
+        PoolCall::Get | PoolCall::Sweep => Ok(()),
+    }
+}
+
+/// Writes the operands of a call, each behind a space.
+fn put_operands(alloc: Global, text: &mut Vec<u8>, call: &Call) -> Result<(), AllocError>
+    ensures { OnOk result (text.new.items ≡ text.old.items ++ behind_spaces (operands_of call.now)) }
+{
+    match call {
+        Call::Map { call, .. } => put_map_operands(alloc, text, call),
+        Call::Atomic { call, .. } => put_atomic_operands(alloc, text, *call),
+        Call::WaitGroup { call, .. } => put_group_operands(alloc, text, *call),
+        Call::Pool { call, .. } => put_pool_operands(alloc, text, *call),
+        Call::Range { .. }
+        | Call::Mutex { .. }
+        | Call::RwMutex { .. }
+        | Call::Cond { .. }
+        | Call::Once { .. }
+        | Call::OnceFunc { .. }
+        | Call::OnceValue { .. } => Ok(()),
+    }
+}
+
+/// Writes the line of a call on the object of a name.
+fn put_call(alloc: Global, text: &mut Vec<u8>, name: &[u8], call: &Call) -> Result<(), AllocError>
+    ensures { OnOk result (text.new.items ≡ text.old.items ++ text_line (spelled (Line.Call name.now call.now))) }
+{
+    text.extend_from_slice(verb_text(verb(call)))?;
+    put_word(text, name)?;
+    put_operands(alloc, text, call)?;
+    text.push(b'\n')?;
+    Ok(())
+}
+
+/// Writes a line of a word and a number.
+fn put_numbered(
+    alloc: Global,
+    text: &mut Vec<u8>,
+    word: &[u8],
+    number: u32,
+) -> Result<(), AllocError>
+    ensures { OnOk result (text.new.items ≡ text.old.items ++ text_line (word.now ∷ decimal number ∷ [])) }
+{
+    text.extend_from_slice(word)?;
+    put_number(alloc, text, u64::from(number))?;
+    text.push(b'\n')?;
+    Ok(())
+}
+
+/// Writes an item of the schedule behind a space.
+fn put_turn(alloc: Global, text: &mut Vec<u8>, turn: Turn) -> Result<(), AllocError>
+    ensures { OnOk result (text.new.items ≡ text.old.items ++ 32 ∷ turn_word turn) }
+{
+    match turn {
+        Turn::Worker(worker) => put_number(alloc, text, u64::from(worker)),
+        Turn::Moment(moment) => {
+            text.extend_from_slice(b" @")?;
+            let digits = moment.to_string(alloc)?;
+            text.extend_from_slice(digits.as_bytes())
+        }
+    }
+}
+
+/// Writes what the line of an object has behind the object's name, each word behind a space.
+fn put_parameters(
+    alloc: Global,
+    text: &mut Vec<u8>,
+    objects: &[ObjectLine],
+    kind: ObjectKind,
+) -> Result<(), AllocError>
+    ensures { OnOk result (text.new.items ≡ text.old.items ++ behind_spaces (option_to_list (reference_name objects.now kind) ++ kind_parameters kind)) }
+{
+    match kind {
+        ObjectKind::Cond { mutex } => put_word(text, name_at(objects, mutex)),
+        ObjectKind::WaitGroup { start } => put_number(alloc, text, u64::from(start)),
+        ObjectKind::Once { atomic, delta } => {
+            put_word(text, name_at(objects, atomic))?;
+            put_signed(alloc, text, delta)
+        }
+        ObjectKind::OnceFunc { code } => put_number(alloc, text, u64::from(code)),
+        ObjectKind::OnceValue { value } => put_number(alloc, text, value),
+        ObjectKind::Map
+        | ObjectKind::Atomic(_)
+        | ObjectKind::Mutex
+        | ObjectKind::RwMutex
+        | ObjectKind::Pool => Ok(()),
+    }
+}
+
+/// Writes the line of an object.
+fn put_object(
+    alloc: Global,
+    text: &mut Vec<u8>,
+    objects: &[ObjectLine],
+    object: &ObjectLine,
+) -> Result<(), AllocError>
+    ensures { OnOk result (text.new.items ≡ text.old.items ++ text_line (spelled (object_line objects.now object.now))) }
+{
+    text.extend_from_slice(object_text(object.kind.word()))?;
+    put_word(text, object.name.as_bytes())?;
+    put_parameters(alloc, text, objects, object.kind)?;
+    text.push(b'\n')?;
+    Ok(())
+}
+
+/// Writes the lines of the objects.
+fn put_objects(alloc: Global, text: &mut Vec<u8>, objects: &[ObjectLine]) -> Result<(), AllocError>
+    ensures { OnOk result (text.new.items ≡ text.old.items ++ lines_text (map (object_line objects.now) objects.now)) }
+{
+    for object in objects {
+        put_object(alloc, text, objects, object)?;
+    }
+    Ok(())
+}
+
+/// Writes the lines of calls.
+fn put_calls(
+    alloc: Global,
+    text: &mut Vec<u8>,
+    objects: &[ObjectLine],
+    calls: &[Call],
+) -> Result<(), AllocError>
+    ensures { OnOk result (text.new.items ≡ text.old.items ++ lines_text (map (call_line objects.now) calls.now)) }
+{
+    for call in calls {
+        put_call(alloc, text, name_at(objects, place_of(call)), call)?;
+    }
+    Ok(())
+}
+
+/// Writes a `worker` line and the lines of the worker's calls.
+fn put_script(
+    alloc: Global,
+    text: &mut Vec<u8>,
+    objects: &[ObjectLine],
+    worker: u32,
+    script: &[Call],
+) -> Result<(), AllocError>
+    ensures { OnOk result (text.new.items ≡ text.old.items ++ lines_text (Line.Worker worker ∷ map (call_line objects.now) script.now)) }
+{
+    put_numbered(alloc, text, b"worker", worker)?;
+    put_calls(alloc, text, objects, script)
+}
+
+/// Writes a `schedule` line.
+fn put_turns(alloc: Global, text: &mut Vec<u8>, turns: &[Turn]) -> Result<(), AllocError>
+    ensures { OnOk result (text.new.items ≡ text.old.items ++ text_line (spelled (Line.Schedule turns.now))) }
+{
+    text.extend_from_slice(b"schedule")?;
+    for turn in turns {
+        put_turn(alloc, text, *turn)?;
+    }
+    text.push(b'\n')?;
+    Ok(())
+}
+
+/// Writes the `schedule` lines, of eight items each.
+fn put_schedule(alloc: Global, text: &mut Vec<u8>, schedule: &[Turn]) -> Result<(), AllocError>
+    ensures { OnOk result (text.new.items ≡ text.old.items ++ lines_text (map (λ turns. Line.Schedule turns) (eights 7 schedule.now))) }
+{
+    schedules_go_by_eights();
+    let mut rest = schedule;
+    while !rest.is_empty() {
+        let (turns, behind) = rest.split_at(rest.len().min(8));
+        put_turns(alloc, text, turns)?;
+        rest = behind;
+    }
+    Ok(())
+}
+
+/// Writes the lines of all workers.
+fn put_scripts(alloc: Global, text: &mut Vec<u8>, workload: &Workload) -> Result<(), AllocError>
+    ensures { OnOk result (text.new.items ≡ text.old.items ++ lines_text (script_lines workload.now.objects 0 workload.now.scripts)) }
+{
+    for worker in 0..workload.workers() {
+        put_script(
+            alloc,
+            text,
+            workload.objects(),
+            worker,
+            workload.script(worker),
+        )?;
+    }
+    Ok(())
+}
+
+/// Writes the lines behind the first one.
+fn put_lines(alloc: Global, text: &mut Vec<u8>, workload: &Workload) -> Result<(), AllocError>
+    ensures { OnOk result (text.new.items ≡ text.old.items ++ lines_text (canonical_lines workload.now)) }
+{
+    put_objects(alloc, text, workload.objects())?;
+    put_scripts(alloc, text, workload)?;
+    put_schedule(alloc, text, workload.schedule())
+}
+
+/// The canonical text of a workload: the `workers` line, the objects in order of declaration, for each
+/// worker from 0 up a `worker` line and its calls, and the schedule, eight items a line.
+///
+/// It is read as the workload again.
+pub fn print(alloc: Global, workload: &Workload) -> Result<Vec<u8>, AllocError>
+    ensures text { IfOk result (λ text. text.items ≡ canonical workload.now) }
+    ensures read { IfOk result (λ text. Reads text.items workload.now) }
+{
+    canonical_reads();
+    let mut text = Vec::new(alloc);
+    put_numbered(alloc, &mut text, b"workers", workload.workers())?;
+    put_lines(alloc, &mut text, workload)?;
+    Ok(text)
+}

@@ -1,0 +1,4 @@
+mod CheckLemmas
+mod Digits
+mod LineLemmas
+mod ReadLemmas

@@ -1,0 +1,110 @@
+//! A whole text.
+ghost use Rattle.std.specs.Prelude.{◌≡◌, ◌+◌, ◌-◌, ◌≤◌, ◌∷◌, max, map, length, MatchResult, IfOk, IfErr, None, Some};
+ghost use Rattle.workload.specs.Lines.{lines_of};
+ghost use Rattle.workload.specs.Checks.{checks_of, word_checks, first_failing};
+ghost use Rattle.workload_reader.specs.LineResult.{IsFault};
+ghost use Rattle.workload.specs.Reads.{Says, IsRead, ReadsOn, Reads, FirstFault, IsFirstFault, fault_at, IsFaultOf};
+ghost use Rattle.workload.specs.declared.limits.TheConstants.{MAX_INPUT};
+
+use crate::reading::{read_line, read_workers};
+use crate::text::{is_clean, is_short, is_significant, split_line, words_of};
+use std::alloc::Global;
+use workload::draft::Draft;
+use workload::fault::{LineFault, ParseFault};
+use workload::limits::MAX_INPUT;
+use workload::reason::Reason;
+use workload::workload::Workload;
+
+/// The draft behind a line that says something: its first word and the others.
+fn take_words(
+    alloc: Global,
+    before: Option<Draft>,
+    word: &[u8],
+    arguments: &[&[u8]],
+) -> Result<Option<Draft>, LineFault>
+    ensures { MatchResult result (Says before (word.now ∷ map (λ word. word.now) arguments.now)) (IsFault (word_checks before (word.now ∷ map (λ word. word.now) arguments.now))) }
+{
+    match before {
+        None => {
+            let workers = read_workers(word, arguments)?;
+            Ok(Some(Draft::start(alloc, workers)?))
+        }
+        Some(draft) => {
+            let line = read_line(alloc, &draft, word, arguments)?;
+            Ok(Some(draft.with_line(alloc, line)?))
+        }
+    }
+}
+
+/// The draft behind one more line of the text. A line that says nothing leaves it.
+fn take_line(alloc: Global, before: Option<Draft>, line: &[u8]) -> Result<Option<Draft>, LineFault>
+    ensures { MatchResult result (IsRead before line.now) (IsFault (checks_of before line.now)) }
+{
+    if !is_short(line) {
+        return Err(LineFault::Refused(Reason::LineTooLong));
+    }
+    if !is_clean(line) {
+        return Err(LineFault::Refused(Reason::BadByte));
+    }
+    let words = words_of(alloc, line)?;
+    if !is_significant(&words) {
+        return Ok(before);
+    }
+    let Some((word, arguments)) = words.split_first() else {
+        return Ok(before);
+    };
+    take_words(alloc, before, word, arguments)
+}
+
+/// The fault of the text that a fault of its line is.
+fn at_line(line: u32, fault: LineFault) -> ParseFault
+    ensures { result ≡ fault_at line fault }
+{
+    match fault {
+        LineFault::Refused(reason) => ParseFault::Refused { line, reason },
+        LineFault::Memory => ParseFault::Memory,
+    }
+}
+
+/// The draft of all lines of a text, of which there is none where no line says anything.
+fn read_lines(alloc: Global, bytes: &[u8]) -> Result<Draft, ParseFault>
+    requires { length bytes.now ≤ MAX_INPUT }
+    ensures { MatchResult result (λ draft. ReadsOn (lines_of bytes.now) None draft.plan) (IsFirstFault (lines_of bytes.now)) }
+{
+    let mut draft = None;
+    let mut next: u32 = 1;
+    let mut rest = bytes;
+    while !rest.is_empty() {
+        let (line, behind) = split_line(rest);
+        match take_line(alloc, draft, line) {
+            Ok(after) => draft = after,
+            Err(fault) => return Err(at_line(next, fault)),
+        }
+        next += 1;
+        rest = behind;
+    }
+    match draft {
+        Some(draft) => Ok(draft),
+        None => Err(ParseFault::Refused {
+            line: (next - 1).max(1),
+            reason: Reason::NoWorkersLine,
+        }),
+    }
+}
+
+/// Reads a workload text.
+///
+/// The text is split at line feeds; a blank line and one whose first word begins with `#` say nothing.
+/// An `Err` is the first fault: the least line, and in it the first check that fails.
+pub fn parse(alloc: Global, bytes: &[u8]) -> Result<Workload, ParseFault>
+    ensures read { IfOk result (Reads bytes.now) }
+    ensures refused { IfErr result (IsFaultOf bytes.now) }
+{
+    if bytes.len() > MAX_INPUT {
+        return Err(ParseFault::Refused {
+            line: 0,
+            reason: Reason::InputTooLong,
+        });
+    }
+    Ok(read_lines(alloc, bytes)?.finish())
+}

@@ -1,0 +1,73 @@
+//! The lines of a text and the words of a line.
+ghost use Rattle.std.specs.Prelude.{◌≡◌, ◌≢◌, ℕ, ◌+◌, ◌<◌, ◌≤◌, ◌∷◌, map, length, slice_index, IfOk};
+ghost use Rattle.workload.specs.Lines.{lines_of, is_short, is_clean, is_printable, words_of, is_comment, is_significant};
+ghost use Rattle.std.specs.List.{list_all};
+
+use std::alloc::{AllocError, Global};
+use workload::limits::MAX_LINE;
+
+/// The index of the first line feed, or the text's length.
+fn line_end(text: &[u8]) -> usize
+    ensures within { result ≤ length text.now }
+    ensures before { (k : ℕ) → k < result → slice_index text.now k ≢ 10 }
+    ensures found { result < length text.now → slice_index text.now result ≡ 10 }
+{
+    for (index, byte) in text.iter().enumerate() {
+        if *byte == b'\n' {
+            return index;
+        }
+    }
+    text.len()
+}
+
+/// The first line of a text that isn't empty, and the text behind its line feed.
+pub fn split_line(text: &[u8]) -> (&[u8], &[u8])
+    requires { 0 < length text.now }
+    ensures line { lines_of text.now ≡ result.0.now ∷ lines_of result.1.now }
+    ensures rest { length result.1.now < length text.now }
+{
+    let end = line_end(text);
+    if end < text.len() {
+        (&text[..end], &text[end + 1..])
+    } else {
+        (text, &text[end..])
+    }
+}
+
+/// Whether a line has at most 200 bytes.
+pub fn is_short(line: &[u8]) -> bool
+    ensures { result ≡ is_short line.now }
+{
+    line.len() <= MAX_LINE
+}
+
+/// Whether each byte is a space to a tilde.
+pub fn is_clean(line: &[u8]) -> bool
+    ensures { result ≡ is_clean line.now }
+{
+    for byte in line {
+        if !(b' ' <= *byte && *byte <= b'~') {
+            return false;
+        }
+    }
+    true
+}
+
+/// The runs of bytes other than space.
+pub fn words_of(alloc: Global, line: &[u8]) -> Result<Vec<&[u8]>, AllocError>
+    ensures { IfOk result (λ words. map (λ word. word.now) words.items ≡ words_of line.now) }
+{
+    line.split(|byte| *byte == b' ')
+        .filter(|word| !word.is_empty())
+        .collect(alloc)
+}
+
+/// Whether the words say something: there are some, and the first doesn't begin with `#`.
+pub fn is_significant(words: &[&[u8]]) -> bool
+    ensures { result ≡ is_significant (map (λ word. word.now) words.now) }
+{
+    match words.first() {
+        None => false,
+        Some(word) => word.first() != Some(&b'#'),
+    }
+}
