@@ -10,8 +10,8 @@ use ruled_object::laws::journal_is_log;
 use std::sync::Wait;
 use sync_model::{Answer, Note};
 use sync_outside::{At, Clock};
-use wait_cores::laws::pool::drops_where_full;
-use wait_cores::{PoolCore, PoolEvent, PoolPut, PoolReply};
+use pool_core::laws::drops_where_full;
+use pool_core::{PoolCore, PoolEvent, PoolPut, PoolReply};
 
 impl<N: Note> Pool<N> {
     /// Puts an item into the caller's part. It is dropped exactly where that part holds a private item and as many shared

@@ -8,7 +8,7 @@ use crate::pool::{Pool, PoolPass};
 use std::sync::Wait;
 use sync_model::{Answer, Note};
 use sync_outside::{At, Clock};
-use wait_cores::PoolEvent;
+use pool_core::PoolEvent;
 
 impl<N: Note> Pool<N> {
     /// Removes the victims, and makes the items of the parts the victims: an item is removed by the second sweep after its

@@ -10,17 +10,19 @@ use Rattle.rw_core.specs.RwMachine as rw
 use Rattle.rw_core.specs.EventsLeft as rw_left
 use Rattle.rw_core.specs.declared.event.RwEvent.{RwEvent}
 use Rattle.rw_core.specs.declared.reply.RwReply.TheVariants as rw_reply
-use Rattle.wait_cores.specs.EventsLeft.{notify_left, notify_used, notify_given, group_left, group_used, group_given, once_left, once_used, once_given}
+use Rattle.wait_cores.specs.NotifyEventsLeft.{notify_left, notify_used, notify_given}
+use Rattle.wait_cores.specs.GroupEventsLeft.{group_left, group_used, group_given}
+use Rattle.wait_cores.specs.OnceEventsLeft.{once_left, once_used, once_given}
 use Rattle.wait_cores.specs.NotifyMachine as notify
 use Rattle.wait_cores.specs.GroupMachine as group
 use Rattle.wait_cores.specs.OnceMachine as once
-use Rattle.wait_cores.specs.PoolMachine as pool
+use Rattle.pool_core.specs.PoolMachine as pool
 use Rattle.wait_cores.specs.declared.notify.NotifyEvent.{NotifyEvent}
 use Rattle.wait_cores.specs.declared.group.GroupEvent.{GroupEvent}
 use Rattle.wait_cores.specs.declared.group.GroupReply.TheVariants as group_reply
 use Rattle.wait_cores.specs.declared.once.OnceEvent.{OnceEvent}
 use Rattle.wait_cores.specs.declared.once.OnceReply.TheVariants as once_reply
-use Rattle.wait_cores.specs.declared.pool_event.PoolEvent.{PoolEvent}
+use Rattle.pool_core.specs.declared.pool_event.PoolEvent.{PoolEvent}
 
 -- ---- their states stay valid, and their callers the same
 

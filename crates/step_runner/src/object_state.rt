@@ -8,7 +8,8 @@ use mutex_core::MutexCore;
 use rw_core::RwCore;
 use std::alloc::{AllocError, Global};
 use sync_model::{ByName, Number};
-use wait_cores::{GroupCore, GroupEvent, NotifyCore, OnceCore, PoolCore};
+use pool_core::PoolCore;
+use wait_cores::{GroupCore, GroupEvent, NotifyCore, OnceCore};
 use workload::ObjectKind;
 
 /// What an object holds between two turns, by its kind. The callers of a machine are the workers.

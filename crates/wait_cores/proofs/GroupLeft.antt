@@ -2,6 +2,7 @@
 use Rattle.std.proofs.Common.{◌≡◌, ℕ, zero, suc, ◌==◌, ◌+◌, ◌<◌, ◌≤◌, pos, ◌+ℤ◌, Bool, true, false, cond, List, [], ◌∷◌, length, map, get_or, set, Option, Some, None, refl, ap, ◌∙◌, arith}
 use Rattle.std.specs.Prelude.{nat_lt, sum_by, unwrap_or}
 use Rattle.std.specs.List.{slice_get}
+use Rattle.std.proofs.lemmas.Bool.{ltb-true}
 use Rattle.std.proofs.lemmas.List.Sums.{sum_by-cons, sum_by-set}
 use Rattle.sync_model.specs.declared.misuse.Misuse.TheVariants.{WaitGroupReused}
 use Rattle.wait_cores.specs.declared.group.GroupEvent.{GroupEvent}
@@ -11,8 +12,7 @@ use Rattle.wait_cores.specs.declared.group.GroupReply.TheVariants.{Done, Queued,
 use Rattle.wait_cores.specs.declared.group.GroupPlace.{GroupPlace}
 use Rattle.wait_cores.specs.declared.group.GroupPlace.TheVariants.{Out, Waiting, Released}
 use Rattle.wait_cores.specs.GroupMachine.{GroupState, next, is_reused, released, made, added, within, wait_from, leave_from, callers_of, place_of}
-use Rattle.wait_cores.specs.EventsLeft.{left_at, group_left, group_used, given_leaving, group_given}
-use Rattle.wait_cores.proofs.Comparisons.{is_below}
+use Rattle.wait_cores.specs.GroupEventsLeft.{left_at, group_left, group_used, given_leaving, group_given}
 
 abbrev UsesUp : GroupState → GroupEvent → GroupState × GroupReply → Type 0
 UsesUp s event n = group_left n.0 + group_used n.1 ≤ group_left s + group_given event n.1
@@ -69,7 +69,7 @@ made_uses s c Wait below = omega (arith, wait_uses (place_of s c) s c below refl
 made_uses s c Leave below = leave_uses (place_of s c) s c below
 
 if_uses : (b : Bool) (s : GroupState) (c : ℕ) (event : GroupEvent) → nat_lt c (callers_of s) ≡ b → UsesUp s event (cond b (made s c event) (s, Still))
-if_uses true s c event below = made_uses s c event (is_below c (length s.places) below)
+if_uses true s c event below = made_uses s c event (ltb-true c (length s.places) below)
 if_uses false s c event below = omega arith
 
 pub next-uses : (s : GroupState) (c : ℕ) (event : GroupEvent) → UsesUp s event (next s c event)

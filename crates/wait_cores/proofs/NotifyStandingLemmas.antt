@@ -2,6 +2,7 @@
 use Rattle.std.proofs.Common.{◌≡◌, ◌≢◌, ℕ, zero, suc, ◌+◌, ◌<◌, Bool, true, false, cond, List, [], ◌∷◌, length, replicate, set, Option, Some, None, refl, ap}
 use Rattle.std.specs.Prelude.{nat_lt, is_some, unwrap_or}
 use Rattle.std.specs.List.{slice_get}
+use Rattle.std.proofs.lemmas.Bool.{ltb-true}
 use Rattle.wait_cores.specs.declared.notify.NotifyEvent.{NotifyEvent}
 use Rattle.wait_cores.specs.declared.notify.NotifyEvent.TheVariants.{Ticket, Signal, Broadcast, Leave}
 use Rattle.wait_cores.specs.declared.notify.NotifyReply.{NotifyReply}
@@ -11,7 +12,6 @@ use Rattle.wait_cores.specs.declared.notify.NotifyPlace.TheVariants.{Out, Waitin
 use Rattle.wait_cores.specs.NotifyMachine.{NotifyState, start, next, made, leave_from, callers_of, place_of, place_with}
 use Rattle.wait_cores.specs.NotifyStanding.{has_ticket, has_after}
 use Rattle.wait_cores.proofs.Places.{get-set_other, get-set_within}
-use Rattle.wait_cores.proofs.Comparisons.{is_below}
 
 abbrev has_at : List (Option ℕ) → ℕ → Bool
 has_at tickets caller = is_some (unwrap_or (slice_get tickets caller) None)
@@ -62,7 +62,7 @@ stands_made s d Broadcast within = record { own = refl; others = λ c ne. refl }
 stands_made s d Leave within = stands_leave (place_of s d) s d
 
 stands_if : (b : Bool) (s : NotifyState) (d : ℕ) (event : NotifyEvent) → nat_lt d (callers_of s) ≡ b → Stands s d event (cond b (made s d event) (s, Still))
-stands_if true s d event below = stands_made s d event (is_below d (length s.tickets) below)
+stands_if true s d event below = stands_made s d event (ltb-true d (length s.tickets) below)
 stands_if false s d event below = stands_still s d event
 
 stands : (s : NotifyState) (d : ℕ) (event : NotifyEvent) → Stands s d event (next s d event)

@@ -2,6 +2,7 @@
 use Rattle.std.proofs.Common.{◌≡◌, ℕ, zero, suc, ◌==◌, ◌+◌, ◌<◌, ◌≤◌, Bool, true, false, cond, List, [], ◌∷◌, length, get_or, Option, Some, None, refl, ap, arith}
 use Rattle.std.specs.Prelude.{nat_lt}
 use Rattle.std.specs.List.{slice_get}
+use Rattle.std.proofs.lemmas.Bool.{ltb-true}
 use Rattle.std.proofs.lemmas.List.Sums.{sum_by-set}
 use Rattle.std.proofs.lemmas.Option.{get_or_from_slice_get}
 use Rattle.wait_cores.specs.declared.once.OnceEvent.{OnceEvent}
@@ -13,8 +14,7 @@ use Rattle.wait_cores.specs.declared.once.OnceProgress.TheVariants.{NotRun, Runn
 use Rattle.wait_cores.specs.declared.once.OncePlace.{OncePlace}
 use Rattle.wait_cores.specs.declared.once.OncePlace.TheVariants.{Out, Waiting, Released}
 use Rattle.wait_cores.specs.OnceMachine.{OnceState, next, made, begin_from, come_to, end_by, leave_with, callers_of, place_of, place_in, waiting_in, runner_in}
-use Rattle.wait_cores.specs.EventsLeft.{left_by, left_in, once_left, once_used, once_given}
-use Rattle.wait_cores.proofs.Comparisons.{is_below}
+use Rattle.wait_cores.specs.OnceEventsLeft.{left_by, left_in, once_left, once_used, once_given}
 
 module _ {T : Type 0} where
   abbrev UsesUp : OnceState T → OnceState T × OnceReply T → Type 0
@@ -64,7 +64,7 @@ module _ {T : Type 0} where
   made_uses s c Leave below = leave_uses s.progress (slice_get s.waits c) s c below
 
   if_uses : (b : Bool) (s : OnceState T) (c : ℕ) (event : OnceEvent T) → nat_lt c (callers_of s) ≡ b → UsesUp s (cond b (made s c event) (s, reply.Still))
-  if_uses true s c event below = made_uses s c event (is_below c (length s.waits) below)
+  if_uses true s c event below = made_uses s c event (ltb-true c (length s.waits) below)
   if_uses false s c event below = omega arith
 
   pub next-uses : (s : OnceState T) (c : ℕ) (event : OnceEvent T) → UsesUp s (next s c event)

@@ -2,7 +2,7 @@ use super::setup::{Caller, knows, made};
 use crate::PoolGet;
 use std::test::Fail;
 use sync_model::{Answer, Misuse};
-use wait_cores::PoolPut;
+use pool_core::PoolPut;
 
 #[test]
 fn one_caller_gets_what_it_put(rt: HostRuntime) -> Result<(), Fail> {

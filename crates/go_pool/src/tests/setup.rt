@@ -9,7 +9,7 @@ use std::alloc::{AllocError, Global};
 use std::sync::Wait;
 use sync_model::{Answer, FrontNote, Misuse};
 use sync_outside::{At, Clock};
-use wait_cores::PoolPut;
+use pool_core::PoolPut;
 
 /// A clock that stands still.
 pub(super) struct NoClock;

@@ -2,8 +2,8 @@
 ghost use Rattle.std.specs.Prelude.{◌≡◌, ◌≢◌, ℕ, pos, ◌+◌, ◌-◌, ◌^◌, ◌<◌, ◌≤◌, false, IsTrue, ◌∷◌, ◌++◌, slice_set, IsFalse};
 ghost use Rattle.std.specs.List.{list_any};
 ghost use Rattle.sync_model.specs.Log.{Follows};
-ghost use Rattle.wait_cores.specs.Edges.{group_releases, group_acquires};
-ghost use Rattle.wait_cores.specs.EventsLeft.{group_left, group_used, group_given};
+ghost use Rattle.wait_cores.specs.GroupEdges.{group_releases, group_acquires};
+ghost use Rattle.wait_cores.specs.GroupEventsLeft.{group_left, group_used, group_given};
 ghost use Rattle.wait_cores.specs.GroupMachine.{GroupState, start, next, callers_of, is_waiting};
 ghost use Rattle.wait_cores.specs.GroupStanding.{answers, may_make, waits_at, waits_after};
 ghost use Rattle.wait_cores.specs.GroupLaws.{Log, WasZero, state_after, wait_by, leave_by, additions};

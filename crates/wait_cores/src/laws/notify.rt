@@ -1,10 +1,10 @@
 //! When a ticket of a cond is notified.
 ghost use Rattle.std.specs.Prelude.{◌≡◌, ◌≢◌, ℕ, ◌<◌, ◌≤◌, ◌+◌, ◌-◌, ◌^◌, ◌==◌, min, false, not, ◌∷◌, ◌++◌, count_by, IsTrue, IsFalse};
 ghost use Rattle.std.specs.List.{list_all, list_any};
-ghost use Rattle.wait_cores.specs.Edges.{notify_releases, notify_acquires};
+ghost use Rattle.wait_cores.specs.NotifyEdges.{notify_releases, notify_acquires};
 ghost use Rattle.wait_cores.specs.NotifyMachine.{NotifyState, start, next, callers_of, place_of};
 ghost use Rattle.wait_cores.specs.NotifyStanding.{has_ticket, has_after, may_make};
-ghost use Rattle.wait_cores.specs.EventsLeft.{notify_left, notify_used, notify_given};
+ghost use Rattle.wait_cores.specs.NotifyEventsLeft.{notify_left, notify_used, notify_given};
 ghost use Rattle.wait_cores.specs.NotifyLaws.{Log, IsLog, state_after, ticket_by, leave_by, is_ticket, pending_of, answers, NotifiesAfter};
 
 use crate::notify::{NotifyEvent, NotifyPlace, NotifyReply};

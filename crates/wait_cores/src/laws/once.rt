@@ -3,8 +3,8 @@ ghost use Rattle.std.specs.Prelude.{◌≡◌, ◌≢◌, ℕ, ◌+◌, ◌<◌,
 ghost use Rattle.wait_cores.specs.declared.once.OnceEvent.{OnceEvent};
 ghost use Rattle.wait_cores.specs.declared.once.OnceReply.TheVariants as reply;
 ghost use Rattle.std.specs.List.{list_any};
-ghost use Rattle.wait_cores.specs.Edges.{once_releases, once_acquires};
-ghost use Rattle.wait_cores.specs.EventsLeft.{once_left, once_used, once_given};
+ghost use Rattle.wait_cores.specs.OnceEdges.{once_releases, once_acquires};
+ghost use Rattle.wait_cores.specs.OnceEventsLeft.{once_left, once_used, once_given};
 ghost use Rattle.wait_cores.specs.OnceMachine.{OnceState, start, next, callers_of};
 ghost use Rattle.wait_cores.specs.OnceStanding.{answers, may_make, waits_at, runs_at, waits_after, runs_after};
 ghost use Rattle.wait_cores.specs.OnceLaws.{Made, Log, IsLog, begins, ends, returned_in, kept_by};
