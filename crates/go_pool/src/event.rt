@@ -8,11 +8,11 @@ ghost use Rattle.go_pool.specs.Pools.{Placed, left_of, parts_of, IsHomeOf, IsPas
 ghost use Rattle.go_pool.specs.Events.{Answers};
 
 use crate::pool::{Pool, PoolPass};
+use pool_core::laws::answers_its_callers;
+use pool_core::{PoolCore, PoolEvent, PoolReply};
 use ruled_object::laws::{growth, journal_is_log, spending};
 use std::sync::Wait;
 use sync_model::{Answer, Note};
-use pool_core::laws::answers_its_callers;
-use pool_core::{PoolCore, PoolEvent, PoolReply};
 
 impl<N: Note> Pool<N> {
     // Takes one call off the pass, and adds nothing to any journal.

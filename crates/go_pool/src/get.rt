@@ -10,12 +10,12 @@ ghost use Rattle.go_pool.specs.Pools.{Placed, parts_of, fresh_of, left_of, numbe
 
 use crate::pool::{Pool, PoolPass};
 use crate::pool_get::PoolGet;
+use pool_core::laws::gives_each_once;
+use pool_core::{PoolCore, PoolEvent, PoolReply};
 use ruled_object::laws::{growth, journal_is_log};
 use std::sync::Wait;
 use sync_model::{Answer, Note};
 use sync_outside::{At, Clock};
-use pool_core::laws::gives_each_once;
-use pool_core::{PoolCore, PoolEvent, PoolReply};
 
 impl<N: Note> Pool<N> {
     /// Takes an item that was put, or gives the pool's fresh value. It looks at the caller's own part, at the others' shared

@@ -5,10 +5,10 @@ ghost use Rattle.workload.specs.Plan.{reference_of};
 ghost use Rattle.step_runner.specs.State.{new_object, kind_of};
 
 use mutex_core::MutexCore;
+use pool_core::PoolCore;
 use rw_core::RwCore;
 use std::alloc::{AllocError, Global};
 use sync_model::{ByName, Number};
-use pool_core::PoolCore;
 use wait_cores::{GroupCore, GroupEvent, NotifyCore, OnceCore};
 use workload::ObjectKind;
 

@@ -8,8 +8,8 @@ ghost use Rattle.step_runner.specs.PoolTurn.{found_by, looks_of, pool_step, pool
 
 use crate::object_state::ObjectState;
 use crate::step::Answer;
-use sync_model::{PoolCall, PoolReply, Reply};
 use pool_core::PoolCore;
+use sync_model::{PoolCall, PoolReply, Reply};
 
 /// Makes the look of this number, of a get by a worker of so many.
 fn look(pool: &mut PoolCore, worker: u32, workers: u32, number: u32) -> Option<u64>
