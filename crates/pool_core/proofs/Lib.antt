@@ -1,6 +1,7 @@
 pub mod PoolMaps
 pub mod PoolCounts
 pub mod PoolOrigins
+pub mod PoolAnswers
 pub mod PoolRoom
 pub mod PoolParts
 pub mod PoolStill

@@ -1,9 +1,9 @@
 -- A pool keeps as many parts as it has callers, each part keeps its room, and none holds more shared items.
-use Rattle.std.proofs.Common.{◌≡◌, ◌⊎◌, inl, inr, ℕ, zero, suc, ◌==◌, ◌-◌, ◌≤◌, ◌<◌, Bool, true, false, cond, List, [], ◌∷◌, ◌++◌, length, map, replicate, Option, Some, None, refl, sym, ap, ◌∙◌, subst, arith, length-set}
+use Rattle.std.proofs.Common.{◌≡◌, ◌⊎◌, inl, inr, ℕ, ◌==◌, ◌-◌, ◌≤◌, ◌<◌, Bool, true, false, cond, List, [], ◌∷◌, ◌++◌, length, map, replicate, Option, Some, None, refl, sym, ap, ◌∙◌, subst, arith, length-set}
 use Rattle.std.specs.Prelude.{nat_lt, ◌&&◌, is_some}
 use Rattle.std.specs.List.{All, slice_get}
 use Rattle.std.specs.Option.{option_map}
-use Rattle.std.proofs.lemmas.Bool.{ltb-true, lt-ltb}
+use Rattle.std.proofs.lemmas.Bool.{and_from, ltb-true, lt-ltb}
 use Rattle.std.proofs.lemmas.Bool.Decides.{nat_tests}
 use Rattle.std.proofs.lemmas.List.{length-map, length-take, length-replicate}
 use Rattle.std.proofs.lemmas.List.Elements.{All-map, All-replicate, All-set, All-weaker}
@@ -15,7 +15,8 @@ use Rattle.pool_core.specs.declared.pool_event.PoolReply.TheVariants.{Kept, Drop
 use Rattle.sync_model.specs.Log.{entry, after, Follows}
 use Rattle.pool_core.specs.PoolParts.{PoolPart, empty, emptied, put_in, put_beside, take_own, take_tail, take_victim, head_of, tail_of, private_or}
 use Rattle.pool_core.specs.PoolMachine.{PoolState, start, next, made, with_primary, with_victims, callers_of}
-use Rattle.pool_core.specs.PoolLaws.{Log, is_full, answers, answers_put, answers_look, NamesPart}
+use Rattle.pool_core.specs.PoolLaws.{Log, is_full, answers, NamesPart, has_part}
+use Rattle.pool_core.proofs.PoolAnswers.{part_there, answers-made}
 
 full_or_not : (m n room : ℕ) → n ≡ room → m ≤ room → ((nat_lt m n ≡ true) × ((m == room) ≡ false)) ⊎ ((nat_lt m n ≡ false) × ((m == room) ≡ true))
 full_or_not m n room same h = grind (arith, nat_tests)
@@ -152,11 +153,6 @@ module _ {X : Type 0} where
   put_at_part true s caller item None own h is = cc
   put_at_part false s caller item o own h is = cc
 
-  part_there : (parts : List (PoolPart X)) (i : ℕ) → i < length parts → (part : PoolPart X) × (slice_get parts i ≡ Some part)
-  part_there [] i h = absurd (omega arith)
-  part_there (part ∷ parts) zero h = (part, refl)
-  part_there (part ∷ parts) (suc i) h = part_there parts i (omega arith)
-
   -- from a state whose parts have their room on
   drops_from : (callers room : ℕ) (s : PoolState X) (before rest : Log X) (caller : ℕ) (item : X) (reply : PoolReply X) → caller < callers → IsRoomy callers room s
       → Follows next s (before ++ entry caller (Put item) reply ∷ rest)
@@ -178,64 +174,17 @@ module _ {X : Type 0} where
       → (own : PoolPart X) × (slice_get (after next (start callers room) before).primary caller ≡ Some own) × (reply ≡ cond (is_full room own) (Dropped item) Kept)
   drops_where_full callers room before rest caller item reply below = drops_from callers room (start callers room) before rest caller item reply below (start_roomy callers room)
 
-  put_answer : (private : Option X) (part : PoolPart X) (item : X) → answers_put (put_beside private part item).1 ≡ true
-  put_answer None part item = refl
-  put_answer (Some held) part item = by_test (nat_lt (length part.shared) part.room) where
-    by_test : (b : Bool) → answers_put (cond {A = PoolPart X × PoolReply X} b (record part { shared = item ∷ part.shared }, Kept) (part, Dropped item)).1 ≡ true
-    by_test true = refl
-    by_test false = refl
-
-  head_answer : (shared : List X) (part : PoolPart X) → answers_look (head_of shared part).1 ≡ true
-  head_answer [] part = refl
-  head_answer (item ∷ rest) part = refl
-
-  tail_answer : (tail : Option X) (part : PoolPart X) → answers_look (tail_of tail part).1 ≡ true
-  tail_answer (Some item) part = refl
-  tail_answer None part = refl
-
-  take_tail_answer : (part : PoolPart X) → answers_look (take_tail part).1 ≡ true
-  take_tail_answer part = tail_answer (slice_get part.shared (length part.shared - 1)) part
-
-  private_answer : (private : Option X) (other : PoolPart X → PoolPart X × PoolReply X) (part : PoolPart X) → answers_look (other part).1 ≡ true → answers_look (private_or private other part).1 ≡ true
-  private_answer (Some item) other part is = refl
-  private_answer None other part is = is
-
-  primary_answer : (test : PoolReply X → Bool) (change : PoolPart X → PoolPart X × PoolReply X) (s : PoolState X) (at : ℕ) (o : Option (PoolPart X)) (part : PoolPart X)
-      → o ≡ Some part → ((p : PoolPart X) → test (change p).1 ≡ true) → test (with_primary (option_map change o) s at).1 ≡ true
-  primary_answer test change s at (Some found) part is each = each found
-  primary_answer test change s at None part is each = cc
-
-  victims_answer : (test : PoolReply X → Bool) (change : PoolPart X → PoolPart X × PoolReply X) (s : PoolState X) (at : ℕ) (o : Option (PoolPart X)) (part : PoolPart X)
-      → o ≡ Some part → ((p : PoolPart X) → test (change p).1 ≡ true) → test (with_victims (option_map change o) s at).1 ≡ true
-  victims_answer test change s at (Some found) part is each = each found
-  victims_answer test change s at None part is each = cc
-
-  victim_answer : (b : Bool) (p : PoolPart X) → answers_look ((cond {A = PoolPart X → PoolPart X × PoolReply X} b take_victim take_tail) p).1 ≡ true
-  victim_answer true p = private_answer p.private take_tail p (take_tail_answer p)
-  victim_answer false p = take_tail_answer p
-
-  made_answer : (callers room : ℕ) (s : PoolState X) (c : ℕ) (event : PoolEvent X) → IsRoomy callers room s → c < callers → NamesPart callers event → answers event (made s c event).1 ≡ true
-  made_answer callers room s c (Put item) is below names =
-      let parts = is.primary_parts in let there = part_there s.primary c (omega arith) in
-      primary_answer answers_put (λ p. put_in p item) s c (slice_get s.primary c) there.0 there.1 (λ p. put_answer p.private p item)
-  made_answer callers room s c LookOwn is below names =
-      let parts = is.primary_parts in let there = part_there s.primary c (omega arith) in
-      primary_answer answers_look take_own s c (slice_get s.primary c) there.0 there.1 (λ p. private_answer p.private (λ q. head_of q.shared q) p (head_answer p.shared p))
-  made_answer callers room s c (LookOther part) is below names =
-      let parts = is.primary_parts in let there = part_there s.primary part (omega arith) in
-      primary_answer answers_look take_tail s part (slice_get s.primary part) there.0 there.1 take_tail_answer
-  made_answer callers room s c (LookVictim part) is below names =
-      let parts = is.victim_parts in let there = part_there s.victims part (omega arith) in
-      victims_answer answers_look (cond {A = PoolPart X → PoolPart X × PoolReply X} (part == c) take_victim take_tail) s part (slice_get s.victims part) there.0 there.1 (victim_answer (part == c))
-  made_answer callers room s c Sweep is below names = refl
-
-  answer_if : (b : Bool) (s : PoolState X) (c : ℕ) (event : PoolEvent X) → b ≡ true → answers event (made s c event).1 ≡ true → answers event (cond b (made s c event) (s, Still)).1 ≡ true
-  answer_if true s c event below is = is
-  answer_if false s c event below is = cc
+  has_named : (callers : ℕ) (s : PoolState X) (event : PoolEvent X) → length s.primary ≡ callers → length s.victims ≡ callers → NamesPart callers event → has_part s event ≡ true
+  has_named callers s (Put item) primary victims names = refl
+  has_named callers s LookOwn primary victims names = refl
+  has_named callers s (LookOther part) primary victims names = lt-ltb part (length s.primary) (omega (arith, names, primary))
+  has_named callers s (LookVictim part) primary victims names = lt-ltb part (length s.victims) (omega (arith, names, victims))
+  has_named callers s Sweep primary victims names = refl
 
   pub knows-answers : (callers room : ℕ) (log : Log X) (c : ℕ) (event : PoolEvent X) → c < callers → NamesPart callers event → answers event (next (after next (start callers room) log) c event).1 ≡ true
   knows-answers callers room log c event below names =
       let s : PoolState X = after next (start callers room) log in
       let is : IsRoomy callers room s = room_after callers room (start callers room) log (start_roomy callers room) in
       let parts : length s.primary ≡ callers = is.primary_parts in
-      answer_if (nat_lt c (callers_of s)) s c event (lt-ltb c (length s.primary) (omega arith)) (made_answer callers room s c event is below names)
+      answers-made s c event
+      (and_from (nat_lt c (callers_of s)) (has_part s event) (lt-ltb c (length s.primary) (omega arith)) (has_named callers s event parts is.victim_parts names))

@@ -1,5 +1,5 @@
 -- What is said of the logs of a pool.
-use Rattle.std.specs.Prelude.{ℕ, zero, suc, ◌≡◌, ◌<◌, ◌≤◌, ◌+◌, ◌==◌, ◌&&◌, Bool, true, false, if◌then◌else◌, List, [], ◌∷◌, length, take, slice_get, Option, Some, None, is_some, option_map, count_by}
+use Rattle.std.specs.Prelude.{ℕ, zero, suc, ◌≡◌, ◌<◌, ◌≤◌, ◌+◌, ◌==◌, nat_lt, ◌&&◌, Bool, true, false, if◌then◌else◌, List, [], ◌∷◌, length, take, slice_get, Option, Some, None, is_some, option_map, count_by}
 use Rattle.std.specs.List.{sum_by}
 use Rattle.std.specs.Option.{option_and_then}
 use Rattle.pool_core.specs.declared.pool_event.PoolEvent.{PoolEvent}
@@ -8,7 +8,7 @@ use Rattle.pool_core.specs.declared.pool_event.PoolReply.{PoolReply}
 use Rattle.pool_core.specs.declared.pool_event.PoolReply.TheVariants.{Kept, Dropped, Item, Nothing, Swept, Still}
 use Rattle.sync_model.specs.Log.{Entry, entry, after, Follows}
 use Rattle.pool_core.specs.PoolParts.{PoolPart}
-use Rattle.pool_core.specs.PoolMachine.{PoolState, start, next}
+use Rattle.pool_core.specs.PoolMachine.{PoolState, start, next, callers_of}
 
 abbrev pub Made : Type 0 → Type 0
 Made X = Entry (PoolEvent X) (PoolReply X)
@@ -116,6 +116,18 @@ module _ {X : Type 0} where
   NamesPart parts (LookOther part) = part < parts
   NamesPart parts (LookVictim part) = part < parts
   NamesPart parts Sweep = Unit {0}
+
+  -- the part that an event names, where it names one, is there
+  abbrev pub has_part : PoolState X → PoolEvent X → Bool
+  has_part state (Put item) = true
+  has_part state LookOwn = true
+  has_part state (LookOther part) = nat_lt part (length state.primary)
+  has_part state (LookVictim part) = nat_lt part (length state.victims)
+  has_part state Sweep = true
+
+  -- the caller may make the event: it is one of the pool's, and a part that the event names is there
+  abbrev pub may_make : PoolState X → ℕ → PoolEvent X → Bool
+  may_make state caller event = nat_lt caller (callers_of state) && has_part state event
 
   abbrev pub answers_put : PoolReply X → Bool
   answers_put Kept = true

@@ -1,10 +1,11 @@
-//! Where the items of a pool come from and where they go.
+//! Laws of a pool over every log of events: where its items come from and where they go. Each is the contract of a function that
+//! does nothing.
 ghost use Rattle.std.specs.Prelude.{◌≡◌, ◌≢◌, ℕ, ◌+◌, ◌*◌, ◌<◌, ◌≤◌, Bool, if◌then◌else◌, length, slice_get, IsTrue, IsFalse, ◌∷◌, ◌++◌};
 ghost use Rattle.pool_core.specs.Edges.{pool_releases, pool_acquires};
 ghost use Rattle.pool_core.specs.Looks.{look};
 ghost use Rattle.pool_core.specs.PoolParts.{PoolPart};
-ghost use Rattle.pool_core.specs.PoolMachine.{PoolState, start, next, callers_of};
-ghost use Rattle.pool_core.specs.PoolLaws.{Made, Log, IsLog, state_after, put_by, held, kept_by, got_by, kept_count, got_count, swept_count, ComeFrom, is_full, private_at, answers, NamesPart};
+ghost use Rattle.pool_core.specs.PoolMachine.{PoolState, start, next};
+ghost use Rattle.pool_core.specs.PoolLaws.{Made, Log, IsLog, state_after, put_by, held, kept_by, got_by, kept_count, got_count, swept_count, ComeFrom, is_full, private_at, answers, NamesPart, may_make};
 
 use crate::pool_event::{PoolEvent, PoolReply};
 
@@ -55,12 +56,6 @@ pub fn answers_its_callers()
         → caller < callers → NamesPart callers event → IsTrue (answers event (next (state_after callers room log) caller event).1) }
 {}
 
-/// An event that is answered `Still` changes nothing.
-pub fn still_changes_nothing()
-    ensures { (state : PoolState ℕ) (caller : ℕ) (event : PoolEvent ℕ)
-        → (next state caller event).1 ≡ PoolReply.Still → (next state caller event).0 ≡ state }
-{}
-
 /// A pool keeps as many parts as it has callers, in both generations.
 pub fn keeps_its_parts()
     ensures { (state : PoolState ℕ) (caller callers : ℕ) (event : PoolEvent ℕ)
@@ -78,13 +73,11 @@ pub fn looks_everywhere()
         → (k : ℕ) × (callers ≤ k) × (k < 2 * callers) × (look callers caller k ≡ PoolEvent.LookVictim part) }
 {}
 
-/// An event of nobody, and a look at a part that isn't there, is answered `Still` and changes nothing. Any other is made
-/// (`answers_its_callers`).
+/// An event is made exactly where its caller may make it: it is one of the pool's, and the part that the event names, where it
+/// names one, is there. Any other is answered `Still` and changes nothing.
 pub fn still()
-    ensures nobody { (state : PoolState ℕ) (caller : ℕ) (event : PoolEvent ℕ)
-        → callers_of state ≤ caller → next state caller event ≡ (state, PoolReply.Still) }
-    ensures no_part { (state : PoolState ℕ) (caller part : ℕ)
-        → length state.primary ≤ part → next state caller (PoolEvent.LookOther part) ≡ (state, PoolReply.Still) }
-    ensures no_victims { (state : PoolState ℕ) (caller part : ℕ)
-        → length state.victims ≤ part → next state caller (PoolEvent.LookVictim part) ≡ (state, PoolReply.Still) }
+    ensures made { (state : PoolState ℕ) (caller : ℕ) (event : PoolEvent ℕ)
+        → IsTrue (may_make state caller event) → (next state caller event).1 ≢ PoolReply.Still }
+    ensures unmade { (state : PoolState ℕ) (caller : ℕ) (event : PoolEvent ℕ)
+        → IsFalse (may_make state caller event) → next state caller event ≡ (state, PoolReply.Still) }
 {}

@@ -1,6 +1,6 @@
 -- What the laws of the machines say that the objects of a run are.
-use Rattle.std.proofs.Common.{◌≡◌, ℕ, ◌+◌, ◌<◌, ◌≤◌}
-use Rattle.std.specs.Prelude.{ℤ, IsTrue, length}
+use Rattle.std.proofs.Common.{◌≡◌, ℕ, ◌+◌, ◌<◌, ◌≤◌, ◌≢◌, true, false, refl, ap}
+use Rattle.std.specs.Prelude.{ℤ, IsTrue, length, Bool, IsFalse}
 use Rattle.mutex_core.specs.MutexMachine as mutex
 use Rattle.mutex_core.specs.EventsLeft as mutex_left
 use Rattle.mutex_core.specs.Standing.{is_answer}
@@ -79,3 +79,8 @@ pub record Uses : Type 0 where
   pub groups : GroupUses
   pub adding : OnceUses ℤ
   pub giving : OnceUses ℕ
+
+-- an event that may not be made is answered `Still` and changes nothing, and any other isn't answered so. So one that is answered so leaves the state
+pub unmoved_by : {S R : Type 0} (may : Bool) (old : S) (step : S × R) (still : R) → (IsTrue may → step.1 ≢ still) → (IsFalse may → step ≡ (old, still)) → step.1 ≡ still → step.0 ≡ old
+unmoved_by true old step still made unmade is = absurd (made refl is)
+unmoved_by false old step still made unmade is = ap (λ n. n.0) (unmade refl)

@@ -73,6 +73,9 @@ pub fn events_use_something_up()
     wait_cores::laws::group::events_are_used_up();
     wait_cores::laws::once::events_are_used_up::<i64>();
     wait_cores::laws::once::events_are_used_up::<u64>();
+    wait_cores::laws::group::still();
+    wait_cores::laws::once::still::<i64>();
+    wait_cores::laws::once::still::<u64>();
 }
 
 /// Every run ends, in one of the three ways: one round more than is left to do is enough, and any more

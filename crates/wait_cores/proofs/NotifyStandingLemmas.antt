@@ -90,21 +90,3 @@ stays-without s c h = still_without (nat_lt c (callers_of s)) (place_of s c) s c
 
 pub has-first : (callers c : ℕ) → has_ticket (start callers) c ≡ false
 has-first callers c = has_first callers c
-
-leave_still : (p : NotifyPlace) (s : NotifyState) (c : ℕ) → (leave_from p s c).1 ≡ Still → (leave_from p s c).0 ≡ s
-leave_still Notified s c is = cc
-leave_still Waiting s c is = refl
-leave_still Out s c is = refl
-
-made_still : (s : NotifyState) (c : ℕ) (event : NotifyEvent) → (made s c event).1 ≡ Still → (made s c event).0 ≡ s
-made_still s c Ticket is = cc
-made_still s c Signal is = cc
-made_still s c Broadcast is = cc
-made_still s c Leave is = leave_still (place_of s c) s c is
-
-if_still : (b : Bool) (s : NotifyState) (c : ℕ) (event : NotifyEvent) → (cond b (made s c event) (s, Still)).1 ≡ Still → (cond b (made s c event) (s, Still)).0 ≡ s
-if_still true s c event is = made_still s c event is
-if_still false s c event is = refl
-
-pub unmoved-by_still : (s : NotifyState) (c : ℕ) (event : NotifyEvent) → (next s c event).1 ≡ Still → (next s c event).0 ≡ s
-unmoved-by_still s c event = if_still (nat_lt c (callers_of s)) s c event

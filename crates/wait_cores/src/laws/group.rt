@@ -74,18 +74,15 @@ pub fn synchronizes()
 {}
 
 /// Callers can't go on for ever without a call returning. One that comes to wait uses up one of the events that are left, and
-/// only one that leaves gives any back. An event that is answered `Still` changes nothing.
+/// only one that leaves gives any back.
 pub fn events_are_used_up()
-    ensures used { (state : GroupState) (caller : ℕ) (event : GroupEvent)
+    ensures { (state : GroupState) (caller : ℕ) (event : GroupEvent)
         → group_left (next state caller event).0 + group_used (next state caller event).1
         ≤ group_left state + group_given event (next state caller event).1 }
-    ensures unmoved { (state : GroupState) (caller : ℕ) (event : GroupEvent)
-        → (next state caller event).1 ≡ GroupReply.Still → (next state caller event).0 ≡ state }
 {}
 
-/// An event is made exactly where its caller may make it: it is one of the group's, is out for a wait, and is
-/// released for a leaving. Any other is answered
-/// `Still` and changes nothing.
+/// An event is made exactly where its caller may make it: it is one of the group's, is out for a wait, and is released for a
+/// leaving. Any other is answered `Still` and changes nothing.
 pub fn still()
     ensures made { (state : GroupState) (caller : ℕ) (event : GroupEvent)
         → IsTrue (may_make state caller event) → (next state caller event).1 ≢ GroupReply.Still }
