@@ -6,13 +6,13 @@ use Rattle.sync_model.specs.declared.journal.Deed.TheVariants.{Event, Refused, H
 use Rattle.sync_model.specs.declared.journal.Entry.{Entry}
 use Rattle.sync_model.specs.Journal.{Follows, log_of, logged, state_after}
 use Rattle.sync_model.specs.Log as log
-use Rattle.wait_cores.specs.declared.pool_event.PoolEvent.TheVariants.{Put}
-use Rattle.wait_cores.specs.declared.pool_event.PoolReply.{PoolReply}
-use Rattle.wait_cores.specs.declared.pool_event.PoolReply.TheVariants.{Kept, Dropped}
-use Rattle.wait_cores.specs.PoolLaws.{is_full, put_by, IsLog}
-use Rattle.wait_cores.specs.PoolLaws as laws
-use Rattle.wait_cores.specs.PoolMachine.{PoolState, start, next}
-use Rattle.wait_cores.specs.PoolParts.{PoolPart}
+use Rattle.pool_core.specs.declared.pool_event.PoolEvent.TheVariants.{Put}
+use Rattle.pool_core.specs.declared.pool_event.PoolReply.{PoolReply}
+use Rattle.pool_core.specs.declared.pool_event.PoolReply.TheVariants.{Kept, Dropped}
+use Rattle.pool_core.specs.PoolLaws.{is_full, put_by, IsLog}
+use Rattle.pool_core.specs.PoolLaws as laws
+use Rattle.pool_core.specs.PoolMachine.{PoolState, start, next}
+use Rattle.pool_core.specs.PoolParts.{PoolPart}
 use Rattle.go_pool.specs.declared.pool.Pool.{Pool}
 use Rattle.go_pool.specs.Items.{Found}
 use Rattle.go_pool.specs.Pools.{Journal, Placed, PoolPass, number_of, Grows, IsLawful}

@@ -5,10 +5,10 @@ use Rattle.sync_model.specs.declared.answer.Answer.TheVariants.{Done, Halted}
 use Rattle.sync_model.specs.declared.journal.Entry.{Entry}
 use Rattle.sync_model.specs.declared.misuse.Misuse.{Misuse}
 use Rattle.sync_model.specs.Journal.{halt_next, state_next, Right, Follows}
-use Rattle.wait_cores.specs.declared.pool_event.PoolEvent.{PoolEvent}
-use Rattle.wait_cores.specs.declared.pool_event.PoolReply.{PoolReply}
-use Rattle.wait_cores.specs.PoolLaws.{answers}
-use Rattle.wait_cores.specs.PoolMachine.{PoolState, next}
+use Rattle.pool_core.specs.declared.pool_event.PoolEvent.{PoolEvent}
+use Rattle.pool_core.specs.declared.pool_event.PoolReply.{PoolReply}
+use Rattle.pool_core.specs.PoolLaws.{answers}
+use Rattle.pool_core.specs.PoolMachine.{PoolState, next}
 use Rattle.ruled_object.specs.Cells.{deed_of}
 use Rattle.go_pool.specs.Events.{Answers}
 

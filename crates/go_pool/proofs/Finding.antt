@@ -3,12 +3,12 @@ use Rattle.std.proofs.Common.{◌≡◌, ℕ, zero, suc, ◌==◌, ◌-◌, Bool
 use Rattle.std.specs.Prelude.{nat_lt}
 use Rattle.std.specs.List.{Contains, slice_get}
 use Rattle.std.specs.Option.{option_map}
-use Rattle.wait_cores.specs.declared.pool_event.PoolEvent.{PoolEvent}
-use Rattle.wait_cores.specs.declared.pool_event.PoolEvent.TheVariants.{Put, LookOwn, LookOther, LookVictim, Sweep}
-use Rattle.wait_cores.specs.declared.pool_event.PoolReply.{PoolReply}
-use Rattle.wait_cores.specs.declared.pool_event.PoolReply.TheVariants.{Kept, Dropped, Item, Still}
-use Rattle.wait_cores.specs.PoolParts.{PoolPart, put_in, put_beside, take_own, take_tail, take_victim, head_of, tail_of, private_or}
-use Rattle.wait_cores.specs.PoolMachine.{PoolState, next, made, callers_of, with_primary, with_victims}
+use Rattle.pool_core.specs.declared.pool_event.PoolEvent.{PoolEvent}
+use Rattle.pool_core.specs.declared.pool_event.PoolEvent.TheVariants.{Put, LookOwn, LookOther, LookVictim, Sweep}
+use Rattle.pool_core.specs.declared.pool_event.PoolReply.{PoolReply}
+use Rattle.pool_core.specs.declared.pool_event.PoolReply.TheVariants.{Kept, Dropped, Item, Still}
+use Rattle.pool_core.specs.PoolParts.{PoolPart, put_in, put_beside, take_own, take_tail, take_victim, head_of, tail_of, private_or}
+use Rattle.pool_core.specs.PoolMachine.{PoolState, next, made, callers_of, with_primary, with_victims}
 use Rattle.go_pool.specs.Items.{items_of, takeable}
 
 at_head : (x item : ℕ) (xs : List ℕ) → Item x ≡ Item item → Contains (x ∷ xs) item

@@ -5,15 +5,15 @@ use Rattle.sync_model.specs.declared.answer.Answer.TheVariants.{Done, Halted}
 use Rattle.sync_model.specs.declared.journal.Deed.{Deed}
 use Rattle.sync_model.specs.declared.misuse.Misuse.{Misuse}
 use Rattle.sync_model.specs.Journal.{halt_of}
-use Rattle.wait_cores.specs.declared.pool_event.PoolEvent.{PoolEvent}
-use Rattle.wait_cores.specs.declared.pool_event.PoolReply.{PoolReply}
-use Rattle.wait_cores.specs.PoolMachine.{PoolState, start, next}
+use Rattle.pool_core.specs.declared.pool_event.PoolEvent.{PoolEvent}
+use Rattle.pool_core.specs.declared.pool_event.PoolReply.{PoolReply}
+use Rattle.pool_core.specs.PoolMachine.{PoolState, start, next}
 use Rattle.ruled_object.specs.Growth.{deeds_of, halt_before, MeetsHalt}
 use Rattle.ruled_object.specs.Growth as growth
 use Rattle.go_pool.specs.declared.pool.Pool.{Pool}
 use Rattle.go_pool.specs.declared.pool_get.PoolGet.{PoolGet}
 use Rattle.go_pool.specs.declared.pool_get.PoolGet.TheVariants.{Item}
-use Rattle.wait_cores.specs.Looks.{look}
+use Rattle.pool_core.specs.Looks.{look}
 use Rattle.go_pool.specs.Calls.{Deeds, Gets, Looks, nothing_in}
 use Rattle.go_pool.specs.Pools.{Placed, PoolPass, parts_of, number_of, Grows}
 

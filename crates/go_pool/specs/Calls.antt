@@ -4,13 +4,13 @@ use Rattle.sync_model.specs.declared.answer.Answer.{Answer}
 use Rattle.sync_model.specs.declared.answer.Answer.TheVariants.{Done, Halted}
 use Rattle.sync_model.specs.declared.journal.Deed.{Deed}
 use Rattle.sync_model.specs.declared.journal.Deed.TheVariants.{Event, Refused}
-use Rattle.wait_cores.specs.declared.pool_event.PoolEvent.{PoolEvent}
-use Rattle.wait_cores.specs.declared.pool_event.PoolEvent.TheVariants.{Put, Sweep}
-use Rattle.wait_cores.specs.declared.pool_event.PoolPut.{PoolPut}
-use Rattle.wait_cores.specs.declared.pool_event.PoolReply.{PoolReply}
-use Rattle.wait_cores.specs.declared.pool_event.PoolReply.TheVariants as reply
-use Rattle.wait_cores.specs.Looks.{look}
-use Rattle.wait_cores.specs.PoolParts.{reply_of_put}
+use Rattle.pool_core.specs.declared.pool_event.PoolEvent.{PoolEvent}
+use Rattle.pool_core.specs.declared.pool_event.PoolEvent.TheVariants.{Put, Sweep}
+use Rattle.pool_core.specs.declared.pool_event.PoolPut.{PoolPut}
+use Rattle.pool_core.specs.declared.pool_event.PoolReply.{PoolReply}
+use Rattle.pool_core.specs.declared.pool_event.PoolReply.TheVariants as reply
+use Rattle.pool_core.specs.Looks.{look}
+use Rattle.pool_core.specs.PoolParts.{reply_of_put}
 use Rattle.go_pool.specs.declared.pool_get.PoolGet.{PoolGet}
 use Rattle.go_pool.specs.declared.pool_get.PoolGet.TheVariants.{Item, New}
 

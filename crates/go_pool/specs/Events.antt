@@ -2,9 +2,9 @@
 use Rattle.std.specs.Prelude.{ℕ, IsTrue}
 use Rattle.sync_model.specs.declared.answer.Answer.{Answer}
 use Rattle.sync_model.specs.declared.answer.Answer.TheVariants.{Done, Halted}
-use Rattle.wait_cores.specs.declared.pool_event.PoolEvent.{PoolEvent}
-use Rattle.wait_cores.specs.declared.pool_event.PoolReply.{PoolReply}
-use Rattle.wait_cores.specs.PoolLaws.{answers}
+use Rattle.pool_core.specs.declared.pool_event.PoolEvent.{PoolEvent}
+use Rattle.pool_core.specs.declared.pool_event.PoolReply.{PoolReply}
+use Rattle.pool_core.specs.PoolLaws.{answers}
 
 -- an event that the machine took is answered as such an event is
 abbrev pub Answers : PoolEvent ℕ → Answer (PoolReply ℕ) → Type 0

@@ -4,13 +4,13 @@ use Rattle.std.specs.Option.{option_to_list}
 use Rattle.sync_model.specs.declared.answer.Answer.{Answer}
 use Rattle.sync_model.specs.declared.answer.Answer.TheVariants.{Done, Halted}
 use Rattle.sync_model.specs.Journal.{log_of}
-use Rattle.wait_cores.specs.declared.pool_event.PoolEvent.{PoolEvent}
-use Rattle.wait_cores.specs.declared.pool_event.PoolEvent.TheVariants.{Put, LookOwn, LookOther, LookVictim, Sweep}
-use Rattle.wait_cores.specs.declared.pool_event.PoolPut.{PoolPut}
-use Rattle.wait_cores.specs.declared.pool_event.PoolPut.TheVariants.{Kept, Dropped}
-use Rattle.wait_cores.specs.PoolLaws.{is_full, ComeFrom}
-use Rattle.wait_cores.specs.PoolMachine.{PoolState}
-use Rattle.wait_cores.specs.PoolParts.{PoolPart}
+use Rattle.pool_core.specs.declared.pool_event.PoolEvent.{PoolEvent}
+use Rattle.pool_core.specs.declared.pool_event.PoolEvent.TheVariants.{Put, LookOwn, LookOther, LookVictim, Sweep}
+use Rattle.pool_core.specs.declared.pool_event.PoolPut.{PoolPut}
+use Rattle.pool_core.specs.declared.pool_event.PoolPut.TheVariants.{Kept, Dropped}
+use Rattle.pool_core.specs.PoolLaws.{is_full, ComeFrom}
+use Rattle.pool_core.specs.PoolMachine.{PoolState}
+use Rattle.pool_core.specs.PoolParts.{PoolPart}
 use Rattle.go_pool.specs.declared.pool.Pool.{Pool}
 use Rattle.go_pool.specs.Pools.{Made, Journal, PoolPass, held_after, seen_of, number_of, room_of}
 

@@ -1,6 +1,6 @@
 //! One event of a caller.
 ghost use Rattle.std.specs.Prelude.{◌≡◌, ℕ, ◌<◌, List, ◌∷◌, []};
-ghost use Rattle.wait_cores.specs.PoolLaws.{NamesPart};
+ghost use Rattle.pool_core.specs.PoolLaws.{NamesPart};
 ghost use Rattle.ruled_object.specs.Cells.{deed_of};
 ghost use Rattle.ruled_object.specs.Growth.{KeepsNote, MeetsHalt};
 ghost use Rattle.ruled_object.specs.Passes.{SamePass};
@@ -8,11 +8,11 @@ ghost use Rattle.go_pool.specs.Pools.{Placed, left_of, parts_of, IsHomeOf, IsPas
 ghost use Rattle.go_pool.specs.Events.{Answers};
 
 use crate::pool::{Pool, PoolPass};
+use pool_core::laws::answers_its_callers;
+use pool_core::{PoolCore, PoolEvent, PoolReply};
 use ruled_object::laws::{growth, journal_is_log, spending};
 use std::sync::Wait;
 use sync_model::{Answer, Note};
-use wait_cores::laws::pool::answers_its_callers;
-use wait_cores::{PoolCore, PoolEvent, PoolReply};
 
 impl<N: Note> Pool<N> {
     // Takes one call off the pass, and adds nothing to any journal.

@@ -1,7 +1,7 @@
 //! Getting an item of a pool.
 ghost use Rattle.std.specs.Prelude.{◌≡◌, ℕ, ◌<◌, ◌*◌, ◌∷◌, [], List};
-ghost use Rattle.wait_cores.specs.Looks.{look};
-ghost use Rattle.wait_cores.specs.PoolLaws.{NamesPart};
+ghost use Rattle.pool_core.specs.Looks.{look};
+ghost use Rattle.pool_core.specs.PoolLaws.{NamesPart};
 ghost use Rattle.ruled_object.specs.Growth.{KeepsNote, MeetsHalt, deeds_of};
 ghost use Rattle.ruled_object.specs.Passes.{SamePass};
 ghost use Rattle.go_pool.specs.Calls.{Gets, Looks};
@@ -10,12 +10,12 @@ ghost use Rattle.go_pool.specs.Pools.{Placed, parts_of, fresh_of, left_of, numbe
 
 use crate::pool::{Pool, PoolPass};
 use crate::pool_get::PoolGet;
+use pool_core::laws::gives_each_once;
+use pool_core::{PoolCore, PoolEvent, PoolReply};
 use ruled_object::laws::{growth, journal_is_log};
 use std::sync::Wait;
 use sync_model::{Answer, Note};
 use sync_outside::{At, Clock};
-use wait_cores::laws::pool::gives_each_once;
-use wait_cores::{PoolCore, PoolEvent, PoolReply};
 
 impl<N: Note> Pool<N> {
     /// Takes an item that was put, or gives the pool's fresh value. It looks at the caller's own part, at the others' shared

@@ -1,10 +1,10 @@
 //! What a look of a get finds.
 ghost use Rattle.std.specs.Prelude.{◌≡◌, ℕ, [], Contains};
-ghost use Rattle.wait_cores.specs.declared.pool_event.PoolEvent.{PoolEvent};
-ghost use Rattle.wait_cores.specs.PoolMachine.{PoolState, next};
+ghost use Rattle.pool_core.specs.declared.pool_event.PoolEvent.{PoolEvent};
+ghost use Rattle.pool_core.specs.PoolMachine.{PoolState, next};
 ghost use Rattle.go_pool.specs.Items.{takeable};
 
-use wait_cores::PoolReply;
+use pool_core::PoolReply;
 
 /// A look is answered that there is nothing only where there is no item that the caller may take by it, and the item that it
 /// takes is one of those. What the caller may take of its own part are the private item and the shared ones; of another's

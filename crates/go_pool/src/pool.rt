@@ -1,12 +1,12 @@
 //! A pool, and the passes of its callers.
 ghost use Rattle.std.specs.Prelude.{◌≡◌, ◌<◌, ◌≤◌};
-ghost use Rattle.wait_cores.specs.PoolMachine.{start};
+ghost use Rattle.pool_core.specs.PoolMachine.{start};
 ghost use Rattle.ruled_object.specs.Passes.{callers_of, start_of};
 
+use pool_core::PoolCore;
 use ruled_object::{MAX_CALLS, Object, PassOf};
 use std::alloc::{AllocError, Global};
 use sync_model::{MAX_CALLERS, Note};
-use wait_cores::PoolCore;
 
 /// The pass of one caller to a pool.
 pub type PoolPass<N> = PassOf<PoolCore, N>;

@@ -6,12 +6,12 @@ ghost use Rattle.go_pool.specs.Items.{DropsWhereFull};
 ghost use Rattle.go_pool.specs.Pools.{Placed, left_of, IsHomeOf, IsPassOf, IsLawful, IsOneLess, Grows};
 
 use crate::pool::{Pool, PoolPass};
+use pool_core::laws::drops_where_full;
+use pool_core::{PoolCore, PoolEvent, PoolPut, PoolReply};
 use ruled_object::laws::journal_is_log;
 use std::sync::Wait;
 use sync_model::{Answer, Note};
 use sync_outside::{At, Clock};
-use wait_cores::laws::pool::drops_where_full;
-use wait_cores::{PoolCore, PoolEvent, PoolPut, PoolReply};
 
 impl<N: Note> Pool<N> {
     /// Puts an item into the caller's part. It is dropped exactly where that part holds a private item and as many shared

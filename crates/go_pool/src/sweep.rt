@@ -5,10 +5,10 @@ ghost use Rattle.go_pool.specs.Calls.{Sweeps};
 ghost use Rattle.go_pool.specs.Pools.{Placed, left_of, IsHomeOf, IsPassOf, IsLawful, IsOneLess, Grows};
 
 use crate::pool::{Pool, PoolPass};
+use pool_core::PoolEvent;
 use std::sync::Wait;
 use sync_model::{Answer, Note};
 use sync_outside::{At, Clock};
-use wait_cores::PoolEvent;
 
 impl<N: Note> Pool<N> {
     /// Removes the victims, and makes the items of the parts the victims: an item is removed by the second sweep after its

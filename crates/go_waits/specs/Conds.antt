@@ -11,7 +11,7 @@ use Rattle.wait_cores.specs.declared.notify.NotifyEvent.{NotifyEvent}
 use Rattle.wait_cores.specs.declared.notify.NotifyEvent.TheVariants.{Leave}
 use Rattle.wait_cores.specs.declared.notify.NotifyReply.{NotifyReply}
 use Rattle.wait_cores.specs.declared.notify.NotifyReply.TheVariants as reply
-use Rattle.wait_cores.specs.Edges.{notify_releases, notify_acquires}
+use Rattle.wait_cores.specs.NotifyEdges.{notify_releases, notify_acquires}
 use Rattle.wait_cores.specs.NotifyLaws.{answers}
 use Rattle.wait_cores.specs.NotifyMachine.{NotifyState, next}
 use Rattle.ruled_object.specs.declared.pass.Pass.{Pass}

@@ -9,7 +9,7 @@ use Rattle.wait_cores.specs.declared.group.GroupPlace.TheVariants.{Out}
 use Rattle.wait_cores.specs.declared.group.GroupReply.{GroupReply}
 use Rattle.wait_cores.specs.declared.group.GroupReply.TheVariants as reply
 use Rattle.wait_cores.specs.declared.group.GroupEvent.TheVariants.{Leave}
-use Rattle.wait_cores.specs.Edges.{group_releases, group_acquires}
+use Rattle.wait_cores.specs.GroupEdges.{group_releases, group_acquires}
 use Rattle.wait_cores.specs.GroupMachine.{GroupState, next}
 use Rattle.wait_cores.specs.GroupStanding.{waits_after, answers}
 use Rattle.ruled_object.specs.declared.pass.Pass.{Pass}

@@ -7,7 +7,7 @@ use Rattle.wait_cores.specs.declared.once.OnceEvent.{OnceEvent}
 use Rattle.wait_cores.specs.declared.once.OnceEvent.TheVariants.{Leave}
 use Rattle.wait_cores.specs.declared.once.OnceReply.{OnceReply}
 use Rattle.wait_cores.specs.declared.once.OnceReply.TheVariants as reply
-use Rattle.wait_cores.specs.Edges.{once_releases, once_acquires}
+use Rattle.wait_cores.specs.OnceEdges.{once_releases, once_acquires}
 use Rattle.wait_cores.specs.OnceMachine.{OnceState, next}
 use Rattle.wait_cores.specs.OnceStanding.{waits_after, runs_after, answers}
 use Rattle.ruled_object.specs.declared.pass.Pass.{Pass}

@@ -1,6 +1,6 @@
 -- What the laws of the machines say that the objects of a run are.
-use Rattle.std.proofs.Common.{◌≡◌, ℕ, ◌+◌, ◌<◌, ◌≤◌}
-use Rattle.std.specs.Prelude.{ℤ, IsTrue, length}
+use Rattle.std.proofs.Common.{◌≡◌, ℕ, ◌+◌, ◌<◌, ◌≤◌, ◌≢◌, true, false, refl, ap}
+use Rattle.std.specs.Prelude.{ℤ, IsTrue, length, Bool, IsFalse}
 use Rattle.mutex_core.specs.MutexMachine as mutex
 use Rattle.mutex_core.specs.EventsLeft as mutex_left
 use Rattle.mutex_core.specs.Standing.{is_answer}
@@ -10,17 +10,19 @@ use Rattle.rw_core.specs.RwMachine as rw
 use Rattle.rw_core.specs.EventsLeft as rw_left
 use Rattle.rw_core.specs.declared.event.RwEvent.{RwEvent}
 use Rattle.rw_core.specs.declared.reply.RwReply.TheVariants as rw_reply
-use Rattle.wait_cores.specs.EventsLeft.{notify_left, notify_used, notify_given, group_left, group_used, group_given, once_left, once_used, once_given}
+use Rattle.wait_cores.specs.NotifyEventsLeft.{notify_left, notify_used, notify_given}
+use Rattle.wait_cores.specs.GroupEventsLeft.{group_left, group_used, group_given}
+use Rattle.wait_cores.specs.OnceEventsLeft.{once_left, once_used, once_given}
 use Rattle.wait_cores.specs.NotifyMachine as notify
 use Rattle.wait_cores.specs.GroupMachine as group
 use Rattle.wait_cores.specs.OnceMachine as once
-use Rattle.wait_cores.specs.PoolMachine as pool
+use Rattle.pool_core.specs.PoolMachine as pool
 use Rattle.wait_cores.specs.declared.notify.NotifyEvent.{NotifyEvent}
 use Rattle.wait_cores.specs.declared.group.GroupEvent.{GroupEvent}
 use Rattle.wait_cores.specs.declared.group.GroupReply.TheVariants as group_reply
 use Rattle.wait_cores.specs.declared.once.OnceEvent.{OnceEvent}
 use Rattle.wait_cores.specs.declared.once.OnceReply.TheVariants as once_reply
-use Rattle.wait_cores.specs.declared.pool_event.PoolEvent.{PoolEvent}
+use Rattle.pool_core.specs.declared.pool_event.PoolEvent.{PoolEvent}
 
 -- ---- their states stay valid, and their callers the same
 
@@ -77,3 +79,8 @@ pub record Uses : Type 0 where
   pub groups : GroupUses
   pub adding : OnceUses ℤ
   pub giving : OnceUses ℕ
+
+-- an event that may not be made is answered `Still` and changes nothing, and any other isn't answered so. So one that is answered so leaves the state
+pub unmoved_by : {S R : Type 0} (may : Bool) (old : S) (step : S × R) (still : R) → (IsTrue may → step.1 ≢ still) → (IsFalse may → step ≡ (old, still)) → step.1 ≡ still → step.0 ≡ old
+unmoved_by true old step still made unmade is = absurd (made refl is)
+unmoved_by false old step still made unmade is = ap (λ n. n.0) (unmade refl)

@@ -43,11 +43,13 @@ use Rattle.rw_core.specs.declared.reply.RwReply.TheVariants as rw_reply
 use Rattle.rw_core.specs.declared.reply.Arrival.TheVariants as rw_arrival
 use Rattle.rw_core.specs.declared.reply.Resumption.TheVariants as rw_resumption
 use Rattle.rw_core.specs.declared.reply.Unlocking.TheVariants as rw_unlocking
-use Rattle.wait_cores.specs.EventsLeft.{notify_left, notify_used, group_left, group_used, given_leaving, once_left, once_used, once_given}
+use Rattle.wait_cores.specs.NotifyEventsLeft.{notify_left, notify_used}
+use Rattle.wait_cores.specs.GroupEventsLeft.{group_left, group_used, given_leaving}
+use Rattle.wait_cores.specs.OnceEventsLeft.{once_left, once_used, once_given}
 use Rattle.wait_cores.specs.NotifyMachine as notify
 use Rattle.wait_cores.specs.GroupMachine as group
 use Rattle.wait_cores.specs.OnceMachine as once
-use Rattle.wait_cores.specs.PoolMachine as pool
+use Rattle.pool_core.specs.PoolMachine as pool
 use Rattle.wait_cores.specs.declared.notify.NotifyEvent.TheVariants as notify_event
 use Rattle.wait_cores.specs.declared.notify.NotifyPlace.{NotifyPlace}
 use Rattle.wait_cores.specs.declared.notify.NotifyPlace.TheVariants as notify_place
@@ -61,9 +63,9 @@ use Rattle.wait_cores.specs.declared.once.OncePlace.{OncePlace}
 use Rattle.wait_cores.specs.declared.once.OncePlace.TheVariants as once_place
 use Rattle.wait_cores.specs.declared.once.OnceReply.{OnceReply}
 use Rattle.wait_cores.specs.declared.once.OnceReply.TheVariants as once_reply
-use Rattle.wait_cores.specs.declared.pool_event.PoolEvent.{PoolEvent}
-use Rattle.wait_cores.specs.declared.pool_event.PoolReply.{PoolReply}
-use Rattle.wait_cores.specs.declared.pool_event.PoolReply.TheVariants as pool_reply
+use Rattle.pool_core.specs.declared.pool_event.PoolEvent.{PoolEvent}
+use Rattle.pool_core.specs.declared.pool_event.PoolReply.{PoolReply}
+use Rattle.pool_core.specs.declared.pool_event.PoolReply.TheVariants as pool_reply
 use Rattle.step_runner.specs.declared.step.Answer.{Answer}
 use Rattle.step_runner.specs.declared.step.Answer.TheVariants as answers
 use Rattle.step_runner.specs.declared.object_state.ObjectState.{ObjectState}

@@ -45,16 +45,16 @@ use Rattle.rw_core.specs.declared.reply.Resumption.TheVariants as rw_resumption
 use Rattle.rw_core.specs.declared.reply.Unlocking.TheVariants as rw_unlocking
 use Rattle.wait_cores.specs.NotifyMachine as notify
 use Rattle.wait_cores.specs.OnceMachine as once
-use Rattle.wait_cores.specs.PoolMachine as pool
+use Rattle.pool_core.specs.PoolMachine as pool
 use Rattle.wait_cores.specs.declared.notify.NotifyPlace.{NotifyPlace}
 use Rattle.wait_cores.specs.declared.notify.NotifyPlace.TheVariants as notify_place
 use Rattle.wait_cores.specs.declared.group.GroupReply.{GroupReply}
 use Rattle.wait_cores.specs.declared.group.GroupReply.TheVariants as group_reply
 use Rattle.wait_cores.specs.declared.once.OnceReply.{OnceReply}
 use Rattle.wait_cores.specs.declared.once.OnceReply.TheVariants as once_reply
-use Rattle.wait_cores.specs.declared.pool_event.PoolEvent.{PoolEvent}
-use Rattle.wait_cores.specs.declared.pool_event.PoolReply.{PoolReply}
-use Rattle.wait_cores.specs.declared.pool_event.PoolReply.TheVariants as pool_reply
+use Rattle.pool_core.specs.declared.pool_event.PoolEvent.{PoolEvent}
+use Rattle.pool_core.specs.declared.pool_event.PoolReply.{PoolReply}
+use Rattle.pool_core.specs.declared.pool_event.PoolReply.TheVariants as pool_reply
 use Rattle.workload.specs.declared.object.ObjectKind.{ObjectKind}
 use Rattle.workload.specs.declared.object.ObjectKind.TheVariants as kinds
 use Rattle.workload.specs.declared.turn.Turn.{Turn}

@@ -1,10 +1,10 @@
 -- The looks of a get, one after the other.
 use Rattle.std.proofs.Common.{◌≡◌, ℕ, suc, ◌+◌, ◌-◌, ◌<◌, Option, Some, None, refl, sym, ap, ◌∙◌, arith}
-use Rattle.wait_cores.specs.Looks.{look}
-use Rattle.wait_cores.specs.PoolMachine as pool
-use Rattle.wait_cores.specs.PoolParts.{reply_of_look}
-use Rattle.wait_cores.specs.declared.pool_event.PoolReply.{PoolReply}
-use Rattle.wait_cores.specs.declared.pool_event.PoolReply.TheVariants.{Nothing}
+use Rattle.pool_core.specs.Looks.{look}
+use Rattle.pool_core.specs.PoolMachine as pool
+use Rattle.pool_core.specs.PoolParts.{reply_of_look}
+use Rattle.pool_core.specs.declared.pool_event.PoolReply.{PoolReply}
+use Rattle.pool_core.specs.declared.pool_event.PoolReply.TheVariants.{Nothing}
 use Rattle.step_runner.specs.PoolTurn.{found_or, found_by, looks_of}
 
 next_look : (workers worker n m : ℕ) (p q : pool.PoolState ℕ) → pool.next p worker (look workers worker n) ≡ (q, Nothing)

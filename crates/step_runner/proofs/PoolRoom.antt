@@ -20,14 +20,14 @@ use Rattle.sync_model.specs.declared.pool_call.PoolCall.{PoolCall}
 use Rattle.sync_model.specs.declared.pool_call.PoolCall.TheVariants as pool_calls
 use Rattle.sync_model.specs.declared.wait_call.CondCall.{CondCall}
 use Rattle.sync_model.specs.declared.wait_call.WaitGroupCall.{WaitGroupCall}
-use Rattle.wait_cores.specs.Looks.{look}
+use Rattle.pool_core.specs.Looks.{look}
 use Rattle.wait_cores.specs.OnceMachine as once
-use Rattle.wait_cores.specs.PoolParts.{PoolPart, empty, emptied, put_beside, put_in, head_of, tail_of, take_tail, private_or, take_own, take_victim}
-use Rattle.wait_cores.specs.PoolMachine as pool
-use Rattle.wait_cores.specs.declared.pool_event.PoolEvent.{PoolEvent}
-use Rattle.wait_cores.specs.declared.pool_event.PoolEvent.TheVariants as event
-use Rattle.wait_cores.specs.declared.pool_event.PoolReply.{PoolReply}
-use Rattle.wait_cores.specs.declared.pool_event.PoolReply.TheVariants as pool_reply
+use Rattle.pool_core.specs.PoolParts.{PoolPart, empty, emptied, put_beside, put_in, head_of, tail_of, take_tail, private_or, take_own, take_victim}
+use Rattle.pool_core.specs.PoolMachine as pool
+use Rattle.pool_core.specs.declared.pool_event.PoolEvent.{PoolEvent}
+use Rattle.pool_core.specs.declared.pool_event.PoolEvent.TheVariants as event
+use Rattle.pool_core.specs.declared.pool_event.PoolReply.{PoolReply}
+use Rattle.pool_core.specs.declared.pool_event.PoolReply.TheVariants as pool_reply
 use Rattle.workload.specs.declared.object.ObjectKind.{ObjectKind}
 use Rattle.workload.specs.declared.object.ObjectKind.TheVariants as kinds
 use Rattle.workload.specs.declared.object.ObjectLine.{ObjectLine}

@@ -5,7 +5,7 @@ use Rattle.std.specs.Prelude.{pos}
 use Rattle.mutex_core.specs.MutexMachine as mutex
 use Rattle.rw_core.specs.RwMachine as rw
 use Rattle.wait_cores.specs.GroupMachine as group
-use Rattle.wait_cores.specs.PoolParts.{empty}
+use Rattle.pool_core.specs.PoolParts.{empty}
 use Rattle.wait_cores.specs.declared.group.GroupEvent.{GroupEvent}
 use Rattle.wait_cores.specs.declared.group.GroupEvent.TheVariants.{Add}
 use Rattle.wait_cores.specs.declared.group.GroupPlace.TheVariants.{Out}

@@ -2,7 +2,9 @@
 use Rattle.std.specs.Prelude.{ℕ, ◌+◌, ◌-◌, ◌*◌, length, sum_by}
 use Rattle.mutex_core.specs.EventsLeft as mutex
 use Rattle.rw_core.specs.EventsLeft as rw
-use Rattle.wait_cores.specs.EventsLeft.{notify_left, group_left, once_left}
+use Rattle.wait_cores.specs.NotifyEventsLeft.{notify_left}
+use Rattle.wait_cores.specs.GroupEventsLeft.{group_left}
+use Rattle.wait_cores.specs.OnceEventsLeft.{once_left}
 use Rattle.workload.specs.Plan.{Plan}
 use Rattle.step_runner.specs.declared.object_state.ObjectState.{ObjectState}
 use Rattle.step_runner.specs.declared.object_state.ObjectState.TheVariants as states

@@ -6,7 +6,7 @@ use Rattle.rw_core.specs.RwMachine as rw
 use Rattle.wait_cores.specs.NotifyMachine as notify
 use Rattle.wait_cores.specs.GroupMachine as group
 use Rattle.wait_cores.specs.OnceMachine as once
-use Rattle.wait_cores.specs.PoolMachine as pool
+use Rattle.pool_core.specs.PoolMachine as pool
 use Rattle.wait_cores.specs.declared.group.GroupEvent.TheVariants.{Add}
 use Rattle.sync_model.specs.SequentialAtomic.{zero_of}
 use Rattle.sync_model.specs.SequentialAtomic as atomics

@@ -13,9 +13,9 @@ ghost use Rattle.sync_model.specs.SequentialAtomic as atomics;
 ghost use Rattle.sync_model.specs.SequentialAtomic.{is_of};
 ghost use Rattle.mutex_core.specs.MutexMachine as mutex;
 ghost use Rattle.rw_core.specs.RwMachine as rw;
-ghost use Rattle.wait_cores.specs.PoolMachine as pool;
-ghost use Rattle.wait_cores.specs.declared.pool_event.PoolEvent.{PoolEvent};
-ghost use Rattle.wait_cores.specs.declared.pool_event.PoolReply.{PoolReply};
+ghost use Rattle.pool_core.specs.PoolMachine as pool;
+ghost use Rattle.pool_core.specs.declared.pool_event.PoolEvent.{PoolEvent};
+ghost use Rattle.pool_core.specs.declared.pool_event.PoolReply.{PoolReply};
 ghost use Rattle.workload.specs.Draft.{all_keys, distinct_count};
 ghost use Rattle.workload.specs.declared.turn.Turn.{Turn};
 ghost use Rattle.workload.specs.Plan.{Plan, is_valid};
@@ -49,7 +49,7 @@ pub fn validity()
     wait_cores::laws::group::knows_where_it_stands();
     wait_cores::laws::once::knows_where_it_stands::<i64>();
     wait_cores::laws::once::knows_where_it_stands::<u64>();
-    wait_cores::laws::pool::keeps_its_parts();
+    pool_core::laws::keeps_its_parts();
 }
 
 /// A turn without an event changes nothing, and each event lowers what is left to do. A misuse completes
@@ -65,7 +65,7 @@ pub fn events_use_something_up()
     wait_cores::laws::group::knows_where_it_stands();
     wait_cores::laws::once::knows_where_it_stands::<i64>();
     wait_cores::laws::once::knows_where_it_stands::<u64>();
-    wait_cores::laws::pool::keeps_its_parts();
+    pool_core::laws::keeps_its_parts();
     mutex_core::laws::standing();
     mutex_core::laws::events_are_used_up();
     rw_core::laws::events_are_used_up();
@@ -73,6 +73,9 @@ pub fn events_use_something_up()
     wait_cores::laws::group::events_are_used_up();
     wait_cores::laws::once::events_are_used_up::<i64>();
     wait_cores::laws::once::events_are_used_up::<u64>();
+    wait_cores::laws::group::still();
+    wait_cores::laws::once::still::<i64>();
+    wait_cores::laws::once::still::<u64>();
 }
 
 /// Every run ends, in one of the three ways: one round more than is left to do is enough, and any more

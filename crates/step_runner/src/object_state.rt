@@ -5,10 +5,11 @@ ghost use Rattle.workload.specs.Plan.{reference_of};
 ghost use Rattle.step_runner.specs.State.{new_object, kind_of};
 
 use mutex_core::MutexCore;
+use pool_core::PoolCore;
 use rw_core::RwCore;
 use std::alloc::{AllocError, Global};
 use sync_model::{ByName, Number};
-use wait_cores::{GroupCore, GroupEvent, NotifyCore, OnceCore, PoolCore};
+use wait_cores::{GroupCore, GroupEvent, NotifyCore, OnceCore};
 use workload::ObjectKind;
 
 /// What an object holds between two turns, by its kind. The callers of a machine are the workers.

@@ -1,15 +1,15 @@
 //! The turn of a worker that stands before a call of a pool: the whole call.
 ghost use Rattle.std.specs.Prelude.{◌≡◌, ℕ, ◌*◌, ◌<◌, ◌≤◌};
-ghost use Rattle.wait_cores.specs.Looks.{look};
-ghost use Rattle.wait_cores.specs.PoolMachine as machine;
-ghost use Rattle.wait_cores.specs.PoolParts.{reply_of_look};
+ghost use Rattle.pool_core.specs.Looks.{look};
+ghost use Rattle.pool_core.specs.PoolMachine as machine;
+ghost use Rattle.pool_core.specs.PoolParts.{reply_of_look};
 ghost use Rattle.step_runner.specs.declared.object_state.ObjectState.TheVariants as states;
 ghost use Rattle.step_runner.specs.PoolTurn.{found_by, looks_of, pool_step, pool_turn};
 
 use crate::object_state::ObjectState;
 use crate::step::Answer;
+use pool_core::PoolCore;
 use sync_model::{PoolCall, PoolReply, Reply};
-use wait_cores::PoolCore;
 
 /// Makes the look of this number, of a get by a worker of so many.
 fn look(pool: &mut PoolCore, worker: u32, workers: u32, number: u32) -> Option<u64>

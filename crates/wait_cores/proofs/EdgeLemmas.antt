@@ -20,22 +20,19 @@ use Rattle.wait_cores.specs.declared.once.OnceEvent.{OnceEvent}
 use Rattle.wait_cores.specs.declared.once.OnceEvent.TheVariants as once
 use Rattle.wait_cores.specs.declared.once.OnceReply.{OnceReply}
 use Rattle.wait_cores.specs.declared.once.OnceReply.TheVariants as onced
-use Rattle.wait_cores.specs.declared.pool_event.PoolEvent.{PoolEvent}
-use Rattle.wait_cores.specs.declared.pool_event.PoolEvent.TheVariants as pool
-use Rattle.wait_cores.specs.declared.pool_event.PoolReply.{PoolReply}
-use Rattle.wait_cores.specs.declared.pool_event.PoolReply.TheVariants as pooled
 use Rattle.sync_model.specs.declared.misuse.Misuse.{Misuse}
 use Rattle.sync_model.specs.Log.{Entry, entry, after, Follows}
 use Rattle.wait_cores.specs.NotifyMachine as cond_machine
 use Rattle.wait_cores.specs.GroupMachine.{GroupState, next, callers_of, place_of, wait_from}
 use Rattle.wait_cores.specs.OnceMachine as once_machine
-use Rattle.wait_cores.specs.Edges.{notify_releases, notify_acquires, group_releases, group_acquires, once_releases, once_acquires, pool_releases, pool_acquires}
+use Rattle.wait_cores.specs.NotifyEdges.{notify_releases, notify_acquires}
+use Rattle.wait_cores.specs.GroupEdges.{group_releases, group_acquires}
+use Rattle.wait_cores.specs.OnceEdges.{once_releases, once_acquires}
 use Rattle.wait_cores.specs.NotifyLaws.{NotifiesAfter, is_signal_of, is_broadcast_of, is_signal, is_broadcast, pending_of}
 use Rattle.wait_cores.specs.NotifyLaws as cond_laws
 use Rattle.wait_cores.specs.GroupLaws.{Log, WasZero, added_in}
 use Rattle.wait_cores.specs.OnceLaws.{returned_in, kept_in, kept_by}
 use Rattle.wait_cores.specs.OnceLaws as once_laws
-use Rattle.wait_cores.specs.PoolLaws as pool_laws
 use Rattle.wait_cores.proofs.GroupCounts.{counts}
 use Rattle.wait_cores.proofs.GroupLemmas.{waits_for_zero}
 use Rattle.wait_cores.proofs.LogLemmas.{follows_first}
@@ -231,28 +228,3 @@ module _ {T : Type 0} where
 
   pub once-unmoved : (event : OnceEvent T) → (once_releases event onced.Still ≡ false) × (once_acquires event onced.Still ≡ false)
   once-unmoved event = (refl, refl)
-
--- ---- the pool
-
-pub put-releases : (event : PoolEvent ℕ) (reply : PoolReply ℕ) (item : ℕ) → pool_laws.kept_in event reply ≡ Some item → pool_releases event reply ≡ true
-put-releases (pool.Put x) pooled.Kept item h = refl
-put-releases (pool.Put x) (pooled.Dropped y) item h = cc
-put-releases (pool.Put x) (pooled.Item y) item h = cc
-put-releases (pool.Put x) pooled.Nothing item h = cc
-put-releases (pool.Put x) pooled.Swept item h = cc
-put-releases (pool.Put x) pooled.Still item h = cc
-put-releases pool.LookOwn reply item h = cc
-put-releases (pool.LookOther part) reply item h = cc
-put-releases (pool.LookVictim part) reply item h = cc
-put-releases pool.Sweep reply item h = cc
-
-pub look-acquires : (event : PoolEvent ℕ) (reply : PoolReply ℕ) (item : ℕ) → pool_laws.got_in reply ≡ Some item → pool_acquires event reply ≡ true
-look-acquires event (pooled.Item x) item h = refl
-look-acquires event pooled.Kept item h = cc
-look-acquires event (pooled.Dropped y) item h = cc
-look-acquires event pooled.Nothing item h = cc
-look-acquires event pooled.Swept item h = cc
-look-acquires event pooled.Still item h = cc
-
-pub pool-unmoved : (event : PoolEvent ℕ) → (pool_releases event pooled.Still ≡ false) × (pool_acquires event pooled.Still ≡ false)
-pool-unmoved event = (refl, refl)

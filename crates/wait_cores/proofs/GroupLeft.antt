@@ -2,6 +2,7 @@
 use Rattle.std.proofs.Common.{◌≡◌, ℕ, zero, suc, ◌==◌, ◌+◌, ◌<◌, ◌≤◌, pos, ◌+ℤ◌, Bool, true, false, cond, List, [], ◌∷◌, length, map, get_or, set, Option, Some, None, refl, ap, ◌∙◌, arith}
 use Rattle.std.specs.Prelude.{nat_lt, sum_by, unwrap_or}
 use Rattle.std.specs.List.{slice_get}
+use Rattle.std.proofs.lemmas.Bool.{ltb-true}
 use Rattle.std.proofs.lemmas.List.Sums.{sum_by-cons, sum_by-set}
 use Rattle.sync_model.specs.declared.misuse.Misuse.TheVariants.{WaitGroupReused}
 use Rattle.wait_cores.specs.declared.group.GroupEvent.{GroupEvent}
@@ -11,8 +12,7 @@ use Rattle.wait_cores.specs.declared.group.GroupReply.TheVariants.{Done, Queued,
 use Rattle.wait_cores.specs.declared.group.GroupPlace.{GroupPlace}
 use Rattle.wait_cores.specs.declared.group.GroupPlace.TheVariants.{Out, Waiting, Released}
 use Rattle.wait_cores.specs.GroupMachine.{GroupState, next, is_reused, released, made, added, within, wait_from, leave_from, callers_of, place_of}
-use Rattle.wait_cores.specs.EventsLeft.{left_at, group_left, group_used, given_leaving, group_given}
-use Rattle.wait_cores.proofs.Comparisons.{is_below}
+use Rattle.wait_cores.specs.GroupEventsLeft.{left_at, group_left, group_used, given_leaving, group_given}
 
 abbrev UsesUp : GroupState → GroupEvent → GroupState × GroupReply → Type 0
 UsesUp s event n = group_left n.0 + group_used n.1 ≤ group_left s + group_given event n.1
@@ -69,47 +69,8 @@ made_uses s c Wait below = omega (arith, wait_uses (place_of s c) s c below refl
 made_uses s c Leave below = leave_uses (place_of s c) s c below
 
 if_uses : (b : Bool) (s : GroupState) (c : ℕ) (event : GroupEvent) → nat_lt c (callers_of s) ≡ b → UsesUp s event (cond b (made s c event) (s, Still))
-if_uses true s c event below = made_uses s c event (is_below c (length s.places) below)
+if_uses true s c event below = made_uses s c event (ltb-true c (length s.places) below)
 if_uses false s c event below = omega arith
 
 pub next-uses : (s : GroupState) (c : ℕ) (event : GroupEvent) → UsesUp s event (next s c event)
 next-uses s c event = if_uses (nat_lt c (callers_of s)) s c event refl
-
--- ---- an event that isn't made
-
-abbrev StaysStill : GroupState → GroupState × GroupReply → Type 0
-StaysStill s n = n.1 ≡ Still → n.0 ≡ s
-
-add_still : (sum : Option ℕ) (s : GroupState) → StaysStill s (added sum s)
-add_still (Some sum) s is = cc
-add_still None s is = refl
-
-queue_still : (b : Bool) (s a : GroupState) → StaysStill s (cond {A = GroupState × GroupReply} b (s, Done) (a, Queued))
-queue_still true s a is = refl
-queue_still false s a is = cc
-
-wait_still : (p : GroupPlace) (s : GroupState) (c : ℕ) → StaysStill s (wait_from p s c)
-wait_still Out s c is = queue_still (s.counter == 0) s (record s { places = set s.places c Waiting }) is
-wait_still Waiting s c is = refl
-wait_still Released s c is = refl
-
-left_still : (b : Bool) (s a : GroupState) → cond b (Misused WaitGroupReused) Done ≡ Still → a ≡ s
-left_still true s a is = cc
-left_still false s a is = cc
-
-leave_still : (p : GroupPlace) (s : GroupState) (c : ℕ) → StaysStill s (leave_from p s c)
-leave_still Released s c is = left_still (is_reused s) s (record s { places = set s.places c Out }) is
-leave_still Out s c is = refl
-leave_still Waiting s c is = refl
-
-made_still : (s : GroupState) (c : ℕ) (event : GroupEvent) → StaysStill s (made s c event)
-made_still s c (Add delta) = add_still (within (pos s.counter +ℤ delta)) s
-made_still s c Wait = wait_still (place_of s c) s c
-made_still s c Leave = leave_still (place_of s c) s c
-
-if_still : (b : Bool) (s : GroupState) (c : ℕ) (event : GroupEvent) → StaysStill s (cond b (made s c event) (s, Still))
-if_still true s c event is = made_still s c event is
-if_still false s c event is = refl
-
-pub next-still : (s : GroupState) (c : ℕ) (event : GroupEvent) → (next s c event).1 ≡ Still → (next s c event).0 ≡ s
-next-still s c event = if_still (nat_lt c (callers_of s)) s c event

@@ -2,6 +2,7 @@
 use Rattle.std.proofs.Common.{◌≡◌, ◌≢◌, ◌⊎◌, inl, inr, ℕ, zero, suc, ◌==◌, ◌<◌, pos, ◌+ℤ◌, Bool, true, false, cond, List, [], ◌∷◌, ◌++◌, length, map, replicate, set, Option, Some, None, refl, sym, ap, ◌∙◌, arith}
 use Rattle.std.specs.Prelude.{nat_lt, unwrap_or}
 use Rattle.std.specs.List.{slice_get, list_any}
+use Rattle.std.proofs.lemmas.Bool.{ltb-true}
 use Rattle.std.proofs.lemmas.Bool.Decides.{nat_tests}
 use Rattle.wait_cores.specs.declared.group.GroupEvent.{GroupEvent}
 use Rattle.wait_cores.specs.declared.group.GroupEvent.TheVariants.{Add, Wait, Leave}
@@ -14,7 +15,6 @@ use Rattle.wait_cores.specs.GroupMachine.{GroupState, start, next, is_waiting, r
 use Rattle.wait_cores.specs.GroupLaws.{Log, WasZero}
 use Rattle.wait_cores.proofs.Places.{get-set_kept, get-set_other, get-set_within}
 use Rattle.wait_cores.proofs.LogLemmas.{follows_rest}
-use Rattle.wait_cores.proofs.Comparisons.{is_below}
 
 -- a caller that waits in the first state waits in the second, or the counter there is 0
 abbrev WaitsOn : GroupState → ℕ → GroupState → Type 0
@@ -86,7 +86,7 @@ queue_waits false s c within h = get-set_within s.places c Waiting within
 
 wait_waits : (b : Bool) (p : GroupPlace) (s : GroupState) (c : ℕ) → nat_lt c (callers_of s) ≡ b
     → (cond b (wait_from p s c) (s, Still)).1 ≡ Queued → slice_get (cond b (wait_from p s c) (s, Still)).0.places c ≡ Some Waiting
-wait_waits true Out s c within h = queue_waits (s.counter == 0) s c (is_below c (length s.places) within) h
+wait_waits true Out s c within h = queue_waits (s.counter == 0) s c (ltb-true c (length s.places) within) h
 wait_waits true Waiting s c within h = cc
 wait_waits true Released s c within h = cc
 wait_waits false p s c within h = cc

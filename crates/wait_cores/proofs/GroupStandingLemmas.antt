@@ -2,6 +2,7 @@
 use Rattle.std.proofs.Common.{◌≡◌, ◌≢◌, ℕ, zero, suc, ◌==◌, ◌<◌, pos, ◌+ℤ◌, Bool, true, false, cond, List, [], ◌∷◌, length, map, replicate, set, Option, Some, None, refl, sym, ap, ◌∙◌, length-set}
 use Rattle.std.specs.Prelude.{nat_lt, unwrap_or}
 use Rattle.std.specs.List.{slice_get}
+use Rattle.std.proofs.lemmas.Bool.{ltb-true, lt-ltb}
 use Rattle.std.proofs.lemmas.List.{length-map}
 use Rattle.wait_cores.specs.declared.group.GroupEvent.{GroupEvent}
 use Rattle.wait_cores.specs.declared.group.GroupEvent.TheVariants.{Add, Wait, Leave}
@@ -13,7 +14,6 @@ use Rattle.wait_cores.specs.declared.group.GroupPlace.TheVariants.{Out, Waiting,
 use Rattle.wait_cores.specs.GroupMachine.{GroupState, start, next, is_reused, released, made, added, within, wait_from, leave_from, callers_of, place_of}
 use Rattle.wait_cores.specs.GroupStanding.{is_in, waits_at, waits_after, answers, answers_add, answers_wait, answers_leaving}
 use Rattle.wait_cores.proofs.Places.{get-set_other, get-set_within}
-use Rattle.wait_cores.proofs.Comparisons.{is_below, is_within}
 
 -- whether the one that stands at a place waits
 abbrev in_at : List GroupPlace → ℕ → Bool
@@ -78,7 +78,7 @@ nothing_own s c Leave = refl
 
 own_if : (b : Bool) (s : GroupState) (c : ℕ) (event : GroupEvent) → nat_lt c (callers_of s) ≡ b
     → waits_at (cond b (made s c event) (s, Still)).0 c ≡ waits_after (waits_at s c) event (cond b (made s c event) (s, Still)).1
-own_if true s c event below = own_made s c event (is_below c (length s.places) below)
+own_if true s c event below = own_made s c event (ltb-true c (length s.places) below)
 own_if false s c event below = nothing_own s c event
 
 pub knows-own : (s : GroupState) (c : ℕ) (event : GroupEvent) → waits_at (next s c event).0 c ≡ waits_after (waits_at s c) event (next s c event).1
@@ -143,7 +143,7 @@ answer_if true s c event below = answer_made s c event
 answer_if false s c event below = cc
 
 pub knows-answers : (s : GroupState) (c : ℕ) (event : GroupEvent) → c < callers_of s → answers (waits_at s c) event (next s c event).1 ≡ true
-knows-answers s c event below = answer_if (nat_lt c (callers_of s)) s c event (is_within c (callers_of s) below)
+knows-answers s c event below = answer_if (nat_lt c (callers_of s)) s c event (lt-ltb c (callers_of s) below)
 
 length_if : (b : Bool) (places : List GroupPlace) → length (cond b (map released places) places) ≡ length places
 length_if true places = length-map places released

@@ -1,4 +1,3 @@
-pub mod Comparisons
 pub mod Places
 pub mod LogLemmas
 pub mod GroupLemmas
@@ -7,17 +6,10 @@ pub mod NotifyAnswers
 pub mod NotifyLemmas
 pub mod OnceLemmas
 pub mod OnceStandingLemmas
-pub mod PoolCounts
-pub mod PoolMaps
-pub mod PoolRoom
-pub mod PoolOrigins
 pub mod GroupLeft
 pub mod NotifyLeft
 pub mod OnceLeft
-pub mod PoolParts
-pub mod PoolStill
 pub mod NotifyStandingLemmas
 pub mod GroupCounts
-pub mod LooksLemmas
 pub mod Stills
 pub mod EdgeLemmas

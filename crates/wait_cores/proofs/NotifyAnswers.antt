@@ -1,6 +1,7 @@
 -- What the events of a cond's callers are answered.
 use Rattle.std.proofs.Common.{◌≡◌, ℕ, ◌+◌, ◌<◌, Bool, true, false, cond, Some, None, refl, length-set}
 use Rattle.std.specs.Prelude.{nat_lt}
+use Rattle.std.proofs.lemmas.Bool.{lt-ltb}
 use Rattle.wait_cores.specs.declared.notify.NotifyEvent.{NotifyEvent}
 use Rattle.wait_cores.specs.declared.notify.NotifyEvent.TheVariants.{Ticket, Signal, Broadcast, Leave}
 use Rattle.wait_cores.specs.declared.notify.NotifyReply.TheVariants.{Still}
@@ -8,7 +9,6 @@ use Rattle.wait_cores.specs.declared.notify.NotifyPlace.{NotifyPlace}
 use Rattle.wait_cores.specs.declared.notify.NotifyPlace.TheVariants.{Out, Waiting, Notified}
 use Rattle.wait_cores.specs.NotifyMachine.{NotifyState, next, made, leave_from, callers_of, place_of}
 use Rattle.wait_cores.specs.NotifyLaws.{answers}
-use Rattle.wait_cores.proofs.Comparisons.{is_within}
 
 answer_made : (s : NotifyState) (c : ℕ) (event : NotifyEvent) → answers event (made s c event).1 ≡ true
 answer_made s c Ticket = refl
@@ -21,7 +21,7 @@ answer_if true s c event below = answer_made s c event
 answer_if false s c event below = cc
 
 pub knows-answers : (s : NotifyState) (c : ℕ) (event : NotifyEvent) → c < callers_of s → answers event (next s c event).1 ≡ true
-knows-answers s c event below = answer_if (nat_lt c (callers_of s)) s c event (is_within c (callers_of s) below)
+knows-answers s c event below = answer_if (nat_lt c (callers_of s)) s c event (lt-ltb c (callers_of s) below)
 
 callers_signal : (b : Bool) (s : NotifyState) → callers_of (cond b (record s { notified = s.notified + 1 }) s) ≡ callers_of s
 callers_signal true s = refl

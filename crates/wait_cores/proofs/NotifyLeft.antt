@@ -2,6 +2,7 @@
 use Rattle.std.proofs.Common.{◌≡◌, ℕ, zero, suc, ◌+◌, ◌<◌, ◌≤◌, Bool, true, false, cond, List, [], ◌∷◌, length, get_or, set, Option, Some, None, refl, ap, arith}
 use Rattle.std.specs.Prelude.{nat_lt, sum_by}
 use Rattle.std.specs.List.{slice_get}
+use Rattle.std.proofs.lemmas.Bool.{lt-ltb}
 use Rattle.std.proofs.lemmas.List.Sums.{sum_by-set}
 use Rattle.std.proofs.lemmas.Option.{get_or_from_slice_get}
 use Rattle.wait_cores.specs.declared.notify.NotifyEvent.{NotifyEvent}
@@ -11,8 +12,7 @@ use Rattle.wait_cores.specs.declared.notify.NotifyReply.TheVariants.{Still}
 use Rattle.wait_cores.specs.declared.notify.NotifyPlace.{NotifyPlace}
 use Rattle.wait_cores.specs.declared.notify.NotifyPlace.TheVariants.{Out, Waiting, Notified}
 use Rattle.wait_cores.specs.NotifyMachine.{NotifyState, next, made, leave_from, callers_of, place_of, place_with}
-use Rattle.wait_cores.specs.EventsLeft.{left_with, notify_left, notify_used, notify_given}
-use Rattle.wait_cores.proofs.Comparisons.{is_within}
+use Rattle.wait_cores.specs.NotifyEventsLeft.{left_with, notify_left, notify_used, notify_given}
 
 abbrev UsesUp : NotifyState → ℕ → NotifyEvent → NotifyState × NotifyReply → Type 0
 UsesUp s c event n = notify_left n.0 + notify_used (place_of s c) event ≤ notify_left s + notify_given event
@@ -62,4 +62,4 @@ if_uses true s c event below is = made_uses s c event below
 if_uses false s c event below is = absurd cc
 
 pub next-uses : (s : NotifyState) (c : ℕ) (event : NotifyEvent) → c < callers_of s → UsesUp s c event (next s c event)
-next-uses s c event below = if_uses (nat_lt c (callers_of s)) s c event below (is_within c (callers_of s) below)
+next-uses s c event below = if_uses (nat_lt c (callers_of s)) s c event below (lt-ltb c (callers_of s) below)

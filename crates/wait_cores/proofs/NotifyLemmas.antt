@@ -2,6 +2,7 @@
 use Rattle.std.proofs.Common.{◌≡◌, ◌≢◌, ◌⊎◌, inl, inr, ℕ, ◌==◌, ◌+◌, ◌-◌, ◌^◌, ◌<◌, ◌≤◌, min, Bool, true, false, cond, [], ◌∷◌, ◌++◌, length, set, Option, Some, None, refl, sym, ◌∙◌, subst, arith}
 use Rattle.std.specs.Prelude.{nat_lt, ◌||◌, ◌&&◌, not, IsTrue}
 use Rattle.std.specs.List.{slice_get, count_by, list_any, list_all}
+use Rattle.std.proofs.lemmas.Bool.{ltb-false, ltb-true}
 use Rattle.std.proofs.lemmas.Bool.Decides.{nat_tests, eqb_tells}
 use Rattle.std.proofs.lemmas.List.Sums.{sum_by-cons}
 use Rattle.wait_cores.specs.declared.notify.NotifyEvent.{NotifyEvent}
@@ -15,7 +16,6 @@ use Rattle.wait_cores.specs.NotifyMachine.{NotifyState, start, next, made, leave
 use Rattle.wait_cores.specs.NotifyLaws.{Log, Made, is_ticket, is_signal, is_broadcast, is_ticket_of, is_signal_of, is_broadcast_of, pending_of, NotifiesAfter}
 use Rattle.wait_cores.proofs.Places.{get-set_other, get-set_either, get-set_within}
 use Rattle.wait_cores.proofs.LogLemmas.{after-append, follows_first, follows_rest}
-use Rattle.wait_cores.proofs.Comparisons.{is_above, is_below}
 
 or_first : (a b : Bool) → (a || b) ≡ false → a ≡ false
 or_first true b h = h
@@ -99,8 +99,8 @@ step_signal_idle s d above = record {
 }
 
 step_signal : (b : Bool) (s : NotifyState) (d : ℕ) → nat_lt s.notified s.next_ticket ≡ b → Stepped s (entry d Signal Done) (cond b (record s { notified = s.notified + 1 }) s)
-step_signal true s d is = step_signal_counts s d (is_below s.notified s.next_ticket is)
-step_signal false s d is = step_signal_idle s d (is_above s.notified s.next_ticket is)
+step_signal true s d is = step_signal_counts s d (ltb-true s.notified s.next_ticket is)
+step_signal false s d is = step_signal_idle s d (ltb-false s.notified s.next_ticket is)
 
 step_broadcast : (s : NotifyState) (d : ℕ)
     → Stepped s (entry d Broadcast Done) (record { next_ticket = s.next_ticket; notified = s.next_ticket; tickets = s.tickets })
@@ -232,7 +232,7 @@ took_after t c s (e ∷ log) h is =
     let s' : NotifyState = (next s e.caller e.event).0 in took_after t c s' log h.1 (took_step t c s s' e (steps s e.caller e.event e.reply h.0) is)
 
 notified_below : (notified : ℕ) (mine : Option (Option ℕ)) → place_with notified mine ≡ Notified → (n : ℕ) × (mine ≡ Some (Some n)) × (n < notified)
-notified_below notified (Some (Some n)) h = (n, refl, below_by (nat_lt n notified) h (is_below n notified)) where
+notified_below notified (Some (Some n)) h = (n, refl, below_by (nat_lt n notified) h (ltb-true n notified)) where
   below_by : (b : Bool) → cond b Notified Waiting ≡ Notified → (b ≡ true → n < notified) → n < notified
   below_by true e f = f refl
   below_by false e f = cc
@@ -248,7 +248,7 @@ left_from false p s c h = cc
 -- what a caller that takes a ticket has then, the numbers being those of before
 taken_if : (b : Bool) (s : NotifyState) (c : ℕ) → nat_lt c (callers_of s) ≡ b → (cond b (made s c Ticket) (s, Still)).1 ≡ Done
     → slice_get (cond b (made s c Ticket) (s, Still)).0.tickets c ≡ Some (Some s.next_ticket)
-taken_if true s c within h = get-set_within s.tickets c (Some s.next_ticket) (is_below c (length s.tickets) within)
+taken_if true s c within h = get-set_within s.tickets c (Some s.next_ticket) (ltb-true c (length s.tickets) within)
 taken_if false s c within h = cc
 
 same_notified : (b : Bool) (s : NotifyState) (c : ℕ) → (cond b (made s c Ticket) (s, Still)).0.notified ≡ s.notified
@@ -323,7 +323,7 @@ reached t c s (e ∷ log) h others is enough =
     on_from notified notified' here a f b = elim (le_or_lt notified t) [ inl low ↦ (let g = f low in omega arith) | inr high ↦ omega arith ]
 
 notified_place : (notified t : ℕ) (mine : Option (Option ℕ)) → mine ≡ Some (Some t) → t < notified → place_with notified mine ≡ Notified
-notified_place notified t mine is below = rw is (by_test (nat_lt t notified) (is_above t notified)) where
+notified_place notified t mine is below = rw is (by_test (nat_lt t notified) (ltb-false t notified)) where
   by_test : (b : Bool) → (b ≡ false → notified ≤ t) → cond b Notified Waiting ≡ Notified
   by_test true f = refl
   by_test false f = let g = f refl in absurd (omega arith)

@@ -2,6 +2,7 @@
 use Rattle.std.proofs.Common.{◌≡◌, ◌≢◌, ℕ, zero, suc, ◌+◌, ◌<◌, Bool, true, false, cond, List, [], ◌∷◌, length, replicate, set, Option, Some, None, refl, ap}
 use Rattle.std.specs.Prelude.{nat_lt, is_some, unwrap_or}
 use Rattle.std.specs.List.{slice_get}
+use Rattle.std.proofs.lemmas.Bool.{ltb-true}
 use Rattle.wait_cores.specs.declared.notify.NotifyEvent.{NotifyEvent}
 use Rattle.wait_cores.specs.declared.notify.NotifyEvent.TheVariants.{Ticket, Signal, Broadcast, Leave}
 use Rattle.wait_cores.specs.declared.notify.NotifyReply.{NotifyReply}
@@ -11,7 +12,6 @@ use Rattle.wait_cores.specs.declared.notify.NotifyPlace.TheVariants.{Out, Waitin
 use Rattle.wait_cores.specs.NotifyMachine.{NotifyState, start, next, made, leave_from, callers_of, place_of, place_with}
 use Rattle.wait_cores.specs.NotifyStanding.{has_ticket, has_after}
 use Rattle.wait_cores.proofs.Places.{get-set_other, get-set_within}
-use Rattle.wait_cores.proofs.Comparisons.{is_below}
 
 abbrev has_at : List (Option ℕ) → ℕ → Bool
 has_at tickets caller = is_some (unwrap_or (slice_get tickets caller) None)
@@ -62,7 +62,7 @@ stands_made s d Broadcast within = record { own = refl; others = λ c ne. refl }
 stands_made s d Leave within = stands_leave (place_of s d) s d
 
 stands_if : (b : Bool) (s : NotifyState) (d : ℕ) (event : NotifyEvent) → nat_lt d (callers_of s) ≡ b → Stands s d event (cond b (made s d event) (s, Still))
-stands_if true s d event below = stands_made s d event (is_below d (length s.tickets) below)
+stands_if true s d event below = stands_made s d event (ltb-true d (length s.tickets) below)
 stands_if false s d event below = stands_still s d event
 
 stands : (s : NotifyState) (d : ℕ) (event : NotifyEvent) → Stands s d event (next s d event)
@@ -90,21 +90,3 @@ stays-without s c h = still_without (nat_lt c (callers_of s)) (place_of s c) s c
 
 pub has-first : (callers c : ℕ) → has_ticket (start callers) c ≡ false
 has-first callers c = has_first callers c
-
-leave_still : (p : NotifyPlace) (s : NotifyState) (c : ℕ) → (leave_from p s c).1 ≡ Still → (leave_from p s c).0 ≡ s
-leave_still Notified s c is = cc
-leave_still Waiting s c is = refl
-leave_still Out s c is = refl
-
-made_still : (s : NotifyState) (c : ℕ) (event : NotifyEvent) → (made s c event).1 ≡ Still → (made s c event).0 ≡ s
-made_still s c Ticket is = cc
-made_still s c Signal is = cc
-made_still s c Broadcast is = cc
-made_still s c Leave is = leave_still (place_of s c) s c is
-
-if_still : (b : Bool) (s : NotifyState) (c : ℕ) (event : NotifyEvent) → (cond b (made s c event) (s, Still)).1 ≡ Still → (cond b (made s c event) (s, Still)).0 ≡ s
-if_still true s c event is = made_still s c event is
-if_still false s c event is = refl
-
-pub unmoved-by_still : (s : NotifyState) (c : ℕ) (event : NotifyEvent) → (next s c event).1 ≡ Still → (next s c event).0 ≡ s
-unmoved-by_still s c event = if_still (nat_lt c (callers_of s)) s c event

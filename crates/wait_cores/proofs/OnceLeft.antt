@@ -2,6 +2,7 @@
 use Rattle.std.proofs.Common.{◌≡◌, ℕ, zero, suc, ◌==◌, ◌+◌, ◌<◌, ◌≤◌, Bool, true, false, cond, List, [], ◌∷◌, length, get_or, Option, Some, None, refl, ap, arith}
 use Rattle.std.specs.Prelude.{nat_lt}
 use Rattle.std.specs.List.{slice_get}
+use Rattle.std.proofs.lemmas.Bool.{ltb-true}
 use Rattle.std.proofs.lemmas.List.Sums.{sum_by-set}
 use Rattle.std.proofs.lemmas.Option.{get_or_from_slice_get}
 use Rattle.wait_cores.specs.declared.once.OnceEvent.{OnceEvent}
@@ -13,8 +14,7 @@ use Rattle.wait_cores.specs.declared.once.OnceProgress.TheVariants.{NotRun, Runn
 use Rattle.wait_cores.specs.declared.once.OncePlace.{OncePlace}
 use Rattle.wait_cores.specs.declared.once.OncePlace.TheVariants.{Out, Waiting, Released}
 use Rattle.wait_cores.specs.OnceMachine.{OnceState, next, made, begin_from, come_to, end_by, leave_with, callers_of, place_of, place_in, waiting_in, runner_in}
-use Rattle.wait_cores.specs.EventsLeft.{left_by, left_in, once_left, once_used, once_given}
-use Rattle.wait_cores.proofs.Comparisons.{is_below}
+use Rattle.wait_cores.specs.OnceEventsLeft.{left_by, left_in, once_left, once_used, once_given}
 
 module _ {T : Type 0} where
   abbrev UsesUp : OnceState T → OnceState T × OnceReply T → Type 0
@@ -64,50 +64,8 @@ module _ {T : Type 0} where
   made_uses s c Leave below = leave_uses s.progress (slice_get s.waits c) s c below
 
   if_uses : (b : Bool) (s : OnceState T) (c : ℕ) (event : OnceEvent T) → nat_lt c (callers_of s) ≡ b → UsesUp s (cond b (made s c event) (s, reply.Still))
-  if_uses true s c event below = made_uses s c event (is_below c (length s.waits) below)
+  if_uses true s c event below = made_uses s c event (ltb-true c (length s.waits) below)
   if_uses false s c event below = omega arith
 
   pub next-uses : (s : OnceState T) (c : ℕ) (event : OnceEvent T) → UsesUp s (next s c event)
   next-uses s c event = if_uses (nat_lt c (callers_of s)) s c event refl
-
-  -- ---- an event that isn't made
-
-  abbrev StaysStill : OnceState T → OnceState T × OnceReply T → Type 0
-  StaysStill s n = n.1 ≡ reply.Still → n.0 ≡ s
-
-  come_still : (p : OnceProgress T) (s : OnceState T) (c : ℕ) → StaysStill s (come_to p s c)
-  come_still NotRun s c is = cc
-  come_still (Running other) s c is = cc
-  come_still (Ended kept) s c is = refl
-
-  begin_still : (p : OncePlace) (s : OnceState T) (c : ℕ) → StaysStill s (begin_from p s c)
-  begin_still Out s c is = come_still s.progress s c is
-  begin_still Waiting s c is = refl
-  begin_still Released s c is = refl
-
-  ended_still : (b : Bool) (s : OnceState T) (kept : T) → StaysStill s (cond {A = OnceState T × OnceReply T} b (record s { progress = Ended kept }, reply.Ended) (s, reply.Still))
-  ended_still true s kept is = cc
-  ended_still false s kept is = refl
-
-  end_still : (o : Option ℕ) (s : OnceState T) (c : ℕ) (kept : T) → StaysStill s (end_by o s c kept)
-  end_still (Some runner) s c kept is = ended_still (runner == c) s kept is
-  end_still None s c kept is = refl
-
-  leave_still : (p : OnceProgress T) (o : Option Bool) (s : OnceState T) (c : ℕ) → StaysStill s (leave_with p o s c)
-  leave_still (Ended kept) (Some true) s c is = cc
-  leave_still (Ended kept) (Some false) s c is = refl
-  leave_still (Ended kept) None s c is = refl
-  leave_still NotRun o s c is = refl
-  leave_still (Running other) o s c is = refl
-
-  made_still : (s : OnceState T) (c : ℕ) (event : OnceEvent T) → StaysStill s (made s c event)
-  made_still s c Begin = begin_still (place_of s c) s c
-  made_still s c (End kept) = end_still (runner_in s.progress) s c kept
-  made_still s c Leave = leave_still s.progress (slice_get s.waits c) s c
-
-  if_still : (b : Bool) (s : OnceState T) (c : ℕ) (event : OnceEvent T) → StaysStill s (cond b (made s c event) (s, reply.Still))
-  if_still true s c event is = made_still s c event is
-  if_still false s c event is = refl
-
-  pub next-still : (s : OnceState T) (c : ℕ) (event : OnceEvent T) → (next s c event).1 ≡ reply.Still → (next s c event).0 ≡ s
-  next-still s c event = if_still (nat_lt c (callers_of s)) s c event

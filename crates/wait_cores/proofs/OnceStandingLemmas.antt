@@ -2,6 +2,7 @@
 use Rattle.std.proofs.Common.{◌≡◌, ◌≢◌, ℕ, zero, suc, ◌==◌, ◌<◌, Bool, true, false, cond, List, [], ◌∷◌, length, replicate, set, Option, Some, None, refl, sym, ap, ◌∙◌, arith, length-set}
 use Rattle.std.specs.Prelude.{nat_lt, unwrap_or}
 use Rattle.std.specs.List.{slice_get}
+use Rattle.std.proofs.lemmas.Bool.{ltb-true, lt-ltb}
 use Rattle.std.proofs.lemmas.Bool.Decides.{nat_tests}
 use Rattle.wait_cores.specs.declared.once.OnceEvent.{OnceEvent}
 use Rattle.wait_cores.specs.declared.once.OnceEvent.TheVariants.{Begin, End, Leave}
@@ -14,7 +15,6 @@ use Rattle.wait_cores.specs.declared.once.OncePlace.TheVariants.{Out, Waiting, R
 use Rattle.wait_cores.specs.OnceMachine.{OnceState, next, made, begin_from, come_to, end_by, leave_with, callers_of, place_of, place_in, runner_in}
 use Rattle.wait_cores.specs.OnceStanding.{waits_at, runs_at, runs_in, waits_after, runs_after, answers, answers_begin, answers_end, answers_leaving}
 use Rattle.wait_cores.proofs.Places.{get-set_other, get-set_within}
-use Rattle.wait_cores.proofs.Comparisons.{is_below, is_within}
 
 is_self : (c : ℕ) → (c == c) ≡ true
 is_self c = grind (arith, nat_tests)
@@ -110,7 +110,7 @@ module _ {T : Type 0} where
   stands_made s d Leave within = stands_leave s.progress (slice_get s.waits d) s d
 
   stands_if : (b : Bool) (s : OnceState T) (d : ℕ) (event : OnceEvent T) → nat_lt d (callers_of s) ≡ b → Stands s d event (cond b (made s d event) (s, reply.Still))
-  stands_if true s d event below = stands_made s d event (is_below d (length s.waits) below)
+  stands_if true s d event below = stands_made s d event (ltb-true d (length s.waits) below)
   stands_if false s d event below = stands_still s d event
 
   stands : (s : OnceState T) (d : ℕ) (event : OnceEvent T) → Stands s d event (next s d event)
@@ -172,7 +172,7 @@ module _ {T : Type 0} where
   answer_if false s c event below = cc
 
   pub knows-answers : (s : OnceState T) (c : ℕ) (event : OnceEvent T) → c < callers_of s → answers (waits_at s c) (runs_at s c) event (next s c event).1 ≡ true
-  knows-answers s c event below = answer_if (nat_lt c (callers_of s)) s c event (is_within c (callers_of s) below)
+  knows-answers s c event below = answer_if (nat_lt c (callers_of s)) s c event (lt-ltb c (callers_of s) below)
 
 pub waits-first : (callers c : ℕ) → in_at (replicate callers false) c ≡ false
 waits-first callers c = in_first callers c

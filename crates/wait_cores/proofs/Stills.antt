@@ -1,9 +1,7 @@
 -- Which events are answered `Still`.
-use Rattle.std.proofs.Common.{◌≡◌, ℕ, ◌<◌, ◌≤◌, length, arith, ap, pos, ◌+ℤ◌, Bool, true, false, cond, ◌&&◌, ◌==◌, Option, Some, None, refl, sym}
+use Rattle.std.proofs.Common.{◌≡◌, ℕ, pos, ◌+ℤ◌, Bool, true, false, cond, ◌&&◌, ◌==◌, Option, Some, None, refl, sym}
 use Rattle.std.specs.Prelude.{nat_lt, if◌then◌else◌, slice_get}
 use Rattle.std.proofs.lemmas.Bool.{false≢true}
-use Rattle.std.proofs.lemmas.Option.{slice_get_past}
-use Rattle.std.specs.Option.{option_map}
 use Rattle.sync_model.specs.declared.misuse.Misuse.TheVariants.{WaitGroupReused}
 use Rattle.wait_cores.specs.declared.group.GroupEvent.{GroupEvent}
 use Rattle.wait_cores.specs.declared.group.GroupEvent.TheVariants as group_event
@@ -15,7 +13,6 @@ use Rattle.wait_cores.specs.GroupMachine as group
 use Rattle.wait_cores.specs.GroupStanding as group_standing
 use Rattle.wait_cores.specs.declared.notify.NotifyEvent.{NotifyEvent}
 use Rattle.wait_cores.specs.declared.notify.NotifyEvent.TheVariants as notify_event
-use Rattle.wait_cores.specs.declared.notify.NotifyReply.{NotifyReply}
 use Rattle.wait_cores.specs.declared.notify.NotifyReply.TheVariants as notify_reply
 use Rattle.wait_cores.specs.declared.notify.NotifyPlace.{NotifyPlace}
 use Rattle.wait_cores.specs.declared.notify.NotifyPlace.TheVariants as notify_place
@@ -31,13 +28,6 @@ use Rattle.wait_cores.specs.declared.once.OnceProgress.{OnceProgress}
 use Rattle.wait_cores.specs.declared.once.OnceProgress.TheVariants.{NotRun, Running, Ended}
 use Rattle.wait_cores.specs.OnceMachine as once
 use Rattle.wait_cores.specs.OnceStanding as once_standing
-use Rattle.wait_cores.specs.declared.pool_event.PoolEvent.{PoolEvent}
-use Rattle.wait_cores.specs.declared.pool_event.PoolEvent.TheVariants as pool_event
-use Rattle.wait_cores.specs.declared.pool_event.PoolReply.{PoolReply}
-use Rattle.wait_cores.specs.declared.pool_event.PoolReply.TheVariants as pool_reply
-use Rattle.wait_cores.specs.PoolParts.{PoolPart, take_tail, take_victim}
-use Rattle.wait_cores.specs.PoolMachine as pool
-use Rattle.wait_cores.proofs.Comparisons.{is_below}
 
 no : {A : Type 0} → false ≡ true → A
 no e = absurd (false≢true e)
@@ -193,27 +183,3 @@ module _ {T : Type 0} where
       by_test true (once_event.End kept) may = end-unmade s.progress s c kept may
       by_test true once_event.Leave may = leaving-unmade s.progress (slice_get s.waits c) s c (once_standing.runs_at s c) may
       by_test false e may = refl
-
--- the pool
-
-module _ {X : Type 0} where
-  within-if : (b : Bool) (s : pool.PoolState X) (t : pool.PoolState X × PoolReply X) → t ≡ (s, pool_reply.Still) → cond b t (s, pool_reply.Still) ≡ (s, pool_reply.Still)
-  within-if true s t is = is
-  within-if false s t is = refl
-
-  pub pool-nobody : (s : pool.PoolState X) (c : ℕ) (e : PoolEvent X) → pool.callers_of s ≤ c → pool.next s c e ≡ (s, pool_reply.Still)
-  pool-nobody s c e above = by_test (nat_lt c (pool.callers_of s)) (is_below c (pool.callers_of s))
-    where
-      by_test : (b : Bool) → (b ≡ true → c < pool.callers_of s) → cond b (pool.made s c e) (s, pool_reply.Still) ≡ (s, pool_reply.Still)
-      by_test true below = absurd (omega (arith, below refl, above))
-      by_test false below = refl
-
-  pub pool-no_part : (s : pool.PoolState X) (c part : ℕ) → length s.primary ≤ part → pool.next s c (pool_event.LookOther part) ≡ (s, pool_reply.Still)
-  pool-no_part s c part past =
-      within-if (nat_lt c (pool.callers_of s)) s (pool.made s c (pool_event.LookOther part))
-      (ap (λ (o : Option (PoolPart X)). pool.with_primary (option_map take_tail o) s part) (slice_get_past s.primary part past))
-
-  pub pool-no_victims : (s : pool.PoolState X) (c part : ℕ) → length s.victims ≤ part → pool.next s c (pool_event.LookVictim part) ≡ (s, pool_reply.Still)
-  pool-no_victims s c part past =
-      within-if (nat_lt c (pool.callers_of s)) s (pool.made s c (pool_event.LookVictim part))
-      (ap (λ (o : Option (PoolPart X)). pool.with_victims (option_map (cond {A = PoolPart X → PoolPart X × PoolReply X} (part == c) take_victim take_tail) o) s part) (slice_get_past s.victims part past))

@@ -1,11 +1,12 @@
 //! `sync.WaitGroup` as a machine: a counter, and callers that wait until it is 0.
-ghost use Rattle.std.specs.Prelude.{◌≡◌, ℕ, ◌<◌, ◌≤◌, map, IfOk};
+ghost use Rattle.std.specs.Prelude.{◌≡◌, ℕ, ◌<◌, ◌≤◌, true, map, IfOk};
 ghost use Rattle.std.specs.List.{list_any};
+ghost use Rattle.wait_cores.specs.GroupEdges.{group_releases, group_acquires};
 ghost use Rattle.wait_cores.specs.GroupMachine.{start, next, callers_of, place_of, reply_of_wait, reply_of_result, is_reused, is_waiting, released};
 
 use std::alloc::{AllocError, Global};
 use std::marker::Model;
-use sync_model::Misuse;
+use sync_model::{Machine, Misuse};
 
 /// The highest counter, 2^31 - 1.
 pub const MAX_COUNTER: u32 = 2147483647;
@@ -199,6 +200,44 @@ impl GroupCore {
     }
 }
 
+/// After the documentation of Go's `sync`, an addition of a number below 0, as `Done` makes one, synchronizes before the
+/// return of a wait that it unblocks.
+impl Machine for GroupCore {
+    type State = GroupCore;
+
+    type Event = GroupEvent;
+
+    type Reply = GroupReply;
+
+    const HALTS: bool = true;
+
+    ghost HALTS = { true };
+
+    ghost next = { next };
+
+    ghost frees = { group_releases };
+
+    ghost takes = { group_acquires };
+
+    fn step(state: &mut GroupCore, caller: u32, event: GroupEvent) -> GroupReply {
+        state.step(caller, event)
+    }
+
+    fn releases(event: &GroupEvent, reply: &GroupReply) -> bool {
+        match event {
+            GroupEvent::Add(delta) => *delta < 0 && matches!(reply, GroupReply::Done),
+            GroupEvent::Wait | GroupEvent::Leave => false,
+        }
+    }
+
+    fn acquires(event: &GroupEvent, reply: &GroupReply) -> bool {
+        match event {
+            GroupEvent::Add(_) => false,
+            GroupEvent::Wait | GroupEvent::Leave => matches!(reply, GroupReply::Done),
+        }
+    }
+}
+
 // Whether somebody waits.
 fn somebody_waits(places: &[GroupPlace]) -> bool
     ensures { result ≡ list_any is_waiting places.now }
@@ -214,54 +253,5 @@ fn release(places: &mut [GroupPlace])
 {
     for place in places.iter_mut() {
         *place = place.released();
-    }
-}
-
-#[cfg(test)]
-mod tests {
-    use super::*;
-    use std::test::Fail;
-
-    #[test]
-    fn counts_and_releases(rt: HostRuntime) -> Result<(), Fail> {
-        let mut group = GroupCore::new(rt.alloc(), 2)?;
-        let table = [
-            // From 0 to the highest counter, which one more is past; and back to 0, which one less is below.
-            (0, GroupEvent::Add(2147483647), GroupReply::Done),
-            (
-                0,
-                GroupEvent::Add(1),
-                GroupReply::Misused(Misuse::NegativeWaitGroupCounter),
-            ),
-            (0, GroupEvent::Add(-2147483647), GroupReply::Done),
-            (
-                1,
-                GroupEvent::Add(-1),
-                GroupReply::Misused(Misuse::NegativeWaitGroupCounter),
-            ),
-            (1, GroupEvent::Wait, GroupReply::Done),
-            // A wait that is released and leaves while the counter is 0.
-            (0, GroupEvent::Add(1), GroupReply::Done),
-            (1, GroupEvent::Wait, GroupReply::Queued),
-            (1, GroupEvent::Leave, GroupReply::Still),
-            (0, GroupEvent::Add(-1), GroupReply::Done),
-            (1, GroupEvent::Leave, GroupReply::Done),
-            // Used again before a released waiter has left, which is out then.
-            (0, GroupEvent::Add(1), GroupReply::Done),
-            (1, GroupEvent::Wait, GroupReply::Queued),
-            (0, GroupEvent::Add(-1), GroupReply::Done),
-            (0, GroupEvent::Add(1), GroupReply::Done),
-            (
-                1,
-                GroupEvent::Leave,
-                GroupReply::Misused(Misuse::WaitGroupReused),
-            ),
-            (1, GroupEvent::Leave, GroupReply::Still),
-            (2, GroupEvent::Add(1), GroupReply::Still),
-        ];
-        for (caller, event, reply) in table {
-            assert_eq!(rt; group.step(caller, event), reply, "{caller} at {event:?}");
-        }
-        Ok(())
     }
 }

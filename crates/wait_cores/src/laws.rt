@@ -3,4 +3,3 @@
 pub mod group;
 pub mod notify;
 pub mod once;
-pub mod pool;

@@ -1,18 +1,15 @@
-//! `Cond`, `WaitGroup`, `Once` and `Pool` of Go's package sync as pure machines: what each event does to the
-//! object's state and what it answers, with no thread and no clock. Whoever waits is told by its place.
+//! `Cond`, `WaitGroup` and `Once` of Go's package sync as pure machines: what each event does to the object's state and
+//! what it answers, with no thread and no clock. Whoever waits is told by its place.
 #![tactic(auto)]
 
 pub mod group;
 pub mod laws;
-pub mod machines;
 pub mod notify;
 pub mod once;
-mod part;
-pub mod pool;
-pub mod pool_event;
 
 pub use group::{GroupCore, GroupEvent, GroupPlace, GroupReply, GroupWait};
 pub use notify::{NotifyCore, NotifyEvent, NotifyPlace, NotifyReply};
 pub use once::{Begun, OnceCore, OnceEvent, OncePlace, OnceProgress, OnceReply};
-pub use pool::PoolCore;
-pub use pool_event::{PoolEvent, PoolPut, PoolReply};
+
+#[cfg(test)]
+mod tests;

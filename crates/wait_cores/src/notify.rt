@@ -1,9 +1,11 @@
 //! `sync.Cond` as a machine: tickets are taken in order and notified in that order.
-ghost use Rattle.std.specs.Prelude.{◌≡◌, ℕ, ◌<◌, ◌≤◌, IfOk};
+ghost use Rattle.std.specs.Prelude.{◌≡◌, ℕ, ◌<◌, ◌≤◌, true, IfOk};
+ghost use Rattle.wait_cores.specs.NotifyEdges.{notify_releases, notify_acquires};
 ghost use Rattle.wait_cores.specs.NotifyMachine.{start, next, callers_of, place_of};
 
 use std::alloc::{AllocError, Global};
 use std::marker::Model;
+use sync_model::Machine;
 
 /// What a caller does at a cond.
 #[derive(Clone, Copy, Debug, PartialEq, Eq)]
@@ -140,35 +142,35 @@ impl NotifyCore {
     }
 }
 
-#[cfg(test)]
-mod tests {
-    use super::*;
-    use std::test::Fail;
+/// After the documentation of Go's `sync`, a signal or a broadcast synchronizes before the return of a wait that it
+/// unblocks, which begins with the leaving of the ticket.
+impl Machine for NotifyCore {
+    type State = NotifyCore;
 
-    #[test]
-    fn notifies_in_order(rt: HostRuntime) -> Result<(), Fail> {
-        let mut cond = NotifyCore::new(rt.alloc(), 3)?;
-        let table = [
-            // A signal that finds nobody is lost.
-            (2, NotifyEvent::Signal, NotifyReply::Done),
-            (0, NotifyEvent::Ticket, NotifyReply::Done),
-            (1, NotifyEvent::Ticket, NotifyReply::Done),
-            (0, NotifyEvent::Leave, NotifyReply::Still),
-            // One at a time, in the order of the tickets.
-            (2, NotifyEvent::Signal, NotifyReply::Done),
-            (1, NotifyEvent::Leave, NotifyReply::Still),
-            (0, NotifyEvent::Leave, NotifyReply::Done),
-            (0, NotifyEvent::Leave, NotifyReply::Still),
-            // All at once.
-            (0, NotifyEvent::Ticket, NotifyReply::Done),
-            (2, NotifyEvent::Broadcast, NotifyReply::Done),
-            (0, NotifyEvent::Leave, NotifyReply::Done),
-            (1, NotifyEvent::Leave, NotifyReply::Done),
-            (3, NotifyEvent::Signal, NotifyReply::Still),
-        ];
-        for (caller, event, reply) in table {
-            assert_eq!(rt; cond.step(caller, event), reply, "{caller} at {event:?}");
-        }
-        Ok(())
+    type Event = NotifyEvent;
+
+    type Reply = NotifyReply;
+
+    const HALTS: bool = true;
+
+    ghost HALTS = { true };
+
+    ghost next = { next };
+
+    ghost frees = { notify_releases };
+
+    ghost takes = { notify_acquires };
+
+    fn step(state: &mut NotifyCore, caller: u32, event: NotifyEvent) -> NotifyReply {
+        state.step(caller, event)
+    }
+
+    fn releases(event: &NotifyEvent, reply: &NotifyReply) -> bool {
+        matches!(event, NotifyEvent::Signal | NotifyEvent::Broadcast)
+            && matches!(reply, NotifyReply::Done)
+    }
+
+    fn acquires(event: &NotifyEvent, reply: &NotifyReply) -> bool {
+        matches!(event, NotifyEvent::Leave) && matches!(reply, NotifyReply::Done)
     }
 }

@@ -1,9 +1,11 @@
 //! `sync.Once` as a machine: one caller runs the function, and every return has what it came to.
-ghost use Rattle.std.specs.Prelude.{◌≡◌, ℕ, ◌<◌, ◌≤◌, IfOk};
+ghost use Rattle.std.specs.Prelude.{◌≡◌, ℕ, ◌<◌, ◌≤◌, true, IfOk};
+ghost use Rattle.wait_cores.specs.OnceEdges.{once_releases, once_acquires};
 ghost use Rattle.wait_cores.specs.OnceMachine.{start, next, callers_of, place_of, runner_of, reply_of};
 
 use std::alloc::{AllocError, Global};
 use std::marker::Model;
+use sync_model::Machine;
 
 /// What a caller does at a once whose function comes to a `T`.
 #[derive(Clone, Copy, Debug, PartialEq, Eq)]
@@ -197,40 +199,34 @@ impl<T: Copy> OnceCore<T> {
     }
 }
 
-#[cfg(test)]
-mod tests {
-    use super::*;
-    use std::test::Fail;
+/// After the documentation of Go's `sync`, the return from the function synchronizes before the return of any call on the
+/// once.
+impl<T: Copy> Machine for OnceCore<T> {
+    type State = OnceCore<T>;
 
-    #[test]
-    fn runs_once(rt: HostRuntime) -> Result<(), Fail> {
-        let mut once = OnceCore::new(rt.alloc(), 2)?;
-        let table = [
-            (1, OnceEvent::Leave, OnceReply::Still),
-            (0, OnceEvent::Begin, OnceReply::Run),
-            (1, OnceEvent::Begin, OnceReply::Queued),
-            (1, OnceEvent::End(7), OnceReply::Still),
-            (1, OnceEvent::Leave, OnceReply::Still),
-            (0, OnceEvent::End(5), OnceReply::Ended),
-            (0, OnceEvent::End(6), OnceReply::Still),
-            (0, OnceEvent::Begin, OnceReply::Done(5)),
-            (1, OnceEvent::Leave, OnceReply::Left(5)),
-            (1, OnceEvent::Begin, OnceReply::Done(5)),
-            (2, OnceEvent::Begin, OnceReply::Still),
-        ];
-        for (caller, event, reply) in table {
-            assert_eq!(rt; once.step(caller, event), reply, "{caller} at {event:?}");
-        }
-        Ok(())
+    type Event = OnceEvent<T>;
+
+    type Reply = OnceReply<T>;
+
+    const HALTS: bool = true;
+
+    ghost HALTS = { true };
+
+    ghost next = { next };
+
+    ghost frees = { once_releases };
+
+    ghost takes = { once_acquires };
+
+    fn step(state: &mut OnceCore<T>, caller: u32, event: OnceEvent<T>) -> OnceReply<T> {
+        state.step(caller, event)
     }
 
-    #[test]
-    fn waits_for_itself(rt: HostRuntime) -> Result<(), Fail> {
-        let mut once = OnceCore::new(rt.alloc(), 1)?;
-        assert_eq!(rt; once.step(0, OnceEvent::Begin), OnceReply::<u64>::Run);
-        assert_eq!(rt; once.runner(), Some(0));
-        assert_eq!(rt; once.step(0, OnceEvent::Begin), OnceReply::Queued);
-        assert_eq!(rt; once.step(0, OnceEvent::Leave), OnceReply::Still);
-        Ok(())
+    fn releases(_event: &OnceEvent<T>, reply: &OnceReply<T>) -> bool {
+        matches!(reply, OnceReply::Ended)
+    }
+
+    fn acquires(_event: &OnceEvent<T>, reply: &OnceReply<T>) -> bool {
+        matches!(reply, OnceReply::Done(_) | OnceReply::Left(_))
     }
 }

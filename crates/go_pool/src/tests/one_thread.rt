@@ -1,8 +1,8 @@
 use super::setup::{Caller, knows, made};
 use crate::PoolGet;
+use pool_core::PoolPut;
 use std::test::Fail;
 use sync_model::{Answer, Misuse};
-use wait_cores::PoolPut;
 
 #[test]
 fn one_caller_gets_what_it_put(rt: HostRuntime) -> Result<(), Fail> {

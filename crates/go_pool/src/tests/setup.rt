@@ -5,11 +5,11 @@ ghost use Rattle.go_pool.specs.Pools.{ArePasses};
 
 use crate::pool::{Pool, PoolPass};
 use crate::pool_get::PoolGet;
+use pool_core::PoolPut;
 use std::alloc::{AllocError, Global};
 use std::sync::Wait;
 use sync_model::{Answer, FrontNote, Misuse};
 use sync_outside::{At, Clock};
-use wait_cores::PoolPut;
 
 /// A clock that stands still.
 pub(super) struct NoClock;

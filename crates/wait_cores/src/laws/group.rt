@@ -2,8 +2,8 @@
 ghost use Rattle.std.specs.Prelude.{◌≡◌, ◌≢◌, ℕ, pos, ◌+◌, ◌-◌, ◌^◌, ◌<◌, ◌≤◌, false, IsTrue, ◌∷◌, ◌++◌, slice_set, IsFalse};
 ghost use Rattle.std.specs.List.{list_any};
 ghost use Rattle.sync_model.specs.Log.{Follows};
-ghost use Rattle.wait_cores.specs.Edges.{group_releases, group_acquires};
-ghost use Rattle.wait_cores.specs.EventsLeft.{group_left, group_used, group_given};
+ghost use Rattle.wait_cores.specs.GroupEdges.{group_releases, group_acquires};
+ghost use Rattle.wait_cores.specs.GroupEventsLeft.{group_left, group_used, group_given};
 ghost use Rattle.wait_cores.specs.GroupMachine.{GroupState, start, next, callers_of, is_waiting};
 ghost use Rattle.wait_cores.specs.GroupStanding.{answers, may_make, waits_at, waits_after};
 ghost use Rattle.wait_cores.specs.GroupLaws.{Log, WasZero, state_after, wait_by, leave_by, additions};
@@ -74,18 +74,15 @@ pub fn synchronizes()
 {}
 
 /// Callers can't go on for ever without a call returning. One that comes to wait uses up one of the events that are left, and
-/// only one that leaves gives any back. An event that is answered `Still` changes nothing.
+/// only one that leaves gives any back.
 pub fn events_are_used_up()
-    ensures used { (state : GroupState) (caller : ℕ) (event : GroupEvent)
+    ensures { (state : GroupState) (caller : ℕ) (event : GroupEvent)
         → group_left (next state caller event).0 + group_used (next state caller event).1
         ≤ group_left state + group_given event (next state caller event).1 }
-    ensures unmoved { (state : GroupState) (caller : ℕ) (event : GroupEvent)
-        → (next state caller event).1 ≡ GroupReply.Still → (next state caller event).0 ≡ state }
 {}
 
-/// An event is made exactly where its caller may make it: it is one of the group's, is out for a wait, and is
-/// released for a leaving. Any other is answered
-/// `Still` and changes nothing.
+/// An event is made exactly where its caller may make it: it is one of the group's, is out for a wait, and is released for a
+/// leaving. Any other is answered `Still` and changes nothing.
 pub fn still()
     ensures made { (state : GroupState) (caller : ℕ) (event : GroupEvent)
         → IsTrue (may_make state caller event) → (next state caller event).1 ≢ GroupReply.Still }

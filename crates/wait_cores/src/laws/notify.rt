@@ -1,10 +1,10 @@
 //! When a ticket of a cond is notified.
 ghost use Rattle.std.specs.Prelude.{◌≡◌, ◌≢◌, ℕ, ◌<◌, ◌≤◌, ◌+◌, ◌-◌, ◌^◌, ◌==◌, min, false, not, ◌∷◌, ◌++◌, count_by, IsTrue, IsFalse};
 ghost use Rattle.std.specs.List.{list_all, list_any};
-ghost use Rattle.wait_cores.specs.Edges.{notify_releases, notify_acquires};
+ghost use Rattle.wait_cores.specs.NotifyEdges.{notify_releases, notify_acquires};
 ghost use Rattle.wait_cores.specs.NotifyMachine.{NotifyState, start, next, callers_of, place_of};
 ghost use Rattle.wait_cores.specs.NotifyStanding.{has_ticket, has_after, may_make};
-ghost use Rattle.wait_cores.specs.EventsLeft.{notify_left, notify_used, notify_given};
+ghost use Rattle.wait_cores.specs.NotifyEventsLeft.{notify_left, notify_used, notify_given};
 ghost use Rattle.wait_cores.specs.NotifyLaws.{Log, IsLog, state_after, ticket_by, leave_by, is_ticket, pending_of, answers, NotifiesAfter};
 
 use crate::notify::{NotifyEvent, NotifyPlace, NotifyReply};
@@ -46,7 +46,6 @@ pub fn answers_its_callers()
 
 /// A caller knows from its own answers whether it has a ticket: from the one that it takes until it leaves. Nobody else's event
 /// gives it one or takes it away, and one that has none can't leave. So a caller leaves at most once after each ticket.
-/// An event that is answered `Still` changes nothing.
 pub fn knows_where_it_stands()
     ensures own { (state : NotifyState) (caller : ℕ) (event : NotifyEvent)
         → has_ticket (next state caller event).0 caller ≡ has_after (has_ticket state caller) event (next state caller event).1 }
@@ -55,8 +54,6 @@ pub fn knows_where_it_stands()
     ensures leaving { (state : NotifyState) (caller : ℕ)
         → has_ticket state caller ≡ false → (next state caller NotifyEvent.Leave).1 ≡ NotifyReply.Still }
     ensures first { (callers caller : ℕ) → has_ticket (start callers) caller ≡ false }
-    ensures unmoved { (state : NotifyState) (caller : ℕ) (event : NotifyEvent)
-        → (next state caller event).1 ≡ NotifyReply.Still → (next state caller event).0 ≡ state }
 {}
 
 /// What unblocks a wait synchronizes before its return: between a caller's ticket and its leaving, which acquires, stands an event
@@ -78,9 +75,8 @@ pub fn events_are_used_up()
         ≤ notify_left state + notify_given event }
 {}
 
-/// An event is made exactly where its caller may make it: it is one of the cond's, and is notified for a
-/// leaving. Any other is answered
-/// `Still` and changes nothing.
+/// An event is made exactly where its caller may make it: it is one of the cond's, and is notified for a leaving. Any other is
+/// answered `Still` and changes nothing.
 pub fn still()
     ensures made { (state : NotifyState) (caller : ℕ) (event : NotifyEvent)
         → IsTrue (may_make state caller event) → (next state caller event).1 ≢ NotifyReply.Still }

@@ -3,8 +3,8 @@ ghost use Rattle.std.specs.Prelude.{◌≡◌, ◌≢◌, ℕ, ◌+◌, ◌<◌,
 ghost use Rattle.wait_cores.specs.declared.once.OnceEvent.{OnceEvent};
 ghost use Rattle.wait_cores.specs.declared.once.OnceReply.TheVariants as reply;
 ghost use Rattle.std.specs.List.{list_any};
-ghost use Rattle.wait_cores.specs.Edges.{once_releases, once_acquires};
-ghost use Rattle.wait_cores.specs.EventsLeft.{once_left, once_used, once_given};
+ghost use Rattle.wait_cores.specs.OnceEdges.{once_releases, once_acquires};
+ghost use Rattle.wait_cores.specs.OnceEventsLeft.{once_left, once_used, once_given};
 ghost use Rattle.wait_cores.specs.OnceMachine.{OnceState, start, next, callers_of};
 ghost use Rattle.wait_cores.specs.OnceStanding.{answers, may_make, waits_at, runs_at, waits_after, runs_after};
 ghost use Rattle.wait_cores.specs.OnceLaws.{Made, Log, IsLog, begins, ends, returned_in, kept_by};
@@ -51,18 +51,15 @@ pub fn synchronizes<T: Copy>()
 {}
 
 /// Callers can't go on for ever without a call returning. The one that is to run the function, and one that comes to wait, use up
-/// one of the events that are left, and only one that leaves gives any back. An event that is answered `Still` changes nothing.
+/// one of the events that are left, and only one that leaves gives any back.
 pub fn events_are_used_up<T: Copy>()
-    ensures used { (state : OnceState T) (caller : ℕ) (event : OnceEvent T)
+    ensures { (state : OnceState T) (caller : ℕ) (event : OnceEvent T)
         → once_left (next state caller event).0 + once_used (next state caller event).1
         ≤ once_left state + once_given (next state caller event).1 }
-    ensures unmoved { (state : OnceState T) (caller : ℕ) (event : OnceEvent T)
-        → (next state caller event).1 ≡ reply.Still → (next state caller event).0 ≡ state }
 {}
 
-/// An event is made exactly where its caller may make it: it is one of the once's, is out to begin, runs the
-/// function to end it, and is released for a leaving. Any other is answered
-/// `Still` and changes nothing.
+/// An event is made exactly where its caller may make it: it is one of the once's, is out to begin, runs the function to end it,
+/// and is released for a leaving. Any other is answered `Still` and changes nothing.
 pub fn still<T: Copy>()
     ensures made { (state : OnceState T) (caller : ℕ) (event : OnceEvent T)
         → IsTrue (may_make state caller event) → (next state caller event).1 ≢ reply.Still }

@@ -1,5 +1,5 @@
 use Rattle.std.proofs.Common.{◌≡◌, ◌*◌, ◌-◌}
-use Rattle.wait_cores.specs.PoolMachine as pool
+use Rattle.pool_core.specs.PoolMachine as pool
 use Rattle.step_runner.specs.PoolTurn.{found_by, looks_of}
 use Rattle.step_runner.proofs.pool_turn.get.Given as goal
 

@@ -1,5 +1,5 @@
 use Rattle.std.proofs.Common.{[], ◌∷◌}
-use Rattle.wait_cores.specs.PoolMachine.{start}
+use Rattle.pool_core.specs.PoolMachine.{start}
 use Rattle.go_pool.proofs.pool.Pool.call_once.Goals as goal
 
 pub returns-clause-event : goal.returns-clause-event

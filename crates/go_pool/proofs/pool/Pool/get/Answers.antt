@@ -1,5 +1,5 @@
 use Rattle.std.proofs.Common.{[], refl, rules}
-use Rattle.wait_cores.specs.PoolMachine.{start}
+use Rattle.pool_core.specs.PoolMachine.{start}
 use Rattle.go_pool.specs.Pools.{fresh_of}
 use Rattle.go_pool.proofs.Looked.{looks_on, looks_up, looks_refused}
 use Rattle.go_pool.proofs.pool.Pool.get.Goals as goal

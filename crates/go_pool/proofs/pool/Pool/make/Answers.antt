@@ -1,8 +1,8 @@
 use Rattle.std.proofs.Common.{ℕ, ◌<◌, true, [], ◌∷◌, ◌++◌, None, sym, ap, ◌∙◌, subst, IsTrue}
 use Rattle.sync_model.specs.Journal.{halt_of, state_after, Right, Follows, log_of}
 use Rattle.sync_model.specs.Log as log
-use Rattle.wait_cores.specs.PoolLaws.{answers}
-use Rattle.wait_cores.specs.PoolMachine.{PoolState, next}
+use Rattle.pool_core.specs.PoolLaws.{answers}
+use Rattle.pool_core.specs.PoolMachine.{PoolState, next}
 use Rattle.ruled_object.specs.Cells.{deed_of}
 use Rattle.ruled_object.specs.Growth as growth
 use Rattle.ruled_object.specs.Passes.{start_of, seen_by}

@@ -1,5 +1,5 @@
 use Rattle.std.proofs.Common.{◌<◌, ℕ, subst}
-use Rattle.wait_cores.specs.PoolLaws.{is_full}
+use Rattle.pool_core.specs.PoolLaws.{is_full}
 use Rattle.go_pool.proofs.Drops.{found, kept_where, dropped_where}
 use Rattle.go_pool.proofs.pool.Pool.put.Goals as goal
 

@@ -1,5 +1,5 @@
 use Rattle.std.proofs.Common.{true, ap, ◌∙◌}
-use Rattle.wait_cores.specs.Edges.{group_releases, group_acquires}
+use Rattle.wait_cores.specs.GroupEdges.{group_releases, group_acquires}
 use Rattle.wait_cores.specs.GroupMachine.{next}
 use Rattle.ruled_object.specs.Passes.{start_of}
 use Rattle.go_waits.specs.Groups.{waits_by}

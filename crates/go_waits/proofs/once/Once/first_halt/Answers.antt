@@ -1,5 +1,5 @@
 use Rattle.std.proofs.Common.{◌≡◌, true, ap, sym, ◌∙◌}
-use Rattle.wait_cores.specs.Edges.{once_releases, once_acquires}
+use Rattle.wait_cores.specs.OnceEdges.{once_releases, once_acquires}
 use Rattle.wait_cores.specs.OnceMachine.{next}
 use Rattle.ruled_object.specs.Passes.{start_of}
 use Rattle.go_waits.specs.Onces.{waits_by, runs_by}

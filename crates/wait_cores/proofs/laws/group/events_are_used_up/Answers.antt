@@ -1,8 +1,5 @@
-use Rattle.wait_cores.proofs.GroupLeft.{next-uses, next-still}
+use Rattle.wait_cores.proofs.GroupLeft.{next-uses}
 use Rattle.wait_cores.proofs.laws.group.events_are_used_up.Goals as goal
 
-pub returns-clause-used : goal.returns-clause-used
-returns-clause-used c = next-uses
-
-pub returns-clause-unmoved : goal.returns-clause-unmoved
-returns-clause-unmoved c = next-still
+pub returns : goal.returns
+returns c = next-uses

@@ -1,4 +1,4 @@
-use Rattle.wait_cores.proofs.NotifyStandingLemmas.{knows-own, knows-others, stays-without, has-first, unmoved-by_still}
+use Rattle.wait_cores.proofs.NotifyStandingLemmas.{knows-own, knows-others, stays-without, has-first}
 use Rattle.wait_cores.proofs.laws.notify.knows_where_it_stands.Goals as goal
 
 pub returns-clause-own : goal.returns-clause-own
@@ -12,6 +12,3 @@ returns-clause-leaving c = stays-without
 
 pub returns-clause-first : goal.returns-clause-first
 returns-clause-first c = has-first
-
-pub returns-clause-unmoved : goal.returns-clause-unmoved
-returns-clause-unmoved c = unmoved-by_still

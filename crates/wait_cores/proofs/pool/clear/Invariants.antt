@@ -1,7 +1,0 @@
--- The parts before the index are empty, and the others are as they were.
-use Rattle.std.proofs.Common.{◌≡◌, ◌++◌, map, take, drop}
-use Rattle.wait_cores.specs.PoolParts.{emptied}
-use Rattle.wait_cores.proofs.pool.clear.Given as goal
-
-abbrev pub invariant-loop-part : goal.invariant-loop-part
-invariant-loop-part l = l.parts ≡ map emptied (take l.part-index l.initial.parts) ++ drop l.part-index l.initial.parts

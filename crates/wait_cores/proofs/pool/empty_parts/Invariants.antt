@@ -1,7 +1,0 @@
--- As many parts as the loop has counted, all of them empty.
-use Rattle.std.proofs.Common.{◌≡◌, replicate}
-use Rattle.wait_cores.specs.PoolParts.{empty}
-use Rattle.wait_cores.proofs.pool.empty_parts.Given as goal
-
-abbrev pub invariant-loop-part : goal.invariant-loop-part
-invariant-loop-part l = l.parts.items ≡ replicate l._part (empty l.room)
