@@ -1,4 +1,4 @@
-use Rattle.std.proofs.Common.{[], ◌∷◌, ap, sym, subst, ◌∙◌, ◌<◌, true}
+use Rattle.std.proofs.Common.{[], ◌∷◌, ap, sym, subst, ◌∙◌, true}
 use Rattle.sync_model.specs.Journal.{halt_of, is_such, state_after, Right}
 use Rattle.mutex_core.specs.Edges.{acquires}
 use Rattle.mutex_core.specs.MutexMachine.{next}
