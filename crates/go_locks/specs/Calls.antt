@@ -1,11 +1,11 @@
 -- What one call of a running lock did.
-use Rattle.std.specs.Prelude.{ℕ, Bool, true, false, List, [], ◌∷◌}
+use Rattle.std.specs.Prelude.{ℕ, Bool, true, false, List}
 use Rattle.sync_model.specs.declared.answer.Answer.{Answer}
 use Rattle.sync_model.specs.declared.journal.Deed.{Deed}
-use Rattle.sync_model.specs.declared.journal.Deed.TheVariants.{Event, Refused, Halt}
 use Rattle.sync_model.specs.declared.journal.Entry.{Entry}
 use Rattle.ruled_object.specs.declared.pass.Pass.{Pass}
 use Rattle.ruled_object.specs.Growth.{Placed, deeds_of, Grows, MeetsHalt}
+use Rattle.ruled_object.specs.Standing.{stand_next, stand_from}
 
 -- The call made these events, one after the other, and no others. `from` is the front of the caller's note before, and `to` the front after.
 -- `spells` says which events a call of this kind may make and what it then answers, and `clocked` which moments they may have.
@@ -20,14 +20,11 @@ pub record Did {S N E R A : Type 0} (next : S → ℕ → E → S × R) (start :
   -- their moments are the clock's
   pub moments : clocked (deeds_of entries)
 
-module _ {E R : Type 0} where
-  -- whether a caller waits after a deed of its own, where `after` says it of a reply. One that was refused waits no longer
-  abbrev pub waits_next : (Bool → R → Bool) → Bool → Deed E R → Bool
-  waits_next after waits (Event event reply) = after waits reply
-  waits_next after waits (Refused event misuse) = false
-  waits_next after waits (Halt misuse) = waits
+module _ {E R : Type 0} (after : Bool → R → Bool) where
+  -- whether a caller waits after a deed of its own, where `after` says it of a reply
+  abbrev pub waits_next : Bool → Deed E R → Bool
+  waits_next waits deed = stand_next false (λ waiting event reply. after waiting reply) waits deed
 
   -- whether it waits after all its entries
-  abbrev pub waits_by : (Bool → R → Bool) → Bool → List (Entry E R) → Bool
-  waits_by after waits [] = waits
-  waits_by after waits (x ∷ xs) = waits_by after (waits_next after waits x.deed) xs
+  abbrev pub waits_by : Bool → List (Entry E R) → Bool
+  waits_by waits own = stand_from false (λ waiting event reply. after waiting reply) waits own

@@ -22,9 +22,7 @@ use sync_model::Note;
 #[derive(Drop)]
 pub struct RwMutex<N: Note> {
     object: Object<RwCore, N>,
-    callers: u32,
-    ghost begins: { start_of object ≡ start callers },
-    ghost sized: { callers_of object ≡ callers },
+    ghost begins: { start_of object ≡ start (callers_of object) },
 }
 
 /// The pass of one caller to an `RwMutex`.

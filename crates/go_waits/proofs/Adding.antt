@@ -1,5 +1,6 @@
 -- How the entries of a call add up.
 use Rattle.std.proofs.Common.{◌≡◌, ℕ, zero, suc, Bool, List, [], ◌∷◌, ◌++◌, Option, replicate, append-nil, refl, sym, ap, ◌∙◌, subst, arith}
+use Rattle.std.proofs.lemmas.List.{map-append}
 use Rattle.sync_model.specs.declared.answer.Answer.{Answer}
 use Rattle.sync_model.specs.declared.answer.Answer.TheVariants.{Done, Halted}
 use Rattle.sync_model.specs.declared.journal.Deed.{Deed}
@@ -7,9 +8,9 @@ use Rattle.sync_model.specs.declared.journal.Deed.TheVariants.{Event}
 use Rattle.sync_model.specs.Journal.{halt_of}
 use Rattle.sync_model.specs.Note.{Holding}
 use Rattle.ruled_object.specs.declared.pass.Pass.{Pass}
-use Rattle.ruled_object.specs.Growth.{Placed, deeds_of, entries_of, halt_before, Grows, IsRight, MeetsHalt, KeepsNote}
+use Rattle.ruled_object.specs.Growth.{Placed, deeds_of, halt_before, Grows, IsRight, MeetsHalt, KeepsNote, Makes}
 use Rattle.ruled_object.specs.Passes.{own_by}
-use Rattle.go_waits.specs.Making.{Makes, Leaves}
+use Rattle.go_waits.specs.Making.{Leaves}
 
 pub replicate-snoc : {A : Type 0} (n : ℕ) (x : A) → replicate n x ++ x ∷ [] ≡ replicate (suc n) x
 replicate-snoc zero x = refl
@@ -32,14 +33,6 @@ module _ {E R : Type 0} where
   pub meets-snoc : {A : Type 0} (es : List (Placed E R)) (p : Placed E R) (answer : Answer A) → MeetsHalt (p ∷ []) answer → MeetsHalt (es ++ p ∷ []) answer
   meets-snoc es p (Done a) meets = halt-snoc es p ∙ meets
   meets-snoc es p (Halted m) meets = halt-snoc es p ∙ meets
-
-  pub deeds-snoc : (es : List (Placed E R)) (p : Placed E R) → deeds_of (es ++ p ∷ []) ≡ deeds_of es ++ p.entry.deed ∷ []
-  deeds-snoc [] p = refl
-  deeds-snoc (e ∷ es) p = ap (λ ds. e.entry.deed ∷ ds) (deeds-snoc es p)
-
-pub entries-snoc : {E R : Type 0} (es : List (Placed E R)) (p : Placed E R) → entries_of (es ++ p ∷ []) ≡ entries_of es ++ p.entry ∷ []
-entries-snoc [] p = refl
-entries-snoc (e ∷ es) p = ap (λ xs. e.entry ∷ xs) (entries-snoc es p)
 
 -- what two calls add, they add together
 abbrev pub Both : {S E R : Type 0} → Type 0 → (S → ℕ → E → S × R) → Bool → S → Type 0
@@ -71,7 +64,7 @@ module _ {S N E R : Type 0} (next : S → ℕ → E → S × R) (halts : Bool) (
       tries = before.tries ++ made.one ∷ [];
       grows = both old mid new before.tries (made.one ∷ []) from between to before.grows made.grows;
       count = suc before.count;
-      in_vain = deeds-snoc before.tries made.one ∙ (ap (λ (z : List (Deed E R) × Deed E R). z.0 ++ z.1 ∷ []) (λ i. (before.in_vain i, made.deed i)) ∙ replicate-snoc before.count (Event event still));
+      in_vain = map-append (λ (p : Placed E R). p.entry.deed) before.tries (made.one ∷ []) ∙ (ap (λ (z : List (Deed E R) × Deed E R). z.0 ++ z.1 ∷ []) (λ i. (before.in_vain i, made.deed i)) ∙ replicate-snoc before.count (Event event still));
     }
 
     -- the last try

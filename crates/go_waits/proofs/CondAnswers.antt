@@ -1,5 +1,6 @@
 -- What the events of a cond's callers are answered, and what its calls show by them.
 use Rattle.std.proofs.Common.{◌≡◌, ◌≢◌, ℕ, ◌<◌, true, List, [], ◌∷◌, ◌++◌, refl, sym, ap, ◌∙◌, subst, IsTrue}
+use Rattle.std.proofs.lemmas.List.{map-append}
 use Rattle.sync_model.specs.declared.misuse.Misuse.{Misuse}
 use Rattle.sync_model.specs.declared.answer.Answer.{Answer}
 use Rattle.sync_model.specs.declared.answer.Answer.TheVariants.{Done, Halted}
@@ -12,11 +13,12 @@ use Rattle.wait_cores.specs.declared.notify.NotifyReply.TheVariants as reply
 use Rattle.wait_cores.specs.NotifyLaws.{answers}
 use Rattle.wait_cores.specs.NotifyMachine.{NotifyState, next, callers_of}
 use Rattle.ruled_object.specs.Cells.{deed_of}
+use Rattle.ruled_object.specs.Growth.{Placed, Makes}
 use Rattle.go_locks.specs.Calls.{Did}
 use Rattle.go_waits.specs.CondCalls as calls
 use Rattle.go_waits.specs.Conds.{CondJournal, CondPass, Answers}
-use Rattle.go_waits.specs.Making.{Makes, Leaves}
-use Rattle.go_waits.proofs.Adding.{deeds-snoc, meets-snoc}
+use Rattle.go_waits.specs.Making.{Leaves}
+use Rattle.go_waits.proofs.Adding.{meets-snoc}
 use Rattle.go_waits.proofs.StandingLemmas.{size_stays}
 
 -- an answer of the machine is one that its laws allow
@@ -66,7 +68,7 @@ module _ {N : Type 0} (start : NotifyState) (old new : CondPass N) (from to : Li
     grows = left.grows;
     spelt = (
       left.count,
-      deeds-snoc left.tries left.last ∙ ap (λ (z : calls.NotifyDeeds × Deed NotifyEvent NotifyReply). z.0 ++ z.1 ∷ []) (λ i. (left.in_vain i, (left.deed ∙ ap (λ (x : NotifyReply). deed_of Leave (Done x)) is) i)),
+      map-append (λ (x : Placed NotifyEvent NotifyReply). x.entry.deed) left.tries (left.last ∷ []) ∙ ap (λ (z : calls.NotifyDeeds × Deed NotifyEvent NotifyReply). z.0 ++ z.1 ∷ []) (λ i. (left.in_vain i, (left.deed ∙ ap (λ (x : NotifyReply). deed_of Leave (Done x)) is) i)),
     );
     halted = meets-snoc {A = Unit {0}} left.tries left.last (Done tt) left.halted;
     moments = tt;
@@ -78,7 +80,7 @@ module _ {N : Type 0} (start : NotifyState) (old new : CondPass N) (from to : Li
     grows = left.grows;
     spelt = (
       left.count,
-      deeds-snoc left.tries left.last ∙ ap (λ (z : calls.NotifyDeeds × Deed NotifyEvent NotifyReply). z.0 ++ z.1 ∷ []) (λ i. (left.in_vain i, left.deed i)),
+      map-append (λ (x : Placed NotifyEvent NotifyReply). x.entry.deed) left.tries (left.last ∷ []) ∙ ap (λ (z : calls.NotifyDeeds × Deed NotifyEvent NotifyReply). z.0 ++ z.1 ∷ []) (λ i. (left.in_vain i, left.deed i)),
     );
     halted = meets-snoc {A = Unit {0}} left.tries left.last (Halted misuse) left.halted;
     moments = tt;

@@ -1,5 +1,6 @@
 -- What the events of a wait group's callers are answered, and what its calls answer by them.
 use Rattle.std.proofs.Common.{◌≡◌, ◌≢◌, inr, ℕ, ◌<◌, Bool, true, false, List, [], ◌∷◌, ◌++◌, None, Result, Ok, Err, refl, sym, ap, ◌∙◌, subst, append_assoc, IsTrue}
+use Rattle.std.proofs.lemmas.List.{map-append}
 use Rattle.sync_model.specs.declared.misuse.Misuse.{Misuse}
 use Rattle.sync_model.specs.declared.answer.Answer.{Answer}
 use Rattle.sync_model.specs.declared.answer.Answer.TheVariants.{Done, Halted}
@@ -13,12 +14,12 @@ use Rattle.wait_cores.specs.declared.group.GroupReply.TheVariants as reply
 use Rattle.wait_cores.specs.GroupMachine.{GroupState, next, callers_of}
 use Rattle.wait_cores.specs.GroupStanding.{answers, waits_at, waits_after}
 use Rattle.ruled_object.specs.Cells.{deed_of}
-use Rattle.ruled_object.specs.Growth.{Placed, Grows, entries_of, deeds_of, MeetsHalt}
+use Rattle.ruled_object.specs.Growth.{Placed, Grows, entries_of, deeds_of, MeetsHalt, Makes}
 use Rattle.go_waits.specs.GroupCalls.{GroupDeeds, Waits, LeavesBy}
 use Rattle.go_waits.specs.Groups.{GroupJournal, GroupPass, Answers, IsReleased, IsLeft, waits_by}
-use Rattle.go_waits.specs.Making.{Makes, Leaves}
-use Rattle.go_waits.specs.Standing.{stand_next, stand_from}
-use Rattle.go_waits.proofs.Adding.{Both, entries-snoc, deeds-snoc, meets-snoc}
+use Rattle.go_waits.specs.Making.{Leaves}
+use Rattle.ruled_object.specs.Standing.{stand_next, stand_from}
+use Rattle.go_waits.proofs.Adding.{Both, meets-snoc}
 use Rattle.go_waits.proofs.StandingLemmas.{stands_by, stand-snoc, size_stays}
 
 -- what the machine's laws say
@@ -47,7 +48,7 @@ answers_mine knows begin c before own event (Halted m) below out follows mine ri
 -- the pass's caller waits or doesn't after one entry more
 pub waits_then : (old new : GroupJournal) (tries : List (Placed GroupEvent GroupReply)) (p : Placed GroupEvent GroupReply) → new ≡ old ++ entries_of (tries ++ p ∷ []) → waits_by new ≡ stand_next false waits_after (waits_by (old ++ entries_of tries)) p.entry.deed
 waits_then old new tries p mine =
-    let whole : new ≡ (old ++ entries_of tries) ++ p.entry ∷ [] = mine ∙ (ap (λ (z : GroupJournal). old ++ z) (entries-snoc tries p) ∙ sym (append_assoc old (entries_of tries) (p.entry ∷ []))) in
+    let whole : new ≡ (old ++ entries_of tries) ++ p.entry ∷ [] = mine ∙ (ap (λ (z : GroupJournal). old ++ z) (map-append (λ (x : Placed GroupEvent GroupReply). x.entry) tries (p ∷ [])) ∙ sym (append_assoc old (entries_of tries) (p.entry ∷ []))) in
     ap waits_by whole ∙ stand-snoc false waits_after false (old ++ entries_of tries) p.entry
 
 pub out_after : (waits : Bool) (answer : Answer GroupReply) → IsReleased answer → stand_next false waits_after waits (deed_of Leave answer) ≡ false
@@ -80,7 +81,7 @@ module _ {N : Type 0} (start : GroupState) (both : Both N next true start) (old 
       whole last ends = (
         left.count,
         ap (λ (z : Deed GroupEvent GroupReply × GroupDeeds). z.0 ∷ z.1)
-            (λ i. (made.deed i, (deeds-snoc left.tries left.last ∙ ap (λ (z : GroupDeeds × Deed GroupEvent GroupReply). z.0 ++ z.1 ∷ []) (λ j. (left.in_vain j, ends j))) i)),
+            (λ i. (made.deed i, (map-append (λ (x : Placed GroupEvent GroupReply). x.entry.deed) left.tries (left.last ∷ []) ∙ ap (λ (z : GroupDeeds × Deed GroupEvent GroupReply). z.0 ++ z.1 ∷ []) (λ j. (left.in_vain j, ends j))) i)),
       )
 
       spelt : (result : Answer (Result Unit Misuse)) → IsLeft answer result → Waits (deeds_of (made.one ∷ (left.tries ++ left.last ∷ []))) result

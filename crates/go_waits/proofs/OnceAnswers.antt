@@ -1,6 +1,7 @@
 -- What the events of a once's callers are answered, and what its calls answer by them.
 use Rattle.std.proofs.Common.{◌≡◌, ◌≢◌, ◌⊎◌, inl, inr, ℕ, zero, suc, append-nil, ◌<◌, ◌≤◌, Bool, true, false, List, [], ◌∷◌, ◌++◌, Option, None, replicate, refl, sym, ap, ◌∙◌, subst, append_assoc, IsTrue}
 use Rattle.std.specs.Prelude.{count_by}
+use Rattle.std.proofs.lemmas.List.{map-append}
 use Rattle.sync_model.specs.declared.misuse.Misuse.{Misuse}
 use Rattle.sync_model.specs.declared.answer.Answer.{Answer}
 use Rattle.sync_model.specs.declared.answer.Answer.TheVariants.{Done, Halted}
@@ -14,14 +15,14 @@ use Rattle.wait_cores.specs.declared.once.OnceReply.TheVariants as reply
 use Rattle.wait_cores.specs.OnceMachine.{OnceState, next, callers_of}
 use Rattle.wait_cores.specs.OnceStanding.{answers, waits_at, runs_at, waits_after, runs_after}
 use Rattle.ruled_object.specs.Cells.{deed_of}
-use Rattle.ruled_object.specs.Growth.{Placed, Grows, entries_of, deeds_of, MeetsHalt}
+use Rattle.ruled_object.specs.Growth.{Placed, Grows, entries_of, deeds_of, MeetsHalt, Makes}
 use Rattle.go_waits.specs.declared.once_begun.OnceBegun.{OnceBegun}
 use Rattle.go_waits.specs.declared.once_begun.OnceBegun.TheVariants.{Run, Already}
 use Rattle.go_waits.specs.OnceCalls.{OnceDeeds, Begins, LeavesBy}
 use Rattle.go_waits.specs.Onces.{OnceJournal, OncePass, Answers, IsReleased, IsLeft, waits_by, runs_by}
-use Rattle.go_waits.specs.Making.{Makes, Leaves}
-use Rattle.go_waits.specs.Standing.{stand_next, stand_from, stand_by}
-use Rattle.go_waits.proofs.Adding.{Both, entries-snoc, deeds-snoc, meets-snoc}
+use Rattle.go_waits.specs.Making.{Leaves}
+use Rattle.ruled_object.specs.Standing.{stand_next, stand_from, stand_by}
+use Rattle.go_waits.proofs.Adding.{Both, meets-snoc}
 use Rattle.go_waits.proofs.StandingLemmas.{stands_by, stand-snoc, size_stays}
 
 -- what the machine's laws say
@@ -63,7 +64,7 @@ module _ {T : Type 0} where
   pub stands_then : (after : Bool → OnceEvent T → OnceReply T → Bool) (old new : OnceJournal T) (tries : List (Placed (OnceEvent T) (OnceReply T))) (p : Placed (OnceEvent T) (OnceReply T)) → new ≡ old ++ entries_of (tries ++ p ∷ [])
       → stand_by false after new ≡ stand_next false after (stand_by false after (old ++ entries_of tries)) p.entry.deed
   stands_then after old new tries p mine =
-      let whole : new ≡ (old ++ entries_of tries) ++ p.entry ∷ [] = mine ∙ (ap (λ (z : OnceJournal T). old ++ z) (entries-snoc tries p) ∙ sym (append_assoc old (entries_of tries) (p.entry ∷ []))) in
+      let whole : new ≡ (old ++ entries_of tries) ++ p.entry ∷ [] = mine ∙ (ap (λ (z : OnceJournal T). old ++ z) (map-append (λ (x : Placed (OnceEvent T) (OnceReply T)). x.entry) tries (p ∷ [])) ∙ sym (append_assoc old (entries_of tries) (p.entry ∷ []))) in
       ap (stand_by false after) whole ∙ stand-snoc false after false (old ++ entries_of tries) p.entry
 
   pub out_after : (waits : Bool) (answer : Answer (OnceReply T)) → IsReleased answer → stand_next false waits_on waits (deed_of Leave answer) ≡ false
@@ -110,7 +111,7 @@ module _ {T N : Type 0} (start : OnceState T) (both : Both N next true start) (o
   whole last ends = (
     left.count,
     ap (λ (z : Deed (OnceEvent T) (OnceReply T) × OnceDeeds T). z.0 ∷ z.1)
-        (λ i. (made.deed i, (deeds-snoc left.tries left.last ∙ ap (λ (z : OnceDeeds T × Deed (OnceEvent T) (OnceReply T)). z.0 ++ z.1 ∷ []) (λ j. (left.in_vain j, ends j))) i)),
+        (λ i. (made.deed i, (map-append (λ (x : Placed (OnceEvent T) (OnceReply T)). x.entry.deed) left.tries (left.last ∷ []) ∙ ap (λ (z : OnceDeeds T × Deed (OnceEvent T) (OnceReply T)). z.0 ++ z.1 ∷ []) (λ j. (left.in_vain j, ends j))) i)),
   )
 
   spelt : (result : Answer (OnceBegun T)) → IsLeft answer result → Begins (deeds_of (made.one ∷ (left.tries ++ left.last ∷ []))) result

@@ -7,7 +7,7 @@ use Rattle.sync_model.specs.declared.journal.Deed.{Deed}
 use Rattle.sync_model.specs.declared.journal.Deed.TheVariants.{Event, Refused, Halt}
 use Rattle.sync_model.specs.declared.journal.Entry.{Entry}
 use Rattle.sync_model.specs.Journal.{halt_next, halt_after, by, state_next, state_after, Right, Follows}
-use Rattle.go_waits.specs.Standing.{stand_next, stand_from}
+use Rattle.ruled_object.specs.Standing.{stand_next, stand_from}
 
 unequal : (a b : ℕ) → (a == b) ≡ false → b ≢ a
 unequal a b is same = let is' : (a == a) ≡ false = subst (λ (n : ℕ). (a == n) ≡ false) same is in absurd (grind (arith, nat_tests))

@@ -16,12 +16,12 @@ use Rattle.wait_cores.specs.NotifyLaws.{answers}
 use Rattle.wait_cores.specs.NotifyMachine.{NotifyState, next}
 use Rattle.ruled_object.specs.declared.pass.Pass.{Pass}
 use Rattle.ruled_object.specs.Gathered as gathered
-use Rattle.ruled_object.specs.Growth.{IsLawful}
+use Rattle.ruled_object.specs.Growth.{IsLawful, Makes}
 use Rattle.ruled_object.specs.Passes as object
 use Rattle.go_locks.specs.declared.mutex.Mutex.{Mutex}
 use Rattle.go_locks.specs.Mutexes.{mutex_start}
 use Rattle.go_waits.specs.declared.cond.Cond.{Cond}
-use Rattle.go_waits.specs.Making.{Makes, Leaves}
+use Rattle.go_waits.specs.Making.{Leaves}
 
 -- an entry of a cond's journal
 abbrev pub CondMade : Type 0
@@ -89,3 +89,7 @@ module _ {N H : Type 0} where
   -- the journal is all that the passes' callers did on the cond
   abbrev pub IsCondWhole : Cond N H → CondJournal → List (CondPass N) → Type 0
   IsCondWhole cond journal passes = gathered.IsWhole next true notify_releases notify_acquires (start_of cond) journal passes
+
+  -- the same, and each pass has seen all of it
+  abbrev pub IsCondSeen : Cond N H → CondJournal → List (CondPass N) → Type 0
+  IsCondSeen cond journal passes = gathered.IsSeen next true notify_releases notify_acquires (start_of cond) journal passes

@@ -14,11 +14,11 @@ use Rattle.wait_cores.specs.GroupMachine.{GroupState, next}
 use Rattle.wait_cores.specs.GroupStanding.{waits_after, answers}
 use Rattle.ruled_object.specs.declared.pass.Pass.{Pass}
 use Rattle.ruled_object.specs.Gathered as gathered
-use Rattle.ruled_object.specs.Growth.{Placed, Grows, IsLawful}
+use Rattle.ruled_object.specs.Growth.{Placed, Grows, IsLawful, Makes}
 use Rattle.ruled_object.specs.Passes as object
 use Rattle.go_waits.specs.declared.group.WaitGroup.{WaitGroup}
-use Rattle.go_waits.specs.Making.{Makes, Leaves}
-use Rattle.go_waits.specs.Standing.{stand_by}
+use Rattle.go_waits.specs.Making.{Leaves}
+use Rattle.ruled_object.specs.Standing.{stand_by}
 
 -- an entry of a group's journal
 abbrev pub GroupMade : Type 0
@@ -114,3 +114,7 @@ module _ {N H : Type 0} where
   -- the journal is all that the passes' callers did on the group
   abbrev pub IsGroupWhole : WaitGroup N H → GroupJournal → List (GroupPass N) → Type 0
   IsGroupWhole group journal passes = gathered.IsWhole next true group_releases group_acquires (start_of group) journal passes
+
+  -- the same, and each pass has seen all of it
+  abbrev pub IsGroupSeen : WaitGroup N H → GroupJournal → List (GroupPass N) → Type 0
+  IsGroupSeen group journal passes = gathered.IsSeen next true group_releases group_acquires (start_of group) journal passes

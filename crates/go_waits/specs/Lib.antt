@@ -7,5 +7,4 @@ pub mod Onces
 pub mod OnceCalls
 pub mod OnceRuns
 pub mod OnceValues
-pub mod Standing
 pub mod Fresh

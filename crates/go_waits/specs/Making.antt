@@ -1,27 +1,17 @@
--- What one event of a caller shows, and what the leaving of a caller that waits does.
-use Rattle.std.specs.Prelude.{◌≡◌, ℕ, ◌+◌, Bool, List, [], ◌∷◌, ◌++◌, None, replicate}
+-- What a call takes off a pass, and what the leaving of a caller that waits does.
+use Rattle.std.specs.Prelude.{◌≡◌, ℕ, ◌+◌, Bool, List, [], ◌∷◌, ◌++◌, replicate}
 use Rattle.sync_model.specs.declared.answer.Answer.{Answer}
 use Rattle.sync_model.specs.declared.journal.Deed.TheVariants.{Event}
-use Rattle.sync_model.specs.Journal.{by, Follows}
 use Rattle.ruled_object.specs.declared.pass.Pass.{Pass}
 use Rattle.ruled_object.specs.Cells.{deed_of}
 use Rattle.ruled_object.specs.Growth.{Placed, deeds_of, Grows, IsRight, MeetsHalt}
-use Rattle.ruled_object.specs.Passes.{number_of, left_of, own_by}
+use Rattle.ruled_object.specs.Passes.{number_of, left_of}
 
 -- the same caller's pass, good for one call less
 abbrev pub IsOneLess : {S N E R : Type 0} → Pass S N E R → Pass S N E R → Type 0
 IsOneLess old new = (number_of new ≡ number_of old) × (left_of new + 1 ≡ left_of old)
 
 module _ {S N E R : Type 0} (next : S → ℕ → E → S × R) (halts : Bool) (start : S) (old : Pass S N E R) (from : List ℕ) where
-  -- The caller made one event, which was answered this. What stands before it has of the caller what its pass had.
-  pub record Makes (event : E) (answer : Answer R) (new : Pass S N E R) (to : List ℕ) : Type 0 where
-    pub one : Placed E R
-    pub grows : Grows next halts start old from (one ∷ []) new to
-    pub deed : one.entry.deed ≡ deed_of event answer
-    pub halted : MeetsHalt (one ∷ []) answer
-    pub own : own_by old ≡ by (number_of old) one.before
-    pub follows : Follows next halts start None one.before
-
   -- A caller that waits left by this event, which was answered this; before, it tried any number of times and was answered that it isn't released.
   pub record Leaves (event : E) (still : R) (answer : Answer R) (new : Pass S N E R) (to : List ℕ) : Type 0 where
     pub tries : List (Placed E R)

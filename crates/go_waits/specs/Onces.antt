@@ -13,13 +13,13 @@ use Rattle.wait_cores.specs.OnceStanding.{waits_after, runs_after, answers}
 use Rattle.ruled_object.specs.declared.pass.Pass.{Pass}
 use Rattle.ruled_object.specs.Cells.{deed_of}
 use Rattle.ruled_object.specs.Gathered as gathered
-use Rattle.ruled_object.specs.Growth.{Placed, Grows, IsLawful}
+use Rattle.ruled_object.specs.Growth.{Placed, Grows, IsLawful, Makes}
 use Rattle.ruled_object.specs.Passes as object
 use Rattle.go_waits.specs.declared.once_begun.OnceBegun.{OnceBegun}
 use Rattle.go_waits.specs.declared.once_begun.OnceBegun.TheVariants.{Run, Already}
 use Rattle.go_waits.specs.declared.once.Once.{Once}
-use Rattle.go_waits.specs.Making.{Makes, Leaves}
-use Rattle.go_waits.specs.Standing.{stand_by, stand_next}
+use Rattle.go_waits.specs.Making.{Leaves}
+use Rattle.ruled_object.specs.Standing.{stand_by, stand_next}
 
 -- an entry of a once's journal
 abbrev pub OnceMade : Type 0 → Type 0
@@ -127,3 +127,7 @@ module _ {T N H : Type 0} where
   -- the journal is all that the passes' callers did on the once
   abbrev pub IsOnceWhole : Once T N H → OnceJournal T → List (OncePass T N) → Type 0
   IsOnceWhole once journal passes = gathered.IsWhole next true once_releases once_acquires (start_of once) journal passes
+
+  -- the same, and each pass has seen all of it
+  abbrev pub IsOnceSeen : Once T N H → OnceJournal T → List (OncePass T N) → Type 0
+  IsOnceSeen once journal passes = gathered.IsSeen next true once_releases once_acquires (start_of once) journal passes

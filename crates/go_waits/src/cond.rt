@@ -20,9 +20,7 @@ use wait_cores::NotifyCore;
 #[derive(Drop)]
 pub struct Cond<N: Note> {
     pub(crate) object: Object<NotifyCore, N>,
-    pub(crate) callers: u32,
-    ghost sized: { callers_of object ≡ callers },
-    ghost begins: { start_of object ≡ start callers },
+    ghost begins: { start_of object ≡ start (callers_of object) },
 }
 
 /// The pass of one caller to a `Cond`.

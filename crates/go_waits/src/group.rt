@@ -19,9 +19,7 @@ use wait_cores::GroupCore;
 #[derive(Drop)]
 pub struct WaitGroup<N: Note> {
     pub(crate) object: Object<GroupCore, N>,
-    pub(crate) callers: u32,
-    ghost sized: { callers_of object ≡ callers },
-    ghost begins: { (start_of object).places ≡ replicate callers place.Out },
+    ghost begins: { (start_of object).places ≡ replicate (callers_of object) place.Out },
 }
 
 /// The pass of one caller to a `WaitGroup`.

@@ -11,7 +11,6 @@ ghost use Rattle.ruled_object.specs.Growth.{IsLawful, KeepsNote};
 ghost use Rattle.ruled_object.specs.Passes.{start_of, IsHomeOf, IsPassOf, SamePass};
 ghost use Rattle.go_waits.specs.Making.{Leaves};
 
-use crate::making::make;
 use ruled_object::laws::growth;
 use ruled_object::{Object, PassOf};
 use std::sync::Wait;
@@ -99,7 +98,7 @@ pub(crate) fn leave<M: Waited, N: Note, R: Wait>(
     growth::<M, N>();
     for _ in rt.forever() {
         object.park(rt, pass);
-        match make::<M, N, R>(object, rt, home, pass, note, M::leaving()) {
+        match object.call(rt, home, pass, note, M::leaving()) {
             Answer::Halted(misuse) => return Answer::Halted(misuse),
             Answer::Done(reply) => {
                 if !M::is_still(&reply) {

@@ -1,33 +1,13 @@
-//! One event of a caller on a shared machine.
-ghost use Rattle.std.specs.Prelude.{◌≡◌, ℕ, ◌<◌, List, []};
-ghost use Rattle.ruled_object.specs.Growth.{Grows, IsLawful, KeepsNote};
-ghost use Rattle.ruled_object.specs.Passes.{left_of, own_by, start_of, IsHomeOf, IsPassOf, SamePass};
-ghost use Rattle.go_waits.specs.Making.{Makes, IsOneLess};
+//! The first event of a call.
+ghost use Rattle.std.specs.Prelude.{◌<◌};
+ghost use Rattle.ruled_object.specs.Growth.{IsLawful, KeepsNote, Makes};
+ghost use Rattle.ruled_object.specs.Passes.{left_of, start_of, IsHomeOf, IsPassOf};
+ghost use Rattle.go_waits.specs.Making.{IsOneLess};
 
 use ruled_object::laws::{growth, spending};
 use ruled_object::{Object, PassOf};
 use std::sync::Wait;
 use sync_model::{Answer, Machine, Note};
-
-// Makes one event.
-pub(crate) fn make<M: Machine, N: Note, R: Wait>(
-    object: &Object<M, N>,
-    rt: &R,
-    home: &N::Home,
-    pass: &mut PassOf<M, N>,
-    note: &mut N,
-    event: M::Event,
-) -> Answer<M::Reply>
-    requires pass { IsPassOf object.now pass.old }
-    requires home { IsHomeOf N.at object.now home.now × N.at home.now note.old }
-    ensures pass { IsPassOf object.now pass.new × SamePass pass.old pass.new }
-    ensures note { KeepsNote N.at N.own N.front note.old note.new }
-    ensures event { Makes M.next M.HALTS (start_of object.now) pass.old (N.front note.old) event result pass.new (N.front note.new) }
-    ensures journal { IsLawful M.next M.HALTS M.frees M.takes (start_of object.now) pass.new }
-{
-    growth::<M, N>();
-    object.call(rt, home, pass, note, event)
-}
 
 // Takes one call off the pass, and makes the first event of the call.
 pub(crate) fn begin<M: Machine, N: Note, R: Wait>(
@@ -48,5 +28,5 @@ pub(crate) fn begin<M: Machine, N: Note, R: Wait>(
     growth::<M, N>();
     spending::<M, N>();
     pass.spend();
-    make::<M, N, R>(object, rt, home, pass, note, event)
+    object.call(rt, home, pass, note, event)
 }

@@ -19,9 +19,7 @@ use wait_cores::OnceCore;
 #[derive(Drop)]
 pub struct Once<T: Copy, N: Note> {
     pub(crate) object: Object<OnceCore<T>, N>,
-    pub(crate) callers: u32,
-    ghost sized: { callers_of object ≡ callers },
-    ghost begins: { start_of object ≡ start callers },
+    ghost begins: { start_of object ≡ start (callers_of object) },
 }
 
 /// The pass of one caller to a `Once`.

@@ -16,7 +16,7 @@ use Rattle.ruled_object.specs.declared.pass.Pass.{Pass}
 use Rattle.ruled_object.specs.declared.rule.Begin.{Begin}
 use Rattle.ruled_object.specs.declared.view.Stage.TheVariants.{Idle}
 use Rattle.ruled_object.specs.declared.view.View.{View}
-use Rattle.ruled_object.specs.Gathered.{AreAllPasses, SamePasses, Gathered, Dealing, IsDealt, IsWhole, IsSeen}
+use Rattle.ruled_object.specs.Gathered.{AreAllPasses, SamePasses, SameOwn, Gathered, Dealing, IsDealt, IsWhole, IsSeen}
 use Rattle.ruled_object.specs.Passes.{own_of, own_by, seen_by, SamePass, callers_of}
 use Rattle.ruled_object.specs.Steps.{Sat, first_of, others_of, joined, kept, dealt, Learns}
 use Rattle.ruled_object.proofs.Calls.{own_is}
@@ -118,6 +118,12 @@ module _ {S N E R : Type 0} where
         subst (λ (x : Pass S N E R × Pass S N E R). SamePass x.0 x.1) (λ k. (e k, f k)) same)
         (λ other. d.each i p q at_old (sym (get_set_other passes n i after other) ∙ at_new));
   }
+
+  pub same_own : (next : S → ℕ → E → S × R) (halts : Bool) (frees takes : E → R → Bool) (start : S) (log : List (Entry E R)) (old new : List (Pass S N E R)) → SamePasses old new
+      → IsWhole next halts frees takes start log old → IsWhole next halts frees takes start log new → SameOwn old new
+  same_own next halts frees takes start log old new same whole_old whole_new = λ i pass at_i.
+      let before = at_same old new i pass same.count at_i in
+      (get_or old i pass, before, whole_new.owns i pass at_i ∙ sym (whole_old.owns i (get_or old i pass) before))
 
 -- the pass that is dealt out
 pub is_dealt : {M N S E R H : Type 0} (object : Object M N S E R H) (n : ℕ) (log : List (Entry E R)) (all : List (List (Entry E R))) (v : View E R) (pass : Pass S N E R) → Dealing n log all v → 0 < length v.owns

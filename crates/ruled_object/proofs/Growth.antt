@@ -1,7 +1,7 @@
 -- Entries of one caller that stand one after the other.
 use Rattle.std.proofs.Common.{◌≡◌, ℕ, suc, ◌+◌, Bool, Option, None, List, [], ◌∷◌, ◌++◌, length, slice_index, refl, sym, ap, ◌∙◌, subst, append_assoc, arith}
 use Rattle.std.specs.List.{AllByRecursion}
-use Rattle.std.proofs.lemmas.List.{length-append}
+use Rattle.std.proofs.lemmas.List.{length-append, map-append}
 use Rattle.ruled_object.proofs.Journals.{by_here}
 use Rattle.sync_model.specs.declared.misuse.Misuse.{Misuse}
 use Rattle.sync_model.specs.declared.answer.Answer.{Answer}
@@ -11,14 +11,10 @@ use Rattle.sync_model.specs.Front.{AtLeast}
 use Rattle.sync_model.specs.Journal.{halt_next, halt_of, by, Rising, state_next, state_after, Right, Follows}
 use Rattle.ruled_object.specs.declared.pass.Pass.{Pass}
 use Rattle.ruled_object.specs.Cells.{deed_of}
-use Rattle.ruled_object.specs.Growth.{Placed, entries_of, Leads, MeetsHalt, IsRight, Grows}
+use Rattle.ruled_object.specs.Growth.{Placed, entries_of, Leads, MeetsHalt, IsRight, Grows, Makes}
 use Rattle.ruled_object.specs.Passes.{number_of, seen_by, own_by, Adds}
 
 module _ {E R : Type 0} where
-  entries-append : (es fs : List (Placed E R)) → entries_of (es ++ fs) ≡ entries_of es ++ entries_of fs
-  entries-append [] fs = refl
-  entries-append (e ∷ es) fs = ap (λ (z : List (Entry E R)). e.entry ∷ z) (entries-append es fs)
-
   leads-append : (seen mid now : List (Entry E R)) (es fs : List (Placed E R)) → Leads seen es mid → Leads mid fs now → Leads seen (es ++ fs) now
   leads-append seen mid now [] fs at_first then_on = subst (λ (z : List (Entry E R)). Leads z fs now) at_first then_on
   leads-append seen mid now (e ∷ es) fs at_first then_on = (at_first.0, at_first.1, leads-append (e.before ++ e.entry ∷ []) mid now es fs at_first.2 then_on)
@@ -79,7 +75,7 @@ module _ {S N E R : Type 0} (next : S → ℕ → E → S × R) (halts : Bool) (
     history = leads-append (seen_by old) (seen_by mid) (seen_by new) es fs at_first.history then_on.history;
     mine =
         then_on.mine
-        ∙ (ap (λ (z : List (Entry E R)). z ++ entries_of fs) at_first.mine ∙ (append_assoc (own_by old) (entries_of es) (entries_of fs) ∙ sym (ap (λ (z : List (Entry E R)). own_by old ++ z) (entries-append es fs))));
+        ∙ (ap (λ (z : List (Entry E R)). z ++ entries_of fs) at_first.mine ∙ (append_assoc (own_by old) (entries_of es) (entries_of fs) ∙ sym (ap (λ (z : List (Entry E R)). own_by old ++ z) (map-append (λ (p : Placed E R). p.entry) es fs))));
     right = right-append next halts start (number_of old) es fs at_first.right (subst (λ (c : ℕ). AllByRecursion (IsRight next halts start c) fs) at_first.number then_on.right);
     fronts = rising-append from between to es fs at_first.fronts then_on.fronts;
     number = then_on.number ∙ at_first.number;
@@ -92,3 +88,12 @@ module _ {S N E R : Type 0} (next : S → ℕ → E → S × R) (halts : Bool) (
       let whole : by (number_of old) front ++ e ∷ [] ≡ own_by old ++ e ∷ [] =
       sym (by_here (number_of old) front e adds.caller) ∙ (ap (λ (z : List (Entry E R)). by (number_of old) z) (sym ends) ∙ (sym adds.all ∙ adds.mine)) in
       (follows_front next halts start None front (e ∷ []) (subst (Follows next halts start None) ends adds.follows), snoc_front (by (number_of old) front) (own_by old) e whole)
+
+  -- what a call shows of the one entry that it adds
+  pub makes_one : (frees takes : E → R → Bool) (old new : Pass S N E R) (e : Entry E R) (event : E) (answer : Answer R) (from to : List ℕ) → Adds next halts frees takes start old e new
+      → number_of new ≡ number_of old → e.deed ≡ deed_of event answer → e.front ≡ to → AtLeast to from → Makes next halts start old from event answer new to
+  makes_one frees takes old new e event answer from to adds number deed front more =
+      let one = grows_one frees takes old new e event answer from to adds number deed front more in
+      let p : Placed E R = one.0 in
+      let known = before_one frees takes old new e p.before adds (one.2.history.2 ∙ ap (λ (x : Entry E R). p.before ++ x ∷ []) one.1) in
+      record { one = p; grows = one.2; deed = ap (λ (x : Entry E R). x.deed) one.1 ∙ deed; halted = one.3; own = sym known.1; follows = known.0 }

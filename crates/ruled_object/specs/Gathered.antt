@@ -21,6 +21,10 @@ module _ {S N E R : Type 0} where
     pub count : length new ≡ length old
     pub each : (i : ℕ) (before after : Pass S N E R) → slice_get old i ≡ Some before → slice_get new i ≡ Some after → SamePass before after
 
+  -- each of these passes has the entries that the same caller's had
+  abbrev pub SameOwn : List (Pass S N E R) → List (Pass S N E R) → Type 0
+  SameOwn old new = (i : ℕ) (pass : Pass S N E R) → slice_get new i ≡ Some pass → (before : Pass S N E R) × (slice_get old i ≡ Some before) × (own_by pass ≡ own_by before)
+
   -- one seat knows all that the first n of these passes knew, and stands for their callers
   pub record Gathered (n : ℕ) (passes : List (Pass S N E R)) (v : View E R) : Type 0 where
     pub stage : v.stage ≡ Idle

@@ -10,6 +10,7 @@ use Rattle.sync_model.specs.Front.{AtLeast}
 use Rattle.sync_model.specs.Journal.{Begins, halt_of, by, KeepsEdges, Rising, state_after, Right, Follows}
 use Rattle.sync_model.specs.Note.{SameHome, Holding}
 use Rattle.ruled_object.specs.declared.pass.Pass.{Pass}
+use Rattle.ruled_object.specs.Cells.{deed_of}
 use Rattle.ruled_object.specs.Passes.{number_of, seen_by, own_by}
 
 -- an entry at its place: the history that stands before it
@@ -54,6 +55,15 @@ pub record Grows {S N E R : Type 0} (next : S → ℕ → E → S × R) (halts :
   pub right : AllByRecursion (IsRight next halts start (number_of old)) es
   pub fronts : Rising from (entries_of es) to
   pub number : number_of new ≡ number_of old
+
+-- The pass's caller made one event, which was answered this. What stands before it follows the machine, and has of the caller what the pass had.
+pub record Makes {S N E R : Type 0} (next : S → ℕ → E → S × R) (halts : Bool) (start : S) (old : Pass S N E R) (from : List ℕ) (event : E) (answer : Answer R) (new : Pass S N E R) (to : List ℕ) : Type 0 where
+  pub one : Placed E R
+  pub grows : Grows next halts start old from (one ∷ []) new to
+  pub deed : one.entry.deed ≡ deed_of event answer
+  pub halted : MeetsHalt (one ∷ []) answer
+  pub own : own_by old ≡ by (number_of old) one.before
+  pub follows : Follows next halts start None one.before
 
 -- What a pass shows of the history follows the machine from its start, keeps the edge law, and has of its caller what the pass has.
 pub record IsLawful {S N E R : Type 0} (next : S → ℕ → E → S × R) (halts : Bool) (frees takes : E → R → Bool) (start : S) (pass : Pass S N E R) : Type 0 where

@@ -4,4 +4,5 @@ pub mod Gathered
 pub mod Growth
 pub mod Passes
 pub mod Rule
+pub mod Standing
 pub mod Steps

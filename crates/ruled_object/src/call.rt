@@ -8,6 +8,7 @@ ghost use Rattle.sync_model.specs.Front.{AtLeast};
 ghost use Rattle.sync_model.specs.Journal.{is_such};
 ghost use Rattle.sync_model.specs.Note.{SameHome};
 ghost use Rattle.ruled_object.specs.Cells.{deed_of};
+ghost use Rattle.ruled_object.specs.Growth.{IsLawful, Makes};
 ghost use Rattle.ruled_object.specs.Passes.{start_of, IsHomeOf, IsPassOf, Adds, SamePass};
 
 use crate::cell::deed;
@@ -36,6 +37,8 @@ impl<M: Machine, N: Note> Object<M, N> {
         requires home { IsHomeOf N.at self.now home.now × N.at home.now note.old }
         ensures pass { IsPassOf self.now pass.new × SamePass pass.old pass.new }
         ensures entry { (e : Entry M.Event M.Reply) × Adds M.next M.HALTS M.frees M.takes (start_of self.now) pass.old e pass.new × (e.deed ≡ deed_of event result) × (e.front ≡ N.front note.new) }
+        ensures makes { Makes M.next M.HALTS (start_of self.now) pass.old (N.front note.old) event result pass.new (N.front note.new) }
+        ensures journal { IsLawful M.next M.HALTS M.frees M.takes (start_of self.now) pass.new }
         ensures note { SameHome N.at note.old note.new × (N.own note.new ≡ N.own note.old) × AtLeast (N.front note.new) (N.front note.old) }
         ensures no_edge { is_such M.takes (deed_of event result) ≡ false → N.front note.new ≡ N.front note.old }
         ensures halts { M.HALTS ≡ false → (m : Misuse) → result ≡ Halted m → ⊥ }

@@ -2,7 +2,7 @@
 ghost use Rattle.std.specs.Prelude.{◌≡◌, ℕ, false, List, None};
 ghost use Rattle.sync_model.specs.declared.journal.Entry.{Entry};
 ghost use Rattle.sync_model.specs.Journal.{halt_of, state_after};
-ghost use Rattle.ruled_object.specs.Gathered.{AreAllPasses, SamePasses, IsWhole, IsSeen};
+ghost use Rattle.ruled_object.specs.Gathered.{AreAllPasses, SamePasses, SameOwn, IsWhole, IsSeen};
 ghost use Rattle.ruled_object.specs.Passes.{start_of};
 
 use crate::cell::Cell;
@@ -20,6 +20,7 @@ impl<M: Machine, N: Note> Object<M, N> {
         ensures passes { AreAllPasses self.now passes.new × SamePasses passes.old passes.new }
         ensures history { (log : List (Entry M.Event M.Reply)) × (result ≡ halt_of log) × IsWhole M.next M.HALTS M.frees M.takes (start_of self.now) log passes.old × IsWhole M.next M.HALTS M.frees M.takes (start_of self.now) log passes.new }
         ensures seen { (log : List (Entry M.Event M.Reply)) × IsSeen M.next M.HALTS M.frees M.takes (start_of self.now) log passes.new }
+        ensures own { SameOwn passes.old passes.new }
         ensures halts { M.HALTS ≡ false → result ≡ None }
     {
         let mut all = self.gather(passes);

@@ -1,6 +1,5 @@
-//! Waiting for a wake-up by another caller of the object. Neither call is an event.
-ghost use Rattle.std.specs.Prelude.{◌<◌};
-ghost use Rattle.ruled_object.specs.Passes.{IsPassOf, callers_of};
+//! Waiting for a wake-up by another caller of the object. No call here is an event.
+ghost use Rattle.ruled_object.specs.Passes.{IsPassOf};
 
 use crate::object::Object;
 use crate::pass::PassOf;
@@ -15,10 +14,19 @@ impl<M: Machine, N: Note> Object<M, N> {
         self.parkers[pass.number as usize].park(rt);
     }
 
-    /// Wakes a caller, or keeps the wake-up for its next `park`.
-    pub fn unpark(&self, caller: u32)
-        requires { caller < callers_of self.now }
-    {
-        self.parkers[caller as usize].unpark();
+    /// Wakes a caller, or keeps the wake-up for its next `park`. A number that is no caller's wakes nobody.
+    pub fn unpark(&self, caller: u32) {
+        if let Some(parker) = self.parkers.get(caller as usize) {
+            parker.unpark();
+        }
+    }
+
+    /// Wakes all callers but this one, each as `unpark` does.
+    pub fn unpark_others(&self, caller: u32) {
+        for (other, parker) in self.parkers.iter().enumerate() {
+            if other != caller as usize {
+                parker.unpark();
+            }
+        }
     }
 }

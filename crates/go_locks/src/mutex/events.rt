@@ -18,8 +18,8 @@ ghost use Rattle.go_locks.specs.MutexCalls.{answer_of};
 ghost use Rattle.go_locks.specs.Mutexes.{mutex_callers, mutex_start, IsHomeOfMutex};
 
 use super::{Mutex, MutexPass};
-use crate::making::make;
 use mutex_core::{Arrival, MutexCore, MutexEvent, MutexReply, Resumption, Unlocking, laws};
+use ruled_object::laws::{growth, journal_is_log};
 use std::sync::Wait;
 use sync_model::{Answer, Misuse, Note};
 
@@ -65,7 +65,9 @@ impl<N: Note> Mutex<N> {
     {
         laws::validity();
         laws::standing();
-        make::<MutexCore, N, R>(&self.object, rt, home, pass, note, event)
+        growth::<MutexCore, N>();
+        journal_is_log::<MutexCore>();
+        self.object.call(rt, home, pass, note, event)
     }
 
     // Wakes the caller that an unlock told to go on, whose number its ticket is, and says whether it was a misuse.
@@ -74,8 +76,9 @@ impl<N: Note> Mutex<N> {
     {
         match reply {
             MutexReply::Unlocked(Unlocking::Misuse(misuse)) => return Err(misuse),
-            MutexReply::Unlocked(Unlocking::Woke(ticket) | Unlocking::Handed(ticket))
-                if ticket < self.callers => { self.object.unpark(ticket) }
+            MutexReply::Unlocked(Unlocking::Woke(ticket) | Unlocking::Handed(ticket)) => {
+                self.object.unpark(ticket)
+            }
             _ => {}
         }
         Ok(())

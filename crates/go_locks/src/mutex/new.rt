@@ -25,6 +25,6 @@ impl<N: Note> Mutex<N> {
     {
         let core = MutexCore::new(alloc, callers)?;
         let (object, passes) = Object::new(alloc, callers, calls, core, note)?;
-        Ok((Mutex { object, callers }, passes))
+        Ok((Mutex { object }, passes))
     }
 }

@@ -18,7 +18,7 @@ ghost use Rattle.go_locks.specs.RwCalls.{answer_of};
 ghost use Rattle.go_locks.specs.RwMutexes.{rw_callers, rw_start, IsHomeOfRwMutex};
 
 use super::{RwMutex, RwPass};
-use crate::making::{make, wake_others};
+use ruled_object::laws::{growth, journal_is_log};
 use rw_core::reply::{Arrival, Resumption, Unlocking};
 use rw_core::{RwCore, RwEvent, RwReply, laws};
 use std::sync::Wait;
@@ -67,7 +67,9 @@ impl<N: Note> RwMutex<N> {
     {
         laws::validity();
         laws::standing();
-        make::<RwCore, N, R>(&self.object, rt, home, pass, note, event)
+        growth::<RwCore, N>();
+        journal_is_log::<RwCore>();
+        self.object.call(rt, home, pass, note, event)
     }
 
     // Wakes all others after an unlock that isn't a misuse, and says whether it was one: whom it granted the lock or
@@ -78,7 +80,7 @@ impl<N: Note> RwMutex<N> {
         if let RwReply::Unlocked(Unlocking::Misuse(misuse)) = reply {
             return Err(misuse);
         }
-        wake_others(&self.object, self.callers, caller);
+        self.object.unpark_others(caller);
         Ok(())
     }
 }

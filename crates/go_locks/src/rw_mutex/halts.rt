@@ -12,7 +12,6 @@ ghost use Rattle.ruled_object.specs.Passes.{Adds, SamePass};
 ghost use Rattle.go_locks.specs.RwMutexes.{RwJournal, rw_start, IsPassOfRwMutex, AreAllOfRwMutex};
 
 use super::{RwMutex, RwPass};
-use crate::making::wake_others;
 use std::sync::Wait;
 use sync_model::{Misuse, Note};
 
@@ -28,7 +27,7 @@ impl<N: Note> RwMutex<N> {
             × (e.deed ≡ Halt misuse) × (e.front ≡ N.front note.now) }
     {
         self.object.halt(rt, pass, note, misuse);
-        wake_others(&self.object, self.callers, pass.number());
+        self.object.unpark_others(pass.number());
     }
 
     /// The misuse of the journal's first halt, and `None` exactly where there is none. It takes all passes, so that no

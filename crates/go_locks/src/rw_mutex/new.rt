@@ -25,6 +25,6 @@ impl<N: Note> RwMutex<N> {
     {
         let core = RwCore::new(alloc, callers)?;
         let (object, passes) = Object::new(alloc, callers, calls, core, note)?;
-        Ok((RwMutex { object, callers }, passes))
+        Ok((RwMutex { object }, passes))
     }
 }

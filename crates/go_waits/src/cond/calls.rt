@@ -33,7 +33,7 @@ impl<N: Note> Cond<N> {
         ensures journal { IsCondLawful self.now pass.new }
     {
         let answer = self.make(rt, at.home, pass, note, NotifyEvent::Signal);
-        self.wake_others(pass.number());
+        self.object.unpark_others(pass.number());
         answer
     }
 
@@ -55,7 +55,7 @@ impl<N: Note> Cond<N> {
         ensures journal { IsCondLawful self.now pass.new }
     {
         let answer = self.make(rt, at.home, pass, note, NotifyEvent::Broadcast);
-        self.wake_others(pass.number());
+        self.object.unpark_others(pass.number());
         answer
     }
 }

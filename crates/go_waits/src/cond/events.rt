@@ -79,13 +79,4 @@ impl<N: Note> Cond<N> {
             Answer::Halted(misuse) => Answer::Halted(misuse),
         }
     }
-
-    // Wakes all callers but this one.
-    pub(super) fn wake_others(&self, caller: u32) {
-        for other in 0..self.callers {
-            if other != caller {
-                self.object.unpark(other);
-            }
-        }
-    }
 }

@@ -25,6 +25,6 @@ impl<N: Note> Cond<N> {
     {
         let core = NotifyCore::new(alloc, callers)?;
         let (object, passes) = Object::new(alloc, callers, calls, core, note)?;
-        Ok((Cond { object, callers }, passes))
+        Ok((Cond { object }, passes))
     }
 }

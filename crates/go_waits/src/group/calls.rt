@@ -39,7 +39,7 @@ impl<N: Note> WaitGroup<N> {
     {
         match self.begin(rt, at.home, pass, note, GroupEvent::Add(delta)) {
             Answer::Done(GroupReply::Done) => {
-                self.wake_others(pass.number());
+                self.object.unpark_others(pass.number());
                 Answer::Done(Ok(()))
             }
             Answer::Done(GroupReply::Misused(misuse)) => Answer::Done(Err(misuse)),

@@ -5,8 +5,8 @@ ghost use Rattle.ruled_object.specs.Cells.{deed_of};
 ghost use Rattle.ruled_object.specs.Growth.{KeepsNote};
 ghost use Rattle.ruled_object.specs.Passes.{left_of, own_by, SamePass};
 ghost use Rattle.ruled_object.specs.Passes as object;
-ghost use Rattle.go_waits.specs.Making.{Makes, IsOneLess};
-ghost use Rattle.go_waits.specs.Standing.{stand_next};
+ghost use Rattle.go_waits.specs.Making.{IsOneLess};
+ghost use Rattle.ruled_object.specs.Standing.{stand_next};
 ghost use Rattle.go_waits.specs.Groups.{GroupMakes, GroupLeaves, IsReleased, Answers, waits_by, IsHomeOf, IsPassOf, IsGroupLawful};
 
 use super::{GroupPass, WaitGroup};
@@ -58,14 +58,5 @@ impl<N: Note> WaitGroup<N> {
     {
         knows_where_it_stands();
         leaving::leave::<GroupCore, N, R>(&self.object, rt, home, pass, note)
-    }
-
-    // Wakes all callers but this one.
-    pub(super) fn wake_others(&self, caller: u32) {
-        for other in 0..self.callers {
-            if other != caller {
-                self.object.unpark(other);
-            }
-        }
     }
 }

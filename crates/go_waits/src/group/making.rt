@@ -30,6 +30,6 @@ impl<N: Note> WaitGroup<N> {
         let mut core = GroupCore::new(alloc, callers)?;
         let _started = core.add(start);
         let (object, passes) = Object::new(alloc, callers, calls, core, note)?;
-        Ok((WaitGroup { object, callers }, passes))
+        Ok((WaitGroup { object }, passes))
     }
 }

@@ -19,8 +19,7 @@ use sync_outside::{At, Clock};
 use wait_cores::{OnceCore, OnceReply};
 
 impl<T: Copy, N: Note> Once<T, N> {
-    /// Comes to have the function run. The first caller is to run it, and has to `end` it; each other one waits for that end,
-    /// also where the caller itself runs the function.
+    /// Comes to have the function run. The first caller is to run it, and has to `end` it; each other one waits for that end.
     ///
     /// The end synchronizes before the return of each call that finds the function ended.
     pub fn begin<C: Clock, R: Wait>(
@@ -72,7 +71,7 @@ impl<T: Copy, N: Note> Once<T, N> {
         let Running { caller } = running;
         match self.finish(rt, at.home, pass, note, kept) {
             Answer::Done(OnceReply::Ended) => {
-                self.wake_others(caller);
+                self.object.unpark_others(caller);
                 Answer::Done(())
             }
             Answer::Done(_) => unreachable!(),

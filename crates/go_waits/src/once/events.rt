@@ -65,7 +65,7 @@ impl<T: Copy, N: Note> Once<T, N> {
         knows_where_it_stands::<T>();
         journal_is_log::<OnceCore<T>>();
         runs_once::<T>();
-        making::make::<OnceCore<T>, N, R>(&self.object, rt, home, pass, note, OnceEvent::End(kept))
+        self.object.call(rt, home, pass, note, OnceEvent::End(kept))
     }
 
     // Sleeps until the caller is released, and leaves.
@@ -92,14 +92,5 @@ impl<T: Copy, N: Note> Once<T, N> {
         journal_is_log::<OnceCore<T>>();
         runs_once::<T>();
         leaving::leave::<OnceCore<T>, N, R>(&self.object, rt, home, pass, note)
-    }
-
-    // Wakes all callers but this one.
-    pub(super) fn wake_others(&self, caller: u32) {
-        for other in 0..self.callers {
-            if other != caller {
-                self.object.unpark(other);
-            }
-        }
     }
 }

@@ -4,7 +4,7 @@ ghost use Rattle.sync_model.specs.declared.journal.Deed.TheVariants.{Halt};
 ghost use Rattle.sync_model.specs.Journal.{halt_of};
 ghost use Rattle.ruled_object.specs.Gathered.{SamePasses};
 ghost use Rattle.ruled_object.specs.Passes.{SamePass};
-ghost use Rattle.go_waits.specs.Onces.{OnceJournal, OnceMade, OnceHalts, AreAllPasses, IsPassOf, IsOnceWhole};
+ghost use Rattle.go_waits.specs.Onces.{OnceJournal, OnceMade, OnceHalts, AreAllPasses, IsPassOf, IsOnceWhole, IsOnceSeen};
 
 use super::{Once, OncePass};
 use std::sync::Wait;
@@ -19,7 +19,7 @@ impl<T: Copy, N: Note> Once<T, N> {
         ensures entry { (e : OnceMade T) × OnceHalts self.now pass.old e pass.new × (e.deed ≡ Halt misuse) × (e.front ≡ N.front note.now) }
     {
         self.object.halt(rt, pass, note, misuse);
-        self.wake_others(pass.number());
+        self.object.unpark_others(pass.number());
     }
 
     /// The misuse of the first halt, and `None` exactly where there was none. It takes all passes, so that no call is under
@@ -28,6 +28,7 @@ impl<T: Copy, N: Note> Once<T, N> {
         requires { AreAllPasses self.now passes.old }
         ensures passes { AreAllPasses self.now passes.new × SamePasses passes.old passes.new }
         ensures history { (journal : OnceJournal T) × (result ≡ halt_of journal) × IsOnceWhole self.now journal passes.old × IsOnceWhole self.now journal passes.new }
+        ensures seen { (journal : OnceJournal T) × IsOnceSeen self.now journal passes.new }
     {
         self.object.first_halt(passes)
     }

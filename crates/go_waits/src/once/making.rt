@@ -25,6 +25,6 @@ impl<T: Copy, N: Note> Once<T, N> {
     {
         let core = OnceCore::new(alloc, callers)?;
         let (object, passes) = Object::new(alloc, callers, calls, core, note)?;
-        Ok((Once { object, callers }, passes))
+        Ok((Once { object }, passes))
     }
 }

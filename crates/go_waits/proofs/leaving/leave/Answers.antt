@@ -1,7 +1,7 @@
 use Rattle.std.proofs.Common.{◌≡◌, refl, subst, ◌∙◌, arith}
 use Rattle.sync_model.specs.declared.answer.Answer.TheVariants.{Done, Halted}
 use Rattle.ruled_object.specs.Passes.{start_of}
-use Rattle.go_waits.specs.Making.{Makes}
+use Rattle.ruled_object.specs.Growth.{Makes}
 use Rattle.go_waits.proofs.Adding.{keeps_both, tried_none, tries_on, leaves_then}
 use Rattle.go_waits.proofs.leaving.leave.Goals as goal
 
@@ -20,16 +20,16 @@ returns-in-Halted-clause-events g c =
     let m = g.M.Machine in
     let front = g.N.Note.front in
     let start = start_of c.args.object.now in
-    let made = subst (λ e. Makes m.next m.HALTS start c.loop.pass (front c.loop.note) e (Halted c.in-Halted.misuse) c.make.new.pass (front c.make.new.note)) c.leaving.ensures c.in-Halted.ensures.event in
-    leaves_then m.next m.HALTS start (c.growth.ensures.both start) c.args.pass.now c.loop.pass c.make.new.pass (front c.args.note.now) (front c.loop.note) (front c.make.new.note) g.M.Waited.leaving g.M.Waited.still c.loop.invariant.tried (Halted c.in-Halted.misuse) made
+    let made = subst (λ e. Makes m.next m.HALTS start c.loop.pass (front c.loop.note) e (Halted c.in-Halted.misuse) c.call.new.pass (front c.call.new.note)) c.leaving.ensures c.in-Halted.ensures.makes in
+    leaves_then m.next m.HALTS start (c.growth.ensures.both start) c.args.pass.now c.loop.pass c.call.new.pass (front c.args.note.now) (front c.loop.note) (front c.call.new.note) g.M.Waited.leaving g.M.Waited.still c.loop.invariant.tried (Halted c.in-Halted.misuse) made
 
 pub returns-then-not-is_still-clause-events : goal.returns-then-not-is_still-clause-events
 returns-then-not-is_still-clause-events g c =
     let m = g.M.Machine in
     let front = g.N.Note.front in
     let start = start_of c.args.object.now in
-    let made = subst (λ e. Makes m.next m.HALTS start c.loop.pass (front c.loop.note) e (Done c.in-Done.reply) c.make.new.pass (front c.make.new.note)) c.leaving.ensures c.in-Done.ensures.event in
-    leaves_then m.next m.HALTS start (c.growth.ensures.both start) c.args.pass.now c.loop.pass c.make.new.pass (front c.args.note.now) (front c.loop.note) (front c.make.new.note) g.M.Waited.leaving g.M.Waited.still c.loop.invariant.tried (Done c.in-Done.reply) made
+    let made = subst (λ e. Makes m.next m.HALTS start c.loop.pass (front c.loop.note) e (Done c.in-Done.reply) c.call.new.pass (front c.call.new.note)) c.leaving.ensures c.in-Done.ensures.makes in
+    leaves_then m.next m.HALTS start (c.growth.ensures.both start) c.args.pass.now c.loop.pass c.call.new.pass (front c.args.note.now) (front c.loop.note) (front c.call.new.note) g.M.Waited.leaving g.M.Waited.still c.loop.invariant.tried (Done c.in-Done.reply) made
 
 pub loop-preserved : goal.loop-preserved
 loop-preserved g c =
@@ -38,15 +38,15 @@ loop-preserved g c =
     let front = n.front in
     let start = start_of c.args.object.now in
     let reply : c.in-Done.reply ≡ g.M.Waited.still = c.if-not-is_still.ensures in
-    let made = subst (λ e. Makes m.next m.HALTS start c.loop.pass (front c.loop.note) e (Done c.in-Done.reply) c.make.new.pass (front c.make.new.note)) c.leaving.ensures c.in-Done.ensures.event in
-    let still = subst (λ r. Makes m.next m.HALTS start c.loop.pass (front c.loop.note) g.M.Waited.leaving (Done r) c.make.new.pass (front c.make.new.note)) reply made in
+    let made = subst (λ e. Makes m.next m.HALTS start c.loop.pass (front c.loop.note) e (Done c.in-Done.reply) c.call.new.pass (front c.call.new.note)) c.leaving.ensures c.in-Done.ensures.makes in
+    let still = subst (λ r. Makes m.next m.HALTS start c.loop.pass (front c.loop.note) g.M.Waited.leaving (Done r) c.call.new.pass (front c.call.new.note)) reply made in
     let before = c.loop.invariant.same in
-    let same = c.make.ensures.pass.1 in
+    let same = c.call.ensures.pass.1 in
     record {
       can = tt;
       ends = tt;
-      is = c.make.ensures.pass.0;
+      is = c.call.ensures.pass.0;
       same = (same.0 ∙ before.0, same.1 ∙ before.1);
-      note = keeps_both n.at n.own n.front c.args.note.now c.loop.note c.make.new.note c.loop.invariant.note c.make.ensures.note;
-      tried = tries_on m.next m.HALTS start (c.growth.ensures.both start) c.args.pass.now c.loop.pass c.make.new.pass (front c.args.note.now) (front c.loop.note) (front c.make.new.note) g.M.Waited.leaving g.M.Waited.still c.loop.invariant.tried still;
+      note = keeps_both n.at n.own n.front c.args.note.now c.loop.note c.call.new.note c.loop.invariant.note record { home = c.call.ensures.note.0; kept = c.call.ensures.note.1; rises = c.call.ensures.note.2 };
+      tried = tries_on m.next m.HALTS start (c.growth.ensures.both start) c.args.pass.now c.loop.pass c.call.new.pass (front c.args.note.now) (front c.loop.note) (front c.call.new.note) g.M.Waited.leaving g.M.Waited.still c.loop.invariant.tried still;
     }

@@ -9,13 +9,13 @@ returns-clause-event g c =
     let start = start_of c.args.object.now in
     let old = c.args.pass.now in
     let mid = c.spend.new.self in
-    let new = c.make.new.pass in
+    let new = c.call.new.pass in
     let from = front c.args.note.now in
-    let made = c.make.ensures.event in
+    let made = c.call.ensures.makes in
     let same = c.spend.ensures.1 in
     record {
       one = made.one;
-      grows = c.growth.ensures.both start old mid new [] (made.one ∷ []) from from (front c.make.new.note) (c.growth.ensures.nothing start old mid from c.spend.ensures) made.grows;
+      grows = c.growth.ensures.both start old mid new [] (made.one ∷ []) from from (front c.call.new.note) (c.growth.ensures.nothing start old mid from c.spend.ensures) made.grows;
       deed = made.deed;
       halted = made.halted;
       own = sym (ap own_by same) ∙ (made.own ∙ ap (λ (n : ℕ). by n made.one.before) (ap number_of same));

@@ -1,9 +1,10 @@
-use Rattle.std.proofs.Common.{ap, sym, subst, ◌∙◌, ◌<◌, true}
+use Rattle.std.proofs.Common.{[], ◌∷◌, ap, sym, subst, ◌∙◌, true}
 use Rattle.sync_model.specs.Journal.{halt_of, is_such, state_after, Right}
 use Rattle.rw_core.specs.Edges.{acquires}
 use Rattle.rw_core.specs.RwMachine.{next}
 use Rattle.ruled_object.specs.Cells.{deed_of}
-use Rattle.ruled_object.specs.Passes.{number_of, own_by, start_of}
+use Rattle.ruled_object.specs.Passes.{number_of, own_by, callers_of, start_of}
+use Rattle.go_locks.proofs.Spelling.{meets-snoc}
 use Rattle.go_locks.proofs.RwStanding.{Stands, answers_any, answers_out}
 use Rattle.go_locks.proofs.rw_mutex.RwMutex.event.Goals as goal
 
@@ -12,26 +13,42 @@ returns-clause-out g c reply is free needed =
     let mutex = c.args.self.now in
     let begin = start_of mutex.object in
     let pass = c.args.pass.now in
-    let made = c.make.ensures.entry in
-    let p = made.0 in
+    let made = c.call.ensures.makes in
+    let p = made.one in
     let event = c.args.event in
-    let right = subst (λ d. Right next true (state_after next begin p.before) (halt_of p.before) (number_of pass) d) (made.2 ∙ ap (λ a. deed_of event a) is) made.1.right.0.1 in
-    let laws : Stands mutex.callers begin = subst (Stands mutex.callers) (sym mutex.begins) (record { answered = c.standing.ensures.answered; out = c.standing.ensures.out mutex.callers; callers = c.validity.ensures.callers mutex.callers }) in
-    answers_out mutex.callers (number_of pass) begin p.before (own_by pass) event reply laws (subst (λ n. number_of pass < n) mutex.sized c.requires.pass.caller) made.5 made.6 made.7 made.4 right free needed
+    let right = subst (λ d. Right next true (state_after next begin p.before) (halt_of p.before) (number_of pass) d) (made.deed ∙ ap (λ a. deed_of event a) is) made.grows.right.0.1 in
+    let logged = c.journal_is_log.ensures begin p.before made.follows in
+    let callers = callers_of mutex.object in
+    let laws : Stands callers begin = subst (Stands callers) (sym mutex.begins) (record { answered = c.standing.ensures.answered; out = c.standing.ensures.out callers; callers = c.validity.ensures.callers callers }) in
+    answers_out callers (number_of pass) begin p.before (own_by pass) event reply laws c.requires.pass.caller made.follows logged.0 logged.1 made.own right free needed
 
 pub returns-clause-answered : goal.returns-clause-answered
 returns-clause-answered g c reply is =
     let begin = start_of c.args.self.now.object in
     let pass = c.args.pass.now in
-    let made = c.make.ensures.entry in
-    let p = made.0 in
+    let made = c.call.ensures.makes in
+    let p = made.one in
     let event = c.args.event in
     let s = state_after next begin p.before in
-    let right = subst (λ d. Right next true s (halt_of p.before) (number_of pass) d) (made.2 ∙ ap (λ a. deed_of event a) is) made.1.right.0.1 in
+    let right = subst (λ d. Right next true s (halt_of p.before) (number_of pass) d) (made.deed ∙ ap (λ a. deed_of event a) is) made.grows.right.0.1 in
     answers_any (number_of pass) s event reply (c.standing.ensures.answered s (number_of pass) event) (c.standing.ensures.still s (number_of pass) event) right.1
 
+pub returns-clause-entry : goal.returns-clause-entry
+returns-clause-entry g c =
+    let front = g.N.Note.front in
+    let made = c.call.ensures.makes in
+    let p = made.one in (
+      p,
+      made.grows,
+      made.deed,
+      (λ first from es grows. (
+        c.growth.ensures.both (start_of c.args.self.now.object) first c.args.pass.now c.call.new.pass es (p ∷ []) from (front c.args.note.now) (front c.call.new.note) grows made.grows,
+        meets-snoc es p c.call.result made.halted,
+      )),
+    )
+
 pub returns-clause-halted : goal.returns-clause-halted
-returns-clause-halted g c misuse is = c.make.ensures.no_edge (ap (λ a. is_such (λ event reply. acquires reply) (deed_of c.args.event a)) is)
+returns-clause-halted g c misuse is = c.call.ensures.no_edge (ap (λ a. is_such (λ event reply. acquires reply) (deed_of c.args.event a)) is)
 
 pub returns-clause-no_edge : goal.returns-clause-no_edge
-returns-clause-no_edge g c reply is none = c.make.ensures.no_edge (ap (λ a. is_such (λ event reply. acquires reply) (deed_of c.args.event a)) is ∙ none)
+returns-clause-no_edge g c reply is none = c.call.ensures.no_edge (ap (λ a. is_such (λ event reply. acquires reply) (deed_of c.args.event a)) is ∙ none)

@@ -13,6 +13,6 @@ returns-clause-answers g c =
     let begin = start_of cond.object in
     let made = c.begin.ensures.event in
     let law = c.answers_its_callers.ensures in
-    let below : number_of pass < callers_of begin = subst (λ (n : ℕ). number_of pass < n) (cond.sized ∙ sym (ap callers_of cond.begins ∙ length-replicate _ _)) c.requires.pass.0.caller in
+    let below : number_of pass < callers_of begin = subst (λ (n : ℕ). number_of pass < n) (sym (ap callers_of cond.begins ∙ length-replicate _ _)) c.requires.pass.0.caller in
     let right = subst (λ d. Right next true (state_after next begin made.one.before) (halt_of made.one.before) (number_of pass) d) made.deed made.grows.right.0.1 in
     answers_mine law.answers law.callers begin (number_of pass) made.one.before c.args.event c.begin.result below right

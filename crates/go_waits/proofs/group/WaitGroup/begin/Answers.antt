@@ -4,9 +4,9 @@ use Rattle.std.proofs.lemmas.List.{length-replicate}
 use Rattle.sync_model.specs.Journal.{halt_of, state_after, Right}
 use Rattle.wait_cores.specs.GroupMachine.{next}
 use Rattle.wait_cores.specs.GroupStanding.{waits_at, waits_after}
-use Rattle.ruled_object.specs.Passes.{number_of, own_by, start_of}
+use Rattle.ruled_object.specs.Passes.{number_of, own_by, callers_of, start_of}
 use Rattle.go_waits.specs.Groups.{Answers, waits_by}
-use Rattle.go_waits.specs.Standing.{stand_next}
+use Rattle.ruled_object.specs.Standing.{stand_next}
 use Rattle.go_waits.proofs.GroupAnswers.{answers_mine, waits_then}
 use Rattle.go_waits.proofs.group.WaitGroup.begin.Goals as goal
 
@@ -18,8 +18,8 @@ returns-clause-answers g c =
     let made = c.begin.ensures.event in
     let event = c.args.event in
     let law = c.knows_where_it_stands.ensures in
-    let below : number_of pass < length begin.places = subst (λ (n : ℕ). number_of pass < n) (group.sized ∙ sym (ap length group.begins ∙ length-replicate _ _)) c.requires.pass.0.of.caller in
-    let out : waits_at begin (number_of pass) ≡ false = ap (λ (ps : _). waits_at (record { counter = begin.counter; places = ps }) (number_of pass)) group.begins ∙ law.first group.callers (number_of pass) in
+    let below : number_of pass < length begin.places = subst (λ (n : ℕ). number_of pass < n) (sym (ap length group.begins ∙ length-replicate _ _)) c.requires.pass.0.of.caller in
+    let out : waits_at begin (number_of pass) ≡ false = ap (λ (ps : _). waits_at (record { counter = begin.counter; places = ps }) (number_of pass)) group.begins ∙ law.first (callers_of group.object) (number_of pass) in
     let right = subst (λ d. Right next true (state_after next begin made.one.before) (halt_of made.one.before) (number_of pass) d) made.deed made.grows.right.0.1 in
     let mine = answers_mine (record { own = law.own; others = law.others; answers = law.answers; callers = law.callers }) begin (number_of pass) made.one.before (own_by pass) event c.begin.result below out made.follows made.own right in
     subst (λ (w : Bool). Answers w event c.begin.result) c.requires.pass.0.between mine

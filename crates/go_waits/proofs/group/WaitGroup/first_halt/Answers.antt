@@ -1,9 +1,5 @@
-use Rattle.std.proofs.Common.{true, ap, ◌∙◌}
-use Rattle.wait_cores.specs.GroupEdges.{group_releases, group_acquires}
-use Rattle.wait_cores.specs.GroupMachine.{next}
-use Rattle.ruled_object.specs.Passes.{start_of}
+use Rattle.std.proofs.Common.{ap, ◌∙◌}
 use Rattle.go_waits.specs.Groups.{waits_by}
-use Rattle.go_waits.proofs.Gathering.{same_own}
 use Rattle.go_waits.proofs.group.WaitGroup.first_halt.Goals as goal
 
 pub first_halt-requires : goal.first_halt-requires
@@ -11,14 +7,11 @@ first_halt-requires g c = record { count = c.requires.count; each = λ i pass is
 
 pub returns-clause-passes : goal.returns-clause-passes
 returns-clause-passes g c =
-    let all = c.first_halt.ensures.passes in
-    let history = c.first_halt.ensures.history in
-    let old = c.args.passes.now in
-    let new = c.first_halt.new.passes in (
+    let all = c.first_halt.ensures.passes in (
       record {
         count = all.0.count;
         each = λ i pass is.
-            let same = same_own next true group_releases group_acquires (start_of c.args.self.now.object) history.0 old new all.1 history.2 history.3 i pass is in
+            let same = c.first_halt.ensures.own i pass is in
             (record { of = (all.0.each i pass is).0; between = ap waits_by same.2 ∙ (c.requires.each i same.0 same.1).0.between }, (all.0.each i pass is).1);
       },
       all.1,

@@ -2,7 +2,7 @@ use Rattle.std.proofs.Common.{false, ap, ◌∙◌}
 use Rattle.wait_cores.specs.GroupStanding.{waits_after}
 use Rattle.ruled_object.specs.Passes.{own_by}
 use Rattle.go_waits.specs.Groups.{waits_by}
-use Rattle.go_waits.specs.Standing.{stand_next}
+use Rattle.ruled_object.specs.Standing.{stand_next}
 use Rattle.go_waits.proofs.StandingLemmas.{stand-snoc}
 use Rattle.go_waits.proofs.group.WaitGroup.halt.Goals as goal
 

@@ -9,7 +9,7 @@ use Rattle.ruled_object.specs.Cells.{deed_of}
 use Rattle.ruled_object.specs.Growth.{entries_of}
 use Rattle.ruled_object.specs.Passes.{number_of, own_by, start_of}
 use Rattle.go_waits.specs.Groups.{waits_by}
-use Rattle.go_waits.specs.Standing.{stand_next}
+use Rattle.ruled_object.specs.Standing.{stand_next}
 use Rattle.go_waits.proofs.GroupAnswers.{answers_here, released_by, waits_then, out_after}
 use Rattle.go_waits.proofs.group.WaitGroup.leave.Goals as goal
 
@@ -20,7 +20,7 @@ returns-clause-released g c =
     let begin = start_of group.object in
     let left = c.leave.ensures.events in
     let law = c.knows_where_it_stands.ensures in
-    let below : number_of pass < length begin.places = subst (λ (n : ℕ). number_of pass < n) (group.sized ∙ sym (ap length group.begins ∙ length-replicate _ _)) c.requires.pass.caller in
+    let below : number_of pass < length begin.places = subst (λ (n : ℕ). number_of pass < n) (sym (ap length group.begins ∙ length-replicate _ _)) c.requires.pass.caller in
     let before = left.last.before in
     let waits = waits_at (state_after next begin before) (number_of pass) in
     released_by waits c.leave.result c.leave.ensures.released

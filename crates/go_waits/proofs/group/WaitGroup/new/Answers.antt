@@ -1,8 +1,9 @@
-use Rattle.std.proofs.Common.{◌≡◌, ℕ, ◌<◌, ◌≤◌, ap, ◌∙◌, subst, arith}
-use Rattle.std.specs.Prelude.{ℤ, pos, ◌≤ℤ◌}
+use Rattle.std.proofs.Common.{◌≡◌, ℕ, ◌<◌, ◌≤◌, ap, sym, ◌∙◌, subst, arith}
+use Rattle.std.specs.Prelude.{ℤ, pos, ◌≤ℤ◌, replicate}
 use Rattle.std.proofs.Common.{w32}
 use Rattle.std.proofs.lemmas.Int.{to_z-of_z}
 use Rattle.wait_cores.specs.declared.group.GroupEvent.TheVariants.{Add}
+use Rattle.wait_cores.specs.declared.group.GroupPlace.TheVariants.{Out}
 use Rattle.wait_cores.specs.declared.group.GroupReply.{GroupReply}
 use Rattle.wait_cores.specs.GroupMachine.{GroupState, start, next, callers_of}
 use Rattle.go_waits.specs.Groups.{IsBegun, waits_by}
@@ -19,7 +20,7 @@ pub invariant_of-result : goal.invariant_of-result
 invariant_of-result g c =
     let at = begun c.args.callers c.args.start c.in_ok-core.core c.add-started.new.self _ c.requires.start.0 c.requires.start.1 c.requires.callers.0 c.in_ok-core.ensures.start c.in_ok-core.ensures.callers _ (to_z-of_z w32 c.args.start c.ranges.start) c.add-started.ensures.step in
     let object = c.in_ok-object.ensures.object in
-    record { sized = object.0; begins = ap (λ (s : GroupState). s.places) object.1 ∙ at.1 }
+    record { begins = ap (λ (s : GroupState). s.places) object.1 ∙ (at.1 ∙ ap (λ (n : ℕ). replicate n Out) (sym object.0)) }
 
 pub returns-clause-group : goal.returns-clause-group
 returns-clause-group g c =

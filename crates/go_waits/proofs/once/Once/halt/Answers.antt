@@ -1,7 +1,7 @@
 use Rattle.std.proofs.Common.{◌≡◌, false, ap, ◌∙◌}
 use Rattle.ruled_object.specs.Passes.{own_by}
 use Rattle.go_waits.specs.Onces.{waits_by, runs_by}
-use Rattle.go_waits.specs.Standing.{stand_next}
+use Rattle.ruled_object.specs.Standing.{stand_next}
 use Rattle.go_waits.proofs.OnceAnswers.{waits_on, runs_on}
 use Rattle.go_waits.proofs.StandingLemmas.{stand-snoc}
 use Rattle.go_waits.proofs.once.Once.halt.Goals as goal

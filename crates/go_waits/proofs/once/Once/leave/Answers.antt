@@ -8,8 +8,9 @@ use Rattle.wait_cores.specs.OnceStanding.{waits_at, runs_at}
 use Rattle.ruled_object.specs.Cells.{deed_of}
 use Rattle.ruled_object.specs.Growth.{entries_of}
 use Rattle.ruled_object.specs.Passes.{number_of, own_by, seen_by, start_of}
+use Rattle.ruled_object.specs.Passes as object
 use Rattle.go_waits.specs.Onces.{waits_by, runs_by}
-use Rattle.go_waits.specs.Standing.{stand_next}
+use Rattle.ruled_object.specs.Standing.{stand_next}
 use Rattle.go_waits.proofs.OnceAnswers.{Knows, answers_here, released_by, stands_then, out_after, idle_after, idle_trying, waits_on, runs_on}
 use Rattle.go_waits.proofs.once.Once.leave.Goals as goal
 
@@ -20,7 +21,7 @@ returns-clause-released g c =
     let begin = start_of once.object in
     let left = c.leave.ensures.events in
     let law = c.knows_where_it_stands.ensures in
-    let below : number_of pass < callers_of begin = subst (λ (n : ℕ). number_of pass < n) (once.sized ∙ sym (ap callers_of once.begins ∙ length-replicate _ _)) c.requires.pass.caller in
+    let below : number_of pass < callers_of begin = subst (λ (n : ℕ). number_of pass < n) (sym (ap callers_of once.begins ∙ length-replicate _ _)) c.requires.pass.caller in
     let before = left.last.before in
     let knows : Knows _ = record { own_wait = law.own_wait; own_run = law.own_run; others_wait = law.others_wait; others_run = law.others_run; answers = law.answers; callers = law.callers } in
     released_by (waits_at (state_after next begin before) (number_of pass)) (runs_at (state_after next begin before) (number_of pass)) c.leave.result c.leave.ensures.released
@@ -50,4 +51,4 @@ returns-clause-once g c =
     let once = c.args.self.now in
     let seen = seen_by c.leave.new.pass in
     let follows = (c.journal_is_log.ensures (start_of once.object) seen c.leave.ensures.journal.follows).0 in
-    c.runs_once.ensures.begun once.callers (log_of seen) (subst (λ s. log.Follows next s (log_of seen)) once.begins follows)
+    c.runs_once.ensures.begun (object.callers_of once.object) (log_of seen) (subst (λ s. log.Follows next s (log_of seen)) once.begins follows)

@@ -3,6 +3,7 @@ use Rattle.sync_model.specs.Journal.{Right}
 use Rattle.ruled_object.specs.Cells.{deed_of, Acts}
 use Rattle.ruled_object.specs.Steps.{gave, MayAdd}
 use Rattle.ruled_object.proofs.Calls.{entry, may_add, adds}
+use Rattle.ruled_object.proofs.Growth.{makes_one}
 use Rattle.ruled_object.proofs.Journals.{never_halted}
 use Rattle.ruled_object.proofs.object.Object.call.Goals as goal
 
@@ -43,6 +44,18 @@ returns-clause-entry g c =
       c.deed-deed.ensures,
       refl,
     )
+
+pub returns-clause-makes : goal.returns-clause-makes
+returns-clause-makes g c =
+    let m = g.M.Machine in
+    let n = g.N.Note in
+    let pass = c.args.pass.now in
+    let added = returns-clause-entry g c in
+    makes_one m.next m.HALTS c.args.self.now.table.shared.key.state m.frees m.takes pass record { number = pass.number; left = pass.left; seat = c.give_entry.new.seat } added.0 c.args.event c.apply-answer.result (n.front c.args.note.now) (n.front c.apply-answer.new.note) added.1
+    refl added.2 added.3 c.apply-answer.ensures.note.1
+
+pub returns-clause-journal : goal.returns-clause-journal
+returns-clause-journal g c = let adds = (returns-clause-entry g c).1 in record { own = adds.all; follows = adds.follows; edges = adds.edges }
 
 pub returns-clause-halts : goal.returns-clause-halts
 returns-clause-halts g c never misuse is =

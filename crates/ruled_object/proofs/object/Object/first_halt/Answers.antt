@@ -1,7 +1,7 @@
 use Rattle.std.proofs.Common.{None, ap, ◌∙◌, subst}
 use Rattle.ruled_object.specs.Gathered.{IsDealt}
 use Rattle.ruled_object.specs.Steps.{gave}
-use Rattle.ruled_object.proofs.Gathering.{same_through, still_numbered, whole, whole_again, seen_again}
+use Rattle.ruled_object.proofs.Gathering.{same_through, same_own, still_numbered, whole, whole_again, seen_again}
 use Rattle.ruled_object.proofs.Journals.{never_halted}
 use Rattle.ruled_object.proofs.object.Object.first_halt.Goals as goal
 
@@ -50,6 +50,12 @@ returns-clause-seen g c =
       seen_again m.next m.HALTS m.frees m.takes n.front n.at begin object passes v log cell count c.gather-all.ensures.gathered.number
           (λ i pass at_i. subst (λ w. IsDealt object i w.seen w.owns pass) is (c.deal_out.ensures.dealt i pass at_i)) learned.2,
     )
+
+pub returns-clause-own : goal.returns-clause-own
+returns-clause-own g c =
+    let m = g.M.Machine in
+    let history = returns-clause-history g c in
+    same_own m.next m.HALTS m.frees m.takes c.args.self.now.table.shared.key.state history.0 c.args.passes.now c.deal_out.new.passes (returns-clause-passes g c).1 history.2 history.3
 
 pub returns-clause-halts : goal.returns-clause-halts
 returns-clause-halts g c never =
