@@ -1,5 +1,5 @@
 -- The atomics of a run stay in their types' ranges.
-use Rattle.std.proofs.Common.{◌≡◌, ℕ, List}
+use Rattle.std.proofs.Common.{ℕ, List}
 use Rattle.sync_model.specs.declared.call.Call.{Call}
 use Rattle.workload.specs.declared.object.ObjectKind.{ObjectKind}
 use Rattle.workload.specs.declared.turn.Turn.{Turn}

@@ -1,8 +1,7 @@
 -- Each turn moves a machine by events of a log that follows it.
-use Rattle.std.proofs.Common.{◌≡◌, ℕ, zero, suc, ◌+◌, ◌*◌, ◌==◌, Bool, true, false, cond, List, [], ◌∷◌, set, Option, Some, None, refl, subst, arith}
-use Rattle.std.specs.Prelude.{ℤ, negsuc, pos, slice_get}
+use Rattle.std.proofs.Common.{ℕ, ◌*◌, ◌==◌, Bool, true, false, cond, List, [], ◌∷◌, set, Option, Some, None, refl, subst}
+use Rattle.std.specs.Prelude.{ℤ, negsuc, pos}
 use Rattle.std.specs.Int.{w64, int_wrapping_add}
-use Rattle.std.specs.Option.{option_map_or}
 use Rattle.sync_model.specs.Log.{Entry, entry, after, Follows}
 use Rattle.sync_model.specs.declared.atomic_object.Number.{Number}
 use Rattle.sync_model.specs.declared.atomic_object.Number.TheVariants.{Int64}

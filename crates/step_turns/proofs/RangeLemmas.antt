@@ -24,7 +24,6 @@ use Rattle.workload.specs.declared.object.ObjectKind.{ObjectKind}
 use Rattle.workload.specs.declared.object.ObjectKind.TheVariants as kinds
 use Rattle.workload.specs.Plan.{object_of, has_call}
 use Rattle.step_turns.specs.declared.answer.Answer.{Answer}
-use Rattle.step_turns.specs.declared.answer.Answer.TheVariants as answers
 use Rattle.step_turns.specs.declared.object_state.ObjectState.{ObjectState}
 use Rattle.step_turns.specs.declared.object_state.ObjectState.TheVariants as states
 use Rattle.step_turns.specs.AtomicRange.{IsInRange}

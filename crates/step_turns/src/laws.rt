@@ -39,8 +39,8 @@ pub fn turns_keep_kinds_and_machines()
     wait_cores::laws::pool::keeps_its_parts();
 }
 
-/// A turn without an event changes no object, one that completes its call raises what is left to do at the
-/// objects by less than 4, and any other event lowers it.
+/// A turn without an event changes no object. One that completes its call raises what is left to do at the
+/// objects by less than 4, and one after which the call goes on lowers it; of a misuse nothing is said.
 pub fn turns_use_something_up()
     ensures { (workers worker moment : ℕ) (call : Call) (objects : List ObjectState) → IsReady workers worker call objects
         → UsesBy (sum_by object_left objects) (sum_by object_left (turn_at call worker moment objects).0) ((turn_at call worker moment objects).0 ≡ objects) (turn_at call worker moment objects).1 }
@@ -61,8 +61,8 @@ pub fn some_calls_never_wait()
     ensures { (workers worker moment : ℕ) (call : Call) (objects : List ObjectState) → never_waits call ≡ true → IsReady workers worker call objects → IsCompleted (turn_at call worker moment objects).1 }
 {}
 
-/// An object that is a machine begins in a state that its machine reaches from its start by the events of a
-/// log, and each turn goes on with such a log. The room of a pool's parts may differ from place to place.
+/// An object that is a machine begins in a state that the machine reaches from its start by the events of a
+/// log, and a turn leaves it in such a state. The room of a pool's parts may differ from place to place.
 pub fn turns_follow_the_machines()
     ensures begins { (workers room : ℕ) (kind : ObjectKind) → FollowsItsMachine workers room (new_object workers room kind) }
     ensures goes_on { (workers worker moment : ℕ) (room : ℕ → ℕ) (call : Call) (objects : List ObjectState) → EachAt (λ place. FollowsItsMachine workers (room place)) objects
