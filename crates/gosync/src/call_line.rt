@@ -1,7 +1,7 @@
 //! The line of a completed call: `WORKER.INDEX CALL -> REPLY`.
 ghost use Rattle.std.specs.Prelude.{◌≡◌, ◌≤◌, true, vec_capacity};
 ghost use Rattle.workload.specs.declared.limits.TheConstants.{MAX_KEYS};
-ghost use Rattle.step_runner.specs.Pairs.{has_pairs_to};
+ghost use Rattle.step_turns.specs.Pairs.{has_pairs_to};
 ghost use Rattle.gosync.specs.ReportText.{call_line};
 
 use crate::call_words::push_call;

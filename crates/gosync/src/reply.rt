@@ -1,7 +1,7 @@
 //! A reply in a line of the report.
 ghost use Rattle.std.specs.Prelude.{◌≡◌, ◌+◌, ◌*◌, ◌≤◌, ◌++◌, true, length, map, vec_len, vec_capacity};
 ghost use Rattle.workload.specs.declared.limits.TheConstants.{MAX_KEYS};
-ghost use Rattle.step_runner.specs.Pairs.{has_pairs_to};
+ghost use Rattle.step_turns.specs.Pairs.{has_pairs_to};
 ghost use Rattle.workload.specs.Canonical.{behind_spaces};
 ghost use Rattle.gosync.specs.ReportText.{map_reply_text, pair_text, pairs_text, atomic_reply_text, lock_reply_text, once_reply_text, once_func_reply_text, pool_reply_text, reply_text};
 

@@ -4,7 +4,8 @@ ghost use Rattle.std.specs.List.{list_all};
 ghost use Rattle.sync_outside.specs.Bytes.{Appends, AppendsFront};
 ghost use Rattle.sync_outside.specs.Faults.{Rose};
 ghost use Rattle.workload.specs.declared.limits.TheConstants.{MAX_KEYS};
-ghost use Rattle.step_runner.specs.Pairs.{has_pairs_to, has_few_pairs};
+ghost use Rattle.step_turns.specs.Pairs.{has_pairs_to};
+ghost use Rattle.step_runner.specs.Pairs.{has_few_pairs};
 ghost use Rattle.gosync.specs.ReportText.{call_line, calls_text, workers_text, ends_text, report_text};
 
 use crate::call_line::set_call_line;

@@ -3,72 +3,32 @@ use Rattle.std.proofs.Common.{◌≡◌, ℕ, true, false, List, [], ◌∷◌, 
 use Rattle.std.specs.Prelude.{is_some, not}
 use Rattle.std.specs.List.{list_all, range_with_len}
 use Rattle.sync_model.specs.declared.call.Call.{Call}
-use Rattle.sync_model.specs.declared.call.Call.TheVariants as calls
-use Rattle.sync_model.specs.declared.map_object.MapCall.{MapCall}
-use Rattle.sync_model.specs.declared.atomic_object.AtomicCall.{AtomicCall}
-use Rattle.sync_model.specs.declared.pool_call.PoolCall.{PoolCall}
-use Rattle.workload.specs.declared.object.ObjectKind.{ObjectKind}
-use Rattle.workload.specs.declared.object.ObjectKind.TheVariants as kinds
 use Rattle.workload.specs.declared.turn.Turn.{Turn}
 use Rattle.workload.specs.declared.turn.Turn.TheVariants as items
-use Rattle.workload.specs.Plan.{Plan, has_call, reference_of}
-use Rattle.step_runner.specs.declared.step.Answer.{Answer}
-use Rattle.step_runner.specs.declared.step.Answer.TheVariants as answers
+use Rattle.workload.specs.Plan.{Plan}
+use Rattle.step_turns.specs.declared.answer.Answer.{Answer}
+use Rattle.step_turns.specs.declared.answer.Answer.TheVariants as answers
+use Rattle.step_turns.specs.Completes.{never_waits, IsCompleted}
+use Rattle.step_turns.specs.Ready.{IsReady}
+use Rattle.step_turns.specs.Turns.{turn_at}
 use Rattle.step_runner.specs.declared.step.Step.{Step}
 use Rattle.step_runner.specs.declared.step.Step.TheVariants as steps
 use Rattle.step_runner.specs.declared.outcome.Report.{Report}
 use Rattle.step_runner.specs.declared.outcome.Outcome.{Outcome}
 use Rattle.step_runner.specs.declared.outcome.Outcome.TheVariants as outcomes
-use Rattle.step_runner.specs.declared.object_state.ObjectState.{ObjectState}
-use Rattle.step_runner.specs.declared.object_state.ObjectState.TheVariants as states
-use Rattle.step_runner.specs.MapTurn.{map_turn, range_turn}
-use Rattle.step_runner.specs.AtomicTurn.{atomic_turn}
-use Rattle.step_runner.specs.PoolTurn.{pool_turn}
-use Rattle.step_runner.specs.Outcomes.{rounds, is_misused, never_waits}
-use Rattle.step_runner.specs.State.{State, kind_of, start, IsStateOf, IsReady}
-use Rattle.step_runner.specs.Turns.{next_call, turn_on, turn_at, turn_of, item_of, with_event, and_then, items_of, turns}
-use Rattle.step_runner.proofs.ObjectUses.{IsCompleted, pool_completes}
-use Rattle.step_runner.proofs.TurnLemmas.{true_false, both_true, all_get, all_at, ready, at_ready, Takes, turn_cases, StepUses}
+use Rattle.step_turns.specs.declared.object_state.ObjectState.{ObjectState}
+use Rattle.step_runner.specs.Outcomes.{rounds, is_misused}
+use Rattle.step_runner.specs.State.{State, start, IsStateOf}
+use Rattle.step_runner.specs.Turns.{next_call, turn_of, item_of, with_event, and_then, items_of, turns}
+use Rattle.step_runner.proofs.TurnLemmas.{true_false, both_true, all_get, all_at, Takes, takes_by, turn_cases, StepUses}
 use Rattle.step_runner.proofs.RunLemmas.{GoesOn, UsesUp, turns_of, item_valid}
 use Rattle.step_runner.proofs.EndLemmas.{done_replied, is_done, is_misused_by, is_deadlocked, state_of}
 
 -- ---- one turn
 
-map_completes : (place : ℕ) (call : MapCall (List ℕ)) (o : ObjectState) → has_call (kind_of o) (calls.Map place call) ≡ true → IsCompleted (map_turn call o).1
-map_completes place call (states.Map m) has = tt
-map_completes place call o has = absurd cc
-
-range_completes : (place : ℕ) (o : ObjectState) → has_call (kind_of o) (calls.Range place) ≡ true → IsCompleted (range_turn o).1
-range_completes place (states.Map m) has = tt
-range_completes place o has = absurd cc
-
-atomic_completes : (place : ℕ) (call : AtomicCall) (o : ObjectState) → has_call (kind_of o) (calls.Atomic place call) ≡ true → IsCompleted (atomic_turn call o).1
-atomic_completes place call (states.Atomic number) has = tt
-atomic_completes place call o has = absurd cc
-
-turn_completes : (place : ℕ) (call : PoolCall) (worker : ℕ) (o : ObjectState) → has_call (kind_of o) (calls.Pool place call) ≡ true → IsCompleted (pool_turn call worker o).1
-turn_completes place call worker (states.Pool p) has = pool_completes call worker p
-turn_completes place call worker o has = absurd cc
-
-completes : (call : Call) (worker moment : ℕ) (o : ObjectState) → never_waits call ≡ true → has_call (kind_of o) call ≡ true → IsCompleted (turn_on call worker moment o).1
-completes (calls.Map place call) worker moment o never has = map_completes place call o has
-completes (calls.Range place) worker moment o never has = range_completes place o has
-completes (calls.Atomic place call) worker moment o never has = atomic_completes place call o has
-completes (calls.Pool place call) worker moment o never has = turn_completes place call worker o has
-completes call worker moment o never has = absurd cc
-
--- an object that refers to another one has no such call
-none_referring : (kind : ObjectKind) (call : Call) (other : ℕ) → reference_of kind ≡ Some other → has_call kind call ≡ true → never_waits call ≡ true → ⊥
-none_referring (kinds.Cond place) (calls.Cond object call) other some has never = cc
-none_referring (kinds.Cond place) call other some has never = cc
-none_referring (kinds.Once place delta) (calls.Once object) other some has never = cc
-none_referring (kinds.Once place delta) call other some has never = cc
-none_referring kind call other some has never = cc
-
-at_completes : (workers worker : ℕ) (call : Call) (moment : ℕ) (objects : List ObjectState) → never_waits call ≡ true → IsReady workers worker call objects → IsCompleted (turn_at call worker moment objects).1
-at_completes workers worker call moment objects never r = at_ready (λ x. IsCompleted x.1) workers worker call moment objects r
-    (λ st. completes call worker moment r.object never st.has)
-    (λ other target st. absurd (none_referring (kind_of r.object) call other st.some st.has never))
+-- what the law of turns says
+abbrev pub Completing : Type 0
+Completing = (workers worker moment : ℕ) (call : Call) (objects : List ObjectState) → never_waits call ≡ true → IsReady workers worker call objects → IsCompleted (turn_at call worker moment objects).1
 
 -- a turn is no misuse, and it makes an event unless the script has ended
 abbrev Goes : Plan → ℕ → State → Step → Type 0
@@ -82,8 +42,8 @@ AllNever plan = list_all (list_all never_waits) plan.scripts ≡ true
 never_next : (plan : Plan) (worker : ℕ) (s : State) (call : Call) → AllNever plan → next_call plan worker s ≡ Some call → never_waits call ≡ true
 never_next plan worker s call all is = all_get never_waits (get_or plan.scripts worker []) (length (get_or s.replies worker [])) call (all_at never_waits plan.scripts worker all) is
 
-turn_goes : (plan : Plan) (worker : ℕ) (s : State) → AllNever plan → IsStateOf plan s → Goes plan worker s (turn_of plan worker s).1
-turn_goes plan worker s all of = turn_cases (λ step. Goes plan worker s step.1) plan worker s of (record {
+turn_goes : Completing → (plan : Plan) (worker : ℕ) (s : State) → AllNever plan → IsStateOf plan s → Goes plan worker s (turn_of plan worker s).1
+turn_goes completes plan worker s all of = turn_cases (λ step. Goes plan worker s step.1) plan worker s of (record {
   ended = λ is. is;
   still = λ call objects takes. absurd (completed call objects answers.Still takes);
   waits = λ call objects takes. tt;
@@ -93,8 +53,7 @@ turn_goes plan worker s all of = turn_cases (λ step. Goes plan worker s step.1)
   where
     completed : (call : Call) (objects : List ObjectState) (answer : Answer) → Takes plan worker s call objects answer → IsCompleted answer
     completed call objects answer takes =
-        subst (λ (x : List ObjectState × Answer). IsCompleted x.1) takes.turn
-        (at_completes plan.workers worker call s.moment s.objects (never_next plan worker s call all takes.next) (ready plan worker s call of takes.next))
+        takes_by (λ x. IsCompleted x.1) plan worker s call objects answer of takes (completes plan.workers worker s.moment call s.objects (never_next plan worker s call all takes.next))
 
 -- ---- turns in order
 
@@ -113,14 +72,14 @@ no_misuse plan worker s steps.Still goes = refl
 no_misuse plan worker s steps.Made goes = refl
 no_misuse plan worker s (steps.Misused misuse) goes = absurd goes
 
-item_goes : (plan : Plan) (item : Turn) (s : State) → AllNever plan → IsStateOf plan s → is_misused (item_of plan item s).1 ≡ false
-item_goes plan (items.Worker worker) s all of = no_misuse plan worker s (turn_of plan worker s).1 (turn_goes plan worker s all of)
-item_goes plan (items.Moment moment) s all of = refl
+item_goes : Completing → (plan : Plan) (item : Turn) (s : State) → AllNever plan → IsStateOf plan s → is_misused (item_of plan item s).1 ≡ false
+item_goes completes plan (items.Worker worker) s all of = no_misuse plan worker s (turn_of plan worker s).1 (turn_goes completes plan worker s all of)
+item_goes completes plan (items.Moment moment) s all of = refl
 
-items_go : (plan : Plan) → GoesOn plan → AllNever plan → (list : List Turn) (s : State) → IsStateOf plan s → is_misused (items_of plan list s).1 ≡ false
-items_go plan goes_on all [] s of = refl
-items_go plan goes_on all (item ∷ rest) s of =
-    then_goes (item_of plan item s) (items_of plan rest) (item_goes plan item s all of) (items_go plan goes_on all rest (item_of plan item s).0 (item_valid plan goes_on item s of))
+items_go : Completing → (plan : Plan) → GoesOn plan → AllNever plan → (list : List Turn) (s : State) → IsStateOf plan s → is_misused (items_of plan list s).1 ≡ false
+items_go completes plan goes_on all [] s of = refl
+items_go completes plan goes_on all (item ∷ rest) s of =
+    then_goes (item_of plan item s) (items_of plan rest) (item_goes completes plan item s all of) (items_go completes plan goes_on all rest (item_of plan item s).0 (item_valid plan goes_on item s of))
 
 -- where a number of workers make no event, their scripts have ended
 event_made : (x : State × Step) (t : State) → with_event x ≡ (t, steps.Still) → ⊥
@@ -133,26 +92,26 @@ still_first plan worker s t (u, steps.Still) f same goes is = (goes, subst (λ v
 still_first plan worker s t (u, steps.Made) f less goes is = absurd (event_made (f u) t is)
 still_first plan worker s t (u, steps.Misused misuse) f same goes is = absurd goes
 
-still_ended : (plan : Plan) → UsesUp plan → AllNever plan → (workers : List ℕ) (s t : State) → IsStateOf plan s → items_of plan (turns_of workers) s ≡ (t, steps.Still)
+still_ended : Completing → (plan : Plan) → UsesUp plan → AllNever plan → (workers : List ℕ) (s t : State) → IsStateOf plan s → items_of plan (turns_of workers) s ≡ (t, steps.Still)
     → list_all (λ worker. not (is_some (next_call plan worker s))) workers ≡ true
-still_ended plan uses all [] s t of is = refl
-still_ended plan uses all (worker ∷ workers) s t of is =
-    let parts = still_first plan worker s t (turn_of plan worker s) (items_of plan (turns_of workers)) (uses worker s of) (turn_goes plan worker s all of) is in
+still_ended completes plan uses all [] s t of is = refl
+still_ended completes plan uses all (worker ∷ workers) s t of is =
+    let parts = still_first plan worker s t (turn_of plan worker s) (items_of plan (turns_of workers)) (uses worker s of) (turn_goes completes plan worker s all of) is in
     both_true (not (is_some (next_call plan worker s))) (list_all (λ w. not (is_some (next_call plan w s))) workers)
-    (ap (λ (o : Option Call). not (is_some o)) parts.0) (still_ended plan uses all workers s t of parts.1)
+    (ap (λ (o : Option Call). not (is_some o)) parts.0) (still_ended completes plan uses all workers s t of parts.1)
 
 -- ---- the run
 
 -- a run of such scripts is no misuse and no deadlock
-done_by : (plan : Plan) → GoesOn plan → UsesUp plan → AllNever plan → IsStateOf plan (start plan) → (x : Outcome) → turns plan ≡ x → (report : Report) × (turns plan ≡ outcomes.Done report) × (map length report.replies ≡ map length plan.scripts)
-done_by plan goes_on uses all of (outcomes.Done report) is = (report, is, done_replied plan goes_on uses of report (is_done plan goes_on uses of report is))
-done_by plan goes_on uses all of (outcomes.Misused report misuse) is =
+done_by : Completing → (plan : Plan) → GoesOn plan → UsesUp plan → AllNever plan → IsStateOf plan (start plan) → (x : Outcome) → turns plan ≡ x → (report : Report) × (turns plan ≡ outcomes.Done report) × (map length report.replies ≡ map length plan.scripts)
+done_by completes plan goes_on uses all of (outcomes.Done report) is = (report, is, done_replied plan goes_on uses of report (is_done plan goes_on uses of report is))
+done_by completes plan goes_on uses all of (outcomes.Misused report misuse) is =
     let misused = is_misused_by plan goes_on uses of report misuse is in
-    absurd (true_false (ap (λ (y : State × Step). is_misused y.1) (sym misused.is) ∙ items_go plan goes_on all (plan.schedule ++ rounds misused.count plan.workers) (start plan) of))
-done_by plan goes_on uses all of (outcomes.Deadlocked report) is =
+    absurd (true_false (ap (λ (y : State × Step). is_misused y.1) (sym misused.is) ∙ items_go completes plan goes_on all (plan.schedule ++ rounds misused.count plan.workers) (start plan) of))
+done_by completes plan goes_on uses all of (outcomes.Deadlocked report) is =
     let dead = is_deadlocked plan goes_on uses of report is in
     let valid = state_of plan goes_on uses dead.state of dead.comes in
-    absurd (true_false (sym (still_ended plan uses all (range_with_len 0 plan.workers) dead.state dead.state valid dead.still) ∙ dead.going))
+    absurd (true_false (sym (still_ended completes plan uses all (range_with_len 0 plan.workers) dead.state dead.state valid dead.still) ∙ dead.going))
 
-pub never_waiting_ends : (plan : Plan) → GoesOn plan → UsesUp plan → AllNever plan → IsStateOf plan (start plan) → (report : Report) × (turns plan ≡ outcomes.Done report) × (map length report.replies ≡ map length plan.scripts)
-never_waiting_ends plan goes_on uses all of = done_by plan goes_on uses all of (turns plan) refl
+pub never_waiting_ends : Completing → (plan : Plan) → GoesOn plan → UsesUp plan → AllNever plan → IsStateOf plan (start plan) → (report : Report) × (turns plan ≡ outcomes.Done report) × (map length report.replies ≡ map length plan.scripts)
+never_waiting_ends completes plan goes_on uses all of = done_by completes plan goes_on uses all of (turns plan) refl

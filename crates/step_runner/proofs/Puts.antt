@@ -4,7 +4,8 @@ use Rattle.std.specs.Prelude.{count_by, sum_by}
 use Rattle.std.proofs.lemmas.List.Sums.{count_by-le-length, sum_by-cons}
 use Rattle.std.proofs.Math.Seq.{drop-cons}
 use Rattle.sync_model.specs.declared.call.Call.{Call}
-use Rattle.step_runner.specs.State.{is_put_at, puts_at}
+use Rattle.step_turns.specs.PoolRoom.{is_put_at}
+use Rattle.step_runner.specs.State.{puts_at}
 
 -- no more than calls
 few_puts : (place : ℕ) (scripts : List (List Call)) → puts_at place scripts ≤ sum_by length scripts

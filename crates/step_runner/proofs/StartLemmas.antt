@@ -1,66 +1,38 @@
 -- The state in which a run begins.
-use Rattle.std.proofs.Common.{◌≡◌, ℕ, zero, suc, ◌+◌, true, false, List, [], ◌∷◌, map, length, get_or, replicate, None, refl, ap, ◌∙◌, subst, arith}
+use Rattle.std.proofs.Common.{◌≡◌, ℕ, zero, suc, ◌+◌, true, List, [], ◌∷◌, map, length, get_or, replicate, subst, refl, arith}
 use Rattle.std.proofs.lemmas.List.{length-replicate}
-use Rattle.std.specs.Prelude.{pos}
-use Rattle.mutex_core.specs.MutexMachine as mutex
-use Rattle.rw_core.specs.RwMachine as rw
-use Rattle.wait_cores.specs.GroupMachine as group
-use Rattle.pool_core.specs.PoolParts.{empty}
-use Rattle.wait_cores.specs.declared.group.GroupEvent.{GroupEvent}
-use Rattle.wait_cores.specs.declared.group.GroupEvent.TheVariants.{Add}
-use Rattle.wait_cores.specs.declared.group.GroupPlace.TheVariants.{Out}
-use Rattle.sync_model.specs.declared.atomic_object.AtomicKind.{AtomicKind}
 use Rattle.sync_model.specs.declared.call.Reply.{Reply}
 use Rattle.workload.specs.declared.object.ObjectKind.{ObjectKind}
-use Rattle.workload.specs.declared.object.ObjectKind.TheVariants as kinds
 use Rattle.workload.specs.declared.object.ObjectLine.{ObjectLine}
 use Rattle.workload.specs.Plan.{Plan, is_valid}
-use Rattle.step_runner.specs.declared.object_state.ObjectState.{ObjectState}
-use Rattle.step_runner.specs.State.{start, puts_at, new_object, new_objects, kind_of, IsStateOf, IsMachineOf}
-use Rattle.step_runner.proofs.AtomicTypes.{zero_type}
-use Rattle.step_runner.proofs.TurnLemmas.{AllAt}
-
--- what the laws say of the machines' first states
-pub record Begins : Type 0 where
-  pub mutexes : (n : ℕ) → mutex.IsValid (mutex.start n)
-  pub rw_mutexes : (n : ℕ) → rw.IsValid (rw.start n)
-  pub groups : (g : group.GroupState) (c : ℕ) (e : GroupEvent) → group.callers_of (group.next g c e).0 ≡ group.callers_of g
-
-new_kind : (workers room : ℕ) (kind : ObjectKind) → kind_of (new_object workers room kind) ≡ kind
-new_kind workers room kinds.Map = refl
-new_kind workers room (kinds.Atomic kind) = ap (λ (type : AtomicKind). kinds.Atomic type) (zero_type kind)
-new_kind workers room kinds.Mutex = refl
-new_kind workers room kinds.RwMutex = refl
-new_kind workers room (kinds.Cond place) = refl
-new_kind workers room (kinds.WaitGroup first) = refl
-new_kind workers room (kinds.Once place delta) = refl
-new_kind workers room (kinds.OnceFunc code) = refl
-new_kind workers room (kinds.OnceValue value) = refl
-new_kind workers room kinds.Pool = refl
-
-new_kinds : (plan : Plan) (place : ℕ) (lines : List ObjectLine) → map kind_of (new_objects plan place lines) ≡ map (λ (line : ObjectLine). line.kind) lines
-new_kinds plan place [] = refl
-new_kinds plan place (line ∷ lines) = λ i. new_kind plan.workers (puts_at place plan.scripts) line.kind i ∷ new_kinds plan (place + 1) lines i
-
-new_machine : Begins → (workers room : ℕ) (kind : ObjectKind) → IsMachineOf workers (new_object workers room kind)
-new_machine begins workers room kinds.Map = tt
-new_machine begins workers room (kinds.Atomic kind) = tt
-new_machine begins workers room kinds.Mutex = (begins.mutexes workers, refl)
-new_machine begins workers room kinds.RwMutex = (begins.rw_mutexes workers, refl)
-new_machine begins workers room (kinds.Cond place) = length-replicate workers None
-new_machine begins workers room (kinds.WaitGroup first) = begins.groups (group.start workers) 0 (Add (pos first)) ∙ length-replicate workers Out
-new_machine begins workers room (kinds.Once place delta) = length-replicate workers false
-new_machine begins workers room (kinds.OnceFunc code) = length-replicate workers false
-new_machine begins workers room (kinds.OnceValue value) = length-replicate workers false
-new_machine begins workers room kinds.Pool = (length-replicate workers (empty room), length-replicate workers (empty room))
+use Rattle.step_turns.specs.declared.object_state.ObjectState.{ObjectState}
+use Rattle.step_turns.specs.Objects.{new_object, kind_of, IsMachineOf, EachAt}
+use Rattle.step_runner.specs.State.{start, puts_at, new_objects, IsStateOf}
 
 -- what is so of each new object is so of all
-pub new_all : (P : ObjectState → Type 0) (plan : Plan) → ((room : ℕ) (kind : ObjectKind) → P (new_object plan.workers room kind)) → (place : ℕ) (lines : List ObjectLine) → AllAt P (new_objects plan place lines)
-new_all P plan each first [] place object is = absurd cc
-new_all P plan each first (line ∷ lines) zero object is =
+each_new : (P : ℕ → ObjectState → Type 0) (plan : Plan) → ((place : ℕ) (kind : ObjectKind) → P place (new_object plan.workers (puts_at place plan.scripts) kind))
+    → (first : ℕ) (lines : List ObjectLine) → EachAt (λ place. P (first + place)) (new_objects plan first lines)
+each_new P plan each first [] place object at = absurd cc
+each_new P plan each first (line ∷ lines) zero object at =
     let same : new_object plan.workers (puts_at first plan.scripts) line.kind ≡ object = cc in
-    subst P same (each (puts_at first plan.scripts) line.kind)
-new_all P plan each first (line ∷ lines) (suc place) object is = new_all P plan each (first + 1) lines place object is
+    let here : first ≡ first + 0 = omega arith in
+    subst (λ place. P place object) here (subst (P first) same (each first line.kind))
+each_new P plan each first (line ∷ lines) (suc place) object at =
+    let there : first + 1 + place ≡ first + suc place = omega arith in
+    subst (λ k. P k object) there (each_new P plan each (first + 1) lines place object at)
+
+pub each_start : (P : ℕ → ObjectState → Type 0) (plan : Plan) → ((place : ℕ) (kind : ObjectKind) → P place (new_object plan.workers (puts_at place plan.scripts) kind)) → EachAt P (start plan).objects
+each_start P plan each place object at =
+    let first : 0 + place ≡ place = omega arith in
+    subst (λ k. P k object) first (each_new P plan each 0 plan.objects place object at)
+
+-- what the law of turns says of new objects
+abbrev pub Begins : Type 0
+Begins = (workers room : ℕ) (kind : ObjectKind) → (kind_of (new_object workers room kind) ≡ kind) × IsMachineOf workers (new_object workers room kind)
+
+new_kinds : Begins → (plan : Plan) (place : ℕ) (lines : List ObjectLine) → map kind_of (new_objects plan place lines) ≡ map (λ (line : ObjectLine). line.kind) lines
+new_kinds begins plan place [] = refl
+new_kinds begins plan place (line ∷ lines) = λ i. (begins plan.workers (puts_at place plan.scripts) line.kind).0 i ∷ new_kinds begins plan (place + 1) lines i
 
 pub none_yet : (n k : ℕ) → length (get_or (replicate {A = List Reply} n []) k []) ≡ 0
 none_yet zero k = refl
@@ -70,8 +42,8 @@ none_yet (suc n) (suc k) = none_yet n k
 pub start_is : Begins → (plan : Plan) → is_valid plan ≡ true → IsStateOf plan (start plan)
 start_is begins plan valid = record {
   valid = valid;
-  objects = new_kinds plan 0 plan.objects;
-  machines = new_all (IsMachineOf plan.workers) plan (new_machine begins plan.workers) 0 plan.objects;
+  objects = new_kinds begins plan 0 plan.objects;
+  machines = each_start (λ place. IsMachineOf plan.workers) plan (λ place kind. (begins plan.workers (puts_at place plan.scripts) kind).1);
   workers = length-replicate plan.workers [];
   within = λ k. omega (arith, none_yet plan.workers k);
 }

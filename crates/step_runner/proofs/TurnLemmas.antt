@@ -1,31 +1,45 @@
--- What one turn does to a state, whatever the workload.
-use Rattle.std.proofs.Common.{◌≡◌, ◌≢◌, ℕ, zero, suc, ◌+◌, ◌<◌, ◌≤◌, ◌⊎◌, Bool, true, false, eqb, ◌&&◌, List, [], ◌∷◌, ◌++◌, map, length, get_or, set, Option, Some, None, refl, sym, ap, ◌∙◌, subst, inl, inr, arith}
+-- What one turn does to the state of a run.
+use Rattle.std.proofs.Common.{◌≡◌, ◌≢◌, ℕ, zero, suc, ◌+◌, ◌<◌, ◌≤◌, Bool, true, false, eqb, ◌&&◌, List, [], ◌∷◌, ◌++◌, map, length, get_or, Option, Some, None, refl, sym, ap, ◌∙◌, subst, arith}
 use Rattle.std.specs.Prelude.{slice_get, sum_by}
 use Rattle.std.specs.List.{list_all}
 use Rattle.std.specs.Option.{option_map, option_map_or}
 use Rattle.std.proofs.lemmas.Bool.{eqb-true, eqb-false}
-use Rattle.std.proofs.lemmas.List.{length-set, length-append, get_or-set_same, get_or-set_other, set-get_or}
+use Rattle.std.proofs.lemmas.List.{length-set, length-append, get_or-set_same, get_or-set_other}
 use Rattle.std.proofs.lemmas.List.Sums.{sum_by-cons, sum_by-set}
-use Rattle.std.proofs.lemmas.Option.{slice_get-map, slice_get_within, get_or_from_slice_get}
-use Rattle.std.proofs.Math.Seq.{map-set_same}
+use Rattle.std.proofs.lemmas.Option.{slice_get-map, slice_get_within}
 use Rattle.sync_model.specs.declared.call.Call.{Call}
 use Rattle.sync_model.specs.declared.call.Reply.{Reply}
 use Rattle.sync_model.specs.declared.misuse.Misuse.{Misuse}
 use Rattle.workload.specs.declared.object.ObjectKind.{ObjectKind}
-use Rattle.workload.specs.declared.object.ObjectKind.TheVariants as kinds
 use Rattle.workload.specs.declared.object.ObjectLine.{ObjectLine}
 use Rattle.workload.specs.Plan.{Plan, object_of, has_call, is_on, is_target, is_turn, is_valid, reference_of, refers}
-use Rattle.step_runner.specs.declared.step.Answer.{Answer}
-use Rattle.step_runner.specs.declared.step.Answer.TheVariants as answers
+use Rattle.step_turns.specs.declared.answer.Answer.{Answer}
+use Rattle.step_turns.specs.declared.answer.Answer.TheVariants as answers
+use Rattle.step_turns.specs.declared.object_state.ObjectState.{ObjectState}
+use Rattle.step_turns.specs.ObjectLeft.{object_left, UsesBy}
+use Rattle.step_turns.specs.Objects.{kind_of, IsMachineOf, EachAt}
+use Rattle.step_turns.specs.Ready.{HasTarget, IsReady}
+use Rattle.step_turns.specs.Turns.{turn_at}
 use Rattle.step_runner.specs.declared.step.Step.{Step}
 use Rattle.step_runner.specs.declared.step.Step.TheVariants as steps
-use Rattle.step_runner.specs.declared.object_state.ObjectState.{ObjectState}
-use Rattle.step_runner.specs.State.{State, kind_of, with_reply, HasTarget, IsStateOf, IsMachineOf, IsReady}
-use Rattle.step_runner.specs.Turns.{next_call, turn_on, turn_on_both, with_object, with_both, turn_by, turn_at, settled, settled_with, turn_of}
-use Rattle.step_runner.specs.LeftToDo.{object_left, calls_left, left_to_do}
-use Rattle.step_runner.proofs.MachineLaws.{Laws, Uses}
-use Rattle.step_runner.proofs.ObjectKeeps.{Keeps, KeepsBoth, turn_keeps, both_keep}
-use Rattle.step_runner.proofs.ObjectUses.{UsesBy, uses_more, ObjectUses, BothUse, turn_uses, both_use}
+use Rattle.step_runner.specs.State.{State, with_reply, IsStateOf}
+use Rattle.step_runner.specs.Turns.{next_call, settled, settled_with, turn_of}
+use Rattle.step_runner.specs.LeftToDo.{calls_left, left_to_do}
+
+-- ---- what the laws of turns say of the objects
+
+pub record TurnsKeep : Type 0 where
+  pub kinds : (workers worker moment : ℕ) (call : Call) (objects : List ObjectState) → IsReady workers worker call objects → map kind_of (turn_at call worker moment objects).0 ≡ map kind_of objects
+  pub machines : (workers worker moment : ℕ) (call : Call) (objects : List ObjectState) → IsReady workers worker call objects → EachAt (λ place. IsMachineOf workers) objects
+      → EachAt (λ place. IsMachineOf workers) (turn_at call worker moment objects).0
+
+abbrev ObjectsUse : List ObjectState → List ObjectState × Answer → Type 0
+ObjectsUse old x = UsesBy (sum_by object_left old) (sum_by object_left x.0) (x.0 ≡ old) x.1
+
+abbrev pub TurnsUse : Type 0
+TurnsUse = (workers worker moment : ℕ) (call : Call) (objects : List ObjectState) → IsReady workers worker call objects → ObjectsUse objects (turn_at call worker moment objects)
+
+-- ---- tests that pass
 
 -- what two tests that pass together say
 pub both : (a b : Bool) → (a && b) ≡ true → (a ≡ true) × (b ≡ true)
@@ -38,18 +52,6 @@ both_true false b e f = absurd cc
 
 pub true_false : true ≡ false → ⊥
 true_false e = cc
-
--- an element is found behind a write: it stood there before, or is the one written
-pub set_get : {X : Type 0} (xs : List X) (i k : ℕ) (next found : X) → slice_get (set xs i next) k ≡ Some found → (slice_get xs k ≡ Some found) ⊎ (next ≡ found)
-set_get [] i k next found e = inl e
-set_get (x ∷ xs) zero zero next found e = inr cc
-set_get (x ∷ xs) zero (suc k) next found e = inl e
-set_get (x ∷ xs) (suc i) zero next found e = inl e
-set_get (x ∷ xs) (suc i) (suc k) next found e = set_get xs i k next found e
-
--- an element that is written back changes nothing
-pub set_back : {X : Type 0} (xs : List X) (i : ℕ) (x : X) → slice_get xs i ≡ Some x → set xs i x ≡ xs
-set_back xs i x at = subst (λ y. set xs i y ≡ xs) (get_or_from_slice_get xs i x x at) (set-get_or xs i x)
 
 -- ---- what a valid plan says of a call
 
@@ -179,175 +181,6 @@ ready plan worker s call of is =
       refers = has_target plan s (object_of call) has.0 of has.1;
     }
 
--- ---- a turn at the objects, by whether the call's object refers to another one
-
-no_self : (kind : ObjectKind) → is_target kind kind ≡ true → ⊥
-no_self kinds.Map is = cc
-no_self (kinds.Atomic kind) is = cc
-no_self kinds.Mutex is = cc
-no_self kinds.RwMutex is = cc
-no_self (kinds.Cond place) is = cc
-no_self (kinds.WaitGroup first) is = cc
-no_self (kinds.Once place delta) is = cc
-no_self (kinds.OnceFunc code) is = cc
-no_self (kinds.OnceValue value) is = cc
-no_self kinds.Pool is = cc
-
--- the object and the one to which it refers are two
-pub apart : (objects : List ObjectState) (place other : ℕ) (object target : ObjectState) → slice_get objects place ≡ Some object → slice_get objects other ≡ Some target
-    → is_target (kind_of object) (kind_of target) ≡ true → other ≢ place
-apart objects place other object target at there is same =
-    let equal : Some object ≡ Some target = sym at ∙ ap (slice_get objects) (sym same) ∙ there in
-    let one : object ≡ target = cc in
-    no_self (kind_of object) (subst (λ (o : ObjectState). is_target (kind_of object) (kind_of o) ≡ true) (sym one) is)
-
-pub get_other : {X : Type 0} (xs : List X) (i k : ℕ) (next found : X) → k ≢ i → slice_get xs k ≡ Some found → slice_get (set xs i next) k ≡ Some found
-get_other [] i k next found apart e = e
-get_other (x ∷ xs) zero zero next found apart e = absurd (apart refl)
-get_other (x ∷ xs) zero (suc k) next found apart e = e
-get_other (x ∷ xs) (suc i) zero next found apart e = e
-get_other (x ∷ xs) (suc i) (suc k) next found apart e = get_other xs i k next found (λ same. apart (ap suc same)) e
-
--- an object that refers to no other, which has the call
-pub record Alone (workers worker : ℕ) (call : Call) (objects : List ObjectState) (object : ObjectState) : Type 0 where
-  pub at : slice_get objects (object_of call) ≡ Some object
-  pub has : has_call (kind_of object) call ≡ true
-  pub below : worker < workers
-  pub machine : IsMachineOf workers object
-  pub none : reference_of (kind_of object) ≡ None
-
--- an object that has the call, and the one to which it refers
-pub record Referring (workers worker : ℕ) (call : Call) (objects : List ObjectState) (object : ObjectState) (other : ℕ) (target : ObjectState) : Type 0 where
-  pub at : slice_get objects (object_of call) ≡ Some object
-  pub has : has_call (kind_of object) call ≡ true
-  pub below : worker < workers
-  pub machine : IsMachineOf workers object
-  pub some : reference_of (kind_of object) ≡ Some other
-  pub there : slice_get objects other ≡ Some target
-  pub machine_there : IsMachineOf workers target
-  pub apart : other ≢ object_of call
-
-abbrev turn_with : Call → ℕ → ℕ → List ObjectState → Option ObjectState → List ObjectState × Answer
-turn_with call worker moment objects o = option_map_or (λ object. turn_by (reference_of (kind_of object)) call worker moment objects object) o (objects, answers.Still)
-
-abbrev turn_to : Call → ℕ → ℕ → List ObjectState → ObjectState → ℕ → Option ObjectState → List ObjectState × Answer
-turn_to call worker moment objects object other o =
-    option_map_or (λ target. with_both (object_of call) other objects (turn_on_both call worker moment object target)) o (objects, answers.Still)
-
-module _ (Q : List ObjectState × Answer → Type 0) (workers worker : ℕ) (call : Call) (moment : ℕ) (objects : List ObjectState) (r : IsReady workers worker call objects)
-    (alone : Alone workers worker call objects r.object → Q (with_object (object_of call) objects (turn_on call worker moment r.object)))
-    (both_there : (other : ℕ) (target : ObjectState) → Referring workers worker call objects r.object other target → Q (with_both (object_of call) other objects (turn_on_both call worker moment r.object target))) where
-  by_reference : (o : Option ℕ) → reference_of (kind_of r.object) ≡ o → Q (turn_by o call worker moment objects r.object)
-  by_reference None is = alone (record { at = r.there; has = r.has; below = r.below; machine = r.machine; none = is })
-  by_reference (Some other) is =
-      let t = r.refers other is in
-      subst (λ o. Q (turn_to call worker moment objects r.object other o)) (sym t.there)
-      (both_there other t.target (record {
-        at = r.there;
-        has = r.has;
-        below = r.below;
-        machine = r.machine;
-        some = is;
-        there = t.there;
-        machine_there = t.machine;
-        apart = apart objects (object_of call) other r.object t.target r.there t.there t.is;
-      }))
-
-  pub at_ready : Q (turn_at call worker moment objects)
-  at_ready = subst (λ o. Q (turn_with call worker moment objects o)) (sym r.there) (by_reference (reference_of (kind_of r.object)) refl)
-
--- the same of what needs no readiness
-module _ (Q : List ObjectState × Answer → Type 0) (call : Call) (worker moment : ℕ) (objects : List ObjectState) (missing : Q (objects, answers.Still))
-    (alone : (object : ObjectState) → slice_get objects (object_of call) ≡ Some object → Q (with_object (object_of call) objects (turn_on call worker moment object)))
-    (both_there : (object : ObjectState) (other : ℕ) (target : ObjectState) → slice_get objects (object_of call) ≡ Some object → slice_get objects other ≡ Some target
-    → Q (with_both (object_of call) other objects (turn_on_both call worker moment object target))) where
-  any_target : (object : ObjectState) (other : ℕ) (o : Option ObjectState) → slice_get objects (object_of call) ≡ Some object → slice_get objects other ≡ o → Q (turn_to call worker moment objects object other o)
-  any_target object other None at there = missing
-  any_target object other (Some target) at there = both_there object other target at there
-
-  any_reference : (object : ObjectState) (o : Option ℕ) → slice_get objects (object_of call) ≡ Some object → Q (turn_by o call worker moment objects object)
-  any_reference object None at = alone object at
-  any_reference object (Some other) at = any_target object other (slice_get objects other) at refl
-
-  any_object : (o : Option ObjectState) → slice_get objects (object_of call) ≡ o → Q (turn_with call worker moment objects o)
-  any_object None at = missing
-  any_object (Some object) at = any_reference object (reference_of (kind_of object)) at
-
-  pub at_any : Q (turn_at call worker moment objects)
-  at_any = any_object (slice_get objects (object_of call)) refl
-
--- ---- what is so of each object
-
-abbrev pub AllAt : (ObjectState → Type 0) → List ObjectState → Type 0
-AllAt P objects = (place : ℕ) (object : ObjectState) → slice_get objects place ≡ Some object → P object
-
-pub all_set : (P : ObjectState → Type 0) (objects : List ObjectState) (place : ℕ) (next : ObjectState) → AllAt P objects → P next → AllAt P (set objects place next)
-all_set P objects place next all is other found at = elim (set_get objects place other next found at) [
-  | inl old ↦ all other found old
-  | inr new ↦ subst P new is
-]
-
--- ---- the kinds of the objects, and what is left at them, behind a write
-
-kinds_set : (objects : List ObjectState) (place : ℕ) (object next : ObjectState) → slice_get objects place ≡ Some object → kind_of next ≡ kind_of object → map kind_of (set objects place next) ≡ map kind_of objects
-kinds_set objects place object next at kind = map-set_same kind_of objects place next next (kind ∙ ap kind_of (sym (get_or_from_slice_get objects place object next at)))
-
-left_set : (objects : List ObjectState) (place : ℕ) (object next : ObjectState) → slice_get objects place ≡ Some object
-    → sum_by object_left (set objects place next) + object_left object ≡ sum_by object_left objects + object_left next
-left_set objects place object next at =
-    ap (λ o. sum_by object_left (set objects place next) + object_left o) (sym (get_or_from_slice_get objects place object object at))
-    ∙ sum_by-set object_left objects place next object (slice_get_within objects place object at)
-
--- ---- the objects behind a turn
-
-pub record ObjectsKeep (workers : ℕ) (old new : List ObjectState) : Type 0 where
-  pub kinds : map kind_of new ≡ map kind_of old
-  pub machines : AllAt (IsMachineOf workers) old → AllAt (IsMachineOf workers) new
-
-one_keeps : (workers : ℕ) (objects : List ObjectState) (place : ℕ) (object next : ObjectState) → slice_get objects place ≡ Some object → Keeps workers object next → ObjectsKeep workers objects (set objects place next)
-one_keeps workers objects place object next at keeps = record {
-  kinds = kinds_set objects place object next at keeps.kind;
-  machines = λ all. all_set (IsMachineOf workers) objects place next all (keeps.machine (all place object at));
-}
-
-two_keep : (workers : ℕ) (objects : List ObjectState) (place other : ℕ) (object target : ObjectState) (new : ObjectState × ObjectState) → slice_get objects place ≡ Some object → slice_get objects other ≡ Some target
-    → other ≢ place → KeepsBoth workers object target new → ObjectsKeep workers objects (set (set objects place new.0) other new.1)
-two_keep workers objects place other object target new at there apart keep =
-    let first = one_keeps workers objects place object new.0 at keep.first in
-    let second = one_keeps workers (set objects place new.0) other target new.1 (get_other objects place other new.0 target apart there) keep.second in
-    record { kinds = second.kinds ∙ first.kinds; machines = λ all. second.machines (first.machines all) }
-
-pub turn_keep : Laws → (workers worker : ℕ) (call : Call) (moment : ℕ) (objects : List ObjectState) → IsReady workers worker call objects → ObjectsKeep workers objects (turn_at call worker moment objects).0
-turn_keep laws workers worker call moment objects r = at_ready (λ x. ObjectsKeep workers objects x.0) workers worker call moment objects r
-    (λ st. one_keeps workers objects (object_of call) r.object (turn_on call worker moment r.object).0 st.at (turn_keeps laws workers call worker moment r.object st.has))
-    (λ other target st. two_keep workers objects (object_of call) other r.object target (turn_on_both call worker moment r.object target).0 st.at st.there st.apart (both_keep laws workers call worker moment r.object target))
-
--- what is left at all objects, by the answer
-abbrev pub ObjectsUse : List ObjectState → List ObjectState × Answer → Type 0
-ObjectsUse old x = UsesBy (sum_by object_left old) (sum_by object_left x.0) (x.0 ≡ old) x.1
-
-one_uses : (objects : List ObjectState) (place : ℕ) (object : ObjectState) (step : ObjectState × Answer) → slice_get objects place ≡ Some object → ObjectUses object step → ObjectsUse objects (with_object place objects step)
-one_uses objects place object step at uses =
-    uses_more step.1 (object_left object) (object_left step.0) (sum_by object_left objects) (sum_by object_left (set objects place step.0)) (step.0 ≡ object) (set objects place step.0 ≡ objects) uses
-    (λ back. ap (set objects place) back ∙ set_back objects place object at)
-    (left_set objects place object step.0 at)
-
-two_use : (objects : List ObjectState) (place other : ℕ) (object target : ObjectState) (step : (ObjectState × ObjectState) × Answer) → slice_get objects place ≡ Some object → slice_get objects other ≡ Some target
-    → other ≢ place → BothUse object target step → ObjectsUse objects (with_both place other objects step)
-two_use objects place other object target step at there apart uses =
-    let first = left_set objects place object step.0.0 at in
-    let second = left_set (set objects place step.0.0) other target step.0.1 (get_other objects place other step.0.0 target apart there) in
-    uses_more step.1 (object_left object + object_left target) (object_left step.0.0 + object_left step.0.1) (sum_by object_left objects) (sum_by object_left (set (set objects place step.0.0) other step.0.1))
-    ((step.0.0 ≡ object) × (step.0.1 ≡ target)) (set (set objects place step.0.0) other step.0.1 ≡ objects) uses
-    (λ back. ap (λ (o : ObjectState). set (set objects place o) other step.0.1) back.0 ∙ ap (set (set objects place object) other) back.1
-    ∙ ap (λ (os : List ObjectState). set os other target) (set_back objects place object at) ∙ set_back objects other target there)
-    (omega (arith, first, second))
-
-pub turn_use : Uses → (workers worker : ℕ) (call : Call) (moment : ℕ) (objects : List ObjectState) → IsReady workers worker call objects → ObjectsUse objects (turn_at call worker moment objects)
-turn_use uses workers worker call moment objects r = at_ready (ObjectsUse objects) workers worker call moment objects r
-    (λ st. one_uses objects (object_of call) r.object (turn_on call worker moment r.object) st.at (turn_uses uses workers call worker moment r.object st.machine))
-    (λ other target st. two_use objects (object_of call) other r.object target (turn_on_both call worker moment r.object target) st.at st.there st.apart (both_use uses workers call worker moment r.object target st.below st.machine st.machine_there))
-
 -- ---- the cases of a turn
 
 -- a worker stands before the call, and its turn at the objects comes to these and this answer
@@ -386,18 +219,23 @@ turn_cases P plan worker s of cases = by_next P plan worker s of cases (next_cal
 
 -- ---- the state behind a turn
 
-pub takes_keep : Laws → (plan : Plan) (worker : ℕ) (s : State) (call : Call) (objects : List ObjectState) (answer : Answer) → IsStateOf plan s → Takes plan worker s call objects answer → ObjectsKeep plan.workers s.objects objects
-takes_keep laws plan worker s call objects answer of takes =
-    subst (λ (x : List ObjectState × Answer). ObjectsKeep plan.workers s.objects x.0) takes.turn (turn_keep laws plan.workers worker call s.moment s.objects (ready plan worker s call of takes.next))
+-- what is so of the objects behind any turn is so of them behind this one
+pub takes_by : (P : List ObjectState × Answer → Type 0) (plan : Plan) (worker : ℕ) (s : State) (call : Call) (objects : List ObjectState) (answer : Answer) → IsStateOf plan s → Takes plan worker s call objects answer
+    → (IsReady plan.workers worker call s.objects → P (turn_at call worker s.moment s.objects)) → P (objects, answer)
+takes_by P plan worker s call objects answer of takes each = subst P takes.turn (each (ready plan worker s call of takes.next))
 
-takes_use : Uses → (plan : Plan) (worker : ℕ) (s : State) (call : Call) (objects : List ObjectState) (answer : Answer) → IsStateOf plan s → Takes plan worker s call objects answer → ObjectsUse s.objects (objects, answer)
+takes_use : TurnsUse → (plan : Plan) (worker : ℕ) (s : State) (call : Call) (objects : List ObjectState) (answer : Answer) → IsStateOf plan s → Takes plan worker s call objects answer → ObjectsUse s.objects (objects, answer)
 takes_use uses plan worker s call objects answer of takes =
-    subst (ObjectsUse s.objects) takes.turn (turn_use uses plan.workers worker call s.moment s.objects (ready plan worker s call of takes.next))
+    takes_by (ObjectsUse s.objects) plan worker s call objects answer of takes (uses plan.workers worker s.moment call s.objects)
 
-moved_of : Laws → (plan : Plan) (worker : ℕ) (s : State) (call : Call) (objects : List ObjectState) (answer : Answer) → IsStateOf plan s → Takes plan worker s call objects answer → IsStateOf plan (moved objects s)
-moved_of laws plan worker s call objects answer of takes =
-    let keep = takes_keep laws plan worker s call objects answer of takes in
-    record { valid = of.valid; objects = keep.kinds ∙ of.objects; machines = keep.machines of.machines; workers = of.workers; within = of.within }
+moved_of : TurnsKeep → (plan : Plan) (worker : ℕ) (s : State) (call : Call) (objects : List ObjectState) (answer : Answer) → IsStateOf plan s → Takes plan worker s call objects answer → IsStateOf plan (moved objects s)
+moved_of laws plan worker s call objects answer of takes = record {
+  valid = of.valid;
+  objects = takes_by (λ x. map kind_of x.0 ≡ map kind_of s.objects) plan worker s call objects answer of takes (laws.kinds plan.workers worker s.moment call s.objects) ∙ of.objects;
+  machines = takes_by (λ x. EachAt (λ place. IsMachineOf plan.workers) x.0) plan worker s call objects answer of takes (λ r. laws.machines plan.workers worker s.moment call s.objects r of.machines);
+  workers = of.workers;
+  within = of.within;
+}
 
 -- one reply more
 pub replied_more : (worker : ℕ) (reply : Reply) (s : State) → worker < length s.replies → length (get_or (with_reply worker reply s).replies worker []) ≡ length (get_or s.replies worker []) + 1
@@ -425,7 +263,7 @@ replied_of plan worker s call reply of below is =
     }
 
 -- a turn keeps what states keep
-pub turn_valid : Laws → (plan : Plan) (worker : ℕ) (s : State) → IsStateOf plan s → IsStateOf plan (turn_of plan worker s).0
+pub turn_valid : TurnsKeep → (plan : Plan) (worker : ℕ) (s : State) → IsStateOf plan s → IsStateOf plan (turn_of plan worker s).0
 turn_valid laws plan worker s of = turn_cases (λ step. IsStateOf plan step.0) plan worker s of (record {
   ended = λ is. of;
   still = λ call objects takes. moved_of laws plan worker s call objects answers.Still of takes;
@@ -457,7 +295,7 @@ StepUses plan s (t, steps.Still) = t ≡ s
 StepUses plan s (t, steps.Made) = left_to_do plan t < left_to_do plan s
 StepUses plan s (t, steps.Misused misuse) = t.replies ≡ s.replies
 
-pub turn_used : Laws → Uses → (plan : Plan) (worker : ℕ) (s : State) → IsStateOf plan s → StepUses plan s (turn_of plan worker s)
+pub turn_used : TurnsKeep → TurnsUse → (plan : Plan) (worker : ℕ) (s : State) → IsStateOf plan s → StepUses plan s (turn_of plan worker s)
 turn_used laws uses plan worker s of = turn_cases (StepUses plan s) plan worker s of (record {
   ended = λ is. refl;
   still = λ call objects takes. ap (λ (os : List ObjectState). record s { objects = os }) (takes_use uses plan worker s call objects answers.Still of takes);
@@ -472,50 +310,8 @@ turn_used laws uses plan worker s of = turn_cases (StepUses plan s) plan worker 
   misused = λ call objects misuse takes. refl;
 })
 
--- ---- a turn, by what its parts come to
+-- ---- a turn, by what settling it comes to
 
--- at an object that refers to no other
-pub turn_alone : (call : Call) (worker moment : ℕ) (objects : List ObjectState) (object : ObjectState) → slice_get objects (object_of call) ≡ Some object → reference_of (kind_of object) ≡ None
-    → turn_at call worker moment objects ≡ with_object (object_of call) objects (turn_on call worker moment object)
-turn_alone call worker moment objects object at none = ap (turn_with call worker moment objects) at ∙ ap (λ o. turn_by o call worker moment objects object) none
-
--- at an object that refers to another one
-pub turn_referring : (call : Call) (worker moment : ℕ) (objects : List ObjectState) (object : ObjectState) (other : ℕ) (target : ObjectState) → slice_get objects (object_of call) ≡ Some object
-    → reference_of (kind_of object) ≡ Some other → slice_get objects other ≡ Some target
-    → turn_at call worker moment objects ≡ with_both (object_of call) other objects (turn_on_both call worker moment object target)
-turn_referring call worker moment objects object other target at some there =
-    ap (turn_with call worker moment objects) at ∙ ap (λ o. turn_by o call worker moment objects object) some ∙ ap (turn_to call worker moment objects object other) there
-
--- the object at a place is the one that is found there
-pub is_found : (objects : List ObjectState) (place : ℕ) (object found : ObjectState) → slice_get objects place ≡ Some object → found ≡ get_or objects place found → found ≡ object
-is_found objects place object found at is = is ∙ get_or_from_slice_get objects place object found at
-
-set_twice : {X : Type 0} (xs : List X) (i : ℕ) (x y : X) → set (set xs i x) i y ≡ set xs i y
-set_twice [] i x y = refl
-set_twice (z ∷ xs) zero x y = refl
-set_twice {X = X} (z ∷ xs) (suc i) x y = ap (λ (l : List X). z ∷ l) (set_twice xs i x y)
-
-set_past : {X : Type 0} (xs : List X) (i k : ℕ) (x y z : X) → k ≢ i → set (set (set xs i x) k y) i z ≡ set (set xs i z) k y
-set_past [] i k x y z two = refl
-set_past (w ∷ xs) zero zero x y z two = absurd (two refl)
-set_past (w ∷ xs) zero (suc k) x y z two = refl
-set_past {X = X} (w ∷ xs) (suc i) zero x y z two = ap (λ (l : List X). y ∷ l) (set_twice xs i x z)
-set_past {X = X} (w ∷ xs) (suc i) (suc k) x y z two = ap (λ (l : List X). w ∷ l) (set_past xs i k x y z (λ same. two (ap suc same)))
-
--- at two objects, the first of which stands beside the others meanwhile
-pub set_aside : (call : Call) (worker moment : ℕ) (objects : List ObjectState) (place other : ℕ) (beside object target found found_target new new_target : ObjectState) (answer : Answer) → other ≢ place
-    → slice_get objects place ≡ Some object → slice_get objects other ≡ Some target → found ≡ get_or objects place found → found_target ≡ get_or (set objects place beside) other found_target
-    → turn_on_both call worker moment found found_target ≡ ((new, new_target), answer)
-    → with_both place other objects (turn_on_both call worker moment object target) ≡ (set (set (set objects place beside) other new_target) place new, answer)
-set_aside call worker moment objects place other beside object target found found_target new new_target answer two_places at there is is_there turn =
-    let one : object ≡ found = sym (is_found objects place object found at is) in
-    let two : target ≡ found_target = sym (is_found (set objects place beside) other target found_target (get_other objects place other beside target two_places there) is_there) in
-    ap (λ (o : ObjectState). with_both place other objects (turn_on_both call worker moment o target)) one
-    ∙ ap (λ (o : ObjectState). with_both place other objects (turn_on_both call worker moment found o)) two
-    ∙ ap (with_both place other objects) turn
-    ∙ ap (λ (l : List ObjectState). (l, answer)) (sym (set_past objects place other beside new_target new two_places))
-
--- what settling it comes to
 pub turn_before : (plan : Plan) (worker : ℕ) (s : State) (call : Call) (objects : List ObjectState) (answer : Answer) → next_call plan worker s ≡ Some call
     → turn_at call worker s.moment s.objects ≡ (objects, answer) → turn_of plan worker s ≡ settled worker answer (record s { objects = objects })
 turn_before plan worker s call objects answer next turn =

@@ -3,8 +3,8 @@ use Rattle.std.specs.Prelude.{ℕ, ◌+◌, List, [], ◌∷◌, ◌++◌, map}
 use Rattle.std.specs.Ordering.{nat_cmp}
 use Rattle.std.specs.Cmp.Lexicographic.{slice_cmp}
 use Rattle.std.specs.FinMap.{FinMap, entries}
-use Rattle.step_runner.specs.declared.object_state.ObjectState.{ObjectState}
-use Rattle.step_runner.specs.declared.object_state.ObjectState.TheVariants as states
+use Rattle.step_turns.specs.declared.object_state.ObjectState.{ObjectState}
+use Rattle.step_turns.specs.declared.object_state.ObjectState.TheVariants as states
 use Rattle.step_runner.specs.declared.ends.End.{End}
 use Rattle.step_runner.specs.declared.ends.End.TheVariants.{Number, Pair}
 

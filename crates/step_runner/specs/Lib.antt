@@ -1,16 +1,7 @@
-pub mod AtomicTurn
-pub mod CondTurn
 pub mod Ends
 pub mod LeftToDo
-pub mod MachineLogs
 pub mod MadeCalls
-pub mod MapTurn
-pub mod MutexTurn
-pub mod OnceTurn
 pub mod Outcomes
 pub mod Pairs
-pub mod PoolTurn
-pub mod RwMutexTurn
 pub mod State
 pub mod Turns
-pub mod WaitGroupTurn

@@ -1,8 +1,6 @@
 -- When a run ends how, with no word on how many rounds are enough.
 use Rattle.std.specs.Prelude.{◌≡◌, ℕ, zero, suc, Bool, true, false, List, [], ◌++◌}
 use Rattle.sync_model.specs.declared.misuse.Misuse.{Misuse}
-use Rattle.sync_model.specs.declared.call.Call.{Call}
-use Rattle.sync_model.specs.declared.call.Call.TheVariants as calls
 use Rattle.workload.specs.declared.turn.Turn.{Turn}
 use Rattle.workload.specs.Plan.{Plan}
 use Rattle.step_runner.specs.declared.step.Step.{Step}
@@ -49,17 +47,3 @@ pub record IsDeadlocked (plan : Plan) (report : Report) : Type 0 where
   pub going : has_ended plan state ≡ false
   pub still : items_of plan (round plan.workers) state ≡ (state, steps.Still)
   pub leaves : report ≡ record { replies = state.replies; ends = [] }
-
--- whether a call is on a map, an atomic or a pool: such a call is completed in its first turn
-abbrev pub never_waits : Call → Bool
-never_waits (calls.Map object call) = true
-never_waits (calls.Range object) = true
-never_waits (calls.Atomic object call) = true
-never_waits (calls.Mutex object call) = false
-never_waits (calls.RwMutex object call) = false
-never_waits (calls.Cond object call) = false
-never_waits (calls.WaitGroup object call) = false
-never_waits (calls.Once object) = false
-never_waits (calls.OnceFunc object) = false
-never_waits (calls.OnceValue object) = false
-never_waits (calls.Pool object call) = true

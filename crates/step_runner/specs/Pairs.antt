@@ -1,24 +1,11 @@
--- How many pairs a `range` shows.
-use Rattle.std.specs.Prelude.{ℕ, Bool, true, nat_le, length}
+-- How many pairs the replies of a run show.
+use Rattle.std.specs.Prelude.{Bool}
 use Rattle.std.specs.List.{list_all}
-use Rattle.sync_model.specs.declared.call.Reply.{Reply}
-use Rattle.sync_model.specs.declared.call.Reply.TheVariants as replies
 use Rattle.workload.specs.declared.limits.TheConstants.{MAX_KEYS}
+use Rattle.step_turns.specs.Pairs.{has_pairs_to}
 use Rattle.step_runner.specs.declared.outcome.Report.{Report}
 use Rattle.step_runner.specs.declared.outcome.Outcome.{Outcome}
 use Rattle.step_runner.specs.declared.outcome.Outcome.TheVariants as outcomes
-
--- whether a reply shows at most so many pairs; only that of a `range` shows any
-abbrev pub has_pairs_to : ℕ → Reply → Bool
-has_pairs_to most (replies.Map reply) = true
-has_pairs_to most (replies.Pairs pairs) = nat_le (length pairs) most
-has_pairs_to most (replies.Atomic reply) = true
-has_pairs_to most (replies.Lock reply) = true
-has_pairs_to most replies.Returned = true
-has_pairs_to most (replies.Once reply) = true
-has_pairs_to most (replies.OnceFunc code) = true
-has_pairs_to most (replies.OnceValue value) = true
-has_pairs_to most (replies.Pool reply) = true
 
 -- what a run leaves behind
 abbrev pub left_by : Outcome → Report

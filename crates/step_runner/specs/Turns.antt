@@ -1,30 +1,22 @@
--- The run of a workload by its schedule: who takes a turn when, what a turn does, and what it comes to.
-use Rattle.std.specs.Prelude.{ℕ, zero, suc, ◌+◌, Bool, not, List, [], ◌∷◌, map, length, get_or, set, slice_get, Option, Some, None, is_some, if◌then◌else◌}
+-- The run of a workload by its schedule: who takes a turn when, and what it comes to.
+use Rattle.std.specs.Prelude.{ℕ, zero, suc, ◌+◌, Bool, not, List, [], ◌∷◌, map, length, get_or, slice_get, Option, is_some, if◌then◌else◌}
 use Rattle.std.specs.List.{list_all, range_with_len}
 use Rattle.std.specs.Option.{option_map_or}
 use Rattle.sync_model.specs.declared.call.Call.{Call}
-use Rattle.sync_model.specs.declared.call.Call.TheVariants as calls
 use Rattle.workload.specs.declared.turn.Turn.{Turn}
 use Rattle.workload.specs.declared.turn.Turn.TheVariants as items
-use Rattle.workload.specs.Plan.{Plan, object_of, reference_of}
-use Rattle.step_runner.specs.declared.step.Answer.{Answer}
-use Rattle.step_runner.specs.declared.step.Answer.TheVariants as answers
+use Rattle.workload.specs.Plan.{Plan}
+use Rattle.step_turns.specs.declared.answer.Answer.{Answer}
+use Rattle.step_turns.specs.declared.answer.Answer.TheVariants as answers
+use Rattle.step_turns.specs.declared.object_state.ObjectState.{ObjectState}
+use Rattle.step_turns.specs.Turns.{turn_at}
 use Rattle.step_runner.specs.declared.step.Step.{Step}
 use Rattle.step_runner.specs.declared.step.Step.TheVariants as steps
 use Rattle.step_runner.specs.declared.outcome.Ending.{Ending}
 use Rattle.step_runner.specs.declared.outcome.Ending.TheVariants as endings
 use Rattle.step_runner.specs.declared.outcome.Outcome.{Outcome}
 use Rattle.step_runner.specs.declared.outcome.Outcome.TheVariants as outcomes
-use Rattle.step_runner.specs.declared.object_state.ObjectState.{ObjectState}
-use Rattle.step_runner.specs.State.{State, kind_of, start, with_reply, with_moment}
-use Rattle.step_runner.specs.MapTurn.{map_turn, range_turn}
-use Rattle.step_runner.specs.AtomicTurn.{atomic_turn}
-use Rattle.step_runner.specs.MutexTurn.{mutex_turn}
-use Rattle.step_runner.specs.RwMutexTurn.{rw_mutex_turn}
-use Rattle.step_runner.specs.CondTurn.{cond_turn}
-use Rattle.step_runner.specs.WaitGroupTurn.{group_turn}
-use Rattle.step_runner.specs.OnceTurn.{once_turn, func_turn, value_turn}
-use Rattle.step_runner.specs.PoolTurn.{pool_turn}
+use Rattle.step_runner.specs.State.{State, start, with_reply, with_moment}
 use Rattle.step_runner.specs.LeftToDo.{left_to_do}
 use Rattle.step_runner.specs.Ends.{ends_of}
 
@@ -33,43 +25,6 @@ use Rattle.step_runner.specs.Ends.{ends_of}
 -- the call before which a worker stands, unless its script has ended
 abbrev pub next_call : Plan → ℕ → State → Option Call
 next_call plan worker s = slice_get (get_or plan.scripts worker []) (length (get_or s.replies worker []))
-
--- the turn of a worker that stands before the call, at a moment, as the call's object has it, where that object refers to no other
-abbrev pub turn_on : Call → ℕ → ℕ → ObjectState → ObjectState × Answer
-turn_on (calls.Map object call) worker moment o = map_turn call o
-turn_on (calls.Range object) worker moment o = range_turn o
-turn_on (calls.Atomic object call) worker moment o = atomic_turn call o
-turn_on (calls.Mutex object call) worker moment o = mutex_turn call worker moment o
-turn_on (calls.RwMutex object call) worker moment o = rw_mutex_turn call worker moment o
-turn_on (calls.WaitGroup object call) worker moment o = group_turn call worker o
-turn_on (calls.OnceFunc object) worker moment o = func_turn worker o
-turn_on (calls.OnceValue object) worker moment o = value_turn worker o
-turn_on (calls.Pool object call) worker moment o = pool_turn call worker o
-turn_on (calls.Cond object call) worker moment o = (o, answers.Still)
-turn_on (calls.Once object) worker moment o = (o, answers.Still)
-
--- the turn at an object that refers to another one, and at that one
-abbrev pub turn_on_both : Call → ℕ → ℕ → ObjectState → ObjectState → (ObjectState × ObjectState) × Answer
-turn_on_both (calls.Cond object call) worker moment o target = cond_turn call worker moment o target
-turn_on_both (calls.Once object) worker moment o target = once_turn worker o target
-turn_on_both call worker moment o target = ((o, target), answers.Still)
-
--- it leaves every other object alone
-abbrev pub with_object : ℕ → List ObjectState → ObjectState × Answer → List ObjectState × Answer
-with_object place objects step = (set objects place step.0, step.1)
-
-abbrev pub with_both : ℕ → ℕ → List ObjectState → (ObjectState × ObjectState) × Answer → List ObjectState × Answer
-with_both place other objects step = (set (set objects place step.0.0) other step.0.1, step.1)
-
--- by the place of the object to which the call's object refers, if it refers to one
-abbrev pub turn_by : Option ℕ → Call → ℕ → ℕ → List ObjectState → ObjectState → List ObjectState × Answer
-turn_by None call worker moment objects object = with_object (object_of call) objects (turn_on call worker moment object)
-turn_by (Some other) call worker moment objects object =
-    option_map_or (λ target. with_both (object_of call) other objects (turn_on_both call worker moment object target)) (slice_get objects other) (objects, answers.Still)
-
-abbrev pub turn_at : Call → ℕ → ℕ → List ObjectState → List ObjectState × Answer
-turn_at call worker moment objects =
-    option_map_or (λ object. turn_by (reference_of (kind_of object)) call worker moment objects object) (slice_get objects (object_of call)) (objects, answers.Still)
 
 -- what an answer means for the worker and for the run
 abbrev pub settled : ℕ → Answer → State → State × Step

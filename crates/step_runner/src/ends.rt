@@ -2,8 +2,8 @@
 ghost use Rattle.std.specs.Prelude.{◌≡◌, ◌++◌, IfOk, OnOk};
 ghost use Rattle.step_runner.specs.Ends.{numbers_from, map_ends, pairs_from, ends_of};
 
-use crate::object_state::ObjectState;
 use std::alloc::{AllocError, Global};
+use step_turns::ObjectState;
 use sync_model::{ByName, Name, Number, Seq};
 
 /// A value that an object holds at the end.

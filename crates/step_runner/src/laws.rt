@@ -19,20 +19,25 @@ ghost use Rattle.pool_core.specs.declared.pool_event.PoolReply.{PoolReply};
 ghost use Rattle.workload.specs.Draft.{all_keys, distinct_count};
 ghost use Rattle.workload.specs.declared.turn.Turn.{Turn};
 ghost use Rattle.workload.specs.Plan.{Plan, is_valid};
+ghost use Rattle.step_turns.specs.declared.object_state.ObjectState.{ObjectState};
+ghost use Rattle.step_turns.specs.declared.object_state.ObjectState.TheVariants as states;
+ghost use Rattle.step_turns.specs.Completes.{never_waits};
+ghost use Rattle.step_turns.specs.MachineLogs.{FollowsItsMachine};
+ghost use Rattle.step_turns.specs.Objects.{kind_of, IsMachineOf};
+ghost use Rattle.step_turns.specs.Pairs.{has_pairs_to};
 ghost use Rattle.step_runner.specs.declared.step.Step.TheVariants as steps;
 ghost use Rattle.step_runner.specs.declared.outcome.Report.{Report};
 ghost use Rattle.step_runner.specs.declared.outcome.Outcome.TheVariants as outcomes;
-ghost use Rattle.step_runner.specs.declared.object_state.ObjectState.{ObjectState};
-ghost use Rattle.step_runner.specs.declared.object_state.ObjectState.TheVariants as states;
 ghost use Rattle.step_runner.specs.LeftToDo.{left_to_do};
-ghost use Rattle.step_runner.specs.MachineLogs.{FollowsItsMachine};
-ghost use Rattle.step_runner.specs.Pairs.{has_pairs_to};
 ghost use Rattle.step_runner.specs.MadeCalls.{made_calls, calls_of};
-ghost use Rattle.step_runner.specs.Outcomes.{IsDone, IsMisused, IsDeadlocked, never_waits};
-ghost use Rattle.step_runner.specs.State.{State, IsMachineOf, IsStateOf, puts_at, start, kind_of, with_moment};
+ghost use Rattle.step_runner.specs.Outcomes.{IsDone, IsMisused, IsDeadlocked};
+ghost use Rattle.step_runner.specs.State.{State, IsStateOf, puts_at, start, with_moment};
 ghost use Rattle.step_runner.specs.Turns.{next_call, turn_of, items_of, after_items, has_ended, rounds_of, all_rounds, turns};
 
-use sync_model::laws::atomics::calls_keep_the_type;
+use step_turns::laws::{
+    maps_keep_to_the_keys_of_calls, numbers_stay_in_range, pools_have_room, some_calls_never_wait,
+    turns_follow_the_machines, turns_keep_kinds_and_machines, turns_use_something_up,
+};
 
 /// What is true of the state in which a run begins stays true with each turn, and so at every moment:
 /// each object is of the kind that the workload says, the state of each mutex and of each reader/writer
@@ -43,13 +48,7 @@ pub fn validity()
     ensures goes_on { (plan : Plan) (worker : ℕ) (state : State) → IsStateOf plan state → IsStateOf plan (turn_of plan worker state).0 }
     ensures always { (plan : Plan) (items : List Turn) → is_valid plan ≡ true → IsStateOf plan (after_items plan items (start plan)) }
 {
-    mutex_core::laws::validity();
-    rw_core::laws::validity();
-    wait_cores::laws::notify::answers_its_callers();
-    wait_cores::laws::group::knows_where_it_stands();
-    wait_cores::laws::once::knows_where_it_stands::<i64>();
-    wait_cores::laws::once::knows_where_it_stands::<u64>();
-    pool_core::laws::keeps_its_parts();
+    turns_keep_kinds_and_machines();
 }
 
 /// A turn without an event changes nothing, and each event lowers what is left to do. A misuse completes
@@ -59,23 +58,8 @@ pub fn events_use_something_up()
     ensures made { (plan : Plan) (worker : ℕ) (old new : State) → IsStateOf plan old → turn_of plan worker old ≡ (new, steps.Made) → left_to_do plan new < left_to_do plan old }
     ensures misused { (plan : Plan) (worker : ℕ) (old new : State) (misuse : Misuse) → IsStateOf plan old → turn_of plan worker old ≡ (new, steps.Misused misuse) → new.replies ≡ old.replies }
 {
-    mutex_core::laws::validity();
-    rw_core::laws::validity();
-    wait_cores::laws::notify::answers_its_callers();
-    wait_cores::laws::group::knows_where_it_stands();
-    wait_cores::laws::once::knows_where_it_stands::<i64>();
-    wait_cores::laws::once::knows_where_it_stands::<u64>();
-    pool_core::laws::keeps_its_parts();
-    mutex_core::laws::standing();
-    mutex_core::laws::events_are_used_up();
-    rw_core::laws::events_are_used_up();
-    wait_cores::laws::notify::events_are_used_up();
-    wait_cores::laws::group::events_are_used_up();
-    wait_cores::laws::once::events_are_used_up::<i64>();
-    wait_cores::laws::once::events_are_used_up::<u64>();
-    wait_cores::laws::group::still();
-    wait_cores::laws::once::still::<i64>();
-    wait_cores::laws::once::still::<u64>();
+    turns_keep_kinds_and_machines();
+    turns_use_something_up();
 }
 
 /// Every run ends, in one of the three ways: one round more than is left to do is enough, and any more
@@ -108,6 +92,7 @@ pub fn scripts_that_never_wait_end()
 {
     validity();
     events_use_something_up();
+    some_calls_never_wait();
 }
 
 /// At no moment has a worker more replies than its script has calls.
@@ -140,29 +125,35 @@ pub fn objects_keep_their_kinds()
         → IsMachineOf plan.workers object }
 {
     validity();
-    calls_keep_the_type();
+    numbers_stay_in_range();
 }
 
 /// At every moment, behind any items up to the first misuse, each object that is a machine is in a state that
 /// the machine reaches from its start by the events of a log that follows it. So what the laws of
-/// `mutex_core`, `rw_core` and `wait_cores` say of the state behind every such log is true of it. A wait
+/// `mutex_core`, `rw_core`, `wait_cores` and `pool_core` say of the state behind every such log is true of it. A wait
 /// group's log goes on behind the one `Add` of its line's number, and a pool's parts have room for every put
 /// that the scripts make there.
 pub fn objects_follow_their_machines()
     ensures { (plan : Plan) (items : List Turn) (place : ℕ) (object : ObjectState) → slice_get (after_items plan items (start plan)).objects place ≡ Some object
         → FollowsItsMachine plan.workers (puts_at place plan.scripts) object }
-{}
+{
+    turns_follow_the_machines();
+}
 
 /// At every moment each key that is there in a map is a key of the workload's calls.
 pub fn keys_are_those_of_calls()
     ensures { (plan : Plan) (items : List Turn) (object : ℕ) (m : FinMap (slice_cmp nat_cmp) ℕ) (key : List ℕ) → slice_get (after_items plan items (start plan)).objects object ≡ Some (states.Map m)
         → contains_key m key ≡ true → list_any (bytes_eq key) (all_keys plan.scripts) ≡ true }
-{}
+{
+    maps_keep_to_the_keys_of_calls();
+}
 
 /// At every moment no reply shows more pairs than the workload's calls have different keys.
 pub fn pairs_are_few()
     ensures { (plan : Plan) (items : List Turn) → list_all (list_all (has_pairs_to (distinct_count (all_keys plan.scripts)))) (after_items plan items (start plan)).replies ≡ true }
-{}
+{
+    maps_keep_to_the_keys_of_calls();
+}
 
 /// At every moment a worker that stands before a put finds room for its item: by schedule no put is dropped.
 pub fn no_put_is_dropped()
@@ -172,6 +163,7 @@ pub fn no_put_is_dropped()
         → (pool.next p worker (PoolEvent.Put item)).1 ≡ PoolReply.Kept }
 {
     validity();
+    pools_have_room();
 }
 
 /// Once every script has ended, nothing that is left of the schedule makes an event or has an effect, but

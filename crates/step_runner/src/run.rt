@@ -12,6 +12,7 @@ use crate::state::State;
 use crate::step::Step;
 use crate::turn::{next_call, take_turn};
 use std::alloc::{AllocError, Global};
+use step_turns::laws::maps_keep_to_the_keys_of_calls;
 use sync_model::Seq;
 use workload::{Turn, Workload};
 
@@ -147,6 +148,7 @@ pub fn stepped(alloc: Global, workload: &Workload) -> Result<Outcome, AllocError
     ensures outcome { IfOk result (λ outcome. outcome ≡ turns workload.now) }
     ensures pairs { IfOk result (λ outcome. has_few_pairs outcome ≡ true) }
 {
+    maps_keep_to_the_keys_of_calls();
     let mut state = State::start(alloc, workload)?;
     let ending = take_all(alloc, workload, &mut state)?;
     outcome(alloc, state, ending)

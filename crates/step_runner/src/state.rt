@@ -1,14 +1,15 @@
 //! What a run knows between two turns.
 ghost use Rattle.std.specs.Prelude.{◌≡◌, ◌<◌, [], count_by, length, get_or, replicate, IfOk, OnOk};
 ghost use Rattle.workload.specs.Readable.{IsReadable};
-ghost use Rattle.step_runner.specs.State.{IsStateOf, is_put_at, puts_at, new_objects, start, with_reply};
+ghost use Rattle.step_turns.specs.PoolRoom.{is_put_at};
+ghost use Rattle.step_runner.specs.State.{IsStateOf, puts_at, new_objects, start, with_reply};
 ghost use Rattle.step_runner.specs.Turns.{settled};
 
 use crate::laws;
-use crate::object_state::ObjectState;
-use crate::step::{Answer, Step};
+use crate::step::Step;
 use std::alloc::{AllocError, Global};
 use std::marker::Model;
+use step_turns::{Answer, ObjectState};
 use sync_model::{Call, PoolCall, Reply, Seq};
 use workload::Workload;
 
@@ -23,7 +24,7 @@ pub struct State {
 impl Model for State {
     ghost use Rattle.std.specs.Coded.{codes};
     ghost use Rattle.step_runner.specs.State.{State};
-    ghost use Rattle.step_runner.specs.contracts.object_state.ObjectState as object;
+    ghost use Rattle.step_turns.specs.contracts.object_state.ObjectState as object;
 
     ghost Value = { State };
 

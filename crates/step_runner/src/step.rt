@@ -1,18 +1,5 @@
-//! What a turn comes to.
-use sync_model::{Misuse, Reply};
-
-/// What a turn means for the call before which its worker stands.
-#[derive(Debug, Drop)]
-pub enum Answer {
-    /// The worker makes no event: it waits, and nobody has told it to go on.
-    Still,
-    /// The worker makes an event, after which it waits.
-    Waits,
-    /// The worker makes an event that completes the call, with this reply.
-    Completed(Reply),
-    /// The call is a misuse, which isn't completed.
-    Misused(Misuse),
-}
+//! What turns come to.
+use sync_model::Misuse;
 
 /// What a turn comes to, or several turns in order.
 #[derive(Clone, Copy, Debug, PartialEq, Eq)]

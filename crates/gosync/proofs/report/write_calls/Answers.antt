@@ -2,7 +2,7 @@ use Rattle.std.proofs.Common.{◌+◌, length, drop, sym, ap, subst, ◌∙◌, 
 use Rattle.std.proofs.lemmas.Bool.{ltb-true}
 use Rattle.sync_outside.specs.Bytes.{Appends, AppendsFront}
 use Rattle.workload.specs.declared.limits.TheConstants.{MAX_KEYS}
-use Rattle.step_runner.specs.Pairs.{has_pairs_to}
+use Rattle.step_turns.specs.Pairs.{has_pairs_to}
 use Rattle.gosync.specs.ReportText.{call_line, calls_text}
 use Rattle.gosync.proofs.Lines.{all_at, drop_at, calls_step}
 use Rattle.gosync.proofs.Writing.{goes_on, goes_cut, on_err}

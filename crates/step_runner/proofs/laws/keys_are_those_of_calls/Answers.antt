@@ -1,8 +1,11 @@
 use Rattle.std.proofs.Common.{arith}
 use Rattle.workload.specs.Draft.{all_keys, distinct_count}
-use Rattle.step_runner.specs.declared.object_state.ObjectState.TheVariants as states
-use Rattle.step_runner.proofs.PairLemmas.{items_keys}
+use Rattle.step_turns.specs.declared.object_state.ObjectState.TheVariants as states
+use Rattle.step_runner.proofs.RunKeys.{Keys, items_keys}
 use Rattle.step_runner.proofs.laws.keys_are_those_of_calls.Goals as goal
 
+abbrev keys : goal.After-maps_keep_to_the_keys_of_calls → Keys
+keys c = record { begins = c.maps_keep_to_the_keys_of_calls.ensures.begins; goes_on = c.maps_keep_to_the_keys_of_calls.ensures.goes_on }
+
 pub returns : goal.returns
-returns c plan items object m key is there = (items_keys plan (distinct_count (all_keys plan.scripts)) items (omega arith)).maps object (states.Map m) is key there
+returns c plan items object m key is there = (items_keys (keys c) plan (distinct_count (all_keys plan.scripts)) items (omega arith)).maps object (states.Map m) is key there

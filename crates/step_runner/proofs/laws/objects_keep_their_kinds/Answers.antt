@@ -1,5 +1,5 @@
-use Rattle.step_runner.specs.declared.object_state.ObjectState.TheVariants as states
-use Rattle.step_runner.proofs.RangeLemmas.{in_range}
+use Rattle.step_turns.specs.declared.object_state.ObjectState.TheVariants as states
+use Rattle.step_runner.proofs.RunRanges.{in_range}
 use Rattle.step_runner.proofs.laws.objects_keep_their_kinds.Goals as goal
 
 pub returns-clause-kinds : goal.returns-clause-kinds
@@ -7,7 +7,8 @@ returns-clause-kinds c plan items valid = (c.validity.ensures.always plan items 
 
 pub returns-clause-ranges : goal.returns-clause-ranges
 returns-clause-ranges c plan items object number valid at =
-    in_range c.calls_keep_the_type.ensures.start c.calls_keep_the_type.ensures.after plan (c.validity.ensures.goes_on plan) (c.validity.ensures.begins plan valid) items object (states.Atomic number) at
+    in_range (record { begins = c.numbers_stay_in_range.ensures.begins; goes_on = c.numbers_stay_in_range.ensures.goes_on })
+    plan (c.validity.ensures.goes_on plan) (c.validity.ensures.begins plan valid) items object (states.Atomic number) at
 
 pub returns-clause-mutexes : goal.returns-clause-mutexes
 returns-clause-mutexes c plan items object m valid at = (c.validity.ensures.always plan items valid).machines object (states.Mutex m) at

@@ -6,7 +6,7 @@ use Rattle.step_runner.specs.declared.outcome.Outcome.{Outcome}
 use Rattle.step_runner.specs.Pairs.{has_few_pairs}
 use Rattle.step_runner.specs.State.{State}
 use Rattle.step_runner.specs.Turns.{items_of, behind_schedule, outcome_of, turns}
-use Rattle.step_runner.proofs.PairLemmas.{few_pairs}
+use Rattle.step_runner.proofs.RunKeys.{Keys, few_pairs}
 use Rattle.step_runner.proofs.run.stepped.Goals as goal
 
 comes_to : (c : goal.After-outcome) → IfOk c.outcome.result (λ outcome. outcome ≡ turns c.args.workload.now)
@@ -21,5 +21,6 @@ returns-clause-outcome c = comes_to c
 
 pub returns-clause-pairs : goal.returns-clause-pairs
 returns-clause-pairs c =
+    let keys : Keys = record { begins = c.maps_keep_to_the_keys_of_calls.ensures.begins; goes_on = c.maps_keep_to_the_keys_of_calls.ensures.goes_on } in
     IfOk-weaker c.outcome.result (λ outcome. outcome ≡ turns c.args.workload.now) (λ outcome. has_few_pairs outcome ≡ true)
-    (λ outcome is. subst (λ (o : Outcome). has_few_pairs o ≡ true) (sym is) (few_pairs c.args.workload.now c.in_ok-state.ensures.readable)) (comes_to c)
+    (λ outcome is. subst (λ (o : Outcome). has_few_pairs o ≡ true) (sym is) (few_pairs keys c.args.workload.now c.in_ok-state.ensures.readable)) (comes_to c)

@@ -1,6 +1,7 @@
 use Rattle.std.proofs.Common.{◌≤◌, ◌+◌, drop, ap, ◌∙◌, arith}
 use Rattle.std.specs.Prelude.{count_by}
-use Rattle.step_runner.specs.State.{is_put_at, puts_at}
+use Rattle.step_turns.specs.PoolRoom.{is_put_at}
+use Rattle.step_runner.specs.State.{puts_at}
 use Rattle.step_runner.proofs.Puts.{counted, counted_all}
 use Rattle.step_runner.proofs.TurnLemmas.{valid_scripts}
 use Rattle.step_runner.proofs.state.puts_at.Goals as goal

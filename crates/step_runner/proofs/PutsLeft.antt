@@ -1,0 +1,139 @@
+-- A pool has room for every put that is left to make on it.
+use Rattle.std.proofs.Common.{◌≡◌, ℕ, zero, suc, ◌+◌, ◌-◌, ◌<◌, ◌≤◌, true, cond, ◌&&◌, List, [], ◌∷◌, ◌++◌, drop, length, get_or, set, replicate, Some, refl, sym, ap, ◌∙◌, subst, arith}
+use Rattle.std.specs.Prelude.{slice_get, count_by}
+use Rattle.std.proofs.lemmas.Bool.{eq-eqb}
+use Rattle.std.proofs.lemmas.List.{length-append}
+use Rattle.std.proofs.lemmas.List.Sums.{sum_by-cons}
+use Rattle.sync_model.specs.declared.call.Call.{Call}
+use Rattle.sync_model.specs.declared.call.Call.TheVariants as calls
+use Rattle.sync_model.specs.declared.call.Reply.{Reply}
+use Rattle.sync_model.specs.declared.call.Reply.TheVariants as replies
+use Rattle.sync_model.specs.declared.pool_call.PoolCall.TheVariants as pool_calls
+use Rattle.pool_core.specs.PoolMachine as pool
+use Rattle.pool_core.specs.declared.pool_event.PoolEvent.TheVariants as event
+use Rattle.pool_core.specs.declared.pool_event.PoolReply.TheVariants as pool_reply
+use Rattle.workload.specs.declared.object.ObjectKind.{ObjectKind}
+use Rattle.workload.specs.declared.turn.Turn.{Turn}
+use Rattle.workload.specs.Plan.{Plan, object_of}
+use Rattle.step_turns.specs.declared.answer.Answer.{Answer}
+use Rattle.step_turns.specs.declared.answer.Answer.TheVariants as answers
+use Rattle.step_turns.specs.declared.object_state.ObjectState.{ObjectState}
+use Rattle.step_turns.specs.declared.object_state.ObjectState.TheVariants as states
+use Rattle.step_turns.specs.Objects.{new_object, EachAt}
+use Rattle.step_turns.specs.PoolRoom.{is_put_at, put_of, HasRoomFor, left_behind}
+use Rattle.step_turns.specs.Turns.{turn_at}
+use Rattle.step_runner.specs.State.{State, puts_at, start, with_reply, IsStateOf}
+use Rattle.step_runner.specs.Turns.{next_call, turn_of, after_items}
+use Rattle.step_runner.proofs.StartLemmas.{each_start}
+use Rattle.step_runner.proofs.TurnLemmas.{Takes, moved, ready, takes_by, turn_cases}
+use Rattle.step_runner.proofs.RunLemmas.{GoesOn, Kept, items_keep, moment_valid}
+
+-- what the law of turns says
+pub record Rooms : Type 0 where
+  pub begins : (workers room : ℕ) (kind : ObjectKind) → HasRoomFor room (new_object workers room kind)
+  pub goes_on : (worker moment : ℕ) (left : ℕ → ℕ) (call : Call) (objects : List ObjectState) → put_of (object_of call) call ≤ left (object_of call) → EachAt (λ place. HasRoomFor (left place)) objects
+      → EachAt (λ place. HasRoomFor (left_behind (turn_at call worker moment objects).1 (put_of place call) (left place))) (turn_at call worker moment objects).0
+  pub kept : (worker item left : ℕ) (p : pool.PoolState ℕ) → worker < pool.callers_of p → 1 ≤ left → HasRoomFor left (states.Pool p) → (pool.next p worker (event.Put item)).1 ≡ pool_reply.Kept
+
+-- ---- the puts that are left
+
+-- those of one script, behind so many calls
+abbrev pub left_in : ℕ → List Call → ℕ → ℕ
+left_in place script done = count_by (is_put_at place) (drop done script)
+
+-- those of all scripts, behind these replies
+abbrev pub puts_left : ℕ → List (List Call) → List (List Reply) → ℕ
+puts_left place [] replies = 0
+puts_left place (script ∷ scripts) [] = left_in place script 0 + puts_left place scripts []
+puts_left place (script ∷ scripts) (done ∷ replies) = left_in place script (length done) + puts_left place scripts replies
+
+left_next : (place : ℕ) (script : List Call) (n : ℕ) (call : Call) → slice_get script n ≡ Some call → left_in place script n ≡ put_of place call + left_in place script (suc n)
+left_next place [] n call is = absurd cc
+left_next place (first ∷ script) zero call is =
+    let same : first ≡ call = cc in
+    sum_by-cons (put_of place) first script ∙ ap (λ (c : Call). put_of place c + count_by (is_put_at place) script) same
+left_next place (first ∷ script) (suc n) call is = left_next place script n call is
+
+-- one call more is completed
+one_put_fewer : (place : ℕ) (scripts : List (List Call)) (replies : List (List Reply)) (worker : ℕ) (call : Call) (reply : Reply) → worker < length replies
+    → slice_get (get_or scripts worker []) (length (get_or replies worker [])) ≡ Some call
+    → puts_left place scripts (set replies worker (get_or replies worker [] ++ reply ∷ [])) + put_of place call ≡ puts_left place scripts replies
+one_put_fewer place [] replies worker call reply here is = absurd cc
+one_put_fewer place (script ∷ scripts) [] worker call reply here is = absurd (omega (arith, here))
+one_put_fewer place (script ∷ scripts) (done ∷ replies) zero call reply here is =
+    let more : length (done ++ reply ∷ []) ≡ suc (length done) = omega (arith, length-append done (reply ∷ [])) in
+    omega (arith, ap (left_in place script) more, left_next place script (length done) call is)
+one_put_fewer place (script ∷ scripts) (done ∷ replies) (suc worker) call reply here is =
+    omega (arith, one_put_fewer place scripts replies worker call reply (omega (arith, here)) is)
+
+none_made : (place : ℕ) (scripts : List (List Call)) (n : ℕ) → puts_left place scripts (replicate {A = List Reply} n []) ≡ puts_at place scripts
+none_made place [] n = refl
+none_made place (script ∷ scripts) zero = omega (arith, none_made place scripts zero, sum_by-cons (count_by (is_put_at place)) script scripts)
+none_made place (script ∷ scripts) (suc n) = omega (arith, none_made place scripts n, sum_by-cons (count_by (is_put_at place)) script scripts)
+
+-- ---- every state
+
+-- each object has room for the puts that are left to make there
+abbrev AllFit : (ℕ → ℕ) → List ObjectState → Type 0
+AllFit left objects = EachAt (λ place. HasRoomFor (left place)) objects
+
+-- how many puts are left to make at each place
+abbrev pub left_at : Plan → State → ℕ → ℕ
+left_at plan s place = puts_left place plan.scripts s.replies
+
+pub record HasRoom (plan : Plan) (s : State) : Type 0 where
+  pub of : IsStateOf plan s
+  pub fits : AllFit (left_at plan s) s.objects
+
+-- a put before which a worker stands is left to make
+some_left : (plan : Plan) (worker : ℕ) (s : State) (call : Call) (place : ℕ) → IsStateOf plan s → worker < plan.workers → next_call plan worker s ≡ Some call → put_of place call ≤ left_at plan s place
+some_left plan worker s call place of below is =
+    omega (arith, one_put_fewer place plan.scripts s.replies worker call replies.Returned (omega (arith, of.workers, below)) is)
+
+takes_fits : Rooms → (plan : Plan) (worker : ℕ) (s : State) (call : Call) (objects : List ObjectState) (answer : Answer) → HasRoom plan s → Takes plan worker s call objects answer
+    → AllFit (λ place. left_behind answer (put_of place call) (left_at plan s place)) objects
+takes_fits rooms plan worker s call objects answer has takes =
+    takes_by (λ x. AllFit (λ place. left_behind x.1 (put_of place call) (left_at plan s place)) x.0) plan worker s call objects answer has.of takes
+    (λ r. rooms.goes_on worker s.moment (left_at plan s) call s.objects (some_left plan worker s call (object_of call) has.of takes.below takes.next) has.fits)
+
+completed_fits : Rooms → (plan : Plan) (worker : ℕ) (s : State) (call : Call) (objects : List ObjectState) (reply : Reply) → HasRoom plan s → Takes plan worker s call objects (answers.Completed reply)
+    → AllFit (left_at plan (with_reply worker reply (moved objects s))) objects
+completed_fits rooms plan worker s call objects reply has takes place object at =
+    let fewer = one_put_fewer place plan.scripts s.replies worker call reply (omega (arith, has.of.workers, takes.below)) takes.next in
+    let left : left_at plan s place - put_of place call ≡ left_at plan (with_reply worker reply (moved objects s)) place = omega (arith, fewer) in
+    subst (λ n. HasRoomFor n object) left (takes_fits rooms plan worker s call objects (answers.Completed reply) has takes place object at)
+
+turn_fits : Rooms → (plan : Plan) (worker : ℕ) (s : State) → HasRoom plan s → AllFit (left_at plan (turn_of plan worker s).0) (turn_of plan worker s).0.objects
+turn_fits rooms plan worker s has = turn_cases (λ step. AllFit (left_at plan step.0) step.0.objects) plan worker s has.of (record {
+  ended = λ is. has.fits;
+  still = λ call objects takes. takes_fits rooms plan worker s call objects answers.Still has takes;
+  waits = λ call objects takes. takes_fits rooms plan worker s call objects answers.Waits has takes;
+  completed = λ call objects reply takes. completed_fits rooms plan worker s call objects reply has takes;
+  misused = λ call objects misuse takes. takes_fits rooms plan worker s call objects (answers.Misused misuse) has takes;
+})
+
+room_kept : Rooms → (plan : Plan) → GoesOn plan → Kept plan (HasRoom plan)
+room_kept rooms plan goes_on = record {
+  turn = λ worker s has. record { of = goes_on worker s has.of; fits = turn_fits rooms plan worker s has };
+  moment = λ moment s has. record { of = moment_valid plan moment s has.of; fits = has.fits };
+}
+
+start_has_room : Rooms → (plan : Plan) → IsStateOf plan (start plan) → HasRoom plan (start plan)
+start_has_room rooms plan of = record {
+  of = of;
+  fits = each_start (λ place. HasRoomFor (left_at plan (start plan) place)) plan
+      (λ place kind. subst (λ n. HasRoomFor n (new_object plan.workers (puts_at place plan.scripts) kind)) (sym (none_made place plan.scripts plan.workers)) (rooms.begins plan.workers (puts_at place plan.scripts) kind));
+}
+
+pub items_have_room : Rooms → (plan : Plan) → GoesOn plan → IsStateOf plan (start plan) → (list : List Turn) → HasRoom plan (after_items plan list (start plan))
+items_have_room rooms plan goes_on of list = items_keep plan (HasRoom plan) (room_kept rooms plan goes_on) list (start plan) (start_has_room rooms plan of)
+
+-- a put before which a worker stands is kept
+pub put_is_kept : Rooms → (plan : Plan) (worker : ℕ) (s : State) (place item : ℕ) (p : pool.PoolState ℕ) → HasRoom plan s → next_call plan worker s ≡ Some (calls.Pool place (pool_calls.Put item))
+    → slice_get s.objects place ≡ Some (states.Pool p) → (pool.next p worker (event.Put item)).1 ≡ pool_reply.Kept
+put_is_kept rooms plan worker s place item p has is there =
+    let call = calls.Pool place (pool_calls.Put item) in
+    let below : worker < plan.workers = (ready plan worker s call has.of is).below in
+    let parts : length p.primary ≡ plan.workers = (has.of.machines place (states.Pool p) there).0 in
+    let one : put_of place call ≡ 1 = ap (λ b. cond (b && true) 1 0) (eq-eqb place place refl) in
+    rooms.kept worker item (left_at plan s place) p (omega (arith, below, parts)) (omega (arith, some_left plan worker s call place has.of below is, one)) (has.fits place (states.Pool p) there)

@@ -1,0 +1,132 @@
+-- The keys of a run's maps are those of its calls, and a reply shows no more pairs than there are different keys.
+use Rattle.std.proofs.Common.{◌≡◌, ℕ, zero, suc, ◌≤◌, Bool, true, false, ◌||◌, List, [], ◌∷◌, ◌++◌, get_or, set, replicate, Option, Some, None, refl, ap, ◌∙◌}
+use Rattle.std.specs.Prelude.{slice_get}
+use Rattle.std.specs.List.{list_all, list_any, flat_map}
+use Rattle.std.specs.Str.{bytes_eq}
+use Rattle.std.specs.Option.{option_map_or}
+use Rattle.std.proofs.lemmas.List.Folds.{list_any-append}
+use Rattle.sync_model.specs.declared.call.Call.{Call}
+use Rattle.sync_model.specs.declared.call.Reply.{Reply}
+use Rattle.workload.specs.declared.object.ObjectKind.{ObjectKind}
+use Rattle.workload.specs.declared.turn.Turn.{Turn}
+use Rattle.workload.specs.declared.limits.TheConstants.{MAX_KEYS}
+use Rattle.workload.specs.Plan.{Plan}
+use Rattle.workload.specs.Draft.{keys_of, all_keys, distinct_count}
+use Rattle.workload.specs.Readable.{IsReadable}
+use Rattle.step_turns.specs.declared.answer.Answer.{Answer}
+use Rattle.step_turns.specs.declared.answer.Answer.TheVariants as answers
+use Rattle.step_turns.specs.declared.object_state.ObjectState.{ObjectState}
+use Rattle.step_turns.specs.MapKeys.{AreAmong, HasObjectKeysIn}
+use Rattle.step_turns.specs.Objects.{new_object, EachAt}
+use Rattle.step_turns.specs.Pairs.{has_pairs_to, ShowsTo}
+use Rattle.step_turns.specs.Turns.{turn_at}
+use Rattle.step_runner.specs.declared.step.Step.TheVariants as steps
+use Rattle.step_runner.specs.declared.outcome.Ending.{Ending}
+use Rattle.step_runner.specs.declared.outcome.Ending.TheVariants as endings
+use Rattle.step_runner.specs.State.{State, start, puts_at}
+use Rattle.step_runner.specs.Pairs.{has_few_pairs}
+use Rattle.step_runner.specs.Turns.{next_call, settled, settled_with, after_items, whole_run, outcome_of, turns}
+use Rattle.step_runner.proofs.StartLemmas.{each_start}
+use Rattle.step_runner.proofs.TurnLemmas.{both, both_true}
+use Rattle.step_runner.proofs.RunLemmas.{Kept, items_keep, run_keeps}
+
+-- what the law of turns says
+pub record Keys : Type 0 where
+  pub begins : (names : List (List ℕ)) (workers room : ℕ) (kind : ObjectKind) → HasObjectKeysIn names (new_object workers room kind)
+  pub goes_on : (names : List (List ℕ)) (most worker moment : ℕ) (call : Call) (objects : List ObjectState) → AreAmong names (keys_of call) → distinct_count names ≤ most
+      → EachAt (λ place. HasObjectKeysIn names) objects → EachAt (λ place. HasObjectKeysIn names) (turn_at call worker moment objects).0 × ShowsTo most (turn_at call worker moment objects).1
+
+-- ---- the keys of a call are among those of all calls
+
+any_first : (p : List ℕ → Bool) (xs ys : List (List ℕ)) → list_any p xs ≡ true → list_any p (xs ++ ys) ≡ true
+any_first p xs ys e = list_any-append p xs ys ∙ ap (λ (b : Bool). b || list_any p ys) e
+
+or_true : (a : Bool) → (a || true) ≡ true
+or_true true = refl
+or_true false = refl
+
+any_rest : (p : List ℕ → Bool) (xs ys : List (List ℕ)) → list_any p ys ≡ true → list_any p (xs ++ ys) ≡ true
+any_rest p xs ys e = list_any-append p xs ys ∙ ap (λ (b : Bool). list_any p xs || b) e ∙ or_true (list_any p xs)
+
+of_script : (p : List ℕ → Bool) (script : List Call) (i : ℕ) (call : Call) → slice_get script i ≡ Some call → list_any p (keys_of call) ≡ true → list_any p (flat_map keys_of script) ≡ true
+of_script p [] i call is e = absurd cc
+of_script p (first ∷ script) zero call is e =
+    let same : first ≡ call = cc in
+    any_first p (keys_of first) (flat_map keys_of script) (ap (λ (c : Call). list_any p (keys_of c)) same ∙ e)
+of_script p (first ∷ script) (suc i) call is e = any_rest p (keys_of first) (flat_map keys_of script) (of_script p script i call is e)
+
+of_scripts : (p : List ℕ → Bool) (scripts : List (List Call)) (worker : ℕ) → list_any p (flat_map keys_of (get_or scripts worker [])) ≡ true → list_any p (all_keys scripts) ≡ true
+of_scripts p [] worker e = absurd cc
+of_scripts p (script ∷ scripts) zero e = any_first p (flat_map keys_of script) (all_keys scripts) e
+of_scripts p (script ∷ scripts) (suc worker) e = any_rest p (flat_map keys_of script) (all_keys scripts) (of_scripts p scripts worker e)
+
+next_among : (plan : Plan) (worker : ℕ) (s : State) (call : Call) → next_call plan worker s ≡ Some call → AreAmong (all_keys plan.scripts) (keys_of call)
+next_among plan worker s call is q e =
+    of_scripts (bytes_eq q) plan.scripts worker (of_script (bytes_eq q) (get_or plan.scripts worker []) _ call is e)
+
+-- ---- what every state keeps
+
+-- the keys of all maps are, and no reply shows more pairs than these
+pub record HasKeys (names : List (List ℕ)) (most : ℕ) (s : State) : Type 0 where
+  pub maps : EachAt (λ place. HasObjectKeysIn names) s.objects
+  pub few : list_all (list_all (has_pairs_to most)) s.replies ≡ true
+
+all_push : (p : Reply → Bool) (xs : List Reply) (x : Reply) → list_all p xs ≡ true → p x ≡ true → list_all p (xs ++ x ∷ []) ≡ true
+all_push p [] x e last = both_true (p x) true last refl
+all_push p (y ∷ xs) x e last =
+    let parts = both (p y) (list_all p xs) e in
+    both_true (p y) (list_all p (xs ++ x ∷ [])) parts.0 (all_push p xs x parts.1 last)
+
+replies_set : (p : Reply → Bool) (lists : List (List Reply)) (worker : ℕ) (x : Reply) → list_all (list_all p) lists ≡ true → p x ≡ true → list_all (list_all p) (set lists worker (get_or lists worker [] ++ x ∷ [])) ≡ true
+replies_set p [] worker x e last = refl
+replies_set p (xs ∷ lists) zero x e last =
+    let parts = both (list_all p xs) (list_all (list_all p) lists) e in
+    both_true (list_all p (xs ++ x ∷ [])) (list_all (list_all p) lists) (all_push p xs x parts.0 last) parts.1
+replies_set p (xs ∷ lists) (suc worker) x e last =
+    let parts = both (list_all p xs) (list_all (list_all p) lists) e in
+    both_true (list_all p xs) (list_all (list_all p) (set lists worker (get_or lists worker [] ++ x ∷ []))) parts.0 (replies_set p lists worker x parts.1 last)
+
+-- ---- any turn
+
+settled_keys : (names : List (List ℕ)) (most worker : ℕ) (answer : Answer) (s : State) → ShowsTo most answer → HasKeys names most s → HasKeys names most (settled worker answer s).0
+settled_keys names most worker answers.Still s few has = has
+settled_keys names most worker answers.Waits s few has = has
+settled_keys names most worker (answers.Completed reply) s few has = record { maps = has.maps; few = replies_set (has_pairs_to most) s.replies worker reply has.few few }
+settled_keys names most worker (answers.Misused misuse) s few has = has
+
+turn_keys : Keys → (plan : Plan) (most worker : ℕ) (s : State) (o : Option Call) → next_call plan worker s ≡ o → distinct_count (all_keys plan.scripts) ≤ most
+    → HasKeys (all_keys plan.scripts) most s → HasKeys (all_keys plan.scripts) most (option_map_or (λ call. settled_with worker (turn_at call worker s.moment s.objects) s) o (s, steps.Still)).0
+turn_keys keys plan most worker s None is room has = has
+turn_keys keys plan most worker s (Some call) is room has =
+    let x = turn_at call worker s.moment s.objects in
+    let keep = keys.goes_on (all_keys plan.scripts) most worker s.moment call s.objects (next_among plan worker s call is) room has.maps in
+    settled_keys (all_keys plan.scripts) most worker x.1 (record s { objects = x.0 }) keep.1 (record { maps = keep.0; few = has.few })
+
+keys_kept : Keys → (plan : Plan) (most : ℕ) → distinct_count (all_keys plan.scripts) ≤ most → Kept plan (HasKeys (all_keys plan.scripts) most)
+keys_kept keys plan most room = record {
+  turn = λ worker s has. turn_keys keys plan most worker s (next_call plan worker s) refl room has;
+  moment = λ moment s has. record { maps = has.maps; few = has.few };
+}
+
+none_yet : (p : Reply → Bool) (n : ℕ) → list_all (list_all p) (replicate {A = List Reply} n []) ≡ true
+none_yet p zero = refl
+none_yet p (suc n) = none_yet p n
+
+start_keys : Keys → (plan : Plan) (most : ℕ) → HasKeys (all_keys plan.scripts) most (start plan)
+start_keys keys plan most = record {
+  maps = each_start (λ place. HasObjectKeysIn (all_keys plan.scripts)) plan (λ place kind. keys.begins (all_keys plan.scripts) plan.workers (puts_at place plan.scripts) kind);
+  few = none_yet (has_pairs_to most) plan.workers;
+}
+
+pub items_keys : Keys → (plan : Plan) (most : ℕ) (list : List Turn) → distinct_count (all_keys plan.scripts) ≤ most → HasKeys (all_keys plan.scripts) most (after_items plan list (start plan))
+items_keys keys plan most list room = items_keep plan (HasKeys (all_keys plan.scripts) most) (keys_kept keys plan most room) list (start plan) (start_keys keys plan most)
+
+left_few : (x : State × Ending) → list_all (list_all (has_pairs_to MAX_KEYS)) x.0.replies ≡ true → has_few_pairs (outcome_of x) ≡ true
+left_few (s, endings.Done) few = few
+left_few (s, endings.Misused misuse) few = few
+left_few (s, endings.Deadlocked) few = few
+
+-- the replies of a run
+pub few_pairs : Keys → (plan : Plan) → IsReadable plan → has_few_pairs (turns plan) ≡ true
+few_pairs keys plan readable =
+    left_few (whole_run plan) (run_keeps plan (HasKeys (all_keys plan.scripts) MAX_KEYS) (keys_kept keys plan MAX_KEYS readable.key_room) (start_keys keys plan MAX_KEYS)).few

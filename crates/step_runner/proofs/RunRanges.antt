@@ -1,0 +1,56 @@
+-- The atomics of a run stay in their types' ranges.
+use Rattle.std.proofs.Common.{ℕ, List}
+use Rattle.sync_model.specs.declared.call.Call.{Call}
+use Rattle.workload.specs.declared.object.ObjectKind.{ObjectKind}
+use Rattle.workload.specs.declared.turn.Turn.{Turn}
+use Rattle.workload.specs.Plan.{Plan}
+use Rattle.step_turns.specs.declared.answer.Answer.{Answer}
+use Rattle.step_turns.specs.declared.answer.Answer.TheVariants as answers
+use Rattle.step_turns.specs.declared.object_state.ObjectState.{ObjectState}
+use Rattle.step_turns.specs.AtomicRange.{IsInRange}
+use Rattle.step_turns.specs.Objects.{new_object, EachAt}
+use Rattle.step_turns.specs.Ready.{IsReady}
+use Rattle.step_turns.specs.Turns.{turn_at}
+use Rattle.step_runner.specs.State.{State, start, puts_at, IsStateOf}
+use Rattle.step_runner.specs.Turns.{turn_of, after_items}
+use Rattle.step_runner.proofs.StartLemmas.{each_start}
+use Rattle.step_runner.proofs.TurnLemmas.{Takes, takes_by, turn_cases}
+use Rattle.step_runner.proofs.RunLemmas.{GoesOn, moment_valid, Kept, items_keep}
+
+-- what the law of turns says
+pub record Ranges : Type 0 where
+  pub begins : (workers room : ℕ) (kind : ObjectKind) → IsInRange (new_object workers room kind)
+  pub goes_on : (workers worker moment : ℕ) (call : Call) (objects : List ObjectState) → IsReady workers worker call objects → EachAt (λ place. IsInRange) objects
+      → EachAt (λ place. IsInRange) (turn_at call worker moment objects).0
+
+abbrev AllInRange : List ObjectState → Type 0
+AllInRange objects = EachAt (λ place. IsInRange) objects
+
+takes_stays : Ranges → (plan : Plan) (worker : ℕ) (s : State) (call : Call) (objects : List ObjectState) (answer : Answer) → IsStateOf plan s → AllInRange s.objects → Takes plan worker s call objects answer → AllInRange objects
+takes_stays ranges plan worker s call objects answer of are takes =
+    takes_by (λ x. AllInRange x.0) plan worker s call objects answer of takes (λ r. ranges.goes_on plan.workers worker s.moment call s.objects r are)
+
+turn_stays : Ranges → (plan : Plan) (worker : ℕ) (s : State) → IsStateOf plan s → AllInRange s.objects → AllInRange (turn_of plan worker s).0.objects
+turn_stays ranges plan worker s of are = turn_cases (λ step. AllInRange step.0.objects) plan worker s of (record {
+  ended = λ is. are;
+  still = λ call objects takes. takes_stays ranges plan worker s call objects answers.Still of are takes;
+  waits = λ call objects takes. takes_stays ranges plan worker s call objects answers.Waits of are takes;
+  completed = λ call objects reply takes. takes_stays ranges plan worker s call objects (answers.Completed reply) of are takes;
+  misused = λ call objects misuse takes. takes_stays ranges plan worker s call objects (answers.Misused misuse) of are takes;
+})
+
+-- a state of the plan in which the atomics are in range
+record InRange (plan : Plan) (s : State) : Type 0 where
+  of : IsStateOf plan s
+  are : AllInRange s.objects
+
+ranges_kept : Ranges → (plan : Plan) → GoesOn plan → Kept plan (InRange plan)
+ranges_kept ranges plan goes_on = record {
+  turn = λ worker s h. record { of = goes_on worker s h.of; are = turn_stays ranges plan worker s h.of h.are };
+  moment = λ moment s h. record { of = moment_valid plan moment s h.of; are = h.are };
+}
+
+pub in_range : Ranges → (plan : Plan) → GoesOn plan → IsStateOf plan (start plan) → (list : List Turn) → AllInRange (after_items plan list (start plan)).objects
+in_range ranges plan goes_on of list =
+    (items_keep plan (InRange plan) (ranges_kept ranges plan goes_on) list (start plan)
+    (record { of = of; are = each_start (λ place. IsInRange) plan (λ place kind. ranges.begins plan.workers (puts_at place plan.scripts) kind) })).are

@@ -1,0 +1,14 @@
+mod AtObjects
+mod AtomicTypes
+mod CompletesLemmas
+mod KeyLemmas
+mod LogLemmas
+mod MachineLaws
+mod NewObjects
+mod ObjectKeeps
+mod ObjectUses
+mod PairLemmas
+mod PoolLooks
+mod RangeLemmas
+mod RoomLemmas
+mod Writes

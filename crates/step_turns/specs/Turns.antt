@@ -1,0 +1,55 @@
+-- The turn of a worker that stands before a call, at the objects of a run.
+use Rattle.std.specs.Prelude.{ℕ, List, set, slice_get, Option, Some, None}
+use Rattle.std.specs.Option.{option_map_or}
+use Rattle.sync_model.specs.declared.call.Call.{Call}
+use Rattle.sync_model.specs.declared.call.Call.TheVariants as calls
+use Rattle.workload.specs.Plan.{object_of, reference_of}
+use Rattle.step_turns.specs.declared.answer.Answer.{Answer}
+use Rattle.step_turns.specs.declared.answer.Answer.TheVariants as answers
+use Rattle.step_turns.specs.declared.object_state.ObjectState.{ObjectState}
+use Rattle.step_turns.specs.Objects.{kind_of}
+use Rattle.step_turns.specs.MapTurn.{map_turn, range_turn}
+use Rattle.step_turns.specs.AtomicTurn.{atomic_turn}
+use Rattle.step_turns.specs.MutexTurn.{mutex_turn}
+use Rattle.step_turns.specs.RwMutexTurn.{rw_mutex_turn}
+use Rattle.step_turns.specs.CondTurn.{cond_turn}
+use Rattle.step_turns.specs.WaitGroupTurn.{group_turn}
+use Rattle.step_turns.specs.OnceTurn.{once_turn, func_turn, value_turn}
+use Rattle.step_turns.specs.PoolTurn.{pool_turn}
+
+-- at a moment, as the call's object has it, where that object refers to no other
+abbrev pub turn_on : Call → ℕ → ℕ → ObjectState → ObjectState × Answer
+turn_on (calls.Map object call) worker moment o = map_turn call o
+turn_on (calls.Range object) worker moment o = range_turn o
+turn_on (calls.Atomic object call) worker moment o = atomic_turn call o
+turn_on (calls.Mutex object call) worker moment o = mutex_turn call worker moment o
+turn_on (calls.RwMutex object call) worker moment o = rw_mutex_turn call worker moment o
+turn_on (calls.WaitGroup object call) worker moment o = group_turn call worker o
+turn_on (calls.OnceFunc object) worker moment o = func_turn worker o
+turn_on (calls.OnceValue object) worker moment o = value_turn worker o
+turn_on (calls.Pool object call) worker moment o = pool_turn call worker o
+turn_on (calls.Cond object call) worker moment o = (o, answers.Still)
+turn_on (calls.Once object) worker moment o = (o, answers.Still)
+
+-- the turn at an object that refers to another one, and at that one
+abbrev pub turn_on_both : Call → ℕ → ℕ → ObjectState → ObjectState → (ObjectState × ObjectState) × Answer
+turn_on_both (calls.Cond object call) worker moment o target = cond_turn call worker moment o target
+turn_on_both (calls.Once object) worker moment o target = once_turn worker o target
+turn_on_both call worker moment o target = ((o, target), answers.Still)
+
+-- it leaves every other object alone
+abbrev pub with_object : ℕ → List ObjectState → ObjectState × Answer → List ObjectState × Answer
+with_object place objects step = (set objects place step.0, step.1)
+
+abbrev pub with_both : ℕ → ℕ → List ObjectState → (ObjectState × ObjectState) × Answer → List ObjectState × Answer
+with_both place other objects step = (set (set objects place step.0.0) other step.0.1, step.1)
+
+-- by the place of the object to which the call's object refers, if it refers to one
+abbrev pub turn_by : Option ℕ → Call → ℕ → ℕ → List ObjectState → ObjectState → List ObjectState × Answer
+turn_by None call worker moment objects object = with_object (object_of call) objects (turn_on call worker moment object)
+turn_by (Some other) call worker moment objects object =
+    option_map_or (λ target. with_both (object_of call) other objects (turn_on_both call worker moment object target)) (slice_get objects other) (objects, answers.Still)
+
+abbrev pub turn_at : Call → ℕ → ℕ → List ObjectState → List ObjectState × Answer
+turn_at call worker moment objects =
+    option_map_or (λ object. turn_by (reference_of (kind_of object)) call worker moment objects object) (slice_get objects (object_of call)) (objects, answers.Still)

@@ -1,0 +1,15 @@
+//! What a turn means for a call.
+use sync_model::{Misuse, Reply};
+
+/// What a turn means for the call before which its worker stands.
+#[derive(Debug, Drop)]
+pub enum Answer {
+    /// The worker makes no event: it waits, and nobody has told it to go on.
+    Still,
+    /// The worker makes an event, after which it waits.
+    Waits,
+    /// The worker makes an event that completes the call, with this reply.
+    Completed(Reply),
+    /// The call is a misuse, which isn't completed.
+    Misused(Misuse),
+}

@@ -1,0 +1,99 @@
+//! What a turn keeps at the objects of a run, whatever the workload, and what it uses up.
+ghost use Rattle.std.specs.Prelude.{◌≡◌, ℕ, ◌<◌, ◌≤◌, true, List, map, sum_by};
+ghost use Rattle.sync_model.specs.declared.call.Call.{Call};
+ghost use Rattle.pool_core.specs.PoolMachine as pool;
+ghost use Rattle.pool_core.specs.declared.pool_event.PoolEvent.{PoolEvent};
+ghost use Rattle.pool_core.specs.declared.pool_event.PoolReply.{PoolReply};
+ghost use Rattle.workload.specs.declared.object.ObjectKind.{ObjectKind};
+ghost use Rattle.workload.specs.Draft.{keys_of, distinct_count};
+ghost use Rattle.workload.specs.Plan.{object_of};
+ghost use Rattle.step_turns.specs.declared.object_state.ObjectState.{ObjectState};
+ghost use Rattle.step_turns.specs.declared.object_state.ObjectState.TheVariants as states;
+ghost use Rattle.step_turns.specs.AtomicRange.{IsInRange};
+ghost use Rattle.step_turns.specs.Completes.{never_waits, IsCompleted};
+ghost use Rattle.step_turns.specs.MachineLogs.{FollowsItsMachine};
+ghost use Rattle.step_turns.specs.MapKeys.{AreAmong, HasObjectKeysIn};
+ghost use Rattle.step_turns.specs.ObjectLeft.{object_left, UsesBy};
+ghost use Rattle.step_turns.specs.Objects.{new_object, kind_of, IsMachineOf, EachAt};
+ghost use Rattle.step_turns.specs.Pairs.{ShowsTo};
+ghost use Rattle.step_turns.specs.PoolRoom.{put_of, HasRoomFor, left_behind};
+ghost use Rattle.step_turns.specs.Ready.{IsReady};
+ghost use Rattle.step_turns.specs.Turns.{turn_at};
+
+use sync_model::laws::atomics::calls_keep_the_type;
+
+/// An object begins as one of its kind, with a machine that is ready for the workers' turns. A turn keeps
+/// the kind of each object, and leaves each machine ready.
+pub fn turns_keep_kinds_and_machines()
+    ensures begins { (workers room : ℕ) (kind : ObjectKind) → (kind_of (new_object workers room kind) ≡ kind) × IsMachineOf workers (new_object workers room kind) }
+    ensures kinds { (workers worker moment : ℕ) (call : Call) (objects : List ObjectState) → IsReady workers worker call objects → map kind_of (turn_at call worker moment objects).0 ≡ map kind_of objects }
+    ensures machines { (workers worker moment : ℕ) (call : Call) (objects : List ObjectState) → IsReady workers worker call objects → EachAt (λ place. IsMachineOf workers) objects
+        → EachAt (λ place. IsMachineOf workers) (turn_at call worker moment objects).0 }
+{
+    mutex_core::laws::validity();
+    rw_core::laws::validity();
+    wait_cores::laws::notify::answers_its_callers();
+    wait_cores::laws::group::knows_where_it_stands();
+    wait_cores::laws::once::knows_where_it_stands::<i64>();
+    wait_cores::laws::once::knows_where_it_stands::<u64>();
+    pool_core::laws::keeps_its_parts();
+}
+
+/// A turn without an event changes no object. One that completes its call raises what is left to do at the
+/// objects by less than 4, and one after which the call goes on lowers it; of a misuse nothing is said.
+pub fn turns_use_something_up()
+    ensures { (workers worker moment : ℕ) (call : Call) (objects : List ObjectState) → IsReady workers worker call objects
+        → UsesBy (sum_by object_left objects) (sum_by object_left (turn_at call worker moment objects).0) ((turn_at call worker moment objects).0 ≡ objects) (turn_at call worker moment objects).1 }
+{
+    mutex_core::laws::validity();
+    rw_core::laws::validity();
+    mutex_core::laws::standing();
+    mutex_core::laws::events_are_used_up();
+    rw_core::laws::events_are_used_up();
+    wait_cores::laws::notify::events_are_used_up();
+    wait_cores::laws::group::events_are_used_up();
+    wait_cores::laws::once::events_are_used_up::<i64>();
+    wait_cores::laws::once::events_are_used_up::<u64>();
+    wait_cores::laws::group::still();
+    wait_cores::laws::once::still::<i64>();
+    wait_cores::laws::once::still::<u64>();
+}
+
+/// A turn on a map, an atomic or a pool that has the call completes it.
+pub fn some_calls_never_wait()
+    ensures { (workers worker moment : ℕ) (call : Call) (objects : List ObjectState) → never_waits call ≡ true → IsReady workers worker call objects → IsCompleted (turn_at call worker moment objects).1 }
+{}
+
+/// An object that is a machine begins in a state that the machine reaches from its start by the events of a
+/// log, and a turn leaves it in such a state. The room of a pool's parts may differ from place to place.
+pub fn turns_follow_the_machines()
+    ensures begins { (workers room : ℕ) (kind : ObjectKind) → FollowsItsMachine workers room (new_object workers room kind) }
+    ensures goes_on { (workers worker moment : ℕ) (room : ℕ → ℕ) (call : Call) (objects : List ObjectState) → EachAt (λ place. FollowsItsMachine workers (room place)) objects
+        → EachAt (λ place. FollowsItsMachine workers (room place)) (turn_at call worker moment objects).0 }
+{}
+
+/// An atomic begins in the range of its type, and a turn leaves each atomic in it.
+pub fn numbers_stay_in_range()
+    ensures begins { (workers room : ℕ) (kind : ObjectKind) → IsInRange (new_object workers room kind) }
+    ensures goes_on { (workers worker moment : ℕ) (call : Call) (objects : List ObjectState) → IsReady workers worker call objects → EachAt (λ place. IsInRange) objects
+        → EachAt (λ place. IsInRange) (turn_at call worker moment objects).0 }
+{
+    calls_keep_the_type();
+}
+
+/// A map begins with no key. Where the keys of maps and of the call are among some names, so they are behind
+/// the turn; and its reply shows no more pairs than there are different names.
+pub fn maps_keep_to_the_keys_of_calls()
+    ensures begins { (names : List (List ℕ)) (workers room : ℕ) (kind : ObjectKind) → HasObjectKeysIn names (new_object workers room kind) }
+    ensures goes_on { (names : List (List ℕ)) (most worker moment : ℕ) (call : Call) (objects : List ObjectState) → AreAmong names (keys_of call) → distinct_count names ≤ most
+        → EachAt (λ place. HasObjectKeysIn names) objects → EachAt (λ place. HasObjectKeysIn names) (turn_at call worker moment objects).0 × ShowsTo most (turn_at call worker moment objects).1 }
+{}
+
+/// A pool begins with room for as many puts as its parts have. A turn leaves each pool room for the puts that
+/// are left to make on it, and a put for which there is room is kept.
+pub fn pools_have_room()
+    ensures begins { (workers room : ℕ) (kind : ObjectKind) → HasRoomFor room (new_object workers room kind) }
+    ensures goes_on { (worker moment : ℕ) (left : ℕ → ℕ) (call : Call) (objects : List ObjectState) → put_of (object_of call) call ≤ left (object_of call) → EachAt (λ place. HasRoomFor (left place)) objects
+        → EachAt (λ place. HasRoomFor (left_behind (turn_at call worker moment objects).1 (put_of place call) (left place))) (turn_at call worker moment objects).0 }
+    ensures kept { (worker item left : ℕ) (p : pool.PoolState ℕ) → worker < pool.callers_of p → 1 ≤ left → HasRoomFor left (states.Pool p) → (pool.next p worker (PoolEvent.Put item)).1 ≡ PoolReply.Kept }
+{}

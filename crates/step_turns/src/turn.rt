@@ -1,0 +1,148 @@
+//! The turn of a worker that stands before a call, at the objects of a run.
+ghost use Rattle.std.specs.Prelude.{◌≡◌, ◌≢◌, ◌<◌, ◌≤◌, true, None, Some, slice_get, IfOk};
+ghost use Rattle.workload.specs.Plan.{object_of, has_call, reference_of};
+ghost use Rattle.step_turns.specs.declared.object_state.ObjectState.{ObjectState};
+ghost use Rattle.step_turns.specs.Objects.{IsMachineOf, kind_of};
+ghost use Rattle.step_turns.specs.Ready.{IsReady};
+ghost use Rattle.step_turns.specs.Turns.{turn_on, turn_on_both, with_both, turn_at};
+
+use crate::answer::Answer;
+use crate::atomic_turn::take_atomic_turn;
+use crate::cond_turn::take_cond_turn;
+use crate::map_turn::{take_map_turn, take_range_turn};
+use crate::mutex_turn::take_mutex_turn;
+use crate::object_state::ObjectState;
+use crate::once_turn::{take_once_func_turn, take_once_turn, take_once_value_turn};
+use crate::pool_turn::take_pool_turn;
+use crate::rw_mutex_turn::take_rw_mutex_turn;
+use crate::wait_group_turn::take_wait_group_turn;
+use std::alloc::{AllocError, Global};
+use std::mem;
+use sync_model::{Call, Number};
+
+/// The place of a call's object.
+fn object_of(call: &Call) -> usize
+    ensures { result ≡ object_of call.now }
+{
+    match call {
+        Call::Map { object, .. } => *object,
+        Call::Range { object } => *object,
+        Call::Atomic { object, .. } => *object,
+        Call::Mutex { object, .. } => *object,
+        Call::RwMutex { object, .. } => *object,
+        Call::Cond { object, .. } => *object,
+        Call::WaitGroup { object, .. } => *object,
+        Call::Once { object } => *object,
+        Call::OnceFunc { object } => *object,
+        Call::OnceValue { object } => *object,
+        Call::Pool { object, .. } => *object,
+    }
+}
+
+/// Who takes a turn, and when.
+#[derive(Clone, Copy, Debug)]
+pub struct Taker {
+    /// The number of the worker, which is below that of all workers.
+    pub worker: u32,
+    /// How many workers there are, at most 64. They are the callers of each machine.
+    pub workers: u32,
+    /// What the clock shows, in nanoseconds.
+    pub moment: u64,
+}
+
+/// Takes a turn of a worker that stands before the call, at the call's object and by its kind, where that
+/// object refers to no other.
+fn take_turn_on(
+    alloc: Global,
+    object: &mut ObjectState,
+    call: &Call,
+    taker: Taker,
+) -> Result<Answer, AllocError>
+    requires has { has_call (kind_of object.old) call.now ≡ true }
+    requires alone { reference_of (kind_of object.old) ≡ None }
+    requires machine { IsMachineOf taker.workers object.old }
+    requires worker { taker.worker < taker.workers }
+    requires few { taker.workers ≤ 64 }
+    ensures { IfOk result (λ answer. turn_on call.now taker.worker taker.moment object.old ≡ (object.new, answer)) }
+{
+    let Taker {
+        worker,
+        workers,
+        moment,
+    } = taker;
+    match call {
+        Call::Map { call, .. } => take_map_turn(alloc, object, call),
+        Call::Range { .. } => take_range_turn(alloc, object),
+        Call::Atomic { call, .. } => Ok(take_atomic_turn(object, *call)),
+        Call::Mutex { call, .. } => Ok(take_mutex_turn(object, worker, *call, moment)),
+        Call::RwMutex { call, .. } => Ok(take_rw_mutex_turn(object, worker, *call, moment)),
+        Call::WaitGroup { call, .. } => Ok(take_wait_group_turn(object, worker, *call)),
+        Call::OnceFunc { .. } => Ok(take_once_func_turn(object, worker)),
+        Call::OnceValue { .. } => Ok(take_once_value_turn(object, worker)),
+        Call::Pool { call, .. } => Ok(take_pool_turn(object, worker, workers, *call)),
+        Call::Cond { .. } | Call::Once { .. } => Ok(Answer::Still),
+    }
+}
+
+/// Takes a turn at an object that refers to another one, the target.
+fn take_turn_on_both(
+    object: &mut ObjectState,
+    target: &mut ObjectState,
+    call: &Call,
+    taker: Taker,
+) -> Answer
+    requires object { IsMachineOf taker.workers object.old }
+    requires target { IsMachineOf taker.workers target.old }
+    requires worker { taker.worker < taker.workers }
+    ensures { turn_on_both call.now taker.worker taker.moment object.old target.old ≡ ((object.new, target.new), result) }
+{
+    match call {
+        Call::Cond { call, .. } => {
+            take_cond_turn(object, target, taker.worker, *call, taker.moment)
+        }
+        Call::Once { .. } => take_once_turn(object, target, taker.worker),
+        _ => Answer::Still,
+    }
+}
+
+/// Takes a turn at the object at a place and at the one to which it refers, which leaves every other object
+/// alone. While its turn is taken, the first one stands beside the others.
+fn take_turn_at_both(
+    objects: &mut [ObjectState],
+    place: usize,
+    other: usize,
+    call: &Call,
+    taker: Taker,
+) -> Answer
+    requires object { (object : ObjectState) × (slice_get objects.old place ≡ Some object) × IsMachineOf taker.workers object }
+    requires target { (target : ObjectState) × (slice_get objects.old other ≡ Some target) × IsMachineOf taker.workers target }
+    requires apart { other ≢ place }
+    requires worker { taker.worker < taker.workers }
+    ensures { (object target : ObjectState) → slice_get objects.old place ≡ Some object → slice_get objects.old other ≡ Some target
+        → with_both place other objects.old (turn_on_both call.now taker.worker taker.moment object target) ≡ (objects.new, result) }
+{
+    let beside = ObjectState::Atomic(Number::Bool(false));
+    let mut object = mem::replace(&mut objects[place], beside);
+    let answer = take_turn_on_both(&mut object, &mut objects[other], call, taker);
+    objects[place] = object;
+    answer
+}
+
+/// Takes a turn of a worker that stands before the call: the call's object, and the one to which that
+/// refers, are changed by it, and no other. Only want of memory is an `Err`.
+pub fn take_turn_at(
+    alloc: Global,
+    objects: &mut [ObjectState],
+    call: &Call,
+    taker: Taker,
+) -> Result<Answer, AllocError>
+    requires ready { IsReady taker.workers taker.worker call.now objects.old }
+    requires few { taker.workers ≤ 64 }
+    ensures { IfOk result (λ answer. turn_at call.now taker.worker taker.moment objects.old ≡ (objects.new, answer)) }
+{
+    let place = object_of(call);
+    match objects[place].refers_to() {
+        None => take_turn_on(alloc, &mut objects[place], call, taker),
+        Some(other) => Ok(take_turn_at_both(objects, place, other, call, taker)),
+    }
+}
