@@ -145,7 +145,7 @@ pub fn objects_keep_their_kinds()
 
 /// At every moment, behind any items up to the first misuse, each object that is a machine is in a state that
 /// the machine reaches from its start by the events of a log that follows it. So what the laws of
-/// `mutex_core`, `rw_core` and `wait_cores` say of the state behind every such log is true of it. A wait
+/// `mutex_core`, `rw_core`, `wait_cores` and `pool_core` say of the state behind every such log is true of it. A wait
 /// group's log goes on behind the one `Add` of its line's number, and a pool's parts have room for every put
 /// that the scripts make there.
 pub fn objects_follow_their_machines()
