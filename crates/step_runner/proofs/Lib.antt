@@ -1,6 +1,6 @@
 mod EndLemmas
 mod MadeLemmas
-mod NeverWaits
+mod OneTurnCalls
 mod Puts
 mod PutsLeft
 mod RoundLemmas

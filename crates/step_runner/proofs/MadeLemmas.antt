@@ -33,7 +33,7 @@ turn_replies : (plan : Plan) (worker : ℕ) (s : State) → IsStateOf plan s →
 turn_replies plan worker s of = turn_cases (λ step. (step.0.replies ≡ s.replies) ⊎ Completes plan worker s step.0) plan worker s of (record {
   ended = λ is. inl refl;
   still = λ call objects takes. inl refl;
-  waits = λ call objects takes. inl refl;
+  unfinished = λ call objects takes. inl refl;
   completed = λ call objects reply takes. inr (record {
     call = call;
     next = takes.next;

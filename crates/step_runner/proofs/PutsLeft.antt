@@ -107,7 +107,7 @@ turn_fits : Rooms → (plan : Plan) (worker : ℕ) (s : State) → HasRoom plan 
 turn_fits rooms plan worker s has = turn_cases (λ step. AllFit (left_at plan step.0) step.0.objects) plan worker s has.of (record {
   ended = λ is. has.fits;
   still = λ call objects takes. takes_fits rooms plan worker s call objects answers.Still has takes;
-  waits = λ call objects takes. takes_fits rooms plan worker s call objects answers.Waits has takes;
+  unfinished = λ call objects takes. takes_fits rooms plan worker s call objects answers.Unfinished has takes;
   completed = λ call objects reply takes. completed_fits rooms plan worker s call objects reply has takes;
   misused = λ call objects misuse takes. takes_fits rooms plan worker s call objects (answers.Misused misuse) has takes;
 })

@@ -90,7 +90,7 @@ replies_set p (xs ∷ lists) (suc worker) x e last =
 
 settled_keys : (names : List (List ℕ)) (most worker : ℕ) (answer : Answer) (s : State) → ShowsTo most answer → HasKeys names most s → HasKeys names most (settled worker answer s).0
 settled_keys names most worker answers.Still s few has = has
-settled_keys names most worker answers.Waits s few has = has
+settled_keys names most worker answers.Unfinished s few has = has
 settled_keys names most worker (answers.Completed reply) s few has = record { maps = has.maps; few = replies_set (has_pairs_to most) s.replies worker reply has.few few }
 settled_keys names most worker (answers.Misused misuse) s few has = has
 

@@ -29,7 +29,7 @@ AllFollow plan s = EachAt (λ place. FollowsItsMachine plan.workers (puts_at pla
 
 settled_follows : (plan : Plan) (worker : ℕ) (answer : Answer) (s : State) → AllFollow plan s → AllFollow plan (settled worker answer s).0
 settled_follows plan worker answers.Still s all = all
-settled_follows plan worker answers.Waits s all = all
+settled_follows plan worker answers.Unfinished s all = all
 settled_follows plan worker (answers.Completed reply) s all = all
 settled_follows plan worker (answers.Misused misuse) s all = all
 

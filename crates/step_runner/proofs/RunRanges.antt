@@ -34,7 +34,7 @@ turn_stays : Ranges → (plan : Plan) (worker : ℕ) (s : State) → IsStateOf p
 turn_stays ranges plan worker s of are = turn_cases (λ step. AllInRange step.0.objects) plan worker s of (record {
   ended = λ is. are;
   still = λ call objects takes. takes_stays ranges plan worker s call objects answers.Still of are takes;
-  waits = λ call objects takes. takes_stays ranges plan worker s call objects answers.Waits of are takes;
+  unfinished = λ call objects takes. takes_stays ranges plan worker s call objects answers.Unfinished of are takes;
   completed = λ call objects reply takes. takes_stays ranges plan worker s call objects (answers.Completed reply) of are takes;
   misused = λ call objects misuse takes. takes_stays ranges plan worker s call objects (answers.Misused misuse) of are takes;
 })

@@ -196,14 +196,14 @@ moved objects s = record s { objects = objects }
 pub record Cases (P : State × Step → Type 0) (plan : Plan) (worker : ℕ) (s : State) : Type 0 where
   pub ended : next_call plan worker s ≡ None → P (s, steps.Still)
   pub still : (call : Call) (objects : List ObjectState) → Takes plan worker s call objects answers.Still → P (moved objects s, steps.Still)
-  pub waits : (call : Call) (objects : List ObjectState) → Takes plan worker s call objects answers.Waits → P (moved objects s, steps.Made)
+  pub unfinished : (call : Call) (objects : List ObjectState) → Takes plan worker s call objects answers.Unfinished → P (moved objects s, steps.Made)
   pub completed : (call : Call) (objects : List ObjectState) (reply : Reply) → Takes plan worker s call objects (answers.Completed reply) → P (with_reply worker reply (moved objects s), steps.Made)
   pub misused : (call : Call) (objects : List ObjectState) (misuse : Misuse) → Takes plan worker s call objects (answers.Misused misuse) → P (moved objects s, steps.Misused misuse)
 
 by_answer : (P : State × Step → Type 0) (plan : Plan) (worker : ℕ) (s : State) → Cases P plan worker s → (call : Call) (objects : List ObjectState) (a : Answer) → Takes plan worker s call objects a
     → P (settled worker a (moved objects s))
 by_answer P plan worker s cases call objects answers.Still takes = cases.still call objects takes
-by_answer P plan worker s cases call objects answers.Waits takes = cases.waits call objects takes
+by_answer P plan worker s cases call objects answers.Unfinished takes = cases.unfinished call objects takes
 by_answer P plan worker s cases call objects (answers.Completed reply) takes = cases.completed call objects reply takes
 by_answer P plan worker s cases call objects (answers.Misused misuse) takes = cases.misused call objects misuse takes
 
@@ -267,7 +267,7 @@ pub turn_valid : TurnsKeep → (plan : Plan) (worker : ℕ) (s : State) → IsSt
 turn_valid laws plan worker s of = turn_cases (λ step. IsStateOf plan step.0) plan worker s of (record {
   ended = λ is. of;
   still = λ call objects takes. moved_of laws plan worker s call objects answers.Still of takes;
-  waits = λ call objects takes. moved_of laws plan worker s call objects answers.Waits of takes;
+  unfinished = λ call objects takes. moved_of laws plan worker s call objects answers.Unfinished of takes;
   completed = λ call objects reply takes.
       replied_of plan worker (moved objects s) call reply (moved_of laws plan worker s call objects (answers.Completed reply) of takes) takes.below takes.next;
   misused = λ call objects misuse takes. moved_of laws plan worker s call objects (answers.Misused misuse) of takes;
@@ -299,8 +299,8 @@ pub turn_used : TurnsKeep → TurnsUse → (plan : Plan) (worker : ℕ) (s : Sta
 turn_used laws uses plan worker s of = turn_cases (StepUses plan s) plan worker s of (record {
   ended = λ is. refl;
   still = λ call objects takes. ap (λ (os : List ObjectState). record s { objects = os }) (takes_use uses plan worker s call objects answers.Still of takes);
-  waits = λ call objects takes.
-      let less : sum_by object_left objects < sum_by object_left s.objects = takes_use uses plan worker s call objects answers.Waits of takes in
+  unfinished = λ call objects takes.
+      let less : sum_by object_left objects < sum_by object_left s.objects = takes_use uses plan worker s call objects answers.Unfinished of takes in
       omega (arith, less);
   completed = λ call objects reply takes.
       let valid = moved_of laws plan worker s call objects (answers.Completed reply) of takes in

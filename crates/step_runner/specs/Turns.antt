@@ -29,7 +29,7 @@ next_call plan worker s = slice_get (get_or plan.scripts worker []) (length (get
 -- what an answer means for the worker and for the run
 abbrev pub settled : ℕ → Answer → State → State × Step
 settled worker answers.Still s = (s, steps.Still)
-settled worker answers.Waits s = (s, steps.Made)
+settled worker answers.Unfinished s = (s, steps.Made)
 settled worker (answers.Completed reply) s = (with_reply worker reply s, steps.Made)
 settled worker (answers.Misused misuse) s = (s, steps.Misused misuse)
 

@@ -21,7 +21,7 @@ ghost use Rattle.workload.specs.declared.turn.Turn.{Turn};
 ghost use Rattle.workload.specs.Plan.{Plan, is_valid};
 ghost use Rattle.step_turns.specs.declared.object_state.ObjectState.{ObjectState};
 ghost use Rattle.step_turns.specs.declared.object_state.ObjectState.TheVariants as states;
-ghost use Rattle.step_turns.specs.Completes.{never_waits};
+ghost use Rattle.step_turns.specs.Completes.{takes_one_turn};
 ghost use Rattle.step_turns.specs.MachineLogs.{FollowsItsMachine};
 ghost use Rattle.step_turns.specs.Objects.{kind_of, IsMachineOf};
 ghost use Rattle.step_turns.specs.Pairs.{has_pairs_to};
@@ -35,8 +35,9 @@ ghost use Rattle.step_runner.specs.State.{State, IsStateOf, puts_at, start, with
 ghost use Rattle.step_runner.specs.Turns.{next_call, turn_of, items_of, after_items, has_ended, rounds_of, all_rounds, turns};
 
 use step_turns::laws::{
-    maps_keep_to_the_keys_of_calls, numbers_stay_in_range, pools_have_room, some_calls_never_wait,
-    turns_follow_the_machines, turns_keep_kinds_and_machines, turns_use_something_up,
+    maps_keep_to_the_keys_of_calls, numbers_stay_in_range, pools_have_room,
+    some_calls_take_one_turn, turns_follow_the_machines, turns_keep_kinds_and_machines,
+    turns_use_something_up,
 };
 
 /// What is true of the state in which a run begins stays true with each turn, and so at every moment:
@@ -86,13 +87,13 @@ pub fn outcomes_are_exact()
 
 /// Where every call is on a map, an atomic or a pool the run is Done, and each worker has as many replies
 /// as calls.
-pub fn scripts_that_never_wait_end()
-    ensures { (plan : Plan) → is_valid plan ≡ true → list_all (list_all never_waits) plan.scripts ≡ true
+pub fn scripts_of_one_turn_calls_end()
+    ensures { (plan : Plan) → is_valid plan ≡ true → list_all (list_all takes_one_turn) plan.scripts ≡ true
         → (report : Report) × (turns plan ≡ outcomes.Done report) × (map length report.replies ≡ map length plan.scripts) }
 {
     validity();
     events_use_something_up();
-    some_calls_never_wait();
+    some_calls_take_one_turn();
 }
 
 /// At no moment has a worker more replies than its script has calls.

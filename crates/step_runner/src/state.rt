@@ -129,7 +129,7 @@ impl State {
     {
         match answer {
             Answer::Still => Ok(Step::Still),
-            Answer::Waits => Ok(Step::Made),
+            Answer::Unfinished => Ok(Step::Made),
             Answer::Completed(reply) => {
                 self.complete(worker, reply)?;
                 Ok(Step::Made)

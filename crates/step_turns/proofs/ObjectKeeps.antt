@@ -42,6 +42,8 @@ use Rattle.wait_cores.specs.declared.group.GroupPlace.TheVariants as group_place
 use Rattle.wait_cores.specs.declared.once.OnceEvent.TheVariants as once_event
 use Rattle.wait_cores.specs.declared.once.OncePlace.{OncePlace}
 use Rattle.wait_cores.specs.declared.once.OncePlace.TheVariants as once_place
+use Rattle.wait_cores.specs.declared.once.OnceReply.{OnceReply}
+use Rattle.wait_cores.specs.declared.once.OnceReply.TheVariants as once_reply
 use Rattle.pool_core.specs.declared.pool_event.PoolEvent.{PoolEvent}
 use Rattle.pool_core.specs.declared.pool_event.PoolEvent.TheVariants as pool_event
 use Rattle.pool_core.specs.declared.pool_event.PoolReply.{PoolReply}
@@ -62,7 +64,7 @@ use Rattle.step_turns.specs.CondTurn as of_cond
 use Rattle.step_turns.specs.CondTurn.{Pair, cond_turn}
 use Rattle.step_turns.specs.WaitGroupTurn as of_group
 use Rattle.step_turns.specs.WaitGroupTurn.{group_turn}
-use Rattle.step_turns.specs.OnceTurn.{out_by, turn_by, once_step, adding_turn, once_turn, func_turn, value_turn}
+use Rattle.step_turns.specs.OnceTurn.{out_by, turn_by, once_step, where_ended, adding_turn, once_turn, func_turn, value_turn}
 use Rattle.step_turns.specs.PoolTurn.{PoolStep, found_or, found_by, looks_of, pool_step, pool_turn}
 use Rattle.step_turns.specs.Turns.{turn_on, turn_on_both, turn_at}
 use Rattle.step_turns.proofs.AtObjects.{each_set, at_ready}
@@ -249,10 +251,24 @@ cond_keeps : Laws → (workers : ℕ) (call : CondCall) (worker moment : ℕ) (o
 cond_keeps laws workers call worker moment (states.Cond c place) (states.Mutex m) = cond_step_keeps laws workers place call worker moment (record { notify_list = c; locker = m })
 cond_keeps laws workers call worker moment o target = both_same workers o target
 
+-- what is so of the number and of the sum is so of the number behind the turn
+pub where_any : (P : Number → Type 0) (r : OnceReply ℤ) (new old : Number) → P new → P old → P (where_ended r new old)
+where_any P once_reply.Ended new old is was = is
+where_any P once_reply.Run new old is was = was
+where_any P once_reply.Queued new old is was = was
+where_any P (once_reply.Done kept) new old is was = was
+where_any P (once_reply.Left kept) new old is was = was
+where_any P once_reply.Still new old is was = was
+
 adding_keeps : Laws → (workers worker : ℕ) (o : once.OnceState ℤ) (place : ℕ) (delta : ℤ) (number : Number)
     → KeepsBoth workers (states.Once o place delta) (states.Atomic number) (adding_turn worker o place delta number).0
 adding_keeps laws workers worker o place delta (Int64 held) =
-    record { first = record { kind = refl; machine = λ h. once_callers laws.adding (int_wrapping_add w64 held delta) worker o ∙ h }; second = record { kind = refl; machine = λ h. h } }
+    let sum = int_wrapping_add w64 held delta in
+    record {
+      first = record { kind = refl; machine = λ h. once_callers laws.adding sum worker o ∙ h };
+      second = where_any (λ number. Keeps workers (states.Atomic (Int64 held)) (states.Atomic number)) (once_step sum worker o).1 (Int64 sum) (Int64 held)
+          (record { kind = refl; machine = λ h. h }) (same workers (states.Atomic (Int64 held)));
+    }
 adding_keeps laws workers worker o place delta number = both_same workers (states.Once o place delta) (states.Atomic number)
 
 once_keeps : Laws → (workers worker : ℕ) (o target : ObjectState) → KeepsBoth workers o target (once_turn worker o target).0

@@ -100,7 +100,7 @@ use Rattle.step_turns.proofs.MachineLaws.{MutexUses, RwUses, OnceUses, Uses}
 -- what it says of numbers, it says of sums of which they are parts
 uses_more : (a : Answer) (old new old_sum new_sum : ℕ) (same same_too : Type 0) → UsesBy old new same a → (same → same_too) → new_sum + old ≡ old_sum + new → UsesBy old_sum new_sum same_too a
 uses_more answers.Still old new old_sum new_sum same same_too uses more sums = more uses
-uses_more answers.Waits old new old_sum new_sum same same_too uses more sums = omega (arith, uses, sums)
+uses_more answers.Unfinished old new old_sum new_sum same same_too uses more sums = omega (arith, uses, sums)
 uses_more (answers.Completed reply) old new old_sum new_sum same same_too uses more sums = omega (arith, uses, sums)
 uses_more (answers.Misused misuse) old new old_sum new_sum same same_too uses more sums = tt
 
@@ -325,7 +325,7 @@ pool_completes pool_calls.Get worker p = found_completes (looks_of (pool.callers
 
 completed_uses : (a : Answer) (same : Type 0) → IsCompleted a → UsesBy 0 0 same a
 completed_uses answers.Still same is = absurd is
-completed_uses answers.Waits same is = absurd is
+completed_uses answers.Unfinished same is = absurd is
 completed_uses (answers.Completed reply) same is = omega arith
 completed_uses (answers.Misused misuse) same is = absurd is
 
@@ -455,8 +455,8 @@ adding_uses uses worker o place delta (Int64 held) =
     let step = any_step uses.adding sum worker o in
     let n = once_step sum worker o in
     once_by_reply n.1 (replies.Once (once_replies.Ran sum)) (λ kept. replies.Once once_replies.Done) (once_left o + 0) (once_left n.0 + 0)
-    ((states.Once n.0 place delta ≡ states.Once o place delta) × (states.Atomic (Int64 (where_ended n.1 sum held)) ≡ states.Atomic (Int64 held)))
-    (λ still. (ap (λ k. states.Once k place delta) (step.1 still), ap (λ (r : OnceReply ℤ). states.Atomic (Int64 (where_ended r sum held))) still))
+    ((states.Once n.0 place delta ≡ states.Once o place delta) × (states.Atomic (where_ended n.1 (Int64 sum) (Int64 held)) ≡ states.Atomic (Int64 held)))
+    (λ still. (ap (λ k. states.Once k place delta) (step.1 still), ap (λ (r : OnceReply ℤ). states.Atomic (where_ended r (Int64 sum) (Int64 held))) still))
     (omega (arith, step.0))
 adding_uses uses worker o place delta number = (refl, refl)
 

@@ -18,8 +18,6 @@ use Rattle.sync_model.specs.declared.atomic_object.AtomicCall.{AtomicCall}
 use Rattle.sync_model.specs.SequentialAtomic.{zero_of, is_signed, is_of, is_atomic_call, atomic_after}
 use Rattle.sync_model.specs.SequentialAtomic as atomics
 use Rattle.wait_cores.specs.OnceMachine as once
-use Rattle.wait_cores.specs.declared.once.OnceReply.{OnceReply}
-use Rattle.wait_cores.specs.declared.once.OnceReply.TheVariants as once_reply
 use Rattle.workload.specs.declared.object.ObjectKind.{ObjectKind}
 use Rattle.workload.specs.declared.object.ObjectKind.TheVariants as kinds
 use Rattle.workload.specs.Plan.{object_of, has_call}
@@ -35,10 +33,11 @@ use Rattle.step_turns.specs.MutexTurn.{mutex_turn}
 use Rattle.step_turns.specs.RwMutexTurn.{rw_mutex_turn}
 use Rattle.step_turns.specs.CondTurn.{cond_turn}
 use Rattle.step_turns.specs.WaitGroupTurn.{group_turn}
-use Rattle.step_turns.specs.OnceTurn.{once_step, where_ended, adding_turn, once_turn, func_turn, value_turn}
+use Rattle.step_turns.specs.OnceTurn.{once_step, adding_turn, once_turn, func_turn, value_turn}
 use Rattle.step_turns.specs.PoolTurn.{pool_turn}
 use Rattle.step_turns.specs.Turns.{turn_on, turn_on_both, turn_at}
 use Rattle.step_turns.proofs.AtomicTypes.{after_type, zero_type}
+use Rattle.step_turns.proofs.ObjectKeeps.{where_any}
 use Rattle.step_turns.proofs.AtObjects.{each_set, at_ready}
 
 -- what is known of the one-thread atomic
@@ -111,20 +110,12 @@ signed_64 n lt = signed_by (2 ^ 63) n (nat_lt n (2 ^ 63)) refl lt
 sum_in_range : (a b : ℤ) → is_signed (2 ^ 63) (int_wrapping_add w64 a b) ≡ true
 sum_in_range a b = signed_64 ((cast_unsigned w64 a + cast_unsigned w64 b) % 2 ^ 64) (omega arith)
 
-where_stays : (r : OnceReply ℤ) (new old : ℤ) → is_signed (2 ^ 63) new ≡ true → is_signed (2 ^ 63) old ≡ true → is_signed (2 ^ 63) (where_ended r new old) ≡ true
-where_stays once_reply.Ended new old is was = is
-where_stays once_reply.Run new old is was = was
-where_stays once_reply.Queued new old is was = was
-where_stays (once_reply.Done kept) new old is was = was
-where_stays (once_reply.Left kept) new old is was = was
-where_stays once_reply.Still new old is was = was
-
 abbrev BothStay : (ObjectState × ObjectState) × Answer → Type 0
 BothStay step = IsInRange step.0.0 × IsInRange step.0.1
 
 adding_stays : (worker : ℕ) (o : once.OnceState ℤ) (place : ℕ) (delta : ℤ) (number : Number) → IsInRange (states.Atomic number) → BothStay (adding_turn worker o place delta number)
 adding_stays worker o place delta (Int64 held) was =
-    (tt, where_stays (once_step (int_wrapping_add w64 held delta) worker o).1 (int_wrapping_add w64 held delta) held (sum_in_range held delta) was)
+    (tt, where_any (λ number. IsInRange (states.Atomic number)) (once_step (int_wrapping_add w64 held delta) worker o).1 (Int64 (int_wrapping_add w64 held delta)) (Int64 held) (sum_in_range held delta) was)
 adding_stays worker o place delta number was = (tt, was)
 
 once_stays : (worker : ℕ) (o target : ObjectState) → IsInRange o → IsInRange target → BothStay (once_turn worker o target)

@@ -176,7 +176,7 @@ object_less left more o less fit = fit
 
 rest_less : (a : Answer) (one left : ℕ) → left_behind a one left ≤ left
 rest_less answers.Still one left = omega arith
-rest_less answers.Waits one left = omega arith
+rest_less answers.Unfinished one left = omega arith
 rest_less (answers.Completed reply) one left = omega arith
 rest_less (answers.Misused misuse) one left = omega arith
 

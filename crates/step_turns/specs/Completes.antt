@@ -5,23 +5,23 @@ use Rattle.sync_model.specs.declared.call.Call.TheVariants as calls
 use Rattle.step_turns.specs.declared.answer.Answer.{Answer}
 use Rattle.step_turns.specs.declared.answer.Answer.TheVariants as answers
 
--- whether a call is on a map, an atomic or a pool: such a call is completed in its first turn
-abbrev pub never_waits : Call → Bool
-never_waits (calls.Map object call) = true
-never_waits (calls.Range object) = true
-never_waits (calls.Atomic object call) = true
-never_waits (calls.Mutex object call) = false
-never_waits (calls.RwMutex object call) = false
-never_waits (calls.Cond object call) = false
-never_waits (calls.WaitGroup object call) = false
-never_waits (calls.Once object) = false
-never_waits (calls.OnceFunc object) = false
-never_waits (calls.OnceValue object) = false
-never_waits (calls.Pool object call) = true
+-- whether a call is on a map, an atomic or a pool
+abbrev pub takes_one_turn : Call → Bool
+takes_one_turn (calls.Map object call) = true
+takes_one_turn (calls.Range object) = true
+takes_one_turn (calls.Atomic object call) = true
+takes_one_turn (calls.Mutex object call) = false
+takes_one_turn (calls.RwMutex object call) = false
+takes_one_turn (calls.Cond object call) = false
+takes_one_turn (calls.WaitGroup object call) = false
+takes_one_turn (calls.Once object) = false
+takes_one_turn (calls.OnceFunc object) = false
+takes_one_turn (calls.OnceValue object) = false
+takes_one_turn (calls.Pool object call) = true
 
 -- the turn completes its call
 abbrev pub IsCompleted : Answer → Type 0
 IsCompleted answers.Still = ⊥
-IsCompleted answers.Waits = ⊥
+IsCompleted answers.Unfinished = ⊥
 IsCompleted (answers.Completed reply) = Unit {0}
 IsCompleted (answers.Misused misuse) = ⊥

@@ -30,9 +30,9 @@ pub record Pair : Type 0 where
 -- answer to an arrival or to a waiter that goes on
 abbrev pub meaning_of : MutexReply → Answer
 meaning_of (Arrived arrival.Acquired) = answers.Completed replies.Returned
-meaning_of (Arrived (arrival.Queued ticket)) = answers.Waits
+meaning_of (Arrived (arrival.Queued ticket)) = answers.Unfinished
 meaning_of (Resumed resumption.Acquired) = answers.Completed replies.Returned
-meaning_of (Resumed resumption.Requeued) = answers.Waits
+meaning_of (Resumed resumption.Requeued) = answers.Unfinished
 meaning_of (Tried acquired) = answers.Still
 meaning_of (Unlocked unlocking) = answers.Still
 meaning_of Still = answers.Still
@@ -40,9 +40,9 @@ meaning_of Still = answers.Still
 -- one that gives the mutex up waits, unless the mutex wasn't locked. Nothing else is an answer to an unlock
 abbrev pub unlock_meaning : MutexReply → Answer
 unlock_meaning (Unlocked (unlocking.Misuse misuse)) = answers.Misused misuse
-unlock_meaning (Unlocked unlocking.Free) = answers.Waits
-unlock_meaning (Unlocked (unlocking.Woke ticket)) = answers.Waits
-unlock_meaning (Unlocked (unlocking.Handed ticket)) = answers.Waits
+unlock_meaning (Unlocked unlocking.Free) = answers.Unfinished
+unlock_meaning (Unlocked (unlocking.Woke ticket)) = answers.Unfinished
+unlock_meaning (Unlocked (unlocking.Handed ticket)) = answers.Unfinished
 unlock_meaning (Arrived arrival) = answers.Still
 unlock_meaning (Tried acquired) = answers.Still
 unlock_meaning (Resumed resumption) = answers.Still

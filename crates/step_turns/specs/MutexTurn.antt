@@ -28,14 +28,14 @@ first_event mutex_calls.TryLock moment = event.Try
 -- what the mutex's answer means for the call
 abbrev pub meaning_of : MutexReply → Answer
 meaning_of (Arrived arrival.Acquired) = answers.Completed (replies.Lock lock_replies.Done)
-meaning_of (Arrived (arrival.Queued ticket)) = answers.Waits
+meaning_of (Arrived (arrival.Queued ticket)) = answers.Unfinished
 meaning_of (Tried acquired) = answers.Completed (replies.Lock (lock_replies.Tried acquired))
 meaning_of (Unlocked unlocking.Free) = answers.Completed (replies.Lock lock_replies.Done)
 meaning_of (Unlocked (unlocking.Woke ticket)) = answers.Completed (replies.Lock lock_replies.Done)
 meaning_of (Unlocked (unlocking.Handed ticket)) = answers.Completed (replies.Lock lock_replies.Done)
 meaning_of (Unlocked (unlocking.Misuse misuse)) = answers.Misused misuse
 meaning_of (Resumed resumption.Acquired) = answers.Completed (replies.Lock lock_replies.Done)
-meaning_of (Resumed resumption.Requeued) = answers.Waits
+meaning_of (Resumed resumption.Requeued) = answers.Unfinished
 meaning_of Still = answers.Still
 
 abbrev pub with_meaning : mutex.State × MutexReply → mutex.State × Answer

@@ -27,6 +27,6 @@ object_left (states.Pool p) = 0
 -- completes a call: less than 4 more
 abbrev pub UsesBy : ℕ → ℕ → Type 0 → Answer → Type 0
 UsesBy old new same answers.Still = same
-UsesBy old new same answers.Waits = new < old
+UsesBy old new same answers.Unfinished = new < old
 UsesBy old new same (answers.Completed reply) = new < old + 4
 UsesBy old new same (answers.Misused misuse) = Unit {0}

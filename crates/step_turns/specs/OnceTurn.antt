@@ -1,6 +1,7 @@
 -- The turn of a worker that stands before a call of a once, or of a function made by `OnceFunc` or `OnceValue`.
 use Rattle.std.specs.Prelude.{ℕ, ℤ, ◌==◌, if◌then◌else◌, Option, Some, None}
-use Rattle.std.specs.Int.{w64, int_wrapping_add}
+use Rattle.sync_model.specs.SequentialAtomic.{atomic_after}
+use Rattle.sync_model.specs.declared.atomic_object.AtomicCall.TheVariants.{Add}
 use Rattle.sync_model.specs.declared.atomic_object.Number.{Number}
 use Rattle.sync_model.specs.declared.atomic_object.Number.TheVariants.{Int64}
 use Rattle.sync_model.specs.declared.call.Reply.{Reply}
@@ -20,8 +21,8 @@ use Rattle.step_turns.specs.declared.object_state.ObjectState.TheVariants as sta
 module _ {T : Type 0} where
   -- what the once's answer means for the call: `ran` is the reply of the one that ran the function, `returned` that of another, by what is kept
   abbrev pub meaning_of : Reply → (T → Reply) → OnceReply T → Answer
-  meaning_of ran returned Run = answers.Waits
-  meaning_of ran returned Queued = answers.Waits
+  meaning_of ran returned Run = answers.Unfinished
+  meaning_of ran returned Queued = answers.Unfinished
   meaning_of ran returned (Done kept) = answers.Completed (returned kept)
   meaning_of ran returned Ended = answers.Completed ran
   meaning_of ran returned (Left kept) = answers.Completed (returned kept)
@@ -42,8 +43,8 @@ module _ {T : Type 0} where
   abbrev pub once_step : T → ℕ → once.OnceState T → once.OnceState T × OnceReply T
   once_step value worker o = turn_by (once.place_of o worker) value worker o
 
-  -- what the function changes, if this turn ran it
-  abbrev pub where_ended : {X : Type 0} → OnceReply T → X → X → X
+  -- the number that the function changes, if this turn ran it
+  abbrev pub where_ended : OnceReply T → Number → Number → Number
   where_ended Ended new old = new
   where_ended Run new old = old
   where_ended Queued new old = old
@@ -51,13 +52,17 @@ module _ {T : Type 0} where
   where_ended (Left kept) new old = old
   where_ended Still new old = old
 
--- the function of a once adds to the number to which the once refers, and comes to the sum. Only an int64 is such a number
-abbrev pub adding_turn : ℕ → once.OnceState ℤ → ℕ → ℤ → Number → (ObjectState × ObjectState) × Answer
-adding_turn worker o place delta (Int64 held) = (
-  (states.Once (once_step (int_wrapping_add w64 held delta) worker o).0 place delta, states.Atomic (Int64 (where_ended (once_step (int_wrapping_add w64 held delta) worker o).1 (int_wrapping_add w64 held delta) held))),
-  meaning_of (replies.Once (once_replies.Ran (int_wrapping_add w64 held delta))) (λ kept. replies.Once once_replies.Done) (once_step (int_wrapping_add w64 held delta) worker o).1,
+-- the function of a once comes to the sum, an int64, and the number to which the once refers is then the sum
+abbrev pub sum_turn : ℕ → once.OnceState ℤ → ℕ → ℤ → Number → Number → (ObjectState × ObjectState) × Answer
+sum_turn worker o place delta number (Int64 sum) = (
+  (states.Once (once_step sum worker o).0 place delta, states.Atomic (where_ended (once_step sum worker o).1 (Int64 sum) number)),
+  meaning_of (replies.Once (once_replies.Ran sum)) (λ kept. replies.Once once_replies.Done) (once_step sum worker o).1,
 )
-adding_turn worker o place delta number = ((states.Once o place delta, states.Atomic number), answers.Still)
+sum_turn worker o place delta number other = ((states.Once o place delta, states.Atomic number), answers.Still)
+
+-- it adds as an atomic's `add` does
+abbrev pub adding_turn : ℕ → once.OnceState ℤ → ℕ → ℤ → Number → (ObjectState × ObjectState) × Answer
+adding_turn worker o place delta number = sum_turn worker o place delta number (atomic_after (Add (Int64 delta)) number)
 
 -- of a once and the object to which it refers; objects of other kinds have no such call
 abbrev pub once_turn : ℕ → ObjectState → ObjectState → (ObjectState × ObjectState) × Answer

@@ -20,6 +20,6 @@ has_pairs_to most (replies.Pool reply) = true
 -- the reply by which a turn completes its call, if it does, shows at most so many pairs
 abbrev pub ShowsTo : ℕ → Answer → Type 0
 ShowsTo most answers.Still = Unit {0}
-ShowsTo most answers.Waits = Unit {0}
+ShowsTo most answers.Unfinished = Unit {0}
 ShowsTo most (answers.Completed reply) = has_pairs_to most reply ≡ true
 ShowsTo most (answers.Misused misuse) = Unit {0}

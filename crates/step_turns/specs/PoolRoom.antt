@@ -43,6 +43,6 @@ HasRoomFor left object = Unit {0}
 -- how many puts are left to make behind a turn, of so many before it, where its call makes this many: only a call that is completed is made
 abbrev pub left_behind : Answer → ℕ → ℕ → ℕ
 left_behind answers.Still made left = left
-left_behind answers.Waits made left = left
+left_behind answers.Unfinished made left = left
 left_behind (answers.Completed reply) made left = left - made
 left_behind (answers.Misused misuse) made left = left

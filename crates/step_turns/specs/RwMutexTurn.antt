@@ -31,13 +31,13 @@ first_event rw_calls.TryRLock moment = event.ReadTry
 -- what the mutex's answer means for the call
 abbrev pub meaning_of : RwReply → Answer
 meaning_of (Arrived arrival.Acquired) = answers.Completed (replies.Lock lock_replies.Done)
-meaning_of (Arrived arrival.Queued) = answers.Waits
+meaning_of (Arrived arrival.Queued) = answers.Unfinished
 meaning_of (Tried acquired) = answers.Completed (replies.Lock (lock_replies.Tried acquired))
 meaning_of (Unlocked unlocking.Done) = answers.Completed (replies.Lock lock_replies.Done)
 meaning_of (Unlocked (unlocking.Misuse misuse)) = answers.Misused misuse
 meaning_of (Resumed resumption.Acquired) = answers.Completed (replies.Lock lock_replies.Done)
-meaning_of (Resumed resumption.Queued) = answers.Waits
-meaning_of (Resumed resumption.Requeued) = answers.Waits
+meaning_of (Resumed resumption.Queued) = answers.Unfinished
+meaning_of (Resumed resumption.Requeued) = answers.Unfinished
 meaning_of Left = answers.Completed (replies.Lock lock_replies.Done)
 meaning_of Still = answers.Still
 

@@ -17,7 +17,7 @@ use Rattle.step_turns.specs.declared.object_state.ObjectState.TheVariants as sta
 -- what the group's answer means for the call
 abbrev pub meaning_of : GroupReply → Answer
 meaning_of Done = answers.Completed replies.Returned
-meaning_of Queued = answers.Waits
+meaning_of Queued = answers.Unfinished
 meaning_of (Misused misuse) = answers.Misused misuse
 meaning_of Still = answers.Still
 

@@ -6,8 +6,8 @@ use sync_model::{Misuse, Reply};
 pub enum Answer {
     /// The worker makes no event: it waits, and nobody has told it to go on.
     Still,
-    /// The worker makes an event, after which it waits.
-    Waits,
+    /// The worker makes an event after which the call has not returned: another turn goes on with it.
+    Unfinished,
     /// The worker makes an event that completes the call, with this reply.
     Completed(Reply),
     /// The call is a misuse, which isn't completed.

@@ -19,7 +19,7 @@ fn wait_on(cond: &mut NotifyCore, mutex: &mut MutexCore, worker: u32) -> Answer
 {
     cond.ticket(worker);
     match mutex.unlock(worker) {
-        Unlocking::Free | Unlocking::Woke(_) | Unlocking::Handed(_) => Answer::Waits,
+        Unlocking::Free | Unlocking::Woke(_) | Unlocking::Handed(_) => Answer::Unfinished,
         Unlocking::Misuse(misuse) => Answer::Misused(misuse),
     }
 }
@@ -34,7 +34,7 @@ fn return_to(cond: &mut NotifyCore, mutex: &mut MutexCore, worker: u32, moment: 
     cond.leave(worker);
     match mutex.arrive(worker, moment) {
         Arrival::Acquired => Answer::Completed(Reply::Returned),
-        Arrival::Queued(_) => Answer::Waits,
+        Arrival::Queued(_) => Answer::Unfinished,
     }
 }
 
@@ -46,7 +46,7 @@ fn go_on(cond: &NotifyCore, mutex: &mut MutexCore, worker: u32, moment: u64) -> 
 {
     match mutex.woken(worker, moment) {
         Resumption::Acquired => Answer::Completed(Reply::Returned),
-        Resumption::Requeued => Answer::Waits,
+        Resumption::Requeued => Answer::Unfinished,
     }
 }
 

@@ -10,7 +10,7 @@ ghost use Rattle.workload.specs.Plan.{object_of};
 ghost use Rattle.step_turns.specs.declared.object_state.ObjectState.{ObjectState};
 ghost use Rattle.step_turns.specs.declared.object_state.ObjectState.TheVariants as states;
 ghost use Rattle.step_turns.specs.AtomicRange.{IsInRange};
-ghost use Rattle.step_turns.specs.Completes.{never_waits, IsCompleted};
+ghost use Rattle.step_turns.specs.Completes.{takes_one_turn, IsCompleted};
 ghost use Rattle.step_turns.specs.MachineLogs.{FollowsItsMachine};
 ghost use Rattle.step_turns.specs.MapKeys.{AreAmong, HasObjectKeysIn};
 ghost use Rattle.step_turns.specs.ObjectLeft.{object_left, UsesBy};
@@ -40,7 +40,8 @@ pub fn turns_keep_kinds_and_machines()
 }
 
 /// A turn without an event changes no object. One that completes its call raises what is left to do at the
-/// objects by less than 4, and one after which the call goes on lowers it; of a misuse nothing is said.
+/// objects by less than 4, and one after which the call has not returned lowers it. Of a misuse nothing is
+/// said.
 pub fn turns_use_something_up()
     ensures { (workers worker moment : ℕ) (call : Call) (objects : List ObjectState) → IsReady workers worker call objects
         → UsesBy (sum_by object_left objects) (sum_by object_left (turn_at call worker moment objects).0) ((turn_at call worker moment objects).0 ≡ objects) (turn_at call worker moment objects).1 }
@@ -60,8 +61,8 @@ pub fn turns_use_something_up()
 }
 
 /// A turn on a map, an atomic or a pool that has the call completes it.
-pub fn some_calls_never_wait()
-    ensures { (workers worker moment : ℕ) (call : Call) (objects : List ObjectState) → never_waits call ≡ true → IsReady workers worker call objects → IsCompleted (turn_at call worker moment objects).1 }
+pub fn some_calls_take_one_turn()
+    ensures { (workers worker moment : ℕ) (call : Call) (objects : List ObjectState) → takes_one_turn call ≡ true → IsReady workers worker call objects → IsCompleted (turn_at call worker moment objects).1 }
 {}
 
 /// An object that is a machine begins in a state that the machine reaches from its start by the events of a

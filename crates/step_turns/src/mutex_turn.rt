@@ -39,7 +39,7 @@ fn begin(mutex: &mut MutexCore, worker: u32, call: MutexCall, moment: u64) -> An
     match call {
         MutexCall::Lock => match mutex.arrive(worker, moment) {
             Arrival::Acquired => done(),
-            Arrival::Queued(_) => Answer::Waits,
+            Arrival::Queued(_) => Answer::Unfinished,
         },
         MutexCall::Unlock => unlocked(mutex.unlock(worker)),
         MutexCall::TryLock => {
@@ -57,7 +57,7 @@ fn go_on(mutex: &mut MutexCore, worker: u32, moment: u64) -> Answer
 {
     match mutex.woken(worker, moment) {
         Resumption::Acquired => done(),
-        Resumption::Requeued => Answer::Waits,
+        Resumption::Requeued => Answer::Unfinished,
     }
 }
 

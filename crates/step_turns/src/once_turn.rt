@@ -36,7 +36,7 @@ fn once_answer(reply: OnceReply<i64>, sum: i64) -> Answer
     ensures { result ≡ meaning_of (Reply.Once (replies.Ran sum)) (λ kept. Reply.Once replies.Done) reply }
 {
     match reply {
-        OnceReply::Run | OnceReply::Queued => Answer::Waits,
+        OnceReply::Run | OnceReply::Queued => Answer::Unfinished,
         OnceReply::Ended => Answer::Completed(Reply::Once(sync_model::OnceReply::Ran(sum))),
         OnceReply::Done(_) | OnceReply::Left(_) => {
             Answer::Completed(Reply::Once(sync_model::OnceReply::Done))
@@ -49,7 +49,7 @@ fn once_answer(reply: OnceReply<i64>, sum: i64) -> Answer
 fn take_once_step(once: &mut OnceCore<i64>, number: &mut i64, delta: i64, worker: u32) -> Answer
     requires { worker < machine.callers_of once.old }
     ensures once { (once_step (int_wrapping_add w64 number.old delta) worker once.old).0 ≡ once.new }
-    ensures number { where_ended (once_step (int_wrapping_add w64 number.old delta) worker once.old).1 (int_wrapping_add w64 number.old delta) number.old ≡ number.new }
+    ensures number { where_ended (once_step (int_wrapping_add w64 number.old delta) worker once.old).1 (Number.Int64 (int_wrapping_add w64 number.old delta)) (Number.Int64 number.old) ≡ Number.Int64 number.new }
     ensures answer { result ≡ meaning_of (Reply.Once (replies.Ran (int_wrapping_add w64 number.old delta))) (λ kept. Reply.Once replies.Done) (once_step (int_wrapping_add w64 number.old delta) worker once.old).1 }
 {
     let sum = number.wrapping_add(delta);
@@ -58,16 +58,6 @@ fn take_once_step(once: &mut OnceCore<i64>, number: &mut i64, delta: i64, worker
         *number = sum;
     }
     once_answer(reply, sum)
-}
-
-/// The amount that the function of a once adds.
-fn amount(object: &ObjectState) -> i64
-    ensures { (o : machine.OnceState ℤ) (place : ℕ) (delta : ℤ) → object.now ≡ states.Once o place delta → result ≡ delta }
-{
-    match object {
-        ObjectState::Once { delta, .. } => *delta,
-        _ => 0,
-    }
 }
 
 /// Takes a turn before a `Do`, whose once adds to the target. The first one begins in one turn, and adds in
@@ -80,7 +70,10 @@ pub(crate) fn take_once_turn(
     requires { (o : machine.OnceState ℤ) (place : ℕ) (delta : ℤ) → object.old ≡ states.Once o place delta → worker < machine.callers_of o }
     ensures { once_turn worker object.old target.old ≡ ((object.new, target.new), result) }
 {
-    let delta = amount(object);
+    let ObjectState::Once { delta, .. } = object else {
+        return Answer::Still;
+    };
+    let delta = *delta;
     match object {
         ObjectState::Once { once, .. } => match target {
             ObjectState::Atomic(Number::Int64(number)) => {
@@ -110,7 +103,7 @@ pub(crate) fn take_once_func_turn(object: &mut ObjectState, worker: u32) -> Answ
 {
     match object {
         ObjectState::OnceFunc { once, code } => match take_step(once, worker, *code) {
-            OnceReply::Run | OnceReply::Queued => Answer::Waits,
+            OnceReply::Run | OnceReply::Queued => Answer::Unfinished,
             OnceReply::Ended => failed(*code),
             OnceReply::Done(kept) | OnceReply::Left(kept) => failed(kept),
             OnceReply::Still => Answer::Still,
@@ -126,7 +119,7 @@ pub(crate) fn take_once_value_turn(object: &mut ObjectState, worker: u32) -> Ans
 {
     match object {
         ObjectState::OnceValue { once, value } => match take_step(once, worker, *value) {
-            OnceReply::Run | OnceReply::Queued => Answer::Waits,
+            OnceReply::Run | OnceReply::Queued => Answer::Unfinished,
             OnceReply::Ended => Answer::Completed(Reply::OnceValue(*value)),
             OnceReply::Done(kept) | OnceReply::Left(kept) => {
                 Answer::Completed(Reply::OnceValue(kept))

@@ -33,7 +33,7 @@ fn arrived(arrival: Arrival) -> Answer
 {
     match arrival {
         Arrival::Acquired => done(),
-        Arrival::Queued => Answer::Waits,
+        Arrival::Queued => Answer::Unfinished,
     }
 }
 
@@ -72,7 +72,7 @@ fn go_on(lock: &mut RwCore, worker: u32, moment: u64) -> Answer
 {
     match lock.w_woken(worker, moment) {
         Resumption::Acquired => done(),
-        Resumption::Queued | Resumption::Requeued => Answer::Waits,
+        Resumption::Queued | Resumption::Requeued => Answer::Unfinished,
     }
 }
 

@@ -28,7 +28,7 @@ fn wait(group: &mut GroupCore, worker: u32) -> Answer
     match group.place(worker) {
         GroupPlace::Out => match group.wait(worker) {
             GroupWait::Done => Answer::Completed(Reply::Returned),
-            GroupWait::Queued => Answer::Waits,
+            GroupWait::Queued => Answer::Unfinished,
         },
         GroupPlace::Waiting => Answer::Still,
         GroupPlace::Released => outcome(group.leave(worker)),

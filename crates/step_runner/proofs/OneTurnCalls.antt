@@ -8,7 +8,7 @@ use Rattle.workload.specs.declared.turn.Turn.TheVariants as items
 use Rattle.workload.specs.Plan.{Plan}
 use Rattle.step_turns.specs.declared.answer.Answer.{Answer}
 use Rattle.step_turns.specs.declared.answer.Answer.TheVariants as answers
-use Rattle.step_turns.specs.Completes.{never_waits, IsCompleted}
+use Rattle.step_turns.specs.Completes.{takes_one_turn, IsCompleted}
 use Rattle.step_turns.specs.Ready.{IsReady}
 use Rattle.step_turns.specs.Turns.{turn_at}
 use Rattle.step_runner.specs.declared.step.Step.{Step}
@@ -28,7 +28,7 @@ use Rattle.step_runner.proofs.EndLemmas.{done_replied, is_done, is_misused_by, i
 
 -- what the law of turns says
 abbrev pub Completing : Type 0
-Completing = (workers worker moment : ℕ) (call : Call) (objects : List ObjectState) → never_waits call ≡ true → IsReady workers worker call objects → IsCompleted (turn_at call worker moment objects).1
+Completing = (workers worker moment : ℕ) (call : Call) (objects : List ObjectState) → takes_one_turn call ≡ true → IsReady workers worker call objects → IsCompleted (turn_at call worker moment objects).1
 
 -- a turn is no misuse, and it makes an event unless the script has ended
 abbrev Goes : Plan → ℕ → State → Step → Type 0
@@ -36,24 +36,24 @@ Goes plan worker s steps.Still = next_call plan worker s ≡ None
 Goes plan worker s steps.Made = Unit {0}
 Goes plan worker s (steps.Misused misuse) = ⊥
 
-abbrev AllNever : Plan → Type 0
-AllNever plan = list_all (list_all never_waits) plan.scripts ≡ true
+abbrev AllTakeOneTurn : Plan → Type 0
+AllTakeOneTurn plan = list_all (list_all takes_one_turn) plan.scripts ≡ true
 
-never_next : (plan : Plan) (worker : ℕ) (s : State) (call : Call) → AllNever plan → next_call plan worker s ≡ Some call → never_waits call ≡ true
-never_next plan worker s call all is = all_get never_waits (get_or plan.scripts worker []) (length (get_or s.replies worker [])) call (all_at never_waits plan.scripts worker all) is
+next_takes_one_turn : (plan : Plan) (worker : ℕ) (s : State) (call : Call) → AllTakeOneTurn plan → next_call plan worker s ≡ Some call → takes_one_turn call ≡ true
+next_takes_one_turn plan worker s call all is = all_get takes_one_turn (get_or plan.scripts worker []) (length (get_or s.replies worker [])) call (all_at takes_one_turn plan.scripts worker all) is
 
-turn_goes : Completing → (plan : Plan) (worker : ℕ) (s : State) → AllNever plan → IsStateOf plan s → Goes plan worker s (turn_of plan worker s).1
+turn_goes : Completing → (plan : Plan) (worker : ℕ) (s : State) → AllTakeOneTurn plan → IsStateOf plan s → Goes plan worker s (turn_of plan worker s).1
 turn_goes completes plan worker s all of = turn_cases (λ step. Goes plan worker s step.1) plan worker s of (record {
   ended = λ is. is;
   still = λ call objects takes. absurd (completed call objects answers.Still takes);
-  waits = λ call objects takes. tt;
+  unfinished = λ call objects takes. tt;
   completed = λ call objects reply takes. tt;
   misused = λ call objects misuse takes. completed call objects (answers.Misused misuse) takes;
 })
   where
     completed : (call : Call) (objects : List ObjectState) (answer : Answer) → Takes plan worker s call objects answer → IsCompleted answer
     completed call objects answer takes =
-        takes_by (λ x. IsCompleted x.1) plan worker s call objects answer of takes (completes plan.workers worker s.moment call s.objects (never_next plan worker s call all takes.next))
+        takes_by (λ x. IsCompleted x.1) plan worker s call objects answer of takes (completes plan.workers worker s.moment call s.objects (next_takes_one_turn plan worker s call all takes.next))
 
 -- ---- turns in order
 
@@ -72,11 +72,11 @@ no_misuse plan worker s steps.Still goes = refl
 no_misuse plan worker s steps.Made goes = refl
 no_misuse plan worker s (steps.Misused misuse) goes = absurd goes
 
-item_goes : Completing → (plan : Plan) (item : Turn) (s : State) → AllNever plan → IsStateOf plan s → is_misused (item_of plan item s).1 ≡ false
+item_goes : Completing → (plan : Plan) (item : Turn) (s : State) → AllTakeOneTurn plan → IsStateOf plan s → is_misused (item_of plan item s).1 ≡ false
 item_goes completes plan (items.Worker worker) s all of = no_misuse plan worker s (turn_of plan worker s).1 (turn_goes completes plan worker s all of)
 item_goes completes plan (items.Moment moment) s all of = refl
 
-items_go : Completing → (plan : Plan) → GoesOn plan → AllNever plan → (list : List Turn) (s : State) → IsStateOf plan s → is_misused (items_of plan list s).1 ≡ false
+items_go : Completing → (plan : Plan) → GoesOn plan → AllTakeOneTurn plan → (list : List Turn) (s : State) → IsStateOf plan s → is_misused (items_of plan list s).1 ≡ false
 items_go completes plan goes_on all [] s of = refl
 items_go completes plan goes_on all (item ∷ rest) s of =
     then_goes (item_of plan item s) (items_of plan rest) (item_goes completes plan item s all of) (items_go completes plan goes_on all rest (item_of plan item s).0 (item_valid plan goes_on item s of))
@@ -92,7 +92,7 @@ still_first plan worker s t (u, steps.Still) f same goes is = (goes, subst (λ v
 still_first plan worker s t (u, steps.Made) f less goes is = absurd (event_made (f u) t is)
 still_first plan worker s t (u, steps.Misused misuse) f same goes is = absurd goes
 
-still_ended : Completing → (plan : Plan) → UsesUp plan → AllNever plan → (workers : List ℕ) (s t : State) → IsStateOf plan s → items_of plan (turns_of workers) s ≡ (t, steps.Still)
+still_ended : Completing → (plan : Plan) → UsesUp plan → AllTakeOneTurn plan → (workers : List ℕ) (s t : State) → IsStateOf plan s → items_of plan (turns_of workers) s ≡ (t, steps.Still)
     → list_all (λ worker. not (is_some (next_call plan worker s))) workers ≡ true
 still_ended completes plan uses all [] s t of is = refl
 still_ended completes plan uses all (worker ∷ workers) s t of is =
@@ -103,7 +103,7 @@ still_ended completes plan uses all (worker ∷ workers) s t of is =
 -- ---- the run
 
 -- a run of such scripts is no misuse and no deadlock
-done_by : Completing → (plan : Plan) → GoesOn plan → UsesUp plan → AllNever plan → IsStateOf plan (start plan) → (x : Outcome) → turns plan ≡ x → (report : Report) × (turns plan ≡ outcomes.Done report) × (map length report.replies ≡ map length plan.scripts)
+done_by : Completing → (plan : Plan) → GoesOn plan → UsesUp plan → AllTakeOneTurn plan → IsStateOf plan (start plan) → (x : Outcome) → turns plan ≡ x → (report : Report) × (turns plan ≡ outcomes.Done report) × (map length report.replies ≡ map length plan.scripts)
 done_by completes plan goes_on uses all of (outcomes.Done report) is = (report, is, done_replied plan goes_on uses of report (is_done plan goes_on uses of report is))
 done_by completes plan goes_on uses all of (outcomes.Misused report misuse) is =
     let misused = is_misused_by plan goes_on uses of report misuse is in
@@ -113,5 +113,5 @@ done_by completes plan goes_on uses all of (outcomes.Deadlocked report) is =
     let valid = state_of plan goes_on uses dead.state of dead.comes in
     absurd (true_false (sym (still_ended completes plan uses all (range_with_len 0 plan.workers) dead.state dead.state valid dead.still) ∙ dead.going))
 
-pub never_waiting_ends : Completing → (plan : Plan) → GoesOn plan → UsesUp plan → AllNever plan → IsStateOf plan (start plan) → (report : Report) × (turns plan ≡ outcomes.Done report) × (map length report.replies ≡ map length plan.scripts)
-never_waiting_ends completes plan goes_on uses all of = done_by completes plan goes_on uses all of (turns plan) refl
+pub one_turn_calls_end : Completing → (plan : Plan) → GoesOn plan → UsesUp plan → AllTakeOneTurn plan → IsStateOf plan (start plan) → (report : Report) × (turns plan ≡ outcomes.Done report) × (map length report.replies ≡ map length plan.scripts)
+one_turn_calls_end completes plan goes_on uses all of = done_by completes plan goes_on uses all of (turns plan) refl
