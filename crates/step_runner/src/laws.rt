@@ -35,8 +35,9 @@ ghost use Rattle.step_runner.specs.State.{State, IsStateOf, puts_at, start, with
 ghost use Rattle.step_runner.specs.Turns.{next_call, turn_of, items_of, after_items, has_ended, rounds_of, all_rounds, turns};
 
 use step_turns::laws::{
-    maps_keep_to_the_keys_of_calls, numbers_stay_in_range, pools_have_room, some_calls_take_one_turn,
-    turns_follow_the_machines, turns_keep_kinds_and_machines, turns_use_something_up,
+    maps_keep_to_the_keys_of_calls, numbers_stay_in_range, pools_have_room,
+    some_calls_take_one_turn, turns_follow_the_machines, turns_keep_kinds_and_machines,
+    turns_use_something_up,
 };
 
 /// What is true of the state in which a run begins stays true with each turn, and so at every moment:
