@@ -1,15 +1,13 @@
 -- What the events of a once's callers are answered, and what its calls answer by them.
-use Rattle.std.proofs.Common.{◌≡◌, ◌≢◌, ◌⊎◌, inl, inr, ℕ, zero, suc, append-nil, ◌<◌, ◌≤◌, Bool, true, false, List, [], ◌∷◌, ◌++◌, Option, None, replicate, refl, sym, ap, ◌∙◌, subst, append_assoc, IsTrue}
-use Rattle.std.specs.Prelude.{count_by}
+use Rattle.std.proofs.Common.{◌≡◌, ◌≢◌, inr, ℕ, zero, suc, append-nil, ◌<◌, Bool, true, false, List, [], ◌∷◌, ◌++◌, None, replicate, refl, sym, ap, ◌∙◌, subst, append_assoc, IsTrue}
 use Rattle.std.proofs.lemmas.List.{map-append}
-use Rattle.sync_model.specs.declared.misuse.Misuse.{Misuse}
 use Rattle.sync_model.specs.declared.answer.Answer.{Answer}
 use Rattle.sync_model.specs.declared.answer.Answer.TheVariants.{Done, Halted}
 use Rattle.sync_model.specs.declared.journal.Deed.{Deed}
 use Rattle.sync_model.specs.declared.journal.Deed.TheVariants.{Event, Refused}
 use Rattle.sync_model.specs.Journal.{halt_of, by, state_after, Right, Follows}
 use Rattle.wait_cores.specs.declared.once.OnceEvent.{OnceEvent}
-use Rattle.wait_cores.specs.declared.once.OnceEvent.TheVariants.{Begin, End, Leave}
+use Rattle.wait_cores.specs.declared.once.OnceEvent.TheVariants.{Begin, Leave}
 use Rattle.wait_cores.specs.declared.once.OnceReply.{OnceReply}
 use Rattle.wait_cores.specs.declared.once.OnceReply.TheVariants as reply
 use Rattle.wait_cores.specs.OnceMachine.{OnceState, next, callers_of}

@@ -1,5 +1,5 @@
 -- What contracts see of a running Cond and of the passes to it.
-use Rattle.std.specs.Prelude.{◌≡◌, ℕ, true, List, IsTrue}
+use Rattle.std.specs.Prelude.{ℕ, true, List, IsTrue}
 use Rattle.sync_model.specs.declared.answer.Answer.{Answer}
 use Rattle.sync_model.specs.declared.answer.Answer.TheVariants.{Done, Halted}
 use Rattle.sync_model.specs.declared.journal.Entry.{Entry}

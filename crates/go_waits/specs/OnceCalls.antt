@@ -1,6 +1,5 @@
 -- Which events each call of a once makes, in order, and how it answers by them.
-use Rattle.std.specs.Prelude.{◌≡◌, ◌⊎◌, ℕ, ◌≤◌, Some, List, [], ◌∷◌, ◌++◌, replicate, count_by}
-use Rattle.sync_model.specs.declared.misuse.Misuse.{Misuse}
+use Rattle.std.specs.Prelude.{◌≡◌, ◌⊎◌, ℕ, ◌≤◌, List, [], ◌∷◌, ◌++◌, replicate, count_by}
 use Rattle.sync_model.specs.declared.answer.Answer.{Answer}
 use Rattle.sync_model.specs.declared.answer.Answer.TheVariants.{Done, Halted}
 use Rattle.sync_model.specs.declared.journal.Deed.{Deed}
@@ -10,7 +9,7 @@ use Rattle.wait_cores.specs.declared.once.OnceEvent.{OnceEvent}
 use Rattle.wait_cores.specs.declared.once.OnceEvent.TheVariants.{Begin, End, Leave}
 use Rattle.wait_cores.specs.declared.once.OnceReply.{OnceReply}
 use Rattle.wait_cores.specs.declared.once.OnceReply.TheVariants as reply
-use Rattle.wait_cores.specs.OnceLaws.{begins, kept_by}
+use Rattle.wait_cores.specs.OnceLaws.{begins}
 use Rattle.ruled_object.specs.Passes as object
 use Rattle.go_waits.specs.declared.once_begun.OnceBegun.{OnceBegun}
 use Rattle.go_waits.specs.declared.once_begun.OnceBegun.TheVariants.{Run, Already}

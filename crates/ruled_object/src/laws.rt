@@ -11,7 +11,8 @@ ghost use Rattle.ruled_object.specs.Cells.{deed_of};
 ghost use Rattle.ruled_object.specs.Growth.{Placed, Grows, IsLawful, MeetsHalt};
 ghost use Rattle.ruled_object.specs.Passes.{number_of, seen_by, own_by, IsPassOf, Adds, IsSpent};
 
-use sync_model::{Machine, Note};
+use crate::new::MAX_CALLS;
+use sync_model::{MAX_CALLERS, Machine, Note};
 
 /// The events that a machine took, of a journal that follows it, are a log of the machine for one thread: the replies
 /// are the machine's, and they lead to the same state. So what holds of every log holds of an object that is shared.
@@ -45,4 +46,9 @@ pub fn growth<M: Machine, N: Note>()
 pub fn spending<M: Machine, N: Note>()
     ensures { (object : Object M N M.State M.Event M.Reply N.Home) (old new : Pass M.State N M.Event M.Reply)
         → IsPassOf object old → IsSpent old new → IsPassOf object new }
+{}
+
+/// The limits of an object by their numbers: how many calls a pass is good for, and how many callers an object has.
+pub fn limits()
+    ensures { (MAX_CALLS ≡ 1000000) × (MAX_CALLERS ≡ 64) }
 {}

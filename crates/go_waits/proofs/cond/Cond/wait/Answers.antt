@@ -1,5 +1,4 @@
 use Rattle.std.proofs.Common.{sym, subst}
-use Rattle.ruled_object.specs.Passes.{IsSpent}
 use Rattle.go_waits.specs.Conds.{IsMutexLawful}
 use Rattle.go_waits.specs.CondCalls.{no_ticket, ticket}
 use Rattle.go_waits.proofs.cond.Cond.wait.Goals as goal

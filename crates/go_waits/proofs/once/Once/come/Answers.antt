@@ -1,10 +1,9 @@
-use Rattle.std.proofs.Common.{◌≡◌, ℕ, ◌<◌, Bool, true, false, [], append-nil, refl, sym, ap, ◌∙◌, subst}
-use Rattle.std.specs.Prelude.{length}
+use Rattle.std.proofs.Common.{◌≡◌, ℕ, ◌<◌, Bool, true, false, [], append-nil, sym, ap, ◌∙◌, subst}
 use Rattle.std.proofs.lemmas.List.{length-replicate}
 use Rattle.sync_model.specs.Journal.{halt_of, log_of, state_after, Right}
 use Rattle.sync_model.specs.Log as log
 use Rattle.wait_cores.specs.declared.once.OnceEvent.TheVariants.{Begin}
-use Rattle.wait_cores.specs.OnceMachine.{OnceState, next, callers_of}
+use Rattle.wait_cores.specs.OnceMachine.{next, callers_of}
 use Rattle.wait_cores.specs.OnceStanding.{waits_at, runs_at}
 use Rattle.ruled_object.specs.Passes.{number_of, own_by, seen_by, start_of}
 use Rattle.ruled_object.specs.Passes as object

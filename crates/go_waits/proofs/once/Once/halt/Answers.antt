@@ -1,4 +1,4 @@
-use Rattle.std.proofs.Common.{◌≡◌, false, ap, ◌∙◌}
+use Rattle.std.proofs.Common.{false, ap, ◌∙◌}
 use Rattle.ruled_object.specs.Passes.{own_by}
 use Rattle.go_waits.specs.Onces.{waits_by, runs_by}
 use Rattle.ruled_object.specs.Standing.{stand_next}

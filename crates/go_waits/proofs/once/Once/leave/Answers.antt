@@ -1,9 +1,9 @@
-use Rattle.std.proofs.Common.{◌≡◌, ◌≢◌, ℕ, ◌<◌, ◌++◌, Bool, true, false, refl, sym, ap, ◌∙◌, subst}
+use Rattle.std.proofs.Common.{ℕ, ◌<◌, ◌++◌, true, false, sym, ap, ◌∙◌, subst}
 use Rattle.std.proofs.lemmas.List.{length-replicate}
 use Rattle.sync_model.specs.Journal.{halt_of, log_of, state_after, Right}
 use Rattle.sync_model.specs.Log as log
 use Rattle.wait_cores.specs.declared.once.OnceEvent.TheVariants.{Leave}
-use Rattle.wait_cores.specs.OnceMachine.{OnceState, next, callers_of}
+use Rattle.wait_cores.specs.OnceMachine.{next, callers_of}
 use Rattle.wait_cores.specs.OnceStanding.{waits_at, runs_at}
 use Rattle.ruled_object.specs.Cells.{deed_of}
 use Rattle.ruled_object.specs.Growth.{entries_of}

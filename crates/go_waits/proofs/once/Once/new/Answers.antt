@@ -1,4 +1,4 @@
-use Rattle.std.proofs.Common.{◌≡◌, ap}
+use Rattle.std.proofs.Common.{ap}
 use Rattle.go_waits.specs.Onces.{waits_by, runs_by}
 use Rattle.go_waits.proofs.once.Once.new.Goals as goal
 
