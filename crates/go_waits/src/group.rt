@@ -8,6 +8,7 @@ mod events;
 mod halting;
 mod making;
 
+pub use making::MAX_START;
 use ruled_object::{Object, PassOf};
 use sync_model::Note;
 use wait_cores::GroupCore;

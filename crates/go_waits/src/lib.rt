@@ -5,6 +5,7 @@
 pub mod cond;
 mod do_once;
 pub mod group;
+pub mod laws;
 pub mod leaving;
 mod making;
 pub mod once;
@@ -13,7 +14,7 @@ pub mod once_run;
 pub mod once_value;
 
 pub use cond::{Cond, CondPass};
-pub use group::{GroupPass, WaitGroup};
+pub use group::{GroupPass, MAX_START, WaitGroup};
 pub use once::{Once, OncePass};
 pub use once_begun::{OnceBegun, Running};
 pub use once_run::OnceRun;
