@@ -81,6 +81,10 @@ module _ {N H : Type 0} where
   abbrev pub IsWhole : Pool N H → Journal → List (PoolPass N) → Type 0
   IsWhole pool journal passes = gathered.IsWhole next true pool_releases pool_acquires (start (parts_of pool) (room_of pool)) journal passes
 
+  -- the same, and each pass has seen all of it
+  abbrev pub IsSeen : Pool N H → Journal → List (PoolPass N) → Type 0
+  IsSeen pool journal passes = gathered.IsSeen next true pool_releases pool_acquires (start (parts_of pool) (room_of pool)) journal passes
+
 module _ {N : Type 0} where
   -- the number of the caller
   abbrev pub number_of : PoolPass N → ℕ

@@ -4,7 +4,7 @@ ghost use Rattle.sync_model.specs.declared.journal.Deed.TheVariants.{Halt};
 ghost use Rattle.sync_model.specs.Journal.{halt_of};
 ghost use Rattle.ruled_object.specs.Gathered.{SamePasses};
 ghost use Rattle.ruled_object.specs.Passes.{SamePass};
-ghost use Rattle.go_pool.specs.Pools.{Made, Journal, AreAllPasses, IsPassOf, IsWhole, Adds};
+ghost use Rattle.go_pool.specs.Pools.{Made, Journal, AreAllPasses, IsPassOf, IsWhole, IsSeen, Adds};
 
 use crate::pool::{Pool, PoolPass};
 use std::sync::Wait;
@@ -27,6 +27,7 @@ impl<N: Note> Pool<N> {
         requires { AreAllPasses self.now passes.old }
         ensures passes { AreAllPasses self.now passes.new × SamePasses passes.old passes.new }
         ensures history { (journal : Journal) × (result ≡ halt_of journal) × IsWhole self.now journal passes.old × IsWhole self.now journal passes.new }
+        ensures seen { (journal : Journal) × IsSeen self.now journal passes.new }
     {
         self.object.first_halt(passes)
     }

@@ -16,7 +16,8 @@ use Rattle.sync_model.specs.declared.once_call.OnceReply.TheVariants as once_rep
 use Rattle.sync_model.specs.declared.pool_call.PoolReply.{PoolReply}
 use Rattle.sync_model.specs.declared.pool_call.PoolReply.TheVariants as pool_replies
 use Rattle.workload.specs.declared.object.ObjectLine.{ObjectLine}
-use Rattle.workload.specs.Canonical.{behind_spaces, call_line, name_of}
+use Rattle.workload.specs.Canonical.{behind_spaces, name_of}
+use Rattle.workload.specs.Canonical as texts
 use Rattle.workload.specs.Plan.{Plan}
 use Rattle.workload.specs.NumberWords.{number_word}
 use Rattle.workload.specs.Words.{spelled}
@@ -28,7 +29,7 @@ use Rattle.step_runner.specs.declared.outcome.Outcome.TheVariants as outcomes
 
 -- the words of a call, as a workload's text spells them
 abbrev pub call_words : List ObjectLine → Call → List (List ℕ)
-call_words objects call = spelled (call_line objects call)
+call_words objects call = spelled (texts.call_line objects call)
 
 abbrev pub truth_text : Bool → List ℕ
 truth_text true = codes "true"

@@ -1,5 +1,5 @@
 //! The words of a call in a line of the report, as a workload's text spells them.
-ghost use Rattle.std.specs.Prelude.{◌≡◌, ◌+◌, ◌≤◌, ◌++◌, ◌∷◌, length, map, vec_len, vec_capacity};
+ghost use Rattle.std.specs.Prelude.{◌≡◌, ◌+◌, ◌≤◌, ◌++◌, ◌∷◌, map, vec_len, vec_capacity};
 ghost use Rattle.std.specs.Fmt.{decimal};
 ghost use Rattle.workload.specs.KeywordWords.{verb_word};
 ghost use Rattle.workload.specs.CallWords.{verb_of, map_values, map_operands, atomic_operands, group_operands, pool_operands, operands_of};

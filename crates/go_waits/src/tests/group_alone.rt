@@ -5,7 +5,7 @@ use sync_model::{Answer, Misuse};
 #[test]
 fn a_counter_stays_within_its_range(rt: HostRuntime) -> Result<(), Fail> {
     let (group, mut passes) = group(rt.alloc(), 1, 6, 0)?;
-    let mut member = Member::last(&group, &mut passes, knows(0)).expect(&rt, "a pass");
+    let mut member = Member::last(&group, 1, &mut passes, knows(0)).expect(&rt, "a pass");
     let misuse = Misuse::NegativeWaitGroupCounter;
     for (delta, answer) in [
         (2147483647, Ok(())),
@@ -28,8 +28,8 @@ fn a_counter_stays_within_its_range(rt: HostRuntime) -> Result<(), Fail> {
 #[test]
 fn a_done_synchronizes_before_the_return_of_a_wait(rt: HostRuntime) -> Result<(), Fail> {
     let (group, mut passes) = group(rt.alloc(), 2, 3, 2)?;
-    let mut waits = Member::last(&group, &mut passes, knows(0)).expect(&rt, "a pass");
-    let mut ends = Member::last(&group, &mut passes, knows(7)).expect(&rt, "a pass");
+    let mut waits = Member::last(&group, 2, &mut passes, knows(0)).expect(&rt, "a pass");
+    let mut ends = Member::last(&group, 2, &mut passes, knows(7)).expect(&rt, "a pass");
     assert_eq!(rt; ends.done(&rt), Some(Answer::Done(Ok(()))));
     assert_eq!(rt; ends.add(&rt, -1), Some(Answer::Done(Ok(()))));
     assert_eq!(rt; waits.known(), 0);
@@ -41,7 +41,7 @@ fn a_done_synchronizes_before_the_return_of_a_wait(rt: HostRuntime) -> Result<()
 #[test]
 fn a_halt_ends_the_group(rt: HostRuntime) -> Result<(), Fail> {
     let (group, mut passes) = group(rt.alloc(), 1, 3, 1)?;
-    let mut member = Member::last(&group, &mut passes, knows(0)).expect(&rt, "a pass");
+    let mut member = Member::last(&group, 1, &mut passes, knows(0)).expect(&rt, "a pass");
     let halted = Answer::Halted(Misuse::WaitGroupReused);
     member.halt(&rt, Misuse::WaitGroupReused);
     member.halt(&rt, Misuse::NegativeWaitGroupCounter);

@@ -38,8 +38,8 @@ fn two_meet<R: Threads + Wait + Sync>(
 #[test]
 fn nobody_passes_the_barrier_before_all_have_come(rt: HostRuntime) -> Result<(), Fail> {
     let (group, mut passes) = group(rt.alloc(), 2, 2, 2)?;
-    let second = Member::last(&group, &mut passes, knows(0)).expect(&rt, "a pass");
-    let first = Member::last(&group, &mut passes, knows(0)).expect(&rt, "a pass");
+    let second = Member::last(&group, 2, &mut passes, knows(0)).expect(&rt, "a pass");
+    let first = Member::last(&group, 2, &mut passes, knows(0)).expect(&rt, "a pass");
     let counted = AtomicU64::new(0);
     assert_eq!(rt; two_meet(&rt, &counted, first, second), (Some(2), Some(2)));
     Ok(())
@@ -66,8 +66,8 @@ fn halted_beside<R: Threads + Wait + Sync>(
 #[test]
 fn a_caller_that_waits_meets_the_halt(rt: HostRuntime) -> Result<(), Fail> {
     let (group, mut passes) = group(rt.alloc(), 2, 1, 1)?;
-    let second = Member::last(&group, &mut passes, knows(0)).expect(&rt, "a pass");
-    let first = Member::last(&group, &mut passes, knows(0)).expect(&rt, "a pass");
+    let second = Member::last(&group, 2, &mut passes, knows(0)).expect(&rt, "a pass");
+    let first = Member::last(&group, 2, &mut passes, knows(0)).expect(&rt, "a pass");
     let answer = halted_beside(&rt, first, second);
     assert_eq!(rt; answer, Some(Answer::Halted(Misuse::WaitGroupReused)));
     Ok(())

@@ -1,7 +1,7 @@
 //! Wait groups for the tests, and their callers.
 ghost use Rattle.std.specs.Prelude.{◌≡◌, ◌≤◌, ◌≤ℤ◌, pos, false, IfOk};
 ghost use Rattle.ruled_object.specs.Passes as object;
-ghost use Rattle.go_waits.specs.Groups.{AreGroupPasses, waits_by};
+ghost use Rattle.go_waits.specs.Groups.{callers_of, AreGroupPasses, waits_by};
 
 use crate::group::{GroupPass, WaitGroup};
 use std::alloc::{AllocError, Global};
@@ -43,7 +43,8 @@ pub(super) fn group(
     requires callers { (1 ≤ callers) × (callers ≤ 64) }
     requires calls { calls ≤ 1000000 }
     requires start { (pos 0 ≤ℤ start) × (start ≤ℤ pos 10000) }
-    ensures { IfOk result (λ made. AreGroupPasses made.0 made.1.items) }
+    ensures callers { IfOk result (λ made. callers_of made.0 ≡ callers) }
+    ensures passes { IfOk result (λ made. AreGroupPasses made.0 made.1.items) }
 {
     let (group, passes) = WaitGroup::new(alloc, callers, calls, start, knows(0))?;
     Ok((group, passes))
@@ -53,24 +54,33 @@ pub(super) fn group(
 #[derive(Drop)]
 pub(super) struct Member<'a> {
     group: &'a WaitGroup<FrontNote>,
+    callers: u32,
     pass: GroupPass<FrontNote>,
     note: FrontNote,
+    ghost sized: { callers_of group.now ≡ callers },
     ghost is: { object.IsPassOf group.now.object pass },
     ghost between: { waits_by (object.own_by pass) ≡ false },
 }
 
 impl<'a> Member<'a> {
-    /// The caller of the last of these passes, with this note.
+    /// The caller of the last of these passes to a group of so many callers, with this note.
     pub(super) fn last(
         group: &'a WaitGroup<FrontNote>,
+        callers: u32,
         passes: &mut Vec<GroupPass<FrontNote>>,
         note: FrontNote,
     ) -> Option<Self>
-        requires { AreGroupPasses group.now passes.old.items }
+        requires callers { callers_of group.now ≡ callers }
+        requires passes { AreGroupPasses group.now passes.old.items }
         ensures { AreGroupPasses group.now passes.new.items }
     {
         let pass = passes.pop()?;
-        Some(Member { group, pass, note })
+        Some(Member {
+            group,
+            callers,
+            pass,
+            note,
+        })
     }
 
     /// An add, where a call is left.
@@ -110,8 +120,13 @@ impl<'a> Member<'a> {
 
     /// The misuse that halted the group, where this is its only caller.
     pub(super) fn first_halt(self, alloc: Global) -> Result<Option<Misuse>, AllocError> {
-        let Member { group, pass, .. } = self;
-        if group.callers != 1 {
+        let Member {
+            group,
+            callers,
+            pass,
+            ..
+        } = self;
+        if callers != 1 {
             return Ok(None);
         }
         let mut passes = vec![in alloc; pass]?;
