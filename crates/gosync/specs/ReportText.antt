@@ -11,10 +11,10 @@ use Rattle.sync_model.specs.declared.atomic_object.AtomicReply.{AtomicReply}
 use Rattle.sync_model.specs.declared.atomic_object.AtomicReply.TheVariants as atomic_replies
 use Rattle.sync_model.specs.declared.lock_call.LockReply.{LockReply}
 use Rattle.sync_model.specs.declared.lock_call.LockReply.TheVariants as lock_replies
-use Rattle.sync_model.specs.declared.once_call.OnceReply.{OnceReply}
-use Rattle.sync_model.specs.declared.once_call.OnceReply.TheVariants as once_replies
-use Rattle.sync_model.specs.declared.pool_call.PoolReply.{PoolReply}
-use Rattle.sync_model.specs.declared.pool_call.PoolReply.TheVariants as pool_replies
+use Rattle.sync_model.specs.declared.once_call.DoReply.{DoReply}
+use Rattle.sync_model.specs.declared.once_call.DoReply.TheVariants as once_replies
+use Rattle.sync_model.specs.declared.pool_call.PoolCallReply.{PoolCallReply}
+use Rattle.sync_model.specs.declared.pool_call.PoolCallReply.TheVariants as pool_replies
 use Rattle.workload.specs.declared.object.ObjectLine.{ObjectLine}
 use Rattle.workload.specs.Canonical.{behind_spaces, name_of}
 use Rattle.workload.specs.Canonical as texts
@@ -64,7 +64,7 @@ lock_reply_text lock_replies.Done = codes "ok"
 lock_reply_text (lock_replies.Tried is_taken) = truth_text is_taken
 
 -- a reply of a once: the sum that its function made, or that the function was run before
-abbrev pub once_reply_text : OnceReply → List ℕ
+abbrev pub once_reply_text : DoReply → List ℕ
 once_reply_text (once_replies.Ran sum) = codes "ran " ++ signed_decimal sum
 once_reply_text once_replies.Done = codes "done"
 
@@ -74,7 +74,7 @@ once_func_reply_text None = codes "ok"
 once_func_reply_text (Some code) = codes "err " ++ decimal code
 
 -- a reply of a pool: nothing, an item that was put, or a new one
-abbrev pub pool_reply_text : PoolReply → List ℕ
+abbrev pub pool_reply_text : PoolCallReply → List ℕ
 pool_reply_text pool_replies.Done = codes "ok"
 pool_reply_text (pool_replies.Put item) = decimal item ++ codes " put"
 pool_reply_text pool_replies.New = codes "0 new"

@@ -6,7 +6,7 @@ ghost use Rattle.workload.specs.Canonical.{behind_spaces};
 ghost use Rattle.gosync.specs.ReportText.{map_reply_text, pair_text, pairs_text, atomic_reply_text, lock_reply_text, once_reply_text, once_func_reply_text, pool_reply_text, reply_text};
 
 use crate::line::{push, push_atomic_number, push_number, push_signed, push_truth};
-use sync_model::{AtomicReply, LockReply, MapReply, Name, OnceReply, PoolReply, Reply};
+use sync_model::{AtomicReply, LockReply, MapReply, Name, DoReply, PoolCallReply, Reply};
 
 /// The most bytes of a reply: 4,096 pairs, each of a key of 32 bytes, `=`, a value of 20 digits, and a
 /// space before the next.
@@ -106,18 +106,18 @@ fn push_lock_reply(line: &mut Vec<u8>, reply: LockReply)
 }
 
 /// Adds a reply of a once.
-fn push_once_reply(line: &mut Vec<u8>, reply: OnceReply)
+fn push_once_reply(line: &mut Vec<u8>, reply: DoReply)
     requires { vec_len line.old + 30 ≤ vec_capacity line.old }
     ensures text { line.new.items ≡ line.old.items ++ once_reply_text reply }
     ensures len { vec_len line.new ≤ vec_len line.old + 30 }
     ensures room { vec_capacity line.old ≤ vec_capacity line.new }
 {
     match reply {
-        OnceReply::Ran(sum) => {
+        DoReply::Ran(sum) => {
             push(line, b"ran ");
             push_signed(line, sum);
         }
-        OnceReply::Done => push(line, b"done"),
+        DoReply::Done => push(line, b"done"),
     }
 }
 
@@ -138,19 +138,19 @@ fn push_once_func_reply(line: &mut Vec<u8>, code: Option<u32>)
 }
 
 /// Adds a reply of a pool.
-fn push_pool_reply(line: &mut Vec<u8>, reply: PoolReply)
+fn push_pool_reply(line: &mut Vec<u8>, reply: PoolCallReply)
     requires { vec_len line.old + 30 ≤ vec_capacity line.old }
     ensures text { line.new.items ≡ line.old.items ++ pool_reply_text reply }
     ensures len { vec_len line.new ≤ vec_len line.old + 30 }
     ensures room { vec_capacity line.old ≤ vec_capacity line.new }
 {
     match reply {
-        PoolReply::Done => push(line, b"ok"),
-        PoolReply::Put(item) => {
+        PoolCallReply::Done => push(line, b"ok"),
+        PoolCallReply::Put(item) => {
             push_number(line, item);
             push(line, b" put");
         }
-        PoolReply::New => push(line, b"0 new"),
+        PoolCallReply::New => push(line, b"0 new"),
     }
 }
 

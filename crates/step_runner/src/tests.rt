@@ -1,7 +1,7 @@
 use crate::{End, Outcome, Report, stepped};
 use std::alloc::{AllocError, Global};
 use std::test::Fail;
-use sync_model::{AtomicReply, LockReply, MapReply, Name, Number, OnceReply, PoolReply, Reply};
+use sync_model::{AtomicReply, LockReply, MapReply, Name, Number, DoReply, PoolCallReply, Reply};
 use workload_reader::parse;
 
 fn push_number(alloc: Global, text: &mut String, number: Number) -> Result<(), AllocError> {
@@ -54,11 +54,11 @@ fn push_reply(alloc: Global, text: &mut String, reply: &Reply) -> Result<(), All
             let word = format!(in alloc; " {acquired}")?;
             text.push_str(&word)
         }
-        Reply::Returned | Reply::OnceFunc(None) | Reply::Pool(PoolReply::Done) => {
+        Reply::Returned | Reply::OnceFunc(None) | Reply::Pool(PoolCallReply::Done) => {
             text.push_str(" ok")
         }
-        Reply::Once(OnceReply::Done) => text.push_str(" done"),
-        Reply::Once(OnceReply::Ran(sum)) => {
+        Reply::Once(DoReply::Done) => text.push_str(" done"),
+        Reply::Once(DoReply::Ran(sum)) => {
             let words = format!(in alloc; " ran {sum}")?;
             text.push_str(&words)
         }
@@ -70,11 +70,11 @@ fn push_reply(alloc: Global, text: &mut String, reply: &Reply) -> Result<(), All
             let word = format!(in alloc; " {value}")?;
             text.push_str(&word)
         }
-        Reply::Pool(PoolReply::Put(item)) => {
+        Reply::Pool(PoolCallReply::Put(item)) => {
             let words = format!(in alloc; " {item} put")?;
             text.push_str(&words)
         }
-        Reply::Pool(PoolReply::New) => text.push_str(" 0 new"),
+        Reply::Pool(PoolCallReply::New) => text.push_str(" 0 new"),
     }
 }
 

@@ -15,7 +15,7 @@ use Rattle.sync_model.specs.declared.map_object.MapCall.{MapCall}
 use Rattle.sync_model.specs.declared.atomic_object.AtomicCall.{AtomicCall}
 use Rattle.sync_model.specs.declared.atomic_object.Number.{Number}
 use Rattle.sync_model.specs.declared.atomic_object.Number.TheVariants.{Int64}
-use Rattle.sync_model.specs.declared.once_call.OnceReply.TheVariants as once_replies
+use Rattle.sync_model.specs.declared.once_call.DoReply.TheVariants as once_replies
 use Rattle.sync_model.specs.declared.pool_call.PoolCall.{PoolCall}
 use Rattle.sync_model.specs.declared.pool_call.PoolCall.TheVariants as pool_calls
 use Rattle.sync_model.specs.declared.wait_call.CondCall.{CondCall}

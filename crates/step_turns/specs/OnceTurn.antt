@@ -6,7 +6,7 @@ use Rattle.sync_model.specs.declared.atomic_object.Number.{Number}
 use Rattle.sync_model.specs.declared.atomic_object.Number.TheVariants.{Int64}
 use Rattle.sync_model.specs.declared.call.Reply.{Reply}
 use Rattle.sync_model.specs.declared.call.Reply.TheVariants as replies
-use Rattle.sync_model.specs.declared.once_call.OnceReply.TheVariants as once_replies
+use Rattle.sync_model.specs.declared.once_call.DoReply.TheVariants as once_replies
 use Rattle.wait_cores.specs.OnceMachine as once
 use Rattle.wait_cores.specs.declared.once.OnceEvent.TheVariants as event
 use Rattle.wait_cores.specs.declared.once.OncePlace.{OncePlace}

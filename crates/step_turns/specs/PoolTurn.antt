@@ -4,7 +4,7 @@ use Rattle.std.specs.List.{range_with_len}
 use Rattle.sync_model.specs.declared.call.Reply.TheVariants as replies
 use Rattle.sync_model.specs.declared.pool_call.PoolCall.{PoolCall}
 use Rattle.sync_model.specs.declared.pool_call.PoolCall.TheVariants as pool_calls
-use Rattle.sync_model.specs.declared.pool_call.PoolReply.TheVariants as pool_replies
+use Rattle.sync_model.specs.declared.pool_call.PoolCallReply.TheVariants as pool_replies
 use Rattle.pool_core.specs.Looks.{look}
 use Rattle.pool_core.specs.PoolMachine as pool
 use Rattle.pool_core.specs.declared.pool_event.PoolEvent.{PoolEvent}

@@ -2,7 +2,7 @@
 //! `OnceValue`.
 ghost use Rattle.std.specs.Prelude.{◌≡◌, ℕ, ℤ, ◌<◌};
 ghost use Rattle.std.specs.Int.{w64, int_wrapping_add};
-ghost use Rattle.sync_model.specs.declared.once_call.OnceReply.TheVariants as replies;
+ghost use Rattle.sync_model.specs.declared.once_call.DoReply.TheVariants as replies;
 ghost use Rattle.wait_cores.specs.OnceMachine as machine;
 ghost use Rattle.step_turns.specs.declared.object_state.ObjectState.TheVariants as states;
 ghost use Rattle.step_turns.specs.OnceTurn.{meaning_of, where_ended, once_step, once_turn, failure, func_turn, value_turn};
@@ -37,9 +37,9 @@ fn once_answer(reply: OnceReply<i64>, sum: i64) -> Answer
 {
     match reply {
         OnceReply::Run | OnceReply::Queued => Answer::Unfinished,
-        OnceReply::Ended => Answer::Completed(Reply::Once(sync_model::OnceReply::Ran(sum))),
+        OnceReply::Ended => Answer::Completed(Reply::Once(sync_model::DoReply::Ran(sum))),
         OnceReply::Done(_) | OnceReply::Left(_) => {
-            Answer::Completed(Reply::Once(sync_model::OnceReply::Done))
+            Answer::Completed(Reply::Once(sync_model::DoReply::Done))
         }
         OnceReply::Still => Answer::Still,
     }

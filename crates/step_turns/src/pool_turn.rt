@@ -9,7 +9,7 @@ ghost use Rattle.step_turns.specs.PoolTurn.{found_by, looks_of, pool_step, pool_
 use crate::answer::Answer;
 use crate::object_state::ObjectState;
 use pool_core::PoolCore;
-use sync_model::{PoolCall, PoolReply, Reply};
+use sync_model::{PoolCall, PoolCallReply, Reply};
 
 /// Makes the look of this number, of a get by a worker of so many.
 fn look(pool: &mut PoolCore, worker: u32, workers: u32, number: u32) -> Option<u64>
@@ -40,10 +40,10 @@ fn get(pool: &mut PoolCore, worker: u32, workers: u32) -> Answer
 {
     for number in 0..2 * workers {
         if let Some(item) = look(pool, worker, workers, number) {
-            return Answer::Completed(Reply::Pool(PoolReply::Put(item)));
+            return Answer::Completed(Reply::Pool(PoolCallReply::Put(item)));
         }
     }
-    Answer::Completed(Reply::Pool(PoolReply::New))
+    Answer::Completed(Reply::Pool(PoolCallReply::New))
 }
 
 /// Makes a call on a pool, for a worker of so many.
@@ -56,12 +56,12 @@ fn take_step(pool: &mut PoolCore, worker: u32, workers: u32, call: PoolCall) -> 
     match call {
         PoolCall::Put(item) => {
             let _kept = pool.put(worker, item);
-            Answer::Completed(Reply::Pool(PoolReply::Done))
+            Answer::Completed(Reply::Pool(PoolCallReply::Done))
         }
         PoolCall::Get => get(pool, worker, workers),
         PoolCall::Sweep => {
             pool.sweep();
-            Answer::Completed(Reply::Pool(PoolReply::Done))
+            Answer::Completed(Reply::Pool(PoolCallReply::Done))
         }
     }
 }

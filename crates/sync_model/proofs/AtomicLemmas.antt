@@ -1,7 +1,9 @@
 -- The calls of an atomic keep its type.
-use Rattle.std.proofs.Common.{◌≡◌, ℕ, ◌+◌, ◌-◌, ◌%◌, ◌^◌, ◌<◌, suc, Bool, true, false, ◌&&◌, cond, nat_lt, bit_and, bit_or, refl, arith}
-use Rattle.std.specs.Prelude.{ℤ, pos, negsuc}
-use Rattle.std.specs.Int.{w32, w64, cast_unsigned, cast_signed}
+use Rattle.std.proofs.Common.{◌≡◌, ℕ, ◌+◌, ◌-◌, ◌%◌, ◌^◌, ◌<◌, suc, Bool, true, false, ◌&&◌, cond, nat_lt, bit_and, bit_or, refl, ap, ◌∙◌, arith}
+use Rattle.std.specs.Prelude.{ℤ, pos, negsuc, FitsSigned}
+use Rattle.std.specs.Int.{Width, w32, w64, cast_unsigned, cast_signed, int_bit_or}
+use Rattle.std.specs.Int.Bits.{or_zero_r}
+use Rattle.std.proofs.lemmas.Int.{to_z-of_z}
 use Rattle.std.proofs.lemmas.Bool.{ltb-true, ltb-false, lt-ltb}
 use Rattle.std.proofs.lemmas.Nat.{and_le_l, or_lt}
 use Rattle.sync_model.specs.declared.atomic_object.AtomicKind.{AtomicKind}
@@ -10,7 +12,7 @@ use Rattle.sync_model.specs.declared.atomic_object.Number.{Number}
 use Rattle.sync_model.specs.declared.atomic_object.Number.TheVariants.{Int32, Int64, Uint32, Uint64, Bool as Truth}
 use Rattle.sync_model.specs.declared.atomic_object.AtomicCall.{AtomicCall}
 use Rattle.sync_model.specs.declared.atomic_object.AtomicCall.TheVariants.{Load, Store, Swap, Add, And, Or, CompareAndSwap}
-use Rattle.sync_model.specs.SequentialAtomic.{is_signed, has_bits, is_of, is_same, sum, bits_of_both, bits_of_either, is_atomic_call, atomic_after}
+use Rattle.sync_model.specs.SequentialAtomic.{is_signed, has_bits, is_of, is_same, sum, bits_of_both, bits_of_either, is_atomic_call, atomic_after, zero_of}
 
 right : (a b : Bool) → (a && b) ≡ true → b ≡ true
 right true b e = e
@@ -72,3 +74,23 @@ is_of-after kind (Add operand) held e f = is_of-sum kind held operand e (right (
 is_of-after kind (And operand) held e f = is_of-both kind held operand e (right (has_bits kind) (is_of kind operand) f)
 is_of-after kind (Or operand) held e f = is_of-either kind held operand e (right (has_bits kind) (is_of kind operand) f)
 is_of-after kind (CompareAndSwap old new) held e f = is_of-cond kind (is_same held old) new held (right (is_of kind old) (is_of kind new) f) e
+
+-- an or with 0
+fits_32 : (z : ℤ) → is_signed (2 ^ 31) z ≡ true → FitsSigned w32 z
+fits_32 (pos n) e = record { sfits = ltb-true _ _ e }
+fits_32 (negsuc n) e = record { sfits = ltb-true _ _ e }
+
+fits_64 : (z : ℤ) → is_signed (2 ^ 63) z ≡ true → FitsSigned w64 z
+fits_64 (pos n) e = record { sfits = ltb-true _ _ e }
+fits_64 (negsuc n) e = record { sfits = ltb-true _ _ e }
+
+int_or_zero : (w : Width) (z : ℤ) → FitsSigned w z → int_bit_or w z (pos 0) ≡ z
+int_or_zero w z fits = ap (cast_signed w) (or_zero_r (cast_unsigned w z)) ∙ to_z-of_z w z fits
+
+pub or_zero : (kind : AtomicKind) (held : Number) → has_bits kind ≡ true → is_of kind held ≡ true → bits_of_either held (zero_of kind) ≡ held
+or_zero kinds.Int32 (Int32 z) bits is = ap (λ x. Int32 x) (int_or_zero w32 z (fits_32 z is))
+or_zero kinds.Int64 (Int64 z) bits is = ap (λ x. Int64 x) (int_or_zero w64 z (fits_64 z is))
+or_zero kinds.Uint32 (Uint32 n) bits is = ap (λ x. Uint32 x) (or_zero_r n)
+or_zero kinds.Uint64 (Uint64 n) bits is = ap (λ x. Uint64 x) (or_zero_r n)
+or_zero kinds.Bool held bits is = absurd cc
+or_zero kind held bits is = absurd cc

@@ -8,6 +8,7 @@ use crate::misuse::Misuse;
 pub enum Answer<R> {
     /// The call was made, and this is the reply of the object's machine.
     Done(R),
-    /// The object was halted before, by this misuse. The call changed nothing.
+    /// This misuse had halted the object before the call was done. What the call did until then stands: a caller that
+    /// had queued, say, is queued for ever.
     Halted(Misuse),
 }

@@ -3,8 +3,8 @@ use crate::atomic_object::{AtomicCall, AtomicReply};
 use crate::lock_call::{LockReply, MutexCall, RwMutexCall};
 use crate::map_object::{MapCall, MapReply};
 use crate::name::Name;
-use crate::once_call::OnceReply;
-use crate::pool_call::{PoolCall, PoolReply};
+use crate::once_call::DoReply;
+use crate::pool_call::{PoolCall, PoolCallReply};
 use crate::seq::Seq;
 use crate::wait_call::{CondCall, WaitGroupCall};
 
@@ -49,11 +49,11 @@ pub enum Reply {
     /// A call on a cond or a wait group returned.
     Returned,
     /// The reply of a once.
-    Once(OnceReply),
+    Once(DoReply),
     /// The code with which the function of a `OnceFunc` failed, or none where it succeeded.
     OnceFunc(Option<u32>),
     /// The value of a `OnceValue`.
     OnceValue(u64),
     /// The reply of a pool.
-    Pool(PoolReply),
+    Pool(PoolCallReply),
 }

@@ -1,5 +1,8 @@
-//! Laws of the one-thread objects, in the words of their users. Each is the contract of a function that does nothing.
+//! Laws of the one-thread objects, of names, and of logs and journals, in the words of their users. Each is the contract of a function that does nothing.
 
 pub mod atomics;
+pub mod journals;
 pub mod layout;
+pub mod logs;
 pub mod maps;
+pub mod names;

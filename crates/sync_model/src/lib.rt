@@ -35,8 +35,8 @@ pub use map_object::{MapCall, MapReply};
 pub use misuse::Misuse;
 pub use name::Name;
 pub use note::Note;
-pub use once_call::OnceReply;
-pub use pool_call::{PoolCall, PoolReply};
+pub use once_call::DoReply;
+pub use pool_call::{PoolCall, PoolCallReply};
 pub use seq::Seq;
 pub use wait_call::{CondCall, WaitGroupCall};
 

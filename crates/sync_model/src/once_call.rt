@@ -2,7 +2,7 @@
 
 /// What `Do` answers.
 #[derive(Clone, Copy, Debug, Drop)]
-pub enum OnceReply {
+pub enum DoReply {
     /// This call ran the function, which added to an int64: the sum.
     Ran(i64),
     /// Another call ran the function, and it has returned.

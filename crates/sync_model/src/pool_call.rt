@@ -14,7 +14,7 @@ pub enum PoolCall {
 
 /// What a call on a pool answers.
 #[derive(Clone, Copy, Debug, Drop)]
-pub enum PoolReply {
+pub enum PoolCallReply {
     /// The call is done, and says nothing more.
     Done,
     /// An item that was put.

@@ -1,6 +1,6 @@
 //! What an atomic does for its users.
-ghost use Rattle.std.specs.Prelude.{◌≡◌, ◌≢◌, ℕ, ◌+◌, ℤ, ◌+ℤ◌, true, false};
-ghost use Rattle.sync_model.specs.SequentialAtomic.{atomic_reply, atomic_after, is_atomic_call, is_atomic_entry, is_of, zero_of, sum};
+ghost use Rattle.std.specs.Prelude.{◌≡◌, ◌≢◌, ℕ, ◌+◌, ◌-◌, ◌^◌, ◌<◌, ◌≤◌, ℤ, ◌+ℤ◌, true, false};
+ghost use Rattle.sync_model.specs.SequentialAtomic.{atomic_reply, atomic_after, is_atomic_call, is_atomic_entry, is_of, zero_of, has_bits, sum};
 
 use crate::atomic_object::{AtomicCall, AtomicKind, AtomicReply, Number};
 
@@ -57,7 +57,7 @@ pub fn compare_and_swap_sets_over_the_old_number()
         × (atomic_after (AtomicCall.CompareAndSwap old new) held ≡ held) }
 {}
 
-/// A `Bool` has no add, and and or. Those aside, an atomic has every call whose numbers are of its type.
+/// A `Bool` has no add, and and or. Those aside, an atomic has every call whose numbers are of its type, and no other.
 pub fn each_type_has_its_calls()
     ensures truth { (operand : Number)
         → (is_atomic_call AtomicKind.Bool (AtomicCall.Add operand) ≡ false)
@@ -72,6 +72,14 @@ pub fn each_type_has_its_calls()
         × (is_atomic_call kind (AtomicCall.Store new) ≡ true)
         × (is_atomic_call kind (AtomicCall.Swap new) ≡ true)
         × (is_atomic_call kind (AtomicCall.CompareAndSwap old new) ≡ true) }
+    ensures only { (kind : AtomicKind) (other number : Number) → is_of kind other ≡ false
+        → (is_atomic_call kind (AtomicCall.Store other) ≡ false)
+        × (is_atomic_call kind (AtomicCall.Swap other) ≡ false)
+        × (is_atomic_call kind (AtomicCall.Add other) ≡ false)
+        × (is_atomic_call kind (AtomicCall.And other) ≡ false)
+        × (is_atomic_call kind (AtomicCall.Or other) ≡ false)
+        × (is_atomic_call kind (AtomicCall.CompareAndSwap other number) ≡ false)
+        × (is_atomic_call kind (AtomicCall.CompareAndSwap number other) ≡ false) }
 {}
 
 /// An atomic starts with a number of its type, holds one after each of its calls, and answers no other.
@@ -100,4 +108,20 @@ pub fn sums_in_range_are_exact()
     ensures uint64 { (a b : ℕ)
         → is_of AtomicKind.Uint64 (Number.Uint64 (a + b)) ≡ true
         → sum (Number.Uint64 a) (Number.Uint64 b) ≡ Number.Uint64 (a + b) }
+{}
+
+/// Where the exact sum of two unsigned numbers is past the end of their type, an add goes on from 0.
+pub fn sums_past_the_end_go_on_from_0()
+    ensures uint32 { (a b : ℕ) → a < 2 ^ 32 → b < 2 ^ 32 → 2 ^ 32 ≤ a + b
+        → sum (Number.Uint32 a) (Number.Uint32 b) ≡ Number.Uint32 (a + b - 2 ^ 32) }
+    ensures uint64 { (a b : ℕ) → a < 2 ^ 64 → b < 2 ^ 64 → 2 ^ 64 ≤ a + b
+        → sum (Number.Uint64 a) (Number.Uint64 b) ≡ Number.Uint64 (a + b - 2 ^ 64) }
+{}
+
+/// An and with 0 leaves no bit, and an or with 0 leaves every bit.
+pub fn an_and_with_0_clears()
+    ensures and { (kind : AtomicKind) (held : Number) → has_bits kind ≡ true → is_of kind held ≡ true
+        → atomic_after (AtomicCall.And (zero_of kind)) held ≡ zero_of kind }
+    ensures or { (kind : AtomicKind) (held : Number) → has_bits kind ≡ true → is_of kind held ≡ true
+        → atomic_after (AtomicCall.Or (zero_of kind)) held ≡ held }
 {}

@@ -118,3 +118,8 @@ pub fn removed_keys_are_absent<K>()
     ensures clear { (R : K → K → Ordering) (m : FinMap R ℕ) (key : K)
         → Finds (map_after MapCall.Clear m) key None }
 {}
+
+/// Every call has a key but a clear.
+pub fn only_a_clear_has_no_key<K>()
+    ensures { (call : MapCall K) → map_key call ≡ None → call ≡ MapCall.Clear }
+{}
