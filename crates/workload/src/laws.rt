@@ -53,7 +53,7 @@ pub fn schedules_go_by_eights()
     ensures { (turns : List Turn) → 0 < length turns → eights 7 turns ≡ take 8 turns ∷ eights 7 (drop 8 turns) }
 {}
 
-/// Each keyword is the keyword of its word, and of no other.
+/// Each keyword is found at its word, and at no other word.
 pub fn keywords()
     ensures read { (keyword : Keyword) → keyword_at (keyword_word keyword) ≡ Some keyword }
     ensures spelled { (word : List ℕ) (keyword : Keyword) → keyword_at word ≡ Some keyword → word ≡ keyword_word keyword }
