@@ -1,11 +1,12 @@
 ghost use Rattle.std.specs.Prelude.{◌≡◌};
 
+use crate::system_sources::read_once;
 use crate::{
     At, Clock, Failed, MemClock, MemFile, MemSink, MemSources, OpenFault, Sink, Sources,
     SystemClock, SystemSources, WriterSink,
 };
 use std::alloc::{AllocError, Global};
-use std::io::{Error, ErrorKind, Write};
+use std::io::{Error, ErrorKind, Read, Write};
 use std::test::Fail;
 use std::{env, fs, io, thread};
 use sync_model::FrontNote;
@@ -144,6 +145,45 @@ fn system_sources_read_files_and_count_their_faults(rt: HostRuntime) -> Result<(
         source.open_faults().saturating_add(source.read_faults()),
         2
     );
+    Ok(())
+}
+
+// A reader whose reads come to these, one after the other: a fault, or so many bytes.
+#[derive(Drop)]
+struct Scripted {
+    reads: Vec<Result<usize, ErrorKind>>,
+    next: usize,
+}
+
+impl Read for Scripted {
+    fn read(&mut self, buf: &mut [u8]) -> io::Result<usize> {
+        let Some(read) = self.reads.get(self.next) else {
+            return Ok(0);
+        };
+        self.next += 1;
+        match read {
+            Ok(count) => Ok((*count).min(buf.len())),
+            Err(kind) => Err(Error::from(*kind)),
+        }
+    }
+}
+
+#[test]
+fn an_interrupted_read_is_tried_again_and_a_failed_one_is_not(rt: HostRuntime) -> Result<(), Fail> {
+    let mut script = Scripted {
+        reads: vec![in rt.alloc();
+            Err(ErrorKind::Interrupted),
+            Err(ErrorKind::Interrupted),
+            Ok(3),
+            Err(ErrorKind::Other),
+            Ok(2),
+        ]?,
+        next: 0,
+    };
+    let mut buf = [0; 4];
+    for wanted in [Ok(3), Err(Failed), Ok(2), Ok(0)] {
+        assert_eq!(rt; read_once(&mut script, &mut buf), wanted);
+    }
     Ok(())
 }
 
