@@ -48,8 +48,8 @@ pub fn misuses_change_nothing()
         → (next state caller event).0 ≡ record state { places = slice_set state.places caller GroupPlace.Out } }
 {}
 
-/// A caller knows from its own answers whether it waits: nobody else's event lets it in or out. So it knows what its events may
-/// be answered.
+/// A caller knows from its own answers whether it is in a wait, released or not: nobody else's event lets it in or out. So it
+/// knows what its events may be answered. The callers stay the same.
 pub fn knows_where_it_stands()
     ensures own { (state : GroupState) (caller : ℕ) (event : GroupEvent)
         → waits_at (next state caller event).0 caller ≡ waits_after (waits_at state caller) event (next state caller event).1 }
@@ -78,8 +78,8 @@ pub fn synchronizes()
     logs_go_on::<GroupCore>();
 }
 
-/// Callers can't go on for ever without a call returning. One that comes to wait uses up one of the events that are left, and
-/// only one that leaves gives any back.
+/// Callers can't go on for ever without a call returning: what they can still do without that is `group_left`. One that comes to
+/// wait uses up one of it, and only one that leaves gives any back.
 pub fn events_are_used_up()
     ensures { (state : GroupState) (caller : ℕ) (event : GroupEvent)
         → group_left (next state caller event).0 + group_used (next state caller event).1

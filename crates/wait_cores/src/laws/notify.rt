@@ -50,8 +50,8 @@ pub fn answers_its_callers()
         → callers_of (next state caller event).0 ≡ callers_of state }
 {}
 
-/// A caller knows from its own answers whether it has a ticket: from the one that it takes until it leaves. Nobody else's event
-/// gives it one or takes it away, and one that has none can't leave. So a caller leaves at most once after each ticket.
+/// A caller knows from its own answers whether it has a ticket: from when it takes one until it leaves. Nobody else's event gives
+/// it one or takes it away, and a caller that has none can't leave. So a caller leaves at most once after each ticket.
 pub fn knows_where_it_stands()
     ensures own { (state : NotifyState) (caller : ℕ) (event : NotifyEvent)
         → has_ticket (next state caller event).0 caller ≡ has_after (has_ticket state caller) event (next state caller event).1 }
@@ -75,8 +75,8 @@ pub fn synchronizes()
     logs_go_on::<NotifyCore>();
 }
 
-/// Callers can't go on for ever without a call returning. One that takes a ticket uses up one of the events that are left, and
-/// only one that leaves gives any back.
+/// Callers can't go on for ever without a call returning: what they can still do without that is `notify_left`. One that takes a
+/// ticket where it has none uses up one of it, and only one that leaves gives any back.
 pub fn events_are_used_up()
     ensures { (state : NotifyState) (caller : ℕ) (event : NotifyEvent) → caller < callers_of state
         → notify_left (next state caller event).0 + notify_used (place_of state caller) event

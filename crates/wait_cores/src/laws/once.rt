@@ -26,8 +26,8 @@ pub fn returns_what_is_kept<T: Copy>()
     logs_go_on::<OnceCore<T>>();
 }
 
-/// A caller knows from its own answers whether it waits, and whether it runs the function: nobody else's event lets it in or
-/// out, or ends its run. So it knows what its events may be answered.
+/// A caller knows from its own answers whether it is in a wait, released or not, and whether it runs the function: nobody else's
+/// event lets it in or out, or ends its run. So it knows what its events may be answered. The callers stay the same.
 pub fn knows_where_it_stands<T: Copy>()
     ensures own_wait { (state : OnceState T) (caller : ℕ) (event : OnceEvent T)
         → waits_at (next state caller event).0 caller ≡ waits_after (waits_at state caller) (next state caller event).1 }
@@ -57,8 +57,8 @@ pub fn synchronizes<T: Copy>()
     logs_go_on::<OnceCore<T>>();
 }
 
-/// Callers can't go on for ever without a call returning. The one that is to run the function, and one that comes to wait, use up
-/// one of the events that are left, and only one that leaves gives any back.
+/// Callers can't go on for ever without a call returning: what they can still do without that is `once_left`. The one that is to
+/// run the function, and one that comes to wait, use up one of it, and only one that leaves gives any back.
 pub fn events_are_used_up<T: Copy>()
     ensures { (state : OnceState T) (caller : ℕ) (event : OnceEvent T)
         → once_left (next state caller event).0 + once_used (next state caller event).1
