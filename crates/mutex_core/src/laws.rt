@@ -1,5 +1,5 @@
-//! What holds of the machine, whatever its callers do. A log lists who did what, and what it was answered, from the
-//! unlocked mutex on; it follows the machine where each of its answers is the machine's.
+//! What holds of the machine, whatever its callers do. A log lists who did what, and what it was answered. It follows the
+//! machine, from the unlocked mutex on, where each of its answers is the machine's.
 ghost use Rattle.std.specs.Prelude.{◌≡◌, ◌≢◌, ℕ, ◌+◌, ◌<◌, ◌≤◌, false, IsTrue, ◌∷◌, ◌++◌, IsFalse};
 ghost use Rattle.std.specs.List.{list_any};
 ghost use Rattle.sync_model.specs.Log.{Entry, after, Follows};
@@ -54,7 +54,7 @@ pub fn hand_off()
 
 /// Callers can't go on for ever without completing a call: what they can still do without that is `events_left`. One that
 /// queues uses up two of it, and one that goes back to the queue uses up one. Only an unlock that tells a waiter, and a lock
-/// that had to wait, give any back, and that one.
+/// that had to wait, give any back, one each.
 pub fn events_are_used_up()
     ensures { (state : State) (caller : ℕ) (event : MutexEvent) → IsValid state
         → events_left (next state caller event).0 + used_by (next state caller event).1

@@ -28,7 +28,7 @@ use Rattle.rw_core.specs.declared.writer.Writer.TheVariants as writer
 use Rattle.rw_core.specs.RwMachine.{State, start, is_among, without, is_announced, is_holding, waits_as, place_at, place_of, still, read_arrived, read_tried, last_read, read_unlocked, write_arrived, write_resumed, write_tried, write_unlocked, at_place, next, count_of, places_of, IsValid}
 use Rattle.rw_core.specs.Edges.{Log}
 use Rattle.rw_core.specs.Standing.{waits_after, is_waiting}
-use Rattle.rw_core.proofs.Callers.{once, once-same, count_of-append, count_of-push, count_of-present, count_of-without}
+use Rattle.rw_core.proofs.Callers.{once, once-same, count_of-append, count_of-push, count_of-present}
 use Rattle.rw_core.proofs.Inner.{Keeps, Parts, IsInFlight, arrive-cases, try-cases, unlocks, woken-cases}
 use Rattle.rw_core.proofs.Places.{out-inner, woken-inner, handed-inner, mutex-out, mutex-woken, mutex-handed}
 use Rattle.rw_core.proofs.Runs.{MutexLaws, start-valid, keeps}

@@ -1,5 +1,5 @@
-//! What holds of the machine, whatever its callers do. A log lists who did what, and what it was answered, from the
-//! unlocked lock on; it follows the machine where each of its answers is the machine's.
+//! What holds of the machine, whatever its callers do. A log lists who did what, and what it was answered. It follows the
+//! machine, from the unlocked lock on, where each of its answers is the machine's.
 ghost use Rattle.std.specs.Prelude.{◌≡◌, ◌≢◌, ℕ, ◌+◌, ◌<◌, ◌≤◌, IsTrue, ◌∷◌, ◌++◌, length, filter, false, IsFalse};
 ghost use Rattle.std.specs.List.{list_any};
 ghost use Rattle.sync_model.specs.Log.{Entry, after, Follows};
