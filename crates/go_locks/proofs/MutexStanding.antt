@@ -6,7 +6,7 @@ use Rattle.sync_model.specs.Journal.{halt_of, by, log_of, state_after, Follows}
 use Rattle.mutex_core.specs.declared.event.MutexEvent.{MutexEvent}
 use Rattle.mutex_core.specs.declared.reply.MutexReply.{MutexReply}
 use Rattle.mutex_core.specs.declared.place.Place.TheVariants as place
-use Rattle.mutex_core.specs.Edges.{Journal}
+use Rattle.mutex_core.specs.Edges.{Log}
 use Rattle.mutex_core.specs.MutexMachine.{State, next, place_of, is_needed, may_make}
 use Rattle.mutex_core.specs.Standing.{is_answer, waits_after, is_waiting}
 use Rattle.ruled_object.specs.declared.pass.Pass.{Pass}
@@ -19,8 +19,8 @@ use Rattle.go_locks.proofs.Spelling.{waits_log}
 -- what the machine's laws say of a run from this state
 pub record Stands (n : ℕ) (begin : State) : Type 0 where
   pub answered : (s : State) (c : ℕ) (e : MutexEvent) → may_make s c e ≡ true → is_answer e (next s c e).1 ≡ true
-  pub out : (journal : Journal) (c : ℕ) → log.Follows next begin journal → is_waiting false c journal ≡ false → place_of (log.after next begin journal) c ≡ place.Out
-  pub callers : (journal : Journal) → (log.after next begin journal).callers ≡ n
+  pub out : (entries : Log) (c : ℕ) → log.Follows next begin entries → is_waiting false c entries ≡ false → place_of (log.after next begin entries) c ≡ place.Out
+  pub callers : (entries : Log) → (log.after next begin entries).callers ≡ n
 
 -- a caller between two calls gets an answer
 pub answers_out : (n c : ℕ) (begin : State) (before own : MutexJournal) (e : MutexEvent) (r : MutexReply) → Stands n begin → c < n → Follows next true begin None before → log.Follows next begin (log_of before)

@@ -7,7 +7,7 @@ use Rattle.rw_core.specs.declared.event.RwEvent.{RwEvent}
 use Rattle.rw_core.specs.declared.reply.RwReply.{RwReply}
 use Rattle.rw_core.specs.declared.reply.RwReply.TheVariants.{Still}
 use Rattle.rw_core.specs.declared.place.Place.TheVariants as place
-use Rattle.rw_core.specs.Edges.{Journal}
+use Rattle.rw_core.specs.Edges.{Log}
 use Rattle.rw_core.specs.RwMachine.{State, next, place_of, is_needed, may_make}
 use Rattle.rw_core.specs.Standing.{is_answer, waits_after, is_waiting}
 use Rattle.ruled_object.specs.declared.pass.Pass.{Pass}
@@ -20,8 +20,8 @@ use Rattle.go_locks.proofs.Spelling.{waits_log}
 -- what the machine's laws say of a run from this state
 pub record Stands (n : ℕ) (begin : State) : Type 0 where
   pub answered : (s : State) (c : ℕ) (e : RwEvent) → may_make s c e ≡ true → is_answer e (next s c e).1 ≡ true
-  pub out : (journal : Journal) (c : ℕ) → log.Follows next begin journal → is_waiting false c journal ≡ false → place_of (log.after next begin journal) c ≡ place.Out
-  pub callers : (journal : Journal) → (log.after next begin journal).callers ≡ n
+  pub out : (entries : Log) (c : ℕ) → log.Follows next begin entries → is_waiting false c entries ≡ false → place_of (log.after next begin entries) c ≡ place.Out
+  pub callers : (entries : Log) → (log.after next begin entries).callers ≡ n
 
 -- a caller between two calls gets an answer
 pub answers_out : (n c : ℕ) (begin : State) (before own : RwJournal) (e : RwEvent) (r : RwReply) → Stands n begin → c < n → Follows next true begin None before → log.Follows next begin (log_of before)
@@ -46,9 +46,9 @@ new_passes mutex calls passes new = record {
 }
 
 -- any caller gets an answer, or is answered Still
-pub answers_any : (c : ℕ) (s : State) (e : RwEvent) (r : RwReply) → ((may_make s c e ≡ true) → is_answer e (next s c e).1 ≡ true) → ((may_make s c e ≡ false) → (next s c e).1 ≡ Still) → r ≡ (next s c e).1 → (is_answer e r ≡ true) ⊎ (r ≡ Still)
+pub answers_any : (c : ℕ) (s : State) (e : RwEvent) (r : RwReply) → ((may_make s c e ≡ true) → is_answer e (next s c e).1 ≡ true) → ((may_make s c e ≡ false) → next s c e ≡ (s, Still)) → r ≡ (next s c e).1 → (is_answer e r ≡ true) ⊎ (r ≡ Still)
 answers_any c s e r answered stays right = by_test (may_make s c e) refl
   where
     by_test : (b : Bool) → may_make s c e ≡ b → (is_answer e r ≡ true) ⊎ (r ≡ Still)
     by_test true may = inl (subst (λ (z : RwReply). is_answer e z ≡ true) (sym right) (answered may))
-    by_test false may = inr (right ∙ stays may)
+    by_test false may = inr (right ∙ ap (λ (k : State × RwReply). k.1) (stays may))

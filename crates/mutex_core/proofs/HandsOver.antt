@@ -1,5 +1,5 @@
 -- A starving mutex goes to the first waiter of its queue.
-use Rattle.std.proofs.Common.{◌≡◌, ℕ, ◌<◌, Bool, true, false, List, [], ◌∷◌, ◌++◌, refl, ap, subst, sym, ◌∙◌, lt-ltb}
+use Rattle.std.proofs.Common.{◌≡◌, ℕ, ◌<◌, Bool, true, false, List, [], ◌∷◌, refl, ap, subst, sym, ◌∙◌, lt-ltb}
 use Rattle.std.specs.Prelude.{nat_lt, IsFalse, if◌then◌else◌}
 use Rattle.std.specs.Bool.{MatchBool}
 use Rattle.std.specs.List.{list_any}
@@ -16,9 +16,8 @@ use Rattle.mutex_core.specs.declared.waiter.Waiter.{Waiter}
 use Rattle.mutex_core.specs.declared.waiter.Flight.{Flight}
 use Rattle.mutex_core.specs.declared.waiter.Flight.TheVariants as flight
 use Rattle.mutex_core.specs.MutexMachine.{State, start, is_of, place_in, place_of, unlocked, still, at_place, next, IsValid}
-use Rattle.mutex_core.specs.Edges.{Journal, acquires}
+use Rattle.mutex_core.specs.Edges.{Log, acquires}
 use Rattle.mutex_core.specs.HandOff.{goes_on, GoesTo, HandsOff}
-use Rattle.mutex_core.proofs.Journals.{follows_later}
 use Rattle.mutex_core.proofs.Validity.{state, start-valid, after-valid, callers-after, unlocked-valid}
 
 -- the state in which the mutex is kept for the first waiter
@@ -73,35 +72,34 @@ next-gives n w q c (event.Arrive now) below own = absurd (false≢true own)
 next-gives n w q c event.Try below own = absurd (false≢true own)
 next-gives n w q c event.Unlock below own = absurd (false≢true own)
 
-goes_to-kept : (n : ℕ) (w : Waiter) (q : List Waiter) (journal : Journal) → w.caller < n → Follows next (kept n w q) journal → GoesTo w.caller journal
+goes_to-kept : (n : ℕ) (w : Waiter) (q : List Waiter) (log : Log) → w.caller < n → Follows next (kept n w q) log → GoesTo w.caller log
 goes_to-kept n w q [] below follows = tt
-goes_to-kept n w q (entry ∷ journal) below follows =
-    by_test (goes_on w.caller entry.caller entry.event) refl (λ queue. goes_to-kept n w queue journal below)
+goes_to-kept n w q (entry ∷ log) below follows =
+    by_test (goes_on w.caller entry.caller entry.event) refl (λ queue. goes_to-kept n w queue log below)
   where
-    by_test : (b : Bool) → goes_on w.caller entry.caller entry.event ≡ b → ((queue : List Waiter) → Follows next (kept n w queue) journal → GoesTo w.caller journal) → MatchBool b (entry.reply ≡ Resumed Acquired) (IsFalse (acquires entry.reply) × GoesTo w.caller journal)
+    by_test : (b : Bool) → goes_on w.caller entry.caller entry.event ≡ b → ((queue : List Waiter) → Follows next (kept n w queue) log → GoesTo w.caller log) → MatchBool b (entry.reply ≡ Resumed Acquired) (IsFalse (acquires entry.reply) × GoesTo w.caller log)
     by_test true own later = sym follows.0 ∙ next-gives n w q entry.caller entry.event below own
     by_test false other later =
         let keeps = next-keeps n w q entry.caller entry.event other in
-        (ap acquires (sym follows.0) ∙ keeps.unacquired, later keeps.queue (subst (λ s. Follows next s journal) keeps.still_kept follows.1))
+        (ap acquires (sym follows.0) ∙ keeps.unacquired, later keeps.queue (subst (λ s. Follows next s log) keeps.still_kept follows.1))
 
 -- an unlock of a locked mutex in starvation mode
-released-hands_off : (n : ℕ) (l k v : Bool) (q : List Waiter) (f : Flight) (reply : MutexReply) (later : Journal) → IsValid (state n l k v q f) → l ≡ true → v ≡ true → (unlocked (state n l k v q f)).1 ≡ reply → Follows next (unlocked (state n l k v q f)).0 later → HandsOff q reply later
+released-hands_off : (n : ℕ) (l k v : Bool) (q : List Waiter) (f : Flight) (reply : MutexReply) (later : Log) → IsValid (state n l k v q f) → l ≡ true → v ≡ true → (unlocked (state n l k v q f)).1 ≡ reply → Follows next (unlocked (state n l k v q f)).0 later → HandsOff q reply later
 released-hands_off n false k v q f reply later h locked starving answer follows = absurd (false≢true locked)
 released-hands_off n true k false q f reply later h locked starving answer follows = absurd (false≢true starving)
 released-hands_off n true k true [] f reply later h locked starving answer follows = absurd (false≢true (h.contended refl))
 released-hands_off n true k true (w ∷ q) f reply later h locked starving answer follows =
     (sym answer, goes_to-kept n w q later (unlocked-valid n true k true (w ∷ q) f h).callers.0 (rw (h.unwoken refl) at follows))
 
-pub hands_off : (s : State) (c : ℕ) (reply : MutexReply) (later : Journal) → IsValid s → c < s.callers → s.locked ≡ true → s.starving ≡ true → (next s c event.Unlock).1 ≡ reply → Follows next (next s c event.Unlock).0 later → HandsOff s.queue reply later
+pub hands_off : (s : State) (c : ℕ) (reply : MutexReply) (later : Log) → IsValid s → c < s.callers → s.locked ≡ true → s.starving ≡ true → (next s c event.Unlock).1 ≡ reply → Follows next (next s c event.Unlock).0 later → HandsOff s.queue reply later
 hands_off s c reply later h below locked starving answer follows =
     let here : nat_lt c s.callers ≡ true = lt-ltb c s.callers below in
     released-hands_off s.callers s.locked s.woken s.starving s.queue s.flight reply later h locked starving (rw here at answer) (rw here at follows)
 
 -- in a run from the unlocked mutex on
-pub hand_off : (callers : ℕ) (earlier later : Journal) (unlock : Entry MutexEvent MutexReply) → Follows next (start callers) (earlier ++ unlock ∷ later) → unlock.event ≡ event.Unlock → unlock.caller < callers → (after next (start callers) earlier).locked ≡ true → (after next (start callers) earlier).starving ≡ true → HandsOff (after next (start callers) earlier).queue unlock.reply later
+pub hand_off : (callers : ℕ) (earlier later : Log) (unlock : Entry MutexEvent MutexReply) → Follows next (after next (start callers) earlier) (unlock ∷ later) → unlock.event ≡ event.Unlock → unlock.caller < callers → (after next (start callers) earlier).locked ≡ true → (after next (start callers) earlier).starving ≡ true → HandsOff (after next (start callers) earlier).queue unlock.reply later
 hand_off callers earlier later unlock follows is below locked starving =
     let s : State = after next (start callers) earlier in
-    let rest = follows_later next (start callers) earlier (unlock ∷ later) follows in
     let h = after-valid (start callers) earlier (start-valid callers) in
     let among : unlock.caller < s.callers = subst (λ n. unlock.caller < n) (sym (callers-after (start callers) earlier)) below in
-    hands_off s unlock.caller unlock.reply later h among locked starving (rw is at rest.0) (rw is at rest.1)
+    hands_off s unlock.caller unlock.reply later h among locked starving (rw is at follows.0) (rw is at follows.1)

@@ -1,7 +1,6 @@
 pub mod Waiting
 pub mod Validity
 pub mod Room
-pub mod Journals
 pub mod Turns
 pub mod HandsOver
 pub mod UsedUp

@@ -16,7 +16,7 @@ use Rattle.mutex_core.specs.declared.waiter.Waiter.{Waiter}
 use Rattle.mutex_core.specs.declared.waiter.Flight.{Flight}
 use Rattle.mutex_core.specs.declared.waiter.Flight.TheVariants as flight
 use Rattle.mutex_core.specs.MutexMachine.{State, start, is_of, place_in, place_by, place_of, arrived, tried, unlocked, resumed, still, at_place, next, is_needed, may_make, waiting_by, IsValid}
-use Rattle.mutex_core.specs.Edges.{Journal}
+use Rattle.mutex_core.specs.Edges.{Log}
 use Rattle.mutex_core.specs.Standing.{is_answer, waits_after, is_waiting}
 use Rattle.mutex_core.proofs.Validity.{state, next-valid, start-valid}
 use Rattle.mutex_core.proofs.Waiting.{callers_of, waiting_by-push, list_any-callers_of}
@@ -166,11 +166,11 @@ step-among c d r old new w shifts apart is = by_test (d == c) refl
     by_test true same = own-among c r old new w (subst (λ (x : ℕ). Shifts x r old new) (eqb-true d c same) shifts) apart is
     by_test false other = other-among c d r old new shifts (other-way c d other) ∙ is
 
-after-among : (s : State) (c : ℕ) (w : Bool) (journal : Journal) → IsValid s → Among c (waiting s) ≡ w → Follows next s journal → Among c (waiting (after next s journal)) ≡ is_waiting w c journal
+after-among : (s : State) (c : ℕ) (w : Bool) (log : Log) → IsValid s → Among c (waiting s) ≡ w → Follows next s log → Among c (waiting (after next s log)) ≡ is_waiting w c log
 after-among s c w [] h is follows = is
-after-among s c w (entry ∷ journal) h is follows =
+after-among s c w (entry ∷ log) h is follows =
     let t = next s entry.caller entry.event in
-    after-among t.0 c (if entry.caller == c then waits_after w entry.reply else w) journal (next-valid s entry.caller entry.event h)
+    after-among t.0 c (if entry.caller == c then waits_after w entry.reply else w) log (next-valid s entry.caller entry.event h)
     (step-among c entry.caller entry.reply (waiting s) (waiting t.0) w (subst (λ (r : MutexReply). Shifts entry.caller r (waiting s) (waiting t.0)) follows.0 (next-shifts s entry.caller entry.event h)) h.apart is)
     follows.1
 
@@ -207,16 +207,16 @@ among-elsewhere flight.Handed [] c among = no among
 among-elsewhere flight.Handed (w ∷ q) c among = first-elsewhere place.Handed (is_of c w) q c (λ e. cc) among
 
 -- whether a caller is among those that wait is what its own answers say
-among_by_answers : (callers : ℕ) (journal : Journal) (caller : ℕ) → Follows next (start callers) journal → Among caller (waiting (after next (start callers) journal)) ≡ is_waiting false caller journal
-among_by_answers callers journal caller = after-among (start callers) caller false journal (start-valid callers) refl
+among_by_answers : (callers : ℕ) (log : Log) (caller : ℕ) → Follows next (start callers) log → Among caller (waiting (after next (start callers) log)) ≡ is_waiting false caller log
+among_by_answers callers log caller = after-among (start callers) caller false log (start-valid callers) refl
 
-pub stands : (callers : ℕ) (journal : Journal) (caller : ℕ) → Follows next (start callers) journal → is_waiting false caller journal ≡ false → place_of (after next (start callers) journal) caller ≡ place.Out
-stands callers journal caller follows is =
-    let s = after next (start callers) journal in absent-out s.flight s.queue caller (among_by_answers callers journal caller follows ∙ is)
+pub stands : (callers : ℕ) (log : Log) (caller : ℕ) → Follows next (start callers) log → is_waiting false caller log ≡ false → place_of (after next (start callers) log) caller ≡ place.Out
+stands callers log caller follows is =
+    let s = after next (start callers) log in absent-out s.flight s.queue caller (among_by_answers callers log caller follows ∙ is)
 
-pub waits : (callers : ℕ) (journal : Journal) (caller : ℕ) → Follows next (start callers) journal → is_waiting false caller journal ≡ true → place_of (after next (start callers) journal) caller ≡ place.Out → ⊥
-waits callers journal caller follows is =
-    let s = after next (start callers) journal in among-elsewhere s.flight s.queue caller (among_by_answers callers journal caller follows ∙ is)
+pub waits : (callers : ℕ) (log : Log) (caller : ℕ) → Follows next (start callers) log → is_waiting false caller log ≡ true → place_of (after next (start callers) log) caller ≡ place.Out → ⊥
+waits callers log caller follows is =
+    let s = after next (start callers) log in among-elsewhere s.flight s.queue caller (among_by_answers callers log caller follows ∙ is)
 
 -- the answers to an event
 arrived-answer : (n : ℕ) (l k v : Bool) (q : List Waiter) (f : Flight) (c now : ℕ) → is_answer (event.Arrive now) (arrived (state n l k v q f) c now).1 ≡ true
@@ -285,10 +285,6 @@ still-answers-nothing event.Try = refl
 still-answers-nothing event.Unlock = refl
 still-answers-nothing (event.Woken now) = refl
 
--- so an event that is answered `Still` was one that its caller may not make, and changes nothing
-pub unmoved : (s : State) (c : ℕ) (e : MutexEvent) → (next s c e).1 ≡ Still → (next s c e).0 ≡ s
-unmoved s c e is = by_test (may_make s c e) refl
-  where
-    by_test : (b : Bool) → may_make s c e ≡ b → (next s c e).0 ≡ s
-    by_test true may = no (sym (still-answers-nothing e) ∙ subst (λ (r : MutexReply). is_answer e r ≡ true) is (answers s c e may))
-    by_test false may = ap (λ (step : State × MutexReply). step.0) (stays s c e may)
+-- so an event that its caller may make isn't answered so
+pub made : (s : State) (c : ℕ) (e : MutexEvent) → may_make s c e ≡ true → (next s c e).1 ≡ Still → ⊥
+made s c e may is = no (sym (still-answers-nothing e) ∙ subst (λ (r : MutexReply). is_answer e r ≡ true) is (answers s c e may))

@@ -13,7 +13,7 @@ use Rattle.mutex_core.specs.declared.waiter.Waiter.{Waiter}
 use Rattle.mutex_core.specs.declared.waiter.Flight.{Flight}
 use Rattle.mutex_core.specs.declared.waiter.Flight.TheVariants as flight
 use Rattle.mutex_core.specs.MutexMachine.{State, start, place_of, arrived, tried, unlocked, resumed, still, at_place, next, IsValid}
-use Rattle.mutex_core.specs.Edges.{Journal, acquires, releases}
+use Rattle.mutex_core.specs.Edges.{Log, acquires, releases}
 use Rattle.mutex_core.specs.Exclusion.{held_after, TakesTurns}
 use Rattle.mutex_core.proofs.Validity.{state, next-valid, start-valid}
 
@@ -77,20 +77,20 @@ next-moves s c e h = by_test (nat_lt c s.callers)
     by_test false = still-moves s
 
 -- from a valid state on, locked or not
-pub turns-from : (s : State) (journal : Journal) → IsValid s → Follows next s journal → TakesTurns s.locked journal
+pub turns-from : (s : State) (log : Log) → IsValid s → Follows next s log → TakesTurns s.locked log
 turns-from s [] h follows = tt
-turns-from s (entry ∷ journal) h follows =
+turns-from s (entry ∷ log) h follows =
     let moves = next-moves s entry.caller entry.event h in
-    let later = turns-from (next s entry.caller entry.event).0 journal (next-valid s entry.caller entry.event h) follows.1 in
+    let later = turns-from (next s entry.caller entry.event).0 log (next-valid s entry.caller entry.event h) follows.1 in
     let P : MutexReply → Type 0 = λ reply.
-    (IsTrue (acquires reply) → IsFalse s.locked) × (IsTrue (releases reply) → IsTrue s.locked) × TakesTurns (held_after s.locked reply) journal in
-    subst P follows.0 (moves.acquired, moves.released, subst (λ held. TakesTurns held journal) moves.held later)
+    (IsTrue (acquires reply) → IsFalse s.locked) × (IsTrue (releases reply) → IsTrue s.locked) × TakesTurns (held_after s.locked reply) log in
+    subst P follows.0 (moves.acquired, moves.released, subst (λ held. TakesTurns held log) moves.held later)
 
-pub turns : (callers : ℕ) (journal : Journal) → Follows next (start callers) journal → TakesTurns false journal
-turns callers journal follows = turns-from (start callers) journal (start-valid callers) follows
+pub turns : (callers : ℕ) (log : Log) → Follows next (start callers) log → TakesTurns false log
+turns callers log follows = turns-from (start callers) log (start-valid callers) follows
 
 -- once the mutex is held, it is released before it is acquired
-released_before : (between later : Journal) (second : Entry MutexEvent MutexReply) → TakesTurns true (between ++ second ∷ later) → acquires second.reply ≡ true → list_any (λ entry. releases entry.reply) between ≡ true
+released_before : (between later : Log) (second : Entry MutexEvent MutexReply) → TakesTurns true (between ++ second ∷ later) → acquires second.reply ≡ true → list_any (λ entry. releases entry.reply) between ≡ true
 released_before [] later second turns acquired = no (sym (turns.0 acquired))
 released_before (entry ∷ between) later second turns acquired = by_answer (acquires entry.reply) (releases entry.reply) turns.0 (λ t. released_before between later second t acquired) turns.2
   where
@@ -100,7 +100,7 @@ released_before (entry ∷ between) later second turns acquired = by_answer (acq
     by_answer false false never later_on t = later_on t
 
 -- the same past what was before
-pub released_between : (held : Bool) (earlier between later : Journal) (first second : Entry MutexEvent MutexReply) → TakesTurns held (earlier ++ first ∷ (between ++ second ∷ later)) → acquires first.reply ≡ true → acquires second.reply ≡ true → list_any (λ entry. releases entry.reply) between ≡ true
+pub released_between : (held : Bool) (earlier between later : Log) (first second : Entry MutexEvent MutexReply) → TakesTurns held (earlier ++ first ∷ (between ++ second ∷ later)) → acquires first.reply ≡ true → acquires second.reply ≡ true → list_any (λ entry. releases entry.reply) between ≡ true
 released_between held [] between later first second turns first_acquires second_acquires =
     released_before between later second (subst (λ a. TakesTurns (if a then true else if releases first.reply then false else held) (between ++ second ∷ later)) first_acquires turns.2) second_acquires
 released_between held (entry ∷ earlier) between later first second turns first_acquires second_acquires =

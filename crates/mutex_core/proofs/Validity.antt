@@ -126,9 +126,9 @@ pub start-valid : (n : ℕ) → IsValid (start n)
 unfolding IsDistinct
 start-valid n = record { woken = refl; handed = refl; contended = λ s. s; unwoken = λ s. refl; callers = tt; apart = tt }
 
-pub after-valid : (s : State) (journal : List (Entry MutexEvent MutexReply)) → IsValid s → IsValid (after next s journal)
+pub after-valid : (s : State) (log : List (Entry MutexEvent MutexReply)) → IsValid s → IsValid (after next s log)
 after-valid s [] h = h
-after-valid s (entry ∷ journal) h = after-valid (next s entry.caller entry.event).0 journal (next-valid s entry.caller entry.event h)
+after-valid s (entry ∷ log) h = after-valid (next s entry.caller entry.event).0 log (next-valid s entry.caller entry.event h)
 
 -- the state after an event, named by what the event is
 pub valid-by : (s t : State) (c : ℕ) (e : MutexEvent) (r : MutexReply) → IsValid s → next s c e ≡ (t, r) → IsValid t
@@ -166,6 +166,6 @@ pub callers-next : (s : State) (c : ℕ) (e : MutexEvent) → (next s c e).0.cal
 callers-next s c e = callers-open s.callers (nat_lt c s.callers) _ _ (callers-at_place e (place_of s c) c s) refl
 
 -- the callers stay the same
-pub callers-after : (s : State) (journal : List (Entry MutexEvent MutexReply)) → (after next s journal).callers ≡ s.callers
+pub callers-after : (s : State) (log : List (Entry MutexEvent MutexReply)) → (after next s log).callers ≡ s.callers
 callers-after s [] = refl
-callers-after s (entry ∷ journal) = callers-after (next s entry.caller entry.event).0 journal ∙ callers-next s entry.caller entry.event
+callers-after s (entry ∷ log) = callers-after (next s entry.caller entry.event).0 log ∙ callers-next s entry.caller entry.event

@@ -9,9 +9,9 @@ use Rattle.mutex_core.specs.declared.reply.Arrival.TheVariants as arrival
 use Rattle.mutex_core.specs.declared.reply.Resumption.TheVariants as resumption
 use Rattle.mutex_core.specs.declared.reply.Unlocking.TheVariants as unlocking
 
--- what happened at a mutex
-abbrev pub Journal : Type 0
-Journal = List (Entry MutexEvent MutexReply)
+-- what happened at a mutex: who did what and was answered what, the earliest first
+abbrev pub Log : Type 0
+Log = List (Entry MutexEvent MutexReply)
 
 -- the caller has the mutex from this answer on
 abbrev pub acquires : MutexReply → Bool

@@ -1,4 +1,4 @@
--- How starvation mode hands the mutex on, as what a journal shows.
+-- How starvation mode hands the mutex on, as what a log shows.
 use Rattle.std.specs.Prelude.{◌≡◌, ℕ, Bool, false, ◌==◌, IsFalse, List, [], ◌∷◌}
 use Rattle.std.specs.Bool.{MatchBool}
 use Rattle.mutex_core.specs.declared.event.MutexEvent.{MutexEvent}
@@ -8,7 +8,7 @@ use Rattle.mutex_core.specs.declared.reply.MutexReply.TheVariants.{Unlocked, Res
 use Rattle.mutex_core.specs.declared.reply.Resumption.TheVariants.{Acquired}
 use Rattle.mutex_core.specs.declared.reply.Unlocking.TheVariants.{Handed}
 use Rattle.mutex_core.specs.declared.waiter.Waiter.{Waiter}
-use Rattle.mutex_core.specs.Edges.{Journal, acquires}
+use Rattle.mutex_core.specs.Edges.{Log, acquires}
 
 -- whether an event of the caller is the one by which the waiter goes on
 abbrev pub goes_on : ℕ → ℕ → MutexEvent → Bool
@@ -18,14 +18,14 @@ goes_on waiter caller event.Try = false
 goes_on waiter caller event.Unlock = false
 
 -- nobody acquires the mutex until the waiter goes on, and then it is the waiter's
-abbrev pub GoesTo : ℕ → Journal → Type 0
+abbrev pub GoesTo : ℕ → Log → Type 0
 GoesTo waiter [] = Unit {0}
-GoesTo waiter (entry ∷ journal) =
+GoesTo waiter (entry ∷ log) =
     MatchBool (goes_on waiter entry.caller entry.event)
     (entry.reply ≡ Resumed Acquired)
-    (IsFalse (acquires entry.reply) × GoesTo waiter journal)
+    (IsFalse (acquires entry.reply) × GoesTo waiter log)
 
 -- an unlock at this queue, its answer and what comes later: the mutex goes to the first waiter
-abbrev pub HandsOff : List Waiter → MutexReply → Journal → Type 0
+abbrev pub HandsOff : List Waiter → MutexReply → Log → Type 0
 HandsOff [] reply later = ⊥
 HandsOff (front ∷ rest) reply later = (reply ≡ Unlocked (Handed front.caller)) × GoesTo front.caller later

@@ -1,5 +1,5 @@
 -- A pool keeps as many parts as it has callers, each part keeps its room, and none holds more shared items.
-use Rattle.std.proofs.Common.{◌≡◌, ◌⊎◌, inl, inr, ℕ, ◌==◌, ◌-◌, ◌≤◌, ◌<◌, Bool, true, false, cond, List, [], ◌∷◌, ◌++◌, length, map, replicate, Option, Some, None, refl, sym, ap, ◌∙◌, subst, arith, length-set}
+use Rattle.std.proofs.Common.{◌≡◌, ◌⊎◌, inl, inr, ℕ, ◌==◌, ◌-◌, ◌≤◌, ◌<◌, Bool, true, false, cond, List, [], ◌∷◌, length, map, replicate, Option, Some, None, refl, sym, ap, ◌∙◌, subst, arith, length-set}
 use Rattle.std.specs.Prelude.{nat_lt, ◌&&◌, is_some}
 use Rattle.std.specs.List.{All, slice_get}
 use Rattle.std.specs.Option.{option_map}
@@ -12,7 +12,7 @@ use Rattle.pool_core.specs.declared.pool_event.PoolEvent.{PoolEvent}
 use Rattle.pool_core.specs.declared.pool_event.PoolEvent.TheVariants.{Put, LookOwn, LookOther, LookVictim, Sweep}
 use Rattle.pool_core.specs.declared.pool_event.PoolReply.{PoolReply}
 use Rattle.pool_core.specs.declared.pool_event.PoolReply.TheVariants.{Kept, Dropped, Still}
-use Rattle.sync_model.specs.Log.{entry, after, Follows}
+use Rattle.sync_model.specs.Log.{after}
 use Rattle.pool_core.specs.PoolParts.{PoolPart, empty, emptied, put_in, put_beside, take_own, take_tail, take_victim, head_of, tail_of, private_or}
 use Rattle.pool_core.specs.PoolMachine.{PoolState, start, next, made, with_primary, with_victims, callers_of}
 use Rattle.pool_core.specs.PoolLaws.{Log, is_full, answers, NamesPart, has_part}
@@ -153,26 +153,21 @@ module _ {X : Type 0} where
   put_at_part true s caller item None own h is = cc
   put_at_part false s caller item o own h is = cc
 
-  -- from a state whose parts have their room on
-  drops_from : (callers room : ℕ) (s : PoolState X) (before rest : Log X) (caller : ℕ) (item : X) (reply : PoolReply X) → caller < callers → IsRoomy callers room s
-      → Follows next s (before ++ entry caller (Put item) reply ∷ rest)
-      → (own : PoolPart X) × (slice_get (after next s before).primary caller ≡ Some own) × (reply ≡ cond (is_full room own) (Dropped item) Kept)
-  drops_from callers room s (e ∷ before) rest caller item reply below is h =
-      drops_from callers room (next s e.caller e.event).0 before rest caller item reply below (room_if (nat_lt e.caller (callers_of s)) callers room s e.caller e.event is) h.1
-  drops_from callers room s [] rest caller item reply below is h =
+  -- after any events from the start on
+  pub drops_where_full : (callers room : ℕ) (before : Log X) (caller : ℕ) (item : X) (reply : PoolReply X) → caller < callers
+      → reply ≡ (next (after next (start callers room) before) caller (Put item)).1
+      → (own : PoolPart X) × (slice_get (after next (start callers room) before).primary caller ≡ Some own) × (reply ≡ cond (is_full room own) (Dropped item) Kept)
+  drops_where_full callers room before caller item reply below answered =
+      let s : PoolState X = after next (start callers room) before in
+      let is : IsRoomy callers room s = room_after callers room (start callers room) before (start_roomy callers room) in
       let parts : length s.primary ≡ callers = is.primary_parts in
       let there : (part : PoolPart X) × (slice_get s.primary caller ≡ Some part) = part_there s.primary caller (omega arith) in (
         there.0,
         there.1,
-        sym h.0
+        answered
             ∙ put_at_part (nat_lt caller (length s.primary)) s caller item (slice_get s.primary caller) there.0 (lt-ltb caller (length s.primary) (omega arith)) there.1
             ∙ put_reply room there.0.private there.0 item refl (room_at room s.primary caller there.0 is.primary there.1),
       )
-
-  pub drops_where_full : (callers room : ℕ) (before rest : Log X) (caller : ℕ) (item : X) (reply : PoolReply X) → caller < callers
-      → Follows next (start callers room) (before ++ entry caller (Put item) reply ∷ rest)
-      → (own : PoolPart X) × (slice_get (after next (start callers room) before).primary caller ≡ Some own) × (reply ≡ cond (is_full room own) (Dropped item) Kept)
-  drops_where_full callers room before rest caller item reply below = drops_from callers room (start callers room) before rest caller item reply below (start_roomy callers room)
 
   has_named : (callers : ℕ) (s : PoolState X) (event : PoolEvent X) → length s.primary ≡ callers → length s.victims ≡ callers → NamesPart callers event → has_part s event ≡ true
   has_named callers s (Put item) primary victims names = refl

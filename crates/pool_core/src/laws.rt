@@ -7,7 +7,9 @@ ghost use Rattle.pool_core.specs.PoolParts.{PoolPart};
 ghost use Rattle.pool_core.specs.PoolMachine.{PoolState, start, next};
 ghost use Rattle.pool_core.specs.PoolLaws.{Made, Log, IsLog, state_after, put_by, held, kept_by, got_by, kept_count, got_count, swept_count, ComeFrom, is_full, private_at, answers, NamesPart, may_make};
 
+use crate::pool::PoolCore;
 use crate::pool_event::{PoolEvent, PoolReply};
+use sync_model::laws::logs::replies_are_the_machines;
 
 /// Nothing is lost and nothing made: of the items that pass any test, as that of being a certain one, those that were kept are
 /// those that looks took, those that the pool holds and those that sweeps removed.
@@ -38,7 +40,9 @@ pub fn drops_where_full()
         → caller < callers → IsLog callers room (before ++ put_by caller item reply ∷ rest)
         → (own : PoolPart ℕ) × (slice_get (state_after callers room before).primary caller ≡ Some own)
         × (reply ≡ (if is_full room own then PoolReply.Dropped item else PoolReply.Kept)) }
-{}
+{
+    replies_are_the_machines::<PoolCore>();
+}
 
 /// The private item of another part is never taken: no event of a caller but a sweep changes it, in either generation.
 pub fn leaves_private_items()

@@ -1,5 +1,5 @@
 -- What kind of answer each event gets, and that the callers stay the same.
-use Rattle.std.proofs.Common.{◌≡◌, ℕ, Bool, true, false, ◌&&◌, [], ◌∷◌, refl, ap, sym, subst, ◌∙◌}
+use Rattle.std.proofs.Common.{◌≡◌, ℕ, Bool, true, false, ◌&&◌, [], ◌∷◌, refl, sym, subst, ◌∙◌}
 use Rattle.std.specs.Prelude.{nat_lt, ◌==◌, if◌then◌else◌}
 use Rattle.std.proofs.lemmas.Bool.{false≢true}
 use Rattle.sync_model.specs.Log.{after}
@@ -18,7 +18,7 @@ use Rattle.rw_core.specs.declared.reply.RwReply.TheVariants.{Still}
 use Rattle.rw_core.specs.declared.writer.Writer.{Writer}
 use Rattle.rw_core.specs.declared.writer.Writer.TheVariants as writer
 use Rattle.rw_core.specs.RwMachine.{State, is_announced, is_holding, place_of, still, last_read, read_unlocked, write_arrived, write_resumed, write_tried, write_unlocked, at_place, next, is_needed, may_make}
-use Rattle.rw_core.specs.Edges.{Journal}
+use Rattle.rw_core.specs.Edges.{Log}
 use Rattle.rw_core.specs.Standing.{is_answer}
 
 no : {A : Type 0} → false ≡ true → A
@@ -121,13 +121,9 @@ still-answers-nothing (event.WriteWoken now) = refl
 still-answers-nothing event.WriteUnlock = refl
 still-answers-nothing event.Leave = refl
 
--- so an event that is answered `Still` was one that its caller may not make, and changes nothing
-pub unmoved : (s : State) (c : ℕ) (e : RwEvent) → (next s c e).1 ≡ Still → (next s c e).0 ≡ s
-unmoved s c e is = by_test (may_make s c e) refl
-  where
-    by_test : (b : Bool) → may_make s c e ≡ b → (next s c e).0 ≡ s
-    by_test true may = no (sym (still-answers-nothing e) ∙ subst (λ (r : RwReply). is_answer e r ≡ true) is (answers s c e may))
-    by_test false may = ap (λ (step : State × RwReply). step.0) (stays s c e may)
+-- so an event that its caller may make isn't answered so
+pub made : (s : State) (c : ℕ) (e : RwEvent) → may_make s c e ≡ true → (next s c e).1 ≡ Still → ⊥
+made s c e may is = no (sym (still-answers-nothing e) ∙ subst (λ (r : RwReply). is_answer e r ≡ true) is (answers s c e may))
 
 callers-at_place : (e : RwEvent) (p : Place) (c : ℕ) (s : State) → (at_place e p c s).0.callers ≡ s.callers
 callers-at_place e p c s = by_test (is_needed e p) refl
@@ -144,6 +140,6 @@ callers-next s c e = by_test (nat_lt c s.callers)
     by_test false = refl
 
 -- the callers stay the same
-pub callers-after : (s : State) (journal : Journal) → (after next s journal).callers ≡ s.callers
+pub callers-after : (s : State) (log : Log) → (after next s log).callers ≡ s.callers
 callers-after s [] = refl
-callers-after s (entry ∷ journal) = callers-after (next s entry.caller entry.event).0 journal ∙ callers-next s entry.caller entry.event
+callers-after s (entry ∷ log) = callers-after (next s entry.caller entry.event).0 log ∙ callers-next s entry.caller entry.event

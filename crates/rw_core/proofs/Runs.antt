@@ -1,13 +1,13 @@
 -- Whole runs, from the unlocked lock on.
-use Rattle.std.proofs.Common.{ℕ, [], ◌∷◌, ◌++◌, refl, arith}
-use Rattle.sync_model.specs.Log.{after, Follows}
+use Rattle.std.proofs.Common.{ℕ, [], ◌∷◌, refl, arith}
+use Rattle.sync_model.specs.Log.{after}
 use Rattle.mutex_core.specs.MutexMachine as mutex
 use Rattle.mutex_core.specs.declared.event.MutexEvent.{MutexEvent}
 use Rattle.mutex_core.specs.declared.event.MutexEvent.TheVariants as mutex_event
 use Rattle.rw_core.specs.declared.event.RwEvent.{RwEvent}
 use Rattle.rw_core.specs.declared.event.RwEvent.TheVariants as event
 use Rattle.rw_core.specs.RwMachine.{State, start, next, IsValid}
-use Rattle.rw_core.specs.Edges.{Journal}
+use Rattle.rw_core.specs.Edges.{Log}
 use Rattle.rw_core.proofs.Validity.{KeepsInner, next-valid}
 
 -- what the inner mutex's laws say
@@ -40,14 +40,9 @@ start-valid laws n = record {
   among = λ c above. refl;
 }
 
-after-valid : MutexLaws → (s : State) (journal : Journal) → IsValid s → IsValid (after next s journal)
+after-valid : MutexLaws → (s : State) (log : Log) → IsValid s → IsValid (after next s log)
 after-valid laws s [] h = h
-after-valid laws s (entry ∷ journal) h = after-valid laws (next s entry.caller entry.event).0 journal (keeps laws s entry.caller entry.event h)
+after-valid laws s (entry ∷ log) h = after-valid laws (next s entry.caller entry.event).0 log (keeps laws s entry.caller entry.event h)
 
-pub run-valid : MutexLaws → (n : ℕ) (journal : Journal) → IsValid (after next (start n) journal)
-run-valid laws n journal = after-valid laws (start n) journal (start-valid laws n)
-
--- what follows a machine goes on to follow it from the state in between
-pub follows_later : (s : State) (earlier later : Journal) → Follows next s (earlier ++ later) → Follows next (after next s earlier) later
-follows_later s [] later follows = follows
-follows_later s (entry ∷ earlier) later follows = follows_later (next s entry.caller entry.event).0 earlier later follows.1
+pub run-valid : MutexLaws → (n : ℕ) (log : Log) → IsValid (after next (start n) log)
+run-valid laws n log = after-valid laws (start n) log (start-valid laws n)

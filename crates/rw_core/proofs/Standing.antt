@@ -26,9 +26,9 @@ use Rattle.rw_core.specs.declared.reply.Unlocking.TheVariants as unlocking
 use Rattle.rw_core.specs.declared.writer.Writer.{Writer}
 use Rattle.rw_core.specs.declared.writer.Writer.TheVariants as writer
 use Rattle.rw_core.specs.RwMachine.{State, start, is_among, without, is_announced, is_holding, waits_as, place_at, place_of, still, read_arrived, read_tried, last_read, read_unlocked, write_arrived, write_resumed, write_tried, write_unlocked, at_place, next, count_of, places_of, IsValid}
-use Rattle.rw_core.specs.Edges.{Journal}
+use Rattle.rw_core.specs.Edges.{Log}
 use Rattle.rw_core.specs.Standing.{waits_after, is_waiting}
-use Rattle.rw_core.proofs.Callers.{once, once-same, count_of-append, count_of-push, count_of-present, count_of-without}
+use Rattle.rw_core.proofs.Callers.{once, once-same, count_of-append, count_of-push, count_of-present}
 use Rattle.rw_core.proofs.Inner.{Keeps, Parts, IsInFlight, arrive-cases, try-cases, unlocks, woken-cases}
 use Rattle.rw_core.proofs.Places.{out-inner, woken-inner, handed-inner, mutex-out, mutex-woken, mutex-handed}
 use Rattle.rw_core.proofs.Runs.{MutexLaws, start-valid, keeps}
@@ -253,14 +253,14 @@ step-places c d r old new w shifts before after is = by_test (d == c) refl
     by_test true here = own-places c r old new w (subst (λ (x : ℕ). Shifts x r old new) (eqb-true d c here) shifts) before after is
     by_test false other = other-places c d r old new shifts (once-other c d (λ e. false≢true (sym other ∙ eq-eqb d c (sym e)))) ∙ is
 
-after-places : ((s : State) (c : ℕ) (e : RwEvent) → IsValid s → IsValid (next s c e).0) → (s : State) (c : ℕ) (w : Bool) (journal : Journal) → IsValid s → places_of c s ≡ places_if w → Follows next s journal → places_of c (after next s journal) ≡ places_if (is_waiting w c journal)
+after-places : ((s : State) (c : ℕ) (e : RwEvent) → IsValid s → IsValid (next s c e).0) → (s : State) (c : ℕ) (w : Bool) (log : Log) → IsValid s → places_of c s ≡ places_if w → Follows next s log → places_of c (after next s log) ≡ places_if (is_waiting w c log)
 after-places keeps s c w [] h is follows = is
-after-places keeps s c w (entry ∷ journal) h is follows =
+after-places keeps s c w (entry ∷ log) h is follows =
     let t = next s entry.caller entry.event in
     let valid = keeps s entry.caller entry.event h in
     let old : ℕ → ℕ = λ x. places_of x s in
     let new : ℕ → ℕ = λ x. places_of x t.0 in
-    after-places keeps t.0 c (if entry.caller == c then waits_after w entry.reply else w) journal valid
+    after-places keeps t.0 c (if entry.caller == c then waits_after w entry.reply else w) log valid
     (step-places c entry.caller entry.reply old new w (subst (λ (r : RwReply). Shifts entry.caller r old new) follows.0 (next-shifts s entry.caller entry.event h)) (h.apart c) (valid.apart c) is)
     follows.1
 
@@ -297,15 +297,15 @@ nowhere-out s c none =
     rw (admitted, granted, waits, queue, inner) refl
 
 -- whether a caller is at a place is what its own answers say
-places_by_answers : MutexLaws → (callers : ℕ) (journal : Journal) (caller : ℕ) → Follows next (start callers) journal → places_of caller (after next (start callers) journal) ≡ places_if (is_waiting false caller journal)
-places_by_answers laws callers journal caller follows =
-    after-places (keeps laws) (start callers) caller false journal (start-valid laws callers) refl follows
+places_by_answers : MutexLaws → (callers : ℕ) (log : Log) (caller : ℕ) → Follows next (start callers) log → places_of caller (after next (start callers) log) ≡ places_if (is_waiting false caller log)
+places_by_answers laws callers log caller follows =
+    after-places (keeps laws) (start callers) caller false log (start-valid laws callers) refl follows
 
-pub stands : MutexLaws → (callers : ℕ) (journal : Journal) (caller : ℕ) → Follows next (start callers) journal → is_waiting false caller journal ≡ false → place_of (after next (start callers) journal) caller ≡ place.Out
-stands laws callers journal caller follows is =
-    nowhere-out (after next (start callers) journal) caller (places_by_answers laws callers journal caller follows ∙ ap places_if is)
+pub stands : MutexLaws → (callers : ℕ) (log : Log) (caller : ℕ) → Follows next (start callers) log → is_waiting false caller log ≡ false → place_of (after next (start callers) log) caller ≡ place.Out
+stands laws callers log caller follows is =
+    nowhere-out (after next (start callers) log) caller (places_by_answers laws callers log caller follows ∙ ap places_if is)
 
-pub waits : MutexLaws → (callers : ℕ) (journal : Journal) (caller : ℕ) → Follows next (start callers) journal → is_waiting false caller journal ≡ true → place_of (after next (start callers) journal) caller ≡ place.Out → ⊥
-waits laws callers journal caller follows is out =
-    let some = places_by_answers laws callers journal caller follows ∙ ap places_if is in
-    omega (arith, some, out-nowhere (after next (start callers) journal) caller out)
+pub waits : MutexLaws → (callers : ℕ) (log : Log) (caller : ℕ) → Follows next (start callers) log → is_waiting false caller log ≡ true → place_of (after next (start callers) log) caller ≡ place.Out → ⊥
+waits laws callers log caller follows is out =
+    let some = places_by_answers laws callers log caller follows ∙ ap places_if is in
+    omega (arith, some, out-nowhere (after next (start callers) log) caller out)

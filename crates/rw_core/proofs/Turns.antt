@@ -19,7 +19,7 @@ use Rattle.rw_core.specs.declared.reply.Unlocking.TheVariants as unlocking
 use Rattle.rw_core.specs.declared.writer.Writer.{Writer}
 use Rattle.rw_core.specs.declared.writer.Writer.TheVariants as writer
 use Rattle.rw_core.specs.RwMachine.{State, is_announced, is_holding, place_of, one_more, read_arrived, read_tried, last_read, read_unlocked, announced, write_arrived, write_resumed, write_tried, write_unlocked, still, at_place, next, IsValid}
-use Rattle.rw_core.specs.Edges.{Journal, is_read, is_acquired, is_released, read_acquires, write_acquires, read_releases, write_releases}
+use Rattle.rw_core.specs.Edges.{Log, is_read, is_acquired, is_released, read_acquires, write_acquires, read_releases, write_releases}
 use Rattle.rw_core.proofs.Places.{out-inner, mutex-out, in_flight}
 use Rattle.rw_core.proofs.Inner.{IsInFlight, arrive-cases, try-cases, woken-cases}
 
@@ -226,7 +226,7 @@ and-false true c e = e
 and-false false c e = refl
 
 -- while every event keeps states valid, an announced writer is passed by nobody
-pub released_first : ((s : State) (c : ℕ) (e : RwEvent) → IsValid s → IsValid (next s c e).0) → (s : State) (between later : Journal) (second : Entry RwEvent RwReply) → IsValid s → is_announced s.writer ≡ true → Follows next s (between ++ second ∷ later) → is_acquired second.reply ≡ true → list_any write_releases between ≡ true
+pub released_first : ((s : State) (c : ℕ) (e : RwEvent) → IsValid s → IsValid (next s c e).0) → (s : State) (between later : Log) (second : Entry RwEvent RwReply) → IsValid s → is_announced s.writer ≡ true → Follows next s (between ++ second ∷ later) → is_acquired second.reply ≡ true → list_any write_releases between ≡ true
 released_first keeps s [] later second h announced follows acquired =
     let says = told s second h follows.0 in
     no (sym (says.announced announced (and-false _ _ (acquired-not_released second.reply acquired))).0 ∙ acquired)
@@ -238,7 +238,7 @@ released_first keeps s (entry ∷ between) later second h announced follows acqu
     by_test false is later_on = later_on ((told s entry h follows.0).announced announced is).1
 
 -- as many readers unlock before a writer acquires as held the lock
-pub readers_first : ((s : State) (c : ℕ) (e : RwEvent) → IsValid s → IsValid (next s c e).0) → (s : State) (between later : Journal) (second : Entry RwEvent RwReply) → IsValid s → Follows next s (between ++ second ∷ later) → write_acquires second ≡ true → s.readers ≤ length (filter read_releases between)
+pub readers_first : ((s : State) (c : ℕ) (e : RwEvent) → IsValid s → IsValid (next s c e).0) → (s : State) (between later : Log) (second : Entry RwEvent RwReply) → IsValid s → Follows next s (between ++ second ∷ later) → write_acquires second ≡ true → s.readers ≤ length (filter read_releases between)
 readers_first keeps s [] later second h follows acquired = omega (arith, ((told s second h follows.0).written acquired).0)
 readers_first keeps s (entry ∷ between) later second h follows acquired =
     by_test (read_releases entry) refl (readers_first keeps (next s entry.caller entry.event).0 between later second (keeps s entry.caller entry.event h) follows.1 acquired)
@@ -263,11 +263,11 @@ and-second true b e = e
 and-second false b e = no e
 
 -- between two answers that give the lock, of which the first or the second is a writer's
-pub after_writer : ((s : State) (c : ℕ) (e : RwEvent) → IsValid s → IsValid (next s c e).0) → (s : State) (between later : Journal) (first second : Entry RwEvent RwReply) → IsValid s → Follows next s (first ∷ (between ++ second ∷ later)) → write_acquires first ≡ true → is_acquired second.reply ≡ true → list_any write_releases between ≡ true
+pub after_writer : ((s : State) (c : ℕ) (e : RwEvent) → IsValid s → IsValid (next s c e).0) → (s : State) (between later : Log) (first second : Entry RwEvent RwReply) → IsValid s → Follows next s (first ∷ (between ++ second ∷ later)) → write_acquires first ≡ true → is_acquired second.reply ≡ true → list_any write_releases between ≡ true
 after_writer keeps s between later first second h follows first_acquires acquired =
     released_first keeps (next s first.caller first.event).0 between later second (keeps s first.caller first.event h) ((told s first h follows.0).written first_acquires).1 follows.1 acquired
 
-pub after_reader : ((s : State) (c : ℕ) (e : RwEvent) → IsValid s → IsValid (next s c e).0) → (s : State) (between later : Journal) (first second : Entry RwEvent RwReply) → IsValid s → Follows next s (first ∷ (between ++ second ∷ later)) → read_acquires first ≡ true → write_acquires second ≡ true → list_any read_releases between ≡ true
+pub after_reader : ((s : State) (c : ℕ) (e : RwEvent) → IsValid s → IsValid (next s c e).0) → (s : State) (between later : Log) (first second : Entry RwEvent RwReply) → IsValid s → Follows next s (first ∷ (between ++ second ∷ later)) → read_acquires first ≡ true → write_acquires second ≡ true → list_any read_releases between ≡ true
 after_reader keeps s between later first second h follows first_acquires acquired =
     let held = (told s first h follows.0).read first_acquires in
     let counted = readers_first keeps (next s first.caller first.event).0 between later second (keeps s first.caller first.event h) follows.1 acquired in

@@ -9,9 +9,9 @@ use Rattle.rw_core.specs.declared.reply.Arrival.TheVariants as arrival
 use Rattle.rw_core.specs.declared.reply.Resumption.TheVariants as resumption
 use Rattle.rw_core.specs.declared.reply.Unlocking.TheVariants as unlocking
 
--- what happened at a reader/writer lock
-abbrev pub Journal : Type 0
-Journal = List (Entry RwEvent RwReply)
+-- what happened at a reader/writer lock: who did what and was answered what, the earliest first
+abbrev pub Log : Type 0
+Log = List (Entry RwEvent RwReply)
 
 -- whether a reader's event it is, or a writer's
 abbrev pub is_read : RwEvent → Bool

@@ -6,7 +6,7 @@ use Rattle.rw_core.specs.declared.reply.RwReply.{RwReply}
 use Rattle.rw_core.specs.declared.reply.RwReply.TheVariants.{Arrived, Tried, Unlocked, Resumed, Left, Still}
 use Rattle.rw_core.specs.declared.reply.Arrival.TheVariants as arrival
 use Rattle.rw_core.specs.declared.reply.Resumption.TheVariants as resumption
-use Rattle.rw_core.specs.Edges.{Journal}
+use Rattle.rw_core.specs.Edges.{Log}
 
 -- whether it is an answer to this event, and not `Still`
 abbrev pub is_answer : RwEvent → RwReply → Bool
@@ -39,8 +39,8 @@ waits_after waits (Resumed resumption.Requeued) = waits
 waits_after waits Left = false
 waits_after waits Still = waits
 
--- whether a caller waits after its own answers in a journal
-abbrev pub is_waiting : Bool → ℕ → Journal → Bool
+-- whether a caller waits after its own answers in a log
+abbrev pub is_waiting : Bool → ℕ → Log → Bool
 is_waiting waits caller [] = waits
-is_waiting waits caller (entry ∷ journal) =
-    is_waiting (if entry.caller == caller then waits_after waits entry.reply else waits) caller journal
+is_waiting waits caller (entry ∷ log) =
+    is_waiting (if entry.caller == caller then waits_after waits entry.reply else waits) caller log

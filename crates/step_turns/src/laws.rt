@@ -46,8 +46,6 @@ pub fn turns_use_something_up()
     ensures { (workers worker moment : ℕ) (call : Call) (objects : List ObjectState) → IsReady workers worker call objects
         → UsesBy (sum_by object_left objects) (sum_by object_left (turn_at call worker moment objects).0) ((turn_at call worker moment objects).0 ≡ objects) (turn_at call worker moment objects).1 }
 {
-    mutex_core::laws::validity();
-    rw_core::laws::validity();
     mutex_core::laws::standing();
     mutex_core::laws::events_are_used_up();
     rw_core::laws::events_are_used_up();
@@ -55,6 +53,8 @@ pub fn turns_use_something_up()
     wait_cores::laws::group::events_are_used_up();
     wait_cores::laws::once::events_are_used_up::<i64>();
     wait_cores::laws::once::events_are_used_up::<u64>();
+    mutex_core::laws::still();
+    rw_core::laws::still();
     wait_cores::laws::group::still();
     wait_cores::laws::once::still::<i64>();
     wait_cores::laws::once::still::<u64>();

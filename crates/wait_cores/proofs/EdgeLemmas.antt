@@ -35,7 +35,7 @@ use Rattle.wait_cores.specs.OnceLaws.{returned_in, kept_in, kept_by}
 use Rattle.wait_cores.specs.OnceLaws as once_laws
 use Rattle.wait_cores.proofs.GroupCounts.{counts}
 use Rattle.wait_cores.proofs.GroupLemmas.{waits_for_zero}
-use Rattle.wait_cores.proofs.LogLemmas.{follows_first}
+use Rattle.wait_cores.proofs.LogParts.{ComesApart}
 use Rattle.wait_cores.proofs.NotifyLemmas.{leaves_when_notified}
 use Rattle.wait_cores.proofs.OnceLemmas.{returns_what_is_kept}
 
@@ -95,11 +95,11 @@ notified_by_release : (pending : ℕ) (log : cond_laws.Log) → NotifiesAfter pe
 notified_by_release pending log (inl any) = any_more is_broadcast frees (λ e. broadcast_frees e.event e.reply) log any
 notified_by_release pending log (inr enough) = any_more is_signal frees (λ e. signal_frees e.event e.reply) log (any_counted is_signal log (omega (arith, enough)))
 
-pub cond-synchronizes : (callers : ℕ) (before between rest : cond_laws.Log) (c : ℕ)
+pub cond-synchronizes : ComesApart cond_machine.next → (callers : ℕ) (before between rest : cond_laws.Log) (c : ℕ)
     → Follows cond_machine.next (cond_machine.start callers) (before ++ entry c notify.Ticket notified.Done ∷ (between ++ entry c notify.Leave notified.Done ∷ rest))
     → list_any (λ e. notify_releases e.event e.reply) between ≡ true
-cond-synchronizes callers before between rest c h =
-    notified_by_release (pending_of (after cond_machine.next (cond_machine.start callers) before)) between (leaves_when_notified callers before between rest c h)
+cond-synchronizes apart callers before between rest c h =
+    notified_by_release (pending_of (after cond_machine.next (cond_machine.start callers) before)) between (leaves_when_notified apart callers before between rest c h)
 
 pub cond-unmoved : (event : NotifyEvent) → (notify_releases event notified.Still ≡ false) × (notify_acquires event notified.Still ≡ false)
 cond-unmoved notify.Ticket = (refl, refl)
@@ -151,10 +151,10 @@ queued_counts : (b : Bool) (s : GroupState) (c : ℕ) → (cond b (wait_from (pl
 queued_counts true s c h = wait_counts (place_of s c) s c h
 queued_counts false s c h = cc
 
-pub group-synchronizes : (s : GroupState) (c : ℕ) (between rest : Log) (reply : GroupReply) → reply ≢ grouped.Still
+pub group-synchronizes : ComesApart next → (s : GroupState) (c : ℕ) (between rest : Log) (reply : GroupReply) → reply ≢ grouped.Still
     → Follows next s (entry c group.Wait grouped.Queued ∷ (between ++ entry c group.Leave reply ∷ rest))
     → list_any (λ e. group_releases e.event e.reply) between ≡ true
-group-synchronizes s c between rest reply ne h = by_test (list_any releases zero.done) refl where
+group-synchronizes apart s c between rest reply ne h = by_test (list_any releases zero.done) refl where
   releases : Entry GroupEvent GroupReply → Bool
   releases e = group_releases e.event e.reply
 
@@ -162,10 +162,10 @@ group-synchronizes s c between rest reply ne h = by_test (list_any releases zero
   first = (next s c group.Wait).0
 
   zero : WasZero first between
-  zero = waits_for_zero s c between rest reply ne h
+  zero = waits_for_zero apart s c between rest reply ne h
 
   follows : Follows next first zero.done
-  follows = follows_first next first zero.done zero.left (subst (Follows next first) zero.parts (follows_first next first between (entry c group.Leave reply ∷ rest) h.1))
+  follows = (apart first zero.done zero.left (subst (Follows next first) zero.parts (apart first between (entry c group.Leave reply ∷ rest) h.1).0)).0
 
   by_test : (b : Bool) → list_any releases zero.done ≡ b → list_any releases between ≡ true
   by_test true any =
@@ -219,9 +219,9 @@ module _ {T : Type 0} where
   returned_acquires event onced.Ended value h = cc
   returned_acquires event onced.Still value h = cc
 
-  pub once-synchronizes : (callers : ℕ) (before rest : once_laws.Log T) (e : once_laws.Made T) (value : T) → Follows once_machine.next (once_machine.start callers) (before ++ e ∷ rest)
+  pub once-synchronizes : ComesApart (once_machine.next {T = T}) → (callers : ℕ) (before rest : once_laws.Log T) (e : once_laws.Made T) (value : T) → Follows once_machine.next (once_machine.start callers) (before ++ e ∷ rest)
       → returned_in e.reply ≡ Some value → list_any (λ x. once_releases x.event x.reply) before ≡ true
-  once-synchronizes callers before rest e value h returned = kept_released before value (returns_what_is_kept callers before rest e value h returned)
+  once-synchronizes apart callers before rest e value h returned = kept_released before value (returns_what_is_kept apart callers before rest e value h returned)
 
   pub once-acquires : (e : once_laws.Made T) (value : T) → returned_in e.reply ≡ Some value → once_acquires e.event e.reply ≡ true
   once-acquires e value = returned_acquires e.event e.reply value

@@ -14,7 +14,7 @@ use Rattle.sync_model.specs.Log.{Entry, entry, after, Follows}
 use Rattle.wait_cores.specs.GroupMachine.{GroupState, start, next, is_waiting, released, made, added, within, wait_from, leave_from, callers_of, place_of}
 use Rattle.wait_cores.specs.GroupLaws.{Log, WasZero}
 use Rattle.wait_cores.proofs.Places.{get-set_kept, get-set_other, get-set_within}
-use Rattle.wait_cores.proofs.LogLemmas.{follows_rest}
+use Rattle.wait_cores.proofs.LogParts.{ComesApart}
 
 -- a caller that waits in the first state waits in the second, or the counter there is 0
 abbrev WaitsOn : GroupState → ℕ → GroupState → Type 0
@@ -107,11 +107,11 @@ leaver_is_released s c reply h ne waits =
     ne (sym h ∙ waiter_stays (nat_lt c (callers_of s)) (place_of s c) s c (ap (λ (o : Option GroupPlace). unwrap_or o Out) waits))
 
 -- a wait that queued and returned has seen the counter at 0
-pub waits_for_zero : (s : GroupState) (c : ℕ) (between rest : Log) (reply : GroupReply) → reply ≢ Still
+pub waits_for_zero : ComesApart next → (s : GroupState) (c : ℕ) (between rest : Log) (reply : GroupReply) → reply ≢ Still
     → Follows next s (entry c Wait Queued ∷ (between ++ entry c Leave reply ∷ rest)) → WasZero (next s c Wait).0 between
-waits_for_zero s c between rest reply ne h =
+waits_for_zero apart s c between rest reply ne h =
     let t : GroupState = (next s c Wait).0 in
-    zero_between t c between (queued_waits s c h.0) (leaver_is_released (after next t between) c reply (follows_rest next t between (entry c Leave reply ∷ rest) h.1).0 ne)
+    zero_between t c between (queued_waits s c h.0) (leaver_is_released (after next t between) c reply (apart t between (entry c Leave reply ∷ rest) h.1).1.0 ne)
 
 -- nobody waits in a state with the counter 0
 abbrev IsServed : GroupState → Type 0

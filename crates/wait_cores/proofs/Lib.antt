@@ -1,5 +1,5 @@
 pub mod Places
-pub mod LogLemmas
+pub mod LogParts
 pub mod GroupLemmas
 pub mod GroupStandingLemmas
 pub mod NotifyAnswers

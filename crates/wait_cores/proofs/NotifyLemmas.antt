@@ -15,7 +15,7 @@ use Rattle.sync_model.specs.Log.{entry, after, Follows}
 use Rattle.wait_cores.specs.NotifyMachine.{NotifyState, start, next, made, leave_from, callers_of, place_of, place_with, following}
 use Rattle.wait_cores.specs.NotifyLaws.{Log, Made, is_ticket, is_signal, is_broadcast, is_ticket_of, is_signal_of, is_broadcast_of, pending_of, NotifiesAfter}
 use Rattle.wait_cores.proofs.Places.{get-set_other, get-set_either, get-set_within}
-use Rattle.wait_cores.proofs.LogLemmas.{after-append, follows_first, follows_rest}
+use Rattle.wait_cores.proofs.LogParts.{ComesApart}
 
 or_first : (a b : Bool) → (a || b) ≡ false → a ≡ false
 or_first true b h = h
@@ -255,13 +255,14 @@ same_notified : (b : Bool) (s : NotifyState) (c : ℕ) → (cond b (made s c Tic
 same_notified true s c = refl
 same_notified false s c = refl
 
-pub leaves_when_notified : (callers : ℕ) (before between rest : Log) (c : ℕ)
+pub leaves_when_notified : ComesApart next → (callers : ℕ) (before between rest : Log) (c : ℕ)
     → Follows next (start callers) (before ++ entry c Ticket Done ∷ (between ++ entry c Leave Done ∷ rest))
     → NotifiesAfter (pending_of (after next (start callers) before)) between
-leaves_when_notified callers before between rest c h =
+leaves_when_notified apart callers before between rest c h =
     let s : NotifyState = after next (start callers) before in
-    let sound : IsSound s = sound_after (start callers) before (follows_first next (start callers) before _ h) (start_sound callers) in
-    let from : Follows next s (entry c Ticket Done ∷ (between ++ entry c Leave Done ∷ rest)) = follows_rest next (start callers) before _ h in
+    let parts : Follows next (start callers) before × Follows next s (entry c Ticket Done ∷ (between ++ entry c Leave Done ∷ rest)) = apart (start callers) before _ h in
+    let sound : IsSound s = sound_after (start callers) before parts.0 (start_sound callers) in
+    let from : Follows next s (entry c Ticket Done ∷ (between ++ entry c Leave Done ∷ rest)) = parts.1 in
     let s' : NotifyState = (next s c Ticket).0 in
     let step : Stepped s (entry c Ticket Done) s' = steps s c Ticket Done from.0 in
     let took : slice_get s'.tickets c ≡ Some (Some s.next_ticket) = taken_if (nat_lt c (callers_of s)) s c refl from.0 in
@@ -272,12 +273,13 @@ leaves_when_notified callers before between rest c h =
       sound = sound_step s s' (entry c Ticket Done) step sound;
     } in
     let t : NotifyState = after next s' between in
-    let since_then : TookSince s.next_ticket c t = took_after s.next_ticket c s' between (follows_first next s' between _ from.1) since in
-    let leaves : place_of t c ≡ Notified = left_from (nat_lt c (callers_of t)) (place_of t c) t c (follows_rest next s' between _ from.1).0 in
+    let on : Follows next s' between × Follows next t (entry c Leave Done ∷ rest) = apart s' between _ from.1 in
+    let since_then : TookSince s.next_ticket c t = took_after s.next_ticket c s' between on.0 since in
+    let leaves : place_of t c ≡ Notified = left_from (nat_lt c (callers_of t)) (place_of t c) t c on.1.0 in
     let mine : (n : ℕ) × (slice_get t.tickets c ≡ Some (Some n)) × (n < t.notified) = notified_below t.notified (slice_get t.tickets c) leaves in
     let above : s.next_ticket ≤ mine.0 = since_then.own mine.0 mine.1 in
     by_any (list_any is_broadcast between) refl s.next_ticket s.notified s'.notified t.notified mine.0 above mine.2 notified sound.notified
-    (λ none. few_notified s' between (follows_first next s' between _ from.1) none)
+    (λ none. few_notified s' between on.0 none)
   where
     by_any : (any : Bool) → list_any is_broadcast between ≡ any → (ticket notified notified' then n : ℕ) → ticket ≤ n → n < then → notified' ≡ notified → notified ≤ ticket
         → (list_any is_broadcast between ≡ false → then ≤ notified' + count_by is_signal between) → IsTrue any ⊎ (ticket - notified < count_by is_signal between)
@@ -329,15 +331,13 @@ notified_place notified t mine is below = rw is (by_test (nat_lt t notified) (lt
   by_test false f = let g = f refl in absurd (omega arith)
 
 pub notifies_in_order : (callers : ℕ) (before between : Log) (c : ℕ)
-    → Follows next (start callers) (before ++ entry c Ticket Done ∷ between)
+    → Follows next (start callers) before → Follows next (after next (start callers) before) (entry c Ticket Done ∷ between)
     → count_by is_ticket before < 2 ^ 64 - 1 → IsTrue (list_all (λ e. not (e.caller == c)) between)
     → NotifiesAfter (pending_of (after next (start callers) before)) between
-    → place_of (after next (start callers) (before ++ entry c Ticket Done ∷ between)) c ≡ Notified
-notifies_in_order callers before between c h few others enough =
+    → place_of (after next (after next (start callers) before) (entry c Ticket Done ∷ between)) c ≡ Notified
+notifies_in_order callers before between c first from few others enough =
     let s : NotifyState = after next (start callers) before in
-    let first : Follows next (start callers) before = follows_first next (start callers) before _ h in
     let sound : IsSound s = sound_after (start callers) before first (start_sound callers) in
-    let from : Follows next s (entry c Ticket Done ∷ between) = follows_rest next (start callers) before _ h in
     let s' : NotifyState = (next s c Ticket).0 in
     let step : Stepped s (entry c Ticket Done) s' = steps s c Ticket Done from.0 in
     let numbers : s'.next_ticket ≡ min (s.next_ticket + 1) (2 ^ 64 - 1) = step.counts sound.capped in
@@ -352,8 +352,7 @@ notifies_in_order callers before between c h few others enough =
     let far : IsTrue (list_any is_broadcast between) ⊎ (s.next_ticket < s'.notified + count_by is_signal between) =
     elim enough [ inl any ↦ inl any | inr some ↦ inr (omega arith) ] in
     let then : Has s.next_ticket c (after next s' between) × (s.next_ticket < (after next s' between).notified) = reached s.next_ticket c s' between from.1 others has far in
-    rw (after-append next (start callers) before (entry c Ticket Done ∷ between))
-    (notified_place (after next s' between).notified s.next_ticket (slice_get (after next s' between).tickets c) then.0.own then.1)
+    notified_place (after next s' between).notified s.next_ticket (slice_get (after next s' between).tickets c) then.0.own then.1
 
 pub notifies_taken : (callers : ℕ) (log : Log) → Follows next (start callers) log → (after next (start callers) log).notified ≤ (after next (start callers) log).next_ticket
 notifies_taken callers log h = (sound_after (start callers) log h (start_sound callers)).notified

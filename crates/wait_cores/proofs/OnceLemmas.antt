@@ -15,7 +15,7 @@ use Rattle.wait_cores.specs.declared.once.OncePlace.TheVariants.{Out, Waiting, R
 use Rattle.sync_model.specs.Log.{entry, after, Follows}
 use Rattle.wait_cores.specs.OnceMachine.{OnceState, start, next, made, begin_from, come_to, end_by, leave_with, callers_of, place_of, runner_in, runner_of}
 use Rattle.wait_cores.specs.OnceLaws.{Made, Log, begins, ends, returned_in, kept_in, kept_by}
-use Rattle.wait_cores.proofs.LogLemmas.{follows_first, follows_rest}
+use Rattle.wait_cores.proofs.LogParts.{ComesApart}
 
 abbrev one_if : Bool → ℕ
 one_if b = cond b 1 0
@@ -172,9 +172,9 @@ module _ {T : Type 0} where
   pub ends_as_begun : (callers : ℕ) (log : Log T) → Follows next (start callers) log → count_by ends log ≤ count_by begins log
   ends_as_begun callers log h = let e : count_by ends log ≤ 0 + count_by begins log = ended (start callers) log h in omega arith
 
-  pub returns_what_is_kept : (callers : ℕ) (before rest : Log T) (e : Made T) (value : T) → Follows next (start callers) (before ++ e ∷ rest)
+  pub returns_what_is_kept : ComesApart (next {T = T}) → (callers : ℕ) (before rest : Log T) (e : Made T) (value : T) → Follows next (start callers) (before ++ e ∷ rest)
       → returned_in e.reply ≡ Some value → kept_by before ≡ Some value
-  returns_what_is_kept callers before rest e value h returned =
+  returns_what_is_kept apart callers before rest e value h returned =
       let s : OnceState T = after next (start callers) before in
-      let from : Follows next s (e ∷ rest) = follows_rest next (start callers) before (e ∷ rest) h in
-      sym (kept_after (start callers) before (follows_first next (start callers) before (e ∷ rest) h)) ∙ (steps s e from.0).returns value returned
+      let parts : Follows next (start callers) before × Follows next s (e ∷ rest) = apart (start callers) before (e ∷ rest) h in
+      sym (kept_after (start callers) before parts.0) ∙ (steps s e parts.1.0).returns value returned

@@ -67,6 +67,7 @@ impl<N: Note> RwMutex<N> {
     {
         laws::validity();
         laws::standing();
+        laws::still();
         growth::<RwCore, N>();
         journal_is_log::<RwCore>();
         self.object.call(rt, home, pass, note, event)

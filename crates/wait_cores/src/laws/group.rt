@@ -8,11 +8,12 @@ ghost use Rattle.wait_cores.specs.GroupMachine.{GroupState, start, next, callers
 ghost use Rattle.wait_cores.specs.GroupStanding.{answers, may_make, waits_at, waits_after};
 ghost use Rattle.wait_cores.specs.GroupLaws.{Log, WasZero, state_after, wait_by, leave_by, additions};
 
-use crate::group::{GroupEvent, GroupPlace, GroupReply};
+use crate::group::{GroupCore, GroupEvent, GroupPlace, GroupReply};
 use sync_model::Misuse;
+use sync_model::laws::logs::logs_go_on;
 
 /// A wait returns only after the counter was 0, whatever callers do and whatever the state was: one that returns at once finds
-/// it at 0, and for one that queued it was 0 at a moment between that and the return.
+/// it at 0, and for one that queued it was 0 at a moment between that and the return, also where the return is a misuse.
 pub fn waits_for_zero()
     ensures at_once { (state : GroupState) (caller : ℕ) (rest : Log)
         → Follows next state (wait_by caller GroupReply.Done ∷ rest) → state.counter ≡ 0 }
@@ -20,7 +21,9 @@ pub fn waits_for_zero()
         → reply ≢ GroupReply.Still
         → Follows next state (wait_by caller GroupReply.Queued ∷ (between ++ leave_by caller reply ∷ rest))
         → WasZero (next state caller GroupEvent.Wait).0 between }
-{}
+{
+    logs_go_on::<GroupCore>();
+}
 
 /// Nobody is left behind: after any events from the start on, nobody waits where the counter is 0.
 pub fn nobody_waits_at_zero()
@@ -35,7 +38,7 @@ pub fn counts_additions()
     ensures range { (callers : ℕ) (log : Log) → (state_after callers log).counter ≤ 2 ^ 31 - 1 }
 {}
 
-/// A misuse changes nothing, but that a caller whose leaving it is is out.
+/// A misuse changes nothing, except that a caller whose leaving is answered by one is out.
 pub fn misuses_change_nothing()
     ensures counter { (state : GroupState) (caller : ℕ) (event : GroupEvent)
         → (next state caller event).1 ≡ GroupReply.Misused Misuse.NegativeWaitGroupCounter
@@ -45,8 +48,8 @@ pub fn misuses_change_nothing()
         → (next state caller event).0 ≡ record state { places = slice_set state.places caller GroupPlace.Out } }
 {}
 
-/// A caller knows from its own answers whether it waits: nobody else's event lets it in or out. So it knows what its events may
-/// be answered.
+/// A caller knows from its own answers whether it is in a wait, released or not: nobody else's event lets it in or out. So it
+/// knows what its events may be answered. The callers stay the same.
 pub fn knows_where_it_stands()
     ensures own { (state : GroupState) (caller : ℕ) (event : GroupEvent)
         → waits_at (next state caller event).0 caller ≡ waits_after (waits_at state caller) event (next state caller event).1 }
@@ -71,10 +74,12 @@ pub fn synchronizes()
         → IsFalse (group_releases event GroupReply.Still) × IsFalse (group_acquires event GroupReply.Still) }
     ensures misused { (event : GroupEvent) (misuse : Misuse)
         → IsFalse (group_releases event (GroupReply.Misused misuse)) × IsFalse (group_acquires event (GroupReply.Misused misuse)) }
-{}
+{
+    logs_go_on::<GroupCore>();
+}
 
-/// Callers can't go on for ever without a call returning. One that comes to wait uses up one of the events that are left, and
-/// only one that leaves gives any back.
+/// Callers can't go on for ever without a call returning: what they can still do without that is `group_left`. One that comes to
+/// wait uses up one of it, and only one that leaves gives any back.
 pub fn events_are_used_up()
     ensures { (state : GroupState) (caller : ℕ) (event : GroupEvent)
         → group_left (next state caller event).0 + group_used (next state caller event).1

@@ -9,6 +9,9 @@ ghost use Rattle.wait_cores.specs.OnceMachine.{OnceState, start, next, callers_o
 ghost use Rattle.wait_cores.specs.OnceStanding.{answers, may_make, waits_at, runs_at, waits_after, runs_after};
 ghost use Rattle.wait_cores.specs.OnceLaws.{Made, Log, IsLog, begins, ends, returned_in, kept_by};
 
+use crate::once::OnceCore;
+use sync_model::laws::logs::logs_go_on;
+
 /// The function is begun at most once, and ends no more often than it was begun.
 pub fn runs_once<T: Copy>()
     ensures begun { (callers : ℕ) (log : Log T) → IsLog callers log → count_by begins log ≤ 1 }
@@ -19,10 +22,12 @@ pub fn runs_once<T: Copy>()
 pub fn returns_what_is_kept<T: Copy>()
     ensures { (callers : ℕ) (before rest : Log T) (e : Made T) (value : T)
         → IsLog callers (before ++ e ∷ rest) → returned_in e.reply ≡ Some value → kept_by before ≡ Some value }
-{}
+{
+    logs_go_on::<OnceCore<T>>();
+}
 
-/// A caller knows from its own answers whether it waits, and whether it runs the function: nobody else's event lets it in or
-/// out, or ends its run. So it knows what its events may be answered.
+/// A caller knows from its own answers whether it is in a wait, released or not, and whether it runs the function: nobody else's
+/// event lets it in or out, or ends its run. So it knows what its events may be answered. The callers stay the same.
 pub fn knows_where_it_stands<T: Copy>()
     ensures own_wait { (state : OnceState T) (caller : ℕ) (event : OnceEvent T)
         → waits_at (next state caller event).0 caller ≡ waits_after (waits_at state caller) (next state caller event).1 }
@@ -48,10 +53,12 @@ pub fn synchronizes<T: Copy>()
     ensures returned { (e : Made T) (value : T) → returned_in e.reply ≡ Some value → IsTrue (once_acquires e.event e.reply) }
     ensures unmoved { (event : OnceEvent T)
         → IsFalse (once_releases event reply.Still) × IsFalse (once_acquires event reply.Still) }
-{}
+{
+    logs_go_on::<OnceCore<T>>();
+}
 
-/// Callers can't go on for ever without a call returning. The one that is to run the function, and one that comes to wait, use up
-/// one of the events that are left, and only one that leaves gives any back.
+/// Callers can't go on for ever without a call returning: what they can still do without that is `once_left`. The one that is to
+/// run the function, and one that comes to wait, use up one of it, and only one that leaves gives any back.
 pub fn events_are_used_up<T: Copy>()
     ensures { (state : OnceState T) (caller : ℕ) (event : OnceEvent T)
         → once_left (next state caller event).0 + once_used (next state caller event).1

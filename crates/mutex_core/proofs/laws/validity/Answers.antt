@@ -1,5 +1,4 @@
 use Rattle.mutex_core.specs.MutexMachine.{start}
-use Rattle.mutex_core.proofs.Standing.{unmoved}
 use Rattle.mutex_core.proofs.Validity.{start-valid, next-valid, after-valid, callers-next, callers-after}
 use Rattle.mutex_core.proofs.laws.validity.Goals as goal
 
@@ -10,13 +9,10 @@ pub returns-clause-goes_on : goal.returns-clause-goes_on
 returns-clause-goes_on c = next-valid
 
 pub returns-clause-always : goal.returns-clause-always
-returns-clause-always c callers journal = after-valid (start callers) journal (start-valid callers)
+returns-clause-always c callers log = after-valid (start callers) log (start-valid callers)
 
 pub returns-clause-same_callers : goal.returns-clause-same_callers
 returns-clause-same_callers c = callers-next
 
 pub returns-clause-callers : goal.returns-clause-callers
-returns-clause-callers c callers journal = callers-after (start callers) journal
-
-pub returns-clause-unmoved : goal.returns-clause-unmoved
-returns-clause-unmoved c = unmoved
+returns-clause-callers c callers log = callers-after (start callers) log

@@ -1,5 +1,5 @@
 use Rattle.rw_core.specs.RwMachine.{start}
-use Rattle.rw_core.proofs.Answers.{callers-next, callers-after, unmoved}
+use Rattle.rw_core.proofs.Answers.{callers-next, callers-after}
 use Rattle.rw_core.proofs.Runs.{start-valid, keeps, run-valid}
 use Rattle.rw_core.proofs.laws.validity.Goals as goal
 
@@ -16,7 +16,4 @@ pub returns-clause-same_callers : goal.returns-clause-same_callers
 returns-clause-same_callers c = callers-next
 
 pub returns-clause-callers : goal.returns-clause-callers
-returns-clause-callers c callers journal = callers-after (start callers) journal
-
-pub returns-clause-unmoved : goal.returns-clause-unmoved
-returns-clause-unmoved c = unmoved
+returns-clause-callers c callers log = callers-after (start callers) log

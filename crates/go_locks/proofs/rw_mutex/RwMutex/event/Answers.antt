@@ -31,7 +31,7 @@ returns-clause-answered g c reply is =
     let event = c.args.event in
     let s = state_after next begin p.before in
     let right = subst (λ d. Right next true s (halt_of p.before) (number_of pass) d) (made.deed ∙ ap (λ a. deed_of event a) is) made.grows.right.0.1 in
-    answers_any (number_of pass) s event reply (c.standing.ensures.answered s (number_of pass) event) (c.standing.ensures.still s (number_of pass) event) right.1
+    answers_any (number_of pass) s event reply (c.standing.ensures.answered s (number_of pass) event) (c.still.ensures.unmade s (number_of pass) event) right.1
 
 pub returns-clause-entry : goal.returns-clause-entry
 returns-clause-entry g c =

@@ -2,7 +2,7 @@ use Rattle.wait_cores.proofs.EdgeLemmas.{group-synchronizes, group-unmoved, grou
 use Rattle.wait_cores.proofs.laws.group.synchronizes.Goals as goal
 
 pub returns-clause-unblocked : goal.returns-clause-unblocked
-returns-clause-unblocked c = group-synchronizes
+returns-clause-unblocked c = group-synchronizes c.logs_go_on.ensures.apart
 
 pub returns-clause-unmoved : goal.returns-clause-unmoved
 returns-clause-unmoved c = group-unmoved
