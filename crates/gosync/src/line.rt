@@ -95,17 +95,6 @@ pub fn push_number_word(line: &mut Vec<u8>, number: u64)
     push_number(line, number);
 }
 
-/// Adds a number that may be below 0 in decimal behind a space.
-pub fn push_signed_word(line: &mut Vec<u8>, number: i32)
-    requires { vec_len line.old + 21 ≤ vec_capacity line.old }
-    ensures text { line.new.items ≡ line.old.items ++ 32 ∷ signed_decimal number }
-    ensures len { vec_len line.new ≤ vec_len line.old + 21 }
-    ensures room { vec_capacity line.old ≤ vec_capacity line.new }
-{
-    push(line, b" ");
-    push_signed(line, i64::from(number));
-}
-
 /// Adds a number of an atomic behind a space.
 pub fn push_atomic_word(line: &mut Vec<u8>, number: Number)
     requires { vec_len line.old + 21 ≤ vec_capacity line.old }

@@ -10,6 +10,7 @@ pub mod laws;
 pub mod limits;
 pub mod line;
 pub mod object;
+pub mod operands;
 pub mod reason;
 pub mod turn;
 pub mod workload;

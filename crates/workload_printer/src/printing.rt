@@ -4,17 +4,18 @@ ghost use Rattle.std.specs.Fmt.{decimal, signed_decimal};
 ghost use Rattle.std.specs.Option.{option_to_list};
 ghost use Rattle.workload.specs.KeywordWords.{object_word};
 ghost use Rattle.workload.specs.NumberWords.{number_word};
-ghost use Rattle.workload.specs.CallWords.{map_values, map_operands, atomic_operands, group_operands, pool_operands, operands_of};
+ghost use Rattle.workload.specs.CallWords.{numbers_in, operands_of};
 ghost use Rattle.workload.specs.Words.{turn_word, kind_parameters, spelled};
 ghost use Rattle.workload.specs.declared.line.Line.TheVariants as Line;
 ghost use Rattle.workload.specs.Reads.{Reads};
 ghost use Rattle.workload.specs.Canonical.{text_line, call_line, object_line, reference_name, script_lines, eights, canonical_lines, canonical, behind_spaces, lines_text};
 
 use std::alloc::{AllocError, Global};
-use sync_model::{AtomicCall, AtomicKind, Call, MapCall, Name, Number, PoolCall, WaitGroupCall};
+use sync_model::{AtomicKind, Call, Number};
 use workload::call::{place_of, verb, verb_text};
 use workload::laws::{canonical_reads, schedules_go_by_eights};
 use workload::object::name_at;
+use workload::operands::{Numbers, operands_of};
 use workload::{ObjectKind, ObjectLine, ObjectWord, Turn, Workload};
 
 /// Writes a word behind a space.
@@ -41,7 +42,7 @@ fn put_signed(alloc: Global, text: &mut Vec<u8>, number: i64) -> Result<(), Allo
     put_word(text, digits.as_bytes())
 }
 
-/// Writes a number of an atomic behind a space.
+/// Writes a number of an atomic's type behind a space.
 fn put_atomic_number(alloc: Global, text: &mut Vec<u8>, number: Number) -> Result<(), AllocError>
     ensures { OnOk result (text.new.items ≡ text.old.items ++ 32 ∷ number_word number) }
 {
@@ -52,63 +53,6 @@ fn put_atomic_number(alloc: Global, text: &mut Vec<u8>, number: Number) -> Resul
         Number::Uint64(n) => put_number(alloc, text, n),
         Number::Bool(false) => put_word(text, b"false"),
         Number::Bool(true) => put_word(text, b"true"),
-    }
-}
-
-/// Writes the values of a call of a map, each behind a space.
-fn put_map_values(alloc: Global, text: &mut Vec<u8>, call: &MapCall<Name>) -> Result<(), AllocError>
-    ensures { OnOk result (text.new.items ≡ text.old.items ++ behind_spaces (map decimal (map_values call.now))) }
-{
-    match call {
-        MapCall::Store { value, .. }
-        | MapCall::LoadOrStore { value, .. }
-        | MapCall::Swap { value, .. } => put_number(alloc, text, *value),
-        MapCall::CompareAndDelete { old, .. } => put_number(alloc, text, *old),
-        MapCall::CompareAndSwap { old, new, .. } => {
-            put_number(alloc, text, *old)?;
-            put_number(alloc, text, *new)
-        }
-        MapCall::Load { .. }
-        | MapCall::LoadAndDelete { .. }
-        | MapCall::Delete { .. }
-        | MapCall::Clear => Ok(()),
-    }
-}
-
-/// Writes the operands of a call of a map, each behind a space.
-fn put_map_operands(
-    alloc: Global,
-    text: &mut Vec<u8>,
-    call: &MapCall<Name>,
-) -> Result<(), AllocError>
-    ensures { OnOk result (text.new.items ≡ text.old.items ++ behind_spaces (map_operands call.now)) }
-{
-    if let Some(key) = call.key() {
-        put_word(text, key.as_bytes())?;
-    }
-    put_map_values(alloc, text, call)
-}
-
-/// Writes the operands of a call of an atomic, each behind a space.
-fn put_atomic_operands(
-    alloc: Global,
-    text: &mut Vec<u8>,
-    call: AtomicCall,
-) -> Result<(), AllocError>
-    ensures { OnOk result (text.new.items ≡ text.old.items ++ behind_spaces (atomic_operands call)) }
-{
-    match call {
-        AtomicCall::Load => Ok(()),
-        AtomicCall::Store { value } | AtomicCall::Swap { value } => {
-            put_atomic_number(alloc, text, value)
-        }
-        AtomicCall::Add { operand } | AtomicCall::And { operand } | AtomicCall::Or { operand } => {
-            put_atomic_number(alloc, text, operand)
-        }
-        AtomicCall::CompareAndSwap { old, new } => {
-            put_atomic_number(alloc, text, old)?;
-            put_atomic_number(alloc, text, new)
-        }
     }
 }
 
@@ -134,27 +78,17 @@ fn object_text(word: ObjectWord) -> &'static [u8]
     }
 }
 
-/// Writes the operands of a call of a wait group, each behind a space.
-fn put_group_operands(
-    alloc: Global,
-    text: &mut Vec<u8>,
-    call: WaitGroupCall,
-) -> Result<(), AllocError>
-    ensures { OnOk result (text.new.items ≡ text.old.items ++ behind_spaces (group_operands call)) }
+/// Writes numbers of atomics' types, each behind a space.
+fn put_numbers(alloc: Global, text: &mut Vec<u8>, numbers: Numbers) -> Result<(), AllocError>
+    ensures { OnOk result (text.new.items ≡ text.old.items ++ behind_spaces (map number_word (numbers_in numbers))) }
 {
-    match call {
-        WaitGroupCall::Add(delta) => put_signed(alloc, text, i64::from(delta)),
-        WaitGroupCall::Done | WaitGroupCall::Wait => Ok(()),
-    }
-}
-
-/// Writes the operands of a call of a pool, each behind a space.
-fn put_pool_operands(alloc: Global, text: &mut Vec<u8>, call: PoolCall) -> Result<(), AllocError>
-    ensures { OnOk result (text.new.items ≡ text.old.items ++ behind_spaces (pool_operands call)) }
-{
-    match call {
-        PoolCall::Put(item) => put_number(alloc, text, item),
-        PoolCall::Get | PoolCall::Sweep => Ok(()),
+    match numbers {
+        Numbers::Empty => Ok(()),
+        Numbers::One(number) => put_atomic_number(alloc, text, number),
+        Numbers::Two(old, new) => {
+            put_atomic_number(alloc, text, old)?;
+            put_atomic_number(alloc, text, new)
+        }
     }
 }
 
@@ -162,19 +96,11 @@ fn put_pool_operands(alloc: Global, text: &mut Vec<u8>, call: PoolCall) -> Resul
 fn put_operands(alloc: Global, text: &mut Vec<u8>, call: &Call) -> Result<(), AllocError>
     ensures { OnOk result (text.new.items ≡ text.old.items ++ behind_spaces (operands_of call.now)) }
 {
-    match call {
-        Call::Map { call, .. } => put_map_operands(alloc, text, call),
-        Call::Atomic { call, .. } => put_atomic_operands(alloc, text, *call),
-        Call::WaitGroup { call, .. } => put_group_operands(alloc, text, *call),
-        Call::Pool { call, .. } => put_pool_operands(alloc, text, *call),
-        Call::Range { .. }
-        | Call::Mutex { .. }
-        | Call::RwMutex { .. }
-        | Call::Cond { .. }
-        | Call::Once { .. }
-        | Call::OnceFunc { .. }
-        | Call::OnceValue { .. } => Ok(()),
+    let (key, numbers) = operands_of(call);
+    if let Some(key) = key {
+        put_word(text, key.as_bytes())?;
     }
+    put_numbers(alloc, text, numbers)
 }
 
 /// Writes the line of a call on the object of a name.
