@@ -10,7 +10,8 @@ ghost use Rattle.go_pool.specs.Events.{Answers};
 use crate::pool::{Pool, PoolPass};
 use pool_core::laws::answers_its_callers;
 use pool_core::{PoolCore, PoolEvent, PoolReply};
-use ruled_object::laws::{growth, journal_is_log, spending};
+use ruled_object::laws::{growth, spending};
+use sync_model::laws::journals::journal_is_log;
 use std::sync::Wait;
 use sync_model::{Answer, Note};
 

@@ -1,7 +1,7 @@
 -- Entries of one caller that stand one after the other.
 use Rattle.std.proofs.Common.{◌≡◌, ℕ, suc, ◌+◌, Bool, Option, None, List, [], ◌∷◌, ◌++◌, length, slice_index, refl, sym, ap, ◌∙◌, subst, append_assoc, arith}
 use Rattle.std.specs.List.{AllByRecursion}
-use Rattle.std.proofs.lemmas.List.{length-append, map-append}
+use Rattle.std.proofs.lemmas.List.{append-nil, length-append, map-append}
 use Rattle.ruled_object.proofs.Journals.{by_here}
 use Rattle.sync_model.specs.declared.misuse.Misuse.{Misuse}
 use Rattle.sync_model.specs.declared.answer.Answer.{Answer}
@@ -11,8 +11,9 @@ use Rattle.sync_model.specs.Front.{AtLeast}
 use Rattle.sync_model.specs.Journal.{halt_next, halt_of, by, Rising, state_next, state_after, Right, Follows}
 use Rattle.ruled_object.specs.declared.pass.Pass.{Pass}
 use Rattle.ruled_object.specs.Cells.{deed_of}
-use Rattle.ruled_object.specs.Growth.{Placed, entries_of, Leads, MeetsHalt, IsRight, Grows, Makes}
+use Rattle.ruled_object.specs.Growth.{Placed, entries_of, Leads, halt_before, MeetsHalt, IsRight, Grows, Makes}
 use Rattle.ruled_object.specs.Passes.{number_of, seen_by, own_by, Adds}
+use Rattle.ruled_object.specs.Standing.{stand_next, stand_from}
 
 module _ {E R : Type 0} where
   leads-append : (seen mid now : List (Entry E R)) (es fs : List (Placed E R)) → Leads seen es mid → Leads mid fs now → Leads seen (es ++ fs) now
@@ -26,6 +27,23 @@ module _ {E R : Type 0} where
   rising-append : (from between to : List ℕ) (es fs : List (Placed E R)) → Rising from (entries_of es) between → Rising between (entries_of fs) to → Rising from (entries_of (es ++ fs)) to
   rising-append from between to [] fs at_first then_on = rising_from from between to fs at_first then_on
   rising-append from between to (e ∷ es) fs at_first then_on = (at_first.0, rising-append e.entry.front between to es fs at_first.1 then_on)
+
+module _ {E R : Type 0} where
+  halt_before-snoc : (es : List (Placed E R)) (p : Placed E R) → halt_before (es ++ p ∷ []) ≡ halt_of p.before
+  halt_before-snoc [] p = refl
+  halt_before-snoc (e ∷ []) p = refl
+  halt_before-snoc (e ∷ (f ∷ es)) p = halt_before-snoc (f ∷ es) p
+
+  -- the last entry says whether a halt was met
+  pub meets-snoc : {A : Type 0} (es : List (Placed E R)) (p : Placed E R) (answer : Answer A) → MeetsHalt (p ∷ []) answer → MeetsHalt (es ++ p ∷ []) answer
+  meets-snoc es p (Done a) meets = halt_before-snoc es p ∙ meets
+  meets-snoc es p (Halted m) meets = halt_before-snoc es p ∙ meets
+
+module _ {E R W : Type 0} (out : W) (after : W → E → R → W) where
+  -- one entry more
+  pub stand-snoc : (w : W) (own : List (Entry E R)) (x : Entry E R) → stand_from out after w (own ++ x ∷ []) ≡ stand_next out after (stand_from out after w own) x.deed
+  stand-snoc w [] x = refl
+  stand-snoc w (y ∷ ys) x = stand-snoc (stand_next out after w y.deed) ys x
 
 module _ {A : Type 0} where
   snoc_front : (l m : List A) (x : A) → l ++ x ∷ [] ≡ m ++ x ∷ [] → l ≡ m
@@ -50,6 +68,10 @@ module _ {S E R : Type 0} (next : S → ℕ → E → S × R) (halts : Bool) (st
   meets caller p event (Halted misuse) right = right
 
 module _ {S N E R : Type 0} (next : S → ℕ → E → S × R) (halts : Bool) (start : S) where
+  -- nothing was done
+  pub grows_none : (pass : Pass S N E R) (front : List ℕ) → Grows next halts start pass front [] pass front
+  grows_none pass front = record { history = refl; mine = sym (append-nil (own_by pass)); right = tt; fronts = λ c. omega arith; number = refl }
+
   -- one entry
   pub grows_one : (frees takes : E → R → Bool) (old new : Pass S N E R) (e : Entry E R) (event : E) (answer : Answer R) (from to : List ℕ) → Adds next halts frees takes start old e new
       → number_of new ≡ number_of old → e.deed ≡ deed_of event answer → e.front ≡ to → AtLeast to from

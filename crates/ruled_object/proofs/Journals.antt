@@ -6,8 +6,7 @@ use Rattle.sync_model.specs.declared.journal.Deed.{Deed}
 use Rattle.sync_model.specs.declared.journal.Deed.TheVariants.{Event, Refused, Halt}
 use Rattle.sync_model.specs.declared.journal.Entry.{Entry}
 use Rattle.sync_model.specs.Front.{AtLeast}
-use Rattle.sync_model.specs.Log as log
-use Rattle.sync_model.specs.Journal.{logged, log_of, Begins, halt_next, halt_after, by, is_such, Covers, KeepsEdges, state_next, state_after, Right, Follows}
+use Rattle.sync_model.specs.Journal.{Begins, halt_next, halt_after, by, is_such, Covers, KeepsEdges, state_next, state_after, Right, Follows}
 
 module _ {A : Type 0} where
   pub begins_all : (l : List A) → Begins l l
@@ -85,15 +84,3 @@ module _ {S E R : Type 0} (next : S → ℕ → E → S × R) where
   never_halted halts s (y ∷ ys) never f = let e = no_halt halts s y.caller y.deed never f.0 in let rest : List (Entry E R) = ys in
       ap (λ (h : Option Misuse). halt_after h rest) e
       ∙ never_halted halts (state_next next s y.caller y.deed) ys never (subst (λ (h : Option Misuse). Follows next halts (state_next next s y.caller y.deed) h rest) e f.1)
-
-module _ {S E R : Type 0} (next : S → ℕ → E → S × R) where
-  logged_on : (halts : Bool) (s : S) (h : Option Misuse) (c : ℕ) (d : Deed E R) (later : List (log.Entry E R)) (last : S) → Right next halts s h c d
-      → log.Follows next (state_next next s c d) later × (log.after next (state_next next s c d) later ≡ last) → log.Follows next s (logged c d later) × (log.after next s (logged c d later) ≡ last)
-  logged_on halts s h c (Event e r) later last right rest = ((sym right.1, rest.0), rest.1)
-  logged_on halts s h c (Refused e m) later last right rest = rest
-  logged_on halts s h c (Halt m) later last right rest = rest
-
-  -- the events that the machine took are a log of it
-  pub is_log : (halts : Bool) (s : S) (h : Option Misuse) (l : List (Entry E R)) → Follows next halts s h l → log.Follows next s (log_of l) × (log.after next s (log_of l) ≡ state_after next s l)
-  is_log halts s h [] f = (tt, refl)
-  is_log halts s h (x ∷ xs) f = logged_on halts s h x.caller x.deed (log_of xs) (state_after next (state_next next s x.caller x.deed) xs) f.0 (is_log halts (state_next next s x.caller x.deed) (halt_next h x.deed) xs f.1)

@@ -10,7 +10,7 @@ ghost use Rattle.go_waits.specs.Onces.{OnceMakes, OnceLeaves, IsReleased, Answer
 
 use super::{Once, OncePass};
 use crate::{leaving, making};
-use ruled_object::laws::journal_is_log;
+use sync_model::laws::journals::journal_is_log;
 use std::sync::Wait;
 use sync_model::{Answer, Note};
 use wait_cores::laws::once::{knows_where_it_stands, runs_once};
