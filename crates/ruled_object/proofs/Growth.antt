@@ -1,7 +1,7 @@
 -- Entries of one caller that stand one after the other.
 use Rattle.std.proofs.Common.{◌≡◌, ℕ, suc, ◌+◌, Bool, Option, None, List, [], ◌∷◌, ◌++◌, length, slice_index, refl, sym, ap, ◌∙◌, subst, append_assoc, arith}
 use Rattle.std.specs.List.{AllByRecursion}
-use Rattle.std.proofs.lemmas.List.{append-nil, length-append, map-append}
+use Rattle.std.proofs.lemmas.List.{length-append, map-append}
 use Rattle.ruled_object.proofs.Journals.{by_here}
 use Rattle.sync_model.specs.declared.misuse.Misuse.{Misuse}
 use Rattle.sync_model.specs.declared.answer.Answer.{Answer}
@@ -45,6 +45,12 @@ module _ {E R W : Type 0} (out : W) (after : W → E → R → W) where
   stand-snoc w [] x = refl
   stand-snoc w (y ∷ ys) x = stand-snoc (stand_next out after w y.deed) ys x
 
+  -- one entry more behind others
+  pub stands_then : (w : W) (old new : List (Entry E R)) (es : List (Placed E R)) (last : Placed E R) → new ≡ old ++ entries_of (es ++ last ∷ []) → stand_from out after w new ≡ stand_next out after (stand_from out after w (old ++ entries_of es)) last.entry.deed
+  stands_then w old new es last mine =
+      let whole : new ≡ (old ++ entries_of es) ++ last.entry ∷ [] = mine ∙ (ap (λ (z : List (Entry E R)). old ++ z) (map-append (λ (p : Placed E R). p.entry) es (last ∷ [])) ∙ sym (append_assoc old (entries_of es) (last.entry ∷ []))) in
+      ap (stand_from out after w) whole ∙ stand-snoc w (old ++ entries_of es) last.entry
+
 module _ {A : Type 0} where
   snoc_front : (l m : List A) (x : A) → l ++ x ∷ [] ≡ m ++ x ∷ [] → l ≡ m
   snoc_front [] [] x e = refl
@@ -68,10 +74,6 @@ module _ {S E R : Type 0} (next : S → ℕ → E → S × R) (halts : Bool) (st
   meets caller p event (Halted misuse) right = right
 
 module _ {S N E R : Type 0} (next : S → ℕ → E → S × R) (halts : Bool) (start : S) where
-  -- nothing was done
-  pub grows_none : (pass : Pass S N E R) (front : List ℕ) → Grows next halts start pass front [] pass front
-  grows_none pass front = record { history = refl; mine = sym (append-nil (own_by pass)); right = tt; fronts = λ c. omega arith; number = refl }
-
   -- one entry
   pub grows_one : (frees takes : E → R → Bool) (old new : Pass S N E R) (e : Entry E R) (event : E) (answer : Answer R) (from to : List ℕ) → Adds next halts frees takes start old e new
       → number_of new ≡ number_of old → e.deed ≡ deed_of event answer → e.front ≡ to → AtLeast to from
