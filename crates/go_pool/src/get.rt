@@ -3,10 +3,10 @@ ghost use Rattle.std.specs.Prelude.{◌≡◌, ℕ, ◌<◌, ◌*◌, ◌∷◌,
 ghost use Rattle.pool_core.specs.Looks.{look};
 ghost use Rattle.pool_core.specs.PoolLaws.{NamesPart};
 ghost use Rattle.ruled_object.specs.Growth.{KeepsNote, MeetsHalt, deeds_of};
-ghost use Rattle.ruled_object.specs.Passes.{SamePass};
+ghost use Rattle.ruled_object.specs.Passes.{IsOneLess, SamePass};
 ghost use Rattle.go_pool.specs.Calls.{Gets, Looks};
 ghost use Rattle.go_pool.specs.Items.{ComesFromPuts, IsLook};
-ghost use Rattle.go_pool.specs.Pools.{Placed, parts_of, fresh_of, left_of, number_of, IsHomeOf, IsPassOf, IsLawful, IsOneLess, Grows};
+ghost use Rattle.go_pool.specs.Pools.{Placed, parts_of, fresh_of, left_of, number_of, IsHomeOf, IsPassOf, IsLawful, Grows};
 
 use crate::pool::{Pool, PoolPass};
 use crate::pool_get::PoolGet;
@@ -40,7 +40,7 @@ impl<N: Note> Pool<N> {
         growth::<PoolCore, N>();
         journal_is_log::<PoolCore>();
         gives_each_once();
-        self.spend(pass);
+        self.object.spend(pass);
         for number in 0..2 * self.callers {
             match self.look(rt, at.home, pass, note, number) {
                 Answer::Done(None) => {}
