@@ -6,22 +6,12 @@ use Rattle.sync_model.specs.declared.answer.Answer.TheVariants.{Done}
 use Rattle.sync_model.specs.declared.journal.Deed.{Deed}
 use Rattle.sync_model.specs.declared.journal.Deed.TheVariants.{Event}
 use Rattle.ruled_object.specs.declared.pass.Pass.{Pass}
-use Rattle.ruled_object.specs.Growth.{Placed, deeds_of, Grows, IsRight, MeetsHalt, Makes}
+use Rattle.ruled_object.specs.Growth.{Placed, deeds_of, AddUp, Grows, IsRight, Makes}
 use Rattle.go_waits.specs.Leaving.{Leaves}
 
 pub replicate-snoc : {A : Type 0} (n : ℕ) (x : A) → replicate n x ++ x ∷ [] ≡ replicate (suc n) x
 replicate-snoc zero x = refl
 replicate-snoc (suc n) x = ap (λ xs. x ∷ xs) (replicate-snoc n x)
-
--- what two calls add, they add together
-abbrev pub Both : {S E R : Type 0} → Type 0 → (S → ℕ → E → S × R) → Bool → S → Type 0
-Both {S} {E} {R} N next halts start =
-    (old mid new : Pass S N E R) (es fs : List (Placed E R)) (from between to : List ℕ) → Grows next halts start old from es mid between → Grows next halts start mid between fs new to
-    → Grows next halts start old from (es ++ fs) new to
-
--- the last of several entries says whether a halt was met
-abbrev pub Last : Type 0 → Type 0 → Type 0
-Last E R = (es : List (Placed E R)) (last : Placed E R) (answer : Answer R) → MeetsHalt (last ∷ []) answer → MeetsHalt (es ++ last ∷ []) answer
 
 -- so far a caller that waits has tried to leave, and was answered each time that it isn't released
 pub record Tried {S N E R : Type 0} (next : S → ℕ → E → S × R) (halts : Bool) (start : S) (old : Pass S N E R) (from : List ℕ) (event : E) (still : R) (new : Pass S N E R) (to : List ℕ) : Type 0 where
@@ -35,7 +25,7 @@ module _ {S N E R : Type 0} (next : S → ℕ → E → S × R) (halts : Bool) (
   pub tried_none : (old : Pass S N E R) (from : List ℕ) (event : E) (still : R) → Grows next halts start old from [] old from → Tried next halts start old from event still old from
   tried_none old from event still grows = record { tries = []; grows = grows; count = 0; in_vain = refl }
 
-  module _ (both : Both N next halts start) (old mid new : Pass S N E R) (from between to : List ℕ) (event : E) (still : R) (before : Tried next halts start old from event still mid between) where
+  module _ (both : AddUp N next halts start) (old mid new : Pass S N E R) (from between to : List ℕ) (event : E) (still : R) (before : Tried next halts start old from event still mid between) where
     -- one more try
     pub tries_on : Makes next halts start mid between event (Done still) new to → Tried next halts start old from event still new to
     tries_on made = record {

@@ -14,12 +14,11 @@ use Rattle.wait_cores.specs.declared.group.GroupReply.TheVariants as reply
 use Rattle.wait_cores.specs.GroupMachine.{GroupState, next, callers_of}
 use Rattle.wait_cores.specs.GroupStanding.{answers, waits_at, waits_after}
 use Rattle.ruled_object.specs.Cells.{deed_of}
-use Rattle.ruled_object.specs.Growth.{Placed, Grows, deeds_of, MeetsHalt, Makes}
+use Rattle.ruled_object.specs.Growth.{Placed, AddUp, Grows, LastTells, deeds_of, MeetsHalt, Makes}
 use Rattle.go_waits.specs.GroupCalls.{GroupDeeds, Waits, LeavesBy}
 use Rattle.go_waits.specs.Groups.{GroupJournal, GroupPass, Answers, IsReleased, IsLeft, waits_by}
 use Rattle.go_waits.specs.Leaving.{Leaves}
 use Rattle.ruled_object.specs.Standing.{stand_next, stand_from}
-use Rattle.go_waits.proofs.Adding.{Both, Last}
 use Rattle.go_waits.proofs.StandingLemmas.{stands_by, size_stays}
 
 -- what the machine's laws say
@@ -60,7 +59,7 @@ released_by waits (Done reply.Queued) other law = let no = law reply.Queued refl
 released_by waits (Done reply.Still) other law = other refl
 released_by waits (Halted misuse) other law = tt
 
-module _ {N : Type 0} (start : GroupState) (both : Both N next true start) (last : Last GroupEvent GroupReply) (old mid new : GroupPass N) (from between to : List ℕ) (made : Makes next true start old from Wait (Done reply.Queued) mid between) where
+module _ {N : Type 0} (start : GroupState) (both : AddUp N next true start) (last : LastTells GroupEvent GroupReply) (old mid new : GroupPass N) (from between to : List ℕ) (made : Makes next true start old from Wait (Done reply.Queued) mid between) where
   -- a wait that queued, and then left
   pub waits_on : (answer : Answer GroupReply) (result : Answer (Result Unit Misuse)) → Leaves next true start mid between Leave reply.Still answer new to → IsLeft answer result
       → (es : List (Placed GroupEvent GroupReply)) × Grows next true start old from es new to × Waits (deeds_of es) result × MeetsHalt es result

@@ -13,14 +13,13 @@ use Rattle.wait_cores.specs.declared.once.OnceReply.TheVariants as reply
 use Rattle.wait_cores.specs.OnceMachine.{OnceState, next, callers_of}
 use Rattle.wait_cores.specs.OnceStanding.{answers, waits_at, runs_at, waits_after, runs_after}
 use Rattle.ruled_object.specs.Cells.{deed_of}
-use Rattle.ruled_object.specs.Growth.{Placed, Grows, entries_of, deeds_of, MeetsHalt, Makes}
+use Rattle.ruled_object.specs.Growth.{Placed, AddUp, Grows, LastTells, entries_of, deeds_of, MeetsHalt, Makes}
 use Rattle.go_waits.specs.declared.once_begun.OnceBegun.{OnceBegun}
 use Rattle.go_waits.specs.declared.once_begun.OnceBegun.TheVariants.{Run, Already}
 use Rattle.go_waits.specs.OnceCalls.{OnceDeeds, Begins, LeavesBy}
 use Rattle.go_waits.specs.Onces.{OnceJournal, OncePass, Answers, IsReleased, IsLeft, waits_by, runs_by}
 use Rattle.go_waits.specs.Leaving.{Leaves}
 use Rattle.ruled_object.specs.Standing.{stand_next, stand_from}
-use Rattle.go_waits.proofs.Adding.{Both, Last}
 use Rattle.go_waits.proofs.StandingLemmas.{stands_by, size_stays}
 
 -- what the machine's laws say
@@ -96,7 +95,7 @@ module _ {T : Type 0} where
   released_by waits runs (Done reply.Still) other law = other refl
   released_by waits runs (Halted misuse) other law = tt
 
-module _ {T N : Type 0} (start : OnceState T) (both : Both N next true start) (last : Last (OnceEvent T) (OnceReply T)) (old mid new : OncePass T N) (from between to : List ℕ) (made : Makes next true start old from Begin (Done reply.Queued) mid between) (answer : Answer (OnceReply T))
+module _ {T N : Type 0} (start : OnceState T) (both : AddUp N next true start) (last : LastTells (OnceEvent T) (OnceReply T)) (old mid new : OncePass T N) (from between to : List ℕ) (made : Makes next true start old from Begin (Done reply.Queued) mid between) (answer : Answer (OnceReply T))
     (left : Leaves next true start mid between Leave reply.Still answer new to) where
   whole : (last : Deed (OnceEvent T) (OnceReply T)) → left.last.entry.deed ≡ last → LeavesBy last (deeds_of (made.one ∷ (left.tries ++ left.last ∷ [])))
   whole last ends = (

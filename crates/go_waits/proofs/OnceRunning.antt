@@ -8,12 +8,11 @@ use Rattle.wait_cores.specs.declared.once.OnceEvent.{OnceEvent}
 use Rattle.wait_cores.specs.declared.once.OnceEvent.TheVariants.{Begin}
 use Rattle.wait_cores.specs.declared.once.OnceReply.{OnceReply}
 use Rattle.wait_cores.specs.declared.once.OnceReply.TheVariants as reply
-use Rattle.ruled_object.specs.Growth.{Placed, deeds_of, MeetsHalt}
+use Rattle.ruled_object.specs.Growth.{Placed, LastTells, deeds_of, MeetsHalt}
 use Rattle.go_waits.specs.OnceCalls.{OnceDeeds}
-use Rattle.go_waits.proofs.Adding.{Last}
 
 -- the last of all entries decides whether a call met a halt
-pub meets-append : {E R : Type 0} → Last E R → (es fs : List (Placed E R)) (d : Deed E R) (answer : Answer R) → deeds_of fs ≡ d ∷ [] → MeetsHalt fs answer → MeetsHalt (es ++ fs) answer
+pub meets-append : {E R : Type 0} → LastTells E R → (es fs : List (Placed E R)) (d : Deed E R) (answer : Answer R) → deeds_of fs ≡ d ∷ [] → MeetsHalt fs answer → MeetsHalt (es ++ fs) answer
 meets-append last es [] d answer is meets = cc
 meets-append last es (p ∷ []) d answer is meets = last es p answer meets
 meets-append last es (p ∷ (q ∷ fs)) d answer is meets = cc

@@ -1,7 +1,7 @@
 -- Entries of one caller that stand one after the other.
-use Rattle.std.proofs.Common.{◌≡◌, ℕ, suc, ◌+◌, Bool, Option, None, List, [], ◌∷◌, ◌++◌, length, slice_index, refl, sym, ap, ◌∙◌, subst, append_assoc, arith}
+use Rattle.std.proofs.Common.{◌≡◌, ℕ, Bool, Option, None, List, [], ◌∷◌, ◌++◌, slice_index, refl, sym, ap, ◌∙◌, subst, append_assoc, arith}
 use Rattle.std.specs.List.{AllByRecursion}
-use Rattle.std.proofs.lemmas.List.{length-append, map-append}
+use Rattle.std.proofs.lemmas.List.{append_cancel_right, map-append}
 use Rattle.ruled_object.proofs.Journals.{by_here}
 use Rattle.sync_model.specs.declared.misuse.Misuse.{Misuse}
 use Rattle.sync_model.specs.declared.answer.Answer.{Answer}
@@ -50,13 +50,6 @@ module _ {E R W : Type 0} (out : W) (after : W → E → R → W) where
   stands_then w old new es last mine =
       let whole : new ≡ (old ++ entries_of es) ++ last.entry ∷ [] = mine ∙ (ap (λ (z : List (Entry E R)). old ++ z) (map-append (λ (p : Placed E R). p.entry) es (last ∷ [])) ∙ sym (append_assoc old (entries_of es) (last.entry ∷ []))) in
       ap (stand_from out after w) whole ∙ stand-snoc w (old ++ entries_of es) last.entry
-
-module _ {A : Type 0} where
-  snoc_front : (l m : List A) (x : A) → l ++ x ∷ [] ≡ m ++ x ∷ [] → l ≡ m
-  snoc_front [] [] x e = refl
-  snoc_front [] (y ∷ ys) x e = let n : 1 ≡ suc (length (ys ++ x ∷ [])) = ap length e in let k : length (ys ++ x ∷ []) ≡ length ys + 1 = length-append ys (x ∷ []) in absurd (omega arith)
-  snoc_front (y ∷ ys) [] x e = let n : suc (length (ys ++ x ∷ [])) ≡ 1 = ap length e in let k : length (ys ++ x ∷ []) ≡ length ys + 1 = length-append ys (x ∷ []) in absurd (omega arith)
-  snoc_front (y ∷ ys) (z ∷ zs) x e = let tails : ys ++ x ∷ [] ≡ zs ++ x ∷ [] = cc e in let heads : y ≡ z = cc e in rw (heads, snoc_front ys zs x tails) refl
 
 module _ {S E R : Type 0} (next : S → ℕ → E → S × R) where
   follows_front : (halts : Bool) (s : S) (h : Option Misuse) (l m : List (Entry E R)) → Follows next halts s h (l ++ m) → Follows next halts s h l
@@ -111,7 +104,7 @@ module _ {S N E R : Type 0} (next : S → ℕ → E → S × R) (halts : Bool) (
   before_one frees takes old new e front adds ends =
       let whole : by (number_of old) front ++ e ∷ [] ≡ own_by old ++ e ∷ [] =
       sym (by_here (number_of old) front e adds.caller) ∙ (ap (λ (z : List (Entry E R)). by (number_of old) z) (sym ends) ∙ (sym adds.all ∙ adds.mine)) in
-      (follows_front next halts start None front (e ∷ []) (subst (Follows next halts start None) ends adds.follows), snoc_front (by (number_of old) front) (own_by old) e whole)
+      (follows_front next halts start None front (e ∷ []) (subst (Follows next halts start None) ends adds.follows), append_cancel_right (by (number_of old) front) (own_by old) (e ∷ []) whole)
 
   -- what a call shows of the one entry that it adds
   pub makes_one : (frees takes : E → R → Bool) (old new : Pass S N E R) (e : Entry E R) (event : E) (answer : Answer R) (from to : List ℕ) → Adds next halts frees takes start old e new

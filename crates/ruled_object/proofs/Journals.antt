@@ -1,6 +1,7 @@
 -- A journal that grows by one entry.
-use Rattle.std.proofs.Common.{◌≡◌, ◌≢◌, ℕ, zero, suc, ◌<◌, Bool, true, false, cond, eqb, eq-eqb, ne_eqb, ◌⊎◌, inl, inr, ⊎_elim, List, [], ◌∷◌, ◌++◌, length, slice_get, Option, Some, None, refl, sym, ap, ◌∙◌, subst, append_assoc, arith}
+use Rattle.std.proofs.Common.{◌≡◌, ◌≢◌, ℕ, zero, suc, Bool, true, false, cond, eqb, eq-eqb, ne_eqb, ◌⊎◌, inl, inr, ⊎_elim, List, [], ◌∷◌, ◌++◌, length, slice_get, Option, Some, None, refl, sym, ap, ◌∙◌, subst, append_assoc, arith}
 use Rattle.std.proofs.lemmas.List.{append-nil}
+use Rattle.std.proofs.lemmas.Option.{slice_get_within}
 use Rattle.sync_model.specs.declared.misuse.Misuse.{Misuse}
 use Rattle.sync_model.specs.declared.journal.Deed.{Deed}
 use Rattle.sync_model.specs.declared.journal.Deed.TheVariants.{Event, Refused, Halt}
@@ -24,11 +25,6 @@ module _ {A : Type 0} where
   at_end [] a b (suc j) e = (cc)
   at_end (x ∷ xs) a b zero e = inl e
   at_end (x ∷ xs) a b (suc j) e = ⊎_elim (λ t. inl t) (λ t. inr (ap suc t.0, t.1)) (at_end xs a b j e)
-
-  pub past_end : (l : List A) (a : A) (j : ℕ) → slice_get l j ≡ Some a → j < length l
-  past_end [] a j e = (cc)
-  past_end (x ∷ xs) a zero e = omega arith
-  past_end (x ∷ xs) a (suc j) e = let h = past_end xs a j e in omega arith
 
 module _ {E R : Type 0} where
   pub by-append : (c : ℕ) (l m : List (Entry E R)) → by c (l ++ m) ≡ by c l ++ by c m
@@ -61,7 +57,7 @@ module _ {E R : Type 0} where
       (λ at_x. ⊎_elim (λ at_z. edges i j x z before at_x at_z free take)
       (λ t. subst (λ (u : Entry E R). AtLeast u.front x.front) t.1 (covers (subst (λ (u : Entry E R). is_such takes u.deed ≡ true) (sym t.1) take) i x at_x free))
       (at_end l y z j at_j))
-      (λ t. ⊎_elim (λ at_z. let k = past_end l z j at_z in let s = t.0 in absurd (omega arith)) (λ u. let s = t.0 in let k = u.0 in absurd (omega arith)) (at_end l y z j at_j))
+      (λ t. ⊎_elim (λ at_z. let k = slice_get_within l j z at_z in let s = t.0 in absurd (omega arith)) (λ u. let s = t.0 in let k = u.0 in absurd (omega arith)) (at_end l y z j at_j))
       (at_end l y x i at_i)
 
 module _ {S E R : Type 0} (next : S → ℕ → E → S × R) where

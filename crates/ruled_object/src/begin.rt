@@ -1,12 +1,15 @@
 //! How a call of the layers above begins.
-ghost use Rattle.std.specs.Prelude.{◌≡◌, ℕ, ◌<◌, List, []};
+ghost use Rattle.std.specs.Prelude.{◌≡◌, ℕ, ◌<◌, false, List, []};
+ghost use Rattle.sync_model.specs.declared.answer.Answer.TheVariants.{Halted};
+ghost use Rattle.sync_model.specs.Journal.{is_such};
+ghost use Rattle.ruled_object.specs.Cells.{deed_of};
 ghost use Rattle.ruled_object.specs.Growth.{Grows, IsLawful, KeepsNote, Makes};
 ghost use Rattle.ruled_object.specs.Passes.{left_of, own_by, start_of, IsHomeOf, IsOneLess, IsPassOf, IsSpent};
 
 use crate::object::Object;
 use crate::pass::PassOf;
 use std::sync::Wait;
-use sync_model::{Answer, Machine, Note};
+use sync_model::{Answer, Machine, Misuse, Note};
 
 impl<M: Machine, N: Note> Object<M, N> {
     /// Takes one off the calls that are left. It makes no step, and adds nothing to the history.
@@ -36,6 +39,8 @@ impl<M: Machine, N: Note> Object<M, N> {
         ensures note { KeepsNote N.at N.own N.front note.old note.new }
         ensures makes { Makes M.next M.HALTS (start_of self.now) pass.old (N.front note.old) event result pass.new (N.front note.new) }
         ensures journal { IsLawful M.next M.HALTS M.frees M.takes (start_of self.now) pass.new }
+        ensures no_edge { is_such M.takes (deed_of event result) ≡ false → N.front note.new ≡ N.front note.old }
+        ensures halts { M.HALTS ≡ false → (m : Misuse) → result ≡ Halted m → ⊥ }
     {
         self.spend(pass);
         self.call(rt, home, pass, note, event)

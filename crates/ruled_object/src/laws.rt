@@ -1,24 +1,20 @@
 //! How the entries of several calls add up.
 ghost use Rattle.std.specs.Prelude.{◌≡◌, ℕ, List, [], ◌∷◌, ◌++◌};
-ghost use Rattle.sync_model.specs.declared.answer.Answer.{Answer};
 ghost use Rattle.sync_model.specs.declared.journal.Entry.{Entry};
 ghost use Rattle.ruled_object.specs.declared.pass.Pass.{Pass};
-ghost use Rattle.ruled_object.specs.Growth.{Placed, Grows, KeepsNote, MeetsHalt, entries_of};
+ghost use Rattle.ruled_object.specs.Growth.{Placed, Grows, KeepsNote, AddUp, LastTells, entries_of};
 ghost use Rattle.ruled_object.specs.Standing.{stand_next, stand_from};
 
 use crate::new::MAX_CALLS;
 use sync_model::{MAX_CALLERS, Machine, Note};
 
 /// What several calls of one caller add to the history. No call adds nothing; what two calls add, one after the other,
-/// they add together; and of several entries the last one says whether a halt was met.
+/// they add together; and of several entries the last one tells whether a halt was met.
 pub fn growth<M: Machine, N: Note>()
     ensures nothing { (start : M.State) (pass : Pass M.State N M.Event M.Reply) (front : List ℕ)
         → Grows M.next M.HALTS start pass front [] pass front }
-    ensures both { (start : M.State) (old mid new : Pass M.State N M.Event M.Reply) (es fs : List (Placed M.Event M.Reply)) (from between to : List ℕ)
-        → Grows M.next M.HALTS start old from es mid between → Grows M.next M.HALTS start mid between fs new to
-        → Grows M.next M.HALTS start old from (es ++ fs) new to }
-    ensures halted { (es : List (Placed M.Event M.Reply)) (last : Placed M.Event M.Reply) (answer : Answer M.Reply)
-        → MeetsHalt (last ∷ []) answer → MeetsHalt (es ++ last ∷ []) answer }
+    ensures both { (start : M.State) → AddUp N M.next M.HALTS start }
+    ensures halted { LastTells M.Event M.Reply }
 {}
 
 /// What two calls keep of their caller's note, one after the other, they keep together.

@@ -46,6 +46,6 @@ loop-preserved g c =
       ends = tt;
       is = c.call.ensures.pass.0;
       same = (same.0 ∙ before.0, same.1 ∙ before.1);
-      note = c.notes_are_kept.ensures c.args.note.now c.loop.note c.call.new.note c.loop.invariant.note record { home = c.call.ensures.note.0; kept = c.call.ensures.note.1; rises = c.call.ensures.note.2 };
+      note = c.notes_are_kept.ensures c.args.note.now c.loop.note c.call.new.note c.loop.invariant.note c.call.ensures.note;
       tried = tries_on m.next m.HALTS start (c.growth.ensures.both start) c.args.pass.now c.loop.pass c.call.new.pass (front c.args.note.now) (front c.loop.note) (front c.call.new.note) g.M.Waited.leaving g.M.Waited.still c.loop.invariant.tried still;
     }

@@ -1,6 +1,6 @@
 use Rattle.std.proofs.Common.{ℕ, [], ◌∷◌, ap, sym, ◌∙◌}
 use Rattle.sync_model.specs.Journal.{by}
-use Rattle.ruled_object.specs.Passes.{number_of, own_by, start_of}
+use Rattle.ruled_object.specs.Passes.{start_of}
 use Rattle.ruled_object.proofs.Growth.{grows_both}
 use Rattle.ruled_object.proofs.object.Object.begin.Goals as goal
 
