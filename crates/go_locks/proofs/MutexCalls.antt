@@ -14,7 +14,7 @@ use Rattle.mutex_core.specs.Edges.{acquires}
 use Rattle.mutex_core.specs.MutexMachine.{State}
 use Rattle.mutex_core.specs.Standing.{is_answer, waits_after}
 use Rattle.ruled_object.specs.declared.pass.Pass.{Pass}
-use Rattle.ruled_object.specs.Passes.{number_of, left_of, own_by, IsPassOf, SamePass}
+use Rattle.ruled_object.specs.Passes.{own_by, IsOneLess, IsPassOf, SamePass}
 use Rattle.go_locks.specs.declared.mutex.Mutex.{Mutex}
 use Rattle.go_locks.specs.Calls.{waits_by}
 use Rattle.go_locks.specs.MutexCalls.{MutexDeed, Waits, requeued, still, Locks, at_once, refused, acquired, halted}
@@ -40,9 +40,9 @@ unlocked_is (Resumed _) is = no is
 unlocked_is Still is = no is
 
 -- the pass after a call
-pub pass_after : {N H : Type 0} (mutex : Mutex N H) (old mid new : Pass State N MutexEvent MutexReply) → number_of mid ≡ number_of old → left_of mid + 1 ≡ left_of old → IsPassOf mutex.object new → SamePass mid new → waits_by waits_after false (own_by new) ≡ false
-    → IsPassOfMutex mutex new × (number_of new ≡ number_of old) × (left_of new + 1 ≡ left_of old)
-pass_after mutex old mid new number left is same free = (record { of = is; free = free }, same.0 ∙ number, ap (λ (n : ℕ). n + 1) same.1 ∙ left)
+pub pass_after : {N H : Type 0} (mutex : Mutex N H) (old mid new : Pass State N MutexEvent MutexReply) → IsOneLess old mid → IsPassOf mutex.object new → SamePass mid new → waits_by waits_after false (own_by new) ≡ false
+    → IsPassOfMutex mutex new × IsOneLess old new
+pass_after mutex old mid new less is same free = (record { of = is; free = free }, (same.0 ∙ less.0, ap (λ (n : ℕ). n + 1) same.1 ∙ less.1))
 
 -- what answers an arrival
 pub arrived_has : (now : ℕ) (r : MutexReply) → is_answer (Arrive now) r ≡ true → acquires r ≡ true → r ≡ Arrived AtOnce

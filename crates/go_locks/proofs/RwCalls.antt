@@ -16,7 +16,7 @@ use Rattle.rw_core.specs.Edges.{acquires}
 use Rattle.rw_core.specs.RwMachine.{State}
 use Rattle.rw_core.specs.Standing.{is_answer, waits_after}
 use Rattle.ruled_object.specs.declared.pass.Pass.{Pass}
-use Rattle.ruled_object.specs.Passes.{number_of, left_of, own_by, IsPassOf, SamePass}
+use Rattle.ruled_object.specs.Passes.{own_by, IsOneLess, IsPassOf, SamePass}
 use Rattle.go_locks.specs.declared.rw_mutex.RwMutex.{RwMutex}
 use Rattle.go_locks.specs.Calls.{waits_by}
 use Rattle.go_locks.specs.RwCalls.{RwDeed, WriteWaits, requeued, announced, unwoken, ungranted, WriteLocks, at_once, refused, acquired, granted, halted_woken, halted_leaving, ReadWaits, unadmitted, ReadLocks, admitted, halted, IsTimed, GoesOn}
@@ -211,6 +211,6 @@ readlocks_free (admitted deeds waits) = waits_snoc waits_after false deeds (Even
 readlocks_free (halted deeds m waits) = waits_snoc waits_after false deeds (Refused Leave m)
 
 -- the pass after a call
-pub pass_after : {N H : Type 0} (lock : RwMutex N H) (old mid new : Pass State N RwEvent RwReply) → number_of mid ≡ number_of old → left_of mid + 1 ≡ left_of old → IsPassOf lock.object new → SamePass mid new → waits_by waits_after false (own_by new) ≡ false
-    → IsPassOfRwMutex lock new × (number_of new ≡ number_of old) × (left_of new + 1 ≡ left_of old)
-pass_after lock old mid new number left is same free = (record { of = is; free = free }, same.0 ∙ number, ap (λ (n : ℕ). n + 1) same.1 ∙ left)
+pub pass_after : {N H : Type 0} (lock : RwMutex N H) (old mid new : Pass State N RwEvent RwReply) → IsOneLess old mid → IsPassOf lock.object new → SamePass mid new → waits_by waits_after false (own_by new) ≡ false
+    → IsPassOfRwMutex lock new × IsOneLess old new
+pass_after lock old mid new less is same free = (record { of = is; free = free }, (same.0 ∙ less.0, ap (λ (n : ℕ). n + 1) same.1 ∙ less.1))

@@ -2,6 +2,7 @@
 use Rattle.std.proofs.Common.{◌≡◌, ◌≢◌, ℕ, Bool, true, false, cond, List, [], ◌∷◌, ◌++◌, Option, Some, None, append-nil, refl, sym, ap, subst, ◌∙◌, arith}
 use Rattle.std.specs.Prelude.{◌==◌, if◌then◌else◌}
 use Rattle.std.specs.List.{AllByRecursion}
+use Rattle.std.proofs.lemmas.List.{map-append}
 use Rattle.sync_model.specs.declared.misuse.Misuse.{Misuse}
 use Rattle.sync_model.specs.declared.answer.Answer.{Answer}
 use Rattle.sync_model.specs.declared.answer.Answer.TheVariants.{Done, Halted}
@@ -17,19 +18,8 @@ use Rattle.ruled_object.specs.Passes.{own_by, seen_by}
 use Rattle.go_locks.specs.Calls.{Did, waits_next, waits_by}
 
 module _ {E R : Type 0} where
-  halt_before-snoc : (es : List (Placed E R)) (p : Placed E R) → halt_before (es ++ p ∷ []) ≡ halt_of p.before
-  halt_before-snoc [] p = refl
-  halt_before-snoc (e ∷ []) p = refl
-  halt_before-snoc (e ∷ (f ∷ es)) p = halt_before-snoc (f ∷ es) p
-
-  -- the last entry decides
-  pub meets-snoc : {A : Type 0} (es : List (Placed E R)) (p : Placed E R) (answer : Answer A) → MeetsHalt (p ∷ []) answer → MeetsHalt (es ++ p ∷ []) answer
-  meets-snoc es p (Done a) meets = halt_before-snoc es p ∙ meets
-  meets-snoc es p (Halted m) meets = halt_before-snoc es p ∙ meets
-
   pub deeds-snoc : (es : List (Placed E R)) (p : Placed E R) (d : Deed E R) → p.entry.deed ≡ d → deeds_of (es ++ p ∷ []) ≡ deeds_of es ++ d ∷ []
-  deeds-snoc [] p d is = ap (λ (z : Deed E R). z ∷ []) is
-  deeds-snoc (e ∷ es) p d is = ap (λ (z : List (Deed E R)). e.entry.deed ∷ z) (deeds-snoc es p d is)
+  deeds-snoc es p d is = map-append (λ (q : Placed E R). q.entry.deed) es (p ∷ []) ∙ ap (λ (z : Deed E R). deeds_of es ++ z ∷ []) is
 
   -- whether a caller waits after these deeds
   abbrev pub waits_deeds : (Bool → R → Bool) → Bool → List (Deed E R) → Bool
@@ -54,13 +44,6 @@ pub fails_by : (acquired : Bool) → Done acquired ≢ Done true → acquired �
 fails_by true fails = absurd (fails refl)
 fails_by false fails = refl
 
-pub keeps_both : {H N : Type 0} (at : H → N → Type 0) (own : N → Option Holding) (front : N → List ℕ) (a b c : N) → KeepsNote at own front a b → KeepsNote at own front b c → KeepsNote at own front a c
-keeps_both at own front a b c x y = record {
-  home = λ home is. y.home home (x.home home is);
-  kept = y.kept ∙ x.kept;
-  rises = λ k. let i = x.rises k in let j = y.rises k in omega arith;
-}
-
 -- a caller's own entries say whether it waits, as the log of what the machine took does, where no halt stands
 module _ {S E R : Type 0} (next : S → ℕ → E → S × R) (after : Bool → R → Bool) (is_waiting : Bool → ℕ → List (log.Entry E R) → Bool) (none : (w : Bool) (c : ℕ) → is_waiting w c [] ≡ w)
     (more : (w : Bool) (c : ℕ) (e : log.Entry E R) (es : List (log.Entry E R)) → is_waiting w c (e ∷ es) ≡ is_waiting (if e.caller == c then after w e.reply else w) c es) where
@@ -82,27 +65,6 @@ module _ {S E R : Type 0} (next : S → ℕ → E → S × R) (after : Bool → 
       (λ opens v. waits_log (state_next next s x.caller x.deed) c v xs (subst (λ (h : Option Misuse). Follows next true (state_next next s x.caller x.deed) h rest) opens follows.1) (subst (λ (h : Option Misuse). halt_after h rest ≡ None) opens unhalted))
 
 module _ {S N E R : Type 0} (next : S → ℕ → E → S × R) (start : S) where
-  -- nothing was done
-  pub grows_none : (old : Pass S N E R) (from : List ℕ) → Grows next true start old from [] old from
-  grows_none old from = record { history = refl; mine = sym (append-nil (own_by old)); right = tt; fronts = λ c. omega arith; number = refl }
-
-  -- what is added after spending from the pass is added to what its caller had before
-  pub did_spent : {A : Type 0} (spells : List (Deed E R) → Answer A → Type 0) (clocked : List (Deed E R) → Type 0) (old mid new : Pass S N E R) (from to : List ℕ) (answer : Answer A) → Grows next true start old from [] mid from
-      → Did next start spells clocked mid from answer new to → Did next start spells clocked old from answer new to
-  did_spent spells clocked old mid new from to answer spent did = record {
-    entries = did.entries;
-    grows = record {
-      history = subst (λ (seen : List (Entry E R)). Leads seen did.entries (seen_by new)) spent.history did.grows.history;
-      mine = did.grows.mine ∙ ap (λ (own : List (Entry E R)). own ++ entries_of did.entries) (spent.mine ∙ append-nil (own_by old));
-      right = subst (λ (c : ℕ). AllByRecursion (IsRight next true start c) did.entries) spent.number did.grows.right;
-      fronts = did.grows.fronts;
-      number = did.grows.number ∙ spent.number;
-    };
-    spelt = did.spelt;
-    halted = did.halted;
-    moments = did.moments;
-  }
-
   -- a call of one event
   pub did_one : {A : Type 0} (spells : List (Deed E R) → Answer A → Type 0) (clocked : List (Deed E R) → Type 0) (old new : Pass S N E R) (from to : List ℕ) (answer : Answer A) (p : Placed E R) (d : Deed E R) → p.entry.deed ≡ d
       → Grows next true start old from (p ∷ []) new to → spells (d ∷ []) answer → MeetsHalt (p ∷ []) answer → clocked (d ∷ []) → Did next start spells clocked old from answer new to

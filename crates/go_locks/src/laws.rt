@@ -17,8 +17,8 @@ ghost use Rattle.go_locks.specs.Mutexes.{MutexJournal};
 ghost use Rattle.go_locks.specs.RwMutexes.{RwJournal};
 
 use mutex_core::MutexCore;
-use ruled_object::laws::journal_is_log;
 use rw_core::RwCore;
+use sync_model::laws::journals::journal_is_log;
 
 /// Mutual exclusion: between two entries by which callers acquire the mutex it is unlocked.
 pub fn mutual_exclusion()

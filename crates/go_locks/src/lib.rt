@@ -2,7 +2,6 @@
 #![tactic(auto)]
 
 pub mod laws;
-mod making;
 pub mod mutex;
 pub mod rw_mutex;
 

@@ -1,6 +1,7 @@
 -- What a put found in its caller's part.
 use Rattle.std.proofs.Common.{◌≡◌, ℕ, ◌<◌, Bool, true, false, List, [], ◌∷◌, ◌++◌, Some, None, refl, sym, ap, ◌∙◌, subst}
 use Rattle.std.specs.Prelude.{if◌then◌else◌, slice_get}
+use Rattle.sync_model.specs.declared.answer.Answer.TheVariants.{Done}
 use Rattle.sync_model.specs.declared.journal.Deed.{Deed}
 use Rattle.sync_model.specs.declared.journal.Deed.TheVariants.{Event, Refused, Halt}
 use Rattle.sync_model.specs.declared.journal.Entry.{Entry}
@@ -15,8 +16,8 @@ use Rattle.pool_core.specs.PoolMachine.{PoolState, start, next}
 use Rattle.pool_core.specs.PoolParts.{PoolPart}
 use Rattle.go_pool.specs.declared.pool.Pool.{Pool}
 use Rattle.go_pool.specs.Items.{Found}
-use Rattle.go_pool.specs.Pools.{Journal, Placed, PoolPass, number_of, Grows, IsLawful}
-use Rattle.go_pool.proofs.EventLemmas.{follows_front}
+use Rattle.go_pool.specs.Pools.{PoolPass, number_of, IsLawful, Makes}
+use Rattle.go_pool.proofs.EventLemmas.{Logged}
 
 logged-append : {E R : Type 0} (c : ℕ) (d : Deed E R) (xs ys : List (log.Entry E R)) → logged c d (xs ++ ys) ≡ logged c d xs ++ ys
 logged-append c (Event e r) xs ys = refl
@@ -35,25 +36,22 @@ pub dropped_where : (full : Bool) (item other : ℕ) → Dropped other ≡ (if f
 dropped_where true item other is = (refl, cc)
 dropped_where false item other is = (cc, cc)
 
--- what holds of every journal, and of every log of a pool
-abbrev pub Logged : Type 0
-Logged = (first : PoolState ℕ) (journal : Journal) → Follows next true first None journal → log.Follows next first (log_of journal) × (log.after next first (log_of journal) ≡ state_after next first journal)
-
+-- which puts a pool drops
 abbrev pub Drops : Type 0
 Drops =
     (callers room : ℕ) (before rest : laws.Log ℕ) (caller item : ℕ) (reply : PoolReply ℕ) → caller < callers → IsLog callers room (before ++ put_by caller item reply ∷ rest)
     → (own : PoolPart ℕ) × (slice_get (laws.state_after callers room before).primary caller ≡ Some own) × (reply ≡ (if is_full room own then Dropped item else Kept))
 
-pub found : {N H : Type 0} (pool : Pool N H) (mid new : PoolPass N) (from to : List ℕ) (p : Placed) (item : ℕ) (reply : PoolReply ℕ) → number_of new < pool.callers → Grows pool mid from (p ∷ []) new to → IsLawful pool new
-    → p.entry.deed ≡ Event (Put item) reply → Logged → Drops → (own : PoolPart ℕ) × Found pool new own × (reply ≡ (if is_full pool.room own then Dropped item else Kept))
-found pool mid new from to p item reply below grows lawful deed logged_all drops =
+pub found : {N H : Type 0} (pool : Pool N H) (old new : PoolPass N) (from to : List ℕ) (item : ℕ) (reply : PoolReply ℕ) → number_of new < pool.callers → Makes pool old from (Put item) (Done reply) new to → IsLawful pool new → Logged → Drops → (own : PoolPart ℕ) × Found pool new own × (reply ≡ (if is_full pool.room own then Dropped item else Kept))
+found pool old new from to item reply below made lawful logged_all drops =
+    let p = made.one in
     let first : PoolState ℕ = start pool.callers pool.room in
-    let seen = grows.history.2 in
+    let seen = made.grows.history.2 in
     let follows = subst (Follows next true first None) seen lawful.follows in
-    let caller = grows.right.0.0 ∙ sym grows.number in
+    let caller = made.grows.right.0.0 ∙ sym made.grows.number in
     let whole = logged_all first (p.before ++ p.entry ∷ []) follows in
-    let front = logged_all first p.before (follows_front next true first None p.before (p.entry ∷ []) follows) in
-    let parts = log-snoc p.before p.entry (Put item) reply deed ∙ ap (λ (c : ℕ). log_of p.before ++ log.entry c (Put item) reply ∷ []) caller in
+    let front = logged_all first p.before made.follows in
+    let parts = log-snoc p.before p.entry (Put item) reply made.deed ∙ ap (λ (c : ℕ). log_of p.before ++ log.entry c (Put item) reply ∷ []) caller in
     let own = drops pool.callers pool.room (log_of p.before) [] (number_of new) item reply below (subst (log.Follows next first) parts whole.0) in (
       own.0,
       record { before = p.before; entry = p.entry; seen = seen; held = subst (λ (s : PoolState ℕ). slice_get s.primary (number_of new) ≡ Some own.0) front.1 own.1 },

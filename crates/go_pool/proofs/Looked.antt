@@ -1,40 +1,21 @@
 -- How the looks of a get add up.
 use Rattle.std.proofs.Common.{◌≡◌, ℕ, ◌+◌, ◌*◌, ◌<◌, true, List, [], ◌∷◌, ◌++◌, Option, Some, None, refl, sym, ap, ◌∙◌, subst, add-one}
+use Rattle.std.proofs.lemmas.List.{map-append}
 use Rattle.sync_model.specs.declared.answer.Answer.{Answer}
 use Rattle.sync_model.specs.declared.answer.Answer.TheVariants.{Done, Halted}
 use Rattle.sync_model.specs.declared.journal.Deed.{Deed}
 use Rattle.sync_model.specs.declared.misuse.Misuse.{Misuse}
-use Rattle.sync_model.specs.Journal.{halt_of}
 use Rattle.pool_core.specs.declared.pool_event.PoolEvent.{PoolEvent}
 use Rattle.pool_core.specs.declared.pool_event.PoolReply.{PoolReply}
+use Rattle.pool_core.specs.declared.pool_event.PoolReply.TheVariants.{Nothing}
 use Rattle.pool_core.specs.PoolMachine.{PoolState, start, next}
-use Rattle.ruled_object.specs.Growth.{deeds_of, halt_before, MeetsHalt}
-use Rattle.ruled_object.specs.Growth as growth
+use Rattle.ruled_object.specs.Growth.{AddUp, LastTells, deeds_of, halt_before, MeetsHalt}
 use Rattle.go_pool.specs.declared.pool.Pool.{Pool}
 use Rattle.go_pool.specs.declared.pool_get.PoolGet.{PoolGet}
 use Rattle.go_pool.specs.declared.pool_get.PoolGet.TheVariants.{Item}
 use Rattle.pool_core.specs.Looks.{look}
 use Rattle.go_pool.specs.Calls.{Deeds, Gets, Looks, nothing_in}
 use Rattle.go_pool.specs.Pools.{Placed, PoolPass, parts_of, number_of, Grows}
-
--- what two calls add, they add together
-abbrev pub Both : Type 0 → PoolState ℕ → Type 0
-Both N first =
-    (old mid new : PoolPass N) (es fs : List Placed) (from between to : List ℕ) → growth.Grows next true first old from es mid between → growth.Grows next true first mid between fs new to
-    → growth.Grows next true first old from (es ++ fs) new to
-
-pub deeds-snoc : (es : List Placed) (p : Placed) → deeds_of (es ++ p ∷ []) ≡ deeds_of es ++ p.entry.deed ∷ []
-deeds-snoc [] p = refl
-deeds-snoc (e ∷ es) p = ap (λ ds. e.entry.deed ∷ ds) (deeds-snoc es p)
-
-pub halt-snoc : (es : List Placed) (p : Placed) → halt_before (es ++ p ∷ []) ≡ halt_of p.before
-halt-snoc [] p = refl
-halt-snoc (e ∷ []) p = refl
-halt-snoc (e ∷ (f ∷ es)) p = halt-snoc (f ∷ es) p
-
-pub meets-snoc : {A : Type 0} (es : List Placed) (p : Placed) (answer : Answer A) → MeetsHalt (p ∷ []) answer → MeetsHalt (es ++ p ∷ []) answer
-meets-snoc es p (Done a) meets = halt-snoc es p ∙ meets
-meets-snoc es p (Halted m) meets = halt-snoc es p ∙ meets
 
 module _ {N H : Type 0} where
   -- so many looks found nothing
@@ -48,10 +29,10 @@ module _ {N H : Type 0} where
   abbrev pub Got : Pool N H → PoolPass N → List ℕ → PoolPass N → List ℕ → ℕ → Answer PoolGet → Type 0
   Got pool old from pass to fresh answer = (es : List Placed) × Grows pool old from es pass to × Gets (parts_of pool) (number_of old) fresh (deeds_of es) answer × MeetsHalt es answer
 
-  module _ (pool : Pool N H) (both : Both N (start pool.callers pool.room)) (old mid new : PoolPass N) (from between to : List ℕ) (number : ℕ) (before : Looked pool old from number mid between) (p : Placed)
+  module _ (pool : Pool N H) (both : AddUp N next true (start pool.callers pool.room)) (last : LastTells (PoolEvent ℕ) (PoolReply ℕ)) (old mid new : PoolPass N) (from between to : List ℕ) (number : ℕ) (before : Looked pool old from number mid between) (p : Placed)
       (then_on : Grows pool mid between (p ∷ []) new to) where
     deeds_are : (deed : Deed (PoolEvent ℕ) (PoolReply ℕ)) → p.entry.deed ≡ deed → deeds_of (before.es ++ p ∷ []) ≡ nothing_in (parts_of pool) (number_of old) number ++ deed ∷ []
-    deeds_are deed is = deeds-snoc before.es p ∙ ap (λ (z : Deeds × Deed (PoolEvent ℕ) (PoolReply ℕ)). z.0 ++ z.1 ∷ []) (λ i. (before.nothing i, is i))
+    deeds_are deed is = map-append (λ (q : Placed). q.entry.deed) before.es (p ∷ []) ∙ ap (λ (z : Deeds × Deed (PoolEvent ℕ) (PoolReply ℕ)). z.0 ++ z.1 ∷ []) (λ i. (before.nothing i, is i))
 
     -- one more look found nothing
     pub looks_on : Looks (look (parts_of pool) (number_of mid) number) p.entry.deed (Done None) → MeetsHalt {A = Option ℕ} (p ∷ []) (Done None) → Looked pool old from (number + 1) new to
@@ -60,7 +41,7 @@ module _ {N H : Type 0} where
       grows = both old mid new before.es (p ∷ []) from between to before.grows then_on;
       nothing = deeds_are _ (subst (λ (c : ℕ). Looks (look (parts_of pool) c number) p.entry.deed (Done None)) before.grows.number looks)
           ∙ ap (nothing_in (parts_of pool) (number_of old)) (sym (add-one number));
-      free = halt-snoc before.es p ∙ meets;
+      free = last before.es p (Done Nothing) meets;
     }
 
     -- the look took an item
@@ -70,7 +51,7 @@ module _ {N H : Type 0} where
       before.es ++ p ∷ [],
       both old mid new before.es (p ∷ []) from between to before.grows then_on,
       (number, below, deeds_are _ (subst (λ (c : ℕ). Looks (look (parts_of pool) c number) p.entry.deed (Done (Some item))) before.grows.number looks)),
-      halt-snoc before.es p ∙ meets,
+      last before.es p (Done Nothing) meets,
     )
 
     -- the look was refused
@@ -80,5 +61,5 @@ module _ {N H : Type 0} where
       before.es ++ p ∷ [],
       both old mid new before.es (p ∷ []) from between to before.grows then_on,
       (number, below, deeds_are _ (subst (λ (c : ℕ). Looks (look (parts_of pool) c number) p.entry.deed (Halted misuse)) before.grows.number looks)),
-      halt-snoc before.es p ∙ meets,
+      last before.es p (Halted misuse) meets,
     )

@@ -1,5 +1,6 @@
 -- What contracts see of a pool and of the passes to it. One object keeps all parts, so the journal of each part is that object's.
-use Rattle.std.specs.Prelude.{◌≡◌, ℕ, ◌+◌, true, List, Some, slice_get}
+use Rattle.std.specs.Prelude.{◌≡◌, ℕ, true, List, Some, slice_get}
+use Rattle.sync_model.specs.declared.answer.Answer.{Answer}
 use Rattle.sync_model.specs.declared.journal.Entry.{Entry}
 use Rattle.sync_model.specs.Journal as journals
 use Rattle.pool_core.specs.declared.pool_event.PoolEvent.{PoolEvent}
@@ -69,6 +70,10 @@ module _ {N H : Type 0} where
   abbrev pub Grows : Pool N H → PoolPass N → List ℕ → List Placed → PoolPass N → List ℕ → Type 0
   Grows pool old from es new to = growth.Grows next true (start (parts_of pool) (room_of pool)) old from es new to
 
+  -- the caller made this one event, which was answered this
+  abbrev pub Makes : Pool N H → PoolPass N → List ℕ → PoolEvent ℕ → Answer (PoolReply ℕ) → PoolPass N → List ℕ → Type 0
+  Makes pool old from event answer new to = growth.Makes next true (start (parts_of pool) (room_of pool)) old from event answer new to
+
   -- the caller made this one entry more
   abbrev pub Adds : Pool N H → PoolPass N → Made → PoolPass N → Type 0
   Adds pool old e new = object.Adds next true pool_releases pool_acquires (start (parts_of pool) (room_of pool)) old e new
@@ -97,7 +102,3 @@ module _ {N : Type 0} where
   -- how many calls the pass is still good for
   abbrev pub left_of : PoolPass N → ℕ
   left_of pass = object.left_of pass
-
-  -- the same caller's pass, good for one call less
-  abbrev pub IsOneLess : PoolPass N → PoolPass N → Type 0
-  IsOneLess old new = (number_of new ≡ number_of old) × (left_of new + 1 ≡ left_of old)

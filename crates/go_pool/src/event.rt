@@ -1,32 +1,19 @@
 //! One event of a caller.
-ghost use Rattle.std.specs.Prelude.{◌≡◌, ℕ, ◌<◌, List, ◌∷◌, []};
+ghost use Rattle.std.specs.Prelude.{◌<◌};
 ghost use Rattle.pool_core.specs.PoolLaws.{NamesPart};
-ghost use Rattle.ruled_object.specs.Cells.{deed_of};
-ghost use Rattle.ruled_object.specs.Growth.{KeepsNote, MeetsHalt};
-ghost use Rattle.ruled_object.specs.Passes.{SamePass};
-ghost use Rattle.go_pool.specs.Pools.{Placed, left_of, parts_of, IsHomeOf, IsPassOf, IsLawful, IsOneLess, Grows};
+ghost use Rattle.ruled_object.specs.Growth.{KeepsNote};
+ghost use Rattle.ruled_object.specs.Passes.{IsOneLess, SamePass};
+ghost use Rattle.go_pool.specs.Pools.{left_of, parts_of, IsHomeOf, IsPassOf, IsLawful, Makes};
 ghost use Rattle.go_pool.specs.Events.{Answers};
 
 use crate::pool::{Pool, PoolPass};
 use pool_core::laws::answers_its_callers;
 use pool_core::{PoolCore, PoolEvent, PoolReply};
-use ruled_object::laws::{growth, journal_is_log, spending};
 use std::sync::Wait;
+use sync_model::laws::journals::journal_is_log;
 use sync_model::{Answer, Note};
 
 impl<N: Note> Pool<N> {
-    // Takes one call off the pass, and adds nothing to any journal.
-    pub(crate) fn spend(&self, pass: &mut PoolPass<N>)
-        requires pass { IsPassOf self.now pass.old }
-        requires left { 0 < left_of pass.old }
-        ensures pass { IsPassOf self.now pass.new × IsOneLess pass.old pass.new }
-        ensures nothing { (front : List ℕ) → Grows self.now pass.old front [] pass.new front }
-    {
-        growth::<PoolCore, N>();
-        spending::<PoolCore, N>();
-        pass.spend();
-    }
-
     // Makes one event about a part of the pool. It is one entry of that part's journal.
     pub(crate) fn make<R: Wait>(
         &self,
@@ -41,15 +28,15 @@ impl<N: Note> Pool<N> {
         requires home { IsHomeOf N.at self.now home.now × N.at home.now note.old }
         ensures pass { IsPassOf self.now pass.new × SamePass pass.old pass.new }
         ensures note { KeepsNote N.at N.own N.front note.old note.new }
-        ensures event { (p : Placed) × Grows self.now pass.old (N.front note.old) (p ∷ []) pass.new (N.front note.new) × (p.entry.deed ≡ deed_of event result) × MeetsHalt (p ∷ []) result }
+        ensures event { Makes self.now pass.old (N.front note.old) event result pass.new (N.front note.new) }
         ensures journal { IsLawful self.now pass.new }
         ensures answers { Answers event result }
     {
-        growth::<PoolCore, N>();
         journal_is_log::<PoolCore>();
         answers_its_callers();
         self.object.call(rt, home, pass, note, event)
     }
+
     // Takes one call off the pass, and makes one event.
     pub(crate) fn call_once<R: Wait>(
         &self,
@@ -64,12 +51,12 @@ impl<N: Note> Pool<N> {
         requires home { IsHomeOf N.at self.now home.now × N.at home.now note.old }
         ensures pass { IsPassOf self.now pass.new × IsOneLess pass.old pass.new }
         ensures note { KeepsNote N.at N.own N.front note.old note.new }
-        ensures event { (p : Placed) × Grows self.now pass.old (N.front note.old) (p ∷ []) pass.new (N.front note.new) × (p.entry.deed ≡ deed_of event result) × MeetsHalt (p ∷ []) result }
+        ensures event { Makes self.now pass.old (N.front note.old) event result pass.new (N.front note.new) }
         ensures journal { IsLawful self.now pass.new }
         ensures answers { Answers event result }
     {
-        growth::<PoolCore, N>();
-        self.spend(pass);
-        self.make(rt, home, pass, note, event)
+        journal_is_log::<PoolCore>();
+        answers_its_callers();
+        self.object.begin(rt, home, pass, note, event)
     }
 }

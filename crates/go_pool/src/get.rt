@@ -3,16 +3,17 @@ ghost use Rattle.std.specs.Prelude.{◌≡◌, ℕ, ◌<◌, ◌*◌, ◌∷◌,
 ghost use Rattle.pool_core.specs.Looks.{look};
 ghost use Rattle.pool_core.specs.PoolLaws.{NamesPart};
 ghost use Rattle.ruled_object.specs.Growth.{KeepsNote, MeetsHalt, deeds_of};
-ghost use Rattle.ruled_object.specs.Passes.{SamePass};
+ghost use Rattle.ruled_object.specs.Passes.{IsOneLess, SamePass};
 ghost use Rattle.go_pool.specs.Calls.{Gets, Looks};
 ghost use Rattle.go_pool.specs.Items.{ComesFromPuts, IsLook};
-ghost use Rattle.go_pool.specs.Pools.{Placed, parts_of, fresh_of, left_of, number_of, IsHomeOf, IsPassOf, IsLawful, IsOneLess, Grows};
+ghost use Rattle.go_pool.specs.Pools.{Placed, parts_of, fresh_of, left_of, number_of, IsHomeOf, IsPassOf, IsLawful, Grows};
 
 use crate::pool::{Pool, PoolPass};
 use crate::pool_get::PoolGet;
 use pool_core::laws::gives_each_once;
 use pool_core::{PoolCore, PoolEvent, PoolReply};
-use ruled_object::laws::{growth, journal_is_log};
+use ruled_object::laws::growth;
+use sync_model::laws::journals::journal_is_log;
 use std::sync::Wait;
 use sync_model::{Answer, Note};
 use sync_outside::{At, Clock};
@@ -39,7 +40,7 @@ impl<N: Note> Pool<N> {
         growth::<PoolCore, N>();
         journal_is_log::<PoolCore>();
         gives_each_once();
-        self.spend(pass);
+        self.object.spend(pass);
         for number in 0..2 * self.callers {
             match self.look(rt, at.home, pass, note, number) {
                 Answer::Done(None) => {}

@@ -1,14 +1,15 @@
 //! Putting an item into a pool.
 ghost use Rattle.std.specs.Prelude.{◌<◌, List};
 ghost use Rattle.ruled_object.specs.Growth.{KeepsNote, MeetsHalt, deeds_of};
+ghost use Rattle.ruled_object.specs.Passes.{IsOneLess};
 ghost use Rattle.go_pool.specs.Calls.{Puts};
 ghost use Rattle.go_pool.specs.Items.{DropsWhereFull};
-ghost use Rattle.go_pool.specs.Pools.{Placed, left_of, IsHomeOf, IsPassOf, IsLawful, IsOneLess, Grows};
+ghost use Rattle.go_pool.specs.Pools.{Placed, left_of, IsHomeOf, IsPassOf, IsLawful, Grows};
 
 use crate::pool::{Pool, PoolPass};
 use pool_core::laws::drops_where_full;
 use pool_core::{PoolCore, PoolEvent, PoolPut, PoolReply};
-use ruled_object::laws::journal_is_log;
+use sync_model::laws::journals::journal_is_log;
 use std::sync::Wait;
 use sync_model::{Answer, Note};
 use sync_outside::{At, Clock};

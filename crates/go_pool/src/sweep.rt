@@ -1,8 +1,9 @@
 //! Removing what lies in a pool.
 ghost use Rattle.std.specs.Prelude.{◌<◌, List};
 ghost use Rattle.ruled_object.specs.Growth.{KeepsNote, MeetsHalt, deeds_of};
+ghost use Rattle.ruled_object.specs.Passes.{IsOneLess};
 ghost use Rattle.go_pool.specs.Calls.{Sweeps};
-ghost use Rattle.go_pool.specs.Pools.{Placed, left_of, IsHomeOf, IsPassOf, IsLawful, IsOneLess, Grows};
+ghost use Rattle.go_pool.specs.Pools.{Placed, left_of, IsHomeOf, IsPassOf, IsLawful, Grows};
 
 use crate::pool::{Pool, PoolPass};
 use pool_core::PoolEvent;

@@ -1,44 +1,17 @@
 -- How the entries of a call add up.
-use Rattle.std.proofs.Common.{◌≡◌, ℕ, zero, suc, Bool, List, [], ◌∷◌, ◌++◌, Option, replicate, append-nil, refl, sym, ap, ◌∙◌, subst, arith}
+use Rattle.std.proofs.Common.{◌≡◌, ℕ, zero, suc, Bool, List, [], ◌∷◌, ◌++◌, replicate, refl, ap, ◌∙◌, subst}
 use Rattle.std.proofs.lemmas.List.{map-append}
 use Rattle.sync_model.specs.declared.answer.Answer.{Answer}
-use Rattle.sync_model.specs.declared.answer.Answer.TheVariants.{Done, Halted}
+use Rattle.sync_model.specs.declared.answer.Answer.TheVariants.{Done}
 use Rattle.sync_model.specs.declared.journal.Deed.{Deed}
 use Rattle.sync_model.specs.declared.journal.Deed.TheVariants.{Event}
-use Rattle.sync_model.specs.Journal.{halt_of}
-use Rattle.sync_model.specs.Note.{Holding}
 use Rattle.ruled_object.specs.declared.pass.Pass.{Pass}
-use Rattle.ruled_object.specs.Growth.{Placed, deeds_of, halt_before, Grows, IsRight, MeetsHalt, KeepsNote, Makes}
-use Rattle.ruled_object.specs.Passes.{own_by}
-use Rattle.go_waits.specs.Making.{Leaves}
+use Rattle.ruled_object.specs.Growth.{Placed, deeds_of, AddUp, Grows, IsRight, Makes}
+use Rattle.go_waits.specs.Leaving.{Leaves}
 
 pub replicate-snoc : {A : Type 0} (n : ℕ) (x : A) → replicate n x ++ x ∷ [] ≡ replicate (suc n) x
 replicate-snoc zero x = refl
 replicate-snoc (suc n) x = ap (λ xs. x ∷ xs) (replicate-snoc n x)
-
-pub keeps_both : {H N : Type 0} (at : H → N → Type 0) (own : N → Option Holding) (front : N → List ℕ) (a b c : N) → KeepsNote at own front a b → KeepsNote at own front b c → KeepsNote at own front a c
-keeps_both at own front a b c x y = record {
-  home = λ home is. y.home home (x.home home is);
-  kept = y.kept ∙ x.kept;
-  rises = λ k. let i = x.rises k in let j = y.rises k in omega arith;
-}
-
-module _ {E R : Type 0} where
-  halt-snoc : (es : List (Placed E R)) (p : Placed E R) → halt_before (es ++ p ∷ []) ≡ halt_of p.before
-  halt-snoc [] p = refl
-  halt-snoc (e ∷ []) p = refl
-  halt-snoc (e ∷ (f ∷ es)) p = halt-snoc (f ∷ es) p
-
-  -- the last entry decides whether a call met a halt
-  pub meets-snoc : {A : Type 0} (es : List (Placed E R)) (p : Placed E R) (answer : Answer A) → MeetsHalt (p ∷ []) answer → MeetsHalt (es ++ p ∷ []) answer
-  meets-snoc es p (Done a) meets = halt-snoc es p ∙ meets
-  meets-snoc es p (Halted m) meets = halt-snoc es p ∙ meets
-
--- what two calls add, they add together
-abbrev pub Both : {S E R : Type 0} → Type 0 → (S → ℕ → E → S × R) → Bool → S → Type 0
-Both {S} {E} {R} N next halts start =
-    (old mid new : Pass S N E R) (es fs : List (Placed E R)) (from between to : List ℕ) → Grows next halts start old from es mid between → Grows next halts start mid between fs new to
-    → Grows next halts start old from (es ++ fs) new to
 
 -- so far a caller that waits has tried to leave, and was answered each time that it isn't released
 pub record Tried {S N E R : Type 0} (next : S → ℕ → E → S × R) (halts : Bool) (start : S) (old : Pass S N E R) (from : List ℕ) (event : E) (still : R) (new : Pass S N E R) (to : List ℕ) : Type 0 where
@@ -49,15 +22,10 @@ pub record Tried {S N E R : Type 0} (next : S → ℕ → E → S × R) (halts :
 
 module _ {S N E R : Type 0} (next : S → ℕ → E → S × R) (halts : Bool) (start : S) where
   -- nothing was done
-  pub tried_none : (old : Pass S N E R) (from : List ℕ) (event : E) (still : R) → Tried next halts start old from event still old from
-  tried_none old from event still = record {
-    tries = [];
-    grows = record { history = refl; mine = sym (append-nil (own_by old)); right = tt; fronts = λ c. omega arith; number = refl };
-    count = 0;
-    in_vain = refl;
-  }
+  pub tried_none : (old : Pass S N E R) (from : List ℕ) (event : E) (still : R) → Grows next halts start old from [] old from → Tried next halts start old from event still old from
+  tried_none old from event still grows = record { tries = []; grows = grows; count = 0; in_vain = refl }
 
-  module _ (both : Both N next halts start) (old mid new : Pass S N E R) (from between to : List ℕ) (event : E) (still : R) (before : Tried next halts start old from event still mid between) where
+  module _ (both : AddUp N next halts start) (old mid new : Pass S N E R) (from between to : List ℕ) (event : E) (still : R) (before : Tried next halts start old from event still mid between) where
     -- one more try
     pub tries_on : Makes next halts start mid between event (Done still) new to → Tried next halts start old from event still new to
     tries_on made = record {

@@ -13,12 +13,11 @@ use Rattle.wait_cores.specs.declared.notify.NotifyReply.TheVariants as reply
 use Rattle.wait_cores.specs.NotifyLaws.{answers}
 use Rattle.wait_cores.specs.NotifyMachine.{NotifyState, next, callers_of}
 use Rattle.ruled_object.specs.Cells.{deed_of}
-use Rattle.ruled_object.specs.Growth.{Placed, Makes}
+use Rattle.ruled_object.specs.Growth.{Placed, LastTells, Makes}
 use Rattle.go_locks.specs.Calls.{Did}
 use Rattle.go_waits.specs.CondCalls as calls
 use Rattle.go_waits.specs.Conds.{CondJournal, CondPass, Answers}
-use Rattle.go_waits.specs.Making.{Leaves}
-use Rattle.go_waits.proofs.Adding.{meets-snoc}
+use Rattle.go_waits.specs.Leaving.{Leaves}
 use Rattle.go_waits.proofs.StandingLemmas.{size_stays}
 
 -- an answer of the machine is one that its laws allow
@@ -62,26 +61,26 @@ module _ {N : Type 0} (start : NotifyState) (old new : CondPass N) (from to : Li
   }
 
   -- the leaving of a caller that waits
-  pub did_leave : (r : NotifyReply) → r ≡ reply.Done → Leaves next true start old from Leave reply.Still (Done r) new to → Did next start calls.Leaves (λ deeds. Unit {0}) old from (Done tt) new to
-  did_leave r is left = record {
+  pub did_leave : LastTells NotifyEvent NotifyReply → (r : NotifyReply) → r ≡ reply.Done → Leaves next true start old from Leave reply.Still (Done r) new to → Did next start calls.Leaves (λ deeds. Unit {0}) old from (Done tt) new to
+  did_leave last r is left = record {
     entries = left.tries ++ left.last ∷ [];
     grows = left.grows;
     spelt = (
       left.count,
       map-append (λ (x : Placed NotifyEvent NotifyReply). x.entry.deed) left.tries (left.last ∷ []) ∙ ap (λ (z : calls.NotifyDeeds × Deed NotifyEvent NotifyReply). z.0 ++ z.1 ∷ []) (λ i. (left.in_vain i, (left.deed ∙ ap (λ (x : NotifyReply). deed_of Leave (Done x)) is) i)),
     );
-    halted = meets-snoc {A = Unit {0}} left.tries left.last (Done tt) left.halted;
+    halted = last left.tries left.last (Done r) left.halted;
     moments = tt;
   }
 
-  pub did_not_leave : (misuse : Misuse) → Leaves next true start old from Leave reply.Still (Halted misuse) new to → Did next start calls.Leaves (λ deeds. Unit {0}) old from (Halted misuse) new to
-  did_not_leave misuse left = record {
+  pub did_not_leave : LastTells NotifyEvent NotifyReply → (misuse : Misuse) → Leaves next true start old from Leave reply.Still (Halted misuse) new to → Did next start calls.Leaves (λ deeds. Unit {0}) old from (Halted misuse) new to
+  did_not_leave last misuse left = record {
     entries = left.tries ++ left.last ∷ [];
     grows = left.grows;
     spelt = (
       left.count,
       map-append (λ (x : Placed NotifyEvent NotifyReply). x.entry.deed) left.tries (left.last ∷ []) ∙ ap (λ (z : calls.NotifyDeeds × Deed NotifyEvent NotifyReply). z.0 ++ z.1 ∷ []) (λ i. (left.in_vain i, left.deed i)),
     );
-    halted = meets-snoc {A = Unit {0}} left.tries left.last (Halted misuse) left.halted;
+    halted = last left.tries left.last (Halted misuse) left.halted;
     moments = tt;
   }

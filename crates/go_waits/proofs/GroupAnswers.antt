@@ -1,5 +1,5 @@
 -- What the events of a wait group's callers are answered, and what its calls answer by them.
-use Rattle.std.proofs.Common.{◌≡◌, ◌≢◌, inr, ℕ, ◌<◌, Bool, true, false, List, [], ◌∷◌, ◌++◌, None, Result, Ok, Err, refl, sym, ap, ◌∙◌, subst, append_assoc, IsTrue}
+use Rattle.std.proofs.Common.{◌≡◌, ◌≢◌, inr, ℕ, ◌<◌, Bool, true, false, List, [], ◌∷◌, ◌++◌, None, Result, Ok, Err, refl, sym, ap, ◌∙◌, subst, IsTrue}
 use Rattle.std.proofs.lemmas.List.{map-append}
 use Rattle.sync_model.specs.declared.misuse.Misuse.{Misuse}
 use Rattle.sync_model.specs.declared.answer.Answer.{Answer}
@@ -14,13 +14,12 @@ use Rattle.wait_cores.specs.declared.group.GroupReply.TheVariants as reply
 use Rattle.wait_cores.specs.GroupMachine.{GroupState, next, callers_of}
 use Rattle.wait_cores.specs.GroupStanding.{answers, waits_at, waits_after}
 use Rattle.ruled_object.specs.Cells.{deed_of}
-use Rattle.ruled_object.specs.Growth.{Placed, Grows, entries_of, deeds_of, MeetsHalt, Makes}
+use Rattle.ruled_object.specs.Growth.{Placed, AddUp, Grows, LastTells, deeds_of, MeetsHalt, Makes}
 use Rattle.go_waits.specs.GroupCalls.{GroupDeeds, Waits, LeavesBy}
 use Rattle.go_waits.specs.Groups.{GroupJournal, GroupPass, Answers, IsReleased, IsLeft, waits_by}
-use Rattle.go_waits.specs.Making.{Leaves}
+use Rattle.go_waits.specs.Leaving.{Leaves}
 use Rattle.ruled_object.specs.Standing.{stand_next, stand_from}
-use Rattle.go_waits.proofs.Adding.{Both, meets-snoc}
-use Rattle.go_waits.proofs.StandingLemmas.{stands_by, stand-snoc, size_stays}
+use Rattle.go_waits.proofs.StandingLemmas.{stands_by, size_stays}
 
 -- what the machine's laws say
 pub record Knows : Type 0 where
@@ -45,12 +44,6 @@ answers_mine knows begin c before own event (Done r) below out follows mine righ
     subst (λ (w : Bool). IsTrue (answers w event r)) waits (answers_here knows begin c before event r below right.1)
 answers_mine knows begin c before own event (Halted m) below out follows mine right = tt
 
--- the pass's caller waits or doesn't after one entry more
-pub waits_then : (old new : GroupJournal) (tries : List (Placed GroupEvent GroupReply)) (p : Placed GroupEvent GroupReply) → new ≡ old ++ entries_of (tries ++ p ∷ []) → waits_by new ≡ stand_next false waits_after (waits_by (old ++ entries_of tries)) p.entry.deed
-waits_then old new tries p mine =
-    let whole : new ≡ (old ++ entries_of tries) ++ p.entry ∷ [] = mine ∙ (ap (λ (z : GroupJournal). old ++ z) (map-append (λ (x : Placed GroupEvent GroupReply). x.entry) tries (p ∷ [])) ∙ sym (append_assoc old (entries_of tries) (p.entry ∷ []))) in
-    ap waits_by whole ∙ stand-snoc false waits_after false (old ++ entries_of tries) p.entry
-
 pub out_after : (waits : Bool) (answer : Answer GroupReply) → IsReleased answer → stand_next false waits_after waits (deed_of Leave answer) ≡ false
 out_after waits (Done reply.Done) is = refl
 out_after waits (Done (reply.Misused misuse)) is = refl
@@ -66,7 +59,7 @@ released_by waits (Done reply.Queued) other law = let no = law reply.Queued refl
 released_by waits (Done reply.Still) other law = other refl
 released_by waits (Halted misuse) other law = tt
 
-module _ {N : Type 0} (start : GroupState) (both : Both N next true start) (old mid new : GroupPass N) (from between to : List ℕ) (made : Makes next true start old from Wait (Done reply.Queued) mid between) where
+module _ {N : Type 0} (start : GroupState) (both : AddUp N next true start) (last : LastTells GroupEvent GroupReply) (old mid new : GroupPass N) (from between to : List ℕ) (made : Makes next true start old from Wait (Done reply.Queued) mid between) where
   -- a wait that queued, and then left
   pub waits_on : (answer : Answer GroupReply) (result : Answer (Result Unit Misuse)) → Leaves next true start mid between Leave reply.Still answer new to → IsLeft answer result
       → (es : List (Placed GroupEvent GroupReply)) × Grows next true start old from es new to × Waits (deeds_of es) result × MeetsHalt es result
@@ -74,7 +67,7 @@ module _ {N : Type 0} (start : GroupState) (both : Both N next true start) (old 
     made.one ∷ (left.tries ++ left.last ∷ []),
     both old mid new (made.one ∷ []) (left.tries ++ left.last ∷ []) from between to made.grows left.grows,
     spelt result is,
-    meets-snoc (made.one ∷ left.tries) left.last result (meets result is),
+    meets result is,
   )
     where
       whole : (last : Deed GroupEvent GroupReply) → left.last.entry.deed ≡ last → LeavesBy last (deeds_of (made.one ∷ (left.tries ++ left.last ∷ [])))
@@ -89,7 +82,7 @@ module _ {N : Type 0} (start : GroupState) (both : Both N next true start) (old 
       spelt (Done (Err misuse)) is = whole (Event Leave (reply.Misused misuse)) (left.deed ∙ ap (deed_of Leave) is)
       spelt (Halted misuse) is = inr (whole (Refused Leave misuse) (left.deed ∙ ap (deed_of Leave) is))
 
-      meets : (result : Answer (Result Unit Misuse)) → IsLeft answer result → MeetsHalt (left.last ∷ []) result
-      meets (Done (Ok done)) is = subst (MeetsHalt (left.last ∷ [])) is left.halted
-      meets (Done (Err misuse)) is = subst (MeetsHalt (left.last ∷ [])) is left.halted
-      meets (Halted misuse) is = subst (MeetsHalt (left.last ∷ [])) is left.halted
+      meets : (result : Answer (Result Unit Misuse)) → IsLeft answer result → MeetsHalt (made.one ∷ (left.tries ++ left.last ∷ [])) result
+      meets (Done (Ok done)) is = subst (MeetsHalt (made.one ∷ (left.tries ++ left.last ∷ []))) is (last (made.one ∷ left.tries) left.last answer left.halted)
+      meets (Done (Err misuse)) is = subst (MeetsHalt (made.one ∷ (left.tries ++ left.last ∷ []))) is (last (made.one ∷ left.tries) left.last answer left.halted)
+      meets (Halted misuse) is = subst (MeetsHalt (made.one ∷ (left.tries ++ left.last ∷ []))) is (last (made.one ∷ left.tries) left.last answer left.halted)

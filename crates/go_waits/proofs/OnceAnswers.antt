@@ -1,5 +1,5 @@
 -- What the events of a once's callers are answered, and what its calls answer by them.
-use Rattle.std.proofs.Common.{◌≡◌, ◌≢◌, inr, ℕ, zero, suc, append-nil, ◌<◌, Bool, true, false, List, [], ◌∷◌, ◌++◌, None, replicate, refl, sym, ap, ◌∙◌, subst, append_assoc, IsTrue}
+use Rattle.std.proofs.Common.{◌≡◌, ◌≢◌, inr, ℕ, zero, suc, append-nil, ◌<◌, Bool, true, false, List, [], ◌∷◌, ◌++◌, None, replicate, refl, sym, ap, ◌∙◌, subst, IsTrue}
 use Rattle.std.proofs.lemmas.List.{map-append}
 use Rattle.sync_model.specs.declared.answer.Answer.{Answer}
 use Rattle.sync_model.specs.declared.answer.Answer.TheVariants.{Done, Halted}
@@ -13,15 +13,14 @@ use Rattle.wait_cores.specs.declared.once.OnceReply.TheVariants as reply
 use Rattle.wait_cores.specs.OnceMachine.{OnceState, next, callers_of}
 use Rattle.wait_cores.specs.OnceStanding.{answers, waits_at, runs_at, waits_after, runs_after}
 use Rattle.ruled_object.specs.Cells.{deed_of}
-use Rattle.ruled_object.specs.Growth.{Placed, Grows, entries_of, deeds_of, MeetsHalt, Makes}
+use Rattle.ruled_object.specs.Growth.{Placed, AddUp, Grows, LastTells, entries_of, deeds_of, MeetsHalt, Makes}
 use Rattle.go_waits.specs.declared.once_begun.OnceBegun.{OnceBegun}
 use Rattle.go_waits.specs.declared.once_begun.OnceBegun.TheVariants.{Run, Already}
 use Rattle.go_waits.specs.OnceCalls.{OnceDeeds, Begins, LeavesBy}
 use Rattle.go_waits.specs.Onces.{OnceJournal, OncePass, Answers, IsReleased, IsLeft, waits_by, runs_by}
-use Rattle.go_waits.specs.Making.{Leaves}
-use Rattle.ruled_object.specs.Standing.{stand_next, stand_from, stand_by}
-use Rattle.go_waits.proofs.Adding.{Both, meets-snoc}
-use Rattle.go_waits.proofs.StandingLemmas.{stands_by, stand-snoc, size_stays}
+use Rattle.go_waits.specs.Leaving.{Leaves}
+use Rattle.ruled_object.specs.Standing.{stand_next, stand_from}
+use Rattle.go_waits.proofs.StandingLemmas.{stands_by, size_stays}
 
 -- what the machine's laws say
 pub record Knows (T : Type 0) : Type 0 where
@@ -57,13 +56,6 @@ module _ {T : Type 0} where
       let runs : runs_at s c ≡ runs_by own = running ∙ (ap (λ (w : Bool). stand_from false runs_on w (by c before)) idle ∙ ap runs_by (sym mine)) in
       subst (λ (w : Bool). IsTrue (answers w (runs_by own) event r)) waits (subst (λ (w : Bool). IsTrue (answers (waits_at s c) w event r)) runs (answers_here knows begin c before event r below right.1))
   answers_mine knows begin c before own event (Halted m) below out idle follows mine right = tt
-
-  -- a caller stands somewhere after one entry more
-  pub stands_then : (after : Bool → OnceEvent T → OnceReply T → Bool) (old new : OnceJournal T) (tries : List (Placed (OnceEvent T) (OnceReply T))) (p : Placed (OnceEvent T) (OnceReply T)) → new ≡ old ++ entries_of (tries ++ p ∷ [])
-      → stand_by false after new ≡ stand_next false after (stand_by false after (old ++ entries_of tries)) p.entry.deed
-  stands_then after old new tries p mine =
-      let whole : new ≡ (old ++ entries_of tries) ++ p.entry ∷ [] = mine ∙ (ap (λ (z : OnceJournal T). old ++ z) (map-append (λ (x : Placed (OnceEvent T) (OnceReply T)). x.entry) tries (p ∷ [])) ∙ sym (append_assoc old (entries_of tries) (p.entry ∷ []))) in
-      ap (stand_by false after) whole ∙ stand-snoc false after false (old ++ entries_of tries) p.entry
 
   pub out_after : (waits : Bool) (answer : Answer (OnceReply T)) → IsReleased answer → stand_next false waits_on waits (deed_of Leave answer) ≡ false
   out_after waits (Done (reply.Left kept)) is = refl
@@ -103,7 +95,7 @@ module _ {T : Type 0} where
   released_by waits runs (Done reply.Still) other law = other refl
   released_by waits runs (Halted misuse) other law = tt
 
-module _ {T N : Type 0} (start : OnceState T) (both : Both N next true start) (old mid new : OncePass T N) (from between to : List ℕ) (made : Makes next true start old from Begin (Done reply.Queued) mid between) (answer : Answer (OnceReply T))
+module _ {T N : Type 0} (start : OnceState T) (both : AddUp N next true start) (last : LastTells (OnceEvent T) (OnceReply T)) (old mid new : OncePass T N) (from between to : List ℕ) (made : Makes next true start old from Begin (Done reply.Queued) mid between) (answer : Answer (OnceReply T))
     (left : Leaves next true start mid between Leave reply.Still answer new to) where
   whole : (last : Deed (OnceEvent T) (OnceReply T)) → left.last.entry.deed ≡ last → LeavesBy last (deeds_of (made.one ∷ (left.tries ++ left.last ∷ [])))
   whole last ends = (
@@ -117,10 +109,13 @@ module _ {T N : Type 0} (start : OnceState T) (both : Both N next true start) (o
   spelt (Done (Already kept)) is = inr (whole (Event Leave (reply.Left kept)) (left.deed ∙ ap (deed_of Leave) is))
   spelt (Halted misuse) is = inr (whole (Refused Leave misuse) (left.deed ∙ ap (deed_of Leave) is))
 
-  meets : (result : Answer (OnceBegun T)) → IsLeft answer result → MeetsHalt (left.last ∷ []) result
+  halted : MeetsHalt (made.one ∷ (left.tries ++ left.last ∷ [])) answer
+  halted = last (made.one ∷ left.tries) left.last answer left.halted
+
+  meets : (result : Answer (OnceBegun T)) → IsLeft answer result → MeetsHalt (made.one ∷ (left.tries ++ left.last ∷ [])) result
   meets (Done (Run running)) is = absurd is
-  meets (Done (Already kept)) is = subst (MeetsHalt (left.last ∷ [])) is left.halted
-  meets (Halted misuse) is = subst (MeetsHalt (left.last ∷ [])) is left.halted
+  meets (Done (Already kept)) is = subst (MeetsHalt (made.one ∷ (left.tries ++ left.last ∷ []))) is halted
+  meets (Halted misuse) is = subst (MeetsHalt (made.one ∷ (left.tries ++ left.last ∷ []))) is halted
 
   -- a caller that queued, and then left
   pub begins_on : (result : Answer (OnceBegun T)) → IsLeft answer result → (es : List (Placed (OnceEvent T) (OnceReply T))) × Grows next true start old from es new to × Begins (deeds_of es) result × MeetsHalt es result
@@ -128,5 +123,5 @@ module _ {T N : Type 0} (start : OnceState T) (both : Both N next true start) (o
     made.one ∷ (left.tries ++ left.last ∷ []),
     both old mid new (made.one ∷ []) (left.tries ++ left.last ∷ []) from between to made.grows left.grows,
     spelt result is,
-    meets-snoc (made.one ∷ left.tries) left.last result (meets result is),
+    meets result is,
   )

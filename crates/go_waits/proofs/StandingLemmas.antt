@@ -45,12 +45,6 @@ module _ {S E R W : Type 0} (next : S → ℕ → E → S × R) (at : S → ℕ 
       let here = one_deed s c x.caller x.deed follows.0 opens (x.caller == c) refl in
       later ∙ (ap (λ (w : W). stand_from out after w (by c xs)) here ∙ one_more (at s c) (x.caller == c) x (by c xs))
 
-module _ {E R W : Type 0} (out : W) (after : W → E → R → W) where
-  -- one entry more
-  pub stand-snoc : (w : W) (own : List (Entry E R)) (x : Entry E R) → stand_from out after w (own ++ x ∷ []) ≡ stand_next out after (stand_from out after w own) x.deed
-  stand-snoc w [] x = refl
-  stand-snoc w (y ∷ ys) x = stand-snoc (stand_next out after w y.deed) ys x
-
 module _ {S E R : Type 0} (next : S → ℕ → E → S × R) (size : S → ℕ) (same : (s : S) (c : ℕ) (e : E) → size (next s c e).0 ≡ size s) where
   one_size : (s : S) (c : ℕ) (d : Deed E R) → size (state_next next s c d) ≡ size s
   one_size s c (Event e r) = same s c e

@@ -21,7 +21,7 @@ use Rattle.ruled_object.specs.Passes as object
 use Rattle.go_locks.specs.declared.mutex.Mutex.{Mutex}
 use Rattle.go_locks.specs.Mutexes.{mutex_start}
 use Rattle.go_waits.specs.declared.cond.Cond.{Cond}
-use Rattle.go_waits.specs.Making.{Leaves}
+use Rattle.go_waits.specs.Leaving.{Leaves}
 
 -- an entry of a cond's journal
 abbrev pub CondMade : Type 0

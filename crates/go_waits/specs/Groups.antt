@@ -17,7 +17,7 @@ use Rattle.ruled_object.specs.Gathered as gathered
 use Rattle.ruled_object.specs.Growth.{Placed, Grows, IsLawful, Makes}
 use Rattle.ruled_object.specs.Passes as object
 use Rattle.go_waits.specs.declared.group.WaitGroup.{WaitGroup}
-use Rattle.go_waits.specs.Making.{Leaves}
+use Rattle.go_waits.specs.Leaving.{Leaves}
 use Rattle.ruled_object.specs.Standing.{stand_by}
 
 -- an entry of a group's journal

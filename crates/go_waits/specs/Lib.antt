@@ -2,7 +2,7 @@ pub mod Conds
 pub mod CondCalls
 pub mod Groups
 pub mod GroupCalls
-pub mod Making
+pub mod Leaving
 pub mod Onces
 pub mod OnceCalls
 pub mod OnceRuns

@@ -18,7 +18,7 @@ use Rattle.ruled_object.specs.Passes as object
 use Rattle.go_waits.specs.declared.once_begun.OnceBegun.{OnceBegun}
 use Rattle.go_waits.specs.declared.once_begun.OnceBegun.TheVariants.{Run, Already}
 use Rattle.go_waits.specs.declared.once.Once.{Once}
-use Rattle.go_waits.specs.Making.{Leaves}
+use Rattle.go_waits.specs.Leaving.{Leaves}
 use Rattle.ruled_object.specs.Standing.{stand_by, stand_next}
 
 -- an entry of a once's journal

@@ -9,9 +9,9 @@ ghost use Rattle.wait_cores.specs.declared.once.OnceEvent.TheVariants as once;
 ghost use Rattle.wait_cores.specs.declared.once.OnceReply.TheVariants as onced;
 ghost use Rattle.ruled_object.specs.Growth.{IsLawful, KeepsNote};
 ghost use Rattle.ruled_object.specs.Passes.{start_of, IsHomeOf, IsPassOf, SamePass};
-ghost use Rattle.go_waits.specs.Making.{Leaves};
+ghost use Rattle.go_waits.specs.Leaving.{Leaves};
 
-use ruled_object::laws::growth;
+use ruled_object::laws::{growth, notes_are_kept};
 use ruled_object::{Object, PassOf};
 use std::sync::Wait;
 use sync_model::{Answer, Machine, Note};
@@ -96,6 +96,7 @@ pub(crate) fn leave<M: Waited, N: Note, R: Wait>(
     ensures journal { IsLawful M.next M.HALTS M.frees M.takes (start_of object.now) pass.new }
 {
     growth::<M, N>();
+    notes_are_kept::<N>();
     for _ in rt.forever() {
         object.park(rt, pass);
         match object.call(rt, home, pass, note, M::leaving()) {

@@ -7,7 +7,6 @@ mod do_once;
 pub mod group;
 pub mod laws;
 pub mod leaving;
-mod making;
 pub mod once;
 pub mod once_begun;
 pub mod once_run;

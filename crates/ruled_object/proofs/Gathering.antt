@@ -1,7 +1,7 @@
 -- Passes that are brought together in one seat, and dealt out again.
 use Rattle.std.proofs.Common.{Bool, ◌≡◌, ◌≢◌, ℕ, zero, suc, ◌+◌, ◌<◌, List, [], ◌∷◌, ◌++◌, length, length-append, replicate, get_or, set, slice_get, Option, Some, refl, sym, ap, ◌∙◌, subst, arith}
 use Rattle.std.proofs.lemmas.List.{length-replicate}
-use Rattle.std.proofs.lemmas.Option.{slice_get-get_or}
+use Rattle.std.proofs.lemmas.Option.{slice_get-get_or, slice_get_within}
 use mathlib.Core.Logic.{dite}
 use mathlib.Core.Option.{some}
 use native.Mathlib.Decide.{ℕ_discrete}
@@ -20,7 +20,7 @@ use Rattle.ruled_object.specs.Gathered.{AreAllPasses, SamePasses, SameOwn, Gathe
 use Rattle.ruled_object.specs.Passes.{own_of, own_by, seen_by, SamePass, callers_of}
 use Rattle.ruled_object.specs.Steps.{Sat, first_of, others_of, joined, kept, dealt, Learns}
 use Rattle.ruled_object.proofs.Calls.{own_is}
-use Rattle.ruled_object.proofs.Journals.{begins_all, past_end}
+use Rattle.ruled_object.proofs.Journals.{begins_all}
 use Rattle.ruled_object.proofs.Steps.{in_blank}
 
 module _ {A : Type 0} where
@@ -96,7 +96,7 @@ module _ {S N E R : Type 0} where
   }
 
   at_same : (old new : List (Pass S N E R)) (i : ℕ) (pass : Pass S N E R) → length new ≡ length old → slice_get new i ≡ Some pass → slice_get old i ≡ Some (get_or old i pass)
-  at_same old new i pass sized at_i = let below = past_end new pass i at_i in slice_get-get_or old i pass (omega arith)
+  at_same old new i pass sized at_i = let below = slice_get_within new i pass at_i in slice_get-get_or old i pass (omega arith)
 
   pub same_through : (a b c : List (Pass S N E R)) → SamePasses a b → SamePasses b c → SamePasses a c
   same_through a b c d e = record {
@@ -151,8 +151,8 @@ module _ {S N E R H : Type 0} (next : S → ℕ → E → S × R) (halts : Bool)
   whole passes v log cell count d learns = record {
     follows = learns.lawful.follows;
     edges = learns.lawful.edges;
-    owns = λ i pass at_i. let number = d.number in let same : v.number + i ≡ i = omega arith in (learns.owns i (own_by pass) (d.owns i pass (past_end passes pass i at_i) at_i)).1 ∙ ap (λ (c : ℕ). by c log) same;
-    seen = λ i pass at_i. let h = d.heard i pass (past_end passes pass i at_i) at_i in learns.heard h.0 (seen_by pass) h.1;
+    owns = λ i pass at_i. let number = d.number in let same : v.number + i ≡ i = omega arith in (learns.owns i (own_by pass) (d.owns i pass (slice_get_within passes i pass at_i) at_i)).1 ∙ ap (λ (c : ℕ). by c log) same;
+    seen = λ i pass at_i. let h = d.heard i pass (slice_get_within passes i pass at_i) at_i in learns.heard h.0 (seen_by pass) h.1;
     callers = λ c past. learns.lawful.callers c (omega arith);
   }
 

@@ -1,7 +1,7 @@
 -- Entries of one caller that stand one after the other.
-use Rattle.std.proofs.Common.{◌≡◌, ℕ, suc, ◌+◌, Bool, Option, None, List, [], ◌∷◌, ◌++◌, length, slice_index, refl, sym, ap, ◌∙◌, subst, append_assoc, arith}
+use Rattle.std.proofs.Common.{◌≡◌, ℕ, Bool, Option, None, List, [], ◌∷◌, ◌++◌, slice_index, refl, sym, ap, ◌∙◌, subst, append_assoc, arith}
 use Rattle.std.specs.List.{AllByRecursion}
-use Rattle.std.proofs.lemmas.List.{length-append, map-append}
+use Rattle.std.proofs.lemmas.List.{append_cancel_right, map-append}
 use Rattle.ruled_object.proofs.Journals.{by_here}
 use Rattle.sync_model.specs.declared.misuse.Misuse.{Misuse}
 use Rattle.sync_model.specs.declared.answer.Answer.{Answer}
@@ -11,8 +11,9 @@ use Rattle.sync_model.specs.Front.{AtLeast}
 use Rattle.sync_model.specs.Journal.{halt_next, halt_of, by, Rising, state_next, state_after, Right, Follows}
 use Rattle.ruled_object.specs.declared.pass.Pass.{Pass}
 use Rattle.ruled_object.specs.Cells.{deed_of}
-use Rattle.ruled_object.specs.Growth.{Placed, entries_of, Leads, MeetsHalt, IsRight, Grows, Makes}
+use Rattle.ruled_object.specs.Growth.{Placed, entries_of, Leads, halt_before, MeetsHalt, IsRight, Grows, Makes}
 use Rattle.ruled_object.specs.Passes.{number_of, seen_by, own_by, Adds}
+use Rattle.ruled_object.specs.Standing.{stand_next, stand_from}
 
 module _ {E R : Type 0} where
   leads-append : (seen mid now : List (Entry E R)) (es fs : List (Placed E R)) → Leads seen es mid → Leads mid fs now → Leads seen (es ++ fs) now
@@ -27,12 +28,28 @@ module _ {E R : Type 0} where
   rising-append from between to [] fs at_first then_on = rising_from from between to fs at_first then_on
   rising-append from between to (e ∷ es) fs at_first then_on = (at_first.0, rising-append e.entry.front between to es fs at_first.1 then_on)
 
-module _ {A : Type 0} where
-  snoc_front : (l m : List A) (x : A) → l ++ x ∷ [] ≡ m ++ x ∷ [] → l ≡ m
-  snoc_front [] [] x e = refl
-  snoc_front [] (y ∷ ys) x e = let n : 1 ≡ suc (length (ys ++ x ∷ [])) = ap length e in let k : length (ys ++ x ∷ []) ≡ length ys + 1 = length-append ys (x ∷ []) in absurd (omega arith)
-  snoc_front (y ∷ ys) [] x e = let n : suc (length (ys ++ x ∷ [])) ≡ 1 = ap length e in let k : length (ys ++ x ∷ []) ≡ length ys + 1 = length-append ys (x ∷ []) in absurd (omega arith)
-  snoc_front (y ∷ ys) (z ∷ zs) x e = let tails : ys ++ x ∷ [] ≡ zs ++ x ∷ [] = cc e in let heads : y ≡ z = cc e in rw (heads, snoc_front ys zs x tails) refl
+module _ {E R : Type 0} where
+  halt_before-snoc : (es : List (Placed E R)) (p : Placed E R) → halt_before (es ++ p ∷ []) ≡ halt_of p.before
+  halt_before-snoc [] p = refl
+  halt_before-snoc (e ∷ []) p = refl
+  halt_before-snoc (e ∷ (f ∷ es)) p = halt_before-snoc (f ∷ es) p
+
+  -- the last entry says whether a halt was met
+  pub meets-snoc : {A : Type 0} (es : List (Placed E R)) (p : Placed E R) (answer : Answer A) → MeetsHalt (p ∷ []) answer → MeetsHalt (es ++ p ∷ []) answer
+  meets-snoc es p (Done a) meets = halt_before-snoc es p ∙ meets
+  meets-snoc es p (Halted m) meets = halt_before-snoc es p ∙ meets
+
+module _ {E R W : Type 0} (out : W) (after : W → E → R → W) where
+  -- one entry more
+  pub stand-snoc : (w : W) (own : List (Entry E R)) (x : Entry E R) → stand_from out after w (own ++ x ∷ []) ≡ stand_next out after (stand_from out after w own) x.deed
+  stand-snoc w [] x = refl
+  stand-snoc w (y ∷ ys) x = stand-snoc (stand_next out after w y.deed) ys x
+
+  -- one entry more behind others
+  pub stands_then : (w : W) (old new : List (Entry E R)) (es : List (Placed E R)) (last : Placed E R) → new ≡ old ++ entries_of (es ++ last ∷ []) → stand_from out after w new ≡ stand_next out after (stand_from out after w (old ++ entries_of es)) last.entry.deed
+  stands_then w old new es last mine =
+      let whole : new ≡ (old ++ entries_of es) ++ last.entry ∷ [] = mine ∙ (ap (λ (z : List (Entry E R)). old ++ z) (map-append (λ (p : Placed E R). p.entry) es (last ∷ [])) ∙ sym (append_assoc old (entries_of es) (last.entry ∷ []))) in
+      ap (stand_from out after w) whole ∙ stand-snoc w (old ++ entries_of es) last.entry
 
 module _ {S E R : Type 0} (next : S → ℕ → E → S × R) where
   follows_front : (halts : Bool) (s : S) (h : Option Misuse) (l m : List (Entry E R)) → Follows next halts s h (l ++ m) → Follows next halts s h l
@@ -87,7 +104,7 @@ module _ {S N E R : Type 0} (next : S → ℕ → E → S × R) (halts : Bool) (
   before_one frees takes old new e front adds ends =
       let whole : by (number_of old) front ++ e ∷ [] ≡ own_by old ++ e ∷ [] =
       sym (by_here (number_of old) front e adds.caller) ∙ (ap (λ (z : List (Entry E R)). by (number_of old) z) (sym ends) ∙ (sym adds.all ∙ adds.mine)) in
-      (follows_front next halts start None front (e ∷ []) (subst (Follows next halts start None) ends adds.follows), snoc_front (by (number_of old) front) (own_by old) e whole)
+      (follows_front next halts start None front (e ∷ []) (subst (Follows next halts start None) ends adds.follows), append_cancel_right (by (number_of old) front) (own_by old) (e ∷ []) whole)
 
   -- what a call shows of the one entry that it adds
   pub makes_one : (frees takes : E → R → Bool) (old new : Pass S N E R) (e : Entry E R) (event : E) (answer : Answer R) (from to : List ℕ) → Adds next halts frees takes start old e new

@@ -1,13 +1,13 @@
 -- A journal that grows by one entry.
-use Rattle.std.proofs.Common.{◌≡◌, ◌≢◌, ℕ, zero, suc, ◌<◌, Bool, true, false, cond, eqb, eq-eqb, ne_eqb, ◌⊎◌, inl, inr, ⊎_elim, List, [], ◌∷◌, ◌++◌, length, slice_get, Option, Some, None, refl, sym, ap, ◌∙◌, subst, append_assoc, arith}
+use Rattle.std.proofs.Common.{◌≡◌, ◌≢◌, ℕ, zero, suc, Bool, true, false, cond, eqb, eq-eqb, ne_eqb, ◌⊎◌, inl, inr, ⊎_elim, List, [], ◌∷◌, ◌++◌, length, slice_get, Option, Some, None, refl, sym, ap, ◌∙◌, subst, append_assoc, arith}
 use Rattle.std.proofs.lemmas.List.{append-nil}
+use Rattle.std.proofs.lemmas.Option.{slice_get_within}
 use Rattle.sync_model.specs.declared.misuse.Misuse.{Misuse}
 use Rattle.sync_model.specs.declared.journal.Deed.{Deed}
 use Rattle.sync_model.specs.declared.journal.Deed.TheVariants.{Event, Refused, Halt}
 use Rattle.sync_model.specs.declared.journal.Entry.{Entry}
 use Rattle.sync_model.specs.Front.{AtLeast}
-use Rattle.sync_model.specs.Log as log
-use Rattle.sync_model.specs.Journal.{logged, log_of, Begins, halt_next, halt_after, by, is_such, Covers, KeepsEdges, state_next, state_after, Right, Follows}
+use Rattle.sync_model.specs.Journal.{Begins, halt_next, halt_after, by, is_such, Covers, KeepsEdges, state_next, state_after, Right, Follows}
 
 module _ {A : Type 0} where
   pub begins_all : (l : List A) → Begins l l
@@ -25,11 +25,6 @@ module _ {A : Type 0} where
   at_end [] a b (suc j) e = (cc)
   at_end (x ∷ xs) a b zero e = inl e
   at_end (x ∷ xs) a b (suc j) e = ⊎_elim (λ t. inl t) (λ t. inr (ap suc t.0, t.1)) (at_end xs a b j e)
-
-  pub past_end : (l : List A) (a : A) (j : ℕ) → slice_get l j ≡ Some a → j < length l
-  past_end [] a j e = (cc)
-  past_end (x ∷ xs) a zero e = omega arith
-  past_end (x ∷ xs) a (suc j) e = let h = past_end xs a j e in omega arith
 
 module _ {E R : Type 0} where
   pub by-append : (c : ℕ) (l m : List (Entry E R)) → by c (l ++ m) ≡ by c l ++ by c m
@@ -62,7 +57,7 @@ module _ {E R : Type 0} where
       (λ at_x. ⊎_elim (λ at_z. edges i j x z before at_x at_z free take)
       (λ t. subst (λ (u : Entry E R). AtLeast u.front x.front) t.1 (covers (subst (λ (u : Entry E R). is_such takes u.deed ≡ true) (sym t.1) take) i x at_x free))
       (at_end l y z j at_j))
-      (λ t. ⊎_elim (λ at_z. let k = past_end l z j at_z in let s = t.0 in absurd (omega arith)) (λ u. let s = t.0 in let k = u.0 in absurd (omega arith)) (at_end l y z j at_j))
+      (λ t. ⊎_elim (λ at_z. let k = slice_get_within l j z at_z in let s = t.0 in absurd (omega arith)) (λ u. let s = t.0 in let k = u.0 in absurd (omega arith)) (at_end l y z j at_j))
       (at_end l y x i at_i)
 
 module _ {S E R : Type 0} (next : S → ℕ → E → S × R) where
@@ -85,15 +80,3 @@ module _ {S E R : Type 0} (next : S → ℕ → E → S × R) where
   never_halted halts s (y ∷ ys) never f = let e = no_halt halts s y.caller y.deed never f.0 in let rest : List (Entry E R) = ys in
       ap (λ (h : Option Misuse). halt_after h rest) e
       ∙ never_halted halts (state_next next s y.caller y.deed) ys never (subst (λ (h : Option Misuse). Follows next halts (state_next next s y.caller y.deed) h rest) e f.1)
-
-module _ {S E R : Type 0} (next : S → ℕ → E → S × R) where
-  logged_on : (halts : Bool) (s : S) (h : Option Misuse) (c : ℕ) (d : Deed E R) (later : List (log.Entry E R)) (last : S) → Right next halts s h c d
-      → log.Follows next (state_next next s c d) later × (log.after next (state_next next s c d) later ≡ last) → log.Follows next s (logged c d later) × (log.after next s (logged c d later) ≡ last)
-  logged_on halts s h c (Event e r) later last right rest = ((sym right.1, rest.0), rest.1)
-  logged_on halts s h c (Refused e m) later last right rest = rest
-  logged_on halts s h c (Halt m) later last right rest = rest
-
-  -- the events that the machine took are a log of it
-  pub is_log : (halts : Bool) (s : S) (h : Option Misuse) (l : List (Entry E R)) → Follows next halts s h l → log.Follows next s (log_of l) × (log.after next s (log_of l) ≡ state_after next s l)
-  is_log halts s h [] f = (tt, refl)
-  is_log halts s h (x ∷ xs) f = logged_on halts s h x.caller x.deed (log_of xs) (state_after next (state_next next s x.caller x.deed) xs) f.0 (is_log halts (state_next next s x.caller x.deed) (halt_next h x.deed) xs f.1)

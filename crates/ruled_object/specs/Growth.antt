@@ -56,6 +56,16 @@ pub record Grows {S N E R : Type 0} (next : S → ℕ → E → S × R) (halts :
   pub fronts : Rising from (entries_of es) to
   pub number : number_of new ≡ number_of old
 
+-- what two calls add, one after the other, they add together
+abbrev pub AddUp : {S E R : Type 0} → Type 0 → (S → ℕ → E → S × R) → Bool → S → Type 0
+AddUp {S} {E} {R} N next halts start =
+    (old mid new : Pass S N E R) (es fs : List (Placed E R)) (from between to : List ℕ) → Grows next halts start old from es mid between → Grows next halts start mid between fs new to
+    → Grows next halts start old from (es ++ fs) new to
+
+-- of several entries the last one tells whether a halt was met
+abbrev pub LastTells : Type 0 → Type 0 → Type 0
+LastTells E R = (es : List (Placed E R)) (last : Placed E R) (answer : Answer R) → MeetsHalt (last ∷ []) answer → MeetsHalt (es ++ last ∷ []) answer
+
 -- The pass's caller made one event, which was answered this. What stands before it follows the machine, and has of the caller what the pass had.
 pub record Makes {S N E R : Type 0} (next : S → ℕ → E → S × R) (halts : Bool) (start : S) (old : Pass S N E R) (from : List ℕ) (event : E) (answer : Answer R) (new : Pass S N E R) (to : List ℕ) : Type 0 where
   pub one : Placed E R

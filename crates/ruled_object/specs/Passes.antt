@@ -70,3 +70,7 @@ SamePass old new = (number_of new ≡ number_of old) × (left_of new ≡ left_of
 -- the pass is good for one call less, and all else of it is as before
 abbrev pub IsSpent : {S N E R : Type 0} → Pass S N E R → Pass S N E R → Type 0
 IsSpent old new = (left_of new + 1 ≡ left_of old) × (new ≡ record old { left = left_of new })
+
+-- the same caller's pass, good for one call less
+abbrev pub IsOneLess : {S N E R : Type 0} → Pass S N E R → Pass S N E R → Type 0
+IsOneLess old new = (number_of new ≡ number_of old) × (left_of new + 1 ≡ left_of old)

@@ -4,11 +4,9 @@ ghost use Rattle.sync_model.specs.declared.misuse.Misuse.{Misuse};
 ghost use Rattle.sync_model.specs.declared.answer.Answer.TheVariants.{Halted};
 ghost use Rattle.sync_model.specs.declared.journal.Deed.TheVariants.{Halt};
 ghost use Rattle.sync_model.specs.declared.journal.Entry.{Entry};
-ghost use Rattle.sync_model.specs.Front.{AtLeast};
 ghost use Rattle.sync_model.specs.Journal.{is_such};
-ghost use Rattle.sync_model.specs.Note.{SameHome};
 ghost use Rattle.ruled_object.specs.Cells.{deed_of};
-ghost use Rattle.ruled_object.specs.Growth.{IsLawful, Makes};
+ghost use Rattle.ruled_object.specs.Growth.{IsLawful, KeepsNote, Makes};
 ghost use Rattle.ruled_object.specs.Passes.{start_of, IsHomeOf, IsPassOf, Adds, SamePass};
 
 use crate::cell::deed;
@@ -39,7 +37,7 @@ impl<M: Machine, N: Note> Object<M, N> {
         ensures entry { (e : Entry M.Event M.Reply) × Adds M.next M.HALTS M.frees M.takes (start_of self.now) pass.old e pass.new × (e.deed ≡ deed_of event result) × (e.front ≡ N.front note.new) }
         ensures makes { Makes M.next M.HALTS (start_of self.now) pass.old (N.front note.old) event result pass.new (N.front note.new) }
         ensures journal { IsLawful M.next M.HALTS M.frees M.takes (start_of self.now) pass.new }
-        ensures note { SameHome N.at note.old note.new × (N.own note.new ≡ N.own note.old) × AtLeast (N.front note.new) (N.front note.old) }
+        ensures note { KeepsNote N.at N.own N.front note.old note.new }
         ensures no_edge { is_such M.takes (deed_of event result) ≡ false → N.front note.new ≡ N.front note.old }
         ensures halts { M.HALTS ≡ false → (m : Misuse) → result ≡ Halted m → ⊥ }
     {

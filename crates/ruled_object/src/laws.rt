@@ -1,51 +1,37 @@
-//! What holds of every journal, and how the entries of several calls stand in it.
-ghost use Rattle.std.specs.Prelude.{◌≡◌, ℕ, List, [], ◌∷◌, ◌++◌, None};
-ghost use Rattle.sync_model.specs.declared.answer.Answer.{Answer};
+//! How the entries of several calls add up.
+ghost use Rattle.std.specs.Prelude.{◌≡◌, ℕ, List, [], ◌∷◌, ◌++◌};
 ghost use Rattle.sync_model.specs.declared.journal.Entry.{Entry};
-ghost use Rattle.sync_model.specs.Front.{AtLeast};
-ghost use Rattle.sync_model.specs.Journal.{by, Follows, log_of, state_after};
-ghost use Rattle.sync_model.specs.Log as log;
-ghost use Rattle.ruled_object.specs.declared.object.Object.{Object};
 ghost use Rattle.ruled_object.specs.declared.pass.Pass.{Pass};
-ghost use Rattle.ruled_object.specs.Cells.{deed_of};
-ghost use Rattle.ruled_object.specs.Growth.{Placed, Grows, IsLawful, MeetsHalt};
-ghost use Rattle.ruled_object.specs.Passes.{number_of, seen_by, own_by, IsPassOf, Adds, IsSpent};
+ghost use Rattle.ruled_object.specs.Growth.{Placed, Grows, KeepsNote, AddUp, LastTells, entries_of};
+ghost use Rattle.ruled_object.specs.Standing.{stand_next, stand_from};
 
 use crate::new::MAX_CALLS;
 use sync_model::{MAX_CALLERS, Machine, Note};
 
-/// The events that a machine took, of a journal that follows it, are a log of the machine for one thread: the replies
-/// are the machine's, and they lead to the same state. So what holds of every log holds of an object that is shared.
-pub fn journal_is_log<M: Machine>()
-    ensures { (start : M.State) (journal : List (Entry M.Event M.Reply)) → Follows M.next M.HALTS start None journal → log.Follows M.next start (log_of journal) × (log.after M.next start (log_of journal) ≡ state_after M.next start journal) }
-{}
-
-/// What several calls of one caller add to the history. A call that only spends from its pass adds nothing; a call of
-/// the object adds one entry, and its answer is `Halted` exactly where that entry has a halt before its place; and what
-/// two calls add, one after the other, they add together. What stands before the entry of a call follows the machine,
-/// and has of its caller just what the pass had.
+/// What several calls of one caller add to the history. No call adds nothing; what two calls add, one after the other,
+/// they add together; and of several entries the last one tells whether a halt was met.
 pub fn growth<M: Machine, N: Note>()
-    ensures nothing { (start : M.State) (old new : Pass M.State N M.Event M.Reply) (front : List ℕ)
-        → IsSpent old new → Grows M.next M.HALTS start old front [] new front }
-    ensures one { (start : M.State) (old new : Pass M.State N M.Event M.Reply) (e : Entry M.Event M.Reply) (event : M.Event) (answer : Answer M.Reply) (from to : List ℕ)
-        → Adds M.next M.HALTS M.frees M.takes start old e new → number_of new ≡ number_of old
-        → e.deed ≡ deed_of event answer → e.front ≡ to → AtLeast to from
-        → (p : Placed M.Event M.Reply) × (p.entry ≡ e) × Grows M.next M.HALTS start old from (p ∷ []) new to × MeetsHalt (p ∷ []) answer }
-    ensures before { (start : M.State) (old new : Pass M.State N M.Event M.Reply) (e : Entry M.Event M.Reply) (front : List (Entry M.Event M.Reply))
-        → Adds M.next M.HALTS M.frees M.takes start old e new → seen_by new ≡ front ++ e ∷ []
-        → Follows M.next M.HALTS start None front × (by (number_of old) front ≡ own_by old) }
-    ensures both { (start : M.State) (old mid new : Pass M.State N M.Event M.Reply) (es fs : List (Placed M.Event M.Reply)) (from between to : List ℕ)
-        → Grows M.next M.HALTS start old from es mid between → Grows M.next M.HALTS start mid between fs new to
-        → Grows M.next M.HALTS start old from (es ++ fs) new to }
-    ensures lawful { (start : M.State) (old new : Pass M.State N M.Event M.Reply) (e : Entry M.Event M.Reply)
-        → Adds M.next M.HALTS M.frees M.takes start old e new → number_of new ≡ number_of old
-        → IsLawful M.next M.HALTS M.frees M.takes start new }
+    ensures nothing { (start : M.State) (pass : Pass M.State N M.Event M.Reply) (front : List ℕ)
+        → Grows M.next M.HALTS start pass front [] pass front }
+    ensures both { (start : M.State) → AddUp N M.next M.HALTS start }
+    ensures halted { LastTells M.Event M.Reply }
 {}
 
-/// A pass that was spent from is still a pass of its object.
-pub fn spending<M: Machine, N: Note>()
-    ensures { (object : Object M N M.State M.Event M.Reply N.Home) (old new : Pass M.State N M.Event M.Reply)
-        → IsPassOf object old → IsSpent old new → IsPassOf object new }
+/// What two calls keep of their caller's note, one after the other, they keep together.
+pub fn notes_are_kept<N: Note>()
+    ensures { (first second third : N)
+        → KeepsNote N.at N.own N.front first second → KeepsNote N.at N.own N.front second third
+        → KeepsNote N.at N.own N.front first third }
+{}
+
+/// Where a caller stands after one entry more of its own, alone or behind others: where the entry's deed leads from where
+/// it stood before.
+pub fn standing<M: Machine, W>()
+    ensures entry { (out : W) (after : W → M.Event → M.Reply → W) (place : W) (own : List (Entry M.Event M.Reply)) (last : Entry M.Event M.Reply)
+        → stand_from out after place (own ++ last ∷ []) ≡ stand_next out after (stand_from out after place own) last.deed }
+    ensures entries { (out : W) (after : W → M.Event → M.Reply → W) (place : W) (old new : List (Entry M.Event M.Reply)) (es : List (Placed M.Event M.Reply)) (last : Placed M.Event M.Reply)
+        → new ≡ old ++ entries_of (es ++ last ∷ [])
+        → stand_from out after place new ≡ stand_next out after (stand_from out after place (old ++ entries_of es)) last.entry.deed }
 {}
 
 /// The limits of an object by their numbers: how many calls a pass is good for, and how many callers an object has.

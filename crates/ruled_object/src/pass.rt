@@ -1,6 +1,6 @@
 //! The pass of one caller to one object.
-ghost use Rattle.std.specs.Prelude.{◌≡◌, ◌<◌};
-ghost use Rattle.ruled_object.specs.Passes.{left_of, number_of, IsSpent};
+ghost use Rattle.std.specs.Prelude.{◌≡◌};
+ghost use Rattle.ruled_object.specs.Passes.{left_of, number_of};
 
 use crate::cell::Cell;
 use crate::view::View;
@@ -36,13 +36,5 @@ impl<S, N, E, R> Pass<S, N, E, R> {
         ensures { result ≡ left_of self.now }
     {
         self.left
-    }
-
-    /// Takes one off the calls that are left. It makes no step.
-    pub fn spend(&mut self)
-        requires { 0 < left_of self.old }
-        ensures { IsSpent self.old self.new }
-    {
-        self.left -= 1;
     }
 }

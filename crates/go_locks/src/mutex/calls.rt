@@ -7,15 +7,15 @@ ghost use Rattle.mutex_core.specs.declared.reply.MutexReply.{MutexReply};
 ghost use Rattle.mutex_core.specs.Edges.{acquires, releases};
 ghost use Rattle.mutex_core.specs.MutexMachine.{next};
 ghost use Rattle.ruled_object.specs.Growth.{IsLawful, KeepsNote};
-ghost use Rattle.ruled_object.specs.Passes.{left_of, number_of};
+ghost use Rattle.ruled_object.specs.Passes.{left_of, IsOneLess};
 ghost use Rattle.go_locks.specs.Calls.{Did};
 ghost use Rattle.go_locks.specs.Mutexes.{mutex_start, IsHomeOfMutex, IsPassOfMutex};
 ghost use Rattle.go_locks.specs.MutexCalls.{Locks, Tries, Unlocks, AreClocked};
 
 use super::events::has_mutex;
 use super::{Mutex, MutexPass};
-use crate::making::spend;
-use mutex_core::MutexEvent;
+use mutex_core::{MutexCore, MutexEvent};
+use ruled_object::laws::growth;
 use std::sync::Wait;
 use sync_model::{Answer, Misuse, Note};
 use sync_outside::{At, Clock};
@@ -34,13 +34,14 @@ impl<N: Note> Mutex<N> {
         requires pass { IsPassOfMutex self.now pass.old }
         requires left { 0 < left_of pass.old }
         requires home { IsHomeOfMutex N.at self.now at.now.home.now × N.at at.now.home.now note.old }
-        ensures pass { IsPassOfMutex self.now pass.new × (number_of pass.new ≡ number_of pass.old) × (left_of pass.new + 1 ≡ left_of pass.old) }
+        ensures pass { IsPassOfMutex self.now pass.new × IsOneLess pass.old pass.new }
         ensures note { KeepsNote N.at N.own N.front note.old note.new }
         ensures events { Did next (mutex_start self.now) Locks (AreClocked (C.shows at.now.clock.now)) pass.old (N.front note.old) result pass.new (N.front note.new) }
         ensures halted { (misuse : Misuse) → result ≡ Halted misuse → N.front note.new ≡ N.front note.old }
         ensures journal { IsLawful next true (λ event reply. releases reply) (λ event reply. acquires reply) (mutex_start self.now) pass.new }
     {
-        spend(&self.object, pass);
+        growth::<MutexCore, N>();
+        self.object.spend(pass);
         self.lock_within(rt, at, pass, note)
     }
 
@@ -57,13 +58,13 @@ impl<N: Note> Mutex<N> {
         requires pass { IsPassOfMutex self.now pass.old }
         requires left { 0 < left_of pass.old }
         requires home { IsHomeOfMutex N.at self.now at.now.home.now × N.at at.now.home.now note.old }
-        ensures pass { IsPassOfMutex self.now pass.new × (number_of pass.new ≡ number_of pass.old) × (left_of pass.new + 1 ≡ left_of pass.old) }
+        ensures pass { IsPassOfMutex self.now pass.new × IsOneLess pass.old pass.new }
         ensures note { KeepsNote N.at N.own N.front note.old note.new }
         ensures events { Did next (mutex_start self.now) Tries (AreClocked (C.shows at.now.clock.now)) pass.old (N.front note.old) result pass.new (N.front note.new) }
         ensures no_edge { result ≢ Done true → N.front note.new ≡ N.front note.old }
         ensures journal { IsLawful next true (λ event reply. releases reply) (λ event reply. acquires reply) (mutex_start self.now) pass.new }
     {
-        spend(&self.object, pass);
+        self.object.spend(pass);
         match self.event(rt, at.home, pass, note, MutexEvent::Try) {
             Answer::Halted(misuse) => Answer::Halted(misuse),
             Answer::Done(reply) => Answer::Done(has_mutex(&reply)),
@@ -83,13 +84,14 @@ impl<N: Note> Mutex<N> {
         requires pass { IsPassOfMutex self.now pass.old }
         requires left { 0 < left_of pass.old }
         requires home { IsHomeOfMutex N.at self.now at.now.home.now × N.at at.now.home.now note.old }
-        ensures pass { IsPassOfMutex self.now pass.new × (number_of pass.new ≡ number_of pass.old) × (left_of pass.new + 1 ≡ left_of pass.old) }
+        ensures pass { IsPassOfMutex self.now pass.new × IsOneLess pass.old pass.new }
         ensures note { KeepsNote N.at N.own N.front note.old note.new }
         ensures events { Did next (mutex_start self.now) Unlocks (AreClocked (C.shows at.now.clock.now)) pass.old (N.front note.old) result pass.new (N.front note.new) }
         ensures no_edge { N.front note.new ≡ N.front note.old }
         ensures journal { IsLawful next true (λ event reply. releases reply) (λ event reply. acquires reply) (mutex_start self.now) pass.new }
     {
-        spend(&self.object, pass);
+        growth::<MutexCore, N>();
+        self.object.spend(pass);
         self.unlock_within(rt, at, pass, note)
     }
 }

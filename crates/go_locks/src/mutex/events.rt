@@ -19,8 +19,9 @@ ghost use Rattle.go_locks.specs.Mutexes.{mutex_callers, mutex_start, IsHomeOfMut
 
 use super::{Mutex, MutexPass};
 use mutex_core::{Arrival, MutexCore, MutexEvent, MutexReply, Resumption, Unlocking, laws};
-use ruled_object::laws::{growth, journal_is_log};
+use ruled_object::laws::growth;
 use std::sync::Wait;
+use sync_model::laws::journals::journal_is_log;
 use sync_model::{Answer, Misuse, Note};
 
 // Whether the caller has the mutex from this answer on.

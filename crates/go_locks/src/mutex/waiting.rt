@@ -16,6 +16,7 @@ ghost use Rattle.go_locks.specs.MutexCalls.{Waits, Locks, AreClocked};
 use super::events::has_mutex;
 use super::{Mutex, MutexPass};
 use mutex_core::MutexEvent;
+use ruled_object::laws::notes_are_kept;
 use std::sync::Wait;
 use sync_model::{Answer, Note};
 use sync_outside::{At, Clock};
@@ -41,6 +42,7 @@ impl<N: Note> Mutex<N> {
         ensures halted { (misuse : Misuse) → result ≡ Halted misuse → N.front note.new ≡ N.front note.old }
         ensures journal { IsLawful next true (λ event reply. releases reply) (λ event reply. acquires reply) (mutex_start self.now) pass.new }
     {
+        notes_are_kept::<N>();
         for _ in rt.forever() {
             self.object.park(rt, pass);
             let now = at.clock.now();

@@ -13,7 +13,7 @@ ghost use Rattle.go_locks.specs.MutexCalls.{Locks, Unlocks, AreClocked};
 use super::events::has_mutex;
 use super::{Mutex, MutexPass};
 use mutex_core::{MutexCore, MutexEvent};
-use ruled_object::laws::spending;
+use ruled_object::laws::{growth, notes_are_kept};
 use std::sync::Wait;
 use sync_model::{Answer, Misuse, Note};
 use sync_outside::{At, Clock};
@@ -24,8 +24,7 @@ impl<N: Note> Mutex<N> {
         requires { IsPassOfMutex self.now pass.old × (0 < left_of pass.old) }
         ensures { IsPassOfMutex self.now pass.new × IsSpent pass.old pass.new }
     {
-        spending::<MutexCore, N>();
-        pass.spend();
+        self.object.spend(pass);
     }
 
     /// The events of `lock`, and its answer. It takes nothing off the calls that are left.
@@ -44,6 +43,8 @@ impl<N: Note> Mutex<N> {
         ensures halted { (misuse : Misuse) → result ≡ Halted misuse → N.front note.new ≡ N.front note.old }
         ensures journal { IsLawful next true (λ event reply. releases reply) (λ event reply. acquires reply) (mutex_start self.now) pass.new }
     {
+        growth::<MutexCore, N>();
+        notes_are_kept::<N>();
         let now = at.clock.now();
         match self.event(rt, at.home, pass, note, MutexEvent::Arrive { now }) {
             Answer::Halted(misuse) => Answer::Halted(misuse),
@@ -72,6 +73,7 @@ impl<N: Note> Mutex<N> {
         ensures no_edge { N.front note.new ≡ N.front note.old }
         ensures journal { IsLawful next true (λ event reply. releases reply) (λ event reply. acquires reply) (mutex_start self.now) pass.new }
     {
+        growth::<MutexCore, N>();
         match self.event(rt, at.home, pass, note, MutexEvent::Unlock) {
             Answer::Halted(misuse) => Answer::Halted(misuse),
             Answer::Done(reply) => Answer::Done(self.unlocked(reply)),

@@ -18,10 +18,11 @@ ghost use Rattle.go_locks.specs.RwCalls.{answer_of};
 ghost use Rattle.go_locks.specs.RwMutexes.{rw_callers, rw_start, IsHomeOfRwMutex};
 
 use super::{RwMutex, RwPass};
-use ruled_object::laws::{growth, journal_is_log};
+use ruled_object::laws::growth;
 use rw_core::reply::{Arrival, Resumption, Unlocking};
 use rw_core::{RwCore, RwEvent, RwReply, laws};
 use std::sync::Wait;
+use sync_model::laws::journals::journal_is_log;
 use sync_model::{Answer, Misuse, Note};
 
 // Whether this answer completes a lock of the caller.

@@ -8,14 +8,14 @@ ghost use Rattle.rw_core.specs.Edges.{acquires, releases};
 ghost use Rattle.rw_core.specs.RwMachine.{State, next};
 ghost use Rattle.ruled_object.specs.declared.pass.Pass.{Pass};
 ghost use Rattle.ruled_object.specs.Growth.{Placed, deeds_of, Grows, IsLawful, KeepsNote};
-ghost use Rattle.ruled_object.specs.Passes.{left_of, number_of, IsPassOf, SamePass};
+ghost use Rattle.ruled_object.specs.Passes.{left_of, IsOneLess, IsPassOf, SamePass};
 ghost use Rattle.go_locks.specs.Calls.{Did};
 ghost use Rattle.go_locks.specs.RwMutexes.{rw_start, IsHomeOfRwMutex, IsPassOfRwMutex};
 ghost use Rattle.go_locks.specs.RwCalls.{WriteWaits, WriteLocks, Tries, Unlocks, GoesOn, AreClocked};
 
 use super::events::has_lock;
 use super::{RwMutex, RwPass};
-use crate::making::spend;
+use ruled_object::laws::notes_are_kept;
 use rw_core::RwEvent;
 use std::sync::Wait;
 use sync_model::{Answer, Misuse, Note};
@@ -36,13 +36,14 @@ impl<N: Note> RwMutex<N> {
         requires pass { IsPassOfRwMutex self.now pass.old }
         requires left { 0 < left_of pass.old }
         requires home { IsHomeOfRwMutex N.at self.now at.now.home.now × N.at at.now.home.now note.old }
-        ensures pass { IsPassOfRwMutex self.now pass.new × (number_of pass.new ≡ number_of pass.old) × (left_of pass.new + 1 ≡ left_of pass.old) }
+        ensures pass { IsPassOfRwMutex self.now pass.new × IsOneLess pass.old pass.new }
         ensures note { KeepsNote N.at N.own N.front note.old note.new }
         ensures events { Did next (rw_start self.now) WriteLocks (AreClocked (C.shows at.now.clock.now)) pass.old (N.front note.old) result pass.new (N.front note.new) }
         ensures halted { (misuse : Misuse) → result ≡ Halted misuse → N.front note.new ≡ N.front note.old }
         ensures journal { IsLawful next true (λ event reply. releases reply) (λ event reply. acquires reply) (rw_start self.now) pass.new }
     {
-        spend(&self.object, pass);
+        notes_are_kept::<N>();
+        self.object.spend(pass);
         let now = at.clock.now();
         match self.event(rt, at.home, pass, note, RwEvent::WriteArrive { now }) {
             Answer::Halted(misuse) => Answer::Halted(misuse),
@@ -74,6 +75,7 @@ impl<N: Note> RwMutex<N> {
         ensures halted { (misuse : Misuse) → result ≡ Halted misuse → N.front note.new ≡ N.front note.old }
         ensures journal { IsLawful next true (λ event reply. releases reply) (λ event reply. acquires reply) (rw_start self.now) pass.new }
     {
+        notes_are_kept::<N>();
         let mut has_slept = false;
         for _ in rt.forever() {
             let event = self.next_event(rt, at, pass, has_slept);
@@ -121,13 +123,13 @@ impl<N: Note> RwMutex<N> {
         requires pass { IsPassOfRwMutex self.now pass.old }
         requires left { 0 < left_of pass.old }
         requires home { IsHomeOfRwMutex N.at self.now at.now.home.now × N.at at.now.home.now note.old }
-        ensures pass { IsPassOfRwMutex self.now pass.new × (number_of pass.new ≡ number_of pass.old) × (left_of pass.new + 1 ≡ left_of pass.old) }
+        ensures pass { IsPassOfRwMutex self.now pass.new × IsOneLess pass.old pass.new }
         ensures note { KeepsNote N.at N.own N.front note.old note.new }
         ensures events { Did next (rw_start self.now) (Tries RwEvent.WriteTry) (AreClocked (C.shows at.now.clock.now)) pass.old (N.front note.old) result pass.new (N.front note.new) }
         ensures no_edge { result ≢ Done true → N.front note.new ≡ N.front note.old }
         ensures journal { IsLawful next true (λ event reply. releases reply) (λ event reply. acquires reply) (rw_start self.now) pass.new }
     {
-        spend(&self.object, pass);
+        self.object.spend(pass);
         match self.event(rt, at.home, pass, note, RwEvent::WriteTry) {
             Answer::Halted(misuse) => Answer::Halted(misuse),
             Answer::Done(reply) => Answer::Done(has_lock(&reply)),
@@ -147,13 +149,13 @@ impl<N: Note> RwMutex<N> {
         requires pass { IsPassOfRwMutex self.now pass.old }
         requires left { 0 < left_of pass.old }
         requires home { IsHomeOfRwMutex N.at self.now at.now.home.now × N.at at.now.home.now note.old }
-        ensures pass { IsPassOfRwMutex self.now pass.new × (number_of pass.new ≡ number_of pass.old) × (left_of pass.new + 1 ≡ left_of pass.old) }
+        ensures pass { IsPassOfRwMutex self.now pass.new × IsOneLess pass.old pass.new }
         ensures note { KeepsNote N.at N.own N.front note.old note.new }
         ensures events { Did next (rw_start self.now) (Unlocks RwEvent.WriteUnlock) (AreClocked (C.shows at.now.clock.now)) pass.old (N.front note.old) result pass.new (N.front note.new) }
         ensures no_edge { N.front note.new ≡ N.front note.old }
         ensures journal { IsLawful next true (λ event reply. releases reply) (λ event reply. acquires reply) (rw_start self.now) pass.new }
     {
-        spend(&self.object, pass);
+        self.object.spend(pass);
         match self.event(rt, at.home, pass, note, RwEvent::WriteUnlock) {
             Answer::Halted(misuse) => Answer::Halted(misuse),
             Answer::Done(reply) => Answer::Done(self.unlocked(pass.number(), reply)),

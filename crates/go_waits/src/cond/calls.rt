@@ -2,8 +2,7 @@
 ghost use Rattle.std.specs.Prelude.{◌<◌};
 ghost use Rattle.wait_cores.specs.declared.notify.NotifyEvent.{NotifyEvent};
 ghost use Rattle.ruled_object.specs.Growth.{KeepsNote};
-ghost use Rattle.ruled_object.specs.Passes.{left_of};
-ghost use Rattle.go_waits.specs.Making.{IsOneLess};
+ghost use Rattle.ruled_object.specs.Passes.{left_of, IsOneLess};
 ghost use Rattle.go_waits.specs.CondCalls.{CondDid, Makes};
 ghost use Rattle.go_waits.specs.Conds.{IsHomeOf, IsPassOf, IsCondLawful};
 

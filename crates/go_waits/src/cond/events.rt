@@ -2,13 +2,13 @@
 ghost use Rattle.std.specs.Prelude.{◌≢◌, ◌<◌};
 ghost use Rattle.wait_cores.specs.declared.notify.NotifyEvent.{NotifyEvent};
 ghost use Rattle.ruled_object.specs.Growth.{KeepsNote};
-ghost use Rattle.ruled_object.specs.Passes.{left_of, SamePass};
-ghost use Rattle.go_waits.specs.Making.{IsOneLess};
+ghost use Rattle.ruled_object.specs.Passes.{left_of, IsOneLess, SamePass};
 ghost use Rattle.go_waits.specs.CondCalls.{CondDid, Makes, Leaves};
 ghost use Rattle.go_waits.specs.Conds.{Answers, CondMakes, IsHomeOf, IsPassOf, IsCondLawful};
 
 use super::{Cond, CondPass};
-use crate::{leaving, making};
+use crate::leaving;
+use ruled_object::laws::growth;
 use std::sync::Wait;
 use sync_model::{Answer, Note};
 use wait_cores::laws::notify::answers_its_callers;
@@ -33,7 +33,7 @@ impl<N: Note> Cond<N> {
         ensures journal { IsCondLawful self.now pass.new }
     {
         answers_its_callers();
-        making::begin::<NotifyCore, N, R>(&self.object, rt, home, pass, note, event)
+        self.object.begin(rt, home, pass, note, event)
     }
 
     // Takes one call off the pass, and makes an event that asks for no place.
@@ -74,6 +74,7 @@ impl<N: Note> Cond<N> {
         ensures events { CondDid self.now Leaves pass.old (N.front note.old) result pass.new (N.front note.new) }
         ensures journal { IsCondLawful self.now pass.new }
     {
+        growth::<NotifyCore, N>();
         match leaving::leave::<NotifyCore, N, R>(&self.object, rt, home, pass, note) {
             Answer::Done(_) => Answer::Done(()),
             Answer::Halted(misuse) => Answer::Halted(misuse),

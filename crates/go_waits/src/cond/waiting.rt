@@ -1,9 +1,8 @@
 //! A cond's `wait`, step by step.
 ghost use Rattle.std.specs.Prelude.{◌<◌};
 ghost use Rattle.ruled_object.specs.Growth.{KeepsNote};
-ghost use Rattle.ruled_object.specs.Passes.{left_of, IsSpent, SamePass};
+ghost use Rattle.ruled_object.specs.Passes.{left_of, IsOneLess, IsSpent, SamePass};
 ghost use Rattle.go_locks.specs.Mutexes.{IsHomeOfMutex, IsPassOfMutex};
-ghost use Rattle.go_waits.specs.Making.{IsOneLess};
 ghost use Rattle.go_waits.specs.CondCalls.{Returns, GivesUp, Waits};
 ghost use Rattle.go_waits.specs.Conds.{MutexPass, IsHomeOf, IsPassOf, IsCondLawful, IsMutexLawful};
 

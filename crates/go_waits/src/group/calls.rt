@@ -2,13 +2,12 @@
 ghost use Rattle.std.specs.Prelude.{◌<◌, List, negsuc};
 ghost use Rattle.ruled_object.specs.Growth.{Placed, KeepsNote, MeetsHalt, deeds_of};
 ghost use Rattle.sync_model.specs.declared.answer.Answer.{Answer};
-ghost use Rattle.ruled_object.specs.Passes.{left_of, SamePass};
+ghost use Rattle.ruled_object.specs.Passes.{left_of, IsOneLess, SamePass};
 ghost use Rattle.ruled_object.specs.Passes as object;
 ghost use Rattle.wait_cores.specs.declared.group.GroupEvent.{GroupEvent};
 ghost use Rattle.wait_cores.specs.declared.group.GroupReply.{GroupReply};
 ghost use Rattle.go_waits.specs.GroupCalls.{Adds, Waits};
 ghost use Rattle.go_waits.specs.Groups.{GroupGrows, GroupLeaves, IsLeft, IsHomeOf, IsPassOf, IsGroupLawful};
-ghost use Rattle.go_waits.specs.Making.{IsOneLess};
 
 use super::{GroupPass, WaitGroup};
 use ruled_object::laws::growth;

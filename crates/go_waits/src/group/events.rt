@@ -3,14 +3,14 @@ ghost use Rattle.std.specs.Prelude.{◌≡◌, ◌<◌, false};
 ghost use Rattle.wait_cores.specs.GroupStanding.{waits_after};
 ghost use Rattle.ruled_object.specs.Cells.{deed_of};
 ghost use Rattle.ruled_object.specs.Growth.{KeepsNote};
-ghost use Rattle.ruled_object.specs.Passes.{left_of, own_by, SamePass};
+ghost use Rattle.ruled_object.specs.Passes.{left_of, own_by, IsOneLess, SamePass};
 ghost use Rattle.ruled_object.specs.Passes as object;
-ghost use Rattle.go_waits.specs.Making.{IsOneLess};
 ghost use Rattle.ruled_object.specs.Standing.{stand_next};
 ghost use Rattle.go_waits.specs.Groups.{GroupMakes, GroupLeaves, IsReleased, Answers, waits_by, IsHomeOf, IsPassOf, IsGroupLawful};
 
 use super::{GroupPass, WaitGroup};
-use crate::{leaving, making};
+use crate::leaving;
+use ruled_object::laws::standing;
 use std::sync::Wait;
 use sync_model::{Answer, Note};
 use wait_cores::laws::group::knows_where_it_stands;
@@ -36,7 +36,8 @@ impl<N: Note> WaitGroup<N> {
         ensures journal { IsGroupLawful self.now pass.new }
     {
         knows_where_it_stands();
-        making::begin::<GroupCore, N, R>(&self.object, rt, home, pass, note, event)
+        standing::<GroupCore, bool>();
+        self.object.begin(rt, home, pass, note, event)
     }
 
     // Sleeps until the caller is released, and leaves.
@@ -57,6 +58,7 @@ impl<N: Note> WaitGroup<N> {
         ensures journal { IsGroupLawful self.now pass.new }
     {
         knows_where_it_stands();
+        standing::<GroupCore, bool>();
         leaving::leave::<GroupCore, N, R>(&self.object, rt, home, pass, note)
     }
 }

@@ -7,8 +7,10 @@ ghost use Rattle.ruled_object.specs.Passes.{SamePass};
 ghost use Rattle.go_waits.specs.Groups.{GroupJournal, GroupMade, GroupHalts, AreAllPasses, IsPassOf, IsGroupWhole, IsGroupSeen};
 
 use super::{GroupPass, WaitGroup};
+use ruled_object::laws::standing;
 use std::sync::Wait;
 use sync_model::{Misuse, Note};
+use wait_cores::GroupCore;
 
 impl<N: Note> WaitGroup<N> {
     /// Halts the group by a misuse, and wakes all who wait: from then on each call is answered `Halted` with the first
@@ -18,6 +20,7 @@ impl<N: Note> WaitGroup<N> {
         ensures pass { IsPassOf self.now pass.new × SamePass pass.old pass.new }
         ensures entry { (e : GroupMade) × GroupHalts self.now pass.old e pass.new × (e.deed ≡ Halt misuse) × (e.front ≡ N.front note.now) }
     {
+        standing::<GroupCore, bool>();
         self.object.halt(rt, pass, note, misuse);
         self.object.unpark_others(pass.number());
     }

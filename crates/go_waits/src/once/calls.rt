@@ -4,9 +4,8 @@ ghost use Rattle.sync_model.specs.declared.answer.Answer.{Answer};
 ghost use Rattle.wait_cores.specs.declared.once.OnceEvent.{OnceEvent};
 ghost use Rattle.wait_cores.specs.declared.once.OnceReply.{OnceReply};
 ghost use Rattle.ruled_object.specs.Growth.{Placed, KeepsNote, MeetsHalt, deeds_of};
-ghost use Rattle.ruled_object.specs.Passes.{left_of, number_of, own_by, SamePass};
+ghost use Rattle.ruled_object.specs.Passes.{left_of, number_of, own_by, IsOneLess, SamePass};
 ghost use Rattle.ruled_object.specs.Passes as object;
-ghost use Rattle.go_waits.specs.Making.{IsOneLess};
 ghost use Rattle.go_waits.specs.OnceCalls.{Begins, Ends, RunsOnce, StandsAs};
 ghost use Rattle.go_waits.specs.Onces.{runs_by, OnceGrows, OnceLeaves, IsLeft, IsHomeOf, IsPassOf, IsRunnerOf, IsOnceLawful};
 

@@ -1,17 +1,17 @@
 //! One event of a caller of a once.
 ghost use Rattle.std.specs.Prelude.{◌≡◌, ◌<◌, true, false};
 ghost use Rattle.ruled_object.specs.Growth.{KeepsNote};
-ghost use Rattle.ruled_object.specs.Passes.{left_of, own_by, SamePass};
+ghost use Rattle.ruled_object.specs.Passes.{left_of, own_by, IsOneLess, SamePass};
 ghost use Rattle.ruled_object.specs.Passes as object;
-ghost use Rattle.go_waits.specs.Making.{IsOneLess};
 ghost use Rattle.go_waits.specs.OnceCalls.{RunsOnce};
 ghost use Rattle.wait_cores.specs.declared.once.OnceEvent.{OnceEvent};
 ghost use Rattle.go_waits.specs.Onces.{OnceMakes, OnceLeaves, IsReleased, Answers, waits_by, runs_by, waits_then, runs_then, IsHomeOf, IsPassOf, IsRunnerOf, IsOnceLawful};
 
 use super::{Once, OncePass};
-use crate::{leaving, making};
-use ruled_object::laws::journal_is_log;
+use crate::leaving;
+use ruled_object::laws::standing;
 use std::sync::Wait;
+use sync_model::laws::journals::journal_is_log;
 use sync_model::{Answer, Note};
 use wait_cores::laws::once::{knows_where_it_stands, runs_once};
 use wait_cores::{OnceCore, OnceEvent, OnceReply};
@@ -37,9 +37,10 @@ impl<T: Copy, N: Note> Once<T, N> {
         ensures journal { IsOnceLawful self.now pass.new }
     {
         knows_where_it_stands::<T>();
+        standing::<OnceCore<T>, bool>();
         journal_is_log::<OnceCore<T>>();
         runs_once::<T>();
-        making::begin::<OnceCore<T>, N, R>(&self.object, rt, home, pass, note, OnceEvent::Begin)
+        self.object.begin(rt, home, pass, note, OnceEvent::Begin)
     }
 
     // Ends the function that the caller runs.
@@ -63,6 +64,7 @@ impl<T: Copy, N: Note> Once<T, N> {
         ensures journal { IsOnceLawful self.now pass.new }
     {
         knows_where_it_stands::<T>();
+        standing::<OnceCore<T>, bool>();
         journal_is_log::<OnceCore<T>>();
         runs_once::<T>();
         self.object.call(rt, home, pass, note, OnceEvent::End(kept))
@@ -89,6 +91,7 @@ impl<T: Copy, N: Note> Once<T, N> {
         ensures journal { IsOnceLawful self.now pass.new }
     {
         knows_where_it_stands::<T>();
+        standing::<OnceCore<T>, bool>();
         journal_is_log::<OnceCore<T>>();
         runs_once::<T>();
         leaving::leave::<OnceCore<T>, N, R>(&self.object, rt, home, pass, note)

@@ -7,8 +7,10 @@ ghost use Rattle.ruled_object.specs.Passes.{SamePass};
 ghost use Rattle.go_waits.specs.Onces.{OnceJournal, OnceMade, OnceHalts, AreAllPasses, IsPassOf, IsOnceWhole, IsOnceSeen};
 
 use super::{Once, OncePass};
+use ruled_object::laws::standing;
 use std::sync::Wait;
 use sync_model::{Misuse, Note};
+use wait_cores::OnceCore;
 
 impl<T: Copy, N: Note> Once<T, N> {
     /// Halts the once by a misuse, and wakes all who wait: from then on each call is answered `Halted` with the first
@@ -18,6 +20,7 @@ impl<T: Copy, N: Note> Once<T, N> {
         ensures pass { IsPassOf self.now pass.new × SamePass pass.old pass.new }
         ensures entry { (e : OnceMade T) × OnceHalts self.now pass.old e pass.new × (e.deed ≡ Halt misuse) × (e.front ≡ N.front note.now) }
     {
+        standing::<OnceCore<T>, bool>();
         self.object.halt(rt, pass, note, misuse);
         self.object.unpark_others(pass.number());
     }

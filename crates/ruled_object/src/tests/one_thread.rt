@@ -66,10 +66,10 @@ fn no_halt_is_none_and_calls_go_on(rt: HostRuntime) -> Result<(), Fail> {
 
 #[test]
 fn a_pass_counts_its_calls_down(rt: HostRuntime) -> Result<(), Fail> {
-    let (_object, mut pass, _) = duo::<Counter>(rt.alloc(), 0)?;
+    let (object, mut pass, _) = duo::<Counter>(rt.alloc(), 0)?;
     for left in [3, 2, 1] {
         assert_eq!(rt; (pass.number(), pass.left()), (0, left));
-        pass.spend();
+        object.spend(&mut pass);
     }
     Ok(())
 }

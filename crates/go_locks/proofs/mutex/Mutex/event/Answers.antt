@@ -4,7 +4,6 @@ use Rattle.mutex_core.specs.Edges.{acquires}
 use Rattle.mutex_core.specs.MutexMachine.{next}
 use Rattle.ruled_object.specs.Cells.{deed_of}
 use Rattle.ruled_object.specs.Passes.{number_of, own_by, callers_of, start_of}
-use Rattle.go_locks.proofs.Spelling.{meets-snoc}
 use Rattle.go_locks.proofs.MutexStanding.{Stands, answers_out}
 use Rattle.go_locks.proofs.mutex.Mutex.event.Goals as goal
 
@@ -32,7 +31,7 @@ returns-clause-entry g c =
       made.deed,
       (λ first from es grows. (
         c.growth.ensures.both (start_of c.args.self.now.object) first c.args.pass.now c.call.new.pass es (p ∷ []) from (front c.args.note.now) (front c.call.new.note) grows made.grows,
-        meets-snoc es p c.call.result made.halted,
+        c.growth.ensures.halted es p c.call.result made.halted,
       )),
     )
 

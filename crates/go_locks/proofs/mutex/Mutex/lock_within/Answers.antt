@@ -10,7 +10,7 @@ use Rattle.ruled_object.specs.Cells.{deed_of}
 use Rattle.ruled_object.specs.Growth.{MeetsHalt}
 use Rattle.go_locks.specs.MutexCalls.{Waits, queued, Locks, at_once, refused, AreClocked}
 use Rattle.go_locks.specs.Mutexes.{mutex_start}
-use Rattle.go_locks.proofs.Spelling.{grows_none, did_one, free_one, free_after, keeps_both}
+use Rattle.go_locks.proofs.Spelling.{did_one, free_one, free_after}
 use Rattle.go_locks.proofs.MutexCalls.{arrived_has, arrived_waits, locks_free}
 use Rattle.go_locks.proofs.mutex.Mutex.lock_within.Goals as goal
 
@@ -24,7 +24,7 @@ returns-in-Halted-clause-pass g c =
     let to = g.N.Note.front c.event.new.note in
     let entry = c.event.ensures.entry in
     let now = c.now-now.result in
-    let grows = (entry.3 old from [] (grows_none next start old from)).0 in
+    let grows = (entry.3 old from [] (c.growth.ensures.nothing start old from)).0 in
     let deed = entry.2 ∙ ap (deed_of (Arrive now)) c.in-Halted.is in
     let free = free_one next start waits_after old new from to entry.0 (Refused (Arrive now) c.in-Halted.misuse) deed grows c.requires.pass.free refl in
     (record { of = c.event.ensures.pass.0; free = free }, c.event.ensures.pass.1)
@@ -39,7 +39,7 @@ returns-in-Halted-clause-events g c =
     let to = g.N.Note.front c.event.new.note in
     let entry = c.event.ensures.entry in
     let now = c.now-now.result in
-    let grown = entry.3 old from [] (grows_none next start old from) in
+    let grown = entry.3 old from [] (c.growth.ensures.nothing start old from) in
     let deed = entry.2 ∙ ap (deed_of (Arrive now)) c.in-Halted.is in
     did_one next start Locks (AreClocked (g.C.Clock.shows c.args.at.now.clock.now)) old new from to (Halted c.in-Halted.misuse) entry.0 (Refused (Arrive now) c.in-Halted.misuse) deed grown.0 (refused now c.in-Halted.misuse)
     (subst (MeetsHalt (entry.0 ∷ [])) c.in-Halted.is grown.1) (c.now-now.ensures, tt)
@@ -55,7 +55,7 @@ returns-then-has_mutex-clause-pass g c =
     let entry = c.event.ensures.entry in
     let now = c.now-now.result in
     let reply = c.in-Done.reply in
-    let grows = (entry.3 old from [] (grows_none next start old from)).0 in
+    let grows = (entry.3 old from [] (c.growth.ensures.nothing start old from)).0 in
     let answer = c.event.ensures.out reply c.in-Done.is c.requires.pass.free refl in
     let is = arrived_has now reply answer (sym c.has_mutex.ensures ∙ c.if-has_mutex.true) in
     let deed = entry.2 ∙ (ap (deed_of (Arrive now)) c.in-Done.is ∙ ap (Event (Arrive now)) is) in
@@ -73,7 +73,7 @@ returns-then-has_mutex-clause-events g c =
     let entry = c.event.ensures.entry in
     let now = c.now-now.result in
     let reply = c.in-Done.reply in
-    let grown = entry.3 old from [] (grows_none next start old from) in
+    let grown = entry.3 old from [] (c.growth.ensures.nothing start old from) in
     let answer = c.event.ensures.out reply c.in-Done.is c.requires.pass.free refl in
     let is = arrived_has now reply answer (sym c.has_mutex.ensures ∙ c.if-has_mutex.true) in
     let deed = entry.2 ∙ (ap (deed_of (Arrive now)) c.in-Done.is ∙ ap (Event (Arrive now)) is) in
@@ -88,7 +88,7 @@ returns-else-has_mutex-clause-events g c =
     let now = c.now-now.result in
     let reply = c.in-Done.reply in
     let shows = g.C.Clock.shows c.args.at.now.clock.now in
-    let grows = (entry.3 old from [] (grows_none next (mutex_start c.args.self.now) old from)).0 in
+    let grows = (entry.3 old from [] (c.growth.ensures.nothing (mutex_start c.args.self.now) old from)).0 in
     let answer = c.event.ensures.out reply c.in-Done.is c.requires.pass.free refl in
     let is = arrived_waits now reply answer (sym c.has_mutex.ensures ∙ c.if-has_mutex.false) in
     let deed = entry.2 ∙ (ap (deed_of (Arrive now)) c.in-Done.is ∙ ap (Event (Arrive now)) is.1) in
@@ -106,7 +106,7 @@ returns-else-has_mutex-clause-pass g c =
     (record { of = c.wait.ensures.pass.0; free = free }, (last.0 ∙ first.0, last.1 ∙ first.1))
 
 pub returns-else-has_mutex-clause-note : goal.returns-else-has_mutex-clause-note
-returns-else-has_mutex-clause-note g c = let n = g.N.Note in keeps_both n.at n.own n.front c.args.note.now c.event.new.note c.wait.new.note c.event.ensures.note c.wait.ensures.note
+returns-else-has_mutex-clause-note g c = c.notes_are_kept.ensures c.args.note.now c.event.new.note c.wait.new.note c.event.ensures.note c.wait.ensures.note
 
 pub returns-in-Halted-clause-halted : goal.returns-in-Halted-clause-halted
 returns-in-Halted-clause-halted g c misuse is = c.event.ensures.halted c.in-Halted.misuse c.in-Halted.is

@@ -10,7 +10,7 @@ use Rattle.ruled_object.specs.Cells.{deed_of}
 use Rattle.ruled_object.specs.Growth.{MeetsHalt}
 use Rattle.go_locks.specs.MutexCalls.{Unlocks, AreClocked, answer_of, unlocked, refused}
 use Rattle.go_locks.specs.Mutexes.{mutex_start}
-use Rattle.go_locks.proofs.Spelling.{grows_none, did_one, free_one}
+use Rattle.go_locks.proofs.Spelling.{did_one, free_one}
 use Rattle.go_locks.proofs.MutexCalls.{unlocked_is}
 use Rattle.go_locks.proofs.mutex.Mutex.unlock_within.Goals as goal
 
@@ -23,7 +23,7 @@ returns-in-Halted-clause-pass g c =
     let from = g.N.Note.front c.args.note.now in
     let to = g.N.Note.front c.event.new.note in
     let entry = c.event.ensures.entry in
-    let grows = (entry.3 old from [] (grows_none next start old from)).0 in
+    let grows = (entry.3 old from [] (c.growth.ensures.nothing start old from)).0 in
     let deed = entry.2 ∙ ap (deed_of Unlock) c.in-Halted.is in
     let free = free_one next start waits_after old new from to entry.0 (Refused Unlock c.in-Halted.misuse) deed grows c.requires.pass.free refl in
     (record { of = c.event.ensures.pass.0; free = free }, c.event.ensures.pass.1)
@@ -37,7 +37,7 @@ returns-in-Halted-clause-events g c =
     let from = g.N.Note.front c.args.note.now in
     let to = g.N.Note.front c.event.new.note in
     let entry = c.event.ensures.entry in
-    let grown = entry.3 old from [] (grows_none next start old from) in
+    let grown = entry.3 old from [] (c.growth.ensures.nothing start old from) in
     let deed = entry.2 ∙ ap (deed_of Unlock) c.in-Halted.is in
     did_one next start Unlocks (AreClocked (g.C.Clock.shows c.args.at.now.clock.now)) old new from to _ entry.0 (Refused Unlock c.in-Halted.misuse) deed grown.0 (refused c.in-Halted.misuse) (subst (MeetsHalt (entry.0 ∷ [])) c.in-Halted.is grown.1) (tt, tt)
 
@@ -50,7 +50,7 @@ returns-in-Done-clause-pass g c =
     let from = g.N.Note.front c.args.note.now in
     let to = g.N.Note.front c.event.new.note in
     let entry = c.event.ensures.entry in
-    let grows = (entry.3 old from [] (grows_none next start old from)).0 in
+    let grows = (entry.3 old from [] (c.growth.ensures.nothing start old from)).0 in
     let reply = c.in-Done.reply in
     let is = unlocked_is reply (c.event.ensures.out reply c.in-Done.is c.requires.pass.free refl) in
     let deed = entry.2 ∙ (ap (deed_of Unlock) c.in-Done.is ∙ ap (Event Unlock) is.1) in
@@ -66,7 +66,7 @@ returns-in-Done-clause-events g c =
     let from = g.N.Note.front c.args.note.now in
     let to = g.N.Note.front c.event.new.note in
     let entry = c.event.ensures.entry in
-    let grown = entry.3 old from [] (grows_none next start old from) in
+    let grown = entry.3 old from [] (c.growth.ensures.nothing start old from) in
     let reply = c.in-Done.reply in
     let is = unlocked_is reply (c.event.ensures.out reply c.in-Done.is c.requires.pass.free refl) in
     let deed = entry.2 ∙ (ap (deed_of Unlock) c.in-Done.is ∙ ap (Event Unlock) is.1) in

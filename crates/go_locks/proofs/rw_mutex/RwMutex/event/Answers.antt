@@ -4,7 +4,6 @@ use Rattle.rw_core.specs.Edges.{acquires}
 use Rattle.rw_core.specs.RwMachine.{next}
 use Rattle.ruled_object.specs.Cells.{deed_of}
 use Rattle.ruled_object.specs.Passes.{number_of, own_by, callers_of, start_of}
-use Rattle.go_locks.proofs.Spelling.{meets-snoc}
 use Rattle.go_locks.proofs.RwStanding.{Stands, answers_any, answers_out}
 use Rattle.go_locks.proofs.rw_mutex.RwMutex.event.Goals as goal
 
@@ -43,7 +42,7 @@ returns-clause-entry g c =
       made.deed,
       (λ first from es grows. (
         c.growth.ensures.both (start_of c.args.self.now.object) first c.args.pass.now c.call.new.pass es (p ∷ []) from (front c.args.note.now) (front c.call.new.note) grows made.grows,
-        meets-snoc es p c.call.result made.halted,
+        c.growth.ensures.halted es p c.call.result made.halted,
       )),
     )
 

@@ -27,7 +27,7 @@ returns-in-Halted-clause-pass g c =
     let grows = (entry.3 old from [] (c.spend.ensures.nothing start from)).0 in
     let deed = entry.2 ∙ ap (deed_of WriteTry) c.in-Halted.is in
     let free = free_one next start waits_after old new from to entry.0 (Refused WriteTry c.in-Halted.misuse) deed grows c.requires.pass.free refl in
-    pass_after mutex old c.spend.new.pass new c.spend.ensures.pass.1 c.spend.ensures.pass.2 c.event.ensures.pass.0 c.event.ensures.pass.1 free
+    pass_after mutex old c.spend.new.pass new c.spend.ensures.less c.event.ensures.pass.0 c.event.ensures.pass.1 free
 
 pub returns-in-Halted-clause-events : goal.returns-in-Halted-clause-events
 returns-in-Halted-clause-events g c =
@@ -53,10 +53,10 @@ returns-in-Done-clause-pass g c =
     let entry = c.event.ensures.entry in
     let grows = (entry.3 old from [] (c.spend.ensures.nothing start from)).0 in
     let reply = c.in-Done.reply in
-    let is = writetry_is reply (c.event.ensures.out reply c.in-Done.is (ap (waits_by waits_after false) c.spend.ensures.pass.3 ∙ c.requires.pass.free) refl) in
+    let is = writetry_is reply (c.event.ensures.out reply c.in-Done.is (ap (waits_by waits_after false) c.spend.ensures.own ∙ c.requires.pass.free) refl) in
     let deed = entry.2 ∙ (ap (deed_of WriteTry) c.in-Done.is ∙ ap (Event WriteTry) is.1) in
     let free = free_one next start waits_after old new from to entry.0 (Event WriteTry (Tried is.0)) deed grows c.requires.pass.free refl in
-    pass_after mutex old c.spend.new.pass new c.spend.ensures.pass.1 c.spend.ensures.pass.2 c.event.ensures.pass.0 c.event.ensures.pass.1 free
+    pass_after mutex old c.spend.new.pass new c.spend.ensures.less c.event.ensures.pass.0 c.event.ensures.pass.1 free
 
 pub returns-in-Done-clause-events : goal.returns-in-Done-clause-events
 returns-in-Done-clause-events g c =
@@ -69,7 +69,7 @@ returns-in-Done-clause-events g c =
     let entry = c.event.ensures.entry in
     let grown = entry.3 old from [] (c.spend.ensures.nothing start from) in
     let reply = c.in-Done.reply in
-    let is = writetry_is reply (c.event.ensures.out reply c.in-Done.is (ap (waits_by waits_after false) c.spend.ensures.pass.3 ∙ c.requires.pass.free) refl) in
+    let is = writetry_is reply (c.event.ensures.out reply c.in-Done.is (ap (waits_by waits_after false) c.spend.ensures.own ∙ c.requires.pass.free) refl) in
     let deed = entry.2 ∙ (ap (deed_of WriteTry) c.in-Done.is ∙ ap (Event WriteTry) is.1) in
     let answer : c.has_lock.result ≡ is.0 = c.has_lock.ensures ∙ ap acquires is.1 in
     did_one next start (Tries WriteTry) (AreClocked (g.C.Clock.shows c.args.at.now.clock.now)) old new from to _ entry.0 (Event WriteTry (Tried is.0)) deed grown.0

@@ -6,7 +6,7 @@ use Rattle.rw_core.specs.declared.reply.RwReply.TheVariants.{Left}
 use Rattle.ruled_object.specs.Cells.{deed_of}
 use Rattle.ruled_object.specs.Growth.{deeds_of, MeetsHalt}
 use Rattle.go_locks.specs.RwCalls.{ReadWaits, ReadLocks, admitted, halted, IsClocked, AreClocked}
-use Rattle.go_locks.proofs.Spelling.{deeds-snoc, all-snoc, keeps_both}
+use Rattle.go_locks.proofs.Spelling.{deeds-snoc, all-snoc}
 use Rattle.go_locks.proofs.RwCalls.{leave_has, leave_waits}
 use Rattle.go_locks.proofs.rw_mutex.RwMutex.wait_to_read.Goals as goal
 
@@ -47,7 +47,6 @@ returns-then-has_lock-clause-events g c first from es grows waits timed =
 
 pub loop-preserved : goal.loop-preserved
 loop-preserved g c =
-    let n = g.N.Note in
     let entry = c.event.ensures.entry in
     let reply = c.in-Done.reply in
     let shows = g.C.Clock.shows c.args.at.now.clock.now in
@@ -57,7 +56,7 @@ loop-preserved g c =
       (tt, tt),
       c.event.ensures.pass.0,
       (same.0 ∙ before.0, same.1 ∙ before.1),
-      keeps_both n.at n.own n.front c.args.note.now c.loop.note c.event.new.note c.loop.invariant.3 c.event.ensures.note,
+      c.notes_are_kept.ensures c.args.note.now c.loop.note c.event.new.note c.loop.invariant.3 c.event.ensures.note,
       (λ first from es grows waits timed.
           let so_far = c.loop.invariant.4 first from es grows waits timed in
           let deeds = deeds-snoc so_far.0 entry.0 (Event Leave reply) deed in (

@@ -1,6 +1,7 @@
 use Rattle.std.proofs.Common.{◌<◌}
 use Rattle.ruled_object.specs.Growth.{KeepsNote}
-use Rattle.go_pool.specs.Pools.{IsPassOf, IsLawful, IsOneLess}
+use Rattle.ruled_object.specs.Passes.{IsOneLess}
+use Rattle.go_pool.specs.Pools.{IsPassOf, IsLawful}
 use Rattle.go_pool.proofs.Looked.{Looked}
 use Rattle.go_pool.proofs.pool.Pool.get.Given as goal
 

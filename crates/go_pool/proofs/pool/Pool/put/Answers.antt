@@ -9,7 +9,7 @@ returns-in-Done-Kept-clause-dropped g c =
     let new = c.call_once.new.pass in
     let made = rw c.in-Done-Kept.field-0-is at c.in-Done-Kept.ensures.event in
     let below : new.number < pool.callers = subst (λ (n : ℕ). new.number < n) pool.count c.call_once.ensures.pass.0.caller in
-    let own = found pool c.args.pass.now new (g.N.Note.front c.args.note.now) (g.N.Note.front c.call_once.new.note) made.0 c.args.item _ below made.1 c.call_once.ensures.journal made.2 c.journal_is_log.ensures c.drops_where_full.ensures in
+    let own = found pool c.args.pass.now new (g.N.Note.front c.args.note.now) (g.N.Note.front c.call_once.new.note) c.args.item _ below made c.call_once.ensures.journal c.journal_is_log.ensures c.drops_where_full.ensures in
     (own.0, own.1, kept_where (is_full pool.room own.0) c.args.item own.2)
 
 pub returns-in-Done-Dropped-clause-dropped : goal.returns-in-Done-Dropped-clause-dropped
@@ -18,6 +18,6 @@ returns-in-Done-Dropped-clause-dropped g c =
     let new = c.call_once.new.pass in
     let made = rw c.in-Done-Dropped.field-0-is at c.in-Done-Dropped.ensures.event in
     let below : new.number < pool.callers = subst (λ (n : ℕ). new.number < n) pool.count c.call_once.ensures.pass.0.caller in
-    let own = found pool c.args.pass.now new (g.N.Note.front c.args.note.now) (g.N.Note.front c.call_once.new.note) made.0 c.args.item _ below made.1 c.call_once.ensures.journal made.2 c.journal_is_log.ensures c.drops_where_full.ensures in
+    let own = found pool c.args.pass.now new (g.N.Note.front c.args.note.now) (g.N.Note.front c.call_once.new.note) c.args.item _ below made c.call_once.ensures.journal c.journal_is_log.ensures c.drops_where_full.ensures in
     let both = dropped_where (is_full pool.room own.0) c.args.item c.in-Done-Dropped.item own.2 in
     (own.0, own.1, both.0, both.1)

@@ -15,7 +15,7 @@ returns-in-Done-clause-events g c =
       first.0 ++ last.0,
       c.growth.ensures.both (start_of c.args.self.now) c.args.pass.now c.begin.new.pass c.end.new.pass first.0 last.0 (front c.args.note.now) (front c.begin.new.note) (front c.end.new.note) first.1 last.1,
       (c.function-outcome.ensures, deeds_run first.0 last.0 (Event (End tt) Ended) first.2 last.2),
-      meets-append {A = Unit {0}} first.0 last.0 (Event (End tt) Ended) (Done tt) last.2 last.3,
+      meets-append c.growth.ensures.halted first.0 last.0 (Event (End tt) Ended) (Done Ended) last.2 last.3,
     )
 
 pub returns-in-Halted-end-clause-events : goal.returns-in-Halted-end-clause-events
@@ -27,5 +27,5 @@ returns-in-Halted-end-clause-events g c =
       first.0 ++ last.0,
       c.growth.ensures.both (start_of c.args.self.now) c.args.pass.now c.begin.new.pass c.end.new.pass first.0 last.0 (front c.args.note.now) (front c.begin.new.note) (front c.end.new.note) first.1 last.1,
       inl (c.function-outcome.result, c.function-outcome.ensures, deeds_run first.0 last.0 (Refused (End tt) misuse) first.2 last.2),
-      meets-append {A = Unit {0}} first.0 last.0 (Refused (End tt) misuse) (Halted misuse) last.2 last.3,
+      meets-append c.growth.ensures.halted first.0 last.0 (Refused (End tt) misuse) (Halted misuse) last.2 last.3,
     )

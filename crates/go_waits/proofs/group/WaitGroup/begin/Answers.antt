@@ -7,7 +7,7 @@ use Rattle.wait_cores.specs.GroupStanding.{waits_at, waits_after}
 use Rattle.ruled_object.specs.Passes.{number_of, own_by, callers_of, start_of}
 use Rattle.go_waits.specs.Groups.{Answers, waits_by}
 use Rattle.ruled_object.specs.Standing.{stand_next}
-use Rattle.go_waits.proofs.GroupAnswers.{answers_mine, waits_then}
+use Rattle.go_waits.proofs.GroupAnswers.{answers_mine}
 use Rattle.go_waits.proofs.group.WaitGroup.begin.Goals as goal
 
 pub returns-clause-answers : goal.returns-clause-answers
@@ -15,7 +15,7 @@ returns-clause-answers g c =
     let group = c.args.self.now in
     let pass = c.args.pass.now in
     let begin = start_of group.object in
-    let made = c.begin.ensures.event in
+    let made = c.begin.ensures.makes in
     let event = c.args.event in
     let law = c.knows_where_it_stands.ensures in
     let below : number_of pass < length begin.places = subst (λ (n : ℕ). number_of pass < n) (sym (ap length group.begins ∙ length-replicate _ _)) c.requires.pass.0.of.caller in
@@ -26,7 +26,8 @@ returns-clause-answers g c =
 
 pub returns-clause-waits : goal.returns-clause-waits
 returns-clause-waits g c =
-    let made = c.begin.ensures.event in
+    let made = c.begin.ensures.makes in
     let old = own_by c.args.pass.now in
-    waits_then old (own_by c.begin.new.pass) [] made.one made.grows.mine
-    ∙ (ap (λ (w : Bool). stand_next false waits_after w made.one.entry.deed) (ap waits_by (append-nil old) ∙ c.requires.pass.0.between) ∙ ap (stand_next false waits_after false) made.deed)
+    ap waits_by made.grows.mine
+    ∙ (c.standing.ensures.entry false waits_after false old made.one.entry
+    ∙ (ap (λ (w : Bool). stand_next false waits_after w made.one.entry.deed) c.requires.pass.0.between ∙ ap (stand_next false waits_after false) made.deed))

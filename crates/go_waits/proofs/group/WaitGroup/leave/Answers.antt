@@ -10,7 +10,7 @@ use Rattle.ruled_object.specs.Growth.{entries_of}
 use Rattle.ruled_object.specs.Passes.{number_of, own_by, start_of}
 use Rattle.go_waits.specs.Groups.{waits_by}
 use Rattle.ruled_object.specs.Standing.{stand_next}
-use Rattle.go_waits.proofs.GroupAnswers.{answers_here, released_by, waits_then, out_after}
+use Rattle.go_waits.proofs.GroupAnswers.{answers_here, released_by, out_after}
 use Rattle.go_waits.proofs.group.WaitGroup.leave.Goals as goal
 
 pub returns-clause-released : goal.returns-clause-released
@@ -33,5 +33,5 @@ returns-clause-out g c =
     let left = c.leave.ensures.events in
     let old = own_by c.args.pass.now in
     let waits = waits_by (old ++ entries_of left.tries) in
-    waits_then old (own_by c.leave.new.pass) left.tries left.last left.grows.mine
+    c.standing.ensures.entries false waits_after false old (own_by c.leave.new.pass) left.tries left.last left.grows.mine
     ∙ (ap (stand_next false waits_after waits) left.deed ∙ out_after waits c.leave.result (returns-clause-released g c))

@@ -8,4 +8,4 @@ returns-in-Done-Queued-clause-events g c =
     let start = start_of c.args.self.now in
     let made = rw c.in-Done-Queued.field-0-is at c.in-Done-Queued.ensures.event in
     let left = c.wait_on.ensures.events in
-    begins_on start (c.growth.ensures.both start) c.args.pass.now c.come.new.pass c.wait_on.new.pass (front c.args.note.now) (front c.come.new.note) (front c.wait_on.new.note) made left.0 left.1 c.wait_on.result left.2
+    begins_on start (c.growth.ensures.both start) c.growth.ensures.halted c.args.pass.now c.come.new.pass c.wait_on.new.pass (front c.args.note.now) (front c.come.new.note) (front c.wait_on.new.note) made left.0 left.1 c.wait_on.result left.2

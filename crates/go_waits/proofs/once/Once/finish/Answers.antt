@@ -9,7 +9,7 @@ use Rattle.ruled_object.specs.Passes.{number_of, own_by, seen_by, start_of}
 use Rattle.ruled_object.specs.Passes as object
 use Rattle.go_waits.specs.Onces.{Answers, waits_by, runs_by}
 use Rattle.ruled_object.specs.Standing.{stand_next}
-use Rattle.go_waits.proofs.OnceAnswers.{Knows, answers_mine, stands_then, waits_on, runs_on}
+use Rattle.go_waits.proofs.OnceAnswers.{Knows, answers_mine, waits_on, runs_on}
 use Rattle.go_waits.proofs.once.Once.finish.Goals as goal
 
 pub returns-clause-answers : goal.returns-clause-answers
@@ -31,15 +31,17 @@ pub returns-clause-waits : goal.returns-clause-waits
 returns-clause-waits g c =
     let made = c.call.ensures.makes in
     let old = own_by c.args.pass.now in
-    stands_then waits_on old (own_by c.call.new.pass) [] made.one made.grows.mine
-    ∙ (ap (λ (w : Bool). stand_next false waits_on w made.one.entry.deed) (ap waits_by (append-nil old) ∙ c.requires.pass.out) ∙ ap (stand_next false waits_on false) made.deed)
+    ap waits_by made.grows.mine
+    ∙ (c.standing.ensures.entry false waits_on false old made.one.entry
+    ∙ (ap (λ (w : Bool). stand_next false waits_on w made.one.entry.deed) c.requires.pass.out ∙ ap (stand_next false waits_on false) made.deed))
 
 pub returns-clause-runs : goal.returns-clause-runs
 returns-clause-runs g c =
     let made = c.call.ensures.makes in
     let old = own_by c.args.pass.now in
-    stands_then runs_on old (own_by c.call.new.pass) [] made.one made.grows.mine
-    ∙ (ap (λ (w : Bool). stand_next false runs_on w made.one.entry.deed) (ap runs_by (append-nil old) ∙ c.requires.pass.runs) ∙ ap (stand_next false runs_on true) made.deed)
+    ap runs_by made.grows.mine
+    ∙ (c.standing.ensures.entry false runs_on false old made.one.entry
+    ∙ (ap (λ (w : Bool). stand_next false runs_on w made.one.entry.deed) c.requires.pass.runs ∙ ap (stand_next false runs_on true) made.deed))
 
 pub returns-clause-once : goal.returns-clause-once
 returns-clause-once g c =

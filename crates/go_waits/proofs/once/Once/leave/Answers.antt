@@ -11,7 +11,7 @@ use Rattle.ruled_object.specs.Passes.{number_of, own_by, seen_by, start_of}
 use Rattle.ruled_object.specs.Passes as object
 use Rattle.go_waits.specs.Onces.{waits_by, runs_by}
 use Rattle.ruled_object.specs.Standing.{stand_next}
-use Rattle.go_waits.proofs.OnceAnswers.{Knows, answers_here, released_by, stands_then, out_after, idle_after, idle_trying, waits_on, runs_on}
+use Rattle.go_waits.proofs.OnceAnswers.{Knows, answers_here, released_by, out_after, idle_after, idle_trying, waits_on, runs_on}
 use Rattle.go_waits.proofs.once.Once.leave.Goals as goal
 
 pub returns-clause-released : goal.returns-clause-released
@@ -34,7 +34,7 @@ returns-clause-out g c =
     let left = c.leave.ensures.events in
     let old = own_by c.args.pass.now in
     let waits = waits_by (old ++ entries_of left.tries) in
-    stands_then waits_on old (own_by c.leave.new.pass) left.tries left.last left.grows.mine
+    c.standing.ensures.entries false waits_on false old (own_by c.leave.new.pass) left.tries left.last left.grows.mine
     ∙ (ap (stand_next false waits_on waits) left.deed ∙ out_after waits c.leave.result (returns-clause-released g c))
 
 pub returns-clause-idle : goal.returns-clause-idle
@@ -43,7 +43,7 @@ returns-clause-idle g c =
     let old = own_by c.args.pass.now in
     let runs = runs_by (old ++ entries_of left.tries) in
     let idle = idle_trying false old left.count left.tries left.in_vain ∙ c.requires.idle in
-    stands_then runs_on old (own_by c.leave.new.pass) left.tries left.last left.grows.mine
+    c.standing.ensures.entries false runs_on false old (own_by c.leave.new.pass) left.tries left.last left.grows.mine
     ∙ (ap (stand_next false runs_on runs) left.deed ∙ idle_after runs c.leave.result (returns-clause-released g c) idle)
 
 pub returns-clause-once : goal.returns-clause-once

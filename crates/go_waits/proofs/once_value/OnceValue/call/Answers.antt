@@ -16,7 +16,7 @@ returns-in-Done-clause-events g c =
       first.0 ++ last.0,
       c.growth.ensures.both (start_of c.args.self.now.once) c.args.pass.now c.begin.new.pass c.end.new.pass first.0 last.0 (front c.args.note.now) (front c.begin.new.note) (front c.end.new.note) first.1 last.1,
       inl (c.function-value.ensures, deeds_run first.0 last.0 (Event (End value) Ended) first.2 last.2),
-      meets-append {A = Unit {0}} first.0 last.0 (Event (End value) Ended) (Done tt) last.2 last.3,
+      meets-append c.growth.ensures.halted first.0 last.0 (Event (End value) Ended) (Done Ended) last.2 last.3,
     )
 
 pub returns-in-Halted-end-clause-events : goal.returns-in-Halted-end-clause-events
@@ -29,5 +29,5 @@ returns-in-Halted-end-clause-events g c =
       first.0 ++ last.0,
       c.growth.ensures.both (start_of c.args.self.now.once) c.args.pass.now c.begin.new.pass c.end.new.pass first.0 last.0 (front c.args.note.now) (front c.begin.new.note) (front c.end.new.note) first.1 last.1,
       inl (value, c.function-value.ensures, deeds_run first.0 last.0 (Refused (End value) misuse) first.2 last.2),
-      meets-append {A = Unit {0}} first.0 last.0 (Refused (End value) misuse) (Halted misuse) last.2 last.3,
+      meets-append c.growth.ensures.halted first.0 last.0 (Refused (End value) misuse) (Halted misuse) last.2 last.3,
     )

@@ -1,10 +1,9 @@
 use Rattle.std.proofs.Common.{rules, ◌<◌, ◌+◌, get_or, slice_get, set, length, length-set, refl, sym, ap, ◌∙◌, subst, arith, le_refl}
-use Rattle.std.proofs.lemmas.Option.{slice_get-get_or}
+use Rattle.std.proofs.lemmas.Option.{slice_get-get_or, slice_get_within}
 use mathlib.Core.Logic.{dite}
 use native.Mathlib.Decide.{ℕ_discrete}
 use Rattle.ruled_object.specs.Gathered.{Dealing, IsDealt}
 use Rattle.ruled_object.proofs.Gathering.{dealing_on, is_dealt, same_on, get_set_same, get_set_other}
-use Rattle.ruled_object.proofs.Journals.{past_end}
 use Rattle.ruled_object.proofs.object.Object.deal_out.Goals as goal
 
 pub deal-requires-clause-all : goal.deal-requires-clause-all
@@ -52,7 +51,7 @@ loop-pass-preserved g c =
 
 pub returns-clause-dealt : goal.returns-clause-dealt
 returns-clause-dealt g c i pass at_i =
-    let below = past_end c.loop-pass.passes pass i at_i in
+    let below = slice_get_within c.loop-pass.passes i pass at_i in
     let same = c.loop-pass.invariant.same.count in
     let ended = c.loop-pass-test.false in
     c.loop-pass.invariant.dealt i pass (omega arith) at_i

@@ -1,15 +1,11 @@
--- What a call takes off a pass, and what the leaving of a caller that waits does.
-use Rattle.std.specs.Prelude.{◌≡◌, ℕ, ◌+◌, Bool, List, [], ◌∷◌, ◌++◌, replicate}
+-- What the leaving of a caller that waits does.
+use Rattle.std.specs.Prelude.{◌≡◌, ℕ, Bool, List, [], ◌∷◌, ◌++◌, replicate}
 use Rattle.sync_model.specs.declared.answer.Answer.{Answer}
 use Rattle.sync_model.specs.declared.journal.Deed.TheVariants.{Event}
 use Rattle.ruled_object.specs.declared.pass.Pass.{Pass}
 use Rattle.ruled_object.specs.Cells.{deed_of}
 use Rattle.ruled_object.specs.Growth.{Placed, deeds_of, Grows, IsRight, MeetsHalt}
-use Rattle.ruled_object.specs.Passes.{number_of, left_of}
-
--- the same caller's pass, good for one call less
-abbrev pub IsOneLess : {S N E R : Type 0} → Pass S N E R → Pass S N E R → Type 0
-IsOneLess old new = (number_of new ≡ number_of old) × (left_of new + 1 ≡ left_of old)
+use Rattle.ruled_object.specs.Passes.{number_of}
 
 module _ {S N E R : Type 0} (next : S → ℕ → E → S × R) (halts : Bool) (start : S) (old : Pass S N E R) (from : List ℕ) where
   -- A caller that waits left by this event, which was answered this; before, it tried any number of times and was answered that it isn't released.
