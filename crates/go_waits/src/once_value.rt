@@ -5,7 +5,7 @@ ghost use Rattle.wait_cores.specs.declared.once.OnceEvent.{OnceEvent};
 ghost use Rattle.wait_cores.specs.declared.once.OnceReply.{OnceReply};
 ghost use Rattle.wait_cores.specs.OnceMachine.{start};
 ghost use Rattle.ruled_object.specs.Growth.{Placed, KeepsNote, MeetsHalt, deeds_of};
-ghost use Rattle.ruled_object.specs.Passes.{left_of, IsOneLess, SamePass};
+ghost use Rattle.ruled_object.specs.Passes.{left_of, IsOneLess};
 ghost use Rattle.go_waits.specs.OnceCalls.{Gives, RunsOnce};
 ghost use Rattle.go_waits.specs.OnceValues.{once_of, function_of};
 ghost use Rattle.go_waits.specs.Onces.{callers_of, start_of, OnceGrows, AreNew, IsHomeOf, IsPassOf, IsOnceLawful};

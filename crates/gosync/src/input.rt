@@ -1,5 +1,5 @@
 //! The bytes of a file.
-ghost use Rattle.std.specs.Prelude.{◌≡◌, ℕ, List, ◌≤◌, ◌+◌, length, IsTrue, IfOk, IsErrOf, ◌⊎◌};
+ghost use Rattle.std.specs.Prelude.{◌≡◌, ℕ, List, ◌+◌, IsTrue, IfOk, IsErrOf, ◌⊎◌};
 ghost use Rattle.sync_outside.specs.Faults.{Rose};
 ghost use Rattle.workload.specs.declared.limits.TheConstants.{MAX_INPUT};
 ghost use Rattle.gosync.specs.Input.{IsInput};

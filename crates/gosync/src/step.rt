@@ -1,7 +1,6 @@
 //! The run of a file by its schedule.
-ghost use Rattle.std.specs.Prelude.{◌≡◌, ◌≤◌, ℕ, List, ◌⊎◌, IfErr, MatchResult};
+ghost use Rattle.std.specs.Prelude.{◌≡◌, ℕ, List, ◌⊎◌, IfErr, MatchResult};
 ghost use Rattle.sync_outside.specs.Faults.{Rose};
-ghost use Rattle.workload.specs.Plan.{Plan};
 ghost use Rattle.workload.specs.Reads.{Reads};
 ghost use Rattle.gosync.specs.Input.{AreBytesOf};
 ghost use Rattle.gosync.specs.Messages.{status_of};

@@ -1,5 +1,5 @@
 //! A part of a pool, which is one caller's: a private item and a list of shared ones.
-ghost use Rattle.std.specs.Prelude.{◌≡◌, IfOk, length};
+ghost use Rattle.std.specs.Prelude.{◌≡◌, IfOk};
 ghost use Rattle.pool_core.specs.PoolParts.{empty, emptied, put_in, take_own, take_tail, take_victim, reply_of_put, reply_of_look};
 
 use crate::pool_event::PoolPut;

@@ -1,5 +1,5 @@
 //! What all passes together know of an object's history.
-ghost use Rattle.std.specs.Prelude.{◌≡◌, ℕ, false, List, None};
+ghost use Rattle.std.specs.Prelude.{◌≡◌, false, List, None};
 ghost use Rattle.sync_model.specs.declared.journal.Entry.{Entry};
 ghost use Rattle.sync_model.specs.Journal.{halt_of, state_after};
 ghost use Rattle.ruled_object.specs.Gathered.{AreAllPasses, SamePasses, SameOwn, IsWhole, IsSeen};

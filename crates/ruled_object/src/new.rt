@@ -1,5 +1,5 @@
 //! A new object.
-ghost use Rattle.std.specs.Prelude.{◌≡◌, ℕ, ◌<◌, ◌≤◌, [], None, IfOk, length, replicate, vec_len};
+ghost use Rattle.std.specs.Prelude.{◌≡◌, ◌<◌, ◌≤◌, [], None, IfOk, replicate, vec_len};
 ghost use Rattle.ruled_object.specs.Gathered.{AreNew, Dealing};
 ghost use Rattle.ruled_object.specs.Passes.{IsHomeOf, callers_of, start_of};
 ghost use Rattle.ruled_object.specs.Steps.{first_view, IsSameSeat};

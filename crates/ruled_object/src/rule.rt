@@ -1,5 +1,5 @@
 //! The rule of an object's table, and what each step on it tells.
-ghost use Rattle.std.specs.Prelude.{◌≡◌, ℕ, List, [], Option, None, Some};
+ghost use Rattle.std.specs.Prelude.{◌≡◌, [], Option, None};
 ghost use Rattle.sync_model.specs.declared.journal.Entry.{Entry};
 ghost use Rattle.ruled_object.specs.declared.rule.Begin.{Begin};
 ghost use Rattle.ruled_object.specs.Rule.{Kept};

@@ -1,5 +1,5 @@
 //! The turn of an object: who has it may change the machine.
-ghost use Rattle.std.specs.Prelude.{◌≡◌, ℕ, ◌<◌, List, [], ◌∷◌, Some, None, length};
+ghost use Rattle.std.specs.Prelude.{◌≡◌, ◌<◌, List, [], ◌∷◌, Some, None, length};
 ghost use Rattle.sync_model.specs.declared.journal.Entry.{Entry};
 ghost use Rattle.ruled_object.specs.declared.view.Stage.TheVariants.{Idle, Taken};
 ghost use Rattle.ruled_object.specs.Steps.{taken, gave, Learns, MayGive, IsSameSeat};

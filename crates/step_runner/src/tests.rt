@@ -1,7 +1,7 @@
 use crate::{End, Outcome, Report, stepped};
 use std::alloc::{AllocError, Global};
 use std::test::Fail;
-use sync_model::{AtomicReply, LockReply, MapReply, Name, Number, DoReply, PoolCallReply, Reply};
+use sync_model::{AtomicReply, DoReply, LockReply, MapReply, Name, Number, PoolCallReply, Reply};
 use workload_reader::parse;
 
 fn push_number(alloc: Global, text: &mut String, number: Number) -> Result<(), AllocError> {

@@ -1,5 +1,5 @@
 //! A count of faults.
-ghost use Rattle.std.specs.Prelude.{◌≡◌, ℕ, ◌<◌, ◌≤◌, ◌^◌};
+ghost use Rattle.std.specs.Prelude.{◌≡◌, ℕ, ◌≤◌};
 ghost use Rattle.sync_outside.specs.Faults.{Rose, raised};
 
 use std::marker::Model;

@@ -1,5 +1,5 @@
 //! A sink in memory.
-ghost use Rattle.std.specs.Prelude.{◌≡◌, ℕ, ◌-◌, ◌+◌, List, [], ◌≤◌, ◌↔◌, IsTrue, IsErr, IfOk, OnOk, OnErr, Some, vec_len, vec_capacity};
+ghost use Rattle.std.specs.Prelude.{◌≡◌, ◌-◌, ◌+◌, [], ◌≤◌, ◌↔◌, IsTrue, IsErr, IfOk, OnOk, OnErr, Some, vec_len, vec_capacity};
 ghost use Rattle.sync_outside.specs.Bytes.{Appends, AppendsFront};
 ghost use Rattle.sync_outside.specs.Faults.{Rose};
 ghost use Rattle.sync_outside.specs.Memory.{Taken, refuses, after_write};

@@ -1,5 +1,5 @@
 //! Sources in memory.
-ghost use Rattle.std.specs.Prelude.{◌≡◌, ℕ, Bool, List, ◌<◌, ◌≤◌, ◌↔◌, length, take, drop, min, IsTrue, IsOk, is_err, IfOk, IfSome, OnOk, OnErr, IsErrOf, None, Some, IsSomeAnd, is_some};
+ghost use Rattle.std.specs.Prelude.{◌≡◌, ℕ, List, ◌<◌, ◌≤◌, ◌↔◌, length, take, drop, min, IsTrue, IsOk, is_err, IfOk, IfSome, OnOk, OnErr, IsErrOf, None, Some, IsSomeAnd, is_some};
 ghost use Rattle.std.specs.Option.{option_map};
 ghost use Rattle.std.specs.Io.KnownBytes.{IsAtEnd};
 ghost use Rattle.sync_outside.specs.Bytes.{Gives};

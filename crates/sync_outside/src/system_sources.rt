@@ -1,5 +1,5 @@
 //! Files and standard input.
-ghost use Rattle.std.specs.Prelude.{◌≡◌, ℕ, Bool, List, false, length, take, ◌<◌, ◌≤◌, ◌↔◌, IsTrue, IsOk, IfOk, OnOk, OnErr, IsErrOf, is_some};
+ghost use Rattle.std.specs.Prelude.{◌≡◌, ℕ, List, false, length, take, ◌<◌, ◌≤◌, ◌↔◌, IsTrue, IsOk, IfOk, OnOk, OnErr, IsErrOf, is_some};
 ghost use Rattle.std.specs.Io.KnownBytes.{ReadConsumes, IsAtEnd};
 ghost use Rattle.sync_outside.specs.Bytes.{Gives};
 ghost use Rattle.sync_outside.specs.Faults.{Rose};

@@ -1,5 +1,5 @@
 //! `sync.Once` as a machine: one caller runs the function, and every return has what it came to.
-ghost use Rattle.std.specs.Prelude.{◌≡◌, ℕ, ◌<◌, ◌≤◌, true, IfOk};
+ghost use Rattle.std.specs.Prelude.{◌≡◌, ◌<◌, ◌≤◌, true, IfOk};
 ghost use Rattle.wait_cores.specs.OnceEdges.{once_releases, once_acquires};
 ghost use Rattle.wait_cores.specs.OnceMachine.{start, next, callers_of, place_of, runner_of, reply_of};
 

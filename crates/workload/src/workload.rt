@@ -1,5 +1,5 @@
 //! A workload that was read.
-ghost use Rattle.std.specs.Prelude.{◌≡◌, ◌<◌, true, length, get_or, []};
+ghost use Rattle.std.specs.Prelude.{◌≡◌, ◌<◌, true, get_or, []};
 ghost use Rattle.workload.specs.Plan.{is_valid};
 ghost use Rattle.workload.specs.Readable.{IsReadable};
 

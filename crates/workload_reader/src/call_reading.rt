@@ -1,5 +1,5 @@
 //! The calls that the words of a line spell, by the kind of their object.
-ghost use Rattle.std.specs.Prelude.{◌≡◌, ◌≢◌, ℕ, ℤ, ◌∷◌, [], ◌≤◌, true, map, length, MatchResult, Some, None};
+ghost use Rattle.std.specs.Prelude.{◌≡◌, ◌≢◌, ℕ, ℤ, ◌∷◌, [], ◌≤◌, true, map, MatchResult, None};
 ghost use Rattle.std.specs.Fmt.{decimal, signed_decimal};
 ghost use Rattle.sync_model.specs.Name.{is_name};
 ghost use Rattle.sync_model.specs.SequentialAtomic.{has_bits, is_of};

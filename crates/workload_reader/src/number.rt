@@ -1,5 +1,5 @@
 //! Numbers of a text.
-ghost use Rattle.std.specs.Prelude.{◌≡◌, ℕ, ◌<◌, ◌^◌, ◌+◌, ◌-◌, ◌*◌, Bool, true, false, ◌≤◌, ◌∷◌, ◌&&◌, ◌||◌, nat_lt, codes, MatchOption, OnSome, IfSome, IfNone};
+ghost use Rattle.std.specs.Prelude.{◌≡◌, ◌<◌, ◌^◌, ◌+◌, ◌-◌, ◌*◌, Bool, true, false, ◌≤◌, ◌∷◌, ◌&&◌, ◌||◌, nat_lt, codes, MatchOption, OnSome, IfSome, IfNone};
 ghost use Rattle.std.specs.Fmt.{decimal, signed_decimal};
 ghost use Rattle.std.specs.Str.{all_ascii_digits, bytes_eq};
 ghost use Rattle.sync_model.specs.declared.atomic_object.Number.TheVariants as Number;

@@ -1,9 +1,9 @@
 //! A whole text.
 ghost use Rattle.std.specs.Prelude.{◌≡◌, ◌+◌, ◌-◌, ◌≤◌, ◌∷◌, max, map, length, MatchResult, IfOk, IfErr, None, Some};
 ghost use Rattle.workload.specs.Lines.{lines_of};
-ghost use Rattle.workload.specs.Checks.{checks_of, word_checks, first_failing};
+ghost use Rattle.workload.specs.Checks.{checks_of, word_checks};
 ghost use Rattle.workload_reader.specs.LineResult.{IsFault};
-ghost use Rattle.workload.specs.Reads.{Says, IsRead, ReadsOn, Reads, FirstFault, IsFirstFault, fault_at, IsFaultOf};
+ghost use Rattle.workload.specs.Reads.{Says, IsRead, ReadsOn, Reads, IsFirstFault, fault_at, IsFaultOf};
 ghost use Rattle.workload.specs.declared.limits.TheConstants.{MAX_INPUT};
 
 use crate::reading::{read_line, read_workers};

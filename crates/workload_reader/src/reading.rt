@@ -1,5 +1,5 @@
 //! One line, read after those before it.
-ghost use Rattle.std.specs.Prelude.{◌≡◌, ◌<◌, ◌≤◌, ◌∷◌, true, map, MatchResult, None};
+ghost use Rattle.std.specs.Prelude.{◌≡◌, ◌<◌, true, map, MatchResult, None};
 ghost use Rattle.std.specs.Fmt.{decimal};
 ghost use Rattle.workload.specs.Words.{turn_word};
 ghost use Rattle.workload.specs.Draft.{is_item, keys_of};

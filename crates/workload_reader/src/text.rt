@@ -1,7 +1,6 @@
 //! The lines of a text and the words of a line.
 ghost use Rattle.std.specs.Prelude.{◌≡◌, ◌≢◌, ℕ, ◌+◌, ◌<◌, ◌≤◌, ◌∷◌, map, length, slice_index, IfOk};
-ghost use Rattle.workload.specs.Lines.{lines_of, is_short, is_clean, is_printable, words_of, is_comment, is_significant};
-ghost use Rattle.std.specs.List.{list_all};
+ghost use Rattle.workload.specs.Lines.{lines_of, is_short, is_clean, words_of, is_significant};
 
 use std::alloc::{AllocError, Global};
 use workload::limits::MAX_LINE;

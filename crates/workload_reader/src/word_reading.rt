@@ -1,5 +1,5 @@
 //! The words of a line that stand for one thing.
-ghost use Rattle.std.specs.Prelude.{◌≡◌, ◌∷◌, [], ◌≤◌, true, map, length, MatchResult, Some, None};
+ghost use Rattle.std.specs.Prelude.{◌≡◌, ◌∷◌, [], ◌≤◌, true, map, MatchResult, Some, None};
 ghost use Rattle.std.specs.Fmt.{decimal, signed_decimal};
 ghost use Rattle.sync_model.specs.Name.{is_name};
 ghost use Rattle.sync_model.specs.SequentialAtomic.{is_of};

@@ -1,9 +1,8 @@
 //! The calls of a running mutex.
-ghost use Rattle.std.specs.Prelude.{◌≡◌, ◌≢◌, ◌<◌, ◌+◌, true};
+ghost use Rattle.std.specs.Prelude.{◌≡◌, ◌≢◌, ◌<◌, true};
 ghost use Rattle.sync_model.specs.declared.misuse.Misuse.{Misuse};
 ghost use Rattle.sync_model.specs.declared.answer.Answer.TheVariants.{Done, Halted};
 ghost use Rattle.mutex_core.specs.declared.event.MutexEvent.{MutexEvent};
-ghost use Rattle.mutex_core.specs.declared.reply.MutexReply.{MutexReply};
 ghost use Rattle.mutex_core.specs.Edges.{acquires, releases};
 ghost use Rattle.mutex_core.specs.MutexMachine.{next};
 ghost use Rattle.ruled_object.specs.Growth.{IsLawful, KeepsNote};

@@ -15,7 +15,7 @@ ghost use Rattle.ruled_object.specs.Growth.{Placed, Grows, IsLawful, MeetsHalt, 
 ghost use Rattle.ruled_object.specs.Passes.{own_by, IsPassOf, SamePass};
 ghost use Rattle.go_locks.specs.Calls.{waits_by};
 ghost use Rattle.go_locks.specs.MutexCalls.{answer_of};
-ghost use Rattle.go_locks.specs.Mutexes.{mutex_callers, mutex_start, IsHomeOfMutex};
+ghost use Rattle.go_locks.specs.Mutexes.{mutex_start, IsHomeOfMutex};
 
 use super::{Mutex, MutexPass};
 use mutex_core::{Arrival, MutexCore, MutexEvent, MutexReply, Resumption, Unlocking, laws};

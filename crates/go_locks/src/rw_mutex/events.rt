@@ -15,7 +15,7 @@ ghost use Rattle.ruled_object.specs.Growth.{Placed, Grows, IsLawful, MeetsHalt, 
 ghost use Rattle.ruled_object.specs.Passes.{own_by, IsPassOf, SamePass};
 ghost use Rattle.go_locks.specs.Calls.{waits_by};
 ghost use Rattle.go_locks.specs.RwCalls.{answer_of};
-ghost use Rattle.go_locks.specs.RwMutexes.{rw_callers, rw_start, IsHomeOfRwMutex};
+ghost use Rattle.go_locks.specs.RwMutexes.{rw_start, IsHomeOfRwMutex};
 
 use super::{RwMutex, RwPass};
 use ruled_object::laws::growth;

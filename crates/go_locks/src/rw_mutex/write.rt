@@ -1,5 +1,5 @@
 //! A writer's calls of a running reader/writer lock.
-ghost use Rattle.std.specs.Prelude.{◌≡◌, ◌≢◌, ◌<◌, ◌+◌, ℕ, List, true};
+ghost use Rattle.std.specs.Prelude.{◌≡◌, ◌≢◌, ◌<◌, ℕ, List, true};
 ghost use Rattle.sync_model.specs.declared.misuse.Misuse.{Misuse};
 ghost use Rattle.sync_model.specs.declared.answer.Answer.TheVariants.{Done, Halted};
 ghost use Rattle.rw_core.specs.declared.event.RwEvent.{RwEvent};

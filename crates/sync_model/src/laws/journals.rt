@@ -1,5 +1,5 @@
 //! What holds of the journals of every machine.
-ghost use Rattle.std.specs.Prelude.{◌≡◌, ◌≢◌, ℕ, true, List, [], ◌∷◌, ◌++◌, Some, None};
+ghost use Rattle.std.specs.Prelude.{◌≡◌, ◌≢◌, true, List, [], ◌∷◌, ◌++◌, Some, None};
 ghost use Rattle.sync_model.specs.Front.{AtLeast};
 ghost use Rattle.sync_model.specs.Journal.{halt_of, is_such, log_of, state_after, Follows, KeepsEdges};
 ghost use Rattle.sync_model.specs.Log as log;
