@@ -35,43 +35,43 @@ module _ {E R : Type 0} where
 
 module _ {S N E R H : Type 0} (next : S → ℕ → E → S × R) (halts : Bool) (frees takes : E → R → Bool) (front : N → List ℕ) (at : H → N → Type 0) (begin : Begin S N) where
   -- a deed that is right at the cell that was learned may be added
-  pub may_add : (v : View E R) (log : List (Entry E R)) (old new : Cell S N) (caller : ℕ) (deed : Deed E R) (known : List ℕ) → Learns next halts frees takes front at begin v log old
+  pub may_add : (v : View E R) (journal : List (Entry E R)) (old new : Cell S N) (caller : ℕ) (deed : Deed E R) (known : List ℕ) → Learns next halts frees takes front at begin v journal old
       → Acts next halts frees takes front caller deed known old new → SameHome at old.note new.note → v.number ≡ caller
-      → MayAdd next halts frees takes front at begin (taken v log) (entry caller deed known (length v.seen)) new
-  may_add v log old new caller deed known learns acts same number =
+      → MayAdd next halts frees takes front at begin (taken v journal) (entry caller deed known (length v.seen)) new
+  may_add v journal old new caller deed known learns acts same number =
       let e : Entry E R = entry caller deed known (length v.seen) in let lies = learns.lies in record {
         caller = sym number;
         right = subst (λ (z : S × Option Misuse). Right next halts z.0 z.1 caller deed) (λ i. (lies.state i, lies.halted i)) acts.right;
-        edge = λ take. covers_more frees known (front old.note) log (acts.taken take) lies.knows;
+        edge = λ take. covers_more frees known (front old.note) journal (acts.taken take) lies.knows;
         lies = record {
-          state = acts.state ∙ (ap (λ (s : S). state_next next s caller deed) lies.state ∙ sym (state_snoc next begin.state log e));
-          halted = acts.halted ∙ (ap (λ (h : Option Misuse). halt_next h deed) lies.halted ∙ sym (halt_snoc None log e));
+          state = acts.state ∙ (ap (λ (s : S). state_next next s caller deed) lies.state ∙ sym (state_snoc next begin.state journal e));
+          halted = acts.halted ∙ (ap (λ (h : Option Misuse). halt_next h deed) lies.halted ∙ sym (halt_snoc None journal e));
           home = λ home is. same home (lies.home home is);
-          knows = covers_snoc frees (front new.note) log e (covers_more frees (front new.note) (front old.note) log acts.more lies.knows) acts.left;
+          knows = covers_snoc frees (front new.note) journal e (covers_more frees (front new.note) (front old.note) journal acts.more lies.knows) acts.left;
         };
       }
 
   -- what the pass then says
-  pub adds : (old new : Pass S N E R) (log : List (Entry E R)) (cell left : Cell S N) (deed : Deed E R) (known : List ℕ) → Learns next halts frees takes front at begin old.seat.me.0 log cell
-      → MayAdd next halts frees takes front at begin (taken old.seat.me.0 log) (entry old.number deed known (length old.seat.me.0.seen)) left → 0 < length old.seat.me.0.owns
-      → new.seat.me ≡ (gave (taken old.seat.me.0 log) (Some (entry old.number deed known (length old.seat.me.0.seen))), [])
+  pub adds : (old new : Pass S N E R) (journal : List (Entry E R)) (cell left : Cell S N) (deed : Deed E R) (known : List ℕ) → Learns next halts frees takes front at begin old.seat.me.0 journal cell
+      → MayAdd next halts frees takes front at begin (taken old.seat.me.0 journal) (entry old.number deed known (length old.seat.me.0.seen)) left → 0 < length old.seat.me.0.owns
+      → new.seat.me ≡ (gave (taken old.seat.me.0 journal) (Some (entry old.number deed known (length old.seat.me.0.seen))), [])
       → Adds next halts frees takes begin.state old (entry old.number deed known (length old.seat.me.0.seen)) new
-  adds old new log cell left deed known learns may some_own is =
+  adds old new journal cell left deed known learns may some_own is =
       let v : View E R = old.seat.me.0 in let e : Entry E R = entry old.number deed known (length v.seen) in
-      let seen : seen_by new ≡ log ++ e ∷ [] = ap (λ (m : Sat S N E R). m.0.seen) is in
+      let seen : seen_by new ≡ journal ++ e ∷ [] = ap (λ (m : Sat S N E R). m.0.seen) is in
       let owns : new.seat.me.0.owns ≡ added v.owns e = ap (λ (m : Sat S N E R). m.0.owns) is in
       let own = learns.owns 0 (own_of v.owns) (own_is v.owns some_own) in
       let mine : own_of new.seat.me.0.owns ≡ own_of v.owns ++ e ∷ [] = ap own_of owns ∙ own_added v.owns e some_own in
       let same : old.number ≡ v.number = may.caller in
       let number : v.number + 0 ≡ old.number = omega arith in
-      let before : log ≡ v.seen ++ learns.seen.0 = learns.seen.1 in record {
+      let before : journal ≡ v.seen ++ learns.seen.0 = learns.seen.1 in record {
         between = learns.seen.0;
         history = seen ∙ ap (λ (z : List (Entry E R)). z ++ e ∷ []) before;
         mine = mine;
-        all = mine ∙ (ap (λ (z : List (Entry E R)). z ++ e ∷ []) (own.1 ∙ ap (λ (c : ℕ). by c log) number) ∙ (sym (by_here old.number log e refl) ∙ ap (by old.number) (sym seen)));
+        all = mine ∙ (ap (λ (z : List (Entry E R)). z ++ e ∷ []) (own.1 ∙ ap (λ (c : ℕ). by c journal) number) ∙ (sym (by_here old.number journal e refl) ∙ ap (by old.number) (sym seen)));
         caller = refl;
         knew = refl;
         right = subst (λ (z : List (Entry E R)). Right next halts (state_after next begin.state z) (halt_of z) old.number deed) before may.right;
-        follows = subst (Follows next halts begin.state None) (sym seen) (follows_snoc next halts begin.state None log e learns.lawful.follows may.right);
-        edges = subst (KeepsEdges frees takes) (sym seen) (edges_snoc frees takes log e learns.lawful.edges may.edge);
+        follows = subst (Follows next halts begin.state None) (sym seen) (follows_snoc next halts begin.state None journal e learns.lawful.follows may.right);
+        edges = subst (KeepsEdges frees takes) (sym seen) (edges_snoc frees takes journal e learns.lawful.edges may.edge);
       }

@@ -60,12 +60,12 @@ module _ {E R : Type 0} where
   pub no_entries : (n i : ℕ) (own : List (Entry E R)) → get_elem? (replicate n []) i ≡ some own → own ≡ []
   no_entries n i own e = sym (in_blank n i [] own e).1
 
-  pub some_left : (n callers : ℕ) (log : List (Entry E R)) (v : View E R) → Dealing n log (replicate callers []) v → n < callers → 0 < length v.owns
-  some_left n callers log v d below = let count = d.count in let sized = length-replicate {A = List (Entry E R)} callers [] in omega arith
+  pub some_left : (n callers : ℕ) (journal : List (Entry E R)) (v : View E R) → Dealing n journal (replicate callers []) v → n < callers → 0 < length v.owns
+  some_left n callers journal v d below = let count = d.count in let sized = length-replicate {A = List (Entry E R)} callers [] in omega arith
 
   -- the seat lets the next caller go
-  pub dealing_on : (n : ℕ) (log : List (Entry E R)) (owns : List (List (Entry E R))) (v : View E R) → 0 < length v.owns → Dealing n log owns v → Dealing (n + 1) log owns (kept v)
-  dealing_on n log owns v some_own d = let count = d.count in let less = one_less v.owns some_own in let number = d.number in record {
+  pub dealing_on : (n : ℕ) (journal : List (Entry E R)) (owns : List (List (Entry E R))) (v : View E R) → 0 < length v.owns → Dealing n journal owns v → Dealing (n + 1) journal owns (kept v)
+  dealing_on n journal owns v some_own d = let count = d.count in let less = one_less v.owns some_own in let number = d.number in record {
     stage = d.stage;
     seen = d.seen;
     number = omega arith;
@@ -119,16 +119,16 @@ module _ {S N E R : Type 0} where
         (λ other. d.each i p q at_old (sym (get_set_other passes n i after other) ∙ at_new));
   }
 
-  pub same_own : (next : S → ℕ → E → S × R) (halts : Bool) (frees takes : E → R → Bool) (start : S) (log : List (Entry E R)) (old new : List (Pass S N E R)) → SamePasses old new
-      → IsWhole next halts frees takes start log old → IsWhole next halts frees takes start log new → SameOwn old new
-  same_own next halts frees takes start log old new same whole_old whole_new = λ i pass at_i.
+  pub same_own : (next : S → ℕ → E → S × R) (halts : Bool) (frees takes : E → R → Bool) (start : S) (journal : List (Entry E R)) (old new : List (Pass S N E R)) → SamePasses old new
+      → IsWhole next halts frees takes start journal old → IsWhole next halts frees takes start journal new → SameOwn old new
+  same_own next halts frees takes start journal old new same whole_old whole_new = λ i pass at_i.
       let before = at_same old new i pass same.count at_i in
       (get_or old i pass, before, whole_new.owns i pass at_i ∙ sym (whole_old.owns i (get_or old i pass) before))
 
 -- the pass that is dealt out
-pub is_dealt : {M N S E R H : Type 0} (object : Object M N S E R H) (n : ℕ) (log : List (Entry E R)) (all : List (List (Entry E R))) (v : View E R) (pass : Pass S N E R) → Dealing n log all v → 0 < length v.owns
-    → n < callers_of object → pass.seat.table_id ≡ object.table.shared.table_id → pass.seat.me ≡ (dealt v, []) → pass.number ≡ n → IsDealt object n log all pass
-is_dealt {M} {N} {S} {E} {R} {H} object n log all v pass d some_own below table me number =
+pub is_dealt : {M N S E R H : Type 0} (object : Object M N S E R H) (n : ℕ) (journal : List (Entry E R)) (all : List (List (Entry E R))) (v : View E R) (pass : Pass S N E R) → Dealing n journal all v → 0 < length v.owns
+    → n < callers_of object → pass.seat.table_id ≡ object.table.shared.table_id → pass.seat.me ≡ (dealt v, []) → pass.number ≡ n → IsDealt object n journal all pass
+is_dealt {M} {N} {S} {E} {R} {H} object n journal all v pass d some_own below table me number =
     let owns : pass.seat.me.0.owns ≡ first_of v.owns = ap (λ (m : Sat S N E R). m.0.owns) me in
     let same : n + 0 ≡ n = omega arith in record {
       is = record {
@@ -146,33 +146,33 @@ is_dealt {M} {N} {S} {E} {R} {H} object n log all v pass d some_own below table 
 
 module _ {S N E R H : Type 0} (next : S → ℕ → E → S × R) (halts : Bool) (frees takes : E → R → Bool) (front : N → List ℕ) (at : H → N → Type 0) (begin : Begin S N) where
   -- what the seat that gathered all passes learns with the turn
-  pub whole : (passes : List (Pass S N E R)) (v : View E R) (log : List (Entry E R)) (cell : Cell S N) → length passes ≡ begin.callers → Gathered (length passes) passes v
-      → Learns next halts frees takes front at begin v log cell → IsWhole next halts frees takes begin.state log passes
-  whole passes v log cell count d learns = record {
+  pub whole : (passes : List (Pass S N E R)) (v : View E R) (journal : List (Entry E R)) (cell : Cell S N) → length passes ≡ begin.callers → Gathered (length passes) passes v
+      → Learns next halts frees takes front at begin v journal cell → IsWhole next halts frees takes begin.state journal passes
+  whole passes v journal cell count d learns = record {
     follows = learns.lawful.follows;
     edges = learns.lawful.edges;
-    owns = λ i pass at_i. let number = d.number in let same : v.number + i ≡ i = omega arith in (learns.owns i (own_by pass) (d.owns i pass (slice_get_within passes i pass at_i) at_i)).1 ∙ ap (λ (c : ℕ). by c log) same;
+    owns = λ i pass at_i. let number = d.number in let same : v.number + i ≡ i = omega arith in (learns.owns i (own_by pass) (d.owns i pass (slice_get_within passes i pass at_i) at_i)).1 ∙ ap (λ (c : ℕ). by c journal) same;
     seen = λ i pass at_i. let h = d.heard i pass (slice_get_within passes i pass at_i) at_i in learns.heard h.0 (seen_by pass) h.1;
     callers = λ c past. learns.lawful.callers c (omega arith);
   }
 
   -- and what the passes say that it deals out again
-  pub whole_again : {M : Type 0} (object : Object M N S E R H) (passes : List (Pass S N E R)) (v : View E R) (log : List (Entry E R)) (cell : Cell S N) → length passes ≡ begin.callers → v.number ≡ 0
-      → ((i : ℕ) (pass : Pass S N E R) → slice_get passes i ≡ Some pass → IsDealt object i log v.owns pass)
-      → Learns next halts frees takes front at begin v log cell → IsWhole next halts frees takes begin.state log passes
-  whole_again object passes v log cell count from_first dealt learns = record {
+  pub whole_again : {M : Type 0} (object : Object M N S E R H) (passes : List (Pass S N E R)) (v : View E R) (journal : List (Entry E R)) (cell : Cell S N) → length passes ≡ begin.callers → v.number ≡ 0
+      → ((i : ℕ) (pass : Pass S N E R) → slice_get passes i ≡ Some pass → IsDealt object i journal v.owns pass)
+      → Learns next halts frees takes front at begin v journal cell → IsWhole next halts frees takes begin.state journal passes
+  whole_again object passes v journal cell count from_first dealt learns = record {
     follows = learns.lawful.follows;
     edges = learns.lawful.edges;
-    owns = λ i pass at_i. let same : v.number + i ≡ i = omega arith in (learns.owns i (own_by pass) (dealt i pass at_i).own).1 ∙ ap (λ (c : ℕ). by c log) same;
-    seen = λ i pass at_i. subst (Begins log) (sym (dealt i pass at_i).seen) (begins_all log);
+    owns = λ i pass at_i. let same : v.number + i ≡ i = omega arith in (learns.owns i (own_by pass) (dealt i pass at_i).own).1 ∙ ap (λ (c : ℕ). by c journal) same;
+    seen = λ i pass at_i. subst (Begins journal) (sym (dealt i pass at_i).seen) (begins_all journal);
     callers = λ c past. learns.lawful.callers c (omega arith);
   }
 
-  pub seen_again : {M : Type 0} (object : Object M N S E R H) (passes : List (Pass S N E R)) (v : View E R) (log : List (Entry E R)) (cell : Cell S N) → length passes ≡ begin.callers → v.number ≡ 0
-      → ((i : ℕ) (pass : Pass S N E R) → slice_get passes i ≡ Some pass → IsDealt object i log v.owns pass)
-      → Learns next halts frees takes front at begin v log cell → IsSeen next halts frees takes begin.state log passes
-  seen_again object passes v log cell count from_first dealt learns = record {
-    whole = whole_again object passes v log cell count from_first dealt learns;
+  pub seen_again : {M : Type 0} (object : Object M N S E R H) (passes : List (Pass S N E R)) (v : View E R) (journal : List (Entry E R)) (cell : Cell S N) → length passes ≡ begin.callers → v.number ≡ 0
+      → ((i : ℕ) (pass : Pass S N E R) → slice_get passes i ≡ Some pass → IsDealt object i journal v.owns pass)
+      → Learns next halts frees takes front at begin v journal cell → IsSeen next halts frees takes begin.state journal passes
+  seen_again object passes v journal cell count from_first dealt learns = record {
+    whole = whole_again object passes v journal cell count from_first dealt learns;
     all = λ i pass at_i. (dealt i pass at_i).seen;
   }
 

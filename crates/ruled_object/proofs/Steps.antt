@@ -70,18 +70,18 @@ module _ {E R : Type 0} where
   in_added (x ∷ xs) e zero y is = inl (refl, (x, refl, sym (some-injective (x ++ e ∷ []) y is)))
   in_added (x ∷ xs) e (suc i) y is = inr ((λ h. omega arith), is)
 
-  heard_more : (log seen : List (Entry E R)) (heard : List (List (Entry E R))) → Begins log seen → ((i : ℕ) (xs : List (Entry E R)) → get_elem? heard i ≡ some xs → Begins log xs)
-      → (i : ℕ) (xs : List (Entry E R)) → get_elem? (seen ∷ heard) i ≡ some xs → Begins log xs
-  heard_more log seen heard one all zero xs e = subst (Begins log) (some-injective seen xs e) one
-  heard_more log seen heard one all (suc i) xs e = all i xs e
+  heard_more : (journal seen : List (Entry E R)) (heard : List (List (Entry E R))) → Begins journal seen → ((i : ℕ) (xs : List (Entry E R)) → get_elem? heard i ≡ some xs → Begins journal xs)
+      → (i : ℕ) (xs : List (Entry E R)) → get_elem? (seen ∷ heard) i ≡ some xs → Begins journal xs
+  heard_more journal seen heard one all zero xs e = subst (Begins journal) (some-injective seen xs e) one
+  heard_more journal seen heard one all (suc i) xs e = all i xs e
 
 module _ {S N E R : Type 0} (callers : ℕ) where
   -- what another seat knows stays so
-  fits_on : (log log' : List (Entry E R)) (word word' turn turn' : ℕ) (homes homes' : Homes S N) (claim claim' : ℕ → ℕ) (j : ℕ) (v : View E R)
-      → ((xs : List (Entry E R)) → Begins log xs → Begins log' xs) → ((c : ℕ) → claim c ≡ j → (claim' c ≡ j) × (by c log' ≡ by c log))
-      → (AtStage log word homes turn j v.seen v.stage → AtStage log' word' homes' turn' j v.seen v.stage)
-      → Fits callers log word homes turn claim j v → Fits callers log' word' homes' turn' claim' j v
-  fits_on log log' word word' turn turn' homes homes' claim claim' j v more same still f = record {
+  fits_on : (journal journal' : List (Entry E R)) (word word' turn turn' : ℕ) (homes homes' : Homes S N) (claim claim' : ℕ → ℕ) (j : ℕ) (v : View E R)
+      → ((xs : List (Entry E R)) → Begins journal xs → Begins journal' xs) → ((c : ℕ) → claim c ≡ j → (claim' c ≡ j) × (by c journal' ≡ by c journal))
+      → (AtStage journal word homes turn j v.seen v.stage → AtStage journal' word' homes' turn' j v.seen v.stage)
+      → Fits callers journal word homes turn claim j v → Fits callers journal' word' homes' turn' claim' j v
+  fits_on journal journal' word word' turn turn' homes homes' claim claim' j v more same still f = record {
     seen = more v.seen f.seen;
     heard = λ i xs e. more xs (f.heard i xs e);
     owns = λ i xs e. let o = f.owns i xs e in let s = same (v.number + i) o.1 in (o.0, s.0, o.2 ∙ sym s.1);
@@ -89,17 +89,17 @@ module _ {S N E R : Type 0} (callers : ℕ) where
   }
 
   -- a seat without the turn doesn't mind who has it
-  idle_on : (log log' : List (Entry E R)) (word word' turn turn' : ℕ) (homes homes' : Homes S N) (j : ℕ) (seen : List (Entry E R)) (st : Stage)
-      → (HasTurn st → ⊥) → AtStage log word homes turn j seen st → AtStage log' word' homes' turn' j seen st
-  idle_on log log' word word' turn turn' homes homes' j seen Idle without f = tt
-  idle_on log log' word word' turn turn' homes homes' j seen Making without f = absurd (without tt)
-  idle_on log log' word word' turn turn' homes homes' j seen Taken without f = absurd (without tt)
+  idle_on : (journal journal' : List (Entry E R)) (word word' turn turn' : ℕ) (homes homes' : Homes S N) (j : ℕ) (seen : List (Entry E R)) (st : Stage)
+      → (HasTurn st → ⊥) → AtStage journal word homes turn j seen st → AtStage journal' word' homes' turn' j seen st
+  idle_on journal journal' word word' turn turn' homes homes' j seen Idle without f = tt
+  idle_on journal journal' word word' turn turn' homes homes' j seen Making without f = absurd (without tt)
+  idle_on journal journal' word word' turn turn' homes homes' j seen Taken without f = absurd (without tt)
 
   -- a seat with the turn is the one that has it, and the word isn't 0
-  turn_is : (log : List (Entry E R)) (word turn : ℕ) (homes : Homes S N) (j : ℕ) (seen : List (Entry E R)) (st : Stage) → AtStage log word homes turn j seen st → HasTurn st → (j ≡ turn) × (word ≢ 0)
-  turn_is log word turn homes j seen Idle f h = absurd h
-  turn_is log word turn homes j seen Making f h = let e = f.0 in (f.1, λ z. absurd (omega arith))
-  turn_is log word turn homes j seen Taken f h = let e = f.0 in (f.1, λ z. absurd (omega arith))
+  turn_is : (journal : List (Entry E R)) (word turn : ℕ) (homes : Homes S N) (j : ℕ) (seen : List (Entry E R)) (st : Stage) → AtStage journal word homes turn j seen st → HasTurn st → (j ≡ turn) × (word ≢ 0)
+  turn_is journal word turn homes j seen Idle f h = absurd h
+  turn_is journal word turn homes j seen Making f h = let e = f.0 in (f.1, λ z. absurd (omega arith))
+  turn_is journal word turn homes j seen Taken f h = let e = f.0 in (f.1, λ z. absurd (omega arith))
 
 module _ {S N E R H : Type 0} (next : S → ℕ → E → S × R) (halts : Bool) (frees takes : E → R → Bool) (front : N → List ℕ) (at : H → N → Type 0) (begin : Begin S N) where
   abbrev St : Type 0
@@ -114,8 +114,8 @@ module _ {S N E R H : Type 0} (next : S → ℕ → E → S × R) (halts : Bool)
   abbrev V : Type 0
   V = View E R
 
-  abbrev Log : Type 0
-  Log = List (Entry E R)
+  abbrev Journal : Type 0
+  Journal = List (Entry E R)
 
   abbrev M : Type 0
   M = Sat S N E R
@@ -123,16 +123,16 @@ module _ {S N E R H : Type 0} (next : S → ℕ → E → S × R) (halts : Bool)
   abbrev Cl : Type 0
   Cl = Cell S N
 
-  abbrev Legal : Log → Type 0
+  abbrev Legal : Journal → Type 0
   Legal = Lawful next halts frees takes front at begin
 
-  abbrev Left : Log → Cl → Type 0
+  abbrev Left : Journal → Cl → Type 0
   Left = Lies next halts frees takes front at begin
 
   -- the making seat stands for all callers
   pub opens : 0 < begin.callers → Rule (opening (2 ∷ []) (None ∷ []) (first_view begin.callers))
   opens some_caller = record {
-    log = [];
+    journal = [];
     turn = 0;
     claim = λ c. 0;
     wide = refl;
@@ -149,21 +149,21 @@ module _ {S N E R H : Type 0} (next : S → ℕ → E → S × R) (halts : Bool)
   }
 
   -- a step of the seat that has the turn then or before: it sets the word, what lies in the slot, and the history
-  turned : (s : St) (r : Rule s) (id : ℕ) (v w : V) (n : ℕ) (hs : Homes S N) (log : Log) (turn : ℕ) → get_elem? s.views id ≡ some v → Legal log
-      → Fits begin.callers log n hs turn r.claim id w → ((xs : Log) → Begins r.log xs → Begins log xs) → ((c : ℕ) → r.claim c ≢ id → by c log ≡ by c r.log)
-      → ((j : ℕ) (u : V) → j ≢ id → get_elem? s.views j ≡ some u → HasTurn u.stage → ⊥) → (n ≡ 0 → Rests next halts frees takes front at begin log hs)
+  turned : (s : St) (r : Rule s) (id : ℕ) (v w : V) (n : ℕ) (hs : Homes S N) (journal : Journal) (turn : ℕ) → get_elem? s.views id ≡ some v → Legal journal
+      → Fits begin.callers journal n hs turn r.claim id w → ((xs : Journal) → Begins r.journal xs → Begins journal xs) → ((c : ℕ) → r.claim c ≢ id → by c journal ≡ by c r.journal)
+      → ((j : ℕ) (u : V) → j ≢ id → get_elem? s.views j ≡ some u → HasTurn u.stage → ⊥) → (n ≡ 0 → Rests next halts frees takes front at begin journal hs)
       → (n ≢ 0 → (turn ≡ id) × HasTurn w.stage × (0 < length w.owns)) → Rule record { words = set s.words 0 n; homes = hs; views = set s.views id w }
-  turned s r id v w n hs log turn at_me lawful mine more same alone free busy =
+  turned s r id v w n hs journal turn at_me lawful mine more same alone free busy =
       let wide = r.wide in let now : get_or (set s.words 0 n) 0 0 ≡ n = get_or-set_same s.words 0 n 0 (omega arith) in record {
-        log = log;
+        journal = journal;
         turn = turn;
         claim = r.claim;
         wide = length-set s.words 0 n ∙ wide;
         lawful = lawful;
-        each = subst (λ (z : ℕ). (j : ℕ) (u : V) → get_elem? (set s.views id w) j ≡ some u → Fits begin.callers log z hs turn r.claim j u) (sym now)
-            (each_after (Fits begin.callers log n hs turn r.claim) s.views id w mine
-            (λ j u other e. fits_on begin.callers r.log log (word_of s) n r.turn turn s.homes hs r.claim r.claim j u more (λ c is. (is, same c (λ k. other (sym is ∙ k))))
-            (idle_on begin.callers r.log log (word_of s) n r.turn turn s.homes hs j u.seen u.stage (alone j u other e)) (r.each j u e)));
+        each = subst (λ (z : ℕ). (j : ℕ) (u : V) → get_elem? (set s.views id w) j ≡ some u → Fits begin.callers journal z hs turn r.claim j u) (sym now)
+            (each_after (Fits begin.callers journal n hs turn r.claim) s.views id w mine
+            (λ j u other e. fits_on begin.callers r.journal journal (word_of s) n r.turn turn s.homes hs r.claim r.claim j u more (λ c is. (is, same c (λ k. other (sym is ∙ k))))
+            (idle_on begin.callers r.journal journal (word_of s) n r.turn turn s.homes hs j u.seen u.stage (alone j u other e)) (r.each j u e)));
         free = λ e. free (sym now ∙ e);
         busy = λ ne. let b = busy (λ e. ne (now ∙ e)) in (w, subst (λ (z : ℕ). get_elem? (set s.views id w) z ≡ some w) (sym b.0) (set_here s.views id w (there s.views id v at_me)), b.1, b.2);
       }
@@ -174,17 +174,17 @@ module _ {S N E R H : Type 0} (next : S → ℕ → E → S × R) (halts : Bool)
 
   -- no other seat has the turn
   one_turn : (s : St) (r : Rule s) (id : ℕ) → id ≡ r.turn → (j : ℕ) (u : V) → j ≢ id → get_elem? s.views j ≡ some u → HasTurn u.stage → ⊥
-  one_turn s r id mine j u other e h = let t = turn_is begin.callers r.log (word_of s) r.turn s.homes j u.seen u.stage (r.each j u e).stage h in other (t.0 ∙ sym mine)
+  one_turn s r id mine j u other e h = let t = turn_is begin.callers r.journal (word_of s) r.turn s.homes j u.seen u.stage (r.each j u e).stage h in other (t.0 ∙ sym mine)
 
   -- the making seat takes the empty slot
   pub makes : (id : ℕ) (me : M) → me.0.stage ≡ Making → me.1 ≡ [] → 0 < length me.0.owns → Allows Rule 1 id me 0 (λ _. 1) (λ _. made me)
   makes id me making empty some_own s r one at_me _ =
       let v : V = me.0 in let w : V = record v { stage = Taken } in let f = r.each id v at_me in
-      let st : AtStage r.log (word_of s) s.homes r.turn id v.seen Making = subst (λ (z : Stage). AtStage r.log (word_of s) s.homes r.turn id v.seen z) making f.stage in (
+      let st : AtStage r.journal (word_of s) s.homes r.turn id v.seen Making = subst (λ (z : Stage). AtStage r.journal (word_of s) s.homes r.turn id v.seen z) making f.stage in (
         w,
         table.takes 0 None,
         st.3,
-        turned s r id v w 1 (set s.homes 0 none) r.log id at_me r.lawful record { seen = f.seen; heard = f.heard; owns = f.owns; stage = (refl, refl, st.2) }
+        turned s r id v w 1 (set s.homes 0 none) r.journal id at_me r.lawful record { seen = f.seen; heard = f.heard; owns = f.owns; stage = (refl, refl, st.2) }
             (λ xs b. b) (λ c _. refl) (one_turn s r id st.1) (λ e. absurd (omega arith)) (λ _. (refl, tt, some_own)),
         (λ i. (w, (0, None) ∷ empty i)),
       )
@@ -192,15 +192,15 @@ module _ {S N E R H : Type 0} (next : S → ℕ → E → S × R) (halts : Bool)
   -- a seat takes the turn where nobody has it
   pub takes_turn : (id : ℕ) (me : M) → me.1 ≡ [] → 0 < length me.0.owns → Allows Rule 1 id me 0 (λ x. either (eqb x 0) 1 x) (TakesTurn next halts frees takes front at begin me)
   takes_turn id me empty some_own s r one at_me _ = let v : V = me.0 in let f = r.each id v at_me in dite (ℕ_discrete (word_of s) 0)
-      (λ is_free. let rest = r.free is_free in let w : V = taken v r.log in (
+      (λ is_free. let rest = r.free is_free in let w : V = taken v r.journal in (
         w,
         table.takes 0 (Some rest.0),
         rest.1,
         subst (λ b. Rule (stepped s 0 (either b 1 (word_of s)) id me.1 w (table.takes 0 (Some rest.0)))) (sym (eq-eqb (word_of s) 0 is_free))
-            (turned s r id v w 1 (set s.homes 0 none) r.log id at_me r.lawful record { seen = begins_all r.log; heard = f.heard; owns = f.owns; stage = (refl, refl, refl) }
-            (λ xs b. b) (λ c _. refl) (λ j u _ e h. let t = turn_is begin.callers r.log (word_of s) r.turn s.homes j u.seen u.stage (r.each j u e).stage h in t.1 is_free) (λ e. absurd (omega arith)) (λ _. (refl, tt, some_own))),
+            (turned s r id v w 1 (set s.homes 0 none) r.journal id at_me r.lawful record { seen = begins_all r.journal; heard = f.heard; owns = f.owns; stage = (refl, refl, refl) }
+            (λ xs b. b) (λ c _. refl) (λ j u _ e h. let t = turn_is begin.callers r.journal (word_of s) r.turn s.homes j u.seen u.stage (r.each j u e).stage h in t.1 is_free) (λ e. absurd (omega arith)) (λ _. (refl, tt, some_own))),
         (
-          (λ _. (r.log, rest.0, (λ i. (w, (0, Some rest.0) ∷ empty i)), record { seen = f.seen; heard = f.heard; owns = λ i xs e. let o = f.owns i xs e in (o.0, o.2); lawful = r.lawful; lies = rest.2 })),
+          (λ _. (r.journal, rest.0, (λ i. (w, (0, Some rest.0) ∷ empty i)), record { seen = f.seen; heard = f.heard; owns = λ i xs e. let o = f.owns i xs e in (o.0, o.2); lawful = r.lawful; lies = rest.2 })),
           λ ne. absurd (ne is_free),
         ),
       ))
@@ -216,12 +216,12 @@ module _ {S N E R H : Type 0} (next : S → ℕ → E → S × R) (halts : Bool)
   gives_plain : (id : ℕ) (v : V) (cell : Cl) → v.stage ≡ Taken → Left v.seen cell → Allows Rule 1 id (v, (0, Some cell) ∷ []) 0 (λ _. 0) (λ _ n. n ≡ (gave v None, []))
   gives_plain id v cell holder left s r one at_me _ =
       let w : V = gave v None in let hs : Homes S N = set s.homes 0 (some (Some cell)) in let f = r.each id v at_me in
-      let st : AtStage r.log (word_of s) s.homes r.turn id v.seen Taken = subst (λ (z : Stage). AtStage r.log (word_of s) s.homes r.turn id v.seen z) holder f.stage in (
+      let st : AtStage r.journal (word_of s) s.homes r.turn id v.seen Taken = subst (λ (z : Stage). AtStage r.journal (word_of s) s.homes r.turn id v.seen z) holder f.stage in (
         w,
         table.gives,
         tt,
-        turned s r id v w 0 hs r.log id at_me r.lawful record { seen = f.seen; heard = f.heard; owns = f.owns; stage = tt } (λ xs b. b) (λ c _. refl) (one_turn s r id st.1)
-            (λ _. (cell, set_here s.homes 0 (some (Some cell)) (omega arith), subst (λ (z : Log). Left z cell) (sym st.2) left)) (λ ne. absurd (ne refl)),
+        turned s r id v w 0 hs r.journal id at_me r.lawful record { seen = f.seen; heard = f.heard; owns = f.owns; stage = tt } (λ xs b. b) (λ c _. refl) (one_turn s r id st.1)
+            (λ _. (cell, set_here s.homes 0 (some (Some cell)) (omega arith), subst (λ (z : Journal). Left z cell) (sym st.2) left)) (λ ne. absurd (ne refl)),
         refl,
       )
 
@@ -229,9 +229,9 @@ module _ {S N E R H : Type 0} (next : S → ℕ → E → S × R) (halts : Bool)
       → Allows Rule 1 id (v, (0, Some cell) ∷ []) 0 (λ _. 0) (λ _ n. n ≡ (gave v (Some e), []))
   gives_entry id v e cell holder some_own adds s r one at_me _ =
       let w : V = gave v (Some e) in let hs : Homes S N = set s.homes 0 (some (Some cell)) in let f = r.each id v at_me in
-      let st : AtStage r.log (word_of s) s.homes r.turn id v.seen Taken = subst (λ (z : Stage). AtStage r.log (word_of s) s.homes r.turn id v.seen z) holder f.stage in
+      let st : AtStage r.journal (word_of s) s.homes r.turn id v.seen Taken = subst (λ (z : Stage). AtStage r.journal (word_of s) s.homes r.turn id v.seen z) holder f.stage in
       let lawful : Legal v.seen = subst Legal st.2 r.lawful in
-      let log : Log = v.seen ++ e ∷ [] in
+      let journal : Journal = v.seen ++ e ∷ [] in
       let first = first_there v.owns 0 some_own in
       let own = f.owns 0 first.0 first.1 in
       let below = own.0 in
@@ -240,24 +240,24 @@ module _ {S N E R H : Type 0} (next : S → ℕ → E → S × R) (halts : Bool)
         w,
         table.gives,
         tt,
-        turned s r id v w 0 hs log id at_me
+        turned s r id v w 0 hs journal id at_me
             record {
               follows = follows_snoc next halts begin.state None v.seen e lawful.follows adds.right;
               edges = edges_snoc frees takes v.seen e lawful.edges adds.edge;
               callers = λ c past. by_other c v.seen e (λ k. let j = k in absurd (omega arith)) ∙ lawful.callers c past;
             }
             record {
-              seen = begins_all log;
-              heard = λ i xs is. begins_more v.seen (e ∷ []) xs (subst (λ (z : Log). Begins z xs) st.2 (f.heard i xs is));
+              seen = begins_all journal;
+              heard = λ i xs is. begins_more v.seen (e ∷ []) xs (subst (λ (z : Journal). Begins z xs) st.2 (f.heard i xs is));
               owns = λ i xs is. ⊎_elim
                   (λ t. let u = t.1 in let o = f.owns 0 u.0 u.1 in let c : ℕ = v.number + i in let z : v.number + 0 ≡ c = (let k = t.0 in omega arith) in let here : e.caller ≡ c = omega arith in
-                  subst (λ (x : ℕ). Owned begin.callers log r.claim id x xs) z
-                  (o.0, o.1, u.2 ∙ (ap (λ (y : Log). y ++ e ∷ []) (o.2 ∙ ap (by (v.number + 0)) st.2) ∙ sym (by_here (v.number + 0) v.seen e (here ∙ sym z)))))
+                  subst (λ (x : ℕ). Owned begin.callers journal r.claim id x xs) z
+                  (o.0, o.1, u.2 ∙ (ap (λ (y : Journal). y ++ e ∷ []) (o.2 ∙ ap (by (v.number + 0)) st.2) ∙ sym (by_here (v.number + 0) v.seen e (here ∙ sym z)))))
                   (λ t. let o = f.owns i xs t.1 in let ne = t.0 in (o.0, o.1, o.2 ∙ (ap (by (v.number + i)) st.2 ∙ sym (by_other (v.number + i) v.seen e (λ k. ne (omega arith))))))
                   (in_added v.owns e i xs is);
               stage = tt;
             }
-            (λ xs b. begins_more v.seen (e ∷ []) xs (subst (λ (z : Log). Begins z xs) st.2 b))
+            (λ xs b. begins_more v.seen (e ∷ []) xs (subst (λ (z : Journal). Begins z xs) st.2 b))
             (λ c ne. by_other c v.seen e (λ k. ne (ap r.claim (sym k) ∙ claimed)) ∙ ap (by c) (sym st.2)) (one_turn s r id st.1)
             (λ _. (cell, set_here s.homes 0 (some (Some cell)) (omega arith), adds.lies)) (λ ne. absurd (ne refl)),
         refl,
@@ -275,14 +275,14 @@ module _ {S N E R H : Type 0} (next : S → ℕ → E → S × R) (halts : Bool)
   comes s r one _ = (
     blank,
     record {
-      log = r.log;
+      journal = r.journal;
       turn = r.turn;
       claim = r.claim;
       wide = r.wide;
       lawful = r.lawful;
       each = λ j v e. ⊎_elim (r.each j v)
-          (λ (t : blank ≡ v). subst (Fits begin.callers r.log (word_of s) s.homes r.turn r.claim j) t
-          record { seen = (r.log, refl); heard = λ i xs is. absurd (some-ne-none xs (sym is)); owns = λ i xs is. absurd (some-ne-none xs (sym is)); stage = tt })
+          (λ (t : blank ≡ v). subst (Fits begin.callers r.journal (word_of s) s.homes r.turn r.claim j) t
+          record { seen = (r.journal, refl); heard = λ i xs is. absurd (some-ne-none xs (sym is)); owns = λ i xs is. absurd (some-ne-none xs (sym is)); stage = tt })
           (at_snoc s.views blank v j e);
       free = r.free;
       busy = λ ne. let b = r.busy ne in (b.0, at_longer s.views (blank ∷ []) r.turn b.0 b.1, b.2, b.3);
@@ -298,25 +298,25 @@ module _ {S N E R H : Type 0} (next : S → ℕ → E → S × R) (halts : Bool)
       let f = r.each id v at_me in let g = r.each other w at_w in
       let claim : ℕ → ℕ = λ c. cond (eqb (r.claim c) other) id (r.claim c) in
       let stays : (c j : ℕ) → r.claim c ≡ j → j ≢ other → claim c ≡ j = λ c j is ne. ap (λ (b : Bool). cond b id (r.claim c)) (ne_eqb (r.claim c) other (λ k. ne (sym is ∙ k))) ∙ is in
-      let Q : ℕ → V → Type 0 = λ j u. Fits begin.callers r.log (word_of s) s.homes r.turn claim j u in record {
-        log = r.log;
+      let Q : ℕ → V → Type 0 = λ j u. Fits begin.callers r.journal (word_of s) s.homes r.turn claim j u in record {
+        journal = r.journal;
         turn = r.turn;
         claim = claim;
         wide = r.wide;
         lawful = r.lawful;
-        each = each_after Q vs other blank record { seen = (r.log, refl); heard = λ i xs is. absurd (some-ne-none xs (sym is)); owns = λ i xs is. absurd (some-ne-none xs (sym is)); stage = tt }
+        each = each_after Q vs other blank record { seen = (r.journal, refl); heard = λ i xs is. absurd (some-ne-none xs (sym is)); owns = λ i xs is. absurd (some-ne-none xs (sym is)); stage = tt }
             (λ j u ne e. each_after (λ i x. i ≢ other → Q i x) s.views id both
             (λ _. record {
               seen = f.seen;
-              heard = λ i xs is. ⊎_elim (f.heard i xs) (λ t. heard_more r.log w.seen w.heard g.seen g.heard t.0 xs t.2) (in_both v.heard (w.seen ∷ w.heard) i xs is);
+              heard = λ i xs is. ⊎_elim (f.heard i xs) (λ t. heard_more r.journal w.seen w.heard g.seen g.heard t.0 xs t.2) (in_both v.heard (w.seen ∷ w.heard) i xs is);
               owns = λ i xs is. ⊎_elim (λ t. let o = f.owns i xs t in (o.0, stays (v.number + i) id o.1 (λ k. apart (sym k)), o.2))
                   (λ t. let o = g.owns t.0 xs t.2 in let inside = there w.owns t.0 xs t.2 in let sum = t.1 in let run = next_callers (omega arith) in
                   let same : w.number + t.0 ≡ v.number + i = omega arith in
-                  subst (λ (c : ℕ). Owned begin.callers r.log claim id c xs) same (o.0, ap (λ (b : Bool). cond b id (r.claim (w.number + t.0))) (eq-eqb (r.claim (w.number + t.0)) other o.1), o.2))
+                  subst (λ (c : ℕ). Owned begin.callers r.journal claim id c xs) same (o.0, ap (λ (b : Bool). cond b id (r.claim (w.number + t.0))) (eq-eqb (r.claim (w.number + t.0)) other o.1), o.2))
                   (in_both v.owns w.owns i xs is);
               stage = f.stage;
             })
-            (λ i x away at_x alive. fits_on begin.callers r.log r.log (word_of s) (word_of s) r.turn r.turn s.homes s.homes r.claim claim i x (λ xs b. b) (λ c is. (stays c i is alive, refl)) (λ k. k) (r.each i x at_x))
+            (λ i x away at_x alive. fits_on begin.callers r.journal r.journal (word_of s) (word_of s) r.turn r.turn s.homes s.homes r.claim claim i x (λ xs b. b) (λ c is. (stays c i is alive, refl)) (λ k. k) (r.each i x at_x))
             j u e ne);
         free = r.free;
         busy = λ ne. let b = r.busy ne in dite (ℕ_discrete r.turn other)
@@ -339,8 +339,8 @@ module _ {S N E R H : Type 0} (next : S → ℕ → E → S × R) (halts : Bool)
       let mine : r.claim v.number ≡ id = ap r.claim (let k : v.number ≡ v.number + 0 = omega arith in k) ∙ own.1 in
       let claim : ℕ → ℕ = λ c. cond (eqb c v.number) n (r.claim c) in
       let stays : (c j : ℕ) → r.claim c ≡ j → c ≢ v.number → claim c ≡ j = λ c j is ne. ap (λ (b : Bool). cond b n (r.claim c)) (ne_eqb c v.number ne) ∙ is in
-      let Q : ℕ → V → Type 0 = λ j u. Fits begin.callers r.log (word_of s) s.homes r.turn claim j u in record {
-        log = r.log;
+      let Q : ℕ → V → Type 0 = λ j u. Fits begin.callers r.journal (word_of s) s.homes r.turn claim j u in record {
+        journal = r.journal;
         turn = r.turn;
         claim = claim;
         wide = r.wide;
@@ -351,17 +351,17 @@ module _ {S N E R H : Type 0} (next : S → ℕ → E → S × R) (halts : Bool)
               seen = f.seen;
               heard = f.heard;
               owns = λ i xs is. let o = f.owns (suc i) xs (in_others v.owns i xs is) in let same : v.number + suc i ≡ (v.number + 1) + i = omega arith in
-                  subst (λ (c : ℕ). Owned begin.callers r.log claim id c xs) same (o.0, stays (v.number + suc i) id o.1 (λ k. omega arith), o.2);
+                  subst (λ (c : ℕ). Owned begin.callers r.journal claim id c xs) same (o.0, stays (v.number + suc i) id o.1 (λ k. omega arith), o.2);
               stage = f.stage;
             }
-            (λ i x away at_x. fits_on begin.callers r.log r.log (word_of s) (word_of s) r.turn r.turn s.homes s.homes r.claim claim i x (λ xs b. b)
+            (λ i x away at_x. fits_on begin.callers r.journal r.journal (word_of s) (word_of s) r.turn r.turn s.homes s.homes r.claim claim i x (λ xs b. b)
             (λ c is. (stays c i is (λ k. away (sym is ∙ (ap r.claim k ∙ mine))), refl)) (λ k. k) (r.each i x at_x))
             j u t)
             (λ t. subst (λ (z : ℕ × V). Q z.0 z.1) (λ i. (sym t.0 i, t.1 i)) record {
               seen = f.seen;
               heard = λ i xs is. absurd (some-ne-none xs (sym is));
               owns = λ i xs is. let k = in_first v.owns i xs is in let o = f.owns 0 xs k.1 in let z = k.0 in let same : v.number + 0 ≡ v.number + i = omega arith in
-                  subst (λ (c : ℕ). Owned begin.callers r.log claim n c xs) same
+                  subst (λ (c : ℕ). Owned begin.callers r.journal claim n c xs) same
                   (o.0, ap (λ (b : Bool). cond b n (r.claim (v.number + 0))) (eq-eqb (v.number + 0) v.number (let h : v.number + 0 ≡ v.number = omega arith in h)), o.2);
               stage = tt;
             })
@@ -378,7 +378,7 @@ module _ {S N E R H : Type 0} (next : S → ℕ → E → S × R) (halts : Bool)
 
   -- what a seat that stands for all callers knows when the table is closed
   abbrev pub Ended : V → List (Option Cl) → Type 0
-  Ended v slots = (log : Log) × (cell : Cl) × (get_elem? slots 0 ≡ some (Some cell)) × Learns next halts frees takes front at begin v log cell
+  Ended v slots = (journal : Journal) × (cell : Cl) × (get_elem? slots 0 ≡ some (Some cell)) × Learns next halts frees takes front at begin v journal cell
 
   -- where a seat without the turn stands for all callers, nobody has the turn
   at_rest : (s : St) (r : Rule s) (id : ℕ) (v : V) → get_elem? s.views id ≡ some v → v.stage ≡ Idle → v.number ≡ 0 → length v.owns ≡ begin.callers → word_of s ≡ 0
@@ -393,17 +393,17 @@ module _ {S N E R H : Type 0} (next : S → ℕ → E → S × R) (halts : Bool)
   pub ends : (id : ℕ) (v : V) (words : List ℕ) (slots : List (Option Cl)) → v.stage ≡ Idle → v.number ≡ 0 → length v.owns ≡ begin.callers → Final (Seen Rule id v) words slots → Ended v slots
   ends id v words slots idle from_first all (s, seen, same_words, same_slots, values) =
       let r = seen.0 in let f = r.each id v seen.1 in let rest = r.free (at_rest s r id v seen.1 idle from_first all) in
-      (r.log, rest.0, values 0 (Some rest.0) rest.1, record { seen = f.seen; heard = f.heard; owns = λ i xs e. let o = f.owns i xs e in (o.0, o.2); lawful = r.lawful; lies = rest.2 })
+      (r.journal, rest.0, values 0 (Some rest.0) rest.1, record { seen = f.seen; heard = f.heard; owns = λ i xs e. let o = f.owns i xs e in (o.0, o.2); lawful = r.lawful; lies = rest.2 })
 
   -- a seat that stands for all callers, and hasn't the turn, takes it
   pub takes_rest : (id : ℕ) (me : M) → me.1 ≡ [] → me.0.stage ≡ Idle → me.0.number ≡ 0 → length me.0.owns ≡ begin.callers → 0 < begin.callers
       → Allows Rule 1 id me 0 (λ _. 1) (λ _. TakesRest next halts frees takes front at begin me)
   takes_rest id me empty idle from_first all some_caller s r one at_me _ =
-      let v : V = me.0 in let f = r.each id v at_me in let is_free = at_rest s r id v at_me idle from_first all in let rest = r.free is_free in let w : V = taken v r.log in (
+      let v : V = me.0 in let f = r.each id v at_me in let is_free = at_rest s r id v at_me idle from_first all in let rest = r.free is_free in let w : V = taken v r.journal in (
         w,
         table.takes 0 (Some rest.0),
         rest.1,
-        turned s r id v w 1 (set s.homes 0 none) r.log id at_me r.lawful record { seen = begins_all r.log; heard = f.heard; owns = f.owns; stage = (refl, refl, refl) }
-            (λ xs b. b) (λ c _. refl) (λ j u _ e h. let t = turn_is begin.callers r.log (word_of s) r.turn s.homes j u.seen u.stage (r.each j u e).stage h in t.1 is_free) (λ e. absurd (omega arith)) (λ _. (refl, tt, omega arith)),
-        (r.log, rest.0, (λ i. (w, (0, Some rest.0) ∷ empty i)), record { seen = f.seen; heard = f.heard; owns = λ i xs e. let o = f.owns i xs e in (o.0, o.2); lawful = r.lawful; lies = rest.2 }),
+        turned s r id v w 1 (set s.homes 0 none) r.journal id at_me r.lawful record { seen = begins_all r.journal; heard = f.heard; owns = f.owns; stage = (refl, refl, refl) }
+            (λ xs b. b) (λ c _. refl) (λ j u _ e h. let t = turn_is begin.callers r.journal (word_of s) r.turn s.homes j u.seen u.stage (r.each j u e).stage h in t.1 is_free) (λ e. absurd (omega arith)) (λ _. (refl, tt, omega arith)),
+        (r.journal, rest.0, (λ i. (w, (0, Some rest.0) ∷ empty i)), record { seen = f.seen; heard = f.heard; owns = λ i xs e. let o = f.owns i xs e in (o.0, o.2); lawful = r.lawful; lies = rest.2 }),
       )

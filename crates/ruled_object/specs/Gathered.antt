@@ -35,32 +35,32 @@ module _ {S N E R : Type 0} where
 
 module _ {E R : Type 0} where
   -- one seat has seen this history, and stands for all callers but the first n, whose entries these are
-  pub record Dealing (n : ℕ) (log : List (Entry E R)) (all : List (List (Entry E R))) (v : View E R) : Type 0 where
+  pub record Dealing (n : ℕ) (journal : List (Entry E R)) (all : List (List (Entry E R))) (v : View E R) : Type 0 where
     pub stage : v.stage ≡ Idle
-    pub seen : v.seen ≡ log
+    pub seen : v.seen ≡ journal
     pub number : v.number ≡ n
     pub count : length v.owns + n ≡ length all
     pub owns : (i : ℕ) → get_elem? v.owns i ≡ get_elem? all (n + i)
 
 -- the pass of caller n, which has seen this history
-pub record IsDealt {M N S E R H : Type 0} (object : Object M N S E R H) (n : ℕ) (log : List (Entry E R)) (all : List (List (Entry E R))) (pass : Pass S N E R) : Type 0 where
+pub record IsDealt {M N S E R H : Type 0} (object : Object M N S E R H) (n : ℕ) (journal : List (Entry E R)) (all : List (List (Entry E R))) (pass : Pass S N E R) : Type 0 where
   pub is : IsPassOf object pass
   pub number : number_of pass ≡ n
-  pub seen : seen_by pass ≡ log
+  pub seen : seen_by pass ≡ journal
   pub own : get_elem? all n ≡ some (own_by pass)
 
 -- the history is all that the passes' callers did: each entry stands in exactly one pass's own list, and what each has seen is a beginning of it
-pub record IsWhole {S N E R : Type 0} (next : S → ℕ → E → S × R) (halts : Bool) (frees takes : E → R → Bool) (start : S) (log : List (Entry E R)) (passes : List (Pass S N E R)) : Type 0 where
-  pub follows : Follows next halts start None log
-  pub edges : KeepsEdges frees takes log
-  pub owns : (i : ℕ) (pass : Pass S N E R) → slice_get passes i ≡ Some pass → own_by pass ≡ by i log
-  pub seen : (i : ℕ) (pass : Pass S N E R) → slice_get passes i ≡ Some pass → Begins log (seen_by pass)
-  pub callers : (c : ℕ) → length passes ≤ c → by c log ≡ []
+pub record IsWhole {S N E R : Type 0} (next : S → ℕ → E → S × R) (halts : Bool) (frees takes : E → R → Bool) (start : S) (journal : List (Entry E R)) (passes : List (Pass S N E R)) : Type 0 where
+  pub follows : Follows next halts start None journal
+  pub edges : KeepsEdges frees takes journal
+  pub owns : (i : ℕ) (pass : Pass S N E R) → slice_get passes i ≡ Some pass → own_by pass ≡ by i journal
+  pub seen : (i : ℕ) (pass : Pass S N E R) → slice_get passes i ≡ Some pass → Begins journal (seen_by pass)
+  pub callers : (c : ℕ) → length passes ≤ c → by c journal ≡ []
 
 -- the same, and each pass has seen all of the history
-pub record IsSeen {S N E R : Type 0} (next : S → ℕ → E → S × R) (halts : Bool) (frees takes : E → R → Bool) (start : S) (log : List (Entry E R)) (passes : List (Pass S N E R)) : Type 0 where
-  pub whole : IsWhole next halts frees takes start log passes
-  pub all : (i : ℕ) (pass : Pass S N E R) → slice_get passes i ≡ Some pass → seen_by pass ≡ log
+pub record IsSeen {S N E R : Type 0} (next : S → ℕ → E → S × R) (halts : Bool) (frees takes : E → R → Bool) (start : S) (journal : List (Entry E R)) (passes : List (Pass S N E R)) : Type 0 where
+  pub whole : IsWhole next halts frees takes start journal passes
+  pub all : (i : ℕ) (pass : Pass S N E R) → slice_get passes i ≡ Some pass → seen_by pass ≡ journal
 
 -- all passes of a new object, in order of number, each good for so many calls. Nothing was done yet
 pub record AreNew {M N S E R H : Type 0} (object : Object M N S E R H) (calls : ℕ) (passes : List (Pass S N E R)) : Type 0 where

@@ -37,7 +37,7 @@ module _ {E R : Type 0} where
 
   -- the view with the turn, after it has seen this history
   abbrev pub taken : View E R → List (Entry E R) → View E R
-  taken v log = record v { stage = Taken; seen = log; knew = length v.seen }
+  taken v journal = record v { stage = Taken; seen = journal; knew = length v.seen }
 
   -- one more entry of the first caller
   abbrev pub added : List (List (Entry E R)) → Entry E R → List (List (Entry E R))
@@ -68,16 +68,16 @@ module _ {S N E R : Type 0} where
 
 module _ {S N E R H : Type 0} (next : S → ℕ → E → S × R) (halts : Bool) (frees takes : E → R → Bool) (front : N → List ℕ) (at : H → N → Type 0) (begin : Begin S N) where
   -- what a seat learns with the turn: the history, of which all that it knew is a part, and the cell that it left
-  pub record Learns (v : View E R) (log : List (Entry E R)) (cell : Cell S N) : Type 0 where
-    pub seen : Begins log v.seen
-    pub heard : (i : ℕ) (xs : List (Entry E R)) → get_elem? v.heard i ≡ some xs → Begins log xs
-    pub owns : (i : ℕ) (xs : List (Entry E R)) → get_elem? v.owns i ≡ some xs → (v.number + i < begin.callers) × (xs ≡ by (v.number + i) log)
-    pub lawful : Lawful next halts frees takes front at begin log
-    pub lies : Lies next halts frees takes front at begin log cell
+  pub record Learns (v : View E R) (journal : List (Entry E R)) (cell : Cell S N) : Type 0 where
+    pub seen : Begins journal v.seen
+    pub heard : (i : ℕ) (xs : List (Entry E R)) → get_elem? v.heard i ≡ some xs → Begins journal xs
+    pub owns : (i : ℕ) (xs : List (Entry E R)) → get_elem? v.owns i ≡ some xs → (v.number + i < begin.callers) × (xs ≡ by (v.number + i) journal)
+    pub lawful : Lawful next halts frees takes front at begin journal
+    pub lies : Lies next halts frees takes front at begin journal cell
 
   -- the seat took the turn, which nobody had
   abbrev pub TakesRest : Sat S N E R → Sat S N E R → Type 0
-  TakesRest m n = (log : List (Entry E R)) × (cell : Cell S N) × (n ≡ (taken m.0 log, (0, Some cell) ∷ [])) × Learns m.0 log cell
+  TakesRest m n = (journal : List (Entry E R)) × (cell : Cell S N) × (n ≡ (taken m.0 journal, (0, Some cell) ∷ [])) × Learns m.0 journal cell
 
   -- the seat took the turn where it found 0, and else nothing changed
   abbrev pub TakesTurn : Sat S N E R → ℕ → Sat S N E R → Type 0

@@ -18,8 +18,8 @@ impl<M: Machine, N: Note> Object<M, N> {
     pub fn first_halt(&self, passes: &mut [PassOf<M, N>]) -> Option<Misuse>
         requires { AreAllPasses self.now passes.old }
         ensures passes { AreAllPasses self.now passes.new × SamePasses passes.old passes.new }
-        ensures history { (log : List (Entry M.Event M.Reply)) × (result ≡ halt_of log) × IsWhole M.next M.HALTS M.frees M.takes (start_of self.now) log passes.old × IsWhole M.next M.HALTS M.frees M.takes (start_of self.now) log passes.new }
-        ensures seen { (log : List (Entry M.Event M.Reply)) × IsSeen M.next M.HALTS M.frees M.takes (start_of self.now) log passes.new }
+        ensures history { (journal : List (Entry M.Event M.Reply)) × (result ≡ halt_of journal) × IsWhole M.next M.HALTS M.frees M.takes (start_of self.now) journal passes.old × IsWhole M.next M.HALTS M.frees M.takes (start_of self.now) journal passes.new }
+        ensures seen { (journal : List (Entry M.Event M.Reply)) × IsSeen M.next M.HALTS M.frees M.takes (start_of self.now) journal passes.new }
         ensures own { SameOwn passes.old passes.new }
         ensures halts { M.HALTS ≡ false → result ≡ None }
     {
@@ -35,7 +35,7 @@ impl<M: Machine, N: Note> Object<M, N> {
     /// stands in exactly one pass's own list.
     pub fn finish(self, mut passes: Vec<PassOf<M, N>>) -> M::State
         requires { AreAllPasses self passes.items }
-        ensures { (log : List (Entry M.Event M.Reply)) × IsWhole M.next M.HALTS M.frees M.takes (start_of self) log passes.items × (result ≡ state_after M.next (start_of self) log) }
+        ensures { (journal : List (Entry M.Event M.Reply)) × IsWhole M.next M.HALTS M.frees M.takes (start_of self) journal passes.items × (result ≡ state_after M.next (start_of self) journal) }
     {
         let all = self.gather(&mut passes);
         let Object { table, .. } = self;

@@ -41,7 +41,7 @@ impl<M: Machine, N: Note> Object<M, N> {
         requires begun { K.begun ≡ Some self.now.table.shared.key }
         requires seat { (seat.old.table_id ≡ self.now.table.shared.table_id) × (seat.old.me.1 ≡ []) × (0 < length seat.old.me.0.owns) }
         ensures seat { IsSameSeat seat.old seat.new }
-        ensures learns { (log : List (Entry M.Event M.Reply)) × (seat.new.me ≡ (taken seat.old.me.0 log, (0, None) ∷ [])) × Learns M.next M.HALTS M.frees M.takes N.front N.at self.now.table.shared.key seat.old.me.0 log result }
+        ensures learns { (journal : List (Entry M.Event M.Reply)) × (seat.new.me ≡ (taken seat.old.me.0 journal, (0, None) ∷ [])) × Learns M.next M.HALTS M.frees M.takes N.front N.at self.now.table.shared.key seat.old.me.0 journal result }
     {
         let shared = &self.table.shared;
         for _ in rt.forever() {
@@ -62,7 +62,7 @@ impl<M: Machine, N: Note> Object<M, N> {
         requires seat { (seat.old.table_id ≡ self.now.table.shared.table_id) × (seat.old.me.1 ≡ []) }
         requires all { (seat.old.me.0.stage ≡ Idle) × (seat.old.me.0.number ≡ 0) × (length seat.old.me.0.owns ≡ self.now.table.shared.key.callers) }
         ensures seat { IsSameSeat seat.old seat.new }
-        ensures learns { (log : List (Entry M.Event M.Reply)) × (seat.new.me ≡ (taken seat.old.me.0 log, (0, None) ∷ [])) × Learns M.next M.HALTS M.frees M.takes N.front N.at self.now.table.shared.key seat.old.me.0 log result }
+        ensures learns { (journal : List (Entry M.Event M.Reply)) × (seat.new.me ≡ (taken seat.old.me.0 journal, (0, None) ∷ [])) × Learns M.next M.HALTS M.frees M.takes N.front N.at self.now.table.shared.key seat.old.me.0 journal result }
     {
         let shared = &self.table.shared;
         shared.store::<TakeRest<M, N, K>>(seat, TURN, TAKEN);

@@ -38,10 +38,10 @@ impl<N: Note> Mutex<N> {
     pub fn first_halt(&self, passes: &mut [MutexPass<N>]) -> Option<Misuse>
         requires { AreAllOfMutex self.now passes.old }
         ensures passes { AreAllOfMutex self.now passes.new × SamePasses passes.old passes.new }
-        ensures history { (log : MutexJournal) × (result ≡ halt_of log)
-            × IsWhole next true (λ event reply. releases reply) (λ event reply. acquires reply) (mutex_start self.now) log passes.old
-            × IsWhole next true (λ event reply. releases reply) (λ event reply. acquires reply) (mutex_start self.now) log passes.new }
-        ensures seen { (log : MutexJournal) × IsSeen next true (λ event reply. releases reply) (λ event reply. acquires reply) (mutex_start self.now) log passes.new }
+        ensures history { (journal : MutexJournal) × (result ≡ halt_of journal)
+            × IsWhole next true (λ event reply. releases reply) (λ event reply. acquires reply) (mutex_start self.now) journal passes.old
+            × IsWhole next true (λ event reply. releases reply) (λ event reply. acquires reply) (mutex_start self.now) journal passes.new }
+        ensures seen { (journal : MutexJournal) × IsSeen next true (λ event reply. releases reply) (λ event reply. acquires reply) (mutex_start self.now) journal passes.new }
     {
         self.object.first_halt(passes)
     }

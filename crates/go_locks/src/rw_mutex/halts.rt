@@ -38,10 +38,10 @@ impl<N: Note> RwMutex<N> {
     pub fn first_halt(&self, passes: &mut [RwPass<N>]) -> Option<Misuse>
         requires { AreAllOfRwMutex self.now passes.old }
         ensures passes { AreAllOfRwMutex self.now passes.new × SamePasses passes.old passes.new }
-        ensures history { (log : RwJournal) × (result ≡ halt_of log)
-            × IsWhole next true (λ event reply. releases reply) (λ event reply. acquires reply) (rw_start self.now) log passes.old
-            × IsWhole next true (λ event reply. releases reply) (λ event reply. acquires reply) (rw_start self.now) log passes.new }
-        ensures seen { (log : RwJournal) × IsSeen next true (λ event reply. releases reply) (λ event reply. acquires reply) (rw_start self.now) log passes.new }
+        ensures history { (journal : RwJournal) × (result ≡ halt_of journal)
+            × IsWhole next true (λ event reply. releases reply) (λ event reply. acquires reply) (rw_start self.now) journal passes.old
+            × IsWhole next true (λ event reply. releases reply) (λ event reply. acquires reply) (rw_start self.now) journal passes.new }
+        ensures seen { (journal : RwJournal) × IsSeen next true (λ event reply. releases reply) (λ event reply. acquires reply) (rw_start self.now) journal passes.new }
     {
         self.object.first_halt(passes)
     }

@@ -21,15 +21,15 @@ returns-clause-history g c =
     let begin = object.table.shared.key in
     let v = c.gather-all.result.me.0 in
     let learned = c.take_rest-cell.ensures.learns in
-    let log = learned.0 in
+    let journal = learned.0 in
     let cell = c.take_rest-cell.result in
     let is = ap (λ me. me.0) c.give_turn.ensures.gave ∙ ap (λ me. gave me.0 None) learned.1 in
     let passes = c.deal_out.new.passes in
     let count = c.deal_out.ensures.passes.count ∙ c.gather-all.ensures.passes.count ∙ c.requires.count in (
-      log,
+      journal,
       learned.2.lies.halted,
-      whole m.next m.HALTS m.frees m.takes n.front n.at begin c.args.passes.now v log cell c.requires.count c.gather-all.ensures.gathered learned.2,
-      whole_again m.next m.HALTS m.frees m.takes n.front n.at begin object passes v log cell count c.gather-all.ensures.gathered.number
+      whole m.next m.HALTS m.frees m.takes n.front n.at begin c.args.passes.now v journal cell c.requires.count c.gather-all.ensures.gathered learned.2,
+      whole_again m.next m.HALTS m.frees m.takes n.front n.at begin object passes v journal cell count c.gather-all.ensures.gathered.number
           (λ i pass at_i. subst (λ w. IsDealt object i w.seen w.owns pass) is (c.deal_out.ensures.dealt i pass at_i)) learned.2,
     )
 
@@ -41,13 +41,13 @@ returns-clause-seen g c =
     let begin = object.table.shared.key in
     let v = c.gather-all.result.me.0 in
     let learned = c.take_rest-cell.ensures.learns in
-    let log = learned.0 in
+    let journal = learned.0 in
     let cell = c.take_rest-cell.result in
     let is = ap (λ me. me.0) c.give_turn.ensures.gave ∙ ap (λ me. gave me.0 None) learned.1 in
     let passes = c.deal_out.new.passes in
     let count = c.deal_out.ensures.passes.count ∙ c.gather-all.ensures.passes.count ∙ c.requires.count in (
-      log,
-      seen_again m.next m.HALTS m.frees m.takes n.front n.at begin object passes v log cell count c.gather-all.ensures.gathered.number
+      journal,
+      seen_again m.next m.HALTS m.frees m.takes n.front n.at begin object passes v journal cell count c.gather-all.ensures.gathered.number
           (λ i pass at_i. subst (λ w. IsDealt object i w.seen w.owns pass) is (c.deal_out.ensures.dealt i pass at_i)) learned.2,
     )
 
