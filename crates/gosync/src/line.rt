@@ -95,7 +95,7 @@ pub fn push_number_word(line: &mut Vec<u8>, number: u64)
     push_number(line, number);
 }
 
-/// Adds a number of an atomic behind a space.
+/// Adds a number of an atomic's type behind a space.
 pub fn push_atomic_word(line: &mut Vec<u8>, number: Number)
     requires { vec_len line.old + 21 ≤ vec_capacity line.old }
     ensures text { line.new.items ≡ line.old.items ++ 32 ∷ number_word number }
