@@ -1,5 +1,5 @@
 //! Getting an item of a pool.
-ghost use Rattle.std.specs.Prelude.{◌≡◌, ℕ, ◌<◌, ◌*◌, ◌∷◌, [], List};
+ghost use Rattle.std.specs.Prelude.{◌≡◌, ◌<◌, ◌*◌, ◌∷◌, [], List};
 ghost use Rattle.pool_core.specs.Looks.{look};
 ghost use Rattle.pool_core.specs.PoolLaws.{NamesPart};
 ghost use Rattle.ruled_object.specs.Growth.{KeepsNote, MeetsHalt, deeds_of};
@@ -13,8 +13,8 @@ use crate::pool_get::PoolGet;
 use pool_core::laws::gives_each_once;
 use pool_core::{PoolCore, PoolEvent, PoolReply};
 use ruled_object::laws::growth;
-use sync_model::laws::journals::journal_is_log;
 use std::sync::Wait;
+use sync_model::laws::journals::journal_is_log;
 use sync_model::{Answer, Note};
 use sync_outside::{At, Clock};
 

@@ -9,8 +9,8 @@ ghost use Rattle.go_pool.specs.Pools.{Placed, left_of, IsHomeOf, IsPassOf, IsLaw
 use crate::pool::{Pool, PoolPass};
 use pool_core::laws::drops_where_full;
 use pool_core::{PoolCore, PoolEvent, PoolPut, PoolReply};
-use sync_model::laws::journals::journal_is_log;
 use std::sync::Wait;
+use sync_model::laws::journals::journal_is_log;
 use sync_model::{Answer, Note};
 use sync_outside::{At, Clock};
 
