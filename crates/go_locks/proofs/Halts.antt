@@ -1,5 +1,5 @@
 -- Who halts.
-use Rattle.std.proofs.Common.{◌≡◌, Bool, false, List, [], ◌∷◌, ◌++◌, refl, ap, ◌∙◌}
+use Rattle.std.proofs.Common.{◌≡◌, Bool, false, List, [], ◌∷◌, ◌++◌, ap, ◌∙◌}
 use Rattle.sync_model.specs.declared.misuse.Misuse.{Misuse}
 use Rattle.sync_model.specs.declared.journal.Deed.TheVariants.{Halt}
 use Rattle.sync_model.specs.declared.journal.Entry.{Entry}

@@ -1,20 +1,19 @@
 -- What the entries of a call show, one after the other.
-use Rattle.std.proofs.Common.{◌≡◌, ◌≢◌, ℕ, Bool, true, false, cond, List, [], ◌∷◌, ◌++◌, Option, Some, None, append-nil, refl, sym, ap, subst, ◌∙◌, arith}
+use Rattle.std.proofs.Common.{◌≡◌, ◌≢◌, ℕ, Bool, true, false, cond, List, [], ◌∷◌, ◌++◌, Option, Some, None, refl, sym, ap, subst, ◌∙◌}
 use Rattle.std.specs.Prelude.{◌==◌, if◌then◌else◌}
 use Rattle.std.specs.List.{AllByRecursion}
 use Rattle.std.proofs.lemmas.List.{map-append}
 use Rattle.sync_model.specs.declared.misuse.Misuse.{Misuse}
 use Rattle.sync_model.specs.declared.answer.Answer.{Answer}
-use Rattle.sync_model.specs.declared.answer.Answer.TheVariants.{Done, Halted}
+use Rattle.sync_model.specs.declared.answer.Answer.TheVariants.{Done}
 use Rattle.sync_model.specs.declared.journal.Deed.{Deed}
 use Rattle.sync_model.specs.declared.journal.Deed.TheVariants.{Event, Refused, Halt}
 use Rattle.sync_model.specs.declared.journal.Entry.{Entry}
-use Rattle.sync_model.specs.Note.{Holding}
 use Rattle.sync_model.specs.Log as log
-use Rattle.sync_model.specs.Journal.{halt_next, halt_after, halt_of, by, logged, log_of, state_next, Right, Follows}
+use Rattle.sync_model.specs.Journal.{halt_next, halt_after, by, logged, log_of, state_next, Right, Follows}
 use Rattle.ruled_object.specs.declared.pass.Pass.{Pass}
-use Rattle.ruled_object.specs.Growth.{Placed, entries_of, deeds_of, halt_before, IsRight, Leads, MeetsHalt, KeepsNote, Grows}
-use Rattle.ruled_object.specs.Passes.{own_by, seen_by}
+use Rattle.ruled_object.specs.Growth.{Placed, entries_of, deeds_of, MeetsHalt, Grows}
+use Rattle.ruled_object.specs.Passes.{own_by}
 use Rattle.go_locks.specs.Calls.{Did, waits_next, waits_by}
 
 module _ {E R : Type 0} where

@@ -1,5 +1,5 @@
 -- How the looks of a get add up.
-use Rattle.std.proofs.Common.{◌≡◌, ℕ, ◌+◌, ◌*◌, ◌<◌, true, List, [], ◌∷◌, ◌++◌, Option, Some, None, refl, sym, ap, ◌∙◌, subst, add-one}
+use Rattle.std.proofs.Common.{◌≡◌, ℕ, ◌+◌, ◌*◌, ◌<◌, true, List, [], ◌∷◌, ◌++◌, Option, Some, None, sym, ap, ◌∙◌, subst, add-one}
 use Rattle.std.proofs.lemmas.List.{map-append}
 use Rattle.sync_model.specs.declared.answer.Answer.{Answer}
 use Rattle.sync_model.specs.declared.answer.Answer.TheVariants.{Done, Halted}
@@ -29,7 +29,7 @@ module _ {N H : Type 0} where
   abbrev pub Got : Pool N H → PoolPass N → List ℕ → PoolPass N → List ℕ → ℕ → Answer PoolGet → Type 0
   Got pool old from pass to fresh answer = (es : List Placed) × Grows pool old from es pass to × Gets (parts_of pool) (number_of old) fresh (deeds_of es) answer × MeetsHalt es answer
 
-  module _ (pool : Pool N H) (both : AddUp N next true (start pool.callers pool.room)) (last : LastTells (PoolEvent ℕ) (PoolReply ℕ)) (old mid new : PoolPass N) (from between to : List ℕ) (number : ℕ) (before : Looked pool old from number mid between) (p : Placed)
+  module _ (pool : Pool N H) (both : AddUp {S = PoolState ℕ} N next true (start pool.callers pool.room)) (last : LastTells (PoolEvent ℕ) (PoolReply ℕ)) (old mid new : PoolPass N) (from between to : List ℕ) (number : ℕ) (before : Looked pool old from number mid between) (p : Placed)
       (then_on : Grows pool mid between (p ∷ []) new to) where
     deeds_are : (deed : Deed (PoolEvent ℕ) (PoolReply ℕ)) → p.entry.deed ≡ deed → deeds_of (before.es ++ p ∷ []) ≡ nothing_in (parts_of pool) (number_of old) number ++ deed ∷ []
     deeds_are deed is = map-append (λ (q : Placed). q.entry.deed) before.es (p ∷ []) ∙ ap (λ (z : Deeds × Deed (PoolEvent ℕ) (PoolReply ℕ)). z.0 ++ z.1 ∷ []) (λ i. (before.nothing i, is i))
