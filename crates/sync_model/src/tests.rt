@@ -9,21 +9,22 @@ use super::*;
 use std::alloc::{AllocError, Global};
 use std::test::Fail;
 
+const NAMES: [(&'static [u8], bool); 8] = [
+    (b"", false),
+    (b"a", true),
+    (b"a2_", true),
+    (b"2a", false),
+    (b"_a", false),
+    (b"aB", false),
+    (b"a23456789_123456789_123456789_12", true),
+    (b"a23456789_123456789_123456789_123", false),
+];
+
 #[test]
 fn names_keep_their_bytes(rt: HostRuntime) -> Result<(), Fail> {
     let name = Name::from_bytes(rt.alloc(), b"a_2")?;
     assert_eq!(rt; name.as_bytes(), b"a_2".as_slice());
-    let table: [(&[u8], bool); 8] = [
-        (b"", false),
-        (b"a", true),
-        (b"a2_", true),
-        (b"2a", false),
-        (b"_a", false),
-        (b"aB", false),
-        (b"a23456789_123456789_123456789_12", true),
-        (b"a23456789_123456789_123456789_123", false),
-    ];
-    for (bytes, wanted) in table {
+    for &(bytes, wanted) in &NAMES {
         assert_eq!(rt; name::is_name(bytes), wanted, "{bytes:?}");
     }
     Ok(())
@@ -104,72 +105,84 @@ fn call_of(alloc: Global, word: &[u8]) -> Result<MapCall<Name>, AllocError> {
     })
 }
 
+// What the call of this word answers on a map that has this value at k, and then what is at k and at another key.
+fn map_call(
+    alloc: Global,
+    before: Option<u64>,
+    word: &[u8],
+) -> Result<(String, Option<u64>, Option<u64>), AllocError> {
+    let mut map = ByName::new(alloc);
+    map.insert(alloc, b"other", 1)?;
+    if let Some(value) = before {
+        map.insert(alloc, b"k", value)?;
+    }
+    let call = call_of(alloc, word)?;
+    let reply = map_object::apply(alloc, &mut map, &call)?;
+    let text = format!(in alloc; "{reply:?}")?;
+    Ok((text, map.get(b"k"), map.get(b"other")))
+}
+
+const MAP_CALLS: [(Option<u64>, &'static [u8], &'static [u8], Option<u64>); 30] = [
+    (None, b"load", b"Found(None)", None),
+    (Some(5), b"load", b"Found(Some(5))", Some(5)),
+    (Some(7), b"load", b"Found(Some(7))", Some(7)),
+    (None, b"store 5", b"Done", Some(5)),
+    (Some(5), b"store 5", b"Done", Some(5)),
+    (Some(7), b"store 5", b"Done", Some(5)),
+    (
+        None,
+        b"los 5",
+        b"Settled { value: 5, loaded: false }",
+        Some(5),
+    ),
+    (
+        Some(5),
+        b"los 5",
+        b"Settled { value: 5, loaded: true }",
+        Some(5),
+    ),
+    (
+        Some(7),
+        b"los 5",
+        b"Settled { value: 7, loaded: true }",
+        Some(7),
+    ),
+    (None, b"lad", b"Found(None)", None),
+    (Some(5), b"lad", b"Found(Some(5))", None),
+    (Some(7), b"lad", b"Found(Some(7))", None),
+    (None, b"delete", b"Done", None),
+    (Some(5), b"delete", b"Done", None),
+    (Some(7), b"delete", b"Done", None),
+    (None, b"swap 5", b"Found(None)", Some(5)),
+    (Some(5), b"swap 5", b"Found(Some(5))", Some(5)),
+    (Some(7), b"swap 5", b"Found(Some(7))", Some(5)),
+    (None, b"cas 5 6", b"Compared(false)", None),
+    (Some(5), b"cas 5 6", b"Compared(true)", Some(6)),
+    (Some(7), b"cas 5 6", b"Compared(false)", Some(7)),
+    (None, b"cas 0 6", b"Compared(false)", None),
+    (Some(0), b"cas 0 6", b"Compared(true)", Some(6)),
+    (None, b"cad 5", b"Compared(false)", None),
+    (Some(5), b"cad 5", b"Compared(true)", None),
+    (Some(7), b"cad 5", b"Compared(false)", Some(7)),
+    (None, b"cad 0", b"Compared(false)", None),
+    (Some(0), b"cad 0", b"Compared(true)", None),
+    (None, b"clear", b"Done", None),
+    (Some(5), b"clear", b"Done", None),
+];
+
 #[test]
 fn map_calls_answer_and_change_as_their_table_says(rt: HostRuntime) -> Result<(), Fail> {
-    let table: [(Option<u64>, &[u8], &[u8], Option<u64>); 30] = [
-        (None, b"load", b"Found(None)", None),
-        (Some(5), b"load", b"Found(Some(5))", Some(5)),
-        (Some(7), b"load", b"Found(Some(7))", Some(7)),
-        (None, b"store 5", b"Done", Some(5)),
-        (Some(5), b"store 5", b"Done", Some(5)),
-        (Some(7), b"store 5", b"Done", Some(5)),
-        (
-            None,
-            b"los 5",
-            b"Settled { value: 5, loaded: false }",
-            Some(5),
-        ),
-        (
-            Some(5),
-            b"los 5",
-            b"Settled { value: 5, loaded: true }",
-            Some(5),
-        ),
-        (
-            Some(7),
-            b"los 5",
-            b"Settled { value: 7, loaded: true }",
-            Some(7),
-        ),
-        (None, b"lad", b"Found(None)", None),
-        (Some(5), b"lad", b"Found(Some(5))", None),
-        (Some(7), b"lad", b"Found(Some(7))", None),
-        (None, b"delete", b"Done", None),
-        (Some(5), b"delete", b"Done", None),
-        (Some(7), b"delete", b"Done", None),
-        (None, b"swap 5", b"Found(None)", Some(5)),
-        (Some(5), b"swap 5", b"Found(Some(5))", Some(5)),
-        (Some(7), b"swap 5", b"Found(Some(7))", Some(5)),
-        (None, b"cas 5 6", b"Compared(false)", None),
-        (Some(5), b"cas 5 6", b"Compared(true)", Some(6)),
-        (Some(7), b"cas 5 6", b"Compared(false)", Some(7)),
-        (None, b"cas 0 6", b"Compared(false)", None),
-        (Some(0), b"cas 0 6", b"Compared(true)", Some(6)),
-        (None, b"cad 5", b"Compared(false)", None),
-        (Some(5), b"cad 5", b"Compared(true)", None),
-        (Some(7), b"cad 5", b"Compared(false)", Some(7)),
-        (None, b"cad 0", b"Compared(false)", None),
-        (Some(0), b"cad 0", b"Compared(true)", None),
-        (None, b"clear", b"Done", None),
-        (Some(5), b"clear", b"Done", None),
-    ];
-    for (before, word, reply, after) in table {
-        let mut map = ByName::new(rt.alloc());
-        map.insert(rt.alloc(), b"other", 1)?;
-        if let Some(value) = before {
-            map.insert(rt.alloc(), b"k", value)?;
-        }
-        let call = call_of(rt.alloc(), word)?;
-        let got = map_object::apply(rt.alloc(), &mut map, &call)?;
-        let got = format!(in rt.alloc(); "{got:?}")?;
-        assert_eq!(rt; got.as_bytes(), reply, "{word:?} at {before:?}");
-        assert_eq!(rt; map.get(b"k"), after, "{word:?} at {before:?}");
+    for &(before, word, reply, after) in &MAP_CALLS {
         let other = if word == b"clear".as_slice() {
             None
         } else {
             Some(1)
         };
-        assert_eq!(rt; map.get(b"other"), other, "{word:?} at {before:?}");
+        let (got, named, kept) = map_call(rt.alloc(), before, word)?;
+        assert!(rt;
+            got.as_bytes() == reply && named == after && kept == other,
+            "{word:?} at {before:?}: {got} {named:?} {kept:?}"
+        );
     }
     Ok(())
 }
