@@ -128,18 +128,33 @@ fn told_of(alloc: Global, text: &str) -> Result<Option<String>, AllocError> {
     }
 }
 
+// The first of these texts that doesn't come to what stands beside it, and what it comes to.
+fn first_other(
+    alloc: Global,
+    table: &[(&'static str, &'static str)],
+) -> Result<Option<(&'static str, Option<String>)>, AllocError> {
+    for &(text, want) in table {
+        let got = told_of(alloc, text)?;
+        if got.as_deref() != Some(want) {
+            return Ok(Some((text, got)));
+        }
+    }
+    Ok(None)
+}
+
+const SCHEDULES: [(&'static str, &'static str); 6] = [
+    ("schedule 0 1 0\n", " ok 2 / ok / 0.k=2"),
+    ("schedule 0 0 1\n", " ok 1 / ok / 0.k=2"),
+    ("schedule 1 0 0\n", " ok 1 / ok / 0.k=1"),
+    ("schedule 1\n", " ok 1 / ok / 0.k=1"),
+    ("", " ok 2 / ok / 0.k=2"),
+    ("schedule 0 @7 1 1 @2 1 0 0 0 @9 1\n", " ok 2 / ok / 0.k=2"),
+];
+
 #[test]
 fn workers_take_turns_by_the_schedule_and_then_in_rounds(rt: HostRuntime) -> Result<(), Fail> {
     let two = "workers 2\nmap t\nworker 0\nstore t k 1\nload t k\nworker 1\nstore t k 2\n";
-    let table = [
-        ("schedule 0 1 0\n", " ok 2 / ok / 0.k=2"),
-        ("schedule 0 0 1\n", " ok 1 / ok / 0.k=2"),
-        ("schedule 1 0 0\n", " ok 1 / ok / 0.k=1"),
-        ("schedule 1\n", " ok 1 / ok / 0.k=1"),
-        ("", " ok 2 / ok / 0.k=2"),
-        ("schedule 0 @7 1 1 @2 1 0 0 0 @9 1\n", " ok 2 / ok / 0.k=2"),
-    ];
-    for (schedule, want) in table {
+    for &(schedule, want) in &SCHEDULES {
         let text = format!(in rt.alloc(); "{two}{schedule}")?;
         let got = told_of(rt.alloc(), &text)?;
         assert_eq!(rt; got.as_deref(), Some(want), "{schedule}");
@@ -147,67 +162,70 @@ fn workers_take_turns_by_the_schedule_and_then_in_rounds(rt: HostRuntime) -> Res
     Ok(())
 }
 
+const ENDS: [(&'static str, &'static str); 4] = [
+    ("workers 1\nworker 0\n", " /"),
+    ("workers 1\nmap t\nworker 0\nload t apple\n", " - /"),
+    (
+        "workers 1\nmap t\nmap a\nworker 0\nstore a k 3\nstore t kb 2\nstore t k 1\n",
+        " ok ok ok / 0.k=1 0.kb=2 1.k=3",
+    ),
+    (
+        "workers 1\nmap t\nbool b\nmap a\nuint32 u\nworker 0\nstore t k 1\nstore a k 2\nstore u 3\n",
+        " ok ok ok / 1=false 3=3 0.k=1 2.k=2",
+    ),
+];
+
 #[test]
 fn ends_are_atomics_and_then_maps_in_order_of_declaration(rt: HostRuntime) -> Result<(), Fail> {
-    let table = [
-        ("workers 1\nworker 0\n", " /"),
-        ("workers 1\nmap t\nworker 0\nload t apple\n", " - /"),
-        (
-            "workers 1\nmap t\nmap a\nworker 0\nstore a k 3\nstore t kb 2\nstore t k 1\n",
-            " ok ok ok / 0.k=1 0.kb=2 1.k=3",
-        ),
-        (
-            "workers 1\nmap t\nbool b\nmap a\nuint32 u\nworker 0\nstore t k 1\nstore a k 2\nstore u 3\n",
-            " ok ok ok / 1=false 3=3 0.k=1 2.k=2",
-        ),
-    ];
-    for (text, want) in table {
-        let got = told_of(rt.alloc(), text)?;
-        assert_eq!(rt; got.as_deref(), Some(want), "{text}");
-    }
+    let other = first_other(rt.alloc(), &ENDS)?;
+    assert!(rt; other.is_none(), "{other:?}");
     Ok(())
 }
+
+const ABSENT: &str = "";
+
+const NAMED: &str = "store t k 5\n";
+
+const OTHER: &str = "store t k 0\n";
+
+const MAP_CALLS: [(&'static str, &'static str, &'static str); 29] = [
+    (ABSENT, "load t k", " - []"),
+    (NAMED, "load t k", " 5 [k=5,]"),
+    (OTHER, "load t k", " 0 [k=0,]"),
+    (ABSENT, "store t k 5", " ok [k=5,]"),
+    (NAMED, "store t k 5", " ok [k=5,]"),
+    (OTHER, "store t k 5", " ok [k=5,]"),
+    (ABSENT, "los t k 5", " 5:false [k=5,]"),
+    (NAMED, "los t k 5", " 5:true [k=5,]"),
+    (OTHER, "los t k 5", " 0:true [k=0,]"),
+    (ABSENT, "lad t k", " - []"),
+    (NAMED, "lad t k", " 5 []"),
+    (OTHER, "lad t k", " 0 []"),
+    (ABSENT, "delete t k", " ok []"),
+    (NAMED, "delete t k", " ok []"),
+    (OTHER, "delete t k", " ok []"),
+    (ABSENT, "swap t k 5", " - [k=5,]"),
+    (NAMED, "swap t k 5", " 5 [k=5,]"),
+    (OTHER, "swap t k 5", " 0 [k=5,]"),
+    (ABSENT, "cas t k 5 7", " false []"),
+    (ABSENT, "cas t k 0 7", " false []"),
+    (NAMED, "cas t k 5 7", " true [k=7,]"),
+    (OTHER, "cas t k 5 7", " false [k=0,]"),
+    (ABSENT, "cad t k 5", " false []"),
+    (ABSENT, "cad t k 0", " false []"),
+    (NAMED, "cad t k 5", " true []"),
+    (OTHER, "cad t k 5", " false [k=0,]"),
+    (ABSENT, "clear t", " ok []"),
+    (NAMED, "clear t", " ok []"),
+    (OTHER, "clear t", " ok []"),
+];
 
 // Each call on the map that `before` makes, with its reply, and what a `range` shows then.
 #[test]
 fn each_call_of_a_map_at_an_absent_key_and_at_a_key_that_is_there(
     rt: HostRuntime,
 ) -> Result<(), Fail> {
-    let absent = "";
-    let named = "store t k 5\n";
-    let other = "store t k 0\n";
-    let table = [
-        (absent, "load t k", " - []"),
-        (named, "load t k", " 5 [k=5,]"),
-        (other, "load t k", " 0 [k=0,]"),
-        (absent, "store t k 5", " ok [k=5,]"),
-        (named, "store t k 5", " ok [k=5,]"),
-        (other, "store t k 5", " ok [k=5,]"),
-        (absent, "los t k 5", " 5:false [k=5,]"),
-        (named, "los t k 5", " 5:true [k=5,]"),
-        (other, "los t k 5", " 0:true [k=0,]"),
-        (absent, "lad t k", " - []"),
-        (named, "lad t k", " 5 []"),
-        (other, "lad t k", " 0 []"),
-        (absent, "delete t k", " ok []"),
-        (named, "delete t k", " ok []"),
-        (other, "delete t k", " ok []"),
-        (absent, "swap t k 5", " - [k=5,]"),
-        (named, "swap t k 5", " 5 [k=5,]"),
-        (other, "swap t k 5", " 0 [k=5,]"),
-        (absent, "cas t k 5 7", " false []"),
-        (absent, "cas t k 0 7", " false []"),
-        (named, "cas t k 5 7", " true [k=7,]"),
-        (other, "cas t k 5 7", " false [k=0,]"),
-        (absent, "cad t k 5", " false []"),
-        (absent, "cad t k 0", " false []"),
-        (named, "cad t k 5", " true []"),
-        (other, "cad t k 5", " false [k=0,]"),
-        (absent, "clear t", " ok []"),
-        (named, "clear t", " ok []"),
-        (other, "clear t", " ok []"),
-    ];
-    for (before, call, want) in table {
+    for &(before, call, want) in &MAP_CALLS {
         let calls = format!(in rt.alloc(); "worker 1\n{call}\nrange t\n")?;
         let text = format!(in rt.alloc();
             "workers 2\nmap u\nmap t\nworker 0\n{before}{calls}schedule 0 1 1\n"
@@ -235,42 +253,43 @@ fn a_range_shows_the_keys_of_its_map_in_byte_order(rt: HostRuntime) -> Result<()
     Ok(())
 }
 
+const WRAPS: [(&'static str, &'static str, &'static str); 6] = [
+    (
+        "int32",
+        "store a 2147483647\nadd a 1\nadd a -1\nswap a -2147483648\nadd a -1\nload a\n",
+        " ok -2147483648 2147483647 2147483647 2147483647 2147483647 / 0=2147483647",
+    ),
+    (
+        "int64",
+        "store a 9223372036854775807\nadd a 1\nswap a -9223372036854775808\nadd a -1\n",
+        " ok -9223372036854775808 -9223372036854775808 9223372036854775807 / 0=9223372036854775807",
+    ),
+    (
+        "uint32",
+        "store a 4294967295\nadd a 2\nadd a 4294967295\nand a 4294967295\nor a 4294967295\n",
+        " ok 1 0 0 0 / 0=4294967295",
+    ),
+    (
+        "uint64",
+        "store a 18446744073709551615\nadd a 2\nand a 3\nor a 8\nswap a 18446744073709551615\n",
+        " ok 1 1 1 9 / 0=18446744073709551615",
+    ),
+    (
+        "int32",
+        "or a -2147483648\nand a -1\ncas a -2147483648 5\ncas a -2147483648 6\n",
+        " 0 -2147483648 true false / 0=5",
+    ),
+    (
+        "bool",
+        "cas a false true\nswap a false\nload a\nstore a true\ncas a false false\n",
+        " true true false ok false / 0=true",
+    ),
+];
+
 // Each type at both ends of its range: the least number, the greatest, and what wraps there.
 #[test]
 fn atomics_wrap_at_the_ends_of_their_ranges(rt: HostRuntime) -> Result<(), Fail> {
-    let table = [
-        (
-            "int32",
-            "store a 2147483647\nadd a 1\nadd a -1\nswap a -2147483648\nadd a -1\nload a\n",
-            " ok -2147483648 2147483647 2147483647 2147483647 2147483647 / 0=2147483647",
-        ),
-        (
-            "int64",
-            "store a 9223372036854775807\nadd a 1\nswap a -9223372036854775808\nadd a -1\n",
-            " ok -9223372036854775808 -9223372036854775808 9223372036854775807 / 0=9223372036854775807",
-        ),
-        (
-            "uint32",
-            "store a 4294967295\nadd a 2\nadd a 4294967295\nand a 4294967295\nor a 4294967295\n",
-            " ok 1 0 0 0 / 0=4294967295",
-        ),
-        (
-            "uint64",
-            "store a 18446744073709551615\nadd a 2\nand a 3\nor a 8\nswap a 18446744073709551615\n",
-            " ok 1 1 1 9 / 0=18446744073709551615",
-        ),
-        (
-            "int32",
-            "or a -2147483648\nand a -1\ncas a -2147483648 5\ncas a -2147483648 6\n",
-            " 0 -2147483648 true false / 0=5",
-        ),
-        (
-            "bool",
-            "cas a false true\nswap a false\nload a\nstore a true\ncas a false false\n",
-            " true true false ok false / 0=true",
-        ),
-    ];
-    for (kind, calls, want) in table {
+    for &(kind, calls, want) in &WRAPS {
         let text = format!(in rt.alloc(); "workers 1\n{kind} a\nworker 0\n{calls}")?;
         let got = told_of(rt.alloc(), &text)?;
         assert_eq!(rt; got.as_deref(), Some(want), "{text}");
@@ -278,38 +297,40 @@ fn atomics_wrap_at_the_ends_of_their_ranges(rt: HostRuntime) -> Result<(), Fail>
     Ok(())
 }
 
+const FIVE: &str = "worker 0\nlock m\nunlock m\nlock m\nunlock m\ntrylock m\n";
+
+const SIX: &str = "worker 0\nlock m\nunlock m\nlock m\nunlock m\ntrylock m\nunlock m\n";
+
+const PASSED_OVER: [(&'static str, &'static str, &'static str); 4] = [
+    (
+        FIVE,
+        "0 1 0 0 @1000001 2 1 0 2 2 0",
+        " ok ok ok ok false / ok ok / ok ok /",
+    ),
+    (
+        SIX,
+        "0 1 0 0 @1000000 2 1 0 2 2 0",
+        " ok ok ok ok true ok / ok ok / ok ok /",
+    ),
+    (
+        FIVE,
+        "@5 0 1 0 0 @1000006 2 1 0 2 2 0",
+        " ok ok ok ok false / ok ok / ok ok /",
+    ),
+    (
+        SIX,
+        "@1000001 0 1 0 0 @0 2 1 0 2 2 0",
+        " ok ok ok ok true ok / ok ok / ok ok /",
+    ),
+];
+
 // Worker 0 locks the mutex, worker 1 waits, and worker 0 unlocks it and locks it again before worker 1
 // goes on. What follows is decided by how long worker 1 has waited then.
 #[test]
 fn a_waiter_that_is_passed_over_starves_past_the_threshold(rt: HostRuntime) -> Result<(), Fail> {
-    let calls = "worker 1\nlock m\nunlock m\nworker 2\nlock m\nunlock m\n";
-    let five = "worker 0\nlock m\nunlock m\nlock m\nunlock m\ntrylock m\n";
-    let six = "worker 0\nlock m\nunlock m\nlock m\nunlock m\ntrylock m\nunlock m\n";
-    let table = [
-        (
-            five,
-            "0 1 0 0 @1000001 2 1 0 2 2 0",
-            " ok ok ok ok false / ok ok / ok ok /",
-        ),
-        (
-            six,
-            "0 1 0 0 @1000000 2 1 0 2 2 0",
-            " ok ok ok ok true ok / ok ok / ok ok /",
-        ),
-        (
-            five,
-            "@5 0 1 0 0 @1000006 2 1 0 2 2 0",
-            " ok ok ok ok false / ok ok / ok ok /",
-        ),
-        (
-            six,
-            "@1000001 0 1 0 0 @0 2 1 0 2 2 0",
-            " ok ok ok ok true ok / ok ok / ok ok /",
-        ),
-    ];
-    for (first, schedule, want) in table {
+    for &(first, schedule, want) in &PASSED_OVER {
         let text = format!(in rt.alloc();
-            "workers 3\nmutex m\n{first}{calls}schedule {schedule}\n"
+            "workers 3\nmutex m\n{first}worker 1\nlock m\nunlock m\nworker 2\nlock m\nunlock m\nschedule {schedule}\n"
         )?;
         let got = told_of(rt.alloc(), &text)?;
         assert_eq!(rt; got.as_deref(), Some(want), "{text}");
@@ -317,243 +338,237 @@ fn a_waiter_that_is_passed_over_starves_past_the_threshold(rt: HostRuntime) -> R
     Ok(())
 }
 
+const MUTEXES: [(&'static str, &'static str); 8] = [
+    (
+        "workers 1\nmutex m\nworker 0\nlock m\nunlock m\ntrylock m\ntrylock m\n",
+        " ok ok true false /",
+    ),
+    // A locked mutex belongs to nobody.
+    (
+        "workers 2\nmutex m\nworker 0\nlock m\nworker 1\nunlock m\n",
+        " ok / ok /",
+    ),
+    (
+        "workers 1\nmutex m\nworker 0\nunlock m\n",
+        " / fatal error: sync: unlock of unlocked mutex",
+    ),
+    // A misuse ends the run at once, inside the schedule too.
+    (
+        "workers 2\nmap t\nmutex m\nworker 0\nstore t k 1\nunlock m\nload t k\nworker 1\nload t k\nschedule 0 0 1\n",
+        " ok / / fatal error: sync: unlock of unlocked mutex",
+    ),
+    (
+        "workers 2\nmutex a\nmutex b\nworker 0\nlock a\nlock b\nworker 1\nlock b\nlock a\n",
+        " ok / ok / deadlock",
+    ),
+    (
+        "workers 1\nmutex m\nworker 0\nlock m\nlock m\n",
+        " ok / deadlock",
+    ),
+    // Done is found before a deadlock, and a waiter makes no event until it is woken.
+    (
+        "workers 2\nmutex m\nworker 0\nlock m\nunlock m\nworker 1\nlock m\nschedule 0 1 1 1 1\n",
+        " ok ok / ok /",
+    ),
+    (
+        "workers 2\nmutex m\nuint32 u\nworker 0\nlock m\nworker 1\nlock m\nadd u 1\n",
+        " ok / / deadlock",
+    ),
+];
+
 #[test]
 fn a_mutex_by_schedule(rt: HostRuntime) -> Result<(), Fail> {
-    let table = [
-        (
-            "workers 1\nmutex m\nworker 0\nlock m\nunlock m\ntrylock m\ntrylock m\n",
-            " ok ok true false /",
-        ),
-        // A locked mutex belongs to nobody.
-        (
-            "workers 2\nmutex m\nworker 0\nlock m\nworker 1\nunlock m\n",
-            " ok / ok /",
-        ),
-        (
-            "workers 1\nmutex m\nworker 0\nunlock m\n",
-            " / fatal error: sync: unlock of unlocked mutex",
-        ),
-        // A misuse ends the run at once, inside the schedule too.
-        (
-            "workers 2\nmap t\nmutex m\nworker 0\nstore t k 1\nunlock m\nload t k\nworker 1\nload t k\nschedule 0 0 1\n",
-            " ok / / fatal error: sync: unlock of unlocked mutex",
-        ),
-        (
-            "workers 2\nmutex a\nmutex b\nworker 0\nlock a\nlock b\nworker 1\nlock b\nlock a\n",
-            " ok / ok / deadlock",
-        ),
-        (
-            "workers 1\nmutex m\nworker 0\nlock m\nlock m\n",
-            " ok / deadlock",
-        ),
-        // Done is found before a deadlock, and a waiter makes no event until it is woken.
-        (
-            "workers 2\nmutex m\nworker 0\nlock m\nunlock m\nworker 1\nlock m\nschedule 0 1 1 1 1\n",
-            " ok ok / ok /",
-        ),
-        (
-            "workers 2\nmutex m\nuint32 u\nworker 0\nlock m\nworker 1\nlock m\nadd u 1\n",
-            " ok / / deadlock",
-        ),
-    ];
-    for (text, want) in table {
-        let got = told_of(rt.alloc(), text)?;
-        assert_eq!(rt; got.as_deref(), Some(want), "{text}");
-    }
+    let other = first_other(rt.alloc(), &MUTEXES)?;
+    assert!(rt; other.is_none(), "{other:?}");
     Ok(())
 }
+
+const RW_MUTEXES: [(&'static str, &'static str); 9] = [
+    // A writer that waits holds back new readers; its unlock admits the one that waits.
+    (
+        "workers 4\nrwmutex w\nworker 0\nrlock w\nrunlock w\nworker 1\nlock w\nunlock w\nworker 2\nrlock w\nrunlock w\nworker 3\ntryrlock w\n",
+        " ok ok / ok ok / ok ok / false /",
+    ),
+    (
+        "workers 2\nrwmutex w\nworker 0\nrlock w\ntrylock w\nrunlock w\ntrylock w\ntryrlock w\nunlock w\ntryrlock w\nworker 1\n",
+        " ok false ok true false ok true / /",
+    ),
+    // Both misuses, while another worker waits.
+    (
+        "workers 2\nmutex m\nrwmutex w\nworker 0\nlock m\nlock m\nworker 1\nrunlock w\nschedule 0 0 1\n",
+        " ok / / fatal error: sync: RUnlock of unlocked RWMutex",
+    ),
+    (
+        "workers 2\nmutex m\nrwmutex w\nworker 0\nlock m\nlock m\nworker 1\nunlock w\nschedule 0 0 1\n",
+        " ok / / fatal error: sync: Unlock of unlocked RWMutex",
+    ),
+    // A writer that only waits doesn't hold the lock, nor does a reader hold a writer's.
+    (
+        "workers 3\nrwmutex w\nworker 0\nrlock w\nworker 1\nlock w\nworker 2\nunlock w\n",
+        " ok / / / fatal error: sync: Unlock of unlocked RWMutex",
+    ),
+    (
+        "workers 2\nrwmutex w\nworker 0\nlock w\nworker 1\nrunlock w\n",
+        " ok / / fatal error: sync: RUnlock of unlocked RWMutex",
+    ),
+    // A granted writer holds the lock before its own turn: another may unlock it.
+    (
+        "workers 3\nrwmutex w\nworker 0\nrlock w\nrunlock w\nworker 1\nlock w\nworker 2\nunlock w\ntrylock w\nschedule 0 1 0 2 2 1\n",
+        " ok ok / ok / ok true /",
+    ),
+    // Two writers: the second is woken at the mutex that writers go through.
+    (
+        "workers 2\nrwmutex w\nworker 0\nlock w\nunlock w\nworker 1\nlock w\nunlock w\n",
+        " ok ok / ok ok /",
+    ),
+    (
+        "workers 1\nrwmutex w\nworker 0\nrlock w\nlock w\n",
+        " ok / deadlock",
+    ),
+];
 
 #[test]
 fn a_reader_writer_mutex_by_schedule(rt: HostRuntime) -> Result<(), Fail> {
-    let table = [
-        // A writer that waits holds back new readers; its unlock admits the one that waits.
-        (
-            "workers 4\nrwmutex w\nworker 0\nrlock w\nrunlock w\nworker 1\nlock w\nunlock w\nworker 2\nrlock w\nrunlock w\nworker 3\ntryrlock w\n",
-            " ok ok / ok ok / ok ok / false /",
-        ),
-        (
-            "workers 2\nrwmutex w\nworker 0\nrlock w\ntrylock w\nrunlock w\ntrylock w\ntryrlock w\nunlock w\ntryrlock w\nworker 1\n",
-            " ok false ok true false ok true / /",
-        ),
-        // Both misuses, while another worker waits.
-        (
-            "workers 2\nmutex m\nrwmutex w\nworker 0\nlock m\nlock m\nworker 1\nrunlock w\nschedule 0 0 1\n",
-            " ok / / fatal error: sync: RUnlock of unlocked RWMutex",
-        ),
-        (
-            "workers 2\nmutex m\nrwmutex w\nworker 0\nlock m\nlock m\nworker 1\nunlock w\nschedule 0 0 1\n",
-            " ok / / fatal error: sync: Unlock of unlocked RWMutex",
-        ),
-        // A writer that only waits doesn't hold the lock, nor does a reader hold a writer's.
-        (
-            "workers 3\nrwmutex w\nworker 0\nrlock w\nworker 1\nlock w\nworker 2\nunlock w\n",
-            " ok / / / fatal error: sync: Unlock of unlocked RWMutex",
-        ),
-        (
-            "workers 2\nrwmutex w\nworker 0\nlock w\nworker 1\nrunlock w\n",
-            " ok / / fatal error: sync: RUnlock of unlocked RWMutex",
-        ),
-        // A granted writer holds the lock before its own turn: another may unlock it.
-        (
-            "workers 3\nrwmutex w\nworker 0\nrlock w\nrunlock w\nworker 1\nlock w\nworker 2\nunlock w\ntrylock w\nschedule 0 1 0 2 2 1\n",
-            " ok ok / ok / ok true /",
-        ),
-        // Two writers: the second is woken at the mutex that writers go through.
-        (
-            "workers 2\nrwmutex w\nworker 0\nlock w\nunlock w\nworker 1\nlock w\nunlock w\n",
-            " ok ok / ok ok /",
-        ),
-        (
-            "workers 1\nrwmutex w\nworker 0\nrlock w\nlock w\n",
-            " ok / deadlock",
-        ),
-    ];
-    for (text, want) in table {
-        let got = told_of(rt.alloc(), text)?;
-        assert_eq!(rt; got.as_deref(), Some(want), "{text}");
-    }
+    let other = first_other(rt.alloc(), &RW_MUTEXES)?;
+    assert!(rt; other.is_none(), "{other:?}");
     Ok(())
 }
+
+const WAIT_GROUPS: [(&'static str, &'static str); 6] = [
+    (
+        "workers 1\nwaitgroup g 0\nworker 0\nadd g 1\ndone g\ndone g\n",
+        " ok ok / panic: sync: negative WaitGroup counter",
+    ),
+    // Used again before the released worker has left.
+    (
+        "workers 2\nwaitgroup g 1\nworker 0\nwait g\nworker 1\ndone g\nadd g 1\nschedule 0 1 1 0\n",
+        " / ok ok / panic: sync: WaitGroup is reused before previous Wait has returned",
+    ),
+    // A misuse while another worker waits.
+    (
+        "workers 2\nmutex m\nwaitgroup g 0\nworker 0\nlock m\nlock m\nworker 1\ndone g\nschedule 0 0 1\n",
+        " ok / / panic: sync: negative WaitGroup counter",
+    ),
+    // A barrier: the last to come goes on at once.
+    (
+        "workers 2\nwaitgroup g 2\nworker 0\ndone g\nwait g\nworker 1\ndone g\nwait g\n",
+        " ok ok / ok ok /",
+    ),
+    // All that are released leave, each in its own turn.
+    (
+        "workers 3\nwaitgroup g 1\nworker 0\nwait g\nworker 1\nwait g\nworker 2\ndone g\n",
+        " ok / ok / ok /",
+    ),
+    (
+        "workers 1\nwaitgroup g 1\nworker 0\nwait g\n",
+        " / deadlock",
+    ),
+];
 
 #[test]
 fn a_wait_group_by_schedule(rt: HostRuntime) -> Result<(), Fail> {
-    let table = [
-        (
-            "workers 1\nwaitgroup g 0\nworker 0\nadd g 1\ndone g\ndone g\n",
-            " ok ok / panic: sync: negative WaitGroup counter",
-        ),
-        // Used again before the released worker has left.
-        (
-            "workers 2\nwaitgroup g 1\nworker 0\nwait g\nworker 1\ndone g\nadd g 1\nschedule 0 1 1 0\n",
-            " / ok ok / panic: sync: WaitGroup is reused before previous Wait has returned",
-        ),
-        // A misuse while another worker waits.
-        (
-            "workers 2\nmutex m\nwaitgroup g 0\nworker 0\nlock m\nlock m\nworker 1\ndone g\nschedule 0 0 1\n",
-            " ok / / panic: sync: negative WaitGroup counter",
-        ),
-        // A barrier: the last to come goes on at once.
-        (
-            "workers 2\nwaitgroup g 2\nworker 0\ndone g\nwait g\nworker 1\ndone g\nwait g\n",
-            " ok ok / ok ok /",
-        ),
-        // All that are released leave, each in its own turn.
-        (
-            "workers 3\nwaitgroup g 1\nworker 0\nwait g\nworker 1\nwait g\nworker 2\ndone g\n",
-            " ok / ok / ok /",
-        ),
-        (
-            "workers 1\nwaitgroup g 1\nworker 0\nwait g\n",
-            " / deadlock",
-        ),
-    ];
-    for (text, want) in table {
-        let got = told_of(rt.alloc(), text)?;
-        assert_eq!(rt; got.as_deref(), Some(want), "{text}");
-    }
+    let other = first_other(rt.alloc(), &WAIT_GROUPS)?;
+    assert!(rt; other.is_none(), "{other:?}");
     Ok(())
 }
+
+const CONDS: [(&'static str, &'static str); 6] = [
+    (
+        "workers 2\nmutex m\ncond c m\nworker 0\nlock m\nwait c\nunlock m\nworker 1\nlock m\nsignal c\nunlock m\n",
+        " ok ok ok / ok ok ok /",
+    ),
+    (
+        "workers 1\nmutex m\ncond c m\nworker 0\nwait c\n",
+        " / fatal error: sync: unlock of unlocked mutex",
+    ),
+    // A signal that finds nobody is lost.
+    (
+        "workers 2\nmutex m\ncond c m\nworker 0\nlock m\nwait c\nworker 1\nsignal c\nschedule 1 0\n",
+        " ok / ok / deadlock",
+    ),
+    // A signal tells the first of two that wait, a broadcast both.
+    (
+        "workers 3\nmutex m\ncond c m\nworker 0\nlock m\nwait c\nunlock m\nworker 1\nlock m\nwait c\nunlock m\nworker 2\nlock m\nsignal c\nunlock m\nschedule 0 0 1 1\n",
+        " ok ok ok / ok / ok ok ok / deadlock",
+    ),
+    (
+        "workers 3\nmutex m\ncond c m\nworker 0\nlock m\nwait c\nunlock m\nworker 1\nlock m\nwait c\nunlock m\nworker 2\nlock m\nbroadcast c\nunlock m\nschedule 0 0 1 1\n",
+        " ok ok ok / ok ok ok / ok ok ok /",
+    ),
+    // The one that was told waits for the mutex, for good where nobody unlocks it.
+    (
+        "workers 2\nmutex m\ncond c m\nworker 0\nlock m\nwait c\nworker 1\nlock m\nsignal c\n",
+        " ok / ok ok / deadlock",
+    ),
+];
 
 #[test]
 fn a_cond_by_schedule(rt: HostRuntime) -> Result<(), Fail> {
-    let table = [
-        (
-            "workers 2\nmutex m\ncond c m\nworker 0\nlock m\nwait c\nunlock m\nworker 1\nlock m\nsignal c\nunlock m\n",
-            " ok ok ok / ok ok ok /",
-        ),
-        (
-            "workers 1\nmutex m\ncond c m\nworker 0\nwait c\n",
-            " / fatal error: sync: unlock of unlocked mutex",
-        ),
-        // A signal that finds nobody is lost.
-        (
-            "workers 2\nmutex m\ncond c m\nworker 0\nlock m\nwait c\nworker 1\nsignal c\nschedule 1 0\n",
-            " ok / ok / deadlock",
-        ),
-        // A signal tells the first of two that wait, a broadcast both.
-        (
-            "workers 3\nmutex m\ncond c m\nworker 0\nlock m\nwait c\nunlock m\nworker 1\nlock m\nwait c\nunlock m\nworker 2\nlock m\nsignal c\nunlock m\nschedule 0 0 1 1\n",
-            " ok ok ok / ok / ok ok ok / deadlock",
-        ),
-        (
-            "workers 3\nmutex m\ncond c m\nworker 0\nlock m\nwait c\nunlock m\nworker 1\nlock m\nwait c\nunlock m\nworker 2\nlock m\nbroadcast c\nunlock m\nschedule 0 0 1 1\n",
-            " ok ok ok / ok ok ok / ok ok ok /",
-        ),
-        // The one that was told waits for the mutex, for good where nobody unlocks it.
-        (
-            "workers 2\nmutex m\ncond c m\nworker 0\nlock m\nwait c\nworker 1\nlock m\nsignal c\n",
-            " ok / ok ok / deadlock",
-        ),
-    ];
-    for (text, want) in table {
-        let got = told_of(rt.alloc(), text)?;
-        assert_eq!(rt; got.as_deref(), Some(want), "{text}");
-    }
+    let other = first_other(rt.alloc(), &CONDS)?;
+    assert!(rt; other.is_none(), "{other:?}");
     Ok(())
 }
+
+const ONCES: [(&'static str, &'static str); 5] = [
+    (
+        "workers 2\nint64 a\nonce o a 5\noncefunc g 3\nworker 0\ndo o\ncall g\ncall g\nworker 1\ndo o\n",
+        " ran 5 err 3 err 3 / done / 0=5",
+    ),
+    // It is begun in one turn, and run in the next.
+    (
+        "workers 2\nint64 a\nonce o a 5\nworker 0\ndo o\nworker 1\nload a\nload a\nadd a 1\nschedule 0 1 0 1\n",
+        " ran 5 / 0 5 6 / 0=6",
+    ),
+    (
+        "workers 1\nint64 a\nonce o a 1\nworker 0\nstore a 9223372036854775807\ndo o\n",
+        " ok ran -9223372036854775808 / 0=-9223372036854775808",
+    ),
+    (
+        "workers 3\noncevalue v 9\nworker 0\nvalue v\nworker 1\nvalue v\nvalue v\nworker 2\nvalue v\nschedule 0 1 2\n",
+        " 9 / 9 9 / 9 /",
+    ),
+    (
+        "workers 2\noncefunc g 0\noncefunc h 7\nworker 0\ncall g\ncall h\nworker 1\ncall h\nschedule 1\n",
+        " ok err 7 / err 7 /",
+    ),
+];
 
 #[test]
 fn a_function_runs_once_by_schedule(rt: HostRuntime) -> Result<(), Fail> {
-    let table = [
-        (
-            "workers 2\nint64 a\nonce o a 5\noncefunc g 3\nworker 0\ndo o\ncall g\ncall g\nworker 1\ndo o\n",
-            " ran 5 err 3 err 3 / done / 0=5",
-        ),
-        // It is begun in one turn, and run in the next.
-        (
-            "workers 2\nint64 a\nonce o a 5\nworker 0\ndo o\nworker 1\nload a\nload a\nadd a 1\nschedule 0 1 0 1\n",
-            " ran 5 / 0 5 6 / 0=6",
-        ),
-        (
-            "workers 1\nint64 a\nonce o a 1\nworker 0\nstore a 9223372036854775807\ndo o\n",
-            " ok ran -9223372036854775808 / 0=-9223372036854775808",
-        ),
-        (
-            "workers 3\noncevalue v 9\nworker 0\nvalue v\nworker 1\nvalue v\nvalue v\nworker 2\nvalue v\nschedule 0 1 2\n",
-            " 9 / 9 9 / 9 /",
-        ),
-        (
-            "workers 2\noncefunc g 0\noncefunc h 7\nworker 0\ncall g\ncall h\nworker 1\ncall h\nschedule 1\n",
-            " ok err 7 / err 7 /",
-        ),
-    ];
-    for (text, want) in table {
-        let got = told_of(rt.alloc(), text)?;
-        assert_eq!(rt; got.as_deref(), Some(want), "{text}");
-    }
+    let other = first_other(rt.alloc(), &ONCES)?;
+    assert!(rt; other.is_none(), "{other:?}");
     Ok(())
 }
 
+const POOLS: [(&'static str, &'static str); 5] = [
+    (
+        "workers 1\npool p\nworker 0\nput p 7\nsweep p\nget p\nput p 8\nsweep p\nsweep p\nget p\n",
+        " ok ok 7 put ok ok ok 0 new /",
+    ),
+    // The private item of another part isn't taken.
+    (
+        "workers 2\npool p\nworker 0\nput p 1\nput p 2\nworker 1\nget p\nget p\nschedule 0 0 1 1\n",
+        " ok ok / 2 put 0 new /",
+    ),
+    // The parts of others are looked at from the next one on, and round.
+    (
+        "workers 3\npool p\nworker 0\nget p\nget p\nget p\nworker 1\nput p 10\nput p 11\nworker 2\nput p 20\nput p 21\nschedule 1 1 2 2 0 0 0\n",
+        " 11 put 21 put 0 new / ok ok / ok ok /",
+    ),
+    (
+        "workers 3\npool p\nworker 0\nput p 1\nput p 2\nworker 1\nput p 10\nput p 11\nworker 2\nget p\nget p\nschedule 0 0 1 1 2 2\n",
+        " ok ok / ok ok / 2 put 11 put /",
+    ),
+    // There is room for every put.
+    (
+        "workers 1\npool p\nworker 0\nput p 1\nput p 2\nput p 3\nget p\nget p\nget p\n",
+        " ok ok ok 1 put 3 put 2 put /",
+    ),
+];
+
 #[test]
 fn a_pool_by_schedule(rt: HostRuntime) -> Result<(), Fail> {
-    let table = [
-        (
-            "workers 1\npool p\nworker 0\nput p 7\nsweep p\nget p\nput p 8\nsweep p\nsweep p\nget p\n",
-            " ok ok 7 put ok ok ok 0 new /",
-        ),
-        // The private item of another part isn't taken.
-        (
-            "workers 2\npool p\nworker 0\nput p 1\nput p 2\nworker 1\nget p\nget p\nschedule 0 0 1 1\n",
-            " ok ok / 2 put 0 new /",
-        ),
-        // The parts of others are looked at from the next one on, and round.
-        (
-            "workers 3\npool p\nworker 0\nget p\nget p\nget p\nworker 1\nput p 10\nput p 11\nworker 2\nput p 20\nput p 21\nschedule 1 1 2 2 0 0 0\n",
-            " 11 put 21 put 0 new / ok ok / ok ok /",
-        ),
-        (
-            "workers 3\npool p\nworker 0\nput p 1\nput p 2\nworker 1\nput p 10\nput p 11\nworker 2\nget p\nget p\nschedule 0 0 1 1 2 2\n",
-            " ok ok / ok ok / 2 put 11 put /",
-        ),
-        // There is room for every put.
-        (
-            "workers 1\npool p\nworker 0\nput p 1\nput p 2\nput p 3\nget p\nget p\nget p\n",
-            " ok ok ok 1 put 3 put 2 put /",
-        ),
-    ];
-    for (text, want) in table {
-        let got = told_of(rt.alloc(), text)?;
-        assert_eq!(rt; got.as_deref(), Some(want), "{text}");
-    }
+    let other = first_other(rt.alloc(), &POOLS)?;
+    assert!(rt; other.is_none(), "{other:?}");
     Ok(())
 }

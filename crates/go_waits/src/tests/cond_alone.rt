@@ -1,44 +1,56 @@
-use super::cond_setup::{cond, last_cond, last_lock, mutex};
+ghost use Rattle.go_locks.specs.Fresh.{IsFresh};
+ghost use Rattle.go_waits.specs.Fresh.{IsFreshCond};
+
+use super::cond_setup::{
+    LockPass, Locked, Notified, NotifiedPass, cond, last_cond, last_lock, mutex,
+};
 use super::setup::{HERE, knows};
 use crate::cond::Cond;
+use std::sync::Wait;
 use std::test::Fail;
 use sync_model::{Answer, Misuse};
+
+// Signals with the mutex locked, by a caller that knows 7 calls, and says what each call was answered.
+fn signal_locked<R: Wait>(
+    rt: &R,
+    mutex: &Locked,
+    cond: &Notified,
+    mut lock: LockPass,
+    mut pass: NotifiedPass,
+) -> (Answer<()>, Answer<()>, Answer<Result<(), Misuse>>)
+    requires { IsFresh mutex.now lock × IsFreshCond cond.now pass }
+{
+    let mut note = knows(7);
+    let locked = mutex.lock(rt, &HERE, &mut lock, &mut note);
+    let signaled = cond.signal(rt, &HERE, &mut pass, &mut note);
+    let unlocked = mutex.unlock(rt, &HERE, &mut lock, &mut note);
+    (locked, signaled, unlocked)
+}
 
 #[test]
 fn a_wait_without_its_mutex_is_a_misuse(rt: HostRuntime) -> Result<(), Fail> {
     let (mutex, mut locks) = mutex(rt.alloc(), 2)?;
     let mut second_lock = last_lock(&mutex, &mut locks);
-    let mut first_lock = last_lock(&mutex, &mut locks);
+    let first_lock = last_lock(&mutex, &mut locks);
     let (cond, mut passes) = cond(rt.alloc(), 2)?;
     let mut second = last_cond(&cond, &mut passes);
-    let mut first = last_cond(&cond, &mut passes);
-    let mut note = knows(7);
-    let mut other = knows(0);
-    assert_eq!(rt;
-        mutex.lock(&rt, &HERE, &mut first_lock, &mut note),
-        Answer::Done(())
-    );
+    let first = last_cond(&cond, &mut passes);
     // A signal that finds nobody is lost.
     assert_eq!(rt;
-        cond.signal(&rt, &HERE, &mut first, &mut note),
-        Answer::Done(())
+        signal_locked(&rt, &mutex, &cond, first_lock, first),
+        (Answer::Done(()), Answer::Done(()), Answer::Done(Ok(())))
     );
-    assert_eq!(rt;
-        mutex.unlock(&rt, &HERE, &mut first_lock, &mut note),
-        Answer::Done(Ok(()))
-    );
+    let mut other = knows(0);
     let misuse = Misuse::UnlockOfUnlockedMutex;
-    assert_eq!(rt;
-        cond.wait(
-            &rt,
-            &HERE,
-            &mut second,
-            &mut other,
-            &mutex,
-            &mut second_lock
-        ),
-        Answer::Done(Err(misuse))
+    let answer = cond.wait(
+        &rt,
+        &HERE,
+        &mut second,
+        &mut other,
+        &mutex,
+        &mut second_lock,
     );
+    assert_eq!(rt; answer, Answer::Done(Err(misuse)));
     // Neither the ticket nor the misuse makes an edge.
     assert_eq!(rt; other.count(0), 0);
     assert_eq!(rt; (second.left(), second_lock.left()), (999_999, 999_999));

@@ -1,8 +1,9 @@
+ghost use Rattle.std.specs.Prelude.{◌≡◌, ◌<◌, ◌+◌, vec_len};
 ghost use Rattle.std.specs.Thread.{IsSync};
 ghost use Rattle.go_locks.specs.Mutexes.{IsPassOfMutex};
-ghost use Rattle.go_locks.specs.Fresh.{IsFresh};
+ghost use Rattle.go_locks.specs.Fresh.{IsFresh, AreFresh};
 ghost use Rattle.go_waits.specs.Conds.{IsPassOf};
-ghost use Rattle.go_waits.specs.Fresh.{IsFreshCond};
+ghost use Rattle.go_waits.specs.Fresh.{IsFreshCond, AreFreshCond};
 
 use super::cond_setup::{
     LockPass, Locked, Notified, NotifiedPass, cond, last_cond, last_lock, mutex,
@@ -60,6 +61,32 @@ struct Party<'a> {
 }
 
 impl<'a> Party<'a> {
+    // The caller of the last pass to each.
+    fn last(
+        buffer: &'a Buffer,
+        locks: &mut Vec<LockPass>,
+        rooms: &mut Vec<NotifiedPass>,
+        items: &mut Vec<NotifiedPass>,
+    ) -> Self
+        requires locks { AreFresh buffer.now.mutex locks.old.items × (0 < vec_len locks.old) }
+        requires rooms { AreFreshCond buffer.now.has_room rooms.old.items × (0 < vec_len rooms.old) }
+        requires items { AreFreshCond buffer.now.has_items items.old.items × (0 < vec_len items.old) }
+        ensures locks { AreFresh buffer.now.mutex locks.new.items × (vec_len locks.new + 1 ≡ vec_len locks.old) }
+        ensures rooms { AreFreshCond buffer.now.has_room rooms.new.items × (vec_len rooms.new + 1 ≡ vec_len rooms.old) }
+        ensures items { AreFreshCond buffer.now.has_items items.new.items × (vec_len items.new + 1 ≡ vec_len items.old) }
+    {
+        let lock = last_lock(&buffer.mutex, locks);
+        let room = last_cond(&buffer.has_room, rooms);
+        let item = last_cond(&buffer.has_items, items);
+        Party {
+            buffer,
+            lock,
+            room,
+            items: item,
+            note: knows(0),
+        }
+    }
+
     fn lock<R: Wait>(&mut self, rt: &R) -> Option<()> {
         if self.lock.left() == 0 {
             return None;
@@ -223,34 +250,10 @@ fn two_producers_and_two_consumers_share_a_buffer(rt: HostRuntime) -> Result<(),
         held: AtomicU64::new(0),
         faults: AtomicU64::new(0),
     };
-    let fourth = Party {
-        buffer: &buffer,
-        lock: last_lock(&buffer.mutex, &mut locks),
-        room: last_cond(&buffer.has_room, &mut rooms),
-        items: last_cond(&buffer.has_items, &mut items),
-        note: knows(0),
-    };
-    let third = Party {
-        buffer: &buffer,
-        lock: last_lock(&buffer.mutex, &mut locks),
-        room: last_cond(&buffer.has_room, &mut rooms),
-        items: last_cond(&buffer.has_items, &mut items),
-        note: knows(0),
-    };
-    let second = Party {
-        buffer: &buffer,
-        lock: last_lock(&buffer.mutex, &mut locks),
-        room: last_cond(&buffer.has_room, &mut rooms),
-        items: last_cond(&buffer.has_items, &mut items),
-        note: knows(0),
-    };
-    let first = Party {
-        buffer: &buffer,
-        lock: last_lock(&buffer.mutex, &mut locks),
-        room: last_cond(&buffer.has_room, &mut rooms),
-        items: last_cond(&buffer.has_items, &mut items),
-        note: knows(0),
-    };
+    let fourth = Party::last(&buffer, &mut locks, &mut rooms, &mut items);
+    let third = Party::last(&buffer, &mut locks, &mut rooms, &mut items);
+    let second = Party::last(&buffer, &mut locks, &mut rooms, &mut items);
+    let first = Party::last(&buffer, &mut locks, &mut rooms, &mut items);
     let (one, other) = join(
         &rt,
         || produce_beside(&rt, first, second),
