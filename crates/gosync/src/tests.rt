@@ -105,7 +105,7 @@ fn first_other(
     Ok(None)
 }
 
-const RUNS: [(&'static str, &'static str); 5] = [
+const RUNS: [(&str, &str); 5] = [
     (
         TWO_CALLS,
         "0.0 store t apple 5 -> ok\n0.1 load t apple -> 5 true\nend t apple 5\n",
@@ -131,7 +131,7 @@ fn a_text_is_run_and_reported(rt: HostRuntime) -> Result<(), Fail> {
     Ok(())
 }
 
-const MAPS_AND_ATOMICS: [(&'static str, &'static str); 8] = [
+const MAPS_AND_ATOMICS: [(&str, &str); 8] = [
     (
         "workers 1\nmap t\nworker 0\ncad t apple 0\n",
         "0.0 cad t apple 0 -> false\n",
@@ -172,7 +172,7 @@ fn the_calls_of_maps_and_atomics_are_reported(rt: HostRuntime) -> Result<(), Fai
     Ok(())
 }
 
-const LOCKS: [(&'static str, &'static str); 5] = [
+const LOCKS: [(&str, &str); 5] = [
     (
         "workers 3\nmutex m\nworker 0\nlock m\nunlock m\nlock m\nunlock m\ntrylock m\nworker 1\nlock m\nunlock m\nworker 2\nlock m\nunlock m\nschedule 0 1 0 0 @1000001 2 1 0 2 2 0\n",
         "0.0 lock m -> ok\n0.1 unlock m -> ok\n0.2 lock m -> ok\n0.3 unlock m -> ok\n0.4 trylock m -> false\n1.0 lock m -> ok\n1.1 unlock m -> ok\n2.0 lock m -> ok\n2.1 unlock m -> ok\n",
@@ -201,7 +201,7 @@ fn locks_are_taken_and_reported(rt: HostRuntime) -> Result<(), Fail> {
     Ok(())
 }
 
-const WAITING_OBJECTS: [(&'static str, &'static str); 7] = [
+const WAITING_OBJECTS: [(&str, &str); 7] = [
     (
         "workers 2\nmutex m\ncond c m\nworker 0\nlock m\nwait c\nunlock m\nworker 1\nlock m\nsignal c\nunlock m\n",
         "0.0 lock m -> ok\n0.1 wait c -> ok\n0.2 unlock m -> ok\n1.0 lock m -> ok\n1.1 signal c -> ok\n1.2 unlock m -> ok\n",
@@ -238,7 +238,7 @@ fn waiting_objects_and_pools_are_reported(rt: HostRuntime) -> Result<(), Fail> {
     Ok(())
 }
 
-const ENDED_RUNS: [(&'static str, &'static str, &'static str); 11] = [
+const ENDED_RUNS: [(&str, &str, &str); 11] = [
     (
         "workers 1\nmutex m\nworker 0\nunlock m\n",
         "",
@@ -321,7 +321,7 @@ fn a_misuse_or_a_deadlock_ends_the_run(rt: HostRuntime) -> Result<(), Fail> {
     Ok(())
 }
 
-const LIMITS: [(&'static str, &'static str, u32, u8, usize, &'static str); 4] = [
+const LIMITS: [(&str, &str, u32, u8, usize, &str); 4] = [
     (
         "workers 1\nint64 a\nworker 0\n",
         "load a\n",
@@ -373,7 +373,7 @@ fn calls_and_ranges_are_limited(rt: HostRuntime) -> Result<(), Fail> {
     Ok(())
 }
 
-const FAULTS: [(&'static str, &'static str); 3] = [
+const FAULTS: [(&str, &str); 3] = [
     ("", "gosync: line 1: no workers line\n"),
     (
         "workers 1\nmap t\nworker 0\nstore t app",
@@ -399,7 +399,7 @@ fn a_text_that_is_not_read_names_its_first_fault(rt: HostRuntime) -> Result<(), 
     Ok(())
 }
 
-const NOT_TAKEN: [&'static str; 9] = [
+const NOT_TAKEN: [&str; 9] = [
     "gosync",
     "gosync make 007",
     "gosync run w.txt",
@@ -425,7 +425,7 @@ fn words_that_are_not_taken_get_the_usage_line(rt: HostRuntime) -> Result<(), Fa
     Ok(())
 }
 
-const NOT_THERE: [(&'static str, &'static str); 2] = [
+const NOT_THERE: [(&str, &str); 2] = [
     ("gosync step none.txt", "gosync: cannot read none.txt\n"),
     ("gosync step -", "gosync: cannot read -\n"),
 ];
@@ -473,7 +473,7 @@ fn each_open_and_read_fails_in_turn(rt: HostRuntime) -> Result<(), Fail> {
     Ok(())
 }
 
-const FAILED_WRITES: [(&'static str, &'static [u64], &'static str); 9] = [
+const FAILED_WRITES: [(&str, &[u64], &str); 9] = [
     (TWO_CALLS, &[1], ""),
     (TWO_CALLS, &[2], "0.0 store t apple 5 -> ok\n"),
     (
@@ -518,7 +518,7 @@ fn each_write_fails_in_turn(rt: HostRuntime) -> Result<(), Fail> {
     Ok(())
 }
 
-const FAILED_LINES: [(&'static str, u8, &'static [u64], &'static str); 9] = [
+const FAILED_LINES: [(&str, u8, &[u64], &str); 9] = [
     ("gosync step x", 3, &[1], ""),
     ("gosync step x", 3, &[2], "gosync: cannot read "),
     ("gosync step x", 3, &[3], "gosync: cannot read x"),
@@ -551,7 +551,7 @@ fn each_write_of_the_one_line_fails_in_turn(rt: HostRuntime) -> Result<(), Fail>
     Ok(())
 }
 
-const STATUSES: [(Status, u8, &'static str); 12] = [
+const STATUSES: [(Status, u8, &str); 12] = [
     (Status::Done, 0, ""),
     (
         Status::NotAccepted {
@@ -608,7 +608,7 @@ fn each_status_has_its_code_and_its_line(rt: HostRuntime) -> Result<(), Fail> {
     Ok(())
 }
 
-const CANONICAL_TEXTS: [(&'static [u8], &'static [u8]); 8] = [
+const CANONICAL_TEXTS: [(&[u8], &[u8]); 8] = [
     (
         b"workers 1\nmap t\nint32 a\nint64 b\nuint32 c\nuint64 d\nbool e\nworker 0\nstore a -2147483648\nadd b -1\nand c 7\nor d 18446744073709551615\ncas e false true\nswap e true\nload a\n",
         b"workers 1\nmap t\nint32 a\nint64 b\nuint32 c\nuint64 d\nbool e\nworker 0\nstore a -2147483648\nadd b -1\nand c 7\nor d 18446744073709551615\ncas e false true\nswap e true\nload a\n",

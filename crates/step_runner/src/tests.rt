@@ -142,7 +142,7 @@ fn first_other(
     Ok(None)
 }
 
-const SCHEDULES: [(&'static str, &'static str); 6] = [
+const SCHEDULES: [(&str, &str); 6] = [
     ("schedule 0 1 0\n", " ok 2 / ok / 0.k=2"),
     ("schedule 0 0 1\n", " ok 1 / ok / 0.k=2"),
     ("schedule 1 0 0\n", " ok 1 / ok / 0.k=1"),
@@ -162,7 +162,7 @@ fn workers_take_turns_by_the_schedule_and_then_in_rounds(rt: HostRuntime) -> Res
     Ok(())
 }
 
-const ENDS: [(&'static str, &'static str); 4] = [
+const ENDS: [(&str, &str); 4] = [
     ("workers 1\nworker 0\n", " /"),
     ("workers 1\nmap t\nworker 0\nload t apple\n", " - /"),
     (
@@ -188,7 +188,7 @@ const NAMED: &str = "store t k 5\n";
 
 const OTHER: &str = "store t k 0\n";
 
-const MAP_CALLS: [(&'static str, &'static str, &'static str); 29] = [
+const MAP_CALLS: [(&str, &str, &str); 29] = [
     (ABSENT, "load t k", " - []"),
     (NAMED, "load t k", " 5 [k=5,]"),
     (OTHER, "load t k", " 0 [k=0,]"),
@@ -253,7 +253,7 @@ fn a_range_shows_the_keys_of_its_map_in_byte_order(rt: HostRuntime) -> Result<()
     Ok(())
 }
 
-const WRAPS: [(&'static str, &'static str, &'static str); 6] = [
+const WRAPS: [(&str, &str, &str); 6] = [
     (
         "int32",
         "store a 2147483647\nadd a 1\nadd a -1\nswap a -2147483648\nadd a -1\nload a\n",
@@ -301,7 +301,7 @@ const FIVE: &str = "worker 0\nlock m\nunlock m\nlock m\nunlock m\ntrylock m\n";
 
 const SIX: &str = "worker 0\nlock m\nunlock m\nlock m\nunlock m\ntrylock m\nunlock m\n";
 
-const PASSED_OVER: [(&'static str, &'static str, &'static str); 4] = [
+const PASSED_OVER: [(&str, &str, &str); 4] = [
     (
         FIVE,
         "0 1 0 0 @1000001 2 1 0 2 2 0",
@@ -338,7 +338,7 @@ fn a_waiter_that_is_passed_over_starves_past_the_threshold(rt: HostRuntime) -> R
     Ok(())
 }
 
-const MUTEXES: [(&'static str, &'static str); 8] = [
+const MUTEXES: [(&str, &str); 8] = [
     (
         "workers 1\nmutex m\nworker 0\nlock m\nunlock m\ntrylock m\ntrylock m\n",
         " ok ok true false /",
@@ -383,7 +383,7 @@ fn a_mutex_by_schedule(rt: HostRuntime) -> Result<(), Fail> {
     Ok(())
 }
 
-const RW_MUTEXES: [(&'static str, &'static str); 9] = [
+const RW_MUTEXES: [(&str, &str); 9] = [
     // A writer that waits holds back new readers; its unlock admits the one that waits.
     (
         "workers 4\nrwmutex w\nworker 0\nrlock w\nrunlock w\nworker 1\nlock w\nunlock w\nworker 2\nrlock w\nrunlock w\nworker 3\ntryrlock w\n",
@@ -434,7 +434,7 @@ fn a_reader_writer_mutex_by_schedule(rt: HostRuntime) -> Result<(), Fail> {
     Ok(())
 }
 
-const WAIT_GROUPS: [(&'static str, &'static str); 6] = [
+const WAIT_GROUPS: [(&str, &str); 6] = [
     (
         "workers 1\nwaitgroup g 0\nworker 0\nadd g 1\ndone g\ndone g\n",
         " ok ok / panic: sync: negative WaitGroup counter",
@@ -472,7 +472,7 @@ fn a_wait_group_by_schedule(rt: HostRuntime) -> Result<(), Fail> {
     Ok(())
 }
 
-const CONDS: [(&'static str, &'static str); 6] = [
+const CONDS: [(&str, &str); 6] = [
     (
         "workers 2\nmutex m\ncond c m\nworker 0\nlock m\nwait c\nunlock m\nworker 1\nlock m\nsignal c\nunlock m\n",
         " ok ok ok / ok ok ok /",
@@ -509,7 +509,7 @@ fn a_cond_by_schedule(rt: HostRuntime) -> Result<(), Fail> {
     Ok(())
 }
 
-const ONCES: [(&'static str, &'static str); 5] = [
+const ONCES: [(&str, &str); 5] = [
     (
         "workers 2\nint64 a\nonce o a 5\noncefunc g 3\nworker 0\ndo o\ncall g\ncall g\nworker 1\ndo o\n",
         " ran 5 err 3 err 3 / done / 0=5",
@@ -540,7 +540,7 @@ fn a_function_runs_once_by_schedule(rt: HostRuntime) -> Result<(), Fail> {
     Ok(())
 }
 
-const POOLS: [(&'static str, &'static str); 5] = [
+const POOLS: [(&str, &str); 5] = [
     (
         "workers 1\npool p\nworker 0\nput p 7\nsweep p\nget p\nput p 8\nsweep p\nsweep p\nget p\n",
         " ok ok 7 put ok ok ok 0 new /",

@@ -9,7 +9,7 @@ use super::*;
 use std::alloc::{AllocError, Global};
 use std::test::Fail;
 
-const NAMES: [(&'static [u8], bool); 8] = [
+const NAMES: [(&[u8], bool); 8] = [
     (b"", false),
     (b"a", true),
     (b"a2_", true),
@@ -122,7 +122,7 @@ fn map_call(
     Ok((text, map.get(b"k"), map.get(b"other")))
 }
 
-const MAP_CALLS: [(Option<u64>, &'static [u8], &'static [u8], Option<u64>); 30] = [
+const MAP_CALLS: [(Option<u64>, &[u8], &[u8], Option<u64>); 30] = [
     (None, b"load", b"Found(None)", None),
     (Some(5), b"load", b"Found(Some(5))", Some(5)),
     (Some(7), b"load", b"Found(Some(7))", Some(7)),

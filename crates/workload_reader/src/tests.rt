@@ -14,7 +14,7 @@ fn fault_of(alloc: Global, text: &[u8]) -> Result<Option<(u32, Reason)>, Fail> {
     }
 }
 
-const REFUSED: [(&'static [u8], u32, Reason); 54] = [
+const REFUSED: [(&[u8], u32, Reason); 54] = [
     (b"", 1, Reason::NoWorkersLine),
     (b"\n", 1, Reason::NoWorkersLine),
     (b"# nothing\n\n  \n", 3, Reason::NoWorkersLine),
@@ -139,7 +139,7 @@ fn each_check_refuses_what_fails_it(rt: HostRuntime) -> Result<(), Fail> {
     Ok(())
 }
 
-const READ: [&'static [u8]; 10] = [
+const READ: [&[u8]; 10] = [
     b"workers 1\nworker 0\n",
     b"workers 32",
     b"  # a comment\n\n  workers   1  \n worker 0\n",
@@ -177,7 +177,7 @@ fn the_parts_of_a_workload(rt: HostRuntime) -> Result<(), Fail> {
     Ok(())
 }
 
-const PAST_THE_RANGE: [(&'static [u8], &'static [u8]); 20] = [
+const PAST_THE_RANGE: [(&[u8], &[u8]); 20] = [
     (b"int32", b"add a -2147483649"),
     (b"int32", b"add a 2147483648"),
     (b"int64", b"store a -9223372036854775809"),
@@ -217,7 +217,7 @@ fn each_operand_is_refused_past_its_range(rt: HostRuntime) -> Result<(), Fail> {
     Ok(())
 }
 
-const CALLS: [(&'static [u8], &'static [u8], Option<Reason>); 64] = [
+const CALLS: [(&[u8], &[u8], Option<Reason>); 64] = [
     (b"map", b"load a k", None),
     (b"map", b"store a k 9223372036854775807", None),
     (b"map", b"los a k 0", None),
@@ -298,7 +298,7 @@ fn each_kind_of_object_has_its_calls(rt: HostRuntime) -> Result<(), Fail> {
     Ok(())
 }
 
-const OBJECT_LINES: [(&'static [u8], Option<Reason>); 47] = [
+const OBJECT_LINES: [(&[u8], Option<Reason>); 47] = [
     (b"cond c m", None),
     (b"cond c", Some(Reason::WrongNumberOfWords)),
     (b"cond 9 m x", Some(Reason::WrongNumberOfWords)),
@@ -360,7 +360,7 @@ fn each_object_line_has_its_words(rt: HostRuntime) -> Result<(), Fail> {
     Ok(())
 }
 
-const WAITING_CALLS: [(&'static [u8], Option<Reason>); 45] = [
+const WAITING_CALLS: [(&[u8], Option<Reason>); 45] = [
     (b"wait c", None),
     (b"signal c", None),
     (b"broadcast c", None),
@@ -450,7 +450,7 @@ fn what_an_object_line_says(rt: HostRuntime) -> Result<(), Fail> {
     Ok(())
 }
 
-const OTHER_OBJECTS: [(&'static [u8], &'static [u8]); 6] = [
+const OTHER_OBJECTS: [(&[u8], &[u8]); 6] = [
     (b"cond", b" m"),
     (b"waitgroup", b" 0"),
     (b"once", b" a 1"),
@@ -503,7 +503,7 @@ fn text_of_many(
     Ok(text)
 }
 
-const MANY: [(&'static [u8], usize, usize, Option<u32>); 10] = [
+const MANY: [(&[u8], usize, usize, Option<u32>); 10] = [
     (b"map", 15, 0, None),
     (b"map", 16, 0, Some(19)),
     (b"uint64", 64, 0, None),
