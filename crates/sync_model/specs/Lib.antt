@@ -8,4 +8,7 @@ pub mod Name
 pub mod Note
 pub mod SequentialAtomic
 pub mod SequentialMap
+pub mod Shared
+pub mod SharedCalls
+pub mod SharedHistory
 pub mod WordLayout

@@ -1,10 +1,10 @@
-//! The calls on shared maps and atomics, as a caller's own record has them. No value of these types is made.
+//! The calls on shared maps and atomics, as their history and a caller's own list have them. Both stand in proofs alone.
 use crate::atomic_object::{AtomicCall, AtomicReply};
 use crate::map_object::{MapCall, MapReply};
 use std::collections::LinkedList;
 
 /// A shared call: a call on a map, whose keys are numbers, a step of a cursor over one, or a call on an atomic.
-#[derive(Debug, Drop)]
+#[derive(Clone, Copy, Debug)]
 pub enum SharedCall {
     /// A call on a map, named by its place among the maps.
     Map { map: u32, call: MapCall<u32> },
@@ -17,7 +17,7 @@ pub enum SharedCall {
 }
 
 /// What a shared call answers.
-#[derive(Debug, Drop)]
+#[derive(Clone, Copy, Debug)]
 pub enum SharedReply {
     /// The reply of a map.
     Map(MapReply),
@@ -29,13 +29,26 @@ pub enum SharedReply {
     Atomic(AtomicReply),
 }
 
-/// One shared call of a caller.
+/// One entry of the shared history, which is the order of all calls that set a map or an atomic, whoever made them. Which
+/// calls are entries, the one-thread objects say: a load never is one, and a store always.
+#[derive(Clone, Copy, Debug)]
+pub struct SharedEntry {
+    /// The number of the caller who made it.
+    pub caller: u32,
+    pub call: SharedCall,
+    pub reply: SharedReply,
+}
+
+/// One shared call in the list of its caller.
 #[derive(Debug, Drop)]
 pub struct Item {
     pub call: SharedCall,
     pub reply: SharedReply,
-    /// How much of the shared history lies before the call; for a cursor's step, how far it reaches.
+    /// Its place: how many entries of the shared history lie before the call. Of a call of a cursor it is the reach: what
+    /// the call shows was so after this many entries, or fewer.
     pub place: u64,
-    /// The front of the caller's note before the call.
+    /// Whether the call is itself an entry of the shared history, which then has its place as its number.
+    pub entry: bool,
+    /// The front of the caller's note before the call: for each caller the number of its shared calls that were known.
     pub front: LinkedList<u64>,
 }

@@ -7,6 +7,7 @@ pub mod answer;
 pub mod atomic_object;
 pub mod by_name;
 pub mod call;
+pub mod caller;
 pub mod front_note;
 pub mod item;
 pub mod journal;
@@ -20,14 +21,16 @@ pub mod note;
 pub mod once_call;
 pub mod pool_call;
 pub mod seq;
+pub mod shared;
 pub mod wait_call;
 
 pub use answer::Answer;
 pub use atomic_object::{AtomicCall, AtomicKind, AtomicReply, Number};
 pub use by_name::ByName;
 pub use call::{Call, Reply};
+pub use caller::{Caller, CallerNote};
 pub use front_note::{FrontNote, MAX_CALLERS};
-pub use item::{Item, SharedCall, SharedReply};
+pub use item::{Item, SharedCall, SharedEntry, SharedReply};
 pub use journal::{Deed, Entry};
 pub use lock_call::{LockReply, MutexCall, RwMutexCall};
 pub use machine::Machine;
@@ -38,6 +41,7 @@ pub use note::Note;
 pub use once_call::DoReply;
 pub use pool_call::{PoolCall, PoolCallReply};
 pub use seq::Seq;
+pub use shared::Shared;
 pub use wait_call::{CondCall, WaitGroupCall};
 
 #[cfg(test)]

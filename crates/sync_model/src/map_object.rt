@@ -8,7 +8,7 @@ use crate::name::Name;
 use std::alloc::{AllocError, Global};
 
 /// A call of Go's `sync.Map`, `Range` aside, over keys of a type `K`. Values are 0 to 2^63 - 1.
-#[derive(Debug, Drop)]
+#[derive(Clone, Copy, Debug)]
 pub enum MapCall<K> {
     /// The value at the key, if there is one.
     Load { key: K },
@@ -50,7 +50,7 @@ impl<K> MapCall<K> {
 }
 
 /// What a call of a map answers.
-#[derive(Debug, Drop)]
+#[derive(Clone, Copy, Debug)]
 pub enum MapReply {
     /// The call is done, and says nothing more.
     Done,
