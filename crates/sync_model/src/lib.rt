@@ -5,6 +5,7 @@
 
 pub mod answer;
 pub mod atomic_object;
+pub mod bounded_seq;
 pub mod by_name;
 pub mod call;
 pub mod front_note;
@@ -18,12 +19,15 @@ pub mod misuse;
 pub mod name;
 pub mod note;
 pub mod once_call;
+pub mod outcome;
 pub mod pool_call;
 pub mod seq;
+pub mod value;
 pub mod wait_call;
 
 pub use answer::Answer;
 pub use atomic_object::{AtomicCall, AtomicKind, AtomicReply, Number};
+pub use bounded_seq::BoundedSeq;
 pub use by_name::ByName;
 pub use call::{Call, Reply};
 pub use front_note::{FrontNote, MAX_CALLERS};
@@ -36,8 +40,10 @@ pub use misuse::Misuse;
 pub use name::Name;
 pub use note::Note;
 pub use once_call::DoReply;
+pub use outcome::{End, Ending, Outcome, Report};
 pub use pool_call::{PoolCall, PoolCallReply};
 pub use seq::Seq;
+pub use value::MAX_VALUE;
 pub use wait_call::{CondCall, WaitGroupCall};
 
 #[cfg(test)]
