@@ -30,10 +30,10 @@ module _ {K : Type 0} {R : K → K → Ordering} where
   value_there m key old finds = ap (is_value old) (found_is (get m key) (Some old) finds) ∙ is_value-same old
 
   module _ (o : IsKeyOrder R) where
-    tied : (key : K) → eq_by_cmp R key key ≡ true
+    pub tied : (key : K) → eq_by_cmp R key key ≡ true
     tied key = ap is_eq (tied_itself o.0 key)
 
-    apart : (other key : K) → other ≢ key → eq_by_cmp R other key ≡ false
+    pub apart : (other key : K) → other ≢ key → eq_by_cmp R other key ≡ false
     apart other key ne =
         elim (R other key) as (λ r. R other key ≡ r → is_eq r ≡ false) [
           | Less ↦ λ e. refl
@@ -47,10 +47,10 @@ module _ {K : Type 0} {R : K → K → Ordering} where
     pub get_removed : (m : FinMap R ℕ) (key : K) → get (remove m key) key ≡ None
     get_removed m key = get-remove o.0 m key key ∙ ap (λ b. cond b None (get m key)) (tied key)
 
-    inserted_apart : (m : FinMap R ℕ) (key : K) (value : ℕ) (other : K) → other ≢ key → get (insert m key value) other ≡ get m other
+    pub inserted_apart : (m : FinMap R ℕ) (key : K) (value : ℕ) (other : K) → other ≢ key → get (insert m key value) other ≡ get m other
     inserted_apart m key value other ne = get-insert o.0 m key value other ∙ ap (λ b. cond b (Some value) (get m other)) (apart other key ne)
 
-    removed_apart : (m : FinMap R ℕ) (key other : K) → other ≢ key → get (remove m key) other ≡ get m other
+    pub removed_apart : (m : FinMap R ℕ) (key other : K) → other ≢ key → get (remove m key) other ≡ get m other
     removed_apart m key other ne = get-remove o.0 m key other ∙ ap (λ b. cond b None (get m other)) (apart other key ne)
 
     pub found_inserted : (m : FinMap R ℕ) (key : K) (value : ℕ) → Finds (insert m key value) key (Some value)

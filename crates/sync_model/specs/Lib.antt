@@ -1,4 +1,6 @@
+pub mod BoundedSeq
 pub mod ByName
+pub mod Ends
 pub mod Front
 pub mod Journal
 pub mod Log
@@ -6,6 +8,9 @@ pub mod MapLaws
 pub mod Misuse
 pub mod Name
 pub mod Note
+pub mod Outcome
+pub mod Renaming
+pub mod Replies
 pub mod SequentialAtomic
 pub mod SequentialMap
 pub mod Shared

@@ -35,13 +35,13 @@ pub enum Call {
     Pool { object: usize, call: PoolCall },
 }
 
-/// What a call answers.
+/// What a call answers, where keys are of a type `K`: a name, or a number among the workload's keys.
 #[derive(Debug, Drop)]
-pub enum Reply {
+pub enum Reply<K> {
     /// The reply of a map.
     Map(MapReply),
     /// The keys that a `Range` showed, each with its value.
-    Pairs(Seq<(Name, u64)>),
+    Pairs(Seq<(K, u64)>),
     /// The reply of an atomic.
     Atomic(AtomicReply),
     /// The reply of a mutex or a reader/writer mutex.

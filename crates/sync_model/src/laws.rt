@@ -6,3 +6,5 @@ pub mod layout;
 pub mod logs;
 pub mod maps;
 pub mod names;
+pub mod renaming;
+pub mod replies;

@@ -5,6 +5,7 @@
 
 pub mod answer;
 pub mod atomic_object;
+pub mod bounded_seq;
 pub mod by_name;
 pub mod call;
 pub mod caller;
@@ -19,13 +20,16 @@ pub mod misuse;
 pub mod name;
 pub mod note;
 pub mod once_call;
+pub mod outcome;
 pub mod pool_call;
 pub mod seq;
 pub mod shared;
+pub mod value;
 pub mod wait_call;
 
 pub use answer::Answer;
 pub use atomic_object::{AtomicCall, AtomicKind, AtomicReply, Number};
+pub use bounded_seq::BoundedSeq;
 pub use by_name::ByName;
 pub use call::{Call, Reply};
 pub use caller::{Caller, CallerNote};
@@ -39,9 +43,11 @@ pub use misuse::Misuse;
 pub use name::Name;
 pub use note::Note;
 pub use once_call::DoReply;
+pub use outcome::{End, Ending, Outcome, Report};
 pub use pool_call::{PoolCall, PoolCallReply};
 pub use seq::Seq;
 pub use shared::Shared;
+pub use value::MAX_VALUE;
 pub use wait_call::{CondCall, WaitGroupCall};
 
 #[cfg(test)]

@@ -79,6 +79,21 @@ fn lists_grow_at_their_ends(rt: HostRuntime) -> Result<(), Fail> {
     Ok(())
 }
 
+#[test]
+fn a_bounded_list_is_filled_to_its_room(rt: HostRuntime) -> Result<(), Fail> {
+    let mut list = BoundedSeq::with_room(rt.alloc(), 3)?;
+    assert_eq!(rt; list.room(), 3);
+    list.push(7);
+    list.push(8);
+    list.push(9);
+    assert_eq!(rt; list.room(), 3);
+    assert_eq!(rt; list.as_slice(), [7, 8, 9].as_slice());
+    let mut longer = list.into_seq();
+    longer.push(10)?;
+    assert_eq!(rt; longer.as_slice(), [7, 8, 9, 10].as_slice());
+    Ok(())
+}
+
 // The call of this word on the key k.
 fn call_of(alloc: Global, word: &[u8]) -> Result<MapCall<Name>, AllocError> {
     let key = Name::from_bytes(alloc, b"k")?;
