@@ -1,0 +1,9 @@
+pub mod CondStages
+pub mod GroupStages
+pub mod MutexStages
+pub mod OnceStages
+pub mod PoolStages
+pub mod RwMutexStages
+pub mod Spelling
+pub mod Stands
+pub mod Steps
