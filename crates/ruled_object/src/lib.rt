@@ -1,12 +1,15 @@
 //! One machine shared by its callers, with one history.
 #![tactic(auto)]
 
+pub mod assembly;
 mod begin;
 mod call;
 pub mod cell;
+mod copy;
 mod finish;
 mod gather;
 pub mod laws;
+mod look;
 mod new;
 pub mod object;
 mod park;
@@ -15,6 +18,7 @@ pub mod rule;
 mod turn;
 pub mod view;
 
+pub use assembly::{Assembly, AssemblyOf};
 pub use new::MAX_CALLS;
 pub use object::Object;
 pub use pass::{Pass, PassOf};
