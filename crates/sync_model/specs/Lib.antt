@@ -1,4 +1,5 @@
 pub mod ByName
+pub mod Callers
 pub mod Front
 pub mod Journal
 pub mod Log
