@@ -1,5 +1,6 @@
 pub mod BoundedSeq
 pub mod ByName
+pub mod Callers
 pub mod Ends
 pub mod Front
 pub mod Journal

@@ -7,10 +7,10 @@ use std::marker::Model;
 /// The most callers of an object.
 pub const MAX_CALLERS: usize = 64;
 
-/// A front of 64 numbers, which is nobody's note.
+/// A front of 64 numbers, which is nobody's note. A count has 32 bits, so that a processor compares several at once.
 #[derive(Debug, Drop)]
 pub struct FrontNote {
-    counts: [u64; MAX_CALLERS],
+    counts: [u32; MAX_CALLERS],
 }
 
 impl Model for FrontNote {
@@ -21,14 +21,14 @@ impl Model for FrontNote {
 
 impl FrontNote {
     /// A note with this front.
-    pub fn new(counts: [u64; MAX_CALLERS]) -> Self
+    pub fn new(counts: [u32; MAX_CALLERS]) -> Self
         ensures { result ≡ counts }
     {
         FrontNote { counts }
     }
 
     /// How many shared calls of a caller are known.
-    pub fn count(&self, caller: usize) -> u64
+    pub fn count(&self, caller: usize) -> u32
         requires { caller < MAX_CALLERS }
         ensures { result ≡ slice_index self.now caller }
     {
@@ -54,8 +54,16 @@ impl Note for FrontNote {
     }
 
     /// Each number becomes the greater of the two.
-    fn merge(&mut self, _home: &(), other: Self)
+    fn merge(&mut self, home: &(), mut other: Self)
         ensures { (caller : ℕ) → slice_index self.new caller ≡ max (slice_index self.old caller) (slice_index other caller) }
+    {
+        self.take_in(home, &mut other);
+    }
+
+    /// Each number becomes the greater of the two, and the other note stays as it is. There is no copy.
+    fn take_in(&mut self, _home: &(), other: &mut Self)
+        ensures counts { (caller : ℕ) → slice_index self.new caller ≡ max (slice_index self.old caller) (slice_index other.old caller) }
+        ensures other { other.new ≡ other.old }
     {
         for caller in 0..MAX_CALLERS {
             self.counts[caller] = self.counts[caller].max(other.counts[caller]);

@@ -1,6 +1,8 @@
 //! A sequential object, as a machine: a state, the events that callers make on it, and their replies.
 ghost use Rattle.std.specs.Prelude.{◌≡◌, ℕ, Bool};
 
+use crate::callers::Callers;
+
 /// An object for one thread. A running object shares one machine among its callers, event by event.
 pub trait Machine {
     /// What the object holds. It is determined by what contracts see of it.
@@ -38,4 +40,11 @@ pub trait Machine {
     /// Whether the event is synchronized after each earlier releasing one.
     fn acquires(event: &Self::Event, reply: &Self::Reply) -> bool
         ensures { result ≡ takes event.now reply.now };
+
+    /// Whom an event lets go on: the callers that waited, and needn't wait any longer. It is asked with the state after the
+    /// event, before another event can come between. A caller that is left out sleeps on, which no clause refuses: tests
+    /// do. By default it is nobody, as for a machine at which nobody waits.
+    fn wakes(_state: &Self::State, _event: &Self::Event, _reply: &Self::Reply) -> Callers {
+        Callers::nobody()
+    }
 }

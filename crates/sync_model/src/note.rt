@@ -33,6 +33,18 @@ pub trait Note: Drop {
         ensures front { AtLeast (front self.new) (front self.old) × AtLeast (front self.new) (front other) }
         ensures own { own self.new ≡ own self.old };
 
+    /// Takes in what another note knows, which keeps what it knew: as a merge of a copy, which a note may do without the
+    /// copy.
+    fn take_in(&mut self, home: &Self::Home, other: &mut Self)
+        requires home { at home.now self.old × at home.now other.old }
+        ensures home { SameHome at self.old self.new × SameHome at other.old other.new }
+        ensures front { AtLeast (front self.new) (front self.old) × AtLeast (front self.new) (front other.old) }
+        ensures other { front other.new ≡ front other.old }
+        ensures own { (own self.new ≡ own self.old) × (own other.new ≡ own other.old) }
+    {
+        self.merge(home, other.copy(home));
+    }
+
     // A caller's own number in its own note's front is the number of its shared calls.
     ghost counted: { (home : Self.Home) (note : Self) → at home note → IsCounted (own note) (front note) };
 }

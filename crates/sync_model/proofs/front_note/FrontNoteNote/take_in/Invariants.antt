@@ -1,5 +1,5 @@
 use Rattle.std.proofs.Common.{ℕ, ◌<◌, ◌≤◌, ◌≡◌, length, get_or, max}
-use Rattle.sync_model.proofs.front_note.FrontNoteNote.merge.Given as goal
+use Rattle.sync_model.proofs.front_note.FrontNoteNote.take_in.Given as goal
 
 abbrev pub invariant-loop-caller : goal.invariant-loop-caller
 invariant-loop-caller l = record {
