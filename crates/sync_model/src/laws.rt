@@ -6,3 +6,5 @@ pub mod layout;
 pub mod logs;
 pub mod maps;
 pub mod names;
+pub mod shared;
+pub mod shared_steps;
