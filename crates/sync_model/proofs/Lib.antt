@@ -6,3 +6,10 @@ mod CallersLemmas
 mod Logs
 mod Journals
 mod Names
+pub mod Histories
+pub mod SharedSteps
+pub mod SharedReads
+pub mod SameHistory
+pub mod SharedRanges
+pub mod SharedCallers
+pub mod SharedEntries

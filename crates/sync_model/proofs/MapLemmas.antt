@@ -87,7 +87,7 @@ module _ {K : Type 0} {R : K → K → Ordering} where
     keyed : (m : FinMap R ℕ) (at key other : K) → Some at ≡ Some key → other ≢ key → other ≢ at
     keyed m at key other e ne is = ne (is ∙ some_is at key e)
 
-    get_apart : (m : FinMap R ℕ) (call : MapCall K) (key other : K) → map_key call ≡ Some key → other ≢ key → get (map_after call m) other ≡ get m other
+    pub get_apart : (m : FinMap R ℕ) (call : MapCall K) (key other : K) → map_key call ≡ Some key → other ≢ key → get (map_after call m) other ≡ get m other
     get_apart m (Load at) key other e ne = refl
     get_apart m (Store at value) key other e ne = inserted_apart m at value other (keyed m at key other e ne)
     get_apart m (LoadOrStore at value) key other e ne = either_apart (is_some (get m at)) m (insert m at value) m other refl (inserted_apart m at value other (keyed m at key other e ne))

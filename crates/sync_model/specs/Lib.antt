@@ -17,4 +17,5 @@ pub mod SequentialMap
 pub mod Shared
 pub mod SharedCalls
 pub mod SharedHistory
+pub mod SharedLaws
 pub mod WordLayout

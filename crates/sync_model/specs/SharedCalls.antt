@@ -1,10 +1,11 @@
 -- The law of a shared history's callers: that the history and the callers' own lists of calls explain each other. A front is a vector clock: for each caller the number of its shared calls that are known.
-use Rattle.std.specs.Prelude.{◌≡◌, ◌≢◌, ℕ, ◌+◌, ◌^◌, ◌<◌, ◌≤◌, Bool, true, cond, List, [], ◌∷◌, ◌++◌, length, Option, Some, None, slice_get, slice_index}
+use Rattle.std.specs.Prelude.{◌≡◌, ◌≢◌, ℕ, ◌+◌, ◌^◌, ◌<◌, ◌≤◌, true, cond, List, [], ◌∷◌, ◌++◌, length, Option, Some, None, slice_get, slice_index}
 use Rattle.sync_model.specs.declared.item.SharedCall.TheVariants.{Begin, Next}
 use Rattle.sync_model.specs.declared.item.SharedReply.TheVariants.{Shown}
 use Rattle.sync_model.specs.declared.item.SharedEntry.{SharedEntry}
 use Rattle.sync_model.specs.declared.item.Item.{Item}
 use Rattle.sync_model.specs.Front.{AtLeast}
+use Rattle.sync_model.specs.Journal.{Begins}
 use Rattle.sync_model.specs.SharedHistory.{Contents, value_at, contents_at, IsReply, is_entry, IsLegal, entries_by, marked_in}
 
 -- how much of the history lies before all that comes after the call: an entry itself is part of it
@@ -15,6 +16,10 @@ bound x = cond x.entry (x.place + 1) x.place
 pub record Knows (calls : ℕ → List Item) (front : List ℕ) (n : ℕ) : Type 0 where
   pub made : (c : ℕ) → slice_index front c ≤ length (calls c)
   pub within : (c j : ℕ) (x : Item) → j < slice_index front c → slice_get (calls c) j ≡ Some x → bound x ≤ n
+
+-- each caller's later list begins with its earlier one
+abbrev pub Grows : (ℕ → List Item) → (ℕ → List Item) → Type 0
+Grows calls new = (c : ℕ) → Begins (new c) (calls c)
 
 -- number i of these calls is a step of the cursor that call number b began, and it showed this pair, or none
 pub record IsStep (items : List Item) (b i : ℕ) (x : Item) (shown : Option (ℕ × ℕ)) : Type 0 where

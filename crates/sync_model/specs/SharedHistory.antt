@@ -1,5 +1,5 @@
 -- The shared history: the calls of all callers on all maps and atomics that are entries, in one order, and what the maps and atomics contain after them.
-use Rattle.std.specs.Prelude.{◌≡◌, ℕ, ◌+◌, Bool, true, false, ◌==◌, cond, List, [], ◌∷◌, ◌++◌, length, map, replicate, take, Option, slice_index_or, slice_set}
+use Rattle.std.specs.Prelude.{◌≡◌, ℕ, ◌+◌, Bool, true, false, ◌==◌, cond, List, [], ◌∷◌, ◌++◌, map, replicate, take, Option, slice_index_or, slice_set}
 use Rattle.std.specs.Ordering.{nat_cmp}
 use Rattle.std.specs.FinMap.{FinMap, empty, get}
 use Rattle.sync_model.specs.declared.atomic_object.AtomicKind.{AtomicKind}

@@ -8,3 +8,5 @@ pub mod maps;
 pub mod names;
 pub mod renaming;
 pub mod replies;
+pub mod shared;
+pub mod shared_steps;

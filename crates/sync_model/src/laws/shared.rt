@@ -1,0 +1,86 @@
+//! What a lawful history of shared maps and atomics says to their users.
+ghost use Rattle.std.specs.Prelude.{◌≡◌, ◌≢◌, ℕ, ◌+◌, ◌^◌, ◌<◌, ◌≤◌, true, false, List, ◌∷◌, ◌++◌, length, Some, None, slice_get, slice_index};
+ghost use Rattle.sync_model.specs.Front.{AtLeast};
+ghost use Rattle.sync_model.specs.SharedHistory.{Contents, value_at, contents_at, is_entry, IsReply};
+ghost use Rattle.sync_model.specs.SharedCalls.{Knows, IsStep, WasSo, Lawful};
+ghost use Rattle.sync_model.specs.SharedLaws.{LeaveKey, LeaveAtomic};
+
+use crate::atomic_object::{AtomicCall, AtomicReply, Number};
+use crate::item::{Item, SharedCall, SharedEntry, SharedReply};
+use crate::map_object::{MapCall, MapReply};
+
+/// A load finds what the last store before its place stored: the last one of this atomic, or of this key, where no entry
+/// between is on it.
+pub fn a_load_finds_the_last_store()
+    ensures map { (start : Contents) (earlier between later : List SharedEntry) (store : SharedEntry) (calls : ℕ → List Item) (c j m key value : ℕ) (load : Item)
+        → Lawful start (earlier ++ store ∷ (between ++ later)) calls → slice_get (calls c) j ≡ Some load
+        → load.place ≡ length (earlier ++ store ∷ between) → load.call ≡ SharedCall.Map m (MapCall.Load key)
+        → store.call ≡ SharedCall.Map m (MapCall.Store key value) → LeaveKey m key between → m < length start.maps
+        → load.reply ≡ SharedReply.Map (MapReply.Found (Some value)) }
+    ensures atomic { (start : Contents) (earlier between later : List SharedEntry) (store : SharedEntry) (calls : ℕ → List Item) (c j a : ℕ) (value : Number) (load : Item)
+        → Lawful start (earlier ++ store ∷ (between ++ later)) calls → slice_get (calls c) j ≡ Some load
+        → load.place ≡ length (earlier ++ store ∷ between) → load.call ≡ SharedCall.Atomic a AtomicCall.Load
+        → store.call ≡ SharedCall.Atomic a (AtomicCall.Store value) → LeaveAtomic a between → a < length start.numbers
+        → load.reply ≡ SharedReply.Atomic (AtomicReply.Held value) }
+{}
+
+/// A caller's calls lie in the history in the caller's own order: an entry lies below the place of each later call of its
+/// caller, and no later call has a lower place.
+pub fn a_callers_calls_are_in_order()
+    ensures below { (start : Contents) (history : List SharedEntry) (calls : ℕ → List Item) (c i j : ℕ) (first second : Item)
+        → Lawful start history calls → i < j → slice_get (calls c) i ≡ Some first → slice_get (calls c) j ≡ Some second
+        → first.entry ≡ true → first.place < second.place }
+    ensures order { (start : Contents) (history : List SharedEntry) (calls : ℕ → List Item) (c i j : ℕ) (first second : Item)
+        → Lawful start history calls → i < j → slice_get (calls c) i ≡ Some first → slice_get (calls c) j ≡ Some second
+        → first.place ≤ second.place }
+{}
+
+/// What a caller knew lies behind it: an entry of another caller lies below the place of each call before which it was known,
+/// and no call that was known has a higher place. So a load finds each store of which its caller was told through a lock, or
+/// a later one.
+pub fn a_call_lies_behind_what_its_caller_knew()
+    ensures below { (start : Contents) (history : List SharedEntry) (calls : ℕ → List Item) (c d i j : ℕ) (known call : Item)
+        → Lawful start history calls → slice_get (calls d) i ≡ Some known → slice_get (calls c) j ≡ Some call → i < slice_index call.front d
+        → known.entry ≡ true → known.place < call.place }
+    ensures order { (start : Contents) (history : List SharedEntry) (calls : ℕ → List Item) (c d i j : ℕ) (known call : Item)
+        → Lawful start history calls → slice_get (calls d) i ≡ Some known → slice_get (calls c) j ≡ Some call → i < slice_index call.front d
+        → known.place ≤ call.place }
+    ensures forgets_nothing { (start : Contents) (history : List SharedEntry) (calls : ℕ → List Item) (c i j : ℕ) (first second : Item)
+        → Lawful start history calls → i < j → slice_get (calls c) i ≡ Some first → slice_get (calls c) j ≡ Some second
+        → AtLeast second.front first.front }
+{}
+
+/// Each entry of the history is a call of its caller, and stands at its place in the history; and each call that says it is
+/// an entry is one.
+pub fn each_entry_is_a_call()
+    ensures call { (start : Contents) (history : List SharedEntry) (calls : ℕ → List Item) (n : ℕ) (entry : SharedEntry)
+        → Lawful start history calls → slice_get history n ≡ Some entry
+        → (j : ℕ) × (x : Item) × (slice_get (calls entry.caller) j ≡ Some x) × (x.entry ≡ true) × (x.place ≡ n) × (x.call ≡ entry.call) × (x.reply ≡ entry.reply) }
+    ensures entry { (start : Contents) (history : List SharedEntry) (calls : ℕ → List Item) (c j : ℕ) (x : Item)
+        → Lawful start history calls → slice_get (calls c) j ≡ Some x → x.entry ≡ true
+        → (entry : SharedEntry) × (slice_get history x.place ≡ Some entry) × (entry.caller ≡ c) × (entry.call ≡ x.call) × (entry.reply ≡ x.reply) }
+    ensures once { (start : Contents) (history : List SharedEntry) (calls : ℕ → List Item) (c d i j : ℕ) (x y : Item)
+        → Lawful start history calls → slice_get (calls c) i ≡ Some x → slice_get (calls d) j ≡ Some y → x.entry ≡ true → y.entry ≡ true
+        → x.place ≡ y.place → (c ≡ d) × (i ≡ j) }
+{}
+
+/// The callers' own lists determine the history. So two histories of one set of lists differ in nothing that a reply shows:
+/// they are equal.
+pub fn the_calls_determine_the_history()
+    ensures { (start other : Contents) (first second : List SharedEntry) (calls : ℕ → List Item)
+        → Lawful start first calls → Lawful other second calls → first ≡ second }
+{}
+
+/// A Range shows no key twice; it shows a key only with a value that the key had after all that its caller knew when it
+/// began, and before the step that shows it; and when it ends it has shown every key that stood all the while.
+pub fn a_range_shows_each_key_once_and_misses_none()
+    ensures once { (start : Contents) (history : List SharedEntry) (calls : ℕ → List Item) (c b i j key value other : ℕ) (x y : Item)
+        → Lawful start history calls → IsStep (calls c) b i x (Some (key, value)) → IsStep (calls c) b j y (Some (key, other)) → i ≡ j }
+    ensures shown { (start : Contents) (history : List SharedEntry) (calls : ℕ → List Item) (c b i m key value : ℕ) (begin x : Item)
+        → Lawful start history calls → slice_get (calls c) b ≡ Some begin → begin.call ≡ SharedCall.Begin m → IsStep (calls c) b i x (Some (key, value))
+        → (n : ℕ) × Knows calls begin.front n × (n ≤ x.place) × (value_at (contents_at start history n) m key ≡ Some value) }
+    ensures misses_none { (start : Contents) (history : List SharedEntry) (calls : ℕ → List Item) (c b i m key : ℕ) (begin x : Item)
+        → Lawful start history calls → slice_get (calls c) b ≡ Some begin → begin.call ≡ SharedCall.Begin m → IsStep (calls c) b i x None → key < 2 ^ 32
+        → ((n : ℕ) → Knows calls begin.front n → n ≤ x.place → value_at (contents_at start history n) m key ≢ None)
+        → (j : ℕ) × (y : Item) × (value : ℕ) × (j < i) × IsStep (calls c) b j y (Some (key, value)) }
+{}
