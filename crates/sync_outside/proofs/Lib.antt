@@ -1,1 +1,2 @@
 mod KnownBytesLemmas
+mod Threads

@@ -3,4 +3,6 @@ pub mod Calls
 pub mod Faults
 pub mod Memory
 pub mod Moments
+pub mod Starts
 pub mod System
+pub mod Told

@@ -12,7 +12,7 @@ pub record File : Type 0 where
   pub name : List ℕ
   pub bytes : List ℕ
 
--- files, the calls made on them, what is left of the open one, and the counts of faults
+-- files, the calls made on them, what is left of the open one, and the counts of faults and of reads
 pub record Files : Type 0 where
   pub listed : List File
   pub calls : Calls
@@ -20,6 +20,7 @@ pub record Files : Type 0 where
   pub listed_faults : ℕ
   pub unlisted_faults : ℕ
   pub read_faults : ℕ
+  pub reads : ℕ
 
 -- the place of the first file with a name
 abbrev pub place_of : List File → List ℕ → Option ℕ
@@ -66,8 +67,8 @@ read_count files room = option_map_or (λ left. min (length left) room) files.le
 abbrev pub after_read : Files → ℕ → Files
 after_read files room =
     if fails_next files.calls
-    then record files { calls = one_more files.calls; read_faults = raised files.read_faults }
-    else record files { calls = one_more files.calls; left = option_map (drop (read_count files room)) files.left }
+    then record files { calls = one_more files.calls; reads = raised files.reads; read_faults = raised files.read_faults }
+    else record files { calls = one_more files.calls; reads = raised files.reads; left = option_map (drop (read_count files room)) files.left }
 
 -- what was taken, the calls made, how many bytes can still be taken, and the count of faults
 pub record Taken : Type 0 where

@@ -9,11 +9,12 @@ use Rattle.sync_outside.specs.Faults.{raised, count_after}
 abbrev pub untold : Option (List ℕ)
 untold = None
 
--- whether one is open, and the counts of faults
+-- whether one is open, and the counts of faults and of reads
 pub record Inputs : Type 0 where
   pub is_open : Bool
   pub open_faults : ℕ
   pub read_faults : ℕ
+  pub reads : ℕ
 
 -- after an open with this result: want of memory is no fault
 abbrev pub after_open : Result (Unit {0}) OpenFault → Inputs → Inputs
@@ -23,7 +24,7 @@ after_open (Err Memory) inputs = record inputs { is_open = false }
 
 -- after a read with this result
 abbrev pub after_read : {A E : Type 0} → Result A E → Inputs → Inputs
-after_read result inputs = record inputs { read_faults = count_after result inputs.read_faults }
+after_read result inputs = record inputs { reads = raised inputs.reads; read_faults = count_after result inputs.read_faults }
 
 -- a writer, and the count of faults
 pub record Output (W : Type 0) : Type 0 where

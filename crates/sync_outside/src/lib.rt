@@ -1,33 +1,50 @@
-//! The outside world as a program meets it: what it reads, what it writes and what time it is. Each
-//! trait says when a call may fail; beside it stand a fake in memory and the real thing.
+//! The outside world as a program meets it: what it reads, what it writes, what time it is, and who starts
+//! its threads. Each trait says when a call may fail; beside it stand a fake and the real thing.
 #![tactic(auto)]
 
 pub mod at;
 pub mod clock;
+mod count;
 mod failing_calls;
 pub mod fault;
-mod fault_count;
+pub mod gate;
+pub mod hold_gate;
 pub mod mem_clock;
 pub mod mem_file;
 pub mod mem_sink;
 pub mod mem_sources;
+pub mod open_gate;
+pub mod refuse_start;
 pub mod sink;
 pub mod sources;
+pub mod spawner;
+pub mod start_counts;
+mod starting;
 pub mod system_clock;
 pub mod system_sources;
+pub mod thread_spawner;
+pub mod work;
 pub mod writer_sink;
 
 pub use at::At;
 pub use clock::Clock;
 pub use fault::{Failed, OpenFault};
+pub use gate::Gate;
+pub use hold_gate::HoldGate;
 pub use mem_clock::MemClock;
 pub use mem_file::MemFile;
 pub use mem_sink::MemSink;
 pub use mem_sources::MemSources;
+pub use open_gate::OpenGate;
+pub use refuse_start::RefuseStart;
 pub use sink::Sink;
 pub use sources::Sources;
+pub use spawner::{Spawner, Started};
+pub use start_counts::StartCounts;
 pub use system_clock::SystemClock;
 pub use system_sources::SystemSources;
+pub use thread_spawner::ThreadSpawner;
+pub use work::Work;
 pub use writer_sink::WriterSink;
 
 #[cfg(test)]

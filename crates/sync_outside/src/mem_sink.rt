@@ -4,9 +4,9 @@ ghost use Rattle.sync_outside.specs.Bytes.{Appends, AppendsFront};
 ghost use Rattle.sync_outside.specs.Faults.{Rose};
 ghost use Rattle.sync_outside.specs.Memory.{Taken, refuses, after_write};
 
+use crate::count::Count;
 use crate::failing_calls::FailingCalls;
 use crate::fault::Failed;
-use crate::fault_count::FaultCount;
 use crate::sink::Sink;
 use std::alloc::{AllocError, Global};
 use std::marker::Model;
@@ -20,7 +20,7 @@ pub struct MemSink {
     bytes: Vec<u8>,
     calls: FailingCalls,
     room: usize,
-    faults: FaultCount,
+    faults: Count,
 }
 
 impl Model for MemSink {
@@ -45,7 +45,7 @@ impl MemSink {
             bytes: Vec::with_capacity(alloc, room)?,
             calls: FailingCalls::new(failing),
             room,
-            faults: FaultCount::new(),
+            faults: Count::new(),
         })
     }
 

@@ -3,13 +3,13 @@ ghost use Rattle.std.specs.Prelude.{◌≡◌, ℕ, List, ◌<◌, ◌≤◌, �
 ghost use Rattle.std.specs.Option.{option_map};
 ghost use Rattle.std.specs.Io.KnownBytes.{IsAtEnd};
 ghost use Rattle.sync_outside.specs.Bytes.{Gives};
-ghost use Rattle.sync_outside.specs.Faults.{Rose};
+ghost use Rattle.sync_outside.specs.Faults.{Rose, raised};
 ghost use Rattle.sync_outside.specs.Calls.{fails_next};
 ghost use Rattle.sync_outside.specs.Memory.{bytes_of, place_of, open_faults, open_result, after_open, read_count, after_read};
 
+use crate::count::Count;
 use crate::failing_calls::FailingCalls;
 use crate::fault::{Failed, OpenFault};
-use crate::fault_count::FaultCount;
 use crate::mem_file::MemFile;
 use crate::sources::Sources;
 use std::marker::Model;
@@ -25,9 +25,10 @@ pub struct MemSources {
     // The place of the open file in the list, and how many of its bytes were read.
     opened: Option<usize>,
     taken: usize,
-    listed_faults: FaultCount,
-    unlisted_faults: FaultCount,
-    read_faults: FaultCount,
+    listed_faults: Count,
+    unlisted_faults: Count,
+    read_faults: Count,
+    reads: Count,
 }
 
 impl Model for MemSources {
@@ -42,6 +43,7 @@ impl Model for MemSources {
       listed_faults = s.listed_faults;
       unlisted_faults = s.unlisted_faults;
       read_faults = s.read_faults;
+      reads = s.reads;
     } };
 
     ghost invariant = { λ s. IsWithin s.files.items s.opened s.taken };
@@ -57,6 +59,7 @@ impl MemSources {
           listed_faults = 0;
           unlisted_faults = 0;
           read_faults = 0;
+          reads = 0;
         } }
     {
         MemSources {
@@ -64,9 +67,10 @@ impl MemSources {
             calls: FailingCalls::new(failing),
             opened: None,
             taken: 0,
-            listed_faults: FaultCount::new(),
-            unlisted_faults: FaultCount::new(),
-            read_faults: FaultCount::new(),
+            listed_faults: Count::new(),
+            unlisted_faults: Count::new(),
+            read_faults: Count::new(),
+            reads: Count::new(),
         }
     }
 
@@ -106,6 +110,8 @@ impl Sources for MemSources {
 
     ghost read_faults = { λ s. s.read_faults };
 
+    ghost reads = { λ s. s.reads };
+
     fn open(&mut self, name: &str) -> Result<(), OpenFault>
         // What every source promises.
         ensures opened { IsTrue (is_some self.new.left) ↔ IsOk result }
@@ -113,6 +119,7 @@ impl Sources for MemSources {
         ensures failed { IsErrOf result OpenFault.Failed → Rose (open_faults self.old name.now) (open_faults self.new name.now) }
         ensures open_faults { (other : List ℕ) → open_faults self.old other ≤ open_faults self.new other }
         ensures read_faults { self.new.read_faults ≡ self.old.read_faults }
+        ensures reads { self.new.reads ≡ self.old.reads }
         ensures contents { (other : List ℕ) → bytes_of self.new.listed other ≡ bytes_of self.old.listed other }
 
         // All that it does.
@@ -144,6 +151,7 @@ impl Sources for MemSources {
         ensures err { OnErr result (self.new.left ≡ self.old.left) }
         ensures failed { OnErr result (Rose self.old.read_faults self.new.read_faults) }
         ensures read_faults { self.old.read_faults ≤ self.new.read_faults }
+        ensures reads { self.new.reads ≡ raised self.old.reads }
         ensures open { is_some self.new.left ≡ is_some self.old.left }
         ensures open_faults { (name : List ℕ) → open_faults self.new name ≡ open_faults self.old name }
         ensures contents { (name : List ℕ) → bytes_of self.new.listed name ≡ bytes_of self.old.listed name }
@@ -153,6 +161,7 @@ impl Sources for MemSources {
         ensures count { IfOk result (λ n. n ≡ read_count self.old (length buf.old)) }
         ensures after { self.new ≡ after_read self.old (length buf.old) }
     {
+        self.reads.raise();
         if self.calls.next_fails() {
             self.read_faults.raise();
             return Err(Failed);

@@ -2,11 +2,11 @@
 ghost use Rattle.std.specs.Prelude.{◌≡◌, ℕ, List, false, length, take, ◌<◌, ◌≤◌, ◌↔◌, IsTrue, IsOk, IfOk, OnOk, OnErr, IsErrOf, is_some};
 ghost use Rattle.std.specs.Io.KnownBytes.{ReadConsumes, IsAtEnd};
 ghost use Rattle.sync_outside.specs.Bytes.{Gives};
-ghost use Rattle.sync_outside.specs.Faults.{Rose};
+ghost use Rattle.sync_outside.specs.Faults.{Rose, raised};
 ghost use Rattle.sync_outside.specs.System.{Inputs, untold, after_open, after_read};
 
+use crate::count::Count;
 use crate::fault::{Failed, OpenFault};
-use crate::fault_count::FaultCount;
 use crate::sources::Sources;
 use std::fs;
 use std::io::{ErrorKind, Read};
@@ -21,8 +21,9 @@ pub const STANDARD_INPUT: &str = "-";
 pub struct SystemSources<'a, R: Files + Input> {
     rt: &'a R,
     opened: Option<Opened<R::File, R::Reader>>,
-    open_faults: FaultCount,
-    read_faults: FaultCount,
+    open_faults: Count,
+    read_faults: Count,
+    reads: Count,
 }
 
 #[derive(Drop)]
@@ -34,19 +35,20 @@ enum Opened<F, I> {
 impl<'a, R: Files + Input> Model for SystemSources<'a, R> {
     ghost Value = { Inputs };
 
-    ghost view = { λ s. record { is_open = is_some s.opened; open_faults = s.open_faults; read_faults = s.read_faults } };
+    ghost view = { λ s. record { is_open = is_some s.opened; open_faults = s.open_faults; read_faults = s.read_faults; reads = s.reads } };
 }
 
 impl<'a, R: Files + Input> SystemSources<'a, R> {
     /// The runtime's files and standard input, none of them open.
     pub fn new(rt: &'a R) -> Self
-        ensures { result ≡ record { is_open = false; open_faults = 0; read_faults = 0 } }
+        ensures { result ≡ record { is_open = false; open_faults = 0; read_faults = 0; reads = 0 } }
     {
         SystemSources {
             rt,
             opened: None,
-            open_faults: FaultCount::new(),
-            read_faults: FaultCount::new(),
+            open_faults: Count::new(),
+            read_faults: Count::new(),
+            reads: Count::new(),
         }
     }
 
@@ -76,13 +78,18 @@ impl<R: Files + Input> Sources for SystemSources<'_, R> {
 
     ghost read_faults = { λ s. s.read_faults };
 
+    ghost reads = { λ s. s.reads };
+
     fn open(&mut self, name: &str) -> Result<(), OpenFault>
-        // What every source promises, of one that tells no bytes.
-        ensures opened { IsTrue self.new.is_open ↔ IsOk result }
+        // Of a source that tells no bytes the trait's clause on them says nothing.
         ensures begins { OnOk result (untold ≡ untold) }
+
+        // What every source promises.
+        ensures opened { IsTrue self.new.is_open ↔ IsOk result }
         ensures failed { IsErrOf result OpenFault.Failed → Rose self.old.open_faults self.new.open_faults }
         ensures open_faults { List ℕ → self.old.open_faults ≤ self.new.open_faults }
         ensures read_faults { self.new.read_faults ≡ self.old.read_faults }
+        ensures reads { self.new.reads ≡ self.old.reads }
 
         // What becomes of its counts.
         ensures after { self.new ≡ after_open result self.old }
@@ -110,18 +117,22 @@ impl<R: Files + Input> Sources for SystemSources<'_, R> {
     fn read(&mut self, buf: &mut [u8]) -> Result<usize, Failed>
         requires { IsTrue self.old.is_open }
 
-        // What every source promises, of one that tells no bytes.
-        ensures fits { IfOk result (λ n. n ≤ length buf.old) }
+        // Of a source that tells no bytes the trait's clauses on them say nothing.
         ensures gives { IfOk result (λ n. Gives untold untold (take n buf.new)) }
         ensures ends { IfOk result (λ n. n ≡ 0 → 0 < length buf.old → IsAtEnd untold) }
         ensures err { OnErr result (untold ≡ untold) }
+
+        // What every source promises.
+        ensures fits { IfOk result (λ n. n ≤ length buf.old) }
         ensures failed { OnErr result (Rose self.old.read_faults self.new.read_faults) }
         ensures read_faults { self.old.read_faults ≤ self.new.read_faults }
+        ensures reads { self.new.reads ≡ raised self.old.reads }
         ensures open_faults { List ℕ → self.new.open_faults ≡ self.old.open_faults }
 
         // What becomes of its counts.
         ensures after { self.new ≡ after_read result self.old }
     {
+        self.reads.raise();
         let read = match &mut self.opened {
             Some(Opened::File(file)) => read_once(file, buf),
             Some(Opened::StandardInput(reader)) => read_once(reader, buf),

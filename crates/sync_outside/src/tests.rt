@@ -2,12 +2,16 @@ ghost use Rattle.std.specs.Prelude.{◌≡◌};
 
 use crate::system_sources::read_once;
 use crate::{
-    At, Clock, Failed, MemClock, MemFile, MemSink, MemSources, OpenFault, Sink, Sources,
-    SystemClock, SystemSources, WriterSink,
+    At, Clock, Failed, Gate, HoldGate, MemClock, MemFile, MemSink, MemSources, OpenFault, OpenGate,
+    RefuseStart, Sink, Sources, Spawner, StartCounts, Started, SystemClock, SystemSources,
+    ThreadSpawner, Work, WriterSink,
 };
 use std::alloc::{AllocError, Global};
 use std::io::{Error, ErrorKind, Read, Write};
+use std::sync::atomic::{AtomicU64, Ordering};
+use std::sync::{OnceLock, Wait};
 use std::test::Fail;
+use std::thread::Threads;
 use std::{env, fs, io, thread};
 use sync_model::FrontNote;
 
@@ -234,5 +238,160 @@ fn a_writer_gets_whole_pieces_by_short_writes(rt: HostRuntime) -> Result<(), Fai
         drop(sink);
         assert_eq!(rt; slow.bytes.as_slice(), b"hellowor".as_slice());
     }
+    Ok(())
+}
+
+// Gives a number to the other worker, and comes to the number that the other one gave.
+#[derive(Drop)]
+struct Exchange<'a> {
+    number: u64,
+    to: &'a OnceLock<u64>,
+    from: &'a OnceLock<u64>,
+}
+
+impl Work for Exchange<'_> {
+    type Out = u64;
+
+    ghost ready = { λ _. Unit {0} };
+
+    ghost gives = { λ _ _. Unit {0} };
+
+    fn work<R: Wait>(self, rt: &R) -> u64 {
+        let _ = self.to.set(rt, self.number);
+        *self.from.wait(rt)
+    }
+}
+
+// What two workers that wait for each other come to, or the numbers of the jobs that came back.
+fn exchanged<P: Spawner, R: Threads + Wait + Sync>(
+    rt: &R,
+    alloc: Global,
+    spawner: &mut P,
+) -> Result<Started<u64, u64>, AllocError> {
+    let (left, right) = (OnceLock::new(), OnceLock::new());
+    let mut jobs = Vec::new(alloc);
+    jobs.push(Exchange {
+        number: 3,
+        to: &left,
+        from: &right,
+    })?;
+    jobs.push(Exchange {
+        number: 5,
+        to: &right,
+        from: &left,
+    })?;
+    match spawner.start_all(rt, alloc, jobs) {
+        Started::Done(results) => Ok(Started::Done(results)),
+        Started::Refused(back) => {
+            let mut numbers = Vec::new(alloc);
+            for job in &back {
+                numbers.push(if job.to.get().is_none() {
+                    job.number
+                } else {
+                    0
+                })?;
+            }
+            Ok(Started::Refused(numbers))
+        }
+        Started::Memory => Ok(Started::Memory),
+    }
+}
+
+// Faults, jobs that were done, and calls in which all were.
+fn numbers_of(counts: &StartCounts) -> (u64, u64, u64) {
+    (counts.faults(), counts.ran(), counts.rounds())
+}
+
+#[test]
+fn jobs_that_wait_for_one_another_are_done_or_all_come_back(rt: HostRuntime) -> Result<(), Fail> {
+    for (refused, counts) in [
+        (0, (0, 2, 1)),
+        (1, (1, 0, 0)),
+        (2, (1, 0, 0)),
+        (3, (0, 2, 1)),
+    ] {
+        let mut spawner = RefuseStart::new(refused);
+        let (is_done, numbers) = match exchanged(&rt, rt.alloc(), &mut spawner)? {
+            Started::Done(results) => (true, results),
+            Started::Refused(back) => (false, back),
+            Started::Memory => return Err(Fail::from(AllocError)),
+        };
+        let want: [u64; 2] = if is_done { [5, 3] } else { [3, 5] };
+        assert_eq!(rt; numbers.as_slice(), want.as_slice(), "{refused}");
+        assert_eq!(rt; numbers_of(spawner.counts()), counts, "{refused}");
+    }
+    let mut machine = ThreadSpawner::new();
+    for round in 1..3_u64 {
+        let started = exchanged(&rt, rt.alloc(), &mut machine)?;
+        assert!(rt; matches!(started, Started::Done(_)), "{round}");
+        assert_eq!(rt; numbers_of(machine.counts()), (0, 2 * round, round));
+    }
+    Ok(())
+}
+
+// Adds 1 to the number that the workers share, between the two passages of a gate.
+#[derive(Drop)]
+struct Passing<'a, G> {
+    worker: u32,
+    gate: &'a G,
+    shared: &'a AtomicU64,
+}
+
+impl<G: Gate + Sync> Work for Passing<'_, G> {
+    type Out = u64;
+
+    ghost ready = { λ _. Unit {0} };
+
+    ghost gives = { λ _ _. Unit {0} };
+
+    fn work<R: Wait>(self, rt: &R) -> u64 {
+        self.gate.before(rt, self.worker, 0);
+        let before = self.shared.fetch_add(1, Ordering::SeqCst);
+        self.gate.after(rt, self.worker, 0);
+        before
+    }
+}
+
+// What two workers found who pass a gate, in the order of the workers.
+fn found<G: Gate + Sync, R: Threads + Wait + Sync>(
+    rt: &R,
+    alloc: Global,
+    gate: &G,
+) -> Result<Vec<u64>, AllocError> {
+    let shared = AtomicU64::new(0);
+    let mut jobs = Vec::new(alloc);
+    for worker in 0..2 {
+        jobs.push(Passing {
+            worker,
+            gate,
+            shared: &shared,
+        })?;
+    }
+    match ThreadSpawner::new().start_all(rt, alloc, jobs) {
+        Started::Done(results) => Ok(results),
+        Started::Refused(_) | Started::Memory => Err(AllocError),
+    }
+}
+
+#[test]
+fn a_gate_holds_one_call_until_the_other_was_answered(rt: HostRuntime) -> Result<(), Fail> {
+    for (held, want) in [(0, [1, 0]), (1, [0, 1])] {
+        let gate = HoldGate::new(held);
+        let got = found(&rt, rt.alloc(), &gate)?;
+        assert_eq!(rt; got.as_slice(), want.as_slice(), "{held}");
+        assert_eq!(rt; (gate.answered(), gate.has_given_up()), (2, false));
+    }
+    let gate = HoldGate::new(2);
+    let free = found(&rt, rt.alloc(), &gate)?;
+    assert!(rt; free.contains(&0) && free.contains(&1));
+    assert_eq!(rt; (gate.answered(), gate.has_given_up()), (2, false));
+    assert_eq!(rt; found(&rt, rt.alloc(), &OpenGate)?.len(), 2);
+
+    let alone = HoldGate::new(0);
+    alone.before(&rt, 1, 0);
+    alone.before(&rt, 0, 1);
+    assert!(rt; !alone.has_given_up());
+    alone.before(&rt, 0, 0);
+    assert!(rt; alone.has_given_up());
     Ok(())
 }

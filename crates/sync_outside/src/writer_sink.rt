@@ -6,8 +6,8 @@ ghost use Rattle.sync_outside.specs.Bytes.{Appends, AppendsFront};
 ghost use Rattle.sync_outside.specs.Faults.{Rose, count_after};
 ghost use Rattle.sync_outside.specs.System.{AppendsSome};
 
+use crate::count::Count;
 use crate::fault::Failed;
-use crate::fault_count::FaultCount;
 use crate::sink::Sink;
 use std::io::{ErrorKind, Write};
 use std::marker::Model;
@@ -16,7 +16,7 @@ use std::marker::Model;
 #[derive(Drop)]
 pub struct WriterSink<W> {
     writer: W,
-    faults: FaultCount,
+    faults: Count,
 }
 
 impl<W> Model for WriterSink<W> {
@@ -34,7 +34,7 @@ impl<W: Write> WriterSink<W> {
     {
         WriterSink {
             writer,
-            faults: FaultCount::new(),
+            faults: Count::new(),
         }
     }
 
@@ -52,9 +52,7 @@ impl<W: Write> Sink for WriterSink<W> {
     ghost faults = { λ s. s.faults };
 
     fn write(&mut self, piece: &[u8]) -> Result<(), Failed>
-        // What every sink promises, of one that tells no bytes.
-        ensures ok { OnOk result (Appends None None piece.now) }
-        ensures err { OnErr result (AppendsFront None None piece.now) }
+        // What every sink promises; of its bytes, which it doesn't tell, nothing is left to say.
         ensures failed { OnErr result (Rose self.old.faults self.new.faults) }
         ensures faults { self.old.faults ≤ self.new.faults }
 
