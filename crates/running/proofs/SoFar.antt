@@ -1,0 +1,175 @@
+-- A call of several stages, from its first on.
+use Rattle.std.proofs.Common.{◌≡◌, ℕ, Bool, true, false, List, [], ◌∷◌, ◌++◌, Option, Result, Ok, Err, refl, sym, ap, subst, ◌∙◌}
+use Rattle.std.specs.List.{AllByRecursion}
+use Rattle.sync_model.specs.declared.misuse.Misuse.{Misuse}
+use Rattle.sync_model.specs.declared.answer.Answer.{Answer}
+use Rattle.sync_model.specs.declared.answer.Answer.TheVariants.{Done, Halted}
+use Rattle.sync_model.specs.declared.journal.Deed.{Deed}
+use Rattle.sync_model.specs.declared.journal.Deed.TheVariants.{Event, Refused}
+use Rattle.ruled_object.specs.declared.pass.Pass.{Pass}
+use Rattle.ruled_object.specs.Cells.{deed_of}
+use Rattle.ruled_object.specs.Growth.{Placed, deeds_of, Grows, MeetsHalt, AddUp, LastTells}
+use Rattle.protocols.specs.declared.step.Step.{Step}
+use Rattle.protocols.specs.declared.step.Step.TheVariants.{Finished, Misused, Waits, Next, Never}
+use Rattle.protocols.specs.Spelling.{CallAnswer, Rest, IsEventOf, Spells, IsTimely, AreTimely}
+use Rattle.protocols.specs.Steps.{IsAt, KeepsResults, GainsAtItsEnd}
+use Rattle.running.specs.Calls.{Did}
+use Rattle.running.specs.Stages.{meant, Made}
+
+module _ {E R : Type 0} where
+  deeds_on : (es : List (Placed E R)) (p : Placed E R) (rest : List (Deed E R)) → deeds_of (es ++ p ∷ []) ++ rest ≡ deeds_of es ++ p.entry.deed ∷ rest
+  deeds_on [] p rest = refl
+  deeds_on (x ∷ es) p rest = ap (λ (ds : List (Deed E R)). x.entry.deed ∷ ds) (deeds_on es p rest)
+
+  deeds_last : (es : List (Placed E R)) (p : Placed E R) → deeds_of (es ++ p ∷ []) ≡ deeds_of es ++ p.entry.deed ∷ []
+  deeds_last [] p = refl
+  deeds_last (x ∷ es) p = ap (λ (ds : List (Deed E R)). x.entry.deed ∷ ds) (deeds_last es p)
+
+  timely_on : (moment : E → Option ℕ) (shows : ℕ → Type 0) (es : List (Placed E R)) (p : Placed E R) → AreTimely moment shows (deeds_of es) → IsTimely moment shows p.entry.deed → AreTimely moment shows (deeds_of (es ++ p ∷ []))
+  timely_on moment shows [] p all here = (here, tt)
+  timely_on moment shows (x ∷ es) p all here = (all.0, timely_on moment shows es p all.1 here)
+
+  timely_deed : (moment : E → Option ℕ) (shows : ℕ → Type 0) (event : E) (answer : Answer R) → IsAt shows (moment event) → IsTimely moment shows (deed_of event answer)
+  timely_deed moment shows event (Done r) at = at
+  timely_deed moment shows event (Halted m) at = at
+
+module _ {A : Type 0} where
+  abbrev done_or : A → Answer A → A
+  done_or other (Done a) = a
+  done_or other (Halted m) = other
+
+module _ {G O : Type 0} where
+  -- the call goes on by this stage
+  abbrev pub IsOn : Step G O → G → Type 0
+  IsOn (Finished outcome) later = ⊥
+  IsOn (Misused misuse) later = ⊥
+  IsOn (Waits stage) later = stage ≡ later
+  IsOn (Next stage) later = stage ≡ later
+  IsOn Never later = ⊥
+
+  -- the call ends, and answers this
+  abbrev pub IsEnd : Answer (Step G O) → CallAnswer O → Type 0
+  IsEnd (Done (Finished outcome)) answer = answer ≡ Done (Ok outcome)
+  IsEnd (Done (Misused misuse)) answer = answer ≡ Done (Err misuse)
+  IsEnd (Done (Waits later)) answer = ⊥
+  IsEnd (Done (Next later)) answer = ⊥
+  IsEnd (Done Never) answer = ⊥
+  IsEnd (Halted misuse) answer = answer ≡ Halted misuse
+
+module _ {G O E R : Type 0} where
+  rest_on : (step : Step G O) (later : G) (rest : List (Deed E R)) (on : G → Type 0) (answer : CallAnswer O) → IsOn step later → on later → Rest step rest on answer
+  rest_on (Finished outcome) later rest on answer is here = absurd is
+  rest_on (Misused misuse) later rest on answer is here = absurd is
+  rest_on (Waits stage) later rest on answer is here = subst on (sym is) here
+  rest_on (Next stage) later rest on answer is here = subst on (sym is) here
+  rest_on Never later rest on answer is here = absurd is
+
+module _ {G O E R : Type 0} where
+  rest_end : (step : Step G O) (none : List (Deed E R)) (on : G → Type 0) (answer : CallAnswer O) → none ≡ [] → IsEnd (Done step) answer → Rest step none on answer
+  rest_end (Finished outcome) none on answer empty is = (empty, is)
+  rest_end (Misused misuse) none on answer empty is = (empty, is)
+  rest_end (Waits stage) none on answer empty is = absurd is
+  rest_end (Next stage) none on answer empty is = absurd is
+  rest_end Never none on answer empty is = absurd is
+
+module _ {G O : Type 0} (gives : G → Result O Misuse → Bool) (gains : G → O → Bool) (due : G) where
+  results_on : (step : Step G O) (later : G) → IsOn step later → KeepsResults gives due step → (given : Result O Misuse) → gives later given ≡ true → gives due given ≡ true
+  results_on (Finished outcome) later is keeps given may = absurd is
+  results_on (Misused misuse) later is keeps given may = absurd is
+  results_on (Waits stage) later is keeps given may = keeps given (ap (λ (g : G). gives g given) is ∙ may)
+  results_on (Next stage) later is keeps given may = keeps given (ap (λ (g : G). gives g given) is ∙ may)
+  results_on Never later is keeps given may = absurd is
+
+  gained_on : (acquired : Bool) (step : Step G O) (later : G) → IsOn step later → GainsAtItsEnd gains due acquired step → (outcome : O) → gains later outcome ≡ gains due outcome
+  gained_on acquired (Finished outcome) later is law o = absurd is
+  gained_on acquired (Misused misuse) later is law o = absurd is
+  gained_on acquired (Waits stage) later is law o = ap (λ (g : G). gains g o) (sym is) ∙ law.1 o
+  gained_on acquired (Next stage) later is law o = ap (λ (g : G). gains g o) (sym is) ∙ law.1 o
+  gained_on acquired Never later is law o = absurd is
+
+module _ {G O E R : Type 0} (event_of : G → ℕ → E) (meaning : G → R → Step G O) where
+  spells_by : (due : G) (event : E) (step : Step G O) (reply : Answer R) (d : Deed E R) (rest : List (Deed E R)) (answer : CallAnswer O) → d ≡ deed_of event reply → Done step ≡ meant meaning due reply → IsEventOf event_of due event
+      → Rest step rest (λ later. Spells event_of meaning later rest answer) answer → Spells event_of meaning due (d ∷ rest) answer
+  spells_by due event step (Done r) d rest answer is means of goes =
+      let same : step ≡ meaning due r = ap (λ (z : Answer (Step G O)). done_or step z) means in
+      subst (λ (x : Deed E R). Spells event_of meaning due (x ∷ rest) answer) (sym is) (of, subst (λ (s : Step G O). Rest s rest (λ later. Spells event_of meaning later rest answer) answer) same goes)
+  spells_by due event step (Halted m) d rest answer is means of goes = cc
+
+  reply_of : (due : G) (step : Step G O) (reply : Answer R) → Done step ≡ meant meaning due reply → (r : R) × (step ≡ meaning due r)
+  reply_of due step (Done r) means = (r, ap (λ (z : Answer (Step G O)). done_or step z) means)
+  reply_of due step (Halted m) means = cc
+
+  ends_by : (due : G) (event : E) (step : Answer (Step G O)) (reply : Answer R) (d : Deed E R) (answer : CallAnswer O) → d ≡ deed_of event reply → step ≡ meant meaning due reply → IsEventOf event_of due event → IsEnd step answer
+      → Spells event_of meaning due (d ∷ []) answer
+  ends_by due event step (Done r) d answer is means of end =
+      subst (λ (x : Deed E R). Spells event_of meaning due (x ∷ []) answer) (sym is) (of, rest_end (meaning due r) [] (λ later. Spells event_of meaning later [] answer) answer refl (subst (λ (s : Answer (Step G O)). IsEnd s answer) means end))
+  ends_by due event step (Halted m) d answer is means of end =
+      let halted : answer ≡ Halted m = subst (λ (s : Answer (Step G O)). IsEnd s answer) means end in
+      subst (λ (x : Deed E R). Spells event_of meaning due (x ∷ []) answer) (sym is) (of, refl, halted)
+
+  meets_end : (due : G) (es : List (Placed E R)) (step : Answer (Step G O)) (reply : Answer R) (answer : CallAnswer O) → step ≡ meant meaning due reply → IsEnd step answer → MeetsHalt es reply → MeetsHalt es answer
+  meets_end due es step (Done r) answer means end meets = done (meaning due r) (subst (λ (s : Answer (Step G O)). IsEnd s answer) means end)
+    where
+      done : (s : Step G O) → IsEnd (Done s) answer → MeetsHalt es answer
+      done (Finished outcome) is = subst (λ (a : CallAnswer O). MeetsHalt es a) (sym is) meets
+      done (Misused misuse) is = subst (λ (a : CallAnswer O). MeetsHalt es a) (sym is) meets
+      done (Waits later) is = absurd is
+      done (Next later) is = absurd is
+      done Never is = absurd is
+  meets_end due es step (Halted m) answer means end meets =
+      let halted : answer ≡ Halted m = subst (λ (s : Answer (Step G O)). IsEnd s answer) means end in
+      subst (λ (a : CallAnswer O). MeetsHalt es a) (sym halted) meets
+
+module _ {S N E R G O : Type 0} (next : S → ℕ → E → S × R) (halts : Bool) (start : S) (event_of : G → ℕ → E) (moment : E → Option ℕ) (meaning : G → R → Step G O) (shows : ℕ → Type 0) (gives : G → Result O Misuse → Bool) (gains : G → O → Bool) where
+  -- What the call has made until a stage is due. Whatever spells the rest from there spells the whole from the first stage.
+  pub record SoFar (stage : G) (old : Pass S N E R) (from : List ℕ) (due : G) (now : Pass S N E R) (to : List ℕ) : Type 0 where
+    pub entries : List (Placed E R)
+    pub grows : Grows next halts start old from entries now to
+    pub spelt : (rest : List (Deed E R)) (answer : CallAnswer O) → Spells event_of meaning due rest answer → Spells event_of meaning stage (deeds_of entries ++ rest) answer
+    pub moments : AreTimely moment shows (deeds_of entries)
+    pub results : (given : Result O Misuse) → gives due given ≡ true → gives stage given ≡ true
+    pub gained : (outcome : O) → gains due outcome ≡ gains stage outcome
+    pub front : to ≡ from
+
+  pub begun : (stage : G) (old : Pass S N E R) (from : List ℕ) → Grows next halts start old from [] old from → SoFar stage old from stage old from
+  begun stage old from grows = record {
+    entries = [];
+    grows = grows;
+    spelt = λ rest answer spelt. spelt;
+    moments = tt;
+    results = λ given may. may;
+    gained = λ outcome. refl;
+    front = refl;
+  }
+
+  -- a stage more
+  pub goes_on : (stage : G) (old mid new : Pass S N E R) (from middle to : List ℕ) (due later : G) (step : Step G O) → AddUp N next halts start → ((r : R) → KeepsResults gives due (meaning due r)) → ((r : R) → (acquired : Bool) × GainsAtItsEnd gains due acquired (meaning due r)) → SoFar stage old from due mid middle
+      → Made next halts start event_of moment meaning shows due mid middle (Done step) new to → IsOn step later → to ≡ middle → SoFar stage old from later new to
+  goes_on stage old mid new from middle to due later step both keeps gained so made is front =
+      let answered = reply_of event_of meaning due step made.answer made.means in
+      let kept = subst (λ (s : Step G O). KeepsResults gives due s) (sym answered.1) (keeps answered.0) in
+      let gain = gained answered.0 in
+      let law = subst (λ (s : Step G O). GainsAtItsEnd gains due gain.0 s) (sym answered.1) gain.1 in
+      record {
+        entries = so.entries ++ made.one ∷ [];
+        grows = both old mid new so.entries (made.one ∷ []) from middle to so.grows made.grows;
+        spelt = λ rest answer spelt.
+            subst (λ (ds : List (Deed E R)). Spells event_of meaning stage ds answer) (sym (deeds_on so.entries made.one rest))
+            (so.spelt (made.one.entry.deed ∷ rest) answer (spells_by event_of meaning due made.event step made.answer made.one.entry.deed rest answer made.deed made.means made.is (rest_on step later rest (λ g. Spells event_of meaning g rest answer) answer is spelt)));
+        moments = timely_on moment shows so.entries made.one so.moments (subst (λ (d : Deed E R). IsTimely moment shows d) (sym made.deed) (timely_deed moment shows made.event made.answer made.timely));
+        results = λ given may. so.results given (results_on gives gains due step later is kept given may);
+        gained = λ outcome. gained_on gives gains due gain.0 step later is law outcome ∙ so.gained outcome;
+        front = front ∙ so.front;
+      }
+
+  -- the last stage
+  pub ends : (stage : G) (old mid new : Pass S N E R) (from middle to : List ℕ) (due : G) (step : Answer (Step G O)) (answer : CallAnswer O) → AddUp N next halts start → LastTells E R → SoFar stage old from due mid middle
+      → Made next halts start event_of moment meaning shows due mid middle step new to → IsEnd step answer → Did next halts start (λ ds a. Spells event_of meaning stage ds a) (λ ds. AreTimely moment shows ds) old from answer new to
+  ends stage old mid new from middle to due step answer both tells so made end = record {
+    entries = so.entries ++ made.one ∷ [];
+    grows = both old mid new so.entries (made.one ∷ []) from middle to so.grows made.grows;
+    spelt = subst (λ (ds : List (Deed E R)). Spells event_of meaning stage ds answer) (sym (deeds_last so.entries made.one))
+        (so.spelt (made.one.entry.deed ∷ []) answer (ends_by event_of meaning due made.event step made.answer made.one.entry.deed answer made.deed made.means made.is end));
+    halted = meets_end event_of meaning due (so.entries ++ made.one ∷ []) step made.answer answer made.means end (tells so.entries made.one made.answer made.halted);
+    moments = timely_on moment shows so.entries made.one so.moments (subst (λ (d : Deed E R). IsTimely moment shows d) (sym made.deed) (timely_deed moment shows made.event made.answer made.timely));
+  }

@@ -1,0 +1,4 @@
+pub mod Between
+pub mod Calls
+pub mod Fresh
+pub mod Stages

@@ -1,0 +1,87 @@
+//! Running a call, stage by stage.
+ghost use Rattle.std.specs.Prelude.{◌≡◌, ◌<◌, true, false};
+ghost use Rattle.ruled_object.specs.Growth.{IsLawful, KeepsNote};
+ghost use Rattle.ruled_object.specs.Passes.{own_by, left_of, callers_of, start_of, IsHomeOf, IsOneLess, IsPassOf, SamePass};
+ghost use Rattle.ruled_object.specs.Standing.{stand_by};
+ghost use Rattle.protocols.specs.Spelling.{Spells, AreTimely};
+ghost use Rattle.running.specs.Calls.{Did, IsGiven, left_in, has_gained};
+
+use crate::stage::make;
+use protocols::{Protocol, Step};
+use ruled_object::laws::{growth, notes_are_kept};
+use ruled_object::{Object, PassOf};
+use std::sync::Wait;
+use sync_model::{Answer, Misuse, Note};
+use sync_outside::{At, Clock};
+
+/// Makes the call whose first stage this is, and takes one off the calls that are left: see `call_within`.
+pub fn call<P: Protocol, N: Note, C: Clock, R: Wait>(
+    object: &Object<P, N>,
+    rt: &R,
+    at: &At<N, C>,
+    pass: &mut PassOf<P, N>,
+    note: &mut N,
+    stage: P::Stage,
+) -> Answer<Result<P::Outcome, Misuse>>
+    requires begun { P.begins (callers_of object.now) (start_of object.now) }
+    requires pass { IsPassOf object.now pass.old × (0 < left_of pass.old) }
+    requires allowed { P.allows (start_of object.now) (stand_by P.out P.stands (own_by pass.old)) stage ≡ true }
+    requires home { IsHomeOf N.at object.now at.now.home.now × N.at at.now.home.now note.old }
+    ensures pass { IsPassOf object.now pass.new × IsOneLess pass.old pass.new }
+    ensures stands { stand_by P.out P.stands (own_by pass.new) ≡ left_in P.out P.left result }
+    ensures note { KeepsNote N.at N.own N.front note.old note.new }
+    ensures events { Did P.next P.HALTS (start_of object.now) (Spells P.event P.meaning stage) (AreTimely P.moment (C.shows at.now.clock.now)) pass.old (N.front note.old) result pass.new (N.front note.new) }
+    ensures gives { IsGiven (P.gives stage) result }
+    ensures no_edge { has_gained (P.gains stage) result ≡ false → N.front note.new ≡ N.front note.old }
+    ensures journal { IsLawful P.next P.HALTS P.frees P.takes (start_of object.now) pass.new }
+{
+    growth::<P, N>();
+    object.spend(pass);
+    call_within(object, rt, at, pass, note, stage)
+}
+
+/// Makes the call whose first stage this is, as part of a longer one: it takes nothing off the calls that are left. It makes
+/// one stage after the other, as the protocol says. Where the caller is to wait it sleeps until it is woken; nobody may have
+/// told it to go on, and then it sleeps again.
+///
+/// It answers `Halted` exactly where the object was halted before the last of its events. Where it gains nothing, and where
+/// it is a misuse or halted, its caller's note knows what it knew.
+pub fn call_within<P: Protocol, N: Note, C: Clock, R: Wait>(
+    object: &Object<P, N>,
+    rt: &R,
+    at: &At<N, C>,
+    pass: &mut PassOf<P, N>,
+    note: &mut N,
+    stage: P::Stage,
+) -> Answer<Result<P::Outcome, Misuse>>
+    requires begun { P.begins (callers_of object.now) (start_of object.now) }
+    requires pass { IsPassOf object.now pass.old }
+    requires allowed { P.allows (start_of object.now) (stand_by P.out P.stands (own_by pass.old)) stage ≡ true }
+    requires home { IsHomeOf N.at object.now at.now.home.now × N.at at.now.home.now note.old }
+    ensures pass { IsPassOf object.now pass.new × SamePass pass.old pass.new }
+    ensures stands { stand_by P.out P.stands (own_by pass.new) ≡ left_in P.out P.left result }
+    ensures note { KeepsNote N.at N.own N.front note.old note.new }
+    ensures events { Did P.next P.HALTS (start_of object.now) (Spells P.event P.meaning stage) (AreTimely P.moment (C.shows at.now.clock.now)) pass.old (N.front note.old) result pass.new (N.front note.new) }
+    ensures gives { IsGiven (P.gives stage) result }
+    ensures no_edge { has_gained (P.gains stage) result ≡ false → N.front note.new ≡ N.front note.old }
+    ensures journal { IsLawful P.next P.HALTS P.frees P.takes (start_of object.now) pass.new }
+{
+    P::laws();
+    growth::<P, N>();
+    notes_are_kept::<N>();
+    let mut due = stage;
+    for _ in rt.forever() {
+        match make(object, rt, at, pass, note, due) {
+            Answer::Halted(misuse) => return Answer::Halted(misuse),
+            Answer::Done(Step::Finished(outcome)) => return Answer::Done(Ok(outcome)),
+            Answer::Done(Step::Misused(misuse)) => return Answer::Done(Err(misuse)),
+            Answer::Done(Step::Waits(later)) => {
+                object.park(rt, pass);
+                due = later;
+            }
+            Answer::Done(Step::Next(later)) => due = later,
+            Answer::Done(Step::Never) => unreachable!(),
+        }
+    }
+    unreachable!()
+}
