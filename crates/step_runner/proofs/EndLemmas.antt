@@ -2,17 +2,21 @@
 use Rattle.std.proofs.Common.{◌≡◌, ℕ, zero, suc, ◌+◌, ◌<◌, Bool, true, false, [], ◌++◌, map, length, refl, sym, ap, ◌∙◌, subst, arith}
 use Rattle.std.specs.Prelude.{if◌then◌else◌}
 use Rattle.sync_model.specs.declared.misuse.Misuse.{Misuse}
+use Rattle.sync_model.specs.declared.outcome.Outcome.{Outcome}
+use Rattle.sync_model.specs.Outcome.{with_keys_renamed}
+use Rattle.workload.specs.Keys.{keys_in, key_number}
 use Rattle.workload.specs.Plan.{Plan}
 use Rattle.step_runner.specs.declared.step.Step.{Step}
 use Rattle.step_runner.specs.declared.step.Step.TheVariants as steps
-use Rattle.step_runner.specs.declared.outcome.Ending.{Ending}
-use Rattle.step_runner.specs.declared.outcome.Ending.TheVariants as endings
-use Rattle.step_runner.specs.declared.outcome.Report.{Report}
-use Rattle.step_runner.specs.declared.outcome.Outcome.TheVariants as outcomes
+use Rattle.sync_model.specs.declared.outcome.Ending.{Ending}
+use Rattle.sync_model.specs.declared.outcome.Ending.TheVariants as endings
+use Rattle.sync_model.specs.declared.outcome.Report.{Report}
+use Rattle.sync_model.specs.declared.outcome.Outcome.TheVariants as outcomes
 use Rattle.step_runner.specs.LeftToDo.{left_to_do}
-use Rattle.step_runner.specs.Outcomes.{rounds, is_misused, ComesTo, IsDone, IsMisused, IsDeadlocked}
+use Rattle.step_runner.specs.Outcomes.{rounds, is_misused, Reaches, IsDone, IsMisused, IsDeadlocked, StepsTo}
 use Rattle.step_runner.specs.State.{State, start, IsStateOf}
 use Rattle.step_runner.specs.Turns.{with_event, and_then, items_of, round, has_ended, behind_round, rounds_of, all_rounds, behind_schedule, whole_run, outcome_of, turns}
+use Rattle.step_runner.proofs.Numbered.{same_numbers}
 use Rattle.step_runner.proofs.TurnLemmas.{true_false}
 use Rattle.step_runner.proofs.RunLemmas.{items_append, GoesOn, UsesUp, items_valid}
 use Rattle.step_runner.proofs.RoundLemmas.{where_ended, where_going, round_same, round_less, round_of, going_before, all_replied}
@@ -62,31 +66,31 @@ module _ (plan : Plan) (goes_on : GoesOn plan) (uses : UsesUp plan) where
   comes_then s steps.Made goes = refl
   comes_then s (steps.Misused misuse) goes = misused_false goes
 
-  comes_to : (s : State) → IsStateOf plan (start plan) → ComesTo plan s → whole_run plan ≡ all_rounds plan s
+  comes_to : (s : State) → IsStateOf plan (start plan) → Reaches plan s → whole_run plan ≡ all_rounds plan s
   comes_to s of comes = sym (behind_all comes.count of) ∙ ap (behind_schedule plan) comes.is ∙ comes_then s comes.step comes.goes_on
 
-  pub state_of : (s : State) → IsStateOf plan (start plan) → ComesTo plan s → IsStateOf plan s
+  pub state_of : (s : State) → IsStateOf plan (start plan) → Reaches plan s → IsStateOf plan s
   state_of s of comes = subst (λ (x : State × Step). IsStateOf plan x.0) comes.is (items_valid plan goes_on (plan.schedule ++ rounds comes.count plan.workers) (start plan) of)
 
   pub done_is : IsStateOf plan (start plan) → (report : Report) → IsDone plan report → turns plan ≡ outcomes.Done report
   done_is of report done =
-      ap (λ (x : State × Ending). outcome_of x) (comes_to done.state of done.comes ∙ where_ended plan goes_on uses done.state (state_of done.state of done.comes) done.ended)
+      ap (λ (x : State × Ending). outcome_of plan x) (comes_to done.state of done.reached ∙ where_ended plan goes_on uses done.state (state_of done.state of done.reached) done.ended)
       ∙ ap (λ r. outcomes.Done r) (sym done.leaves)
 
   pub misused_is : IsStateOf plan (start plan) → (report : Report) (misuse : Misuse) → IsMisused plan report misuse → turns plan ≡ outcomes.Misused report misuse
   misused_is of report misuse misused =
-      ap (λ (x : State × Ending). outcome_of x) (sym (behind_all misused.count of) ∙ ap (behind_schedule plan) misused.is)
+      ap (λ (x : State × Ending). outcome_of plan x) (sym (behind_all misused.count of) ∙ ap (behind_schedule plan) misused.is)
       ∙ ap (λ r. outcomes.Misused r misuse) (sym misused.leaves)
 
   pub deadlocked_is : IsStateOf plan (start plan) → (report : Report) → IsDeadlocked plan report → turns plan ≡ outcomes.Deadlocked report
   deadlocked_is of report dead =
-      ap (λ (x : State × Ending). outcome_of x)
-      (comes_to dead.state of dead.comes ∙ where_going plan goes_on uses dead.state (dead.state, steps.Still) (state_of dead.state of dead.comes) dead.going dead.still)
+      ap (λ (x : State × Ending). outcome_of plan x)
+      (comes_to dead.state of dead.reached ∙ where_going plan goes_on uses dead.state (dead.state, steps.Still) (state_of dead.state of dead.reached) dead.going dead.still)
       ∙ ap (λ r. outcomes.Deadlocked r) (sym dead.leaves)
 
   pub done_replied : IsStateOf plan (start plan) → (report : Report) → IsDone plan report → map length report.replies ≡ map length plan.scripts
   done_replied of report done =
-      ap (λ (r : Report). map length r.replies) done.leaves ∙ all_replied plan done.state (state_of done.state of done.comes) done.ended
+      ap (λ (r : Report). map length r.replies) done.leaves ∙ same_numbers (with_keys_renamed (key_number (keys_in plan.scripts))) done.state.replies ∙ all_replied plan done.state (state_of done.state of done.reached) done.ended
 
   -- ---- and back
 
@@ -166,10 +170,10 @@ module _ (plan : Plan) (goes_on : GoesOn plan) (uses : UsesUp plan) where
   pub run_ends : IsStateOf plan (start plan) → EndsAs whole (whole_run plan)
   run_ends of = schedule_ends (items_of plan plan.schedule (start plan)) refl (items_valid plan goes_on plan.schedule (start plan) of)
 
-  done_by : (x : State × Ending) → EndsAs whole x → (report : Report) → outcome_of x ≡ outcomes.Done report → IsDone plan report
+  done_by : (x : State × Ending) → EndsAs whole x → (report : Report) → outcome_of plan x ≡ outcomes.Done report → IsDone plan report
   done_by (s, endings.Done) ends report is = record {
     state = s;
-    comes = record { count = ends.0; step = ends.1; is = ends.2; goes_on = ends.3 };
+    reached = record { count = ends.0; step = ends.1; is = ends.2; goes_on = ends.3 };
     ended = ends.4;
     leaves = cc;
   }
@@ -179,7 +183,7 @@ module _ (plan : Plan) (goes_on : GoesOn plan) (uses : UsesUp plan) where
   pub is_done : IsStateOf plan (start plan) → (report : Report) → turns plan ≡ outcomes.Done report → IsDone plan report
   is_done of report is = done_by (whole_run plan) (run_ends of) report is
 
-  misused_by : (x : State × Ending) → EndsAs whole x → (report : Report) (misuse : Misuse) → outcome_of x ≡ outcomes.Misused report misuse → IsMisused plan report misuse
+  misused_by : (x : State × Ending) → EndsAs whole x → (report : Report) (misuse : Misuse) → outcome_of plan x ≡ outcomes.Misused report misuse → IsMisused plan report misuse
   misused_by (s, endings.Done) ends report misuse is = absurd cc
   misused_by (s, endings.Misused other) ends report misuse is =
       let same : other ≡ misuse = cc in
@@ -189,12 +193,12 @@ module _ (plan : Plan) (goes_on : GoesOn plan) (uses : UsesUp plan) where
   pub is_misused_by : IsStateOf plan (start plan) → (report : Report) (misuse : Misuse) → turns plan ≡ outcomes.Misused report misuse → IsMisused plan report misuse
   is_misused_by of report misuse is = misused_by (whole_run plan) (run_ends of) report misuse is
 
-  deadlocked_by : (x : State × Ending) → EndsAs whole x → (report : Report) → outcome_of x ≡ outcomes.Deadlocked report → IsDeadlocked plan report
+  deadlocked_by : (x : State × Ending) → EndsAs whole x → (report : Report) → outcome_of plan x ≡ outcomes.Deadlocked report → IsDeadlocked plan report
   deadlocked_by (s, endings.Done) ends report is = absurd cc
   deadlocked_by (s, endings.Misused misuse) ends report is = absurd cc
   deadlocked_by (s, endings.Deadlocked) ends report is = record {
     state = s;
-    comes = record { count = ends.0; step = ends.1; is = ends.2; goes_on = ends.3 };
+    reached = record { count = ends.0; step = ends.1; is = ends.2; goes_on = ends.3 };
     going = ends.4;
     still = ends.5;
     leaves = cc;
@@ -202,3 +206,15 @@ module _ (plan : Plan) (goes_on : GoesOn plan) (uses : UsesUp plan) where
 
   pub is_deadlocked : IsStateOf plan (start plan) → (report : Report) → turns plan ≡ outcomes.Deadlocked report → IsDeadlocked plan report
   is_deadlocked of report is = deadlocked_by (whole_run plan) (run_ends of) report is
+
+  -- ---- the same of any outcome
+
+  pub steps_is : IsStateOf plan (start plan) → (outcome : Outcome) → StepsTo plan outcome → turns plan ≡ outcome
+  steps_is of (outcomes.Done report) comes = done_is of report comes
+  steps_is of (outcomes.Misused report misuse) comes = misused_is of report misuse comes
+  steps_is of (outcomes.Deadlocked report) comes = deadlocked_is of report comes
+
+  pub is_steps : IsStateOf plan (start plan) → (outcome : Outcome) → turns plan ≡ outcome → StepsTo plan outcome
+  is_steps of (outcomes.Done report) is = is_done of report is
+  is_steps of (outcomes.Misused report misuse) is = is_misused_by of report misuse is
+  is_steps of (outcomes.Deadlocked report) is = is_deadlocked of report is

@@ -1,7 +1,7 @@
 mod EndLemmas
 mod MadeLemmas
 mod OneTurnCalls
-mod Puts
+mod Numbered
 mod PutsLeft
 mod RoundLemmas
 mod RunKeys

@@ -51,7 +51,7 @@ made plan worker s = take (length (get_or s.replies worker [])) (get_or plan.scr
 none_completed : (plan : Plan) (worker : ℕ) (s : State) → (turn_of plan worker s).0.replies ≡ s.replies → completed_by plan worker s ≡ []
 none_completed plan worker s same =
     let n = length (get_or s.replies worker []) in
-    let count : length (get_or (turn_of plan worker s).0.replies worker []) ≡ n = ap (λ (replies : List (List Reply)). length (get_or replies worker [])) same in
+    let count : length (get_or (turn_of plan worker s).0.replies worker []) ≡ n = ap (λ (replies : List (List (Reply (List ℕ)))). length (get_or replies worker [])) same in
     let no : nat_lt n (length (get_or (turn_of plan worker s).0.replies worker [])) ≡ false = not_more n _ (omega (arith, count)) in
     ap (λ b. if b then option_to_list (next_call plan worker s) else []) no
   where
@@ -86,14 +86,14 @@ made_turn plan worker turn s more true e c =
     ∙ ap (λ v. made plan v (turn_of plan turn s).0 ++ calls_of worker more) same
 made_turn plan worker turn s more false e c =
     let apart : worker ≢ turn = λ (same : worker ≡ turn). eqb-false turn worker e (sym same) in
-    ap (λ (done : List Reply). take (length done) (get_or plan.scripts worker []) ++ calls_of worker more) (sym (c.others worker apart))
+    ap (λ (done : List (Reply (List ℕ))). take (length done) (get_or plan.scripts worker []) ++ calls_of worker more) (sym (c.others worker apart))
 
 made_next : (plan : Plan) (worker turn : ℕ) (s : State) (more : List (ℕ × Call)) → IsStateOf plan s
     → made plan worker s ++ calls_of worker (map (λ (call : Call). (turn, call)) (completed_by plan turn s) ++ more) ≡ made plan worker (turn_of plan turn s).0 ++ calls_of worker more
 made_next plan worker turn s more of = elim (turn_replies plan turn s of) [
   | inl same ↦
       ap (λ (cs : List Call). made plan worker s ++ calls_of worker (map (λ (call : Call). (turn, call)) cs ++ more)) (none_completed plan turn s same)
-      ∙ ap (λ (replies : List (List Reply)). take (length (get_or replies worker [])) (get_or plan.scripts worker []) ++ calls_of worker more) (sym same)
+      ∙ ap (λ (replies : List (List (Reply (List ℕ)))). take (length (get_or replies worker [])) (get_or plan.scripts worker []) ++ calls_of worker more) (sym same)
   | inr c ↦
       ap (λ (cs : List Call). made plan worker s ++ calls_of worker (map (λ (call : Call). (turn, call)) cs ++ more)) (one_completed plan turn s c)
       ∙ made_turn plan worker turn s more (eqb turn worker) refl c

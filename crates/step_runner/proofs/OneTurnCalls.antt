@@ -13,11 +13,11 @@ use Rattle.step_turns.specs.Ready.{IsReady}
 use Rattle.step_turns.specs.Turns.{turn_at}
 use Rattle.step_runner.specs.declared.step.Step.{Step}
 use Rattle.step_runner.specs.declared.step.Step.TheVariants as steps
-use Rattle.step_runner.specs.declared.outcome.Report.{Report}
-use Rattle.step_runner.specs.declared.outcome.Outcome.{Outcome}
-use Rattle.step_runner.specs.declared.outcome.Outcome.TheVariants as outcomes
+use Rattle.sync_model.specs.declared.outcome.Report.{Report}
+use Rattle.sync_model.specs.declared.outcome.Outcome.{Outcome}
+use Rattle.sync_model.specs.declared.outcome.Outcome.TheVariants as outcomes
 use Rattle.step_turns.specs.declared.object_state.ObjectState.{ObjectState}
-use Rattle.step_runner.specs.Outcomes.{rounds, is_misused}
+use Rattle.step_runner.specs.Outcomes.{rounds, is_misused, StepsTo}
 use Rattle.step_runner.specs.State.{State, start, IsStateOf}
 use Rattle.step_runner.specs.Turns.{next_call, turn_of, item_of, with_event, and_then, items_of, turns}
 use Rattle.step_runner.proofs.TurnLemmas.{true_false, both_true, all_get, all_at, Takes, takes_by, turn_cases, StepUses}
@@ -103,15 +103,15 @@ still_ended completes plan uses all (worker ∷ workers) s t of is =
 -- ---- the run
 
 -- a run of such scripts is no misuse and no deadlock
-done_by : Completing → (plan : Plan) → GoesOn plan → UsesUp plan → AllTakeOneTurn plan → IsStateOf plan (start plan) → (x : Outcome) → turns plan ≡ x → (report : Report) × (turns plan ≡ outcomes.Done report) × (map length report.replies ≡ map length plan.scripts)
-done_by completes plan goes_on uses all of (outcomes.Done report) is = (report, is, done_replied plan goes_on uses of report (is_done plan goes_on uses of report is))
+done_by : Completing → (plan : Plan) → GoesOn plan → UsesUp plan → AllTakeOneTurn plan → IsStateOf plan (start plan) → (x : Outcome) → turns plan ≡ x → (report : Report) × StepsTo plan (outcomes.Done report) × (map length report.replies ≡ map length plan.scripts)
+done_by completes plan goes_on uses all of (outcomes.Done report) is = (report, is_done plan goes_on uses of report is, done_replied plan goes_on uses of report (is_done plan goes_on uses of report is))
 done_by completes plan goes_on uses all of (outcomes.Misused report misuse) is =
     let misused = is_misused_by plan goes_on uses of report misuse is in
     absurd (true_false (ap (λ (y : State × Step). is_misused y.1) (sym misused.is) ∙ items_go completes plan goes_on all (plan.schedule ++ rounds misused.count plan.workers) (start plan) of))
 done_by completes plan goes_on uses all of (outcomes.Deadlocked report) is =
     let dead = is_deadlocked plan goes_on uses of report is in
-    let valid = state_of plan goes_on uses dead.state of dead.comes in
+    let valid = state_of plan goes_on uses dead.state of dead.reached in
     absurd (true_false (sym (still_ended completes plan uses all (range_with_len 0 plan.workers) dead.state dead.state valid dead.still) ∙ dead.going))
 
-pub one_turn_calls_end : Completing → (plan : Plan) → GoesOn plan → UsesUp plan → AllTakeOneTurn plan → IsStateOf plan (start plan) → (report : Report) × (turns plan ≡ outcomes.Done report) × (map length report.replies ≡ map length plan.scripts)
+pub one_turn_calls_end : Completing → (plan : Plan) → GoesOn plan → UsesUp plan → AllTakeOneTurn plan → IsStateOf plan (start plan) → (report : Report) × StepsTo plan (outcomes.Done report) × (map length report.replies ≡ map length plan.scripts)
 one_turn_calls_end completes plan goes_on uses all of = done_by completes plan goes_on uses all of (turns plan) refl

@@ -20,9 +20,10 @@ use Rattle.step_turns.specs.declared.answer.Answer.TheVariants as answers
 use Rattle.step_turns.specs.declared.object_state.ObjectState.{ObjectState}
 use Rattle.step_turns.specs.declared.object_state.ObjectState.TheVariants as states
 use Rattle.step_turns.specs.Objects.{new_object, EachAt}
-use Rattle.step_turns.specs.PoolRoom.{is_put_at, put_of, HasRoomFor, left_behind}
+use Rattle.step_turns.specs.PoolRoom.{put_of, HasRoomFor, left_behind}
 use Rattle.step_turns.specs.Turns.{turn_at}
-use Rattle.step_runner.specs.State.{State, puts_at, start, with_reply, IsStateOf}
+use Rattle.workload.specs.Puts.{is_put_at, puts_at}
+use Rattle.step_runner.specs.State.{State, start, with_reply, IsStateOf}
 use Rattle.step_runner.specs.Turns.{next_call, turn_of, after_items}
 use Rattle.step_runner.proofs.StartLemmas.{each_start}
 use Rattle.step_runner.proofs.TurnLemmas.{Takes, moved, ready, takes_by, turn_cases}
@@ -42,7 +43,7 @@ abbrev pub left_in : ℕ → List Call → ℕ → ℕ
 left_in place script done = count_by (is_put_at place) (drop done script)
 
 -- those of all scripts, behind these replies
-abbrev pub puts_left : ℕ → List (List Call) → List (List Reply) → ℕ
+abbrev pub puts_left : ℕ → List (List Call) → List (List (Reply (List ℕ))) → ℕ
 puts_left place [] replies = 0
 puts_left place (script ∷ scripts) [] = left_in place script 0 + puts_left place scripts []
 puts_left place (script ∷ scripts) (done ∷ replies) = left_in place script (length done) + puts_left place scripts replies
@@ -55,7 +56,7 @@ left_next place (first ∷ script) zero call is =
 left_next place (first ∷ script) (suc n) call is = left_next place script n call is
 
 -- one call more is completed
-one_put_fewer : (place : ℕ) (scripts : List (List Call)) (replies : List (List Reply)) (worker : ℕ) (call : Call) (reply : Reply) → worker < length replies
+one_put_fewer : (place : ℕ) (scripts : List (List Call)) (replies : List (List (Reply (List ℕ)))) (worker : ℕ) (call : Call) (reply : Reply (List ℕ)) → worker < length replies
     → slice_get (get_or scripts worker []) (length (get_or replies worker [])) ≡ Some call
     → puts_left place scripts (set replies worker (get_or replies worker [] ++ reply ∷ [])) + put_of place call ≡ puts_left place scripts replies
 one_put_fewer place [] replies worker call reply here is = absurd cc
@@ -66,7 +67,7 @@ one_put_fewer place (script ∷ scripts) (done ∷ replies) zero call reply here
 one_put_fewer place (script ∷ scripts) (done ∷ replies) (suc worker) call reply here is =
     omega (arith, one_put_fewer place scripts replies worker call reply (omega (arith, here)) is)
 
-none_made : (place : ℕ) (scripts : List (List Call)) (n : ℕ) → puts_left place scripts (replicate {A = List Reply} n []) ≡ puts_at place scripts
+none_made : (place : ℕ) (scripts : List (List Call)) (n : ℕ) → puts_left place scripts (replicate {A = List (Reply (List ℕ))} n []) ≡ puts_at place scripts
 none_made place [] n = refl
 none_made place (script ∷ scripts) zero = omega (arith, none_made place scripts zero, sum_by-cons (count_by (is_put_at place)) script scripts)
 none_made place (script ∷ scripts) (suc n) = omega (arith, none_made place scripts n, sum_by-cons (count_by (is_put_at place)) script scripts)
@@ -96,7 +97,7 @@ takes_fits rooms plan worker s call objects answer has takes =
     takes_by (λ x. AllFit (λ place. left_behind x.1 (put_of place call) (left_at plan s place)) x.0) plan worker s call objects answer has.of takes
     (λ r. rooms.goes_on worker s.moment (left_at plan s) call s.objects (some_left plan worker s call (object_of call) has.of takes.below takes.next) has.fits)
 
-completed_fits : Rooms → (plan : Plan) (worker : ℕ) (s : State) (call : Call) (objects : List ObjectState) (reply : Reply) → HasRoom plan s → Takes plan worker s call objects (answers.Completed reply)
+completed_fits : Rooms → (plan : Plan) (worker : ℕ) (s : State) (call : Call) (objects : List ObjectState) (reply : Reply (List ℕ)) → HasRoom plan s → Takes plan worker s call objects (answers.Completed reply)
     → AllFit (left_at plan (with_reply worker reply (moved objects s))) objects
 completed_fits rooms plan worker s call objects reply has takes place object at =
     let fewer = one_put_fewer place plan.scripts s.replies worker call reply (omega (arith, has.of.workers, takes.below)) takes.next in

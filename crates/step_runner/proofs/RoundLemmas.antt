@@ -12,8 +12,8 @@ use Rattle.workload.specs.declared.turn.Turn.TheVariants as items
 use Rattle.workload.specs.Plan.{Plan}
 use Rattle.step_runner.specs.declared.step.Step.{Step}
 use Rattle.step_runner.specs.declared.step.Step.TheVariants as steps
-use Rattle.step_runner.specs.declared.outcome.Ending.{Ending}
-use Rattle.step_runner.specs.declared.outcome.Ending.TheVariants as endings
+use Rattle.sync_model.specs.declared.outcome.Ending.{Ending}
+use Rattle.sync_model.specs.declared.outcome.Ending.TheVariants as endings
 use Rattle.step_runner.specs.LeftToDo.{left_to_do}
 use Rattle.step_runner.specs.State.{State, with_moment, IsStateOf}
 use Rattle.step_turns.specs.Turns.{turn_at}
@@ -176,7 +176,7 @@ going_before plan s t step of is some = elim (has_ended plan s) as (λ b. has_en
 ] refl
 
 -- replies for all calls where every script has ended
-same_lengths : (scripts : List (List Call)) (replies : List (List Reply)) → length replies ≡ length scripts → ((k : ℕ) → length (get_or replies k []) ≡ length (get_or scripts k [])) → map length replies ≡ map length scripts
+same_lengths : (scripts : List (List Call)) (replies : List (List (Reply (List ℕ)))) → length replies ≡ length scripts → ((k : ℕ) → length (get_or replies k []) ≡ length (get_or scripts k [])) → map length replies ≡ map length scripts
 same_lengths [] [] e each = refl
 same_lengths [] (r ∷ rs) e each = absurd (omega arith)
 same_lengths (c ∷ cs) [] e each = absurd (omega arith)

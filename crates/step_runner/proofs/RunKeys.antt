@@ -18,16 +18,20 @@ use Rattle.step_turns.specs.declared.answer.Answer.TheVariants as answers
 use Rattle.step_turns.specs.declared.object_state.ObjectState.{ObjectState}
 use Rattle.step_turns.specs.MapKeys.{AreAmong, HasObjectKeysIn}
 use Rattle.step_turns.specs.Objects.{new_object, EachAt}
-use Rattle.step_turns.specs.Pairs.{has_pairs_to, ShowsTo}
+use Rattle.sync_model.specs.Outcome.{has_pairs_to, shows_to}
+use Rattle.workload.specs.Keys.{keys_in, key_number}
+use Rattle.step_turns.specs.Pairs.{ShowsTo}
 use Rattle.step_turns.specs.Turns.{turn_at}
 use Rattle.step_runner.specs.declared.step.Step.TheVariants as steps
-use Rattle.step_runner.specs.declared.outcome.Ending.{Ending}
-use Rattle.step_runner.specs.declared.outcome.Ending.TheVariants as endings
-use Rattle.step_runner.specs.State.{State, start, puts_at}
-use Rattle.step_runner.specs.Pairs.{has_few_pairs}
+use Rattle.sync_model.specs.declared.outcome.Ending.{Ending}
+use Rattle.sync_model.specs.declared.outcome.Ending.TheVariants as endings
+use Rattle.workload.specs.Puts.{puts_at}
+use Rattle.step_runner.specs.State.{State, start}
+use Rattle.step_runner.specs.Ends.{numbered}
 use Rattle.step_runner.specs.Turns.{next_call, settled, settled_with, after_items, whole_run, outcome_of, turns}
 use Rattle.step_runner.proofs.StartLemmas.{each_start}
 use Rattle.step_runner.proofs.TurnLemmas.{both, both_true}
+use Rattle.step_runner.proofs.Numbered.{same_few}
 use Rattle.step_runner.proofs.RunLemmas.{Kept, items_keep, run_keeps}
 
 -- what the law of turns says
@@ -71,13 +75,13 @@ pub record HasKeys (names : List (List ℕ)) (most : ℕ) (s : State) : Type 0 w
   pub maps : EachAt (λ place. HasObjectKeysIn names) s.objects
   pub few : list_all (list_all (has_pairs_to most)) s.replies ≡ true
 
-all_push : (p : Reply → Bool) (xs : List Reply) (x : Reply) → list_all p xs ≡ true → p x ≡ true → list_all p (xs ++ x ∷ []) ≡ true
+all_push : (p : Reply (List ℕ) → Bool) (xs : List (Reply (List ℕ))) (x : Reply (List ℕ)) → list_all p xs ≡ true → p x ≡ true → list_all p (xs ++ x ∷ []) ≡ true
 all_push p [] x e last = both_true (p x) true last refl
 all_push p (y ∷ xs) x e last =
     let parts = both (p y) (list_all p xs) e in
     both_true (p y) (list_all p (xs ++ x ∷ [])) parts.0 (all_push p xs x parts.1 last)
 
-replies_set : (p : Reply → Bool) (lists : List (List Reply)) (worker : ℕ) (x : Reply) → list_all (list_all p) lists ≡ true → p x ≡ true → list_all (list_all p) (set lists worker (get_or lists worker [] ++ x ∷ [])) ≡ true
+replies_set : (p : Reply (List ℕ) → Bool) (lists : List (List (Reply (List ℕ)))) (worker : ℕ) (x : Reply (List ℕ)) → list_all (list_all p) lists ≡ true → p x ≡ true → list_all (list_all p) (set lists worker (get_or lists worker [] ++ x ∷ [])) ≡ true
 replies_set p [] worker x e last = refl
 replies_set p (xs ∷ lists) zero x e last =
     let parts = both (list_all p xs) (list_all (list_all p) lists) e in
@@ -108,7 +112,7 @@ keys_kept keys plan most room = record {
   moment = λ moment s has. record { maps = has.maps; few = has.few };
 }
 
-none_yet : (p : Reply → Bool) (n : ℕ) → list_all (list_all p) (replicate {A = List Reply} n []) ≡ true
+none_yet : (p : Reply (List ℕ) → Bool) (n : ℕ) → list_all (list_all p) (replicate {A = List (Reply (List ℕ))} n []) ≡ true
 none_yet p zero = refl
 none_yet p (suc n) = none_yet p n
 
@@ -121,12 +125,15 @@ start_keys keys plan most = record {
 pub items_keys : Keys → (plan : Plan) (most : ℕ) (list : List Turn) → distinct_count (all_keys plan.scripts) ≤ most → HasKeys (all_keys plan.scripts) most (after_items plan list (start plan))
 items_keys keys plan most list room = items_keep plan (HasKeys (all_keys plan.scripts) most) (keys_kept keys plan most room) list (start plan) (start_keys keys plan most)
 
-left_few : (x : State × Ending) → list_all (list_all (has_pairs_to MAX_KEYS)) x.0.replies ≡ true → has_few_pairs (outcome_of x) ≡ true
-left_few (s, endings.Done) few = few
-left_few (s, endings.Misused misuse) few = few
-left_few (s, endings.Deadlocked) few = few
+numbered_few : (plan : Plan) (s : State) → list_all (list_all (has_pairs_to MAX_KEYS)) s.replies ≡ true → list_all (list_all (has_pairs_to MAX_KEYS)) (numbered plan s.replies) ≡ true
+numbered_few plan s few = same_few (key_number (keys_in plan.scripts)) MAX_KEYS s.replies ∙ few
+
+left_few : (plan : Plan) (x : State × Ending) → list_all (list_all (has_pairs_to MAX_KEYS)) x.0.replies ≡ true → shows_to MAX_KEYS (outcome_of plan x) ≡ true
+left_few plan (s, endings.Done) few = numbered_few plan s few
+left_few plan (s, endings.Misused misuse) few = numbered_few plan s few
+left_few plan (s, endings.Deadlocked) few = numbered_few plan s few
 
 -- the replies of a run
-pub few_pairs : Keys → (plan : Plan) → IsReadable plan → has_few_pairs (turns plan) ≡ true
+pub few_pairs : Keys → (plan : Plan) → IsReadable plan → shows_to MAX_KEYS (turns plan) ≡ true
 few_pairs keys plan readable =
-    left_few (whole_run plan) (run_keeps plan (HasKeys (all_keys plan.scripts) MAX_KEYS) (keys_kept keys plan MAX_KEYS readable.key_room) (start_keys keys plan MAX_KEYS)).few
+    left_few plan (whole_run plan) (run_keeps plan (HasKeys (all_keys plan.scripts) MAX_KEYS) (keys_kept keys plan MAX_KEYS readable.key_room) (start_keys keys plan MAX_KEYS)).few

@@ -12,7 +12,8 @@ use Rattle.step_turns.specs.MachineLogs.{FollowsItsMachine}
 use Rattle.step_turns.specs.Objects.{new_object, EachAt}
 use Rattle.step_turns.specs.Turns.{turn_at}
 use Rattle.step_runner.specs.declared.step.Step.TheVariants as steps
-use Rattle.step_runner.specs.State.{State, start, puts_at}
+use Rattle.workload.specs.Puts.{puts_at}
+use Rattle.step_runner.specs.State.{State, start}
 use Rattle.step_runner.specs.Turns.{next_call, settled, settled_with, after_items}
 use Rattle.step_runner.proofs.StartLemmas.{each_start}
 use Rattle.step_runner.proofs.RunLemmas.{Kept, items_keep}

@@ -11,7 +11,8 @@ use Rattle.step_turns.specs.AtomicRange.{IsInRange}
 use Rattle.step_turns.specs.Objects.{new_object, EachAt}
 use Rattle.step_turns.specs.Ready.{IsReady}
 use Rattle.step_turns.specs.Turns.{turn_at}
-use Rattle.step_runner.specs.State.{State, start, puts_at, IsStateOf}
+use Rattle.workload.specs.Puts.{puts_at}
+use Rattle.step_runner.specs.State.{State, start, IsStateOf}
 use Rattle.step_runner.specs.Turns.{turn_of, after_items}
 use Rattle.step_runner.proofs.StartLemmas.{each_start}
 use Rattle.step_runner.proofs.TurnLemmas.{Takes, takes_by, turn_cases}

@@ -7,7 +7,8 @@ use Rattle.workload.specs.declared.object.ObjectLine.{ObjectLine}
 use Rattle.workload.specs.Plan.{Plan, is_valid}
 use Rattle.step_turns.specs.declared.object_state.ObjectState.{ObjectState}
 use Rattle.step_turns.specs.Objects.{new_object, kind_of, IsMachineOf, EachAt}
-use Rattle.step_runner.specs.State.{start, puts_at, new_objects, IsStateOf}
+use Rattle.workload.specs.Puts.{puts_at}
+use Rattle.step_runner.specs.State.{start, new_objects, IsStateOf}
 
 -- what is so of each new object is so of all
 each_new : (P : ℕ → ObjectState → Type 0) (plan : Plan) → ((place : ℕ) (kind : ObjectKind) → P place (new_object plan.workers (puts_at place plan.scripts) kind))
@@ -34,7 +35,7 @@ new_kinds : Begins → (plan : Plan) (place : ℕ) (lines : List ObjectLine) →
 new_kinds begins plan place [] = refl
 new_kinds begins plan place (line ∷ lines) = λ i. (begins plan.workers (puts_at place plan.scripts) line.kind).0 i ∷ new_kinds begins plan (place + 1) lines i
 
-pub none_yet : (n k : ℕ) → length (get_or (replicate {A = List Reply} n []) k []) ≡ 0
+pub none_yet : (n k : ℕ) → length (get_or (replicate {A = List (Reply (List ℕ))} n []) k []) ≡ 0
 none_yet zero k = refl
 none_yet (suc n) zero = refl
 none_yet (suc n) (suc k) = none_yet n k

@@ -197,7 +197,7 @@ pub record Cases (P : State × Step → Type 0) (plan : Plan) (worker : ℕ) (s 
   pub ended : next_call plan worker s ≡ None → P (s, steps.Still)
   pub still : (call : Call) (objects : List ObjectState) → Takes plan worker s call objects answers.Still → P (moved objects s, steps.Still)
   pub unfinished : (call : Call) (objects : List ObjectState) → Takes plan worker s call objects answers.Unfinished → P (moved objects s, steps.Made)
-  pub completed : (call : Call) (objects : List ObjectState) (reply : Reply) → Takes plan worker s call objects (answers.Completed reply) → P (with_reply worker reply (moved objects s), steps.Made)
+  pub completed : (call : Call) (objects : List ObjectState) (reply : Reply (List ℕ)) → Takes plan worker s call objects (answers.Completed reply) → P (with_reply worker reply (moved objects s), steps.Made)
   pub misused : (call : Call) (objects : List ObjectState) (misuse : Misuse) → Takes plan worker s call objects (answers.Misused misuse) → P (moved objects s, steps.Misused misuse)
 
 by_answer : (P : State × Step → Type 0) (plan : Plan) (worker : ℕ) (s : State) → Cases P plan worker s → (call : Call) (objects : List ObjectState) (a : Answer) → Takes plan worker s call objects a
@@ -238,15 +238,15 @@ moved_of laws plan worker s call objects answer of takes = record {
 }
 
 -- one reply more
-pub replied_more : (worker : ℕ) (reply : Reply) (s : State) → worker < length s.replies → length (get_or (with_reply worker reply s).replies worker []) ≡ length (get_or s.replies worker []) + 1
+pub replied_more : (worker : ℕ) (reply : Reply (List ℕ)) (s : State) → worker < length s.replies → length (get_or (with_reply worker reply s).replies worker []) ≡ length (get_or s.replies worker []) + 1
 replied_more worker reply s here =
     let more = get_or s.replies worker [] ++ reply ∷ [] in
-    ap (length {A = Reply}) (get_or-set_same s.replies worker more [] here) ∙ length-append (get_or s.replies worker []) (reply ∷ [])
+    ap (length {A = (Reply (List ℕ))}) (get_or-set_same s.replies worker more [] here) ∙ length-append (get_or s.replies worker []) (reply ∷ [])
 
-pub replied_other : (worker other : ℕ) (reply : Reply) (s : State) → other ≢ worker → get_or (with_reply worker reply s).replies other [] ≡ get_or s.replies other []
+pub replied_other : (worker other : ℕ) (reply : Reply (List ℕ)) (s : State) → other ≢ worker → get_or (with_reply worker reply s).replies other [] ≡ get_or s.replies other []
 replied_other worker other reply s apart = get_or-set_other s.replies worker other (get_or s.replies worker [] ++ reply ∷ []) [] apart
 
-pub replied_of : (plan : Plan) (worker : ℕ) (s : State) (call : Call) (reply : Reply) → IsStateOf plan s → worker < plan.workers → next_call plan worker s ≡ Some call → IsStateOf plan (with_reply worker reply s)
+pub replied_of : (plan : Plan) (worker : ℕ) (s : State) (call : Call) (reply : Reply (List ℕ)) → IsStateOf plan s → worker < plan.workers → next_call plan worker s ≡ Some call → IsStateOf plan (with_reply worker reply s)
 replied_of plan worker s call reply of below is =
     let here : worker < length s.replies = omega (arith, of.workers) in
     let room : length (get_or s.replies worker []) < length (get_or plan.scripts worker []) = slice_get_within _ _ call is in
@@ -258,7 +258,7 @@ replied_of plan worker s call reply of below is =
       workers = length-set s.replies worker (get_or s.replies worker [] ++ reply ∷ []) ∙ of.workers;
       within = λ k. elim (eqb k worker) as (λ b. eqb k worker ≡ b → length (get_or (with_reply worker reply s).replies k []) ≤ length (get_or plan.scripts k [])) [
         | true ↦ λ e. let same : k ≡ worker = eqb-true k worker e in rw same (omega (arith, own, room))
-        | false ↦ λ e. let apart : k ≢ worker = eqb-false k worker e in omega (arith, ap (length {A = Reply}) (replied_other worker k reply s apart), of.within k)
+        | false ↦ λ e. let apart : k ≢ worker = eqb-false k worker e in omega (arith, ap (length {A = (Reply (List ℕ))}) (replied_other worker k reply s apart), of.within k)
       ] refl;
     }
 
@@ -275,17 +275,17 @@ turn_valid laws plan worker s of = turn_cases (λ step. IsStateOf plan step.0) p
 
 -- ---- what is left to do behind a turn
 
-sum_within : (scripts : List (List Call)) (replies : List (List Reply)) → ((k : ℕ) → length (get_or replies k []) ≤ length (get_or scripts k [])) → sum_by length replies ≤ sum_by length scripts
+sum_within : (scripts : List (List Call)) (replies : List (List (Reply (List ℕ)))) → ((k : ℕ) → length (get_or replies k []) ≤ length (get_or scripts k [])) → sum_by length replies ≤ sum_by length scripts
 sum_within [] [] within = omega arith
-sum_within [] (done ∷ replies) within = omega (arith, within 0, sum_within [] replies (λ k. within (suc k)), sum_by-cons (length {A = Reply}) done replies)
+sum_within [] (done ∷ replies) within = omega (arith, within 0, sum_within [] replies (λ k. within (suc k)), sum_by-cons (length {A = (Reply (List ℕ))}) done replies)
 sum_within (script ∷ scripts) [] within = omega arith
 sum_within (script ∷ scripts) (done ∷ replies) within =
-    omega (arith, within 0, sum_within scripts replies (λ k. within (suc k)), sum_by-cons (length {A = Reply}) done replies, sum_by-cons (length {A = Call}) script scripts)
+    omega (arith, within 0, sum_within scripts replies (λ k. within (suc k)), sum_by-cons (length {A = (Reply (List ℕ))}) done replies, sum_by-cons (length {A = Call}) script scripts)
 
-replied_left : (plan : Plan) (worker : ℕ) (s : State) (reply : Reply) → worker < length s.replies → IsStateOf plan (with_reply worker reply s) → calls_left plan (with_reply worker reply s) + 1 ≡ calls_left plan s
+replied_left : (plan : Plan) (worker : ℕ) (s : State) (reply : Reply (List ℕ)) → worker < length s.replies → IsStateOf plan (with_reply worker reply s) → calls_left plan (with_reply worker reply s) + 1 ≡ calls_left plan s
 replied_left plan worker s reply here of =
     let more = get_or s.replies worker [] ++ reply ∷ [] in
-    let sum = sum_by-set (length {A = Reply}) s.replies worker more [] here in
+    let sum = sum_by-set (length {A = (Reply (List ℕ))}) s.replies worker more [] here in
     let within = sum_within plan.scripts (with_reply worker reply s).replies of.within in
     omega (arith, sum, within, length-append (get_or s.replies worker []) (reply ∷ []))
 

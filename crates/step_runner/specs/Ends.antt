@@ -1,53 +1,52 @@
--- What the objects hold when every script has ended, in the order of the report.
+-- What the objects of a run by schedule hold that a report shows, and what such a run leaves behind.
 use Rattle.std.specs.Prelude.{ℕ, ◌+◌, List, [], ◌∷◌, ◌++◌, map}
 use Rattle.std.specs.Ordering.{nat_cmp}
 use Rattle.std.specs.Cmp.Lexicographic.{slice_cmp}
-use Rattle.std.specs.FinMap.{FinMap, entries}
+use Rattle.std.specs.FinMap.{FinMap}
+use Rattle.sync_model.specs.declared.atomic_object.Number.{Number}
+use Rattle.sync_model.specs.declared.call.Reply.{Reply}
+use Rattle.sync_model.specs.declared.outcome.End.{End}
+use Rattle.sync_model.specs.declared.outcome.Report.{Report}
+use Rattle.sync_model.specs.Ends.{Contents}
+use Rattle.sync_model.specs.Ends as ends
+use Rattle.sync_model.specs.Outcome.{with_keys_renamed}
+use Rattle.workload.specs.Keys.{keys_in, key_number}
+use Rattle.workload.specs.Plan.{Plan}
 use Rattle.step_turns.specs.declared.object_state.ObjectState.{ObjectState}
 use Rattle.step_turns.specs.declared.object_state.ObjectState.TheVariants as states
-use Rattle.step_runner.specs.declared.ends.End.{End}
-use Rattle.step_runner.specs.declared.ends.End.TheVariants.{Number, Pair}
+use Rattle.step_runner.specs.State.{State}
 
 -- the number of an object at a place: only an atomic has one
-abbrev pub numbers_of : ℕ → ObjectState → List End
-numbers_of object (states.Map m) = []
-numbers_of object (states.Atomic number) = Number object number ∷ []
-numbers_of object (states.Mutex m) = []
-numbers_of object (states.RwMutex m) = []
-numbers_of object (states.Cond c place) = []
-numbers_of object (states.WaitGroup g first) = []
-numbers_of object (states.Once o place delta) = []
-numbers_of object (states.OnceFunc o code) = []
-numbers_of object (states.OnceValue o value) = []
-numbers_of object (states.Pool p) = []
+abbrev pub numbers_of : ℕ → ObjectState → List (ℕ × Number)
+numbers_of place (states.Atomic number) = (place, number) ∷ []
+numbers_of place object = []
 
--- the number of each atomic in order of declaration, from a place on
-abbrev pub numbers_from : ℕ → List ObjectState → List End
+-- the numbers of the atomics in order of declaration, from a place on
+abbrev pub numbers_from : ℕ → List ObjectState → List (ℕ × Number)
 numbers_from place [] = []
 numbers_from place (object ∷ objects) = numbers_of place object ++ numbers_from (place + 1) objects
 
--- each key of a map with its value, in byte order of the keys
-abbrev pub map_ends : ℕ → FinMap (slice_cmp nat_cmp) ℕ → List End
-map_ends object m = map (λ entry. Pair object entry.0 entry.1) (entries m)
+-- the values of an object at a place by its keys: only a map has any
+abbrev pub maps_of : ℕ → ObjectState → List (ℕ × FinMap (slice_cmp nat_cmp) ℕ)
+maps_of place (states.Map m) = (place, m) ∷ []
+maps_of place object = []
 
--- the pairs of an object at a place: only a map has any
-abbrev pub pairs_of : ℕ → ObjectState → List End
-pairs_of object (states.Map m) = map_ends object m
-pairs_of object (states.Atomic number) = []
-pairs_of object (states.Mutex m) = []
-pairs_of object (states.RwMutex m) = []
-pairs_of object (states.Cond c place) = []
-pairs_of object (states.WaitGroup g first) = []
-pairs_of object (states.Once o place delta) = []
-pairs_of object (states.OnceFunc o code) = []
-pairs_of object (states.OnceValue o value) = []
-pairs_of object (states.Pool p) = []
+-- those of the maps in order of declaration, from a place on
+abbrev pub maps_from : ℕ → List ObjectState → List (ℕ × FinMap (slice_cmp nat_cmp) ℕ)
+maps_from place [] = []
+maps_from place (object ∷ objects) = maps_of place object ++ maps_from (place + 1) objects
 
--- the pairs of each map in order of declaration, from a place on
-abbrev pub pairs_from : ℕ → List ObjectState → List End
-pairs_from place [] = []
-pairs_from place (object ∷ objects) = pairs_of place object ++ pairs_from (place + 1) objects
+abbrev pub contents_of : List ObjectState → Contents (List ℕ) (slice_cmp nat_cmp)
+contents_of objects = record { numbers = numbers_from 0 objects; maps = maps_from 0 objects }
 
--- first the atomics, and then the maps
-abbrev pub ends_of : List ObjectState → List End
-ends_of objects = numbers_from 0 objects ++ pairs_from 0 objects
+-- the ends of a run of a plan, with the numbers of the keys
+abbrev pub ends_of : Plan → List ObjectState → List End
+ends_of plan objects = ends.ends_of (key_number (keys_in plan.scripts)) (contents_of objects)
+
+-- all workers' replies with the numbers of the keys
+abbrev pub numbered : Plan → List (List (Reply (List ℕ))) → List (List (Reply ℕ))
+numbered plan replies = map (map (with_keys_renamed (key_number (keys_in plan.scripts)))) replies
+
+-- what a run leaves behind that ends in a state, by then with these ends
+abbrev pub left_in : Plan → State → List End → Report
+left_in plan s ends = record { replies = numbered plan s.replies; ends = ends }

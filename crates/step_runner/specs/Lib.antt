@@ -2,6 +2,5 @@ pub mod Ends
 pub mod LeftToDo
 pub mod MadeCalls
 pub mod Outcomes
-pub mod Pairs
 pub mod State
 pub mod Turns

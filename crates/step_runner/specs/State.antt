@@ -1,21 +1,17 @@
 -- What a run knows between two turns.
-use Rattle.std.specs.Prelude.{◌≡◌, ℕ, ◌+◌, ◌≤◌, true, List, [], ◌∷◌, ◌++◌, map, length, get_or, set, replicate, count_by, sum_by}
+use Rattle.std.specs.Prelude.{◌≡◌, ℕ, ◌+◌, ◌≤◌, true, List, [], ◌∷◌, ◌++◌, map, length, get_or, set, replicate}
 use Rattle.sync_model.specs.declared.call.Call.{Call}
 use Rattle.sync_model.specs.declared.call.Reply.{Reply}
 use Rattle.workload.specs.declared.object.ObjectLine.{ObjectLine}
 use Rattle.workload.specs.Plan.{Plan, is_valid}
+use Rattle.workload.specs.Puts.{puts_at}
 use Rattle.step_turns.specs.declared.object_state.ObjectState.{ObjectState}
 use Rattle.step_turns.specs.Objects.{new_object, kind_of, IsMachineOf, EachAt}
-use Rattle.step_turns.specs.PoolRoom.{is_put_at}
 
 pub record State : Type 0 where
   pub moment : ℕ  -- the clock's, in nanoseconds
   pub objects : List ObjectState  -- in order of declaration
-  pub replies : List (List Reply)  -- for each worker, to its calls so far
-
--- how many puts the scripts make into the pool at a place
-abbrev pub puts_at : ℕ → List (List Call) → ℕ
-puts_at place scripts = sum_by (λ script. count_by (is_put_at place) script) scripts
+  pub replies : List (List (Reply (List ℕ)))  -- for each worker, to its calls so far
 
 -- the objects from a place on, each part of a pool with room for every put that the scripts make on it
 abbrev pub new_objects : Plan → ℕ → List ObjectLine → List ObjectState
@@ -27,7 +23,7 @@ abbrev pub start : Plan → State
 start plan = record { moment = 0; objects = new_objects plan 0 plan.objects; replies = replicate plan.workers [] }
 
 -- a worker's call is completed
-abbrev pub with_reply : ℕ → Reply → State → State
+abbrev pub with_reply : ℕ → Reply (List ℕ) → State → State
 with_reply worker reply s = record s { replies = set s.replies worker (get_or s.replies worker [] ++ reply ∷ []) }
 
 -- the clock is set

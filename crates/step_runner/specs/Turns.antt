@@ -12,13 +12,13 @@ use Rattle.step_turns.specs.declared.object_state.ObjectState.{ObjectState}
 use Rattle.step_turns.specs.Turns.{turn_at}
 use Rattle.step_runner.specs.declared.step.Step.{Step}
 use Rattle.step_runner.specs.declared.step.Step.TheVariants as steps
-use Rattle.step_runner.specs.declared.outcome.Ending.{Ending}
-use Rattle.step_runner.specs.declared.outcome.Ending.TheVariants as endings
-use Rattle.step_runner.specs.declared.outcome.Outcome.{Outcome}
-use Rattle.step_runner.specs.declared.outcome.Outcome.TheVariants as outcomes
+use Rattle.sync_model.specs.declared.outcome.Ending.{Ending}
+use Rattle.sync_model.specs.declared.outcome.Ending.TheVariants as endings
+use Rattle.sync_model.specs.declared.outcome.Outcome.{Outcome}
+use Rattle.sync_model.specs.declared.outcome.Outcome.TheVariants as outcomes
 use Rattle.step_runner.specs.State.{State, start, with_reply, with_moment}
 use Rattle.step_runner.specs.LeftToDo.{left_to_do}
-use Rattle.step_runner.specs.Ends.{ends_of}
+use Rattle.step_runner.specs.Ends.{ends_of, left_in}
 
 -- ---- a turn
 
@@ -104,11 +104,11 @@ abbrev pub whole_run : Plan → State × Ending
 whole_run plan = behind_schedule plan (items_of plan plan.schedule (start plan))
 
 -- what the run leaves behind
-abbrev pub outcome_of : State × Ending → Outcome
-outcome_of (s, endings.Done) = outcomes.Done (record { replies = s.replies; ends = ends_of s.objects })
-outcome_of (s, endings.Misused misuse) = outcomes.Misused (record { replies = s.replies; ends = [] }) misuse
-outcome_of (s, endings.Deadlocked) = outcomes.Deadlocked (record { replies = s.replies; ends = [] })
+abbrev pub outcome_of : Plan → State × Ending → Outcome
+outcome_of plan (s, endings.Done) = outcomes.Done (left_in plan s (ends_of plan s.objects))
+outcome_of plan (s, endings.Misused misuse) = outcomes.Misused (left_in plan s []) misuse
+outcome_of plan (s, endings.Deadlocked) = outcomes.Deadlocked (left_in plan s [])
 
 -- what the run by the schedule comes to
 abbrev pub turns : Plan → Outcome
-turns plan = outcome_of (whole_run plan)
+turns plan = outcome_of plan (whole_run plan)

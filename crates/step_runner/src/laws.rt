@@ -24,14 +24,16 @@ ghost use Rattle.step_turns.specs.declared.object_state.ObjectState.TheVariants 
 ghost use Rattle.step_turns.specs.Completes.{takes_one_turn};
 ghost use Rattle.step_turns.specs.MachineLogs.{FollowsItsMachine};
 ghost use Rattle.step_turns.specs.Objects.{kind_of, IsMachineOf};
-ghost use Rattle.step_turns.specs.Pairs.{has_pairs_to};
+ghost use Rattle.sync_model.specs.Outcome.{has_pairs_to};
 ghost use Rattle.step_runner.specs.declared.step.Step.TheVariants as steps;
-ghost use Rattle.step_runner.specs.declared.outcome.Report.{Report};
-ghost use Rattle.step_runner.specs.declared.outcome.Outcome.TheVariants as outcomes;
+ghost use Rattle.sync_model.specs.declared.outcome.Report.{Report};
+ghost use Rattle.sync_model.specs.declared.outcome.Outcome.{Outcome};
+ghost use Rattle.sync_model.specs.declared.outcome.Outcome.TheVariants as outcomes;
 ghost use Rattle.step_runner.specs.LeftToDo.{left_to_do};
 ghost use Rattle.step_runner.specs.MadeCalls.{made_calls, calls_of};
-ghost use Rattle.step_runner.specs.Outcomes.{IsDone, IsMisused, IsDeadlocked};
-ghost use Rattle.step_runner.specs.State.{State, IsStateOf, puts_at, start, with_moment};
+ghost use Rattle.step_runner.specs.Outcomes.{StepsTo};
+ghost use Rattle.workload.specs.Puts.{puts_at};
+ghost use Rattle.step_runner.specs.State.{State, IsStateOf, start, with_moment};
 ghost use Rattle.step_runner.specs.Turns.{next_call, turn_of, items_of, after_items, has_ended, rounds_of, all_rounds, turns};
 
 use step_turns::laws::{
@@ -72,14 +74,14 @@ pub fn runs_come_to_rest()
     events_use_something_up();
 }
 
-/// A run is Done exactly where its schedule and some whole rounds bring every script to its end, and then
-/// each call has its reply; it is Misused exactly where one of their turns is a misuse; and it is
-/// Deadlocked exactly where a whole round behind them makes no event while a script has calls left.
-pub fn outcomes_are_exact()
-    ensures done { (plan : Plan) (report : Report) → is_valid plan ≡ true → turns plan ≡ outcomes.Done report ↔ IsDone plan report }
-    ensures misused { (plan : Plan) (report : Report) (misuse : Misuse) → is_valid plan ≡ true → turns plan ≡ outcomes.Misused report misuse ↔ IsMisused plan report misuse }
-    ensures deadlocked { (plan : Plan) (report : Report) → is_valid plan ≡ true → turns plan ≡ outcomes.Deadlocked report ↔ IsDeadlocked plan report }
-    ensures complete { (plan : Plan) (report : Report) → is_valid plan ≡ true → turns plan ≡ outcomes.Done report → map length report.replies ≡ map length plan.scripts }
+/// A run by schedule comes to one outcome, which `turns` computes. It is Done exactly where its schedule and some whole
+/// rounds bring every script to its end, and then each call has its reply; Misused exactly where one of their turns is a
+/// misuse; and Deadlocked exactly where a whole round behind them makes no event while a script has calls left.
+pub fn each_run_has_one_outcome()
+    ensures exact { (plan : Plan) (outcome : Outcome) → is_valid plan ≡ true → turns plan ≡ outcome ↔ StepsTo plan outcome }
+    ensures one { (plan : Plan) (outcome other : Outcome) → is_valid plan ≡ true → StepsTo plan outcome → StepsTo plan other → outcome ≡ other }
+    ensures some { (plan : Plan) → is_valid plan ≡ true → StepsTo plan (turns plan) }
+    ensures complete { (plan : Plan) (report : Report) → is_valid plan ≡ true → StepsTo plan (outcomes.Done report) → map length report.replies ≡ map length plan.scripts }
 {
     validity();
     events_use_something_up();
@@ -89,7 +91,7 @@ pub fn outcomes_are_exact()
 /// as calls.
 pub fn scripts_of_one_turn_calls_end()
     ensures { (plan : Plan) → is_valid plan ≡ true → list_all (list_all takes_one_turn) plan.scripts ≡ true
-        → (report : Report) × (turns plan ≡ outcomes.Done report) × (map length report.replies ≡ map length plan.scripts) }
+        → (report : Report) × StepsTo plan (outcomes.Done report) × (map length report.replies ≡ map length plan.scripts) }
 {
     validity();
     events_use_something_up();

@@ -4,14 +4,12 @@
 
 pub mod ends;
 pub mod laws;
-pub mod outcome;
+mod numbering;
 pub mod run;
 pub mod state;
 pub mod step;
 pub mod turn;
 
-pub use ends::End;
-pub use outcome::{Ending, Outcome, Report};
 pub use run::stepped;
 pub use step::Step;
 

@@ -1,19 +1,21 @@
 //! The run of a workload by its schedule.
 ghost use Rattle.std.specs.Prelude.{◌≡◌, true, IfOk};
+ghost use Rattle.sync_model.specs.Outcome.{shows_to};
+ghost use Rattle.workload.specs.declared.limits.TheConstants.{MAX_KEYS};
 ghost use Rattle.workload.specs.Plan.{is_turn};
-ghost use Rattle.step_runner.specs.Pairs.{has_few_pairs};
+ghost use Rattle.step_runner.specs.Outcomes.{StepsTo};
 ghost use Rattle.step_runner.specs.State.{IsStateOf};
 ghost use Rattle.step_runner.specs.Turns.{item_of, items_of, round, has_ended, all_rounds, behind_schedule, outcome_of, turns};
 
 use crate::ends::ends;
 use crate::laws;
-use crate::outcome::{Ending, Outcome, Report};
+use crate::numbering::number_all;
 use crate::state::State;
 use crate::step::Step;
 use crate::turn::{next_call, take_turn};
 use std::alloc::{AllocError, Global};
 use step_turns::laws::maps_keep_to_the_keys_of_calls;
-use sync_model::Seq;
+use sync_model::{Ending, Outcome, Report, Seq};
 use workload::{Turn, Workload};
 
 /// Takes an item of the schedule. A moment sets the clock, which is no event.
@@ -113,17 +115,23 @@ fn take_all(alloc: Global, workload: &Workload, state: &mut State) -> Result<End
 }
 
 /// What a run that ends in this state leaves behind.
-fn outcome(alloc: Global, state: State, ending: Ending) -> Result<Outcome, AllocError>
-    ensures { IfOk result (λ outcome. outcome ≡ outcome_of (state, ending)) }
+fn outcome(
+    alloc: Global,
+    workload: &Workload,
+    state: State,
+    ending: Ending,
+) -> Result<Outcome, AllocError>
+    ensures { IfOk result (λ outcome. outcome ≡ outcome_of workload.now (state, ending)) }
 {
     let State {
         objects,
         replies,
         ..
     } = state;
+    let replies = number_all(alloc, workload, replies)?;
     match ending {
         Ending::Done => {
-            let ends = ends(alloc, &objects)?;
+            let ends = ends(alloc, workload, &objects)?;
             Ok(Outcome::Done(Report { replies, ends }))
         }
         Ending::Misused(misuse) => {
@@ -145,11 +153,13 @@ fn outcome(alloc: Global, state: State, ending: Ending) -> Result<Outcome, Alloc
 /// behind a round in which nobody made an event. Only want of memory is an `Err`. No reply shows more
 /// pairs than a workload may have keys.
 pub fn stepped(alloc: Global, workload: &Workload) -> Result<Outcome, AllocError>
-    ensures outcome { IfOk result (λ outcome. outcome ≡ turns workload.now) }
-    ensures pairs { IfOk result (λ outcome. has_few_pairs outcome ≡ true) }
+    ensures outcome { IfOk result (StepsTo workload.now) }
+    ensures computed { IfOk result (λ outcome. outcome ≡ turns workload.now) }
+    ensures pairs { IfOk result (λ outcome. shows_to MAX_KEYS outcome ≡ true) }
 {
     maps_keep_to_the_keys_of_calls();
+    laws::each_run_has_one_outcome();
     let mut state = State::start(alloc, workload)?;
     let ending = take_all(alloc, workload, &mut state)?;
-    outcome(alloc, state, ending)
+    outcome(alloc, workload, state, ending)
 }

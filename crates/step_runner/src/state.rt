@@ -1,8 +1,7 @@
 //! What a run knows between two turns.
-ghost use Rattle.std.specs.Prelude.{◌≡◌, ◌<◌, [], count_by, length, get_or, replicate, IfOk, OnOk};
+ghost use Rattle.std.specs.Prelude.{◌≡◌, ◌<◌, [], length, get_or, replicate, IfOk, OnOk};
 ghost use Rattle.workload.specs.Readable.{IsReadable};
-ghost use Rattle.step_turns.specs.PoolRoom.{is_put_at};
-ghost use Rattle.step_runner.specs.State.{IsStateOf, puts_at, new_objects, start, with_reply};
+ghost use Rattle.step_runner.specs.State.{IsStateOf, new_objects, start, with_reply};
 ghost use Rattle.step_runner.specs.Turns.{settled};
 
 use crate::laws;
@@ -10,7 +9,7 @@ use crate::step::Step;
 use std::alloc::{AllocError, Global};
 use std::marker::Model;
 use step_turns::{Answer, ObjectState};
-use sync_model::{Call, PoolCall, Reply, Seq};
+use sync_model::{Name, Reply, Seq};
 use workload::Workload;
 
 /// The clock's moment, the objects, and for each worker the replies to its calls so far.
@@ -18,7 +17,7 @@ use workload::Workload;
 pub struct State {
     pub(crate) moment: u64,
     pub(crate) objects: Vec<ObjectState>,
-    pub(crate) replies: Seq<Seq<Reply>>,
+    pub(crate) replies: Seq<Seq<Reply<Name>>>,
 }
 
 impl Model for State {
@@ -33,37 +32,6 @@ impl Model for State {
     ghost view = { λ s. record { moment = s.moment; objects = s.objects.items; replies = s.replies } };
 }
 
-/// Whether a call puts an item into the pool at this place.
-fn is_put_at(call: &Call, place: usize) -> bool
-    ensures { result ≡ is_put_at place call.now }
-{
-    match call {
-        Call::Pool {
-            object,
-            call: PoolCall::Put(_),
-        } => *object == place,
-        _ => false,
-    }
-}
-
-/// How many puts a script makes into the pool at this place.
-fn puts_in(script: &[Call], place: usize) -> usize
-    ensures { result ≡ count_by (is_put_at place) script.now }
-{
-    script.iter().filter(|call| is_put_at(call, place)).count()
-}
-
-/// How many puts a workload makes into the pool at this place.
-fn puts_at(workload: &Workload, place: usize) -> u32
-    ensures { result ≡ puts_at place workload.now.scripts }
-{
-    let mut puts = 0;
-    for worker in 0..workload.workers() {
-        puts += puts_in(workload.script(worker), place);
-    }
-    puts as u32
-}
-
 /// The objects of a workload as a run begins with them.
 fn new_objects(alloc: Global, workload: &Workload) -> Result<Vec<ObjectState>, AllocError>
     ensures { IfOk result (λ objects. objects.items ≡ new_objects workload.now 0 workload.now.objects) }
@@ -71,14 +39,14 @@ fn new_objects(alloc: Global, workload: &Workload) -> Result<Vec<ObjectState>, A
     let workers = workload.workers();
     let mut objects = Vec::new(alloc);
     for (place, line) in workload.objects().iter().enumerate() {
-        let room = puts_at(workload, place);
+        let room = workload.puts_at(place);
         objects.push(ObjectState::new(alloc, workers, room, line.kind)?)?;
     }
     Ok(objects)
 }
 
 /// For each worker no replies.
-fn no_replies(alloc: Global, workers: u32) -> Result<Seq<Seq<Reply>>, AllocError>
+fn no_replies(alloc: Global, workers: u32) -> Result<Seq<Seq<Reply<Name>>>, AllocError>
     ensures { IfOk result (λ replies. replies ≡ replicate workers []) }
 {
     let mut replies = Seq::new(alloc);
@@ -115,7 +83,7 @@ impl State {
     }
 
     /// Completes a worker's call with its reply.
-    fn complete(&mut self, worker: u32, reply: Reply) -> Result<(), AllocError>
+    fn complete(&mut self, worker: u32, reply: Reply<Name>) -> Result<(), AllocError>
         requires { worker < length self.old.replies }
         ensures { OnOk result (self.new ≡ with_reply worker reply self.old) }
     {

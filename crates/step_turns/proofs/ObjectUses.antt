@@ -279,7 +279,7 @@ module _ {T : Type 0} where
   any_step : OnceUses T → (value : T) (worker : ℕ) (o : once.OnceState T) → OnceStep o (once_step value worker o)
   any_step law value worker o = at_step law (once.place_of o worker) value worker o
 
-  once_by_reply : (r : OnceReply T) (ran : Reply) (returned : T → Reply) (old new : ℕ) (same : Type 0) → (r ≡ once_reply.Still → same) → new + once_used r ≤ old + once_given r
+  once_by_reply : (r : OnceReply T) (ran : Reply (List ℕ)) (returned : T → Reply (List ℕ)) (old new : ℕ) (same : Type 0) → (r ≡ once_reply.Still → same) → new + once_used r ≤ old + once_given r
       → UsesBy old new same (of_once.meaning_of ran returned r)
   once_by_reply once_reply.Run ran returned old new same unmoved used = omega (arith, used)
   once_by_reply once_reply.Queued ran returned old new same unmoved used = omega (arith, used)

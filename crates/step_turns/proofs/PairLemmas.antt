@@ -74,7 +74,8 @@ use Rattle.step_turns.specs.OnceTurn as of_once
 use Rattle.step_turns.specs.OnceTurn.{once_step, failure, adding_turn, once_turn, func_turn, value_turn}
 use Rattle.step_turns.specs.PoolTurn.{PoolStep, found_or, found_by, looks_of, pool_step, pool_turn}
 use Rattle.step_turns.specs.MapKeys.{AreAmong, HasObjectKeysIn}
-use Rattle.step_turns.specs.Pairs.{has_pairs_to, ShowsTo}
+use Rattle.sync_model.specs.Outcome.{has_pairs_to}
+use Rattle.step_turns.specs.Pairs.{ShowsTo}
 use Rattle.step_turns.specs.Turns.{turn_on, turn_on_both, turn_at}
 use Rattle.step_turns.proofs.AtObjects.{each_set, at_any}
 use Rattle.step_turns.proofs.KeyLemmas.{empty_keys, call_keys, count_keys}
@@ -154,7 +155,7 @@ group_keeps : (names : List (List ℕ)) (most : ℕ) (call : WaitGroupCall) (wor
 group_keeps names most call worker (states.WaitGroup g first) has = (tt, group_few most (of_group.group_step call worker g).1)
 group_keeps names most call worker o has = (has, tt)
 
-once_few : {T : Type 0} (most : ℕ) (ran : Reply) (returned : T → Reply) (r : OnceReply T) → has_pairs_to most ran ≡ true → ((kept : T) → has_pairs_to most (returned kept) ≡ true) → ShowsTo most (of_once.meaning_of ran returned r)
+once_few : {T : Type 0} (most : ℕ) (ran : Reply (List ℕ)) (returned : T → Reply (List ℕ)) (r : OnceReply T) → has_pairs_to most ran ≡ true → ((kept : T) → has_pairs_to most (returned kept) ≡ true) → ShowsTo most (of_once.meaning_of ran returned r)
 once_few most ran returned once_reply.Run few each = tt
 once_few most ran returned once_reply.Queued few each = tt
 once_few most ran returned (once_reply.Done kept) few each = each kept

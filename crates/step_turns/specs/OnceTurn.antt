@@ -1,5 +1,5 @@
 -- The turn of a worker that stands before a call of a once, or of a function made by `OnceFunc` or `OnceValue`.
-use Rattle.std.specs.Prelude.{ℕ, ℤ, ◌==◌, if◌then◌else◌, Option, Some, None}
+use Rattle.std.specs.Prelude.{ℕ, ℤ, List, ◌==◌, if◌then◌else◌, Option, Some, None}
 use Rattle.sync_model.specs.SequentialAtomic.{atomic_after}
 use Rattle.sync_model.specs.declared.atomic_object.AtomicCall.TheVariants.{Add}
 use Rattle.sync_model.specs.declared.atomic_object.Number.{Number}
@@ -20,7 +20,7 @@ use Rattle.step_turns.specs.declared.object_state.ObjectState.TheVariants as sta
 
 module _ {T : Type 0} where
   -- what the once's answer means for the call: `ran` is the reply of the one that ran the function, `returned` that of another, by what is kept
-  abbrev pub meaning_of : Reply → (T → Reply) → OnceReply T → Answer
+  abbrev pub meaning_of : Reply (List ℕ) → (T → Reply (List ℕ)) → OnceReply T → Answer
   meaning_of ran returned Run = answers.Unfinished
   meaning_of ran returned Queued = answers.Unfinished
   meaning_of ran returned (Done kept) = answers.Completed (returned kept)

@@ -1,28 +1,15 @@
 -- That a pool has room for puts.
-use Rattle.std.specs.Prelude.{◌≡◌, ℕ, ◌+◌, ◌-◌, ◌≤◌, Bool, true, false, ◌&&◌, ◌==◌, if◌then◌else◌, List, length, slice_get, Some}
+use Rattle.std.specs.Prelude.{◌≡◌, ℕ, ◌+◌, ◌-◌, ◌≤◌, if◌then◌else◌, List, length, slice_get, Some}
 use Rattle.sync_model.specs.declared.call.Call.{Call}
-use Rattle.sync_model.specs.declared.call.Call.TheVariants as calls
-use Rattle.sync_model.specs.declared.pool_call.PoolCall.{PoolCall}
-use Rattle.sync_model.specs.declared.pool_call.PoolCall.TheVariants as pool_calls
 use Rattle.pool_core.specs.PoolParts.{PoolPart}
 use Rattle.pool_core.specs.PoolMachine as pool
+use Rattle.workload.specs.Puts.{is_put_at}
 use Rattle.step_turns.specs.declared.answer.Answer.{Answer}
 use Rattle.step_turns.specs.declared.answer.Answer.TheVariants as answers
 use Rattle.step_turns.specs.declared.object_state.ObjectState.{ObjectState}
 use Rattle.step_turns.specs.declared.object_state.ObjectState.TheVariants as states
 
--- whether a call puts an item
-abbrev pub is_put : PoolCall → Bool
-is_put (pool_calls.Put item) = true
-is_put pool_calls.Get = false
-is_put pool_calls.Sweep = false
-
--- whether a call puts an item into the pool at a place
-abbrev pub is_put_at : ℕ → Call → Bool
-is_put_at place (calls.Pool object call) = (object == place) && is_put call
-is_put_at place call = false
-
--- 1 where it does
+-- 1 where a call puts an item into the pool at a place
 abbrev pub put_of : ℕ → Call → ℕ
 put_of place call = if is_put_at place call then 1 else 0
 

@@ -1,5 +1,5 @@
 //! What a turn means for a call.
-use sync_model::{Misuse, Reply};
+use sync_model::{Misuse, Name, Reply};
 
 /// What a turn means for the call before which its worker stands.
 #[derive(Debug, Drop)]
@@ -8,8 +8,8 @@ pub enum Answer {
     Still,
     /// The worker makes an event after which the call has not returned: another turn goes on with it.
     Unfinished,
-    /// The worker makes an event that completes the call, with this reply.
-    Completed(Reply),
+    /// The worker makes an event that completes the call, with this reply, whose keys are named.
+    Completed(Reply<Name>),
     /// The call is a misuse, which isn't completed.
     Misused(Misuse),
 }

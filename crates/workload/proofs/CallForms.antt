@@ -27,7 +27,7 @@ use Rattle.sync_model.specs.declared.lock_call.RwMutexCall.{RwMutexCall}
 use Rattle.sync_model.specs.declared.lock_call.RwMutexCall.TheVariants as rw_mutex_calls
 use Rattle.sync_model.specs.SequentialMap.{map_key}
 use Rattle.sync_model.specs.SequentialAtomic.{has_bits, is_of, is_atomic_call}
-use Rattle.workload.specs.declared.limits.TheConstants.{MAX_VALUE}
+use Rattle.sync_model.specs.declared.value.TheConstants.{MAX_VALUE}
 use Rattle.workload.specs.declared.object.ObjectKind.{ObjectKind}
 use Rattle.workload.specs.declared.object.ObjectKind.TheVariants as kinds
 use Rattle.workload.specs.Plan.{has_call}

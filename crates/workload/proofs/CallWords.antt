@@ -22,7 +22,8 @@ use Rattle.sync_model.specs.declared.atomic_object.AtomicCall.TheVariants as ato
 use Rattle.sync_model.specs.SequentialAtomic.{has_bits, is_signed, is_of, is_atomic_call}
 use Rattle.workload.specs.declared.keyword.Verb.{Verb}
 use Rattle.workload.specs.declared.keyword.Verb.TheVariants as verbs
-use Rattle.workload.specs.declared.limits.TheConstants.{MAX_AMOUNT, MAX_VALUE}
+use Rattle.workload.specs.declared.limits.TheConstants.{MAX_AMOUNT}
+use Rattle.sync_model.specs.declared.value.TheConstants.{MAX_VALUE}
 use Rattle.workload.specs.Plan.{is_amount}
 use Rattle.workload.specs.NumberWords.{is_amount_word, number_word, number_of, is_number, is_number_to, is_signed_word, is_number_between, is_number_word}
 use Rattle.workload.specs.CallWords.{map_verb, map_operands, atomic_verb, atomic_operands, group_verb, group_operands, pool_verb, pool_operands}

@@ -1,9 +1,11 @@
 pub mod DraftLemmas
 pub mod Follows
 pub mod KeyLemmas
+pub mod KeyNumbers
 mod Keywords
 pub mod Numbers
 pub mod Passing
+mod PutCounts
 pub mod References
 pub mod CallForms
 mod CallWords

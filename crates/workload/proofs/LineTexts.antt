@@ -29,7 +29,8 @@ use Rattle.sync_model.specs.declared.map_object.MapCall.{MapCall}
 use Rattle.sync_model.specs.declared.map_object.MapCall.TheVariants as map_calls
 use Rattle.workload.specs.declared.keyword.Verb.{Verb}
 use Rattle.workload.specs.declared.keyword.Verb.TheVariants as verbs
-use Rattle.workload.specs.declared.limits.TheConstants.{MAX_AMOUNT, MAX_CODE, MAX_LINE, MAX_VALUE, MAX_WORKERS}
+use Rattle.workload.specs.declared.limits.TheConstants.{MAX_AMOUNT, MAX_CODE, MAX_LINE, MAX_WORKERS}
+use Rattle.sync_model.specs.declared.value.TheConstants.{MAX_VALUE}
 use Rattle.workload.specs.declared.object.ObjectKind.{ObjectKind}
 use Rattle.workload.specs.declared.object.ObjectKind.TheVariants as kinds
 use Rattle.workload.specs.declared.object.ObjectWord.{ObjectWord}

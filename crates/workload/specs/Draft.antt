@@ -12,7 +12,8 @@ use Rattle.sync_model.specs.declared.wait_call.WaitGroupCall.TheVariants as grou
 use Rattle.sync_model.specs.declared.pool_call.PoolCall.{PoolCall}
 use Rattle.sync_model.specs.declared.pool_call.PoolCall.TheVariants as pool_calls
 use Rattle.sync_model.specs.SequentialMap.{map_key}
-use Rattle.workload.specs.declared.limits.TheConstants.{MAX_AMOUNT, MAX_ATOMICS, MAX_CALLS, MAX_CODE, MAX_KEYS, MAX_MAPS, MAX_OTHERS, MAX_RANGES, MAX_TURNS, MAX_VALUE}
+use Rattle.workload.specs.declared.limits.TheConstants.{MAX_AMOUNT, MAX_ATOMICS, MAX_CALLS, MAX_CODE, MAX_KEYS, MAX_MAPS, MAX_OTHERS, MAX_RANGES, MAX_TURNS}
+use Rattle.sync_model.specs.declared.value.TheConstants.{MAX_VALUE}
 use Rattle.workload.specs.declared.object.ObjectKind.{ObjectKind}
 use Rattle.workload.specs.declared.object.ObjectKind.TheVariants as kinds
 use Rattle.workload.specs.declared.object.ObjectWord.{ObjectWord}

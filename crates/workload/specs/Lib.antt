@@ -3,10 +3,12 @@ pub mod Canonical
 pub mod Checks
 pub mod Draft
 pub mod Index
+pub mod Keys
 pub mod KeywordWords
 pub mod Lines
 pub mod NumberWords
 pub mod Plan
+pub mod Puts
 pub mod Readable
 pub mod Reads
 pub mod Reason

@@ -5,6 +5,7 @@ ghost use Rattle.workload.specs.declared.limits.TheConstants.{MAX_WORKERS};
 ghost use Rattle.workload.specs.Index.{with_keys};
 ghost use Rattle.workload.specs.Draft.{started, with_line, may_follow, declared, count_of, count_together, limit_of, call_count, key_count, keys_of, is_range, range_count};
 
+use crate::keys::Keys;
 use crate::limits::{MAX_ATOMICS, MAX_MAPS, MAX_OTHERS};
 use crate::line::Line;
 use crate::object::{Declared, ObjectLine, ObjectWord};
@@ -351,9 +352,9 @@ impl Draft {
         }
     }
 
-    /// The workload that all lines say.
-    pub fn finish(self) -> Workload
-        ensures { result ≡ self.plan }
+    /// The workload that all lines say, with the numbers of its keys. Only want of memory is an `Err`.
+    pub fn finish(self, alloc: Global) -> Result<Workload, AllocError>
+        ensures { IfOk result (λ workload. workload ≡ self.plan) }
     {
         let Draft {
             workers,
@@ -362,6 +363,7 @@ impl Draft {
             schedule,
             ..
         } = self;
-        Workload::new(workers, objects, scripts, schedule)
+        let keys = Keys::of_scripts(alloc, scripts.as_slice())?;
+        Ok(Workload::new(workers, objects, scripts, schedule, keys))
     }
 }

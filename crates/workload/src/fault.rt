@@ -27,6 +27,14 @@ pub enum LineFault {
     Memory,
 }
 
+impl From<AllocError> for ParseFault {
+    ghost from_gives = { λ _ e. e ≡ faults.Memory };
+
+    fn from(_e: AllocError) -> ParseFault {
+        ParseFault::Memory
+    }
+}
+
 impl From<AllocError> for LineFault {
     ghost from_gives = { λ _ e. e ≡ line_faults.Memory };
 

@@ -15,8 +15,9 @@ ghost use Rattle.workload.specs.Reads.{Reads, IsRefused};
 
 use crate::limits::{
     MAX_AMOUNT, MAX_ATOMICS, MAX_CALLS, MAX_CODE, MAX_INPUT, MAX_KEYS, MAX_LINE, MAX_MAPS,
-    MAX_OTHERS, MAX_RANGES, MAX_TURNS, MAX_VALUE, MAX_WORKERS,
+    MAX_OTHERS, MAX_RANGES, MAX_TURNS, MAX_WORKERS,
 };
+use sync_model::MAX_VALUE;
 
 /// No two workloads are read from the same bytes.
 pub fn one_reading()

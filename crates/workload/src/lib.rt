@@ -5,17 +5,20 @@
 pub mod call;
 pub mod draft;
 pub mod fault;
+pub mod keys;
 pub mod keyword;
 pub mod laws;
 pub mod limits;
 pub mod line;
 pub mod object;
 pub mod operands;
+mod puts;
 pub mod reason;
 pub mod turn;
 pub mod workload;
 
 pub use fault::ParseFault;
+pub use keys::Keys;
 pub use limits::MAX_INPUT;
 pub use object::{ObjectKind, ObjectLine, ObjectWord};
 pub use reason::Reason;

@@ -36,6 +36,3 @@ pub const MAX_KEYS: usize = 4_096;
 
 /// The most items of the schedule, workers' turns and moments together.
 pub const MAX_TURNS: usize = 100_000;
-
-/// The greatest value of a map, of a `oncevalue` and of a pool, and the latest moment in nanoseconds: 2^63 - 1.
-pub const MAX_VALUE: u64 = 9_223_372_036_854_775_807;

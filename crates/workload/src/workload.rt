@@ -1,32 +1,39 @@
 //! A workload that was read.
 ghost use Rattle.std.specs.Prelude.{◌≡◌, ◌<◌, true, get_or, []};
+ghost use Rattle.workload.specs.Keys.{keys_in};
 ghost use Rattle.workload.specs.Plan.{is_valid};
+ghost use Rattle.workload.specs.Puts.{puts_at};
 ghost use Rattle.workload.specs.Readable.{IsReadable};
 
+use crate::keys::Keys;
 use crate::object::ObjectLine;
+use crate::puts::puts_at;
 use crate::turn::Turn;
 use std::marker::Model;
 use sync_model::{Call, Seq};
 
 /// Workers, objects, a script for each worker and a schedule. Each number in it is in range: a call's
-/// object is there and has the call, and a turn's worker is there.
+/// object is there and has the call, and a turn's worker is there. The keys of its calls have numbers.
 #[derive(Debug, Drop)]
 pub struct Workload {
     workers: u32,
     objects: Seq<ObjectLine>,
     scripts: Seq<Seq<Call>>,
     schedule: Seq<Turn>,
+    keys: Keys,
 }
 
 impl Model for Workload {
     ghost use Rattle.workload.specs.Plan.{Plan};
+    ghost use Rattle.std.specs.Prelude.{◌≡◌};
+    ghost use Rattle.workload.specs.Keys.{keys_in};
     ghost use Rattle.workload.specs.Readable.{IsReadable};
 
     ghost Value = { Plan };
 
     ghost view = { λ w. record { workers = w.workers; objects = w.objects; scripts = w.scripts; schedule = w.schedule } };
 
-    ghost invariant = { λ w. IsReadable (record { workers = w.workers; objects = w.objects; scripts = w.scripts; schedule = w.schedule }) };
+    ghost invariant = { λ w. IsReadable (record { workers = w.workers; objects = w.objects; scripts = w.scripts; schedule = w.schedule }) × (w.keys ≡ keys_in w.scripts) };
 }
 
 impl Workload {
@@ -36,8 +43,10 @@ impl Workload {
         objects: Seq<ObjectLine>,
         scripts: Seq<Seq<Call>>,
         schedule: Seq<Turn>,
+        keys: Keys,
     ) -> Self
-        requires { IsReadable (record { workers = workers; objects = objects; scripts = scripts; schedule = schedule }) }
+        requires readable { IsReadable (record { workers = workers; objects = objects; scripts = scripts; schedule = schedule }) }
+        requires keys { keys ≡ keys_in scripts }
         ensures { result ≡ record { workers = workers; objects = objects; scripts = scripts; schedule = schedule } }
     {
         Workload {
@@ -45,6 +54,7 @@ impl Workload {
             objects,
             scripts,
             schedule,
+            keys,
         }
     }
 
@@ -72,6 +82,20 @@ impl Workload {
         ensures valid { is_valid self.now ≡ true }
     {
         self.scripts.as_slice()[worker as usize].as_slice()
+    }
+
+    /// The keys of the calls by first appearance, script by script from worker 0.
+    pub fn keys(&self) -> &Keys
+        ensures { result.now ≡ keys_in self.now.scripts }
+    {
+        &self.keys
+    }
+
+    /// How many items the scripts put into the pool at this place.
+    pub fn puts_at(&self, place: usize) -> u32
+        ensures { result ≡ puts_at place self.now.scripts }
+    {
+        puts_at(self.scripts.as_slice(), place)
     }
 
     /// The items of the schedule.

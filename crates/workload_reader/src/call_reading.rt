@@ -7,7 +7,7 @@ ghost use Rattle.workload.specs.NumberWords.{number_word};
 ghost use Rattle.workload.specs.Plan.{is_amount};
 ghost use Rattle.workload.specs.Checks.{bits_form, first_failing, form_words};
 ghost use Rattle.workload.specs.declared.object.ObjectKind.TheVariants as ObjectKind;
-ghost use Rattle.workload.specs.declared.limits.TheConstants.{MAX_VALUE};
+ghost use Rattle.sync_model.specs.declared.value.TheConstants.{MAX_VALUE};
 ghost use Rattle.workload_reader.specs.LineResult.{IsFault, IsOperands, IsMapCall, IsAtomicCall, IsMutexCall, IsRwMutexCall, IsCondCall, IsGroupCall, IsPoolCall, IsCallOn};
 
 use crate::word_reading::{read_amount, read_name, read_none, read_number, read_value};
@@ -19,7 +19,7 @@ use sync_model::{
 use workload::fault::LineFault;
 use workload::keyword::{Operand, Verb};
 use workload::laws::checks_go_in_order;
-use workload::limits::MAX_VALUE;
+use sync_model::MAX_VALUE;
 use workload::object::{Declared, ObjectKind};
 use workload::reason::Reason;
 

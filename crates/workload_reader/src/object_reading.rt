@@ -11,7 +11,8 @@ use std::alloc::Global;
 use sync_model::{AtomicKind, Name};
 use workload::draft::Draft;
 use workload::fault::LineFault;
-use workload::limits::{MAX_AMOUNT, MAX_CODE, MAX_VALUE};
+use sync_model::MAX_VALUE;
+use workload::limits::{MAX_AMOUNT, MAX_CODE};
 use workload::object::{Declared, ObjectKind, ObjectWord};
 use workload::reason::Reason;
 

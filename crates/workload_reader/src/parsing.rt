@@ -106,5 +106,5 @@ pub fn parse(alloc: Global, bytes: &[u8]) -> Result<Workload, ParseFault>
             reason: Reason::InputTooLong,
         });
     }
-    Ok(read_lines(alloc, bytes)?.finish())
+    Ok(read_lines(alloc, bytes)?.finish(alloc)?)
 }

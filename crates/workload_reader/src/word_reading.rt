@@ -7,7 +7,7 @@ ghost use Rattle.workload.specs.NumberWords.{is_number_to, is_amount_word, is_nu
 ghost use Rattle.workload.specs.Plan.{is_amount};
 ghost use Rattle.workload.specs.Checks.{operand_check};
 ghost use Rattle.workload_reader.specs.LineResult.{IsFault, IsOperands};
-ghost use Rattle.workload.specs.declared.limits.TheConstants.{MAX_VALUE};
+ghost use Rattle.sync_model.specs.declared.value.TheConstants.{MAX_VALUE};
 
 use crate::number::{amount, atomic_number, number};
 use std::alloc::Global;
@@ -15,7 +15,7 @@ use sync_model::name::is_name;
 use sync_model::{AtomicKind, Name, Number};
 use workload::fault::LineFault;
 use workload::keyword::Operand;
-use workload::limits::MAX_VALUE;
+use sync_model::MAX_VALUE;
 use workload::reason::Reason;
 
 /// The name that a word is.

@@ -1,6 +1,7 @@
-use Rattle.std.proofs.Common.{◌≡◌, ◌++◌, drop}
+use Rattle.std.proofs.Common.{◌≡◌, ◌++◌, drop, map}
+use Rattle.sync_model.specs.Ends.{number_end}
 use Rattle.step_runner.specs.Ends.{numbers_from}
 use Rattle.step_runner.proofs.ends.push_numbers.Given as goal
 
 abbrev pub invariant-loop-object : goal.invariant-loop-object
-invariant-loop-object l = l.ends ++ numbers_from l.object (drop l.object l.objects) ≡ l.initial.ends ++ numbers_from 0 l.objects
+invariant-loop-object l = l.ends ++ map number_end (numbers_from l.object (drop l.object l.objects)) ≡ l.initial.ends ++ map number_end (numbers_from 0 l.objects)

@@ -1,0 +1,34 @@
+-- Replies with the numbers of keys.
+use Rattle.std.proofs.Common.{◌≡◌, ℕ, Bool, true, ◌&&◌, List, [], ◌∷◌, map, length, refl, sym, ap, ◌∙◌}
+use Rattle.std.specs.Prelude.{nat_le}
+use Rattle.std.specs.List.{list_all}
+use Rattle.std.proofs.lemmas.List.{length-map}
+use Rattle.sync_model.specs.declared.call.Reply.{Reply}
+use Rattle.sync_model.specs.declared.call.Reply.TheVariants as replies
+use Rattle.sync_model.specs.Outcome.{with_keys_renamed, has_pairs_to}
+
+-- there are as many replies
+pub same_numbers : {A B : Type 0} (f : A → B) (lists : List (List A)) → map length (map (map f) lists) ≡ map length lists
+same_numbers f [] = refl
+same_numbers f (list ∷ lists) = λ i. length-map list f i ∷ same_numbers f lists i
+
+module _ {K L : Type 0} (rename : K → L) (most : ℕ) where
+  -- a reply shows as many pairs
+  same_pairs : (reply : Reply K) → has_pairs_to most (with_keys_renamed rename reply) ≡ has_pairs_to most reply
+  same_pairs (replies.Map reply) = refl
+  same_pairs (replies.Pairs pairs) = ap (λ n. nat_le n most) (length-map pairs (λ (pair : K × ℕ). (rename pair.0, pair.1)))
+  same_pairs (replies.Atomic reply) = refl
+  same_pairs (replies.Lock reply) = refl
+  same_pairs replies.Returned = refl
+  same_pairs (replies.Once reply) = refl
+  same_pairs (replies.OnceFunc code) = refl
+  same_pairs (replies.OnceValue value) = refl
+  same_pairs (replies.Pool reply) = refl
+
+  of_list : (list : List (Reply K)) → list_all (has_pairs_to most) (map (with_keys_renamed rename) list) ≡ list_all (has_pairs_to most) list
+  of_list [] = refl
+  of_list (reply ∷ list) = λ i. same_pairs reply i && of_list list i
+
+  pub same_few : (lists : List (List (Reply K))) → list_all (list_all (has_pairs_to most)) (map (map (with_keys_renamed rename)) lists) ≡ list_all (list_all (has_pairs_to most)) lists
+  same_few [] = refl
+  same_few (list ∷ lists) = λ i. of_list list i && same_few lists i

@@ -1,0 +1,38 @@
+//! How many items a workload puts into a pool.
+ghost use Rattle.std.specs.Prelude.{◌≡◌, ◌≤◌, count_by, length, sum_by};
+ghost use Rattle.workload.specs.Puts.{is_put_at, puts_at};
+ghost use Rattle.workload.specs.declared.limits.TheConstants.{MAX_CALLS};
+
+use sync_model::{Call, PoolCall, Seq};
+
+/// Whether a call puts an item into the pool at this place.
+fn is_put_at(call: &Call, place: usize) -> bool
+    ensures { result ≡ is_put_at place call.now }
+{
+    match call {
+        Call::Pool {
+            object,
+            call: PoolCall::Put(_),
+        } => *object == place,
+        _ => false,
+    }
+}
+
+/// How many puts a script makes into the pool at this place.
+fn puts_in(script: &[Call], place: usize) -> usize
+    ensures { result ≡ count_by (is_put_at place) script.now }
+{
+    script.iter().filter(|call| is_put_at(call, place)).count()
+}
+
+/// How many puts the scripts make into the pool at this place: no more than calls.
+pub(crate) fn puts_at(scripts: &[Seq<Call>], place: usize) -> u32
+    requires { sum_by length scripts.now ≤ MAX_CALLS }
+    ensures { result ≡ puts_at place scripts.now }
+{
+    let mut puts = 0;
+    for script in scripts {
+        puts += puts_in(script.as_slice(), place);
+    }
+    puts as u32
+}
