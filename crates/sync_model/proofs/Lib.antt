@@ -11,3 +11,4 @@ pub mod SameHistory
 pub mod SharedRanges
 pub mod SharedCallers
 pub mod SharedEntries
+pub mod SharedUses
