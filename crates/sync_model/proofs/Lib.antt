@@ -13,3 +13,4 @@ pub mod SameHistory
 pub mod SharedRanges
 pub mod SharedCallers
 pub mod SharedEntries
+pub mod SharedUses

@@ -10,7 +10,7 @@ use Rattle.sync_model.proofs.SharedCallers.{own_before, bound_is}
 
 module _ {A : Type 0} where
   -- an item stands in a list
-  abbrev IsIn : A → List A → Type 0
+  abbrev pub IsIn : A → List A → Type 0
   IsIn x xs = (i : ℕ) × (slice_get xs i ≡ Some x)
 
   -- an item that is kept, of those that a test keeps
@@ -30,7 +30,7 @@ module _ {A : Type 0} where
 
 module _ (c : ℕ) where
   -- an entry of the history is one of its caller's, with its number
-  entry_in : (k : ℕ) (history : List SharedEntry) (n : ℕ) (entry : SharedEntry) (p : ℕ × SharedEntry) → p ≡ (k + n, entry) → slice_get history n ≡ Some entry → entry.caller ≡ c → IsIn p (entries_from k c history)
+  pub entry_in : (k : ℕ) (history : List SharedEntry) (n : ℕ) (entry : SharedEntry) (p : ℕ × SharedEntry) → p ≡ (k + n, entry) → slice_get history n ≡ Some entry → entry.caller ≡ c → IsIn p (entries_from k c history)
   entry_in k [] n entry p is at mine = absurd (none-some entry at)
   entry_in k (first ∷ later) zero entry p is at mine =
       let same : first ≡ entry = same_Some first entry at in
@@ -43,7 +43,7 @@ module _ (c : ℕ) where
       kept_later (first.caller == c) p (k, first) (entries_from (k + 1) c later) (entry_in (k + 1) later n entry p (is ∙ ap (λ n. (n, entry)) number) at mine)
 
   -- and the other way round
-  entry_is : (k : ℕ) (history : List SharedEntry) (p : ℕ × SharedEntry) → IsIn p (entries_from k c history) → (n : ℕ) × (slice_get history n ≡ Some p.1) × (p.0 ≡ k + n) × (p.1.caller ≡ c)
+  pub entry_is : (k : ℕ) (history : List SharedEntry) (p : ℕ × SharedEntry) → IsIn p (entries_from k c history) → (n : ℕ) × (slice_get history n ≡ Some p.1) × (p.0 ≡ k + n) × (p.1.caller ≡ c)
   entry_is k [] p at = absurd (none-some p at.1)
   entry_is k (first ∷ later) p at = by_cases (kept_is (first.caller == c) p (k, first) (entries_from (k + 1) c later) at) (entry_is (k + 1) later p)
     where
@@ -57,7 +57,7 @@ module _ (c : ℕ) where
       by_cases (inr there) later_on = let rest = later_on there in let number = rest.2 in (suc rest.0, rest.1, omega arith, rest.3)
 
   -- a call that is an entry is marked, with its place
-  mark_in : (items : List Item) (j : ℕ) (x : Item) (p : ℕ × SharedEntry) → p ≡ (x.place, entry_of c x) → slice_get items j ≡ Some x → x.entry ≡ true → IsIn p (marked_in c items)
+  pub mark_in : (items : List Item) (j : ℕ) (x : Item) (p : ℕ × SharedEntry) → p ≡ (x.place, entry_of c x) → slice_get items j ≡ Some x → x.entry ≡ true → IsIn p (marked_in c items)
   mark_in [] j x p is at entry = absurd (none-some x at)
   mark_in (first ∷ later) zero x p is at entry =
       let same : first ≡ x = same_Some first x at in
@@ -66,7 +66,7 @@ module _ (c : ℕ) where
       (kept_first first.entry (first.place, entry_of c first) (marked_in c later) (ap (λ (y : Item). y.entry) same ∙ entry))
   mark_in (first ∷ later) (suc j) x p is at entry = kept_later first.entry p (first.place, entry_of c first) (marked_in c later) (mark_in later j x p is at entry)
 
-  mark_is : (items : List Item) (p : ℕ × SharedEntry) → IsIn p (marked_in c items) → (j : ℕ) × (x : Item) × (slice_get items j ≡ Some x) × (x.entry ≡ true) × (p ≡ (x.place, entry_of c x))
+  pub mark_is : (items : List Item) (p : ℕ × SharedEntry) → IsIn p (marked_in c items) → (j : ℕ) × (x : Item) × (slice_get items j ≡ Some x) × (x.entry ≡ true) × (p ≡ (x.place, entry_of c x))
   mark_is [] p at = absurd (none-some p at.1)
   mark_is (first ∷ later) p at = by_cases (kept_is first.entry p (first.place, entry_of c first) (marked_in c later) at) (mark_is later p)
     where

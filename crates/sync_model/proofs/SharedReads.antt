@@ -76,7 +76,7 @@ atomic_stays a contents (entry ∷ later) leave =
     atomic_stays a (shared_after entry.call contents) later (All-tail P entry later leave) ∙ atomic_left a entry.call contents (All-head P entry later leave)
 
 -- the contents after an entry and some that leave it
-behind : (start : Contents) (earlier between : List SharedEntry) (entry : SharedEntry) → contents_after start (earlier ++ entry ∷ between) ≡ contents_after (shared_after entry.call (contents_after start earlier)) between
+pub behind : (start : Contents) (earlier between : List SharedEntry) (entry : SharedEntry) → contents_after start (earlier ++ entry ∷ between) ≡ contents_after (shared_after entry.call (contents_after start earlier)) between
 behind start earlier between entry = contents_both start earlier (entry ∷ between)
 
 module _ (start : Contents) (earlier between later : List SharedEntry) (store : SharedEntry) where

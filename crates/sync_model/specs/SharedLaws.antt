@@ -1,16 +1,20 @@
 -- The words of the laws of shared histories.
-use Rattle.std.specs.Prelude.{◌≡◌, ℕ, ◌+◌, ◌≤◌, Bool, true, false, ◌&&◌, ◌==◌, List, [], ◌∷◌, ◌++◌, length, Some, All, slice_index, max}
+use Rattle.std.specs.Prelude.{◌≡◌, ℕ, ◌+◌, ◌≤◌, Bool, true, false, ◌&&◌, ◌==◌, ◌<◌, List, [], ◌∷◌, ◌++◌, length, take, Option, Some, All, slice_index, max}
 use Rattle.std.specs.Option.{option_map_or}
 use Rattle.sync_model.specs.declared.item.SharedCall.{SharedCall}
 use Rattle.sync_model.specs.declared.item.SharedCall.TheVariants.{Map, Begin, Next, Atomic}
+use Rattle.sync_model.specs.declared.item.SharedReply.TheVariants as replies
 use Rattle.sync_model.specs.declared.item.SharedEntry.{SharedEntry}
+use Rattle.sync_model.specs.declared.map_object.MapCall.TheVariants.{Load, Store}
+use Rattle.sync_model.specs.declared.map_object.MapReply.{MapReply}
+use Rattle.sync_model.specs.declared.map_object.MapReply.TheVariants.{Found}
 use Rattle.sync_model.specs.declared.item.Item.{Item}
 use Rattle.sync_model.specs.Front.{AtLeast}
 use Rattle.sync_model.specs.Journal.{Begins}
 use Rattle.sync_model.specs.Note.{Holding}
 use Rattle.sync_model.specs.SequentialMap.{map_key}
 use Rattle.sync_model.specs.SharedCalls.{bound}
-use Rattle.sync_model.specs.Shared.{CallerState}
+use Rattle.sync_model.specs.Shared.{CallerState, items_of}
 
 -- whether a call is on this key of this map, or on all its keys
 abbrev pub is_on_key : ℕ → ℕ → SharedCall → Bool
@@ -54,3 +58,25 @@ pub record TakesIn (x : Item) (cost : ℕ) (old new : CallerState) : Type 0 wher
   pub from : length old.seen ≤ x.place
   -- it has seen the call's entry, where it is one
   pub to : bound x ≤ length new.seen
+
+-- a caller stored a value and then loaded the key. The load lies behind the store, and answers the value, where no entry between the two is on the key
+pub record FindsItsStore (m key value : ℕ) (reply : MapReply) (old new : CallerState) : Type 0 where
+  pub store : Item
+  pub load : Item
+  pub items : items_of new.own ≡ items_of old.own ++ store ∷ load ∷ []
+  pub stores : store.call ≡ Map m (Store key value)
+  pub loads : load.call ≡ Map m (Load key)
+  pub replies : load.reply ≡ replies.Map reply
+  pub behind : store.place < load.place
+  pub finds : (earlier between : List SharedEntry) (entry : SharedEntry) → take load.place new.seen ≡ earlier ++ entry ∷ between → length earlier ≡ store.place → LeaveKey m key between → reply ≡ Found (Some value)
+
+-- a caller began a cursor over a map, made another call, and then a step of the cursor, which lies behind its begin
+pub record StepsOn (m : ℕ) (shown : Option (ℕ × ℕ)) (old new : CallerState) : Type 0 where
+  pub begin : Item
+  pub other : Item
+  pub step : Item
+  pub items : items_of new.own ≡ items_of old.own ++ begin ∷ other ∷ step ∷ []
+  pub begins : begin.call ≡ Begin m
+  pub steps : step.call ≡ Next (length (items_of old.own))
+  pub replies : step.reply ≡ replies.Shown shown
+  pub behind : begin.place ≤ step.place

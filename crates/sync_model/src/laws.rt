@@ -1,6 +1,7 @@
 //! Laws of the one-thread objects, of names, and of logs and journals, in the words of their users. Each is the contract of a function that does nothing.
 
 pub mod atomics;
+pub mod callers;
 pub mod journals;
 pub mod layout;
 pub mod logs;
