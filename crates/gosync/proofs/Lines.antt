@@ -4,7 +4,6 @@ use Rattle.std.specs.List.{list_all}
 use Rattle.std.proofs.Math.Seq.{drop-cons}
 use Rattle.sync_model.specs.declared.call.Call.{Call}
 use Rattle.sync_model.specs.declared.call.Reply.{Reply}
-use Rattle.workload.specs.declared.object.ObjectLine.{ObjectLine}
 use Rattle.std.proofs.Common.{inl, inr}
 use Rattle.std.proofs.Math.Dec.{ltb}
 use Rattle.std.proofs.lemmas.Bool.{eqb-true, lt-ltb, cases_lt}
@@ -12,22 +11,22 @@ use Rattle.workload.specs.Plan.{Plan, is_valid}
 use Rattle.gosync.specs.ReportText.{call_line, calls_text, workers_text}
 
 -- one more call
-pub calls_step : (objects : List ObjectLine) (worker i : ℕ) (script calls : List Call) (replies rest : List Reply) (call : Call) (reply : Reply)
-    → script ≡ call ∷ calls → replies ≡ reply ∷ rest → calls_text objects worker i script replies ≡ call_line objects worker i call reply ++ calls_text objects worker (i + 1) calls rest
-calls_step objects worker i script calls replies rest call reply e f =
-    ap (λ (cs : List Call). calls_text objects worker i cs replies) e ∙ ap (λ (rs : List Reply). calls_text objects worker i (call ∷ calls) rs) f
+pub calls_step : (plan : Plan) (worker i : ℕ) (script calls : List Call) (replies rest : List (Reply ℕ)) (call : Call) (reply : Reply ℕ)
+    → script ≡ call ∷ calls → replies ≡ reply ∷ rest → calls_text plan worker i script replies ≡ call_line plan worker i call reply ++ calls_text plan worker (i + 1) calls rest
+calls_step plan worker i script calls replies rest call reply e f =
+    ap (λ (cs : List Call). calls_text plan worker i cs replies) e ∙ ap (λ (rs : List (Reply ℕ)). calls_text plan worker i (call ∷ calls) rs) f
 
 -- one more worker
-pub workers_step : (objects : List ObjectLine) (worker : ℕ) (scripts more : List (List Call)) (replies rest : List (List Reply)) (script : List Call) (completed : List Reply)
-    → scripts ≡ script ∷ more → replies ≡ completed ∷ rest → workers_text objects worker scripts replies ≡ calls_text objects worker 0 script completed ++ workers_text objects (worker + 1) more rest
-workers_step objects worker scripts more replies rest script completed e f =
-    ap (λ (ss : List (List Call)). workers_text objects worker ss replies) e ∙ ap (λ (rs : List (List Reply)). workers_text objects worker (script ∷ more) rs) f
+pub workers_step : (plan : Plan) (worker : ℕ) (scripts more : List (List Call)) (replies rest : List (List (Reply ℕ))) (script : List Call) (completed : List (Reply ℕ))
+    → scripts ≡ script ∷ more → replies ≡ completed ∷ rest → workers_text plan worker scripts replies ≡ calls_text plan worker 0 script completed ++ workers_text plan (worker + 1) more rest
+workers_step plan worker scripts more replies rest script completed e f =
+    ap (λ (ss : List (List Call)). workers_text plan worker ss replies) e ∙ ap (λ (rs : List (List (Reply ℕ))). workers_text plan worker (script ∷ more) rs) f
 
 -- no replies are left
-pub workers_none : (objects : List ObjectLine) (worker : ℕ) (scripts : List (List Call)) (replies : List (List Reply)) → replies ≡ [] → workers_text objects worker scripts replies ≡ []
-workers_none objects worker scripts replies e = ap (workers_text objects worker scripts) e ∙ none scripts
+pub workers_none : (plan : Plan) (worker : ℕ) (scripts : List (List Call)) (replies : List (List (Reply ℕ))) → replies ≡ [] → workers_text plan worker scripts replies ≡ []
+workers_none plan worker scripts replies e = ap (workers_text plan worker scripts) e ∙ none scripts
   where
-    none : (ss : List (List Call)) → workers_text objects worker ss [] ≡ []
+    none : (ss : List (List Call)) → workers_text plan worker ss [] ≡ []
     none [] = refl
     none (s ∷ ss) = refl
 

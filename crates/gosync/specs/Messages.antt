@@ -5,8 +5,8 @@ use Rattle.sync_outside.specs.Faults.{Rose}
 use Rattle.std.specs.Fmt.{decimal}
 use Rattle.sync_model.specs.Misuse.{text_of}
 use Rattle.workload.specs.Reason.{reason_text}
-use Rattle.step_runner.specs.declared.outcome.Outcome.{Outcome}
-use Rattle.step_runner.specs.declared.outcome.Outcome.TheVariants as outcomes
+use Rattle.sync_model.specs.declared.outcome.Outcome.{Outcome}
+use Rattle.sync_model.specs.declared.outcome.Outcome.TheVariants as outcomes
 use Rattle.gosync.specs.declared.status.Status.{Status}
 use Rattle.gosync.specs.declared.status.Status.TheVariants.{Done, NotAccepted, Misused, Deadlocked, CannotRead, CannotWrite, Memory, Usage}
 

@@ -18,14 +18,15 @@ use Rattle.sync_model.specs.declared.pool_call.PoolCallReply.TheVariants as pool
 use Rattle.workload.specs.declared.object.ObjectLine.{ObjectLine}
 use Rattle.workload.specs.Canonical.{behind_spaces, name_of}
 use Rattle.workload.specs.Canonical as texts
+use Rattle.workload.specs.Keys.{keys_in, key_name}
 use Rattle.workload.specs.Plan.{Plan}
 use Rattle.workload.specs.NumberWords.{number_word}
 use Rattle.workload.specs.Words.{spelled}
-use Rattle.step_runner.specs.declared.ends.End.{End}
-use Rattle.step_runner.specs.declared.ends.End.TheVariants.{Number, Pair}
-use Rattle.step_runner.specs.Pairs.{left_by}
-use Rattle.step_runner.specs.declared.outcome.Outcome.{Outcome}
-use Rattle.step_runner.specs.declared.outcome.Outcome.TheVariants as outcomes
+use Rattle.sync_model.specs.declared.outcome.End.{End}
+use Rattle.sync_model.specs.declared.outcome.End.TheVariants.{Number, Pair}
+use Rattle.sync_model.specs.Outcome.{left_by}
+use Rattle.sync_model.specs.declared.outcome.Outcome.{Outcome}
+use Rattle.sync_model.specs.declared.outcome.Outcome.TheVariants as outcomes
 
 -- the words of a call, as a workload's text spells them
 abbrev pub call_words : List ObjectLine → Call → List (List ℕ)
@@ -43,14 +44,14 @@ map_reply_text (map_replies.Found (Some value)) = decimal value ++ codes " true"
 map_reply_text (map_replies.Settled value loaded) = decimal value ++ codes " " ++ truth_text loaded
 map_reply_text (map_replies.Compared is_old) = truth_text is_old
 
--- a key that a `range` shows: `KEY=VALUE`
-abbrev pub pair_text : List ℕ × ℕ → List ℕ
-pair_text pair = pair.0 ++ codes "=" ++ decimal pair.1
+-- a key that a `range` shows, by its number among these keys: `KEY=VALUE`
+abbrev pub pair_text : List (List ℕ) → ℕ × ℕ → List ℕ
+pair_text keys pair = key_name keys pair.0 ++ codes "=" ++ decimal pair.1
 
 -- the keys that a `range` shows, with one space between two
-abbrev pub pairs_text : List (List ℕ × ℕ) → List ℕ
-pairs_text [] = codes "-"
-pairs_text (pair ∷ pairs) = pair_text pair ++ behind_spaces (map pair_text pairs)
+abbrev pub pairs_text : List (List ℕ) → List (ℕ × ℕ) → List ℕ
+pairs_text keys [] = codes "-"
+pairs_text keys (pair ∷ pairs) = pair_text keys pair ++ behind_spaces (map (pair_text keys) pairs)
 
 -- a reply of an atomic: nothing, a number, or whether it was the old one
 abbrev pub atomic_reply_text : AtomicReply → List ℕ
@@ -79,41 +80,42 @@ pool_reply_text pool_replies.Done = codes "ok"
 pool_reply_text (pool_replies.Put item) = decimal item ++ codes " put"
 pool_reply_text pool_replies.New = codes "0 new"
 
-abbrev pub reply_text : Reply → List ℕ
-reply_text (replies.Map reply) = map_reply_text reply
-reply_text (replies.Pairs pairs) = pairs_text pairs
-reply_text (replies.Atomic reply) = atomic_reply_text reply
-reply_text (replies.Lock reply) = lock_reply_text reply
-reply_text replies.Returned = codes "ok"
-reply_text (replies.Once reply) = once_reply_text reply
-reply_text (replies.OnceFunc code) = once_func_reply_text code
-reply_text (replies.OnceValue value) = decimal value
-reply_text (replies.Pool reply) = pool_reply_text reply
+-- a reply, whose keys have their numbers among these
+abbrev pub reply_text : List (List ℕ) → Reply ℕ → List ℕ
+reply_text keys (replies.Map reply) = map_reply_text reply
+reply_text keys (replies.Pairs pairs) = pairs_text keys pairs
+reply_text keys (replies.Atomic reply) = atomic_reply_text reply
+reply_text keys (replies.Lock reply) = lock_reply_text reply
+reply_text keys replies.Returned = codes "ok"
+reply_text keys (replies.Once reply) = once_reply_text reply
+reply_text keys (replies.OnceFunc code) = once_func_reply_text code
+reply_text keys (replies.OnceValue value) = decimal value
+reply_text keys (replies.Pool reply) = pool_reply_text reply
 
 -- the line of a completed call: `WORKER.INDEX CALL -> REPLY`
-abbrev pub call_line : List ObjectLine → ℕ → ℕ → Call → Reply → List ℕ
-call_line objects worker index call reply =
-    decimal worker ++ codes "." ++ decimal index ++ behind_spaces (call_words objects call) ++ codes " -> " ++ reply_text reply ++ codes "\n"
+abbrev pub call_line : Plan → ℕ → ℕ → Call → Reply ℕ → List ℕ
+call_line plan worker index call reply =
+    decimal worker ++ codes "." ++ decimal index ++ behind_spaces (call_words plan.objects call) ++ codes " -> " ++ reply_text (keys_in plan.scripts) reply ++ codes "\n"
 
 -- a worker's completed calls, from an index on: as many of its script as there are replies
-abbrev pub calls_text : List ObjectLine → ℕ → ℕ → List Call → List Reply → List ℕ
-calls_text objects worker index (call ∷ calls) (reply ∷ replies) = call_line objects worker index call reply ++ calls_text objects worker (index + 1) calls replies
-calls_text objects worker index [] replies = []
-calls_text objects worker index (call ∷ calls) [] = []
+abbrev pub calls_text : Plan → ℕ → ℕ → List Call → List (Reply ℕ) → List ℕ
+calls_text plan worker index (call ∷ calls) (reply ∷ replies) = call_line plan worker index call reply ++ calls_text plan worker (index + 1) calls replies
+calls_text plan worker index [] replies = []
+calls_text plan worker index (call ∷ calls) [] = []
 
 -- the completed calls of the workers, from a worker on
-abbrev pub workers_text : List ObjectLine → ℕ → List (List Call) → List (List Reply) → List ℕ
-workers_text objects worker (script ∷ scripts) (replies ∷ rest) = calls_text objects worker 0 script replies ++ workers_text objects (worker + 1) scripts rest
-workers_text objects worker [] replies = []
-workers_text objects worker (script ∷ scripts) [] = []
+abbrev pub workers_text : Plan → ℕ → List (List Call) → List (List (Reply ℕ)) → List ℕ
+workers_text plan worker (script ∷ scripts) (replies ∷ rest) = calls_text plan worker 0 script replies ++ workers_text plan (worker + 1) scripts rest
+workers_text plan worker [] replies = []
+workers_text plan worker (script ∷ scripts) [] = []
 
 -- the line of an atomic at the end, `end NAME VALUE`, and of a key that is there in a map, `end NAME KEY VALUE`
-abbrev pub end_line : List ObjectLine → End → List ℕ
-end_line objects (Number object number) = codes "end" ++ behind_spaces (name_of (slice_get objects object) ∷ number_word number ∷ []) ++ codes "\n"
-end_line objects (Pair object key value) = codes "end" ++ behind_spaces (name_of (slice_get objects object) ∷ key ∷ decimal value ∷ []) ++ codes "\n"
+abbrev pub end_line : Plan → End → List ℕ
+end_line plan (Number object number) = codes "end" ++ behind_spaces (name_of (slice_get plan.objects object) ∷ number_word number ∷ []) ++ codes "\n"
+end_line plan (Pair object key value) = codes "end" ++ behind_spaces (name_of (slice_get plan.objects object) ∷ key_name (keys_in plan.scripts) key ∷ decimal value ∷ []) ++ codes "\n"
 
-abbrev pub ends_text : List ObjectLine → List End → List ℕ
-ends_text objects ends = flat_map (end_line objects) ends
+abbrev pub ends_text : Plan → List End → List ℕ
+ends_text plan ends = flat_map (end_line plan) ends
 
 -- the end lines come only where every script has ended
 abbrev pub ends_of : Outcome → List End
@@ -123,4 +125,4 @@ ends_of (outcomes.Deadlocked left) = []
 
 -- the report of what a run of a workload came to
 abbrev pub report_text : Plan → Outcome → List ℕ
-report_text plan outcome = workers_text plan.objects 0 plan.scripts (left_by outcome).replies ++ ends_text plan.objects (ends_of outcome)
+report_text plan outcome = workers_text plan 0 plan.scripts (left_by outcome).replies ++ ends_text plan (ends_of outcome)

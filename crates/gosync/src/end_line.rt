@@ -3,16 +3,18 @@ ghost use Rattle.std.specs.Prelude.{◌≡◌, ◌≤◌, vec_capacity};
 ghost use Rattle.gosync.specs.ReportText.{end_line};
 
 use crate::line::{LINE_ROOM, push, push_atomic_word, push_number_word, push_word};
-use step_runner::End;
-use workload::ObjectLine;
+use sync_model::End;
+use workload::Workload;
+use workload::keys::key_name;
 use workload::object::name_at;
 
 /// Makes the line of a value that an object holds at the end.
-pub fn set_end_line(line: &mut Vec<u8>, objects: &[ObjectLine], end: &End)
+pub fn set_end_line(line: &mut Vec<u8>, workload: &Workload, end: &End)
     requires { LINE_ROOM ≤ vec_capacity line.old }
-    ensures line { line.new.items ≡ end_line objects.now end.now }
+    ensures line { line.new.items ≡ end_line workload.now end.now }
     ensures room { vec_capacity line.old ≤ vec_capacity line.new }
 {
+    let objects = workload.objects();
     line.clear();
     push(line, b"end");
     match end {
@@ -22,7 +24,7 @@ pub fn set_end_line(line: &mut Vec<u8>, objects: &[ObjectLine], end: &End)
         }
         End::Pair { object, key, value } => {
             push_word(line, name_at(objects, *object));
-            push_word(line, key.as_bytes());
+            push_word(line, key_name(workload.keys().names(), *key));
             push_number_word(line, *value);
         }
     }

@@ -1,12 +1,13 @@
 //! A reply in a line of the report.
 ghost use Rattle.std.specs.Prelude.{◌≡◌, ◌+◌, ◌*◌, ◌≤◌, ◌++◌, true, length, map, vec_len, vec_capacity};
 ghost use Rattle.workload.specs.declared.limits.TheConstants.{MAX_KEYS};
-ghost use Rattle.step_turns.specs.Pairs.{has_pairs_to};
+ghost use Rattle.sync_model.specs.Outcome.{has_pairs_to};
 ghost use Rattle.workload.specs.Canonical.{behind_spaces};
 ghost use Rattle.gosync.specs.ReportText.{map_reply_text, pair_text, pairs_text, atomic_reply_text, lock_reply_text, once_reply_text, once_func_reply_text, pool_reply_text, reply_text};
 
 use crate::line::{push, push_atomic_number, push_number, push_signed, push_truth};
 use sync_model::{AtomicReply, DoReply, LockReply, MapReply, Name, PoolCallReply, Reply};
+use workload::keys::key_name;
 
 /// The most bytes of a reply: 4,096 pairs, each of a key of 32 bytes, `=`, a value of 20 digits, and a
 /// space before the next.
@@ -35,45 +36,45 @@ fn push_map_reply(line: &mut Vec<u8>, reply: &MapReply)
     }
 }
 
-/// Adds a key with its value.
-fn push_pair(line: &mut Vec<u8>, pair: &(Name, u64))
+/// Adds a key, by its number among these, with its value.
+fn push_pair(line: &mut Vec<u8>, keys: &[Name], pair: (u32, u64))
     requires { vec_len line.old + 53 ≤ vec_capacity line.old }
-    ensures text { line.new.items ≡ line.old.items ++ pair_text pair.now }
+    ensures text { line.new.items ≡ line.old.items ++ pair_text keys.now pair }
     ensures len { vec_len line.new ≤ vec_len line.old + 53 }
     ensures room { vec_capacity line.old ≤ vec_capacity line.new }
 {
     let (key, value) = pair;
-    push(line, key.as_bytes());
+    push(line, key_name(keys, key));
     push(line, b"=");
-    push_number(line, *value);
+    push_number(line, value);
 }
 
 /// Adds keys with their values, each behind a space.
-fn push_more_pairs(line: &mut Vec<u8>, pairs: &[(Name, u64)])
+fn push_more_pairs(line: &mut Vec<u8>, keys: &[Name], pairs: &[(u32, u64)])
     requires { vec_len line.old + 54 * length pairs.now ≤ vec_capacity line.old }
-    ensures text { line.new.items ≡ line.old.items ++ behind_spaces (map pair_text pairs.now) }
+    ensures text { line.new.items ≡ line.old.items ++ behind_spaces (map (pair_text keys.now) pairs.now) }
     ensures len { vec_len line.new ≤ vec_len line.old + 54 * length pairs.now }
     ensures room { vec_capacity line.old ≤ vec_capacity line.new }
 {
     for pair in pairs {
         push(line, b" ");
-        push_pair(line, pair);
+        push_pair(line, keys, *pair);
     }
 }
 
 /// Adds the keys that a `range` shows, with their values.
-fn push_pairs(line: &mut Vec<u8>, pairs: &[(Name, u64)])
+fn push_pairs(line: &mut Vec<u8>, keys: &[Name], pairs: &[(u32, u64)])
     requires few { length pairs.now ≤ MAX_KEYS }
     requires room { vec_len line.old + REPLY_ROOM ≤ vec_capacity line.old }
-    ensures text { line.new.items ≡ line.old.items ++ pairs_text pairs.now }
+    ensures text { line.new.items ≡ line.old.items ++ pairs_text keys.now pairs.now }
     ensures len { vec_len line.new ≤ vec_len line.old + REPLY_ROOM }
     ensures room { vec_capacity line.old ≤ vec_capacity line.new }
 {
     match pairs.split_first() {
         None => push(line, b"-"),
         Some((first, rest)) => {
-            push_pair(line, first);
-            push_more_pairs(line, rest);
+            push_pair(line, keys, *first);
+            push_more_pairs(line, keys, rest);
         }
     }
 }
@@ -154,17 +155,17 @@ fn push_pool_reply(line: &mut Vec<u8>, reply: PoolCallReply)
     }
 }
 
-/// Adds a reply.
-pub fn push_reply(line: &mut Vec<u8>, reply: &Reply)
+/// Adds a reply, whose keys have their numbers among these.
+pub fn push_reply(line: &mut Vec<u8>, keys: &[Name], reply: &Reply<u32>)
     requires pairs { has_pairs_to MAX_KEYS reply.now ≡ true }
     requires room { vec_len line.old + REPLY_ROOM ≤ vec_capacity line.old }
-    ensures text { line.new.items ≡ line.old.items ++ reply_text reply.now }
+    ensures text { line.new.items ≡ line.old.items ++ reply_text keys.now reply.now }
     ensures len { vec_len line.new ≤ vec_len line.old + REPLY_ROOM }
     ensures room { vec_capacity line.old ≤ vec_capacity line.new }
 {
     match reply {
         Reply::Map(reply) => push_map_reply(line, reply),
-        Reply::Pairs(pairs) => push_pairs(line, pairs.as_slice()),
+        Reply::Pairs(pairs) => push_pairs(line, keys, pairs.as_slice()),
         Reply::Atomic(reply) => push_atomic_reply(line, *reply),
         Reply::Lock(reply) => push_lock_reply(line, *reply),
         Reply::Returned => push(line, b"ok"),

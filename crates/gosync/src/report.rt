@@ -4,15 +4,13 @@ ghost use Rattle.std.specs.List.{list_all};
 ghost use Rattle.sync_outside.specs.Bytes.{Appends, AppendsFront};
 ghost use Rattle.sync_outside.specs.Faults.{Rose};
 ghost use Rattle.workload.specs.declared.limits.TheConstants.{MAX_KEYS};
-ghost use Rattle.step_turns.specs.Pairs.{has_pairs_to};
-ghost use Rattle.step_runner.specs.Pairs.{has_few_pairs};
+ghost use Rattle.sync_model.specs.Outcome.{has_pairs_to, shows_to};
 ghost use Rattle.gosync.specs.ReportText.{call_line, calls_text, workers_text, ends_text, report_text};
 
 use crate::call_line::set_call_line;
 use crate::end_line::set_end_line;
 use crate::line::LINE_ROOM;
-use step_runner::{End, Outcome};
-use sync_model::{Reply, Seq};
+use sync_model::{End, Outcome, Reply, Seq};
 use sync_outside::{Failed, Sink};
 use workload::Workload;
 
@@ -20,15 +18,15 @@ use workload::Workload;
 fn write_calls<O: Sink>(
     workload: &Workload,
     worker: u32,
-    replies: &[Reply],
+    replies: &[Reply<u32>],
     line: &mut Vec<u8>,
     out: &mut O,
 ) -> Result<(), Failed>
     requires worker { worker < workload.now.workers }
     requires pairs { list_all (has_pairs_to MAX_KEYS) replies.now ≡ true }
     requires room { LINE_ROOM ≤ vec_capacity line.old }
-    ensures ok { OnOk result (Appends (O.contents out.old) (O.contents out.new) (calls_text workload.now.objects worker 0 (get_or workload.now.scripts worker []) replies.now)) }
-    ensures err { OnErr result (AppendsFront (O.contents out.old) (O.contents out.new) (calls_text workload.now.objects worker 0 (get_or workload.now.scripts worker []) replies.now)) }
+    ensures ok { OnOk result (Appends (O.contents out.old) (O.contents out.new) (calls_text workload.now worker 0 (get_or workload.now.scripts worker []) replies.now)) }
+    ensures err { OnErr result (AppendsFront (O.contents out.old) (O.contents out.new) (calls_text workload.now worker 0 (get_or workload.now.scripts worker []) replies.now)) }
     ensures failed { OnErr result (Rose (O.faults out.old) (O.faults out.new)) }
     ensures faults { O.faults out.old ≤ O.faults out.new }
     ensures room { LINE_ROOM ≤ vec_capacity line.new }
@@ -38,7 +36,7 @@ fn write_calls<O: Sink>(
         let Some(reply) = replies.get(index) else {
             return Ok(());
         };
-        set_call_line(line, workload.objects(), worker, index, call, reply);
+        set_call_line(line, workload, worker, index, call, reply);
         out.write(line)?;
     }
     Ok(())
@@ -47,14 +45,14 @@ fn write_calls<O: Sink>(
 /// Writes the completed calls of all workers.
 fn write_workers<O: Sink>(
     workload: &Workload,
-    replies: &[Seq<Reply>],
+    replies: &[Seq<Reply<u32>>],
     line: &mut Vec<u8>,
     out: &mut O,
 ) -> Result<(), Failed>
     requires pairs { list_all (list_all (has_pairs_to MAX_KEYS)) replies.now ≡ true }
     requires room { LINE_ROOM ≤ vec_capacity line.old }
-    ensures ok { OnOk result (Appends (O.contents out.old) (O.contents out.new) (workers_text workload.now.objects 0 workload.now.scripts replies.now)) }
-    ensures err { OnErr result (AppendsFront (O.contents out.old) (O.contents out.new) (workers_text workload.now.objects 0 workload.now.scripts replies.now)) }
+    ensures ok { OnOk result (Appends (O.contents out.old) (O.contents out.new) (workers_text workload.now 0 workload.now.scripts replies.now)) }
+    ensures err { OnErr result (AppendsFront (O.contents out.old) (O.contents out.new) (workers_text workload.now 0 workload.now.scripts replies.now)) }
     ensures failed { OnErr result (Rose (O.faults out.old) (O.faults out.new)) }
     ensures faults { O.faults out.old ≤ O.faults out.new }
     ensures room { LINE_ROOM ≤ vec_capacity line.new }
@@ -76,13 +74,13 @@ fn write_ends<O: Sink>(
     out: &mut O,
 ) -> Result<(), Failed>
     requires room { LINE_ROOM ≤ vec_capacity line.old }
-    ensures ok { OnOk result (Appends (O.contents out.old) (O.contents out.new) (ends_text workload.now.objects ends.now)) }
-    ensures err { OnErr result (AppendsFront (O.contents out.old) (O.contents out.new) (ends_text workload.now.objects ends.now)) }
+    ensures ok { OnOk result (Appends (O.contents out.old) (O.contents out.new) (ends_text workload.now ends.now)) }
+    ensures err { OnErr result (AppendsFront (O.contents out.old) (O.contents out.new) (ends_text workload.now ends.now)) }
     ensures failed { OnErr result (Rose (O.faults out.old) (O.faults out.new)) }
     ensures faults { O.faults out.old ≤ O.faults out.new }
 {
     for end in ends {
-        set_end_line(line, workload.objects(), end);
+        set_end_line(line, workload, end);
         out.write(line)?;
     }
     Ok(())
@@ -99,7 +97,7 @@ pub fn report<O: Sink>(
     line: &mut Vec<u8>,
     out: &mut O,
 ) -> Result<(), Failed>
-    requires pairs { has_few_pairs outcome.now ≡ true }
+    requires pairs { shows_to MAX_KEYS outcome.now ≡ true }
     requires room { LINE_ROOM ≤ vec_capacity line.old }
     ensures ok { OnOk result (Appends (O.contents out.old) (O.contents out.new) (report_text workload.now outcome.now)) }
     ensures err { OnErr result (AppendsFront (O.contents out.old) (O.contents out.new) (report_text workload.now outcome.now)) }

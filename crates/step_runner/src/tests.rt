@@ -1,7 +1,10 @@
-use crate::{End, Outcome, Report, stepped};
+use crate::stepped;
 use std::alloc::{AllocError, Global};
 use std::test::Fail;
-use sync_model::{AtomicReply, DoReply, LockReply, MapReply, Name, Number, PoolCallReply, Reply};
+use sync_model::{
+    AtomicReply, DoReply, End, LockReply, MapReply, Name, Number, Outcome, PoolCallReply, Reply, Report,
+};
+use workload::keys::key_name;
 use workload_reader::parse;
 
 fn push_number(alloc: Global, text: &mut String, number: Number) -> Result<(), AllocError> {
@@ -26,20 +29,30 @@ fn push_map_reply(alloc: Global, text: &mut String, reply: &MapReply) -> Result<
     text.push_str(&word)
 }
 
-fn push_pairs(alloc: Global, text: &mut String, pairs: &[(Name, u64)]) -> Result<(), AllocError> {
+fn push_pairs(
+    alloc: Global,
+    text: &mut String,
+    keys: &[Name],
+    pairs: &[(u32, u64)],
+) -> Result<(), AllocError> {
     text.push_str(" [")?;
     for (key, value) in pairs {
-        let key = str::from_utf8(key.as_bytes()).unwrap_or("not text");
+        let key = str::from_utf8(key_name(keys, *key)).unwrap_or("not text");
         let word = format!(in alloc; "{key}={value},")?;
         text.push_str(&word)?;
     }
     text.push_str("]")
 }
 
-fn push_reply(alloc: Global, text: &mut String, reply: &Reply) -> Result<(), AllocError> {
+fn push_reply(
+    alloc: Global,
+    text: &mut String,
+    keys: &[Name],
+    reply: &Reply<u32>,
+) -> Result<(), AllocError> {
     match reply {
         Reply::Map(reply) => push_map_reply(alloc, text, reply),
-        Reply::Pairs(pairs) => push_pairs(alloc, text, pairs.as_slice()),
+        Reply::Pairs(pairs) => push_pairs(alloc, text, keys, pairs.as_slice()),
         Reply::Atomic(AtomicReply::Done) => text.push_str(" ok"),
         Reply::Atomic(AtomicReply::Compared(same)) => {
             let word = format!(in alloc; " {same}")?;
@@ -78,7 +91,12 @@ fn push_reply(alloc: Global, text: &mut String, reply: &Reply) -> Result<(), All
     }
 }
 
-fn push_end(alloc: Global, text: &mut String, end: &End) -> Result<(), AllocError> {
+fn push_end(
+    alloc: Global,
+    text: &mut String,
+    keys: &[Name],
+    end: &End,
+) -> Result<(), AllocError> {
     match end {
         End::Number { object, number } => {
             let word = format!(in alloc; " {object}=")?;
@@ -86,7 +104,7 @@ fn push_end(alloc: Global, text: &mut String, end: &End) -> Result<(), AllocErro
             push_number(alloc, text, *number)
         }
         End::Pair { object, key, value } => {
-            let key = str::from_utf8(key.as_bytes()).unwrap_or("not text");
+            let key = str::from_utf8(key_name(keys, *key)).unwrap_or("not text");
             let words = format!(in alloc; " {object}.{key}={value}")?;
             text.push_str(&words)
         }
@@ -94,16 +112,16 @@ fn push_end(alloc: Global, text: &mut String, end: &End) -> Result<(), AllocErro
 }
 
 // The replies of each worker, and what the objects hold at the end.
-fn told(alloc: Global, report: &Report) -> Result<String, AllocError> {
+fn told(alloc: Global, keys: &[Name], report: &Report) -> Result<String, AllocError> {
     let mut text = String::new(alloc);
     for replies in report.replies.as_slice() {
         for reply in replies.as_slice() {
-            push_reply(alloc, &mut text, reply)?;
+            push_reply(alloc, &mut text, keys, reply)?;
         }
         text.push_str(" /")?;
     }
     for end in report.ends.as_slice() {
-        push_end(alloc, &mut text, end)?;
+        push_end(alloc, &mut text, keys, end)?;
     }
     Ok(text)
 }
@@ -114,15 +132,16 @@ fn told_of(alloc: Global, text: &str) -> Result<Option<String>, AllocError> {
     let Ok(workload) = parse(alloc, text.as_bytes()) else {
         return Ok(None);
     };
+    let keys = workload.keys().names();
     match stepped(alloc, &workload)? {
-        Outcome::Done(report) => Ok(Some(told(alloc, &report)?)),
+        Outcome::Done(report) => Ok(Some(told(alloc, keys, &report)?)),
         Outcome::Misused(report, misuse) => {
-            let left = told(alloc, &report)?;
+            let left = told(alloc, keys, &report)?;
             let text = misuse.text();
             Ok(Some(format!(in alloc; "{left} {text}")?))
         }
         Outcome::Deadlocked(report) => {
-            let left = told(alloc, &report)?;
+            let left = told(alloc, keys, &report)?;
             Ok(Some(format!(in alloc; "{left} deadlock")?))
         }
     }

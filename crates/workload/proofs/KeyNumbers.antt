@@ -1,5 +1,5 @@
 -- The numbers of keys.
-use Rattle.std.proofs.Common.{◌≡◌, ℕ, zero, suc, ◌+◌, ◌<◌, ◌≤◌, Bool, true, false, cond, ◌||◌, List, [], ◌∷◌, ◌++◌, length, drop, get_or, Option, Some, None, refl, sym, ap, ◌∙◌, subst, arith, length-append}
+use Rattle.std.proofs.Common.{◌≡◌, ℕ, suc, ◌+◌, ◌<◌, ◌≤◌, Bool, true, false, cond, ◌||◌, List, [], ◌∷◌, ◌++◌, length, drop, get_or, Option, Some, None, refl, sym, ap, ◌∙◌, arith, length-append}
 use Rattle.std.specs.Prelude.{is_some}
 use Rattle.std.specs.List.{list_any, flat_map, position_from}
 use Rattle.std.specs.Str.{bytes_eq}
@@ -14,7 +14,7 @@ use Rattle.workload.specs.Draft.{keys_of, all_keys, distinct_count}
 use Rattle.workload.specs.Keys.{with_name, with_names, keys_in, number_in}
 use Rattle.workload.proofs.KeyLemmas.{distinct_same}
 
-eq_self : (key : List ℕ) → bytes_eq key key ≡ true
+pub eq_self : (key : List ℕ) → bytes_eq key key ≡ true
 eq_self key = (bytes_eq-Decides key key).1 refl
 
 -- ---- the number of a name
@@ -28,7 +28,7 @@ some_found p n (name ∷ names) =
     ]
 
 -- a name at the end is found where it is the first
-position_push : (p : List ℕ → Bool) (n : ℕ) (names : List (List ℕ)) (name : List ℕ)
+pub position_push : (p : List ℕ → Bool) (n : ℕ) (names : List (List ℕ)) (name : List ℕ)
     → position_from p n (names ++ name ∷ []) ≡ cond (list_any p names) (position_from p n names) (cond (p name) (Some (n + length names)) None)
 position_push p n [] name = ap (λ (k : ℕ). cond (p name) (Some k) None) (let e : n ≡ n + 0 = omega arith in e)
 position_push p n (first ∷ names) name =
@@ -84,7 +84,7 @@ any_same q name names there = at (bytes_eq q name) refl
     at true e = or_true (list_any (bytes_eq q) names) (ap (λ (x : List ℕ). list_any (bytes_eq x) names) ((bytes_eq-Decides q name).0 e) ∙ there)
     at false e = sym (or_false (list_any (bytes_eq q) names))
 
-any_name : (names : List (List ℕ)) (name q : List ℕ) → list_any (bytes_eq q) (with_name names name) ≡ (list_any (bytes_eq q) names || bytes_eq q name)
+pub any_name : (names : List (List ℕ)) (name q : List ℕ) → list_any (bytes_eq q) (with_name names name) ≡ (list_any (bytes_eq q) names || bytes_eq q name)
 any_name names name q = at (list_any (bytes_eq name) names) refl
   where
     at : (b : Bool) → list_any (bytes_eq name) names ≡ b → list_any (bytes_eq q) (cond b names (names ++ name ∷ [])) ≡ (list_any (bytes_eq q) names || bytes_eq q name)
@@ -126,7 +126,7 @@ differ_names names (name ∷ more) differ = differ_names (with_name names name) 
 pub length_keys : (scripts : List (List Call)) → length (keys_in scripts) ≡ distinct_count (all_keys scripts)
 length_keys scripts = sym (differ_names [] (all_keys scripts) refl) ∙ distinct_same (keys_in scripts) (all_keys scripts) (any_names [] (all_keys scripts))
 
-longer_name : (names : List (List ℕ)) (name : List ℕ) → length names ≤ length (with_name names name)
+pub longer_name : (names : List (List ℕ)) (name : List ℕ) → length names ≤ length (with_name names name)
 longer_name names name = at (list_any (bytes_eq name) names)
   where
     at : (b : Bool) → length names ≤ length (cond b names (names ++ name ∷ []))

@@ -1,6 +1,7 @@
 pub mod DraftLemmas
 pub mod Follows
 pub mod KeyLemmas
+mod KeyLaws
 pub mod KeyNumbers
 mod Keywords
 pub mod Numbers

@@ -1,10 +1,15 @@
 //! Laws of the grammar.
-ghost use Rattle.std.specs.Prelude.{◌≡◌, ◌⊎◌, ◌<◌, ℕ, ◌-◌, ◌^◌, ◌∷◌, true, List, Some, length, take, drop};
+ghost use Rattle.std.specs.Prelude.{◌≡◌, ◌↔◌, ◌⊎◌, ◌<◌, ℕ, ◌-◌, ◌^◌, ◌∷◌, true, List, Some, length, slice_get, take, drop};
+ghost use Rattle.std.specs.List.{list_any, position_from};
+ghost use Rattle.std.specs.Str.{bytes_eq};
 ghost use Rattle.std.specs.Fmt.{decimal};
 ghost use Rattle.sync_model.specs.declared.name.TheConstants.{MAX_NAME};
 ghost use Rattle.workload.specs.Canonical.{canonical, eights};
 ghost use Rattle.workload.specs.Checks.{FailsFirst, PassesFirst, LimitsAreLeft};
+ghost use Rattle.workload.specs.Draft.{all_keys, distinct_count};
+ghost use Rattle.workload.specs.Keys.{keys_in, number_in, key_number, key_name};
 ghost use Rattle.workload.specs.Readable.{IsReadable};
+ghost use Rattle.sync_model.specs.declared.call.Call.{Call};
 ghost use Rattle.workload.specs.KeywordWords.{keyword_at, keyword_word};
 ghost use Rattle.workload.specs.NumberWords.{is_number, number_of};
 ghost use Rattle.workload.specs.declared.keyword.Keyword.{Keyword};
@@ -58,6 +63,18 @@ pub fn schedules_go_by_eights()
 pub fn keywords()
     ensures read { (keyword : Keyword) → keyword_at (keyword_word keyword) ≡ Some keyword }
     ensures spelled { (word : List ℕ) (keyword : Keyword) → keyword_at word ≡ Some keyword → word ≡ keyword_word keyword }
+{}
+
+/// The keys of a workload are those of its calls, and each has one number: its place among them. A key has a lower number
+/// than another exactly where it appears before it, script by script from worker 0. There are as many numbers as different
+/// keys.
+pub fn keys_are_numbered_by_first_appearance()
+    ensures keys { (scripts : List (List Call)) (name : List ℕ) → list_any (bytes_eq name) (keys_in scripts) ≡ list_any (bytes_eq name) (all_keys scripts) }
+    ensures number { (scripts : List (List Call)) (name : List ℕ) (number : ℕ) → number_in (keys_in scripts) name ≡ Some number ↔ slice_get (keys_in scripts) number ≡ Some name }
+    ensures named { (scripts : List (List Call)) (name : List ℕ) → list_any (bytes_eq name) (all_keys scripts) ≡ true → key_name (keys_in scripts) (key_number (keys_in scripts) name) ≡ name }
+    ensures first { (scripts : List (List Call)) (name other : List ℕ) (at after number more : ℕ) → position_from (bytes_eq name) 0 (all_keys scripts) ≡ Some at → position_from (bytes_eq other) 0 (all_keys scripts) ≡ Some after → at < after
+        → number_in (keys_in scripts) name ≡ Some number → number_in (keys_in scripts) other ≡ Some more → number < more }
+    ensures count { (scripts : List (List Call)) → length (keys_in scripts) ≡ distinct_count (all_keys scripts) }
 {}
 
 /// A word that is a number below 2^64 is the decimal of what its digits stand for.

@@ -6,7 +6,7 @@ use Rattle.gosync.proofs.reply.push_more_pairs.Given as goal
 
 abbrev pub invariant-loop-pair : goal.invariant-loop-pair
 invariant-loop-pair l = record {
-  text : l.line.items ++ behind_spaces (map pair_text (drop l.pair-index l.pairs)) ≡ l.initial.line.items ++ behind_spaces (map pair_text l.pairs);
+  text : l.line.items ++ behind_spaces (map (pair_text l.keys) (drop l.pair-index l.pairs)) ≡ l.initial.line.items ++ behind_spaces (map (pair_text l.keys) l.pairs);
   len : vec_len l.line ≤ vec_len l.initial.line + 54 * l.pair-index;
   room : vec_capacity l.initial.line ≤ vec_capacity l.line;
 }

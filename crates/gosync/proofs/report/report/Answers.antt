@@ -8,6 +8,6 @@ use Rattle.gosync.proofs.report.report.Goals as goal
 pub returns-in_ok-write_workers-in-Done-clause-err : goal.returns-in_ok-write_workers-in-Done-clause-err
 returns-in_ok-write_workers-in-Done-clause-err g c =
     let plan = c.args.workload.now in
-    let calls = subst (Appends _ _) (ap (workers_text plan.objects 0 plan.scripts) c.as_slice.ensures) c.in_ok-write_workers-in-Done.ensures.ok in
-    let ends = ap (ends_text plan.objects) c.as_slice-in-Done.ensures in
+    let calls = subst (Appends _ _) (ap (workers_text plan 0 plan.scripts) c.as_slice.ensures) c.in_ok-write_workers-in-Done.ensures.ok in
+    let ends = ap (ends_text plan) c.as_slice-in-Done.ensures in
     rw c.in-Done.is (on_err_weaker c.write_ends.result (λ cut. front_after _ _ _ _ _ calls (subst (AppendsFront _ _) ends cut)) c.write_ends.ensures.err)

@@ -8,8 +8,8 @@ use Rattle.gosync.proofs.report.write_calls.Given as goal
 abbrev pub invariant-loop-index : goal.invariant-loop-index
 invariant-loop-index g l = record {
   goes : Goes (g.O.Sink.contents l.initial.out) (g.O.Sink.contents l.out)
-      (calls_text l.workload.objects l.worker 0 l.script l.replies)
-      (calls_text l.workload.objects l.worker l.index (drop l.index l.script) (drop l.index l.replies));
+      (calls_text l.workload l.worker 0 l.script l.replies)
+      (calls_text l.workload l.worker l.index (drop l.index l.script) (drop l.index l.replies));
   faults : g.O.Sink.faults l.initial.out ≤ g.O.Sink.faults l.out;
   room : LINE_ROOM ≤ vec_capacity l.line;
 }

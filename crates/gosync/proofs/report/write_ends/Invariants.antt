@@ -8,8 +8,8 @@ use Rattle.gosync.proofs.report.write_ends.Given as goal
 abbrev pub invariant-loop-end : goal.invariant-loop-end
 invariant-loop-end g l = record {
   goes : Goes (g.O.Sink.contents l.initial.out) (g.O.Sink.contents l.out)
-      (ends_text l.workload.objects l.ends)
-      (ends_text l.workload.objects (drop l.end-index l.ends));
+      (ends_text l.workload l.ends)
+      (ends_text l.workload (drop l.end-index l.ends));
   faults : g.O.Sink.faults l.initial.out ≤ g.O.Sink.faults l.out;
   room : LINE_ROOM ≤ vec_capacity l.line;
 }

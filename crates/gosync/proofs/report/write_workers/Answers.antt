@@ -4,7 +4,7 @@ use Rattle.std.proofs.Math.ListN.{drop_of_length-le}
 use Rattle.sync_outside.specs.Bytes.{Appends, AppendsFront}
 use Rattle.std.specs.List.{list_all}
 use Rattle.workload.specs.declared.limits.TheConstants.{MAX_KEYS}
-use Rattle.step_turns.specs.Pairs.{has_pairs_to}
+use Rattle.sync_model.specs.Outcome.{has_pairs_to}
 use Rattle.gosync.specs.ReportText.{calls_text}
 use Rattle.gosync.proofs.Lines.{all_at, drop_at, drop_script, not_below, scripts_are, workers_step, workers_none}
 use Rattle.gosync.proofs.Writing.{goes_on, goes_cut, goes_end, on_err}
@@ -23,7 +23,7 @@ returns-in_default-clause-ok g c =
     let plan = c.args.workload.now in
     let replies = c.args.replies.now in
     let i = c.loop-worker.worker in
-    goes_end _ _ _ _ (workers_none plan.objects i (drop i plan.scripts) (drop i replies) (drop_of_length-le replies (not_below i (length replies) (sym c.in_default.ensures.lookup.0)))) c.loop-worker.invariant.goes
+    goes_end _ _ _ _ (workers_none plan i (drop i plan.scripts) (drop i replies) (drop_of_length-le replies (not_below i (length replies) (sym c.in_default.ensures.lookup.0)))) c.loop-worker.invariant.goes
 
 pub returns-in_err-write_calls-clause-err : goal.returns-in_err-write_calls-clause-err
 returns-in_err-write_calls-clause-err g c =
@@ -33,11 +33,11 @@ returns-in_err-write_calls-clause-err g c =
     let completed = c.in-Some.completed.now in
     let script = get_or plan.scripts i [] in
     let below : i < length plan.scripts = omega (arith, c.loop-worker-test.true, c.workers-worker-end.ensures.workers, scripts_are plan c.workers-worker-end.ensures.valid) in
-    let here = workers_step plan.objects i (drop i plan.scripts) (drop (i + 1) plan.scripts) (drop i replies) (drop (i + 1) replies) script completed
+    let here = workers_step plan i (drop i plan.scripts) (drop (i + 1) plan.scripts) (drop i replies) (drop (i + 1) replies) script completed
     (drop_script plan.scripts i below)
     (drop_at replies i completed (ltb-true i (length replies) (sym c.in-Some.ensures.lookup.0)) c.in-Some.ensures.lookup.1) in
-    let text = ap (calls_text plan.objects i 0 script) c.as_slice.ensures in
-    on_err c.from_residual.result (goes_cut _ _ _ _ _ (calls_text plan.objects i 0 script completed) _ here c.loop-worker.invariant.goes (subst (AppendsFront _ _) text c.in_err-write_calls.ensures.err))
+    let text = ap (calls_text plan i 0 script) c.as_slice.ensures in
+    on_err c.from_residual.result (goes_cut _ _ _ _ _ (calls_text plan i 0 script completed) _ here c.loop-worker.invariant.goes (subst (AppendsFront _ _) text c.in_err-write_calls.ensures.err))
 
 pub loop-worker-preserved : goal.loop-worker-preserved
 loop-worker-preserved g c =
@@ -47,12 +47,12 @@ loop-worker-preserved g c =
     let completed = c.in-Some.completed.now in
     let script = get_or plan.scripts i [] in
     let below : i < length plan.scripts = omega (arith, c.loop-worker-test.true, c.workers-worker-end.ensures.workers, scripts_are plan c.workers-worker-end.ensures.valid) in
-    let here = workers_step plan.objects i (drop i plan.scripts) (drop (i + 1) plan.scripts) (drop i replies) (drop (i + 1) replies) script completed
+    let here = workers_step plan i (drop i plan.scripts) (drop (i + 1) plan.scripts) (drop i replies) (drop (i + 1) replies) script completed
     (drop_script plan.scripts i below)
     (drop_at replies i completed (ltb-true i (length replies) (sym c.in-Some.ensures.lookup.0)) c.in-Some.ensures.lookup.1) in
-    let text = ap (calls_text plan.objects i 0 script) c.as_slice.ensures in
+    let text = ap (calls_text plan i 0 script) c.as_slice.ensures in
     record {
-      goes = goes_on _ _ _ _ _ (calls_text plan.objects i 0 script completed) _ here c.loop-worker.invariant.goes (subst (Appends _ _) text c.in_ok-write_calls.ensures.ok);
+      goes = goes_on _ _ _ _ _ (calls_text plan i 0 script completed) _ here c.loop-worker.invariant.goes (subst (Appends _ _) text c.in_ok-write_calls.ensures.ok);
       faults = omega (arith, c.loop-worker.invariant.faults, c.in_ok-write_calls.ensures.faults);
       room = c.in_ok-write_calls.ensures.room;
     }

@@ -8,8 +8,8 @@ use Rattle.gosync.proofs.report.write_workers.Given as goal
 abbrev pub invariant-loop-worker : goal.invariant-loop-worker
 invariant-loop-worker g l = record {
   goes : Goes (g.O.Sink.contents l.initial.out) (g.O.Sink.contents l.out)
-      (workers_text l.workload.objects 0 l.workload.scripts l.replies)
-      (workers_text l.workload.objects l.worker (drop l.worker l.workload.scripts) (drop l.worker l.replies));
+      (workers_text l.workload 0 l.workload.scripts l.replies)
+      (workers_text l.workload l.worker (drop l.worker l.workload.scripts) (drop l.worker l.replies));
   faults : g.O.Sink.faults l.initial.out ≤ g.O.Sink.faults l.out;
   room : LINE_ROOM ≤ vec_capacity l.line;
 }

@@ -1,6 +1,6 @@
-use Rattle.std.proofs.Common.{◌≤◌, ◌+◌, drop, arith}
+use Rattle.std.proofs.Common.{drop, arith}
 use Rattle.workload.specs.Puts.{puts_at}
-use Rattle.workload.proofs.PutCounts.{one_script, counted, counted_all}
+use Rattle.workload.proofs.PutCounts.{counted, counted_all}
 use Rattle.workload.proofs.puts.puts_at.Goals as goal
 
 pub overflow_add-puts : goal.overflow_add-puts

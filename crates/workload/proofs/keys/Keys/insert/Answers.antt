@@ -1,11 +1,9 @@
-use Rattle.std.proofs.Common.{◌≡◌, ℕ, Bool, true, false, cond, Some, ◌∷◌, ◌++◌, [], length, sym, ap, ◌∙◌}
+use Rattle.std.proofs.Common.{true, false, cond, Some, ◌∷◌, ◌++◌, [], length, sym, ap, ◌∙◌}
 use Rattle.std.specs.Prelude.{is_some}
-use Rattle.std.specs.List.{list_any}
 use Rattle.std.specs.Str.{bytes_eq}
 use Rattle.std.specs.FinMap.{get, get-insert}
 use Rattle.std.specs.Cmp.Lexicographic.{nat_list_cmp_total}
 use Rattle.std.proofs.lemmas.Map.Text.{is_eq-slice_cmp}
-use Rattle.workload.specs.Keys.{number_in, with_name}
 use Rattle.workload.proofs.KeyNumbers.{there, number_push}
 use Rattle.workload.proofs.keys.Keys.insert.Goals as goal
 

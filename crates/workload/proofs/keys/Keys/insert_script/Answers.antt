@@ -1,4 +1,4 @@
-use Rattle.std.proofs.Common.{◌≤◌, length, drop, ap, arith}
+use Rattle.std.proofs.Common.{length, drop, ap, arith}
 use Rattle.std.specs.List.{flat_map}
 use Rattle.workload.specs.Draft.{keys_of}
 use Rattle.workload.proofs.KeyNumbers.{longer}

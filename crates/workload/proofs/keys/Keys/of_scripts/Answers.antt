@@ -1,7 +1,4 @@
 use Rattle.std.proofs.Common.{sym, ◌∙◌, add-one}
-use Rattle.std.specs.List.{flat_map}
-use Rattle.workload.specs.Draft.{keys_of, all_keys}
-use Rattle.workload.specs.Keys.{with_names}
 use Rattle.workload.proofs.KeyNumbers.{few_keys, with_script}
 use Rattle.workload.proofs.keys.Keys.of_scripts.Goals as goal
 
