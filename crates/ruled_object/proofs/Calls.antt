@@ -2,6 +2,7 @@
 use Rattle.std.proofs.Common.{◌≡◌, ℕ, ◌+◌, ◌<◌, Bool, List, [], ◌∷◌, ◌++◌, length, Option, Some, None, refl, sym, ap, ◌∙◌, subst, arith}
 use mathlib.Core.Option.{some}
 use lib.ListN.{get_elem?}
+use Rattle.atomic_table.specs.Table.{rest}
 use Rattle.sync_model.specs.declared.misuse.Misuse.{Misuse}
 use Rattle.sync_model.specs.declared.journal.Deed.{Deed}
 use Rattle.sync_model.specs.declared.journal.Entry.{Entry}
@@ -13,7 +14,7 @@ use Rattle.ruled_object.specs.declared.rule.Begin.{Begin}
 use Rattle.ruled_object.specs.declared.view.View.{View}
 use Rattle.ruled_object.specs.Cells.{Acts}
 use Rattle.ruled_object.specs.Passes.{own_of, Adds, seen_by}
-use Rattle.ruled_object.specs.Steps.{Sat, taken, added, gave, Learns, MayAdd}
+use Rattle.ruled_object.specs.Steps.{Sat, taken, added, gave, Learns, MayAdd, TakesRest}
 use Rattle.ruled_object.proofs.Journals.{by_here, halt_snoc, covers_more, covers_snoc, edges_snoc, state_snoc, follows_snoc}
 
 module _ {E R : Type 0} where
@@ -33,7 +34,24 @@ module _ {E R : Type 0} where
   still_one [] e = refl
   still_one (own ∷ owns) e = refl
 
+module _ {S N E R : Type 0} where
+  -- one cell lies in the slot
+  pub one_cell : (m : Sat S N E R) (a b : Cell S N) → m.1 ≡ (0, Some a) ∷ [] → m.1 ≡ (0, Some b) ∷ [] → a ≡ b
+  one_cell m a b x y = let both : ◌≡◌ {A = ℕ × Option (Cell S N)} (0, Some a) (0, Some b) = (let e = sym x ∙ y in (cc)) in let slots : Some a ≡ Some b = ap (λ z. z.1) both in (cc)
+
+  -- what the slot taken last is, the cell is
+  pub holds : (m : Sat S N E R) (slot : Option (Cell S N)) (cell old : Cell S N) → m.1 ≡ (0, slot) ∷ rest m.1 → slot ≡ Some cell → m.1 ≡ (0, Some old) ∷ [] → m.1 ≡ (0, Some cell) ∷ []
+  holds m slot cell old value is held = value ∙ (λ i. (0, is i) ∷ rest (held i))
+
+  -- the seat has one slot, whatever lies in it
+  pub holds_new : (m : Sat S N E R) (new old : Cell S N) → m.1 ≡ (0, Some old) ∷ [] → (0, Some new) ∷ rest m.1 ≡ (0, Some new) ∷ []
+  holds_new m new old held = ap (λ slots. (0, Some new) ∷ rest slots) held
+
 module _ {S N E R H : Type 0} (next : S → ℕ → E → S × R) (halts : Bool) (frees takes : E → R → Bool) (front : N → List ℕ) (at : H → N → Type 0) (begin : Begin S N) where
+  -- what was learned with the turn is so of the cell that the seat then has
+  pub learned : (m n : Sat S N E R) (cell : Cell S N) (took : TakesRest next halts frees takes front at begin m n) → n.1 ≡ (0, Some cell) ∷ [] → Learns next halts frees takes front at begin m.0 took.0 cell
+  learned m n cell took held = subst (λ c. Learns next halts frees takes front at begin m.0 took.0 c) (one_cell n took.1 cell (ap (λ x. x.1) took.2) held) took.3
+
   -- a deed that is right at the cell that was learned may be added
   pub may_add : (v : View E R) (journal : List (Entry E R)) (old new : Cell S N) (caller : ℕ) (deed : Deed E R) (known : List ℕ) → Learns next halts frees takes front at begin v journal old
       → Acts next halts frees takes front caller deed known old new → SameHome at old.note new.note → v.number ≡ caller

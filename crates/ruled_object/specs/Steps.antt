@@ -16,6 +16,10 @@ use Rattle.ruled_object.specs.Rule.{Lawful, Lies}
 abbrev pub Sat : Type 0 → Type 0 → Type 0 → Type 0 → Type 0
 Sat S N E R = Me (Option (Cell S N)) (View E R)
 
+-- a cell of which this is so lies in the slot that the seat has taken
+abbrev pub HasCell : {S N E R : Type 0} → Sat S N E R → (Cell S N → Type 0) → Type 0
+HasCell {S} {N} m P = (cell : Cell S N) × (m.1 ≡ (0, Some cell) ∷ []) × P cell
+
 -- the first of a list, as a list
 abbrev pub first_of : {A : Type 0} → List A → List A
 first_of [] = []

@@ -61,9 +61,9 @@ impl<M: Machine, N: Note> Object<M, N> {
         ensures { (passes : List (Pass M.State N M.Event M.Reply)) → Brought self.now passes all.old → AreAllPasses self.now passes
             → (journal : List (Entry M.Event M.Reply)) × (result ≡ halt_of journal) × IsWhole M.next M.HALTS M.frees M.takes (start_of self.now) journal passes × HandsBack self.now 0 journal passes all.new }
     {
-        let cell = self.take_rest::<Brand>(&mut all.seat);
-        let halted = cell.halted;
-        self.give_turn::<Silent>(&mut all.seat, cell);
+        self.take_rest::<Brand>(&mut all.seat);
+        let halted = self.halted_in(&mut all.seat);
+        self.give_turn::<Silent>(&mut all.seat);
         halted
     }
 

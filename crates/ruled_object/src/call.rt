@@ -21,6 +21,9 @@ impl<M: Machine, N: Note> Object<M, N> {
     /// that the caller had seen of the history stands before it. Where a halt stands before it the answer is `Halted`,
     /// with the first halt's misuse, and the machine stays as it was; else the answer is the machine's reply.
     ///
+    /// Once the turn is given back, the callers that the event lets go on are woken, as the machine names them
+    /// (`Machine::wakes`), each as `unpark` does.
+    ///
     /// An event that acquires synchronizes after each earlier one that releases: the caller's note then knows all that
     /// theirs knew. After any other event, and after `Halted`, it knows what it knew before.
     pub fn call<R: Wait>(
@@ -41,10 +44,11 @@ impl<M: Machine, N: Note> Object<M, N> {
         ensures no_edge { is_such M.takes (deed_of event result) ≡ false → N.front note.new ≡ N.front note.old }
         ensures halts { M.HALTS ≡ false → (m : Misuse) → result ≡ Halted m → ⊥ }
     {
-        let mut cell = self.take_turn::<Brand, R>(rt, &mut pass.seat);
-        let answer = cell.apply::<M>(home, pass.number, note, event);
+        self.take_turn::<Brand, R>(rt, &mut pass.seat);
+        let (answer, wakes) = self.act(&mut pass.seat, home, pass.number, note, event);
         let deed = deed(event, &answer);
-        self.give_entry::<Brand>(&mut pass.seat, cell, pass.number, &deed, note);
+        self.give_entry::<Brand>(&mut pass.seat, pass.number, &deed, note);
+        self.unpark_all(wakes);
         answer
     }
 
@@ -56,9 +60,9 @@ impl<M: Machine, N: Note> Object<M, N> {
         ensures pass { IsPassOf self.now pass.new × SamePass pass.old pass.new }
         ensures entry { (e : Entry M.Event M.Reply) × Adds M.next M.HALTS M.frees M.takes (start_of self.now) pass.old e pass.new × (e.deed ≡ Halt misuse) × (e.front ≡ N.front note.now) }
     {
-        let mut cell = self.take_turn::<Brand, R>(rt, &mut pass.seat);
-        cell.halt::<M>(misuse, note);
+        self.take_turn::<Brand, R>(rt, &mut pass.seat);
+        self.act_halt(&mut pass.seat, misuse, note);
         let deed = Deed::Halt(misuse);
-        self.give_entry::<Brand>(&mut pass.seat, cell, pass.number, &deed, note);
+        self.give_entry::<Brand>(&mut pass.seat, pass.number, &deed, note);
     }
 }

@@ -25,9 +25,9 @@ impl<M: Machine, N: Note> Object<M, N> {
         ensures halts { M.HALTS ≡ false → result ≡ None }
     {
         let mut all = self.gather(passes);
-        let cell = self.take_rest::<Brand>(&mut all);
-        let halted = cell.halted;
-        self.give_turn::<Silent>(&mut all, cell);
+        self.take_rest::<Brand>(&mut all);
+        let halted = self.halted_in(&mut all);
+        self.give_turn::<Silent>(&mut all);
         self.deal_out(&mut all, passes);
         halted
     }

@@ -1,6 +1,7 @@
 //! One machine shared by its callers, with one history.
 #![tactic(auto)]
 
+mod act;
 pub mod assembly;
 mod begin;
 mod call;

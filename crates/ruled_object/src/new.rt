@@ -8,7 +8,7 @@ use crate::cell::Cell;
 use crate::object::Object;
 use crate::pass::{Pass, PassOf};
 use crate::rule::{Begin, Make, Silent};
-use crate::turn::{MAKING, SeatOf, TAKEN, TURN};
+use crate::turn::{MAKING, SLOT, SeatOf, TAKEN, TURN};
 use atomic_table::Table;
 use std::alloc::{AllocError, Global};
 use std::thread::Parker;
@@ -71,8 +71,10 @@ impl<M: Machine, N: Note> Object<M, N> {
         ensures seat { IsSameSeat seat.old seat.new × (seat.new.me.1 ≡ []) }
         ensures dealing { Dealing 0 [] (replicate (callers_of self.now) []) seat.new.me.0 }
     {
-        self.table.shared.store::<Make>(seat, TURN, TAKEN);
-        self.give_turn::<Silent>(seat, cell);
+        let shared = &self.table.shared;
+        shared.store::<Make>(seat, TURN, TAKEN);
+        drop(shared.exchange(seat, SLOT, Some(cell)));
+        self.give_turn::<Silent>(seat);
     }
 
     // A pass for each caller.

@@ -9,7 +9,7 @@ use std::alloc::Global;
 use std::thread::Parker;
 use sync_model::{Machine, Note};
 
-/// One machine, shared by its callers. Who has the turn moves the cell out of the slot and back.
+/// One machine, shared by its callers. Who has the turn works on the cell where it lies.
 #[derive(Drop)]
 pub struct Object<M: Machine, N: Note> {
     pub(crate) table: Table<

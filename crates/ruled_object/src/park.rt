@@ -4,7 +4,7 @@ ghost use Rattle.ruled_object.specs.Passes.{IsPassOf};
 use crate::object::Object;
 use crate::pass::PassOf;
 use std::sync::Wait;
-use sync_model::{Machine, Note};
+use sync_model::{Callers, Machine, Note};
 
 impl<M: Machine, N: Note> Object<M, N> {
     /// Sleeps until the pass's caller is woken. A wake-up that came before is kept, one at most.
@@ -21,7 +21,14 @@ impl<M: Machine, N: Note> Object<M, N> {
         }
     }
 
-    /// Wakes all callers but this one, each as `unpark` does.
+    // Wakes these callers, each as `unpark` does.
+    pub(crate) fn unpark_all(&self, mut callers: Callers) {
+        while let Some(caller) = callers.take_first() {
+            self.unpark(caller);
+        }
+    }
+
+    /// Wakes all callers but this one, each as `unpark` does: after a halt, which ends every wait.
     pub fn unpark_others(&self, caller: u32) {
         for (other, parker) in self.parkers.iter().enumerate() {
             if other != caller as usize {

@@ -6,7 +6,7 @@ ghost use Rattle.ruled_object.specs.Passes.{callers_of};
 
 use crate::{Object, PassOf};
 use std::alloc::{AllocError, Global};
-use sync_model::{FrontNote, Machine};
+use sync_model::{Callers, FrontNote, Machine};
 
 /// A counter that is never halted. An event adds its number, and answers the sum; one that adds nothing acquires, and
 /// each other one releases.
@@ -77,8 +77,45 @@ impl Machine for Fragile {
     }
 }
 
+/// A bell. An event names the caller that it lets go on, and counts.
+pub(super) struct Bell;
+
+impl Machine for Bell {
+    type State = u64;
+
+    type Event = u32;
+
+    type Reply = ();
+
+    const HALTS: bool = false;
+
+    ghost HALTS = { false };
+
+    ghost next = { λ rung caller event. ((rung + 1) % 2 ^ 64, tt) };
+
+    ghost frees = { λ event reply. false };
+
+    ghost takes = { λ event reply. false };
+
+    fn step(state: &mut u64, _caller: u32, _event: u32) {
+        *state = state.wrapping_add(1);
+    }
+
+    fn releases(_event: &u32, _reply: &()) -> bool {
+        false
+    }
+
+    fn acquires(_event: &u32, _reply: &()) -> bool {
+        false
+    }
+
+    fn wakes(_rung: &u64, event: &u32, _reply: &()) -> Callers {
+        Callers::nobody().with(*event)
+    }
+}
+
 /// A note that knows this many calls of caller 0.
-pub(super) fn knows(count: u64) -> FrontNote {
+pub(super) fn knows(count: u32) -> FrontNote {
     let mut counts = [0; 64];
     counts[0] = count;
     FrontNote::new(counts)

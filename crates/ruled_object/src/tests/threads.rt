@@ -3,7 +3,7 @@ ghost use Rattle.std.specs.Thread.{IsSync};
 ghost use Rattle.ruled_object.specs.Both.{AreBoth};
 ghost use Rattle.ruled_object.specs.Passes.{IsPassOf, callers_of, number_of};
 
-use super::machines::{Counter, Fragile, all_of, duo, knows};
+use super::machines::{Bell, Counter, Fragile, all_of, duo, knows};
 use crate::{Object, PassOf};
 use std::sync::Wait;
 use std::test::Fail;
@@ -15,6 +15,8 @@ type Sum = Object<Counter, FrontNote>;
 type SumPass = PassOf<Counter, FrontNote>;
 
 type FragilePass = PassOf<Fragile, FrontNote>;
+
+type BellPass = PassOf<Bell, FrontNote>;
 
 // Adds one, so many times.
 fn add_ones<R: Wait>(rt: &R, object: &Sum, mut pass: SumPass, times: u32) -> SumPass
@@ -119,5 +121,44 @@ fn a_caller_that_waits_meets_the_halt(rt: HostRuntime) -> Result<(), Fail> {
         halted_beside(&rt, &object, first, second),
         Misuse::WaitGroupReused
     );
+    Ok(())
+}
+
+// Sleeps until it is woken, and rings for another caller.
+fn ring_on<R: Wait>(rt: &R, object: &Object<Bell, FrontNote>, mut pass: BellPass, other: u32)
+    requires { IsPassOf object.now pass }
+{
+    object.park(rt, &pass);
+    object.call(rt, &(), &mut pass, &mut knows(0), other);
+}
+
+// The first caller rings for the second, and sleeps until that one rings for it.
+fn ring_in_turn<R: Threads + Wait + Sync>(
+    rt: &R,
+    object: &Object<Bell, FrontNote>,
+    mut first: BellPass,
+    second: BellPass,
+)
+    requires { AreBoth object.now first second }
+{
+    join(
+        rt,
+        move || -> ()
+            requires { IsSync R.row × IsPassOf object.now first }
+        {
+            object.call(rt, &(), &mut first, &mut knows(0), 1);
+            object.park(rt, &first);
+        },
+        move || -> ()
+            requires { IsSync R.row × IsPassOf object.now second }
+        { ring_on(rt, object, second, 0) },
+    );
+}
+
+// Each caller sleeps, and nothing but the other's event wakes it.
+#[test]
+fn an_event_wakes_whom_the_machine_names(rt: HostRuntime) -> Result<(), Fail> {
+    let (object, first, second) = duo::<Bell>(rt.alloc(), 0)?;
+    ring_in_turn(&rt, &object, first, second);
     Ok(())
 }

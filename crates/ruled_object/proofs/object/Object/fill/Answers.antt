@@ -1,6 +1,6 @@
-use Rattle.std.proofs.Common.{rules, ◌<◌, [], length, ap, sym, subst}
+use Rattle.std.proofs.Common.{rules, ◌<◌, [], ◌∷◌, Some, length, ap, sym, ◌∙◌, subst}
 use Rattle.std.proofs.lemmas.List.{length-replicate}
-use Rattle.atomic_table.specs.Table.{Allows}
+use Rattle.atomic_table.specs.Table.{Allows, rest}
 use Rattle.ruled_object.specs.Rule.{Kept}
 use Rattle.ruled_object.specs.Steps.{made}
 use Rattle.ruled_object.proofs.Steps.{makes}
@@ -19,3 +19,9 @@ store-requires g c =
           (makes m.next m.HALTS m.frees m.takes n.front n.at begin seat.id seat.me (ap (λ me. me.0.stage) fresh) (ap (λ me. me.1) fresh)
           (subst (λ me. 0 < length me.0.owns) (sym fresh) (subst (λ k. 0 < k) (sym (length-replicate begin.callers [])) c.args.self.now.callers.1))),
     )
+
+pub give_turn-requires-clause-may : goal.give_turn-requires-clause-may
+give_turn-requires-clause-may g c =
+    let cell = c.args.cell in
+    let is = c.exchange.ensures.3 in
+    (cell, ap (λ me. me.1) is ∙ ap (λ me. (0, Some cell) ∷ rest me.1) c.store.ensures.2, search rules)

@@ -1,9 +1,23 @@
-use Rattle.std.proofs.Common.{None, ap, ◌∙◌, subst}
+use Rattle.std.proofs.Common.{None, ap, sym, ◌∙◌, subst}
 use Rattle.ruled_object.specs.Gathered.{IsDealt}
+use Rattle.ruled_object.specs.Rule.{Lies}
 use Rattle.ruled_object.specs.Steps.{gave}
+use Rattle.ruled_object.proofs.Calls.{learned}
 use Rattle.ruled_object.proofs.Gathering.{same_through, same_own, still_numbered, whole, seen_again}
 use Rattle.ruled_object.proofs.Journals.{never_halted}
 use Rattle.ruled_object.proofs.object.Object.first_halt.Goals as goal
+
+pub halted_in-halted-requires-clause-held : goal.halted_in-halted-requires-clause-held
+halted_in-halted-requires-clause-held g c = let took = c.take_rest.ensures.takes in (took.1, ap (λ me. me.1) took.2, tt)
+
+pub give_turn-requires-clause-may : goal.give_turn-requires-clause-may
+give_turn-requires-clause-may g c =
+    let m = g.M.Machine in
+    let n = g.N.Note in
+    let begin = c.args.self.now.table.shared.key in
+    let took = c.take_rest.ensures.takes in
+    let same = c.halted_in-halted.ensures.seat.1 ∙ took.2 in
+    (took.1, ap (λ me. me.1) same, subst (λ me. Lies m.next m.HALTS m.frees m.takes n.front n.at begin me.0.seen took.1) (sym same) took.3.lies)
 
 pub deal_out-requires-clause-order : goal.deal_out-requires-clause-order
 deal_out-requires-clause-order g c = still_numbered c.args.self.now c.args.passes.now c.gather-all.new.passes c.requires c.gather-all.ensures.passes
@@ -20,17 +34,19 @@ returns-clause-one_journal g c =
     let object = c.args.self.now in
     let begin = object.table.shared.key in
     let v = c.gather-all.result.me.0 in
-    let learned = c.take_rest-cell.ensures.learns in
-    let journal = learned.0 in
-    let cell = c.take_rest-cell.result in
-    let is = ap (λ me. me.0) c.give_turn.ensures.gave ∙ ap (λ me. gave me.0 None) learned.1 in
+    let took = c.take_rest.ensures.takes in
+    let journal = took.0 in
+    let held = c.halted_in-halted.ensures.halted in
+    let cell = held.0 in
+    let learns = learned m.next m.HALTS m.frees m.takes n.front n.at begin c.gather-all.result.me c.take_rest.new.seat.me cell took held.1 in
+    let is = ap (λ me. me.0) c.give_turn.ensures.gave ∙ ap (λ me. gave me.0 None) (c.halted_in-halted.ensures.seat.1 ∙ took.2) in
     let passes = c.deal_out.new.passes in
     let count = c.deal_out.ensures.passes.count ∙ c.gather-all.ensures.passes.count ∙ c.requires.count in (
       journal,
-      learned.2.lies.halted,
-      whole m.next m.HALTS m.frees m.takes n.front n.at begin c.args.passes.now v journal cell c.requires.count c.gather-all.ensures.gathered learned.2,
+      held.2 ∙ learns.lies.halted,
+      whole m.next m.HALTS m.frees m.takes n.front n.at begin c.args.passes.now v journal cell c.requires.count c.gather-all.ensures.gathered learns,
       seen_again m.next m.HALTS m.frees m.takes n.front n.at begin object passes v journal cell count c.gather-all.ensures.gathered.number
-          (λ i pass at_i. subst (λ w. IsDealt object i w.seen w.owns pass) is (c.deal_out.ensures.dealt i pass at_i)) learned.2,
+          (λ i pass at_i. subst (λ w. IsDealt object i w.seen w.owns pass) is (c.deal_out.ensures.dealt i pass at_i)) learns,
     )
 
 pub returns-clause-history : goal.returns-clause-history
@@ -48,5 +64,5 @@ returns-clause-own g c =
 pub returns-clause-halts : goal.returns-clause-halts
 returns-clause-halts g c never =
     let m = g.M.Machine in
-    let learned = c.take_rest-cell.ensures.learns in
-    learned.2.lies.halted ∙ never_halted m.next m.HALTS c.args.self.now.table.shared.key.state learned.0 never learned.2.lawful.follows
+    let one = returns-clause-one_journal g c in
+    one.1 ∙ never_halted m.next m.HALTS c.args.self.now.table.shared.key.state one.0 never one.2.follows

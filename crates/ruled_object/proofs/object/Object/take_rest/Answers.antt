@@ -21,11 +21,8 @@ store-requires g c =
           (takes_rest m.next m.HALTS m.frees m.takes n.front n.at begin seat.id seat.me c.requires.seat.1 all.0 all.1 all.2 c.args.self.now.callers.1)),
     )
 
-pub exchange-requires : goal.exchange-requires
-exchange-requires g c =
+pub returns-clause-takes : goal.returns-clause-takes
+returns-clause-takes g c =
     let m = g.M.Machine in
     let n = g.N.Note in
-    let me = c.store.new.seat.me in
-    let took = subst (λ b. IfBegun b (λ begin. TakesRest m.next m.HALTS m.frees m.takes n.front n.at begin c.args.seat.now.me me)) c.requires.begun c.store.ensures.2 in
-    let held = ap (λ z. z.1) took.2 in
-    (search rules, (Some took.1, held ∙ ap (λ slots. (0, Some took.1) ∷ rest slots) (sym held)))
+    subst (λ b. IfBegun b (λ begin. TakesRest m.next m.HALTS m.frees m.takes n.front n.at begin c.args.seat.now.me c.store.new.seat.me)) c.requires.begun c.store.ensures.2

@@ -2,7 +2,7 @@ use Rattle.std.proofs.Common.{rules, ◌≡◌, ◌<◌, [], ◌∷◌, Some, ap
 use prog.Atomic.{either}
 use Rattle.atomic_table.specs.Table.{Allows, rest}
 use Rattle.ruled_object.specs.Rule.{Kept}
-use Rattle.ruled_object.specs.Steps.{IfBegun, TakesTurn}
+use Rattle.ruled_object.specs.Steps.{IfBegun, TakesRest, TakesTurn}
 use Rattle.ruled_object.proofs.Steps.{takes_turn}
 use Rattle.ruled_object.proofs.object.Object.take_turn.Goals as goal
 
@@ -24,12 +24,10 @@ compare_exchange-requires g c =
           (takes_turn m.next m.HALTS m.frees m.takes n.front n.at begin seat.id seat.me empty some_own)),
     )
 
-pub exchange-requires : goal.exchange-requires
-exchange-requires g c =
+pub returns-then-compare_exchange-eq-FREE-clause-takes : goal.returns-then-compare_exchange-eq-FREE-clause-takes
+returns-then-compare_exchange-eq-FREE-clause-takes g c =
     let m = g.M.Machine in
     let n = g.N.Note in
     let me = c.compare_exchange.new.seat.me in
     let told = subst (λ b. IfBegun b (λ begin. TakesTurn m.next m.HALTS m.frees m.takes n.front n.at begin c.loop.seat.me c.compare_exchange.result me)) c.requires.begun c.compare_exchange.ensures.2 in
-    let took = told.0 c.if-compare_exchange-eq-FREE.true in
-    let held = ap (λ z. z.1) took.2 in
-    (search rules, (Some took.1, held ∙ ap (λ slots. (0, Some took.1) ∷ rest slots) (sym held)))
+    subst (λ before. TakesRest m.next m.HALTS m.frees m.takes n.front n.at c.args.self.now.table.shared.key before me) c.loop.invariant.unmoved (told.0 c.if-compare_exchange-eq-FREE.true)
