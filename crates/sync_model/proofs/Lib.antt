@@ -14,3 +14,4 @@ pub mod SharedRanges
 pub mod SharedCallers
 pub mod SharedEntries
 pub mod SharedUses
+pub mod MapValues

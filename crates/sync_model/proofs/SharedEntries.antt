@@ -2,9 +2,10 @@
 use Rattle.std.proofs.Common.{◌≡◌, ℕ, zero, suc, ◌+◌, ◌<◌, Bool, true, false, ◌==◌, cond, List, [], ◌∷◌, Some, slice_get, ◌⊎◌, inl, inr, refl, sym, ap, ◌∙◌, subst, arith}
 use Rattle.std.proofs.lemmas.Option.{none-some, same_Some}
 use Rattle.std.proofs.lemmas.Bool.{cases_eq, cases_lt, eqb-true, eq-eqb}
+use Rattle.sync_model.specs.declared.item.SharedCall.{SharedCall}
 use Rattle.sync_model.specs.declared.item.SharedEntry.{SharedEntry}
 use Rattle.sync_model.specs.declared.item.Item.{Item}
-use Rattle.sync_model.specs.SharedHistory.{Contents, entries_from, entry_of, marked_in}
+use Rattle.sync_model.specs.SharedHistory.{Contents, contents_at, is_entry, entries_from, entry_of, marked_in}
 use Rattle.sync_model.specs.SharedCalls.{Lawful}
 use Rattle.sync_model.proofs.SharedCallers.{own_before, bound_is}
 
@@ -116,3 +117,7 @@ module _ (start : Contents) (history : List SharedEntry) (calls : ℕ → List I
         | inl below ↦ let order = before i j x y below at_i at_y is_x in absurd (omega arith)
         | inr above ↦ let order = before j i y x (omega arith) at_y at_i is_y in absurd (omega arith)
       ]
+
+  -- whether a call is an entry, its kind says, whatever the contents
+  pub entry_by_call : (c j : ℕ) (x : Item) (call : SharedCall) (b : Bool) → ((contents : Contents) → is_entry call contents ≡ b) → slice_get (calls c) j ≡ Some x → x.call ≡ call → x.entry ≡ b
+  entry_by_call c j x call b always at is = (lawful.sound c j x at).entry ∙ ap (λ k. is_entry k (contents_at start history x.place)) is ∙ always (contents_at start history x.place)

@@ -8,7 +8,7 @@ use Rattle.sync_model.specs.declared.item.SharedReply.{SharedReply}
 use Rattle.sync_model.specs.declared.item.SharedReply.TheVariants as replies
 use Rattle.sync_model.specs.declared.item.SharedEntry.{SharedEntry}
 use Rattle.sync_model.specs.declared.item.Item.{Item}
-use Rattle.sync_model.specs.SharedHistory.{Contents, value_at, contents_at}
+use Rattle.sync_model.specs.SharedHistory.{Contents, value_at, contents_at, IsReply}
 use Rattle.sync_model.specs.SharedCalls.{Knows, IsStep, IsUnshown, WasSo, MayShow, Lawful}
 
 -- a step of the cursor with this reply shows the key
@@ -99,3 +99,10 @@ module _ (start : Contents) (history : List SharedEntry) (calls : ℕ → List I
   pub only_what_was : (c b i m key value : ℕ) (begin x : Item) → slice_get (calls c) b ≡ Some begin → begin.call ≡ Begin m → IsStep (calls c) b i x (Some (key, value))
       → WasSo start history calls begin.front x.place m key (Some value)
   only_what_was c b i m key value begin x at is step = (lawful.ranges c b m begin at is i x (Some (key, value)) step).1
+
+  pub steps_follow : (c b j : ℕ) (x : Item) → slice_get (calls c) j ≡ Some x → x.call ≡ Next b
+      → (begin : Item) × (m : ℕ) × (shown : Option (ℕ × ℕ)) × (b < j) × (slice_get (calls c) b ≡ Some begin) × (begin.call ≡ Begin m) × IsStep (calls c) b j x shown
+  steps_follow c b j x at is =
+      let begun = (lawful.sound c j x at).begun b is in
+      let reply : IsReply (Next b) x.reply (contents_at start history x.place) = subst (λ call. IsReply call x.reply (contents_at start history x.place)) is (lawful.sound c j x at).reply in
+      (begun.0, begun.1, reply.0, begun.2, begun.3, begun.4, record { at = at; call = is; reply = reply.1 })

@@ -1,13 +1,15 @@
 -- What a load finds in a history.
-use Rattle.std.proofs.Common.{◌≡◌, ℕ, ◌<◌, ◌≤◌, Bool, true, false, ◌&&◌, ◌==◌, List, [], ◌∷◌, ◌++◌, length, get_or, set, Option, Some, None, slice_get, inl, inr, refl, sym, ap, ◌∙◌, subst, arith, append_assoc}
+use Rattle.std.proofs.Common.{◌≡◌, ℕ, ◌<◌, ◌≤◌, Bool, true, false, ◌&&◌, ◌==◌, List, [], ◌∷◌, ◌++◌, length, map, replicate, get_or, set, Option, Some, None, slice_get, inl, inr, refl, sym, ap, ◌∙◌, subst, arith, append_assoc}
 use Rattle.std.specs.Ordering.{nat_cmp}
-use Rattle.std.specs.Option.{option_map_or}
-use Rattle.std.specs.FinMap.{FinMap, empty, get, insert, nat_cmp-IsAntisymmetric}
+use Rattle.std.specs.Option.{option_map, option_map_or}
+use Rattle.std.specs.FinMap.{FinMap, empty, get, insert, get-empty, nat_cmp-IsAntisymmetric}
 use Rattle.std.proofs.lemmas.Cmp.{nat_cmp_total}
 use Rattle.std.proofs.lemmas.Bool.{eqb-true, eqb-false, cases_lt}
-use Rattle.std.proofs.lemmas.List.{get_or-set_same, get_or-set_other, get_or_past, length-set}
+use Rattle.std.proofs.lemmas.List.{get_or-set_same, get_or-set_other, get_or_past, get_or-replicate, length-set, length-replicate}
+use Rattle.std.proofs.lemmas.Option.{slice_get-map, get_or_from_slice_get}
 use Rattle.std.proofs.lemmas.List.Elements.{All-head, All-tail}
 use Rattle.std.proofs.Math.Seq.{take-append_seam}
+use Rattle.sync_model.specs.declared.atomic_object.AtomicKind.{AtomicKind}
 use Rattle.sync_model.specs.declared.atomic_object.Number.{Number}
 use Rattle.sync_model.specs.declared.atomic_object.Number.TheVariants.{Bool as Truth}
 use Rattle.sync_model.specs.declared.map_object.MapCall.{MapCall}
@@ -22,8 +24,8 @@ use Rattle.sync_model.specs.declared.atomic_object.AtomicCall.TheVariants as ato
 use Rattle.sync_model.specs.declared.atomic_object.AtomicReply.TheVariants.{Held}
 use Rattle.sync_model.specs.MapLaws.{IsKeyOrder}
 use Rattle.sync_model.specs.SequentialMap.{map_key, map_after}
-use Rattle.sync_model.specs.SequentialAtomic.{atomic_after}
-use Rattle.sync_model.specs.SharedHistory.{Contents, map_at, number_at, value_at, shared_after, contents_after, contents_at, IsReply}
+use Rattle.sync_model.specs.SequentialAtomic.{zero_of, atomic_after}
+use Rattle.sync_model.specs.SharedHistory.{Contents, first_contents, map_at, number_at, value_at, shared_after, contents_after, contents_at, IsReply}
 use Rattle.sync_model.specs.SharedCalls.{Lawful}
 use Rattle.sync_model.specs.SharedLaws.{is_on_key, is_on_atomic, LeaveKey, LeaveAtomic}
 use Rattle.sync_model.proofs.MapLemmas.{get_inserted, get_apart}
@@ -120,3 +122,32 @@ module _ (start : Contents) (earlier between later : List SharedEntry) (store : 
     loads_number a value there stores leave loads =
         let reply : IsReply (Atomic a atomics.Load) x.reply (contents_at start history x.place) = subst (λ call. IsReply call x.reply (contents_at start history x.place)) loads (lawful.sound c j x at).reply in
         reply ∙ ap (λ contents. replies.Atomic (Held (number_at contents a))) (whole history is x.place placed) ∙ ap (λ number. replies.Atomic (Held number)) (stored_number a value there stores leave)
+
+-- at the start no key has a value, and each atomic is its type's zero
+pub no_value_first : (many : ℕ) (kinds : List AtomicKind) (m key : ℕ) → value_at (first_contents many kinds) m key ≡ None
+no_value_first many kinds m key = elim (cases_lt m many) [
+  | inl there ↦ ap (λ held. get held key) (get_or-replicate many m empty empty there) ∙ get-empty nat_cmp key
+  | inr past ↦ ap (λ held. get held key) (get_or_past (replicate many empty) m empty (let long = length-replicate many (empty {X = ℕ} {R = nat_cmp}) in omega arith)) ∙ get-empty nat_cmp key
+]
+
+pub zero_first : (many : ℕ) (kinds : List AtomicKind) (a : ℕ) (kind : AtomicKind) → slice_get kinds a ≡ Some kind → number_at (first_contents many kinds) a ≡ zero_of kind
+zero_first many kinds a kind at = get_or_from_slice_get (map zero_of kinds) a (zero_of kind) (Truth false) (slice_get-map zero_of kinds a ∙ ap (option_map zero_of) at)
+
+module _ (many : ℕ) (kinds : List AtomicKind) (earlier later : List SharedEntry) (calls : ℕ → List Item) (lawful : Lawful (first_contents many kinds) (earlier ++ later) calls) (c j : ℕ) (x : Item) (at : slice_get (calls c) j ≡ Some x)
+    (placed : x.place ≡ length earlier) where
+  at_front : contents_at (first_contents many kinds) (earlier ++ later) x.place ≡ contents_after (first_contents many kinds) earlier
+  at_front = ap (λ k. contents_at (first_contents many kinds) (earlier ++ later) k) placed ∙ ap (contents_after (first_contents many kinds)) (take-append_seam earlier later)
+
+  pub loads_none : (m key : ℕ) → x.call ≡ Map m (maps.Load key) → LeaveKey m key earlier → x.reply ≡ replies.Map (Found None)
+  loads_none m key loads leave =
+      let reply : IsReply (Map m (maps.Load key)) x.reply (contents_at (first_contents many kinds) (earlier ++ later) x.place) =
+      subst (λ call. IsReply call x.reply (contents_at (first_contents many kinds) (earlier ++ later) x.place)) loads (lawful.sound c j x at).reply in
+      reply ∙ ap (λ contents. replies.Map (Found (value_at contents m key))) at_front
+      ∙ ap (λ found. replies.Map (Found found)) (key_stays m key (first_contents many kinds) earlier leave ∙ no_value_first many kinds m key)
+
+  pub loads_zero : (a : ℕ) (kind : AtomicKind) → x.call ≡ Atomic a atomics.Load → slice_get kinds a ≡ Some kind → LeaveAtomic a earlier → x.reply ≡ replies.Atomic (Held (zero_of kind))
+  loads_zero a kind loads there leave =
+      let reply : IsReply (Atomic a atomics.Load) x.reply (contents_at (first_contents many kinds) (earlier ++ later) x.place) =
+      subst (λ call. IsReply call x.reply (contents_at (first_contents many kinds) (earlier ++ later) x.place)) loads (lawful.sound c j x at).reply in
+      reply ∙ ap (λ contents. replies.Atomic (Held (number_at contents a))) at_front
+      ∙ ap (λ number. replies.Atomic (Held number)) (atomic_stays a (first_contents many kinds) earlier leave ∙ zero_first many kinds a kind there)

@@ -1,16 +1,22 @@
 //! What a lawful history of shared maps and atomics says to their users.
-ghost use Rattle.std.specs.Prelude.{◌≡◌, ◌≢◌, ℕ, ◌+◌, ◌^◌, ◌<◌, ◌≤◌, true, false, List, ◌∷◌, ◌++◌, length, Some, None, slice_get, slice_index};
+ghost use Rattle.std.specs.Prelude.{◌≡◌, ◌≢◌, ℕ, ◌+◌, ◌^◌, ◌<◌, ◌≤◌, true, false, List, ◌∷◌, ◌++◌, length, Option, Some, None, slice_get, slice_index, ◌⊎◌};
+ghost use Rattle.std.specs.Ordering.{nat_cmp};
+ghost use Rattle.std.specs.FinMap.{FinMap, get};
+ghost use Rattle.sync_model.specs.SequentialMap.{map_after};
 ghost use Rattle.sync_model.specs.Front.{AtLeast};
-ghost use Rattle.sync_model.specs.SharedHistory.{Contents, value_at, contents_at, is_entry, IsReply};
+ghost use Rattle.sync_model.specs.SequentialAtomic.{zero_of};
+ghost use Rattle.sync_model.specs.SharedHistory.{Contents, first_contents, value_at, contents_at};
 ghost use Rattle.sync_model.specs.SharedCalls.{Knows, IsStep, WasSo, Lawful};
+ghost use Rattle.sync_model.specs.Shared.{values_of, cost_of};
 ghost use Rattle.sync_model.specs.SharedLaws.{LeaveKey, LeaveAtomic};
 
-use crate::atomic_object::{AtomicCall, AtomicReply, Number};
+use crate::atomic_object::{AtomicCall, AtomicKind, AtomicReply, Number};
 use crate::item::{Item, SharedCall, SharedEntry, SharedReply};
 use crate::map_object::{MapCall, MapReply};
 
 /// A load finds what the last store before its place stored: the last one of this atomic, or of this key, where no entry
-/// between is on it.
+/// between is on it. Where no entry before its place is on it, it finds the zero value of Go's type: no value at a key, 0 or
+/// false in an atomic.
 pub fn a_load_finds_the_last_store()
     ensures map { (start : Contents) (earlier between later : List SharedEntry) (store : SharedEntry) (calls : ℕ → List Item) (c j m key value : ℕ) (load : Item)
         → Lawful start (earlier ++ store ∷ (between ++ later)) calls → slice_get (calls c) j ≡ Some load
@@ -22,6 +28,14 @@ pub fn a_load_finds_the_last_store()
         → load.place ≡ length (earlier ++ store ∷ between) → load.call ≡ SharedCall.Atomic a AtomicCall.Load
         → store.call ≡ SharedCall.Atomic a (AtomicCall.Store value) → LeaveAtomic a between → a < length start.numbers
         → load.reply ≡ SharedReply.Atomic (AtomicReply.Held value) }
+    ensures no_value { (maps : ℕ) (kinds : List AtomicKind) (earlier later : List SharedEntry) (calls : ℕ → List Item) (c j m key : ℕ) (load : Item)
+        → Lawful (first_contents maps kinds) (earlier ++ later) calls → slice_get (calls c) j ≡ Some load
+        → load.place ≡ length earlier → load.call ≡ SharedCall.Map m (MapCall.Load key) → LeaveKey m key earlier
+        → load.reply ≡ SharedReply.Map (MapReply.Found None) }
+    ensures zero { (maps : ℕ) (kinds : List AtomicKind) (earlier later : List SharedEntry) (calls : ℕ → List Item) (c j a : ℕ) (kind : AtomicKind) (load : Item)
+        → Lawful (first_contents maps kinds) (earlier ++ later) calls → slice_get (calls c) j ≡ Some load
+        → load.place ≡ length earlier → load.call ≡ SharedCall.Atomic a AtomicCall.Load → slice_get kinds a ≡ Some kind → LeaveAtomic a earlier
+        → load.reply ≡ SharedReply.Atomic (AtomicReply.Held (zero_of kind)) }
 {}
 
 /// A caller's calls lie in the history in the caller's own order: an entry lies below the place of each later call of its
@@ -50,8 +64,8 @@ pub fn a_call_lies_behind_what_its_caller_knew()
         → AtLeast second.front first.front }
 {}
 
-/// Each entry of the history is a call of its caller, and stands at its place in the history; and each call that says it is
-/// an entry is one.
+/// Each entry of the history is a call of its caller, at its place, and no entry is two calls. Each call that says it is an
+/// entry is one; a store always is one, and a load never.
 pub fn each_entry_is_a_call()
     ensures call { (start : Contents) (history : List SharedEntry) (calls : ℕ → List Item) (n : ℕ) (entry : SharedEntry)
         → Lawful start history calls → slice_get history n ≡ Some entry
@@ -62,6 +76,14 @@ pub fn each_entry_is_a_call()
     ensures once { (start : Contents) (history : List SharedEntry) (calls : ℕ → List Item) (c d i j : ℕ) (x y : Item)
         → Lawful start history calls → slice_get (calls c) i ≡ Some x → slice_get (calls d) j ≡ Some y → x.entry ≡ true → y.entry ≡ true
         → x.place ≡ y.place → (c ≡ d) × (i ≡ j) }
+    ensures store { (start : Contents) (history : List SharedEntry) (calls : ℕ → List Item) (c j m key value : ℕ) (x : Item)
+        → Lawful start history calls → slice_get (calls c) j ≡ Some x → x.call ≡ SharedCall.Map m (MapCall.Store key value) → x.entry ≡ true }
+    ensures store_of_atomic { (start : Contents) (history : List SharedEntry) (calls : ℕ → List Item) (c j a : ℕ) (value : Number) (x : Item)
+        → Lawful start history calls → slice_get (calls c) j ≡ Some x → x.call ≡ SharedCall.Atomic a (AtomicCall.Store value) → x.entry ≡ true }
+    ensures load { (start : Contents) (history : List SharedEntry) (calls : ℕ → List Item) (c j m key : ℕ) (x : Item)
+        → Lawful start history calls → slice_get (calls c) j ≡ Some x → x.call ≡ SharedCall.Map m (MapCall.Load key) → x.entry ≡ false }
+    ensures load_of_atomic { (start : Contents) (history : List SharedEntry) (calls : ℕ → List Item) (c j a : ℕ) (x : Item)
+        → Lawful start history calls → slice_get (calls c) j ≡ Some x → x.call ≡ SharedCall.Atomic a AtomicCall.Load → x.entry ≡ false }
 {}
 
 /// The callers' own lists determine the history. So two histories of one set of lists differ in nothing that a reply shows:
@@ -71,9 +93,12 @@ pub fn the_calls_determine_the_history()
         → Lawful start first calls → Lawful other second calls → first ≡ second }
 {}
 
-/// A Range shows no key twice; it shows a key only with a value that the key had after all that its caller knew when it
+/// Each step of a cursor follows its begin, and shows a pair or none. A Range shows no key twice; it shows a key only with a value that the key had after all that its caller knew when it
 /// began, and before the step that shows it; and when it ends it has shown every key that stood all the while.
 pub fn a_range_shows_each_key_once_and_misses_none()
+    ensures steps { (start : Contents) (history : List SharedEntry) (calls : ℕ → List Item) (c b j : ℕ) (x : Item)
+        → Lawful start history calls → slice_get (calls c) j ≡ Some x → x.call ≡ SharedCall.Next b
+        → (begin : Item) × (m : ℕ) × (shown : Option (ℕ × ℕ)) × (b < j) × (slice_get (calls c) b ≡ Some begin) × (begin.call ≡ SharedCall.Begin m) × IsStep (calls c) b j x shown }
     ensures once { (start : Contents) (history : List SharedEntry) (calls : ℕ → List Item) (c b i j key value other : ℕ) (x y : Item)
         → Lawful start history calls → IsStep (calls c) b i x (Some (key, value)) → IsStep (calls c) b j y (Some (key, other)) → i ≡ j }
     ensures shown { (start : Contents) (history : List SharedEntry) (calls : ℕ → List Item) (c b i m key value : ℕ) (begin x : Item)
@@ -83,4 +108,13 @@ pub fn a_range_shows_each_key_once_and_misses_none()
         → Lawful start history calls → slice_get (calls c) b ≡ Some begin → begin.call ≡ SharedCall.Begin m → IsStep (calls c) b i x None → key < 2 ^ 32
         → ((n : ℕ) → Knows calls begin.front n → n ≤ x.place → value_at (contents_at start history n) m key ≢ None)
         → (j : ℕ) × (y : Item) × (value : ℕ) × (j < i) × IsStep (calls c) b j y (Some (key, value)) }
+{}
+
+/// What a call asks: a map has no value but those of calls, so all are 0 to 2^63 - 1; and only a load takes none of its
+/// caller's spare entries.
+pub fn a_map_has_the_values_of_its_calls()
+    ensures values { (call : MapCall ℕ) (m : FinMap nat_cmp ℕ) (key value : ℕ) → get (map_after call m) key ≡ Some value
+        → (get m key ≡ Some value) ⊎ ((i : ℕ) × (slice_get (values_of call) i ≡ Some value)) }
+    ensures load { (key : ℕ) → cost_of (MapCall.Load key) ≡ 0 }
+    ensures others { (call : MapCall ℕ) → ((key : ℕ) → call ≢ MapCall.Load key) → cost_of call ≡ 1 }
 {}
