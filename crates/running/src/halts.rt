@@ -47,8 +47,7 @@ pub fn first_halt<P: Protocol, N: Note>(
     ensures passes { AreAllBetween P.out P.stands object.now passes.new × SamePasses passes.old passes.new }
     ensures history { (journal : List (Entry P.Event P.Reply)) × (result ≡ halt_of journal)
         × IsWhole P.next P.HALTS P.frees P.takes (start_of object.now) journal passes.old
-        × IsWhole P.next P.HALTS P.frees P.takes (start_of object.now) journal passes.new }
-    ensures seen { (journal : List (Entry P.Event P.Reply)) × IsSeen P.next P.HALTS P.frees P.takes (start_of object.now) journal passes.new }
+        × IsSeen P.next P.HALTS P.frees P.takes (start_of object.now) journal passes.new }
 {
     object.first_halt(passes)
 }
