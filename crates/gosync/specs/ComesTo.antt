@@ -3,7 +3,7 @@ use Rattle.std.specs.Prelude.{◌≡◌, ℕ, List, Option}
 use Rattle.sync_outside.specs.Bytes.{Appends, AppendsFront}
 use Rattle.workload.specs.Plan.{Plan}
 use Rattle.workload.specs.Reads.{Reads, IsRefused}
-use Rattle.step_runner.specs.Turns.{turns}
+use Rattle.step_runner.specs.Computed.{turns}
 use Rattle.gosync.specs.declared.status.Status.{Status}
 use Rattle.gosync.specs.declared.status.Status.TheVariants.{Done, NotAccepted, Misused, Deadlocked, CannotRead, CannotWrite, Memory, Usage}
 use Rattle.gosync.specs.Input.{AreBytesOf}

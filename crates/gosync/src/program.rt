@@ -3,7 +3,7 @@ ghost use Rattle.std.specs.Prelude.{◌≡◌, ◌↔◌, ◌⊎◌, ℕ, List, 
 ghost use Rattle.sync_outside.specs.Faults.{Rose};
 ghost use Rattle.workload.specs.Plan.{Plan};
 ghost use Rattle.workload.specs.Reads.{Reads};
-ghost use Rattle.step_runner.specs.Turns.{turns};
+ghost use Rattle.step_runner.specs.Computed.{turns};
 ghost use Rattle.gosync.specs.Command.{file_of};
 ghost use Rattle.gosync.specs.Messages.{code_of, status_of, message_of, Says};
 ghost use Rattle.gosync.specs.ComesTo.{ComesTo};

@@ -15,7 +15,8 @@ use Rattle.sync_model.specs.declared.outcome.Outcome.TheVariants as outcomes
 use Rattle.step_runner.specs.LeftToDo.{left_to_do}
 use Rattle.step_runner.specs.Outcomes.{rounds, is_misused, Reaches, IsDone, IsMisused, IsDeadlocked, StepsTo}
 use Rattle.step_runner.specs.State.{State, start, IsStateOf}
-use Rattle.step_runner.specs.Turns.{with_event, and_then, items_of, round, has_ended, behind_round, rounds_of, all_rounds, behind_schedule, whole_run, outcome_of, turns}
+use Rattle.step_runner.specs.Turns.{with_event, and_then, items_of, round, has_ended}
+use Rattle.step_runner.specs.Computed.{behind_round, rounds_of, all_rounds, behind_schedule, whole_run, outcome_of, turns}
 use Rattle.step_runner.proofs.Numbered.{same_numbers}
 use Rattle.step_runner.proofs.TurnLemmas.{true_false}
 use Rattle.step_runner.proofs.RunLemmas.{items_append, GoesOn, UsesUp, items_valid}

@@ -19,7 +19,8 @@ use Rattle.sync_model.specs.declared.outcome.Outcome.TheVariants as outcomes
 use Rattle.step_turns.specs.declared.object_state.ObjectState.{ObjectState}
 use Rattle.step_runner.specs.Outcomes.{rounds, is_misused, StepsTo}
 use Rattle.step_runner.specs.State.{State, start, IsStateOf}
-use Rattle.step_runner.specs.Turns.{next_call, turn_of, item_of, with_event, and_then, items_of, turns}
+use Rattle.step_runner.specs.Turns.{next_call, turn_of, item_of, with_event, and_then, items_of}
+use Rattle.step_runner.specs.Computed.{turns}
 use Rattle.step_runner.proofs.TurnLemmas.{true_false, both_true, all_get, all_at, Takes, takes_by, turn_cases, StepUses}
 use Rattle.step_runner.proofs.RunLemmas.{GoesOn, UsesUp, turns_of, item_valid}
 use Rattle.step_runner.proofs.EndLemmas.{done_replied, is_done, is_misused_by, is_deadlocked, state_of}

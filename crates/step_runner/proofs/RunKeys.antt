@@ -28,7 +28,8 @@ use Rattle.sync_model.specs.declared.outcome.Ending.TheVariants as endings
 use Rattle.workload.specs.Puts.{puts_at}
 use Rattle.step_runner.specs.State.{State, start}
 use Rattle.step_runner.specs.Ends.{numbered}
-use Rattle.step_runner.specs.Turns.{next_call, settled, settled_with, after_items, whole_run, outcome_of, turns}
+use Rattle.step_runner.specs.Turns.{next_call, settled, settled_with, after_items}
+use Rattle.step_runner.specs.Computed.{whole_run, outcome_of, turns}
 use Rattle.step_runner.proofs.StartLemmas.{each_start}
 use Rattle.step_runner.proofs.TurnLemmas.{both, both_true}
 use Rattle.step_runner.proofs.Numbered.{same_few}

@@ -12,7 +12,8 @@ use Rattle.step_runner.specs.Outcomes.{is_misused}
 use Rattle.sync_model.specs.declared.outcome.Ending.{Ending}
 use Rattle.sync_model.specs.declared.outcome.Ending.TheVariants as endings
 use Rattle.step_runner.specs.State.{State, start, with_moment, IsStateOf}
-use Rattle.step_runner.specs.Turns.{turn_of, item_of, with_event, and_then, items_of, round, has_ended, behind_round, rounds_of, behind_schedule, whole_run}
+use Rattle.step_runner.specs.Turns.{turn_of, item_of, with_event, and_then, items_of, round, has_ended}
+use Rattle.step_runner.specs.Computed.{behind_round, rounds_of, behind_schedule, whole_run}
 use Rattle.step_runner.proofs.TurnLemmas.{StepUses, true_false}
 
 -- ---- one after the other

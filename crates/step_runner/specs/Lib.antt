@@ -1,3 +1,4 @@
+pub mod Computed
 pub mod Ends
 pub mod LeftToDo
 pub mod MadeCalls

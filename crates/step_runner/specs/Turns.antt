@@ -1,5 +1,5 @@
--- The run of a workload by its schedule: who takes a turn when, and what it comes to.
-use Rattle.std.specs.Prelude.{ℕ, zero, suc, ◌+◌, Bool, not, List, [], ◌∷◌, map, length, get_or, slice_get, Option, is_some, if◌then◌else◌}
+-- The run of a workload by its schedule: who takes a turn when.
+use Rattle.std.specs.Prelude.{ℕ, Bool, not, List, [], ◌∷◌, map, length, get_or, slice_get, Option, is_some}
 use Rattle.std.specs.List.{list_all, range_with_len}
 use Rattle.std.specs.Option.{option_map_or}
 use Rattle.sync_model.specs.declared.call.Call.{Call}
@@ -12,13 +12,7 @@ use Rattle.step_turns.specs.declared.object_state.ObjectState.{ObjectState}
 use Rattle.step_turns.specs.Turns.{turn_at}
 use Rattle.step_runner.specs.declared.step.Step.{Step}
 use Rattle.step_runner.specs.declared.step.Step.TheVariants as steps
-use Rattle.sync_model.specs.declared.outcome.Ending.{Ending}
-use Rattle.sync_model.specs.declared.outcome.Ending.TheVariants as endings
-use Rattle.sync_model.specs.declared.outcome.Outcome.{Outcome}
-use Rattle.sync_model.specs.declared.outcome.Outcome.TheVariants as outcomes
-use Rattle.step_runner.specs.State.{State, start, with_reply, with_moment}
-use Rattle.step_runner.specs.LeftToDo.{left_to_do}
-use Rattle.step_runner.specs.Ends.{ends_of, left_in}
+use Rattle.step_runner.specs.State.{State, with_reply, with_moment}
 
 -- ---- a turn
 
@@ -68,7 +62,7 @@ items_of plan (item ∷ rest) s = and_then (item_of plan item s) (items_of plan 
 abbrev pub after_items : Plan → List Turn → State → State
 after_items plan items s = (items_of plan items s).0
 
--- ---- the run
+-- ---- rounds
 
 -- a round: each worker from 0 up takes one turn
 abbrev pub round : ℕ → List Turn
@@ -77,38 +71,3 @@ round workers = map (λ worker. items.Worker worker) (range_with_len 0 workers)
 -- whether every script has ended: no worker stands before a call
 abbrev pub has_ended : Plan → State → Bool
 has_ended plan s = list_all (λ worker. not (is_some (next_call plan worker s))) (range_with_len 0 plan.workers)
-
--- how a run ends or goes on behind a round
-abbrev pub behind_round : State × Step → (State → State × Ending) → State × Ending
-behind_round (s, steps.Still) rest = (s, endings.Deadlocked)
-behind_round (s, steps.Made) rest = rest s
-behind_round (s, steps.Misused misuse) rest = (s, endings.Misused misuse)
-
--- rounds until the run ends, so many at most
-abbrev pub rounds_of : ℕ → Plan → State → State × Ending
-rounds_of zero plan s = (s, endings.Deadlocked)
-rounds_of (suc n) plan s = if has_ended plan s then (s, endings.Done) else behind_round (items_of plan (round plan.workers) s) (rounds_of n plan)
-
--- as many as suffice: each round makes an event, and each event lowers what is left to do
-abbrev pub all_rounds : Plan → State → State × Ending
-all_rounds plan s = rounds_of (left_to_do plan s + 1) plan s
-
--- what is behind the schedule
-abbrev pub behind_schedule : Plan → State × Step → State × Ending
-behind_schedule plan (s, steps.Still) = all_rounds plan s
-behind_schedule plan (s, steps.Made) = all_rounds plan s
-behind_schedule plan (s, steps.Misused misuse) = (s, endings.Misused misuse)
-
--- the schedule's items in order, and then rounds
-abbrev pub whole_run : Plan → State × Ending
-whole_run plan = behind_schedule plan (items_of plan plan.schedule (start plan))
-
--- what the run leaves behind
-abbrev pub outcome_of : Plan → State × Ending → Outcome
-outcome_of plan (s, endings.Done) = outcomes.Done (left_in plan s (ends_of plan s.objects))
-outcome_of plan (s, endings.Misused misuse) = outcomes.Misused (left_in plan s []) misuse
-outcome_of plan (s, endings.Deadlocked) = outcomes.Deadlocked (left_in plan s [])
-
--- what the run by the schedule comes to
-abbrev pub turns : Plan → Outcome
-turns plan = outcome_of plan (whole_run plan)

@@ -18,6 +18,7 @@ ghost use Rattle.pool_core.specs.declared.pool_event.PoolEvent.{PoolEvent};
 ghost use Rattle.pool_core.specs.declared.pool_event.PoolReply.{PoolReply};
 ghost use Rattle.workload.specs.Draft.{all_keys, distinct_count};
 ghost use Rattle.workload.specs.declared.turn.Turn.{Turn};
+ghost use Rattle.workload.specs.Keys.{keys_in, key_number, key_name};
 ghost use Rattle.workload.specs.Plan.{Plan, is_valid};
 ghost use Rattle.step_turns.specs.declared.object_state.ObjectState.{ObjectState};
 ghost use Rattle.step_turns.specs.declared.object_state.ObjectState.TheVariants as states;
@@ -34,13 +35,15 @@ ghost use Rattle.step_runner.specs.MadeCalls.{made_calls, calls_of};
 ghost use Rattle.step_runner.specs.Outcomes.{StepsTo};
 ghost use Rattle.workload.specs.Puts.{puts_at};
 ghost use Rattle.step_runner.specs.State.{State, IsStateOf, start, with_moment};
-ghost use Rattle.step_runner.specs.Turns.{next_call, turn_of, items_of, after_items, has_ended, rounds_of, all_rounds, turns};
+ghost use Rattle.step_runner.specs.Turns.{next_call, turn_of, items_of, after_items, has_ended};
+ghost use Rattle.step_runner.specs.Computed.{rounds_of, all_rounds, turns};
 
 use step_turns::laws::{
     maps_keep_to_the_keys_of_calls, numbers_stay_in_range, pools_have_room,
     some_calls_take_one_turn, turns_follow_the_machines, turns_keep_kinds_and_machines,
     turns_use_something_up,
 };
+use workload::laws::keys_are_numbered_by_first_appearance;
 
 /// What is true of the state in which a run begins stays true with each turn, and so at every moment:
 /// each object is of the kind that the workload says, the state of each mutex and of each reader/writer
@@ -143,12 +146,16 @@ pub fn objects_follow_their_machines()
     turns_follow_the_machines();
 }
 
-/// At every moment each key that is there in a map is a key of the workload's calls.
+/// At every moment each key that is there in a map is a key of the workload's calls, and its number leads back to it: so
+/// what a `range` shows and what maps hold at the end is named by its own keys.
 pub fn keys_are_those_of_calls()
-    ensures { (plan : Plan) (items : List Turn) (object : ℕ) (m : FinMap (slice_cmp nat_cmp) ℕ) (key : List ℕ) → slice_get (after_items plan items (start plan)).objects object ≡ Some (states.Map m)
+    ensures keys { (plan : Plan) (items : List Turn) (object : ℕ) (m : FinMap (slice_cmp nat_cmp) ℕ) (key : List ℕ) → slice_get (after_items plan items (start plan)).objects object ≡ Some (states.Map m)
         → contains_key m key ≡ true → list_any (bytes_eq key) (all_keys plan.scripts) ≡ true }
+    ensures named { (plan : Plan) (items : List Turn) (object : ℕ) (m : FinMap (slice_cmp nat_cmp) ℕ) (key : List ℕ) → slice_get (after_items plan items (start plan)).objects object ≡ Some (states.Map m)
+        → contains_key m key ≡ true → key_name (keys_in plan.scripts) (key_number (keys_in plan.scripts) key) ≡ key }
 {
     maps_keep_to_the_keys_of_calls();
+    keys_are_numbered_by_first_appearance();
 }
 
 /// At every moment no reply shows more pairs than the workload's calls have different keys.

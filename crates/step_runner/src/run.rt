@@ -5,7 +5,8 @@ ghost use Rattle.workload.specs.declared.limits.TheConstants.{MAX_KEYS};
 ghost use Rattle.workload.specs.Plan.{is_turn};
 ghost use Rattle.step_runner.specs.Outcomes.{StepsTo};
 ghost use Rattle.step_runner.specs.State.{IsStateOf};
-ghost use Rattle.step_runner.specs.Turns.{item_of, items_of, round, has_ended, all_rounds, behind_schedule, outcome_of, turns};
+ghost use Rattle.step_runner.specs.Turns.{item_of, items_of, round, has_ended};
+ghost use Rattle.step_runner.specs.Computed.{all_rounds, behind_schedule, outcome_of, turns};
 
 use crate::ends::ends;
 use crate::laws;

@@ -2,7 +2,8 @@ use crate::stepped;
 use std::alloc::{AllocError, Global};
 use std::test::Fail;
 use sync_model::{
-    AtomicReply, DoReply, End, LockReply, MapReply, Name, Number, Outcome, PoolCallReply, Reply, Report,
+    AtomicReply, DoReply, End, LockReply, MapReply, Name, Number, Outcome, PoolCallReply, Reply,
+    Report,
 };
 use workload::keys::key_name;
 use workload_reader::parse;
@@ -91,12 +92,7 @@ fn push_reply(
     }
 }
 
-fn push_end(
-    alloc: Global,
-    text: &mut String,
-    keys: &[Name],
-    end: &End,
-) -> Result<(), AllocError> {
+fn push_end(alloc: Global, text: &mut String, keys: &[Name], end: &End) -> Result<(), AllocError> {
     match end {
         End::Number { object, number } => {
             let word = format!(in alloc; " {object}=")?;

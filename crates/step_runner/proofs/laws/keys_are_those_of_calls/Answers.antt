@@ -4,8 +4,13 @@ use Rattle.step_turns.specs.declared.object_state.ObjectState.TheVariants as sta
 use Rattle.step_runner.proofs.RunKeys.{Keys, items_keys}
 use Rattle.step_runner.proofs.laws.keys_are_those_of_calls.Goals as goal
 
-abbrev keys : goal.After-maps_keep_to_the_keys_of_calls → Keys
-keys c = record { begins = c.maps_keep_to_the_keys_of_calls.ensures.begins; goes_on = c.maps_keep_to_the_keys_of_calls.ensures.goes_on }
+pub returns-clause-keys : goal.returns-clause-keys
+returns-clause-keys c = λ plan items object m key is there.
+    let keys : Keys = record { begins = c.maps_keep_to_the_keys_of_calls.ensures.begins; goes_on = c.maps_keep_to_the_keys_of_calls.ensures.goes_on } in
+    (items_keys keys plan (distinct_count (all_keys plan.scripts)) items (omega arith)).maps object (states.Map m) is key there
 
-pub returns : goal.returns
-returns c plan items object m key is there = (items_keys (keys c) plan (distinct_count (all_keys plan.scripts)) items (omega arith)).maps object (states.Map m) is key there
+pub returns-clause-named : goal.returns-clause-named
+returns-clause-named c = λ plan items object m key is there.
+    let keys : Keys = record { begins = c.maps_keep_to_the_keys_of_calls.ensures.begins; goes_on = c.maps_keep_to_the_keys_of_calls.ensures.goes_on } in
+    c.keys_are_numbered_by_first_appearance.ensures.named plan.scripts key
+    ((items_keys keys plan (distinct_count (all_keys plan.scripts)) items (omega arith)).maps object (states.Map m) is key there)

@@ -7,7 +7,8 @@ use Rattle.sync_model.specs.Outcome.{shows_to}
 use Rattle.workload.specs.declared.limits.TheConstants.{MAX_KEYS}
 use Rattle.step_runner.specs.Outcomes.{StepsTo}
 use Rattle.step_runner.specs.State.{State}
-use Rattle.step_runner.specs.Turns.{items_of, behind_schedule, outcome_of, turns}
+use Rattle.step_runner.specs.Turns.{items_of}
+use Rattle.step_runner.specs.Computed.{behind_schedule, outcome_of, turns}
 use Rattle.step_runner.proofs.RunKeys.{Keys, few_pairs}
 use Rattle.step_runner.proofs.run.stepped.Goals as goal
 

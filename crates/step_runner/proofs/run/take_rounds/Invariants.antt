@@ -1,7 +1,7 @@
 use Rattle.std.proofs.Common.{◌≡◌}
 use Rattle.step_runner.specs.LeftToDo.{left_to_do}
 use Rattle.step_runner.specs.State.{IsStateOf}
-use Rattle.step_runner.specs.Turns.{all_rounds}
+use Rattle.step_runner.specs.Computed.{all_rounds}
 use Rattle.step_runner.proofs.run.take_rounds.Given as goal
 
 abbrev pub invariant-loop-alloc : goal.invariant-loop-alloc
