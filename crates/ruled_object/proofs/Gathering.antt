@@ -24,7 +24,7 @@ use Rattle.ruled_object.proofs.Journals.{begins_all}
 use Rattle.ruled_object.proofs.Steps.{in_blank}
 
 module _ {A : Type 0} where
-  at_second : (xs ys : List A) (i : ℕ) (y : A) → get_elem? ys i ≡ some y → get_elem? (xs ++ ys) (length xs + i) ≡ some y
+  pub at_second : (xs ys : List A) (i : ℕ) (y : A) → get_elem? ys i ≡ some y → get_elem? (xs ++ ys) (length xs + i) ≡ some y
   at_second [] ys i y e = let same : i ≡ 0 + i = omega arith in subst (λ (k : ℕ). get_elem? ys k ≡ some y) same e
   at_second (x ∷ xs) ys i y e = let same : suc (length xs + i) ≡ suc (length xs) + i = omega arith in subst (λ (k : ℕ). get_elem? (x ∷ (xs ++ ys)) k ≡ some y) same (at_second xs ys i y e)
 
@@ -95,7 +95,7 @@ module _ {S N E R : Type 0} where
         (λ other. let h = d.heard i p (omega arith) at_i in (h.0, at_longer v.heard (w.seen ∷ w.heard) h.0 (seen_by p) h.1));
   }
 
-  at_same : (old new : List (Pass S N E R)) (i : ℕ) (pass : Pass S N E R) → length new ≡ length old → slice_get new i ≡ Some pass → slice_get old i ≡ Some (get_or old i pass)
+  pub at_same : (old new : List (Pass S N E R)) (i : ℕ) (pass : Pass S N E R) → length new ≡ length old → slice_get new i ≡ Some pass → slice_get old i ≡ Some (get_or old i pass)
   at_same old new i pass sized at_i = let below = slice_get_within new i pass at_i in slice_get-get_or old i pass (omega arith)
 
   pub same_through : (a b c : List (Pass S N E R)) → SamePasses a b → SamePasses b c → SamePasses a c

@@ -23,7 +23,7 @@ use Rattle.ruled_object.proofs.Journals.{begins_all, begins_more, by_here, by_ot
 
 module _ {V : Type 0} where
   -- what is true of the seat that stepped, and of each other, is true of all
-  each_after : (P : ℕ → V → Type 0) (vs : List V) (me : ℕ) (w : V) → P me w → ((j : ℕ) (u : V) → j ≢ me → get_elem? vs j ≡ some u → P j u) → (j : ℕ) (u : V) → get_elem? (set vs me w) j ≡ some u → P j u
+  pub each_after : (P : ℕ → V → Type 0) (vs : List V) (me : ℕ) (w : V) → P me w → ((j : ℕ) (u : V) → j ≢ me → get_elem? vs j ≡ some u → P j u) → (j : ℕ) (u : V) → get_elem? (set vs me w) j ≡ some u → P j u
   each_after P vs me w mine others j u e = ⊎_elim (λ (t : (j ≡ me) × (w ≡ u)). subst (λ (x : ℕ × V). P x.0 x.1) (λ i. (sym t.0 i, t.1 i)) mine)
       (λ (t : (j ≢ me) × (get_elem? vs j ≡ some u)). others j u t.0 t.1) (at_set vs me j w u e)
 
@@ -58,7 +58,7 @@ module _ {V : Type 0} where
   at_end (x ∷ xs) a b zero e = inl e
   at_end (x ∷ xs) a b (suc j) e = ⊎_elim (λ t. inl t) (λ t. inr (ap suc t.0, t.1)) (at_end xs a b j e)
 
-  first_there : (xs : List V) (i : ℕ) → i < length xs → (x : V) × (get_elem? xs i ≡ some x)
+  pub first_there : (xs : List V) (i : ℕ) → i < length xs → (x : V) × (get_elem? xs i ≡ some x)
   first_there [] i h = absurd (omega arith)
   first_there (x ∷ xs) zero h = (x, refl)
   first_there (x ∷ xs) (suc i) h = first_there xs i (omega arith)

@@ -1,7 +1,10 @@
+pub mod Assembled
 pub mod Both
 pub mod Cells
 pub mod Gathered
 pub mod Growth
+pub mod Looks
+pub mod Notes
 pub mod Passes
 pub mod Rule
 pub mod Standing

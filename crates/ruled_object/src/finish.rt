@@ -20,6 +20,7 @@ impl<M: Machine, N: Note> Object<M, N> {
         ensures passes { AreAllPasses self.now passes.new × SamePasses passes.old passes.new }
         ensures history { (journal : List (Entry M.Event M.Reply)) × (result ≡ halt_of journal) × IsWhole M.next M.HALTS M.frees M.takes (start_of self.now) journal passes.old × IsWhole M.next M.HALTS M.frees M.takes (start_of self.now) journal passes.new }
         ensures seen { (journal : List (Entry M.Event M.Reply)) × IsSeen M.next M.HALTS M.frees M.takes (start_of self.now) journal passes.new }
+        ensures one_journal { (journal : List (Entry M.Event M.Reply)) × (result ≡ halt_of journal) × IsWhole M.next M.HALTS M.frees M.takes (start_of self.now) journal passes.old × IsSeen M.next M.HALTS M.frees M.takes (start_of self.now) journal passes.new }
         ensures own { SameOwn passes.old passes.new }
         ensures halts { M.HALTS ≡ false → result ≡ None }
     {

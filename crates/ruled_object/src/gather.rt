@@ -14,14 +14,14 @@ use sync_model::{Machine, Note};
 
 impl<M: Machine, N: Note> Object<M, N> {
     // A seat that knows nothing and stands for nobody.
-    fn newcomer(&self) -> SeatOf<M, N>
+    pub(crate) fn newcomer(&self) -> SeatOf<M, N>
         ensures { (result.table_id ≡ self.now.table.shared.table_id) × (result.me ≡ (blank, [])) }
     {
         self.table.shared.load_new_seat::<Come>(TURN).1
     }
 
     // The seat takes in all that a pass knows, and stands for its caller. It stood for the callers before that one.
-    fn take_in(&self, all: &mut SeatOf<M, N>, pass: &mut PassOf<M, N>)
+    pub(crate) fn take_in(&self, all: &mut SeatOf<M, N>, pass: &mut PassOf<M, N>)
         requires all { (all.old.table_id ≡ self.now.table.shared.table_id) × (all.old.me.1 ≡ []) }
         requires pass { IsPassOf self.now pass.old }
         requires order { all.old.me.0.number + length all.old.me.0.owns ≡ pass.old.number }

@@ -1,8 +1,12 @@
 //! How the entries of several calls add up.
-ghost use Rattle.std.specs.Prelude.{◌≡◌, ℕ, List, [], ◌∷◌, ◌++◌};
+ghost use Rattle.std.specs.Prelude.{◌≡◌, ℕ, List, [], ◌∷◌, ◌++◌, Some, length, slice_get};
 ghost use Rattle.sync_model.specs.declared.journal.Entry.{Entry};
 ghost use Rattle.ruled_object.specs.declared.pass.Pass.{Pass};
-ghost use Rattle.ruled_object.specs.Growth.{Placed, Grows, KeepsNote, AddUp, LastTells, entries_of};
+ghost use Rattle.ruled_object.specs.declared.object.Object.{Object};
+ghost use Rattle.ruled_object.specs.Gathered.{IsSeen, IsWhole};
+ghost use Rattle.ruled_object.specs.Growth.{Placed, Grows, IsLawful, KeepsNote, AddUp, LastTells, entries_of};
+ghost use Rattle.ruled_object.specs.Notes.{held_by, IsNoteOf, Shows};
+ghost use Rattle.ruled_object.specs.Passes.{own_by, seen_by, IsPassOf};
 ghost use Rattle.ruled_object.specs.Standing.{stand_next, stand_from};
 
 use crate::new::MAX_CALLS;
@@ -32,6 +36,28 @@ pub fn standing<M: Machine, W>()
     ensures entries { (out : W) (after : W → M.Event → M.Reply → W) (place : W) (old new : List (Entry M.Event M.Reply)) (es : List (Placed M.Event M.Reply)) (last : Placed M.Event M.Reply)
         → new ≡ old ++ entries_of (es ++ last ∷ [])
         → stand_from out after place new ≡ stand_next out after (stand_from out after place (old ++ entries_of es)) last.entry.deed }
+{}
+
+/// A caller's pass is what holds its entries, and a copy is what holds nobody's. What the one shows of the history the
+/// other does.
+pub fn passes_and_copies<M: Machine, N: Note>()
+    ensures holds { (object : Object M N M.State M.Event M.Reply N.Home) (pass : Pass M.State N M.Event M.Reply)
+        → IsPassOf object pass → IsNoteOf object pass × (held_by pass ≡ Some (own_by pass)) }
+    ensures is_pass { (object : Object M N M.State M.Event M.Reply N.Home) (pass : Pass M.State N M.Event M.Reply) (own : List (Entry M.Event M.Reply))
+        → IsNoteOf object pass → held_by pass ≡ Some own → IsPassOf object pass × (own_by pass ≡ own) }
+    ensures shows { (start : M.State) (pass : Pass M.State N M.Event M.Reply)
+        → IsLawful M.next M.HALTS M.frees M.takes start pass → Shows M.next M.HALTS M.frees M.takes start pass }
+    ensures lawful { (start : M.State) (pass : Pass M.State N M.Event M.Reply) (own : List (Entry M.Event M.Reply))
+        → held_by pass ≡ Some own → Shows M.next M.HALTS M.frees M.takes start pass → IsLawful M.next M.HALTS M.frees M.takes start pass }
+{}
+
+/// Passes that were looked at together and handed back, each with its caller's entries, have together seen the whole
+/// history.
+pub fn all_handed_back<M: Machine, N: Note>()
+    ensures { (start : M.State) (journal : List (Entry M.Event M.Reply)) (old new : List (Pass M.State N M.Event M.Reply))
+        → IsWhole M.next M.HALTS M.frees M.takes start journal old → length new ≡ length old
+        → ((i : ℕ) (before after : Pass M.State N M.Event M.Reply) → slice_get old i ≡ Some before → slice_get new i ≡ Some after → (seen_by after ≡ journal) × (own_by after ≡ own_by before))
+        → IsSeen M.next M.HALTS M.frees M.takes start journal new }
 {}
 
 /// The limits of an object by their numbers: how many calls a pass is good for, and how many callers an object has.

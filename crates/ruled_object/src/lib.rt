@@ -2,12 +2,15 @@
 #![tactic(auto)]
 
 mod act;
+pub mod assembly;
 mod begin;
 mod call;
 pub mod cell;
+mod copy;
 mod finish;
 mod gather;
 pub mod laws;
+mod look;
 mod new;
 pub mod object;
 mod park;
@@ -16,6 +19,7 @@ pub mod rule;
 mod turn;
 pub mod view;
 
+pub use assembly::{Assembly, AssemblyOf};
 pub use new::MAX_CALLS;
 pub use object::Object;
 pub use pass::{Pass, PassOf};

@@ -1,3 +1,4 @@
+mod copies;
 mod machines;
 mod one_thread;
 mod threads;

@@ -3,7 +3,7 @@ use Rattle.ruled_object.specs.Gathered.{IsDealt}
 use Rattle.ruled_object.specs.Rule.{Lies}
 use Rattle.ruled_object.specs.Steps.{gave}
 use Rattle.ruled_object.proofs.Calls.{learned}
-use Rattle.ruled_object.proofs.Gathering.{same_through, same_own, still_numbered, whole, whole_again, seen_again}
+use Rattle.ruled_object.proofs.Gathering.{same_through, same_own, still_numbered, whole, seen_again}
 use Rattle.ruled_object.proofs.Journals.{never_halted}
 use Rattle.ruled_object.proofs.object.Object.first_halt.Goals as goal
 
@@ -27,8 +27,8 @@ returns-clause-passes g c =
     let same = same_through c.args.passes.now c.gather-all.new.passes c.deal_out.new.passes c.gather-all.ensures.passes c.deal_out.ensures.passes in
     (record { count = same.count ∙ c.requires.count; each = λ i pass at_i. let d = c.deal_out.ensures.dealt i pass at_i in (d.is, d.number) }, same)
 
-pub returns-clause-history : goal.returns-clause-history
-returns-clause-history g c =
+pub returns-clause-one_journal : goal.returns-clause-one_journal
+returns-clause-one_journal g c =
     let m = g.M.Machine in
     let n = g.N.Note in
     let object = c.args.self.now in
@@ -45,38 +45,24 @@ returns-clause-history g c =
       journal,
       held.2 ∙ learns.lies.halted,
       whole m.next m.HALTS m.frees m.takes n.front n.at begin c.args.passes.now v journal cell c.requires.count c.gather-all.ensures.gathered learns,
-      whole_again m.next m.HALTS m.frees m.takes n.front n.at begin object passes v journal cell count c.gather-all.ensures.gathered.number
-          (λ i pass at_i. subst (λ w. IsDealt object i w.seen w.owns pass) is (c.deal_out.ensures.dealt i pass at_i)) learns,
-    )
-
-pub returns-clause-seen : goal.returns-clause-seen
-returns-clause-seen g c =
-    let m = g.M.Machine in
-    let n = g.N.Note in
-    let object = c.args.self.now in
-    let begin = object.table.shared.key in
-    let v = c.gather-all.result.me.0 in
-    let took = c.take_rest.ensures.takes in
-    let journal = took.0 in
-    let held = c.halted_in-halted.ensures.halted in
-    let cell = held.0 in
-    let learns = learned m.next m.HALTS m.frees m.takes n.front n.at begin c.gather-all.result.me c.take_rest.new.seat.me cell took held.1 in
-    let is = ap (λ me. me.0) c.give_turn.ensures.gave ∙ ap (λ me. gave me.0 None) (c.halted_in-halted.ensures.seat.1 ∙ took.2) in
-    let passes = c.deal_out.new.passes in
-    let count = c.deal_out.ensures.passes.count ∙ c.gather-all.ensures.passes.count ∙ c.requires.count in (
-      journal,
       seen_again m.next m.HALTS m.frees m.takes n.front n.at begin object passes v journal cell count c.gather-all.ensures.gathered.number
           (λ i pass at_i. subst (λ w. IsDealt object i w.seen w.owns pass) is (c.deal_out.ensures.dealt i pass at_i)) learns,
     )
 
+pub returns-clause-history : goal.returns-clause-history
+returns-clause-history g c = let one = returns-clause-one_journal g c in (one.0, one.1, one.2, one.3.whole)
+
+pub returns-clause-seen : goal.returns-clause-seen
+returns-clause-seen g c = let one = returns-clause-one_journal g c in (one.0, one.3)
+
 pub returns-clause-own : goal.returns-clause-own
 returns-clause-own g c =
     let m = g.M.Machine in
-    let history = returns-clause-history g c in
-    same_own m.next m.HALTS m.frees m.takes c.args.self.now.table.shared.key.state history.0 c.args.passes.now c.deal_out.new.passes (returns-clause-passes g c).1 history.2 history.3
+    let one = returns-clause-one_journal g c in
+    same_own m.next m.HALTS m.frees m.takes c.args.self.now.table.shared.key.state one.0 c.args.passes.now c.deal_out.new.passes (returns-clause-passes g c).1 one.2 one.3.whole
 
 pub returns-clause-halts : goal.returns-clause-halts
 returns-clause-halts g c never =
     let m = g.M.Machine in
-    let history = returns-clause-history g c in
-    history.1 ∙ never_halted m.next m.HALTS c.args.self.now.table.shared.key.state history.0 never history.2.follows
+    let one = returns-clause-one_journal g c in
+    one.1 ∙ never_halted m.next m.HALTS c.args.self.now.table.shared.key.state one.0 never one.2.follows
