@@ -1,0 +1,32 @@
+//! `WaitGroup`: an add of 1 and a done.
+ghost use Rattle.go_waits.specs.Groups.{IsPassOf};
+
+use crate::fresh_note::FreshNote;
+use crate::measured::Measured;
+use go_waits::{GroupPass, WaitGroup};
+use ruled_object::MAX_CALLS;
+use std::alloc::{AllocError, Global};
+use std::sync::Wait;
+use sync_outside::{At, Clock};
+
+impl<N: FreshNote> Measured for WaitGroup<N> {
+    type Pass = GroupPass<N>;
+
+    type Note = N;
+
+    ghost is_of = { λ group pass. IsPassOf group pass };
+
+    fn new(alloc: Global, callers: u32) -> Result<(Self, Vec<GroupPass<N>>), AllocError> {
+        let (group, passes) = WaitGroup::new(alloc, callers, MAX_CALLS, 0, N::fresh())?;
+        Ok((group, passes))
+    }
+
+    fn pair<C: Clock, R: Wait>(&self, rt: &R, clock: &C, pass: &mut GroupPass<N>, note: &mut N) {
+        if pass.left() < 2 {
+            return;
+        }
+        let at = At { home: &(), clock };
+        let _ = self.add(rt, &at, pass, note, 1);
+        let _ = self.done(rt, &at, pass, note);
+    }
+}

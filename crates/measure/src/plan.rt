@@ -1,0 +1,132 @@
+//! What to measure, as the words of the command say.
+ghost use Rattle.std.specs.Prelude.{◌<◌, ◌≤◌};
+
+/// The object, and the pair of calls on it.
+#[derive(Clone, Copy, Debug, PartialEq, Eq)]
+pub enum What {
+    /// A mutex's `lock` and `unlock`.
+    Mutex,
+    /// A reader/writer lock's `r_lock` and `r_unlock`.
+    Read,
+    /// A reader/writer lock's `lock` and `unlock`.
+    Write,
+    /// A wait group's `add` of 1 and `done`.
+    Group,
+    /// One `do_once` of a once that has been run.
+    Once,
+    /// A pool's `put` and `get`.
+    Pool,
+}
+
+impl What {
+    fn of(word: &str) -> Option<Self> {
+        match word.as_bytes() {
+            b"mutex" => Some(What::Mutex),
+            b"read" => Some(What::Read),
+            b"write" => Some(What::Write),
+            b"group" => Some(What::Group),
+            b"once" => Some(What::Once),
+            b"pool" => Some(What::Pool),
+            _ => None,
+        }
+    }
+}
+
+/// How many threads call, each as one caller.
+#[derive(Clone, Copy, Debug, PartialEq, Eq)]
+pub enum How {
+    /// So many threads, each on an object of its own.
+    Own(usize),
+    /// So many threads on one object.
+    Shared(usize),
+}
+
+impl How {
+    fn of(word: &str) -> Option<Self> {
+        match word.as_bytes() {
+            b"one" => Some(How::Own(1)),
+            b"two-own" => Some(How::Own(2)),
+            b"four-own" => Some(How::Own(4)),
+            b"two-shared" => Some(How::Shared(2)),
+            b"four-shared" => Some(How::Shared(4)),
+            _ => None,
+        }
+    }
+}
+
+/// The notes of the callers.
+#[derive(Clone, Copy, Debug, PartialEq, Eq)]
+pub enum Notes {
+    /// `FrontNote`: 64 counts.
+    Front,
+    /// `NoNote`, which carries nothing.
+    Empty,
+}
+
+impl Notes {
+    fn of(word: &str) -> Option<Self> {
+        match word.as_bytes() {
+            b"front" => Some(Notes::Front),
+            b"empty" => Some(Notes::Empty),
+            _ => None,
+        }
+    }
+}
+
+/// The clock that the calls read.
+#[derive(Clone, Copy, Debug, PartialEq, Eq)]
+pub enum Reads {
+    /// The machine's clock.
+    Machine,
+    /// A clock that stands, which costs nothing.
+    Standing,
+}
+
+impl Reads {
+    fn of(word: &str) -> Option<Self> {
+        match word.as_bytes() {
+            b"machine" => Some(Reads::Machine),
+            b"standing" => Some(Reads::Standing),
+            _ => None,
+        }
+    }
+}
+
+/// One measurement.
+#[derive(Clone, Copy, Debug, PartialEq, Eq)]
+pub struct Plan {
+    pub what: What,
+    pub how: How,
+    pub notes: Notes,
+    pub reads: Reads,
+    /// How many callers each object has, whether they call or not: 4 to 64.
+    pub callers: u32,
+    /// How many pairs each thread makes: 1 to 500,000.
+    pub rounds: u32,
+    ghost sized: { (4 ≤ callers) × (callers ≤ 64) },
+    ghost runs: { 0 < rounds },
+}
+
+/// The measurement that the words after the program's name ask for, where they are taken.
+pub fn plan_of(words: &[String]) -> Option<Plan> {
+    let [what, how, notes, reads, callers, rounds] = words else {
+        return None;
+    };
+    let what = What::of(what.as_str())?;
+    let how = How::of(how.as_str())?;
+    let notes = Notes::of(notes.as_str())?;
+    let reads = Reads::of(reads.as_str())?;
+    let callers: u32 = callers.parse().ok()?;
+    let rounds: u32 = rounds.parse().ok()?;
+    if callers < 4 || 64 < callers || rounds == 0 || 500_000 < rounds {
+        return None;
+    }
+    Some(Plan {
+        what,
+        how,
+        notes,
+        reads,
+        callers,
+        rounds,
+    })
+}
