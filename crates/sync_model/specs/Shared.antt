@@ -29,7 +29,7 @@ values_of (CompareAndSwap key old new) = old ∷ new ∷ []
 values_of (CompareAndDelete key old) = old ∷ []
 values_of Clear = []
 
--- how many entries of its spare ones a call on a map takes: only a load stores nothing
+-- how many of its caller's spare entries a call on a map takes: a load none, and every other one, whatever it answers
 abbrev pub cost_of : {K : Type 0} → MapCall K → ℕ
 cost_of (Load key) = 0
 cost_of (Store key value) = 1
@@ -58,7 +58,7 @@ pub record CallerState : Type 0 where
   pub front : List ℕ
   pub seen : List SharedEntry
 
--- one shared call of a caller, from one state to the next. It adds one item to the caller's own list, which has the call, the answer, the front before it and its place; the caller has seen the history up to there, where the answer is right
+-- one shared call of a caller, from one state to the next: it adds one item to the caller's own list, and is answered as by the objects for one thread at its place in the history that the caller has then seen
 pub record Called (start : Contents) (call : SharedCall) (reply : SharedReply) (cost : ℕ) (old new : CallerState) : Type 0 where
   pub was : Holding
   pub becomes : Holding

@@ -1,4 +1,4 @@
--- The law of a shared history's callers: that the history and the callers' own lists of calls explain each other. A front is a vector clock: for each caller the number of its shared calls that are known.
+-- The law of a shared history's callers: that the history and the callers' own lists of calls explain each other. The Go memory model asks that all atomic operations behave as though executed in some sequentially consistent order: that is the order of places. What happens before a call through locks and the other objects is what its front counts: a front is a vector clock, for each caller the number of its shared calls that are known.
 use Rattle.std.specs.Prelude.{◌≡◌, ◌≢◌, ℕ, ◌+◌, ◌^◌, ◌<◌, ◌≤◌, true, cond, List, [], ◌∷◌, ◌++◌, length, Option, Some, None, slice_get, slice_index}
 use Rattle.sync_model.specs.declared.item.SharedCall.TheVariants.{Begin, Next}
 use Rattle.sync_model.specs.declared.item.SharedReply.TheVariants.{Shown}
@@ -39,12 +39,12 @@ pub record WasSo (start : Contents) (history : List SharedEntry) (calls : ℕ �
   pub is : value_at (contents_at start history moment) m key ≡ value
 
 module _ (start : Contents) (history : List SharedEntry) (calls : ℕ → List Item) where
-  -- what the step number i of caller c's cursor over a map may show: a key that it showed to none before, with a value that the key had at some moment since the cursor began; or none, where each key that wasn't shown was absent at such a moment
+  -- what step number i of a cursor of caller c over map m may show: a key that no earlier step showed, with a value that the key had at some moment since the cursor began; or none, where each key that no earlier step showed was absent at such a moment
   abbrev pub MayShow : ℕ → ℕ → ℕ → List ℕ → ℕ → ℕ → Option (ℕ × ℕ) → Type 0
   MayShow c b m front i reach (Some (key, value)) = IsUnshown (calls c) b i key × WasSo start history calls front reach m key (Some value)
   MayShow c b m front i reach None = (key : ℕ) → key < 2 ^ 32 → IsUnshown (calls c) b i key → WasSo start history calls front reach m key None
 
-  -- the Range law, of the cursor that call number b of caller c began over map m at this front. Go's sync.Map says of Range that no key is visited more than once, and that a key's value may be that of any point during the call
+  -- the Range law, of the cursor that call number b of caller c began over map m at this front. Go's sync.Map says of Range: no key will be visited more than once, and it may reflect any mapping for a key from any point during the call
   abbrev pub KeepsRange : ℕ → ℕ → ℕ → List ℕ → Type 0
   KeepsRange c b m front = (i : ℕ) (x : Item) (shown : Option (ℕ × ℕ)) → IsStep (calls c) b i x shown → MayShow c b m front i x.place shown
 
