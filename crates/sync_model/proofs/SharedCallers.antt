@@ -2,6 +2,8 @@
 use Rattle.std.proofs.Common.{◌≡◌, ◌≢◌, ℕ, suc, ◌+◌, ◌<◌, ◌≤◌, Bool, true, false, ◌==◌, cond, List, [], ◌∷◌, ◌++◌, length, Some, slice_get, slice_index, inl, inr, refl, sym, ap, ◌∙◌, subst, arith, append-nil}
 use Rattle.std.proofs.lemmas.Option.{slice_get_within}
 use Rattle.std.proofs.lemmas.Bool.{cases_lt, eqb-true, eq-eqb}
+use Rattle.sync_model.specs.declared.item.SharedCall.{SharedCall}
+use Rattle.sync_model.specs.declared.item.SharedReply.{SharedReply}
 use Rattle.sync_model.specs.declared.item.SharedEntry.{SharedEntry}
 use Rattle.sync_model.specs.declared.item.Item.{Item}
 use Rattle.sync_model.specs.Front.{AtLeast}
@@ -9,7 +11,7 @@ use Rattle.sync_model.specs.Journal.{Begins}
 use Rattle.sync_model.specs.SharedHistory.{Contents, contents_at, IsReply, is_entry, IsLegal, entries_from, entries_by, entry_of, marked_in, with_call}
 use Rattle.sync_model.specs.SharedCalls.{bound, Knows, Lawful, MayCall, AddsCall}
 use Rattle.sync_model.specs.Shared.{CallerState, Called}
-use Rattle.sync_model.specs.SharedLaws.{IsWithinBoth, TakesIn}
+use Rattle.sync_model.specs.SharedLaws.{IsWithinBoth, SameState, TakesIn}
 use Rattle.sync_model.proofs.Histories.{get_front, get_last, get_on, contents_same, legal_apart, entries_both, added, added_is}
 use Rattle.sync_model.proofs.SharedSteps.{lawful_more}
 use Rattle.sync_model.proofs.SameHistory.{heads, tails, late}
@@ -159,3 +161,12 @@ is_called start history calls x cost old new takes mine lawful may begins = reco
         ap (λ b. slice_get (cond b (history ++ entry_of takes.was.number x ∷ []) history) x.place) is
         ∙ ap (λ n. slice_get (history ++ entry_of takes.was.number x ∷ []) n) (may.last is)
         ∙ get_last history (entry_of takes.was.number x)
+
+same_state : (one other : CallerState) → SameState one other → one ≡ other
+same_state one other same = sym (λ i. record { own = same.own i; front = same.front i; seen = same.seen i })
+
+-- a promise speaks of what contracts see alone
+pub called_same : (start : Contents) (call : SharedCall) (reply : SharedReply) (cost : ℕ) (old new other_old other_new : CallerState) → SameState old other_old → SameState new other_new
+    → Called start call reply cost old new → Called start call reply cost other_old other_new
+called_same start call reply cost old new other_old other_new olds news called =
+    subst (λ s. Called start call reply cost s other_new) (same_state old other_old olds) (subst (Called start call reply cost old) (same_state new other_new news) called)

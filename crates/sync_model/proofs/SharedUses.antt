@@ -1,5 +1,5 @@
 -- What one caller's calls have to do with each other, by its own states alone.
-use Rattle.std.proofs.Common.{◌≡◌, ◌≢◌, ℕ, zero, suc, ◌+◌, ◌<◌, ◌≤◌, true, List, [], ◌∷◌, ◌++◌, length, take, Option, Some, slice_get, refl, sym, ap, ◌∙◌, subst, arith, append_assoc}
+use Rattle.std.proofs.Common.{◌≡◌, ◌≢◌, ℕ, zero, suc, ◌<◌, ◌≤◌, true, List, [], ◌∷◌, ◌++◌, length, take, Option, Some, slice_get, refl, sym, ap, ◌∙◌, subst, arith, append_assoc}
 use Rattle.std.proofs.lemmas.Option.{same_Some}
 use Rattle.sync_model.specs.declared.item.SharedCall.{SharedCall}
 use Rattle.sync_model.specs.declared.item.SharedCall.TheVariants.{Map, Begin, Next}
@@ -15,7 +15,7 @@ use Rattle.sync_model.specs.SharedHistory.{Contents, value_at, shared_after, con
 use Rattle.sync_model.specs.SharedCalls.{bound}
 use Rattle.sync_model.specs.Shared.{CallerState, Called, items_of}
 use Rattle.sync_model.specs.SharedLaws.{LeaveKey, FindsItsStore, StepsOn}
-use Rattle.sync_model.proofs.Histories.{get_left, get_mid, get_last}
+use Rattle.sync_model.proofs.Histories.{get_mid, get_last}
 use Rattle.sync_model.proofs.SharedCallers.{bound_is, bound_above}
 use Rattle.sync_model.proofs.SharedEntries.{IsIn, mark_in, entry_is}
 use Rattle.sync_model.proofs.SharedReads.{behind, stored_value}

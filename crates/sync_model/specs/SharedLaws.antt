@@ -42,6 +42,12 @@ LeaveAtomic a entries = All (λ entry. is_on_atomic a entry.call ≡ false) entr
 abbrev pub IsWithinBoth : List ℕ → List ℕ → List ℕ → Type 0
 IsWithinBoth both first second = (c : ℕ) → slice_index both c ≤ max (slice_index first c) (slice_index second c)
 
+-- two states in which contracts see the same
+pub record SameState (one other : CallerState) : Type 0 where
+  pub own : other.own ≡ one.own
+  pub front : other.front ≡ one.front
+  pub seen : other.seen ≡ one.seen
+
 -- a caller's state takes in one more call of its own: what `Called` says of the state alone
 pub record TakesIn (x : Item) (cost : ℕ) (old new : CallerState) : Type 0 where
   pub was : Holding

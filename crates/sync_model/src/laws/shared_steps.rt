@@ -5,7 +5,7 @@ ghost use Rattle.sync_model.specs.Journal.{Begins};
 ghost use Rattle.sync_model.specs.SharedHistory.{Contents, contents_after, contents_at, shared_after, is_entry, IsReply, IsLegal, entries_by, marked_in, with_call};
 ghost use Rattle.sync_model.specs.SharedCalls.{bound, Knows, Grows, IsStep, WasSo, Lawful, MayCall, AddsCall};
 ghost use Rattle.sync_model.specs.Shared.{CallerState, Called};
-ghost use Rattle.sync_model.specs.SharedLaws.{IsWithinBoth, TakesIn};
+ghost use Rattle.sync_model.specs.SharedLaws.{IsWithinBoth, SameState, TakesIn};
 
 use crate::item::{Item, SharedCall, SharedEntry, SharedReply};
 
@@ -25,6 +25,13 @@ pub fn a_lawful_call_is_as_promised()
     ensures { (start : Contents) (history : List SharedEntry) (calls : ℕ → List Item) (x : Item) (cost : ℕ) (old new : CallerState) (takes : TakesIn x cost old new)
         → calls takes.was.number ≡ takes.was.items → Lawful start history calls → MayCall start history calls takes.was.number x
         → Begins (with_call history takes.was.number x) new.seen → Called start x.call x.reply cost old new }
+{}
+
+/// What a caller is promised of a call speaks of what contracts see of its note alone, before the call and after it. So a
+/// step that a caller makes before or behind its call, and that nobody sees, changes nothing of the promise.
+pub fn a_promise_carries_over()
+    ensures { (start : Contents) (call : SharedCall) (reply : SharedReply) (cost : ℕ) (old new other_old other_new : CallerState)
+        → SameState old other_old → SameState new other_new → Called start call reply cost old new → Called start call reply cost other_old other_new }
 {}
 
 /// What a front knows stays true: when callers make more calls, further on in the history, of a front that counts less, and

@@ -1,4 +1,4 @@
-use Rattle.std.proofs.Common.{length, replicate, subst, sym, ◌<◌}
+use Rattle.std.proofs.Common.{subst, sym, ◌<◌}
 use Rattle.std.specs.FinMap.{empty}
 use Rattle.std.proofs.lemmas.List.{length-replicate}
 use Rattle.sync_model.specs.SharedHistory.{first_contents}
