@@ -10,6 +10,14 @@ import (
 	"time"
 )
 
+// apart makes an object that shares no cache line with another one.
+func apart[T any]() *T {
+	return &new(struct {
+		object T
+		rest   [128]byte
+	}).object
+}
+
 // A caller makes its pair of calls so many times.
 type caller func(rounds int)
 
@@ -65,7 +73,7 @@ func main() {
 		panic(err)
 	}
 	each("mutex", rounds, func() caller {
-		m := new(sync.Mutex)
+		m := apart[sync.Mutex]()
 		return func(rounds int) {
 			for i := 0; i < rounds; i++ {
 				m.Lock()
@@ -74,7 +82,7 @@ func main() {
 		}
 	})
 	each("read", rounds, func() caller {
-		m := new(sync.RWMutex)
+		m := apart[sync.RWMutex]()
 		return func(rounds int) {
 			for i := 0; i < rounds; i++ {
 				m.RLock()
@@ -83,7 +91,7 @@ func main() {
 		}
 	})
 	each("write", rounds, func() caller {
-		m := new(sync.RWMutex)
+		m := apart[sync.RWMutex]()
 		return func(rounds int) {
 			for i := 0; i < rounds; i++ {
 				m.Lock()
@@ -92,7 +100,7 @@ func main() {
 		}
 	})
 	each("group", rounds, func() caller {
-		g := new(sync.WaitGroup)
+		g := apart[sync.WaitGroup]()
 		return func(rounds int) {
 			for i := 0; i < rounds; i++ {
 				g.Add(1)
@@ -101,7 +109,7 @@ func main() {
 		}
 	})
 	each("once", rounds, func() caller {
-		o := new(sync.Once)
+		o := apart[sync.Once]()
 		return func(rounds int) {
 			for i := 0; i < rounds; i++ {
 				o.Do(func() {})
@@ -109,7 +117,8 @@ func main() {
 		}
 	})
 	each("pool", rounds, func() caller {
-		p := &sync.Pool{New: func() any { return new(uint64) }}
+		p := apart[sync.Pool]()
+		p.New = func() any { return new(uint64) }
 		return func(rounds int) {
 			item := any(new(uint64))
 			for i := 0; i < rounds; i++ {

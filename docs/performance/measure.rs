@@ -11,8 +11,12 @@ struct Group {
     waiting: u64,
 }
 
+/// An object that shares no cache line with another one.
+#[repr(align(128))]
+struct Apart<T>(T);
+
 /// Has each of the callers make its pair so many times, on its object, in a thread of its own.
-fn run<T, F>(name: String, rounds: u32, objects: Vec<Arc<T>>, pair: F)
+fn run<T, F>(name: String, rounds: u32, objects: Vec<Arc<Apart<T>>>, pair: F)
 where
     T: Send + Sync + 'static,
     F: Fn(&T) + Copy + Send + 'static,
@@ -25,7 +29,7 @@ where
             thread::spawn(move || {
                 ready.wait();
                 for _ in 0..rounds {
-                    pair(&object);
+                    pair(&object.0);
                 }
             })
         })
@@ -44,8 +48,8 @@ where
     T: Send + Sync + 'static,
     F: Fn(&T) + Copy + Send + 'static,
 {
-    let own = |n: usize| (0..n).map(|_| Arc::new(new())).collect();
-    let shared = |n: usize| vec![Arc::new(new()); n];
+    let own = |n: usize| (0..n).map(|_| Arc::new(Apart(new()))).collect();
+    let shared = |n: usize| vec![Arc::new(Apart(new())); n];
     run(format!("{name} one"), rounds, own(1), pair);
     run(format!("{name} two-own"), rounds, own(2), pair);
     run(format!("{name} four-own"), rounds, own(4), pair);

@@ -1,5 +1,5 @@
 //! The notes to measure with.
-use sync_model::{FrontNote, Note};
+use sync_model::{FrontNote, NoNote, Note};
 
 /// A note that knows nothing, and is at home anywhere.
 pub trait FreshNote: Note<Home = ()> + Send {
@@ -13,6 +13,14 @@ pub trait FreshNote: Note<Home = ()> + Send {
 impl FreshNote for FrontNote {
     fn fresh() -> Self {
         FrontNote::new([0; 64])
+    }
+
+    ghost anywhere = { λ home note. tt };
+}
+
+impl FreshNote for NoNote {
+    fn fresh() -> Self {
+        NoNote
     }
 
     ghost anywhere = { λ home note. tt };

@@ -25,7 +25,7 @@ use std::process::ExitCode;
 use std::sync::Wait;
 use std::thread::Threads;
 use std::{env, io, rt};
-use sync_model::FrontNote;
+use sync_model::{FrontNote, NoNote};
 use sync_outside::{Clock, SystemClock};
 
 /// What is printed where the words aren't taken.
@@ -64,7 +64,7 @@ fn with_clock<C: Clock + Sync, R: Threads + Wait + rt::Clock + Sync>(
 ) -> Result<u64, AllocError> {
     match plan.notes {
         Notes::Front => with_notes::<FrontNote, C, R>(rt, alloc, clock, plan),
-        Notes::Empty => with_notes::<FrontNote, C, R>(rt, alloc, clock, plan),
+        Notes::Empty => with_notes::<NoNote, C, R>(rt, alloc, clock, plan),
     }
 }
 
