@@ -13,13 +13,12 @@ ghost use Rattle.workload_reader.specs.LineResult.{IsFault, IsOperands, IsMapCal
 use crate::word_reading::{read_amount, read_name, read_none, read_number, read_value};
 use std::alloc::Global;
 use sync_model::{
-    AtomicCall, AtomicKind, Call, CondCall, MapCall, MutexCall, Name, Number, PoolCall,
+    AtomicCall, AtomicKind, Call, CondCall, MAX_VALUE, MapCall, MutexCall, Name, Number, PoolCall,
     RwMutexCall, WaitGroupCall,
 };
 use workload::fault::LineFault;
 use workload::keyword::{Operand, Verb};
 use workload::laws::checks_go_in_order;
-use sync_model::MAX_VALUE;
 use workload::object::{Declared, ObjectKind};
 use workload::reason::Reason;
 

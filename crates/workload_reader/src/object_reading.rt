@@ -8,10 +8,9 @@ ghost use Rattle.workload.specs.declared.object.ObjectKind.TheVariants as Object
 
 use crate::word_reading::{read_amount, read_name, read_none, read_number_to};
 use std::alloc::Global;
-use sync_model::{AtomicKind, Name};
+use sync_model::{AtomicKind, MAX_VALUE, Name};
 use workload::draft::Draft;
 use workload::fault::LineFault;
-use sync_model::MAX_VALUE;
 use workload::limits::{MAX_AMOUNT, MAX_CODE};
 use workload::object::{Declared, ObjectKind, ObjectWord};
 use workload::reason::Reason;

@@ -12,10 +12,9 @@ ghost use Rattle.sync_model.specs.declared.value.TheConstants.{MAX_VALUE};
 use crate::number::{amount, atomic_number, number};
 use std::alloc::Global;
 use sync_model::name::is_name;
-use sync_model::{AtomicKind, Name, Number};
+use sync_model::{AtomicKind, MAX_VALUE, Name, Number};
 use workload::fault::LineFault;
 use workload::keyword::Operand;
-use sync_model::MAX_VALUE;
 use workload::reason::Reason;
 
 /// The name that a word is.
