@@ -80,6 +80,7 @@ fn write_ends<O: Sink>(
     ensures err { OnErr result (AppendsFront (O.contents out.old) (O.contents out.new) (ends_text workload.now.objects ends.now)) }
     ensures failed { OnErr result (Rose (O.faults out.old) (O.faults out.new)) }
     ensures faults { O.faults out.old ≤ O.faults out.new }
+    ensures room { LINE_ROOM ≤ vec_capacity line.new }
 {
     for end in ends {
         set_end_line(line, workload.objects(), end);
@@ -105,6 +106,7 @@ pub fn report<O: Sink>(
     ensures err { OnErr result (AppendsFront (O.contents out.old) (O.contents out.new) (report_text workload.now outcome.now)) }
     ensures failed { OnErr result (Rose (O.faults out.old) (O.faults out.new)) }
     ensures faults { O.faults out.old ≤ O.faults out.new }
+    ensures room { LINE_ROOM ≤ vec_capacity line.new }
 {
     match outcome {
         Outcome::Done(left) => {
