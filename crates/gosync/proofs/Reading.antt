@@ -1,5 +1,5 @@
 -- From the bytes that were taken to all bytes of a file.
-use Rattle.std.proofs.Common.{◌≡◌, ℕ, zero, suc, ◌+◌, ◌≤◌, List, [], ◌∷◌, ◌++◌, length, take, Option, Some, None, refl, sym, ap, subst, ◌∙◌, arith, inl, inr, append-nil}
+use Rattle.std.proofs.Common.{◌≡◌, ℕ, zero, suc, ◌+◌, ◌≤◌, List, [], ◌∷◌, ◌++◌, length, take, Option, Some, None, refl, sym, ap, subst, ◌∙◌, arith, inl, inr, append-nil, append_assoc}
 use Rattle.std.proofs.lemmas.List.{length-take}
 use Rattle.std.proofs.Math.Seq.{take-append_seam}
 use Rattle.std.specs.Io.KnownBytes.{prepend_known, IsAtEnd}
@@ -7,7 +7,7 @@ use Rattle.workload.specs.declared.limits.TheConstants.{MAX_INPUT}
 use Rattle.workload.specs.declared.reason.Reason.{Reason}
 use Rattle.workload.specs.Plan.{Plan}
 use Rattle.workload.specs.Reads.{Reads, IsRefused}
-use Rattle.gosync.specs.declared.status.Status.TheVariants.{NotAccepted}
+use Rattle.gosync.specs.declared.status.Unread.TheVariants.{NotAccepted}
 use Rattle.gosync.specs.Input.{AreBytesOf, IsInput}
 use Rattle.gosync.specs.ComesTo.{IsUnread}
 
@@ -19,6 +19,11 @@ take_whole zero [] le = refl
 take_whole zero (x ∷ xs) le = absurd (omega arith)
 take_whole (suc n) [] le = refl
 take_whole (suc n) (x ∷ xs) le = ap (λ (l : List ℕ). x ∷ l) (take_whole n xs (omega arith))
+
+-- what one read gives stands behind what was taken before
+pub taken_more : (before now after : Option (List ℕ)) (bytes given : List ℕ) → before ≡ prepend_known bytes now → now ≡ prepend_known given after → before ≡ prepend_known (bytes ++ given) after
+taken_more before now None bytes given e f = e ∙ ap (prepend_known bytes) f
+taken_more before now (Some rest) bytes given e f = e ∙ ap (prepend_known bytes) f ∙ ap (λ (l : List ℕ). Some l) (sym (append_assoc bytes given rest))
 
 -- before the last read nothing was left
 pub ended_before : (before after : Option (List ℕ)) (given : List ℕ) → before ≡ prepend_known given after → given ≡ [] → IsAtEnd after → IsAtEnd before

@@ -5,48 +5,38 @@ use Rattle.workload.specs.Plan.{Plan}
 use Rattle.workload.specs.Reads.{Reads, IsRefused}
 use Rattle.step_runner.specs.Computed.{turns}
 use Rattle.gosync.specs.declared.status.Status.{Status}
-use Rattle.gosync.specs.declared.status.Status.TheVariants.{Done, NotAccepted, Misused, Deadlocked, CannotRead, CannotWrite, Memory, Usage}
+use Rattle.gosync.specs.declared.status.Status.TheVariants as statuses
+use Rattle.gosync.specs.declared.status.Ending.{Ending}
+use Rattle.gosync.specs.declared.status.Unread.{Unread}
+use Rattle.gosync.specs.declared.status.Unread.TheVariants as unreads
+use Rattle.gosync.specs.declared.status.Fault.{Fault}
+use Rattle.gosync.specs.declared.status.Fault.TheVariants as faults
 use Rattle.gosync.specs.Input.{AreBytesOf}
-use Rattle.gosync.specs.Messages.{status_of}
+use Rattle.gosync.specs.Messages.{ending_of}
 use Rattle.gosync.specs.ReportText.{report_text}
 
--- the workload's run by its schedule comes to the status, and its report was written
-abbrev pub Reports : Plan → Option (List ℕ) → Option (List ℕ) → Status → Type 0
-Reports plan old new status = (status ≡ status_of (turns plan)) × Appends old new (report_text plan (turns plan))
-
--- the run of a workload by its schedule, with what was written before and after: a write that fails leaves a first part of the report
-abbrev pub RunsTo : Plan → Option (List ℕ) → Option (List ℕ) → Status → Type 0
-RunsTo plan old new Done = Reports plan old new Done
-RunsTo plan old new (NotAccepted line reason) = ⊥
-RunsTo plan old new (Misused misuse) = Reports plan old new (Misused misuse)
-RunsTo plan old new Deadlocked = Reports plan old new Deadlocked
-RunsTo plan old new CannotRead = ⊥
-RunsTo plan old new CannotWrite = AppendsFront old new (report_text plan (turns plan))
-RunsTo plan old new Memory = new ≡ old
-RunsTo plan old new Usage = ⊥
-
--- the workload that all bytes of the file are read as comes to the status
-abbrev pub Runs : Option (List ℕ) → Option (List ℕ) → Option (List ℕ) → Status → Type 0
-Runs told old new status = (bytes : List ℕ) × (plan : Plan) × AreBytesOf told bytes × Reads bytes plan × RunsTo plan old new status
+-- all bytes of the file, where they are told, are read as this workload
+abbrev pub IsRead : Option (List ℕ) → Plan → Type 0
+IsRead told plan = (bytes : List ℕ) × AreBytesOf told bytes × Reads bytes plan
 
 -- why no workload is read from a file: its text is refused, it can't be read, or memory is out
-abbrev pub IsUnread : Option (List ℕ) → Status → Type 0
-IsUnread told Done = ⊥
-IsUnread told (NotAccepted line reason) = (bytes : List ℕ) × AreBytesOf told bytes × IsRefused bytes line reason × ((plan : Plan) → Reads bytes plan → ⊥)
-IsUnread told (Misused misuse) = ⊥
-IsUnread told Deadlocked = ⊥
-IsUnread told CannotRead = Unit {0}
-IsUnread told CannotWrite = ⊥
-IsUnread told Memory = Unit {0}
-IsUnread told Usage = ⊥
+abbrev pub IsUnread : Option (List ℕ) → Unread → Type 0
+IsUnread told (unreads.NotAccepted line reason) = (bytes : List ℕ) × AreBytesOf told bytes × IsRefused bytes line reason × ((plan : Plan) → Reads bytes plan → ⊥)
+IsUnread told unreads.CannotRead = Unit {0}
+IsUnread told unreads.Memory = Unit {0}
+
+-- the workload's run by its schedule ended so, and its report was written
+abbrev pub Ends : Plan → Option (List ℕ) → Option (List ℕ) → Ending → Type 0
+Ends plan old new ending = (ending ≡ ending_of (turns plan)) × Appends old new (report_text plan (turns plan))
+
+-- what a fault leaves of the report of a workload's run by its schedule: a first part, or nothing
+abbrev pub Fails : Plan → Option (List ℕ) → Option (List ℕ) → Fault → Type 0
+Fails plan old new faults.CannotWrite = AppendsFront old new (report_text plan (turns plan))
+Fails plan old new faults.Memory = new ≡ old
 
 -- what the bytes of a file come to, where they are told, with what was written before and after
 abbrev pub ComesTo : Option (List ℕ) → Option (List ℕ) → Option (List ℕ) → Status → Type 0
-ComesTo told old new Done = Runs told old new Done
-ComesTo told old new (NotAccepted line reason) = IsUnread told (NotAccepted line reason) × (new ≡ old)
-ComesTo told old new (Misused misuse) = Runs told old new (Misused misuse)
-ComesTo told old new Deadlocked = Runs told old new Deadlocked
-ComesTo told old new CannotRead = new ≡ old
-ComesTo told old new CannotWrite = Runs told old new CannotWrite
-ComesTo told old new Memory = new ≡ old
-ComesTo told old new Usage = ⊥
+ComesTo told old new (statuses.Ended ending) = (plan : Plan) × IsRead told plan × Ends plan old new ending
+ComesTo told old new (statuses.Unread why) = IsUnread told why × (new ≡ old)
+ComesTo told old new (statuses.Failed fault) = (plan : Plan) × IsRead told plan × Fails plan old new fault
+ComesTo told old new statuses.Usage = ⊥

@@ -1,5 +1,5 @@
 -- The words of the command.
-use Rattle.std.specs.Prelude.{ℕ, Bool, false, ◌&&◌, ◌||◌, not, cond, ◌==◌, List, [], ◌∷◌, length, codes, Option, Some, None}
+use Rattle.std.specs.Prelude.{◌≡◌, ℕ, Bool, false, ◌&&◌, ◌||◌, not, cond, ◌==◌, List, [], ◌∷◌, length, codes, Option, Some, None}
 use Rattle.std.specs.Str.{bytes_eq}
 
 -- whether a word names a file: `-`, which is standard input, or a word that isn't empty and doesn't begin with `-`
@@ -14,3 +14,7 @@ file_of [] = None
 file_of (program ∷ []) = None
 file_of (program ∷ mode ∷ []) = None
 file_of (program ∷ mode ∷ file ∷ other ∷ words) = None
+
+-- the words ask to run this file by its schedule
+abbrev pub AskFor : List (List ℕ) → List ℕ → Type 0
+AskFor words file = file_of words ≡ Some file

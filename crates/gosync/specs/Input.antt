@@ -1,5 +1,7 @@
 -- The bytes of a file that are read.
-use Rattle.std.specs.Prelude.{◌≡◌, ℕ, ◌+◌, List, take, Option, IfSome}
+use Rattle.std.specs.Prelude.{◌≡◌, ℕ, ◌+◌, ◌≤◌, ◌⊎◌, List, length, take, Option, IfSome}
+use Rattle.sync_outside.specs.Bytes.{Gives}
+use Rattle.sync_outside.specs.Faults.{Rose}
 use Rattle.workload.specs.declared.limits.TheConstants.{MAX_INPUT}
 
 -- where a source tells the bytes of a file, these are they
@@ -9,3 +11,11 @@ AreBytesOf told bytes = IfSome told (λ held. bytes ≡ held)
 -- where a source tells the bytes of a file, these are they, or the first 8,388,609 of them
 abbrev pub IsInput : Option (List ℕ) → List ℕ → Type 0
 IsInput told bytes = IfSome told (λ held. bytes ≡ take (MAX_INPUT + 1) held)
+
+-- a first part of what was left was taken, of at most 8,388,609 bytes
+abbrev pub Takes : Option (List ℕ) → Option (List ℕ) → List ℕ → Type 0
+Takes before after taken = Gives before after taken × (length taken ≤ MAX_INPUT + 1)
+
+-- the file can't be read: the count of its failed opens rose, or that of failed reads
+abbrev pub ReadFailed : ℕ → ℕ → ℕ → ℕ → Type 0
+ReadFailed opens opens_now reads reads_now = Rose opens opens_now ⊎ Rose reads reads_now

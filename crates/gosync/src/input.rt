@@ -1,8 +1,8 @@
 //! The bytes of a file.
-ghost use Rattle.std.specs.Prelude.{◌≡◌, ℕ, List, ◌+◌, IsTrue, IfOk, IsErrOf, ◌⊎◌};
+ghost use Rattle.std.specs.Prelude.{◌≡◌, ℕ, List, ◌+◌, ◌≤◌, IsTrue, IfOk, OnErr, IsErrOf};
 ghost use Rattle.sync_outside.specs.Faults.{Rose};
 ghost use Rattle.workload.specs.declared.limits.TheConstants.{MAX_INPUT};
-ghost use Rattle.gosync.specs.Input.{IsInput};
+ghost use Rattle.gosync.specs.Input.{IsInput, ReadFailed, Takes};
 ghost use Rattle.gosync.specs.declared.input.InputFault.TheVariants as faults;
 
 use std::alloc::{AllocError, Global};
@@ -50,13 +50,17 @@ impl From<AllocError> for InputFault {
     }
 }
 
-/// Reads the open file to its end, or to one byte past the longest text that is read.
+/// Reads the open file to its end, or to one byte past the longest text that is read, 8,388,609 bytes.
 ///
-/// Each read that goes on takes at least one byte, so there are at most 8,388,609 of them.
+/// Each read that goes on takes at least one byte, so there are at most as many reads.
 fn read_open<S: Sources>(alloc: Global, src: &mut S) -> Result<Vec<u8>, InputFault>
     requires { IsTrue (S.is_open src.old) }
     ensures bytes { IfOk result (λ bytes. IsInput (S.remaining src.old) bytes.items) }
+    ensures taken { IfOk result (λ bytes. Takes (S.remaining src.old) (S.remaining src.new) bytes.items) }
+    ensures err { OnErr result ((bytes : List ℕ) × Takes (S.remaining src.old) (S.remaining src.new) bytes) }
+    ensures reads { S.reads src.new ≤ S.reads src.old + (MAX_INPUT + 1) }
     ensures failed { IsErrOf result InputFault.Failed → Rose (S.read_faults src.old) (S.read_faults src.new) }
+    ensures read_faults { S.read_faults src.old ≤ S.read_faults src.new }
     ensures open_faults { (name : List ℕ) → S.open_faults src.new name ≡ S.open_faults src.old name }
 {
     let mut bytes = Vec::new(alloc);
@@ -75,7 +79,11 @@ fn read_open<S: Sources>(alloc: Global, src: &mut S) -> Result<Vec<u8>, InputFau
 /// Opens a file and reads it to its end, or to one byte past the longest text that is read.
 pub fn read_input<S: Sources>(alloc: Global, file: &str, src: &mut S) -> Result<Vec<u8>, InputFault>
     ensures bytes { IfOk result (λ bytes. IsInput (S.contents src.old file.now) bytes.items) }
-    ensures failed { IsErrOf result InputFault.Failed → Rose (S.open_faults src.old file.now) (S.open_faults src.new file.now) ⊎ Rose (S.read_faults src.old) (S.read_faults src.new) }
+    ensures taken { IfOk result (λ bytes. Takes (S.contents src.old file.now) (S.remaining src.new) bytes.items) }
+    ensures reads { S.reads src.new ≤ S.reads src.old + (MAX_INPUT + 1) }
+    ensures failed { IsErrOf result InputFault.Failed → ReadFailed (S.open_faults src.old file.now) (S.open_faults src.new file.now) (S.read_faults src.old) (S.read_faults src.new) }
+    ensures read_faults { S.read_faults src.old ≤ S.read_faults src.new }
+    ensures open_faults { (name : List ℕ) → S.open_faults src.old name ≤ S.open_faults src.new name }
 {
     src.open(file)?;
     read_open(alloc, src)

@@ -18,7 +18,7 @@ mod words;
 
 use crate::message::say;
 use crate::program::gosync;
-use crate::status::Status;
+use crate::status::{Status, Unread};
 use std::env;
 use std::io::ErrorKind;
 use std::process::ExitCode;
@@ -27,10 +27,12 @@ use sync_outside::{SystemSources, WriterSink};
 /// The words of the command line. Those that aren't UTF-8 aren't taken.
 fn words_of(rt: &HostRuntime) -> Result<Vec<String>, Status> {
     match env::args(rt) {
-        Ok(words) => words.collect(rt.alloc()).map_err(|_| Status::Memory),
+        Ok(words) => words
+            .collect(rt.alloc())
+            .map_err(|_| Status::Unread(Unread::Memory)),
         Err(fault) => {
             if fault.kind() == ErrorKind::OutOfMemory {
-                Err(Status::Memory)
+                Err(Status::Unread(Unread::Memory))
             } else {
                 Err(Status::Usage)
             }

@@ -78,6 +78,7 @@ fn write_ends<O: Sink>(
     ensures err { OnErr result (AppendsFront (O.contents out.old) (O.contents out.new) (ends_text workload.now ends.now)) }
     ensures failed { OnErr result (Rose (O.faults out.old) (O.faults out.new)) }
     ensures faults { O.faults out.old ≤ O.faults out.new }
+    ensures room { LINE_ROOM ≤ vec_capacity line.new }
 {
     for end in ends {
         set_end_line(line, workload, end);
@@ -103,6 +104,7 @@ pub fn report<O: Sink>(
     ensures err { OnErr result (AppendsFront (O.contents out.old) (O.contents out.new) (report_text workload.now outcome.now)) }
     ensures failed { OnErr result (Rose (O.faults out.old) (O.faults out.new)) }
     ensures faults { O.faults out.old ≤ O.faults out.new }
+    ensures room { LINE_ROOM ≤ vec_capacity line.new }
 {
     match outcome {
         Outcome::Done(left) => {

@@ -5,23 +5,46 @@ ghost use Rattle.gosync.specs.Messages.{code_of};
 use sync_model::Misuse;
 use workload::Reason;
 
+/// How a run of a workload ended.
+#[derive(Clone, Copy, Debug, PartialEq, Eq)]
+pub enum Ending {
+    /// Every script has ended.
+    Done,
+    /// A worker made a misuse.
+    Misused(Misuse),
+    /// All workers waited.
+    Deadlocked,
+}
+
+/// Why no workload is read from a file.
+#[derive(Clone, Copy, Debug, PartialEq, Eq)]
+pub enum Unread {
+    /// The text isn't read: the line of its first fault, or 0 for the text as a whole, and the fault.
+    NotAccepted { line: u32, reason: Reason },
+    /// The file can't be opened, or a read of it failed.
+    CannotRead,
+    /// Memory is out.
+    Memory,
+}
+
+/// Why a workload that was read has no whole report.
+#[derive(Clone, Copy, Debug, PartialEq, Eq)]
+pub enum Fault {
+    /// A write of the report failed. What was written is a first part of it.
+    CannotWrite,
+    /// Memory is out. Nothing is written.
+    Memory,
+}
+
 /// How the program ends.
 #[derive(Clone, Copy, Debug, PartialEq, Eq)]
 pub enum Status {
-    /// Every script has ended, and the report is written.
-    Done,
-    /// The text isn't read: the line of its first fault, or 0 for the text as a whole, and the fault.
-    NotAccepted { line: u32, reason: Reason },
-    /// The run ended in a misuse, and its report is written.
-    Misused(Misuse),
-    /// All workers waited, and the run's report is written.
-    Deadlocked,
-    /// The file can't be opened, or a read of it failed.
-    CannotRead,
-    /// A write of the report failed. What was written is a first part of it.
-    CannotWrite,
-    /// Memory is out.
-    Memory,
+    /// A run ended, and its report is written.
+    Ended(Ending),
+    /// No workload is read, and nothing is written.
+    Unread(Unread),
+    /// A workload is read, and a fault came before its report was written to the end.
+    Failed(Fault),
     /// The words of the command aren't taken.
     Usage,
 }
@@ -32,11 +55,11 @@ impl Status {
         ensures { result ≡ code_of self }
     {
         match self {
-            Status::Done => 0,
-            Status::NotAccepted { .. } => 1,
-            Status::Misused(_) | Status::Deadlocked => 2,
-            Status::CannotRead | Status::CannotWrite => 3,
-            Status::Memory => 4,
+            Status::Ended(Ending::Done) => 0,
+            Status::Ended(Ending::Misused(_) | Ending::Deadlocked) => 2,
+            Status::Unread(Unread::NotAccepted { .. }) => 1,
+            Status::Unread(Unread::CannotRead) | Status::Failed(Fault::CannotWrite) => 3,
+            Status::Unread(Unread::Memory) | Status::Failed(Fault::Memory) => 4,
             Status::Usage => 5,
         }
     }

@@ -2,7 +2,7 @@ ghost use Rattle.std.specs.Prelude.{◌≡◌};
 
 use crate::message::say;
 use crate::program::gosync;
-use crate::status::Status;
+use crate::status::{Ending, Fault, Status, Unread};
 use std::alloc::{AllocError, Global};
 use std::test::Fail;
 use sync_model::Misuse;
@@ -551,49 +551,58 @@ fn each_write_of_the_one_line_fails_in_turn(rt: HostRuntime) -> Result<(), Fail>
     Ok(())
 }
 
-const STATUSES: [(Status, u8, &str); 12] = [
-    (Status::Done, 0, ""),
+const STATUSES: [(Status, u8, &str); 13] = [
+    (Status::Ended(Ending::Done), 0, ""),
     (
-        Status::NotAccepted {
+        Status::Unread(Unread::NotAccepted {
             line: 0,
             reason: Reason::InputTooLong,
-        },
+        }),
         1,
         "gosync: line 0: input too long\n",
     ),
     (
-        Status::Misused(Misuse::UnlockOfUnlockedMutex),
+        Status::Ended(Ending::Misused(Misuse::UnlockOfUnlockedMutex)),
         2,
         "fatal error: sync: unlock of unlocked mutex\n",
     ),
     (
-        Status::Misused(Misuse::RUnlockOfUnlockedRwMutex),
+        Status::Ended(Ending::Misused(Misuse::RUnlockOfUnlockedRwMutex)),
         2,
         "fatal error: sync: RUnlock of unlocked RWMutex\n",
     ),
     (
-        Status::Misused(Misuse::UnlockOfUnlockedRwMutex),
+        Status::Ended(Ending::Misused(Misuse::UnlockOfUnlockedRwMutex)),
         2,
         "fatal error: sync: Unlock of unlocked RWMutex\n",
     ),
     (
-        Status::Misused(Misuse::NegativeWaitGroupCounter),
+        Status::Ended(Ending::Misused(Misuse::NegativeWaitGroupCounter)),
         2,
         "panic: sync: negative WaitGroup counter\n",
     ),
     (
-        Status::Misused(Misuse::WaitGroupReused),
+        Status::Ended(Ending::Misused(Misuse::WaitGroupReused)),
         2,
         "panic: sync: WaitGroup is reused before previous Wait has returned\n",
     ),
     (
-        Status::Deadlocked,
+        Status::Ended(Ending::Deadlocked),
         2,
         "fatal error: all goroutines are asleep - deadlock!\n",
     ),
-    (Status::CannotRead, 3, "gosync: cannot read w.txt\n"),
-    (Status::CannotWrite, 3, "gosync: cannot write the report\n"),
-    (Status::Memory, 4, "gosync: out of memory\n"),
+    (
+        Status::Unread(Unread::CannotRead),
+        3,
+        "gosync: cannot read w.txt\n",
+    ),
+    (
+        Status::Failed(Fault::CannotWrite),
+        3,
+        "gosync: cannot write the report\n",
+    ),
+    (Status::Unread(Unread::Memory), 4, "gosync: out of memory\n"),
+    (Status::Failed(Fault::Memory), 4, "gosync: out of memory\n"),
     (Status::Usage, 5, USAGE),
 ];
 

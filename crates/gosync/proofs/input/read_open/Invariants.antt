@@ -10,6 +10,7 @@ invariant-loop-chunk g l = record {
   gives : Gives (g.S.Sources.remaining l.initial.src) (g.S.Sources.remaining l.src) l.bytes.items;
   read_faults : g.S.Sources.read_faults l.initial.src ≤ g.S.Sources.read_faults l.src;
   open_faults : (name : List ℕ) → g.S.Sources.open_faults l.src name ≡ g.S.Sources.open_faults l.initial.src name;
+  reads : g.S.Sources.reads l.src ≤ g.S.Sources.reads l.initial.src + vec_len l.bytes;
   within : vec_len l.bytes ≤ MAX_INPUT + 1;
 }
 

@@ -5,8 +5,8 @@ use Rattle.gosync.proofs.Lines.{drop_item}
 use Rattle.gosync.proofs.Writing.{goes_on, goes_cut, goes_end, rose_since, at_ok, at_err}
 use Rattle.gosync.proofs.message.say_pieces.Goals as goal
 
-pub returns-then-is_err : goal.returns-then-is_err
-returns-then-is_err g c =
+pub returns-then-is_err-clause-says : goal.returns-then-is_err-clause-says
+returns-then-is_err-clause-says g c =
     let pieces = c.args.pieces.now in
     let i = c.loop-piece.piece-index in
     let piece = get_or pieces i (record { ref_ptr = (0, 0); now = [] }) in
@@ -27,6 +27,6 @@ loop-piece-preserved g c =
       faults = omega (arith, c.loop-piece.invariant.faults, c.write.ensures.faults);
     }
 
-pub returns : goal.returns
-returns g c =
+pub returns-clause-says : goal.returns-clause-says
+returns-clause-says g c =
     inl (goes_end _ _ _ _ (ap (flat_map (λ p. p.now)) (drop_of_length-le c.args.pieces.now c.loop-piece-test.false)) c.loop-piece.invariant.goes)
