@@ -30,8 +30,9 @@ use Rattle.workload.specs.KeywordWords.{keyword_at}
 use Rattle.workload.specs.CallWords.{map_verb, map_operands, atomic_verb, atomic_operands, mutex_verb, rw_mutex_verb, cond_verb, group_verb, group_operands, pool_verb, pool_operands, verb_of, operands_of}
 use Rattle.workload.specs.Words.{spelled, keyword_of, arguments_of, kind_parameters, turn_word}
 use Rattle.workload.specs.Plan.{word_of}
+use Rattle.workload.specs.Lines.{is_short, is_clean, words_of, is_significant}
 use Rattle.workload.specs.Draft.{Draft, declared, may_follow, names_reference, is_kind, is_map_call, is_group_call, is_pool_call, is_call, is_item, is_range, keys_of, names_object}
-use Rattle.workload.specs.Checks.{Check, first_failing, line_checks, map_form, atomic_form, mutex_form, rw_mutex_form, cond_form, group_form, pool_form, form_of, form_words, PassesWith, parameter_words, reference_checks, ranges_in, item_checks, first_checks}
+use Rattle.workload.specs.Checks.{Check, first_failing, line_checks, map_form, atomic_form, mutex_form, rw_mutex_form, cond_form, group_form, pool_form, form_of, form_words, PassesWith, parameter_words, reference_checks, ranges_in, item_checks, first_checks, checks_of}
 
 -- the fault is the first check that fails, unless memory ran out
 abbrev pub IsFault : List Check → LineFault → Type 0
@@ -139,3 +140,11 @@ IsWorkers word arguments result =
     MatchResult result
     (λ workers. (0 < workers) × (workers ≤ MAX_WORKERS) × (word ≡ codes "workers") × (arguments ≡ decimal workers ∷ []))
     (IsFault (first_checks word arguments))
+
+-- a line without a fault of its own, and whether it says something
+abbrev pub IsSound : List ℕ → Bool → Type 0
+IsSound line says = (is_short line ≡ true) × (is_clean line ≡ true) × (is_significant (words_of line) ≡ says)
+
+-- a line that is refused whatever stands before it
+abbrev pub IsUnsound : List ℕ → LineFault → Type 0
+IsUnsound line fault = (before : Option Draft) → IsFault (checks_of before line) fault

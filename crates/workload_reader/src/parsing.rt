@@ -1,13 +1,13 @@
 //! A whole text.
-ghost use Rattle.std.specs.Prelude.{◌≡◌, ◌+◌, ◌-◌, ◌≤◌, ◌∷◌, max, map, length, MatchResult, IfOk, IfErr, None, Some};
-ghost use Rattle.workload.specs.Lines.{lines_of};
+ghost use Rattle.std.specs.Prelude.{◌≡◌, ◌+◌, ◌-◌, ◌≤◌, ◌∷◌, true, max, map, length, MatchResult, IfOk, IfErr, None, Some};
+ghost use Rattle.workload.specs.Lines.{lines_of, words_of, is_significant};
 ghost use Rattle.workload.specs.Checks.{checks_of, word_checks};
-ghost use Rattle.workload_reader.specs.LineResult.{IsFault};
+ghost use Rattle.workload_reader.specs.LineResult.{IsFault, IsSound, IsUnsound};
 ghost use Rattle.workload.specs.Reads.{Says, IsRead, ReadsOn, Reads, IsFirstFault, fault_at, IsFaultOf};
 ghost use Rattle.workload.specs.declared.limits.TheConstants.{MAX_INPUT};
 
 use crate::reading::{read_line, read_workers};
-use crate::text::{is_clean, is_short, is_significant, split_line, words_of};
+use crate::text::{is_clean, is_short, says_something, split_line, words_of};
 use std::alloc::Global;
 use workload::draft::Draft;
 use workload::fault::{LineFault, ParseFault};
@@ -36,9 +36,9 @@ fn take_words(
     }
 }
 
-/// The draft behind one more line of the text. A line that says nothing leaves it.
-fn take_line(alloc: Global, before: Option<Draft>, line: &[u8]) -> Result<Option<Draft>, LineFault>
-    ensures { MatchResult result (IsRead before line.now) (IsFault (checks_of before line.now)) }
+/// Whether a line says something, where it has no fault of its own, whatever stands before it.
+fn check_line(line: &[u8]) -> Result<bool, LineFault>
+    ensures { MatchResult result (IsSound line.now) (IsUnsound line.now) }
 {
     if !is_short(line) {
         return Err(LineFault::Refused(Reason::LineTooLong));
@@ -46,10 +46,15 @@ fn take_line(alloc: Global, before: Option<Draft>, line: &[u8]) -> Result<Option
     if !is_clean(line) {
         return Err(LineFault::Refused(Reason::BadByte));
     }
+    Ok(says_something(line))
+}
+
+/// The draft behind a line that says something.
+fn take_line(alloc: Global, before: Option<Draft>, line: &[u8]) -> Result<Option<Draft>, LineFault>
+    requires { IsSound line.now true }
+    ensures { MatchResult result (IsRead before line.now) (IsFault (checks_of before line.now)) }
+{
     let words = words_of(alloc, line)?;
-    if !is_significant(&words) {
-        return Ok(before);
-    }
     let Some((word, arguments)) = words.split_first() else {
         return Ok(before);
     };
@@ -76,9 +81,13 @@ fn read_lines(alloc: Global, bytes: &[u8]) -> Result<Draft, ParseFault>
     let mut rest = bytes;
     while !rest.is_empty() {
         let (line, behind) = split_line(rest);
-        match take_line(alloc, draft, line) {
-            Ok(after) => draft = after,
-            Err(fault) => return Err(at_line(next, fault)),
+        match check_line(line) {
+            Err(unsound) => return Err(at_line(next, unsound)),
+            Ok(false) => {}
+            Ok(true) => match take_line(alloc, draft, line) {
+                Ok(after) => draft = after,
+                Err(fault) => return Err(at_line(next, fault)),
+            },
         }
         next += 1;
         rest = behind;

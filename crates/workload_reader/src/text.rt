@@ -61,12 +61,14 @@ pub fn words_of(alloc: Global, line: &[u8]) -> Result<Vec<&[u8]>, AllocError>
         .collect(alloc)
 }
 
-/// Whether the words say something: there are some, and the first doesn't begin with `#`.
-pub fn is_significant(words: &[&[u8]]) -> bool
-    ensures { result ≡ is_significant (map (λ word. word.now) words.now) }
+/// Whether a line says something: it has words, and the first doesn't begin with `#`.
+pub fn says_something(line: &[u8]) -> bool
+    ensures { result ≡ is_significant (words_of line.now) }
 {
-    match words.first() {
-        None => false,
-        Some(word) => word.first() != Some(&b'#'),
+    for byte in line {
+        if *byte != b' ' {
+            return *byte != b'#';
+        }
     }
+    false
 }
