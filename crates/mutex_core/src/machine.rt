@@ -8,7 +8,7 @@ use crate::event::MutexEvent;
 use crate::mutex::MutexCore;
 use crate::place::Place;
 use crate::reply::{Arrival, MutexReply, Resumption, Unlocking};
-use sync_model::Machine;
+use sync_model::{Callers, Machine};
 
 /// After Go's memory model, an unlock that takes the mutex away synchronizes before each later event
 /// that gives it: the arrival or the going on that acquires it, and the try that succeeds.
@@ -66,6 +66,16 @@ impl Machine for MutexCore {
             MutexReply::Tried(acquired) => *acquired,
             MutexReply::Resumed(Resumption::Acquired) => true,
             _ => false,
+        }
+    }
+
+    /// An unlock lets the caller go on that it woke or handed the mutex.
+    fn wakes(_state: &MutexCore, _event: &MutexEvent, reply: &MutexReply) -> Callers {
+        match reply {
+            MutexReply::Unlocked(Unlocking::Woke(caller) | Unlocking::Handed(caller)) => {
+                Callers::nobody().with(*caller)
+            }
+            _ => Callers::nobody(),
         }
     }
 }

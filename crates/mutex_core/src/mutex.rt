@@ -1,8 +1,9 @@
 //! The mutex machine, in memory that is taken once.
-ghost use Rattle.std.specs.Prelude.{◌≡◌, ◌⊎◌, ◌<◌, ◌≤◌, IfOk, IsFalse};
+ghost use Rattle.std.specs.Prelude.{◌≡◌, ◌⊎◌, ◌<◌, ◌≤◌, IfOk, IfSome, IfNone, IsFalse};
 ghost use Rattle.std.specs.List.{list_any};
 ghost use Rattle.mutex_core.specs.MutexMachine.{is_of, next, place_of, start, IsValid};
 ghost use Rattle.mutex_core.specs.declared.event.MutexEvent.{MutexEvent};
+ghost use Rattle.mutex_core.specs.declared.waiter.Flight.{Flight};
 ghost use Rattle.mutex_core.specs.declared.reply.MutexReply.{MutexReply};
 
 use crate::place::Place;
@@ -140,6 +141,18 @@ impl MutexCore {
                 self.flight = Flight::Woken(front);
                 Unlocking::Woke(front.caller)
             }
+        }
+    }
+
+    /// The caller that was woken or handed the mutex, and hasn't gone on since.
+    pub fn in_flight(&self) -> Option<u32>
+        ensures some { IfSome result (λ caller. (place_of self.now caller ≡ Place.Woken) ⊎ (place_of self.now caller ≡ Place.Handed)) }
+        ensures none { IfNone result (self.now.flight ≡ Flight.Nobody) }
+    {
+        match self.flight {
+            Flight::Nobody => None,
+            Flight::Woken(waiter) => Some(waiter.caller),
+            Flight::Handed => Some(self.queue[0].caller),
         }
     }
 

@@ -2,11 +2,22 @@
 ghost use Rattle.std.specs.Prelude.{◌≡◌, ◌+◌, ◌≤◌, [], ◌++◌, vec_len, vec_capacity};
 ghost use Rattle.rw_core.specs.RwMachine.{is_among, without};
 
+use sync_model::Callers;
+
 /// Whether the caller is in the list.
 pub fn is_among(callers: &[u32], caller: u32) -> bool
     ensures { result ≡ is_among caller callers.now }
 {
     callers.iter().any(|other| caller == *other)
+}
+
+/// The callers of the list, as a set.
+pub fn as_set(callers: &[u32]) -> Callers {
+    let mut all = Callers::nobody();
+    for caller in callers {
+        all = all.with(*caller);
+    }
+    all
 }
 
 /// Takes the caller out of the list.

@@ -8,7 +8,7 @@ use crate::event::RwEvent;
 use crate::place::Place;
 use crate::reply::{Arrival, Resumption, RwReply, Unlocking};
 use crate::rw::RwCore;
-use sync_model::Machine;
+use sync_model::{Callers, Machine};
 
 /// After Go's memory model, an unlock that isn't a misuse, of a reader or of a writer, synchronizes
 /// before each later event that completes a lock: the one by which the lock is acquired at once or after
@@ -74,6 +74,17 @@ impl Machine for RwCore {
             RwReply::Resumed(Resumption::Acquired) => true,
             RwReply::Left => true,
             _ => false,
+        }
+    }
+
+    /// The last reader's unlock lets the writer go on that it granted the lock, a writer's unlock the readers that it
+    /// admitted and the writer that it woke or handed the inner mutex. Who was let go on before, and hasn't gone on since, may
+    /// be named again.
+    fn wakes(state: &RwCore, event: &RwEvent, reply: &RwReply) -> Callers {
+        match (event, reply) {
+            (RwEvent::ReadUnlock, RwReply::Unlocked(Unlocking::Done)) => state.granted(),
+            (RwEvent::WriteUnlock, RwReply::Unlocked(Unlocking::Done)) => state.let_on(),
+            _ => Callers::nobody(),
         }
     }
 }

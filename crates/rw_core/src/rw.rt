@@ -13,7 +13,7 @@ use crate::writer::Writer;
 use mutex_core::MutexCore;
 use std::alloc::{AllocError, Global};
 use std::marker::Model;
-use sync_model::Misuse;
+use sync_model::{Callers, Misuse};
 
 /// A reader/writer lock of some callers, as a value that each event changes. Who holds it isn't kept,
 /// so another caller may unlock it.
@@ -195,6 +195,21 @@ impl RwCore {
             list::remove(&mut self.admitted, caller);
         } else {
             list::remove(&mut self.granted, caller);
+        }
+    }
+
+    /// The writers that were granted the lock and haven't left.
+    pub fn granted(&self) -> Callers {
+        list::as_set(&self.granted)
+    }
+
+    /// Whom a writer's unlock lets go on: the readers that were admitted and haven't left, and the writer that was woken
+    /// or handed the inner mutex.
+    pub fn let_on(&self) -> Callers {
+        let readers = list::as_set(&self.admitted);
+        match self.inner.in_flight() {
+            Some(writer) => readers.with(writer),
+            None => readers,
         }
     }
 

@@ -6,7 +6,7 @@ ghost use Rattle.wait_cores.specs.GroupMachine.{start, next, callers_of, place_o
 
 use std::alloc::{AllocError, Global};
 use std::marker::Model;
-use sync_model::{Machine, Misuse};
+use sync_model::{Callers, Machine, Misuse};
 
 /// The highest counter, 2^31 - 1.
 pub const MAX_COUNTER: u32 = 2147483647;
@@ -192,6 +192,17 @@ impl GroupCore {
         }
     }
 
+    // Those who may leave.
+    fn released(&self) -> Callers {
+        let mut released = Callers::nobody();
+        for (caller, place) in (0..64).zip(&self.places) {
+            if let GroupPlace::Released = place {
+                released = released.with(caller);
+            }
+        }
+        released
+    }
+
     // Whether the group is in use again: its counter isn't 0, or somebody waits.
     fn is_reused(&self) -> bool
         ensures { result ≡ is_reused self.now }
@@ -234,6 +245,15 @@ impl Machine for GroupCore {
         match event {
             GroupEvent::Add(_) => false,
             GroupEvent::Wait | GroupEvent::Leave => matches!(reply, GroupReply::Done),
+        }
+    }
+
+    /// An addition that comes to 0 lets those go on who are released. One that was released before, and hasn't left since,
+    /// is named again.
+    fn wakes(state: &GroupCore, event: &GroupEvent, reply: &GroupReply) -> Callers {
+        match (event, reply) {
+            (GroupEvent::Add(_), GroupReply::Done) if state.counter == 0 => state.released(),
+            _ => Callers::nobody(),
         }
     }
 }

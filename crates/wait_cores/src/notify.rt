@@ -5,7 +5,7 @@ ghost use Rattle.wait_cores.specs.NotifyMachine.{start, next, callers_of, place_
 
 use std::alloc::{AllocError, Global};
 use std::marker::Model;
-use sync_model::Machine;
+use sync_model::{Callers, Machine};
 
 /// What a caller does at a cond.
 #[derive(Clone, Copy, Debug, PartialEq, Eq)]
@@ -122,6 +122,20 @@ impl NotifyCore {
         }
     }
 
+    // Those whose tickets are notified, from this one on.
+    fn notified_from(&self, first: u64) -> Callers {
+        let mut notified = Callers::nobody();
+        for (caller, ticket) in (0..64).zip(&self.tickets) {
+            match ticket {
+                Some(ticket) if first <= *ticket && *ticket < self.notified => {
+                    notified = notified.with(caller);
+                }
+                _ => {}
+            }
+        }
+        notified
+    }
+
     /// What an event of a caller does, whoever it is and wherever it stands: the call of that event, or nothing where the
     /// call's conditions aren't met.
     pub fn step(&mut self, caller: u32, event: NotifyEvent) -> NotifyReply
@@ -172,5 +186,17 @@ impl Machine for NotifyCore {
 
     fn acquires(event: &NotifyEvent, reply: &NotifyReply) -> bool {
         matches!(event, NotifyEvent::Leave) && matches!(reply, NotifyReply::Done)
+    }
+
+    /// A signal lets the one go on whose ticket it notified, and a broadcast all whose tickets are notified. One that was
+    /// notified before, and hasn't left since, may be named again.
+    fn wakes(state: &NotifyCore, event: &NotifyEvent, reply: &NotifyReply) -> Callers {
+        match (event, reply) {
+            (NotifyEvent::Signal, NotifyReply::Done) => state.notified_from(
+                state.notified.saturating_sub(1),
+            ),
+            (NotifyEvent::Broadcast, NotifyReply::Done) => state.notified_from(0),
+            _ => Callers::nobody(),
+        }
     }
 }

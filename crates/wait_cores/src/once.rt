@@ -5,7 +5,7 @@ ghost use Rattle.wait_cores.specs.OnceMachine.{start, next, callers_of, place_of
 
 use std::alloc::{AllocError, Global};
 use std::marker::Model;
-use sync_model::Machine;
+use sync_model::{Callers, Machine};
 
 /// What a caller does at a once whose function comes to a `T`.
 #[derive(Clone, Copy, Debug, PartialEq, Eq)]
@@ -178,6 +178,17 @@ impl<T: Copy> OnceCore<T> {
         }
     }
 
+    // Those who came while the function ran, and haven't left.
+    fn waiting(&self) -> Callers {
+        let mut waiting = Callers::nobody();
+        for (caller, waits) in (0..64).zip(&self.waits) {
+            if *waits {
+                waiting = waiting.with(caller);
+            }
+        }
+        waiting
+    }
+
     /// What an event of a caller does, whoever it is and wherever it stands: the call of that event, or nothing where the
     /// call's conditions aren't met.
     pub fn step(&mut self, caller: u32, event: OnceEvent<T>) -> OnceReply<T>
@@ -228,5 +239,13 @@ impl<T: Copy> Machine for OnceCore<T> {
 
     fn acquires(_event: &OnceEvent<T>, reply: &OnceReply<T>) -> bool {
         matches!(reply, OnceReply::Done(_) | OnceReply::Left(_))
+    }
+
+    /// The end of the function lets those go on who wait.
+    fn wakes(state: &OnceCore<T>, _event: &OnceEvent<T>, reply: &OnceReply<T>) -> Callers {
+        match reply {
+            OnceReply::Ended => state.waiting(),
+            _ => Callers::nobody(),
+        }
     }
 }

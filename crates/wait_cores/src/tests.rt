@@ -172,3 +172,83 @@ fn edges_of_a_once(rt: HostRuntime) -> Result<(), Fail> {
     }
     Ok(())
 }
+// Makes an event, and says whom it lets go on, of the lowest numbers three.
+fn let_on<M: Machine>(
+    state: &mut M::State,
+    caller: u32,
+    event: M::Event,
+) -> (Option<u32>, Option<u32>, Option<u32>) {
+    let reply = M::step(state, caller, event);
+    let mut callers = M::wakes(state, &event, &reply);
+    (
+        callers.take_first(),
+        callers.take_first(),
+        callers.take_first(),
+    )
+}
+
+#[test]
+fn an_addition_that_comes_to_0_lets_those_go_on_who_wait(rt: HostRuntime) -> Result<(), Fail> {
+    let mut group = GroupCore::new(rt.alloc(), 4)?;
+    let nobody = (None, None, None);
+    let table = [
+        (0, GroupEvent::Add(2), nobody),
+        (1, GroupEvent::Wait, nobody),
+        (3, GroupEvent::Wait, nobody),
+        (0, GroupEvent::Add(1), nobody),
+        (0, GroupEvent::Add(-2), nobody),
+        (0, GroupEvent::Add(-5), nobody),
+        (2, GroupEvent::Add(-1), (Some(1), Some(3), None)),
+        (1, GroupEvent::Leave, nobody),
+        (0, GroupEvent::Add(-1), nobody),
+    ];
+    for (caller, event, woken) in table {
+        let callers = let_on::<GroupCore>(&mut group, caller, event);
+        assert_eq!(rt; callers, woken, "{caller} at {event:?}");
+    }
+    Ok(())
+}
+
+#[test]
+fn a_signal_lets_one_go_on_and_a_broadcast_all(rt: HostRuntime) -> Result<(), Fail> {
+    let mut cond = NotifyCore::new(rt.alloc(), 4)?;
+    let nobody = (None, None, None);
+    let table = [
+        (0, NotifyEvent::Signal, nobody),
+        (2, NotifyEvent::Ticket, nobody),
+        (1, NotifyEvent::Ticket, nobody),
+        (0, NotifyEvent::Signal, (Some(2), None, None)),
+        (2, NotifyEvent::Leave, nobody),
+        (0, NotifyEvent::Signal, (Some(1), None, None)),
+        (1, NotifyEvent::Leave, nobody),
+        (0, NotifyEvent::Signal, nobody),
+        (1, NotifyEvent::Ticket, nobody),
+        (3, NotifyEvent::Ticket, nobody),
+        (0, NotifyEvent::Broadcast, (Some(1), Some(3), None)),
+    ];
+    for (caller, event, woken) in table {
+        let callers = let_on::<NotifyCore>(&mut cond, caller, event);
+        assert_eq!(rt; callers, woken, "{caller} at {event:?}");
+    }
+    Ok(())
+}
+
+#[test]
+fn the_end_of_the_function_lets_those_go_on_who_wait(rt: HostRuntime) -> Result<(), Fail> {
+    let mut once = OnceCore::new(rt.alloc(), 4)?;
+    let nobody = (None, None, None);
+    let table = [
+        (2, OnceEvent::Begin, nobody),
+        (3, OnceEvent::Begin, nobody),
+        (0, OnceEvent::Begin, nobody),
+        (1, OnceEvent::End(5), nobody),
+        (2, OnceEvent::End(5), (Some(0), Some(3), None)),
+        (3, OnceEvent::Leave, nobody),
+        (1, OnceEvent::Begin, nobody),
+    ];
+    for (caller, event, woken) in table {
+        let callers = let_on::<OnceCore<u64>>(&mut once, caller, event);
+        assert_eq!(rt; callers, woken, "{caller} at {event:?}");
+    }
+    Ok(())
+}

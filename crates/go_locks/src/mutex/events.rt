@@ -1,4 +1,4 @@
-//! One event on a running mutex, and who is woken by an unlock.
+//! One event on a running mutex, and what an unlock answers.
 ghost use Rattle.std.specs.Prelude.{◌≡◌, ◌⊎◌, ◌<◌, [], ◌∷◌, ◌++◌, true, false, List, ℕ};
 ghost use Rattle.sync_model.specs.declared.misuse.Misuse.{Misuse};
 ghost use Rattle.sync_model.specs.declared.answer.Answer.TheVariants.{Done, Halted};
@@ -70,18 +70,14 @@ impl<N: Note> Mutex<N> {
         journal_is_log::<MutexCore>();
         self.object.call(rt, home, pass, note, event)
     }
+}
 
-    // Wakes the caller that an unlock told to go on, whose number its ticket is, and says whether it was a misuse.
-    pub(super) fn unlocked(&self, reply: MutexReply) -> Result<(), Misuse>
-        ensures { (unlocking : Unlocking) → reply ≡ MutexReply.Unlocked unlocking → result ≡ answer_of unlocking }
-    {
-        match reply {
-            MutexReply::Unlocked(Unlocking::Misuse(misuse)) => return Err(misuse),
-            MutexReply::Unlocked(Unlocking::Woke(ticket) | Unlocking::Handed(ticket)) => {
-                self.object.unpark(ticket)
-            }
-            _ => {}
-        }
-        Ok(())
+// What an unlock answers: whether it was a misuse.
+pub(super) fn unlocked(reply: MutexReply) -> Result<(), Misuse>
+    ensures { (unlocking : Unlocking) → reply ≡ MutexReply.Unlocked unlocking → result ≡ answer_of unlocking }
+{
+    match reply {
+        MutexReply::Unlocked(Unlocking::Misuse(misuse)) => Err(misuse),
+        _ => Ok(()),
     }
 }

@@ -10,7 +10,7 @@ ghost use Rattle.go_locks.specs.Calls.{Did};
 ghost use Rattle.go_locks.specs.Mutexes.{mutex_start, IsHomeOfMutex, IsPassOfMutex};
 ghost use Rattle.go_locks.specs.MutexCalls.{Locks, Unlocks, AreClocked};
 
-use super::events::has_mutex;
+use super::events::{has_mutex, unlocked};
 use super::{Mutex, MutexPass};
 use mutex_core::{MutexCore, MutexEvent};
 use ruled_object::laws::{growth, notes_are_kept};
@@ -76,7 +76,7 @@ impl<N: Note> Mutex<N> {
         growth::<MutexCore, N>();
         match self.event(rt, at.home, pass, note, MutexEvent::Unlock) {
             Answer::Halted(misuse) => Answer::Halted(misuse),
-            Answer::Done(reply) => Answer::Done(self.unlocked(reply)),
+            Answer::Done(reply) => Answer::Done(unlocked(reply)),
         }
     }
 }

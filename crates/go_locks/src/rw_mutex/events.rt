@@ -1,4 +1,4 @@
-//! One event on a running reader/writer lock, and who is woken by an unlock.
+//! One event on a running reader/writer lock, and what an unlock answers.
 ghost use Rattle.std.specs.Prelude.{◌≡◌, ◌⊎◌, ◌<◌, [], ◌∷◌, ◌++◌, true, false, List, ℕ};
 ghost use Rattle.sync_model.specs.declared.misuse.Misuse.{Misuse};
 ghost use Rattle.sync_model.specs.declared.answer.Answer.TheVariants.{Done, Halted};
@@ -73,16 +73,14 @@ impl<N: Note> RwMutex<N> {
         journal_is_log::<RwCore>();
         self.object.call(rt, home, pass, note, event)
     }
+}
 
-    // Wakes all others after an unlock that isn't a misuse, and says whether it was one: whom it granted the lock or
-    // admitted shows in their own places alone.
-    pub(super) fn unlocked(&self, caller: u32, reply: RwReply) -> Result<(), Misuse>
-        ensures { (unlocking : Unlocking) → reply ≡ RwReply.Unlocked unlocking → result ≡ answer_of unlocking }
-    {
-        if let RwReply::Unlocked(Unlocking::Misuse(misuse)) = reply {
-            return Err(misuse);
-        }
-        self.object.unpark_others(caller);
-        Ok(())
+// What an unlock answers: whether it was a misuse.
+pub(super) fn unlocked(reply: RwReply) -> Result<(), Misuse>
+    ensures { (unlocking : Unlocking) → reply ≡ RwReply.Unlocked unlocking → result ≡ answer_of unlocking }
+{
+    match reply {
+        RwReply::Unlocked(Unlocking::Misuse(misuse)) => Err(misuse),
+        _ => Ok(()),
     }
 }

@@ -13,7 +13,7 @@ ghost use Rattle.go_locks.specs.Calls.{Did};
 ghost use Rattle.go_locks.specs.RwMutexes.{rw_start, IsHomeOfRwMutex, IsPassOfRwMutex};
 ghost use Rattle.go_locks.specs.RwCalls.{ReadWaits, ReadLocks, Tries, Unlocks, AreClocked};
 
-use super::events::has_lock;
+use super::events::{has_lock, unlocked};
 use super::{RwMutex, RwPass};
 use ruled_object::laws::notes_are_kept;
 use rw_core::RwEvent;
@@ -135,7 +135,7 @@ impl<N: Note> RwMutex<N> {
         self.object.spend(pass);
         match self.event(rt, at.home, pass, note, RwEvent::ReadUnlock) {
             Answer::Halted(misuse) => Answer::Halted(misuse),
-            Answer::Done(reply) => Answer::Done(self.unlocked(pass.number(), reply)),
+            Answer::Done(reply) => Answer::Done(unlocked(reply)),
         }
     }
 }

@@ -21,7 +21,7 @@ pub(super) fn nothing() -> FrontNote {
 }
 
 /// A note that knows this many calls of caller 0.
-pub(super) fn knows(count: u64) -> FrontNote {
+pub(super) fn knows(count: u32) -> FrontNote {
     let mut counts = [0; 64];
     counts[0] = count;
     FrontNote::new(counts)

@@ -31,9 +31,7 @@ impl<N: Note> Cond<N> {
         ensures events { CondDid self.now (Makes NotifyEvent.Signal) pass.old (N.front note.old) result pass.new (N.front note.new) }
         ensures journal { IsCondLawful self.now pass.new }
     {
-        let answer = self.make(rt, at.home, pass, note, NotifyEvent::Signal);
-        self.object.unpark_others(pass.number());
-        answer
+        self.make(rt, at.home, pass, note, NotifyEvent::Signal)
     }
 
     /// Go's `Broadcast`: notifies every ticket that was taken. Its caller may hold the mutex, and needn't.
@@ -53,8 +51,6 @@ impl<N: Note> Cond<N> {
         ensures events { CondDid self.now (Makes NotifyEvent.Broadcast) pass.old (N.front note.old) result pass.new (N.front note.new) }
         ensures journal { IsCondLawful self.now pass.new }
     {
-        let answer = self.make(rt, at.home, pass, note, NotifyEvent::Broadcast);
-        self.object.unpark_others(pass.number());
-        answer
+        self.make(rt, at.home, pass, note, NotifyEvent::Broadcast)
     }
 }

@@ -37,10 +37,7 @@ impl<N: Note> WaitGroup<N> {
         ensures journal { IsGroupLawful self.now pass.new }
     {
         match self.begin(rt, at.home, pass, note, GroupEvent::Add(delta)) {
-            Answer::Done(GroupReply::Done) => {
-                self.object.unpark_others(pass.number());
-                Answer::Done(Ok(()))
-            }
+            Answer::Done(GroupReply::Done) => Answer::Done(Ok(())),
             Answer::Done(GroupReply::Misused(misuse)) => Answer::Done(Err(misuse)),
             Answer::Done(_) => unreachable!(),
             Answer::Halted(misuse) => Answer::Halted(misuse),

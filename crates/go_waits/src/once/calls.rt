@@ -67,12 +67,9 @@ impl<T: Copy, N: Note> Once<T, N> {
         ensures once { RunsOnce pass.new }
         ensures journal { IsOnceLawful self.now pass.new }
     {
-        let Running { caller } = running;
+        let Running { caller: _ } = running;
         match self.finish(rt, at.home, pass, note, kept) {
-            Answer::Done(OnceReply::Ended) => {
-                self.object.unpark_others(caller);
-                Answer::Done(())
-            }
+            Answer::Done(OnceReply::Ended) => Answer::Done(()),
             Answer::Done(_) => unreachable!(),
             Answer::Halted(misuse) => Answer::Halted(misuse),
         }

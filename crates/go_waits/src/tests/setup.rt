@@ -27,7 +27,7 @@ pub(super) const HERE: At<'static, FrontNote, NoClock> = At {
 };
 
 /// A note that knows this many calls of caller 0.
-pub(super) fn knows(count: u64) -> FrontNote {
+pub(super) fn knows(count: u32) -> FrontNote {
     let mut counts = [0; 64];
     counts[0] = count;
     FrontNote::new(counts)
@@ -134,7 +134,7 @@ impl<'a> Member<'a> {
     }
 
     /// How many calls of caller 0 are known.
-    pub(super) fn known(&self) -> u64 {
+    pub(super) fn known(&self) -> u32 {
         self.note.count(0)
     }
 }

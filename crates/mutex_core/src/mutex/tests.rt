@@ -271,3 +271,39 @@ fn unlocks_release_and_what_gives_the_mutex_acquires(rt: HostRuntime) -> Result<
     assert!(rt; halts::<MutexCore>());
     Ok(())
 }
+// Makes an event, and says whom it lets go on, of the lowest numbers three.
+fn let_on<M: Machine>(
+    state: &mut M::State,
+    caller: u32,
+    event: M::Event,
+) -> (Option<u32>, Option<u32>, Option<u32>) {
+    let reply = M::step(state, caller, event);
+    let mut callers = M::wakes(state, &event, &reply);
+    (
+        callers.take_first(),
+        callers.take_first(),
+        callers.take_first(),
+    )
+}
+
+#[test]
+fn an_unlock_lets_one_go_on(rt: HostRuntime) -> Result<(), Fail> {
+    let mut mutex = MutexCore::new(rt.alloc(), 3)?;
+    let table = [
+        (0, MutexEvent::Arrive { now: 0 }, None),
+        (1, MutexEvent::Arrive { now: 0 }, None),
+        (2, MutexEvent::Arrive { now: 0 }, None),
+        (0, MutexEvent::Unlock, Some(1)),
+        (0, MutexEvent::Unlock, None),
+        (0, MutexEvent::Try, None),
+        // Caller 1 is on its way already.
+        (0, MutexEvent::Unlock, None),
+        (1, MutexEvent::Woken { now: 0 }, None),
+        (1, MutexEvent::Unlock, Some(2)),
+    ];
+    for (caller, event, woken) in table {
+        let callers = let_on::<MutexCore>(&mut mutex, caller, event);
+        assert_eq!(rt; callers, (woken, None, None), "{caller} at {event:?}");
+    }
+    Ok(())
+}

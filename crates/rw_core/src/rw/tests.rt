@@ -230,3 +230,47 @@ fn unlocks_release_and_what_completes_a_lock_acquires(rt: HostRuntime) -> Result
     assert!(rt; halts::<RwCore>());
     Ok(())
 }
+// Makes an event, and says whom it lets go on, of the lowest numbers three.
+fn let_on<M: Machine>(
+    state: &mut M::State,
+    caller: u32,
+    event: M::Event,
+) -> (Option<u32>, Option<u32>, Option<u32>) {
+    let reply = M::step(state, caller, event);
+    let mut callers = M::wakes(state, &event, &reply);
+    (
+        callers.take_first(),
+        callers.take_first(),
+        callers.take_first(),
+    )
+}
+
+#[test]
+fn an_unlock_lets_those_go_on_who_have_the_lock(rt: HostRuntime) -> Result<(), Fail> {
+    let mut lock = RwCore::new(rt.alloc(), 5)?;
+    let nobody = (None, None, None);
+    let table = [
+        (0, RwEvent::WriteArrive { now: 0 }, nobody),
+        (1, RwEvent::ReadArrive, nobody),
+        (2, RwEvent::ReadArrive, nobody),
+        (3, RwEvent::WriteArrive { now: 0 }, nobody),
+        (4, RwEvent::WriteArrive { now: 0 }, nobody),
+        (0, RwEvent::ReadTry, nobody),
+        // Both readers, and the writer that arrived first.
+        (0, RwEvent::WriteUnlock, (Some(1), Some(2), Some(3))),
+        (1, RwEvent::Leave, nobody),
+        (2, RwEvent::Leave, nobody),
+        (3, RwEvent::WriteWoken { now: 0 }, nobody),
+        (1, RwEvent::ReadUnlock, nobody),
+        // The last reader.
+        (2, RwEvent::ReadUnlock, (Some(3), None, None)),
+        (2, RwEvent::ReadUnlock, nobody),
+        (3, RwEvent::Leave, nobody),
+        (3, RwEvent::WriteUnlock, (Some(4), None, None)),
+    ];
+    for (caller, event, woken) in table {
+        let callers = let_on::<RwCore>(&mut lock, caller, event);
+        assert_eq!(rt; callers, woken, "{caller} at {event:?}");
+    }
+    Ok(())
+}
