@@ -1,15 +1,15 @@
 -- From the bytes that were taken to all bytes of a file.
-use Rattle.std.proofs.Common.{◌≡◌, ℕ, zero, suc, ◌+◌, ◌≤◌, List, [], ◌∷◌, ◌++◌, length, take, Option, Some, None, refl, sym, ap, subst, ◌∙◌, arith, inl, inr, append-nil, append_assoc}
+use Rattle.std.proofs.Common.{◌≡◌, ℕ, true, zero, suc, ◌+◌, ◌≤◌, List, [], ◌∷◌, ◌++◌, length, take, Option, Some, None, refl, sym, ap, subst, ◌∙◌, arith, inl, inr, append-nil, append_assoc}
 use Rattle.std.proofs.lemmas.List.{length-take}
 use Rattle.std.proofs.Math.Seq.{take-append_seam}
 use Rattle.std.specs.Io.KnownBytes.{prepend_known, IsAtEnd}
 use Rattle.workload.specs.declared.limits.TheConstants.{MAX_INPUT}
 use Rattle.workload.specs.declared.reason.Reason.{Reason}
-use Rattle.workload.specs.Plan.{Plan}
+use Rattle.workload.specs.Plan.{Plan, is_valid}
 use Rattle.workload.specs.Reads.{Reads, IsRefused}
 use Rattle.gosync.specs.declared.status.Unread.TheVariants.{NotAccepted}
 use Rattle.gosync.specs.Input.{AreBytesOf, IsInput}
-use Rattle.gosync.specs.ComesTo.{IsUnread}
+use Rattle.gosync.specs.ComesTo.{IsRead, IsUnread}
 
 some_is : {X : Type 0} (x y : X) → Some x ≡ Some y → x ≡ y
 some_is x y e = cc
@@ -52,9 +52,9 @@ fits_whole held bytes e fits =
     let short : length held ≤ MAX_INPUT + 1 = omega (arith, fits, ap length e, length-take (MAX_INPUT + 1) held) in
     e ∙ take_whole (MAX_INPUT + 1) held short
 
-pub whole_read : (told : Option (List ℕ)) (bytes : List ℕ) (plan : Plan) → IsInput told bytes → Reads bytes plan → (all : List ℕ) × AreBytesOf told all × Reads all plan
-whole_read None bytes plan h read = (bytes, tt, read)
-whole_read (Some held) bytes plan h read = (held, refl, subst (λ (b : List ℕ). Reads b plan) (fits_whole held bytes h read.fits) read)
+pub whole_read : (told : Option (List ℕ)) (bytes : List ℕ) (plan : Plan) → IsInput told bytes → Reads bytes plan → is_valid plan ≡ true → IsRead told plan
+whole_read None bytes plan h read valid = (bytes, tt, read, valid)
+whole_read (Some held) bytes plan h read valid = (held, refl, subst (λ (b : List ℕ). Reads b plan) (fits_whole held bytes h read.fits) read, valid)
 
 refused_whole : (held bytes : List ℕ) (line : ℕ) (reason : Reason) → bytes ≡ take (MAX_INPUT + 1) held → IsRefused bytes line reason → IsRefused held line reason
 refused_whole held bytes line reason e (inl long) =

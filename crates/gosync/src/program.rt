@@ -4,7 +4,8 @@ ghost use Rattle.sync_outside.specs.Faults.{Rose};
 ghost use Rattle.workload.specs.declared.limits.TheConstants.{MAX_INPUT};
 ghost use Rattle.workload.specs.Plan.{Plan};
 ghost use Rattle.workload.specs.Reads.{Reads};
-ghost use Rattle.step_runner.specs.Computed.{turns};
+ghost use Rattle.sync_model.specs.declared.outcome.Outcome.{Outcome};
+ghost use Rattle.step_runner.specs.Outcomes.{StepsTo};
 ghost use Rattle.gosync.specs.Command.{file_of, AskFor};
 ghost use Rattle.gosync.specs.Input.{ReadFailed};
 ghost use Rattle.gosync.specs.Messages.{code_of, ending_of, message_of, IsOutOfMemory, Says};
@@ -32,7 +33,7 @@ pub fn gosync<S: Sources, O: Sink, E: Sink>(
     // What the words ask for, and what the bytes of the file come to.
     ensures usage { (result ≡ statuses.Usage) ↔ (file_of (map string_bytes words.now) ≡ None) }
     ensures unasked { result ≡ statuses.Usage → O.contents out.new ≡ O.contents out.old }
-    ensures comes_to { (file : List ℕ) → AskFor (map string_bytes words.now) file → ComesTo (S.contents src.old file) (O.contents out.old) (O.contents out.new) result }
+    ensures comes_to { (file : List ℕ) → AskFor (map string_bytes words.now) file → ComesTo StepsTo (S.contents src.old file) (O.contents out.old) (O.contents out.new) result }
 
     // Whose faults are answered.
     ensures cannot_read { (file : List ℕ) → AskFor (map string_bytes words.now) file → result ≡ statuses.Unread unreads.CannotRead → ReadFailed (S.open_faults src.old file) (S.open_faults src.new file) (S.read_faults src.old) (S.read_faults src.new) }
@@ -41,11 +42,11 @@ pub fn gosync<S: Sources, O: Sink, E: Sink>(
     // The one line on the error output, of which there is none where all is done.
     ensures says { Says (E.contents err.old) (E.contents err.new) (E.faults err.old) (E.faults err.new) (message_of (unwrap_or (file_of (map string_bytes words.now)) []) result) }
 
-    // Without a fault, a text that is read is run, with the status of what its run comes to, and one that isn't read is
-    // refused, unless memory is out.
+    // Without a fault, a text that is read is run, with the status of an outcome that its run comes to, and one that
+    // isn't read is refused, unless memory is out.
     ensures runs { (file bytes : List ℕ) (plan : Plan) → AskFor (map string_bytes words.now) file → S.contents src.old file ≡ Some bytes → Reads bytes plan
         → ¬ ReadFailed (S.open_faults src.old file) (S.open_faults src.new file) (S.read_faults src.old) (S.read_faults src.new) → ¬ Rose (O.faults out.old) (O.faults out.new)
-        → (result ≡ statuses.Ended (ending_of (turns plan))) ⊎ IsOutOfMemory result }
+        → ((outcome : Outcome) × StepsTo plan outcome × (result ≡ statuses.Ended (ending_of outcome))) ⊎ IsOutOfMemory result }
     ensures refused { (file bytes : List ℕ) → AskFor (map string_bytes words.now) file → S.contents src.old file ≡ Some bytes → ((plan : Plan) → ¬ Reads bytes plan)
         → ¬ ReadFailed (S.open_faults src.old file) (S.open_faults src.new file) (S.read_faults src.old) (S.read_faults src.new)
         → (code_of result ≡ 1) ⊎ IsOutOfMemory result }

@@ -1,7 +1,9 @@
 //! The run of a file by its schedule.
-ghost use Rattle.std.specs.Prelude.{◌≡◌, ℕ, List, ◌+◌, ◌≤◌, IfErr, MatchResult};
+ghost use Rattle.std.specs.Prelude.{◌≡◌, ℕ, List, ◌+◌, ◌≤◌, true, IfErr, MatchResult};
 ghost use Rattle.sync_outside.specs.Faults.{Rose};
 ghost use Rattle.workload.specs.declared.limits.TheConstants.{MAX_INPUT};
+ghost use Rattle.workload.specs.Plan.{is_valid};
+ghost use Rattle.step_runner.specs.Outcomes.{StepsTo};
 ghost use Rattle.gosync.specs.Input.{ReadFailed};
 ghost use Rattle.gosync.specs.Messages.{ending_of};
 ghost use Rattle.gosync.specs.ComesTo.{ComesTo, Ends, Fails, IsRead, IsUnread};
@@ -21,6 +23,13 @@ use workload::laws::read_or_refused;
 use workload::{ParseFault, Workload};
 use workload_reader::parse;
 
+/// Each place and number in a workload is in range.
+fn is_in_range(workload: &Workload)
+    ensures { is_valid workload.now ≡ true }
+{
+    workload.workers();
+}
+
 /// The workload that a file is read as.
 fn read_workload<S: Sources>(alloc: Global, file: &str, src: &mut S) -> Result<Workload, Unread>
     ensures read { MatchResult result (IsRead (S.contents src.old file.now)) (IsUnread (S.contents src.old file.now)) }
@@ -36,7 +45,10 @@ fn read_workload<S: Sources>(alloc: Global, file: &str, src: &mut S) -> Result<W
         Err(InputFault::Memory) => return Err(Unread::Memory),
     };
     match parse(alloc, &bytes) {
-        Ok(workload) => Ok(workload),
+        Ok(workload) => {
+            is_in_range(&workload);
+            Ok(workload)
+        }
         Err(ParseFault::Refused { line, reason }) => Err(Unread::NotAccepted { line, reason }),
         Err(ParseFault::Memory) => Err(Unread::Memory),
     }
@@ -55,7 +67,7 @@ fn ending_of(outcome: &Outcome) -> Ending
 
 /// Runs a workload by its schedule and writes the report.
 fn run<O: Sink>(alloc: Global, workload: &Workload, out: &mut O) -> Result<Ending, Fault>
-    ensures ran { MatchResult result (Ends workload.now (O.contents out.old) (O.contents out.new)) (Fails workload.now (O.contents out.old) (O.contents out.new)) }
+    ensures ran { MatchResult result (Ends StepsTo workload.now (O.contents out.old) (O.contents out.new)) (Fails StepsTo workload.now (O.contents out.old) (O.contents out.new)) }
     ensures cannot_write { IfErr result (λ fault. fault ≡ faults.CannotWrite → Rose (O.faults out.old) (O.faults out.new)) }
     ensures out_faults { O.faults out.old ≤ O.faults out.new }
 {
@@ -73,7 +85,7 @@ fn run<O: Sink>(alloc: Global, workload: &Workload, out: &mut O) -> Result<Endin
 
 /// Reads a file, runs its workload by its schedule and writes the report.
 pub fn step<S: Sources, O: Sink>(alloc: Global, file: &str, src: &mut S, out: &mut O) -> Status
-    ensures comes_to { ComesTo (S.contents src.old file.now) (O.contents out.old) (O.contents out.new) result }
+    ensures comes_to { ComesTo StepsTo (S.contents src.old file.now) (O.contents out.old) (O.contents out.new) result }
     ensures cannot_read { result ≡ statuses.Unread unreads.CannotRead → ReadFailed (S.open_faults src.old file.now) (S.open_faults src.new file.now) (S.read_faults src.old) (S.read_faults src.new) }
     ensures cannot_write { result ≡ statuses.Failed faults.CannotWrite → Rose (O.faults out.old) (O.faults out.new) }
     ensures reads { S.reads src.new ≤ S.reads src.old + (MAX_INPUT + 1) }

@@ -6,7 +6,7 @@ use Rattle.gosync.proofs.step.read_workload.Goals as goal
 pub returns-in-Ok-parse-clause-read : goal.returns-in-Ok-parse-clause-read
 returns-in-Ok-parse-clause-read g c =
     let read = subst (λ (b : List ℕ). Reads b c.in-Ok-parse.workload) c.deref.ensures.value c.in-Ok-parse.ensures.read in
-    whole_read _ c.in-Ok.bytes.items _ c.in-Ok.ensures.bytes read
+    whole_read _ c.in-Ok.bytes.items _ c.in-Ok.ensures.bytes read c.is_in_range.ensures
 
 pub returns-in-Err-Refused-clause-read : goal.returns-in-Err-Refused-clause-read
 returns-in-Err-Refused-clause-read g c =
