@@ -5,6 +5,7 @@ mod call_line;
 mod call_words;
 mod end_line;
 mod input;
+mod laws;
 mod line;
 mod message;
 mod program;
