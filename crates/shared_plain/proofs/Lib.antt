@@ -1,0 +1,10 @@
+pub mod Beginnings
+pub mod Calling
+pub mod Cursors
+pub mod Fitting
+pub mod Histories
+pub mod Items
+pub mod Passing
+pub mod Replies
+pub mod SlotMaps
+pub mod Steps
