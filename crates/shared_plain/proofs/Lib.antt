@@ -1,6 +1,7 @@
 pub mod Beginnings
 pub mod Calling
 pub mod Cursors
+pub mod FirstCallers
 pub mod Fitting
 pub mod Histories
 pub mod Items
@@ -8,3 +9,4 @@ pub mod Passing
 pub mod Replies
 pub mod SlotMaps
 pub mod Steps
+pub mod TakenCalls

@@ -11,6 +11,7 @@ pub mod plain;
 mod plain_calls;
 mod slots;
 pub mod state;
+mod taking;
 
 pub use event::{Answered, Event};
 pub use machine::PlainMachine;

@@ -184,16 +184,11 @@ fn atomic_calls_of_two_callers_are_answered_in_order(rt: HostRuntime) -> Result<
     ];
     for (who, call, reply) in table {
         assert_eq!(rt;
-            pair.on_atomic(&rt, who, 1, call),
+            pair.on_atomic(&rt, who, call),
             Some(reply),
             "{who:?} at {call:?}"
         );
     }
-    let truth = AtomicReply::Held(Number::Bool(false));
-    assert_eq!(rt;
-        pair.on_atomic(&rt, SECOND, 0, AtomicCall::Load),
-        Some(truth)
-    );
     Ok(())
 }
 

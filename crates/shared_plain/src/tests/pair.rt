@@ -1,7 +1,7 @@
 //! Plain maps and atomics for the tests, with two callers.
-ghost use Rattle.std.specs.Prelude.{◌≡◌, ◌<◌, ◌∷◌, [], true, list_all, nat_lt, slice_get};
+ghost use Rattle.std.specs.Prelude.{◌≡◌, ◌<◌, ◌∷◌, []};
 ghost use Rattle.sync_model.specs.declared.atomic_object.AtomicKind.TheVariants as kinds;
-ghost use Rattle.sync_model.specs.Shared.{IsAtomicCall, IsCallerAt, IsMapCall, values_of};
+ghost use Rattle.sync_model.specs.Shared.{IsCallerAt, IsMapCall};
 ghost use Rattle.shared_plain.specs.Marks.{own_by, IsMarkOf};
 ghost use Rattle.shared_plain.specs.Plains.{keys_of, kinds_of, maps_of, Takes};
 
@@ -38,7 +38,10 @@ impl Pair {
     pub(super) fn new(alloc: Global, spare: u32) -> Result<Option<Self>, AllocError> {
         let kinds = [AtomicKind::Bool, AtomicKind::Uint64];
         let (plain, mut callers) = Plain::new(alloc, &kinds, 2, 4, &[spare, spare])?;
-        let (Some(second), Some(first)) = (callers.pop(), callers.pop()) else {
+        let Some(second) = callers.pop() else {
+            return Ok(None);
+        };
+        let Some(first) = callers.pop() else {
             return Ok(None);
         };
         Ok(Some(Pair {
@@ -56,7 +59,7 @@ impl Pair {
         map: u32,
         call: MapCall<u32>,
     ) -> Option<MapReply> {
-        if map >= 2 || !is_map_call(&call) {
+        if map >= 2 || !self.plain.takes(&call) {
             return None;
         }
         match who {
@@ -65,21 +68,17 @@ impl Pair {
         }
     }
 
-    /// A call on an atomic by one of them, where it may be made.
+    /// A call on the Uint64 by one of them, where it may be made.
     pub(super) fn on_atomic<R: Wait>(
         &mut self,
         rt: &R,
         who: Who,
-        atomic: u32,
         call: AtomicCall,
     ) -> Option<AtomicReply> {
-        if !is_atomic_call(atomic, call) {
-            return None;
+        match who {
+            Who::First => on_uint(rt, &self.plain, &mut self.first, call),
+            Who::Second => on_uint(rt, &self.plain, &mut self.second, call),
         }
-        Some(match who {
-            Who::First => self.plain.atomic_call(rt, &mut self.first, atomic, call),
-            Who::Second => self.plain.atomic_call(rt, &mut self.second, atomic, call),
-        })
     }
 
     /// The second caller takes in a copy of what the first knows. What is answered is the copy's number and its spare
@@ -118,41 +117,24 @@ fn with_spare<R: Wait>(
     if caller.spare() == 0 {
         return None;
     }
-    Some(plain.map_call(rt, caller, map, call))
+    let reply = plain.map_call(rt, caller, map, call);
+    Some(reply)
 }
 
-// Whether the maps take the call's key, and its values are in range.
-fn is_map_call(call: &MapCall<u32>) -> bool
-    ensures { result ≡ true → IsMapCall (λ key. key < 4) call.now }
+// A call on atomic 1, where its type has the call.
+fn on_uint<R: Wait>(
+    rt: &R,
+    plain: &Plain,
+    caller: &mut Caller<Mark>,
+    call: AtomicCall,
+) -> Option<AtomicReply>
+    requires caller { IsCallerAt IsMarkOf own_by plain.now caller.old }
+    requires kinds { kinds_of plain.now ≡ kinds.Bool ∷ kinds.Uint64 ∷ [] }
+    ensures { IsCallerAt IsMarkOf own_by plain.now caller.new }
 {
-    call.key().is_none_or(|key| *key < 4) && are_values(call)
-}
-
-// Whether the values in a call are in range.
-fn are_values(call: &MapCall<u32>) -> bool
-    ensures { result ≡ list_all (λ value. nat_lt value (2 ^ 63)) (values_of call.now) }
-{
-    let limit = 1 << 63;
-    match *call {
-        MapCall::Load { .. } => true,
-        MapCall::Store { value, .. } => value < limit,
-        MapCall::LoadOrStore { value, .. } => value < limit,
-        MapCall::LoadAndDelete { .. } => true,
-        MapCall::Delete { .. } => true,
-        MapCall::Swap { value, .. } => value < limit,
-        MapCall::CompareAndSwap { old, new, .. } => old < limit && new < limit,
-        MapCall::CompareAndDelete { old, .. } => old < limit,
-        MapCall::Clear => true,
+    if !has_call(AtomicKind::Uint64, call) {
+        return None;
     }
-}
-
-// Whether the atomic of this number has the call.
-fn is_atomic_call(atomic: u32, call: AtomicCall) -> bool
-    ensures { result ≡ true → IsAtomicCall (kinds.Bool ∷ kinds.Uint64 ∷ []) atomic call }
-{
-    match atomic {
-        0 => has_call(AtomicKind::Bool, call),
-        1 => has_call(AtomicKind::Uint64, call),
-        _ => false,
-    }
+    let reply = plain.atomic_call(rt, caller, 1, call);
+    Some(reply)
 }
