@@ -1,3 +1,4 @@
 mod fresh;
 mod one_thread;
 mod threads;
+mod wake_ups;

@@ -7,3 +7,4 @@ mod once_alone;
 mod once_setup;
 mod once_threads;
 mod setup;
+mod wake_ups;
