@@ -5,3 +5,5 @@ pub mod Turns
 pub mod HandsOver
 pub mod UsedUp
 pub mod Standing
+pub mod Modes
+pub mod Order

@@ -6,3 +6,5 @@ pub mod Exclusion
 pub mod HandOff
 pub mod EventsLeft
 pub mod Standing
+pub mod Modes
+pub mod Order

@@ -1,6 +1,6 @@
 //! What holds of the machine, whatever its callers do. A log lists who did what, and what it was answered. It follows the
 //! machine, from the unlocked mutex on, where each of its answers is the machine's.
-ghost use Rattle.std.specs.Prelude.{◌≡◌, ◌≢◌, ℕ, ◌+◌, ◌<◌, ◌≤◌, false, IsTrue, ◌∷◌, ◌++◌, IsFalse};
+ghost use Rattle.std.specs.Prelude.{◌≡◌, ◌≢◌, ◌↔◌, ℕ, ◌+◌, ◌<◌, ◌≤◌, false, true, IsTrue, ◌∷◌, ◌++◌, IsFalse};
 ghost use Rattle.std.specs.List.{list_any};
 ghost use Rattle.sync_model.specs.Log.{Entry, after, Follows};
 ghost use Rattle.mutex_core.specs.declared.event.MutexEvent.{MutexEvent};
@@ -10,6 +10,9 @@ ghost use Rattle.mutex_core.specs.EventsLeft.{events_left, given_by, used_by};
 ghost use Rattle.mutex_core.specs.Edges.{Log, acquires, releases};
 ghost use Rattle.mutex_core.specs.Exclusion.{TakesTurns};
 ghost use Rattle.mutex_core.specs.HandOff.{HandsOff};
+ghost use Rattle.mutex_core.specs.Modes.{StarvesAndLoses, IsTheLastToStarve};
+ghost use Rattle.mutex_core.specs.Order.{QueuesOn};
+ghost use Rattle.mutex_core.specs.declared.reply.Arrival.{Arrival};
 ghost use Rattle.mutex_core.specs.Standing.{is_answer, is_waiting};
 ghost use Rattle.mutex_core.specs.declared.place.Place.{Place};
 
@@ -81,4 +84,34 @@ pub fn still()
         → IsTrue (may_make state caller event) → (next state caller event).1 ≢ MutexReply.Still }
     ensures unmade { (state : State) (caller : ℕ) (event : MutexEvent)
         → IsFalse (may_make state caller event) → next state caller event ≡ (state, MutexReply.Still) }
+{}
+
+/// The queue is first in, first out, in both modes: who joins it joins at its tail, and who is told to go on is its front. A
+/// woken waiter that loses against a newcomer joins again at the front, with the arrival that it came with, so that
+/// it starves on the sum of its waiting.
+pub fn first_in_first_out()
+    ensures { (state : State) (caller : ℕ) (event : MutexEvent)
+        → QueuesOn state caller event (next state caller event).1 (next state caller event).0 }
+{}
+
+/// A try acquires the mutex exactly where an arrival would, and leaves it as the arrival would.
+pub fn tries_as_it_would_arrive()
+    ensures acquires { (state : State) (caller now : ℕ)
+        → (next state caller MutexEvent.Try).1 ≡ MutexReply.Tried true ↔ (next state caller (MutexEvent.Arrive now)).1 ≡ MutexReply.Arrived Arrival.Acquired }
+    ensures leaves { (state : State) (caller now : ℕ)
+        → (next state caller MutexEvent.Try).1 ≡ MutexReply.Tried true
+        → (next state caller MutexEvent.Try).0 ≡ (next state caller (MutexEvent.Arrive now)).0 }
+{}
+
+/// Starvation mode begins exactly where a woken waiter that starves loses against a newcomer. It ends exactly where a waiter
+/// that was handed the mutex goes on and either doesn't starve itself or has nobody behind it.
+pub fn changes_of_mode()
+    ensures begins { (state : State) (caller : ℕ) (event : MutexEvent)
+        → IsFalse state.starving → IsTrue (next state caller event).0.starving → StarvesAndLoses state event (next state caller event).1 }
+    ensures begun { (state : State) (caller : ℕ) (event : MutexEvent)
+        → StarvesAndLoses state event (next state caller event).1 → IsTrue (next state caller event).0.starving }
+    ensures ends { (state : State) (caller : ℕ) (event : MutexEvent)
+        → IsTrue state.starving → IsFalse (next state caller event).0.starving → IsTheLastToStarve state event (next state caller event).1 }
+    ensures ended { (state : State) (caller : ℕ) (event : MutexEvent)
+        → IsTheLastToStarve state event (next state caller event).1 → IsFalse (next state caller event).0.starving }
 {}

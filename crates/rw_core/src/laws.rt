@@ -1,6 +1,6 @@
 //! What holds of the machine, whatever its callers do. A log lists who did what, and what it was answered. It follows the
 //! machine, from the unlocked lock on, where each of its answers is the machine's.
-ghost use Rattle.std.specs.Prelude.{◌≡◌, ◌≢◌, ℕ, ◌+◌, ◌<◌, ◌≤◌, IsTrue, ◌∷◌, ◌++◌, length, filter, false, IsFalse};
+ghost use Rattle.std.specs.Prelude.{◌≡◌, ◌≢◌, ℕ, ◌+◌, ◌<◌, ◌≤◌, IsTrue, ◌∷◌, ◌++◌, length, filter, true, false, IsFalse};
 ghost use Rattle.std.specs.List.{list_any};
 ghost use Rattle.sync_model.specs.Log.{Entry, after, Follows};
 ghost use Rattle.rw_core.specs.declared.event.RwEvent.{RwEvent};
@@ -11,7 +11,10 @@ ghost use Rattle.rw_core.specs.Admission.{Admits};
 ghost use Rattle.rw_core.specs.EventsLeft.{events_left, given_by, used_by};
 ghost use Rattle.rw_core.specs.Standing.{is_answer, is_waiting};
 ghost use Rattle.rw_core.specs.declared.place.Place.{Place};
-ghost use Rattle.rw_core.specs.Edges.{Log, is_acquired, read_acquires, read_releases, write_acquires, write_releases};
+ghost use Rattle.rw_core.specs.Edges.{Log, acquires, releases, is_acquired, read_acquires, read_releases, write_acquires, write_releases};
+ghost use Rattle.rw_core.specs.declared.reply.Arrival.{Arrival};
+ghost use Rattle.rw_core.specs.declared.reply.Resumption.{Resumption};
+ghost use Rattle.sync_model.specs.declared.misuse.Misuse.{Misuse};
 
 use crate::rw::RwCore;
 use mutex_core::laws;
@@ -108,4 +111,17 @@ pub fn still()
         → IsTrue (may_make state caller event) → (next state caller event).1 ≢ RwReply.Still }
     ensures unmade { (state : State) (caller : ℕ) (event : RwEvent)
         → IsFalse (may_make state caller event) → next state caller event ≡ (state, RwReply.Still) }
+{}
+
+/// What completes a lock acquires: the arrival or the try that has it at once, the writer's going on after waiting, and the
+/// leaving of a writer that was granted it or a reader that was admitted. An unlock that isn't a misuse releases. An answer by
+/// which a caller waits, a try that fails, a misuse and `Still` do neither.
+pub fn synchronizes()
+    ensures left { (state : State) (caller : ℕ)
+        → IsTrue (may_make state caller RwEvent.Leave) → IsTrue (acquires (next state caller RwEvent.Leave).1) }
+    ensures acquired { IsTrue (acquires (RwReply.Arrived Arrival.Acquired)) × IsTrue (acquires (RwReply.Tried true)) × IsTrue (acquires (RwReply.Resumed Resumption.Acquired)) }
+    ensures unlocked { IsTrue (releases (RwReply.Unlocked Unlocking.Done)) }
+    ensures waiting { IsFalse (acquires (RwReply.Arrived Arrival.Queued)) × IsFalse (acquires (RwReply.Resumed Resumption.Queued)) × IsFalse (acquires (RwReply.Resumed Resumption.Requeued)) }
+    ensures unmoved { IsFalse (acquires (RwReply.Tried false)) × IsFalse (acquires RwReply.Still) × IsFalse (releases RwReply.Still) }
+    ensures misused { (misuse : Misuse) → IsFalse (acquires (RwReply.Unlocked (Unlocking.Misuse misuse))) × IsFalse (releases (RwReply.Unlocked (Unlocking.Misuse misuse))) }
 {}

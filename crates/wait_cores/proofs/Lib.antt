@@ -13,3 +13,4 @@ pub mod NotifyStandingLemmas
 pub mod GroupCounts
 pub mod Stills
 pub mod EdgeLemmas
+pub mod GroupReuse

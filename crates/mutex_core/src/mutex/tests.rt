@@ -92,6 +92,37 @@ fn starvation_mode_hands_the_mutex_on(rt: HostRuntime) -> Result<(), Fail> {
 }
 
 #[test]
+fn a_waiter_that_loses_twice_starves_on_the_sum(rt: HostRuntime) -> Result<(), Fail> {
+    let mut mutex = MutexCore::new(rt.alloc(), 3)?;
+    for (caller, event, reply) in passed_over(600_000) {
+        assert_eq!(rt; MutexCore::step(&mut mutex, caller, event), reply);
+    }
+    let late = 1_000_001;
+    let rows: [Row; 4] = [
+        (
+            0,
+            MutexEvent::Unlock,
+            MutexReply::Unlocked(Unlocking::Woke(1)),
+        ),
+        (0, MutexEvent::Try, MutexReply::Tried(true)),
+        (
+            1,
+            MutexEvent::Woken { now: late },
+            MutexReply::Resumed(Resumption::Requeued),
+        ),
+        (
+            0,
+            MutexEvent::Unlock,
+            MutexReply::Unlocked(Unlocking::Handed(1)),
+        ),
+    ];
+    for (caller, event, reply) in rows {
+        assert_eq!(rt; MutexCore::step(&mut mutex, caller, event), reply);
+    }
+    Ok(())
+}
+
+#[test]
 fn waiting_for_the_threshold_itself_is_no_starving(rt: HostRuntime) -> Result<(), Fail> {
     let late = 1_000_000;
     let mut mutex = MutexCore::new(rt.alloc(), 3)?;

@@ -1,10 +1,10 @@
 //! When a wait of a wait group returns, and what a misuse leaves.
-ghost use Rattle.std.specs.Prelude.{◌≡◌, ◌≢◌, ℕ, pos, ◌+◌, ◌-◌, ◌^◌, ◌<◌, ◌≤◌, false, IsTrue, ◌∷◌, ◌++◌, slice_set, IsFalse};
+ghost use Rattle.std.specs.Prelude.{◌≡◌, ◌≢◌, ◌↔◌, ℕ, pos, ◌+◌, ◌-◌, ◌^◌, ◌<◌, ◌≤◌, false, IsTrue, ◌∷◌, ◌++◌, slice_set, IsFalse};
 ghost use Rattle.std.specs.List.{list_any};
 ghost use Rattle.sync_model.specs.Log.{Follows};
 ghost use Rattle.wait_cores.specs.GroupEdges.{group_releases, group_acquires};
 ghost use Rattle.wait_cores.specs.GroupEventsLeft.{group_left, group_used, group_given};
-ghost use Rattle.wait_cores.specs.GroupMachine.{GroupState, start, next, callers_of, is_waiting};
+ghost use Rattle.wait_cores.specs.GroupMachine.{GroupState, start, next, callers_of, place_of, is_waiting};
 ghost use Rattle.wait_cores.specs.GroupStanding.{answers, may_make, waits_at, waits_after};
 ghost use Rattle.wait_cores.specs.GroupLaws.{Log, WasZero, state_after, wait_by, leave_by, additions};
 
@@ -46,6 +46,17 @@ pub fn misuses_change_nothing()
     ensures reuse { (state : GroupState) (caller : ℕ) (event : GroupEvent)
         → (next state caller event).1 ≡ GroupReply.Misused Misuse.WaitGroupReused
         → (next state caller event).0 ≡ record state { places = slice_set state.places caller GroupPlace.Out } }
+{}
+
+/// A caller that was released finds the group in use again, which is a misuse, exactly where the counter isn't 0 when it
+/// leaves. Where it is 0 its wait returns.
+pub fn a_leaving_finds_the_group_reused()
+    ensures reused { (callers caller : ℕ) (log : Log)
+        → caller < callers_of (state_after callers log) → place_of (state_after callers log) caller ≡ GroupPlace.Released
+        → (next (state_after callers log) caller GroupEvent.Leave).1 ≡ GroupReply.Misused Misuse.WaitGroupReused ↔ (state_after callers log).counter ≢ 0 }
+    ensures returned { (callers caller : ℕ) (log : Log)
+        → caller < callers_of (state_after callers log) → place_of (state_after callers log) caller ≡ GroupPlace.Released
+        → (next (state_after callers log) caller GroupEvent.Leave).1 ≡ GroupReply.Done ↔ (state_after callers log).counter ≡ 0 }
 {}
 
 /// A caller knows from its own answers whether it is in a wait, released or not: nobody else's event lets it in or out. So it
