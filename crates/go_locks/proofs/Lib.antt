@@ -1,8 +1,7 @@
-pub mod Spelling
+pub mod CallSpelling
+pub mod MutexSpelling
+pub mod RwSpelling
 pub mod MutexStanding
-pub mod MutexCalls
 pub mod RwStanding
-pub mod RwCalls
 pub mod Logs
-pub mod Halts
 pub mod FreshPasses

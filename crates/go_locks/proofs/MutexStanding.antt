@@ -1,38 +1,14 @@
--- Where a caller of a running Mutex stands.
-use Rattle.std.proofs.Common.{◌≡◌, ℕ, ◌<◌, true, false, List, None, refl, sym, ap, subst, ◌∙◌, lt-ltb}
-use Rattle.std.specs.Prelude.{nat_lt}
-use Rattle.sync_model.specs.Log as log
-use Rattle.sync_model.specs.Journal.{halt_of, by, log_of, state_after, Follows}
+-- The passes of a new running Mutex.
+use Rattle.std.proofs.Common.{ℕ, false, List, ap}
 use Rattle.mutex_core.specs.declared.event.MutexEvent.{MutexEvent}
 use Rattle.mutex_core.specs.declared.reply.MutexReply.{MutexReply}
-use Rattle.mutex_core.specs.declared.place.Place.TheVariants as place
-use Rattle.mutex_core.specs.Edges.{Log}
-use Rattle.mutex_core.specs.MutexMachine.{State, next, place_of, is_needed, may_make}
-use Rattle.mutex_core.specs.Standing.{is_answer, waits_after, is_waiting}
+use Rattle.mutex_core.specs.MutexMachine.{State}
+use Rattle.mutex_core.specs.Standing.{waits_after}
 use Rattle.ruled_object.specs.declared.pass.Pass.{Pass}
 use Rattle.ruled_object.specs.Gathered.{AreNew}
 use Rattle.go_locks.specs.declared.mutex.Mutex.{Mutex}
 use Rattle.go_locks.specs.Calls.{waits_by}
 use Rattle.go_locks.specs.Mutexes.{MutexJournal, AreNewOfMutex}
-use Rattle.go_locks.proofs.Spelling.{waits_log}
-
--- what the machine's laws say of a run from this state
-pub record Stands (n : ℕ) (begin : State) : Type 0 where
-  pub answered : (s : State) (c : ℕ) (e : MutexEvent) → may_make s c e ≡ true → is_answer e (next s c e).1 ≡ true
-  pub out : (entries : Log) (c : ℕ) → log.Follows next begin entries → is_waiting false c entries ≡ false → place_of (log.after next begin entries) c ≡ place.Out
-  pub callers : (entries : Log) → (log.after next begin entries).callers ≡ n
-
--- a caller between two calls gets an answer
-pub answers_out : (n c : ℕ) (begin : State) (before own : MutexJournal) (e : MutexEvent) (r : MutexReply) → Stands n begin → c < n → Follows next true begin None before → log.Follows next begin (log_of before)
-    → log.after next begin (log_of before) ≡ state_after next begin before → own ≡ by c before → (halt_of before ≡ None) × (r ≡ (next (state_after next begin before) c e).1)
-    → waits_by waits_after false own ≡ false → is_needed e place.Out ≡ true → is_answer e r ≡ true
-answers_out n c begin before own e r laws below follows logged after mine right free needed =
-    let s : State = log.after next begin (log_of before) in
-    let waits : is_waiting false c (log_of before) ≡ false = waits_log next waits_after is_waiting (λ w k. refl) (λ w k x xs. refl) begin c false before follows right.0 ∙ (ap (λ (z : MutexJournal). waits_by waits_after false z) (sym mine) ∙ free) in
-    let out : place_of s c ≡ place.Out = laws.out (log_of before) c logged waits in
-    let here : nat_lt c s.callers ≡ true = lt-ltb c s.callers (subst (λ (k : ℕ). c < k) (sym (laws.callers (log_of before))) below) in
-    let may : may_make s c e ≡ true = rw (here, out) needed in
-    subst (λ (z : MutexReply). is_answer e z ≡ true) (ap (λ (t : State). (next t c e).1) after ∙ sym right.1) (laws.answered s c e may)
 
 -- the passes of a new mutex are between two calls
 pub new_passes : {N H : Type 0} (mutex : Mutex N H) (calls : ℕ) (passes : List (Pass State N MutexEvent MutexReply)) → AreNew mutex.object calls passes → AreNewOfMutex mutex calls passes

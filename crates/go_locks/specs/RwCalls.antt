@@ -80,14 +80,3 @@ IsClocked shows (Halt misuse) = Unit {0}
 
 abbrev pub AreClocked : (ℕ → Type 0) → List RwDeed → Type 0
 AreClocked shows deeds = AllByRecursion (IsClocked shows) deeds
-
--- an event of a writer that waits
-abbrev pub GoesOn : (ℕ → Type 0) → RwEvent → Type 0
-GoesOn shows ReadArrive = ⊥
-GoesOn shows ReadTry = ⊥
-GoesOn shows ReadUnlock = ⊥
-GoesOn shows (WriteArrive now) = ⊥
-GoesOn shows WriteTry = ⊥
-GoesOn shows (WriteWoken now) = shows now
-GoesOn shows WriteUnlock = ⊥
-GoesOn shows Leave = Unit {0}

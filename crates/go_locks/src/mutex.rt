@@ -4,10 +4,8 @@ ghost use Rattle.ruled_object.specs.Passes.{callers_of, start_of};
 ghost use Rattle.mutex_core.specs.MutexMachine.{start};
 
 mod calls;
-mod events;
 mod halts;
 mod new;
-mod waiting;
 mod within;
 
 use mutex_core::MutexCore;

@@ -3,7 +3,6 @@ ghost use Rattle.std.specs.Prelude.{◌≡◌};
 ghost use Rattle.ruled_object.specs.Passes.{callers_of, start_of};
 ghost use Rattle.rw_core.specs.RwMachine.{start};
 
-mod events;
 mod halts;
 mod new;
 mod read;

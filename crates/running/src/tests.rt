@@ -67,7 +67,6 @@ fn add_locked<C: Clock, R: Wait>(
         call(lock, rt, &at, &mut pass, &mut note, MutexStage::Lock);
         add_one(number);
         let _ = call(lock, rt, &at, &mut pass, &mut note, MutexStage::Unlock);
-        lock.unpark_others(pass.number());
     }
 }
 

@@ -11,10 +11,10 @@ ghost use Rattle.go_locks.specs.Calls.{Did};
 ghost use Rattle.go_locks.specs.Mutexes.{mutex_start, IsHomeOfMutex, IsPassOfMutex};
 ghost use Rattle.go_locks.specs.MutexCalls.{Locks, Tries, Unlocks, AreClocked};
 
-use super::events::has_mutex;
 use super::{Mutex, MutexPass};
-use mutex_core::{MutexCore, MutexEvent};
-use ruled_object::laws::growth;
+use crate::answers::{locked, tried, unlocked};
+use protocols::MutexStage;
+use running::call;
 use std::sync::Wait;
 use sync_model::{Answer, Misuse, Note};
 use sync_outside::{At, Clock};
@@ -39,9 +39,7 @@ impl<N: Note> Mutex<N> {
         ensures halted { (misuse : Misuse) → result ≡ Halted misuse → N.front note.new ≡ N.front note.old }
         ensures journal { IsLawful next true (λ event reply. releases reply) (λ event reply. acquires reply) (mutex_start self.now) pass.new }
     {
-        growth::<MutexCore, N>();
-        self.object.spend(pass);
-        self.lock_within(rt, at, pass, note)
+        locked(call(&self.object, rt, at, pass, note, MutexStage::Lock))
     }
 
     /// Go's `TryLock`: whether the caller has the mutex, which it has exactly where an arrival would get it at once.
@@ -63,11 +61,7 @@ impl<N: Note> Mutex<N> {
         ensures no_edge { result ≢ Done true → N.front note.new ≡ N.front note.old }
         ensures journal { IsLawful next true (λ event reply. releases reply) (λ event reply. acquires reply) (mutex_start self.now) pass.new }
     {
-        self.object.spend(pass);
-        match self.event(rt, at.home, pass, note, MutexEvent::Try) {
-            Answer::Halted(misuse) => Answer::Halted(misuse),
-            Answer::Done(reply) => Answer::Done(has_mutex(&reply)),
-        }
+        tried(call(&self.object, rt, at, pass, note, MutexStage::TryLock))
     }
 
     /// Go's `Unlock`, by whichever caller. A mutex that isn't locked stays as it is: that is a misuse.
@@ -89,8 +83,6 @@ impl<N: Note> Mutex<N> {
         ensures no_edge { N.front note.new ≡ N.front note.old }
         ensures journal { IsLawful next true (λ event reply. releases reply) (λ event reply. acquires reply) (mutex_start self.now) pass.new }
     {
-        growth::<MutexCore, N>();
-        self.object.spend(pass);
-        self.unlock_within(rt, at, pass, note)
+        unlocked(call(&self.object, rt, at, pass, note, MutexStage::Unlock))
     }
 }

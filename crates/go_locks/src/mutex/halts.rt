@@ -12,8 +12,6 @@ ghost use Rattle.ruled_object.specs.Passes.{Adds, SamePass};
 ghost use Rattle.go_locks.specs.Mutexes.{MutexJournal, mutex_start, IsPassOfMutex, AreAllOfMutex};
 
 use super::{Mutex, MutexPass};
-use mutex_core::MutexCore;
-use ruled_object::laws::standing;
 use std::sync::Wait;
 use sync_model::{Misuse, Note};
 
@@ -28,9 +26,7 @@ impl<N: Note> Mutex<N> {
             × Adds next true (λ event reply. releases reply) (λ event reply. acquires reply) (mutex_start self.now) pass.old e pass.new
             × (e.deed ≡ Halt misuse) × (e.front ≡ N.front note.now) }
     {
-        standing::<MutexCore, bool>();
-        self.object.halt(rt, pass, note, misuse);
-        self.object.unpark_others(pass.number());
+        running::halt(&self.object, rt, pass, note, misuse);
     }
 
     /// The misuse of the journal's first halt, and `None` exactly where there is none. It takes all passes, so that no
@@ -42,6 +38,9 @@ impl<N: Note> Mutex<N> {
             × IsWhole next true (λ event reply. releases reply) (λ event reply. acquires reply) (mutex_start self.now) journal passes.old
             × IsWhole next true (λ event reply. releases reply) (λ event reply. acquires reply) (mutex_start self.now) journal passes.new }
         ensures seen { (journal : MutexJournal) × IsSeen next true (λ event reply. releases reply) (λ event reply. acquires reply) (mutex_start self.now) journal passes.new }
+        ensures one_journal { (journal : MutexJournal) × (result ≡ halt_of journal)
+            × IsWhole next true (λ event reply. releases reply) (λ event reply. acquires reply) (mutex_start self.now) journal passes.old
+            × IsSeen next true (λ event reply. releases reply) (λ event reply. acquires reply) (mutex_start self.now) journal passes.new }
     {
         self.object.first_halt(passes)
     }

@@ -10,10 +10,10 @@ ghost use Rattle.go_locks.specs.Calls.{Did};
 ghost use Rattle.go_locks.specs.Mutexes.{mutex_start, IsHomeOfMutex, IsPassOfMutex};
 ghost use Rattle.go_locks.specs.MutexCalls.{Locks, Unlocks, AreClocked};
 
-use super::events::{has_mutex, unlocked};
 use super::{Mutex, MutexPass};
-use mutex_core::{MutexCore, MutexEvent};
-use ruled_object::laws::{growth, notes_are_kept};
+use crate::answers::{locked, unlocked};
+use protocols::MutexStage;
+use running::call_within;
 use std::sync::Wait;
 use sync_model::{Answer, Misuse, Note};
 use sync_outside::{At, Clock};
@@ -43,18 +43,7 @@ impl<N: Note> Mutex<N> {
         ensures halted { (misuse : Misuse) → result ≡ Halted misuse → N.front note.new ≡ N.front note.old }
         ensures journal { IsLawful next true (λ event reply. releases reply) (λ event reply. acquires reply) (mutex_start self.now) pass.new }
     {
-        growth::<MutexCore, N>();
-        notes_are_kept::<N>();
-        let now = at.clock.now();
-        match self.event(rt, at.home, pass, note, MutexEvent::Arrive { now }) {
-            Answer::Halted(misuse) => Answer::Halted(misuse),
-            Answer::Done(reply) => {
-                if has_mutex(&reply) {
-                    return Answer::Done(());
-                }
-                self.wait(rt, at, pass, note)
-            }
-        }
+        locked(call_within(&self.object, rt, at, pass, note, MutexStage::Lock))
     }
 
     /// The event of `unlock`, and its answer. It takes nothing off the calls that are left.
@@ -73,10 +62,6 @@ impl<N: Note> Mutex<N> {
         ensures no_edge { N.front note.new ≡ N.front note.old }
         ensures journal { IsLawful next true (λ event reply. releases reply) (λ event reply. acquires reply) (mutex_start self.now) pass.new }
     {
-        growth::<MutexCore, N>();
-        match self.event(rt, at.home, pass, note, MutexEvent::Unlock) {
-            Answer::Halted(misuse) => Answer::Halted(misuse),
-            Answer::Done(reply) => Answer::Done(unlocked(reply)),
-        }
+        unlocked(call_within(&self.object, rt, at, pass, note, MutexStage::Unlock))
     }
 }

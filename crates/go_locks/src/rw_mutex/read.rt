@@ -1,22 +1,20 @@
 //! A reader's calls of a running reader/writer lock.
-ghost use Rattle.std.specs.Prelude.{◌≡◌, ◌≢◌, ◌<◌, ℕ, List, true};
+ghost use Rattle.std.specs.Prelude.{◌≡◌, ◌≢◌, ◌<◌, true};
 ghost use Rattle.sync_model.specs.declared.misuse.Misuse.{Misuse};
 ghost use Rattle.sync_model.specs.declared.answer.Answer.TheVariants.{Done, Halted};
 ghost use Rattle.rw_core.specs.declared.event.RwEvent.{RwEvent};
-ghost use Rattle.rw_core.specs.declared.reply.RwReply.{RwReply};
 ghost use Rattle.rw_core.specs.Edges.{acquires, releases};
-ghost use Rattle.rw_core.specs.RwMachine.{State, next};
-ghost use Rattle.ruled_object.specs.declared.pass.Pass.{Pass};
-ghost use Rattle.ruled_object.specs.Growth.{Placed, deeds_of, Grows, IsLawful, KeepsNote};
-ghost use Rattle.ruled_object.specs.Passes.{left_of, IsOneLess, IsPassOf, SamePass};
+ghost use Rattle.rw_core.specs.RwMachine.{next};
+ghost use Rattle.ruled_object.specs.Growth.{IsLawful, KeepsNote};
+ghost use Rattle.ruled_object.specs.Passes.{left_of, IsOneLess};
 ghost use Rattle.go_locks.specs.Calls.{Did};
 ghost use Rattle.go_locks.specs.RwMutexes.{rw_start, IsHomeOfRwMutex, IsPassOfRwMutex};
-ghost use Rattle.go_locks.specs.RwCalls.{ReadWaits, ReadLocks, Tries, Unlocks, AreClocked};
+ghost use Rattle.go_locks.specs.RwCalls.{ReadLocks, Tries, Unlocks, AreClocked};
 
-use super::events::{has_lock, unlocked};
 use super::{RwMutex, RwPass};
-use ruled_object::laws::notes_are_kept;
-use rw_core::RwEvent;
+use crate::answers::{locked, tried, unlocked};
+use protocols::RwMutexStage;
+use running::call;
 use std::sync::Wait;
 use sync_model::{Answer, Misuse, Note};
 use sync_outside::{At, Clock};
@@ -42,51 +40,7 @@ impl<N: Note> RwMutex<N> {
         ensures halted { (misuse : Misuse) → result ≡ Halted misuse → N.front note.new ≡ N.front note.old }
         ensures journal { IsLawful next true (λ event reply. releases reply) (λ event reply. acquires reply) (rw_start self.now) pass.new }
     {
-        notes_are_kept::<N>();
-        self.object.spend(pass);
-        match self.event(rt, at.home, pass, note, RwEvent::ReadArrive) {
-            Answer::Halted(misuse) => Answer::Halted(misuse),
-            Answer::Done(reply) => {
-                if has_lock(&reply) {
-                    return Answer::Done(());
-                }
-                self.wait_to_read(rt, at, pass, note)
-            }
-        }
-    }
-
-    // Sleeps until a writer's unlock admits the caller. What this adds ends the `r_lock` that its caller has begun.
-    fn wait_to_read<C: Clock, R: Wait>(
-        &self,
-        rt: &R,
-        at: &At<N, C>,
-        pass: &mut RwPass<N>,
-        note: &mut N,
-    ) -> Answer<()>
-        requires pass { IsPassOf self.now.object pass.old }
-        requires home { IsHomeOfRwMutex N.at self.now at.now.home.now × N.at at.now.home.now note.old }
-        ensures pass { IsPassOf self.now.object pass.new × SamePass pass.old pass.new }
-        ensures note { KeepsNote N.at N.own N.front note.old note.new }
-        ensures events { (first : Pass State N RwEvent RwReply) (from : List ℕ) (es : List (Placed RwEvent RwReply))
-            → Grows next true (rw_start self.now) first from es pass.old (N.front note.old)
-            → ReadWaits (deeds_of es) → AreClocked (C.shows at.now.clock.now) (deeds_of es)
-            → Did next (rw_start self.now) ReadLocks (AreClocked (C.shows at.now.clock.now)) first from result pass.new (N.front note.new) }
-        ensures halted { (misuse : Misuse) → result ≡ Halted misuse → N.front note.new ≡ N.front note.old }
-        ensures journal { IsLawful next true (λ event reply. releases reply) (λ event reply. acquires reply) (rw_start self.now) pass.new }
-    {
-        notes_are_kept::<N>();
-        for _ in rt.forever() {
-            self.object.park(rt, pass);
-            match self.event(rt, at.home, pass, note, RwEvent::Leave) {
-                Answer::Halted(misuse) => return Answer::Halted(misuse),
-                Answer::Done(reply) => {
-                    if has_lock(&reply) {
-                        return Answer::Done(());
-                    }
-                }
-            }
-        }
-        unreachable!()
+        locked(call(&self.object, rt, at, pass, note, RwMutexStage::RLock))
     }
 
     /// Go's `TryRLock`: whether the caller holds the lock, which it does where no writer holds it or waits.
@@ -106,11 +60,7 @@ impl<N: Note> RwMutex<N> {
         ensures no_edge { result ≢ Done true → N.front note.new ≡ N.front note.old }
         ensures journal { IsLawful next true (λ event reply. releases reply) (λ event reply. acquires reply) (rw_start self.now) pass.new }
     {
-        self.object.spend(pass);
-        match self.event(rt, at.home, pass, note, RwEvent::ReadTry) {
-            Answer::Halted(misuse) => Answer::Halted(misuse),
-            Answer::Done(reply) => Answer::Done(has_lock(&reply)),
-        }
+        tried(call(&self.object, rt, at, pass, note, RwMutexStage::TryRLock))
     }
 
     /// Go's `RUnlock`, by whichever caller. A lock that no reader holds stays as it is: that is a misuse.
@@ -132,10 +82,6 @@ impl<N: Note> RwMutex<N> {
         ensures no_edge { N.front note.new ≡ N.front note.old }
         ensures journal { IsLawful next true (λ event reply. releases reply) (λ event reply. acquires reply) (rw_start self.now) pass.new }
     {
-        self.object.spend(pass);
-        match self.event(rt, at.home, pass, note, RwEvent::ReadUnlock) {
-            Answer::Halted(misuse) => Answer::Halted(misuse),
-            Answer::Done(reply) => Answer::Done(unlocked(reply)),
-        }
+        unlocked(call(&self.object, rt, at, pass, note, RwMutexStage::RUnlock))
     }
 }

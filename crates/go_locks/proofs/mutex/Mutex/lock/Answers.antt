@@ -1,28 +1,21 @@
-use Rattle.std.proofs.Common.{ap, [], ◌+◌, ◌∙◌, ℕ, false}
-use Rattle.mutex_core.specs.Standing.{waits_after}
-use Rattle.go_locks.specs.Calls.{waits_by}
+use Rattle.std.proofs.Common.{refl, sym, ◌∙◌}
+use Rattle.protocols.specs.declared.mutex.MutexStage.TheVariants as stage
+use Rattle.protocols.specs.MutexStages.{mutex_gains}
+use Rattle.ruled_object.specs.Passes.{own_by}
 use Rattle.go_locks.specs.Mutexes.{mutex_start}
+use Rattle.go_locks.proofs.CallSpelling.{lock_halted}
+use Rattle.go_locks.proofs.MutexSpelling.{lock_did, may_begin, between}
 use Rattle.go_locks.proofs.mutex.Mutex.lock.Goals as goal
 
-pub lock_within-requires-clause-pass : goal.lock_within-requires-clause-pass
-lock_within-requires-clause-pass g c = record { of = c.spend.ensures.pass.0; free = ap (waits_by waits_after false) c.spend.ensures.own ∙ c.requires.pass.free }
+pub call-requires-clause-allowed : goal.call-requires-clause-allowed
+call-requires-clause-allowed g c = may_begin c.args.self.now (own_by c.args.pass.now) stage.Lock refl c.requires.pass.free
 
 pub returns-clause-pass : goal.returns-clause-pass
-returns-clause-pass g c =
-    let spent = c.spend.ensures.less in
-    let after = c.lock_within.ensures.pass in
-    (after.0, (after.1.0 ∙ spent.0, ap (λ (n : ℕ). n + 1) after.1.1 ∙ spent.1))
+returns-clause-pass g c = (between c.args.self.now c.call.new.pass c.call.result c.call.ensures.pass.0 c.call.ensures.stands, c.call.ensures.pass.1)
 
 pub returns-clause-events : goal.returns-clause-events
 returns-clause-events g c =
-    let start = mutex_start c.args.self.now in
-    let from = g.N.Note.front c.args.note.now in
-    let to = g.N.Note.front c.lock_within.new.note in
-    let did = c.lock_within.ensures.events in
-    record {
-      entries = did.entries;
-      grows = c.growth.ensures.both start c.args.pass.now c.spend.new.pass c.lock_within.new.pass [] did.entries from from to (c.spend.ensures.nothing start from) did.grows;
-      spelt = did.spelt;
-      halted = did.halted;
-      moments = did.moments;
-    }
+    lock_did (mutex_start c.args.self.now) (g.C.Clock.shows c.args.at.now.clock.now) c.args.pass.now c.call.new.pass (g.N.Note.front c.args.note.now) (g.N.Note.front c.call.new.note) c.call.result c.locked.result c.locked.ensures c.call.ensures.events
+
+pub returns-clause-halted : goal.returns-clause-halted
+returns-clause-halted g c misuse is = c.call.ensures.no_edge (lock_halted (mutex_gains stage.Lock) c.call.result misuse (sym c.locked.ensures ∙ is))

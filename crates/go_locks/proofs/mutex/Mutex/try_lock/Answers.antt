@@ -1,82 +1,19 @@
-use Rattle.std.proofs.Common.{◌≡◌, ap, sym, subst, ◌∙◌, [], ◌∷◌, refl, false}
-use Rattle.sync_model.specs.declared.answer.Answer.TheVariants.{Done}
-use Rattle.sync_model.specs.declared.journal.Deed.TheVariants.{Event, Refused}
-use Rattle.mutex_core.specs.declared.event.MutexEvent.TheVariants.{Try}
-use Rattle.mutex_core.specs.declared.reply.MutexReply.TheVariants.{Tried}
-use Rattle.mutex_core.specs.Edges.{acquires}
-use Rattle.mutex_core.specs.MutexMachine.{next}
-use Rattle.mutex_core.specs.Standing.{waits_after}
-use Rattle.ruled_object.specs.Cells.{deed_of}
-use Rattle.ruled_object.specs.Growth.{MeetsHalt}
-use Rattle.go_locks.specs.Calls.{waits_by}
-use Rattle.go_locks.specs.MutexCalls.{Tries, AreClocked, tried, refused}
+use Rattle.std.proofs.Common.{refl, ◌∙◌}
+use Rattle.protocols.specs.declared.mutex.MutexStage.TheVariants as stage
+use Rattle.ruled_object.specs.Passes.{own_by}
 use Rattle.go_locks.specs.Mutexes.{mutex_start}
-use Rattle.go_locks.proofs.Spelling.{did_one, free_one, fails_by}
-use Rattle.go_locks.proofs.MutexCalls.{tried_is, pass_after}
+use Rattle.go_locks.proofs.MutexSpelling.{try_did, may_begin, between, try_fails}
 use Rattle.go_locks.proofs.mutex.Mutex.try_lock.Goals as goal
 
-pub returns-in-Halted-clause-pass : goal.returns-in-Halted-clause-pass
-returns-in-Halted-clause-pass g c =
-    let mutex = c.args.self.now in
-    let start = mutex_start mutex in
-    let old = c.args.pass.now in
-    let new = c.event.new.pass in
-    let from = g.N.Note.front c.args.note.now in
-    let to = g.N.Note.front c.event.new.note in
-    let entry = c.event.ensures.entry in
-    let grows = (entry.3 old from [] (c.spend.ensures.nothing start from)).0 in
-    let deed = entry.2 ∙ ap (deed_of Try) c.in-Halted.is in
-    let free = free_one next start waits_after old new from to entry.0 (Refused Try c.in-Halted.misuse) deed grows c.requires.pass.free refl in
-    pass_after mutex old c.spend.new.pass new c.spend.ensures.less c.event.ensures.pass.0 c.event.ensures.pass.1 free
+pub call-requires-clause-allowed : goal.call-requires-clause-allowed
+call-requires-clause-allowed g c = may_begin c.args.self.now (own_by c.args.pass.now) stage.TryLock refl c.requires.pass.free
 
-pub returns-in-Halted-clause-events : goal.returns-in-Halted-clause-events
-returns-in-Halted-clause-events g c =
-    let mutex = c.args.self.now in
-    let start = mutex_start mutex in
-    let old = c.args.pass.now in
-    let new = c.event.new.pass in
-    let from = g.N.Note.front c.args.note.now in
-    let to = g.N.Note.front c.event.new.note in
-    let entry = c.event.ensures.entry in
-    let grown = entry.3 old from [] (c.spend.ensures.nothing start from) in
-    let deed = entry.2 ∙ ap (deed_of Try) c.in-Halted.is in
-    did_one next start Tries (AreClocked (g.C.Clock.shows c.args.at.now.clock.now)) old new from to _ entry.0 (Refused Try c.in-Halted.misuse) deed grown.0 (refused c.in-Halted.misuse) (subst (MeetsHalt (entry.0 ∷ [])) c.in-Halted.is grown.1) (tt, tt)
+pub returns-clause-pass : goal.returns-clause-pass
+returns-clause-pass g c = (between c.args.self.now c.call.new.pass c.call.result c.call.ensures.pass.0 c.call.ensures.stands, c.call.ensures.pass.1)
 
-pub returns-in-Done-clause-pass : goal.returns-in-Done-clause-pass
-returns-in-Done-clause-pass g c =
-    let mutex = c.args.self.now in
-    let start = mutex_start mutex in
-    let old = c.args.pass.now in
-    let new = c.event.new.pass in
-    let from = g.N.Note.front c.args.note.now in
-    let to = g.N.Note.front c.event.new.note in
-    let entry = c.event.ensures.entry in
-    let grows = (entry.3 old from [] (c.spend.ensures.nothing start from)).0 in
-    let reply = c.in-Done.reply in
-    let is = tried_is reply (c.event.ensures.out reply c.in-Done.is (ap (waits_by waits_after false) c.spend.ensures.own ∙ c.requires.pass.free) refl) in
-    let deed = entry.2 ∙ (ap (deed_of Try) c.in-Done.is ∙ ap (Event Try) is.1) in
-    let free = free_one next start waits_after old new from to entry.0 (Event Try (Tried is.0)) deed grows c.requires.pass.free refl in
-    pass_after mutex old c.spend.new.pass new c.spend.ensures.less c.event.ensures.pass.0 c.event.ensures.pass.1 free
+pub returns-clause-events : goal.returns-clause-events
+returns-clause-events g c =
+    try_did (mutex_start c.args.self.now) (g.C.Clock.shows c.args.at.now.clock.now) c.args.pass.now c.call.new.pass (g.N.Note.front c.args.note.now) (g.N.Note.front c.call.new.note) c.call.result c.tried.result c.tried.ensures c.call.ensures.events
 
-pub returns-in-Done-clause-events : goal.returns-in-Done-clause-events
-returns-in-Done-clause-events g c =
-    let mutex = c.args.self.now in
-    let start = mutex_start mutex in
-    let old = c.args.pass.now in
-    let new = c.event.new.pass in
-    let from = g.N.Note.front c.args.note.now in
-    let to = g.N.Note.front c.event.new.note in
-    let entry = c.event.ensures.entry in
-    let grown = entry.3 old from [] (c.spend.ensures.nothing start from) in
-    let reply = c.in-Done.reply in
-    let is = tried_is reply (c.event.ensures.out reply c.in-Done.is (ap (waits_by waits_after false) c.spend.ensures.own ∙ c.requires.pass.free) refl) in
-    let deed = entry.2 ∙ (ap (deed_of Try) c.in-Done.is ∙ ap (Event Try) is.1) in
-    let answer : c.has_mutex.result ≡ is.0 = c.has_mutex.ensures ∙ ap acquires is.1 in
-    did_one next start Tries (AreClocked (g.C.Clock.shows c.args.at.now.clock.now)) old new from to _ entry.0 (Event Try (Tried is.0)) deed grown.0
-    (subst (λ b. Tries (Event Try (Tried is.0) ∷ []) (Done b)) (sym answer) (tried is.0)) (subst (MeetsHalt (entry.0 ∷ [])) c.in-Done.is grown.1) (tt, tt)
-
-pub returns-in-Halted-clause-no_edge : goal.returns-in-Halted-clause-no_edge
-returns-in-Halted-clause-no_edge g c fails = c.event.ensures.halted c.in-Halted.misuse c.in-Halted.is
-
-pub returns-in-Done-clause-no_edge : goal.returns-in-Done-clause-no_edge
-returns-in-Done-clause-no_edge g c fails = c.event.ensures.no_edge c.in-Done.reply c.in-Done.is (sym c.has_mutex.ensures ∙ fails_by c.has_mutex.result fails)
+pub returns-clause-no_edge : goal.returns-clause-no_edge
+returns-clause-no_edge g c fails = c.call.ensures.no_edge (try_fails c.call.result (λ is. fails (c.tried.ensures ∙ is)))

@@ -1,84 +1,19 @@
-use Rattle.std.proofs.Common.{◌≡◌, ap, sym, subst, ◌∙◌, [], ◌∷◌, refl}
-use Rattle.sync_model.specs.declared.answer.Answer.TheVariants.{Done}
-use Rattle.sync_model.specs.declared.journal.Deed.TheVariants.{Event, Refused}
-use Rattle.mutex_core.specs.declared.event.MutexEvent.TheVariants.{Unlock}
-use Rattle.mutex_core.specs.declared.reply.MutexReply.TheVariants.{Unlocked}
-use Rattle.mutex_core.specs.Edges.{acquires}
-use Rattle.mutex_core.specs.MutexMachine.{next}
-use Rattle.mutex_core.specs.Standing.{waits_after}
-use Rattle.ruled_object.specs.Cells.{deed_of}
-use Rattle.ruled_object.specs.Growth.{MeetsHalt}
-use Rattle.go_locks.specs.MutexCalls.{Unlocks, AreClocked, answer_of, unlocked, refused}
+use Rattle.std.proofs.Common.{refl}
+use Rattle.protocols.specs.declared.mutex.MutexStage.TheVariants as stage
+use Rattle.ruled_object.specs.Passes.{own_by}
 use Rattle.go_locks.specs.Mutexes.{mutex_start}
-use Rattle.go_locks.proofs.Spelling.{did_one, free_one}
-use Rattle.go_locks.proofs.MutexCalls.{unlocked_is}
+use Rattle.go_locks.proofs.MutexSpelling.{unlock_did, may_begin, between, unlock_gains}
 use Rattle.go_locks.proofs.mutex.Mutex.unlock_within.Goals as goal
 
-pub returns-in-Halted-clause-pass : goal.returns-in-Halted-clause-pass
-returns-in-Halted-clause-pass g c =
-    let mutex = c.args.self.now in
-    let start = mutex_start mutex in
-    let old = c.args.pass.now in
-    let new = c.event.new.pass in
-    let from = g.N.Note.front c.args.note.now in
-    let to = g.N.Note.front c.event.new.note in
-    let entry = c.event.ensures.entry in
-    let grows = (entry.3 old from [] (c.growth.ensures.nothing start old from)).0 in
-    let deed = entry.2 ∙ ap (deed_of Unlock) c.in-Halted.is in
-    let free = free_one next start waits_after old new from to entry.0 (Refused Unlock c.in-Halted.misuse) deed grows c.requires.pass.free refl in
-    (record { of = c.event.ensures.pass.0; free = free }, c.event.ensures.pass.1)
+pub call_within-requires-clause-allowed : goal.call_within-requires-clause-allowed
+call_within-requires-clause-allowed g c = may_begin c.args.self.now (own_by c.args.pass.now) stage.Unlock refl c.requires.pass.free
 
-pub returns-in-Halted-clause-events : goal.returns-in-Halted-clause-events
-returns-in-Halted-clause-events g c =
-    let mutex = c.args.self.now in
-    let start = mutex_start mutex in
-    let old = c.args.pass.now in
-    let new = c.event.new.pass in
-    let from = g.N.Note.front c.args.note.now in
-    let to = g.N.Note.front c.event.new.note in
-    let entry = c.event.ensures.entry in
-    let grown = entry.3 old from [] (c.growth.ensures.nothing start old from) in
-    let deed = entry.2 ∙ ap (deed_of Unlock) c.in-Halted.is in
-    did_one next start Unlocks (AreClocked (g.C.Clock.shows c.args.at.now.clock.now)) old new from to _ entry.0 (Refused Unlock c.in-Halted.misuse) deed grown.0 (refused c.in-Halted.misuse) (subst (MeetsHalt (entry.0 ∷ [])) c.in-Halted.is grown.1) (tt, tt)
+pub returns-clause-pass : goal.returns-clause-pass
+returns-clause-pass g c = (between c.args.self.now c.call_within.new.pass c.call_within.result c.call_within.ensures.pass.0 c.call_within.ensures.stands, c.call_within.ensures.pass.1)
 
-pub returns-in-Done-clause-pass : goal.returns-in-Done-clause-pass
-returns-in-Done-clause-pass g c =
-    let mutex = c.args.self.now in
-    let start = mutex_start mutex in
-    let old = c.args.pass.now in
-    let new = c.event.new.pass in
-    let from = g.N.Note.front c.args.note.now in
-    let to = g.N.Note.front c.event.new.note in
-    let entry = c.event.ensures.entry in
-    let grows = (entry.3 old from [] (c.growth.ensures.nothing start old from)).0 in
-    let reply = c.in-Done.reply in
-    let is = unlocked_is reply (c.event.ensures.out reply c.in-Done.is c.requires.pass.free refl) in
-    let deed = entry.2 ∙ (ap (deed_of Unlock) c.in-Done.is ∙ ap (Event Unlock) is.1) in
-    let free = free_one next start waits_after old new from to entry.0 (Event Unlock (Unlocked is.0)) deed grows c.requires.pass.free refl in
-    (record { of = c.event.ensures.pass.0; free = free }, c.event.ensures.pass.1)
+pub returns-clause-events : goal.returns-clause-events
+returns-clause-events g c =
+    unlock_did (mutex_start c.args.self.now) (g.C.Clock.shows c.args.at.now.clock.now) c.args.pass.now c.call_within.new.pass (g.N.Note.front c.args.note.now) (g.N.Note.front c.call_within.new.note) c.call_within.result c.unlocked.result c.unlocked.ensures c.call_within.ensures.events
 
-pub returns-in-Done-clause-events : goal.returns-in-Done-clause-events
-returns-in-Done-clause-events g c =
-    let mutex = c.args.self.now in
-    let start = mutex_start mutex in
-    let old = c.args.pass.now in
-    let new = c.event.new.pass in
-    let from = g.N.Note.front c.args.note.now in
-    let to = g.N.Note.front c.event.new.note in
-    let entry = c.event.ensures.entry in
-    let grown = entry.3 old from [] (c.growth.ensures.nothing start old from) in
-    let reply = c.in-Done.reply in
-    let is = unlocked_is reply (c.event.ensures.out reply c.in-Done.is c.requires.pass.free refl) in
-    let deed = entry.2 ∙ (ap (deed_of Unlock) c.in-Done.is ∙ ap (Event Unlock) is.1) in
-    let answer : c.unlocked.result ≡ answer_of is.0 = c.unlocked.ensures is.0 is.1 in
-    did_one next start Unlocks (AreClocked (g.C.Clock.shows c.args.at.now.clock.now)) old new from to _ entry.0 (Event Unlock (Unlocked is.0)) deed grown.0
-    (subst (λ r. Unlocks (Event Unlock (Unlocked is.0) ∷ []) (Done r)) (sym answer) (unlocked is.0)) (subst (MeetsHalt (entry.0 ∷ [])) c.in-Done.is grown.1) (tt, tt)
-
-pub returns-in-Halted-clause-no_edge : goal.returns-in-Halted-clause-no_edge
-returns-in-Halted-clause-no_edge g c = c.event.ensures.halted c.in-Halted.misuse c.in-Halted.is
-
-pub returns-in-Done-clause-no_edge : goal.returns-in-Done-clause-no_edge
-returns-in-Done-clause-no_edge g c =
-    let reply = c.in-Done.reply in
-    let is = unlocked_is reply (c.event.ensures.out reply c.in-Done.is c.requires.pass.free refl) in
-    c.event.ensures.no_edge reply c.in-Done.is (ap acquires is.1)
+pub returns-clause-no_edge : goal.returns-clause-no_edge
+returns-clause-no_edge g c = c.call_within.ensures.no_edge (unlock_gains c.call_within.result)

@@ -1,0 +1,254 @@
+-- The spelling of a reader/writer mutex's protocol, in the words of this crate.
+use Rattle.std.proofs.Common.{◌≡◌, ◌≢◌, ℕ, Bool, true, false, List, [], ◌∷◌, ◌++◌, Result, Ok, Err, refl, sym, subst, ◌∙◌}
+use Rattle.std.specs.Prelude.{if◌then◌else◌}
+use Rattle.std.proofs.lemmas.List.{append_assoc}
+use Rattle.sync_model.specs.declared.misuse.Misuse.{Misuse}
+use Rattle.sync_model.specs.declared.answer.Answer.{Answer}
+use Rattle.sync_model.specs.declared.answer.Answer.TheVariants.{Done, Halted}
+use Rattle.sync_model.specs.declared.journal.Deed.TheVariants.{Event, Refused, Halt}
+use Rattle.sync_model.specs.declared.journal.Entry.{Entry}
+use Rattle.sync_model.specs.declared.lock_call.LockReply.{LockReply}
+use Rattle.sync_model.specs.declared.lock_call.LockReply.TheVariants as outcome
+use Rattle.rw_core.specs.declared.event.RwEvent.{RwEvent}
+use Rattle.rw_core.specs.declared.event.RwEvent.TheVariants.{ReadArrive, ReadTry, ReadUnlock, WriteArrive, WriteTry, WriteWoken, WriteUnlock, Leave}
+use Rattle.rw_core.specs.declared.reply.RwReply.{RwReply}
+use Rattle.rw_core.specs.declared.reply.RwReply.TheVariants.{Arrived, Tried, Unlocked, Resumed, Left, Still}
+use Rattle.rw_core.specs.declared.reply.Arrival.TheVariants.{Acquired as AtOnce, Queued}
+use Rattle.rw_core.specs.declared.reply.Resumption.TheVariants.{Acquired, Queued as Announced, Requeued}
+use Rattle.rw_core.specs.declared.reply.Unlocking.{Unlocking}
+use Rattle.rw_core.specs.declared.reply.Unlocking.TheVariants.{Done as IsDone, Misuse as IsMisuse}
+use Rattle.rw_core.specs.RwMachine.{State, next}
+use Rattle.rw_core.specs.Standing.{waits_after}
+use Rattle.ruled_object.specs.declared.pass.Pass.{Pass}
+use Rattle.ruled_object.specs.Growth.{Placed, MeetsHalt}
+use Rattle.ruled_object.specs.Passes.{own_by, IsPassOf}
+use Rattle.ruled_object.specs.Standing.{stand_by}
+use Rattle.protocols.specs.declared.rw_mutex.RwMutexStage.{RwMutexStage}
+use Rattle.protocols.specs.declared.rw_mutex.RwMutexStage.TheVariants as stage
+use Rattle.protocols.specs.RwMutexStages.{rw_event, rw_moment, rw_meaning, rw_stands, rw_allows, try_meaning, unlock_meaning, has_taken}
+use Rattle.protocols.specs.Spelling.{CallAnswer, Rest, Spells, AreTimely}
+use Rattle.running.specs.Calls as running
+use Rattle.go_locks.specs.declared.rw_mutex.RwMutex.{RwMutex}
+use Rattle.go_locks.specs.Calls.{Did, waits_by}
+use Rattle.go_locks.specs.MutexAnswers.{lock_answer, try_answer, unlock_answer}
+use Rattle.go_locks.specs.RwCalls.{RwDeed, WriteWaits, queued, requeued, announced, unwoken, ungranted, WriteLocks, at_once, refused, acquired, granted, halted_woken, halted_leaving, ReadWaits, unadmitted, ReadLocks, admitted, halted, Tries, tried, Unlocks, unlocked, answer_of, AreClocked}
+use Rattle.go_locks.specs.RwMutexes.{rw_start, IsPassOfRwMutex}
+use Rattle.go_locks.proofs.CallSpelling.{did_as, lock_meets, try_meets, unlock_meets}
+
+-- the only deed of a call, or its last one, and its answer
+last : {A : Type 0} (P : List RwDeed → Answer A → Type 0) (f : CallAnswer LockReply → Answer A) (earlier : List RwDeed) (made : RwDeed) (rest : List RwDeed) (answer given : CallAnswer LockReply) → rest ≡ [] → answer ≡ given → P (earlier ++ made ∷ []) (f given) → P (earlier ++ made ∷ rest) (f answer)
+last P f earlier made rest answer given none is holds = subst (λ (r : List RwDeed). P (earlier ++ made ∷ r) (f answer)) (sym none) (subst (λ (a : CallAnswer LockReply). P (earlier ++ made ∷ []) (f a)) (sym is) holds)
+
+-- a writer that waits, whose next stage goes on at the inner mutex, or leaves
+writes : (waited : List RwDeed) → WriteWaits waited → (leaving : Bool) (deeds : List RwDeed) (answer : CallAnswer LockReply) → Spells rw_event rw_meaning (if leaving then stage.LeaveWriting else stage.Resume) deeds answer → WriteLocks (waited ++ deeds) (lock_answer answer)
+writes waited waits true [] answer spelt = absurd spelt
+writes waited waits false [] answer spelt = absurd spelt
+writes waited waits false (Event e (Resumed Acquired) ∷ rest) answer (of, ends) =
+    subst (λ (x : RwEvent). WriteLocks (waited ++ Event x (Resumed Acquired) ∷ rest) (lock_answer answer)) (sym of.1)
+    (last WriteLocks lock_answer waited (Event (WriteWoken of.0) (Resumed Acquired)) rest answer (Done (Ok outcome.Done)) ends.0 ends.1 (acquired waited of.0 waits))
+writes waited waits false (Event e (Resumed Announced) ∷ rest) answer (of, on) =
+    subst (λ (x : RwEvent). WriteLocks (waited ++ Event x (Resumed Announced) ∷ rest) (lock_answer answer)) (sym of.1)
+    (subst (λ (ds : List RwDeed). WriteLocks ds (lock_answer answer)) (append_assoc waited (Event (WriteWoken of.0) (Resumed Announced) ∷ []) rest) (writes (waited ++ Event (WriteWoken of.0) (Resumed Announced) ∷ []) (announced waited of.0 waits) false rest answer on))
+writes waited waits false (Event e (Resumed Requeued) ∷ rest) answer (of, on) =
+    subst (λ (x : RwEvent). WriteLocks (waited ++ Event x (Resumed Requeued) ∷ rest) (lock_answer answer)) (sym of.1)
+    (subst (λ (ds : List RwDeed). WriteLocks ds (lock_answer answer)) (append_assoc waited (Event (WriteWoken of.0) (Resumed Requeued) ∷ []) rest) (writes (waited ++ Event (WriteWoken of.0) (Resumed Requeued) ∷ []) (requeued waited of.0 waits) false rest answer on))
+writes waited waits false (Event e Still ∷ rest) answer (of, on) =
+    subst (λ (x : RwEvent). WriteLocks (waited ++ Event x Still ∷ rest) (lock_answer answer)) (sym of.1)
+    (subst (λ (ds : List RwDeed). WriteLocks ds (lock_answer answer)) (append_assoc waited (Event (WriteWoken of.0) Still ∷ []) rest) (writes (waited ++ Event (WriteWoken of.0) Still ∷ []) (unwoken waited of.0 waits) true rest answer on))
+writes waited waits false (Event e (Arrived _) ∷ rest) answer (of, on) = absurd on
+writes waited waits false (Event e (Tried _) ∷ rest) answer (of, on) = absurd on
+writes waited waits false (Event e (Unlocked _) ∷ rest) answer (of, on) = absurd on
+writes waited waits false (Event e Left ∷ rest) answer (of, on) = absurd on
+writes waited waits false (Refused e m ∷ rest) answer (of, none, is) =
+    subst (λ (x : RwEvent). WriteLocks (waited ++ Refused x m ∷ rest) (lock_answer answer)) (sym of.1) (last WriteLocks lock_answer waited (Refused (WriteWoken of.0) m) rest answer (Halted m) none is (halted_woken waited of.0 m waits))
+writes waited waits true (Event e Left ∷ rest) answer (of, ends) =
+    subst (λ (x : RwEvent). WriteLocks (waited ++ Event x Left ∷ rest) (lock_answer answer)) (sym of.1) (last WriteLocks lock_answer waited (Event Leave Left) rest answer (Done (Ok outcome.Done)) ends.0 ends.1 (granted waited waits))
+writes waited waits true (Event e Still ∷ rest) answer (of, on) =
+    subst (λ (x : RwEvent). WriteLocks (waited ++ Event x Still ∷ rest) (lock_answer answer)) (sym of.1)
+    (subst (λ (ds : List RwDeed). WriteLocks ds (lock_answer answer)) (append_assoc waited (Event Leave Still ∷ []) rest) (writes (waited ++ Event Leave Still ∷ []) (ungranted waited waits) false rest answer on))
+writes waited waits true (Event e (Arrived _) ∷ rest) answer (of, on) = absurd on
+writes waited waits true (Event e (Tried _) ∷ rest) answer (of, on) = absurd on
+writes waited waits true (Event e (Unlocked _) ∷ rest) answer (of, on) = absurd on
+writes waited waits true (Event e (Resumed _) ∷ rest) answer (of, on) = absurd on
+writes waited waits true (Refused e m ∷ rest) answer (of, none, is) =
+    subst (λ (x : RwEvent). WriteLocks (waited ++ Refused x m ∷ rest) (lock_answer answer)) (sym of.1) (last WriteLocks lock_answer waited (Refused Leave m) rest answer (Halted m) none is (halted_leaving waited m waits))
+writes waited waits true (Halt m ∷ rest) answer spelt = absurd spelt
+writes waited waits false (Halt m ∷ rest) answer spelt = absurd spelt
+
+write_locks_by : (deeds : List RwDeed) (answer : CallAnswer LockReply) → Spells rw_event rw_meaning stage.Lock deeds answer → WriteLocks deeds (lock_answer answer)
+write_locks_by [] answer spelt = absurd spelt
+write_locks_by (Event e (Arrived AtOnce) ∷ rest) answer (of, ends) =
+    subst (λ (x : RwEvent). WriteLocks (Event x (Arrived AtOnce) ∷ rest) (lock_answer answer)) (sym of.1) (last WriteLocks lock_answer [] (Event (WriteArrive of.0) (Arrived AtOnce)) rest answer (Done (Ok outcome.Done)) ends.0 ends.1 (at_once of.0))
+write_locks_by (Event e (Arrived Queued) ∷ rest) answer (of, on) =
+    subst (λ (x : RwEvent). WriteLocks (Event x (Arrived Queued) ∷ rest) (lock_answer answer)) (sym of.1) (writes (Event (WriteArrive of.0) (Arrived Queued) ∷ []) (queued of.0) false rest answer on)
+write_locks_by (Event e (Tried _) ∷ rest) answer (of, on) = absurd on
+write_locks_by (Event e (Unlocked _) ∷ rest) answer (of, on) = absurd on
+write_locks_by (Event e (Resumed _) ∷ rest) answer (of, on) = absurd on
+write_locks_by (Event e Left ∷ rest) answer (of, on) = absurd on
+write_locks_by (Event e Still ∷ rest) answer (of, on) = absurd on
+write_locks_by (Refused e m ∷ rest) answer (of, none, is) =
+    subst (λ (x : RwEvent). WriteLocks (Refused x m ∷ rest) (lock_answer answer)) (sym of.1) (last WriteLocks lock_answer [] (Refused (WriteArrive of.0) m) rest answer (Halted m) none is (refused of.0 m))
+write_locks_by (Halt m ∷ rest) answer spelt = absurd spelt
+
+-- a reader that waits
+reads : (waited : List RwDeed) → ReadWaits waited → (deeds : List RwDeed) (answer : CallAnswer LockReply) → Spells rw_event rw_meaning stage.LeaveReading deeds answer → ReadLocks (waited ++ deeds) (lock_answer answer)
+reads waited waits [] answer spelt = absurd spelt
+reads waited waits (Event e Left ∷ rest) answer (of, ends) =
+    subst (λ (x : RwEvent). ReadLocks (waited ++ Event x Left ∷ rest) (lock_answer answer)) (sym of.1) (last ReadLocks lock_answer waited (Event Leave Left) rest answer (Done (Ok outcome.Done)) ends.0 ends.1 (admitted waited waits))
+reads waited waits (Event e Still ∷ rest) answer (of, on) =
+    subst (λ (x : RwEvent). ReadLocks (waited ++ Event x Still ∷ rest) (lock_answer answer)) (sym of.1)
+    (subst (λ (ds : List RwDeed). ReadLocks ds (lock_answer answer)) (append_assoc waited (Event Leave Still ∷ []) rest) (reads (waited ++ Event Leave Still ∷ []) (unadmitted waited waits) rest answer on))
+reads waited waits (Event e (Arrived _) ∷ rest) answer (of, on) = absurd on
+reads waited waits (Event e (Tried _) ∷ rest) answer (of, on) = absurd on
+reads waited waits (Event e (Unlocked _) ∷ rest) answer (of, on) = absurd on
+reads waited waits (Event e (Resumed _) ∷ rest) answer (of, on) = absurd on
+reads waited waits (Refused e m ∷ rest) answer (of, none, is) =
+    subst (λ (x : RwEvent). ReadLocks (waited ++ Refused x m ∷ rest) (lock_answer answer)) (sym of.1) (last ReadLocks lock_answer waited (Refused Leave m) rest answer (Halted m) none is (halted waited m waits))
+reads waited waits (Halt m ∷ rest) answer spelt = absurd spelt
+
+read_locks_by : (deeds : List RwDeed) (answer : CallAnswer LockReply) → Spells rw_event rw_meaning stage.RLock deeds answer → ReadLocks deeds (lock_answer answer)
+read_locks_by [] answer spelt = absurd spelt
+read_locks_by (Event e (Arrived AtOnce) ∷ rest) answer (of, ends) =
+    subst (λ (x : RwEvent). ReadLocks (Event x (Arrived AtOnce) ∷ rest) (lock_answer answer)) (sym of.1) (last ReadLocks lock_answer [] (Event ReadArrive (Arrived AtOnce)) rest answer (Done (Ok outcome.Done)) ends.0 ends.1 at_once)
+read_locks_by (Event e (Arrived Queued) ∷ rest) answer (of, on) =
+    subst (λ (x : RwEvent). ReadLocks (Event x (Arrived Queued) ∷ rest) (lock_answer answer)) (sym of.1) (reads (Event ReadArrive (Arrived Queued) ∷ []) queued rest answer on)
+read_locks_by (Event e (Tried _) ∷ rest) answer (of, on) = absurd on
+read_locks_by (Event e (Unlocked _) ∷ rest) answer (of, on) = absurd on
+read_locks_by (Event e (Resumed _) ∷ rest) answer (of, on) = absurd on
+read_locks_by (Event e Left ∷ rest) answer (of, on) = absurd on
+read_locks_by (Event e Still ∷ rest) answer (of, on) = absurd on
+read_locks_by (Refused e m ∷ rest) answer (of, none, is) =
+    subst (λ (x : RwEvent). ReadLocks (Refused x m ∷ rest) (lock_answer answer)) (sym of.1) (last ReadLocks lock_answer [] (Refused ReadArrive m) rest answer (Halted m) none is (refused m))
+read_locks_by (Halt m ∷ rest) answer spelt = absurd spelt
+
+-- a try, and an unlock: one such event
+tries_event : (event e : RwEvent) (r : RwReply) (rest : List RwDeed) (answer : CallAnswer LockReply) (on : RwMutexStage → Type 0) → e ≡ event → Rest (try_meaning r) rest on answer → Tries event (Event e r ∷ rest) (try_answer answer)
+tries_event event e (Tried b) rest answer on of ends =
+    subst (λ (x : RwEvent). Tries event (Event x (Tried b) ∷ rest) (try_answer answer)) (sym of) (last (Tries event) try_answer [] (Event event (Tried b)) rest answer (Done (Ok (outcome.Tried b))) ends.0 ends.1 (tried b))
+tries_event event e (Arrived _) rest answer on of ends = absurd ends
+tries_event event e (Unlocked _) rest answer on of ends = absurd ends
+tries_event event e (Resumed _) rest answer on of ends = absurd ends
+tries_event event e Left rest answer on of ends = absurd ends
+tries_event event e Still rest answer on of ends = absurd ends
+
+tries_refused : (event e : RwEvent) (m : Misuse) (rest : List RwDeed) (answer : CallAnswer LockReply) → e ≡ event → rest ≡ [] → answer ≡ Halted m → Tries event (Refused e m ∷ rest) (try_answer answer)
+tries_refused event e m rest answer of none is =
+    subst (λ (x : RwEvent). Tries event (Refused x m ∷ rest) (try_answer answer)) (sym of) (last (Tries event) try_answer [] (Refused event m) rest answer (Halted m) none is (refused m))
+
+write_tries_by : (deeds : List RwDeed) (answer : CallAnswer LockReply) → Spells rw_event rw_meaning stage.TryLock deeds answer → Tries WriteTry deeds (try_answer answer)
+write_tries_by [] answer spelt = absurd spelt
+write_tries_by (Event e r ∷ rest) answer (of, goes) = tries_event WriteTry e r rest answer (λ later. Spells rw_event rw_meaning later rest answer) of.1 goes
+write_tries_by (Refused e m ∷ rest) answer (of, none, is) = tries_refused WriteTry e m rest answer of.1 none is
+write_tries_by (Halt m ∷ rest) answer spelt = absurd spelt
+
+read_tries_by : (deeds : List RwDeed) (answer : CallAnswer LockReply) → Spells rw_event rw_meaning stage.TryRLock deeds answer → Tries ReadTry deeds (try_answer answer)
+read_tries_by [] answer spelt = absurd spelt
+read_tries_by (Event e r ∷ rest) answer (of, goes) = tries_event ReadTry e r rest answer (λ later. Spells rw_event rw_meaning later rest answer) of.1 goes
+read_tries_by (Refused e m ∷ rest) answer (of, none, is) = tries_refused ReadTry e m rest answer of.1 none is
+read_tries_by (Halt m ∷ rest) answer spelt = absurd spelt
+
+unlocks_one : (event e : RwEvent) (u : Unlocking) (rest : List RwDeed) (answer given : CallAnswer LockReply) → e ≡ event → rest ≡ [] → answer ≡ given → unlock_answer given ≡ Done (answer_of u) → Unlocks event (Event e (Unlocked u) ∷ rest) (unlock_answer answer)
+unlocks_one event e u rest answer given of none is says =
+    subst (λ (x : RwEvent). Unlocks event (Event x (Unlocked u) ∷ rest) (unlock_answer answer)) (sym of)
+    (last (Unlocks event) unlock_answer [] (Event event (Unlocked u)) rest answer given none is (subst (λ (a : Answer (Result (Unit {0}) Misuse)). Unlocks event (Event event (Unlocked u) ∷ []) a) (sym says) (unlocked u)))
+
+unlocks_event : (event e : RwEvent) (r : RwReply) (rest : List RwDeed) (answer : CallAnswer LockReply) (on : RwMutexStage → Type 0) → e ≡ event → Rest (unlock_meaning r) rest on answer → Unlocks event (Event e r ∷ rest) (unlock_answer answer)
+unlocks_event event e (Unlocked IsDone) rest answer on of ends = unlocks_one event e IsDone rest answer (Done (Ok outcome.Done)) of ends.0 ends.1 refl
+unlocks_event event e (Unlocked (IsMisuse m)) rest answer on of ends = unlocks_one event e (IsMisuse m) rest answer (Done (Err m)) of ends.0 ends.1 refl
+unlocks_event event e (Arrived _) rest answer on of ends = absurd ends
+unlocks_event event e (Tried _) rest answer on of ends = absurd ends
+unlocks_event event e (Resumed _) rest answer on of ends = absurd ends
+unlocks_event event e Left rest answer on of ends = absurd ends
+unlocks_event event e Still rest answer on of ends = absurd ends
+
+unlocks_refused : (event e : RwEvent) (m : Misuse) (rest : List RwDeed) (answer : CallAnswer LockReply) → e ≡ event → rest ≡ [] → answer ≡ Halted m → Unlocks event (Refused e m ∷ rest) (unlock_answer answer)
+unlocks_refused event e m rest answer of none is =
+    subst (λ (x : RwEvent). Unlocks event (Refused x m ∷ rest) (unlock_answer answer)) (sym of) (last (Unlocks event) unlock_answer [] (Refused event m) rest answer (Halted m) none is (refused m))
+
+write_unlocks_by : (deeds : List RwDeed) (answer : CallAnswer LockReply) → Spells rw_event rw_meaning stage.Unlock deeds answer → Unlocks WriteUnlock deeds (unlock_answer answer)
+write_unlocks_by [] answer spelt = absurd spelt
+write_unlocks_by (Event e r ∷ rest) answer (of, goes) = unlocks_event WriteUnlock e r rest answer (λ later. Spells rw_event rw_meaning later rest answer) of.1 goes
+write_unlocks_by (Refused e m ∷ rest) answer (of, none, is) = unlocks_refused WriteUnlock e m rest answer of.1 none is
+write_unlocks_by (Halt m ∷ rest) answer spelt = absurd spelt
+
+read_unlocks_by : (deeds : List RwDeed) (answer : CallAnswer LockReply) → Spells rw_event rw_meaning stage.RUnlock deeds answer → Unlocks ReadUnlock deeds (unlock_answer answer)
+read_unlocks_by [] answer spelt = absurd spelt
+read_unlocks_by (Event e r ∷ rest) answer (of, goes) = unlocks_event ReadUnlock e r rest answer (λ later. Spells rw_event rw_meaning later rest answer) of.1 goes
+read_unlocks_by (Refused e m ∷ rest) answer (of, none, is) = unlocks_refused ReadUnlock e m rest answer of.1 none is
+read_unlocks_by (Halt m ∷ rest) answer spelt = absurd spelt
+
+-- the moments
+clocked_one : (shows : ℕ → Type 0) (d : RwDeed) (rest : List RwDeed) → AreTimely rw_moment shows (d ∷ rest) → AreClocked shows rest → AreClocked shows (d ∷ rest)
+clocked_one shows (Event ReadArrive r) rest timely on = (tt, on)
+clocked_one shows (Event ReadTry r) rest timely on = (tt, on)
+clocked_one shows (Event ReadUnlock r) rest timely on = (tt, on)
+clocked_one shows (Event (WriteArrive now) r) rest timely on = (timely.0, on)
+clocked_one shows (Event WriteTry r) rest timely on = (tt, on)
+clocked_one shows (Event (WriteWoken now) r) rest timely on = (timely.0, on)
+clocked_one shows (Event WriteUnlock r) rest timely on = (tt, on)
+clocked_one shows (Event Leave r) rest timely on = (tt, on)
+clocked_one shows (Refused ReadArrive m) rest timely on = (tt, on)
+clocked_one shows (Refused ReadTry m) rest timely on = (tt, on)
+clocked_one shows (Refused ReadUnlock m) rest timely on = (tt, on)
+clocked_one shows (Refused (WriteArrive now) m) rest timely on = (timely.0, on)
+clocked_one shows (Refused WriteTry m) rest timely on = (tt, on)
+clocked_one shows (Refused (WriteWoken now) m) rest timely on = (timely.0, on)
+clocked_one shows (Refused WriteUnlock m) rest timely on = (tt, on)
+clocked_one shows (Refused Leave m) rest timely on = (tt, on)
+clocked_one shows (Halt m) rest timely on = (tt, on)
+
+clocked_by : (shows : ℕ → Type 0) (deeds : List RwDeed) → AreTimely rw_moment shows deeds → AreClocked shows deeds
+clocked_by shows [] timely = tt
+clocked_by shows (d ∷ deeds) timely = clocked_one shows d deeds timely (clocked_by shows deeds timely.1)
+
+-- a try that doesn't succeed, and an unlock, gain nothing
+pub try_fails : (answer : CallAnswer LockReply) → try_answer answer ≢ Done true → running.has_gained has_taken answer ≡ false
+try_fails (Done (Ok (outcome.Tried true))) fails = absurd (fails refl)
+try_fails (Done (Ok (outcome.Tried false))) fails = refl
+try_fails (Done (Ok outcome.Done)) fails = refl
+try_fails (Done (Err m)) fails = refl
+try_fails (Halted m) fails = refl
+
+pub unlock_gains : (answer : CallAnswer LockReply) → running.has_gained (λ outcome. false) answer ≡ false
+unlock_gains (Done (Ok o)) = refl
+unlock_gains (Done (Err m)) = refl
+unlock_gains (Halted m) = refl
+
+-- what a call did, by what its protocol's call did
+module _ {N : Type 0} (start : State) (shows : ℕ → Type 0) (old new : Pass State N RwEvent RwReply) (from to : List ℕ) (answer : CallAnswer LockReply) where
+  abbrev Called : RwMutexStage → Type 0
+  Called first = running.Did next true start (λ ds a. Spells rw_event rw_meaning first ds a) (λ ds. AreTimely rw_moment shows ds) old from answer new to
+
+  -- in the words of this crate, where its spelling says so
+  as_here : {A : Type 0} (first : RwMutexStage) (spells : List RwDeed → Answer A → Type 0) (f : CallAnswer LockReply → Answer A) → ((deeds : List RwDeed) → Spells rw_event rw_meaning first deeds answer → spells deeds (f answer)) → ((es : List (Placed RwEvent RwReply)) → MeetsHalt es answer → MeetsHalt es (f answer))
+      → (result : Answer A) → result ≡ f answer → Called first → Did next start spells (AreClocked shows) old from result new to
+  as_here {A} first spells f spelt meets result is did =
+      subst (λ (r : Answer A). Did next start spells (AreClocked shows) old from r new to) (sym is)
+      (did_as next start (λ ds a. Spells rw_event rw_meaning first ds a) (λ ds. AreTimely rw_moment shows ds) spells (AreClocked shows) old new from to answer (f answer) meets spelt (clocked_by shows) did)
+
+  pub write_lock_did : (result : Answer (Unit {0})) → result ≡ lock_answer answer → Called stage.Lock → Did next start WriteLocks (AreClocked shows) old from result new to
+  write_lock_did = as_here stage.Lock WriteLocks lock_answer (λ ds spelt. write_locks_by ds answer spelt) (lock_meets answer)
+
+  pub read_lock_did : (result : Answer (Unit {0})) → result ≡ lock_answer answer → Called stage.RLock → Did next start ReadLocks (AreClocked shows) old from result new to
+  read_lock_did = as_here stage.RLock ReadLocks lock_answer (λ ds spelt. read_locks_by ds answer spelt) (lock_meets answer)
+
+  pub write_try_did : (result : Answer Bool) → result ≡ try_answer answer → Called stage.TryLock → Did next start (Tries WriteTry) (AreClocked shows) old from result new to
+  write_try_did = as_here stage.TryLock (Tries WriteTry) try_answer (λ ds spelt. write_tries_by ds answer spelt) (try_meets answer)
+
+  pub read_try_did : (result : Answer Bool) → result ≡ try_answer answer → Called stage.TryRLock → Did next start (Tries ReadTry) (AreClocked shows) old from result new to
+  read_try_did = as_here stage.TryRLock (Tries ReadTry) try_answer (λ ds spelt. read_tries_by ds answer spelt) (try_meets answer)
+
+  pub write_unlock_did : (result : Answer (Result (Unit {0}) Misuse)) → result ≡ unlock_answer answer → Called stage.Unlock → Did next start (Unlocks WriteUnlock) (AreClocked shows) old from result new to
+  write_unlock_did = as_here stage.Unlock (Unlocks WriteUnlock) unlock_answer (λ ds spelt. write_unlocks_by ds answer spelt) (unlock_meets answer)
+
+  pub read_unlock_did : (result : Answer (Result (Unit {0}) Misuse)) → result ≡ unlock_answer answer → Called stage.RUnlock → Did next start (Unlocks ReadUnlock) (AreClocked shows) old from result new to
+  read_unlock_did = as_here stage.RUnlock (Unlocks ReadUnlock) unlock_answer (λ ds spelt. read_unlocks_by ds answer spelt) (unlock_meets answer)
+
+module _ {N H : Type 0} (lock : RwMutex N H) where
+  -- a caller between two calls may make any of them
+  pub may_begin : (own : List (Entry RwEvent RwReply)) (first : RwMutexStage) → rw_allows (rw_start lock) false first ≡ true → waits_by waits_after false own ≡ false → rw_allows (rw_start lock) (stand_by false rw_stands own) first ≡ true
+  may_begin own first allowed free = subst (λ (w : Bool). rw_allows (rw_start lock) w first ≡ true) (sym free) allowed
+
+  -- and is between two calls after it
+  pub between : (pass : Pass State N RwEvent RwReply) (answer : CallAnswer LockReply) → IsPassOf lock.object pass → stand_by false rw_stands (own_by pass) ≡ running.left_in false (λ outcome. false) answer → IsPassOfRwMutex lock pass
+  between pass answer of stands = record { of = of; free = stands ∙ running.left_out false answer }
