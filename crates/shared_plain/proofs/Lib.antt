@@ -1,0 +1,12 @@
+pub mod Beginnings
+pub mod Calling
+pub mod Cursors
+pub mod FirstCallers
+pub mod Fitting
+pub mod Histories
+pub mod Items
+pub mod Passing
+pub mod Replies
+pub mod SlotMaps
+pub mod Steps
+pub mod TakenCalls

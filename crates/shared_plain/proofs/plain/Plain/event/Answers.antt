@@ -1,0 +1,59 @@
+use Rattle.std.proofs.Common.{◌≡◌, ◌<◌, ◌+◌, ◌-◌, false, ◌++◌, [], ◌∷◌, None, Some, arith, refl, sym, ap, ◌∙◌, subst}
+use Rattle.sync_model.specs.declared.journal.Deed.TheVariants.{Event as Did}
+use Rattle.sync_model.specs.Journal.{by, halt_of, state_after, Right, Follows}
+use Rattle.sync_model.specs.Shared.{Called, CallerState, state_of}
+use Rattle.ruled_object.specs.Passes.{number_of, seen_by, start_of}
+use Rattle.shared_plain.specs.declared.mark.Mark.{Mark}
+use Rattle.shared_plain.specs.Marks.{front_by, holding, own_by, seen_of}
+use Rattle.shared_plain.specs.PlainMachine.{call_of, contents_of, next}
+use Rattle.shared_plain.proofs.Calling.{state_at, called, adds_same, held_there, unanswered}
+use Rattle.shared_plain.proofs.Fitting.{fits_for_ever}
+use Rattle.shared_plain.proofs.plain.Plain.event.Goals as goal
+
+pub unreachable-requires : goal.unreachable-requires
+unreachable-requires g c =
+    let start = start_of c.args.self.now.object in
+    let pass = c.args.mark.now.pass in
+    let entry = c.in-Done-None.ensures.entry in
+    let front = seen_by pass ++ entry.1.between in
+    let deed = entry.2 ∙ ap (λ f. Did c.args.event f) c.in-Done-None.field-0-is in
+    let right = subst (Right next false (state_after next start front) (halt_of front) (number_of pass)) deed entry.1.right in
+    let fit = fits_for_ever start front (number_of pass) c.args.event c.requires.fits in
+    unanswered (next (state_after next start front) (number_of pass) c.args.event).1 fit.0 right.1 fit.1
+
+pub returns-clause-called : goal.returns-clause-called
+returns-clause-called g c =
+    let object = c.args.self.now.object in
+    let start = start_of object in
+    let old : Mark = c.args.mark.now in
+    let new : Mark = record { pass = c.call.new.pass; callers = old.callers; spare = old.spare - c.args.cost } in
+    let is = c.requires.mark.0 in
+    let had = held_there old c.requires.mark.1 in
+    let was_pass = c.passes_and_copies.ensures.is_pass object old.pass had.0 is.pass had.1 in
+    let is_pass = c.passes_and_copies.ensures.holds object new.pass c.call.ensures.pass.0 in
+    let entry = c.in-Done-Some.ensures.entry in
+    let adds = entry.1 in
+    let answered = c.in-Done-Some.answered in
+    let deed = entry.2 ∙ ap (λ f. Did c.args.event f) (c.in-Done-Some.field-0-is) in
+    let n = old.callers in
+    let who = number_of old.pass in
+    let inside = is.pass.caller in
+    let same_callers = is.callers in
+    let below : who < n = omega arith in
+    let enough = c.requires.spare in
+    let left = old.spare - c.args.cost in
+    let spent : left + c.args.cost ≡ old.spare = omega arith in
+    let whole = (seen_by old.pass ++ adds.between) ++ entry.0 ∷ [] in
+    let made = called c.maps_and_atomics_stay.ensures.no_entry start n who c.args.event answered (seen_by old.pass) adds.between entry.0 old.spare left c.args.cost below spent record {
+      caller = adds.caller;
+      knew = adds.knew;
+      deed = deed;
+      same = adds_same who (seen_by old.pass) adds.between entry.0 _ _ adds.mine (adds.all ∙ ap (λ l. by who l) adds.history) adds.caller (was_pass.1 ∙ is.own had.0 had.1);
+      follows = subst (λ l. Follows next false start None l) adds.history adds.follows;
+    } in
+    let number = c.call.ensures.pass.1.0 in
+    let from : state_of own_by front_by seen_of old ≡ state_at n who old.spare (seen_by old.pass) = λ i. record { own = ap (holding old) had.1 i; front = front_by old; seen = seen_of old } in
+    let to : state_of own_by front_by seen_of new ≡ state_at n who left whole =
+    (λ i. record { own = ap (holding new) is_pass.1 i; front = front_by new; seen = seen_of new }) ∙ (λ i. state_at n (number i) left (adds.history i)) in
+    subst (λ s. Called (contents_of start) (call_of c.args.event) answered.reply c.args.cost s (state_of own_by front_by seen_of new)) (sym from)
+    (subst (λ s. Called (contents_of start) (call_of c.args.event) answered.reply c.args.cost (state_at n who old.spare (seen_by old.pass)) s) (sym to) made)

@@ -1,0 +1,33 @@
+-- A caller's note: what contracts see of it.
+use Rattle.std.specs.Prelude.{◌≡◌, ℕ, List, Option, Some, None}
+use Rattle.sync_model.specs.declared.item.SharedEntry.{SharedEntry}
+use Rattle.sync_model.specs.Note.{Holding}
+use Rattle.sync_model.specs.Journal.{by}
+use Rattle.ruled_object.specs.Notes.{held_by, IsNoteOf}
+use Rattle.ruled_object.specs.Passes.{callers_of, number_of, seen_by}
+use Rattle.shared_plain.specs.declared.mark.Mark.{Mark}
+use Rattle.shared_plain.specs.declared.plain.Plain.{Plain}
+use Rattle.shared_plain.specs.PlainHistory.{Step, front_of, history_of, items_by}
+
+-- for each caller the number of its shared calls that are known
+abbrev pub front_by : Mark → List ℕ
+front_by mark = front_of mark.callers (seen_by mark.pass)
+
+-- the holder, with its calls, of a pass that holds entries
+abbrev pub holding : Mark → Option (List Step) → Option Holding
+holding mark None = None
+holding mark (Some own) = Some (record { number = number_of mark.pass; items = items_by mark.callers (number_of mark.pass) (seen_by mark.pass); spare = mark.spare })
+
+abbrev pub own_by : Mark → Option Holding
+own_by mark = holding mark (held_by mark.pass)
+
+-- it is the note of a caller of these maps and atomics, or a copy of one
+pub record IsMarkOf (plain : Plain) (mark : Mark) : Type 0 where
+  pub pass : IsNoteOf plain.object mark.pass
+  pub callers : mark.callers ≡ callers_of plain.object
+  -- a caller has seen all that it did
+  pub own : (own : List Step) → held_by mark.pass ≡ Some own → own ≡ by (number_of mark.pass) (seen_by mark.pass)
+
+-- how much of the shared history the note's holder has seen
+abbrev pub seen_of : Mark → List SharedEntry
+seen_of mark = history_of (seen_by mark.pass)

@@ -1,0 +1,3 @@
+mod callers;
+mod one_thread;
+mod pair;
