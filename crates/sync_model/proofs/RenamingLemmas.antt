@@ -1,5 +1,5 @@
 -- A map and the same with its keys renamed.
-use Rattle.std.proofs.Common.{◌≡◌, ℕ, Bool, true, false, cond, Option, Some, None, is_some, refl, sym, ap, ◌∙◌}
+use Rattle.std.proofs.Common.{◌≡◌, ℕ, Bool, true, false, cond, Some, None, is_some, refl, sym, ap, ◌∙◌}
 use Rattle.std.specs.Prelude.{◌≢◌}
 use Rattle.std.specs.declared.cmp.Ordering.{Ordering}
 use Rattle.std.specs.declared.cmp.Ordering.TheVariants.{Less, Equal, Greater}
@@ -9,7 +9,7 @@ use Rattle.std.specs.FinMap.{FinMap, empty, get, insert, remove, get-empty, get-
 use Rattle.sync_model.specs.declared.map_object.MapCall.{MapCall}
 use Rattle.sync_model.specs.declared.map_object.MapCall.TheVariants.{Load, Store, LoadOrStore, LoadAndDelete, Delete, Swap, CompareAndSwap, CompareAndDelete, Clear}
 use Rattle.sync_model.specs.declared.map_object.MapReply.TheVariants.{Found, Compared}
-use Rattle.sync_model.specs.SequentialMap.{is_value, settled, map_reply, map_after, map_key, is_map_entry}
+use Rattle.sync_model.specs.SequentialMap.{is_value, settled, map_reply, map_after, is_map_entry}
 use Rattle.sync_model.specs.MapLaws.{IsKeyOrder}
 use Rattle.sync_model.specs.Renaming.{renamed_call, IsOneToOne, IsRenamed, is_call_at}
 use Rattle.sync_model.proofs.MapLemmas.{tied, apart, inserted_apart, removed_apart}

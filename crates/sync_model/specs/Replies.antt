@@ -1,7 +1,7 @@
 -- Which replies each call may have, by the table of `sync` and `sync/atomic`.
-use Rattle.std.specs.Prelude.{ℕ, Bool, true, false}
-use Rattle.sync_model.specs.declared.call.Call.{Call}
-use Rattle.sync_model.specs.declared.call.Call.TheVariants as calls
+use Rattle.std.specs.Prelude.{Bool, true, false}
+use Rattle.sync_model.specs.declared.call.Operation.{Operation}
+use Rattle.sync_model.specs.declared.call.Operation.TheVariants as operations
 use Rattle.sync_model.specs.declared.call.Reply.{Reply}
 use Rattle.sync_model.specs.declared.call.Reply.TheVariants as replies
 use Rattle.sync_model.specs.declared.map_object.MapCall.{MapCall}
@@ -112,16 +112,16 @@ pool_form pool_calls.Get reply = is_item reply
 pool_form pool_calls.Sweep reply = is_pool_done reply
 
 -- whether a reply has the form of its call's replies
-abbrev pub is_reply_to : {K : Type 0} → Call → Reply K → Bool
-is_reply_to (calls.Map object call) (replies.Map reply) = map_form call reply
-is_reply_to (calls.Range object) (replies.Pairs pairs) = true
-is_reply_to (calls.Atomic object call) (replies.Atomic reply) = atomic_form call reply
-is_reply_to (calls.Mutex object call) (replies.Lock reply) = mutex_form call reply
-is_reply_to (calls.RwMutex object call) (replies.Lock reply) = rw_mutex_form call reply
-is_reply_to (calls.Cond object call) replies.Returned = true
-is_reply_to (calls.WaitGroup object call) replies.Returned = true
-is_reply_to (calls.Once object) (replies.Once reply) = true
-is_reply_to (calls.OnceFunc object) (replies.OnceFunc code) = true
-is_reply_to (calls.OnceValue object) (replies.OnceValue value) = true
-is_reply_to (calls.Pool object call) (replies.Pool reply) = pool_form call reply
-is_reply_to call reply = false
+abbrev pub is_reply_to : {K : Type 0} → Operation → Reply K → Bool
+is_reply_to (operations.Map call) (replies.Map reply) = map_form call reply
+is_reply_to operations.Range (replies.Pairs pairs) = true
+is_reply_to (operations.Atomic call) (replies.Atomic reply) = atomic_form call reply
+is_reply_to (operations.Mutex call) (replies.Lock reply) = mutex_form call reply
+is_reply_to (operations.RwMutex call) (replies.Lock reply) = rw_mutex_form call reply
+is_reply_to (operations.Cond call) replies.Returned = true
+is_reply_to (operations.WaitGroup call) replies.Returned = true
+is_reply_to operations.Once (replies.Once reply) = true
+is_reply_to operations.OnceFunc (replies.OnceFunc code) = true
+is_reply_to operations.OnceValue (replies.OnceValue value) = true
+is_reply_to (operations.Pool call) (replies.Pool reply) = pool_form call reply
+is_reply_to operation reply = false

@@ -8,31 +8,39 @@ use crate::pool_call::{PoolCall, PoolCallReply};
 use crate::seq::Seq;
 use crate::wait_call::{CondCall, WaitGroupCall};
 
-/// A call on an object, which is named by its place among the workload's objects.
+/// A call on an object.
 #[derive(Debug, Drop)]
-pub enum Call {
+pub struct Call {
+    /// The place of the object among the workload's objects.
+    pub object: usize,
+    pub operation: Operation,
+}
+
+/// What a call asks of its object.
+#[derive(Debug, Drop)]
+pub enum Operation {
     /// A call on a map.
-    Map { object: usize, call: MapCall<Name> },
+    Map(MapCall<Name>),
     /// All keys of a map with their values: `Map.Range`.
-    Range { object: usize },
+    Range,
     /// A call on an atomic.
-    Atomic { object: usize, call: AtomicCall },
+    Atomic(AtomicCall),
     /// A call on a mutex.
-    Mutex { object: usize, call: MutexCall },
+    Mutex(MutexCall),
     /// A call on a reader/writer mutex.
-    RwMutex { object: usize, call: RwMutexCall },
+    RwMutex(RwMutexCall),
     /// A call on a cond.
-    Cond { object: usize, call: CondCall },
+    Cond(CondCall),
     /// A call on a wait group.
-    WaitGroup { object: usize, call: WaitGroupCall },
+    WaitGroup(WaitGroupCall),
     /// `Do` on a once: the first one runs the once's function, all others wait until it has returned.
-    Once { object: usize },
+    Once,
     /// A call of a function made by `OnceFunc`.
-    OnceFunc { object: usize },
+    OnceFunc,
     /// A call of a function made by `OnceValue`.
-    OnceValue { object: usize },
+    OnceValue,
     /// A call on a pool.
-    Pool { object: usize, call: PoolCall },
+    Pool(PoolCall),
 }
 
 /// What a call answers, where keys are of a type `K`: a name, or a number among the workload's keys.

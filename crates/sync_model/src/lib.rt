@@ -33,7 +33,7 @@ pub use answer::Answer;
 pub use atomic_object::{AtomicCall, AtomicKind, AtomicReply, Number};
 pub use bounded_seq::BoundedSeq;
 pub use by_name::ByName;
-pub use call::{Call, Reply};
+pub use call::{Call, Operation, Reply};
 pub use caller::{Caller, CallerNote};
 pub use callers::Callers;
 pub use front_note::{FrontNote, MAX_CALLERS};

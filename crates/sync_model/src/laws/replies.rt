@@ -9,12 +9,12 @@ ghost use Rattle.sync_model.specs.SequentialMap.{map_reply};
 ghost use Rattle.sync_model.specs.declared.atomic_object.Number.{Number};
 
 use crate::atomic_object::AtomicCall;
-use crate::call::{Call, Reply};
+use crate::call::{Operation, Reply};
 use crate::map_object::MapCall;
 
 /// What a map and an atomic answer has the form of their call's replies, and other names for keys leave each reply its form.
 pub fn replies_have_their_form<K, L>()
     ensures map { (R : K → K → Ordering) (call : MapCall K) (m : FinMap R ℕ) → map_form call (map_reply call m) ≡ true }
     ensures atomic { (call : AtomicCall) (held : Number) → atomic_form call (atomic_reply call held) ≡ true }
-    ensures renamed { (rename : K → L) (call : Call) (reply : Reply K) → is_reply_to call (with_keys_renamed rename reply) ≡ is_reply_to call reply }
+    ensures renamed { (rename : K → L) (operation : Operation) (reply : Reply K) → is_reply_to operation (with_keys_renamed rename reply) ≡ is_reply_to operation reply }
 {}

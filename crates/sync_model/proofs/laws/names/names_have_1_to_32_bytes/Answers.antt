@@ -1,4 +1,4 @@
-use Rattle.std.proofs.Common.{rules, arith}
+use Rattle.std.proofs.Common.{arith}
 use Rattle.sync_model.proofs.Names.{all_bytes}
 use Rattle.sync_model.proofs.laws.names.names_have_1_to_32_bytes.Goals as goal
 
