@@ -1,17 +1,18 @@
 -- A queued caller waits until the counter is 0.
-use Rattle.std.proofs.Common.{◌≡◌, ◌≢◌, ◌⊎◌, inl, inr, ℕ, zero, suc, ◌==◌, ◌<◌, pos, ◌+ℤ◌, Bool, true, false, cond, List, [], ◌∷◌, ◌++◌, length, map, replicate, set, Option, Some, None, refl, sym, ap, ◌∙◌, arith}
-use Rattle.std.specs.Prelude.{nat_lt, unwrap_or}
+use Rattle.std.proofs.Common.{◌≡◌, ◌≢◌, ◌⊎◌, inl, inr, ℕ, zero, suc, ◌==◌, ◌<◌, pos, ◌+ℤ◌, Bool, true, false, cond, List, [], ◌∷◌, ◌++◌, length, map, replicate, set, Option, Some, None, refl, sym, ap, ◌∙◌, lt-ltb, arith}
+use Rattle.std.specs.Prelude.{nat_lt, unwrap_or, if◌then◌else◌}
 use Rattle.std.specs.List.{slice_get, list_any}
 use Rattle.std.proofs.lemmas.Bool.{ltb-true}
+use Rattle.sync_model.specs.declared.misuse.Misuse.TheVariants.{WaitGroupReused}
 use Rattle.std.proofs.lemmas.Bool.Decides.{nat_tests}
 use Rattle.wait_cores.specs.declared.group.GroupEvent.{GroupEvent}
 use Rattle.wait_cores.specs.declared.group.GroupEvent.TheVariants.{Add, Wait, Leave}
 use Rattle.wait_cores.specs.declared.group.GroupReply.{GroupReply}
-use Rattle.wait_cores.specs.declared.group.GroupReply.TheVariants.{Done, Queued, Still}
+use Rattle.wait_cores.specs.declared.group.GroupReply.TheVariants.{Done, Queued, Misused, Still}
 use Rattle.wait_cores.specs.declared.group.GroupPlace.{GroupPlace}
 use Rattle.wait_cores.specs.declared.group.GroupPlace.TheVariants.{Out, Waiting, Released}
 use Rattle.sync_model.specs.Log.{Entry, entry, after, Follows}
-use Rattle.wait_cores.specs.GroupMachine.{GroupState, start, next, is_waiting, released, made, added, within, wait_from, leave_from, callers_of, place_of}
+use Rattle.wait_cores.specs.GroupMachine.{GroupState, start, next, is_waiting, released, made, added, within, wait_from, leave_from, callers_of, place_of, is_reused}
 use Rattle.wait_cores.specs.GroupLaws.{Log, WasZero}
 use Rattle.wait_cores.proofs.Places.{get-set_kept, get-set_other, get-set_within}
 use Rattle.wait_cores.proofs.LogParts.{ComesApart}
@@ -117,7 +118,7 @@ waits_for_zero apart s c between rest reply ne h =
 abbrev IsServed : GroupState → Type 0
 IsServed s = s.counter ≡ 0 → list_any is_waiting s.places ≡ false
 
-none_in_released : (places : List GroupPlace) → list_any is_waiting (map released places) ≡ false
+pub none_in_released : (places : List GroupPlace) → list_any is_waiting (map released places) ≡ false
 none_in_released [] = refl
 none_in_released (Waiting ∷ places) = none_in_released places
 none_in_released (Out ∷ places) = none_in_released places
@@ -131,9 +132,45 @@ none_after_out (Out ∷ places) (suc i) h = none_after_out places i h
 none_after_out (Released ∷ places) zero h = h
 none_after_out (Released ∷ places) (suc i) h = none_after_out places i h
 
-none_at_start : (callers : ℕ) → list_any is_waiting (replicate callers Out) ≡ false
+pub none_at_start : (callers : ℕ) → list_any is_waiting (replicate callers Out) ≡ false
 none_at_start zero = refl
 none_at_start (suc callers) = none_at_start callers
+
+pub nobody_released : (places : List GroupPlace) → list_any is_waiting places ≡ false → map released places ≡ places
+nobody_released [] none = refl
+nobody_released (Waiting ∷ places) none = cc
+nobody_released (Out ∷ places) none = ap (λ (ps : List GroupPlace). Out ∷ ps) (nobody_released places none)
+nobody_released (Released ∷ places) none = ap (λ (ps : List GroupPlace). Released ∷ ps) (nobody_released places none)
+
+-- one who comes to wait
+pub some_after_waiting : (places : List GroupPlace) (i : ℕ) → i < length places → list_any is_waiting (set places i Waiting) ≡ true
+some_after_waiting [] i below = let no : ⊥ = omega arith in absurd no
+some_after_waiting (place ∷ places) zero below = refl
+some_after_waiting (Waiting ∷ places) (suc i) below = refl
+some_after_waiting (Out ∷ places) (suc i) below = some_after_waiting places i (omega arith)
+some_after_waiting (Released ∷ places) (suc i) below = some_after_waiting places i (omega arith)
+
+released_within : (places : List GroupPlace) (i : ℕ) → unwrap_or (slice_get places i) Out ≡ Released → i < length places
+released_within [] i is = cc
+released_within (place ∷ places) zero is = omega arith
+released_within (place ∷ places) (suc i) is = let within : i < length places = released_within places i is in omega arith
+
+-- what a leaving does
+pub left_to : (s : GroupState) (c : ℕ) → place_of s c ≡ Released
+    → next s c Leave ≡ (record s { places = set s.places c Out }, if is_reused s then Misused WaitGroupReused else Done)
+left_to s c is =
+    let here : nat_lt c (callers_of s) ≡ true = lt-ltb c (callers_of s) (released_within s.places c is) in
+    ap (λ (b : Bool). if b then made s c Leave else (s, Still)) here ∙ ap (λ (p : GroupPlace). leave_from p s c) is
+
+-- one who leaves didn't wait
+pub same_after_leaving : (places : List GroupPlace) (i : ℕ) → unwrap_or (slice_get places i) Out ≡ Released → list_any is_waiting (set places i Out) ≡ list_any is_waiting places
+same_after_leaving [] i is = refl
+same_after_leaving (Waiting ∷ places) zero is = cc
+same_after_leaving (Out ∷ places) zero is = refl
+same_after_leaving (Released ∷ places) zero is = refl
+same_after_leaving (Waiting ∷ places) (suc i) is = refl
+same_after_leaving (Out ∷ places) (suc i) is = same_after_leaving places i is
+same_after_leaving (Released ∷ places) (suc i) is = same_after_leaving places i is
 
 served_sum : (b : Bool) (sum : ℕ) (places : List GroupPlace) → (sum == 0) ≡ b → IsServed (record { counter = sum; places = cond b (map released places) places })
 served_sum true sum places is h = none_in_released places

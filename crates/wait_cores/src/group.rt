@@ -94,14 +94,22 @@ impl From<Result<(), Misuse>> for GroupReply {
 pub struct GroupCore {
     counter: u32,
     places: Vec<GroupPlace>,
+    // Whether somebody waits. Else the places needn't be looked through.
+    waiting: bool,
+    // Those whom the latest addition released.
+    released: Callers,
 }
 
 impl Model for GroupCore {
-    ghost use Rattle.wait_cores.specs.GroupMachine.{GroupState};
+    ghost use Rattle.std.specs.Prelude.{◌≡◌};
+    ghost use Rattle.std.specs.List.{list_any};
+    ghost use Rattle.wait_cores.specs.GroupMachine.{GroupState, is_waiting};
 
     ghost Value = { GroupState };
 
     ghost view = { λ c. record { counter = c.counter; places = c.places.items } };
+
+    ghost invariant = { λ c. c.waiting ≡ list_any is_waiting c.places.items };
 }
 
 impl GroupCore {
@@ -115,6 +123,8 @@ impl GroupCore {
         Ok(GroupCore {
             counter: 0,
             places: vec![in alloc; GroupPlace::Out; callers as usize]?,
+            waiting: false,
+            released: Callers::nobody(),
         })
     }
 
@@ -128,8 +138,9 @@ impl GroupCore {
         match self.counter.checked_add_signed(delta) {
             Some(counter) if counter <= MAX_COUNTER => {
                 self.counter = counter;
+                self.released = Callers::nobody();
                 if counter == 0 {
-                    release(&mut self.places);
+                    self.release_all();
                 }
                 Ok(())
             }
@@ -148,6 +159,7 @@ impl GroupCore {
             return GroupWait::Done;
         }
         self.places[caller as usize] = GroupPlace::Waiting;
+        self.waiting = true;
         GroupWait::Queued
     }
 
@@ -192,22 +204,23 @@ impl GroupCore {
         }
     }
 
-    // Those who may leave.
-    fn released(&self) -> Callers {
-        let mut released = Callers::nobody();
-        for (caller, place) in (0..64).zip(&self.places) {
-            if let GroupPlace::Released = place {
-                released = released.with(caller);
-            }
+    // Releases all who wait, and keeps who they are.
+    fn release_all(&mut self)
+        ensures { self.new ≡ record self.old { places = map released self.old.places } }
+    {
+        if !self.waiting {
+            return;
         }
-        released
+        self.released = waiters(&self.places);
+        release(&mut self.places);
+        self.waiting = false;
     }
 
     // Whether the group is in use again: its counter isn't 0, or somebody waits.
     fn is_reused(&self) -> bool
         ensures { result ≡ is_reused self.now }
     {
-        self.counter != 0 || somebody_waits(&self.places)
+        self.counter != 0 || self.waiting
     }
 }
 
@@ -248,23 +261,24 @@ impl Machine for GroupCore {
         }
     }
 
-    /// An addition that comes to 0 lets those go on who are released. One that was released before, and hasn't left since,
-    /// is named again.
+    /// An addition that comes to 0 lets those go on whom it releases.
     fn wakes(state: &GroupCore, event: &GroupEvent, reply: &GroupReply) -> Callers {
         match (event, reply) {
-            (GroupEvent::Add(_), GroupReply::Done) if state.counter == 0 => state.released(),
+            (GroupEvent::Add(_), GroupReply::Done) => state.released,
             _ => Callers::nobody(),
         }
     }
 }
 
-// Whether somebody waits.
-fn somebody_waits(places: &[GroupPlace]) -> bool
-    ensures { result ≡ list_any is_waiting places.now }
-{
-    places
-        .iter()
-        .any(|place| matches!(place, GroupPlace::Waiting))
+// Those who wait.
+fn waiters(places: &[GroupPlace]) -> Callers {
+    let mut waiters = Callers::nobody();
+    for (caller, place) in (0..64).zip(places) {
+        if let GroupPlace::Waiting = place {
+            waiters = waiters.with(caller);
+        }
+    }
+    waiters
 }
 
 // Releases all who wait.
