@@ -31,6 +31,7 @@ impl Machine for MutexCore {
 
     /// Makes the event where its caller is one of the mutex's and at the place that the event needs.
     /// Else nothing changes, and the answer is `Still`.
+    #[inline(always)]
     fn step(state: &mut MutexCore, caller: u32, event: MutexEvent) -> MutexReply
         ensures step { (state.new, result) ≡ next state.old caller event }
         ensures still { result ≡ MutexReply.Still ↔ IsFalse (may_make state.old caller event) }

@@ -147,6 +147,7 @@ impl Machine for PoolCore {
 
     ghost takes = { pool_acquires };
 
+    #[inline(always)]
     fn step(state: &mut PoolCore, caller: u32, event: PoolEvent<u64>) -> PoolReply<u64> {
         state.step(caller, event)
     }

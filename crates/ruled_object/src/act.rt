@@ -13,6 +13,7 @@ use sync_model::{Answer, Callers, Machine, Misuse, Note};
 
 impl<M: Machine, N: Note> Object<M, N> {
     // Makes one event of a caller, or refuses it. Tells its answer, and whom it lets go on.
+    #[inline(always)]
     pub(crate) fn act(
         &self,
         seat: &mut SeatOf<M, N>,

@@ -26,6 +26,7 @@ impl<M: Machine, N: Note> Object<M, N> {
     ///
     /// An event that acquires synchronizes after each earlier one that releases: the caller's note then knows all that
     /// theirs knew. After any other event, and after `Halted`, it knows what it knew before.
+    #[inline(always)]
     pub fn call<R: Wait>(
         &self,
         rt: &R,

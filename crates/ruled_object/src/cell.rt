@@ -20,6 +20,7 @@ impl<S, N: Note> Cell<S, N> {
     // Makes one event, or refuses it where the object is halted. An event that acquires takes in what earlier
     // releasing ones left, and then one that releases leaves all that its caller knows. Beside the answer it tells whom
     // the event lets go on, and of a refused one nobody.
+    #[inline(always)]
     pub(crate) fn apply<M: Machine<State = S>>(
         &mut self,
         home: &N::Home,
@@ -58,6 +59,7 @@ impl<S, N: Note> Cell<S, N> {
 }
 
 // An event with its answer, as the journal has it.
+#[inline(always)]
 pub(crate) fn deed<E, R: Copy>(event: E, answer: &Answer<R>) -> Deed<E, R>
     ensures { result ≡ deed_of event answer.now }
 {

@@ -35,6 +35,7 @@ pub(crate) const MAKING: u64 = 2;
 
 impl<M: Machine, N: Note> Object<M, N> {
     // Waits for the turn. The seat then has the slot, and the cell stays where it lies.
+    #[inline(always)]
     pub(crate) fn take_turn<K: Begun<M::State, N>, R: Wait>(&self, rt: &R, seat: &mut SeatOf<M, N>)
         requires begun { K.begun ≡ Some self.now.table.shared.key }
         requires seat { (seat.old.table_id ≡ self.now.table.shared.table_id) × (seat.old.me.1 ≡ []) × (0 < length seat.old.me.0.owns) }
@@ -65,6 +66,7 @@ impl<M: Machine, N: Note> Object<M, N> {
     }
 
     // Gives the turn back, with the slot and the cell that lies in it. The entry that this adds is picked by the caller.
+    #[inline(always)]
     pub(crate) fn give_turn<T: Told<M::Event, M::Reply>>(&self, seat: &mut SeatOf<M, N>)
         requires seat { (seat.old.table_id ≡ self.now.table.shared.table_id) × (seat.old.me.0.stage ≡ Taken) × (0 < length seat.old.me.0.owns) }
         requires may { HasCell seat.old.me (MayGive M.next M.HALTS M.frees M.takes N.front N.at self.now.table.shared.key seat.old.me.0 T.entry) }
@@ -75,6 +77,7 @@ impl<M: Machine, N: Note> Object<M, N> {
     }
 
     // The same, with all that the entry is made of, from which the caller picks it.
+    #[inline(always)]
     pub(crate) fn give_entry<T: Told<M::Event, M::Reply>>(
         &self,
         seat: &mut SeatOf<M, N>,

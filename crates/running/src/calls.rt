@@ -1,4 +1,7 @@
 //! Running a call, stage by stage.
+//!
+//! The calls from here down to the machine's step are inlined, so that the compiler makes one function of a call on a type:
+//! `docs/PERFORMANCE.md` says what it saves.
 ghost use Rattle.std.specs.Prelude.{◌≡◌, ◌<◌, true, false};
 ghost use Rattle.ruled_object.specs.Growth.{IsLawful, KeepsNote};
 ghost use Rattle.ruled_object.specs.Passes.{own_by, left_of, callers_of, start_of, IsHomeOf, IsOneLess, IsPassOf, SamePass};
@@ -15,6 +18,7 @@ use sync_model::{Answer, Misuse, Note};
 use sync_outside::{At, Clock};
 
 /// Makes the call whose first stage this is, and takes one off the calls that are left: see `call_within`.
+#[inline(always)]
 pub fn call<P: Protocol, N: Note, C: Clock, R: Wait>(
     object: &Object<P, N>,
     rt: &R,
@@ -46,6 +50,7 @@ pub fn call<P: Protocol, N: Note, C: Clock, R: Wait>(
 ///
 /// It answers `Halted` exactly where the object was halted before the last of its events. Where it gains nothing, and where
 /// it is a misuse or halted, its caller's note knows what it knew.
+#[inline(always)]
 pub fn call_within<P: Protocol, N: Note, C: Clock, R: Wait>(
     object: &Object<P, N>,
     rt: &R,

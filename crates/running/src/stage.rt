@@ -16,6 +16,7 @@ use sync_model::{Answer, Note};
 use sync_outside::{At, Clock};
 
 // The stage's event, at the moment that the clock shows where the event carries one.
+#[inline(always)]
 fn event_at<P: Protocol, C: Clock>(stage: P::Stage, clock: &C) -> P::Event
     ensures event { IsEventOf P.event stage result }
     ensures moment { IsAt (C.shows clock.now) (P.moment result) }
@@ -29,6 +30,7 @@ fn event_at<P: Protocol, C: Clock>(stage: P::Stage, clock: &C) -> P::Event
 }
 
 // Makes the event of a stage that its caller is allowed, and tells how the call goes on.
+#[inline(always)]
 pub(crate) fn make<P: Protocol, N: Note, C: Clock, R: Wait>(
     object: &Object<P, N>,
     rt: &R,

@@ -32,6 +32,7 @@ impl Machine for RwCore {
 
     /// Makes the event where its caller is one of the lock's and at the place that the event needs. Else
     /// nothing changes, and the answer is `Still`.
+    #[inline(always)]
     fn step(state: &mut RwCore, caller: u32, event: RwEvent) -> RwReply
         ensures step { (state.new, result) ≡ next state.old caller event }
         ensures still { result ≡ RwReply.Still ↔ IsFalse (may_make state.old caller event) }

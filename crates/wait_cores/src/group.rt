@@ -243,6 +243,7 @@ impl Machine for GroupCore {
 
     ghost takes = { group_acquires };
 
+    #[inline(always)]
     fn step(state: &mut GroupCore, caller: u32, event: GroupEvent) -> GroupReply {
         state.step(caller, event)
     }

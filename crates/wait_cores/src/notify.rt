@@ -175,6 +175,7 @@ impl Machine for NotifyCore {
 
     ghost takes = { notify_acquires };
 
+    #[inline(always)]
     fn step(state: &mut NotifyCore, caller: u32, event: NotifyEvent) -> NotifyReply {
         state.step(caller, event)
     }

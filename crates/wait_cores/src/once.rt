@@ -229,6 +229,7 @@ impl<T: Copy> Machine for OnceCore<T> {
 
     ghost takes = { once_acquires };
 
+    #[inline(always)]
     fn step(state: &mut OnceCore<T>, caller: u32, event: OnceEvent<T>) -> OnceReply<T> {
         state.step(caller, event)
     }
