@@ -1,9 +1,8 @@
-pub mod Adding
 pub mod GroupStart
-pub mod StandingLemmas
-pub mod GroupAnswers
+pub mod Calling
+pub mod GroupSpelling
 pub mod Lasts
-pub mod OnceAnswers
+pub mod OnceSpelling
 pub mod FreshPasses
 pub mod OnceRunning
-pub mod CondAnswers
+pub mod CondSpelling

@@ -1,27 +1,21 @@
 -- What contracts see of a running Cond and of the passes to it.
-use Rattle.std.specs.Prelude.{ℕ, true, List, IsTrue}
-use Rattle.sync_model.specs.declared.answer.Answer.{Answer}
-use Rattle.sync_model.specs.declared.answer.Answer.TheVariants.{Done, Halted}
+use Rattle.std.specs.Prelude.{ℕ, true, List}
 use Rattle.sync_model.specs.declared.journal.Entry.{Entry}
 use Rattle.mutex_core.specs.declared.event.MutexEvent.{MutexEvent}
 use Rattle.mutex_core.specs.declared.reply.MutexReply.{MutexReply}
 use Rattle.mutex_core.specs.Edges.{acquires, releases}
 use Rattle.mutex_core.specs.MutexMachine as mutexes
 use Rattle.wait_cores.specs.declared.notify.NotifyEvent.{NotifyEvent}
-use Rattle.wait_cores.specs.declared.notify.NotifyEvent.TheVariants.{Leave}
 use Rattle.wait_cores.specs.declared.notify.NotifyReply.{NotifyReply}
-use Rattle.wait_cores.specs.declared.notify.NotifyReply.TheVariants as reply
 use Rattle.wait_cores.specs.NotifyEdges.{notify_releases, notify_acquires}
-use Rattle.wait_cores.specs.NotifyLaws.{answers}
 use Rattle.wait_cores.specs.NotifyMachine.{NotifyState, next}
 use Rattle.ruled_object.specs.declared.pass.Pass.{Pass}
 use Rattle.ruled_object.specs.Gathered as gathered
-use Rattle.ruled_object.specs.Growth.{IsLawful, Makes}
+use Rattle.ruled_object.specs.Growth.{IsLawful}
 use Rattle.ruled_object.specs.Passes as object
 use Rattle.go_locks.specs.declared.mutex.Mutex.{Mutex}
 use Rattle.go_locks.specs.Mutexes.{mutex_start}
 use Rattle.go_waits.specs.declared.cond.Cond.{Cond}
-use Rattle.go_waits.specs.Leaving.{Leaves}
 
 -- an entry of a cond's journal
 abbrev pub CondMade : Type 0
@@ -37,11 +31,6 @@ CondPass N = Pass NotifyState N NotifyEvent NotifyReply
 
 abbrev pub MutexPass : Type 0 → Type 0
 MutexPass N = Pass mutexes.State N MutexEvent MutexReply
-
--- an event that the machine took is answered as one of the cond's callers is
-abbrev pub Answers : NotifyEvent → Answer NotifyReply → Type 0
-Answers event (Done reply) = IsTrue (answers event reply)
-Answers event (Halted misuse) = Unit {0}
 
 module _ {N H : Type 0} where
   -- how many callers it has, and the state that its machine started from
@@ -66,13 +55,6 @@ module _ {N H : Type 0} where
   -- all passes of a new cond, each good for so many calls. Nothing was done yet
   abbrev pub AreNew : Cond N H → ℕ → List (CondPass N) → Type 0
   AreNew cond calls passes = gathered.AreNew cond.object calls passes
-
-  -- one event of the caller's, and the leaving of a caller that waits
-  abbrev pub CondMakes : Cond N H → CondPass N → List ℕ → NotifyEvent → Answer NotifyReply → CondPass N → List ℕ → Type 0
-  CondMakes cond old from event answer new to = Makes next true (start_of cond) old from event answer new to
-
-  abbrev pub CondLeaves : Cond N H → CondPass N → List ℕ → Answer NotifyReply → CondPass N → List ℕ → Type 0
-  CondLeaves cond old from answer new to = Leaves next true (start_of cond) old from Leave reply.Still answer new to
 
   -- what a pass shows of the journal follows the machine, keeps the edge law, and has of its caller what the pass has
   abbrev pub IsCondLawful : Cond N H → CondPass N → Type 0

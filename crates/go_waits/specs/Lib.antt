@@ -1,8 +1,8 @@
+pub mod Answers
 pub mod Conds
 pub mod CondCalls
 pub mod Groups
 pub mod GroupCalls
-pub mod Leaving
 pub mod Onces
 pub mod OnceCalls
 pub mod OnceRuns

@@ -10,11 +10,12 @@ use Rattle.wait_cores.specs.declared.once.OnceEvent.TheVariants.{Begin, End, Lea
 use Rattle.wait_cores.specs.declared.once.OnceReply.{OnceReply}
 use Rattle.wait_cores.specs.declared.once.OnceReply.TheVariants as reply
 use Rattle.wait_cores.specs.OnceLaws.{begins}
+use Rattle.ruled_object.specs.Growth.{Placed, deeds_of}
 use Rattle.ruled_object.specs.Passes as object
 use Rattle.go_waits.specs.declared.once_begun.OnceBegun.{OnceBegun}
 use Rattle.go_waits.specs.declared.once_begun.OnceBegun.TheVariants.{Run, Already}
 use Rattle.go_waits.specs.declared.once.Once.{Once}
-use Rattle.go_waits.specs.Onces.{OncePass, IsPassOf, IsRunnerOf}
+use Rattle.go_waits.specs.Onces.{OncePass, OnceGrows, IsPassOf, IsRunnerOf}
 
 abbrev pub OnceDeeds : Type 0 → Type 0
 OnceDeeds T = List (Deed (OnceEvent T) (OnceReply T))
@@ -38,6 +39,16 @@ module _ {T : Type 0} where
   -- so far as the caller has seen, the function was begun at most once
   abbrev pub RunsOnce : {N : Type 0} → OncePass T N → Type 0
   RunsOnce pass = count_by begins (log_of (object.seen_by pass)) ≤ 1
+
+-- The pass shows that its caller, which came with `old`, runs the function: its beginning was answered so, nobody else's was so far as it has seen, and it hasn't ended the function.
+pub record HasBegun {T N H : Type 0} (once : Once T N H) (old : OncePass T N) (from : List ℕ) (pass : OncePass T N) : Type 0 where
+  pub runs : IsRunnerOf once pass
+  pub alone : RunsOnce pass
+  pub less : object.IsOneLess old pass
+  pub front : List ℕ
+  pub entries : List (Placed (OnceEvent T) (OnceReply T))
+  pub grows : OnceGrows once old from entries pass front
+  pub deeds : deeds_of entries ≡ Event Begin reply.Run ∷ []
 
 -- Where the caller stands after `begin`: it runs the function where it is to run it, and else it is between two calls.
 abbrev pub StandsAs : {T N H : Type 0} → Once T N H → OncePass T N → Answer (OnceBegun T) → Type 0

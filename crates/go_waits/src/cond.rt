@@ -1,13 +1,11 @@
 //! Go's `sync.Cond`, shared by threads, whose L is a `Mutex`.
-ghost use Rattle.std.specs.Prelude.{◌≡◌};
-ghost use Rattle.wait_cores.specs.NotifyMachine.{start};
 ghost use Rattle.ruled_object.specs.Passes.{callers_of, start_of};
+ghost use Rattle.protocols.specs.CondStages.{CondBegins};
 
 mod calls;
-mod events;
-mod halting;
-mod making;
-mod waiting;
+mod halts;
+mod new;
+mod wait;
 
 use ruled_object::{Object, PassOf};
 use sync_model::Note;
@@ -20,7 +18,7 @@ use wait_cores::NotifyCore;
 #[derive(Drop)]
 pub struct Cond<N: Note> {
     pub(crate) object: Object<NotifyCore, N>,
-    ghost begins: { start_of object ≡ start (callers_of object) },
+    ghost begins: { CondBegins (callers_of object) (start_of object) },
 }
 
 /// The pass of one caller to a `Cond`.

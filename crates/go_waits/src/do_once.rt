@@ -1,12 +1,14 @@
 //! Go's `Once.Do`.
-ghost use Rattle.std.specs.Prelude.{◌≡◌, ◌<◌, List};
+ghost use Rattle.std.specs.Prelude.{◌≡◌, ◌≢◌, ◌<◌, List};
+ghost use Rattle.sync_model.specs.declared.answer.Answer.TheVariants.{Done};
 ghost use Rattle.wait_cores.specs.declared.once.OnceEvent.{OnceEvent};
 ghost use Rattle.wait_cores.specs.declared.once.OnceReply.{OnceReply};
 ghost use Rattle.ruled_object.specs.Growth.{Placed, KeepsNote, MeetsHalt, deeds_of};
 ghost use Rattle.ruled_object.specs.Passes.{left_of, IsOneLess};
-ghost use Rattle.go_waits.specs.OnceCalls.{RunsOnce};
+ghost use Rattle.go_waits.specs.declared.once_run.OnceRun.TheVariants.{Already};
+ghost use Rattle.go_waits.specs.OnceCalls.{HasBegun, RunsOnce};
 ghost use Rattle.go_waits.specs.OnceRuns.{Does};
-ghost use Rattle.go_waits.specs.Onces.{OnceGrows, IsHomeOf, IsPassOf, IsOnceLawful};
+ghost use Rattle.go_waits.specs.Onces.{OncePass, OnceGrows, IsHomeOf, IsPassOf, IsOnceLawful};
 
 use crate::once::{Once, OncePass};
 use crate::once_begun::OnceBegun;
@@ -19,9 +21,11 @@ use wait_cores::OnceCore;
 
 impl<N: Note> Once<(), N> {
     /// Go's `Do`: calls the function where no call did before, and else waits for the return of the one that did. The
-    /// function isn't called again, whether it succeeded or failed.
+    /// function isn't called again, whether it succeeded or failed. It is called only where its condition holds once the
+    /// caller is known to run it (`HasBegun`): the caller's beginning was answered so, and nobody else's.
     ///
-    /// The return from the function synchronizes before the return of each call.
+    /// The return from the function synchronizes before the return of each call that finds it run. The caller that ran it,
+    /// and one that is halted, learn nothing.
     pub fn do_once<E: Drop, F: FnOnce() -> Result<(), E> + Drop, C: Clock, R: Wait>(
         &self,
         rt: &R,
@@ -30,13 +34,14 @@ impl<N: Note> Once<(), N> {
         note: &mut N,
         function: F,
     ) -> Answer<OnceRun<E>>
-        requires function { F.pre function }
+        requires function { (runner : OncePass (Unit {0}) N) → HasBegun self.now pass.old (N.front note.old) runner → F.pre function }
         requires pass { IsPassOf self.now pass.old × (0 < left_of pass.old) }
         requires home { IsHomeOf N.at self.now at.now.home.now × N.at at.now.home.now note.old }
         ensures pass { IsPassOf self.now pass.new × IsOneLess pass.old pass.new }
         ensures note { KeepsNote N.at N.own N.front note.old note.new }
         ensures events { (es : List (Placed (OnceEvent (Unit {0})) (OnceReply (Unit {0})))) × OnceGrows self.now pass.old (N.front note.old) es pass.new (N.front note.new) × Does (F.post function) (deeds_of es) result × MeetsHalt es result }
         ensures once { RunsOnce pass.new }
+        ensures no_edge { result ≢ Done Already → N.front note.new ≡ N.front note.old }
         ensures journal { IsOnceLawful self.now pass.new }
     {
         growth::<OnceCore<()>, N>();

@@ -1,14 +1,12 @@
 //! Go's `sync.WaitGroup`, shared by threads.
-ghost use Rattle.std.specs.Prelude.{◌≡◌, replicate};
-ghost use Rattle.wait_cores.specs.declared.group.GroupPlace.TheVariants as place;
 ghost use Rattle.ruled_object.specs.Passes.{callers_of, start_of};
+ghost use Rattle.protocols.specs.GroupStages.{GroupBegins};
 
 mod calls;
-mod events;
-mod halting;
-mod making;
+mod halts;
+mod new;
 
-pub use making::MAX_START;
+pub use new::MAX_START;
 use ruled_object::{Object, PassOf};
 use sync_model::Note;
 use wait_cores::GroupCore;
@@ -20,7 +18,7 @@ use wait_cores::GroupCore;
 #[derive(Drop)]
 pub struct WaitGroup<N: Note> {
     pub(crate) object: Object<GroupCore, N>,
-    ghost begins: { (start_of object).places ≡ replicate (callers_of object) place.Out },
+    ghost begins: { GroupBegins (callers_of object) (start_of object) },
 }
 
 /// The pass of one caller to a `WaitGroup`.

@@ -2,11 +2,11 @@
 //! which callers share.
 #![tactic(auto)]
 
+mod answers;
 pub mod cond;
 mod do_once;
 pub mod group;
 pub mod laws;
-pub mod leaving;
 pub mod once;
 pub mod once_begun;
 pub mod once_run;

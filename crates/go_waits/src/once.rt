@@ -1,12 +1,10 @@
 //! Go's `sync.Once`, shared by threads, which keeps what its function came to.
-ghost use Rattle.std.specs.Prelude.{◌≡◌};
-ghost use Rattle.wait_cores.specs.OnceMachine.{start};
 ghost use Rattle.ruled_object.specs.Passes.{callers_of, start_of};
+ghost use Rattle.protocols.specs.OnceStages.{OnceBegins};
 
 mod calls;
-mod events;
-mod halting;
-mod making;
+mod halts;
+mod new;
 
 use ruled_object::{Object, PassOf};
 use sync_model::Note;
@@ -19,7 +17,7 @@ use wait_cores::OnceCore;
 #[derive(Drop)]
 pub struct Once<T: Copy, N: Note> {
     pub(crate) object: Object<OnceCore<T>, N>,
-    ghost begins: { start_of object ≡ start (callers_of object) },
+    ghost begins: { OnceBegins (callers_of object) (start_of object) },
 }
 
 /// The pass of one caller to a `Once`.

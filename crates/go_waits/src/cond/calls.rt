@@ -1,5 +1,5 @@
 //! The calls of a cond that notify.
-ghost use Rattle.std.specs.Prelude.{◌<◌};
+ghost use Rattle.std.specs.Prelude.{◌≡◌, ◌<◌};
 ghost use Rattle.wait_cores.specs.declared.notify.NotifyEvent.{NotifyEvent};
 ghost use Rattle.ruled_object.specs.Growth.{KeepsNote};
 ghost use Rattle.ruled_object.specs.Passes.{left_of, IsOneLess};
@@ -7,16 +7,18 @@ ghost use Rattle.go_waits.specs.CondCalls.{CondDid, Makes};
 ghost use Rattle.go_waits.specs.Conds.{IsHomeOf, IsPassOf, IsCondLawful};
 
 use super::{Cond, CondPass};
+use crate::answers::done;
+use protocols::CondStage;
+use running::call;
 use std::sync::Wait;
 use sync_model::{Answer, Note};
 use sync_outside::{At, Clock};
-use wait_cores::NotifyEvent;
 
 impl<N: Note> Cond<N> {
     /// Go's `Signal`: notifies the oldest ticket that isn't notified, if there is one. Its caller may hold the mutex, and
     /// needn't.
     ///
-    /// It synchronizes before the leaving of the ticket that it notifies.
+    /// It synchronizes before the leaving of the ticket that it notifies. Its own caller learns nothing.
     pub fn signal<C: Clock, R: Wait>(
         &self,
         rt: &R,
@@ -29,14 +31,15 @@ impl<N: Note> Cond<N> {
         ensures pass { IsPassOf self.now pass.new × IsOneLess pass.old pass.new }
         ensures note { KeepsNote N.at N.own N.front note.old note.new }
         ensures events { CondDid self.now (Makes NotifyEvent.Signal) pass.old (N.front note.old) result pass.new (N.front note.new) }
+        ensures no_edge { N.front note.new ≡ N.front note.old }
         ensures journal { IsCondLawful self.now pass.new }
     {
-        self.make(rt, at.home, pass, note, NotifyEvent::Signal)
+        done(call(&self.object, rt, at, pass, note, CondStage::Signal))
     }
 
     /// Go's `Broadcast`: notifies every ticket that was taken. Its caller may hold the mutex, and needn't.
     ///
-    /// It synchronizes before the leaving of each of them.
+    /// It synchronizes before the leaving of each of them. Its own caller learns nothing.
     pub fn broadcast<C: Clock, R: Wait>(
         &self,
         rt: &R,
@@ -49,8 +52,9 @@ impl<N: Note> Cond<N> {
         ensures pass { IsPassOf self.now pass.new × IsOneLess pass.old pass.new }
         ensures note { KeepsNote N.at N.own N.front note.old note.new }
         ensures events { CondDid self.now (Makes NotifyEvent.Broadcast) pass.old (N.front note.old) result pass.new (N.front note.new) }
+        ensures no_edge { N.front note.new ≡ N.front note.old }
         ensures journal { IsCondLawful self.now pass.new }
     {
-        self.make(rt, at.home, pass, note, NotifyEvent::Broadcast)
+        done(call(&self.object, rt, at, pass, note, CondStage::Broadcast))
     }
 }

@@ -1,7 +1,6 @@
 //! Wait groups for the tests, and their callers.
-ghost use Rattle.std.specs.Prelude.{◌≡◌, ◌≤◌, ◌≤ℤ◌, pos, false, IfOk};
-ghost use Rattle.ruled_object.specs.Passes as object;
-ghost use Rattle.go_waits.specs.Groups.{callers_of, AreGroupPasses, waits_by};
+ghost use Rattle.std.specs.Prelude.{◌≡◌, ◌≤◌, ◌≤ℤ◌, pos, IfOk};
+ghost use Rattle.go_waits.specs.Groups.{callers_of, AreGroupPasses, IsPassOf};
 
 use crate::group::{GroupPass, WaitGroup};
 use std::alloc::{AllocError, Global};
@@ -58,8 +57,7 @@ pub(super) struct Member<'a> {
     pass: GroupPass<FrontNote>,
     note: FrontNote,
     ghost sized: { callers_of group.now ≡ callers },
-    ghost is: { object.IsPassOf group.now.object pass },
-    ghost between: { waits_by (object.own_by pass) ≡ false },
+    ghost is: { IsPassOf group.now pass },
 }
 
 impl<'a> Member<'a> {

@@ -1,12 +1,11 @@
-use Rattle.std.proofs.Common.{◌≡◌, ℕ, ◌<◌, ◌≤◌, ap, sym, ◌∙◌, subst, arith}
-use Rattle.std.specs.Prelude.{ℤ, pos, ◌≤ℤ◌, replicate}
+use Rattle.std.proofs.Common.{◌≡◌, ℕ, ◌<◌, ◌≤◌, ap, ◌∙◌, subst, arith}
+use Rattle.std.specs.Prelude.{ℤ, pos, ◌≤ℤ◌}
 use Rattle.std.proofs.Common.{w32}
 use Rattle.std.proofs.lemmas.Int.{to_z-of_z}
 use Rattle.wait_cores.specs.declared.group.GroupEvent.TheVariants.{Add}
-use Rattle.wait_cores.specs.declared.group.GroupPlace.TheVariants.{Out}
 use Rattle.wait_cores.specs.declared.group.GroupReply.{GroupReply}
 use Rattle.wait_cores.specs.GroupMachine.{GroupState, start, next, callers_of}
-use Rattle.go_waits.specs.Groups.{IsBegun, waits_by}
+use Rattle.go_waits.specs.Groups.{IsBegun}
 use Rattle.go_waits.proofs.GroupStart.{begins}
 use Rattle.go_waits.proofs.group.WaitGroup.new.Goals as goal
 
@@ -16,23 +15,12 @@ begun callers delta core new reply least few some is sized read back step =
     let below : 0 < callers_of core = omega arith in
     begins callers delta new reply least few some (subst (λ (d : ℤ). next (start callers) 0 (Add d) ≡ (new, reply)) back (subst (λ (s : GroupState). next s 0 (Add read) ≡ (new, reply)) is (step 0 below)))
 
-pub invariant_of-result : goal.invariant_of-result
-invariant_of-result g c =
-    let at = begun c.args.callers c.args.start c.in_ok-core.core c.add-started.new.self _ c.requires.start.0 c.requires.start.1 c.requires.callers.0 c.in_ok-core.ensures.start c.in_ok-core.ensures.callers _ (to_z-of_z w32 c.args.start c.ranges.start) c.add-started.ensures.step in
-    let object = c.in_ok-object.ensures.object in
-    record { begins = ap (λ (s : GroupState). s.places) object.1 ∙ (at.1 ∙ ap (λ (n : ℕ). replicate n Out) (sym object.0)) }
+pub new-requires-2-clause-begun : goal.new-requires-2-clause-begun
+new-requires-2-clause-begun g c =
+    (begun c.args.callers c.args.start c.in_ok-core.core c.add-started.new.self _ c.requires.start.0 c.requires.start.1 c.requires.callers.0 c.in_ok-core.ensures.start c.in_ok-core.ensures.callers _ (to_z-of_z w32 c.args.start c.ranges.start) c.add-started.ensures.step).1
 
 pub returns-clause-group : goal.returns-clause-group
 returns-clause-group g c =
     let at = begun c.args.callers c.args.start c.in_ok-core.core c.add-started.new.self _ c.requires.start.0 c.requires.start.1 c.requires.callers.0 c.in_ok-core.ensures.start c.in_ok-core.ensures.callers _ (to_z-of_z w32 c.args.start c.ranges.start) c.add-started.ensures.step in
     let object = c.in_ok-object.ensures.object in
     (object.0, (ap (λ (s : GroupState). pos s.counter) object.1 ∙ at.0, ap (λ (s : GroupState). s.places) object.1 ∙ at.1), object.2)
-
-pub returns-clause-passes : goal.returns-clause-passes
-returns-clause-passes g c =
-    let new = c.in_ok-object.ensures.passes in record {
-      all = record { count = new.all.count; each = λ i pass is. (record { of = (new.all.each i pass is).0; between = ap waits_by (new.own i pass is) }, (new.all.each i pass is).1) };
-      left = new.left;
-      seen = new.seen;
-      own = new.own;
-    }

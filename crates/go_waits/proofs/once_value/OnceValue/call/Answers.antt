@@ -7,6 +7,12 @@ use Rattle.go_waits.specs.Onces.{start_of}
 use Rattle.go_waits.proofs.OnceRunning.{meets-append, deeds_run}
 use Rattle.go_waits.proofs.once_value.OnceValue.call.Goals as goal
 
+pub function-value-requires : goal.function-value-requires
+function-value-requires g c =
+    let first = rw c.in-Done-Run.field-0-is at c.in-Done-Run.ensures.events in
+    let stands = rw c.in-Done-Run.field-0-is at c.in-Done-Run.ensures.pass in
+    c.requires.function c.begin.new.pass (record { runs = stands.0.0; alone = c.begin.ensures.once; less = stands.1; front = g.N.Note.front c.begin.new.note; entries = first.0; grows = first.1; deeds = first.2 })
+
 pub returns-in-Done-clause-events : goal.returns-in-Done-clause-events
 returns-in-Done-clause-events g c =
     let front = g.N.Note.front in

@@ -9,7 +9,7 @@ invariant_of-result c =
     let pass = c.in_ok-pass.pass in
     let whole = c.pop.ensures.items ∙ ap (λ r. front ++ option_to_list r) c.in_ok-pass.was in
     let is = c.requires.passes (length front) pass (subst (λ l. slice_get l (length front) ≡ Some pass) (sym whole) (at_last front pass)) in
-    record { sized = c.requires.callers; is = is.of; between = is.between }
+    record { sized = c.requires.callers; is = is }
 
 pub returns : goal.returns
 returns c i pass is = c.requires.passes i pass (subst (λ l. slice_get l i ≡ Some pass) (sym c.pop.ensures.items) (within c.pop.new.self.items (option_to_list c.pop.result) i pass is))

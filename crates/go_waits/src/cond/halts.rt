@@ -1,0 +1,35 @@
+//! Halting a cond by a misuse.
+ghost use Rattle.std.specs.Prelude.{◌≡◌};
+ghost use Rattle.sync_model.specs.declared.journal.Deed.TheVariants.{Halt};
+ghost use Rattle.sync_model.specs.Journal.{halt_of};
+ghost use Rattle.ruled_object.specs.Gathered.{SamePasses};
+ghost use Rattle.ruled_object.specs.Passes.{SamePass};
+ghost use Rattle.go_waits.specs.Conds.{CondJournal, CondMade, CondHalts, AreAllPasses, IsPassOf, IsCondWhole, IsCondSeen};
+
+use super::{Cond, CondPass};
+use std::sync::Wait;
+use sync_model::{Misuse, Note};
+
+impl<N: Note> Cond<N> {
+    /// Halts the cond by a misuse, and wakes all who wait: from then on each call is answered `Halted` with the first
+    /// halt's misuse.
+    pub fn halt<R: Wait>(&self, rt: &R, pass: &mut CondPass<N>, note: &N, misuse: Misuse)
+        requires pass { IsPassOf self.now pass.old }
+        ensures pass { IsPassOf self.now pass.new × SamePass pass.old pass.new }
+        ensures entry { (e : CondMade) × CondHalts self.now pass.old e pass.new × (e.deed ≡ Halt misuse) × (e.front ≡ N.front note.now) }
+    {
+        running::halt(&self.object, rt, pass, note, misuse);
+    }
+
+    /// The misuse of the first halt, and `None` exactly where there was none. It takes all passes, so that no call is under
+    /// way. Afterwards each pass has seen all that was done on the cond.
+    pub fn first_halt(&self, passes: &mut [CondPass<N>]) -> Option<Misuse>
+        requires { AreAllPasses self.now passes.old }
+        ensures passes { AreAllPasses self.now passes.new × SamePasses passes.old passes.new }
+        ensures history { (journal : CondJournal) × (result ≡ halt_of journal) × IsCondWhole self.now journal passes.old × IsCondWhole self.now journal passes.new }
+        ensures seen { (journal : CondJournal) × IsCondSeen self.now journal passes.new }
+        ensures one_journal { (journal : CondJournal) × (result ≡ halt_of journal) × IsCondWhole self.now journal passes.old × IsCondSeen self.now journal passes.new }
+    {
+        self.object.first_halt(passes)
+    }
+}

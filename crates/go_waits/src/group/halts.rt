@@ -1,0 +1,35 @@
+//! Halting a wait group by a misuse.
+ghost use Rattle.std.specs.Prelude.{◌≡◌};
+ghost use Rattle.sync_model.specs.declared.journal.Deed.TheVariants.{Halt};
+ghost use Rattle.sync_model.specs.Journal.{halt_of};
+ghost use Rattle.ruled_object.specs.Gathered.{SamePasses};
+ghost use Rattle.ruled_object.specs.Passes.{SamePass};
+ghost use Rattle.go_waits.specs.Groups.{GroupJournal, GroupMade, GroupHalts, AreAllPasses, IsPassOf, IsGroupWhole, IsGroupSeen};
+
+use super::{GroupPass, WaitGroup};
+use std::sync::Wait;
+use sync_model::{Misuse, Note};
+
+impl<N: Note> WaitGroup<N> {
+    /// Halts the group by a misuse, and wakes all who wait: from then on each call is answered `Halted` with the first
+    /// halt's misuse.
+    pub fn halt<R: Wait>(&self, rt: &R, pass: &mut GroupPass<N>, note: &N, misuse: Misuse)
+        requires pass { IsPassOf self.now pass.old }
+        ensures pass { IsPassOf self.now pass.new × SamePass pass.old pass.new }
+        ensures entry { (e : GroupMade) × GroupHalts self.now pass.old e pass.new × (e.deed ≡ Halt misuse) × (e.front ≡ N.front note.now) }
+    {
+        running::halt(&self.object, rt, pass, note, misuse);
+    }
+
+    /// The misuse of the first halt, and `None` exactly where there was none. It takes all passes, so that no call is under
+    /// way. Afterwards each pass has seen all that was done on the group.
+    pub fn first_halt(&self, passes: &mut [GroupPass<N>]) -> Option<Misuse>
+        requires { AreAllPasses self.now passes.old }
+        ensures passes { AreAllPasses self.now passes.new × SamePasses passes.old passes.new }
+        ensures history { (journal : GroupJournal) × (result ≡ halt_of journal) × IsGroupWhole self.now journal passes.old × IsGroupWhole self.now journal passes.new }
+        ensures seen { (journal : GroupJournal) × IsGroupSeen self.now journal passes.new }
+        ensures one_journal { (journal : GroupJournal) × (result ≡ halt_of journal) × IsGroupWhole self.now journal passes.old × IsGroupSeen self.now journal passes.new }
+    {
+        running::first_halt(&self.object, passes)
+    }
+}
