@@ -1,5 +1,5 @@
 pub mod Drops
-pub mod EventLemmas
 pub mod Finding
 pub mod Lasts
 pub mod Looked
+pub mod PoolSpelling

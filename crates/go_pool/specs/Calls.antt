@@ -1,8 +1,7 @@
 -- Which events a call makes, in order, and how it answers by them.
-use Rattle.std.specs.Prelude.{◌≡◌, ℕ, zero, suc, ◌*◌, ◌<◌, List, [], ◌∷◌, ◌++◌, Option, Some, None}
+use Rattle.std.specs.Prelude.{◌≡◌, ℕ, zero, suc, ◌*◌, ◌<◌, List, [], ◌∷◌, ◌++◌, Option}
 use Rattle.sync_model.specs.declared.answer.Answer.{Answer}
 use Rattle.sync_model.specs.declared.answer.Answer.TheVariants.{Done, Halted}
-use Rattle.sync_model.specs.declared.journal.Deed.{Deed}
 use Rattle.sync_model.specs.declared.journal.Deed.TheVariants.{Event, Refused}
 use Rattle.pool_core.specs.declared.pool_event.PoolEvent.{PoolEvent}
 use Rattle.pool_core.specs.declared.pool_event.PoolEvent.TheVariants.{Put, Sweep}
@@ -10,29 +9,25 @@ use Rattle.pool_core.specs.declared.pool_event.PoolPut.{PoolPut}
 use Rattle.pool_core.specs.declared.pool_event.PoolReply.{PoolReply}
 use Rattle.pool_core.specs.declared.pool_event.PoolReply.TheVariants as reply
 use Rattle.pool_core.specs.Looks.{look}
-use Rattle.pool_core.specs.PoolParts.{reply_of_put}
+use Rattle.pool_core.specs.PoolParts.{reply_of_put, reply_of_look}
 use Rattle.go_pool.specs.declared.pool_get.PoolGet.{PoolGet}
 use Rattle.go_pool.specs.declared.pool_get.PoolGet.TheVariants.{Item, New}
+use Rattle.go_pool.specs.Pools.{Deeds}
 
--- what events did on the parts of a pool
-abbrev pub Deeds : Type 0
-Deeds = List (Deed (PoolEvent ℕ) (PoolReply ℕ))
+-- a call is this one event, and answers what that is answered
+abbrev pub Single : {A : Type 0} → PoolEvent ℕ → (A → PoolReply ℕ) → Deeds → Answer A → Type 0
+Single event reply deeds (Done given) = deeds ≡ Event event (reply given) ∷ []
+Single event reply deeds (Halted misuse) = deeds ≡ Refused event misuse ∷ []
 
--- a put is one event, and answers what that is answered
 abbrev pub Puts : ℕ → Deeds → Answer PoolPut → Type 0
-Puts item deeds (Done put) = deeds ≡ Event (Put item) (reply_of_put put) ∷ []
-Puts item deeds (Halted misuse) = deeds ≡ Refused (Put item) misuse ∷ []
+Puts item deeds answer = Single (Put item) reply_of_put deeds answer
 
--- a sweep is one event
 abbrev pub Sweeps : Deeds → Answer Unit → Type 0
-Sweeps deeds (Done done) = deeds ≡ Event Sweep reply.Swept ∷ []
-Sweeps deeds (Halted misuse) = deeds ≡ Refused Sweep misuse ∷ []
+Sweeps deeds answer = Single Sweep (λ done. reply.Swept) deeds answer
 
--- what one look did, and the item that it took
-abbrev pub Looks : PoolEvent ℕ → Deed (PoolEvent ℕ) (PoolReply ℕ) → Answer (Option ℕ) → Type 0
-Looks event deed (Done (Some item)) = deed ≡ Event event (reply.Item item)
-Looks event deed (Done None) = deed ≡ Event event reply.Nothing
-Looks event deed (Halted misuse) = deed ≡ Refused event misuse
+-- a look answers with the item that it took, where it found one
+abbrev pub Looks : PoolEvent ℕ → Deeds → Answer (Option ℕ) → Type 0
+Looks event deeds answer = Single event reply_of_look deeds answer
 
 -- the first k looks, each of which finds nothing
 abbrev pub nothing_in : ℕ → ℕ → ℕ → Deeds

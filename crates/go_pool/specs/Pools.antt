@@ -1,6 +1,7 @@
 -- What contracts see of a pool and of the passes to it. One object keeps all parts, so the journal of each part is that object's.
 use Rattle.std.specs.Prelude.{◌≡◌, ℕ, true, List, Some, slice_get}
 use Rattle.sync_model.specs.declared.answer.Answer.{Answer}
+use Rattle.sync_model.specs.declared.journal.Deed.{Deed}
 use Rattle.sync_model.specs.declared.journal.Entry.{Entry}
 use Rattle.sync_model.specs.Journal as journals
 use Rattle.pool_core.specs.declared.pool_event.PoolEvent.{PoolEvent}
@@ -11,6 +12,7 @@ use Rattle.ruled_object.specs.declared.pass.Pass.{Pass}
 use Rattle.ruled_object.specs.Gathered as gathered
 use Rattle.ruled_object.specs.Growth as growth
 use Rattle.ruled_object.specs.Passes as object
+use Rattle.running.specs.Calls as running
 use Rattle.go_pool.specs.declared.pool.Pool.{Pool}
 
 -- an entry of a part's journal
@@ -24,6 +26,10 @@ Journal = List Made
 -- an entry at its place
 abbrev pub Placed : Type 0
 Placed = growth.Placed (PoolEvent ℕ) (PoolReply ℕ)
+
+-- what events did
+abbrev pub Deeds : Type 0
+Deeds = List (Deed (PoolEvent ℕ) (PoolReply ℕ))
 
 -- the pass of a caller
 abbrev pub PoolPass : Type 0 → Type 0
@@ -70,9 +76,9 @@ module _ {N H : Type 0} where
   abbrev pub Grows : Pool N H → PoolPass N → List ℕ → List Placed → PoolPass N → List ℕ → Type 0
   Grows pool old from es new to = growth.Grows next true (start (parts_of pool) (room_of pool)) old from es new to
 
-  -- the caller made this one event, which was answered this
-  abbrev pub Makes : Pool N H → PoolPass N → List ℕ → PoolEvent ℕ → Answer (PoolReply ℕ) → PoolPass N → List ℕ → Type 0
-  Makes pool old from event answer new to = growth.Makes next true (start (parts_of pool) (room_of pool)) old from event answer new to
+  -- the caller made the events of a call that is spelt so, one after the other, and no others. Halted is answered exactly where a halt stands before the last one's place. No event carries a moment
+  abbrev pub Did : {A : Type 0} → Pool N H → (Deeds → Answer A → Type 0) → PoolPass N → List ℕ → Answer A → PoolPass N → List ℕ → Type 0
+  Did pool spells old from answer new to = running.Did next true (start (parts_of pool) (room_of pool)) spells (λ deeds. Unit {0}) old from answer new to
 
   -- the caller made this one entry more
   abbrev pub Adds : Pool N H → PoolPass N → Made → PoolPass N → Type 0

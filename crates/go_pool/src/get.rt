@@ -1,18 +1,23 @@
 //! Getting an item of a pool.
-ghost use Rattle.std.specs.Prelude.{◌≡◌, ◌<◌, ◌*◌, ◌∷◌, [], List};
+ghost use Rattle.std.specs.Prelude.{◌≡◌, ◌≢◌, ℕ, ◌<◌, ◌*◌, Some};
+ghost use Rattle.sync_model.specs.declared.answer.Answer.TheVariants.{Done};
 ghost use Rattle.pool_core.specs.Looks.{look};
 ghost use Rattle.pool_core.specs.PoolLaws.{NamesPart};
-ghost use Rattle.ruled_object.specs.Growth.{KeepsNote, MeetsHalt, deeds_of};
+ghost use Rattle.protocols.specs.PoolStages.{pool_event};
+ghost use Rattle.ruled_object.specs.Growth.{KeepsNote};
 ghost use Rattle.ruled_object.specs.Passes.{IsOneLess, SamePass};
 ghost use Rattle.go_pool.specs.Calls.{Gets, Looks};
 ghost use Rattle.go_pool.specs.Items.{ComesFromPuts, IsLook};
-ghost use Rattle.go_pool.specs.Pools.{Placed, parts_of, fresh_of, left_of, number_of, IsHomeOf, IsPassOf, IsLawful, Grows};
+ghost use Rattle.go_pool.specs.Pools.{parts_of, fresh_of, left_of, number_of, IsHomeOf, IsPassOf, IsLawful, Did};
 
+use crate::answers::looked;
 use crate::pool::{Pool, PoolPass};
 use crate::pool_get::PoolGet;
+use pool_core::PoolCore;
 use pool_core::laws::gives_each_once;
-use pool_core::{PoolCore, PoolEvent, PoolReply};
+use protocols::PoolStage;
 use ruled_object::laws::growth;
+use running::call_within;
 use std::sync::Wait;
 use sync_model::laws::journals::journal_is_log;
 use sync_model::{Answer, Note};
@@ -22,7 +27,7 @@ impl<N: Note> Pool<N> {
     /// Takes an item that was put, or gives the pool's fresh value. It looks at the caller's own part, at the others' shared
     /// items from the next part on, round to the one before, and then among the victims in the same way; the first item
     /// that it finds is taken. The get of an item synchronizes after its put.
-    pub fn get<R: Wait, C: Clock>(
+    pub fn get<C: Clock, R: Wait>(
         &self,
         rt: &R,
         at: &At<N, C>,
@@ -33,8 +38,9 @@ impl<N: Note> Pool<N> {
         requires home { IsHomeOf N.at self.now at.now.home.now × N.at at.now.home.now note.old }
         ensures pass { IsPassOf self.now pass.new × IsOneLess pass.old pass.new }
         ensures note { KeepsNote N.at N.own N.front note.old note.new }
-        ensures events { (es : List Placed) × Grows self.now pass.old (N.front note.old) es pass.new (N.front note.new) × Gets (parts_of self.now) (number_of pass.old) (fresh_of self.now) (deeds_of es) result × MeetsHalt es result }
+        ensures events { Did self.now (Gets (parts_of self.now) (number_of pass.old) (fresh_of self.now)) pass.old (N.front note.old) result pass.new (N.front note.new) }
         ensures origin { ComesFromPuts pass.new }
+        ensures no_edge { ((item : ℕ) → result ≢ Done (PoolGet.Item item)) → N.front note.new ≡ N.front note.old }
         ensures journal { IsLawful self.now pass.new }
     {
         growth::<PoolCore, N>();
@@ -42,7 +48,7 @@ impl<N: Note> Pool<N> {
         gives_each_once();
         self.object.spend(pass);
         for number in 0..2 * self.callers {
-            match self.look(rt, at.home, pass, note, number) {
+            match self.look(rt, at, pass, note, number) {
                 Answer::Done(None) => {}
                 Answer::Done(Some(item)) => return Answer::Done(PoolGet::Item(item)),
                 Answer::Halted(misuse) => return Answer::Halted(misuse),
@@ -52,47 +58,43 @@ impl<N: Note> Pool<N> {
     }
 
     // Makes the look of this number, of a get by the pass's caller.
-    fn look<R: Wait>(
+    fn look<C: Clock, R: Wait>(
         &self,
         rt: &R,
-        home: &N::Home,
+        at: &At<N, C>,
         pass: &mut PoolPass<N>,
         note: &mut N,
         number: u32,
     ) -> Answer<Option<u64>>
         requires number { number < 2 * parts_of self.now }
         requires pass { IsPassOf self.now pass.old }
-        requires home { IsHomeOf N.at self.now home.now × N.at home.now note.old }
+        requires home { IsHomeOf N.at self.now at.now.home.now × N.at at.now.home.now note.old }
         ensures pass { IsPassOf self.now pass.new × SamePass pass.old pass.new }
         ensures note { KeepsNote N.at N.own N.front note.old note.new }
-        ensures event { (p : Placed) × Grows self.now pass.old (N.front note.old) (p ∷ []) pass.new (N.front note.new) × Looks (look (parts_of self.now) (number_of pass.old) number) p.entry.deed result × MeetsHalt (p ∷ []) result }
+        ensures events { Did self.now (Looks (look (parts_of self.now) (number_of pass.old) number)) pass.old (N.front note.old) result pass.new (N.front note.new) }
+        ensures no_edge { ((item : ℕ) → result ≢ Done (Some item)) → N.front note.new ≡ N.front note.old }
         ensures journal { IsLawful self.now pass.new }
     {
-        let event = self.look_event(pass.number(), number);
-        match self.make(rt, home, pass, note, event) {
-            Answer::Done(PoolReply::Item(item)) => Answer::Done(Some(item)),
-            Answer::Done(PoolReply::Nothing) => Answer::Done(None),
-            Answer::Halted(misuse) => Answer::Halted(misuse),
-            Answer::Done(_) => unreachable!(),
-        }
+        let stage = self.look_stage(pass.number(), number);
+        looked(call_within(&self.object, rt, at, pass, note, stage))
     }
 
     // Which look has this number.
-    fn look_event(&self, caller: u32, number: u32) -> PoolEvent<u64>
+    fn look_stage(&self, caller: u32, number: u32) -> PoolStage
         requires caller { caller < parts_of self.now }
         requires number { number < 2 * parts_of self.now }
-        ensures event { result ≡ look (parts_of self.now) caller number }
-        ensures part { NamesPart (parts_of self.now) result }
-        ensures look { IsLook result }
+        ensures event { pool_event result 0 ≡ look (parts_of self.now) caller number }
+        ensures part { NamesPart (parts_of self.now) (pool_event result 0) }
+        ensures look { IsLook (pool_event result 0) }
     {
         if number == 0 {
-            return PoolEvent::LookOwn;
+            return PoolStage::LookOwn;
         }
         let part = (caller + number) % self.callers;
         if number < self.callers {
-            PoolEvent::LookOther(part)
+            PoolStage::LookOther(part)
         } else {
-            PoolEvent::LookVictim(part)
+            PoolStage::LookVictim(part)
         }
     }
 }

@@ -1,14 +1,13 @@
 //! `sync.Pool` of Go for callers in threads: the machine of a pool, shared.
 #![tactic(auto)]
 
-mod event;
+mod answers;
 mod get;
-mod halt;
+mod halts;
 pub mod laws;
 pub mod pool;
 pub mod pool_get;
-mod put;
-mod sweep;
+mod put_and_sweep;
 
 pub use pool::{Pool, PoolPass};
 pub use pool_get::PoolGet;

@@ -47,7 +47,7 @@ impl<N: Note> Pool<N> {
         ensures passes { IfOk result (λ made. AreNew made.0 calls made.1.items) }
     {
         let core = PoolCore::new(alloc, callers, room)?;
-        let (object, passes) = Object::new(alloc, callers, calls, core, note)?;
+        let (object, passes) = running::new(alloc, callers, calls, core, note)?;
         let pool = Pool {
             object,
             callers,

@@ -1,3 +1,4 @@
 pub mod Fresh
+pub mod Fronts
 pub mod SoFar
 pub mod Stands

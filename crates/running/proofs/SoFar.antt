@@ -12,9 +12,9 @@ use Rattle.ruled_object.specs.Growth.{Placed, deeds_of, Grows, MeetsHalt, AddUp,
 use Rattle.protocols.specs.declared.step.Step.{Step}
 use Rattle.protocols.specs.declared.step.Step.TheVariants.{Finished, Misused, Waits, Next, Never}
 use Rattle.protocols.specs.Spelling.{CallAnswer, Rest, IsEventOf, Spells, IsTimely, AreTimely}
-use Rattle.protocols.specs.Steps.{IsAt, KeepsResults, GainsAtItsEnd}
+use Rattle.protocols.specs.Steps.{IsAt, KeepsResults, GainsAtItsEnd, LeadsOn}
 use Rattle.running.specs.Calls.{Did}
-use Rattle.running.specs.Stages.{meant, Made}
+use Rattle.running.specs.Stages.{meant, Made, StandsOn, acquires_by}
 
 module _ {E R : Type 0} where
   deeds_on : (es : List (Placed E R)) (p : Placed E R) (rest : List (Deed E R)) → deeds_of (es ++ p ∷ []) ++ rest ≡ deeds_of es ++ p.entry.deed ∷ rest
@@ -55,6 +55,26 @@ module _ {G O : Type 0} where
   IsEnd (Done (Next later)) answer = ⊥
   IsEnd (Done Never) answer = ⊥
   IsEnd (Halted misuse) answer = answer ≡ Halted misuse
+
+module _ {G O : Type 0} where
+  -- an event after which the call goes on acquires nothing
+  on_quiet : (gains : O → Bool) (step : Step G O) (later : G) → IsOn step later → acquires_by gains (Done step) ≡ false
+  on_quiet gains (Finished outcome) later is = absurd is
+  on_quiet gains (Misused misuse) later is = absurd is
+  on_quiet gains (Waits stage) later is = refl
+  on_quiet gains (Next stage) later is = refl
+  on_quiet gains Never later is = refl
+
+  -- and leads to where the later stage is allowed
+  pub leads_on : {W : Type 0} (out : W) (left : O → W) (allows : W → G → Bool) (stand : W) (came : Answer (Step G O)) (step : Step G O) (later : G) → StandsOn out left allows stand came → came ≡ Done step → IsOn step later → allows stand later ≡ true
+  leads_on out left allows stand came step later stands is on = by_step step (subst (λ (a : Answer (Step G O)). StandsOn out left allows stand a) is stands) on
+    where
+      by_step : (s : Step G O) → LeadsOn out left allows stand s → IsOn s later → allows stand later ≡ true
+      by_step (Finished outcome) leads here = absurd here
+      by_step (Misused misuse) leads here = absurd here
+      by_step (Waits stage) leads here = ap (allows stand) (sym here) ∙ leads
+      by_step (Next stage) leads here = ap (allows stand) (sym here) ∙ leads
+      by_step Never leads here = absurd here
 
 module _ {G O E R : Type 0} where
   rest_on : (step : Step G O) (later : G) (rest : List (Deed E R)) (on : G → Type 0) (answer : CallAnswer O) → IsOn step later → on later → Rest step rest on answer
@@ -173,3 +193,15 @@ module _ {S N E R G O : Type 0} (next : S → ℕ → E → S × R) (halts : Boo
     halted = meets_end event_of meaning due (so.entries ++ made.one ∷ []) step made.answer answer made.means end (tells so.entries made.one made.answer made.halted);
     moments = timely_on moment shows so.entries made.one so.moments (subst (λ (d : Deed E R). IsTimely moment shows d) (sym made.deed) (timely_deed moment shows made.event made.answer made.timely));
   }
+
+  -- the same, by what one stage came to: it goes on, or it ends the call
+  pub on_by : (stage : G) (old mid new : Pass S N E R) (from middle to : List ℕ) (due later : G) (came : Answer (Step G O)) (step : Step G O) → AddUp N next halts start → ((r : R) → KeepsResults gives due (meaning due r)) → ((r : R) → (acquired : Bool) × GainsAtItsEnd gains due acquired (meaning due r)) → SoFar stage old from due mid middle
+      → Made next halts start event_of moment meaning shows due mid middle came new to → (acquires_by (gains due) came ≡ false → to ≡ middle) → came ≡ Done step → IsOn step later → SoFar stage old from later new to
+  on_by stage old mid new from middle to due later came step both keeps gained so made quiet is on =
+      goes_on stage old mid new from middle to due later step both keeps gained so (subst (λ (a : Answer (Step G O)). Made next halts start event_of moment meaning shows due mid middle a new to) is made) on
+      (quiet (ap (λ (a : Answer (Step G O)). acquires_by (gains due) a) is ∙ on_quiet (gains due) step later on))
+
+  pub ends_at : (stage : G) (old mid new : Pass S N E R) (from middle to : List ℕ) (due : G) (came step : Answer (Step G O)) (answer : CallAnswer O) → AddUp N next halts start → LastTells E R → SoFar stage old from due mid middle
+      → Made next halts start event_of moment meaning shows due mid middle came new to → came ≡ step → IsEnd step answer → Did next halts start (λ ds a. Spells event_of meaning stage ds a) (λ ds. AreTimely moment shows ds) old from answer new to
+  ends_at stage old mid new from middle to due came step answer both tells so made is end =
+      ends stage old mid new from middle to due step answer both tells so (subst (λ (a : Answer (Step G O)). Made next halts start event_of moment meaning shows due mid middle a new to) is made) end

@@ -1,5 +1,6 @@
 -- What one call of a running object did.
 use Rattle.std.specs.Prelude.{◌≡◌, ℕ, Bool, true, false, List, Result, Ok, Err, refl}
+use mathlib.Core.Path.{sym, subst}
 use Rattle.sync_model.specs.declared.misuse.Misuse.{Misuse}
 use Rattle.sync_model.specs.declared.answer.Answer.{Answer}
 use Rattle.sync_model.specs.declared.answer.Answer.TheVariants.{Done, Halted}
@@ -45,3 +46,25 @@ pub left_out : {O W : Type 0} (out : W) (answer : CallAnswer O) → left_in out 
 left_out out (Done (Ok outcome)) = refl
 left_out out (Done (Err misuse)) = refl
 left_out out (Halted misuse) = refl
+
+module _ {A B : Type 0} where
+  -- an answer told in other words: Halted stays what it is
+  abbrev pub told : (A → B) → Answer A → Answer B
+  told words (Done given) = Done (words given)
+  told words (Halted misuse) = Halted misuse
+
+  pub halt_told : {E R : Type 0} (words : A → B) (answer : Answer A) (entries : List (Placed E R)) → MeetsHalt entries answer → MeetsHalt entries (told words answer)
+  halt_told words (Done given) entries meets = meets
+  halt_told words (Halted misuse) entries meets = meets
+
+-- what a call did by one spelling it did by another one, where that says the same in other words
+pub retold : {S N E R A B : Type 0} (next : S → ℕ → E → S × R) (halts : Bool) (start : S) (spells : List (Deed E R) → Answer A → Type 0) (timely : List (Deed E R) → Type 0) (spells_so : List (Deed E R) → Answer B → Type 0) (timely_so : List (Deed E R) → Type 0) (words : A → B) (old new : Pass S N E R) (from to : List ℕ) (answer : Answer A) (result : Answer B)
+    → ((deeds : List (Deed E R)) → spells deeds answer → spells_so deeds (told words answer)) → ((deeds : List (Deed E R)) → timely deeds → timely_so deeds) → result ≡ told words answer
+    → Did next halts start spells timely old from answer new to → Did next halts start spells_so timely_so old from result new to
+retold next halts start spells timely spells_so timely_so words old new from to answer result spelt moments is did = record {
+  entries = did.entries;
+  grows = did.grows;
+  spelt = subst (λ a. spells_so (deeds_of did.entries) a) (sym is) (spelt _ did.spelt);
+  halted = subst (λ a. MeetsHalt did.entries a) (sym is) (halt_told words answer did.entries did.halted);
+  moments = moments _ did.moments;
+}

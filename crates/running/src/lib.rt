@@ -4,6 +4,7 @@
 mod begin;
 mod calls;
 mod halts;
+pub mod laws;
 mod stage;
 
 pub use begin::new;

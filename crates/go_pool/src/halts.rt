@@ -11,14 +11,14 @@ use std::sync::Wait;
 use sync_model::{Misuse, Note};
 
 impl<N: Note> Pool<N> {
-    /// Halts the pool by a misuse: from then on each call is answered `Halted` with the first halt's misuse. Nobody waits
-    /// at a pool, so nobody is woken.
+    /// Halts the pool by a misuse: from then on each call is answered `Halted` with the first halt's misuse. It is one entry
+    /// of the journal, neither releases nor acquires, and takes nothing off the calls that are left.
     pub fn halt<R: Wait>(&self, rt: &R, pass: &mut PoolPass<N>, note: &N, misuse: Misuse)
         requires pass { IsPassOf self.now pass.old }
         ensures pass { IsPassOf self.now pass.new × SamePass pass.old pass.new }
         ensures entry { (e : Made) × Adds self.now pass.old e pass.new × (e.deed ≡ Halt misuse) × (e.front ≡ N.front note.now) }
     {
-        self.object.halt(rt, pass, note, misuse);
+        running::halt(&self.object, rt, pass, note, misuse);
     }
 
     /// The misuse of the first halt, and `None` exactly where there was none. It takes all passes, so that no call is under
@@ -28,6 +28,7 @@ impl<N: Note> Pool<N> {
         ensures passes { AreAllPasses self.now passes.new × SamePasses passes.old passes.new }
         ensures history { (journal : Journal) × (result ≡ halt_of journal) × IsWhole self.now journal passes.old × IsWhole self.now journal passes.new }
         ensures seen { (journal : Journal) × IsSeen self.now journal passes.new }
+        ensures one_journal { (journal : Journal) × (result ≡ halt_of journal) × IsWhole self.now journal passes.old × IsSeen self.now journal passes.new }
     {
         self.object.first_halt(passes)
     }
