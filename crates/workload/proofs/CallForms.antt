@@ -30,12 +30,13 @@ use Rattle.sync_model.specs.SequentialAtomic.{has_bits, is_of, is_atomic_call}
 use Rattle.sync_model.specs.declared.value.TheConstants.{MAX_VALUE}
 use Rattle.workload.specs.declared.object.ObjectKind.{ObjectKind}
 use Rattle.workload.specs.declared.object.ObjectKind.TheVariants as kinds
-use Rattle.workload.specs.Plan.{has_call}
+use Rattle.workload.specs.Plan.{word_of, has_call}
 use Rattle.workload.specs.NumberWords.{number_word, is_number_to}
 use Rattle.workload.specs.CallWords.{map_verb, map_operands, atomic_verb, atomic_operands, mutex_verb, rw_mutex_verb, cond_verb, group_verb, group_operands, pool_verb, pool_operands, verb_of, operands_of}
 use Rattle.workload.specs.Draft.{operation_keys, is_operation, is_map_call, is_group_call, is_pool_call, is_value, is_range_operation}
-use Rattle.workload.specs.Checks.{PassesWith, map_form, atomic_form, bits_form, mutex_form, rw_mutex_form, cond_form, group_form, pool_form, form_of, ranges_in}
+use Rattle.workload.specs.Checks.{map_form, atomic_form, bits_form, mutex_form, rw_mutex_form, cond_form, group_form, pool_form, form_of, ranges_in}
 use Rattle.workload.proofs.Passing.{both}
+use Rattle.workload.proofs.FirstFailing.{PassesWith}
 use Rattle.workload.proofs.Numbers.{is_number-decimal, number_of-decimal}
 use Rattle.workload.proofs.CallWords.{number_passes, amount_passes}
 
@@ -114,7 +115,7 @@ pool_passes pool_calls.Get h = (refl, refl)
 pool_passes pool_calls.Sweep h = (refl, refl)
 
 -- an operation that the kind of its object has
-pub call_form : (kind : ObjectKind) (o : Operation) → has_call kind o ≡ true → is_operation o ≡ true → PassesWith (form_of (verb_of o) kind) (operands_of o) (operation_keys o)
+pub call_form : (kind : ObjectKind) (o : Operation) → has_call kind o ≡ true → is_operation o ≡ true → PassesWith (form_of (verb_of o) (word_of kind)) (operands_of o) (operation_keys o)
 call_form kinds.Map (operations.Map c) on h = map_passes c h
 call_form kinds.Map operations.Range on h = (refl, refl)
 call_form (kinds.Atomic k) (operations.Atomic c) on h = atomic_passes k c on

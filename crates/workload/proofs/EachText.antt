@@ -51,13 +51,13 @@ use Rattle.workload.specs.NumberWords.{number_word, is_number, is_number_to, is_
 use Rattle.workload.specs.CallWords.{verb_of, operands_of}
 use Rattle.workload.specs.Words.{spelled, kind_parameters, turn_word}
 use Rattle.workload.specs.Draft.{Draft, started, with_line, declared, may_follow, names_object, names_reference, is_kind, is_operation, is_value, is_item, is_range, operation_keys, count_of, limit_of, range_count}
-use Rattle.workload.specs.Checks.{Check, first_failing, form_words, parameter_words, PassesWith, map_form, bits_form, atomic_form, mutex_form, rw_mutex_form, cond_form, group_form, pool_form, form_of, parameters_of, parameters_checks, reference_checks, is_mutex, is_int64, key_operands, ranges_in, limit_checks, form_checks, object_checks, worker_checks, item_checks, line_checks, first_checks, word_checks, reason_of}
+use Rattle.workload.specs.Checks.{Check, first_failing, form_words, parameter_words, keys_among, map_form, bits_form, atomic_form, mutex_form, rw_mutex_form, cond_form, group_form, pool_form, form_of, parameters_of, parameters_checks, reference_checks, is_mutex, is_int64, ranges_in, limit_checks, form_checks, object_checks, worker_checks, item_checks, line_checks, first_checks, word_checks, reason_of}
 use Rattle.workload.specs.Reads.{Says, IsRead, ReadsOn, Reads, FirstFault, IsRefused}
 use Rattle.workload.proofs.Passing.{both, pair}
 use Rattle.workload.proofs.Keywords.{keyword_from}
 use Rattle.workload.proofs.CallWords.{number_at, number_said, signed_of, amount_said}
 use Rattle.workload.proofs.CallForms.{call_form, ranges_of}
-use Rattle.workload.proofs.FirstFailing.{form_passes}
+use Rattle.workload.proofs.FirstFailing.{PassesWith, form_passes}
 use Rattle.workload.proofs.Numbers.{decimal-number_of}
 use Rattle.workload.proofs.OneReading.{IsSmall, read_small}
 
@@ -410,7 +410,7 @@ pool_spelled verbs.Get words h = (operations.Pool pool_calls.Get, refl, sym (non
 pool_spelled verbs.Sweep words h = (operations.Pool pool_calls.Sweep, refl, sym (none_said words h), refl, refl)
 pool_spelled verb words h = absurd cc
 
-spelled_on : (kind : ObjectKind) (verb : Verb) (words : List (List ℕ)) → first_failing (form_words (form_of verb kind) words) ≡ None → Spelled kind verb words
+spelled_on : (kind : ObjectKind) (verb : Verb) (words : List (List ℕ)) → first_failing (form_words (form_of verb (word_of kind)) words) ≡ None → Spelled kind verb words
 spelled_on kinds.Map verb words h = map_spelled verb words h
 spelled_on (kinds.Atomic kind) verb words h = atomic_spelled kind verb words h
 spelled_on kinds.Mutex verb words h = mutex_spelled verb words h
@@ -425,18 +425,17 @@ spelled_on kind verb words h = absurd cc
 
 -- the checks of the operands alone
 operands_pass : (d : Draft) (verb : Verb) (form : Option (List Operand)) (words : List (List ℕ)) → first_failing (form_checks d verb form words) ≡ None → first_failing (form_words form words) ≡ None
-operands_pass d verb None words h = h
-operands_pass d verb (Some form) words h = (both_pass (form_words (Some form) words) (limit_checks d (key_operands form words) (ranges_in verb)) h).0
+operands_pass d verb form words h = (both_pass (form_words form words) (limit_checks d (keys_among form words) (ranges_in verb)) h).0
 
-kind_said : (d : Draft) (name : List ℕ) (place : ℕ) (kind : ObjectKind) → declared d name ≡ Some (record { place = place; kind = kind }) → is_some d.current ≡ true → is_name name ≡ true → (verb : Verb) (words : List (List ℕ)) → first_failing (form_checks d verb (form_of verb kind) words) ≡ None → CallSaid d name verb words
+kind_said : (d : Draft) (name : List ℕ) (place : ℕ) (kind : ObjectKind) → declared d name ≡ Some (record { place = place; kind = kind }) → is_some d.current ≡ true → is_name name ≡ true → (verb : Verb) (words : List (List ℕ)) → first_failing (form_checks d verb (form_of verb (word_of kind)) words) ≡ None → CallSaid d name verb words
 kind_said d name place kind at current named verb words h =
-    let form = form_of verb kind in
+    let form = form_of verb (word_of kind) in
     let said = spelled_on kind verb words (operands_pass d verb form words h) in
     let o = said.0 in
     let c : Call = record { object = place; operation = o } in
     let keys = operation_keys o in
     let passes : PassesWith form words keys =
-    subst (λ (ws : List (List ℕ)). PassesWith form ws keys) said.2 (subst (λ (v : Verb). PassesWith (form_of v kind) (operands_of o) keys) said.1 (call_form kind o said.3 said.4)) in
+    subst (λ (ws : List (List ℕ)). PassesWith form ws keys) said.2 (subst (λ (v : Verb). PassesWith (form_of v (word_of kind)) (operands_of o) keys) said.1 (call_form kind o said.3 said.4)) in
     let limits = all_pass (limit_checks d keys (ranges_in verb)) (sym (form_passes d verb form words keys passes) ∙ h) in
     let on : names_object (declared d name) c ≡ true = rw at (pair (eqb place place) (has_call kind o) (eq-eqb place place refl) said.3) in
     let many : ranges_in verb ≡ count_by is_range (c ∷ []) = ap ranges_in (sym said.1) ∙ sym (ranges_of o) in

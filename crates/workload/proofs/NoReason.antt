@@ -74,10 +74,10 @@ items_all_pass workers (t ∷ ts) few p =
 
 form_of_call : (d : Draft) (found : Declared) (c : Call) → has_call found.kind c.operation ≡ true → is_call c ≡ true → nat_lt (call_count d.plan.scripts) MAX_CALLS ≡ true → nat_le (key_count d.plan.scripts (keys_of c)) MAX_KEYS ≡ true
     → nat_le (range_count d.plan.scripts + count_by is_range (c ∷ [])) MAX_RANGES ≡ true
-    → first_failing (form_checks d (verb_of c.operation) (form_of (verb_of c.operation) found.kind) (operands_of c.operation)) ≡ None
+    → first_failing (form_checks d (verb_of c.operation) (form_of (verb_of c.operation) (word_of found.kind)) (operands_of c.operation)) ≡ None
 form_of_call d found c on fits room keys ranges =
     let few : nat_le (range_count d.plan.scripts + ranges_in (verb_of c.operation)) MAX_RANGES ≡ true = ap (λ (n : ℕ). nat_le (range_count d.plan.scripts + n) MAX_RANGES) (sym (ranges_of c.operation)) ∙ ranges in
-    form_passes d (verb_of c.operation) (form_of (verb_of c.operation) found.kind) (operands_of c.operation) (keys_of c) (call_form found.kind c.operation on fits) ∙ rw (room, keys, few) refl
+    form_passes d (verb_of c.operation) (form_of (verb_of c.operation) (word_of found.kind)) (operands_of c.operation) (keys_of c) (call_form found.kind c.operation on fits) ∙ rw (room, keys, few) refl
 
 call_passes : (d : Draft) (o : Option Declared) (n : List ℕ) (c : Call) → declared d n ≡ o → names_object o c ≡ true → is_some d.current ≡ true → is_name n ≡ true → is_call c ≡ true
     → nat_lt (call_count d.plan.scripts) MAX_CALLS ≡ true → nat_le (key_count d.plan.scripts (keys_of c)) MAX_KEYS ≡ true

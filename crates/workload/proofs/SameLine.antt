@@ -22,7 +22,6 @@ use Rattle.sync_model.specs.declared.lock_call.MutexCall.TheVariants as mutex_ca
 use Rattle.sync_model.specs.declared.lock_call.RwMutexCall.{RwMutexCall}
 use Rattle.sync_model.specs.declared.lock_call.RwMutexCall.TheVariants as rw_mutex_calls
 use Rattle.sync_model.specs.SequentialAtomic.{is_atomic_call}
-use Rattle.workload.specs.declared.keyword.Keyword.{Keyword}
 use Rattle.workload.specs.declared.keyword.Verb.{Verb}
 use Rattle.workload.specs.declared.keyword.Verb.TheVariants as verbs
 use Rattle.workload.specs.declared.limits.TheConstants.{MAX_AMOUNT, MAX_CODE, MAX_WORKERS}
@@ -35,7 +34,7 @@ use Rattle.workload.specs.declared.line.Line.TheVariants as lines
 use Rattle.workload.specs.declared.turn.Turn.{Turn}
 use Rattle.workload.specs.declared.turn.Turn.TheVariants as turns
 use Rattle.workload.specs.Plan.{word_of, is_amount, reference_of, has_call}
-use Rattle.workload.specs.KeywordWords.{keyword_word, keyword_at}
+use Rattle.workload.specs.KeywordWords.{keyword_word}
 use Rattle.workload.specs.NumberWords.{is_number}
 use Rattle.workload.specs.CallWords.{verb_of, map_verb, atomic_verb, mutex_verb, rw_mutex_verb, cond_verb, group_verb, pool_verb, operands_of, map_operands, atomic_operands, group_operands, pool_operands}
 use Rattle.workload.specs.Words.{keyword_of, arguments_of, spelled, kind_parameters, turn_word}
@@ -44,14 +43,11 @@ use Rattle.workload.proofs.Passing.{both}
 use Rattle.workload.proofs.Follows.{object_follows, schedule_follows, call_follows}
 use Rattle.workload.proofs.References.{Refers, some_reference, no_reference}
 use Rattle.workload.proofs.Numbers.{is_number-decimal}
-use Rattle.workload.proofs.Keywords.{keyword_at-keyword_word}
+use Rattle.workload.proofs.Keywords.{same_keyword}
 use Rattle.workload.proofs.CallWords.{map_call_at, map_call_spelled, atomic_call_at, atomic_call_spelled, signed_of, amount_spelled, group_call_at, group_call_spelled, pool_call_at, pool_call_spelled}
 
 some_is : {X : Type 0} (x y : X) → Some x ≡ Some y → x ≡ y
 some_is x y e = cc
-
-same_keyword : (k l : Keyword) → keyword_word k ≡ keyword_word l → k ≡ l
-same_keyword k l e = some_is k l (sym (keyword_at-keyword_word k) ∙ ap keyword_at e ∙ keyword_at-keyword_word l)
 
 heads : {X : Type 0} (x y : X) (xs ys : List X) → x ∷ xs ≡ y ∷ ys → (x ≡ y) × (xs ≡ ys)
 heads x y xs ys e = (cc, cc)

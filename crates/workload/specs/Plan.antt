@@ -56,20 +56,24 @@ abbrev pub is_amount : ℤ → Bool
 is_amount (pos n) = nat_le n MAX_AMOUNT
 is_amount (negsuc n) = nat_lt n MAX_AMOUNT
 
--- whether an object of this kind has the operation: an atomic's operands are of its type, and in its range
+-- whether objects of this word have the operation: an atomic's operands are of its type, and in its range
+abbrev pub has_operation : ObjectWord → Operation → Bool
+has_operation words.Map (operations.Map call) = true
+has_operation words.Map operations.Range = true
+has_operation (words.Atomic kind) (operations.Atomic call) = is_atomic_call kind call
+has_operation words.Mutex (operations.Mutex call) = true
+has_operation words.RwMutex (operations.RwMutex call) = true
+has_operation words.Cond (operations.Cond call) = true
+has_operation words.WaitGroup (operations.WaitGroup call) = true
+has_operation words.Once operations.Once = true
+has_operation words.OnceFunc operations.OnceFunc = true
+has_operation words.OnceValue operations.OnceValue = true
+has_operation words.Pool (operations.Pool call) = true
+has_operation word operation = false
+
+-- whether an object of this kind has it
 abbrev pub has_call : ObjectKind → Operation → Bool
-has_call kinds.Map (operations.Map call) = true
-has_call kinds.Map operations.Range = true
-has_call (kinds.Atomic kind) (operations.Atomic call) = is_atomic_call kind call
-has_call kinds.Mutex (operations.Mutex call) = true
-has_call kinds.RwMutex (operations.RwMutex call) = true
-has_call (kinds.Cond mutex) (operations.Cond call) = true
-has_call (kinds.WaitGroup start) (operations.WaitGroup call) = true
-has_call (kinds.Once atomic delta) operations.Once = true
-has_call (kinds.OnceFunc code) operations.OnceFunc = true
-has_call (kinds.OnceValue value) operations.OnceValue = true
-has_call kinds.Pool (operations.Pool call) = true
-has_call kind operation = false
+has_call kind operation = has_operation (word_of kind) operation
 
 -- whether a call is on an object that is there and has it
 abbrev pub is_on : Option ObjectLine → Call → Bool

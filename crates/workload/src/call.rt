@@ -1,49 +1,11 @@
-//! The word of a call.
+//! Which call an operation is.
 ghost use Rattle.std.specs.Prelude.{◌≡◌};
-ghost use Rattle.workload.specs.KeywordWords.{verb_word};
 ghost use Rattle.workload.specs.CallWords.{map_verb, atomic_verb, mutex_verb, rw_mutex_verb, cond_verb, group_verb, pool_verb, verb_of};
 
 use crate::keyword::Verb;
 use sync_model::{
     AtomicCall, CondCall, MapCall, MutexCall, Name, Operation, PoolCall, RwMutexCall, WaitGroupCall,
 };
-
-/// The word of a call.
-pub fn verb_text(verb: Verb) -> &'static [u8]
-    ensures { result.now ≡ verb_word verb }
-{
-    match verb {
-        Verb::Load => b"load",
-        Verb::Store => b"store",
-        Verb::LoadOrStore => b"los",
-        Verb::LoadAndDelete => b"lad",
-        Verb::Delete => b"delete",
-        Verb::Swap => b"swap",
-        Verb::CompareAndSwap => b"cas",
-        Verb::CompareAndDelete => b"cad",
-        Verb::Clear => b"clear",
-        Verb::Range => b"range",
-        Verb::Add => b"add",
-        Verb::And => b"and",
-        Verb::Or => b"or",
-        Verb::Lock => b"lock",
-        Verb::Unlock => b"unlock",
-        Verb::TryLock => b"trylock",
-        Verb::RLock => b"rlock",
-        Verb::RUnlock => b"runlock",
-        Verb::TryRLock => b"tryrlock",
-        Verb::Wait => b"wait",
-        Verb::Signal => b"signal",
-        Verb::Broadcast => b"broadcast",
-        Verb::Done => b"done",
-        Verb::Do => b"do",
-        Verb::Call => b"call",
-        Verb::Value => b"value",
-        Verb::Put => b"put",
-        Verb::Get => b"get",
-        Verb::Sweep => b"sweep",
-    }
-}
 
 /// Which call of a map it is.
 pub fn map_verb(call: &MapCall<Name>) -> Verb
