@@ -6,9 +6,8 @@ ghost use Rattle.sync_model.specs.SequentialAtomic.{has_bits, is_of};
 ghost use Rattle.workload.specs.NumberWords.{number_word};
 ghost use Rattle.workload.specs.Plan.{is_amount};
 ghost use Rattle.workload.specs.Checks.{bits_form, first_failing, form_words};
-ghost use Rattle.workload.specs.declared.object.ObjectKind.TheVariants as ObjectKind;
 ghost use Rattle.sync_model.specs.declared.value.TheConstants.{MAX_VALUE};
-ghost use Rattle.workload_reader.specs.LineResult.{IsFault, IsOperands, IsMapCall, IsAtomicCall, IsMutexCall, IsRwMutexCall, IsCondCall, IsGroupCall, IsPoolCall, IsOperation};
+ghost use Rattle.workload_reader.specs.LineResult.{IsFault, IsOperands, IsCall};
 
 use crate::word_reading::{read_amount, read_name, read_none, read_number, read_value};
 use std::alloc::Global;
@@ -19,7 +18,7 @@ use sync_model::{
 use workload::fault::LineFault;
 use workload::keyword::{Operand, Verb};
 use workload::laws::checks_go_in_order;
-use workload::object::ObjectKind;
+use workload::object::ObjectWord;
 use workload::reason::Reason;
 
 /// A key.
@@ -56,7 +55,7 @@ fn read_exchange(alloc: Global, words: &[&[u8]]) -> Result<(Name, u64, u64), Lin
 /// A call of a map, `range` aside, which is read before.
 fn read_map_call(alloc: Global, verb: Verb, words: &[&[u8]]) -> Result<MapCall<Name>, LineFault>
     requires { verb ≢ Verb.Range }
-    ensures { IsMapCall verb (map (λ word. word.now) words.now) result }
+    ensures { IsCall (λ call. Operation.Map call) ObjectWord.Map verb (map (λ word. word.now) words.now) result }
 {
     match verb {
         Verb::Load => Ok(MapCall::Load {
@@ -129,7 +128,7 @@ fn read_bits(kind: AtomicKind, words: &[&[u8]]) -> Result<Number, LineFault>
 
 /// A call of an atomic of this type.
 fn read_atomic_call(kind: AtomicKind, verb: Verb, words: &[&[u8]]) -> Result<AtomicCall, LineFault>
-    ensures { IsAtomicCall kind verb (map (λ word. word.now) words.now) result }
+    ensures { IsCall (λ call. Operation.Atomic call) (ObjectWord.Atomic kind) verb (map (λ word. word.now) words.now) result }
 {
     match verb {
         Verb::Load => {
@@ -161,7 +160,7 @@ fn read_atomic_call(kind: AtomicKind, verb: Verb, words: &[&[u8]]) -> Result<Ato
 
 /// A call of a mutex.
 fn read_mutex_call(verb: Verb, words: &[&[u8]]) -> Result<MutexCall, LineFault>
-    ensures { IsMutexCall verb (map (λ word. word.now) words.now) result }
+    ensures { IsCall (λ call. Operation.Mutex call) ObjectWord.Mutex verb (map (λ word. word.now) words.now) result }
 {
     match verb {
         Verb::Lock => {
@@ -182,7 +181,7 @@ fn read_mutex_call(verb: Verb, words: &[&[u8]]) -> Result<MutexCall, LineFault>
 
 /// A call of a reader/writer mutex.
 fn read_rw_mutex_call(verb: Verb, words: &[&[u8]]) -> Result<RwMutexCall, LineFault>
-    ensures { IsRwMutexCall verb (map (λ word. word.now) words.now) result }
+    ensures { IsCall (λ call. Operation.RwMutex call) ObjectWord.RwMutex verb (map (λ word. word.now) words.now) result }
 {
     match verb {
         Verb::Lock => {
@@ -215,7 +214,7 @@ fn read_rw_mutex_call(verb: Verb, words: &[&[u8]]) -> Result<RwMutexCall, LineFa
 
 /// A call of a cond.
 fn read_cond_call(verb: Verb, words: &[&[u8]]) -> Result<CondCall, LineFault>
-    ensures { IsCondCall verb (map (λ word. word.now) words.now) result }
+    ensures { IsCall (λ call. Operation.Cond call) ObjectWord.Cond verb (map (λ word. word.now) words.now) result }
 {
     match verb {
         Verb::Wait => {
@@ -246,7 +245,7 @@ fn read_one_amount(words: &[&[u8]]) -> Result<i32, LineFault>
 
 /// A call of a wait group.
 fn read_group_call(verb: Verb, words: &[&[u8]]) -> Result<WaitGroupCall, LineFault>
-    ensures { IsGroupCall verb (map (λ word. word.now) words.now) result }
+    ensures { IsCall (λ call. Operation.WaitGroup call) ObjectWord.WaitGroup verb (map (λ word. word.now) words.now) result }
 {
     match verb {
         Verb::Add => Ok(WaitGroupCall::Add(read_one_amount(words)?)),
@@ -274,7 +273,7 @@ fn read_item(words: &[&[u8]]) -> Result<u64, LineFault>
 
 /// A call of a pool.
 fn read_pool_call(verb: Verb, words: &[&[u8]]) -> Result<PoolCall, LineFault>
-    ensures { IsPoolCall verb (map (λ word. word.now) words.now) result }
+    ensures { IsCall (λ call. Operation.Pool call) ObjectWord.Pool verb (map (λ word. word.now) words.now) result }
 {
     match verb {
         Verb::Put => Ok(PoolCall::Put(read_item(words)?)),
@@ -292,7 +291,7 @@ fn read_pool_call(verb: Verb, words: &[&[u8]]) -> Result<PoolCall, LineFault>
 
 /// A call of a once.
 fn read_once_call(verb: Verb, words: &[&[u8]]) -> Result<Operation, LineFault>
-    ensures { (atomic : ℕ) (delta : ℤ) → IsOperation (ObjectKind.Once atomic delta) verb (map (λ word. word.now) words.now) result }
+    ensures { IsCall (λ call. call) ObjectWord.Once verb (map (λ word. word.now) words.now) result }
 {
     match verb {
         Verb::Do => {
@@ -305,7 +304,7 @@ fn read_once_call(verb: Verb, words: &[&[u8]]) -> Result<Operation, LineFault>
 
 /// A call of a function made by `OnceFunc`.
 fn read_once_func_call(verb: Verb, words: &[&[u8]]) -> Result<Operation, LineFault>
-    ensures { (code : ℕ) → IsOperation (ObjectKind.OnceFunc code) verb (map (λ word. word.now) words.now) result }
+    ensures { IsCall (λ call. call) ObjectWord.OnceFunc verb (map (λ word. word.now) words.now) result }
 {
     match verb {
         Verb::Call => {
@@ -318,7 +317,7 @@ fn read_once_func_call(verb: Verb, words: &[&[u8]]) -> Result<Operation, LineFau
 
 /// A call of a function made by `OnceValue`.
 fn read_once_value_call(verb: Verb, words: &[&[u8]]) -> Result<Operation, LineFault>
-    ensures { (value : ℕ) → IsOperation (ObjectKind.OnceValue value) verb (map (λ word. word.now) words.now) result }
+    ensures { IsCall (λ call. call) ObjectWord.OnceValue verb (map (λ word. word.now) words.now) result }
 {
     match verb {
         Verb::Value => {
@@ -331,7 +330,7 @@ fn read_once_value_call(verb: Verb, words: &[&[u8]]) -> Result<Operation, LineFa
 
 /// A call of a map, or `range`.
 fn read_map_operation(alloc: Global, verb: Verb, words: &[&[u8]]) -> Result<Operation, LineFault>
-    ensures { IsOperation ObjectKind.Map verb (map (λ word. word.now) words.now) result }
+    ensures { IsCall (λ call. call) ObjectWord.Map verb (map (λ word. word.now) words.now) result }
 {
     match verb {
         Verb::Range => {
@@ -342,25 +341,25 @@ fn read_map_operation(alloc: Global, verb: Verb, words: &[&[u8]]) -> Result<Oper
     }
 }
 
-/// A call on an object of this kind.
+/// A call on an object of this word.
 pub fn read_operation(
     alloc: Global,
-    kind: ObjectKind,
+    word: ObjectWord,
     verb: Verb,
     words: &[&[u8]],
 ) -> Result<Operation, LineFault>
-    ensures { IsOperation kind verb (map (λ word. word.now) words.now) result }
+    ensures { IsCall (λ call. call) word verb (map (λ word. word.now) words.now) result }
 {
-    match kind {
-        ObjectKind::Map => read_map_operation(alloc, verb, words),
-        ObjectKind::Atomic(kind) => Ok(Operation::Atomic(read_atomic_call(kind, verb, words)?)),
-        ObjectKind::Mutex => Ok(Operation::Mutex(read_mutex_call(verb, words)?)),
-        ObjectKind::RwMutex => Ok(Operation::RwMutex(read_rw_mutex_call(verb, words)?)),
-        ObjectKind::Cond { .. } => Ok(Operation::Cond(read_cond_call(verb, words)?)),
-        ObjectKind::WaitGroup { .. } => Ok(Operation::WaitGroup(read_group_call(verb, words)?)),
-        ObjectKind::Once { .. } => read_once_call(verb, words),
-        ObjectKind::OnceFunc { .. } => read_once_func_call(verb, words),
-        ObjectKind::OnceValue { .. } => read_once_value_call(verb, words),
-        ObjectKind::Pool => Ok(Operation::Pool(read_pool_call(verb, words)?)),
+    match word {
+        ObjectWord::Map => read_map_operation(alloc, verb, words),
+        ObjectWord::Atomic(kind) => Ok(Operation::Atomic(read_atomic_call(kind, verb, words)?)),
+        ObjectWord::Mutex => Ok(Operation::Mutex(read_mutex_call(verb, words)?)),
+        ObjectWord::RwMutex => Ok(Operation::RwMutex(read_rw_mutex_call(verb, words)?)),
+        ObjectWord::Cond => Ok(Operation::Cond(read_cond_call(verb, words)?)),
+        ObjectWord::WaitGroup => Ok(Operation::WaitGroup(read_group_call(verb, words)?)),
+        ObjectWord::Once => read_once_call(verb, words),
+        ObjectWord::OnceFunc => read_once_func_call(verb, words),
+        ObjectWord::OnceValue => read_once_value_call(verb, words),
+        ObjectWord::Pool => Ok(Operation::Pool(read_pool_call(verb, words)?)),
     }
 }

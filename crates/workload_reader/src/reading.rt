@@ -15,7 +15,7 @@ use sync_model::{Call, MAX_VALUE, Seq};
 use workload::draft::Draft;
 use workload::fault::LineFault;
 use workload::keyword::{Keyword, Verb, read_keyword};
-use workload::laws::{checks_go_in_order, keywords};
+use workload::laws::{calls_pass_their_checks, checks_go_in_order, keywords};
 use workload::limits::{MAX_CALLS, MAX_KEYS, MAX_RANGES, MAX_TURNS, MAX_WORKERS};
 use workload::line::Line;
 use workload::object::{ObjectLine, ObjectWord};
@@ -78,6 +78,7 @@ fn read_call(
     ensures { IsLineOf draft.now (Keyword.Call verb) (map (λ word. word.now) arguments.now) result }
 {
     checks_go_in_order();
+    calls_pass_their_checks();
     if !draft.is_in_worker() {
         return Err(LineFault::Refused(Reason::CallOutsideWorker));
     }
@@ -88,7 +89,7 @@ fn read_call(
     let Some(found) = draft.declared(name) else {
         return Err(LineFault::Refused(Reason::UnknownName));
     };
-    let operation = read_operation(alloc, found.kind, verb, words)?;
+    let operation = read_operation(alloc, found.kind.word(), verb, words)?;
     let call = Call {
         object: found.place,
         operation,
