@@ -1,8 +1,13 @@
 -- The first of a list of checks that fails.
-use Rattle.std.proofs.Common.{◌≡◌, ℕ, true, false, cond, List, [], ◌∷◌, ◌++◌, Some, None, refl, ap, ◌∙◌}
-use Rattle.workload.specs.Checks.{first_failing, FailsFirst, PassesFirst, LimitsAreLeft, form_words, limit_checks, ranges_in}
+use Rattle.std.proofs.Common.{◌≡◌, ℕ, true, false, cond, List, [], ◌∷◌, ◌++◌, Option, Some, None, refl, ap, ◌∙◌}
+use Rattle.workload.specs.declared.keyword.Operand.{Operand}
+use Rattle.workload.specs.declared.keyword.Verb.{Verb}
+use Rattle.workload.specs.declared.reason.Reason.{Reason}
+use Rattle.workload.specs.Draft.{Draft}
+use Rattle.workload.specs.Checks.{Check, first_failing, form_words, form_checks, keys_among, limit_checks, ranges_in}
 
-pub fails_first : FailsFirst
+-- the first of some checks that fails is the first of these and others behind them
+pub fails_first : (xs ys : List Check) (r : Reason) → first_failing xs ≡ Some r → first_failing (xs ++ ys) ≡ Some r
 fails_first [] ys r e = absurd cc
 fails_first (x ∷ xs) ys r e =
     elim x.0 as (λ b. cond b (first_failing xs) (Some x.1) ≡ Some r → cond b (first_failing (xs ++ ys)) (Some x.1) ≡ Some r) [
@@ -10,7 +15,8 @@ fails_first (x ∷ xs) ys r e =
       | false ↦ λ h. h
     ] e
 
-pub passes_first : PassesFirst
+-- checks that all pass leave it to those behind them
+pub passes_first : (xs ys : List Check) → first_failing xs ≡ None → first_failing (xs ++ ys) ≡ first_failing ys
 passes_first [] ys e = refl
 passes_first (x ∷ xs) ys e =
     elim x.0 as (λ b. cond b (first_failing xs) (Some x.1) ≡ None → cond b (first_failing (xs ++ ys)) (Some x.1) ≡ first_failing ys) [
@@ -18,6 +24,10 @@ passes_first (x ∷ xs) ys e =
       | false ↦ λ h. absurd cc
     ] e
 
-pub form_passes : LimitsAreLeft
-form_passes d verb None words keys h = absurd h
-form_passes d verb (Some form) words keys h = passes_first (form_words (Some form) words) _ h.1 ∙ ap (λ (ks : List (List ℕ)). first_failing (limit_checks d ks (ranges_in verb))) h.0
+-- words of a form that pass all its checks, and the keys among them
+abbrev pub PassesWith : Option (List Operand) → List (List ℕ) → List (List ℕ) → Type 0
+PassesWith form words keys = (keys_among form words ≡ keys) × (first_failing (form_words form words) ≡ None)
+
+-- a call whose operands pass is left to the limits
+pub form_passes : (d : Draft) (verb : Verb) (form : Option (List Operand)) (words keys : List (List ℕ)) → PassesWith form words keys → first_failing (form_checks d verb form words) ≡ first_failing (limit_checks d keys (ranges_in verb))
+form_passes d verb form words keys h = passes_first (form_words form words) _ h.1 ∙ ap (λ (ks : List (List ℕ)). first_failing (limit_checks d ks (ranges_in verb))) h.0

@@ -1,14 +1,14 @@
 -- The words that lines begin with, and back.
-use Rattle.std.proofs.Common.{◌≡◌, ℕ, true, false, cond, List, [], ◌∷◌, Some, refl, ap, ◌∙◌}
+use Rattle.std.proofs.Common.{◌≡◌, ℕ, true, false, cond, List, [], ◌∷◌, ◌++◌, map, Some, None, refl, sym, ap, ◌∙◌}
 use Rattle.std.specs.Str.{bytes_eq}
-use Rattle.std.specs.List.{AllByRecursion}
 use Rattle.std.proofs.lemmas.Slice.Eq.{bytes_eq-Decides}
 use Rattle.sync_model.specs.declared.atomic_object.AtomicKind.TheVariants as types
 use Rattle.workload.specs.declared.keyword.Keyword.{Keyword}
 use Rattle.workload.specs.declared.keyword.Keyword.TheVariants as keywords
+use Rattle.workload.specs.declared.keyword.Verb.{Verb}
 use Rattle.workload.specs.declared.keyword.Verb.TheVariants as verbs
 use Rattle.workload.specs.declared.object.ObjectWord.TheVariants as words
-use Rattle.workload.specs.KeywordWords.{keyword_word, keyword_at, keyword_in, keywords_known}
+use Rattle.workload.specs.KeywordWords.{verb_word, call_verbs, other_keywords, all_keywords, keyword_word, first_named, keyword_at}
 
 -- each keyword is read back from its word
 pub keyword_at-keyword_word : (k : Keyword) → keyword_at (keyword_word k) ≡ Some k
@@ -59,21 +59,43 @@ keyword_at-keyword_word (keywords.Call verbs.Put) = refl
 keyword_at-keyword_word (keywords.Call verbs.Get) = refl
 keyword_at-keyword_word (keywords.Call verbs.Sweep) = refl
 
--- each entry of the table has its keyword's word
-spells : AllByRecursion (λ (e : List ℕ × Keyword). e.0 ≡ keyword_word e.1) keywords_known
-spells = (refl, (refl, (refl, (refl, (refl, (refl, (refl, (refl, (refl, (refl, (refl, (refl, (refl, (refl, (refl, (refl, (refl, (refl, (refl, (refl, (refl, (refl, (refl, (refl, (refl, (refl, (refl, (refl, (refl, (refl, (refl, (refl, (refl, (refl, (refl, (refl, (refl, (refl, (refl, (refl, (refl, (refl, (refl, (refl, (refl, (refl, tt))))))))))))))))))))))))))))))))))))))))))))))
+same_some : {X : Type 0} (x y : X) → Some x ≡ Some y → x ≡ y
+same_some x y e = cc
 
-same_some : (k l : Keyword) → Some k ≡ Some l → k ≡ l
-same_some k l e = cc
+-- no two keywords have one word
+pub same_keyword : (k l : Keyword) → keyword_word k ≡ keyword_word l → k ≡ l
+same_keyword k l e = same_some k l (sym (keyword_at-keyword_word k) ∙ ap keyword_at e ∙ keyword_at-keyword_word l)
 
-in_table : (entries : List (List ℕ × Keyword)) (word : List ℕ) (k : Keyword) → AllByRecursion (λ (e : List ℕ × Keyword). e.0 ≡ keyword_word e.1) entries → keyword_in entries word ≡ Some k → word ≡ keyword_word k
-in_table [] word k all h = absurd cc
-in_table (e ∷ entries) word k all h =
-    elim (bytes_eq word e.0) as (λ b. bytes_eq word e.0 ≡ b → cond b (Some e.1) (keyword_in entries word) ≡ Some k → word ≡ keyword_word k) [
-      | true ↦ λ t s. (bytes_eq-Decides word e.0).0 t ∙ all.0 ∙ ap keyword_word (same_some e.1 k s)
-      | false ↦ λ f s. in_table entries word k all.1 s
+-- what is found by its name has it
+named_first : {X : Type 0} (name : X → List ℕ) (xs : List X) (word : List ℕ) (x : X) → first_named name xs word ≡ Some x → word ≡ name x
+named_first name [] word x h = absurd cc
+named_first name (first ∷ xs) word x h =
+    elim (bytes_eq word (name first)) as (λ b. bytes_eq word (name first) ≡ b → cond b (Some first) (first_named name xs word) ≡ Some x → word ≡ name x) [
+      | true ↦ λ t s. (bytes_eq-Decides word (name first)).0 t ∙ ap name (same_some first x s)
+      | false ↦ λ f s. named_first name xs word x s
     ] refl h
 
 -- a word that is a keyword is that keyword's word
 pub keyword_from : (word : List ℕ) (k : Keyword) → keyword_at word ≡ Some k → word ≡ keyword_word k
-keyword_from word k h = in_table keywords_known word k spells h
+keyword_from word k h = named_first keyword_word all_keywords word k h
+
+-- where none of some has the name, those before them are all that is looked in
+before_others : {X : Type 0} (name : X → List ℕ) (xs ys : List X) (word : List ℕ) → first_named name ys word ≡ None → first_named name (xs ++ ys) word ≡ first_named name xs word
+before_others name [] ys word none = none
+before_others name (x ∷ xs) ys word none = ap (cond (bytes_eq word (name x)) (Some x)) (before_others name xs ys word none)
+
+no_call : (vs : List Verb) (word : List ℕ) → first_named verb_word vs word ≡ None → first_named keyword_word (map (λ verb. keywords.Call verb) vs) word ≡ None
+no_call [] word none = refl
+no_call (v ∷ vs) word none =
+    elim (bytes_eq word (verb_word v)) as (λ b. cond b (Some v) (first_named verb_word vs word) ≡ None → cond b (Some (keywords.Call v)) (first_named keyword_word (map (λ verb. keywords.Call verb) vs) word) ≡ None) [
+      | true ↦ λ h. absurd cc
+      | false ↦ λ h. no_call vs word h
+    ] none
+
+-- a word of a call is that keyword
+pub call_at : (word : List ℕ) (v : Verb) → first_named verb_word call_verbs word ≡ Some v → keyword_at word ≡ Some (keywords.Call v)
+call_at word v is = ap keyword_at (named_first verb_word call_verbs word v is) ∙ keyword_at-keyword_word (keywords.Call v)
+
+-- a word that is none of a call is looked for among the others
+pub other_at : (word : List ℕ) → first_named verb_word call_verbs word ≡ None → keyword_at word ≡ first_named keyword_word other_keywords word
+other_at word none = before_others keyword_word other_keywords (map (λ verb. keywords.Call verb) call_verbs) word (no_call call_verbs word none)

@@ -26,6 +26,7 @@ use Rattle.workload.specs.declared.reason.Reason.{Reason}
 use Rattle.workload.specs.declared.reason.Reason.TheVariants.{NoWorkersLine, LineTooLong, BadByte, UnknownWord, WrongNumberOfWords, BadName, NameTaken, UnknownName, WrongKind, BadNumber, NoSuchWorker, CallOutsideWorker, LimitReached}
 use Rattle.workload.specs.Lines.{is_short, is_clean, words_of, is_significant}
 use Rattle.workload.specs.KeywordWords.{keyword_at}
+use Rattle.workload.specs.Plan.{word_of}
 use Rattle.workload.specs.NumberWords.{is_number, is_number_to, is_amount_word, is_number_word, number_of}
 use Rattle.workload.specs.Draft.{Draft, declared, limit_of, count_of, call_count, key_count, range_count}
 
@@ -37,14 +38,6 @@ Check = Bool × Reason
 abbrev pub first_failing : List Check → Option Reason
 first_failing [] = None
 first_failing (check ∷ checks) = cond check.0 (first_failing checks) (Some check.1)
-
--- the first of some checks that fails is the first of these and others behind them
-abbrev pub FailsFirst : Type 0
-FailsFirst = (xs ys : List Check) (reason : Reason) → first_failing xs ≡ Some reason → first_failing (xs ++ ys) ≡ Some reason
-
--- checks that all pass leave it to those behind them
-abbrev pub PassesFirst : Type 0
-PassesFirst = (xs ys : List Check) → first_failing xs ≡ None → first_failing (xs ++ ys) ≡ first_failing ys
 
 -- the operands of a call of a map, behind its name, where a map has the call
 abbrev pub map_form : Verb → Option (List Operand)
@@ -126,18 +119,18 @@ pool_form verbs.Get = Some []
 pool_form verbs.Sweep = Some []
 pool_form verb = None
 
--- the operands of a call on an object of a kind
-abbrev pub form_of : Verb → ObjectKind → Option (List Operand)
-form_of verb kinds.Map = map_form verb
-form_of verb (kinds.Atomic kind) = atomic_form kind verb
-form_of verb kinds.Mutex = mutex_form verb
-form_of verb kinds.RwMutex = rw_mutex_form verb
-form_of verb (kinds.Cond mutex) = cond_form verb
-form_of verb (kinds.WaitGroup start) = group_form verb
-form_of verb (kinds.Once atomic delta) = once_form verb
-form_of verb (kinds.OnceFunc code) = once_func_form verb
-form_of verb (kinds.OnceValue value) = once_value_form verb
-form_of verb kinds.Pool = pool_form verb
+-- the operands of a call on an object of a word, where such objects have the call
+abbrev pub form_of : Verb → ObjectWord → Option (List Operand)
+form_of verb words.Map = map_form verb
+form_of verb (words.Atomic kind) = atomic_form kind verb
+form_of verb words.Mutex = mutex_form verb
+form_of verb words.RwMutex = rw_mutex_form verb
+form_of verb words.Cond = cond_form verb
+form_of verb words.WaitGroup = group_form verb
+form_of verb words.Once = once_form verb
+form_of verb words.OnceFunc = once_func_form verb
+form_of verb words.OnceValue = once_value_form verb
+form_of verb words.Pool = pool_form verb
 
 abbrev pub operand_check : Operand → List ℕ → Check
 operand_check operands.Key word = (is_name word, BadName)
@@ -163,10 +156,10 @@ abbrev pub form_words : Option (List Operand) → List (List ℕ) → List Check
 form_words None words = (false, WrongKind) ∷ []
 form_words (Some form) words = (length words == length form, WrongNumberOfWords) ∷ operand_checks form words
 
--- the form has these keys among the words, and all checks of them pass
-abbrev pub PassesWith : Option (List Operand) → List (List ℕ) → List (List ℕ) → Type 0
-PassesWith None words keys = ⊥
-PassesWith (Some form) words keys = (key_operands form words ≡ keys) × (first_failing (form_words (Some form) words) ≡ None)
+-- the keys among words of a form
+abbrev pub keys_among : Option (List Operand) → List (List ℕ) → List (List ℕ)
+keys_among None words = []
+keys_among (Some form) words = key_operands form words
 
 -- how many `range` calls a call of this word is
 abbrev pub ranges_in : Verb → ℕ
@@ -181,17 +174,11 @@ limit_checks d keys ranges =
     ∷ (nat_le (range_count d.plan.scripts + ranges) MAX_RANGES, LimitReached) ∷ []
 
 abbrev pub form_checks : Draft → Verb → Option (List Operand) → List (List ℕ) → List Check
-form_checks d verb None words = (false, WrongKind) ∷ []
-form_checks d verb (Some form) words =
-    (length words == length form, WrongNumberOfWords) ∷ operand_checks form words ++ limit_checks d (key_operands form words) (ranges_in verb)
-
--- a call whose operands pass is left to the limits
-abbrev pub LimitsAreLeft : Type 0
-LimitsAreLeft = (d : Draft) (verb : Verb) (form : Option (List Operand)) (words keys : List (List ℕ)) → PassesWith form words keys → first_failing (form_checks d verb form words) ≡ first_failing (limit_checks d keys (ranges_in verb))
+form_checks d verb form words = form_words form words ++ limit_checks d (keys_among form words) (ranges_in verb)
 
 abbrev pub object_checks : Draft → Option Declared → Verb → List (List ℕ) → List Check
 object_checks d None verb words = (false, UnknownName) ∷ []
-object_checks d (Some found) verb words = form_checks d verb (form_of verb found.kind) words
+object_checks d (Some found) verb words = form_checks d verb (form_of verb (word_of found.kind)) words
 
 abbrev pub call_checks : Draft → Verb → List (List ℕ) → List Check
 call_checks d verb [] = (is_some d.current, CallOutsideWorker) ∷ (false, WrongNumberOfWords) ∷ []

@@ -1,5 +1,5 @@
 -- The words that lines begin with: of objects, of calls, and of the others.
-use Rattle.std.specs.Prelude.{ℕ, cond, List, [], ◌∷◌, codes, Option, Some, None}
+use Rattle.std.specs.Prelude.{ℕ, cond, List, [], ◌∷◌, ◌++◌, map, codes, Option, Some, None}
 use Rattle.std.specs.Str.{bytes_eq}
 use Rattle.sync_model.specs.declared.atomic_object.AtomicKind.TheVariants as types
 use Rattle.workload.specs.declared.keyword.Keyword.{Keyword}
@@ -66,61 +66,32 @@ keyword_word keywords.Worker = codes "worker"
 keyword_word keywords.Schedule = codes "schedule"
 keyword_word (keywords.Call verb) = verb_word verb
 
--- the words that a line may begin with
-abbrev pub keywords_known : List (List ℕ × Keyword)
-keywords_known =
-    (codes "workers", keywords.Workers)
-    ∷ (codes "worker", keywords.Worker)
-    ∷ (codes "schedule", keywords.Schedule)
-    ∷ (codes "map", keywords.Object words.Map)
-    ∷ (codes "int32", keywords.Object (words.Atomic types.Int32))
-    ∷ (codes "int64", keywords.Object (words.Atomic types.Int64))
-    ∷ (codes "uint32", keywords.Object (words.Atomic types.Uint32))
-    ∷ (codes "uint64", keywords.Object (words.Atomic types.Uint64))
-    ∷ (codes "bool", keywords.Object (words.Atomic types.Bool))
-    ∷ (codes "mutex", keywords.Object words.Mutex)
-    ∷ (codes "rwmutex", keywords.Object words.RwMutex)
-    ∷ (codes "cond", keywords.Object words.Cond)
-    ∷ (codes "waitgroup", keywords.Object words.WaitGroup)
-    ∷ (codes "once", keywords.Object words.Once)
-    ∷ (codes "oncefunc", keywords.Object words.OnceFunc)
-    ∷ (codes "oncevalue", keywords.Object words.OnceValue)
-    ∷ (codes "pool", keywords.Object words.Pool)
-    ∷ (codes "load", keywords.Call verbs.Load)
-    ∷ (codes "store", keywords.Call verbs.Store)
-    ∷ (codes "los", keywords.Call verbs.LoadOrStore)
-    ∷ (codes "lad", keywords.Call verbs.LoadAndDelete)
-    ∷ (codes "delete", keywords.Call verbs.Delete)
-    ∷ (codes "swap", keywords.Call verbs.Swap)
-    ∷ (codes "cas", keywords.Call verbs.CompareAndSwap)
-    ∷ (codes "cad", keywords.Call verbs.CompareAndDelete)
-    ∷ (codes "clear", keywords.Call verbs.Clear)
-    ∷ (codes "range", keywords.Call verbs.Range)
-    ∷ (codes "add", keywords.Call verbs.Add)
-    ∷ (codes "and", keywords.Call verbs.And)
-    ∷ (codes "or", keywords.Call verbs.Or)
-    ∷ (codes "lock", keywords.Call verbs.Lock)
-    ∷ (codes "unlock", keywords.Call verbs.Unlock)
-    ∷ (codes "trylock", keywords.Call verbs.TryLock)
-    ∷ (codes "rlock", keywords.Call verbs.RLock)
-    ∷ (codes "runlock", keywords.Call verbs.RUnlock)
-    ∷ (codes "tryrlock", keywords.Call verbs.TryRLock)
-    ∷ (codes "wait", keywords.Call verbs.Wait)
-    ∷ (codes "signal", keywords.Call verbs.Signal)
-    ∷ (codes "broadcast", keywords.Call verbs.Broadcast)
-    ∷ (codes "done", keywords.Call verbs.Done)
-    ∷ (codes "do", keywords.Call verbs.Do)
-    ∷ (codes "call", keywords.Call verbs.Call)
-    ∷ (codes "value", keywords.Call verbs.Value)
-    ∷ (codes "put", keywords.Call verbs.Put)
-    ∷ (codes "get", keywords.Call verbs.Get)
-    ∷ (codes "sweep", keywords.Call verbs.Sweep)
-    ∷ []
+-- the objects' words
+abbrev pub object_words : List ObjectWord
+object_words =
+    words.Map ∷ words.Atomic types.Int32 ∷ words.Atomic types.Int64 ∷ words.Atomic types.Uint32 ∷ words.Atomic types.Uint64 ∷ words.Atomic types.Bool
+    ∷ words.Mutex ∷ words.RwMutex ∷ words.Cond ∷ words.WaitGroup ∷ words.Once ∷ words.OnceFunc ∷ words.OnceValue ∷ words.Pool ∷ []
 
--- the keyword that a table has for a word
-abbrev pub keyword_in : List (List ℕ × Keyword) → List ℕ → Option Keyword
-keyword_in [] word = None
-keyword_in (entry ∷ entries) word = cond (bytes_eq word entry.0) (Some entry.1) (keyword_in entries word)
+-- the calls' words
+abbrev pub call_verbs : List Verb
+call_verbs =
+    verbs.Load ∷ verbs.Store ∷ verbs.LoadOrStore ∷ verbs.LoadAndDelete ∷ verbs.Delete ∷ verbs.Swap ∷ verbs.CompareAndSwap ∷ verbs.CompareAndDelete ∷ verbs.Clear ∷ verbs.Range
+    ∷ verbs.Add ∷ verbs.And ∷ verbs.Or ∷ verbs.Lock ∷ verbs.Unlock ∷ verbs.TryLock ∷ verbs.RLock ∷ verbs.RUnlock ∷ verbs.TryRLock
+    ∷ verbs.Wait ∷ verbs.Signal ∷ verbs.Broadcast ∷ verbs.Done ∷ verbs.Do ∷ verbs.Call ∷ verbs.Value ∷ verbs.Put ∷ verbs.Get ∷ verbs.Sweep ∷ []
 
+-- the keywords other than calls
+abbrev pub other_keywords : List Keyword
+other_keywords = keywords.Schedule ∷ keywords.Worker ∷ keywords.Workers ∷ map (λ word. keywords.Object word) object_words
+
+-- all that a line may begin with
+abbrev pub all_keywords : List Keyword
+all_keywords = other_keywords ++ map (λ verb. keywords.Call verb) call_verbs
+
+-- the first of some things whose name it is
+abbrev pub first_named : {X : Type 0} → (X → List ℕ) → List X → List ℕ → Option X
+first_named name [] word = None
+first_named name (x ∷ others) word = cond (bytes_eq word (name x)) (Some x) (first_named name others word)
+
+-- the keyword that a word is, if it is one
 abbrev pub keyword_at : List ℕ → Option Keyword
-keyword_at word = keyword_in keywords_known word
+keyword_at word = first_named keyword_word all_keywords word

@@ -1,50 +1,11 @@
-//! What the line of a call says of it before its operands: the call's word, and the place of its object.
+//! Which call an operation is.
 ghost use Rattle.std.specs.Prelude.{◌≡◌};
-ghost use Rattle.workload.specs.KeywordWords.{verb_word};
 ghost use Rattle.workload.specs.CallWords.{map_verb, atomic_verb, mutex_verb, rw_mutex_verb, cond_verb, group_verb, pool_verb, verb_of};
-ghost use Rattle.workload.specs.Plan.{object_of};
 
 use crate::keyword::Verb;
 use sync_model::{
-    AtomicCall, Call, CondCall, MapCall, MutexCall, Name, PoolCall, RwMutexCall, WaitGroupCall,
+    AtomicCall, CondCall, MapCall, MutexCall, Name, Operation, PoolCall, RwMutexCall, WaitGroupCall,
 };
-
-/// The word of a call.
-pub fn verb_text(verb: Verb) -> &'static [u8]
-    ensures { result.now ≡ verb_word verb }
-{
-    match verb {
-        Verb::Load => b"load",
-        Verb::Store => b"store",
-        Verb::LoadOrStore => b"los",
-        Verb::LoadAndDelete => b"lad",
-        Verb::Delete => b"delete",
-        Verb::Swap => b"swap",
-        Verb::CompareAndSwap => b"cas",
-        Verb::CompareAndDelete => b"cad",
-        Verb::Clear => b"clear",
-        Verb::Range => b"range",
-        Verb::Add => b"add",
-        Verb::And => b"and",
-        Verb::Or => b"or",
-        Verb::Lock => b"lock",
-        Verb::Unlock => b"unlock",
-        Verb::TryLock => b"trylock",
-        Verb::RLock => b"rlock",
-        Verb::RUnlock => b"runlock",
-        Verb::TryRLock => b"tryrlock",
-        Verb::Wait => b"wait",
-        Verb::Signal => b"signal",
-        Verb::Broadcast => b"broadcast",
-        Verb::Done => b"done",
-        Verb::Do => b"do",
-        Verb::Call => b"call",
-        Verb::Value => b"value",
-        Verb::Put => b"put",
-        Verb::Get => b"get",
-        Verb::Sweep => b"sweep",
-    }
-}
 
 /// Which call of a map it is.
 pub fn map_verb(call: &MapCall<Name>) -> Verb
@@ -136,40 +97,21 @@ pub fn pool_verb(call: PoolCall) -> Verb
     }
 }
 
-/// Which call it is.
-pub fn verb(call: &Call) -> Verb
-    ensures { result ≡ verb_of call.now }
+/// Which call an operation is.
+pub fn verb(operation: &Operation) -> Verb
+    ensures { result ≡ verb_of operation.now }
 {
-    match call {
-        Call::Map { call, .. } => map_verb(call),
-        Call::Range { .. } => Verb::Range,
-        Call::Atomic { call, .. } => atomic_verb(*call),
-        Call::Mutex { call, .. } => mutex_verb(*call),
-        Call::RwMutex { call, .. } => rw_mutex_verb(*call),
-        Call::Cond { call, .. } => cond_verb(*call),
-        Call::WaitGroup { call, .. } => group_verb(*call),
-        Call::Once { .. } => Verb::Do,
-        Call::OnceFunc { .. } => Verb::Call,
-        Call::OnceValue { .. } => Verb::Value,
-        Call::Pool { call, .. } => pool_verb(*call),
-    }
-}
-
-/// The place of the object of a call.
-pub fn place_of(call: &Call) -> usize
-    ensures { result ≡ object_of call.now }
-{
-    match call {
-        Call::Map { object, .. }
-        | Call::Range { object }
-        | Call::Atomic { object, .. }
-        | Call::Mutex { object, .. }
-        | Call::RwMutex { object, .. }
-        | Call::Cond { object, .. }
-        | Call::WaitGroup { object, .. }
-        | Call::Once { object }
-        | Call::OnceFunc { object }
-        | Call::OnceValue { object }
-        | Call::Pool { object, .. } => *object,
+    match operation {
+        Operation::Map(call) => map_verb(call),
+        Operation::Range => Verb::Range,
+        Operation::Atomic(call) => atomic_verb(*call),
+        Operation::Mutex(call) => mutex_verb(*call),
+        Operation::RwMutex(call) => rw_mutex_verb(*call),
+        Operation::Cond(call) => cond_verb(*call),
+        Operation::WaitGroup(call) => group_verb(*call),
+        Operation::Once => Verb::Do,
+        Operation::OnceFunc => Verb::Call,
+        Operation::OnceValue => Verb::Value,
+        Operation::Pool(call) => pool_verb(*call),
     }
 }

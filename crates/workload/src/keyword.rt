@@ -1,6 +1,6 @@
 //! The words that a line begins with.
-ghost use Rattle.std.specs.Prelude.{◌≡◌, map};
-ghost use Rattle.workload.specs.KeywordWords.{keyword_in, keyword_at};
+ghost use Rattle.std.specs.Prelude.{◌≡◌, ◌∷◌, ℕ, List};
+ghost use Rattle.workload.specs.KeywordWords.{verb_word, call_verbs, keyword_word, first_named, keyword_at};
 
 use crate::object::ObjectWord;
 use sync_model::AtomicKind;
@@ -87,76 +87,142 @@ pub enum Parameter {
     Amount,
 }
 
-/// The words that a line may begin with.
-pub const KEYWORDS: [(&[u8], Keyword); 46] = [
-    (b"workers", Keyword::Workers),
-    (b"worker", Keyword::Worker),
-    (b"schedule", Keyword::Schedule),
-    (b"map", Keyword::Object(ObjectWord::Map)),
-    (
-        b"int32",
-        Keyword::Object(ObjectWord::Atomic(AtomicKind::Int32)),
-    ),
-    (
-        b"int64",
-        Keyword::Object(ObjectWord::Atomic(AtomicKind::Int64)),
-    ),
-    (
-        b"uint32",
-        Keyword::Object(ObjectWord::Atomic(AtomicKind::Uint32)),
-    ),
-    (
-        b"uint64",
-        Keyword::Object(ObjectWord::Atomic(AtomicKind::Uint64)),
-    ),
-    (
-        b"bool",
-        Keyword::Object(ObjectWord::Atomic(AtomicKind::Bool)),
-    ),
-    (b"mutex", Keyword::Object(ObjectWord::Mutex)),
-    (b"rwmutex", Keyword::Object(ObjectWord::RwMutex)),
-    (b"cond", Keyword::Object(ObjectWord::Cond)),
-    (b"waitgroup", Keyword::Object(ObjectWord::WaitGroup)),
-    (b"once", Keyword::Object(ObjectWord::Once)),
-    (b"oncefunc", Keyword::Object(ObjectWord::OnceFunc)),
-    (b"oncevalue", Keyword::Object(ObjectWord::OnceValue)),
-    (b"pool", Keyword::Object(ObjectWord::Pool)),
-    (b"load", Keyword::Call(Verb::Load)),
-    (b"store", Keyword::Call(Verb::Store)),
-    (b"los", Keyword::Call(Verb::LoadOrStore)),
-    (b"lad", Keyword::Call(Verb::LoadAndDelete)),
-    (b"delete", Keyword::Call(Verb::Delete)),
-    (b"swap", Keyword::Call(Verb::Swap)),
-    (b"cas", Keyword::Call(Verb::CompareAndSwap)),
-    (b"cad", Keyword::Call(Verb::CompareAndDelete)),
-    (b"clear", Keyword::Call(Verb::Clear)),
-    (b"range", Keyword::Call(Verb::Range)),
-    (b"add", Keyword::Call(Verb::Add)),
-    (b"and", Keyword::Call(Verb::And)),
-    (b"or", Keyword::Call(Verb::Or)),
-    (b"lock", Keyword::Call(Verb::Lock)),
-    (b"unlock", Keyword::Call(Verb::Unlock)),
-    (b"trylock", Keyword::Call(Verb::TryLock)),
-    (b"rlock", Keyword::Call(Verb::RLock)),
-    (b"runlock", Keyword::Call(Verb::RUnlock)),
-    (b"tryrlock", Keyword::Call(Verb::TryRLock)),
-    (b"wait", Keyword::Call(Verb::Wait)),
-    (b"signal", Keyword::Call(Verb::Signal)),
-    (b"broadcast", Keyword::Call(Verb::Broadcast)),
-    (b"done", Keyword::Call(Verb::Done)),
-    (b"do", Keyword::Call(Verb::Do)),
-    (b"call", Keyword::Call(Verb::Call)),
-    (b"value", Keyword::Call(Verb::Value)),
-    (b"put", Keyword::Call(Verb::Put)),
-    (b"get", Keyword::Call(Verb::Get)),
-    (b"sweep", Keyword::Call(Verb::Sweep)),
+/// The keywords other than calls.
+const OTHERS: [Keyword; 17] = [
+    Keyword::Schedule,
+    Keyword::Worker,
+    Keyword::Workers,
+    Keyword::Object(ObjectWord::Map),
+    Keyword::Object(ObjectWord::Atomic(AtomicKind::Int32)),
+    Keyword::Object(ObjectWord::Atomic(AtomicKind::Int64)),
+    Keyword::Object(ObjectWord::Atomic(AtomicKind::Uint32)),
+    Keyword::Object(ObjectWord::Atomic(AtomicKind::Uint64)),
+    Keyword::Object(ObjectWord::Atomic(AtomicKind::Bool)),
+    Keyword::Object(ObjectWord::Mutex),
+    Keyword::Object(ObjectWord::RwMutex),
+    Keyword::Object(ObjectWord::Cond),
+    Keyword::Object(ObjectWord::WaitGroup),
+    Keyword::Object(ObjectWord::Once),
+    Keyword::Object(ObjectWord::OnceFunc),
+    Keyword::Object(ObjectWord::OnceValue),
+    Keyword::Object(ObjectWord::Pool),
 ];
 
-fn find_keyword(table: &[(&[u8], Keyword)], word: &[u8]) -> Option<Keyword>
-    ensures { result ≡ keyword_in (map (λ entry. (entry.0.now, entry.1)) table.now) word.now }
+impl Verb {
+    /// The word of a call.
+    pub fn text(self) -> &'static [u8]
+        ensures { result.now ≡ verb_word self }
+    {
+        match self {
+            Verb::Load => b"load",
+            Verb::Store => b"store",
+            Verb::LoadOrStore => b"los",
+            Verb::LoadAndDelete => b"lad",
+            Verb::Delete => b"delete",
+            Verb::Swap => b"swap",
+            Verb::CompareAndSwap => b"cas",
+            Verb::CompareAndDelete => b"cad",
+            Verb::Clear => b"clear",
+            Verb::Range => b"range",
+            Verb::Add => b"add",
+            Verb::And => b"and",
+            Verb::Or => b"or",
+            Verb::Lock => b"lock",
+            Verb::Unlock => b"unlock",
+            Verb::TryLock => b"trylock",
+            Verb::RLock => b"rlock",
+            Verb::RUnlock => b"runlock",
+            Verb::TryRLock => b"tryrlock",
+            Verb::Wait => b"wait",
+            Verb::Signal => b"signal",
+            Verb::Broadcast => b"broadcast",
+            Verb::Done => b"done",
+            Verb::Do => b"do",
+            Verb::Call => b"call",
+            Verb::Value => b"value",
+            Verb::Put => b"put",
+            Verb::Get => b"get",
+            Verb::Sweep => b"sweep",
+        }
+    }
+}
+
+impl Keyword {
+    /// The word that a line begins with.
+    pub fn text(self) -> &'static [u8]
+        ensures { result.now ≡ keyword_word self }
+    {
+        match self {
+            Keyword::Workers => b"workers",
+            Keyword::Object(word) => word.text(),
+            Keyword::Worker => b"worker",
+            Keyword::Schedule => b"schedule",
+            Keyword::Call(verb) => verb.text(),
+        }
+    }
+}
+
+/// The calls whose words begin with a byte.
+fn verbs_with(first: u8) -> &'static [Verb]
+    ensures { (rest : List ℕ) → first_named verb_word result.now (first ∷ rest) ≡ first_named verb_word call_verbs (first ∷ rest) }
 {
-    for (text, keyword) in table {
-        if word == *text {
+    match first {
+        b'a' => &[Verb::Add, Verb::And],
+        b'b' => &[Verb::Broadcast],
+        b'c' => &[
+            Verb::CompareAndSwap,
+            Verb::CompareAndDelete,
+            Verb::Clear,
+            Verb::Call,
+        ],
+        b'd' => &[Verb::Delete, Verb::Done, Verb::Do],
+        b'g' => &[Verb::Get],
+        b'l' => &[
+            Verb::Load,
+            Verb::LoadOrStore,
+            Verb::LoadAndDelete,
+            Verb::Lock,
+        ],
+        b'o' => &[Verb::Or],
+        b'p' => &[Verb::Put],
+        b'r' => &[Verb::Range, Verb::RLock, Verb::RUnlock],
+        b's' => &[Verb::Store, Verb::Swap, Verb::Signal, Verb::Sweep],
+        b't' => &[Verb::TryLock, Verb::TryRLock],
+        b'u' => &[Verb::Unlock],
+        b'v' => &[Verb::Value],
+        b'w' => &[Verb::Wait],
+        _ => &[],
+    }
+}
+
+/// The first of some calls whose word it is.
+fn find_verb(verbs: &[Verb], word: &[u8]) -> Option<Verb>
+    ensures { result ≡ first_named verb_word verbs.now word.now }
+{
+    for verb in verbs {
+        if word == verb.text() {
+            return Some(*verb);
+        }
+    }
+    None
+}
+
+/// The call that a word is, if it is one.
+fn read_verb(word: &[u8]) -> Option<Verb>
+    ensures { result ≡ first_named verb_word call_verbs word.now }
+{
+    match word.split_first() {
+        None => None,
+        Some((first, _)) => find_verb(verbs_with(*first), word),
+    }
+}
+
+/// The first of some keywords whose word it is.
+fn find_keyword(keywords: &[Keyword], word: &[u8]) -> Option<Keyword>
+    ensures { result ≡ first_named keyword_word keywords.now word.now }
+{
+    for keyword in keywords {
+        if word == keyword.text() {
             return Some(*keyword);
         }
     }
@@ -167,5 +233,8 @@ fn find_keyword(table: &[(&[u8], Keyword)], word: &[u8]) -> Option<Keyword>
 pub fn read_keyword(word: &[u8]) -> Option<Keyword>
     ensures { result ≡ keyword_at word.now }
 {
-    find_keyword(&KEYWORDS, word)
+    match read_verb(word) {
+        Some(verb) => Some(Keyword::Call(verb)),
+        None => find_keyword(&OTHERS, word),
+    }
 }

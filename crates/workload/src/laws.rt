@@ -1,21 +1,24 @@
 //! Laws of the grammar.
-ghost use Rattle.std.specs.Prelude.{◌≡◌, ◌↔◌, ◌⊎◌, ◌<◌, ℕ, ◌-◌, ◌^◌, ◌∷◌, true, List, Some, length, slice_get, take, drop};
+ghost use Rattle.std.specs.Prelude.{◌≡◌, ◌↔◌, ◌⊎◌, ◌<◌, ℕ, ◌-◌, ◌^◌, [], ◌∷◌, ◌++◌, true, List, Some, None, count_by, length, slice_get, take, drop};
 ghost use Rattle.std.specs.List.{list_any, position_from};
 ghost use Rattle.std.specs.Str.{bytes_eq};
 ghost use Rattle.std.specs.Fmt.{decimal};
 ghost use Rattle.sync_model.specs.declared.name.TheConstants.{MAX_NAME};
 ghost use Rattle.workload.specs.Canonical.{canonical, eights};
-ghost use Rattle.workload.specs.Checks.{FailsFirst, PassesFirst, LimitsAreLeft};
-ghost use Rattle.workload.specs.Draft.{all_keys, distinct_count};
+ghost use Rattle.workload.specs.CallWords.{verb_of, operands_of};
+ghost use Rattle.workload.specs.Checks.{Check, first_failing, form_of, form_words, keys_among, ranges_in};
+ghost use Rattle.workload.specs.Draft.{all_keys, distinct_count, is_operation, is_range_operation, operation_keys};
 ghost use Rattle.workload.specs.Keys.{keys_in, number_in, key_number, key_name};
 ghost use Rattle.workload.specs.Readable.{IsReadable};
 ghost use Rattle.sync_model.specs.declared.call.Call.{Call};
+ghost use Rattle.sync_model.specs.declared.call.Operation.{Operation};
 ghost use Rattle.workload.specs.KeywordWords.{keyword_at, keyword_word};
 ghost use Rattle.workload.specs.NumberWords.{is_number, number_of};
 ghost use Rattle.workload.specs.declared.keyword.Keyword.{Keyword};
+ghost use Rattle.workload.specs.declared.object.ObjectKind.{ObjectKind};
 ghost use Rattle.workload.specs.declared.reason.Reason.{Reason};
 ghost use Rattle.workload.specs.declared.turn.Turn.{Turn};
-ghost use Rattle.workload.specs.Plan.{Plan};
+ghost use Rattle.workload.specs.Plan.{Plan, word_of, has_call};
 ghost use Rattle.workload.specs.Reads.{Reads, IsRefused};
 
 use crate::limits::{
@@ -59,10 +62,11 @@ pub fn schedules_go_by_eights()
     ensures { (turns : List Turn) → 0 < length turns → eights 7 turns ≡ take 8 turns ∷ eights 7 (drop 8 turns) }
 {}
 
-/// Each keyword is found at its word, and at no other word.
+/// Each keyword is read back from its word, and from no other word. No two keywords have one word.
 pub fn keywords()
     ensures read { (keyword : Keyword) → keyword_at (keyword_word keyword) ≡ Some keyword }
     ensures spelled { (word : List ℕ) (keyword : Keyword) → keyword_at word ≡ Some keyword → word ≡ keyword_word keyword }
+    ensures apart { (keyword other : Keyword) → keyword_word keyword ≡ keyword_word other → keyword ≡ other }
 {}
 
 /// The keys of a workload are those of its calls, and each has one number: its place among them. A key has a lower number
@@ -83,11 +87,18 @@ pub fn numbers()
 {}
 
 /// Of checks one behind the other the first that fails is the fault: where some fail, those behind them don't
-/// count, and where all pass, those behind them do. So a call whose operands pass is left to the limits.
+/// count, and where all pass, those behind them do.
 pub fn checks_go_in_order()
-    ensures fails { FailsFirst }
-    ensures passes { PassesFirst }
-    ensures limits { LimitsAreLeft }
+    ensures fails { (xs ys : List Check) (reason : Reason) → first_failing xs ≡ Some reason → first_failing (xs ++ ys) ≡ Some reason }
+    ensures passes { (xs ys : List Check) → first_failing xs ≡ None → first_failing (xs ++ ys) ≡ first_failing ys }
+{}
+
+/// A call that its object has, with its numbers in range, passes the checks of the words that it is printed as. The keys
+/// among these words are its own, and its word says whether it is a `range`.
+pub fn calls_pass_their_checks()
+    ensures passes { (kind : ObjectKind) (operation : Operation) → has_call kind operation ≡ true → is_operation operation ≡ true → first_failing (form_words (form_of (verb_of operation) (word_of kind)) (operands_of operation)) ≡ None }
+    ensures keys { (kind : ObjectKind) (operation : Operation) → has_call kind operation ≡ true → is_operation operation ≡ true → keys_among (form_of (verb_of operation) (word_of kind)) (operands_of operation) ≡ operation_keys operation }
+    ensures ranges { (operation : Operation) → count_by is_range_operation (operation ∷ []) ≡ ranges_in (verb_of operation) }
 {}
 
 /// The limits of a text by their numbers, of which the grammar speaks by name.

@@ -1,6 +1,7 @@
 //! The objects that a workload declares.
 ghost use Rattle.std.specs.Prelude.{◌≡◌, ◌≤◌, length, slice_get};
 ghost use Rattle.workload.specs.Canonical.{name_of};
+ghost use Rattle.workload.specs.KeywordWords.{object_word};
 ghost use Rattle.workload.specs.Plan.{word_of};
 
 use sync_model::{AtomicKind, Name};
@@ -62,6 +63,30 @@ pub struct Declared {
     pub place: usize,
     /// What the object is.
     pub kind: ObjectKind,
+}
+
+impl ObjectWord {
+    /// The text of the word.
+    pub fn text(self) -> &'static [u8]
+        ensures { result.now ≡ object_word self }
+    {
+        match self {
+            ObjectWord::Map => b"map",
+            ObjectWord::Atomic(AtomicKind::Int32) => b"int32",
+            ObjectWord::Atomic(AtomicKind::Int64) => b"int64",
+            ObjectWord::Atomic(AtomicKind::Uint32) => b"uint32",
+            ObjectWord::Atomic(AtomicKind::Uint64) => b"uint64",
+            ObjectWord::Atomic(AtomicKind::Bool) => b"bool",
+            ObjectWord::Mutex => b"mutex",
+            ObjectWord::RwMutex => b"rwmutex",
+            ObjectWord::Cond => b"cond",
+            ObjectWord::WaitGroup => b"waitgroup",
+            ObjectWord::Once => b"once",
+            ObjectWord::OnceFunc => b"oncefunc",
+            ObjectWord::OnceValue => b"oncevalue",
+            ObjectWord::Pool => b"pool",
+        }
+    }
 }
 
 impl ObjectKind {

@@ -8,24 +8,24 @@ use Rattle.workload.specs.declared.reason.Reason.TheVariants.{LimitReached, Wron
 use Rattle.sync_model.specs.Name.{is_name}
 use Rattle.workload.specs.declared.fault.LineFault.{LineFault}
 use Rattle.workload.specs.declared.fault.LineFault.TheVariants as faults
-use Rattle.workload.specs.declared.keyword.Operand.{Operand}
 use Rattle.workload.specs.declared.keyword.Verb.{Verb}
 use Rattle.workload.specs.declared.object.Declared.{Declared}
 use Rattle.workload.specs.declared.object.ObjectWord.{ObjectWord}
 use Rattle.workload.specs.declared.reason.Reason.{Reason}
 use Rattle.workload.specs.declared.turn.Turn.{Turn}
 use Rattle.workload.specs.Words.{turn_word}
+use Rattle.workload.specs.Plan.{word_of}
 use Rattle.workload.specs.Draft.{Draft, declared, count_of, limit_of}
-use Rattle.workload.specs.Checks.{Check, first_failing, FailsFirst, PassesFirst, LimitsAreLeft, form_words, parameter_words, PassesWith, declaration_checks, parameters_of, parameters_checks, form_checks, limit_checks, form_of, ranges_in, call_checks, line_checks, item_checks}
+use Rattle.workload.specs.Checks.{Check, first_failing, form_words, parameter_words, declaration_checks, parameters_of, parameters_checks, form_of, call_checks, line_checks, item_checks}
 use Rattle.workload_reader.specs.LineResult.{IsFault}
 
-pub form_fails : FailsFirst → (d : Draft) (verb : Verb) (form : Option (List Operand)) (words : List (List ℕ)) (r : Reason) → first_failing (form_words form words) ≡ Some r → first_failing (form_checks d verb form words) ≡ Some r
-form_fails fails d verb None words r e = e
-form_fails fails d verb (Some form) words r e = fails (form_words (Some form) words) _ r e
+-- the first of some checks that fails is the first of these and others behind them
+abbrev pub FailsFirst : Type 0
+FailsFirst = (xs ys : List Check) (reason : Reason) → first_failing xs ≡ Some reason → first_failing (xs ++ ys) ≡ Some reason
 
-fault_form : FailsFirst → (d : Draft) (verb : Verb) (form : Option (List Operand)) (words : List (List ℕ)) (f : LineFault) → IsFault (form_words form words) f → IsFault (form_checks d verb form words) f
-fault_form fails d verb form words faults.Memory h = tt
-fault_form fails d verb form words (faults.Refused r) h = form_fails fails d verb form words r h
+-- checks that all pass leave it to those behind them
+abbrev pub PassesFirst : Type 0
+PassesFirst = (xs ys : List Check) → first_failing xs ≡ None → first_failing (xs ++ ys) ≡ first_failing ys
 
 -- a fault of one check is one of all, where those before it pass
 pub behind_one : FailsFirst → (a b : Check) (rest : List Check) (f : LineFault) → a.0 ≡ true → IsFault (b ∷ []) f → IsFault (a ∷ b ∷ rest) f
@@ -36,17 +36,12 @@ pub behind_two : FailsFirst → (a b c : Check) (rest : List Check) (f : LineFau
 behind_two fails a b c rest faults.Memory first second h = tt
 behind_two fails a b c rest (faults.Refused r) first second h = rw (first, second) (fails (c ∷ []) rest r h)
 
--- what a form that passes leaves of a call's checks: the limits
-pub call_passes : LimitsAreLeft → (d : Draft) (verb : Verb) (name : List ℕ) (words keys : List (List ℕ)) (found : Declared) (f : LineFault) → is_some d.current ≡ true → is_name name ≡ true → declared d name ≡ Some found
-    → PassesWith (form_of verb found.kind) words keys → IsFault (limit_checks d keys (ranges_in verb)) f → IsFault (call_checks d verb (name ∷ words)) f
-call_passes limits d verb name words keys found faults.Memory current named is passes h = tt
-call_passes limits d verb name words keys found (faults.Refused r) current named is passes h = rw (current, named, is) (limits d verb (form_of verb found.kind) words keys passes ∙ h)
-
 -- a fault in the operands is one of the line
-pub call_fails : FailsFirst → (d : Draft) (verb : Verb) (name : List ℕ) (words : List (List ℕ)) (found : Declared) (f : LineFault) → is_some d.current ≡ true → is_name name ≡ true → declared d name ≡ Some found
-    → IsFault (form_words (form_of verb found.kind) words) f → IsFault (call_checks d verb (name ∷ words)) f
-call_fails fails d verb name words found faults.Memory current named is h = tt
-call_fails fails d verb name words found (faults.Refused r) current named is h = rw (current, named, is) (form_fails fails d verb (form_of verb found.kind) words r h)
+pub call_fails : FailsFirst → (d : Draft) (verb : Verb) (name : List ℕ) (words : List (List ℕ)) (found : Declared) (word : ObjectWord) (f : LineFault) → is_some d.current ≡ true → is_name name ≡ true → declared d name ≡ Some found → word ≡ word_of found.kind
+    → IsFault (form_words (form_of verb word) words) f → IsFault (call_checks d verb (name ∷ words)) f
+call_fails fails d verb name words found word faults.Memory current named is same h = tt
+call_fails fails d verb name words found word (faults.Refused r) current named is same h =
+    rw (current, named, is) (fails (form_words (form_of verb (word_of found.kind)) words) _ r (subst (λ w. first_failing (form_words (form_of verb w) words) ≡ Some r) same h))
 
 -- a fault in the items is one of the line
 pub turns_fail : FailsFirst → (d : Draft) (words : List (List ℕ)) (f : LineFault) → nat_lt 0 (length words) ≡ true → IsFault (flat_map (item_checks d.plan.workers) words) f → IsFault (line_checks d (Some keywords.Schedule) words) f

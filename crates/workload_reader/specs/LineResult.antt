@@ -1,20 +1,10 @@
 -- What the reading of a line, or of a word of it, answers.
-use Rattle.std.specs.Prelude.{◌≡◌, Bool, ◌++◌, codes, ◌<◌, ◌≤◌, map, ℕ, true, List, [], ◌∷◌, count_by, Option, Some, None, Result, MatchResult}
+use Rattle.std.specs.Prelude.{◌≡◌, Bool, ◌++◌, codes, ◌<◌, ◌≤◌, map, ℕ, true, List, [], ◌∷◌, Option, Some, None, Result, MatchResult}
 use Rattle.std.specs.Option.{option_to_list}
 use Rattle.sync_model.specs.Name.{is_name}
 use Rattle.std.specs.List.{list_all, flat_map}
 use Rattle.std.specs.Fmt.{decimal}
-use Rattle.sync_model.specs.declared.call.Call.{Call}
-use Rattle.sync_model.specs.declared.map_object.MapCall.{MapCall}
-use Rattle.sync_model.specs.declared.atomic_object.AtomicKind.{AtomicKind}
-use Rattle.sync_model.specs.declared.atomic_object.AtomicCall.{AtomicCall}
-use Rattle.sync_model.specs.declared.lock_call.MutexCall.{MutexCall}
-use Rattle.sync_model.specs.declared.lock_call.RwMutexCall.{RwMutexCall}
-use Rattle.sync_model.specs.declared.wait_call.CondCall.{CondCall}
-use Rattle.sync_model.specs.declared.wait_call.WaitGroupCall.{WaitGroupCall}
-use Rattle.sync_model.specs.declared.pool_call.PoolCall.{PoolCall}
-use Rattle.sync_model.specs.SequentialAtomic.{is_atomic_call}
-use Rattle.sync_model.specs.SequentialMap.{map_key}
+use Rattle.sync_model.specs.declared.call.Operation.{Operation}
 use Rattle.workload.specs.declared.fault.LineFault.{LineFault}
 use Rattle.workload.specs.declared.fault.LineFault.TheVariants as faults
 use Rattle.workload.specs.declared.keyword.Keyword.{Keyword}
@@ -22,17 +12,16 @@ use Rattle.workload.specs.declared.keyword.Operand.{Operand}
 use Rattle.workload.specs.declared.keyword.Verb.{Verb}
 use Rattle.workload.specs.declared.object.ObjectKind.{ObjectKind}
 use Rattle.workload.specs.declared.object.ObjectWord.{ObjectWord}
-use Rattle.workload.specs.declared.object.Declared.{Declared}
 use Rattle.workload.specs.declared.turn.Turn.{Turn}
 use Rattle.workload.specs.declared.limits.TheConstants.{MAX_WORKERS}
 use Rattle.workload.specs.declared.line.Line.{Line}
 use Rattle.workload.specs.KeywordWords.{keyword_at}
-use Rattle.workload.specs.CallWords.{map_verb, map_operands, atomic_verb, atomic_operands, mutex_verb, rw_mutex_verb, cond_verb, group_verb, group_operands, pool_verb, pool_operands, verb_of, operands_of}
+use Rattle.workload.specs.CallWords.{verb_of, operands_of}
 use Rattle.workload.specs.Words.{spelled, keyword_of, arguments_of, kind_parameters, turn_word}
-use Rattle.workload.specs.Plan.{word_of}
+use Rattle.workload.specs.Plan.{word_of, has_operation}
 use Rattle.workload.specs.Lines.{is_short, is_clean, words_of, is_significant}
-use Rattle.workload.specs.Draft.{Draft, declared, may_follow, names_reference, is_kind, is_map_call, is_group_call, is_pool_call, is_call, is_item, is_range, keys_of, names_object}
-use Rattle.workload.specs.Checks.{Check, first_failing, line_checks, map_form, atomic_form, mutex_form, rw_mutex_form, cond_form, group_form, pool_form, form_of, form_words, PassesWith, parameter_words, reference_checks, ranges_in, item_checks, first_checks, checks_of}
+use Rattle.workload.specs.Draft.{Draft, declared, may_follow, names_reference, is_kind, is_operation, is_item}
+use Rattle.workload.specs.Checks.{Check, first_failing, line_checks, form_of, form_words, parameter_words, reference_checks, item_checks, first_checks, checks_of}
 
 -- the fault is the first check that fails, unless memory ran out
 abbrev pub IsFault : List Check → LineFault → Type 0
@@ -57,61 +46,14 @@ IsLine draft word arguments result =
 abbrev pub IsOperands : {X : Type 0} → (X → Type 0) → List Operand → List (List ℕ) → Result X LineFault → Type 0
 IsOperands Is form words result = MatchResult result (λ x. Is x × (first_failing (form_words (Some form) words) ≡ None)) (IsFault (form_words (Some form) words))
 
--- a call of a map with these operands, or the first check of them that fails
-abbrev pub IsMapCall : Verb → List (List ℕ) → Result (MapCall (List ℕ)) LineFault → Type 0
-IsMapCall verb words result =
-    MatchResult result
-    (λ call. (map_verb call ≡ verb) × (map_operands call ≡ words) × (is_map_call call ≡ true) × PassesWith (map_form verb) words (option_to_list (map_key call)))
-    (IsFault (form_words (map_form verb) words))
+-- a call of this word with these operands, in range, that objects of such a word have; `make` says which operation it is
+abbrev pub IsCallOf : {X : Type 0} → (X → Operation) → ObjectWord → Verb → List (List ℕ) → X → Type 0
+IsCallOf make word verb words call =
+    (verb_of (make call) ≡ verb) × (operands_of (make call) ≡ words) × (is_operation (make call) ≡ true) × (has_operation word (make call) ≡ true)
 
--- a call of an atomic of this type with these operands, or the first check of them that fails
-abbrev pub IsAtomicCall : AtomicKind → Verb → List (List ℕ) → Result AtomicCall LineFault → Type 0
-IsAtomicCall kind verb words result =
-    MatchResult result
-    (λ call. (atomic_verb call ≡ verb) × (atomic_operands call ≡ words) × (is_atomic_call kind call ≡ true) × PassesWith (atomic_form kind verb) words [])
-    (IsFault (form_words (atomic_form kind verb) words))
-
--- a call of a mutex without operands, or the first check that fails
-abbrev pub IsMutexCall : Verb → List (List ℕ) → Result MutexCall LineFault → Type 0
-IsMutexCall verb words result =
-    MatchResult result
-    (λ call. (mutex_verb call ≡ verb) × (words ≡ []) × PassesWith (mutex_form verb) words [])
-    (IsFault (form_words (mutex_form verb) words))
-
--- the same of a reader/writer mutex
-abbrev pub IsRwMutexCall : Verb → List (List ℕ) → Result RwMutexCall LineFault → Type 0
-IsRwMutexCall verb words result =
-    MatchResult result
-    (λ call. (rw_mutex_verb call ≡ verb) × (words ≡ []) × PassesWith (rw_mutex_form verb) words [])
-    (IsFault (form_words (rw_mutex_form verb) words))
-
--- the same of a cond
-abbrev pub IsCondCall : Verb → List (List ℕ) → Result CondCall LineFault → Type 0
-IsCondCall verb words result =
-    MatchResult result
-    (λ call. (cond_verb call ≡ verb) × (words ≡ []) × PassesWith (cond_form verb) words [])
-    (IsFault (form_words (cond_form verb) words))
-
--- a call of a wait group with these operands, or the first check that fails
-abbrev pub IsGroupCall : Verb → List (List ℕ) → Result WaitGroupCall LineFault → Type 0
-IsGroupCall verb words result =
-    MatchResult result
-    (λ call. (group_verb call ≡ verb) × (group_operands call ≡ words) × (is_group_call call ≡ true) × PassesWith (group_form verb) words [])
-    (IsFault (form_words (group_form verb) words))
-
--- a call of a pool with these operands, or the first check that fails
-abbrev pub IsPoolCall : Verb → List (List ℕ) → Result PoolCall LineFault → Type 0
-IsPoolCall verb words result =
-    MatchResult result
-    (λ call. (pool_verb call ≡ verb) × (pool_operands call ≡ words) × (is_pool_call call ≡ true) × PassesWith (pool_form verb) words [])
-    (IsFault (form_words (pool_form verb) words))
-
--- a call on the object that was found, or the first check that fails
-abbrev pub IsCallOn : Declared → Verb → List (List ℕ) → Result Call LineFault → Type 0
-IsCallOn found verb words result =
-    MatchResult result
-    (λ call. (verb_of call ≡ verb) × (operands_of call ≡ words) × (is_call call ≡ true) × (names_object (Some found) call ≡ true) × (count_by is_range (call ∷ []) ≡ ranges_in verb) × PassesWith (form_of verb found.kind) words (keys_of call))
-    (IsFault (form_words (form_of verb found.kind) words))
+-- such a call, or the first check that fails
+abbrev pub IsCall : {X : Type 0} → (X → Operation) → ObjectWord → Verb → List (List ℕ) → Result X LineFault → Type 0
+IsCall make word verb words result = MatchResult result (IsCallOf make word verb words) (IsFault (form_words (form_of verb word) words))
 
 -- the name and the place of an object of this kind that is declared, or the first check that fails
 abbrev pub IsReferenceTo : Draft → ObjectKind → (ObjectKind → Bool) → List ℕ → Result (List ℕ × ℕ) LineFault → Type 0

@@ -6,7 +6,7 @@ ghost use Rattle.workload.specs.Draft.{is_item, keys_of};
 ghost use Rattle.workload.specs.Checks.{worker_checks, item_checks, ranges_in, limit_checks, first_failing};
 ghost use Rattle.workload_reader.specs.LineResult.{IsFault, IsTurns, IsWorkers, IsLineOf, IsLine};
 
-use crate::call_reading::read_call_on;
+use crate::call_reading::read_operation;
 use crate::number::{is_number, number};
 use crate::object_reading::{parameter_count, read_kind};
 use crate::word_reading::read_name;
@@ -15,7 +15,7 @@ use sync_model::{Call, MAX_VALUE, Seq};
 use workload::draft::Draft;
 use workload::fault::LineFault;
 use workload::keyword::{Keyword, Verb, read_keyword};
-use workload::laws::{checks_go_in_order, keywords};
+use workload::laws::{calls_pass_their_checks, checks_go_in_order, keywords};
 use workload::limits::{MAX_CALLS, MAX_KEYS, MAX_RANGES, MAX_TURNS, MAX_WORKERS};
 use workload::line::Line;
 use workload::object::{ObjectLine, ObjectWord};
@@ -78,6 +78,7 @@ fn read_call(
     ensures { IsLineOf draft.now (Keyword.Call verb) (map (λ word. word.now) arguments.now) result }
 {
     checks_go_in_order();
+    calls_pass_their_checks();
     if !draft.is_in_worker() {
         return Err(LineFault::Refused(Reason::CallOutsideWorker));
     }
@@ -88,7 +89,11 @@ fn read_call(
     let Some(found) = draft.declared(name) else {
         return Err(LineFault::Refused(Reason::UnknownName));
     };
-    let call = read_call_on(alloc, found, verb, words)?;
+    let operation = read_operation(alloc, found.kind.word(), verb, words)?;
+    let call = Call {
+        object: found.place,
+        operation,
+    };
     check_limits(draft, verb, &call)?;
     Ok(Line::Call(object, call))
 }

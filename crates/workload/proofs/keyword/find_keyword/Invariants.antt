@@ -1,6 +1,6 @@
-use Rattle.std.proofs.Common.{◌≡◌, drop, map}
-use Rattle.workload.specs.KeywordWords.{keyword_in}
+use Rattle.std.proofs.Common.{◌≡◌, drop}
+use Rattle.workload.specs.KeywordWords.{keyword_word, first_named}
 use Rattle.workload.proofs.keyword.find_keyword.Given as goal
 
-abbrev pub invariant-loop-text : goal.invariant-loop-text
-invariant-loop-text l = keyword_in (map (λ e. (e.0.now, e.1)) (drop l.text-index l.table)) l.word ≡ keyword_in (map (λ e. (e.0.now, e.1)) l.table) l.word
+abbrev pub invariant-loop-keyword : goal.invariant-loop-keyword
+invariant-loop-keyword l = first_named keyword_word (drop l.keyword-index l.keywords) l.word ≡ first_named keyword_word l.keywords l.word

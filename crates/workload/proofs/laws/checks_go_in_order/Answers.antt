@@ -1,4 +1,4 @@
-use Rattle.workload.proofs.FirstFailing.{fails_first, passes_first, form_passes}
+use Rattle.workload.proofs.FirstFailing.{fails_first, passes_first}
 use Rattle.workload.proofs.laws.checks_go_in_order.Goals as goal
 
 pub returns-clause-fails : goal.returns-clause-fails
@@ -6,6 +6,3 @@ returns-clause-fails c = λ xs ys reason fails. fails_first xs ys reason fails
 
 pub returns-clause-passes : goal.returns-clause-passes
 returns-clause-passes c = λ xs ys pass. passes_first xs ys pass
-
-pub returns-clause-limits : goal.returns-clause-limits
-returns-clause-limits c = λ d verb form words keys pass. form_passes d verb form words keys pass
