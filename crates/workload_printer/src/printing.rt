@@ -11,8 +11,8 @@ ghost use Rattle.workload.specs.Reads.{Reads};
 ghost use Rattle.workload.specs.Canonical.{text_line, call_line, object_line, reference_name, script_lines, eights, canonical_lines, canonical, behind_spaces, lines_text};
 
 use std::alloc::{AllocError, Global};
-use sync_model::{AtomicKind, Call, Number};
-use workload::call::{place_of, verb, verb_text};
+use sync_model::{AtomicKind, Call, Number, Operation};
+use workload::call::{verb, verb_text};
 use workload::laws::{canonical_reads, schedules_go_by_eights};
 use workload::object::name_at;
 use workload::operands::{Numbers, operands_of};
@@ -93,10 +93,10 @@ fn put_numbers(alloc: Global, text: &mut Vec<u8>, numbers: Numbers) -> Result<()
 }
 
 /// Writes the operands of a call, each behind a space.
-fn put_operands(alloc: Global, text: &mut Vec<u8>, call: &Call) -> Result<(), AllocError>
-    ensures { OnOk result (text.new.items ≡ text.old.items ++ behind_spaces (operands_of call.now)) }
+fn put_operands(alloc: Global, text: &mut Vec<u8>, operation: &Operation) -> Result<(), AllocError>
+    ensures { OnOk result (text.new.items ≡ text.old.items ++ behind_spaces (operands_of operation.now)) }
 {
-    let (key, numbers) = operands_of(call);
+    let (key, numbers) = operands_of(operation);
     if let Some(key) = key {
         put_word(text, key.as_bytes())?;
     }
@@ -107,9 +107,9 @@ fn put_operands(alloc: Global, text: &mut Vec<u8>, call: &Call) -> Result<(), Al
 fn put_call(alloc: Global, text: &mut Vec<u8>, name: &[u8], call: &Call) -> Result<(), AllocError>
     ensures { OnOk result (text.new.items ≡ text.old.items ++ text_line (spelled (Line.Call name.now call.now))) }
 {
-    text.extend_from_slice(verb_text(verb(call)))?;
+    text.extend_from_slice(verb_text(verb(&call.operation)))?;
     put_word(text, name)?;
-    put_operands(alloc, text, call)?;
+    put_operands(alloc, text, &call.operation)?;
     text.push(b'\n')?;
     Ok(())
 }
@@ -205,7 +205,7 @@ fn put_calls(
     ensures { OnOk result (text.new.items ≡ text.old.items ++ lines_text (map (call_line objects.now) calls.now)) }
 {
     for call in calls {
-        put_call(alloc, text, name_at(objects, place_of(call)), call)?;
+        put_call(alloc, text, name_at(objects, call.object), call)?;
     }
     Ok(())
 }

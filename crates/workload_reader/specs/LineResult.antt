@@ -4,7 +4,7 @@ use Rattle.std.specs.Option.{option_to_list}
 use Rattle.sync_model.specs.Name.{is_name}
 use Rattle.std.specs.List.{list_all, flat_map}
 use Rattle.std.specs.Fmt.{decimal}
-use Rattle.sync_model.specs.declared.call.Call.{Call}
+use Rattle.sync_model.specs.declared.call.Operation.{Operation}
 use Rattle.sync_model.specs.declared.map_object.MapCall.{MapCall}
 use Rattle.sync_model.specs.declared.atomic_object.AtomicKind.{AtomicKind}
 use Rattle.sync_model.specs.declared.atomic_object.AtomicCall.{AtomicCall}
@@ -22,16 +22,15 @@ use Rattle.workload.specs.declared.keyword.Operand.{Operand}
 use Rattle.workload.specs.declared.keyword.Verb.{Verb}
 use Rattle.workload.specs.declared.object.ObjectKind.{ObjectKind}
 use Rattle.workload.specs.declared.object.ObjectWord.{ObjectWord}
-use Rattle.workload.specs.declared.object.Declared.{Declared}
 use Rattle.workload.specs.declared.turn.Turn.{Turn}
 use Rattle.workload.specs.declared.limits.TheConstants.{MAX_WORKERS}
 use Rattle.workload.specs.declared.line.Line.{Line}
 use Rattle.workload.specs.KeywordWords.{keyword_at}
 use Rattle.workload.specs.CallWords.{map_verb, map_operands, atomic_verb, atomic_operands, mutex_verb, rw_mutex_verb, cond_verb, group_verb, group_operands, pool_verb, pool_operands, verb_of, operands_of}
 use Rattle.workload.specs.Words.{spelled, keyword_of, arguments_of, kind_parameters, turn_word}
-use Rattle.workload.specs.Plan.{word_of}
+use Rattle.workload.specs.Plan.{word_of, has_call}
 use Rattle.workload.specs.Lines.{is_short, is_clean, words_of, is_significant}
-use Rattle.workload.specs.Draft.{Draft, declared, may_follow, names_reference, is_kind, is_map_call, is_group_call, is_pool_call, is_call, is_item, is_range, keys_of, names_object}
+use Rattle.workload.specs.Draft.{Draft, declared, may_follow, names_reference, is_kind, is_map_call, is_group_call, is_pool_call, is_operation, is_item, is_range_operation, operation_keys}
 use Rattle.workload.specs.Checks.{Check, first_failing, line_checks, map_form, atomic_form, mutex_form, rw_mutex_form, cond_form, group_form, pool_form, form_of, form_words, PassesWith, parameter_words, reference_checks, ranges_in, item_checks, first_checks, checks_of}
 
 -- the fault is the first check that fails, unless memory ran out
@@ -106,12 +105,12 @@ IsPoolCall verb words result =
     (λ call. (pool_verb call ≡ verb) × (pool_operands call ≡ words) × (is_pool_call call ≡ true) × PassesWith (pool_form verb) words [])
     (IsFault (form_words (pool_form verb) words))
 
--- a call on the object that was found, or the first check that fails
-abbrev pub IsCallOn : Declared → Verb → List (List ℕ) → Result Call LineFault → Type 0
-IsCallOn found verb words result =
+-- an operation that an object of this kind has, with these operands, or the first check that fails
+abbrev pub IsOperation : ObjectKind → Verb → List (List ℕ) → Result Operation LineFault → Type 0
+IsOperation kind verb words result =
     MatchResult result
-    (λ call. (verb_of call ≡ verb) × (operands_of call ≡ words) × (is_call call ≡ true) × (names_object (Some found) call ≡ true) × (count_by is_range (call ∷ []) ≡ ranges_in verb) × PassesWith (form_of verb found.kind) words (keys_of call))
-    (IsFault (form_words (form_of verb found.kind) words))
+    (λ o. (verb_of o ≡ verb) × (operands_of o ≡ words) × (is_operation o ≡ true) × (has_call kind o ≡ true) × (count_by is_range_operation (o ∷ []) ≡ ranges_in verb) × PassesWith (form_of verb kind) words (operation_keys o))
+    (IsFault (form_words (form_of verb kind) words))
 
 -- the name and the place of an object of this kind that is declared, or the first check that fails
 abbrev pub IsReferenceTo : Draft → ObjectKind → (ObjectKind → Bool) → List ℕ → Result (List ℕ × ℕ) LineFault → Type 0

@@ -8,18 +8,18 @@ ghost use Rattle.workload.specs.Plan.{is_amount};
 ghost use Rattle.workload.specs.Checks.{bits_form, first_failing, form_words};
 ghost use Rattle.workload.specs.declared.object.ObjectKind.TheVariants as ObjectKind;
 ghost use Rattle.sync_model.specs.declared.value.TheConstants.{MAX_VALUE};
-ghost use Rattle.workload_reader.specs.LineResult.{IsFault, IsOperands, IsMapCall, IsAtomicCall, IsMutexCall, IsRwMutexCall, IsCondCall, IsGroupCall, IsPoolCall, IsCallOn};
+ghost use Rattle.workload_reader.specs.LineResult.{IsFault, IsOperands, IsMapCall, IsAtomicCall, IsMutexCall, IsRwMutexCall, IsCondCall, IsGroupCall, IsPoolCall, IsOperation};
 
 use crate::word_reading::{read_amount, read_name, read_none, read_number, read_value};
 use std::alloc::Global;
 use sync_model::{
-    AtomicCall, AtomicKind, Call, CondCall, MAX_VALUE, MapCall, MutexCall, Name, Number, PoolCall,
-    RwMutexCall, WaitGroupCall,
+    AtomicCall, AtomicKind, CondCall, MAX_VALUE, MapCall, MutexCall, Name, Number, Operation,
+    PoolCall, RwMutexCall, WaitGroupCall,
 };
 use workload::fault::LineFault;
 use workload::keyword::{Operand, Verb};
 use workload::laws::checks_go_in_order;
-use workload::object::{Declared, ObjectKind};
+use workload::object::ObjectKind;
 use workload::reason::Reason;
 
 /// A key.
@@ -290,104 +290,77 @@ fn read_pool_call(verb: Verb, words: &[&[u8]]) -> Result<PoolCall, LineFault>
     }
 }
 
-/// A call on a once that is declared at this place.
-fn read_call_on_once(object: usize, verb: Verb, words: &[&[u8]]) -> Result<Call, LineFault>
-    ensures { (atomic : ℕ) (delta : ℤ) → IsCallOn (record { place = object; kind = ObjectKind.Once atomic delta }) verb (map (λ word. word.now) words.now) result }
+/// A call of a once.
+fn read_once_call(verb: Verb, words: &[&[u8]]) -> Result<Operation, LineFault>
+    ensures { (atomic : ℕ) (delta : ℤ) → IsOperation (ObjectKind.Once atomic delta) verb (map (λ word. word.now) words.now) result }
 {
     match verb {
         Verb::Do => {
             read_none(words)?;
-            Ok(Call::Once { object })
+            Ok(Operation::Once)
         }
         _ => Err(LineFault::Refused(Reason::WrongKind)),
     }
 }
 
-/// A call of a function made by `OnceFunc` that is declared at this place.
-fn read_call_on_once_func(object: usize, verb: Verb, words: &[&[u8]]) -> Result<Call, LineFault>
-    ensures { (code : ℕ) → IsCallOn (record { place = object; kind = ObjectKind.OnceFunc code }) verb (map (λ word. word.now) words.now) result }
+/// A call of a function made by `OnceFunc`.
+fn read_once_func_call(verb: Verb, words: &[&[u8]]) -> Result<Operation, LineFault>
+    ensures { (code : ℕ) → IsOperation (ObjectKind.OnceFunc code) verb (map (λ word. word.now) words.now) result }
 {
     match verb {
         Verb::Call => {
             read_none(words)?;
-            Ok(Call::OnceFunc { object })
+            Ok(Operation::OnceFunc)
         }
         _ => Err(LineFault::Refused(Reason::WrongKind)),
     }
 }
 
-/// A call of a function made by `OnceValue` that is declared at this place.
-fn read_call_on_once_value(object: usize, verb: Verb, words: &[&[u8]]) -> Result<Call, LineFault>
-    ensures { (value : ℕ) → IsCallOn (record { place = object; kind = ObjectKind.OnceValue value }) verb (map (λ word. word.now) words.now) result }
+/// A call of a function made by `OnceValue`.
+fn read_once_value_call(verb: Verb, words: &[&[u8]]) -> Result<Operation, LineFault>
+    ensures { (value : ℕ) → IsOperation (ObjectKind.OnceValue value) verb (map (λ word. word.now) words.now) result }
 {
     match verb {
         Verb::Value => {
             read_none(words)?;
-            Ok(Call::OnceValue { object })
+            Ok(Operation::OnceValue)
         }
         _ => Err(LineFault::Refused(Reason::WrongKind)),
     }
 }
 
-/// A call on a map that is declared at this place.
-fn read_call_on_map(
-    alloc: Global,
-    object: usize,
-    verb: Verb,
-    words: &[&[u8]],
-) -> Result<Call, LineFault>
-    ensures { IsCallOn (record { place = object; kind = ObjectKind.Map }) verb (map (λ word. word.now) words.now) result }
+/// A call of a map, or `range`.
+fn read_map_operation(alloc: Global, verb: Verb, words: &[&[u8]]) -> Result<Operation, LineFault>
+    ensures { IsOperation ObjectKind.Map verb (map (λ word. word.now) words.now) result }
 {
     match verb {
         Verb::Range => {
             read_none(words)?;
-            Ok(Call::Range { object })
+            Ok(Operation::Range)
         }
-        _ => Ok(Call::Map {
-            object,
-            call: read_map_call(alloc, verb, words)?,
-        }),
+        _ => Ok(Operation::Map(read_map_call(alloc, verb, words)?)),
     }
 }
 
-/// A call on an object that is declared.
-pub fn read_call_on(
+/// A call on an object of this kind.
+pub fn read_operation(
     alloc: Global,
-    found: Declared,
+    kind: ObjectKind,
     verb: Verb,
     words: &[&[u8]],
-) -> Result<Call, LineFault>
-    ensures { IsCallOn found verb (map (λ word. word.now) words.now) result }
+) -> Result<Operation, LineFault>
+    ensures { IsOperation kind verb (map (λ word. word.now) words.now) result }
 {
-    let object = found.place;
-    match found.kind {
-        ObjectKind::Map => read_call_on_map(alloc, object, verb, words),
-        ObjectKind::Atomic(kind) => Ok(Call::Atomic {
-            object,
-            call: read_atomic_call(kind, verb, words)?,
-        }),
-        ObjectKind::Mutex => Ok(Call::Mutex {
-            object,
-            call: read_mutex_call(verb, words)?,
-        }),
-        ObjectKind::RwMutex => Ok(Call::RwMutex {
-            object,
-            call: read_rw_mutex_call(verb, words)?,
-        }),
-        ObjectKind::Cond { .. } => Ok(Call::Cond {
-            object,
-            call: read_cond_call(verb, words)?,
-        }),
-        ObjectKind::WaitGroup { .. } => Ok(Call::WaitGroup {
-            object,
-            call: read_group_call(verb, words)?,
-        }),
-        ObjectKind::Once { .. } => read_call_on_once(object, verb, words),
-        ObjectKind::OnceFunc { .. } => read_call_on_once_func(object, verb, words),
-        ObjectKind::OnceValue { .. } => read_call_on_once_value(object, verb, words),
-        ObjectKind::Pool => Ok(Call::Pool {
-            object,
-            call: read_pool_call(verb, words)?,
-        }),
+    match kind {
+        ObjectKind::Map => read_map_operation(alloc, verb, words),
+        ObjectKind::Atomic(kind) => Ok(Operation::Atomic(read_atomic_call(kind, verb, words)?)),
+        ObjectKind::Mutex => Ok(Operation::Mutex(read_mutex_call(verb, words)?)),
+        ObjectKind::RwMutex => Ok(Operation::RwMutex(read_rw_mutex_call(verb, words)?)),
+        ObjectKind::Cond { .. } => Ok(Operation::Cond(read_cond_call(verb, words)?)),
+        ObjectKind::WaitGroup { .. } => Ok(Operation::WaitGroup(read_group_call(verb, words)?)),
+        ObjectKind::Once { .. } => read_once_call(verb, words),
+        ObjectKind::OnceFunc { .. } => read_once_func_call(verb, words),
+        ObjectKind::OnceValue { .. } => read_once_value_call(verb, words),
+        ObjectKind::Pool => Ok(Operation::Pool(read_pool_call(verb, words)?)),
     }
 }

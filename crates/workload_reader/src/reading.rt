@@ -6,7 +6,7 @@ ghost use Rattle.workload.specs.Draft.{is_item, keys_of};
 ghost use Rattle.workload.specs.Checks.{worker_checks, item_checks, ranges_in, limit_checks, first_failing};
 ghost use Rattle.workload_reader.specs.LineResult.{IsFault, IsTurns, IsWorkers, IsLineOf, IsLine};
 
-use crate::call_reading::read_call_on;
+use crate::call_reading::read_operation;
 use crate::number::{is_number, number};
 use crate::object_reading::{parameter_count, read_kind};
 use crate::word_reading::read_name;
@@ -88,7 +88,11 @@ fn read_call(
     let Some(found) = draft.declared(name) else {
         return Err(LineFault::Refused(Reason::UnknownName));
     };
-    let call = read_call_on(alloc, found, verb, words)?;
+    let operation = read_operation(alloc, found.kind, verb, words)?;
+    let call = Call {
+        object: found.place,
+        operation,
+    };
     check_limits(draft, verb, &call)?;
     Ok(Line::Call(object, call))
 }
