@@ -7,9 +7,9 @@ ghost use Rattle.workload.specs.Canonical.{behind_spaces};
 ghost use Rattle.gosync.specs.ReportText.{call_words};
 
 use crate::line::{push_atomic_word, push_word};
-use sync_model::Call;
+use sync_model::{Call, Operation};
 use workload::ObjectLine;
-use workload::call::{place_of, verb, verb_text};
+use workload::call::{verb, verb_text};
 use workload::object::name_at;
 use workload::operands::{Numbers, operands_of};
 
@@ -17,15 +17,15 @@ use workload::operands::{Numbers, operands_of};
 /// numbers, each behind a space.
 pub const WORDS_ROOM: usize = 118;
 
-/// Adds the word of a call behind a space.
+/// Adds the word of an operation behind a space.
 #[tactic(auto, using(crate::proofs::CallWords::verb_short))]
-fn push_verb(line: &mut Vec<u8>, call: &Call)
+fn push_verb(line: &mut Vec<u8>, operation: &Operation)
     requires { vec_len line.old + 10 ≤ vec_capacity line.old }
-    ensures text { line.new.items ≡ line.old.items ++ 32 ∷ verb_word (verb_of call.now) }
+    ensures text { line.new.items ≡ line.old.items ++ 32 ∷ verb_word (verb_of operation.now) }
     ensures len { vec_len line.new ≤ vec_len line.old + 10 }
     ensures room { vec_capacity line.old ≤ vec_capacity line.new }
 {
-    push_word(line, verb_text(verb(call)));
+    push_word(line, verb_text(verb(operation)));
 }
 
 /// Adds numbers of atomics' types, each behind a space.
@@ -45,14 +45,14 @@ fn push_numbers(line: &mut Vec<u8>, numbers: Numbers)
     }
 }
 
-/// Adds the operands of a call, each behind a space.
-fn push_operands(line: &mut Vec<u8>, call: &Call)
+/// Adds the operands of an operation, each behind a space.
+fn push_operands(line: &mut Vec<u8>, operation: &Operation)
     requires { vec_len line.old + 75 ≤ vec_capacity line.old }
-    ensures text { line.new.items ≡ line.old.items ++ behind_spaces (operands_of call.now) }
+    ensures text { line.new.items ≡ line.old.items ++ behind_spaces (operands_of operation.now) }
     ensures len { vec_len line.new ≤ vec_len line.old + 75 }
     ensures room { vec_capacity line.old ≤ vec_capacity line.new }
 {
-    let (key, numbers) = operands_of(call);
+    let (key, numbers) = operands_of(operation);
     if let Some(key) = key {
         push_word(line, key.as_bytes());
     }
@@ -66,7 +66,7 @@ pub fn push_call(line: &mut Vec<u8>, objects: &[ObjectLine], call: &Call)
     ensures len { vec_len line.new ≤ vec_len line.old + WORDS_ROOM }
     ensures room { vec_capacity line.old ≤ vec_capacity line.new }
 {
-    push_verb(line, call);
-    push_word(line, name_at(objects, place_of(call)));
-    push_operands(line, call);
+    push_verb(line, &call.operation);
+    push_word(line, name_at(objects, call.object));
+    push_operands(line, &call.operation);
 }

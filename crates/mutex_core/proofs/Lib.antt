@@ -7,3 +7,4 @@ pub mod UsedUp
 pub mod Standing
 pub mod Modes
 pub mod Order
+pub mod Moves

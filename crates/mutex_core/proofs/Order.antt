@@ -1,19 +1,18 @@
 -- The queue is first in, first out, and a try succeeds where an arrival would.
-use Rattle.std.proofs.Common.{◌≡◌, ℕ, Bool, true, false, ◌&&◌, ◌||◌, ◌⊎◌, inl, inr, List, [], ◌∷◌, ◌++◌, refl, sym, ap, ◌∙◌, subst}
-use Rattle.std.specs.Prelude.{nat_lt, not, if◌then◌else◌}
+use Rattle.std.proofs.Common.{◌≡◌, ℕ, Bool, true, false, List, [], ◌∷◌, refl}
+use Rattle.std.specs.Prelude.{nat_lt, if◌then◌else◌}
 use Rattle.std.proofs.lemmas.Bool.{false≢true}
 use Rattle.mutex_core.specs.declared.event.MutexEvent.{MutexEvent}
 use Rattle.mutex_core.specs.declared.event.MutexEvent.TheVariants as event
 use Rattle.mutex_core.specs.declared.place.Place.{Place}
 use Rattle.mutex_core.specs.declared.place.Place.TheVariants as place
 use Rattle.mutex_core.specs.declared.reply.MutexReply.{MutexReply}
-use Rattle.mutex_core.specs.declared.reply.MutexReply.TheVariants.{Arrived, Tried, Resumed}
+use Rattle.mutex_core.specs.declared.reply.MutexReply.TheVariants.{Arrived, Tried}
 use Rattle.mutex_core.specs.declared.reply.Arrival.TheVariants as arrival
-use Rattle.mutex_core.specs.declared.reply.Resumption.TheVariants as resumption
 use Rattle.mutex_core.specs.declared.waiter.Waiter.{Waiter}
 use Rattle.mutex_core.specs.declared.waiter.Flight.{Flight}
 use Rattle.mutex_core.specs.declared.waiter.Flight.TheVariants as flight
-use Rattle.mutex_core.specs.MutexMachine.{State, place_of, is_contended, arrived, tried, unlocked, resumed, still, at_place, next}
+use Rattle.mutex_core.specs.MutexMachine.{State, place_of, arrived, tried, unlocked, resumed, still, at_place, next}
 use Rattle.mutex_core.specs.Order.{QueuesOn}
 use Rattle.mutex_core.specs.Starving.{is_starving}
 use Rattle.mutex_core.proofs.Validity.{state}

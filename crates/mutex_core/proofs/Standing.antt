@@ -21,7 +21,7 @@ use Rattle.mutex_core.specs.Standing.{is_answer, waits_after, is_waiting}
 use Rattle.mutex_core.proofs.Validity.{state, next-valid, start-valid}
 use Rattle.mutex_core.proofs.Waiting.{callers_of, waiting_by-push, list_any-callers_of}
 
-no : {A : Type 0} → false ≡ true → A
+pub no : {A : Type 0} → false ≡ true → A
 no e = absurd (false≢true e)
 
 -- those that wait
@@ -64,7 +64,7 @@ unlocked-shifts n true false false (w ∷ q) flight.Handed c h = no (cc h.handed
 unlocked-shifts n true true false (w ∷ q) f c h = refl
 
 -- the place of a waiter that goes on
-abbrev IsInFlight : Place → Type 0
+abbrev pub IsInFlight : Place → Type 0
 IsInFlight p = (p ≡ place.Woken) ⊎ (p ≡ place.Handed)
 
 not_queued : (q : List Waiter) (c : ℕ) → IsInFlight (place_in q c) → ⊥
@@ -77,7 +77,7 @@ not_queued q c at = by_test (list_any (is_of c) q) at
     by_test false (inr e) = cc
 
 -- who goes on is the first of those that wait
-first_by : (b : Bool) (p : Place) (q : List Waiter) (c d : ℕ) → (c == d) ≡ b → IsInFlight (if b then p else place_in q c) → c ≡ d
+pub first_by : (b : Bool) (p : Place) (q : List Waiter) (c d : ℕ) → (c == d) ≡ b → IsInFlight (if b then p else place_in q c) → c ≡ d
 first_by true p q c d same at = eqb-true c d same
 first_by false p q c d same at = absurd (not_queued q c at)
 
@@ -127,7 +127,7 @@ apart-absent : (c : ℕ) (xs : List ℕ) → AllByRecursion (λ y. nat_eq c y �
 apart-absent c [] apart = refl
 apart-absent c (x ∷ xs) apart = rw (apart.0, apart-absent c xs apart.1) refl
 
-absent-rest : (c : ℕ) (xs : List ℕ) → IsDistinct nat_eq (c ∷ xs) → Among c xs ≡ false
+pub absent-rest : (c : ℕ) (xs : List ℕ) → IsDistinct nat_eq (c ∷ xs) → Among c xs ≡ false
 unfolding IsDistinct
 absent-rest c xs apart = apart-absent c xs apart.0
 
@@ -175,7 +175,7 @@ after-among s c w (entry ∷ log) h is follows =
     follows.1
 
 -- a caller's place in the queue
-in_place : (b : Bool) (q : List Waiter) (c : ℕ) → Among c (callers_of q) ≡ b → place_in q c ≡ (if b then place.Waiting else place.Out)
+pub in_place : (b : Bool) (q : List Waiter) (c : ℕ) → Among c (callers_of q) ≡ b → place_in q c ≡ (if b then place.Waiting else place.Out)
 in_place b q c is = ap (λ (x : Bool). if x then place.Waiting else place.Out) (sym (list_any-callers_of c q) ∙ is)
 
 or-parts : (a b : Bool) → (a || b) ≡ false → (a ≡ false) × (b ≡ false)

@@ -8,3 +8,4 @@ pub mod EventsLeft
 pub mod Standing
 pub mod Modes
 pub mod Order
+pub mod Moves

@@ -10,6 +10,7 @@ ghost use Rattle.mutex_core.specs.EventsLeft.{events_left, given_by, used_by};
 ghost use Rattle.mutex_core.specs.Edges.{Log, acquires, releases};
 ghost use Rattle.mutex_core.specs.Exclusion.{TakesTurns};
 ghost use Rattle.mutex_core.specs.HandOff.{HandsOff};
+ghost use Rattle.mutex_core.specs.Moves.{place_after, tells};
 ghost use Rattle.mutex_core.specs.Modes.{StarvesAndLoses, IsTheLastToStarve};
 ghost use Rattle.mutex_core.specs.Order.{QueuesOn};
 ghost use Rattle.mutex_core.specs.declared.reply.Arrival.{Arrival};
@@ -75,6 +76,16 @@ pub fn standing()
     ensures waits { (callers : ℕ) (log : Log) (caller : ℕ)
         → Follows next (start callers) log → IsTrue (is_waiting false caller log)
         → place_of (after next (start callers) log) caller ≡ Place.Out → ⊥ }
+{}
+
+/// An event moves callers from place to place as its answer says, and nobody else: one that queues, or goes back to the
+/// queue, waits; one that goes on and acquires is out; and only an unlock moves another caller, the one that it tells to go
+/// on, which waited in the queue.
+pub fn moves()
+    ensures moved { (state : State) (caller by : ℕ) (event : MutexEvent) → IsValid state
+        → place_of (next state by event).0 caller ≡ place_after caller by (place_of state caller) (next state by event).1 }
+    ensures told { (state : State) (caller by : ℕ) (event : MutexEvent) → IsValid state
+        → IsTrue (tells caller (next state by event).1) → (event ≡ MutexEvent.Unlock) × (place_of state caller ≡ Place.Waiting) }
 {}
 
 /// An event is made exactly where its caller may make it: it is one of the mutex's, and at the place that the event needs.

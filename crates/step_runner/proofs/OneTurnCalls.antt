@@ -1,5 +1,5 @@
 -- Scripts of calls on maps, atomics and pools alone.
-use Rattle.std.proofs.Common.{◌≡◌, ℕ, true, false, List, [], ◌∷◌, ◌++◌, map, length, get_or, Option, Some, None, refl, sym, ap, ◌∙◌, subst}
+use Rattle.std.proofs.Common.{◌≡◌, ℕ, Bool, true, false, List, [], ◌∷◌, ◌++◌, map, length, get_or, Option, Some, None, refl, sym, ap, ◌∙◌, subst}
 use Rattle.std.specs.Prelude.{is_some, not}
 use Rattle.std.specs.List.{list_all, range_with_len}
 use Rattle.sync_model.specs.declared.call.Call.{Call}
@@ -29,7 +29,7 @@ use Rattle.step_runner.proofs.EndLemmas.{done_replied, is_done, is_misused_by, i
 
 -- what the law of turns says
 abbrev pub Completing : Type 0
-Completing = (workers worker moment : ℕ) (call : Call) (objects : List ObjectState) → takes_one_turn call ≡ true → IsReady workers worker call objects → IsCompleted (turn_at call worker moment objects).1
+Completing = (workers worker moment : ℕ) (call : Call) (objects : List ObjectState) → takes_one_turn call.operation ≡ true → IsReady workers worker call objects → IsCompleted (turn_at call worker moment objects).1
 
 -- a turn is no misuse, and it makes an event unless the script has ended
 abbrev Goes : Plan → ℕ → State → Step → Type 0
@@ -38,10 +38,12 @@ Goes plan worker s steps.Made = Unit {0}
 Goes plan worker s (steps.Misused misuse) = ⊥
 
 abbrev AllTakeOneTurn : Plan → Type 0
-AllTakeOneTurn plan = list_all (list_all takes_one_turn) plan.scripts ≡ true
+AllTakeOneTurn plan = list_all (list_all (λ call. takes_one_turn call.operation)) plan.scripts ≡ true
 
-next_takes_one_turn : (plan : Plan) (worker : ℕ) (s : State) (call : Call) → AllTakeOneTurn plan → next_call plan worker s ≡ Some call → takes_one_turn call ≡ true
-next_takes_one_turn plan worker s call all is = all_get takes_one_turn (get_or plan.scripts worker []) (length (get_or s.replies worker [])) call (all_at takes_one_turn plan.scripts worker all) is
+next_takes_one_turn : (plan : Plan) (worker : ℕ) (s : State) (call : Call) → AllTakeOneTurn plan → next_call plan worker s ≡ Some call → takes_one_turn call.operation ≡ true
+next_takes_one_turn plan worker s call all is =
+    let one : Call → Bool = λ call. takes_one_turn call.operation in
+    all_get one (get_or plan.scripts worker []) (length (get_or s.replies worker [])) call (all_at one plan.scripts worker all) is
 
 turn_goes : Completing → (plan : Plan) (worker : ℕ) (s : State) → AllTakeOneTurn plan → IsStateOf plan s → Goes plan worker s (turn_of plan worker s).1
 turn_goes completes plan worker s all of = turn_cases (λ step. Goes plan worker s step.1) plan worker s of (record {

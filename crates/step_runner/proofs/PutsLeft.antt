@@ -5,7 +5,7 @@ use Rattle.std.proofs.lemmas.Bool.{eq-eqb}
 use Rattle.std.proofs.lemmas.List.{length-append}
 use Rattle.std.proofs.lemmas.List.Sums.{sum_by-cons}
 use Rattle.sync_model.specs.declared.call.Call.{Call}
-use Rattle.sync_model.specs.declared.call.Call.TheVariants as calls
+use Rattle.sync_model.specs.declared.call.Operation.TheVariants as operations
 use Rattle.sync_model.specs.declared.call.Reply.{Reply}
 use Rattle.sync_model.specs.declared.call.Reply.TheVariants as replies
 use Rattle.sync_model.specs.declared.pool_call.PoolCall.TheVariants as pool_calls
@@ -14,7 +14,7 @@ use Rattle.pool_core.specs.declared.pool_event.PoolEvent.TheVariants as event
 use Rattle.pool_core.specs.declared.pool_event.PoolReply.TheVariants as pool_reply
 use Rattle.workload.specs.declared.object.ObjectKind.{ObjectKind}
 use Rattle.workload.specs.declared.turn.Turn.{Turn}
-use Rattle.workload.specs.Plan.{Plan, object_of}
+use Rattle.workload.specs.Plan.{Plan}
 use Rattle.step_turns.specs.declared.answer.Answer.{Answer}
 use Rattle.step_turns.specs.declared.answer.Answer.TheVariants as answers
 use Rattle.step_turns.specs.declared.object_state.ObjectState.{ObjectState}
@@ -32,7 +32,7 @@ use Rattle.step_runner.proofs.RunLemmas.{GoesOn, Kept, items_keep, moment_valid}
 -- what the law of turns says
 pub record Rooms : Type 0 where
   pub begins : (workers room : ℕ) (kind : ObjectKind) → HasRoomFor room (new_object workers room kind)
-  pub goes_on : (worker moment : ℕ) (left : ℕ → ℕ) (call : Call) (objects : List ObjectState) → put_of (object_of call) call ≤ left (object_of call) → EachAt (λ place. HasRoomFor (left place)) objects
+  pub goes_on : (worker moment : ℕ) (left : ℕ → ℕ) (call : Call) (objects : List ObjectState) → put_of call.object call ≤ left call.object → EachAt (λ place. HasRoomFor (left place)) objects
       → EachAt (λ place. HasRoomFor (left_behind (turn_at call worker moment objects).1 (put_of place call) (left place))) (turn_at call worker moment objects).0
   pub kept : (worker item left : ℕ) (p : pool.PoolState ℕ) → worker < pool.callers_of p → 1 ≤ left → HasRoomFor left (states.Pool p) → (pool.next p worker (event.Put item)).1 ≡ pool_reply.Kept
 
@@ -95,7 +95,7 @@ takes_fits : Rooms → (plan : Plan) (worker : ℕ) (s : State) (call : Call) (o
     → AllFit (λ place. left_behind answer (put_of place call) (left_at plan s place)) objects
 takes_fits rooms plan worker s call objects answer has takes =
     takes_by (λ x. AllFit (λ place. left_behind x.1 (put_of place call) (left_at plan s place)) x.0) plan worker s call objects answer has.of takes
-    (λ r. rooms.goes_on worker s.moment (left_at plan s) call s.objects (some_left plan worker s call (object_of call) has.of takes.below takes.next) has.fits)
+    (λ r. rooms.goes_on worker s.moment (left_at plan s) call s.objects (some_left plan worker s call call.object has.of takes.below takes.next) has.fits)
 
 completed_fits : Rooms → (plan : Plan) (worker : ℕ) (s : State) (call : Call) (objects : List ObjectState) (reply : Reply (List ℕ)) → HasRoom plan s → Takes plan worker s call objects (answers.Completed reply)
     → AllFit (left_at plan (with_reply worker reply (moved objects s))) objects
@@ -130,10 +130,10 @@ pub items_have_room : Rooms → (plan : Plan) → GoesOn plan → IsStateOf plan
 items_have_room rooms plan goes_on of list = items_keep plan (HasRoom plan) (room_kept rooms plan goes_on) list (start plan) (start_has_room rooms plan of)
 
 -- a put before which a worker stands is kept
-pub put_is_kept : Rooms → (plan : Plan) (worker : ℕ) (s : State) (place item : ℕ) (p : pool.PoolState ℕ) → HasRoom plan s → next_call plan worker s ≡ Some (calls.Pool place (pool_calls.Put item))
+pub put_is_kept : Rooms → (plan : Plan) (worker : ℕ) (s : State) (place item : ℕ) (p : pool.PoolState ℕ) → HasRoom plan s → next_call plan worker s ≡ Some (record { object = place; operation = operations.Pool (pool_calls.Put item) })
     → slice_get s.objects place ≡ Some (states.Pool p) → (pool.next p worker (event.Put item)).1 ≡ pool_reply.Kept
 put_is_kept rooms plan worker s place item p has is there =
-    let call = calls.Pool place (pool_calls.Put item) in
+    let call : Call = record { object = place; operation = operations.Pool (pool_calls.Put item) } in
     let below : worker < plan.workers = (ready plan worker s call has.of is).below in
     let parts : length p.primary ≡ plan.workers = (has.of.machines place (states.Pool p) there).0 in
     let one : put_of place call ≡ 1 = ap (λ b. cond (b && true) 1 0) (eq-eqb place place refl) in

@@ -12,7 +12,7 @@ use Rattle.sync_model.specs.declared.call.Reply.{Reply}
 use Rattle.sync_model.specs.declared.misuse.Misuse.{Misuse}
 use Rattle.workload.specs.declared.object.ObjectKind.{ObjectKind}
 use Rattle.workload.specs.declared.object.ObjectLine.{ObjectLine}
-use Rattle.workload.specs.Plan.{Plan, object_of, has_call, is_on, is_target, is_turn, is_valid, reference_of, refers}
+use Rattle.workload.specs.Plan.{Plan, has_call, is_on, is_target, is_turn, is_valid, reference_of, refers}
 use Rattle.step_turns.specs.declared.answer.Answer.{Answer}
 use Rattle.step_turns.specs.declared.answer.Answer.TheVariants as answers
 use Rattle.step_turns.specs.declared.object_state.ObjectState.{ObjectState}
@@ -72,7 +72,7 @@ valid_scripts plan e =
     eqb-true (length plan.scripts) plan.workers (both (eqb (length plan.scripts) plan.workers) _ e).0
 
 abbrev on_plan : Plan → Call → Bool
-on_plan plan call = is_on (slice_get plan.objects (object_of call)) call
+on_plan plan call = is_on (slice_get plan.objects call.object) call
 
 abbrev plan_scripts : Plan → Bool
 plan_scripts plan = list_all (list_all (on_plan plan)) plan.scripts
@@ -95,7 +95,7 @@ valid_refers : (plan : Plan) → is_valid plan ≡ true → plan_refers plan ≡
 valid_refers plan e = (both (plan_schedule plan) (plan_refers plan) (valid_rest plan e).1).1
 
 -- the call before which a worker stands is on an object that has it
-call_is_on : (plan : Plan) (worker : ℕ) (s : State) (call : Call) → is_valid plan ≡ true → next_call plan worker s ≡ Some call → is_on (slice_get plan.objects (object_of call)) call ≡ true
+call_is_on : (plan : Plan) (worker : ℕ) (s : State) (call : Call) → is_valid plan ≡ true → next_call plan worker s ≡ Some call → is_on (slice_get plan.objects call.object) call ≡ true
 call_is_on plan worker s call valid is =
     all_get (on_plan plan) (get_or plan.scripts worker []) (length (get_or s.replies worker [])) call (all_at (on_plan plan) plan.scripts worker (valid_rest plan valid).0) is
 
@@ -112,7 +112,7 @@ some_none x e = cc
 
 -- an object that has the call
 abbrev Has : Option ObjectState → Call → Type 0
-Has o call = (object : ObjectState) × (o ≡ Some object) × (has_call (kind_of object) call ≡ true)
+Has o call = (object : ObjectState) × (o ≡ Some object) × (has_call (kind_of object) call.operation ≡ true)
 
 found : (o : Option ObjectState) (l : Option ObjectLine) (call : Call) → option_map kind_of o ≡ option_map (λ (line : ObjectLine). line.kind) l → is_on l call ≡ true → Has o call
 found None None call e on = absurd cc
@@ -120,7 +120,7 @@ found None (Some line) call e on = absurd cc
 found (Some object) None call e on = absurd cc
 found (Some object) (Some line) call e on =
     let same : kind_of object ≡ line.kind = cc in
-    (object, refl, subst (λ kind. has_call kind call ≡ true) (sym same) on)
+    (object, refl, subst (λ kind. has_call kind call.operation ≡ true) (sym same) on)
 
 -- what an object's line says of the object to which it refers, as the objects of a run have it
 abbrev Targets : Option ObjectState → ObjectKind → Type 0
@@ -171,14 +171,14 @@ is_there plan worker s call valid is =
 -- the object of the call before which a worker stands is ready for it
 pub ready : (plan : Plan) (worker : ℕ) (s : State) (call : Call) → IsStateOf plan s → next_call plan worker s ≡ Some call → IsReady plan.workers worker call s.objects
 ready plan worker s call of is =
-    let has = found (slice_get s.objects (object_of call)) (slice_get plan.objects (object_of call)) call (kind_there plan s (object_of call) of) (call_is_on plan worker s call of.valid is) in
+    let has = found (slice_get s.objects call.object) (slice_get plan.objects call.object) call (kind_there plan s call.object of) (call_is_on plan worker s call of.valid is) in
     record {
       object = has.0;
       there = has.1;
       has = has.2;
       below = is_there plan worker s call of.valid is;
-      machine = of.machines (object_of call) has.0 has.1;
-      refers = has_target plan s (object_of call) has.0 of has.1;
+      machine = of.machines call.object has.0 has.1;
+      refers = has_target plan s call.object has.0 of has.1;
     }
 
 -- ---- the cases of a turn

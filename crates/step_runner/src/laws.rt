@@ -6,7 +6,7 @@ ghost use Rattle.std.specs.Ordering.{nat_cmp};
 ghost use Rattle.std.specs.Cmp.Lexicographic.{slice_cmp};
 ghost use Rattle.std.specs.FinMap.{FinMap, contains_key};
 ghost use Rattle.sync_model.specs.declared.atomic_object.Number.{Number};
-ghost use Rattle.sync_model.specs.declared.call.Call.TheVariants as calls;
+ghost use Rattle.sync_model.specs.declared.call.Operation.TheVariants as operations;
 ghost use Rattle.sync_model.specs.declared.misuse.Misuse.{Misuse};
 ghost use Rattle.sync_model.specs.declared.pool_call.PoolCall.{PoolCall};
 ghost use Rattle.sync_model.specs.SequentialAtomic as atomics;
@@ -93,7 +93,7 @@ pub fn each_run_has_one_outcome()
 /// Where every call is on a map, an atomic or a pool the run is Done, and each worker has as many replies
 /// as calls.
 pub fn scripts_of_one_turn_calls_end()
-    ensures { (plan : Plan) → is_valid plan ≡ true → list_all (list_all takes_one_turn) plan.scripts ≡ true
+    ensures { (plan : Plan) → is_valid plan ≡ true → list_all (list_all (λ call. takes_one_turn call.operation)) plan.scripts ≡ true
         → (report : Report) × StepsTo plan (outcomes.Done report) × (map length report.replies ≡ map length plan.scripts) }
 {
     validity();
@@ -168,7 +168,7 @@ pub fn pairs_are_few()
 /// At every moment a worker that stands before a put finds room for its item: by schedule no put is dropped.
 pub fn no_put_is_dropped()
     ensures { (plan : Plan) (items : List Turn) (worker place item : ℕ) (p : pool.PoolState ℕ) → is_valid plan ≡ true
-        → next_call plan worker (after_items plan items (start plan)) ≡ Some (calls.Pool place (PoolCall.Put item))
+        → next_call plan worker (after_items plan items (start plan)) ≡ Some (record { object = place; operation = operations.Pool (PoolCall.Put item) })
         → slice_get (after_items plan items (start plan)).objects place ≡ Some (states.Pool p)
         → (pool.next p worker (PoolEvent.Put item)).1 ≡ PoolReply.Kept }
 {

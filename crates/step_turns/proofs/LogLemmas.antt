@@ -7,7 +7,8 @@ use Rattle.sync_model.specs.declared.atomic_object.Number.{Number}
 use Rattle.sync_model.specs.declared.atomic_object.Number.TheVariants.{Int64}
 use Rattle.sync_model.specs.declared.atomic_object.AtomicCall.{AtomicCall}
 use Rattle.sync_model.specs.declared.call.Call.{Call}
-use Rattle.sync_model.specs.declared.call.Call.TheVariants as calls
+use Rattle.sync_model.specs.declared.call.Operation.{Operation}
+use Rattle.sync_model.specs.declared.call.Operation.TheVariants as operations
 use Rattle.sync_model.specs.declared.lock_call.MutexCall.{MutexCall}
 use Rattle.sync_model.specs.declared.lock_call.RwMutexCall.{RwMutexCall}
 use Rattle.sync_model.specs.declared.map_object.MapCall.{MapCall}
@@ -45,7 +46,6 @@ use Rattle.pool_core.specs.declared.pool_event.PoolReply.{PoolReply}
 use Rattle.pool_core.specs.declared.pool_event.PoolReply.TheVariants as pool_reply
 use Rattle.workload.specs.declared.object.ObjectKind.{ObjectKind}
 use Rattle.workload.specs.declared.object.ObjectKind.TheVariants as kinds
-use Rattle.workload.specs.Plan.{object_of}
 use Rattle.step_turns.specs.declared.object_state.ObjectState.{ObjectState}
 use Rattle.step_turns.specs.declared.object_state.ObjectState.TheVariants as states
 use Rattle.step_turns.specs.Objects.{new_object, EachAt}
@@ -192,18 +192,18 @@ pool_follows workers room call worker o so_far = so_far
 
 -- ---- any object that refers to no other
 
-turn_follows : (workers room : ℕ) (call : Call) (worker moment : ℕ) (o : ObjectState) → FollowsItsMachine workers room o → FollowsItsMachine workers room (turn_on call worker moment o).0
-turn_follows workers room (calls.Map object call) worker moment o so_far = map_follows workers room call o so_far
-turn_follows workers room (calls.Range object) worker moment o so_far = range_follows workers room o so_far
-turn_follows workers room (calls.Atomic object call) worker moment o so_far = atomic_follows workers room call o so_far
-turn_follows workers room (calls.Mutex object call) worker moment o so_far = mutex_follows workers room call worker moment o so_far
-turn_follows workers room (calls.RwMutex object call) worker moment o so_far = rw_follows workers room call worker moment o so_far
-turn_follows workers room (calls.WaitGroup object call) worker moment o so_far = group_follows workers room call worker o so_far
-turn_follows workers room (calls.OnceFunc object) worker moment o so_far = func_follows workers room worker o so_far
-turn_follows workers room (calls.OnceValue object) worker moment o so_far = value_follows workers room worker o so_far
-turn_follows workers room (calls.Pool object call) worker moment o so_far = pool_follows workers room call worker o so_far
-turn_follows workers room (calls.Cond object call) worker moment o so_far = so_far
-turn_follows workers room (calls.Once object) worker moment o so_far = so_far
+turn_follows : (workers room : ℕ) (operation : Operation) (worker moment : ℕ) (o : ObjectState) → FollowsItsMachine workers room o → FollowsItsMachine workers room (turn_on operation worker moment o).0
+turn_follows workers room (operations.Map call) worker moment o so_far = map_follows workers room call o so_far
+turn_follows workers room operations.Range worker moment o so_far = range_follows workers room o so_far
+turn_follows workers room (operations.Atomic call) worker moment o so_far = atomic_follows workers room call o so_far
+turn_follows workers room (operations.Mutex call) worker moment o so_far = mutex_follows workers room call worker moment o so_far
+turn_follows workers room (operations.RwMutex call) worker moment o so_far = rw_follows workers room call worker moment o so_far
+turn_follows workers room (operations.WaitGroup call) worker moment o so_far = group_follows workers room call worker o so_far
+turn_follows workers room operations.OnceFunc worker moment o so_far = func_follows workers room worker o so_far
+turn_follows workers room operations.OnceValue worker moment o so_far = value_follows workers room worker o so_far
+turn_follows workers room (operations.Pool call) worker moment o so_far = pool_follows workers room call worker o so_far
+turn_follows workers room (operations.Cond call) worker moment o so_far = so_far
+turn_follows workers room operations.Once worker moment o so_far = so_far
 
 -- ---- an object and the one to which it refers
 
@@ -245,10 +245,10 @@ once_follows : (workers room other worker : ℕ) (o target : ObjectState) → Bo
 once_follows workers room other worker (states.Once o place delta) (states.Atomic number) so_far = adding_follows workers room other worker o place delta number so_far.0
 once_follows workers room other worker o target so_far = so_far
 
-both_follow : (workers room other : ℕ) (call : Call) (worker moment : ℕ) (o target : ObjectState) → BothFollow workers room other (o, target) → BothFollow workers room other (turn_on_both call worker moment o target).0
-both_follow workers room other (calls.Cond object call) worker moment o target so_far = cond_follows workers room other call worker moment o target so_far
-both_follow workers room other (calls.Once object) worker moment o target so_far = once_follows workers room other worker o target so_far
-both_follow workers room other call worker moment o target so_far = so_far
+both_follow : (workers room other : ℕ) (operation : Operation) (worker moment : ℕ) (o target : ObjectState) → BothFollow workers room other (o, target) → BothFollow workers room other (turn_on_both operation worker moment o target).0
+both_follow workers room other (operations.Cond call) worker moment o target so_far = cond_follows workers room other call worker moment o target so_far
+both_follow workers room other operations.Once worker moment o target so_far = once_follows workers room other worker o target so_far
+both_follow workers room other operation worker moment o target so_far = so_far
 
 -- ---- all objects
 
@@ -267,10 +267,10 @@ new_follows workers room kinds.Pool = ([], tt, refl)
 pub at_follows : (workers : ℕ) (room : ℕ → ℕ) (call : Call) (worker moment : ℕ) (objects : List ObjectState) → EachAt (λ place. FollowsItsMachine workers (room place)) objects
     → EachAt (λ place. FollowsItsMachine workers (room place)) (turn_at call worker moment objects).0
 at_follows workers room call worker moment objects all = at_any (λ x. EachAt (λ place. FollowsItsMachine workers (room place)) x.0) call worker moment objects all
-    (λ object at. each_set (λ place. FollowsItsMachine workers (room place)) objects (object_of call) (turn_on call worker moment object).0 all
-    (turn_follows workers (room (object_of call)) call worker moment object (all (object_of call) object at)))
+    (λ object at. each_set (λ place. FollowsItsMachine workers (room place)) objects call.object (turn_on call.operation worker moment object).0 all
+    (turn_follows workers (room call.object) call.operation worker moment object (all call.object object at)))
     (λ object other target at there.
-    let new = (turn_on_both call worker moment object target).0 in
-    let both = both_follow workers (room (object_of call)) (room other) call worker moment object target (all (object_of call) object at, all other target there) in
-    each_set (λ place. FollowsItsMachine workers (room place)) (set objects (object_of call) new.0) other new.1
-    (each_set (λ place. FollowsItsMachine workers (room place)) objects (object_of call) new.0 all both.0) both.1)
+    let new = (turn_on_both call.operation worker moment object target).0 in
+    let both = both_follow workers (room call.object) (room other) call.operation worker moment object target (all call.object object at, all other target there) in
+    each_set (λ place. FollowsItsMachine workers (room place)) (set objects call.object new.0) other new.1
+    (each_set (λ place. FollowsItsMachine workers (room place)) objects call.object new.0 all both.0) both.1)

@@ -8,7 +8,8 @@ use Rattle.sync_model.specs.declared.atomic_object.Number.{Number}
 use Rattle.sync_model.specs.declared.atomic_object.Number.TheVariants.{Int64}
 use Rattle.sync_model.specs.declared.atomic_object.AtomicCall.{AtomicCall}
 use Rattle.sync_model.specs.declared.call.Call.{Call}
-use Rattle.sync_model.specs.declared.call.Call.TheVariants as calls
+use Rattle.sync_model.specs.declared.call.Operation.{Operation}
+use Rattle.sync_model.specs.declared.call.Operation.TheVariants as operations
 use Rattle.sync_model.specs.declared.lock_call.MutexCall.{MutexCall}
 use Rattle.sync_model.specs.declared.lock_call.RwMutexCall.{RwMutexCall}
 use Rattle.sync_model.specs.declared.map_object.MapCall.{MapCall}
@@ -49,7 +50,7 @@ use Rattle.pool_core.specs.declared.pool_event.PoolEvent.TheVariants as pool_eve
 use Rattle.pool_core.specs.declared.pool_event.PoolReply.{PoolReply}
 use Rattle.pool_core.specs.declared.pool_event.PoolReply.TheVariants as pool_reply
 use Rattle.workload.specs.declared.object.ObjectKind.TheVariants as kinds
-use Rattle.workload.specs.Plan.{object_of, has_call}
+use Rattle.workload.specs.Plan.{has_call}
 use Rattle.step_turns.specs.declared.object_state.ObjectState.{ObjectState}
 use Rattle.step_turns.specs.declared.object_state.ObjectState.TheVariants as states
 use Rattle.step_turns.specs.Objects.{kind_of, IsMachineOf, EachAt}
@@ -89,9 +90,9 @@ range_keeps : (workers : ℕ) (o : ObjectState) → Keeps workers o (range_turn 
 range_keeps workers (states.Map m) = same workers (states.Map m)
 range_keeps workers o = same workers o
 
-atomic_keeps : (workers object : ℕ) (call : AtomicCall) (o : ObjectState) → has_call (kind_of o) (calls.Atomic object call) ≡ true → Keeps workers o (atomic_turn call o).0
-atomic_keeps workers object call (states.Atomic number) has = record { kind = ap (λ kind. kinds.Atomic kind) (after_type call number has); machine = λ h. h }
-atomic_keeps workers object call o has = same workers o
+atomic_keeps : (workers : ℕ) (call : AtomicCall) (o : ObjectState) → has_call (kind_of o) (operations.Atomic call) ≡ true → Keeps workers o (atomic_turn call o).0
+atomic_keeps workers call (states.Atomic number) has = record { kind = ap (λ kind. kinds.Atomic kind) (after_type call number has); machine = λ h. h }
+atomic_keeps workers call o has = same workers o
 
 -- ---- locks
 
@@ -197,18 +198,18 @@ pool_keeps laws workers call worker o = same workers o
 
 -- ---- any object that refers to no other
 
-turn_keeps : Laws → (workers : ℕ) (call : Call) (worker moment : ℕ) (o : ObjectState) → has_call (kind_of o) call ≡ true → Keeps workers o (turn_on call worker moment o).0
-turn_keeps laws workers (calls.Map object call) worker moment o has = map_keeps workers call o
-turn_keeps laws workers (calls.Range object) worker moment o has = range_keeps workers o
-turn_keeps laws workers (calls.Atomic object call) worker moment o has = atomic_keeps workers object call o has
-turn_keeps laws workers (calls.Mutex object call) worker moment o has = mutex_keeps laws.mutexes workers call worker moment o
-turn_keeps laws workers (calls.RwMutex object call) worker moment o has = rw_keeps laws.rw_mutexes workers call worker moment o
-turn_keeps laws workers (calls.WaitGroup object call) worker moment o has = group_keeps laws workers call worker o
-turn_keeps laws workers (calls.OnceFunc object) worker moment o has = func_keeps laws workers worker o
-turn_keeps laws workers (calls.OnceValue object) worker moment o has = value_keeps laws workers worker o
-turn_keeps laws workers (calls.Pool object call) worker moment o has = pool_keeps laws workers call worker o
-turn_keeps laws workers (calls.Cond object call) worker moment o has = same workers o
-turn_keeps laws workers (calls.Once object) worker moment o has = same workers o
+turn_keeps : Laws → (workers : ℕ) (operation : Operation) (worker moment : ℕ) (o : ObjectState) → has_call (kind_of o) operation ≡ true → Keeps workers o (turn_on operation worker moment o).0
+turn_keeps laws workers (operations.Map call) worker moment o has = map_keeps workers call o
+turn_keeps laws workers operations.Range worker moment o has = range_keeps workers o
+turn_keeps laws workers (operations.Atomic call) worker moment o has = atomic_keeps workers call o has
+turn_keeps laws workers (operations.Mutex call) worker moment o has = mutex_keeps laws.mutexes workers call worker moment o
+turn_keeps laws workers (operations.RwMutex call) worker moment o has = rw_keeps laws.rw_mutexes workers call worker moment o
+turn_keeps laws workers (operations.WaitGroup call) worker moment o has = group_keeps laws workers call worker o
+turn_keeps laws workers operations.OnceFunc worker moment o has = func_keeps laws workers worker o
+turn_keeps laws workers operations.OnceValue worker moment o has = value_keeps laws workers worker o
+turn_keeps laws workers (operations.Pool call) worker moment o has = pool_keeps laws workers call worker o
+turn_keeps laws workers (operations.Cond call) worker moment o has = same workers o
+turn_keeps laws workers operations.Once worker moment o has = same workers o
 
 -- ---- an object and the one to which it refers
 
@@ -275,10 +276,10 @@ once_keeps : Laws → (workers worker : ℕ) (o target : ObjectState) → KeepsB
 once_keeps laws workers worker (states.Once o place delta) (states.Atomic number) = adding_keeps laws workers worker o place delta number
 once_keeps laws workers worker o target = both_same workers o target
 
-both_keep : Laws → (workers : ℕ) (call : Call) (worker moment : ℕ) (o target : ObjectState) → KeepsBoth workers o target (turn_on_both call worker moment o target).0
-both_keep laws workers (calls.Cond object call) worker moment o target = cond_keeps laws workers call worker moment o target
-both_keep laws workers (calls.Once object) worker moment o target = once_keeps laws workers worker o target
-both_keep laws workers call worker moment o target = both_same workers o target
+both_keep : Laws → (workers : ℕ) (operation : Operation) (worker moment : ℕ) (o target : ObjectState) → KeepsBoth workers o target (turn_on_both operation worker moment o target).0
+both_keep laws workers (operations.Cond call) worker moment o target = cond_keeps laws workers call worker moment o target
+both_keep laws workers operations.Once worker moment o target = once_keeps laws workers worker o target
+both_keep laws workers operation worker moment o target = both_same workers o target
 
 -- ---- all objects
 
@@ -304,5 +305,5 @@ two_keep workers objects place other object target new at there apart keep =
 
 pub turn_keep : Laws → (workers worker : ℕ) (call : Call) (moment : ℕ) (objects : List ObjectState) → IsReady workers worker call objects → ObjectsKeep workers objects (turn_at call worker moment objects).0
 turn_keep laws workers worker call moment objects r = at_ready (λ x. ObjectsKeep workers objects x.0) workers worker call moment objects r
-    (λ st. one_keeps workers objects (object_of call) r.object (turn_on call worker moment r.object).0 st.at (turn_keeps laws workers call worker moment r.object st.has))
-    (λ other target st. two_keep workers objects (object_of call) other r.object target (turn_on_both call worker moment r.object target).0 st.at st.there st.apart (both_keep laws workers call worker moment r.object target))
+    (λ st. one_keeps workers objects call.object r.object (turn_on call.operation worker moment r.object).0 st.at (turn_keeps laws workers call.operation worker moment r.object st.has))
+    (λ other target st. two_keep workers objects call.object other r.object target (turn_on_both call.operation worker moment r.object target).0 st.at st.there st.apart (both_keep laws workers call.operation worker moment r.object target))

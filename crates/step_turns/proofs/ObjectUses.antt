@@ -9,7 +9,8 @@ use Rattle.sync_model.specs.declared.atomic_object.Number.{Number}
 use Rattle.sync_model.specs.declared.atomic_object.Number.TheVariants.{Int64}
 use Rattle.sync_model.specs.declared.atomic_object.AtomicCall.{AtomicCall}
 use Rattle.sync_model.specs.declared.call.Call.{Call}
-use Rattle.sync_model.specs.declared.call.Call.TheVariants as calls
+use Rattle.sync_model.specs.declared.call.Operation.{Operation}
+use Rattle.sync_model.specs.declared.call.Operation.TheVariants as operations
 use Rattle.sync_model.specs.declared.call.Reply.{Reply}
 use Rattle.sync_model.specs.declared.call.Reply.TheVariants as replies
 use Rattle.sync_model.specs.declared.once_call.DoReply.TheVariants as once_replies
@@ -68,7 +69,6 @@ use Rattle.wait_cores.specs.declared.once.OnceReply.TheVariants as once_reply
 use Rattle.pool_core.specs.declared.pool_event.PoolEvent.{PoolEvent}
 use Rattle.pool_core.specs.declared.pool_event.PoolReply.{PoolReply}
 use Rattle.pool_core.specs.declared.pool_event.PoolReply.TheVariants as pool_reply
-use Rattle.workload.specs.Plan.{object_of}
 use Rattle.step_turns.specs.declared.answer.Answer.{Answer}
 use Rattle.step_turns.specs.declared.answer.Answer.TheVariants as answers
 use Rattle.step_turns.specs.declared.object_state.ObjectState.{ObjectState}
@@ -335,18 +335,18 @@ pool_uses call worker o = refl
 
 -- ---- any object that refers to no other
 
-turn_uses : Uses → (workers : ℕ) (call : Call) (worker moment : ℕ) (o : ObjectState) → IsMachineOf workers o → ObjectUses o (turn_on call worker moment o)
-turn_uses uses workers (calls.Map object call) worker moment o is = map_uses call o
-turn_uses uses workers (calls.Range object) worker moment o is = range_uses o
-turn_uses uses workers (calls.Atomic object call) worker moment o is = atomic_uses call o
-turn_uses uses workers (calls.Mutex object call) worker moment o is = mutex_uses uses.mutexes workers call worker moment o is
-turn_uses uses workers (calls.RwMutex object call) worker moment o is = rw_uses uses.rw_mutexes workers call worker moment o is
-turn_uses uses workers (calls.WaitGroup object call) worker moment o is = group_uses uses call worker o
-turn_uses uses workers (calls.OnceFunc object) worker moment o is = func_uses uses worker o
-turn_uses uses workers (calls.OnceValue object) worker moment o is = value_uses uses worker o
-turn_uses uses workers (calls.Pool object call) worker moment o is = pool_uses call worker o
-turn_uses uses workers (calls.Cond object call) worker moment o is = refl
-turn_uses uses workers (calls.Once object) worker moment o is = refl
+turn_uses : Uses → (workers : ℕ) (operation : Operation) (worker moment : ℕ) (o : ObjectState) → IsMachineOf workers o → ObjectUses o (turn_on operation worker moment o)
+turn_uses uses workers (operations.Map call) worker moment o is = map_uses call o
+turn_uses uses workers operations.Range worker moment o is = range_uses o
+turn_uses uses workers (operations.Atomic call) worker moment o is = atomic_uses call o
+turn_uses uses workers (operations.Mutex call) worker moment o is = mutex_uses uses.mutexes workers call worker moment o is
+turn_uses uses workers (operations.RwMutex call) worker moment o is = rw_uses uses.rw_mutexes workers call worker moment o is
+turn_uses uses workers (operations.WaitGroup call) worker moment o is = group_uses uses call worker o
+turn_uses uses workers operations.OnceFunc worker moment o is = func_uses uses worker o
+turn_uses uses workers operations.OnceValue worker moment o is = value_uses uses worker o
+turn_uses uses workers (operations.Pool call) worker moment o is = pool_uses call worker o
+turn_uses uses workers (operations.Cond call) worker moment o is = refl
+turn_uses uses workers operations.Once worker moment o is = refl
 
 -- ---- a cond and its mutex
 
@@ -464,11 +464,11 @@ once_uses : Uses → (worker : ℕ) (o target : ObjectState) → BothUse o targe
 once_uses uses worker (states.Once o place delta) (states.Atomic number) = adding_uses uses worker o place delta number
 once_uses uses worker o target = (refl, refl)
 
-both_use : Uses → (workers : ℕ) (call : Call) (worker moment : ℕ) (o target : ObjectState) → worker < workers → IsMachineOf workers o → IsMachineOf workers target
-    → BothUse o target (turn_on_both call worker moment o target)
-both_use uses workers (calls.Cond object call) worker moment o target below first second = cond_uses uses workers call worker moment o target below first second
-both_use uses workers (calls.Once object) worker moment o target below first second = once_uses uses worker o target
-both_use uses workers call worker moment o target below first second = (refl, refl)
+both_use : Uses → (workers : ℕ) (operation : Operation) (worker moment : ℕ) (o target : ObjectState) → worker < workers → IsMachineOf workers o → IsMachineOf workers target
+    → BothUse o target (turn_on_both operation worker moment o target)
+both_use uses workers (operations.Cond call) worker moment o target below first second = cond_uses uses workers call worker moment o target below first second
+both_use uses workers operations.Once worker moment o target below first second = once_uses uses worker o target
+both_use uses workers operation worker moment o target below first second = (refl, refl)
 
 -- ---- all objects
 
@@ -501,5 +501,5 @@ two_use objects place other object target step at there apart uses =
 
 pub turn_use : Uses → (workers worker : ℕ) (call : Call) (moment : ℕ) (objects : List ObjectState) → IsReady workers worker call objects → ObjectsUse objects (turn_at call worker moment objects)
 turn_use uses workers worker call moment objects r = at_ready (ObjectsUse objects) workers worker call moment objects r
-    (λ st. one_uses objects (object_of call) r.object (turn_on call worker moment r.object) st.at (turn_uses uses workers call worker moment r.object st.machine))
-    (λ other target st. two_use objects (object_of call) other r.object target (turn_on_both call worker moment r.object target) st.at st.there st.apart (both_use uses workers call worker moment r.object target st.below st.machine st.machine_there))
+    (λ st. one_uses objects call.object r.object (turn_on call.operation worker moment r.object) st.at (turn_uses uses workers call.operation worker moment r.object st.machine))
+    (λ other target st. two_use objects call.object other r.object target (turn_on_both call.operation worker moment r.object target) st.at st.there st.apart (both_use uses workers call.operation worker moment r.object target st.below st.machine st.machine_there))

@@ -6,7 +6,8 @@ use Rattle.std.specs.Option.{option_to_list}
 use Rattle.std.specs.FinMap.{entries, len-entries}
 use Rattle.std.proofs.lemmas.Bool.{le-leb}
 use Rattle.sync_model.specs.declared.call.Call.{Call}
-use Rattle.sync_model.specs.declared.call.Call.TheVariants as calls
+use Rattle.sync_model.specs.declared.call.Operation.{Operation}
+use Rattle.sync_model.specs.declared.call.Operation.TheVariants as operations
 use Rattle.sync_model.specs.declared.call.Reply.{Reply}
 use Rattle.sync_model.specs.declared.call.Reply.TheVariants as replies
 use Rattle.sync_model.specs.declared.lock_call.MutexCall.{MutexCall}
@@ -54,8 +55,7 @@ use Rattle.pool_core.specs.declared.pool_event.PoolReply.{PoolReply}
 use Rattle.pool_core.specs.declared.pool_event.PoolReply.TheVariants as pool_reply
 use Rattle.workload.specs.declared.object.ObjectKind.{ObjectKind}
 use Rattle.workload.specs.declared.object.ObjectKind.TheVariants as kinds
-use Rattle.workload.specs.Plan.{object_of}
-use Rattle.workload.specs.Draft.{keys_of, distinct_count}
+use Rattle.workload.specs.Draft.{operation_keys, keys_of, distinct_count}
 use Rattle.step_turns.specs.declared.answer.Answer.{Answer}
 use Rattle.step_turns.specs.declared.object_state.ObjectState.{ObjectState}
 use Rattle.step_turns.specs.declared.object_state.ObjectState.TheVariants as states
@@ -194,18 +194,18 @@ pool_keeps : (names : List (List ℕ)) (most : ℕ) (call : PoolCall) (worker : 
 pool_keeps names most call worker (states.Pool p) has = (tt, pool_few most call worker p)
 pool_keeps names most call worker o has = (has, tt)
 
-turn_on_keeps : (names : List (List ℕ)) (most : ℕ) (call : Call) (worker moment : ℕ) (o : ObjectState) → AreAmong names (keys_of call)
-    → distinct_count names ≤ most → HasObjectKeysIn names o → Keeps names most (turn_on call worker moment o)
-turn_on_keeps names most (calls.Map object call) worker moment o named room has = map_keeps names most call o named has
-turn_on_keeps names most (calls.Range object) worker moment o named room has = range_keeps names most o room has
-turn_on_keeps names most (calls.Atomic object call) worker moment o named room has = atomic_keeps names most call o has
-turn_on_keeps names most (calls.Mutex object call) worker moment o named room has = mutex_keeps names most call worker moment o has
-turn_on_keeps names most (calls.RwMutex object call) worker moment o named room has = rw_keeps names most call worker moment o has
-turn_on_keeps names most (calls.WaitGroup object call) worker moment o named room has = group_keeps names most call worker o has
-turn_on_keeps names most (calls.OnceFunc object) worker moment o named room has = func_keeps names most worker o has
-turn_on_keeps names most (calls.OnceValue object) worker moment o named room has = value_keeps names most worker o has
-turn_on_keeps names most (calls.Pool object call) worker moment o named room has = pool_keeps names most call worker o has
-turn_on_keeps names most call worker moment o named room has = (has, tt)
+turn_on_keeps : (names : List (List ℕ)) (most : ℕ) (operation : Operation) (worker moment : ℕ) (o : ObjectState) → AreAmong names (operation_keys operation)
+    → distinct_count names ≤ most → HasObjectKeysIn names o → Keeps names most (turn_on operation worker moment o)
+turn_on_keeps names most (operations.Map call) worker moment o named room has = map_keeps names most call o named has
+turn_on_keeps names most operations.Range worker moment o named room has = range_keeps names most o room has
+turn_on_keeps names most (operations.Atomic call) worker moment o named room has = atomic_keeps names most call o has
+turn_on_keeps names most (operations.Mutex call) worker moment o named room has = mutex_keeps names most call worker moment o has
+turn_on_keeps names most (operations.RwMutex call) worker moment o named room has = rw_keeps names most call worker moment o has
+turn_on_keeps names most (operations.WaitGroup call) worker moment o named room has = group_keeps names most call worker o has
+turn_on_keeps names most operations.OnceFunc worker moment o named room has = func_keeps names most worker o has
+turn_on_keeps names most operations.OnceValue worker moment o named room has = value_keeps names most worker o has
+turn_on_keeps names most (operations.Pool call) worker moment o named room has = pool_keeps names most call worker o has
+turn_on_keeps names most operation worker moment o named room has = (has, tt)
 
 -- ---- at an object and the one to which it refers
 
@@ -262,11 +262,11 @@ once_keeps : (names : List (List ℕ)) (most worker : ℕ) (o target : ObjectSta
 once_keeps names most worker (states.Once o place delta) (states.Atomic number) has there = adding_keeps names most worker o place delta number
 once_keeps names most worker o target has there = ((has, there), tt)
 
-both_keep : (names : List (List ℕ)) (most : ℕ) (call : Call) (worker moment : ℕ) (o target : ObjectState) → HasObjectKeysIn names o → HasObjectKeysIn names target
-    → KeepsBoth names most (turn_on_both call worker moment o target)
-both_keep names most (calls.Cond object call) worker moment o target has there = cond_keeps names most call worker moment o target has there
-both_keep names most (calls.Once object) worker moment o target has there = once_keeps names most worker o target has there
-both_keep names most call worker moment o target has there = ((has, there), tt)
+both_keep : (names : List (List ℕ)) (most : ℕ) (operation : Operation) (worker moment : ℕ) (o target : ObjectState) → HasObjectKeysIn names o → HasObjectKeysIn names target
+    → KeepsBoth names most (turn_on_both operation worker moment o target)
+both_keep names most (operations.Cond call) worker moment o target has there = cond_keeps names most call worker moment o target has there
+both_keep names most operations.Once worker moment o target has there = once_keeps names most worker o target has there
+both_keep names most operation worker moment o target has there = ((has, there), tt)
 
 -- ---- all objects
 
@@ -278,12 +278,12 @@ pub at_keys : (names : List (List ℕ)) (most : ℕ) (call : Call) (worker momen
     → distinct_count names ≤ most → EachAt (λ place. HasObjectKeysIn names) objects → ObjectsKeep names most (turn_at call worker moment objects)
 at_keys names most call worker moment objects named room all = at_any (ObjectsKeep names most) call worker moment objects (all, tt)
     (λ object at.
-    let keeps = turn_on_keeps names most call worker moment object named room (all (object_of call) object at) in
-    (each_set (λ place. HasObjectKeysIn names) objects (object_of call) (turn_on call worker moment object).0 all keeps.0, keeps.1))
+    let keeps = turn_on_keeps names most call.operation worker moment object named room (all call.object object at) in
+    (each_set (λ place. HasObjectKeysIn names) objects call.object (turn_on call.operation worker moment object).0 all keeps.0, keeps.1))
     (λ object other target at there.
-    let new = turn_on_both call worker moment object target in
-    let keep = both_keep names most call worker moment object target (all (object_of call) object at) (all other target there) in
-    (each_set (λ place. HasObjectKeysIn names) (set objects (object_of call) new.0.0) other new.0.1 (each_set (λ place. HasObjectKeysIn names) objects (object_of call) new.0.0 all keep.0.0) keep.0.1, keep.1))
+    let new = turn_on_both call.operation worker moment object target in
+    let keep = both_keep names most call.operation worker moment object target (all call.object object at) (all other target there) in
+    (each_set (λ place. HasObjectKeysIn names) (set objects call.object new.0.0) other new.0.1 (each_set (λ place. HasObjectKeysIn names) objects call.object new.0.0 all keep.0.0) keep.0.1, keep.1))
 
 pub new_keys : (names : List (List ℕ)) (workers room : ℕ) (kind : ObjectKind) → HasObjectKeysIn names (new_object workers room kind)
 new_keys names workers room kinds.Map = empty_keys names

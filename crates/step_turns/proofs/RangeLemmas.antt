@@ -4,7 +4,8 @@ use Rattle.std.specs.Prelude.{ℤ, pos, negsuc}
 use Rattle.std.specs.Int.{w64, cast_unsigned, cast_signed, int_wrapping_add}
 use Rattle.std.proofs.lemmas.Bool.{ltb-false, lt-ltb}
 use Rattle.sync_model.specs.declared.call.Call.{Call}
-use Rattle.sync_model.specs.declared.call.Call.TheVariants as calls
+use Rattle.sync_model.specs.declared.call.Operation.{Operation}
+use Rattle.sync_model.specs.declared.call.Operation.TheVariants as operations
 use Rattle.sync_model.specs.declared.map_object.MapCall.{MapCall}
 use Rattle.sync_model.specs.declared.lock_call.MutexCall.{MutexCall}
 use Rattle.sync_model.specs.declared.lock_call.RwMutexCall.{RwMutexCall}
@@ -20,7 +21,7 @@ use Rattle.sync_model.specs.SequentialAtomic as atomics
 use Rattle.wait_cores.specs.OnceMachine as once
 use Rattle.workload.specs.declared.object.ObjectKind.{ObjectKind}
 use Rattle.workload.specs.declared.object.ObjectKind.TheVariants as kinds
-use Rattle.workload.specs.Plan.{object_of, has_call}
+use Rattle.workload.specs.Plan.{has_call}
 use Rattle.step_turns.specs.declared.answer.Answer.{Answer}
 use Rattle.step_turns.specs.declared.object_state.ObjectState.{ObjectState}
 use Rattle.step_turns.specs.declared.object_state.ObjectState.TheVariants as states
@@ -47,10 +48,10 @@ BeginsInRange = (kind : AtomicKind) → is_of kind (zero_of kind) ≡ true
 abbrev pub StaysInRange : Type 0
 StaysInRange = (kind : AtomicKind) (call : AtomicCall) (held : Number) → is_of kind held ≡ true → is_atomic_call kind call ≡ true → is_of kind (atomic_after call held) ≡ true
 
-atomic_stays : StaysInRange → (object : ℕ) (call : AtomicCall) (o : ObjectState) → has_call (kind_of o) (calls.Atomic object call) ≡ true → IsInRange o → IsInRange (atomic_turn call o).0
-atomic_stays law object call (states.Atomic held) has is =
+atomic_stays : StaysInRange → (call : AtomicCall) (o : ObjectState) → has_call (kind_of o) (operations.Atomic call) ≡ true → IsInRange o → IsInRange (atomic_turn call o).0
+atomic_stays law call (states.Atomic held) has is =
     subst (λ (kind : AtomicKind). is_of kind (atomic_after call held) ≡ true) (sym (after_type call held has)) (law (atomics.kind_of held) call held is has)
-atomic_stays law object call o has is = absurd cc
+atomic_stays law call o has is = absurd cc
 
 -- no other call changes an atomic
 map_stays : (call : MapCall (List ℕ)) (o : ObjectState) → IsInRange o → IsInRange (map_turn call o).0
@@ -85,17 +86,17 @@ pool_stays : (call : PoolCall) (worker : ℕ) (o : ObjectState) → IsInRange o 
 pool_stays call worker (states.Pool p) is = tt
 pool_stays call worker o is = is
 
-turn_on_stays : StaysInRange → (call : Call) (worker moment : ℕ) (o : ObjectState) → has_call (kind_of o) call ≡ true → IsInRange o → IsInRange (turn_on call worker moment o).0
-turn_on_stays law (calls.Map object call) worker moment o has is = map_stays call o is
-turn_on_stays law (calls.Range object) worker moment o has is = range_stays o is
-turn_on_stays law (calls.Atomic object call) worker moment o has is = atomic_stays law object call o has is
-turn_on_stays law (calls.Mutex object call) worker moment o has is = mutex_stays call worker moment o is
-turn_on_stays law (calls.RwMutex object call) worker moment o has is = rw_stays call worker moment o is
-turn_on_stays law (calls.WaitGroup object call) worker moment o has is = group_stays call worker o is
-turn_on_stays law (calls.OnceFunc object) worker moment o has is = func_stays worker o is
-turn_on_stays law (calls.OnceValue object) worker moment o has is = value_stays worker o is
-turn_on_stays law (calls.Pool object call) worker moment o has is = pool_stays call worker o is
-turn_on_stays law call worker moment o has is = is
+turn_on_stays : StaysInRange → (operation : Operation) (worker moment : ℕ) (o : ObjectState) → has_call (kind_of o) operation ≡ true → IsInRange o → IsInRange (turn_on operation worker moment o).0
+turn_on_stays law (operations.Map call) worker moment o has is = map_stays call o is
+turn_on_stays law operations.Range worker moment o has is = range_stays o is
+turn_on_stays law (operations.Atomic call) worker moment o has is = atomic_stays law call o has is
+turn_on_stays law (operations.Mutex call) worker moment o has is = mutex_stays call worker moment o is
+turn_on_stays law (operations.RwMutex call) worker moment o has is = rw_stays call worker moment o is
+turn_on_stays law (operations.WaitGroup call) worker moment o has is = group_stays call worker o is
+turn_on_stays law operations.OnceFunc worker moment o has is = func_stays worker o is
+turn_on_stays law operations.OnceValue worker moment o has is = value_stays worker o is
+turn_on_stays law (operations.Pool call) worker moment o has is = pool_stays call worker o is
+turn_on_stays law operation worker moment o has is = is
 
 -- ---- the sum of a once
 
@@ -126,20 +127,20 @@ cond_stays : (call : CondCall) (worker moment : ℕ) (o target : ObjectState) �
 cond_stays call worker moment (states.Cond c place) (states.Mutex m) is was = (tt, tt)
 cond_stays call worker moment o target is was = (is, was)
 
-both_stay : (call : Call) (worker moment : ℕ) (o target : ObjectState) → IsInRange o → IsInRange target → BothStay (turn_on_both call worker moment o target)
-both_stay (calls.Cond object call) worker moment o target is was = cond_stays call worker moment o target is was
-both_stay (calls.Once object) worker moment o target is was = once_stays worker o target is was
-both_stay call worker moment o target is was = (is, was)
+both_stay : (operation : Operation) (worker moment : ℕ) (o target : ObjectState) → IsInRange o → IsInRange target → BothStay (turn_on_both operation worker moment o target)
+both_stay (operations.Cond call) worker moment o target is was = cond_stays call worker moment o target is was
+both_stay operations.Once worker moment o target is was = once_stays worker o target is was
+both_stay operation worker moment o target is was = (is, was)
 
 -- ---- all objects
 
 pub at_stays : StaysInRange → (workers worker : ℕ) (call : Call) (moment : ℕ) (objects : List ObjectState) → IsReady workers worker call objects → EachAt (λ place. IsInRange) objects → EachAt (λ place. IsInRange) (turn_at call worker moment objects).0
 at_stays law workers worker call moment objects r are = at_ready (λ x. EachAt (λ place. IsInRange) x.0) workers worker call moment objects r
-    (λ st. each_set (λ place. IsInRange) objects (object_of call) (turn_on call worker moment r.object).0 are (turn_on_stays law call worker moment r.object st.has (are (object_of call) r.object st.at)))
+    (λ st. each_set (λ place. IsInRange) objects call.object (turn_on call.operation worker moment r.object).0 are (turn_on_stays law call.operation worker moment r.object st.has (are call.object r.object st.at)))
     (λ other target st.
-    let new = turn_on_both call worker moment r.object target in
-    let stay = both_stay call worker moment r.object target (are (object_of call) r.object st.at) (are other target st.there) in
-    each_set (λ place. IsInRange) (set objects (object_of call) new.0.0) other new.0.1 (each_set (λ place. IsInRange) objects (object_of call) new.0.0 are stay.0) stay.1)
+    let new = turn_on_both call.operation worker moment r.object target in
+    let stay = both_stay call.operation worker moment r.object target (are call.object r.object st.at) (are other target st.there) in
+    each_set (λ place. IsInRange) (set objects call.object new.0.0) other new.0.1 (each_set (λ place. IsInRange) objects call.object new.0.0 are stay.0) stay.1)
 
 pub new_range : BeginsInRange → (workers room : ℕ) (kind : ObjectKind) → IsInRange (new_object workers room kind)
 new_range law workers room (kinds.Atomic kind) = subst (λ (type : AtomicKind). is_of type (zero_of kind) ≡ true) (sym (zero_type kind)) (law kind)

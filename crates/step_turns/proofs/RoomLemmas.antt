@@ -6,7 +6,8 @@ use Rattle.std.specs.Option.{option_map}
 use Rattle.std.proofs.lemmas.Bool.{eq-eqb, lt-ltb}
 use Rattle.std.proofs.lemmas.List.{length-take}
 use Rattle.sync_model.specs.declared.call.Call.{Call}
-use Rattle.sync_model.specs.declared.call.Call.TheVariants as calls
+use Rattle.sync_model.specs.declared.call.Operation.{Operation}
+use Rattle.sync_model.specs.declared.call.Operation.TheVariants as operations
 use Rattle.sync_model.specs.declared.atomic_object.Number.{Number}
 use Rattle.sync_model.specs.declared.atomic_object.Number.TheVariants.{Int64}
 use Rattle.sync_model.specs.declared.atomic_object.AtomicCall.{AtomicCall}
@@ -27,7 +28,7 @@ use Rattle.pool_core.specs.declared.pool_event.PoolReply.{PoolReply}
 use Rattle.pool_core.specs.declared.pool_event.PoolReply.TheVariants as pool_reply
 use Rattle.workload.specs.declared.object.ObjectKind.{ObjectKind}
 use Rattle.workload.specs.declared.object.ObjectKind.TheVariants as kinds
-use Rattle.workload.specs.Plan.{object_of}
+use Rattle.workload.specs.Puts.{is_put}
 use Rattle.step_turns.specs.declared.answer.Answer.{Answer}
 use Rattle.step_turns.specs.declared.answer.Answer.TheVariants as answers
 use Rattle.step_turns.specs.declared.object_state.ObjectState.{ObjectState}
@@ -219,30 +220,31 @@ value_fits : (left worker : ℕ) (o : ObjectState) → HasRoomFor left o → Has
 value_fits left worker (states.OnceValue v value) fit = tt
 value_fits left worker o fit = fit
 
-own_put : (place item : ℕ) → put_of place (calls.Pool place (pool_calls.Put item)) ≡ 1
-own_put place item = ap (λ b. cond (b && true) 1 0) (eq-eqb place place refl)
+-- a put at its own place counts
+own_put : (call : Call) → is_put call.operation ≡ true → put_of call.object call ≡ 1
+own_put call is = ap (λ b. cond (b && is_put call.operation) 1 0) (eq-eqb call.object call.object refl) ∙ ap (λ b. cond b 1 0) is
 
-pool_fits : (one left : ℕ) (call : PoolCall) (worker place : ℕ) (o : ObjectState) → one ≡ put_of place (calls.Pool place call) → one ≤ left → HasRoomFor left o → StepFits one left (pool_turn call worker o)
-pool_fits one left (pool_calls.Put item) worker place (states.Pool p) is some fit =
-    next_fits (left - one) p worker (event.Put item) (pool_less (left - one + 1) left p (omega (arith, is, own_put place item, some)) fit)
-pool_fits one left pool_calls.Get worker place (states.Pool p) is some fit =
+pool_fits : (one left : ℕ) (call : PoolCall) (worker : ℕ) (o : ObjectState) → (is_put (operations.Pool call) ≡ true → one ≡ 1) → one ≤ left → HasRoomFor left o → StepFits one left (pool_turn call worker o)
+pool_fits one left (pool_calls.Put item) worker (states.Pool p) is some fit =
+    next_fits (left - one) p worker (event.Put item) (pool_less (left - one + 1) left p (omega (arith, is refl, some)) fit)
+pool_fits one left pool_calls.Get worker (states.Pool p) is some fit =
     settled_fits one left (pool_turn pool_calls.Get worker (states.Pool p)) (get_fits left worker p fit)
-pool_fits one left pool_calls.Sweep worker place (states.Pool p) is some fit =
+pool_fits one left pool_calls.Sweep worker (states.Pool p) is some fit =
     settled_fits one left (pool_turn pool_calls.Sweep worker (states.Pool p)) (next_fits left p worker event.Sweep (pool_less (left + 0) left p (omega arith) fit))
-pool_fits one left call worker place o is some fit = fit
+pool_fits one left call worker o is some fit = fit
 
-turn_on_fits : (one left : ℕ) (call : Call) (worker moment : ℕ) (o : ObjectState) → one ≡ put_of (object_of call) call → one ≤ left → HasRoomFor left o → StepFits one left (turn_on call worker moment o)
-turn_on_fits one left (calls.Map object call) worker moment o is some fit = settled_fits one left (map_turn call o) (map_fits left call o fit)
-turn_on_fits one left (calls.Range object) worker moment o is some fit = settled_fits one left (range_turn o) (range_fits left o fit)
-turn_on_fits one left (calls.Atomic object call) worker moment o is some fit = settled_fits one left (atomic_turn call o) (atomic_fits left call o fit)
-turn_on_fits one left (calls.Mutex object call) worker moment o is some fit = settled_fits one left (mutex_turn call worker moment o) (mutex_fits left call worker moment o fit)
-turn_on_fits one left (calls.RwMutex object call) worker moment o is some fit = settled_fits one left (rw_mutex_turn call worker moment o) (rw_fits left call worker moment o fit)
-turn_on_fits one left (calls.WaitGroup object call) worker moment o is some fit = settled_fits one left (group_turn call worker o) (group_fits left call worker o fit)
-turn_on_fits one left (calls.OnceFunc object) worker moment o is some fit = settled_fits one left (func_turn worker o) (func_fits left worker o fit)
-turn_on_fits one left (calls.OnceValue object) worker moment o is some fit = settled_fits one left (value_turn worker o) (value_fits left worker o fit)
-turn_on_fits one left (calls.Pool object call) worker moment o is some fit = pool_fits one left call worker object o is some fit
-turn_on_fits one left (calls.Cond object call) worker moment o is some fit = fit
-turn_on_fits one left (calls.Once object) worker moment o is some fit = fit
+turn_on_fits : (one left : ℕ) (operation : Operation) (worker moment : ℕ) (o : ObjectState) → (is_put operation ≡ true → one ≡ 1) → one ≤ left → HasRoomFor left o → StepFits one left (turn_on operation worker moment o)
+turn_on_fits one left (operations.Map call) worker moment o is some fit = settled_fits one left (map_turn call o) (map_fits left call o fit)
+turn_on_fits one left operations.Range worker moment o is some fit = settled_fits one left (range_turn o) (range_fits left o fit)
+turn_on_fits one left (operations.Atomic call) worker moment o is some fit = settled_fits one left (atomic_turn call o) (atomic_fits left call o fit)
+turn_on_fits one left (operations.Mutex call) worker moment o is some fit = settled_fits one left (mutex_turn call worker moment o) (mutex_fits left call worker moment o fit)
+turn_on_fits one left (operations.RwMutex call) worker moment o is some fit = settled_fits one left (rw_mutex_turn call worker moment o) (rw_fits left call worker moment o fit)
+turn_on_fits one left (operations.WaitGroup call) worker moment o is some fit = settled_fits one left (group_turn call worker o) (group_fits left call worker o fit)
+turn_on_fits one left operations.OnceFunc worker moment o is some fit = settled_fits one left (func_turn worker o) (func_fits left worker o fit)
+turn_on_fits one left operations.OnceValue worker moment o is some fit = settled_fits one left (value_turn worker o) (value_fits left worker o fit)
+turn_on_fits one left (operations.Pool call) worker moment o is some fit = pool_fits one left call worker o is some fit
+turn_on_fits one left (operations.Cond call) worker moment o is some fit = fit
+turn_on_fits one left operations.Once worker moment o is some fit = fit
 
 -- ---- an object and the one to which it refers
 
@@ -261,10 +263,10 @@ once_fits : (left there worker : ℕ) (o target : ObjectState) → HasRoomFor le
 once_fits left there worker (states.Once o place delta) (states.Atomic number) fit also = adding_fits left there worker o place delta number
 once_fits left there worker o target fit also = (fit, also)
 
-both_fit : (left there : ℕ) (call : Call) (worker moment : ℕ) (o target : ObjectState) → HasRoomFor left o → HasRoomFor there target → BothFit left there (turn_on_both call worker moment o target).0
-both_fit left there (calls.Cond object call) worker moment o target fit also = cond_fits left there call worker moment o target fit also
-both_fit left there (calls.Once object) worker moment o target fit also = once_fits left there worker o target fit also
-both_fit left there call worker moment o target fit also = (fit, also)
+both_fit : (left there : ℕ) (operation : Operation) (worker moment : ℕ) (o target : ObjectState) → HasRoomFor left o → HasRoomFor there target → BothFit left there (turn_on_both operation worker moment o target).0
+both_fit left there (operations.Cond call) worker moment o target fit also = cond_fits left there call worker moment o target fit also
+both_fit left there operations.Once worker moment o target fit also = once_fits left there worker o target fit also
+both_fit left there operation worker moment o target fit also = (fit, also)
 
 -- ---- all objects
 
@@ -278,18 +280,18 @@ AllFit left objects = EachAt (λ place. HasRoomFor (left place)) objects
 rest_fits : (left : ℕ → ℕ) (call : Call) (a : Answer) (objects : List ObjectState) → AllFit left objects → AllFit (rest_at call left a) objects
 rest_fits left call a objects fit place o at = object_less (rest_at call left a place) (left place) o (rest_less a (put_of place call) (left place)) (fit place o at)
 
-pub at_fits : (left : ℕ → ℕ) (call : Call) (worker moment : ℕ) (objects : List ObjectState) → put_of (object_of call) call ≤ left (object_of call) → AllFit left objects
+pub at_fits : (left : ℕ → ℕ) (call : Call) (worker moment : ℕ) (objects : List ObjectState) → put_of call.object call ≤ left call.object → AllFit left objects
     → AllFit (rest_at call left (turn_at call worker moment objects).1) (turn_at call worker moment objects).0
 at_fits left call worker moment objects some fit = at_any (λ x. AllFit (rest_at call left x.1) x.0) call worker moment objects fit
     (λ object at.
-    let step = turn_on call worker moment object in
-    each_set (λ place. HasRoomFor (rest_at call left step.1 place)) objects (object_of call) step.0 (rest_fits left call step.1 objects fit)
-    (turn_on_fits (put_of (object_of call) call) (left (object_of call)) call worker moment object refl some (fit (object_of call) object at)))
+    let step = turn_on call.operation worker moment object in
+    each_set (λ place. HasRoomFor (rest_at call left step.1 place)) objects call.object step.0 (rest_fits left call step.1 objects fit)
+    (turn_on_fits (put_of call.object call) (left call.object) call.operation worker moment object (own_put call) some (fit call.object object at)))
     (λ object other target at there.
-    let step = turn_on_both call worker moment object target in
-    let both = both_fit (left (object_of call)) (left other) call worker moment object target (fit (object_of call) object at) (fit other target there) in
-    rest_fits left call step.1 (set (set objects (object_of call) step.0.0) other step.0.1)
-    (each_set (λ place. HasRoomFor (left place)) (set objects (object_of call) step.0.0) other step.0.1 (each_set (λ place. HasRoomFor (left place)) objects (object_of call) step.0.0 fit both.0) both.1))
+    let step = turn_on_both call.operation worker moment object target in
+    let both = both_fit (left call.object) (left other) call.operation worker moment object target (fit call.object object at) (fit other target there) in
+    rest_fits left call step.1 (set (set objects call.object step.0.0) other step.0.1)
+    (each_set (λ place. HasRoomFor (left place)) (set objects call.object step.0.0) other step.0.1 (each_set (λ place. HasRoomFor (left place)) objects call.object step.0.0 fit both.0) both.1))
 
 new_parts_fit : (room n : ℕ) → HavePartsRoom room (replicate n (empty room))
 new_parts_fit room zero k part is = absurd cc

@@ -1,7 +1,7 @@
 -- When a worker may take a turn before a call.
 use Rattle.std.specs.Prelude.{◌≡◌, ℕ, ◌<◌, true, List, slice_get, Some}
 use Rattle.sync_model.specs.declared.call.Call.{Call}
-use Rattle.workload.specs.Plan.{object_of, has_call, is_target, reference_of}
+use Rattle.workload.specs.Plan.{has_call, is_target, reference_of}
 use Rattle.step_turns.specs.declared.object_state.ObjectState.{ObjectState}
 use Rattle.step_turns.specs.Objects.{kind_of, IsMachineOf}
 
@@ -15,8 +15,8 @@ pub record HasTarget (workers : ℕ) (objects : List ObjectState) (object : Obje
 -- the object of a call is there and has the call, the worker is one of its callers, and what it refers to is there
 pub record IsReady (workers worker : ℕ) (call : Call) (objects : List ObjectState) : Type 0 where
   pub object : ObjectState
-  pub there : slice_get objects (object_of call) ≡ Some object
-  pub has : has_call (kind_of object) call ≡ true
+  pub there : slice_get objects call.object ≡ Some object
+  pub has : has_call (kind_of object) call.operation ≡ true
   pub below : worker < workers
   pub machine : IsMachineOf workers object
   pub refers : (place : ℕ) → reference_of (kind_of object) ≡ Some place → HasTarget workers objects object place

@@ -6,7 +6,6 @@ ghost use Rattle.pool_core.specs.declared.pool_event.PoolEvent.{PoolEvent};
 ghost use Rattle.pool_core.specs.declared.pool_event.PoolReply.{PoolReply};
 ghost use Rattle.workload.specs.declared.object.ObjectKind.{ObjectKind};
 ghost use Rattle.workload.specs.Draft.{keys_of, distinct_count};
-ghost use Rattle.workload.specs.Plan.{object_of};
 ghost use Rattle.step_turns.specs.declared.object_state.ObjectState.{ObjectState};
 ghost use Rattle.step_turns.specs.declared.object_state.ObjectState.TheVariants as states;
 ghost use Rattle.step_turns.specs.AtomicRange.{IsInRange};
@@ -62,7 +61,7 @@ pub fn turns_use_something_up()
 
 /// A turn on a map, an atomic or a pool that has the call completes it.
 pub fn some_calls_take_one_turn()
-    ensures { (workers worker moment : ℕ) (call : Call) (objects : List ObjectState) → takes_one_turn call ≡ true → IsReady workers worker call objects → IsCompleted (turn_at call worker moment objects).1 }
+    ensures { (workers worker moment : ℕ) (call : Call) (objects : List ObjectState) → takes_one_turn call.operation ≡ true → IsReady workers worker call objects → IsCompleted (turn_at call worker moment objects).1 }
 {}
 
 /// An object that is a machine begins in a state that the machine reaches from its start by the events of a
@@ -94,7 +93,7 @@ pub fn maps_keep_to_the_keys_of_calls()
 /// are left to make on it, and a put for which there is room is kept.
 pub fn pools_have_room()
     ensures begins { (workers room : ℕ) (kind : ObjectKind) → HasRoomFor room (new_object workers room kind) }
-    ensures goes_on { (worker moment : ℕ) (left : ℕ → ℕ) (call : Call) (objects : List ObjectState) → put_of (object_of call) call ≤ left (object_of call) → EachAt (λ place. HasRoomFor (left place)) objects
+    ensures goes_on { (worker moment : ℕ) (left : ℕ → ℕ) (call : Call) (objects : List ObjectState) → put_of call.object call ≤ left call.object → EachAt (λ place. HasRoomFor (left place)) objects
         → EachAt (λ place. HasRoomFor (left_behind (turn_at call worker moment objects).1 (put_of place call) (left place))) (turn_at call worker moment objects).0 }
     ensures kept { (worker item left : ℕ) (p : pool.PoolState ℕ) → worker < pool.callers_of p → 1 ≤ left → HasRoomFor left (states.Pool p) → (pool.next p worker (PoolEvent.Put item)).1 ≡ PoolReply.Kept }
 {}

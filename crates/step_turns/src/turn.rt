@@ -1,6 +1,6 @@
 //! The turn of a worker that stands before a call, at the objects of a run.
 ghost use Rattle.std.specs.Prelude.{◌≡◌, ◌≢◌, ◌<◌, ◌≤◌, true, None, Some, slice_get, IfOk};
-ghost use Rattle.workload.specs.Plan.{object_of, has_call, reference_of};
+ghost use Rattle.workload.specs.Plan.{has_call, reference_of};
 ghost use Rattle.step_turns.specs.declared.object_state.ObjectState.{ObjectState};
 ghost use Rattle.step_turns.specs.Objects.{IsMachineOf, kind_of};
 ghost use Rattle.step_turns.specs.Ready.{IsReady};
@@ -18,26 +18,7 @@ use crate::rw_mutex_turn::take_rw_mutex_turn;
 use crate::wait_group_turn::take_wait_group_turn;
 use std::alloc::{AllocError, Global};
 use std::mem;
-use sync_model::{Call, Number};
-
-/// The place of a call's object.
-fn object_of(call: &Call) -> usize
-    ensures { result ≡ object_of call.now }
-{
-    match call {
-        Call::Map { object, .. } => *object,
-        Call::Range { object } => *object,
-        Call::Atomic { object, .. } => *object,
-        Call::Mutex { object, .. } => *object,
-        Call::RwMutex { object, .. } => *object,
-        Call::Cond { object, .. } => *object,
-        Call::WaitGroup { object, .. } => *object,
-        Call::Once { object } => *object,
-        Call::OnceFunc { object } => *object,
-        Call::OnceValue { object } => *object,
-        Call::Pool { object, .. } => *object,
-    }
-}
+use sync_model::{Call, Number, Operation};
 
 /// Who takes a turn, and when.
 #[derive(Clone, Copy, Debug)]
@@ -50,37 +31,37 @@ pub struct Taker {
     pub moment: u64,
 }
 
-/// Takes a turn of a worker that stands before the call, at the call's object and by its kind, where that
-/// object refers to no other.
+/// Takes a turn of a worker that stands before a call of this operation, at the call's object and by its
+/// kind, where that object refers to no other.
 fn take_turn_on(
     alloc: Global,
     object: &mut ObjectState,
-    call: &Call,
+    operation: &Operation,
     taker: Taker,
 ) -> Result<Answer, AllocError>
-    requires has { has_call (kind_of object.old) call.now ≡ true }
+    requires has { has_call (kind_of object.old) operation.now ≡ true }
     requires alone { reference_of (kind_of object.old) ≡ None }
     requires machine { IsMachineOf taker.workers object.old }
     requires worker { taker.worker < taker.workers }
     requires few { taker.workers ≤ 64 }
-    ensures { IfOk result (λ answer. turn_on call.now taker.worker taker.moment object.old ≡ (object.new, answer)) }
+    ensures { IfOk result (λ answer. turn_on operation.now taker.worker taker.moment object.old ≡ (object.new, answer)) }
 {
     let Taker {
         worker,
         workers,
         moment,
     } = taker;
-    match call {
-        Call::Map { call, .. } => take_map_turn(alloc, object, call),
-        Call::Range { .. } => take_range_turn(alloc, object),
-        Call::Atomic { call, .. } => Ok(take_atomic_turn(object, *call)),
-        Call::Mutex { call, .. } => Ok(take_mutex_turn(object, worker, *call, moment)),
-        Call::RwMutex { call, .. } => Ok(take_rw_mutex_turn(object, worker, *call, moment)),
-        Call::WaitGroup { call, .. } => Ok(take_wait_group_turn(object, worker, *call)),
-        Call::OnceFunc { .. } => Ok(take_once_func_turn(object, worker)),
-        Call::OnceValue { .. } => Ok(take_once_value_turn(object, worker)),
-        Call::Pool { call, .. } => Ok(take_pool_turn(object, worker, workers, *call)),
-        Call::Cond { .. } | Call::Once { .. } => Ok(Answer::Still),
+    match operation {
+        Operation::Map(call) => take_map_turn(alloc, object, call),
+        Operation::Range => take_range_turn(alloc, object),
+        Operation::Atomic(call) => Ok(take_atomic_turn(object, *call)),
+        Operation::Mutex(call) => Ok(take_mutex_turn(object, worker, *call, moment)),
+        Operation::RwMutex(call) => Ok(take_rw_mutex_turn(object, worker, *call, moment)),
+        Operation::WaitGroup(call) => Ok(take_wait_group_turn(object, worker, *call)),
+        Operation::OnceFunc => Ok(take_once_func_turn(object, worker)),
+        Operation::OnceValue => Ok(take_once_value_turn(object, worker)),
+        Operation::Pool(call) => Ok(take_pool_turn(object, worker, workers, *call)),
+        Operation::Cond(_) | Operation::Once => Ok(Answer::Still),
     }
 }
 
@@ -88,19 +69,17 @@ fn take_turn_on(
 fn take_turn_on_both(
     object: &mut ObjectState,
     target: &mut ObjectState,
-    call: &Call,
+    operation: &Operation,
     taker: Taker,
 ) -> Answer
     requires object { IsMachineOf taker.workers object.old }
     requires target { IsMachineOf taker.workers target.old }
     requires worker { taker.worker < taker.workers }
-    ensures { turn_on_both call.now taker.worker taker.moment object.old target.old ≡ ((object.new, target.new), result) }
+    ensures { turn_on_both operation.now taker.worker taker.moment object.old target.old ≡ ((object.new, target.new), result) }
 {
-    match call {
-        Call::Cond { call, .. } => {
-            take_cond_turn(object, target, taker.worker, *call, taker.moment)
-        }
-        Call::Once { .. } => take_once_turn(object, target, taker.worker),
+    match operation {
+        Operation::Cond(call) => take_cond_turn(object, target, taker.worker, *call, taker.moment),
+        Operation::Once => take_once_turn(object, target, taker.worker),
         _ => Answer::Still,
     }
 }
@@ -111,7 +90,7 @@ fn take_turn_at_both(
     objects: &mut [ObjectState],
     place: usize,
     other: usize,
-    call: &Call,
+    operation: &Operation,
     taker: Taker,
 ) -> Answer
     requires object { (object : ObjectState) × (slice_get objects.old place ≡ Some object) × IsMachineOf taker.workers object }
@@ -119,11 +98,11 @@ fn take_turn_at_both(
     requires apart { other ≢ place }
     requires worker { taker.worker < taker.workers }
     ensures { (object target : ObjectState) → slice_get objects.old place ≡ Some object → slice_get objects.old other ≡ Some target
-        → with_both place other objects.old (turn_on_both call.now taker.worker taker.moment object target) ≡ (objects.new, result) }
+        → with_both place other objects.old (turn_on_both operation.now taker.worker taker.moment object target) ≡ (objects.new, result) }
 {
     let beside = ObjectState::Atomic(Number::Bool(false));
     let mut object = mem::replace(&mut objects[place], beside);
-    let answer = take_turn_on_both(&mut object, &mut objects[other], call, taker);
+    let answer = take_turn_on_both(&mut object, &mut objects[other], operation, taker);
     objects[place] = object;
     answer
 }
@@ -140,9 +119,9 @@ pub fn take_turn_at(
     requires few { taker.workers ≤ 64 }
     ensures { IfOk result (λ answer. turn_at call.now taker.worker taker.moment objects.old ≡ (objects.new, answer)) }
 {
-    let place = object_of(call);
+    let place = call.object;
     match objects[place].refers_to() {
-        None => take_turn_on(alloc, &mut objects[place], call, taker),
-        Some(other) => Ok(take_turn_at_both(objects, place, other, call, taker)),
+        None => take_turn_on(alloc, &mut objects[place], &call.operation, taker),
+        Some(other) => Ok(take_turn_at_both(objects, place, other, &call.operation, taker)),
     }
 }
