@@ -13,7 +13,7 @@ use Rattle.workload.specs.Plan.{Plan}
 use Rattle.run_record.specs.declared.made.Made.{Made}
 use Rattle.run_record.specs.Calls.{IsJournalOf}
 use Rattle.run_record.specs.Journals.{IsStops}
-use Rattle.run_record.specs.Lines.{Line, Ending, whole, misused, halted, unfinished, script_of, items_of, replies_of, IsLineOf}
+use Rattle.run_record.specs.Lines.{Line, LineEnd, whole, misused, halted, unfinished, script_of, items_of, replies_of, IsLineOf}
 use Rattle.run_record.specs.Objects.{contents_of, ends_in}
 use Rattle.run_record.specs.Record.{Record, stop, number_at, journal_of, list_of, shared_in, entries_in, calls_of, front_of}
 
@@ -42,21 +42,21 @@ pub record AreLines (plan : Plan) (r : Record) (outcome : Outcome) (lines : List
   pub each : (worker : ℕ) (line : Line) → slice_get lines worker ≡ Some line → IsLineOf plan worker line
 
 -- the worker has ended: its script is at its end, or its last call is a misuse or was halted
-abbrev pub HasEnded : Ending → Type 0
+abbrev pub HasEnded : LineEnd → Type 0
 HasEnded whole = Unit {0}
 HasEnded (misused misuse) = Unit {0}
 HasEnded (halted misuse) = Unit {0}
 HasEnded unfinished = ⊥
 
 -- what a run comes to that left these lines. Where it is done, each script is at its end, and the ends are what the maps and atomics contain after the whole history. Where it was misused, the misuse is the first that halted Stop. With threads none is seen to be deadlocked
-abbrev pub ComesTo : Plan → Record → List Line → Outcome → Type 0
-ComesTo plan r lines (Done left) = All (λ line. line.ending ≡ whole) lines × (left.ends ≡ ends_in plan (contents_after (contents_of plan) r.history))
-ComesTo plan r lines (Misused left misuse) = All (λ line. HasEnded line.ending) lines × (left.ends ≡ []) × (halt_of (journal_of r stop) ≡ Some misuse)
-ComesTo plan r lines (Deadlocked left) = ⊥
+abbrev pub Agrees : Plan → Record → List Line → Outcome → Type 0
+Agrees plan r lines (Done left) = All (λ line. line.ending ≡ whole) lines × (left.ends ≡ ends_in plan (contents_after (contents_of plan) r.history))
+Agrees plan r lines (Misused left misuse) = All (λ line. HasEnded line.ending) lines × (left.ends ≡ []) × (halt_of (journal_of r stop) ≡ Some misuse)
+Agrees plan r lines (Deadlocked left) = ⊥
 
 -- the record explains the outcome
 pub record Explains (plan : Plan) (outcome : Outcome) (r : Record) : Type 0 where
   pub lines : List Line
   pub are : AreLines plan r outcome lines
   pub lawful : IsLawful plan r
-  pub comes : ComesTo plan r lines outcome
+  pub agrees : Agrees plan r lines outcome

@@ -14,33 +14,33 @@ use Rattle.run_record.specs.Calls.{SpellsCall}
 use Rattle.run_record.specs.Record.{shared_in}
 
 -- a call that was completed, with the items that spell it
-pub record Told : Type 0 where
+pub record SpeltCall : Type 0 where
   pub call : Call
   pub items : List Made
   pub reply : Reply ℕ
 
 -- how a list ends
-pub data Ending : Type 0 where
-  whole : Ending             -- the script is at its end
-  misused : Misuse → Ending  -- a call is this misuse
-  halted : Misuse → Ending   -- a call was cut short by a halt
-  unfinished : Ending        -- a call isn't done yet
+pub data LineEnd : Type 0 where
+  whole : LineEnd             -- the script is at its end
+  misused : Misuse → LineEnd  -- a call is this misuse
+  halted : Misuse → LineEnd   -- a call was cut short by a halt
+  unfinished : LineEnd        -- a call isn't done yet
 
 -- a list, call by call
 pub record Line : Type 0 where
-  pub told : List Told
+  pub spelt : List SpeltCall
   pub last : List Made   -- behind the completed calls
   pub rest : List Call   -- what is left of the script
-  pub ending : Ending
+  pub ending : LineEnd
 
 abbrev pub script_of : Line → List Call
-script_of line = map (λ told. told.call) line.told ++ line.rest
+script_of line = map (λ spelt. spelt.call) line.spelt ++ line.rest
 
 abbrev pub items_of : Line → List Made
-items_of line = flat_map (λ told. told.items) line.told ++ line.last
+items_of line = flat_map (λ spelt. spelt.items) line.spelt ++ line.last
 
 abbrev pub replies_of : Line → List (Reply ℕ)
-replies_of line = map (λ told. told.reply) line.told
+replies_of line = map (λ spelt. spelt.reply) line.spelt
 
 -- the worker halts an object by this misuse
 abbrev pub IsHalt : Misuse → Made → Type 0
@@ -49,12 +49,12 @@ IsHalt misuse (Entered object entry) = entry.deed ≡ Halt misuse
 
 module _ (plan : Plan) (worker : ℕ) where
   -- each completed call is spelt by its items, of a worker that has made so many calls on maps and atomics before
-  abbrev pub AreSpelt : ℕ → List Told → Type 0
+  abbrev pub AreSpelt : ℕ → List SpeltCall → Type 0
   AreSpelt before [] = Unit {0}
-  AreSpelt before (told ∷ later) = SpellsCall plan worker before told.call told.items (Done (Ok told.reply)) × AreSpelt (before + length (shared_in told.items)) later
+  AreSpelt before (spelt ∷ later) = SpellsCall plan worker before spelt.call spelt.items (Done (Ok spelt.reply)) × AreSpelt (before + length (shared_in spelt.items)) later
 
   -- What stands behind the completed calls: nothing, at the end of the script. Else the next call, which is a misuse, and then halts by it; or which met a halt; or the first items of the next call, perhaps none.
-  abbrev pub EndsBy : ℕ → Ending → List Call → List Made → Type 0
+  abbrev pub EndsBy : ℕ → LineEnd → List Call → List Made → Type 0
   EndsBy before whole rest last = (rest ≡ []) × (last ≡ [])
   EndsBy before (misused misuse) [] last = ⊥
   EndsBy before (misused misuse) (call ∷ rest) last =
@@ -66,5 +66,5 @@ module _ (plan : Plan) (worker : ℕ) where
 
   -- the line is one of this worker
   pub record IsLineOf (line : Line) : Type 0 where
-    pub spelt : AreSpelt 0 line.told
-    pub ends : EndsBy (length (shared_in (flat_map (λ told. told.items) line.told))) line.ending line.rest line.last
+    pub calls : AreSpelt 0 line.spelt
+    pub ends : EndsBy (length (shared_in (flat_map (λ spelt. spelt.items) line.spelt))) line.ending line.rest line.last

@@ -31,14 +31,14 @@ module _ {O : Type 0} where
 
 module _ {O P : Type 0} where
   -- what comes behind a part: the next one, by its outcome; nothing, where it was a misuse or met a halt
-  abbrev pub Goes : (O → Part P) → CallAnswer O → List Made → CallAnswer P → Type 0
-  Goes next (Done (Ok outcome)) items answer = next outcome items answer
-  Goes next (Done (Err misuse)) items answer = (items ≡ []) × (answer ≡ Done (Err misuse))
-  Goes next (Halted misuse) items answer = (items ≡ []) × (answer ≡ Halted misuse)
+  abbrev pub GoesOn : (O → Part P) → CallAnswer O → List Made → CallAnswer P → Type 0
+  GoesOn next (Done (Ok outcome)) items answer = next outcome items answer
+  GoesOn next (Done (Err misuse)) items answer = (items ≡ []) × (answer ≡ Done (Err misuse))
+  GoesOn next (Halted misuse) items answer = (items ≡ []) × (answer ≡ Halted misuse)
 
   -- one part and then the next, by what the first one comes to
   abbrev pub and_then : Part O → (O → Part P) → Part P
-  and_then first next items answer = (earlier : List Made) × (later : List Made) × (given : CallAnswer O) × (items ≡ earlier ++ later) × first earlier given × Goes next given later answer
+  and_then first next items answer = (earlier : List Made) × (later : List Made) × (given : CallAnswer O) × (items ≡ earlier ++ later) × first earlier given × GoesOn next given later answer
 
   -- the same answer, for another outcome
   abbrev pub with_outcome : (O → P) → CallAnswer O → CallAnswer P
