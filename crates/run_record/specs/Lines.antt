@@ -21,16 +21,16 @@ pub record SpeltCall : Type 0 where
 
 -- how a list ends
 pub data LineEnd : Type 0 where
-  whole : LineEnd             -- the script is at its end
+  whole : LineEnd  -- the script is at its end
   misused : Misuse → LineEnd  -- a call is this misuse
-  halted : Misuse → LineEnd   -- a call was cut short by a halt
-  unfinished : LineEnd        -- a call isn't done yet
+  halted : Misuse → LineEnd  -- a call was cut short by a halt
+  unfinished : LineEnd  -- a call isn't done yet
 
 -- a list, call by call
 pub record Line : Type 0 where
   pub spelt : List SpeltCall
-  pub last : List Made   -- behind the completed calls
-  pub rest : List Call   -- what is left of the script
+  pub last : List Made  -- behind the completed calls
+  pub rest : List Call  -- what is left of the script
   pub ending : LineEnd
 
 abbrev pub script_of : Line → List Call

@@ -51,6 +51,6 @@ named keys m = from_entries (map (λ entry. (key_name keys entry.0, entry.1)) (e
 -- what a report shows of these contents: each atomic's number and each map's keys, in byte order, with the places of their objects
 abbrev pub ends_in : Plan → Contents → List End
 ends_in plan contents = ends_of (key_number (keys_in plan.scripts)) (record {
-    numbers = zip (places_from 0 is_atomic plan.objects) contents.numbers;
-    maps = zip (places_from 0 is_map plan.objects) (map (named (keys_in plan.scripts)) contents.maps)
-  })
+  numbers = zip (places_from 0 is_atomic plan.objects) contents.numbers;
+  maps = zip (places_from 0 is_map plan.objects) (map (named (keys_in plan.scripts)) contents.maps);
+})

@@ -15,7 +15,7 @@ ObjectEntry = Entry ObjectEvent ObjectReply
 pub record Record : Type 0 where
   pub history : List SharedEntry
   pub journals : List (List ObjectEntry)  -- one for each object, by its number
-  pub lists : List (List Made)            -- one for each worker
+  pub lists : List (List Made)  -- one for each worker
 
 -- Stop, on which a misuse ends the run, has no events but halts, and is object 0. The workload's objects follow: this is the number of the one at a place
 abbrev pub stop : ℕ

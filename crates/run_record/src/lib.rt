@@ -3,6 +3,7 @@
 #![tactic(auto)]
 
 pub mod entered;
+pub mod laws;
 pub mod made;
 
 pub use entered::{ObjectEvent, ObjectReply};

@@ -10,5 +10,8 @@ pub enum Made {
     Shared(Item),
     /// An entry of the journal of an object, which is named by its number: object 0 is Stop, and the workload's objects
     /// follow in order of declaration.
-    Entered { object: usize, entry: Entry<ObjectEvent, ObjectReply> },
+    Entered {
+        object: usize,
+        entry: Entry<ObjectEvent, ObjectReply>,
+    },
 }
