@@ -43,3 +43,7 @@ of_kind plan place (kinds.Once atomic delta) journal is = from is.1 (edges_lifte
 of_kind plan place (kinds.OnceFunc code) journal is = from is.1 (edges_lifted event.OnceFunc reply.OnceFunc frees takes is.0 is.3)
 of_kind plan place (kinds.OnceValue value) journal is = from is.1 (edges_lifted event.OnceValue reply.OnceValue frees takes is.0 is.3)
 of_kind plan place kinds.Pool journal is = from is.1 (edges_lifted event.Pool reply.Pool frees takes is.0 is.3)
+
+-- the journal of an object of a known kind
+pub journal_at : (plan : Plan) (r : Record) (place : ℕ) (object : ObjectLine) (kind : ObjectKind) → IsLawful plan r → slice_get plan.objects place ≡ Some object → object.kind ≡ kind → IsJournalOf plan place kind (journal_of r (number_at place))
+journal_at plan r place object kind lawful some is = subst (λ (k : ObjectKind). IsJournalOf plan place k (journal_of r (number_at place))) is (lawful.journals place object some)

@@ -5,6 +5,7 @@ pub mod Edges
 pub mod Explains
 pub mod Journals
 pub mod Lines
+pub mod Logs
 pub mod MapKind
 pub mod MutexKind
 pub mod Objects
