@@ -1,4 +1,9 @@
+mod CallLemmas
 mod EdgeLemmas
+mod HaltLemmas
+mod Having
 mod Lifts
+mod LineLemmas
 mod ListLemmas
 mod ObjectJournals
+mod PartLemmas

@@ -1,5 +1,5 @@
 -- How a worker's list falls into the calls of its script.
-use Rattle.std.specs.Prelude.{◌≡◌, ℕ, ◌+◌, List, [], ◌∷◌, ◌++◌, map, length, All, Ok, Err}
+use Rattle.std.specs.Prelude.{◌≡◌, ℕ, ◌+◌, List, [], ◌∷◌, ◌++◌, map, length, All, Some, slice_get, Ok, Err}
 use Rattle.std.specs.List.{flat_map}
 use Rattle.sync_model.specs.declared.answer.Answer.TheVariants.{Done, Halted}
 use Rattle.sync_model.specs.declared.call.Call.{Call}
@@ -11,7 +11,7 @@ use Rattle.workload.specs.Plan.{Plan}
 use Rattle.run_record.specs.declared.made.Made.{Made}
 use Rattle.run_record.specs.declared.made.Made.TheVariants.{Shared, Entered}
 use Rattle.run_record.specs.Calls.{SpellsCall}
-use Rattle.run_record.specs.Record.{shared_in}
+use Rattle.run_record.specs.Record.{ObjectEntry, stop, shared_in}
 
 -- a call that was completed, with the items that spell it
 pub record SpeltCall : Type 0 where
@@ -46,6 +46,10 @@ replies_of line = map (λ spelt. spelt.reply) line.spelt
 abbrev pub IsHalt : Misuse → Made → Type 0
 IsHalt misuse (Shared x) = ⊥
 IsHalt misuse (Entered object entry) = entry.deed ≡ Halt misuse
+
+-- a worker that meets a misuse halts Stop by it
+abbrev pub HaltsStop : Line → Type 0
+HaltsStop line = (misuse : Misuse) → line.ending ≡ misused misuse → (i : ℕ) × (entry : ObjectEntry) × (slice_get (items_of line) i ≡ Some (Entered stop entry)) × (entry.deed ≡ Halt misuse)
 
 module _ (plan : Plan) (worker : ℕ) where
   -- each completed call is spelt by its items, of a worker that has made so many calls on maps and atomics before

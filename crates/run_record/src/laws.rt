@@ -1,3 +1,4 @@
 //! What holds of the record of a run. Each law is the contract of a function that does nothing.
 pub mod edges;
+pub mod endings;
 pub mod objects;
