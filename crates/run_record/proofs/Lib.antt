@@ -1,5 +1,6 @@
 mod CallLemmas
 mod EdgeLemmas
+mod ExampleLemmas
 mod HaltLemmas
 mod Having
 mod Lifts

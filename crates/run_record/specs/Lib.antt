@@ -2,6 +2,7 @@ pub mod AtomicKind
 pub mod Calls
 pub mod CondKind
 pub mod Edges
+pub mod Example
 pub mod Explains
 pub mod Journals
 pub mod Lines
