@@ -1,0 +1,10 @@
+mod CallLemmas
+mod EdgeLemmas
+mod ExampleLemmas
+mod HaltLemmas
+mod Having
+mod Lifts
+mod LineLemmas
+mod ListLemmas
+mod ObjectJournals
+mod PartLemmas

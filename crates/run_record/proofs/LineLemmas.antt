@@ -1,0 +1,138 @@
+-- The lines of a record: where halts and refusals stand in them.
+use Rattle.std.proofs.Common.{◌≡◌, ◌⊎◌, inl, inr, ℕ, ◌+◌, ◌<◌, List, [], ◌∷◌, ◌++◌, map, length, get_or, Option, Some, None, slice_get, refl, sym, ap, ◌∙◌, subst}
+use Rattle.std.specs.Prelude.{All, Ok, Err}
+use Rattle.std.specs.List.{flat_map}
+use Rattle.std.proofs.lemmas.Bool.{false≢true}
+use Rattle.std.proofs.lemmas.Option.{none-some, slice_get_within, get_or_from_slice_get, slice_get-get_or}
+use Rattle.sync_model.specs.declared.answer.Answer.TheVariants.{Done, Halted}
+use Rattle.sync_model.specs.declared.call.Call.{Call}
+use Rattle.sync_model.specs.declared.journal.Deed.{Deed}
+use Rattle.sync_model.specs.declared.journal.Deed.TheVariants.{Event, Refused, Halt}
+use Rattle.sync_model.specs.declared.misuse.Misuse.{Misuse}
+use Rattle.sync_model.specs.declared.outcome.Outcome.{Outcome}
+use Rattle.sync_model.specs.Journal.{by, halt_of}
+use Rattle.workload.specs.Plan.{Plan}
+use Rattle.run_record.specs.declared.entered.ObjectEvent.{ObjectEvent}
+use Rattle.run_record.specs.declared.entered.ObjectReply.{ObjectReply}
+use Rattle.run_record.specs.declared.made.Made.{Made}
+use Rattle.run_record.specs.declared.made.Made.TheVariants.{Shared, Entered}
+use Rattle.run_record.specs.Explains.{IsLawful, AreLines, HasEnded}
+use Rattle.run_record.specs.Lines.{SpeltCall, LineEnd, whole, misused, halted, unfinished, Line, items_of, IsHalt, HaltsStop, AreSpelt, EndsBy, IsLineOf}
+use Rattle.run_record.specs.Record.{Record, ObjectEntry, stop, journal_of, list_of, shared_in, entries_in}
+use Rattle.run_record.proofs.CallLemmas.{AllEndAlike, of_call}
+use Rattle.run_record.proofs.HaltLemmas.{IsHaltBy, misuse_in, halted_has, unhalted_has, refusal_has}
+use Rattle.run_record.proofs.Having.{Has, Each, OfEntry, has_either, has_right, each_both, each_left, place_of, has_by, by_has, has_entered, entered_in, some_object, has_in, get_at}
+use Rattle.run_record.proofs.PartLemmas.{IsCalmDeed, IsCalm, IsRefusal}
+
+-- the list has a halt by this misuse
+abbrev pub HasHalt : Misuse → List Made → Type 0
+HasHalt misuse items = Has (OfEntry (IsHaltBy misuse)) items
+
+calm_item : (m : Misuse) (x : Made) → IsCalm x → OfEntry (IsHaltBy m) x → ⊥
+calm_item m (Shared x) calm is = is
+calm_item m (Entered object entry) calm is = subst (λ (d : Deed ObjectEvent ObjectReply). IsCalmDeed d) is calm
+
+calm_not : (m : Misuse) (items : List Made) → Each IsCalm items → HasHalt m items → ⊥
+calm_not m [] calm has = has
+calm_not m (x ∷ items) calm (inl is) = calm_item m x calm.0 is
+calm_not m (x ∷ items) calm (inr has) = calm_not m items calm.1 has
+
+halts_by : (m k : Misuse) (halts : List Made) → All (IsHalt m) halts → HasHalt k halts → m ≡ k
+halts_by m k halts all has = at_item at.1 (subst (IsHalt m) (get_or_from_slice_get halts at.0 at.1 at.1 at.2) (all at.0 at.1 (slice_get_within halts at.0 at.1 at.2))) at.3 where
+  at : (i : ℕ) × (x : Made) × (slice_get halts i ≡ Some x) × OfEntry (IsHaltBy k) x
+  at = place_of (OfEntry (IsHaltBy k)) halts has
+
+  at_item : (x : Made) → IsHalt m x → OfEntry (IsHaltBy k) x → m ≡ k
+  at_item (Shared x) first second = absurd first
+  at_item (Entered object entry) first second = ap (misuse_in m) (sym first ∙ second)
+
+module _ (alike : AllEndAlike) (plan : Plan) (worker : ℕ) where
+  spelt_calm : (before : ℕ) (spelt : List SpeltCall) → AreSpelt plan worker before spelt → Each IsCalm (flat_map (λ call. call.items) spelt)
+  spelt_calm before [] are = tt
+  spelt_calm before (call ∷ spelt) are = each_both IsCalm call.items (flat_map (λ call. call.items) spelt) (of_call alike plan worker before call.call call.items (Done (Ok call.reply)) are.0).0 (spelt_calm (before + length (shared_in call.items)) spelt are.1)
+
+  -- a halt in the last part is by the misuse in which the list ends
+  last_halt : (m : Misuse) (before : ℕ) (ending : LineEnd) (rest : List Call) (last : List Made) → EndsBy plan worker before ending rest last → HasHalt m last → ending ≡ misused m
+  last_halt m before whole rest last ends has = absurd (subst (HasHalt m) ends.1 has)
+  last_halt m before (misused k) [] last ends has = absurd ends
+  last_halt m before (misused k) (call ∷ rest) last (items, halts, is, spelt, all) has = either (has_either (OfEntry (IsHaltBy m)) items halts (subst (HasHalt m) is has)) where
+    either : HasHalt m items ⊎ HasHalt m halts → misused k ≡ misused m
+    either (inl early) = absurd (calm_not m items (of_call alike plan worker before call items (Done (Err k)) spelt).0 early)
+    either (inr late) = ap misused (halts_by k m halts all late)
+  last_halt m before (halted k) [] last ends has = absurd ends
+  last_halt m before (halted k) (call ∷ rest) last spelt has = absurd (calm_not m last (of_call alike plan worker before call last (Halted k) spelt).0 has)
+  last_halt m before unfinished [] last ends has = absurd ends
+  last_halt m before unfinished (call ∷ rest) last (later, answer, spelt) has = absurd (calm_not m last (each_left IsCalm last later (of_call alike plan worker before call (last ++ later) answer spelt).0) has)
+
+  -- so is every halt of the list
+  line_halt : (m : Misuse) (line : Line) → IsLineOf plan worker line → HasHalt m (items_of line) → line.ending ≡ misused m
+  line_halt m line is has = either (has_either (OfEntry (IsHaltBy m)) (flat_map (λ spelt. spelt.items) line.spelt) line.last has) where
+    either : HasHalt m (flat_map (λ spelt. spelt.items) line.spelt) ⊎ HasHalt m line.last → line.ending ≡ misused m
+    either (inl early) = absurd (calm_not m _ (spelt_calm 0 line.spelt is.calls) early)
+    either (inr late) = last_halt m _ line.ending line.rest line.last is.ends late
+
+  -- a list that ends in a call that was halted has a refusal
+  last_refusal : (m : Misuse) (before : ℕ) (rest : List Call) (last : List Made) → EndsBy plan worker before (halted m) rest last → Has (OfEntry (IsRefusal m)) last
+  last_refusal m before [] last ends = absurd ends
+  last_refusal m before (call ∷ rest) last spelt = (of_call alike plan worker before call last (Halted m) spelt).1
+
+  line_refusal : (m : Misuse) (line : Line) → IsLineOf plan worker line → line.ending ≡ halted m → Has (OfEntry (IsRefusal m)) (items_of line)
+  line_refusal m line is ending =
+      let before = length (shared_in (flat_map (λ spelt. spelt.items) line.spelt)) in
+      has_right (OfEntry (IsRefusal m)) (flat_map (λ spelt. spelt.items) line.spelt) line.last
+      (last_refusal m before line.rest line.last (subst (λ (e : LineEnd). EndsBy plan worker before e line.rest line.last) ending is.ends))
+
+-- the line of a worker, which ended in this misuse
+abbrev pub MetMisuse : List Line → ℕ → Misuse → Type 0
+MetMisuse lines worker misuse = (line : Line) × (slice_get lines worker ≡ Some line) × (line.ending ≡ misused misuse)
+
+module _ (alike : AllEndAlike) (plan : Plan) (r : Record) (outcome : Outcome) (lines : List Line) (are : AreLines plan r outcome lines) (lawful : IsLawful plan r) where
+  -- each worker's list is its line's
+  list_at : (worker : ℕ) (line : Line) → slice_get lines worker ≡ Some line → list_of r worker ≡ items_of line
+  list_at worker line at = ap (λ (lists : List (List Made)). get_or lists worker []) (sym are.lists) ∙ get_at items_of [] lines worker line at
+
+  -- each halt is by a worker that met this misuse
+  pub halt_met : (object n : ℕ) (entry : ObjectEntry) (m : Misuse) → slice_get (journal_of r object) n ≡ Some entry → IsHaltBy m entry → MetMisuse lines entry.caller m
+  halt_met object n entry m at is = met (has_in items_of (HasHalt m) [] lines entry.caller (λ none. none) (subst (λ (lists : List (List Made)). HasHalt m (get_or lists entry.caller [])) (sym are.lists) has)) where
+    has : HasHalt m (list_of r entry.caller)
+    has = has_entered (IsHaltBy m) object (list_of r entry.caller) (subst (λ (es : List ObjectEntry). Has (IsHaltBy m) es) (sym (lawful.once entry.caller object)) (by_has (IsHaltBy m) (journal_of r object) n entry at is))
+
+    met : (line : Line) × (slice_get lines entry.caller ≡ Some line) × HasHalt m (items_of line) → MetMisuse lines entry.caller m
+    met (line, at_line, has_it) = (line, at_line, line_halt alike plan entry.caller m line (are.each entry.caller line at_line) has_it)
+
+  -- some worker met it, where an object was halted by it
+  met_by : (object : ℕ) (m : Misuse) → Has (IsHaltBy m) (journal_of r object) → (worker : ℕ) × MetMisuse lines worker m
+  met_by object m has = let at = place_of (IsHaltBy m) (journal_of r object) has in (at.1.caller, halt_met object at.0 at.1 m at.2 at.3)
+
+  -- the first halt of Stop is by a misuse that a worker met
+  pub stop_met : (m : Misuse) → halt_of (journal_of r stop) ≡ Some m → (worker : ℕ) × MetMisuse lines worker m
+  stop_met m is = met_by stop m (no_start (halted_has m None (journal_of r stop) is)) where
+    no_start : (None ≡ Some m) ⊎ Has (IsHaltBy m) (journal_of r stop) → Has (IsHaltBy m) (journal_of r stop)
+    no_start (inl none) = absurd (none-some m none)
+    no_start (inr has) = has
+
+  -- a worker that met a halt came behind one that met a misuse
+  halted_met : (worker : ℕ) (line : Line) (m : Misuse) → slice_get lines worker ≡ Some line → line.ending ≡ halted m → (other : ℕ) × MetMisuse lines other m
+  halted_met worker line m at ending =
+      let has = subst (λ (xs : List Made). Has (OfEntry (IsRefusal m)) xs) (sym (list_at worker line at)) (line_refusal alike plan worker m line (are.each worker line at) ending) in
+      let some = some_object (IsRefusal m) (list_of r worker) has in
+      let refused = has_by (IsRefusal m) worker (journal_of r some.0) (subst (λ (es : List ObjectEntry). Has (IsRefusal m) es) (lawful.once worker some.0) some.1) in
+      met_by some.0 m (refusal_has plan r lawful m some.0 refused)
+
+  module _ (stopped : (worker : ℕ) (line : Line) → slice_get lines worker ≡ Some line → HaltsStop line) (none : halt_of (journal_of r stop) ≡ None) where
+    -- nobody met a misuse, where Stop isn't halted
+    unmet : (worker : ℕ) (m : Misuse) → MetMisuse lines worker m → ⊥
+    unmet worker m (line, at, ending) =
+        let halt = stopped worker line at m ending in
+        let listed : slice_get (list_of r worker) halt.0 ≡ Some (Entered stop halt.1) = ap (λ (xs : List Made). slice_get xs halt.0) (list_at worker line at) ∙ halt.2 in
+        unhalted_has m None (journal_of r stop) none (has_by (IsHaltBy m) worker (journal_of r stop)
+        (subst (λ (es : List ObjectEntry). Has (IsHaltBy m) es) (lawful.once worker stop) (entered_in (IsHaltBy m) stop (list_of r worker) halt.0 halt.1 listed halt.3)))
+
+    ended_whole : (worker : ℕ) (line : Line) (ending : LineEnd) → slice_get lines worker ≡ Some line → line.ending ≡ ending → HasEnded ending → ending ≡ whole
+    ended_whole worker line whole at is ended = refl
+    ended_whole worker line (misused m) at is ended = absurd (unmet worker m (line, at, is))
+    ended_whole worker line (halted m) at is ended = let met = halted_met worker line m at is in absurd (unmet met.0 m met.1)
+    ended_whole worker line unfinished at is ended = absurd ended
+
+    pub all_whole : All (λ line. HasEnded line.ending) lines → All (λ line. line.ending ≡ whole) lines
+    all_whole ended k d within = let at = slice_get-get_or lines k d within in ended_whole k (get_or lines k d) (get_or lines k d).ending at refl (ended k d within)

@@ -1,0 +1,5 @@
+//! What holds of the record of a run. Each law is the contract of a function that does nothing.
+pub mod edges;
+pub mod endings;
+pub mod examples;
+pub mod objects;

@@ -1,0 +1,62 @@
+//! How a run ends. A misuse ends it by halts, and nothing else halts an object.
+ghost use Rattle.std.specs.Prelude.{◌≡◌, ◌≢◌, ℕ, List, All, Some, None, slice_get};
+ghost use Rattle.sync_model.specs.Journal.{halt_of};
+ghost use Rattle.workload.specs.Plan.{Plan};
+ghost use Rattle.run_record.specs.Explains.{AreLines, IsLawful, HasEnded, Explains};
+ghost use Rattle.run_record.specs.Lines.{Line, whole, misused, HaltsStop};
+ghost use Rattle.run_record.specs.Record.{Record, ObjectEntry, stop, journal_of};
+
+use mutex_core::MutexCore;
+use pool_core::PoolCore;
+use protocols::laws::endings;
+use rw_core::RwCore;
+use sync_model::{Deed, Misuse, Outcome, Report};
+use wait_cores::{GroupCore, NotifyCore, OnceCore};
+
+/// Each halt is by a worker whose list ends in the misuse by which it halts.
+pub fn a_halt_follows_a_misuse()
+    ensures { (plan : Plan) (r : Record) (outcome : Outcome) (lines : List Line) (object n : ℕ) (entry : ObjectEntry) (misuse : Misuse)
+        → AreLines plan r outcome lines → IsLawful plan r → slice_get (journal_of r object) n ≡ Some entry → entry.deed ≡ Deed.Halt misuse
+        → (line : Line) × (slice_get lines entry.caller ≡ Some line) × (line.ending ≡ misused misuse) }
+{
+    endings::<MutexCore>();
+    endings::<RwCore>();
+    endings::<NotifyCore>();
+    endings::<GroupCore>();
+    endings::<OnceCore<i64>>();
+    endings::<OnceCore<u64>>();
+    endings::<PoolCore>();
+}
+
+/// Stop says how a run has ended in which all workers have ended, and each that met a misuse halted Stop by it. Where Stop isn't
+/// halted, every script is at its end: nobody met a misuse, and so nobody met a halt. Where Stop is halted, some worker met
+/// the misuse that halted it first.
+pub fn stop_says_how_a_run_ended()
+    ensures done { (plan : Plan) (r : Record) (outcome : Outcome) (lines : List Line)
+        → AreLines plan r outcome lines → IsLawful plan r → All (λ line. HasEnded line.ending) lines
+        → ((worker : ℕ) (line : Line) → slice_get lines worker ≡ Some line → HaltsStop line)
+        → halt_of (journal_of r stop) ≡ None → All (λ line. line.ending ≡ whole) lines }
+    ensures misused { (plan : Plan) (r : Record) (outcome : Outcome) (lines : List Line) (misuse : Misuse)
+        → AreLines plan r outcome lines → IsLawful plan r → halt_of (journal_of r stop) ≡ Some misuse
+        → (worker : ℕ) × (line : Line) × (slice_get lines worker ≡ Some line) × (line.ending ≡ misused misuse) }
+{
+    endings::<MutexCore>();
+    endings::<RwCore>();
+    endings::<NotifyCore>();
+    endings::<GroupCore>();
+    endings::<OnceCore<i64>>();
+    endings::<OnceCore<u64>>();
+    endings::<PoolCore>();
+}
+
+/// An outcome that a record explains is Done exactly where no worker met a misuse, and never Deadlocked. Where it is Misused,
+/// some worker met just that misuse.
+pub fn a_run_is_done_unless_it_was_misused()
+    ensures done { (plan : Plan) (r : Record) (left : Report) (explains : Explains plan (Outcome.Done left) r) (worker : ℕ) (line : Line) (misuse : Misuse)
+        → slice_get explains.lines worker ≡ Some line → line.ending ≢ misused misuse }
+    ensures misused { (plan : Plan) (r : Record) (left : Report) (misuse : Misuse) (explains : Explains plan (Outcome.Misused left misuse) r)
+        → (worker : ℕ) × (line : Line) × (slice_get explains.lines worker ≡ Some line) × (line.ending ≡ misused misuse) }
+    ensures never_deadlocked { (plan : Plan) (r : Record) (left : Report) → Explains plan (Outcome.Deadlocked left) r → ⊥ }
+{
+    stop_says_how_a_run_ended();
+}
