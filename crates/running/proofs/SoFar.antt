@@ -8,12 +8,12 @@ use Rattle.sync_model.specs.declared.journal.Deed.{Deed}
 use Rattle.sync_model.specs.declared.journal.Deed.TheVariants.{Event, Refused}
 use Rattle.ruled_object.specs.declared.pass.Pass.{Pass}
 use Rattle.ruled_object.specs.Cells.{deed_of}
-use Rattle.ruled_object.specs.Growth.{Placed, deeds_of, Grows, MeetsHalt, AddUp, LastTells}
+use Rattle.ruled_object.specs.Growth.{Placed, deeds_of, Grows, halt_before, MeetsHalt, AddUp, LastTells}
 use Rattle.protocols.specs.declared.step.Step.{Step}
 use Rattle.protocols.specs.declared.step.Step.TheVariants.{Finished, Misused, Waits, Next, Never}
 use Rattle.protocols.specs.Spelling.{CallAnswer, Rest, IsEventOf, Spells, IsTimely, AreTimely}
 use Rattle.protocols.specs.Steps.{IsAt, KeepsResults, GainsAtItsEnd, LeadsOn}
-use Rattle.running.specs.Calls.{Did}
+use Rattle.running.specs.Calls.{Did, has_gained}
 use Rattle.running.specs.Stages.{meant, Made, StandsOn, acquires_by}
 
 module _ {E R : Type 0} where
@@ -24,6 +24,24 @@ module _ {E R : Type 0} where
   deeds_last : (es : List (Placed E R)) (p : Placed E R) → deeds_of (es ++ p ∷ []) ≡ deeds_of es ++ p.entry.deed ∷ []
   deeds_last [] p = refl
   deeds_last (x ∷ es) p = ap (λ (ds : List (Deed E R)). x.entry.deed ∷ ds) (deeds_last es p)
+
+  deeds_joined : (es fs : List (Placed E R)) → deeds_of (es ++ fs) ≡ deeds_of es ++ deeds_of fs
+  deeds_joined [] fs = refl
+  deeds_joined (x ∷ es) fs = ap (λ (ds : List (Deed E R)). x.entry.deed ∷ ds) (deeds_joined es fs)
+
+  timely_joined : (moment : E → Option ℕ) (shows : ℕ → Type 0) (es fs : List (Placed E R)) → AreTimely moment shows (deeds_of es) → AreTimely moment shows (deeds_of fs) → AreTimely moment shows (deeds_of (es ++ fs))
+  timely_joined moment shows [] fs first later = later
+  timely_joined moment shows (x ∷ es) fs first later = (first.0, timely_joined moment shows es fs first.1 later)
+
+  -- of several entries the last ones tell whether a halt was met
+  halt_joined : (es : List (Placed E R)) (f : Placed E R) (fs : List (Placed E R)) → halt_before (es ++ f ∷ fs) ≡ halt_before (f ∷ fs)
+  halt_joined [] f fs = refl
+  halt_joined (e ∷ []) f fs = refl
+  halt_joined (e ∷ (x ∷ es)) f fs = halt_joined (x ∷ es) f fs
+
+  meets_joined : {A : Type 0} (es : List (Placed E R)) (f : Placed E R) (fs : List (Placed E R)) (answer : Answer A) → MeetsHalt (f ∷ fs) answer → MeetsHalt (es ++ f ∷ fs) answer
+  meets_joined es f fs (Done a) meets = halt_joined es f fs ∙ meets
+  meets_joined es f fs (Halted m) meets = halt_joined es f fs ∙ meets
 
   timely_on : (moment : E → Option ℕ) (shows : ℕ → Type 0) (es : List (Placed E R)) (p : Placed E R) → AreTimely moment shows (deeds_of es) → IsTimely moment shows p.entry.deed → AreTimely moment shows (deeds_of (es ++ p ∷ []))
   timely_on moment shows [] p all here = (here, tt)
@@ -140,6 +158,10 @@ module _ {G O E R : Type 0} (event_of : G → ℕ → E) (meaning : G → R → 
       let halted : answer ≡ Halted m = subst (λ (s : Answer (Step G O)). IsEnd s answer) means end in
       subst (λ (a : CallAnswer O). MeetsHalt es a) (sym halted) meets
 
+  rest_meets : (due : G) (es fs : List (Placed E R)) (answer : CallAnswer O) → Spells event_of meaning due (deeds_of fs) answer → MeetsHalt fs answer → MeetsHalt (es ++ fs) answer
+  rest_meets due es [] answer spelt meets = absurd spelt
+  rest_meets due es (f ∷ fs) answer spelt meets = meets_joined es f fs answer meets
+
 module _ {S N E R G O : Type 0} (next : S → ℕ → E → S × R) (halts : Bool) (start : S) (event_of : G → ℕ → E) (moment : E → Option ℕ) (meaning : G → R → Step G O) (shows : ℕ → Type 0) (gives : G → Result O Misuse → Bool) (gains : G → O → Bool) where
   -- What the call has made until a stage is due. Whatever spells the rest from there spells the whole from the first stage.
   pub record SoFar (stage : G) (old : Pass S N E R) (from : List ℕ) (due : G) (now : Pass S N E R) (to : List ℕ) : Type 0 where
@@ -205,3 +227,29 @@ module _ {S N E R G O : Type 0} (next : S → ℕ → E → S × R) (halts : Boo
       → Made next halts start event_of moment meaning shows due mid middle came new to → came ≡ step → IsEnd step answer → Did next halts start (λ ds a. Spells event_of meaning stage ds a) (λ ds. AreTimely moment shows ds) old from answer new to
   ends_at stage old mid new from middle to due came step answer both tells so made is end =
       ends stage old mid new from middle to due step answer both tells so (subst (λ (a : Answer (Step G O)). Made next halts start event_of moment meaning shows due mid middle a new to) is made) end
+
+  -- the rest of a call, from the stage that is due, makes the call whole
+  pub joined : (stage : G) (old mid new : Pass S N E R) (from middle to : List ℕ) (due : G) (answer : CallAnswer O) → AddUp N next halts start → SoFar stage old from due mid middle
+      → Did next halts start (λ ds a. Spells event_of meaning due ds a) (λ ds. AreTimely moment shows ds) mid middle answer new to
+      → Did next halts start (λ ds a. Spells event_of meaning stage ds a) (λ ds. AreTimely moment shows ds) old from answer new to
+  joined stage old mid new from middle to due answer both so did = record {
+    entries = so.entries ++ did.entries;
+    grows = both old mid new so.entries did.entries from middle to so.grows did.grows;
+    spelt = subst (λ (ds : List (Deed E R)). Spells event_of meaning stage ds answer) (sym (deeds_joined so.entries did.entries)) (so.spelt (deeds_of did.entries) answer did.spelt);
+    halted = rest_meets event_of meaning due so.entries did.entries answer did.spelt did.halted;
+    moments = timely_joined moment shows so.entries did.entries so.moments did.moments;
+  }
+
+  -- The first stage didn't end the call, and the rest was made from a later one: the call is made whole.
+  pub went_on : (stage : G) (old mid new : Pass S N E R) (from middle to : List ℕ) (later : G) (came : Answer (Step G O)) (step : Step G O) (answer : CallAnswer O) → AddUp N next halts start → ((r : R) → KeepsResults gives stage (meaning stage r))
+      → ((r : R) → (acquired : Bool) × GainsAtItsEnd gains stage acquired (meaning stage r)) → Grows next halts start old from [] old from → Made next halts start event_of moment meaning shows stage old from came mid middle → (acquires_by (gains stage) came ≡ false → middle ≡ from) → came ≡ Done step → IsOn step later
+      → Did next halts start (λ ds a. Spells event_of meaning later ds a) (λ ds. AreTimely moment shows ds) mid middle answer new to → (has_gained (gains later) answer ≡ false → to ≡ middle)
+      → Did next halts start (λ ds a. Spells event_of meaning stage ds a) (λ ds. AreTimely moment shows ds) old from answer new to × (has_gained (gains stage) answer ≡ false → to ≡ from)
+  went_on stage old mid new from middle to later came step answer both keeps gained nothing made quiet is on did rest =
+      let so = on_by stage old old mid from from middle stage later came step both keeps gained (begun stage old from nothing) made quiet is on in
+      (joined stage old mid new from middle to later answer both so did, λ none. rest (same_gain answer so.gained ∙ none) ∙ so.front)
+    where
+      same_gain : (given : CallAnswer O) → ((outcome : O) → gains later outcome ≡ gains stage outcome) → has_gained (gains later) given ≡ has_gained (gains stage) given
+      same_gain (Done (Ok outcome)) same = same outcome
+      same_gain (Done (Err misuse)) same = refl
+      same_gain (Halted misuse) same = refl

@@ -74,6 +74,45 @@ pub fn call_within<P: Protocol, N: Note, C: Clock, R: Wait>(
     P::laws();
     growth::<P, N>();
     notes_are_kept::<N>();
+    match make(object, rt, at, pass, note, stage) {
+        Answer::Halted(misuse) => Answer::Halted(misuse),
+        Answer::Done(Step::Finished(outcome)) => Answer::Done(Ok(outcome)),
+        Answer::Done(Step::Misused(misuse)) => Answer::Done(Err(misuse)),
+        Answer::Done(Step::Waits(later)) => {
+            object.park(rt, pass);
+            go_on(object, rt, at, pass, note, later)
+        }
+        Answer::Done(Step::Next(later)) => go_on(object, rt, at, pass, note, later),
+        Answer::Done(Step::Never) => unreachable!(),
+    }
+}
+
+// Goes on with a call whose first stage didn't end it. It stands apart, so that a call that ends with its first stage, as most
+// do, is compiled for that stage alone.
+#[inline(never)]
+fn go_on<P: Protocol, N: Note, C: Clock, R: Wait>(
+    object: &Object<P, N>,
+    rt: &R,
+    at: &At<N, C>,
+    pass: &mut PassOf<P, N>,
+    note: &mut N,
+    stage: P::Stage,
+) -> Answer<Result<P::Outcome, Misuse>>
+    requires begun { P.begins (callers_of object.now) (start_of object.now) }
+    requires pass { IsPassOf object.now pass.old }
+    requires allowed { P.allows (start_of object.now) (stand_by P.out P.stands (own_by pass.old)) stage ≡ true }
+    requires home { IsHomeOf N.at object.now at.now.home.now × N.at at.now.home.now note.old }
+    ensures pass { IsPassOf object.now pass.new × SamePass pass.old pass.new }
+    ensures stands { stand_by P.out P.stands (own_by pass.new) ≡ left_in P.out P.left result }
+    ensures note { KeepsNote N.at N.own N.front note.old note.new }
+    ensures events { Did P.next P.HALTS (start_of object.now) (Spells P.event P.meaning stage) (AreTimely P.moment (C.shows at.now.clock.now)) pass.old (N.front note.old) result pass.new (N.front note.new) }
+    ensures gives { IsGiven (P.gives stage) result }
+    ensures no_edge { has_gained (P.gains stage) result ≡ false → N.front note.new ≡ N.front note.old }
+    ensures journal { IsLawful P.next P.HALTS P.frees P.takes (start_of object.now) pass.new }
+{
+    P::laws();
+    growth::<P, N>();
+    notes_are_kept::<N>();
     let mut due = stage;
     for _ in rt.forever() {
         match make(object, rt, at, pass, note, due) {
