@@ -1,5 +1,5 @@
 -- The spelling of a mutex's protocol, in the words of this crate.
-use Rattle.std.proofs.Common.{◌≡◌, ◌≢◌, ℕ, Bool, true, false, List, [], ◌∷◌, ◌++◌, Result, Ok, Err, refl, sym, subst, ◌∙◌}
+use Rattle.std.proofs.Common.{◌≡◌, ℕ, Bool, true, List, [], ◌∷◌, ◌++◌, Result, Ok, Err, refl, sym, subst}
 use Rattle.std.proofs.lemmas.List.{append_assoc}
 use Rattle.sync_model.specs.declared.misuse.Misuse.{Misuse}
 use Rattle.sync_model.specs.declared.answer.Answer.{Answer}
@@ -17,17 +17,13 @@ use Rattle.mutex_core.specs.declared.reply.Unlocking.{Unlocking}
 use Rattle.mutex_core.specs.declared.reply.Unlocking.TheVariants.{Free, Woke, Handed, Misuse as IsMisuse}
 use Rattle.mutex_core.specs.MutexMachine.{State, next}
 use Rattle.ruled_object.specs.declared.pass.Pass.{Pass}
-use Rattle.ruled_object.specs.Passes.{own_by}
-use Rattle.ruled_object.specs.Standing.{stand_by}
 use Rattle.protocols.specs.declared.mutex.MutexStage.{MutexStage}
 use Rattle.protocols.specs.declared.mutex.MutexStage.TheVariants as stage
-use Rattle.protocols.specs.MutexStages.{mutex_event, mutex_moment, mutex_meaning, mutex_stands, mutex_allows}
+use Rattle.protocols.specs.MutexStages.{mutex_event, mutex_moment, mutex_meaning}
 use Rattle.protocols.specs.Spelling.{CallAnswer, Spells, IsTimely, AreTimely}
 use Rattle.protocols.specs.Steps.{IsAt}
 use Rattle.running.specs.Calls as running
-use Rattle.go_locks.specs.declared.mutex.Mutex.{Mutex}
 use Rattle.go_locks.specs.Calls.{Did}
-use Rattle.go_locks.specs.Mutexes.{mutex_start, IsPassOfMutex}
 use Rattle.go_locks.specs.MutexAnswers.{lock_of, try_of, unlock_of, lock_answer, try_answer, unlock_answer}
 use Rattle.go_locks.specs.MutexCalls.{MutexDeed, Waits, queued, requeued, still, Locks, at_once, refused, acquired, halted, Tries, tried, Unlocks, unlocked, answer_of, IsTimed, IsClocked, AreClocked}
 

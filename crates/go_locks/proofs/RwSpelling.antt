@@ -1,5 +1,5 @@
 -- The spelling of a reader/writer mutex's protocol, in the words of this crate.
-use Rattle.std.proofs.Common.{◌≡◌, ◌≢◌, ℕ, Bool, true, false, List, [], ◌∷◌, ◌++◌, Result, Ok, Err, refl, sym, subst, ◌∙◌}
+use Rattle.std.proofs.Common.{◌≡◌, ℕ, Bool, true, false, List, [], ◌∷◌, ◌++◌, Result, Ok, Err, refl, sym, subst, ◌∙◌}
 use Rattle.std.specs.Prelude.{if◌then◌else◌}
 use Rattle.std.proofs.lemmas.List.{append_assoc}
 use Rattle.sync_model.specs.declared.misuse.Misuse.{Misuse}
@@ -18,20 +18,16 @@ use Rattle.rw_core.specs.declared.reply.Unlocking.{Unlocking}
 use Rattle.rw_core.specs.declared.reply.Unlocking.TheVariants.{Done as IsDone, Misuse as IsMisuse}
 use Rattle.rw_core.specs.RwMachine.{State, next}
 use Rattle.ruled_object.specs.declared.pass.Pass.{Pass}
-use Rattle.ruled_object.specs.Passes.{own_by}
-use Rattle.ruled_object.specs.Standing.{stand_by}
 use Rattle.protocols.specs.declared.rw_mutex.RwMutexStage.{RwMutexStage}
 use Rattle.protocols.specs.declared.step.Step.{Step}
 use Rattle.protocols.specs.declared.rw_mutex.RwMutexStage.TheVariants as stage
-use Rattle.protocols.specs.RwMutexStages.{rw_event, rw_moment, rw_meaning, rw_stands, rw_allows, try_meaning, unlock_meaning}
+use Rattle.protocols.specs.RwMutexStages.{rw_event, rw_moment, rw_meaning, try_meaning, unlock_meaning}
 use Rattle.protocols.specs.Spelling.{CallAnswer, Rest, Spells, IsTimely, AreTimely}
 use Rattle.protocols.specs.Steps.{IsAt}
 use Rattle.running.specs.Calls as running
-use Rattle.go_locks.specs.declared.rw_mutex.RwMutex.{RwMutex}
 use Rattle.go_locks.specs.Calls.{Did}
 use Rattle.go_locks.specs.MutexAnswers.{lock_of, try_of, unlock_of, lock_answer, try_answer, unlock_answer}
 use Rattle.go_locks.specs.RwCalls.{RwDeed, WriteWaits, queued, requeued, announced, unwoken, ungranted, WriteLocks, at_once, refused, acquired, granted, halted_woken, halted_leaving, ReadWaits, unadmitted, ReadLocks, admitted, halted, Tries, tried, Unlocks, unlocked, answer_of, IsTimed, IsClocked, AreClocked}
-use Rattle.go_locks.specs.RwMutexes.{rw_start, IsPassOfRwMutex}
 
 -- the only deed of a call, or its last one, and its answer
 last : {A : Type 0} (P : List RwDeed → Answer A → Type 0) (f : CallAnswer LockReply → Answer A) (earlier : List RwDeed) (made : RwDeed) (rest : List RwDeed) (answer given : CallAnswer LockReply) → rest ≡ [] → answer ≡ given → P (earlier ++ made ∷ []) (f given) → P (earlier ++ made ∷ rest) (f answer)
