@@ -1,11 +1,10 @@
 -- The spelling of a mutex's protocol, in the words of this crate.
-use Rattle.std.proofs.Common.{◌≡◌, ◌≢◌, ℕ, Bool, true, false, List, [], ◌∷◌, ◌++◌, Result, Ok, Err, refl, sym, subst, ◌∙◌}
+use Rattle.std.proofs.Common.{◌≡◌, ℕ, Bool, true, List, [], ◌∷◌, ◌++◌, Result, Ok, Err, refl, sym, subst}
 use Rattle.std.proofs.lemmas.List.{append_assoc}
 use Rattle.sync_model.specs.declared.misuse.Misuse.{Misuse}
 use Rattle.sync_model.specs.declared.answer.Answer.{Answer}
 use Rattle.sync_model.specs.declared.answer.Answer.TheVariants.{Done, Halted}
 use Rattle.sync_model.specs.declared.journal.Deed.TheVariants.{Event, Refused, Halt}
-use Rattle.sync_model.specs.declared.journal.Entry.{Entry}
 use Rattle.sync_model.specs.declared.lock_call.LockReply.{LockReply}
 use Rattle.sync_model.specs.declared.lock_call.LockReply.TheVariants as outcome
 use Rattle.mutex_core.specs.declared.event.MutexEvent.{MutexEvent}
@@ -17,21 +16,16 @@ use Rattle.mutex_core.specs.declared.reply.Resumption.TheVariants.{Acquired, Req
 use Rattle.mutex_core.specs.declared.reply.Unlocking.{Unlocking}
 use Rattle.mutex_core.specs.declared.reply.Unlocking.TheVariants.{Free, Woke, Handed, Misuse as IsMisuse}
 use Rattle.mutex_core.specs.MutexMachine.{State, next}
-use Rattle.mutex_core.specs.Standing.{waits_after}
 use Rattle.ruled_object.specs.declared.pass.Pass.{Pass}
-use Rattle.ruled_object.specs.Passes.{own_by, IsPassOf}
-use Rattle.ruled_object.specs.Standing.{stand_by}
 use Rattle.protocols.specs.declared.mutex.MutexStage.{MutexStage}
 use Rattle.protocols.specs.declared.mutex.MutexStage.TheVariants as stage
-use Rattle.protocols.specs.MutexStages.{mutex_event, mutex_moment, mutex_meaning, mutex_stands, mutex_allows, mutex_gains}
-use Rattle.protocols.specs.Spelling.{CallAnswer, Spells, AreTimely}
+use Rattle.protocols.specs.MutexStages.{mutex_event, mutex_moment, mutex_meaning}
+use Rattle.protocols.specs.Spelling.{CallAnswer, Spells, IsTimely, AreTimely}
+use Rattle.protocols.specs.Steps.{IsAt}
 use Rattle.running.specs.Calls as running
-use Rattle.go_locks.specs.declared.mutex.Mutex.{Mutex}
-use Rattle.go_locks.specs.Calls.{Did, waits_by}
-use Rattle.go_locks.specs.Mutexes.{mutex_start, IsPassOfMutex}
-use Rattle.go_locks.proofs.CallSpelling.{did_as, lock_meets, try_meets, unlock_meets}
-use Rattle.go_locks.specs.MutexAnswers.{lock_answer, try_answer, unlock_answer}
-use Rattle.go_locks.specs.MutexCalls.{MutexDeed, Waits, queued, requeued, still, Locks, at_once, refused, acquired, halted, Tries, tried, Unlocks, unlocked, answer_of, AreClocked}
+use Rattle.go_locks.specs.Calls.{Did}
+use Rattle.go_locks.specs.MutexAnswers.{lock_of, try_of, unlock_of, lock_answer, try_answer, unlock_answer}
+use Rattle.go_locks.specs.MutexCalls.{MutexDeed, Waits, queued, requeued, still, Locks, at_once, refused, acquired, halted, Tries, tried, Unlocks, unlocked, answer_of, IsTimed, IsClocked, AreClocked}
 
 -- the only deed of a call, and its answer
 one : {A : Type 0} (P : List MutexDeed → Answer A → Type 0) (f : CallAnswer LockReply → Answer A) (earlier : List MutexDeed) (made : MutexDeed) (rest : List MutexDeed) (answer given : CallAnswer LockReply) → rest ≡ [] → answer ≡ given → P (earlier ++ made ∷ []) (f given) → P (earlier ++ made ∷ rest) (f answer)
@@ -107,59 +101,33 @@ unlocks_by (Refused e m ∷ rest) answer (of, none, is) =
 unlocks_by (Halt m ∷ rest) answer spelt = absurd spelt
 
 -- the moments
-clocked_one : (shows : ℕ → Type 0) (d : MutexDeed) (rest : List MutexDeed) → AreTimely mutex_moment shows (d ∷ rest) → AreClocked shows rest → AreClocked shows (d ∷ rest)
-clocked_one shows (Event (Arrive now) r) rest timely on = (timely.0, on)
-clocked_one shows (Event Try r) rest timely on = (tt, on)
-clocked_one shows (Event Unlock r) rest timely on = (tt, on)
-clocked_one shows (Event (Woken now) r) rest timely on = (timely.0, on)
-clocked_one shows (Refused (Arrive now) m) rest timely on = (timely.0, on)
-clocked_one shows (Refused Try m) rest timely on = (tt, on)
-clocked_one shows (Refused Unlock m) rest timely on = (tt, on)
-clocked_one shows (Refused (Woken now) m) rest timely on = (timely.0, on)
-clocked_one shows (Halt m) rest timely on = (tt, on)
+timed : (shows : ℕ → Type 0) (event : MutexEvent) → IsAt shows (mutex_moment event) → IsTimed shows event
+timed shows (Arrive now) at = at
+timed shows Try at = tt
+timed shows Unlock at = tt
+timed shows (Woken now) at = at
+
+clocked_one : (shows : ℕ → Type 0) (d : MutexDeed) → IsTimely mutex_moment shows d → IsClocked shows d
+clocked_one shows (Event event r) timely = timed shows event timely
+clocked_one shows (Refused event m) timely = timed shows event timely
+clocked_one shows (Halt m) timely = tt
 
 pub clocked_by : (shows : ℕ → Type 0) (deeds : List MutexDeed) → AreTimely mutex_moment shows deeds → AreClocked shows deeds
 clocked_by shows [] timely = tt
-clocked_by shows (d ∷ deeds) timely = clocked_one shows d deeds timely (clocked_by shows deeds timely.1)
-
--- a try that doesn't succeed gains nothing
-pub try_fails : (answer : CallAnswer LockReply) → try_answer answer ≢ Done true → running.has_gained (mutex_gains stage.TryLock) answer ≡ false
-try_fails (Done (Ok (outcome.Tried true))) fails = absurd (fails refl)
-try_fails (Done (Ok (outcome.Tried false))) fails = refl
-try_fails (Done (Ok outcome.Done)) fails = refl
-try_fails (Done (Err m)) fails = refl
-try_fails (Halted m) fails = refl
-
-pub unlock_gains : (answer : CallAnswer LockReply) → running.has_gained (mutex_gains stage.Unlock) answer ≡ false
-unlock_gains (Done (Ok o)) = refl
-unlock_gains (Done (Err m)) = refl
-unlock_gains (Halted m) = refl
+clocked_by shows (d ∷ deeds) timely = (clocked_one shows d timely.0, clocked_by shows deeds timely.1)
 
 -- what a call did, by what its protocol's call did
-module _ {N : Type 0} (start : State) (shows : ℕ → Type 0) (old new : Pass State N MutexEvent MutexReply) (from to : List ℕ) (answer : CallAnswer LockReply) where
-  abbrev Called : MutexStage → Type 0
-  Called first = running.Did next true start (λ ds a. Spells mutex_event mutex_meaning first ds a) (λ ds. AreTimely mutex_moment shows ds) old from answer new to
+module _ {N : Type 0} (shows : ℕ → Type 0) {start : State} {old new : Pass State N MutexEvent MutexReply} {from to : List ℕ} {answer : CallAnswer LockReply} where
+  as_here : {A : Type 0} (first : MutexStage) (spells : List MutexDeed → Answer A → Type 0) (words : Result LockReply Misuse → A) → ((deeds : List MutexDeed) → Spells mutex_event mutex_meaning first deeds answer → spells deeds (running.told words answer)) → {result : Answer A} → result ≡ running.told words answer → running.Did next true start (λ ds a. Spells mutex_event mutex_meaning first ds a) (λ ds. AreTimely mutex_moment shows ds) old from answer new to
+      → Did next start spells (AreClocked shows) old from result new to
+  as_here first spells words spelt {result} is did =
+      running.retold next true start (λ ds a. Spells mutex_event mutex_meaning first ds a) (λ ds. AreTimely mutex_moment shows ds) spells (AreClocked shows) words old new from to answer result spelt (clocked_by shows) is did
 
-  pub lock_did : (result : Answer (Unit {0})) → result ≡ lock_answer answer → Called stage.Lock → Did next start Locks (AreClocked shows) old from result new to
-  lock_did result is did =
-      subst (λ (r : Answer (Unit {0})). Did next start Locks (AreClocked shows) old from r new to) (sym is)
-      (did_as next start (λ ds a. Spells mutex_event mutex_meaning stage.Lock ds a) (λ ds. AreTimely mutex_moment shows ds) Locks (AreClocked shows) old new from to answer (lock_answer answer) (lock_meets answer) (λ ds spelt. locks_by ds answer spelt) (clocked_by shows) did)
+  pub lock_did : {result : Answer (Unit {0})} → result ≡ lock_answer answer → running.Did next true start (λ ds a. Spells mutex_event mutex_meaning stage.Lock ds a) (λ ds. AreTimely mutex_moment shows ds) old from answer new to → Did next start Locks (AreClocked shows) old from result new to
+  lock_did is did = as_here stage.Lock Locks lock_of (λ ds spelt. locks_by ds answer spelt) is did
 
-  pub try_did : (result : Answer Bool) → result ≡ try_answer answer → Called stage.TryLock → Did next start Tries (AreClocked shows) old from result new to
-  try_did result is did =
-      subst (λ (r : Answer Bool). Did next start Tries (AreClocked shows) old from r new to) (sym is)
-      (did_as next start (λ ds a. Spells mutex_event mutex_meaning stage.TryLock ds a) (λ ds. AreTimely mutex_moment shows ds) Tries (AreClocked shows) old new from to answer (try_answer answer) (try_meets answer) (λ ds spelt. tries_by ds answer spelt) (clocked_by shows) did)
+  pub try_did : {result : Answer Bool} → result ≡ try_answer answer → running.Did next true start (λ ds a. Spells mutex_event mutex_meaning stage.TryLock ds a) (λ ds. AreTimely mutex_moment shows ds) old from answer new to → Did next start Tries (AreClocked shows) old from result new to
+  try_did is did = as_here stage.TryLock Tries try_of (λ ds spelt. tries_by ds answer spelt) is did
 
-  pub unlock_did : (result : Answer (Result (Unit {0}) Misuse)) → result ≡ unlock_answer answer → Called stage.Unlock → Did next start Unlocks (AreClocked shows) old from result new to
-  unlock_did result is did =
-      subst (λ (r : Answer (Result (Unit {0}) Misuse)). Did next start Unlocks (AreClocked shows) old from r new to) (sym is)
-      (did_as next start (λ ds a. Spells mutex_event mutex_meaning stage.Unlock ds a) (λ ds. AreTimely mutex_moment shows ds) Unlocks (AreClocked shows) old new from to answer (unlock_answer answer) (unlock_meets answer) (λ ds spelt. unlocks_by ds answer spelt) (clocked_by shows) did)
-
-module _ {N H : Type 0} (mutex : Mutex N H) where
-  -- a caller between two calls may make any of them
-  pub may_begin : (own : List (Entry MutexEvent MutexReply)) (first : MutexStage) → mutex_allows (mutex_start mutex) false first ≡ true → waits_by waits_after false own ≡ false → mutex_allows (mutex_start mutex) (stand_by false mutex_stands own) first ≡ true
-  may_begin own first allowed free = subst (λ (w : Bool). mutex_allows (mutex_start mutex) w first ≡ true) (sym free) allowed
-
-  -- and is between two calls after it
-  pub between : (pass : Pass State N MutexEvent MutexReply) (answer : CallAnswer LockReply) → IsPassOf mutex.object pass → stand_by false mutex_stands (own_by pass) ≡ running.left_in false (λ outcome. false) answer → IsPassOfMutex mutex pass
-  between pass answer of stands = record { of = of; free = stands ∙ running.left_out false answer }
+  pub unlock_did : {result : Answer (Result (Unit {0}) Misuse)} → result ≡ unlock_answer answer → running.Did next true start (λ ds a. Spells mutex_event mutex_meaning stage.Unlock ds a) (λ ds. AreTimely mutex_moment shows ds) old from answer new to → Did next start Unlocks (AreClocked shows) old from result new to
+  unlock_did is did = as_here stage.Unlock Unlocks unlock_of (λ ds spelt. unlocks_by ds answer spelt) is did

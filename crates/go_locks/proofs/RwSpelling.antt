@@ -1,12 +1,11 @@
 -- The spelling of a reader/writer mutex's protocol, in the words of this crate.
-use Rattle.std.proofs.Common.{◌≡◌, ◌≢◌, ℕ, Bool, true, false, List, [], ◌∷◌, ◌++◌, Result, Ok, Err, refl, sym, subst, ◌∙◌}
+use Rattle.std.proofs.Common.{◌≡◌, ℕ, Bool, true, false, List, [], ◌∷◌, ◌++◌, Result, Ok, Err, refl, sym, subst, ◌∙◌}
 use Rattle.std.specs.Prelude.{if◌then◌else◌}
 use Rattle.std.proofs.lemmas.List.{append_assoc}
 use Rattle.sync_model.specs.declared.misuse.Misuse.{Misuse}
 use Rattle.sync_model.specs.declared.answer.Answer.{Answer}
 use Rattle.sync_model.specs.declared.answer.Answer.TheVariants.{Done, Halted}
 use Rattle.sync_model.specs.declared.journal.Deed.TheVariants.{Event, Refused, Halt}
-use Rattle.sync_model.specs.declared.journal.Entry.{Entry}
 use Rattle.sync_model.specs.declared.lock_call.LockReply.{LockReply}
 use Rattle.sync_model.specs.declared.lock_call.LockReply.TheVariants as outcome
 use Rattle.rw_core.specs.declared.event.RwEvent.{RwEvent}
@@ -18,22 +17,17 @@ use Rattle.rw_core.specs.declared.reply.Resumption.TheVariants.{Acquired, Queued
 use Rattle.rw_core.specs.declared.reply.Unlocking.{Unlocking}
 use Rattle.rw_core.specs.declared.reply.Unlocking.TheVariants.{Done as IsDone, Misuse as IsMisuse}
 use Rattle.rw_core.specs.RwMachine.{State, next}
-use Rattle.rw_core.specs.Standing.{waits_after}
 use Rattle.ruled_object.specs.declared.pass.Pass.{Pass}
-use Rattle.ruled_object.specs.Growth.{Placed, MeetsHalt}
-use Rattle.ruled_object.specs.Passes.{own_by, IsPassOf}
-use Rattle.ruled_object.specs.Standing.{stand_by}
 use Rattle.protocols.specs.declared.rw_mutex.RwMutexStage.{RwMutexStage}
+use Rattle.protocols.specs.declared.step.Step.{Step}
 use Rattle.protocols.specs.declared.rw_mutex.RwMutexStage.TheVariants as stage
-use Rattle.protocols.specs.RwMutexStages.{rw_event, rw_moment, rw_meaning, rw_stands, rw_allows, try_meaning, unlock_meaning, has_taken}
-use Rattle.protocols.specs.Spelling.{CallAnswer, Rest, Spells, AreTimely}
+use Rattle.protocols.specs.RwMutexStages.{rw_event, rw_moment, rw_meaning, try_meaning, unlock_meaning}
+use Rattle.protocols.specs.Spelling.{CallAnswer, Rest, Spells, IsTimely, AreTimely}
+use Rattle.protocols.specs.Steps.{IsAt}
 use Rattle.running.specs.Calls as running
-use Rattle.go_locks.specs.declared.rw_mutex.RwMutex.{RwMutex}
-use Rattle.go_locks.specs.Calls.{Did, waits_by}
-use Rattle.go_locks.specs.MutexAnswers.{lock_answer, try_answer, unlock_answer}
-use Rattle.go_locks.specs.RwCalls.{RwDeed, WriteWaits, queued, requeued, announced, unwoken, ungranted, WriteLocks, at_once, refused, acquired, granted, halted_woken, halted_leaving, ReadWaits, unadmitted, ReadLocks, admitted, halted, Tries, tried, Unlocks, unlocked, answer_of, AreClocked}
-use Rattle.go_locks.specs.RwMutexes.{rw_start, IsPassOfRwMutex}
-use Rattle.go_locks.proofs.CallSpelling.{did_as, lock_meets, try_meets, unlock_meets}
+use Rattle.go_locks.specs.Calls.{Did}
+use Rattle.go_locks.specs.MutexAnswers.{lock_of, try_of, unlock_of, lock_answer, try_answer, unlock_answer}
+use Rattle.go_locks.specs.RwCalls.{RwDeed, WriteWaits, queued, requeued, announced, unwoken, ungranted, WriteLocks, at_once, refused, acquired, granted, halted_woken, halted_leaving, ReadWaits, unadmitted, ReadLocks, admitted, halted, Tries, tried, Unlocks, unlocked, answer_of, IsTimed, IsClocked, AreClocked}
 
 -- the only deed of a call, or its last one, and its answer
 last : {A : Type 0} (P : List RwDeed → Answer A → Type 0) (f : CallAnswer LockReply → Answer A) (earlier : List RwDeed) (made : RwDeed) (rest : List RwDeed) (answer given : CallAnswer LockReply) → rest ≡ [] → answer ≡ given → P (earlier ++ made ∷ []) (f given) → P (earlier ++ made ∷ rest) (f answer)
@@ -131,22 +125,6 @@ tries_event event e (Resumed _) rest answer on of ends = absurd ends
 tries_event event e Left rest answer on of ends = absurd ends
 tries_event event e Still rest answer on of ends = absurd ends
 
-tries_refused : (event e : RwEvent) (m : Misuse) (rest : List RwDeed) (answer : CallAnswer LockReply) → e ≡ event → rest ≡ [] → answer ≡ Halted m → Tries event (Refused e m ∷ rest) (try_answer answer)
-tries_refused event e m rest answer of none is =
-    subst (λ (x : RwEvent). Tries event (Refused x m ∷ rest) (try_answer answer)) (sym of) (last (Tries event) try_answer [] (Refused event m) rest answer (Halted m) none is (refused m))
-
-write_tries_by : (deeds : List RwDeed) (answer : CallAnswer LockReply) → Spells rw_event rw_meaning stage.TryLock deeds answer → Tries WriteTry deeds (try_answer answer)
-write_tries_by [] answer spelt = absurd spelt
-write_tries_by (Event e r ∷ rest) answer (of, goes) = tries_event WriteTry e r rest answer (λ later. Spells rw_event rw_meaning later rest answer) of.1 goes
-write_tries_by (Refused e m ∷ rest) answer (of, none, is) = tries_refused WriteTry e m rest answer of.1 none is
-write_tries_by (Halt m ∷ rest) answer spelt = absurd spelt
-
-read_tries_by : (deeds : List RwDeed) (answer : CallAnswer LockReply) → Spells rw_event rw_meaning stage.TryRLock deeds answer → Tries ReadTry deeds (try_answer answer)
-read_tries_by [] answer spelt = absurd spelt
-read_tries_by (Event e r ∷ rest) answer (of, goes) = tries_event ReadTry e r rest answer (λ later. Spells rw_event rw_meaning later rest answer) of.1 goes
-read_tries_by (Refused e m ∷ rest) answer (of, none, is) = tries_refused ReadTry e m rest answer of.1 none is
-read_tries_by (Halt m ∷ rest) answer spelt = absurd spelt
-
 unlocks_one : (event e : RwEvent) (u : Unlocking) (rest : List RwDeed) (answer given : CallAnswer LockReply) → e ≡ event → rest ≡ [] → answer ≡ given → unlock_answer given ≡ Done (answer_of u) → Unlocks event (Event e (Unlocked u) ∷ rest) (unlock_answer answer)
 unlocks_one event e u rest answer given of none is says =
     subst (λ (x : RwEvent). Unlocks event (Event x (Unlocked u) ∷ rest) (unlock_answer answer)) (sym of)
@@ -161,94 +139,54 @@ unlocks_event event e (Resumed _) rest answer on of ends = absurd ends
 unlocks_event event e Left rest answer on of ends = absurd ends
 unlocks_event event e Still rest answer on of ends = absurd ends
 
-unlocks_refused : (event e : RwEvent) (m : Misuse) (rest : List RwDeed) (answer : CallAnswer LockReply) → e ≡ event → rest ≡ [] → answer ≡ Halted m → Unlocks event (Refused e m ∷ rest) (unlock_answer answer)
-unlocks_refused event e m rest answer of none is =
-    subst (λ (x : RwEvent). Unlocks event (Refused x m ∷ rest) (unlock_answer answer)) (sym of) (last (Unlocks event) unlock_answer [] (Refused event m) rest answer (Halted m) none is (refused m))
-
-write_unlocks_by : (deeds : List RwDeed) (answer : CallAnswer LockReply) → Spells rw_event rw_meaning stage.Unlock deeds answer → Unlocks WriteUnlock deeds (unlock_answer answer)
-write_unlocks_by [] answer spelt = absurd spelt
-write_unlocks_by (Event e r ∷ rest) answer (of, goes) = unlocks_event WriteUnlock e r rest answer (λ later. Spells rw_event rw_meaning later rest answer) of.1 goes
-write_unlocks_by (Refused e m ∷ rest) answer (of, none, is) = unlocks_refused WriteUnlock e m rest answer of.1 none is
-write_unlocks_by (Halt m ∷ rest) answer spelt = absurd spelt
-
-read_unlocks_by : (deeds : List RwDeed) (answer : CallAnswer LockReply) → Spells rw_event rw_meaning stage.RUnlock deeds answer → Unlocks ReadUnlock deeds (unlock_answer answer)
-read_unlocks_by [] answer spelt = absurd spelt
-read_unlocks_by (Event e r ∷ rest) answer (of, goes) = unlocks_event ReadUnlock e r rest answer (λ later. Spells rw_event rw_meaning later rest answer) of.1 goes
-read_unlocks_by (Refused e m ∷ rest) answer (of, none, is) = unlocks_refused ReadUnlock e m rest answer of.1 none is
-read_unlocks_by (Halt m ∷ rest) answer spelt = absurd spelt
+-- a call of one event is spelt by that event and its answer
+module _ {A : Type 0} (P : List RwDeed → Answer A → Type 0) (words : Result LockReply Misuse → A) (event : RwEvent) {means : RwReply → Step RwMutexStage LockReply} (by_event : (e : RwEvent) (r : RwReply) (rest : List RwDeed) (answer : CallAnswer LockReply) (on : RwMutexStage → Type 0) → e ≡ event → Rest (means r) rest on answer → P (Event e r ∷ rest) (running.told words answer)) (refusal : (m : Misuse) → P (Refused event m ∷ []) (Halted m))
+    (first : RwMutexStage) (made : (now : ℕ) → rw_event first now ≡ event) (same : (r : RwReply) → rw_meaning first r ≡ means r) where
+  one_by : (deeds : List RwDeed) (answer : CallAnswer LockReply) → Spells rw_event rw_meaning first deeds answer → P deeds (running.told words answer)
+  one_by [] answer spelt = absurd spelt
+  one_by (Event e r ∷ rest) answer (of, goes) =
+      let on : RwMutexStage → Type 0 = λ later. Spells rw_event rw_meaning later rest answer in
+      by_event e r rest answer on (of.1 ∙ made of.0) (subst (λ (s : Step RwMutexStage LockReply). Rest s rest on answer) (same r) goes)
+  one_by (Refused e m ∷ rest) answer (of, none, is) =
+      subst (λ (x : RwEvent). P (Refused x m ∷ rest) (running.told words answer)) (sym (of.1 ∙ made of.0)) (last P (running.told words) [] (Refused event m) rest answer (Halted m) none is (refusal m))
+  one_by (Halt m ∷ rest) answer spelt = absurd spelt
 
 -- the moments
-clocked_one : (shows : ℕ → Type 0) (d : RwDeed) (rest : List RwDeed) → AreTimely rw_moment shows (d ∷ rest) → AreClocked shows rest → AreClocked shows (d ∷ rest)
-clocked_one shows (Event ReadArrive r) rest timely on = (tt, on)
-clocked_one shows (Event ReadTry r) rest timely on = (tt, on)
-clocked_one shows (Event ReadUnlock r) rest timely on = (tt, on)
-clocked_one shows (Event (WriteArrive now) r) rest timely on = (timely.0, on)
-clocked_one shows (Event WriteTry r) rest timely on = (tt, on)
-clocked_one shows (Event (WriteWoken now) r) rest timely on = (timely.0, on)
-clocked_one shows (Event WriteUnlock r) rest timely on = (tt, on)
-clocked_one shows (Event Leave r) rest timely on = (tt, on)
-clocked_one shows (Refused ReadArrive m) rest timely on = (tt, on)
-clocked_one shows (Refused ReadTry m) rest timely on = (tt, on)
-clocked_one shows (Refused ReadUnlock m) rest timely on = (tt, on)
-clocked_one shows (Refused (WriteArrive now) m) rest timely on = (timely.0, on)
-clocked_one shows (Refused WriteTry m) rest timely on = (tt, on)
-clocked_one shows (Refused (WriteWoken now) m) rest timely on = (timely.0, on)
-clocked_one shows (Refused WriteUnlock m) rest timely on = (tt, on)
-clocked_one shows (Refused Leave m) rest timely on = (tt, on)
-clocked_one shows (Halt m) rest timely on = (tt, on)
+timed : (shows : ℕ → Type 0) (event : RwEvent) → IsAt shows (rw_moment event) → IsTimed shows event
+timed shows ReadArrive at = tt
+timed shows ReadTry at = tt
+timed shows ReadUnlock at = tt
+timed shows (WriteArrive now) at = at
+timed shows WriteTry at = tt
+timed shows (WriteWoken now) at = at
+timed shows WriteUnlock at = tt
+timed shows Leave at = tt
+
+clocked_one : (shows : ℕ → Type 0) (d : RwDeed) → IsTimely rw_moment shows d → IsClocked shows d
+clocked_one shows (Event event r) timely = timed shows event timely
+clocked_one shows (Refused event m) timely = timed shows event timely
+clocked_one shows (Halt m) timely = tt
 
 clocked_by : (shows : ℕ → Type 0) (deeds : List RwDeed) → AreTimely rw_moment shows deeds → AreClocked shows deeds
 clocked_by shows [] timely = tt
-clocked_by shows (d ∷ deeds) timely = clocked_one shows d deeds timely (clocked_by shows deeds timely.1)
-
--- a try that doesn't succeed, and an unlock, gain nothing
-pub try_fails : (answer : CallAnswer LockReply) → try_answer answer ≢ Done true → running.has_gained has_taken answer ≡ false
-try_fails (Done (Ok (outcome.Tried true))) fails = absurd (fails refl)
-try_fails (Done (Ok (outcome.Tried false))) fails = refl
-try_fails (Done (Ok outcome.Done)) fails = refl
-try_fails (Done (Err m)) fails = refl
-try_fails (Halted m) fails = refl
-
-pub unlock_gains : (answer : CallAnswer LockReply) → running.has_gained (λ outcome. false) answer ≡ false
-unlock_gains (Done (Ok o)) = refl
-unlock_gains (Done (Err m)) = refl
-unlock_gains (Halted m) = refl
+clocked_by shows (d ∷ deeds) timely = (clocked_one shows d timely.0, clocked_by shows deeds timely.1)
 
 -- what a call did, by what its protocol's call did
-module _ {N : Type 0} (start : State) (shows : ℕ → Type 0) (old new : Pass State N RwEvent RwReply) (from to : List ℕ) (answer : CallAnswer LockReply) where
-  abbrev Called : RwMutexStage → Type 0
-  Called first = running.Did next true start (λ ds a. Spells rw_event rw_meaning first ds a) (λ ds. AreTimely rw_moment shows ds) old from answer new to
+module _ {N : Type 0} (shows : ℕ → Type 0) {start : State} {old new : Pass State N RwEvent RwReply} {from to : List ℕ} {answer : CallAnswer LockReply} where
+  pub as_here : {A : Type 0} (first : RwMutexStage) (spells : List RwDeed → Answer A → Type 0) (words : Result LockReply Misuse → A) → ((deeds : List RwDeed) → Spells rw_event rw_meaning first deeds answer → spells deeds (running.told words answer)) → {result : Answer A} → result ≡ running.told words answer → running.Did next true start (λ ds a. Spells rw_event rw_meaning first ds a) (λ ds. AreTimely rw_moment shows ds) old from answer new to
+      → Did next start spells (AreClocked shows) old from result new to
+  as_here first spells words spelt {result} is did =
+      running.retold next true start (λ ds a. Spells rw_event rw_meaning first ds a) (λ ds. AreTimely rw_moment shows ds) spells (AreClocked shows) words old new from to answer result spelt (clocked_by shows) is did
 
-  -- in the words of this crate, where its spelling says so
-  as_here : {A : Type 0} (first : RwMutexStage) (spells : List RwDeed → Answer A → Type 0) (f : CallAnswer LockReply → Answer A) → ((deeds : List RwDeed) → Spells rw_event rw_meaning first deeds answer → spells deeds (f answer)) → ((es : List (Placed RwEvent RwReply)) → MeetsHalt es answer → MeetsHalt es (f answer))
-      → (result : Answer A) → result ≡ f answer → Called first → Did next start spells (AreClocked shows) old from result new to
-  as_here {A} first spells f spelt meets result is did =
-      subst (λ (r : Answer A). Did next start spells (AreClocked shows) old from r new to) (sym is)
-      (did_as next start (λ ds a. Spells rw_event rw_meaning first ds a) (λ ds. AreTimely rw_moment shows ds) spells (AreClocked shows) old new from to answer (f answer) meets spelt (clocked_by shows) did)
+  pub write_lock_did : {result : Answer (Unit {0})} → result ≡ lock_answer answer → running.Did next true start (λ ds a. Spells rw_event rw_meaning stage.Lock ds a) (λ ds. AreTimely rw_moment shows ds) old from answer new to → Did next start WriteLocks (AreClocked shows) old from result new to
+  write_lock_did is did = as_here stage.Lock WriteLocks lock_of (λ ds spelt. write_locks_by ds answer spelt) is did
 
-  pub write_lock_did : (result : Answer (Unit {0})) → result ≡ lock_answer answer → Called stage.Lock → Did next start WriteLocks (AreClocked shows) old from result new to
-  write_lock_did = as_here stage.Lock WriteLocks lock_answer (λ ds spelt. write_locks_by ds answer spelt) (lock_meets answer)
+  pub read_lock_did : {result : Answer (Unit {0})} → result ≡ lock_answer answer → running.Did next true start (λ ds a. Spells rw_event rw_meaning stage.RLock ds a) (λ ds. AreTimely rw_moment shows ds) old from answer new to → Did next start ReadLocks (AreClocked shows) old from result new to
+  read_lock_did is did = as_here stage.RLock ReadLocks lock_of (λ ds spelt. read_locks_by ds answer spelt) is did
 
-  pub read_lock_did : (result : Answer (Unit {0})) → result ≡ lock_answer answer → Called stage.RLock → Did next start ReadLocks (AreClocked shows) old from result new to
-  read_lock_did = as_here stage.RLock ReadLocks lock_answer (λ ds spelt. read_locks_by ds answer spelt) (lock_meets answer)
+  -- a try and an unlock are one such event
+  pub try_did : (first : RwMutexStage) (event : RwEvent) → ((now : ℕ) → rw_event first now ≡ event) → ((r : RwReply) → rw_meaning first r ≡ try_meaning r) → {result : Answer Bool} → result ≡ try_answer answer → running.Did next true start (λ ds a. Spells rw_event rw_meaning first ds a) (λ ds. AreTimely rw_moment shows ds) old from answer new to → Did next start (Tries event) (AreClocked shows) old from result new to
+  try_did first event made means is did = as_here first (Tries event) try_of (λ ds spelt. one_by (Tries event) try_of event (tries_event event) refused first made means ds answer spelt) is did
 
-  pub write_try_did : (result : Answer Bool) → result ≡ try_answer answer → Called stage.TryLock → Did next start (Tries WriteTry) (AreClocked shows) old from result new to
-  write_try_did = as_here stage.TryLock (Tries WriteTry) try_answer (λ ds spelt. write_tries_by ds answer spelt) (try_meets answer)
-
-  pub read_try_did : (result : Answer Bool) → result ≡ try_answer answer → Called stage.TryRLock → Did next start (Tries ReadTry) (AreClocked shows) old from result new to
-  read_try_did = as_here stage.TryRLock (Tries ReadTry) try_answer (λ ds spelt. read_tries_by ds answer spelt) (try_meets answer)
-
-  pub write_unlock_did : (result : Answer (Result (Unit {0}) Misuse)) → result ≡ unlock_answer answer → Called stage.Unlock → Did next start (Unlocks WriteUnlock) (AreClocked shows) old from result new to
-  write_unlock_did = as_here stage.Unlock (Unlocks WriteUnlock) unlock_answer (λ ds spelt. write_unlocks_by ds answer spelt) (unlock_meets answer)
-
-  pub read_unlock_did : (result : Answer (Result (Unit {0}) Misuse)) → result ≡ unlock_answer answer → Called stage.RUnlock → Did next start (Unlocks ReadUnlock) (AreClocked shows) old from result new to
-  read_unlock_did = as_here stage.RUnlock (Unlocks ReadUnlock) unlock_answer (λ ds spelt. read_unlocks_by ds answer spelt) (unlock_meets answer)
-
-module _ {N H : Type 0} (lock : RwMutex N H) where
-  -- a caller between two calls may make any of them
-  pub may_begin : (own : List (Entry RwEvent RwReply)) (first : RwMutexStage) → rw_allows (rw_start lock) false first ≡ true → waits_by waits_after false own ≡ false → rw_allows (rw_start lock) (stand_by false rw_stands own) first ≡ true
-  may_begin own first allowed free = subst (λ (w : Bool). rw_allows (rw_start lock) w first ≡ true) (sym free) allowed
-
-  -- and is between two calls after it
-  pub between : (pass : Pass State N RwEvent RwReply) (answer : CallAnswer LockReply) → IsPassOf lock.object pass → stand_by false rw_stands (own_by pass) ≡ running.left_in false (λ outcome. false) answer → IsPassOfRwMutex lock pass
-  between pass answer of stands = record { of = of; free = stands ∙ running.left_out false answer }
+  pub unlock_did : (first : RwMutexStage) (event : RwEvent) → ((now : ℕ) → rw_event first now ≡ event) → ((r : RwReply) → rw_meaning first r ≡ unlock_meaning r) → {result : Answer (Result (Unit {0}) Misuse)} → result ≡ unlock_answer answer → running.Did next true start (λ ds a. Spells rw_event rw_meaning first ds a) (λ ds. AreTimely rw_moment shows ds) old from answer new to → Did next start (Unlocks event) (AreClocked shows) old from result new to
+  unlock_did first event made means is did = as_here first (Unlocks event) unlock_of (λ ds spelt. one_by (Unlocks event) unlock_of event (unlocks_event event) refused first made means ds answer spelt) is did

@@ -1,14 +1,14 @@
 -- What contracts see of a running Mutex and of the passes to it.
-use Rattle.std.specs.Prelude.{◌≡◌, ℕ, false, List, [], Some, length, slice_get}
+use Rattle.std.specs.Prelude.{◌≡◌, ℕ, false, List, [], Some, slice_get}
 use Rattle.sync_model.specs.declared.journal.Entry.{Entry}
 use Rattle.mutex_core.specs.declared.event.MutexEvent.{MutexEvent}
 use Rattle.mutex_core.specs.declared.reply.MutexReply.{MutexReply}
 use Rattle.mutex_core.specs.MutexMachine.{State}
-use Rattle.mutex_core.specs.Standing.{waits_after}
+use Rattle.protocols.specs.MutexStages.{mutex_stands}
 use Rattle.ruled_object.specs.declared.pass.Pass.{Pass}
-use Rattle.ruled_object.specs.Passes.{number_of, left_of, seen_by, own_by, callers_of, start_of, IsHomeOf, IsPassOf}
+use Rattle.ruled_object.specs.Passes.{left_of, seen_by, own_by, callers_of, start_of, IsHomeOf}
+use Rattle.running.specs.Between.{IsBetween, AreAllBetween}
 use Rattle.go_locks.specs.declared.mutex.Mutex.{Mutex}
-use Rattle.go_locks.specs.Calls.{waits_by}
 
 -- the journal of a running Mutex, the earliest entry first
 abbrev pub MutexJournal : Type 0
@@ -27,14 +27,12 @@ module _ {N H : Type 0} where
   IsHomeOfMutex at mutex home = IsHomeOf at mutex.object home
 
   -- it is the pass of a caller of this mutex that is between two calls
-  pub record IsPassOfMutex (mutex : Mutex N H) (pass : Pass State N MutexEvent MutexReply) : Type 0 where
-    pub of : IsPassOf mutex.object pass
-    pub free : waits_by waits_after false (own_by pass) ≡ false
+  abbrev pub IsPassOfMutex : Mutex N H → Pass State N MutexEvent MutexReply → Type 0
+  IsPassOfMutex mutex pass = IsBetween false mutex_stands mutex.object pass
 
   -- all passes of the mutex, in order of number, each between two calls
-  pub record AreAllOfMutex (mutex : Mutex N H) (passes : List (Pass State N MutexEvent MutexReply)) : Type 0 where
-    pub count : length passes ≡ mutex_callers mutex
-    pub each : (i : ℕ) (pass : Pass State N MutexEvent MutexReply) → slice_get passes i ≡ Some pass → IsPassOfMutex mutex pass × (number_of pass ≡ i)
+  abbrev pub AreAllOfMutex : Mutex N H → List (Pass State N MutexEvent MutexReply) → Type 0
+  AreAllOfMutex mutex passes = AreAllBetween false mutex_stands mutex.object passes
 
   -- all passes of a new mutex, each good for so many calls. Nothing was done yet
   pub record AreNewOfMutex (mutex : Mutex N H) (calls : ℕ) (passes : List (Pass State N MutexEvent MutexReply)) : Type 0 where

@@ -1,14 +1,14 @@
 -- What contracts see of a running RWMutex and of the passes to it.
-use Rattle.std.specs.Prelude.{◌≡◌, ℕ, false, List, [], Some, length, slice_get}
+use Rattle.std.specs.Prelude.{◌≡◌, ℕ, false, List, [], Some, slice_get}
 use Rattle.sync_model.specs.declared.journal.Entry.{Entry}
 use Rattle.rw_core.specs.declared.event.RwEvent.{RwEvent}
 use Rattle.rw_core.specs.declared.reply.RwReply.{RwReply}
 use Rattle.rw_core.specs.RwMachine.{State}
-use Rattle.rw_core.specs.Standing.{waits_after}
+use Rattle.protocols.specs.RwMutexStages.{rw_stands}
 use Rattle.ruled_object.specs.declared.pass.Pass.{Pass}
-use Rattle.ruled_object.specs.Passes.{number_of, left_of, seen_by, own_by, callers_of, start_of, IsHomeOf, IsPassOf}
+use Rattle.ruled_object.specs.Passes.{left_of, seen_by, own_by, callers_of, start_of, IsHomeOf}
+use Rattle.running.specs.Between.{IsBetween, AreAllBetween}
 use Rattle.go_locks.specs.declared.rw_mutex.RwMutex.{RwMutex}
-use Rattle.go_locks.specs.Calls.{waits_by}
 
 -- the journal of a running RWMutex, the earliest entry first
 abbrev pub RwJournal : Type 0
@@ -27,14 +27,12 @@ module _ {N H : Type 0} where
   IsHomeOfRwMutex at lock home = IsHomeOf at lock.object home
 
   -- it is the pass of a caller of this lock that is between two calls
-  pub record IsPassOfRwMutex (lock : RwMutex N H) (pass : Pass State N RwEvent RwReply) : Type 0 where
-    pub of : IsPassOf lock.object pass
-    pub free : waits_by waits_after false (own_by pass) ≡ false
+  abbrev pub IsPassOfRwMutex : RwMutex N H → Pass State N RwEvent RwReply → Type 0
+  IsPassOfRwMutex lock pass = IsBetween false rw_stands lock.object pass
 
   -- all passes of the lock, in order of number, each between two calls
-  pub record AreAllOfRwMutex (lock : RwMutex N H) (passes : List (Pass State N RwEvent RwReply)) : Type 0 where
-    pub count : length passes ≡ rw_callers lock
-    pub each : (i : ℕ) (pass : Pass State N RwEvent RwReply) → slice_get passes i ≡ Some pass → IsPassOfRwMutex lock pass × (number_of pass ≡ i)
+  abbrev pub AreAllOfRwMutex : RwMutex N H → List (Pass State N RwEvent RwReply) → Type 0
+  AreAllOfRwMutex lock passes = AreAllBetween false rw_stands lock.object passes
 
   -- all passes of a new lock, each good for so many calls. Nothing was done yet
   pub record AreNewOfRwMutex (lock : RwMutex N H) (calls : ℕ) (passes : List (Pass State N RwEvent RwReply)) : Type 0 where

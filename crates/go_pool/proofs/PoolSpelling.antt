@@ -1,5 +1,5 @@
 -- The spelling of a pool's protocol, in the words of this crate.
-use Rattle.std.proofs.Common.{◌≡◌, ◌≢◌, ℕ, ◌<◌, Bool, true, false, List, [], ◌∷◌, Option, Some, Result, Ok, Err, refl, sym, ap, subst, ◌∙◌}
+use Rattle.std.proofs.Common.{◌≡◌, ◌≢◌, ℕ, ◌<◌, Bool, true, false, List, [], ◌∷◌, Result, Ok, Err, refl, sym, ap, subst, ◌∙◌}
 use Rattle.std.proofs.lemmas.Bool.{lt-ltb}
 use Rattle.std.proofs.lemmas.List.{length-replicate}
 use Rattle.sync_model.specs.declared.misuse.Misuse.{Misuse}
@@ -7,7 +7,6 @@ use Rattle.sync_model.specs.declared.answer.Answer.{Answer}
 use Rattle.sync_model.specs.declared.answer.Answer.TheVariants.{Done, Halted}
 use Rattle.sync_model.specs.declared.journal.Deed.TheVariants.{Event, Refused, Halt}
 use Rattle.pool_core.specs.declared.pool_event.PoolEvent.{PoolEvent}
-use Rattle.pool_core.specs.declared.pool_event.PoolEvent.TheVariants as event
 use Rattle.pool_core.specs.declared.pool_event.PoolReply.{PoolReply}
 use Rattle.pool_core.specs.declared.pool_event.PoolReply.TheVariants as reply
 use Rattle.pool_core.specs.PoolLaws.{NamesPart}
@@ -20,7 +19,7 @@ use Rattle.protocols.specs.declared.pool.PoolOutcome.TheVariants.{Kept, Dropped,
 use Rattle.protocols.specs.declared.pool.PoolStage.{PoolStage}
 use Rattle.protocols.specs.declared.pool.PoolStage.TheVariants as stage
 use Rattle.protocols.specs.PoolStages.{pool_event, pool_moment, look_meaning, pool_meaning, pool_allows, pool_gains, PoolBegins}
-use Rattle.protocols.specs.Spelling.{CallAnswer, Rest, IsEventOf, Spells, AreTimely}
+use Rattle.protocols.specs.Spelling.{CallAnswer, Rest, Spells, AreTimely}
 use Rattle.ruled_object.specs.Passes.{callers_of, start_of}
 use Rattle.running.specs.Calls.{told, retold, IsGiven, has_gained}
 use Rattle.running.specs.Calls as running

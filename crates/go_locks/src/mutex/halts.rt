@@ -42,6 +42,6 @@ impl<N: Note> Mutex<N> {
             × IsWhole next true (λ event reply. releases reply) (λ event reply. acquires reply) (mutex_start self.now) journal passes.old
             × IsSeen next true (λ event reply. releases reply) (λ event reply. acquires reply) (mutex_start self.now) journal passes.new }
     {
-        self.object.first_halt(passes)
+        running::first_halt(&self.object, passes)
     }
 }

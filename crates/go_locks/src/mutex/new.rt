@@ -5,7 +5,7 @@ ghost use Rattle.go_locks.specs.Mutexes.{mutex_callers, mutex_start, IsHomeOfMut
 
 use super::{Mutex, MutexPass};
 use mutex_core::MutexCore;
-use ruled_object::{MAX_CALLS, Object};
+use ruled_object::MAX_CALLS;
 use std::alloc::{AllocError, Global};
 use sync_model::{MAX_CALLERS, Note};
 
@@ -24,7 +24,7 @@ impl<N: Note> Mutex<N> {
         ensures passes { IfOk result (λ made. AreNewOfMutex made.0 calls made.1.items) }
     {
         let core = MutexCore::new(alloc, callers)?;
-        let (object, passes) = Object::new(alloc, callers, calls, core, note)?;
+        let (object, passes) = running::new(alloc, callers, calls, core, note)?;
         Ok((Mutex { object }, passes))
     }
 }

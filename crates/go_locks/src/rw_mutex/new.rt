@@ -4,7 +4,7 @@ ghost use Rattle.rw_core.specs.RwMachine.{start};
 ghost use Rattle.go_locks.specs.RwMutexes.{rw_callers, rw_start, IsHomeOfRwMutex, AreNewOfRwMutex};
 
 use super::{RwMutex, RwPass};
-use ruled_object::{MAX_CALLS, Object};
+use ruled_object::MAX_CALLS;
 use rw_core::RwCore;
 use std::alloc::{AllocError, Global};
 use sync_model::{MAX_CALLERS, Note};
@@ -24,7 +24,7 @@ impl<N: Note> RwMutex<N> {
         ensures passes { IfOk result (λ made. AreNewOfRwMutex made.0 calls made.1.items) }
     {
         let core = RwCore::new(alloc, callers)?;
-        let (object, passes) = Object::new(alloc, callers, calls, core, note)?;
+        let (object, passes) = running::new(alloc, callers, calls, core, note)?;
         Ok((RwMutex { object }, passes))
     }
 }

@@ -1,9 +1,9 @@
 use Rattle.std.proofs.Common.{false, ap, ◌∙◌}
-use Rattle.mutex_core.specs.Standing.{waits_after}
-use Rattle.go_locks.specs.Calls.{waits_by}
+use Rattle.protocols.specs.MutexStages.{mutex_stands}
+use Rattle.ruled_object.specs.Standing.{stand_by}
 use Rattle.go_locks.proofs.mutex.Mutex.spend_within.Goals as goal
 
 pub returns : goal.returns
 returns g c =
     let spent = c.spend.ensures in
-    (record { of = spent.pass.0; free = ap (waits_by waits_after false) spent.own ∙ c.requires.0.free }, spent.pass.1)
+    (record { of = spent.pass.0; stands = ap (stand_by false mutex_stands) spent.own ∙ c.requires.0.stands }, spent.pass.1)

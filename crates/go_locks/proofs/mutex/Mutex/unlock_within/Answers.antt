@@ -1,19 +1,9 @@
-use Rattle.std.proofs.Common.{refl}
-use Rattle.protocols.specs.declared.mutex.MutexStage.TheVariants as stage
-use Rattle.ruled_object.specs.Passes.{own_by}
-use Rattle.go_locks.specs.Mutexes.{mutex_start}
-use Rattle.go_locks.proofs.MutexSpelling.{unlock_did, may_begin, between, unlock_gains}
+use Rattle.go_locks.proofs.CallSpelling.{unlock_gains}
+use Rattle.go_locks.proofs.MutexSpelling.{unlock_did}
 use Rattle.go_locks.proofs.mutex.Mutex.unlock_within.Goals as goal
 
-pub call_within-requires-clause-allowed : goal.call_within-requires-clause-allowed
-call_within-requires-clause-allowed g c = may_begin c.args.self.now (own_by c.args.pass.now) stage.Unlock refl c.requires.pass.free
-
-pub returns-clause-pass : goal.returns-clause-pass
-returns-clause-pass g c = (between c.args.self.now c.call_within.new.pass c.call_within.result c.call_within.ensures.pass.0 c.call_within.ensures.stands, c.call_within.ensures.pass.1)
-
 pub returns-clause-events : goal.returns-clause-events
-returns-clause-events g c =
-    unlock_did (mutex_start c.args.self.now) (g.C.Clock.shows c.args.at.now.clock.now) c.args.pass.now c.call_within.new.pass (g.N.Note.front c.args.note.now) (g.N.Note.front c.call_within.new.note) c.call_within.result c.unlocked.result c.unlocked.ensures c.call_within.ensures.events
+returns-clause-events g c = unlock_did (g.C.Clock.shows c.args.at.now.clock.now) c.unlocked.ensures c.call_within.ensures.events
 
 pub returns-clause-no_edge : goal.returns-clause-no_edge
 returns-clause-no_edge g c = c.call_within.ensures.no_edge (unlock_gains c.call_within.result)
