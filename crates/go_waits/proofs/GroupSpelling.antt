@@ -1,6 +1,5 @@
 -- The calls of a wait group's protocol, in the words of this crate.
 use Rattle.std.proofs.Common.{◌≡◌, ◌≢◌, inl, inr, ℕ, ℤ, false, List, [], ◌∷◌, ◌++◌, replicate, suc, Ok, Err, refl, sym, subst}
-use Rattle.std.specs.Prelude.{negsuc}
 use Rattle.sync_model.specs.declared.answer.Answer.TheVariants.{Done, Halted}
 use Rattle.sync_model.specs.declared.journal.Deed.{Deed}
 use Rattle.sync_model.specs.declared.journal.Deed.TheVariants.{Event, Refused, Halt}
@@ -24,13 +23,6 @@ adds_by delta (Event e reply.Queued ∷ rest) answer (of, on) = absurd on
 adds_by delta (Event e reply.Still ∷ rest) answer (of, on) = absurd on
 adds_by delta (Refused e m ∷ rest) answer (of, none, is) = ends (Adds delta) [] (λ x. Refused x m) e (Add delta) rest answer (Halted m) of.1 none is refl
 adds_by delta (Halt m ∷ rest) answer spelt = absurd spelt
-
--- a `done` adds -1
-pub dones_by : (deeds : GroupDeeds) (answer : CallAnswer Unit) → Spells group_event group_meaning stage.Done deeds answer → Adds (negsuc 0) deeds answer
-dones_by [] answer spelt = absurd spelt
-dones_by (Event e r ∷ rest) answer spelt = adds_by (negsuc 0) (Event e r ∷ rest) answer spelt
-dones_by (Refused e m ∷ rest) answer spelt = adds_by (negsuc 0) (Refused e m ∷ rest) answer spelt
-dones_by (Halt m ∷ rest) answer spelt = absurd spelt
 
 -- a caller so far that was queued, and tried to leave
 abbrev tried : ℕ → GroupDeeds

@@ -55,7 +55,7 @@ impl<N: Note> WaitGroup<N> {
         ensures no_edge { N.front note.new ≡ N.front note.old }
         ensures journal { IsGroupLawful self.now pass.new }
     {
-        call(&self.object, rt, at, pass, note, GroupStage::Done)
+        self.add(rt, at, pass, note, -1)
     }
 
     /// Go's `Wait`: waits until the counter is 0. It is a misuse exactly where the group is in use again, with a counter

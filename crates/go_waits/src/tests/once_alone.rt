@@ -1,6 +1,7 @@
 use super::once_setup::{last, once, stored};
 use super::setup::{HERE, knows};
 use crate::once_run::OnceRun;
+use crate::once_value::OnceValue;
 use std::sync::atomic::{AtomicU64, Ordering};
 use std::test::Fail;
 use sync_model::{Answer, Misuse};
@@ -79,5 +80,24 @@ fn a_halt_ends_the_once(rt: HostRuntime) -> Result<(), Fail> {
         Ok(())
     });
     assert_eq!(rt; answer, Answer::Halted(Misuse::WaitGroupReused));
+    Ok(())
+}
+
+#[test]
+fn a_halt_ends_the_stored_function(rt: HostRuntime) -> Result<(), Fail> {
+    let (function, mut passes) = stored(rt.alloc(), 1, || -> u64 { 4 })?;
+    let mut only = last(&function.once, &mut passes);
+    function.halt(&rt, &mut only, &knows(0), Misuse::WaitGroupReused);
+    assert_eq!(rt;
+        function.call(&rt, &HERE, &mut only, &mut knows(0)),
+        Answer::Halted(Misuse::WaitGroupReused)
+    );
+    Ok(())
+}
+
+#[test]
+fn no_halt_of_a_stored_function_is_found_where_none_was(rt: HostRuntime) -> Result<(), Fail> {
+    let (function, mut passes) = OnceValue::new(rt.alloc(), 1, 0, || -> u64 { 4 }, knows(0))?;
+    assert_eq!(rt; function.first_halt(&mut passes), None);
     Ok(())
 }

@@ -2,7 +2,7 @@ ghost use Rattle.std.specs.Thread.{IsSync};
 ghost use Rattle.go_waits.specs.Fresh.{IsFresh};
 
 use super::once_setup::{last, once};
-use super::setup::{HERE, knows};
+use super::setup::{HERE, knows, pause, until};
 use crate::once::{Once, OncePass};
 use crate::once_begun::OnceBegun;
 use crate::once_run::OnceRun;
@@ -16,17 +16,27 @@ type Shared = Once<(), FrontNote>;
 
 type SharedPass = OncePass<(), FrontNote>;
 
-// Comes with a function that counts itself, and says how often it was 1 that this call ran it.
-fn run<R: Wait>(rt: &R, once: &Shared, mut pass: SharedPass, counted: &AtomicU64) -> u64
+// What a caller found: that its call ran the function, that another did, or a halt.
+#[derive(Clone, Copy, Debug, PartialEq, Eq)]
+enum Found {
+    Ran,
+    Already,
+    Halted,
+}
+
+// Comes with a function that takes so long that the others fall asleep, and then counts itself.
+fn run<R: Wait>(rt: &R, once: &Shared, mut pass: SharedPass, counted: &AtomicU64) -> Found
     requires { IsFresh once.now pass }
 {
     let answer = once.do_once(rt, &HERE, &mut pass, &mut knows(0), || -> Result<(), u32> {
+        pause();
         counted.fetch_add(1, Ordering::SeqCst);
         Ok(())
     });
     match answer {
-        Answer::Done(OnceRun::Ran(Ok(()))) => 1,
-        _ => 0,
+        Answer::Done(OnceRun::Ran(_)) => Found::Ran,
+        Answer::Done(OnceRun::Already) => Found::Already,
+        Answer::Halted(_) => Found::Halted,
     }
 }
 
@@ -37,22 +47,23 @@ fn two_race<R: Threads + Wait + Sync>(
     counted: &AtomicU64,
     one: SharedPass,
     other: SharedPass,
-) -> (u64, u64)
+) -> (Found, Found)
     requires { IsFresh once.now one × IsFresh once.now other }
 {
     join(
         rt,
-        move || -> u64
+        move || -> Found
             requires { IsSync R.row × IsFresh once.now one }
         { run(rt, once, one, counted) },
-        move || -> u64
+        move || -> Found
             requires { IsSync R.row × IsFresh once.now other }
         { run(rt, once, other, counted) },
     )
 }
 
+// Those that don't run the function sleep, and nobody wakes them but its end.
 #[test]
-fn one_of_four_threads_runs_the_function(rt: HostRuntime) -> Result<(), Fail> {
+fn one_of_four_threads_runs_the_function_and_wakes_the_others(rt: HostRuntime) -> Result<(), Fail> {
     let (once, mut passes) = once(rt.alloc(), 4)?;
     let fourth = last(&once, &mut passes);
     let third = last(&once, &mut passes);
@@ -64,9 +75,89 @@ fn one_of_four_threads_runs_the_function(rt: HostRuntime) -> Result<(), Fail> {
         || two_race(&rt, &once, &counted, first, second),
         || two_race(&rt, &once, &counted, third, fourth),
     );
-    let ran = [left.0, left.1, right.0, right.1];
-    assert_eq!(rt; ran.iter().filter(|times| **times == 1).count(), 1);
+    let found = [left.0, left.1, right.0, right.1];
+    assert_eq!(rt;
+        found.iter().filter(|found| **found == Found::Ran).count(),
+        1
+    );
+    assert_eq!(rt;
+        found
+            .iter()
+            .filter(|found| **found == Found::Already)
+            .count(),
+        3
+    );
     assert_eq!(rt; counted.load(Ordering::SeqCst), 1);
+    Ok(())
+}
+
+// Runs a function that tells that it has begun, takes its time, and then leaves its mark.
+fn run_marked<R: Wait>(
+    rt: &R,
+    once: &Shared,
+    mut pass: SharedPass,
+    begun: &AtomicU64,
+    mark: &AtomicU64,
+) -> Answer<OnceRun<u32>>
+    requires { IsFresh once.now pass }
+{
+    once.do_once(rt, &HERE, &mut pass, &mut knows(0), || -> Result<(), u32> {
+        begun.store(1, Ordering::SeqCst);
+        pause();
+        mark.fetch_add(1, Ordering::SeqCst);
+        Ok(())
+    })
+}
+
+// Comes while the function runs, with another that would leave another mark, and says which mark it finds.
+fn come_late<R: Wait>(
+    rt: &R,
+    once: &Shared,
+    mut pass: SharedPass,
+    begun: &AtomicU64,
+    mark: &AtomicU64,
+) -> (Answer<OnceRun<u32>>, u64)
+    requires { IsFresh once.now pass }
+{
+    until(rt, begun, 1);
+    let answer = once.do_once(rt, &HERE, &mut pass, &mut knows(0), || -> Result<(), u32> {
+        mark.fetch_add(10, Ordering::SeqCst);
+        Ok(())
+    });
+    (answer, mark.load(Ordering::SeqCst))
+}
+
+// One caller runs the function, and another comes while it runs.
+fn marked_beside<R: Threads + Wait + Sync>(
+    rt: &R,
+    once: &Shared,
+    one: SharedPass,
+    other: SharedPass,
+) -> (Answer<OnceRun<u32>>, (Answer<OnceRun<u32>>, u64))
+    requires { IsFresh once.now one × IsFresh once.now other }
+{
+    let begun = AtomicU64::new(0);
+    let mark = AtomicU64::new(0);
+    join(
+        rt,
+        || -> Answer<OnceRun<u32>>
+            requires { IsSync R.row × IsFresh once.now one }
+        { run_marked(rt, once, one, &begun, &mark) },
+        || -> (Answer<OnceRun<u32>>, u64)
+            requires { IsSync R.row × IsFresh once.now other }
+        { come_late(rt, once, other, &begun, &mark) },
+    )
+}
+
+// A function that ran behind the end would leave its mark only after the second caller has returned.
+#[test]
+fn a_caller_that_finds_the_function_run_finds_what_it_did(rt: HostRuntime) -> Result<(), Fail> {
+    let (once, mut passes) = once(rt.alloc(), 2)?;
+    let second = last(&once, &mut passes);
+    let first = last(&once, &mut passes);
+    let (ran, found) = marked_beside(&rt, &once, first, second);
+    assert_eq!(rt; ran, Answer::Done(OnceRun::Ran(Ok(()))));
+    assert_eq!(rt; found, (Answer::Done(OnceRun::Already), 1));
     Ok(())
 }
 

@@ -5,6 +5,8 @@ ghost use Rattle.go_waits.specs.Groups.{callers_of, AreGroupPasses, IsPassOf};
 use crate::group::{GroupPass, WaitGroup};
 use std::alloc::{AllocError, Global};
 use std::sync::Wait;
+use std::sync::atomic::{AtomicU64, Ordering};
+use std::thread;
 use sync_model::{Answer, FrontNote, Misuse};
 use sync_outside::{At, Clock};
 
@@ -30,6 +32,24 @@ pub(super) fn knows(count: u32) -> FrontNote {
     let mut counts = [0; 64];
     counts[0] = count;
     FrontNote::new(counts)
+}
+
+/// Gives the others the time to fall asleep. The tests hold however long that takes.
+pub(super) fn pause() {
+    for _ in 0..5_000 {
+        thread::yield_now();
+    }
+}
+
+/// Goes on once so many have counted themselves.
+pub(super) fn until<R: Wait>(rt: &R, counted: &AtomicU64, count: u64) {
+    for _ in rt.forever() {
+        if counted.load(Ordering::SeqCst) == count {
+            return;
+        }
+        thread::yield_now();
+    }
+    unreachable!()
 }
 
 /// A group, and the passes of its callers.

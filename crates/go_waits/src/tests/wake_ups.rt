@@ -1,27 +1,17 @@
 //! Callers that are asleep, and whom only the one call lets go on that concerns them.
 ghost use Rattle.std.specs.Thread.{IsSync};
 ghost use Rattle.go_locks.specs.Fresh as locks;
-ghost use Rattle.go_waits.specs.Fresh.{IsFresh, IsFreshCond};
+ghost use Rattle.go_waits.specs.Fresh.{IsFreshCond};
 
 use super::cond_setup::{
     LockPass, Locked, Notified, NotifiedPass, cond, last_cond, last_lock, mutex,
 };
-use super::once_setup::{last, once};
-use super::setup::{HERE, Member, group, knows};
-use crate::once::{Once, OncePass};
+use super::setup::{HERE, Member, group, knows, pause, until};
 use std::sync::Wait;
 use std::sync::atomic::{AtomicU64, Ordering};
 use std::test::Fail;
-use std::thread;
 use std::thread::{Threads, join};
-use sync_model::{Answer, FrontNote, Misuse};
-
-// Gives the others the time to fall asleep. The tests hold however long that takes.
-fn pause() {
-    for _ in 0..5_000 {
-        thread::yield_now();
-    }
-}
+use sync_model::{Answer, Misuse};
 
 type Waited = Answer<Result<(), Misuse>>;
 
@@ -61,56 +51,6 @@ fn one_done_wakes_all_who_wait(rt: HostRuntime) -> Result<(), Fail> {
     );
     let fine = Some(Answer::Done(Ok(())));
     assert_eq!(rt; (both.0, both.1, done), (fine, fine, fine));
-    Ok(())
-}
-
-type Shared = Once<(), FrontNote>;
-
-type SharedPass = OncePass<(), FrontNote>;
-
-// Comes with a function that takes so long that the others fall asleep. Says whether the once was halted.
-fn run_slowly<R: Wait>(rt: &R, once: &Shared, mut pass: SharedPass) -> bool
-    requires { IsFresh once.now pass }
-{
-    let answer = once.do_once(rt, &HERE, &mut pass, &mut knows(0), || -> Result<(), u32> {
-        pause();
-        Ok(())
-    });
-    matches!(answer, Answer::Halted(_))
-}
-
-// Two callers come in threads of their own.
-fn two_come<R: Threads + Wait + Sync>(
-    rt: &R,
-    once: &Shared,
-    one: SharedPass,
-    other: SharedPass,
-) -> (bool, bool)
-    requires { IsFresh once.now one × IsFresh once.now other }
-{
-    join(
-        rt,
-        move || -> bool
-            requires { IsSync R.row × IsFresh once.now one }
-        { run_slowly(rt, once, one) },
-        move || -> bool
-            requires { IsSync R.row × IsFresh once.now other }
-        { run_slowly(rt, once, other) },
-    )
-}
-
-#[test]
-fn the_end_of_the_function_wakes_all_who_wait(rt: HostRuntime) -> Result<(), Fail> {
-    let (once, mut passes) = once(rt.alloc(), 3)?;
-    let third = last(&once, &mut passes);
-    let second = last(&once, &mut passes);
-    let first = last(&once, &mut passes);
-    let (both, halted) = join(
-        &rt,
-        || two_come(&rt, &once, first, second),
-        || run_slowly(&rt, &once, third),
-    );
-    assert_eq!(rt; (both.0, both.1, halted), (false, false, false));
     Ok(())
 }
 
@@ -158,17 +98,6 @@ fn two_wait_counted<R: Threads + Wait + Sync>(
     )
 }
 
-// Goes on once two have counted themselves.
-fn until_two<R: Wait>(rt: &R, waiting: &AtomicU64) {
-    for _ in rt.forever() {
-        if waiting.load(Ordering::SeqCst) == 2 {
-            return;
-        }
-        thread::yield_now();
-    }
-    unreachable!()
-}
-
 // Notifies two that wait: by one broadcast, or by two signals. Both counted themselves with the mutex locked, so whoever
 // has locked it since finds their tickets taken.
 fn notify_two<R: Wait>(
@@ -183,7 +112,7 @@ fn notify_two<R: Wait>(
 {
     let (mut lock, mut pass) = passes;
     let mut note = knows(0);
-    until_two(rt, waiting);
+    until(rt, waiting, 2);
     mutex.lock(rt, &HERE, &mut lock, &mut note);
     let _ = mutex.unlock(rt, &HERE, &mut lock, &mut note);
     pause();

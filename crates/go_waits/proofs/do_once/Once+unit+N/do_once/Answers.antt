@@ -1,10 +1,10 @@
-use Rattle.std.proofs.Common.{◌++◌, inl}
+use Rattle.std.proofs.Common.{inl}
 use Rattle.sync_model.specs.declared.answer.Answer.TheVariants.{Done, Halted}
 use Rattle.sync_model.specs.declared.journal.Deed.TheVariants.{Event, Refused}
 use Rattle.wait_cores.specs.declared.once.OnceEvent.TheVariants.{End}
 use Rattle.wait_cores.specs.declared.once.OnceReply.TheVariants.{Ended}
 use Rattle.go_waits.specs.Onces.{start_of}
-use Rattle.go_waits.proofs.OnceRunning.{meets-append, deeds_run}
+use Rattle.go_waits.proofs.OnceRunning.{ran}
 use Rattle.go_waits.proofs.do_once.Once+unit+N.do_once.Goals as goal
 
 pub function-outcome-requires : goal.function-outcome-requires
@@ -17,21 +17,12 @@ pub returns-in-Done-clause-events : goal.returns-in-Done-clause-events
 returns-in-Done-clause-events g c =
     let front = g.N.Note.front in
     let first = rw c.in-Done-Run.field-0-is at c.in-Done-Run.ensures.events in
-    let last = c.in-Done.ensures.events in (
-      first.0 ++ last.0,
-      c.growth.ensures.both (start_of c.args.self.now) c.args.pass.now c.begin.new.pass c.end.new.pass first.0 last.0 (front c.args.note.now) (front c.begin.new.note) (front c.end.new.note) first.1 last.1,
-      (c.function-outcome.ensures, deeds_run first.0 last.0 (Event (End tt) Ended) first.2 last.2),
-      meets-append c.growth.ensures.halted first.0 last.0 (Event (End tt) Ended) (Done Ended) last.2 last.3,
-    )
+    let ran = ran (start_of c.args.self.now) (c.growth.ensures.both (start_of c.args.self.now)) c.growth.ensures.halted c.args.pass.now c.begin.new.pass c.end.new.pass (front c.args.note.now) (front c.begin.new.note) (front c.end.new.note) first.0 first.1 first.2 (Event (End tt) Ended) (Done Ended) c.in-Done.ensures.events in
+    (ran.0, ran.1, (c.function-outcome.ensures, ran.2), ran.3)
 
 pub returns-in-Halted-end-clause-events : goal.returns-in-Halted-end-clause-events
 returns-in-Halted-end-clause-events g c =
     let front = g.N.Note.front in
-    let misuse = c.in-Halted-end.misuse in
     let first = rw c.in-Done-Run.field-0-is at c.in-Done-Run.ensures.events in
-    let last = c.in-Halted-end.ensures.events in (
-      first.0 ++ last.0,
-      c.growth.ensures.both (start_of c.args.self.now) c.args.pass.now c.begin.new.pass c.end.new.pass first.0 last.0 (front c.args.note.now) (front c.begin.new.note) (front c.end.new.note) first.1 last.1,
-      inl (c.function-outcome.result, c.function-outcome.ensures, deeds_run first.0 last.0 (Refused (End tt) misuse) first.2 last.2),
-      meets-append c.growth.ensures.halted first.0 last.0 (Refused (End tt) misuse) (Halted misuse) last.2 last.3,
-    )
+    let ran = ran (start_of c.args.self.now) (c.growth.ensures.both (start_of c.args.self.now)) c.growth.ensures.halted c.args.pass.now c.begin.new.pass c.end.new.pass (front c.args.note.now) (front c.begin.new.note) (front c.end.new.note) first.0 first.1 first.2 (Refused (End tt) c.in-Halted-end.misuse) (Halted c.in-Halted-end.misuse) c.in-Halted-end.ensures.events in
+    (ran.0, ran.1, inl (c.function-outcome.result, c.function-outcome.ensures, ran.2), ran.3)

@@ -1,4 +1,4 @@
-use Rattle.go_waits.proofs.tests.wake_ups.until_two.Given as goal
+use Rattle.go_waits.proofs.tests.setup.until.Given as goal
 
 abbrev pub invariant-loop : goal.invariant-loop
 invariant-loop g l = record {
