@@ -52,7 +52,7 @@ use Rattle.workload.specs.CallWords.{verb_of, operands_of}
 use Rattle.workload.specs.Words.{spelled, kind_parameters, turn_word}
 use Rattle.workload.specs.Draft.{Draft, started, with_line, declared, may_follow, names_object, names_reference, is_kind, is_operation, is_value, is_item, is_range, operation_keys, count_of, limit_of, range_count}
 use Rattle.workload.specs.Checks.{Check, first_failing, form_words, parameter_words, keys_among, map_form, bits_form, atomic_form, mutex_form, rw_mutex_form, cond_form, group_form, pool_form, form_of, parameters_of, parameters_checks, reference_checks, is_mutex, is_int64, ranges_in, limit_checks, form_checks, object_checks, worker_checks, item_checks, line_checks, first_checks, word_checks, reason_of}
-use Rattle.workload.specs.Reads.{Says, IsRead, ReadsOn, Reads, FirstFault, IsRefused}
+use Rattle.workload.specs.Reads.{Continues, IsRead, ReadsOn, Reads, FirstFault, IsRefused}
 use Rattle.workload.proofs.Passing.{both, pair}
 use Rattle.workload.proofs.Keywords.{keyword_from}
 use Rattle.workload.proofs.CallWords.{number_at, number_said, signed_of, amount_said}
@@ -467,7 +467,7 @@ line_said d word (Some keywords.Worker) words few is h = said_as d word keywords
 line_said d word (Some keywords.Schedule) words few is h = said_as d word keywords.Schedule words is (schedule_said d words few h)
 line_said d word (Some (keywords.Call verb)) words few is h = said_as d word (keywords.Call verb) words is (call_said d verb words h)
 
-first_said : (word : List ℕ) (words : List (List ℕ)) → first_failing (first_checks word words) ≡ None → (after : Option Draft) × Says None (word ∷ words) after
+first_said : (word : List ℕ) (words : List (List ℕ)) → first_failing (first_checks word words) ≡ None → (after : Option Draft) × Continues None (word ∷ words) after
 first_said word [] h = absurd (no_words (bytes_eq word (codes "workers")) h)
   where
     no_words : (b : Bool) → first_failing ((b, NoWorkersLine) ∷ (false, WrongNumberOfWords) ∷ []) ≡ None → ⊥
@@ -494,7 +494,7 @@ first_said word (number ∷ other ∷ words) h = absurd (too_many (bytes_eq word
     too_many true h = cc
     too_many false h = cc
 
-words_said : (before : Option Draft) (words : List (List ℕ)) → IsSmall before → is_significant words ≡ true → first_failing (word_checks before words) ≡ None → (after : Option Draft) × Says before words after
+words_said : (before : Option Draft) (words : List (List ℕ)) → IsSmall before → is_significant words ≡ true → first_failing (word_checks before words) ≡ None → (after : Option Draft) × Continues before words after
 words_said before [] small says h = absurd cc
 words_said None (word ∷ words) small says h = first_said word words h
 words_said (Some d) (word ∷ words) small says h =
@@ -510,8 +510,8 @@ line_reads before line small h =
     elim (is_significant (words_of line)) as (λ b. is_significant (words_of line) ≡ b → first_failing (cond b (word_checks before (words_of line)) []) ≡ None → (after : Option Draft) × IsRead before line after) [
       | true ↦ λ t e.
           let said = words_said before (words_of line) small t e in
-          (said.0, record { short = good.0; clean = good.1.0; silent = λ f. not_both_ways t f; says = λ _. said.1 })
-      | false ↦ λ f e. (before, record { short = good.0; clean = good.1.0; silent = λ _. refl; says = λ t. not_both_ways t f })
+          (said.0, record { short = good.0; clean = good.1.0; silent = λ f. not_both_ways t f; continues = λ _. said.1 })
+      | false ↦ λ f e. (before, record { short = good.0; clean = good.1.0; silent = λ _. refl; continues = λ t. not_both_ways t f })
     ] refl one.1
 
 abbrev Ends : List (List ℕ) → Option Draft → ℕ → Type 0

@@ -15,7 +15,7 @@ use Rattle.workload.specs.Lines.{lines_of, words_of, is_clean, is_significant}
 use Rattle.workload.specs.KeywordWords.{keyword_word}
 use Rattle.workload.specs.Words.{spelled, first_spelled, keyword_of, arguments_of}
 use Rattle.workload.specs.Draft.{Draft, started, with_line, may_follow}
-use Rattle.workload.specs.Reads.{Says, IsRead, ReadsOn}
+use Rattle.workload.specs.Reads.{Continues, IsRead, ReadsOn}
 use Rattle.workload.specs.Canonical.{text_line, lines_text}
 use Rattle.workload.proofs.OneReading.{line_small}
 use Rattle.workload.proofs.LineTexts.{words_of-join, is_clean-join, lines_of-line, FitsLine, IsNarrow, line_fits, filled_pair}
@@ -85,7 +85,7 @@ not_silent : {X : Type 0} (b : Bool) → b ≡ true → b ≡ false → X
 not_silent b t f = absurd cc
 
 -- a line of words that fit is read as what the words say
-line_reads : (before after : Option Draft) (word : List ℕ) (words : List (List ℕ)) → FitsLine (word ∷ words) → is_significant (word ∷ words) ≡ true → Says before (word ∷ words) after → IsRead before (join_with_byte 32 (word ∷ words)) after
+line_reads : (before after : Option Draft) (word : List ℕ) (words : List (List ℕ)) → FitsLine (word ∷ words) → is_significant (word ∷ words) ≡ true → Continues before (word ∷ words) after → IsRead before (join_with_byte 32 (word ∷ words)) after
 line_reads before after word words fits says h =
     let cut = words_of-join word words fits.all in
     let speaks : is_significant (words_of (join_with_byte 32 (word ∷ words))) ≡ true = ap is_significant cut ∙ says in
@@ -93,7 +93,7 @@ line_reads before after word words fits says h =
       short = le-leb (length (join_with_byte 32 (word ∷ words))) MAX_LINE fits.short;
       clean = is_clean-join (word ∷ words) fits.all;
       silent = λ quiet. not_silent _ speaks quiet;
-      says = λ t. subst (λ (ws : List (List ℕ)). Says before ws after) (sym cut) h;
+      continues = λ t. subst (λ (ws : List (List ℕ)). Continues before ws after) (sym cut) h;
     }
 
 text_cut : (words : List (List ℕ)) (rest : List ℕ) → is_clean (join_with_byte 32 words) ≡ true → lines_of (text_line words ++ rest) ≡ join_with_byte 32 words ∷ lines_of rest

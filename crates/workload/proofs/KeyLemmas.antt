@@ -7,6 +7,7 @@ use Rattle.std.specs.Ordering.{nat_cmp, eq_by_cmp}
 use Rattle.std.specs.Cmp.Lexicographic.{slice_cmp, nat_list_cmp_total}
 use Rattle.std.specs.FinMap.{FinMap, get, insert, len, len-empty, len-insert, from_entries, find, get-insert, get-from_entries, same_map, slice_cmp-IsAntisymmetric, nat_cmp-IsAntisymmetric}
 use Rattle.std.proofs.lemmas.List.Folds.{list_any-append}
+use Rattle.std.proofs.lemmas.Slice.Eq.{bytes_eq-Decides}
 use Rattle.std.proofs.lemmas.Map.Text.{is_eq-slice_cmp}
 use Rattle.sync_model.specs.declared.call.Call.{Call}
 use Rattle.workload.specs.Draft.{keys_of, all_keys, distinct_count}
@@ -84,6 +85,19 @@ module _ (p : List ℕ → Bool) where
       ∙ ap (λ (b : Bool). list_any p (flat_map keys_of script) || b) (keys_more scripts i call (omega arith))
       ∙ or_swap (list_any p (flat_map keys_of script)) (list_any p (keys_of call)) (list_any p (all_keys scripts))
       ∙ ap (λ (b : Bool). list_any p (keys_of call) || b) (sym (list_any-append p (flat_map keys_of script) (all_keys scripts)))
+
+or_there : (seen : Keys) (key q : List ℕ) (b : Bool) → bytes_eq q key ≡ b → is_some (get seen key) ≡ true → (b || is_some (get seen q)) ≡ is_some (get seen q)
+or_there seen key q false e there = refl
+or_there seen key q true e there = sym (ap (λ (k : List ℕ). is_some (get seen k)) ((bytes_eq-Decides q key).0 e) ∙ there)
+
+-- a set with a key that it has is the same
+pub insert_there : (seen : Keys) (key : List ℕ) → is_some (get seen key) ≡ true → insert seen key tt ≡ seen
+insert_there seen key there =
+    same_keys (insert seen key tt) seen (λ q.
+    ap is_some (get-insert nat_list_cmp_total seen key tt q)
+    ∙ is_some_cond (eq_by_cmp (slice_cmp nat_cmp) q key) tt (get seen q)
+    ∙ ap (λ (b : Bool). b || is_some (get seen q)) (is_eq-slice_cmp q key)
+    ∙ or_there seen key q (bytes_eq q key) refl there)
 
 -- a set with more keys has them
 has_with_keys : (seen : Keys) (keys : List (List ℕ)) (q : List ℕ) → is_some (get (with_keys seen keys) q) ≡ (list_any (bytes_eq q) keys || is_some (get seen q))

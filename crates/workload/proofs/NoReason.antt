@@ -31,7 +31,7 @@ use Rattle.workload.specs.CallWords.{verb_of, operands_of}
 use Rattle.workload.specs.Words.{keyword_of, arguments_of, kind_parameters, turn_word}
 use Rattle.workload.specs.Draft.{Draft, count_of, limit_of, is_kind, names_reference, declared, may_follow, names_object, is_call, is_item, keys_of, call_count, key_count, is_range, range_count}
 use Rattle.workload.specs.Checks.{Check, first_failing, form_of, form_checks, parameters_of, parameters_checks, reference_checks, is_mutex, is_int64, ranges_in, worker_checks, item_checks, line_checks, word_checks, reason_of}
-use Rattle.workload.specs.Reads.{Says, IsRead, ReadsOn, Reads, FirstFault, IsRefused}
+use Rattle.workload.specs.Reads.{Continues, IsRead, ReadsOn, Reads, FirstFault, IsRefused}
 use Rattle.workload.proofs.Passing.{both}
 use Rattle.workload.proofs.Follows.{object_follows, schedule_follows, call_follows}
 use Rattle.workload.proofs.Numbers.{is_number-decimal, number_of-decimal}
@@ -151,7 +151,7 @@ line_passes d (lines.Call n c) few f =
     let h = call_follows d n c f in
     call_passes d (declared d n) n c refl h.on h.current h.name h.call h.room h.keys h.ranges
 
-words_pass : (before : Option Draft) (words : List (List ℕ)) (after : Option Draft) → IsSmall before → Says before words after → first_failing (word_checks before words) ≡ None
+words_pass : (before : Option Draft) (words : List (List ℕ)) (after : Option Draft) → IsSmall before → Continues before words after → first_failing (word_checks before words) ≡ None
 words_pass None words after small h =
     let small_number : h.0 < 2 ^ 64 = omega (arith, h.2) in
     let positive = lt-ltb 0 h.0 h.1 in
@@ -168,7 +168,7 @@ pub read_passes : (before : Option Draft) (line : List ℕ) (after : Option Draf
 read_passes before line after small h =
     rw (h.short, h.clean)
     (elim (is_significant (words_of line)) as (λ b. is_significant (words_of line) ≡ b → first_failing (cond b (word_checks before (words_of line)) []) ≡ None) [
-      | true ↦ λ t. words_pass before (words_of line) after small (h.says t)
+      | true ↦ λ t. words_pass before (words_of line) after small (h.continues t)
       | false ↦ λ f. refl
     ] refl)
 

@@ -9,7 +9,7 @@ use Rattle.workload.specs.declared.line.Line.TheVariants as lines
 use Rattle.workload.specs.Plan.{Plan}
 use Rattle.workload.specs.Lines.{lines_of, words_of, is_significant}
 use Rattle.workload.specs.Draft.{Draft, started, with_line}
-use Rattle.workload.specs.Reads.{Says, IsRead, ReadsOn, Reads}
+use Rattle.workload.specs.Reads.{Continues, IsRead, ReadsOn, Reads}
 use Rattle.workload.proofs.SameLine.{same_line}
 
 -- a draft has at most 32 workers
@@ -28,11 +28,11 @@ line_small d (lines.Worker w) h = h
 line_small d (lines.Schedule ts) h = h
 line_small d (lines.Call n c) h = h
 
-says_small : (before : Option Draft) (words : List (List ℕ)) (after : Option Draft) → IsSmall before → Says before words after → IsSmall after
+says_small : (before : Option Draft) (words : List (List ℕ)) (after : Option Draft) → IsSmall before → Continues before words after → IsSmall after
 says_small None words after small h = subst IsSmall (sym h.4) h.2
 says_small (Some d) words after small h = subst IsSmall (sym h.3) (line_small d h.0 small)
 
-same_said : (before : Option Draft) (words : List (List ℕ)) (a b : Option Draft) → IsSmall before → Says before words a → Says before words b → a ≡ b
+same_said : (before : Option Draft) (words : List (List ℕ)) (a b : Option Draft) → IsSmall before → Continues before words a → Continues before words b → a ≡ b
 same_said None words a b small h k =
     let workers = decimal_injective h.0 k.0 (omega (arith, h.2)) (omega (arith, k.2)) (one_word (decimal h.0) (decimal k.0) _ _ (sym h.3 ∙ k.3)) in
     h.4 ∙ ap (λ (n : ℕ). Some (started n)) workers ∙ sym k.4
@@ -42,7 +42,7 @@ same_said (Some d) words a b small h k =
 pub read_small : (before : Option Draft) (line : List ℕ) (after : Option Draft) → IsSmall before → IsRead before line after → IsSmall after
 read_small before line after small h =
     elim (is_significant (words_of line)) as (λ b. is_significant (words_of line) ≡ b → IsSmall after) [
-      | true ↦ λ t. says_small before (words_of line) after small (h.says t)
+      | true ↦ λ t. says_small before (words_of line) after small (h.continues t)
       | false ↦ λ f. subst IsSmall (sym (h.silent f)) small
     ] refl
 
@@ -50,7 +50,7 @@ read_small before line after small h =
 pub same_read : (before : Option Draft) (line : List ℕ) (a b : Option Draft) → IsSmall before → IsRead before line a → IsRead before line b → a ≡ b
 same_read before line a b small h k =
     elim (is_significant (words_of line)) as (λ t. is_significant (words_of line) ≡ t → a ≡ b) [
-      | true ↦ λ t. same_said before (words_of line) a b small (h.says t) (k.says t)
+      | true ↦ λ t. same_said before (words_of line) a b small (h.continues t) (k.continues t)
       | false ↦ λ f. h.silent f ∙ sym (k.silent f)
     ] refl
 

@@ -1,5 +1,5 @@
 -- Why a line is refused: its checks in their order, each with the reason where it fails.
-use Rattle.std.specs.Prelude.{◌≡◌, ℕ, Bool, true, false, ◌&&◌, ◌+◌, not, cond, nat_lt, nat_le, ◌==◌, List, [], ◌∷◌, ◌++◌, length, codes, Option, Some, None, is_some}
+use Rattle.std.specs.Prelude.{◌≡◌, ℕ, Bool, true, false, ◌&&◌, ◌+◌, not, cond, nat_lt, nat_le, ◌==◌, List, [], ◌∷◌, ◌++◌, length, Option, Some, None, is_some}
 use Rattle.std.specs.List.{flat_map}
 use Rattle.std.specs.Option.{option_map_or}
 use Rattle.std.specs.Str.{bytes_eq}
@@ -25,7 +25,7 @@ use Rattle.workload.specs.declared.object.Declared.{Declared}
 use Rattle.workload.specs.declared.reason.Reason.{Reason}
 use Rattle.workload.specs.declared.reason.Reason.TheVariants.{NoWorkersLine, LineTooLong, BadByte, UnknownWord, WrongNumberOfWords, BadName, NameTaken, UnknownName, WrongKind, BadNumber, NoSuchWorker, CallOutsideWorker, LimitReached}
 use Rattle.workload.specs.Lines.{is_short, is_clean, words_of, is_significant}
-use Rattle.workload.specs.KeywordWords.{keyword_at}
+use Rattle.workload.specs.KeywordWords.{keyword_word, keyword_at}
 use Rattle.workload.specs.Plan.{word_of}
 use Rattle.workload.specs.NumberWords.{is_number, is_number_to, is_amount_word, is_number_word, number_of}
 use Rattle.workload.specs.Draft.{Draft, declared, limit_of, count_of, call_count, key_count, range_count}
@@ -257,7 +257,7 @@ line_checks d (Some (keywords.Call verb)) words = call_checks d verb words
 -- the checks of the first significant line
 abbrev pub first_checks : List ℕ → List (List ℕ) → List Check
 first_checks word words =
-    (bytes_eq word (codes "workers"), NoWorkersLine) ∷ one_word words (λ number.
+    (bytes_eq word (keyword_word keywords.Workers), NoWorkersLine) ∷ one_word words (λ number.
     (is_number_to MAX_WORKERS number && nat_lt 0 (number_of number), BadNumber) ∷ [])
 
 -- the checks of the words of a line, by the draft that it follows, if it isn't the first

@@ -15,16 +15,16 @@ use Rattle.workload.specs.Draft.{Draft, started, with_line, may_follow}
 use Rattle.workload.specs.Checks.{reason_of}
 
 -- what words that say something make of the draft so far, of which there is none before the first line
-abbrev pub Says : Option Draft → List (List ℕ) → Option Draft → Type 0
-Says None words after = (workers : ℕ) × (0 < workers) × (workers ≤ MAX_WORKERS) × (words ≡ first_spelled workers) × (after ≡ Some (started workers))
-Says (Some draft) words after = (line : Line) × (may_follow draft line ≡ true) × (words ≡ spelled line) × (after ≡ Some (with_line draft line))
+abbrev pub Continues : Option Draft → List (List ℕ) → Option Draft → Type 0
+Continues None words after = (workers : ℕ) × (0 < workers) × (workers ≤ MAX_WORKERS) × (words ≡ first_spelled workers) × (after ≡ Some (started workers))
+Continues (Some draft) words after = (line : Line) × (may_follow draft line ≡ true) × (words ≡ spelled line) × (after ≡ Some (with_line draft line))
 
 -- what a line makes of the draft: one that says nothing leaves it
 pub record IsRead (before : Option Draft) (line : List ℕ) (after : Option Draft) : Type 0 where
   pub short : is_short line ≡ true
   pub clean : is_clean line ≡ true
   pub silent : is_significant (words_of line) ≡ false → after ≡ before
-  pub says : is_significant (words_of line) ≡ true → Says before (words_of line) after
+  pub continues : is_significant (words_of line) ≡ true → Continues before (words_of line) after
 
 -- the lines, one after the other, make the plan of the draft so far
 abbrev pub ReadsOn : List (List ℕ) → Option Draft → Plan → Type 0

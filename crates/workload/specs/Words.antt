@@ -1,5 +1,5 @@
 -- How the lines of a text are spelled, as words.
-use Rattle.std.specs.Prelude.{ℕ, List, [], ◌∷◌, ◌++◌, map, codes}
+use Rattle.std.specs.Prelude.{ℕ, List, [], ◌∷◌, ◌++◌, map}
 use Rattle.std.specs.Option.{option_to_list}
 use Rattle.std.specs.Fmt.{decimal, signed_decimal}
 use Rattle.workload.specs.declared.keyword.Keyword.{Keyword}
@@ -46,4 +46,4 @@ spelled line = keyword_word (keyword_of line) ∷ arguments_of line
 
 -- the spelling of the first line
 abbrev pub first_spelled : ℕ → List (List ℕ)
-first_spelled workers = codes "workers" ∷ decimal workers ∷ []
+first_spelled workers = keyword_word keywords.Workers ∷ decimal workers ∷ []

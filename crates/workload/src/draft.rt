@@ -1,6 +1,8 @@
 //! What the lines of a text say so far.
 ghost use Rattle.std.specs.Prelude.{◌≡◌, ◌≤◌, ◌<◌, ◌+◌, ◌∷◌, [], true, length, nat_lt, is_some, count_by, replicate, IfOk, OnOk};
 ghost use Rattle.std.specs.Option.{option_copied, option_to_list};
+ghost use Rattle.std.specs.FinMap.{insert};
+ghost use Rattle.sync_model.specs.Name.{is_name};
 ghost use Rattle.workload.specs.declared.limits.TheConstants.{MAX_WORKERS};
 ghost use Rattle.workload.specs.Index.{with_keys};
 ghost use Rattle.workload.specs.Draft.{started, with_line, may_follow, declared, count_of, count_together, limit_of, call_count, key_count, keys_of, is_range, range_count};
@@ -89,13 +91,24 @@ fn limit(word: ObjectWord) -> usize
     }
 }
 
-/// Adds the keys of a call.
+/// Adds a key, unless it is there.
+fn insert_key(alloc: Global, keys: &mut ByName<()>, key: &[u8]) -> Result<(), AllocError>
+    requires { is_name key.now ≡ true }
+    ensures { OnOk result (keys.new ≡ insert keys.old key.now tt) }
+{
+    if keys.get(key).is_some() {
+        return Ok(());
+    }
+    keys.insert(alloc, key, ())
+}
+
+/// Adds the key of a call, if it has one.
 fn insert_keys(alloc: Global, keys: &mut ByName<()>, call: &Call) -> Result<(), AllocError>
     ensures { OnOk result (keys.new ≡ with_keys keys.old (keys_of call.now)) }
 {
     match call_key(call) {
         None => Ok(()),
-        Some(key) => keys.insert(alloc, key.as_bytes(), ()),
+        Some(key) => insert_key(alloc, keys, key.as_bytes()),
     }
 }
 

@@ -2,7 +2,6 @@
 ghost use Rattle.std.specs.Prelude.{◌≡◌, ◌∷◌, ◌++◌, [], map, IfOk, OnOk};
 ghost use Rattle.std.specs.Fmt.{decimal, signed_decimal};
 ghost use Rattle.std.specs.Option.{option_to_list};
-ghost use Rattle.workload.specs.KeywordWords.{object_word};
 ghost use Rattle.workload.specs.NumberWords.{number_word};
 ghost use Rattle.workload.specs.CallWords.{numbers_in, operands_of};
 ghost use Rattle.workload.specs.Words.{turn_word, kind_parameters, spelled};
@@ -11,12 +10,12 @@ ghost use Rattle.workload.specs.Reads.{Reads};
 ghost use Rattle.workload.specs.Canonical.{text_line, call_line, object_line, reference_name, script_lines, eights, canonical_lines, canonical, behind_spaces, lines_text};
 
 use std::alloc::{AllocError, Global};
-use sync_model::{AtomicKind, Call, Number, Operation};
-use workload::call::{verb, verb_text};
+use sync_model::{Call, Number, Operation};
+use workload::call::verb;
 use workload::laws::{canonical_reads, schedules_go_by_eights};
 use workload::object::name_at;
 use workload::operands::{Numbers, operands_of};
-use workload::{ObjectKind, ObjectLine, ObjectWord, Turn, Workload};
+use workload::{ObjectKind, ObjectLine, Turn, Workload};
 
 /// Writes a word behind a space.
 fn put_word(text: &mut Vec<u8>, word: &[u8]) -> Result<(), AllocError>
@@ -56,28 +55,6 @@ fn put_atomic_number(alloc: Global, text: &mut Vec<u8>, number: Number) -> Resul
     }
 }
 
-/// The text of an object's word.
-fn object_text(word: ObjectWord) -> &'static [u8]
-    ensures { result.now ≡ object_word word }
-{
-    match word {
-        ObjectWord::Map => b"map",
-        ObjectWord::Atomic(AtomicKind::Int32) => b"int32",
-        ObjectWord::Atomic(AtomicKind::Int64) => b"int64",
-        ObjectWord::Atomic(AtomicKind::Uint32) => b"uint32",
-        ObjectWord::Atomic(AtomicKind::Uint64) => b"uint64",
-        ObjectWord::Atomic(AtomicKind::Bool) => b"bool",
-        ObjectWord::Mutex => b"mutex",
-        ObjectWord::RwMutex => b"rwmutex",
-        ObjectWord::Cond => b"cond",
-        ObjectWord::WaitGroup => b"waitgroup",
-        ObjectWord::Once => b"once",
-        ObjectWord::OnceFunc => b"oncefunc",
-        ObjectWord::OnceValue => b"oncevalue",
-        ObjectWord::Pool => b"pool",
-    }
-}
-
 /// Writes numbers of atomics' types, each behind a space.
 fn put_numbers(alloc: Global, text: &mut Vec<u8>, numbers: Numbers) -> Result<(), AllocError>
     ensures { OnOk result (text.new.items ≡ text.old.items ++ behind_spaces (map number_word (numbers_in numbers))) }
@@ -107,7 +84,7 @@ fn put_operands(alloc: Global, text: &mut Vec<u8>, operation: &Operation) -> Res
 fn put_call(alloc: Global, text: &mut Vec<u8>, name: &[u8], call: &Call) -> Result<(), AllocError>
     ensures { OnOk result (text.new.items ≡ text.old.items ++ text_line (spelled (Line.Call name.now call.now))) }
 {
-    text.extend_from_slice(verb_text(verb(&call.operation)))?;
+    text.extend_from_slice(verb(&call.operation).text())?;
     put_word(text, name)?;
     put_operands(alloc, text, &call.operation)?;
     text.push(b'\n')?;
@@ -178,7 +155,7 @@ fn put_object(
 ) -> Result<(), AllocError>
     ensures { OnOk result (text.new.items ≡ text.old.items ++ text_line (spelled (object_line objects.now object.now))) }
 {
-    text.extend_from_slice(object_text(object.kind.word()))?;
+    text.extend_from_slice(object.kind.word().text())?;
     put_word(text, object.name.as_bytes())?;
     put_parameters(alloc, text, objects, object.kind)?;
     text.push(b'\n')?;

@@ -46,7 +46,7 @@ IsLine draft word arguments result =
 abbrev pub IsOperands : {X : Type 0} → (X → Type 0) → List Operand → List (List ℕ) → Result X LineFault → Type 0
 IsOperands Is form words result = MatchResult result (λ x. Is x × (first_failing (form_words (Some form) words) ≡ None)) (IsFault (form_words (Some form) words))
 
--- a call of this word with these operands, in range, that objects of such a word have; `make` says which operation it is
+-- a call of this verb with these operands, in range, that objects of this word have; `make` says which operation it is
 abbrev pub IsCallOf : {X : Type 0} → (X → Operation) → ObjectWord → Verb → List (List ℕ) → X → Type 0
 IsCallOf make word verb words call =
     (verb_of (make call) ≡ verb) × (operands_of (make call) ≡ words) × (is_operation (make call) ≡ true) × (has_operation word (make call) ≡ true)

@@ -3,7 +3,7 @@ ghost use Rattle.std.specs.Prelude.{◌≡◌, ◌+◌, ◌-◌, ◌≤◌, ◌�
 ghost use Rattle.workload.specs.Lines.{lines_of, words_of, is_significant};
 ghost use Rattle.workload.specs.Checks.{checks_of, word_checks};
 ghost use Rattle.workload_reader.specs.LineResult.{IsFault, IsSound, IsUnsound};
-ghost use Rattle.workload.specs.Reads.{Says, IsRead, ReadsOn, Reads, IsFirstFault, fault_at, IsFaultOf};
+ghost use Rattle.workload.specs.Reads.{Continues, IsRead, ReadsOn, Reads, IsFirstFault, fault_at, IsFaultOf};
 ghost use Rattle.workload.specs.declared.limits.TheConstants.{MAX_INPUT};
 
 use crate::reading::{read_line, read_workers};
@@ -22,7 +22,7 @@ fn take_words(
     word: &[u8],
     arguments: &[&[u8]],
 ) -> Result<Option<Draft>, LineFault>
-    ensures { MatchResult result (Says before (word.now ∷ map (λ word. word.now) arguments.now)) (IsFault (word_checks before (word.now ∷ map (λ word. word.now) arguments.now))) }
+    ensures { MatchResult result (Continues before (word.now ∷ map (λ word. word.now) arguments.now)) (IsFault (word_checks before (word.now ∷ map (λ word. word.now) arguments.now))) }
 {
     match before {
         None => {
