@@ -1,5 +1,5 @@
 -- An event moves callers as its answer says.
-use Rattle.std.proofs.Common.{◌≡◌, ℕ, inl, inr, Bool, true, false, ◌||◌, List, [], ◌∷◌, ◌++◌, refl, ap, sym, ◌∙◌}
+use Rattle.std.proofs.Common.{◌≡◌, ◌≢◌, ℕ, inl, inr, Bool, true, false, ◌||◌, List, [], ◌∷◌, ◌++◌, refl, ap, sym, ◌∙◌}
 use Rattle.std.specs.Prelude.{nat_eq, nat_lt, ◌==◌, if◌then◌else◌}
 use Rattle.std.specs.List.{list_any}
 use Rattle.std.proofs.lemmas.Bool.{eqb-true, eq-eqb}
@@ -8,6 +8,10 @@ use Rattle.mutex_core.specs.declared.event.MutexEvent.TheVariants as event
 use Rattle.mutex_core.specs.declared.place.Place.{Place}
 use Rattle.mutex_core.specs.declared.place.Place.TheVariants as place
 use Rattle.mutex_core.specs.declared.reply.MutexReply.{MutexReply}
+use Rattle.mutex_core.specs.declared.reply.MutexReply.TheVariants.{Arrived, Tried, Unlocked, Resumed, Still}
+use Rattle.mutex_core.specs.declared.reply.Arrival.TheVariants as arrival
+use Rattle.mutex_core.specs.declared.reply.Resumption.TheVariants as resumption
+use Rattle.mutex_core.specs.declared.reply.Unlocking.TheVariants as unlocking
 use Rattle.mutex_core.specs.declared.waiter.Waiter.{Waiter}
 use Rattle.mutex_core.specs.declared.waiter.Flight.{Flight}
 use Rattle.mutex_core.specs.declared.waiter.Flight.TheVariants as flight
@@ -198,3 +202,27 @@ tells_waiters s c e x h told = by_test (nat_lt c s.callers) x told
     by_test : (b : Bool) → Tells s e (if b then at_place e (place_of s c) c s else still s)
     by_test true = at_place-tells e (place_of s c) c s h
     by_test false = λ x told. no told
+
+-- ---- whom nobody tells
+
+other_test : (x by : ℕ) → x ≢ by → (x == by) ≡ false
+other_test x by apart = by_test (x == by) refl
+  where
+    by_test : (b : Bool) → (x == by) ≡ b → b ≡ false
+    by_test true same = absurd (apart (eqb-true x by same))
+    by_test false same = refl
+
+place_other : (x by : ℕ) (p : Place) (r : MutexReply) → (x == by) ≡ false → tells x r ≡ false → place_after x by p r ≡ p
+place_other x by p (Arrived arrival.Acquired) other told = refl
+place_other x by p (Arrived (arrival.Queued ticket)) other told = ap (λ (b : Bool). if b then place.Waiting else p) other
+place_other x by p (Tried taken) other told = refl
+place_other x by p (Unlocked unlocking.Free) other told = refl
+place_other x by p (Unlocked (unlocking.Woke ticket)) other told = ap (λ (b : Bool). if b then place.Woken else p) told
+place_other x by p (Unlocked (unlocking.Handed ticket)) other told = ap (λ (b : Bool). if b then place.Handed else p) told
+place_other x by p (Unlocked (unlocking.Misuse misuse)) other told = refl
+place_other x by p (Resumed resumption.Acquired) other told = ap (λ (b : Bool). if b then place.Out else p) other
+place_other x by p (Resumed resumption.Requeued) other told = ap (λ (b : Bool). if b then place.Waiting else p) other
+place_other x by p Still other told = refl
+
+pub unmoved : (s : State) (c : ℕ) (e : MutexEvent) (x : ℕ) → IsValid s → x ≢ c → tells x (next s c e).1 ≡ false → place_of (next s c e).0 x ≡ place_of s x
+unmoved s c e x h apart told = moves s c e x h ∙ place_other x c (place_of s x) (next s c e).1 (other_test x c apart) told

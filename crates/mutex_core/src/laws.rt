@@ -86,6 +86,8 @@ pub fn moves()
         → place_of (next state by event).0 caller ≡ place_after caller by (place_of state caller) (next state by event).1 }
     ensures told { (state : State) (caller by : ℕ) (event : MutexEvent) → IsValid state
         → IsTrue (tells caller (next state by event).1) → (event ≡ MutexEvent.Unlock) × (place_of state caller ≡ Place.Waiting) }
+    ensures unmoved { (state : State) (caller by : ℕ) (event : MutexEvent) → IsValid state → caller ≢ by
+        → IsFalse (tells caller (next state by event).1) → place_of (next state by event).0 caller ≡ place_of state caller }
 {}
 
 /// An event is made exactly where its caller may make it: it is one of the mutex's, and at the place that the event needs.

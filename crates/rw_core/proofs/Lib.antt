@@ -9,3 +9,4 @@ pub mod Admissions
 pub mod UsedUp
 pub mod Answers
 pub mod Standing
+pub mod Moves

@@ -34,11 +34,11 @@ use Rattle.rw_core.proofs.Places.{out-inner, woken-inner, handed-inner, mutex-ou
 use Rattle.rw_core.proofs.Runs.{MutexLaws, start-valid, keeps}
 use Rattle.rw_core.proofs.Validity.{once-other, out-nowhere, announced-holding}
 
-no : {A : Type 0} → false ≡ true → A
+pub no : {A : Type 0} → false ≡ true → A
 no e = absurd (false≢true e)
 
 -- what a caller's answer does to the places of each caller
-abbrev Shifts : ℕ → RwReply → (ℕ → ℕ) → (ℕ → ℕ) → Type 0
+abbrev pub Shifts : ℕ → RwReply → (ℕ → ℕ) → (ℕ → ℕ) → Type 0
 Shifts caller (Arrived arrival.Acquired) old new = (x : ℕ) → new x ≡ old x
 Shifts caller (Arrived arrival.Queued) old new = (x : ℕ) → new x ≡ old x + once x caller
 Shifts caller (Tried _) old new = (x : ℕ) → new x ≡ old x
@@ -49,7 +49,7 @@ Shifts caller (Resumed resumption.Requeued) old new = (x : ℕ) → new x ≡ ol
 Shifts caller Left old new = (x : ℕ) → new x + once x caller ≡ old x
 Shifts caller Still old new = (x : ℕ) → new x ≡ old x
 
-abbrev ShiftsBy : ℕ → State → State × RwReply → Type 0
+abbrev pub ShiftsBy : ℕ → State → State × RwReply → Type 0
 ShiftsBy caller s step = Shifts caller step.1 (λ x. places_of x s) (λ x. places_of x step.0)
 
 read_arrived-shifts : (n r : ℕ) (w : Writer) (q a g : List ℕ) (i : mutex.State) (c : ℕ) → ShiftsBy c (record { callers = n; readers = r; writer = w; queue = q; admitted = a; granted = g; inner = i }) (read_arrived c (record { callers = n; readers = r; writer = w; queue = q; admitted = a; granted = g; inner = i }))
@@ -81,13 +81,13 @@ unannounced-waits writer.Nobody x free = refl
 unannounced-waits (writer.Waiting c) x free = no (sym free)
 unannounced-waits writer.Holding x free = no (sym free)
 
-holding-waits : (w : Writer) (x : ℕ) → is_holding w ≡ true → ◌≡◌ {A = ℕ} (if waits_as x w then 1 else 0) 0
+pub holding-waits : (w : Writer) (x : ℕ) → is_holding w ≡ true → ◌≡◌ {A = ℕ} (if waits_as x w then 1 else 0) 0
 holding-waits writer.Nobody x holds = no holds
 holding-waits (writer.Waiting c) x holds = no holds
 holding-waits writer.Holding x holds = refl
 
 -- the writer of a state whose inner mutex is unlocked
-unlocked-waits : (s : State) → IsValid s → s.inner.locked ≡ false → (x : ℕ) → ◌≡◌ {A = ℕ} (if waits_as x s.writer then 1 else 0) 0
+pub unlocked-waits : (s : State) → IsValid s → s.inner.locked ≡ false → (x : ℕ) → ◌≡◌ {A = ℕ} (if waits_as x s.writer then 1 else 0) 0
 unlocked-waits s h unlocked x = unannounced-waits s.writer x (sym h.locked ∙ unlocked)
 
 write_arrived-shifts : (s : State) (c now : ℕ) → c < s.callers → place_of s c ≡ place.Out → IsValid s → ShiftsBy c s (write_arrived (mutex.next s.inner c (mutex_event.Arrive now)) c s)
@@ -142,7 +142,7 @@ without-absent c (y ∷ ys) absent = by_test (c == y) absent (without-absent c y
     by_test false absent later = ap (λ (zs : List ℕ). y ∷ zs) (later absent)
 
 -- a caller that is in a list no times isn't in it
-none-absent : (c : ℕ) (xs : List ℕ) → count_of c xs ≡ 0 → is_among c xs ≡ false
+pub none-absent : (c : ℕ) (xs : List ℕ) → count_of c xs ≡ 0 → is_among c xs ≡ false
 none-absent c xs none = by_test (is_among c xs) refl
   where
     by_test : (b : Bool) → is_among c xs ≡ b → b ≡ false
@@ -192,7 +192,7 @@ admitted-among s c at = by_test (is_among c s.admitted) at
         let last = skip (is_among c s.queue) place.Queued _ place.Admitted (λ e. cc) past in
         at_inner (mutex.place_of s.inner c) place.Admitted (λ e. cc) (λ e. cc) (λ e. cc) (λ e. cc) last
 
-at_place-shifts : (e : RwEvent) (p : Place) (c : ℕ) (s : State) → c < s.callers → place_of s c ≡ p → IsValid s → ShiftsBy c s (at_place e p c s)
+pub at_place-shifts : (e : RwEvent) (p : Place) (c : ℕ) (s : State) → c < s.callers → place_of s c ≡ p → IsValid s → ShiftsBy c s (at_place e p c s)
 at_place-shifts event.ReadArrive place.Out c s below at h = read_arrived-shifts s.callers s.readers s.writer s.queue s.admitted s.granted s.inner c
 at_place-shifts event.ReadArrive _ c s below at h = λ x. refl
 at_place-shifts event.ReadTry place.Out c s below at h = read_tried-shifts s.callers s.readers s.writer s.queue s.admitted s.granted s.inner c
@@ -264,7 +264,7 @@ after-places keeps s c w (entry ∷ log) h is follows =
     (step-places c entry.caller entry.reply old new w (subst (λ (r : RwReply). Shifts entry.caller r old new) follows.0 (next-shifts s entry.caller entry.event h)) (h.apart c) (valid.apart c) is)
     follows.1
 
-not_once : (b : Bool) → ◌≡◌ {A = ℕ} (if b then 1 else 0) 0 → b ≡ false
+pub not_once : (b : Bool) → ◌≡◌ {A = ℕ} (if b then 1 else 0) 0 → b ≡ false
 not_once true none = absurd (omega (arith, none))
 not_once false none = refl
 
@@ -287,7 +287,7 @@ inner-out flight.Handed (w ∷ q) c none =
     rw (first, out_in c q (omega (arith, none))) refl
 
 -- who is at no place is out
-nowhere-out : (s : State) (c : ℕ) → places_of c s ≡ 0 → place_of s c ≡ place.Out
+pub nowhere-out : (s : State) (c : ℕ) → places_of c s ≡ 0 → place_of s c ≡ place.Out
 nowhere-out s c none =
     let admitted = none-absent c s.admitted (omega (arith, none)) in
     let granted = none-absent c s.granted (omega (arith, none)) in

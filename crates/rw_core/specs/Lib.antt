@@ -4,3 +4,4 @@ pub mod Edges
 pub mod Admission
 pub mod EventsLeft
 pub mod Standing
+pub mod Moves

@@ -9,6 +9,7 @@ ghost use Rattle.rw_core.specs.declared.reply.Unlocking.{Unlocking};
 ghost use Rattle.rw_core.specs.RwMachine.{State, next, start, is_announced, may_make, place_of, IsValid};
 ghost use Rattle.rw_core.specs.Admission.{Admits};
 ghost use Rattle.rw_core.specs.EventsLeft.{events_left, given_by, used_by};
+ghost use Rattle.rw_core.specs.Moves.{MovesOther, MovesOwn};
 ghost use Rattle.rw_core.specs.Standing.{is_answer, is_waiting};
 ghost use Rattle.rw_core.specs.declared.place.Place.{Place};
 ghost use Rattle.rw_core.specs.Edges.{Log, acquires, releases, is_acquired, read_acquires, read_releases, write_acquires, write_releases};
@@ -102,6 +103,18 @@ pub fn standing()
         → place_of (after next (start callers) log) caller ≡ Place.Out → ⊥ }
 {
     laws::validity();
+}
+
+/// An event moves callers from place to place as the tables say: the caller that makes it by its answer, and any other only where
+/// it is an unlock, which tells a writer in the queue to go on, admits the readers that wait, or grants the lock to the announced
+/// writer.
+pub fn moves()
+    ensures own { (state : State) (caller : ℕ) (event : RwEvent) → IsValid state
+        → MovesOwn (next state caller event).1 (place_of state caller) (place_of (next state caller event).0 caller) }
+    ensures others { (state : State) (caller by : ℕ) (event : RwEvent) → IsValid state → caller ≢ by
+        → MovesOther event (place_of state caller) (place_of (next state by event).0 caller) }
+{
+    laws::moves();
 }
 
 /// An event is made exactly where its caller may make it: it is one of the lock's, and at the place that the event needs.

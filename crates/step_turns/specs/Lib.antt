@@ -16,3 +16,5 @@ pub mod Ready
 pub mod RwMutexTurn
 pub mod Turns
 pub mod WaitGroupTurn
+pub mod ReplyForm
+pub mod Stands

@@ -1,5 +1,5 @@
 //! What a turn keeps at the objects of a run, whatever the workload, and what it uses up.
-ghost use Rattle.std.specs.Prelude.{◌≡◌, ℕ, ◌<◌, ◌≤◌, true, List, map, sum_by};
+ghost use Rattle.std.specs.Prelude.{◌≡◌, ◌≢◌, ℕ, ◌<◌, ◌≤◌, true, List, Option, map, sum_by};
 ghost use Rattle.sync_model.specs.declared.call.Call.{Call};
 ghost use Rattle.pool_core.specs.PoolMachine as pool;
 ghost use Rattle.pool_core.specs.declared.pool_event.PoolEvent.{PoolEvent};
@@ -17,9 +17,13 @@ ghost use Rattle.step_turns.specs.Objects.{new_object, kind_of, IsMachineOf, Eac
 ghost use Rattle.step_turns.specs.Pairs.{ShowsTo};
 ghost use Rattle.step_turns.specs.PoolRoom.{put_of, HasRoomFor, left_behind};
 ghost use Rattle.step_turns.specs.Ready.{IsReady};
+ghost use Rattle.step_turns.specs.ReplyForm.{HasForm};
+ghost use Rattle.step_turns.specs.Stands.{IsOutAt, IsOutBut, waits_at, waits_behind};
 ghost use Rattle.step_turns.specs.Turns.{turn_at};
 
+use sync_model::Name;
 use sync_model::laws::atomics::calls_keep_the_type;
+use sync_model::laws::replies::replies_have_their_form;
 
 /// An object begins as one of its kind, with a machine that is ready for the workers' turns. A turn keeps
 /// the kind of each object, and leaves each machine ready.
@@ -63,6 +67,25 @@ pub fn turns_use_something_up()
 pub fn some_calls_take_one_turn()
     ensures { (workers worker moment : ℕ) (call : Call) (objects : List ObjectState) → takes_one_turn call.operation ≡ true → IsReady workers worker call objects → IsCompleted (turn_at call worker moment objects).1 }
 {}
+
+/// A worker is out at every mutex and reader/writer mutex but the one at which its call waits: so an object begins, and so
+/// any turn leaves it, its own and another's. A call that is completed waits nowhere. And the reply by which a turn completes
+/// its call has the form of that call's replies.
+pub fn workers_stand_in_their_calls()
+    ensures begins { (worker workers room : ℕ) (kind : ObjectKind) → IsOutAt worker (new_object workers room kind) }
+    ensures own { (workers worker moment : ℕ) (call : Call) (objects : List ObjectState) → IsReady workers worker call objects → IsOutBut (waits_at (map kind_of objects) call) worker objects
+        → IsOutBut (waits_behind (turn_at call worker moment objects).1 (waits_at (map kind_of objects) call)) worker (turn_at call worker moment objects).0 }
+    ensures others { (workers worker other moment : ℕ) (call : Call) (but : Option ℕ) (objects : List ObjectState) → IsReady workers other call objects → worker ≢ other → IsOutBut but worker objects
+        → IsOutBut but worker (turn_at call other moment objects).0 }
+    ensures forms { (workers worker moment : ℕ) (call : Call) (objects : List ObjectState) → IsReady workers worker call objects → IsOutBut (waits_at (map kind_of objects) call) worker objects
+        → HasForm call.operation (turn_at call worker moment objects).1 }
+{
+    mutex_core::laws::moves();
+    mutex_core::laws::standing();
+    rw_core::laws::moves();
+    rw_core::laws::standing();
+    replies_have_their_form::<Name, u32>();
+}
 
 /// An object that is a machine begins in a state that the machine reaches from its start by the events of a
 /// log, and a turn leaves it in such a state. The room of a pool's parts may differ from place to place.
