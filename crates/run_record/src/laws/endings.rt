@@ -1,5 +1,5 @@
 //! How a run ends. A misuse ends it by halts, and nothing else halts an object.
-ghost use Rattle.std.specs.Prelude.{◌≡◌, ◌≢◌, ℕ, List, All, Some, None, slice_get};
+ghost use Rattle.std.specs.Prelude.{◌≡◌, ◌≢◌, ℕ, List, map, length, All, Some, None, slice_get};
 ghost use Rattle.sync_model.specs.Journal.{halt_of};
 ghost use Rattle.workload.specs.Plan.{Plan};
 ghost use Rattle.run_record.specs.Explains.{AreLines, IsLawful, HasEnded, Explains};
@@ -60,3 +60,8 @@ pub fn a_run_is_done_unless_it_was_misused()
 {
     stop_says_how_a_run_ended();
 }
+
+/// A run that is done has answered each call of each script, once.
+pub fn a_run_that_is_done_answers_each_call()
+    ensures { (plan : Plan) (r : Record) (left : Report) → Explains plan (Outcome.Done left) r → map length left.replies ≡ map length plan.scripts }
+{}
