@@ -1,12 +1,10 @@
 -- What a record has that explains two replies of the example's worker.
-use Rattle.std.proofs.Common.{◌≡◌, ℕ, zero, suc, ◌+◌, ◌<◌, ◌≤◌, Bool, true, false, pos, List, [], ◌∷◌, ◌++◌, map, length, get_or, Option, Some, None, slice_get, refl, sym, ap, ◌∙◌, subst, arith}
-use Rattle.std.specs.Prelude.{unwrap_or, Ok, Err}
+use Rattle.std.proofs.Common.{◌≡◌, ℕ, suc, ◌+◌, ◌<◌, pos, List, [], ◌∷◌, ◌++◌, map, length, get_or, slice_get, refl, sym, ap, ◌∙◌, subst, arith}
+use Rattle.std.specs.Prelude.{Ok, Err}
 use Rattle.std.specs.List.{flat_map}
-use Rattle.std.proofs.lemmas.Option.{none-some}
 use Rattle.sync_model.specs.declared.answer.Answer.TheVariants.{Done, Halted}
 use Rattle.sync_model.specs.declared.atomic_object.AtomicCall.TheVariants as calls
 use Rattle.sync_model.specs.declared.atomic_object.AtomicReply.{AtomicReply}
-use Rattle.sync_model.specs.declared.atomic_object.AtomicReply.TheVariants as answers
 use Rattle.sync_model.specs.declared.atomic_object.Number.TheVariants.{Int64}
 use Rattle.sync_model.specs.declared.call.Call.{Call}
 use Rattle.sync_model.specs.declared.call.Reply.{Reply}
@@ -24,7 +22,7 @@ use Rattle.run_record.specs.Example.{plan, store_call, load_call, replies_by}
 use Rattle.run_record.specs.Explains.{Explains}
 use Rattle.run_record.specs.Lines.{SpeltCall, LineEnd, whole, Line, script_of, items_of, replies_of, AreSpelt, EndsBy, IsLineOf}
 use Rattle.run_record.specs.Parts.{Places}
-use Rattle.run_record.specs.Record.{Record, list_of, calls_of, shared_in}
+use Rattle.run_record.specs.Record.{Record, calls_of, shared_in}
 
 -- the worker's two calls on the atomic, with what they answered
 pub record TwoCalls (r : Record) (first second : Reply ℕ) : Type 0 where

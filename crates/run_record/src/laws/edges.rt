@@ -4,7 +4,7 @@ ghost use Rattle.sync_model.specs.Journal.{is_such};
 ghost use Rattle.sync_model.specs.SharedLaws.{LeaveKey};
 ghost use Rattle.workload.specs.Plan.{Plan};
 ghost use Rattle.run_record.specs.Edges.{frees, takes};
-ghost use Rattle.run_record.specs.Explains.{IsLawful};
+ghost use Rattle.run_record.specs.Explains.{IsRecordOf};
 ghost use Rattle.run_record.specs.Objects.{contents_of};
 ghost use Rattle.run_record.specs.Record.{Record, ObjectEntry, journal_of, list_of, calls_of};
 
@@ -20,21 +20,21 @@ use sync_model::map_object::{MapCall, MapReply};
 /// the fronts of its calls count it, no such call has a lower place, and an entry lies below it.
 pub fn an_edge_makes_known()
     ensures counted { (plan : Plan) (r : Record) (giver taker i j k l object m n : ℕ) (known call : Item) (first second : ObjectEntry)
-        → IsLawful plan r
+        → IsRecordOf plan r
         → slice_get (list_of r giver) i ≡ Some (Made.Shared known) → i < j → slice_get (list_of r giver) j ≡ Some (Made.Entered object first)
         → slice_get (list_of r taker) k ≡ Some (Made.Entered object second) → k < l → slice_get (list_of r taker) l ≡ Some (Made.Shared call)
         → m < n → slice_get (journal_of r object) m ≡ Some first → slice_get (journal_of r object) n ≡ Some second
         → is_such frees first.deed ≡ true → is_such takes second.deed ≡ true
         → (number : ℕ) × (slice_get (calls_of r giver) number ≡ Some known) × (number < slice_index call.front giver) }
     ensures order { (plan : Plan) (r : Record) (giver taker i j k l object m n : ℕ) (known call : Item) (first second : ObjectEntry)
-        → IsLawful plan r
+        → IsRecordOf plan r
         → slice_get (list_of r giver) i ≡ Some (Made.Shared known) → i < j → slice_get (list_of r giver) j ≡ Some (Made.Entered object first)
         → slice_get (list_of r taker) k ≡ Some (Made.Entered object second) → k < l → slice_get (list_of r taker) l ≡ Some (Made.Shared call)
         → m < n → slice_get (journal_of r object) m ≡ Some first → slice_get (journal_of r object) n ≡ Some second
         → is_such frees first.deed ≡ true → is_such takes second.deed ≡ true
         → known.place ≤ call.place }
     ensures below { (plan : Plan) (r : Record) (giver taker i j k l object m n : ℕ) (known call : Item) (first second : ObjectEntry)
-        → IsLawful plan r
+        → IsRecordOf plan r
         → slice_get (list_of r giver) i ≡ Some (Made.Shared known) → i < j → slice_get (list_of r giver) j ≡ Some (Made.Entered object first)
         → slice_get (list_of r taker) k ≡ Some (Made.Entered object second) → k < l → slice_get (list_of r taker) l ≡ Some (Made.Shared call)
         → m < n → slice_get (journal_of r object) m ≡ Some first → slice_get (journal_of r object) n ≡ Some second
@@ -47,7 +47,7 @@ pub fn an_edge_makes_known()
 /// A load finds a store that lies before it, whoever made the two, unless another entry on the key stands between.
 pub fn a_load_finds_a_store_before_it()
     ensures { (plan : Plan) (r : Record) (giver taker i j m key value : ℕ) (store load : Item) (earlier between later : List SharedEntry) (entry : SharedEntry)
-        → IsLawful plan r → slice_get (calls_of r giver) i ≡ Some store → slice_get (calls_of r taker) j ≡ Some load
+        → IsRecordOf plan r → slice_get (calls_of r giver) i ≡ Some store → slice_get (calls_of r taker) j ≡ Some load
         → store.call ≡ SharedCall.Map m (MapCall.Store key value) → load.call ≡ SharedCall.Map m (MapCall.Load key)
         → r.history ≡ earlier ++ entry ∷ (between ++ later) → store.place ≡ length earlier → load.place ≡ length (earlier ++ entry ∷ between)
         → LeaveKey m key between → m < length (contents_of plan).maps
@@ -61,11 +61,11 @@ pub fn a_load_finds_a_store_before_it()
 /// between.
 pub fn a_worker_finds_its_own_store()
     ensures before { (plan : Plan) (r : Record) (worker i j m key value : ℕ) (store load : Item)
-        → IsLawful plan r → i < j → slice_get (calls_of r worker) i ≡ Some store → slice_get (calls_of r worker) j ≡ Some load
+        → IsRecordOf plan r → i < j → slice_get (calls_of r worker) i ≡ Some store → slice_get (calls_of r worker) j ≡ Some load
         → store.call ≡ SharedCall.Map m (MapCall.Store key value)
         → store.place < load.place }
     ensures found { (plan : Plan) (r : Record) (worker i j m key value : ℕ) (store load : Item) (earlier between later : List SharedEntry) (entry : SharedEntry)
-        → IsLawful plan r → i < j → slice_get (calls_of r worker) i ≡ Some store → slice_get (calls_of r worker) j ≡ Some load
+        → IsRecordOf plan r → i < j → slice_get (calls_of r worker) i ≡ Some store → slice_get (calls_of r worker) j ≡ Some load
         → store.call ≡ SharedCall.Map m (MapCall.Store key value) → load.call ≡ SharedCall.Map m (MapCall.Load key)
         → r.history ≡ earlier ++ entry ∷ (between ++ later) → store.place ≡ length earlier → load.place ≡ length (earlier ++ entry ∷ between)
         → LeaveKey m key between → m < length (contents_of plan).maps
@@ -81,7 +81,7 @@ pub fn a_worker_finds_its_own_store()
 /// stand before any of them.
 pub fn behind_an_edge_nothing_older_is_found()
     ensures { (plan : Plan) (r : Record) (giver taker i j m key value : ℕ) (store load : Item) (earlier between later : List SharedEntry) (entry : SharedEntry)
-        → IsLawful plan r → slice_get (calls_of r giver) i ≡ Some store → slice_get (calls_of r taker) j ≡ Some load
+        → IsRecordOf plan r → slice_get (calls_of r giver) i ≡ Some store → slice_get (calls_of r taker) j ≡ Some load
         → store.call ≡ SharedCall.Map m (MapCall.Store key value) → i < slice_index load.front giver
         → r.history ≡ earlier ++ entry ∷ (between ++ later) → load.place ≡ length (earlier ++ entry ∷ between) → LeaveKey m key between
         → store.place ≤ length earlier }
