@@ -1,20 +1,19 @@
 -- What an edge makes known.
-use Rattle.std.proofs.Common.{◌≡◌, ℕ, zero, suc, ◌+◌, ◌<◌, ◌≤◌, Bool, true, false, List, [], ◌∷◌, length, take, Option, Some, None, ◌⊎◌, inl, inr, get_or, slice_get, slice_index, refl, sym, ap, ◌∙◌, subst, arith}
+use Rattle.std.proofs.Common.{◌≡◌, ℕ, zero, suc, ◌<◌, ◌≤◌, true, false, List, length, take, Some, None, ◌⊎◌, inl, inr, get_or, slice_get, slice_index, sym, subst, arith}
 use Rattle.std.proofs.lemmas.Bool.{false≢true}
 use Rattle.std.proofs.lemmas.Option.{slice_get_cases, slice_get_within, get_or_from_slice_get}
 use Rattle.sync_model.specs.declared.item.Item.{Item}
-use Rattle.sync_model.specs.declared.journal.Deed.TheVariants.{Event, Refused, Halt}
+use Rattle.sync_model.specs.declared.journal.Deed.TheVariants.{Halt}
 use Rattle.sync_model.specs.declared.misuse.Misuse.{Misuse}
-use Rattle.sync_model.specs.Front.{AtLeast}
-use Rattle.sync_model.specs.Journal.{is_such, KeepsEdges}
+use Rattle.sync_model.specs.Journal.{is_such}
 use Rattle.workload.specs.declared.object.ObjectLine.{ObjectLine}
 use Rattle.workload.specs.Plan.{Plan}
 use Rattle.run_record.specs.declared.made.Made.TheVariants.{Shared, Entered}
 use Rattle.run_record.specs.Edges.{frees, takes}
-use Rattle.run_record.specs.Explains.{IsLawful}
+use Rattle.run_record.specs.Explains.{IsRecordOf}
 use Rattle.run_record.specs.Journals.{IsStops}
-use Rattle.run_record.specs.Record.{Record, ObjectEntry, stop, number_at, journal_of, list_of, calls_of, shared_in}
-use Rattle.run_record.proofs.ListLemmas.{shared_at, shared_before, get_past}
+use Rattle.run_record.specs.Record.{Record, ObjectEntry, stop, number_at, journal_of, list_of, shared_in}
+use Rattle.run_record.proofs.ListLemmas.{shared_before, get_past}
 use Rattle.run_record.proofs.ObjectJournals.{Keeps, nothing, of_kind}
 
 no_halt : (x : ObjectEntry) → (misuse : Misuse) × (x.deed ≡ Halt misuse) → is_such frees x.deed ≡ true → ⊥
@@ -27,7 +26,7 @@ of_stop journal stops i j x y before at_x at_y is_x is_y =
     let halt : (misuse : Misuse) × (x.deed ≡ Halt misuse) = subst (λ (e : ObjectEntry). (misuse : Misuse) × (e.deed ≡ Halt misuse)) (get_or_from_slice_get journal i x x at_x) (stops i x (slice_get_within journal i x at_x)) in
     absurd (no_halt x halt is_x)
 
-module _ (plan : Plan) (r : Record) (lawful : IsLawful plan r) where
+module _ (plan : Plan) (r : Record) (lawful : IsRecordOf plan r) where
   -- the edge law, of the object behind a place
   at_place : (place : ℕ) → Keeps (journal_of r (number_at place))
   at_place place = by_case (slice_get_cases plan.objects place).1 where

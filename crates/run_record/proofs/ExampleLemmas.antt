@@ -1,5 +1,5 @@
 -- The parts of what explains the example.
-use Rattle.std.proofs.Common.{◌≡◌, ℕ, zero, suc, ◌+◌, ◌<◌, ◌≤◌, ◌==◌, Bool, true, false, cond, pos, List, [], ◌∷◌, length, take, Option, Some, None, slice_get, slice_index, refl, sym, ap, ◌∙◌, subst, arith}
+use Rattle.std.proofs.Common.{◌≡◌, ℕ, zero, suc, ◌<◌, ◌≤◌, ◌==◌, Bool, true, false, cond, pos, [], ◌∷◌, length, take, Option, Some, slice_get, slice_index, refl, ap, subst, arith}
 use Rattle.std.specs.Prelude.{unwrap_or, All}
 use Rattle.std.proofs.lemmas.Bool.{false≢true, eqb-true}
 use Rattle.std.proofs.lemmas.Option.{none-some}
@@ -11,14 +11,14 @@ use Rattle.sync_model.specs.declared.item.SharedCall.TheVariants as shared
 use Rattle.sync_model.specs.declared.item.SharedEntry.{SharedEntry}
 use Rattle.sync_model.specs.Front.{AtLeast}
 use Rattle.sync_model.specs.Journal.{by}
-use Rattle.sync_model.specs.SharedCalls.{bound, Knows, IsSound, Lawful}
+use Rattle.sync_model.specs.SharedCalls.{bound, IsSound, Lawful}
 use Rattle.sync_model.specs.SharedHistory.{entries_by, marked_in}
 use Rattle.workload.specs.declared.object.ObjectLine.{ObjectLine}
 use Rattle.run_record.specs.declared.made.Made.{Made}
 use Rattle.run_record.specs.declared.made.Made.TheVariants.{Shared}
 use Rattle.run_record.specs.Calls.{IsJournalOf}
 use Rattle.run_record.specs.Example.{plan, example, store_call, load_call, store_item, load_item, entry, replies_by, done, held}
-use Rattle.run_record.specs.Explains.{IsLawful, AreLines, Explains}
+use Rattle.run_record.specs.Explains.{IsRecordOf, AreLines, Explains}
 use Rattle.run_record.specs.Lines.{Line, whole, IsLineOf}
 use Rattle.run_record.specs.Objects.{contents_of}
 use Rattle.run_record.specs.Record.{number_at, journal_of, list_of, calls_of, shared_in, entries_in, front_of}
@@ -127,7 +127,7 @@ items_rise worker i j x y before at_x at_y = two_items (λ w i x. (j : ℕ) (y :
       late (suc zero) y before at = absurd (omega (arith, before))
       late (suc (suc j)) y before at = absurd (none-some y at)
 
-lawful : IsLawful plan example
+lawful : IsRecordOf plan example
 lawful = record {
   shared = shared_lawful;
   objects = refl;

@@ -1,5 +1,5 @@
 -- Halts and refusals in journals.
-use Rattle.std.proofs.Common.{◌≡◌, ◌⊎◌, inl, inr, ℕ, zero, suc, ◌+◌, ◌<◌, ◌≤◌, Bool, true, false, List, [], ◌∷◌, map, length, get_or, Option, Some, None, slice_get, refl, sym, ap, ◌∙◌, subst, arith}
+use Rattle.std.proofs.Common.{◌≡◌, ◌⊎◌, inl, inr, ℕ, zero, suc, ◌<◌, ◌≤◌, Bool, true, false, List, [], ◌∷◌, length, get_or, Option, Some, None, slice_get, refl, sym, ap, ◌∙◌, subst, arith}
 use Rattle.std.specs.Prelude.{unwrap_or}
 use Rattle.std.proofs.lemmas.Bool.{false≢true}
 use Rattle.std.proofs.lemmas.Option.{none-some, slice_get_cases, slice_get_within, get_or_from_slice_get}
@@ -17,7 +17,7 @@ use Rattle.run_record.specs.declared.entered.ObjectEvent.TheVariants as event
 use Rattle.run_record.specs.declared.entered.ObjectReply.{ObjectReply}
 use Rattle.run_record.specs.declared.entered.ObjectReply.TheVariants as reply
 use Rattle.run_record.specs.Calls.{IsJournalOf}
-use Rattle.run_record.specs.Explains.{IsLawful}
+use Rattle.run_record.specs.Explains.{IsRecordOf}
 use Rattle.run_record.specs.Journals.{IsStops, FollowsFrom}
 use Rattle.run_record.specs.Parts.{lifted, lifted_deed}
 use Rattle.run_record.specs.Record.{Record, ObjectEntry, stop, number_at, journal_of}
@@ -123,7 +123,7 @@ of_stop m journal stops has = let at = place_of (IsRefusal m) journal has in
     let halt : (k : Misuse) × (at.1.deed ≡ Halt k) = subst (λ (e : ObjectEntry). (k : Misuse) × (e.deed ≡ Halt k)) (get_or_from_slice_get journal at.0 at.1 at.1 at.2) (stops at.0 at.1 (slice_get_within journal at.0 at.1 at.2)) in
     false≢true (ap is_refused (sym halt.1 ∙ at.3.1))
 
-module _ (plan : Plan) (r : Record) (lawful : IsLawful plan r) where
+module _ (plan : Plan) (r : Record) (lawful : IsRecordOf plan r) where
   at_place : (m : Misuse) (place : ℕ) → Has (IsRefusal m) (journal_of r (number_at place)) → Has (IsHaltBy m) (journal_of r (number_at place))
   at_place m place = by_case (slice_get_cases plan.objects place).1 where
     by_case : ((object : ObjectLine) × (place < length plan.objects) × (slice_get plan.objects place ≡ Some object) × (get_or plan.objects place object ≡ object)) ⊎ ((length plan.objects ≤ place) × (slice_get plan.objects place ≡ None)) → Has (IsRefusal m) (journal_of r (number_at place)) → Has (IsHaltBy m) (journal_of r (number_at place))

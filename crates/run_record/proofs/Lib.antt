@@ -8,3 +8,4 @@ mod LineLemmas
 mod ListLemmas
 mod ObjectJournals
 mod PartLemmas
+mod TwoCalls

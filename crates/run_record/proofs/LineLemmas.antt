@@ -1,24 +1,22 @@
 -- The lines of a record: where halts and refusals stand in them.
-use Rattle.std.proofs.Common.{◌≡◌, ◌⊎◌, inl, inr, ℕ, ◌+◌, ◌<◌, List, [], ◌∷◌, ◌++◌, map, length, get_or, Option, Some, None, slice_get, refl, sym, ap, ◌∙◌, subst}
+use Rattle.std.proofs.Common.{◌≡◌, ◌⊎◌, inl, inr, ℕ, ◌+◌, List, [], ◌∷◌, ◌++◌, length, get_or, Some, None, slice_get, refl, sym, ap, ◌∙◌, subst}
 use Rattle.std.specs.Prelude.{All, Ok, Err}
 use Rattle.std.specs.List.{flat_map}
-use Rattle.std.proofs.lemmas.Bool.{false≢true}
 use Rattle.std.proofs.lemmas.Option.{none-some, slice_get_within, get_or_from_slice_get, slice_get-get_or}
 use Rattle.sync_model.specs.declared.answer.Answer.TheVariants.{Done, Halted}
 use Rattle.sync_model.specs.declared.call.Call.{Call}
 use Rattle.sync_model.specs.declared.journal.Deed.{Deed}
-use Rattle.sync_model.specs.declared.journal.Deed.TheVariants.{Event, Refused, Halt}
 use Rattle.sync_model.specs.declared.misuse.Misuse.{Misuse}
 use Rattle.sync_model.specs.declared.outcome.Outcome.{Outcome}
-use Rattle.sync_model.specs.Journal.{by, halt_of}
+use Rattle.sync_model.specs.Journal.{halt_of}
 use Rattle.workload.specs.Plan.{Plan}
 use Rattle.run_record.specs.declared.entered.ObjectEvent.{ObjectEvent}
 use Rattle.run_record.specs.declared.entered.ObjectReply.{ObjectReply}
 use Rattle.run_record.specs.declared.made.Made.{Made}
 use Rattle.run_record.specs.declared.made.Made.TheVariants.{Shared, Entered}
-use Rattle.run_record.specs.Explains.{IsLawful, AreLines, HasEnded}
+use Rattle.run_record.specs.Explains.{IsRecordOf, AreLines, HasEnded}
 use Rattle.run_record.specs.Lines.{SpeltCall, LineEnd, whole, misused, halted, unfinished, Line, items_of, IsHalt, HaltsStop, AreSpelt, EndsBy, IsLineOf}
-use Rattle.run_record.specs.Record.{Record, ObjectEntry, stop, journal_of, list_of, shared_in, entries_in}
+use Rattle.run_record.specs.Record.{Record, ObjectEntry, stop, journal_of, list_of, shared_in}
 use Rattle.run_record.proofs.CallLemmas.{AllEndAlike, of_call}
 use Rattle.run_record.proofs.HaltLemmas.{IsHaltBy, misuse_in, halted_has, unhalted_has, refusal_has}
 use Rattle.run_record.proofs.Having.{Has, Each, OfEntry, has_either, has_right, each_both, each_left, place_of, has_by, by_has, has_entered, entered_in, some_object, has_in, get_at}
@@ -86,7 +84,7 @@ module _ (alike : AllEndAlike) (plan : Plan) (worker : ℕ) where
 abbrev pub MetMisuse : List Line → ℕ → Misuse → Type 0
 MetMisuse lines worker misuse = (line : Line) × (slice_get lines worker ≡ Some line) × (line.ending ≡ misused misuse)
 
-module _ (alike : AllEndAlike) (plan : Plan) (r : Record) (outcome : Outcome) (lines : List Line) (are : AreLines plan r outcome lines) (lawful : IsLawful plan r) where
+module _ (alike : AllEndAlike) (plan : Plan) (r : Record) (outcome : Outcome) (lines : List Line) (are : AreLines plan r outcome lines) (lawful : IsRecordOf plan r) where
   -- each worker's list is its line's
   list_at : (worker : ℕ) (line : Line) → slice_get lines worker ≡ Some line → list_of r worker ≡ items_of line
   list_at worker line at = ap (λ (lists : List (List Made)). get_or lists worker []) (sym are.lists) ∙ get_at items_of [] lines worker line at

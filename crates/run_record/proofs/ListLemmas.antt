@@ -1,5 +1,6 @@
 -- Items of lists.
-use Rattle.std.proofs.Common.{◌≡◌, ℕ, zero, suc, ◌+◌, ◌<◌, ◌≤◌, List, [], ◌∷◌, ◌++◌, length, get_or, take, Option, Some, None, slice_get, refl, sym, ap, ◌∙◌, subst, arith}
+use Rattle.std.proofs.Common.{◌≡◌, ℕ, zero, suc, ◌<◌, ◌≤◌, List, [], ◌∷◌, ◌++◌, length, get_or, take, Option, Some, None, slice_get, refl, ap, arith}
+use Rattle.std.specs.Prelude.{unwrap_or}
 use Rattle.std.proofs.lemmas.Option.{none-some}
 use Rattle.sync_model.specs.declared.item.Item.{Item}
 use Rattle.run_record.specs.declared.made.Made.{Made}
@@ -48,3 +49,15 @@ module _ {A : Type 0} where
   pub at_length : (xs ys : List A) (y : A) → slice_get (xs ++ y ∷ ys) (length xs) ≡ Some y
   at_length [] ys y = refl
   at_length (x ∷ xs) ys y = at_length xs ys y
+
+  left_at : (ys zs : List A) (q : ℕ) (e : A) → slice_get (ys ++ zs) q ≡ Some e → q < length ys → get_or ys q e ≡ e
+  left_at [] zs q e at within = absurd (omega (arith, within))
+  left_at (y ∷ ys) zs zero e at within = ap (λ (o : Option A). unwrap_or o e) at
+  left_at (y ∷ ys) zs (suc q) e at within = left_at ys zs q e at (omega (arith, within))
+
+  -- what stands behind an item, and before the end of the items behind it, is one of these
+  pub between_at : (xs ys zs : List A) (y e : A) (p : ℕ) → slice_get (xs ++ y ∷ (ys ++ zs)) p ≡ Some e → length xs < p → p < length (xs ++ y ∷ ys) → (q : ℕ) × (q < length ys) × (get_or ys q e ≡ e)
+  between_at [] ys zs y e zero at behind before = absurd (omega (arith, behind))
+  between_at [] ys zs y e (suc q) at behind before = let within : q < length ys = omega (arith, before) in (q, within, left_at ys zs q e at within)
+  between_at (x ∷ xs) ys zs y e zero at behind before = absurd (omega (arith, behind))
+  between_at (x ∷ xs) ys zs y e (suc p) at behind before = between_at xs ys zs y e p at (omega (arith, behind)) (omega (arith, before))

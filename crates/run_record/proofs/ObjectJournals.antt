@@ -1,25 +1,18 @@
 -- The journals of all objects of a record.
-use Rattle.std.proofs.Common.{◌≡◌, ℕ, zero, suc, ◌+◌, ◌<◌, ◌≤◌, Bool, true, false, List, [], ◌∷◌, length, map, Option, Some, None, slice_get, refl, sym, ap, ◌∙◌, subst, arith}
-use Rattle.std.proofs.lemmas.Option.{none-some, slice_get_within}
-use Rattle.std.specs.Prelude.{All}
-use Rattle.sync_model.specs.declared.journal.Deed.TheVariants.{Event, Refused, Halt}
-use Rattle.sync_model.specs.declared.misuse.Misuse.{Misuse}
-use Rattle.sync_model.specs.Journal.{is_such, KeepsEdges}
+use Rattle.std.proofs.Common.{◌≡◌, ℕ, List, [], Some, slice_get, sym, subst}
+use Rattle.std.proofs.lemmas.Option.{none-some}
+use Rattle.sync_model.specs.Journal.{KeepsEdges}
 use Rattle.workload.specs.declared.object.ObjectKind.{ObjectKind}
 use Rattle.workload.specs.declared.object.ObjectKind.TheVariants as kinds
 use Rattle.workload.specs.declared.object.ObjectLine.{ObjectLine}
 use Rattle.workload.specs.Plan.{Plan}
-use Rattle.run_record.specs.declared.entered.ObjectEvent.{ObjectEvent}
 use Rattle.run_record.specs.declared.entered.ObjectEvent.TheVariants as event
-use Rattle.run_record.specs.declared.entered.ObjectReply.{ObjectReply}
 use Rattle.run_record.specs.declared.entered.ObjectReply.TheVariants as reply
 use Rattle.run_record.specs.Calls.{IsJournalOf}
 use Rattle.run_record.specs.Edges.{frees, takes}
-use Rattle.run_record.specs.Explains.{IsLawful}
-use Rattle.run_record.specs.Journals.{IsStops}
-use Rattle.run_record.specs.Record.{Record, ObjectEntry, stop, number_at, journal_of}
+use Rattle.run_record.specs.Explains.{IsRecordOf}
+use Rattle.run_record.specs.Record.{Record, ObjectEntry, number_at, journal_of}
 use Rattle.run_record.proofs.Lifts.{edges_lifted}
-use Rattle.run_record.proofs.ListLemmas.{get_past}
 
 abbrev pub Keeps : List ObjectEntry → Type 0
 Keeps journal = KeepsEdges frees takes journal
@@ -45,5 +38,5 @@ of_kind plan place (kinds.OnceValue value) journal is = from is.1 (edges_lifted 
 of_kind plan place kinds.Pool journal is = from is.1 (edges_lifted event.Pool reply.Pool frees takes is.0 is.3)
 
 -- the journal of an object of a known kind
-pub journal_at : (plan : Plan) (r : Record) (place : ℕ) (object : ObjectLine) (kind : ObjectKind) → IsLawful plan r → slice_get plan.objects place ≡ Some object → object.kind ≡ kind → IsJournalOf plan place kind (journal_of r (number_at place))
+pub journal_at : (plan : Plan) (r : Record) (place : ℕ) (object : ObjectLine) (kind : ObjectKind) → IsRecordOf plan r → slice_get plan.objects place ≡ Some object → object.kind ≡ kind → IsJournalOf plan place kind (journal_of r (number_at place))
 journal_at plan r place object kind lawful some is = subst (λ (k : ObjectKind). IsJournalOf plan place k (journal_of r (number_at place))) is (lawful.journals place object some)

@@ -1,7 +1,6 @@
 -- What the items of a call are: none is a halt, and one was refused where the call was halted.
-use Rattle.std.proofs.Common.{◌≡◌, ◌⊎◌, inl, inr, ℕ, List, [], ◌∷◌, ◌++◌, map, refl, sym, ap, ◌∙◌, subst}
-use Rattle.std.specs.Prelude.{Result, Ok, Err}
-use Rattle.sync_model.specs.declared.answer.Answer.{Answer}
+use Rattle.std.proofs.Common.{◌≡◌, inl, inr, ℕ, List, [], ◌∷◌, ◌++◌, map, sym, ap, subst}
+use Rattle.std.specs.Prelude.{Ok, Err}
 use Rattle.sync_model.specs.declared.answer.Answer.TheVariants.{Done, Halted}
 use Rattle.sync_model.specs.declared.item.Item.{Item}
 use Rattle.sync_model.specs.declared.item.SharedCall.{SharedCall}

@@ -1,5 +1,5 @@
 -- A small workload, what a run of it comes to, and a record that explains that. One worker stores 5 in an int64 and loads it.
-use Rattle.std.specs.Prelude.{ℕ, pos, true, false, List, [], ◌∷◌}
+use Rattle.std.specs.Prelude.{ℕ, pos, true, false, [], ◌∷◌}
 use Rattle.sync_model.specs.declared.atomic_object.AtomicCall.TheVariants as calls
 use Rattle.sync_model.specs.declared.atomic_object.AtomicKind.TheVariants as types
 use Rattle.sync_model.specs.declared.atomic_object.AtomicReply.TheVariants as answers

@@ -1,6 +1,5 @@
 -- When a record explains the outcome of a run of a workload.
-use Rattle.std.specs.Prelude.{◌≡◌, ℕ, ◌+◌, ◌<◌, ◌≤◌, List, [], map, length, take, All, Some, slice_get, slice_index}
-use Rattle.sync_model.specs.declared.misuse.Misuse.{Misuse}
+use Rattle.std.specs.Prelude.{◌≡◌, ℕ, ◌<◌, ◌≤◌, List, [], map, length, take, All, Some, slice_get, slice_index}
 use Rattle.sync_model.specs.declared.outcome.Outcome.{Outcome}
 use Rattle.sync_model.specs.declared.outcome.Outcome.TheVariants.{Done, Misused, Deadlocked}
 use Rattle.sync_model.specs.Front.{AtLeast}
@@ -24,7 +23,7 @@ pub record KeepsFronts (r : Record) : Type 0 where
   pub made : (worker i other : ℕ) (x : Made) → slice_get (list_of r worker) i ≡ Some x → slice_index (front_of x) other ≤ length (calls_of r other)
 
 -- the record is a lawful one of the workload's objects, whoever calls them
-pub record IsLawful (plan : Plan) (r : Record) : Type 0 where
+pub record IsRecordOf (plan : Plan) (r : Record) : Type 0 where
   -- the history is legal, and the workers' own calls on maps and atomics explain it: the front law and the Range law are among this
   pub shared : Lawful (contents_of plan) r.history (calls_of r)
   pub objects : length r.journals ≡ number_at (length plan.objects)
@@ -58,5 +57,5 @@ Agrees plan r lines (Deadlocked left) = ⊥
 pub record Explains (plan : Plan) (outcome : Outcome) (r : Record) : Type 0 where
   pub lines : List Line
   pub are : AreLines plan r outcome lines
-  pub lawful : IsLawful plan r
+  pub lawful : IsRecordOf plan r
   pub agrees : Agrees plan r lines outcome

@@ -1,8 +1,8 @@
 //! How a run ends. A misuse ends it by halts, and nothing else halts an object.
-ghost use Rattle.std.specs.Prelude.{◌≡◌, ◌≢◌, ℕ, List, All, Some, None, slice_get};
+ghost use Rattle.std.specs.Prelude.{◌≡◌, ◌≢◌, ℕ, List, map, length, All, Some, None, slice_get};
 ghost use Rattle.sync_model.specs.Journal.{halt_of};
 ghost use Rattle.workload.specs.Plan.{Plan};
-ghost use Rattle.run_record.specs.Explains.{AreLines, IsLawful, HasEnded, Explains};
+ghost use Rattle.run_record.specs.Explains.{AreLines, IsRecordOf, HasEnded, Explains};
 ghost use Rattle.run_record.specs.Lines.{Line, whole, misused, HaltsStop};
 ghost use Rattle.run_record.specs.Record.{Record, ObjectEntry, stop, journal_of};
 
@@ -16,7 +16,7 @@ use wait_cores::{GroupCore, NotifyCore, OnceCore};
 /// Each halt is by a worker whose list ends in the misuse by which it halts.
 pub fn a_halt_follows_a_misuse()
     ensures { (plan : Plan) (r : Record) (outcome : Outcome) (lines : List Line) (object n : ℕ) (entry : ObjectEntry) (misuse : Misuse)
-        → AreLines plan r outcome lines → IsLawful plan r → slice_get (journal_of r object) n ≡ Some entry → entry.deed ≡ Deed.Halt misuse
+        → AreLines plan r outcome lines → IsRecordOf plan r → slice_get (journal_of r object) n ≡ Some entry → entry.deed ≡ Deed.Halt misuse
         → (line : Line) × (slice_get lines entry.caller ≡ Some line) × (line.ending ≡ misused misuse) }
 {
     endings::<MutexCore>();
@@ -33,11 +33,11 @@ pub fn a_halt_follows_a_misuse()
 /// the misuse that halted it first.
 pub fn stop_says_how_a_run_ended()
     ensures done { (plan : Plan) (r : Record) (outcome : Outcome) (lines : List Line)
-        → AreLines plan r outcome lines → IsLawful plan r → All (λ line. HasEnded line.ending) lines
+        → AreLines plan r outcome lines → IsRecordOf plan r → All (λ line. HasEnded line.ending) lines
         → ((worker : ℕ) (line : Line) → slice_get lines worker ≡ Some line → HaltsStop line)
         → halt_of (journal_of r stop) ≡ None → All (λ line. line.ending ≡ whole) lines }
     ensures misused { (plan : Plan) (r : Record) (outcome : Outcome) (lines : List Line) (misuse : Misuse)
-        → AreLines plan r outcome lines → IsLawful plan r → halt_of (journal_of r stop) ≡ Some misuse
+        → AreLines plan r outcome lines → IsRecordOf plan r → halt_of (journal_of r stop) ≡ Some misuse
         → (worker : ℕ) × (line : Line) × (slice_get lines worker ≡ Some line) × (line.ending ≡ misused misuse) }
 {
     endings::<MutexCore>();
@@ -60,3 +60,8 @@ pub fn a_run_is_done_unless_it_was_misused()
 {
     stop_says_how_a_run_ended();
 }
+
+/// A run that is done has answered each call of each script, once.
+pub fn a_run_that_is_done_answers_each_call()
+    ensures { (plan : Plan) (r : Record) (left : Report) → Explains plan (Outcome.Done left) r → map length left.replies ≡ map length plan.scripts }
+{}

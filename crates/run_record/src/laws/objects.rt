@@ -6,7 +6,7 @@ ghost use Rattle.mutex_core.specs.Exclusion.{TakesTurns};
 ghost use Rattle.wait_cores.specs.OnceLaws as once;
 ghost use Rattle.pool_core.specs.PoolLaws as pool;
 ghost use Rattle.workload.specs.Plan.{Plan};
-ghost use Rattle.run_record.specs.Explains.{IsLawful};
+ghost use Rattle.run_record.specs.Explains.{IsRecordOf};
 ghost use Rattle.run_record.specs.Logs.{Shows};
 ghost use Rattle.run_record.specs.Record.{Record, number_at, journal_of};
 
@@ -21,7 +21,7 @@ use workload::{ObjectKind, ObjectLine};
 /// unlock while nobody has it is no more than a misuse.
 pub fn a_mutex_is_held_by_one()
     ensures { (plan : Plan) (r : Record) (place : ℕ) (object : ObjectLine)
-        → IsLawful plan r → slice_get plan.objects place ≡ Some object → object.kind ≡ ObjectKind.Mutex
+        → IsRecordOf plan r → slice_get plan.objects place ≡ Some object → object.kind ≡ ObjectKind.Mutex
         → (log : mutex.Log) × Shows ObjectEvent.Mutex ObjectReply.Mutex (journal_of r (number_at place)) log × TakesTurns false log }
 {
     journal_is_log::<MutexCore>();
@@ -32,13 +32,13 @@ pub fn a_mutex_is_held_by_one()
 /// `OnceValue`.
 pub fn a_function_runs_once()
     ensures once { (plan : Plan) (r : Record) (place atomic : ℕ) (delta : ℤ) (object : ObjectLine)
-        → IsLawful plan r → slice_get plan.objects place ≡ Some object → object.kind ≡ ObjectKind.Once atomic delta
+        → IsRecordOf plan r → slice_get plan.objects place ≡ Some object → object.kind ≡ ObjectKind.Once atomic delta
         → (log : once.Log ℤ) × Shows ObjectEvent.Once ObjectReply.Once (journal_of r (number_at place)) log × (count_by once.begins log ≤ 1) }
     ensures func { (plan : Plan) (r : Record) (place code : ℕ) (object : ObjectLine)
-        → IsLawful plan r → slice_get plan.objects place ≡ Some object → object.kind ≡ ObjectKind.OnceFunc code
+        → IsRecordOf plan r → slice_get plan.objects place ≡ Some object → object.kind ≡ ObjectKind.OnceFunc code
         → (log : once.Log ℕ) × Shows ObjectEvent.OnceFunc ObjectReply.OnceFunc (journal_of r (number_at place)) log × (count_by once.begins log ≤ 1) }
     ensures value { (plan : Plan) (r : Record) (place value : ℕ) (object : ObjectLine)
-        → IsLawful plan r → slice_get plan.objects place ≡ Some object → object.kind ≡ ObjectKind.OnceValue value
+        → IsRecordOf plan r → slice_get plan.objects place ≡ Some object → object.kind ≡ ObjectKind.OnceValue value
         → (log : once.Log ℕ) × Shows ObjectEvent.OnceValue ObjectReply.OnceValue (journal_of r (number_at place)) log × (count_by once.begins log ≤ 1) }
 {
     journal_is_log::<OnceCore<i64>>();
@@ -53,7 +53,7 @@ pub fn a_function_runs_once()
 /// between.
 pub fn each_item_got_was_put()
     ensures { (plan : Plan) (r : Record) (place : ℕ) (object : ObjectLine)
-        → IsLawful plan r → slice_get plan.objects place ≡ Some object → object.kind ≡ ObjectKind.Pool
+        → IsRecordOf plan r → slice_get plan.objects place ≡ Some object → object.kind ≡ ObjectKind.Pool
         → (log : pool.Log ℕ) × Shows ObjectEvent.Pool ObjectReply.Pool (journal_of r (number_at place)) log × (origin : ℕ → ℕ) × pool.ComeFrom log origin }
 {
     journal_is_log::<PoolCore>();

@@ -16,3 +16,10 @@ returns-clause-below c plan r giver taker i j k l object m n known call first se
     c.a_call_lies_behind_what_its_caller_knew.ensures.below (contents_of plan) r.history (calls_of r) taker giver (length (shared_in (take i (list_of r giver)))) (length (shared_in (take l (list_of r taker)))) known call
     lawful.shared (shared_at (list_of r giver) i known at_known) (shared_at (list_of r taker) l call at_call)
     (counted plan r lawful giver taker i j k l object m n known call first second at_known earlier at_first at_second later at_call before in_first in_second gives takes_in) entry
+
+pub returns-clause-counted : goal.returns-clause-counted
+returns-clause-counted c plan r giver taker i j k l object m n known call first second lawful at_known earlier at_first at_second later at_call before in_first in_second gives takes_in = (
+  length (shared_in (take i (list_of r giver))),
+  shared_at (list_of r giver) i known at_known,
+  counted plan r lawful giver taker i j k l object m n known call first second at_known earlier at_first at_second later at_call before in_first in_second gives takes_in,
+)
