@@ -1,6 +1,7 @@
 //! Plain maps and atomics: one machine with the maps in slots.
 #![tactic(auto)]
 
+pub mod cursor;
 pub mod event;
 pub mod laws;
 pub mod machine;
@@ -8,11 +9,14 @@ pub mod mark;
 mod new;
 mod one_event;
 pub mod plain;
-mod plain_calls;
+mod reply_parts;
+mod settling;
+mod shared;
 mod slots;
 pub mod state;
 mod taking;
 
+pub use cursor::Cursor;
 pub use event::{Answered, Event};
 pub use machine::PlainMachine;
 pub use mark::Mark;
