@@ -24,7 +24,7 @@ use Rattle.shared_plain.specs.PlainMachine.{Holdings, contents_of, call_of, next
 use Rattle.shared_plain.specs.PlainHistory.{Step, call_in, entered, history_of, count_of, front_of, item_at, listed, items_from, items_by}
 use Rattle.shared_plain.proofs.Histories.{Unseen, Was, a_call, is_history}
 use Rattle.shared_plain.proofs.Items.{Made, history-append, items-append, marks}
-use Rattle.shared_plain.proofs.Passing.{by-append, rises, kept_items}
+use Rattle.shared_plain.proofs.Passing.{by-append, rises, kept_items, take_front}
 
 -- the last entry of a journal is right after those before it
 record Last (halts : Bool) (s : Holdings) (h : Option Misuse) (front : List Step) (x : Step) : Type 0 where
@@ -35,11 +35,6 @@ last_right : (halts : Bool) (s : Holdings) (h : Option Misuse) (front : List Ste
 last_right halts s h [] x follows = record { before = tt; right = follows.0 }
 last_right halts s h (y ∷ ys) x follows =
     let rest = last_right halts (state_next next s y.caller y.deed) (halt_next h y.deed) ys x follows.1 in record { before = (follows.0, rest.before); right = rest.right }
-
-take_front : {A : Type 0} (xs ys : List A) → take (length xs) (xs ++ ys) ≡ xs
-take_front [] [] = refl
-take_front [] (y ∷ ys) = refl
-take_front (x ∷ xs) ys = ap (λ l. x ∷ l) (take_front xs ys)
 
 at_length : {A : Type 0} (xs : List A) (x : A) (ys : List A) → slice_get (xs ++ x ∷ ys) (length xs) ≡ Some x
 at_length [] x ys = refl

@@ -1,6 +1,6 @@
 -- What a cursor's step shows.
 use Rattle.std.proofs.Common.{◌≡◌, false, ℕ, zero, suc, ◌+◌, ◌-◌, ◌<◌, ◌≤◌, List, [], ◌∷◌, drop, length, get_or, slice_get, Option, Some, None, refl, sym, ap, ◌∙◌, subst, arith}
-use Rattle.std.proofs.lemmas.List.{get_or-drop}
+use Rattle.std.proofs.lemmas.List.{get_or-drop, length-drop}
 use Rattle.std.specs.FinMap.{get}
 use Rattle.sync_model.specs.declared.item.SharedReply.TheVariants.{Shown}
 use Rattle.sync_model.specs.SharedHistory.{value_at}
@@ -62,3 +62,18 @@ none_from h m from (Some slots) answered at_m is reply key least =
     let same : next_pair from slots ≡ None = shown_is (next_pair from slots) answered None is reply in
     let gap : key ≡ from + (key - from) = omega arith in
     ap (value_at (contents_of h) m) gap ∙ (value_from h m from (key - from) slots at_m ∙ no_pair from (drop from slots) same (key - from))
+
+pair_within : (n : ℕ) (slots : List (Option ℕ)) (key value : ℕ) → pair_from n slots ≡ Some (key, value) → key < n + length slots
+pair_within n [] key value e = (cc)
+pair_within n (None ∷ slots) key value e = let rest = pair_within (n + 1) slots key value e in omega arith
+pair_within n (Some v ∷ slots) key value e = let k : n ≡ key = ap (λ (p : ℕ × ℕ). p.0) (some_is (n, v) (key, value) e) in omega arith
+
+-- a key that is shown has a slot
+pub cursor_within : (from : ℕ) (found : Option (List (Option ℕ))) (answered : Answered) (key value keys : ℕ) → ((slots : List (Option ℕ)) → found ≡ Some slots → length slots ≡ keys)
+    → cursor_next from found ≡ Some answered → answered.reply ≡ Shown (Some (key, value)) → key < keys
+cursor_within from None answered key value keys long is reply = (cc)
+cursor_within from (Some slots) answered key value keys long is reply =
+    let pair : next_pair from slots ≡ Some (key, value) = shown_is (next_pair from slots) answered (Some (key, value)) is reply in
+    let first = (first_pair from (drop from slots) key value pair).is in
+    let inside = pair_within from (drop from slots) key value pair in
+    let rest = length-drop from slots in let same = long slots refl in omega arith

@@ -1,10 +1,12 @@
 pub mod Beginnings
+pub mod Begun
 pub mod Calling
 pub mod Cursors
 pub mod FirstCallers
 pub mod Fitting
 pub mod Histories
 pub mod Items
+pub mod Orders
 pub mod Passing
 pub mod Replies
 pub mod SlotMaps

@@ -43,9 +43,9 @@ pub(crate) fn next_number<R: Wait>(rt: &R, done: u64) -> u64
     unreachable!()
 }
 
-// Where a cursor stands that stood at `from` and showed this.
-pub(crate) fn behind(from: u32, shown: Option<(u32, u64)>) -> u32
-    requires { (key value : ℕ) → shown ≡ Some (key, value) → key + 1 < 2 ^ 32 }
+// Where a cursor over keys below `keys` stands that stood at `from` and showed this.
+pub(crate) fn behind(from: u32, shown: Option<(u32, u64)>, keys: u32) -> u32
+    requires { (key value : ℕ) → shown ≡ Some (key, value) → key < keys }
     ensures { result ≡ spot_behind shown from }
 {
     match shown {

@@ -1,5 +1,5 @@
 //! One event of a caller is one shared call.
-ghost use Rattle.std.specs.Prelude.{◌≡◌, ℕ, ◌<◌, ◌≤◌, true, IsSome, Some};
+ghost use Rattle.std.specs.Prelude.{◌≡◌, ◌≢◌, ℕ, ◌+◌, ◌-◌, ◌^◌, ◌<◌, ◌≤◌, true, IsSome, Some};
 ghost use Rattle.sync_model.specs.Note.{SameHome};
 ghost use Rattle.sync_model.specs.Shared.{Called, items_of, state_of};
 ghost use Rattle.ruled_object.specs.Passes.{start_of};
@@ -38,7 +38,7 @@ impl Plain {
         maps_and_atomics_stay();
         passes_and_copies::<PlainMachine, NoNote>();
         mark.spare -= cost;
-        mark.done = mark.done.saturating_add(1);
+        mark.done = one_more(mark.done);
         match self
             .object
             .call(rt, &(), &mut mark.pass, &mut NoNote, event)
@@ -48,4 +48,11 @@ impl Plain {
             Answer::Halted(_) => unreachable!(),
         }
     }
+}
+
+// A count of calls after one more: it stays at the type's last value.
+fn one_more(done: u64) -> u64
+    ensures { result ≢ 2 ^ 64 - 1 → (done ≢ 2 ^ 64 - 1) × (result ≡ done + 1) }
+{
+    done.saturating_add(1)
 }

@@ -88,7 +88,7 @@ impl Shared for Plain {
         starts_empty();
         let answered = self.event(rt, &mut caller.note, cursor.step(), 0);
         let shown = in_shown(answered.reply);
-        cursor.from = behind(cursor.from, shown);
+        cursor.from = behind(cursor.from, shown, self.keys);
         shown
     }
 
