@@ -2,6 +2,7 @@ pub mod Beginnings
 pub mod Begun
 pub mod Calling
 pub mod Cursors
+pub mod Explained
 pub mod FirstCallers
 pub mod Fitting
 pub mod Histories
@@ -12,3 +13,4 @@ pub mod Replies
 pub mod SlotMaps
 pub mod Steps
 pub mod TakenCalls
+pub mod Walking
