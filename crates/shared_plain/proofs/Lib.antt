@@ -5,6 +5,7 @@ pub mod Cursors
 pub mod Explained
 pub mod FirstCallers
 pub mod Fitting
+pub mod Gathered
 pub mod Histories
 pub mod Items
 pub mod Orders

@@ -14,6 +14,7 @@ use crate::machine::PlainMachine;
 use crate::mark::Mark;
 use crate::plain::Plain;
 use ruled_object::AssemblyOf;
+use ruled_object::laws::passes_and_copies;
 use sync_model::{Caller, NoNote};
 
 impl Plain {
@@ -23,6 +24,7 @@ impl Plain {
         ensures all { Brought self.now.object (passes_in callers.old) result }
         ensures callers { AreSameMarks callers.old callers.new }
     {
+        passes_and_copies::<PlainMachine, NoNote>();
         let mut all = self.object.assembly();
         for caller in callers.iter_mut() {
             self.object.bring(&mut all, &mut caller.note.pass);
