@@ -1,6 +1,6 @@
 -- All callers' notes, one after the other.
 use Rattle.std.proofs.Common.{◌≡◌, ◌≢◌, ℕ, zero, suc, ◌+◌, ◌<◌, ◌≤◌, List, [], ◌∷◌, ◌++◌, map, take, length, length-set, set, slice_get, Option, Some, None, refl, sym, ap, ◌∙◌, subst, arith}
-use Rattle.std.proofs.lemmas.Option.{same_Some}
+use Rattle.std.proofs.lemmas.Option.{slice_get_within}
 use Rattle.std.specs.Prelude.{IsSome}
 use mathlib.Core.Logic.{dite}
 use native.Mathlib.Decide.{ℕ_discrete}
@@ -86,4 +86,17 @@ marks_on old list i before after at_i one same = record {
       (λ is. let first = some_is before b (sym at_i ∙ (ap (slice_get old) (sym is) ∙ at_b)) in let second = set_same list i after a (ap (slice_get (set list i after)) (sym is) ∙ at_a) in
       subst (λ (c : Caller Mark). IsSameMark c.note a.note) first (subst (λ (c : Caller Mark). IsSameMark before.note c.note) second one))
       (λ ne. same.each k b a at_b (sym (set_other list i k after ne) ∙ at_a));
+}
+
+-- the same callers after two changes
+pub marks_joined : (first second third : List (Caller Mark)) → AreSameMarks first second → AreSameMarks second third → AreSameMarks first third
+marks_joined first second third one two = record {
+  count = two.count ∙ one.count;
+  each = λ i before after at_b at_a.
+      let long = one.count in
+      let within = slice_get_within first i before at_b in
+      let middle = item_there second i (omega arith) in
+      let a = one.each i before middle.0 at_b middle.1 in
+      let b = two.each i middle.0 after middle.1 at_a in
+      record { number = b.number ∙ a.number; callers = b.callers ∙ a.callers; spare = b.spare ∙ a.spare; done = b.done ∙ a.done };
 }

@@ -1,3 +1,4 @@
+pub mod AllSettled
 pub mod Beginnings
 pub mod Begun
 pub mod Calling

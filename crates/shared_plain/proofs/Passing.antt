@@ -29,7 +29,7 @@ by-append c (x ∷ xs) ys = by_caller (eqb x.caller c) (by-append c xs ys)
     by_caller false same = same
 
 -- a caller without entries has no calls
-no_items : (n c : ℕ) (before xs : List Step) → by c xs ≡ [] → items_from n c before xs ≡ []
+pub no_items : (n c : ℕ) (before xs : List Step) → by c xs ≡ [] → items_from n c before xs ≡ []
 no_items n c before [] none = refl
 no_items n c before (x ∷ xs) none = by_caller (eqb x.caller c) refl none (λ e. no_items n c (before ++ x ∷ []) xs e)
   where

@@ -13,10 +13,10 @@ use crate::machine::PlainMachine;
 use crate::mark::Mark;
 use crate::plain::Plain;
 use crate::reply_parts::{cost_of, in_atomic, in_map};
-use ruled_object::laws::{all_handed_back, passes_and_copies};
+use ruled_object::laws::passes_and_copies;
 use std::sync::Wait;
 use sync_model::laws::shared_steps::{
-    histories_go_on, maps_and_atomics_stay, one_more_call_keeps_the_law, what_was_so_stays_so,
+    fronts_stay_known, histories_go_on, maps_and_atomics_stay, one_more_call_keeps_the_law, what_was_so_stays_so,
 };
 use sync_model::{AtomicCall, AtomicReply, Caller, MapCall, MapReply, NoNote, Note, Shared};
 
@@ -95,7 +95,7 @@ impl Shared for Plain {
     fn settle(&self, callers: &mut [Caller<Mark>]) {
         starts_empty();
         passes_and_copies::<PlainMachine, NoNote>();
-        all_handed_back::<PlainMachine, NoNote>();
+        fronts_stay_known();
         histories_go_on();
         maps_and_atomics_stay();
         one_more_call_keeps_the_law();
