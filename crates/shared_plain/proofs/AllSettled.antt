@@ -32,12 +32,12 @@ use Rattle.shared_plain.proofs.Orders.{keeps_on}
 use Rattle.shared_plain.proofs.Passing.{rises, kept_items, no_items, same_own}
 use Rattle.shared_plain.proofs.Walking.{Laws, Walks}
 
-calls_at : (callers : List (Caller Mark)) (c : ℕ) (caller : Caller Mark) → slice_get callers c ≡ Some caller → calls_of own_by callers c ≡ items_of (own_by caller.note)
+pub calls_at : (callers : List (Caller Mark)) (c : ℕ) (caller : Caller Mark) → slice_get callers c ≡ Some caller → calls_of own_by callers c ≡ items_of (own_by caller.note)
 calls_at [] c caller at = (cc)
 calls_at (x ∷ xs) zero caller at = ap (λ (y : Caller Mark). items_of (own_by y.note)) (same_Some x caller at)
 calls_at (x ∷ xs) (suc c) caller at = calls_at xs c caller at
 
-calls_past : (callers : List (Caller Mark)) (c : ℕ) → length callers ≤ c → calls_of own_by callers c ≡ []
+pub calls_past : (callers : List (Caller Mark)) (c : ℕ) → length callers ≤ c → calls_of own_by callers c ≡ []
 calls_past [] c past = refl
 calls_past (x ∷ xs) zero past = absurd (omega arith)
 calls_past (x ∷ xs) (suc c) past = calls_past xs c (omega arith)

@@ -5,6 +5,7 @@ use Rattle.std.specs.FinMap.{get}
 use Rattle.sync_model.specs.declared.item.SharedReply.TheVariants.{Shown}
 use Rattle.sync_model.specs.SharedHistory.{value_at}
 use Rattle.shared_plain.specs.declared.event.Answered.{Answered}
+use Rattle.shared_plain.specs.EndsOfHistory.{IsNextPair}
 use Rattle.shared_plain.specs.Slots.{map_of, pair_from, next_pair}
 use Rattle.shared_plain.specs.PlainMachine.{Holdings, contents_of, cursor_next}
 use Rattle.shared_plain.proofs.SlotMaps.{answer, get-map_of}
@@ -77,3 +78,8 @@ cursor_within from (Some slots) answered key value keys long is reply =
     let first = (first_pair from (drop from slots) key value pair).is in
     let inside = pair_within from (drop from slots) key value pair in
     let rest = length-drop from slots in let same = long slots refl in omega arith
+
+-- what the slots of a map show next is what the map does
+pub pair_is : (h : Holdings) (m from : ℕ) (slots : List (Option ℕ)) (pair : Option (ℕ × ℕ)) → slice_get h.maps m ≡ Some slots → pair ≡ next_pair from slots → IsNextPair (contents_of h) m from pair
+pair_is h m from slots (Some (key, value)) at_m is = shown_at h m from key value (Some slots) (answer (Shown (Some (key, value))) false) at_m (ap (λ p. Some (answer (Shown p) false)) (sym is)) refl
+pair_is h m from slots None at_m is = none_from h m from (Some slots) (answer (Shown None) false) at_m (ap (λ p. Some (answer (Shown p) false)) (sym is)) refl

@@ -1,3 +1,4 @@
+pub mod AllEnded
 pub mod AllSettled
 pub mod Beginnings
 pub mod Begun

@@ -4,6 +4,8 @@ use Rattle.sync_model.specs.declared.no_note.NoNote.{NoNote}
 use Rattle.sync_model.specs.declared.caller.Caller.{Caller}
 use Rattle.ruled_object.specs.declared.pass.Pass.{Pass}
 use Rattle.ruled_object.specs.Passes.{number_of, seen_by, own_by, IsPassOf}
+use Rattle.std.specs.Prelude.{vec_capacity}
+use Rattle.shared_plain.specs.declared.room.EndsRoom.{EndsRoom}
 use Rattle.shared_plain.specs.declared.event.Event.{Event}
 use Rattle.shared_plain.specs.declared.event.Answered.{Answered}
 use Rattle.shared_plain.specs.declared.mark.Mark.{Mark}
@@ -34,3 +36,7 @@ pub record IsBack (plain : Plain) (journal : List Step) (passes : List PlainPass
   pub is : IsPassOf plain.object mark.pass
   pub seen : seen_by mark.pass ≡ journal
   pub own : (before : PlainPass) → slice_get passes i ≡ Some before → own_by mark.pass ≡ own_by before
+
+-- for how many callers there is room
+abbrev pub room_of : EndsRoom → ℕ
+room_of room = vec_capacity room.passes

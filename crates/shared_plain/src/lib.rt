@@ -2,6 +2,7 @@
 #![tactic(auto)]
 
 pub mod cursor;
+pub mod ends;
 pub mod event;
 pub mod laws;
 pub mod machine;
@@ -10,6 +11,7 @@ mod new;
 mod one_event;
 pub mod plain;
 mod reply_parts;
+pub mod room;
 mod settling;
 mod shared;
 mod slots;
@@ -21,6 +23,7 @@ pub use event::{Answered, Event};
 pub use machine::PlainMachine;
 pub use mark::Mark;
 pub use plain::Plain;
+pub use room::EndsRoom;
 pub use state::PlainState;
 
 #[cfg(test)]
