@@ -32,7 +32,7 @@ impl Cursor {
 }
 
 // The number of a caller's next shared call. A caller whose count stands at the type's last value waits for ever: no
-// caller comes there, at a call a nanosecond for 500 years.
+// caller comes there, at a call a nanosecond for 584 years.
 pub(crate) fn next_number<R: Wait>(rt: &R, done: u64) -> u64
     ensures { (result ≡ done) × (result ≢ 2 ^ 64 - 1) }
 {

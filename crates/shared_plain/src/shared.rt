@@ -16,7 +16,8 @@ use crate::reply_parts::{cost_of, in_atomic, in_map};
 use ruled_object::laws::passes_and_copies;
 use std::sync::Wait;
 use sync_model::laws::shared_steps::{
-    fronts_stay_known, histories_go_on, maps_and_atomics_stay, one_more_call_keeps_the_law, what_was_so_stays_so,
+    fronts_stay_known, histories_go_on, maps_and_atomics_stay, one_more_call_keeps_the_law,
+    what_was_so_stays_so,
 };
 use sync_model::{AtomicCall, AtomicReply, Caller, MapCall, MapReply, NoNote, Note, Shared};
 
