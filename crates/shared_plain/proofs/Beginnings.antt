@@ -1,5 +1,5 @@
 -- New maps and atomics, and their callers.
-use Rattle.std.proofs.Common.{◌≡◌, ℕ, zero, suc, ◌+◌, List, [], ◌∷◌, length, map, get_or, Some, slice_get, refl, sym, ap, ◌∙◌, arith}
+use Rattle.std.proofs.Common.{◌≡◌, ℕ, zero, suc, ◌+◌, List, [], ◌∷◌, length, map, get_or, Some, slice_get, refl, sym, ap, ◌∙◌, subst, arith}
 use Rattle.std.specs.Prelude.{slice_index}
 use Rattle.std.specs.List.{range_with_len, zip}
 use Rattle.std.proofs.lemmas.List.{length-replicate}
@@ -16,6 +16,7 @@ use Rattle.shared_plain.specs.Marks.{front_by, holding, own_by, seen_of, IsMarkO
 use Rattle.shared_plain.specs.PlainHistory.{count_of as counted_of, history_of, items_by}
 use Rattle.shared_plain.specs.PlainMachine.{Holdings, first_holdings}
 use Rattle.shared_plain.specs.Plains.{count_of}
+use Rattle.shared_plain.specs.Walks.{AreInOrder}
 
 kind_of_zero : (kind : AtomicKind) → kind_of (zero_of kind) ≡ kind
 kind_of_zero kinds.Int32 = refl
@@ -75,12 +76,16 @@ pub record IsNewMark (plain : Plain) (i spare : ℕ) (mark : Mark) : Type 0 wher
   pub knows : (c : ℕ) → slice_index (front_by mark) c ≡ 0
 
 pub new_mark : (plain : Plain) (mark : Mark) (i spare : ℕ) → IsNoteOf plain.object mark.pass → held_by mark.pass ≡ Some (entries_of mark.pass) → number_of mark.pass ≡ i → seen_by mark.pass ≡ [] → entries_of mark.pass ≡ []
-    → mark.callers ≡ count_of plain → mark.spare ≡ spare → IsNewMark plain i spare mark
-new_mark plain mark i spare is held number seen own callers left = record {
+    → mark.callers ≡ count_of plain → mark.spare ≡ spare → mark.done ≡ 0 → IsNewMark plain i spare mark
+new_mark plain mark i spare is held number seen own callers left done = record {
   is = record {
     pass = is;
     callers = callers;
-    own = λ mine e. same_Some mine (entries_of mark.pass) (sym e ∙ held) ∙ (own ∙ sym (ap (by (number_of mark.pass)) seen));
+    keeps = λ mine e. record {
+      own_is = same_Some mine (entries_of mark.pass) (sym e ∙ held) ∙ (own ∙ sym (ap (by (number_of mark.pass)) seen));
+      order = subst (λ journal. AreInOrder mark.callers (number_of mark.pass) [] journal) (sym seen) tt;
+      done = λ _. done ∙ sym (ap (counted_of (number_of mark.pass)) seen);
+    };
   };
   own = ap (holding mark) held ∙ (λ j. Some (record { number = number j; items = ap (items_by mark.callers (number_of mark.pass)) seen j; spare = left j }));
   seen = ap history_of seen;

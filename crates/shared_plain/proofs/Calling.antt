@@ -24,22 +24,17 @@ use Rattle.shared_plain.specs.PlainMachine.{Holdings, contents_of, call_of, next
 use Rattle.shared_plain.specs.PlainHistory.{Step, call_in, entered, history_of, count_of, front_of, item_at, listed, items_from, items_by}
 use Rattle.shared_plain.proofs.Histories.{Unseen, Was, a_call, is_history}
 use Rattle.shared_plain.proofs.Items.{Made, history-append, items-append, marks}
-use Rattle.shared_plain.proofs.Passing.{by-append, rises, kept_items}
+use Rattle.shared_plain.proofs.Passing.{by-append, rises, kept_items, take_front}
 
 -- the last entry of a journal is right after those before it
-record Last (halts : Bool) (s : Holdings) (h : Option Misuse) (front : List Step) (x : Step) : Type 0 where
+pub record Last (halts : Bool) (s : Holdings) (h : Option Misuse) (front : List Step) (x : Step) : Type 0 where
   pub before : Follows next halts s h front
   pub right : Right next halts (state_after next s front) (halt_after h front) x.caller x.deed
 
-last_right : (halts : Bool) (s : Holdings) (h : Option Misuse) (front : List Step) (x : Step) → Follows next halts s h (front ++ x ∷ []) → Last halts s h front x
+pub last_right : (halts : Bool) (s : Holdings) (h : Option Misuse) (front : List Step) (x : Step) → Follows next halts s h (front ++ x ∷ []) → Last halts s h front x
 last_right halts s h [] x follows = record { before = tt; right = follows.0 }
 last_right halts s h (y ∷ ys) x follows =
     let rest = last_right halts (state_next next s y.caller y.deed) (halt_next h y.deed) ys x follows.1 in record { before = (follows.0, rest.before); right = rest.right }
-
-take_front : {A : Type 0} (xs ys : List A) → take (length xs) (xs ++ ys) ≡ xs
-take_front [] [] = refl
-take_front [] (y ∷ ys) = refl
-take_front (x ∷ xs) ys = ap (λ l. x ∷ l) (take_front xs ys)
 
 at_length : {A : Type 0} (xs : List A) (x : A) (ys : List A) → slice_get (xs ++ x ∷ ys) (length xs) ≡ Some x
 at_length [] x ys = refl
@@ -64,7 +59,7 @@ module _ (n c : ℕ) where
       by_caller false e = rest j y e
 
   -- a caller's calls in a journal lie within its history
-  bounded : (before xs : List Step) (j : ℕ) (y : Item) → slice_get (items_from n c before xs) j ≡ Some y → bound y ≤ length (history_of (before ++ xs))
+  pub bounded : (before xs : List Step) (j : ℕ) (y : Item) → slice_get (items_from n c before xs) j ≡ Some y → bound y ≤ length (history_of (before ++ xs))
   bounded before [] j y at_j = (cc)
   bounded before (x ∷ xs) j y at_j =
       let same : (before ++ x ∷ []) ++ xs ≡ before ++ (x ∷ xs) = append_assoc before (x ∷ []) xs in

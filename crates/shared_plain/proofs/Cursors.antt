@@ -1,10 +1,11 @@
 -- What a cursor's step shows.
 use Rattle.std.proofs.Common.{◌≡◌, false, ℕ, zero, suc, ◌+◌, ◌-◌, ◌<◌, ◌≤◌, List, [], ◌∷◌, drop, length, get_or, slice_get, Option, Some, None, refl, sym, ap, ◌∙◌, subst, arith}
-use Rattle.std.proofs.lemmas.List.{get_or-drop}
+use Rattle.std.proofs.lemmas.List.{get_or-drop, length-drop}
 use Rattle.std.specs.FinMap.{get}
 use Rattle.sync_model.specs.declared.item.SharedReply.TheVariants.{Shown}
 use Rattle.sync_model.specs.SharedHistory.{value_at}
 use Rattle.shared_plain.specs.declared.event.Answered.{Answered}
+use Rattle.shared_plain.specs.EndsOfHistory.{IsNextPair}
 use Rattle.shared_plain.specs.Slots.{map_of, pair_from, next_pair}
 use Rattle.shared_plain.specs.PlainMachine.{Holdings, contents_of, cursor_next}
 use Rattle.shared_plain.proofs.SlotMaps.{answer, get-map_of}
@@ -62,3 +63,23 @@ none_from h m from (Some slots) answered at_m is reply key least =
     let same : next_pair from slots ≡ None = shown_is (next_pair from slots) answered None is reply in
     let gap : key ≡ from + (key - from) = omega arith in
     ap (value_at (contents_of h) m) gap ∙ (value_from h m from (key - from) slots at_m ∙ no_pair from (drop from slots) same (key - from))
+
+pair_within : (n : ℕ) (slots : List (Option ℕ)) (key value : ℕ) → pair_from n slots ≡ Some (key, value) → key < n + length slots
+pair_within n [] key value e = (cc)
+pair_within n (None ∷ slots) key value e = let rest = pair_within (n + 1) slots key value e in omega arith
+pair_within n (Some v ∷ slots) key value e = let k : n ≡ key = ap (λ (p : ℕ × ℕ). p.0) (some_is (n, v) (key, value) e) in omega arith
+
+-- a key that is shown has a slot
+pub cursor_within : (from : ℕ) (found : Option (List (Option ℕ))) (answered : Answered) (key value keys : ℕ) → ((slots : List (Option ℕ)) → found ≡ Some slots → length slots ≡ keys)
+    → cursor_next from found ≡ Some answered → answered.reply ≡ Shown (Some (key, value)) → key < keys
+cursor_within from None answered key value keys long is reply = (cc)
+cursor_within from (Some slots) answered key value keys long is reply =
+    let pair : next_pair from slots ≡ Some (key, value) = shown_is (next_pair from slots) answered (Some (key, value)) is reply in
+    let first = (first_pair from (drop from slots) key value pair).is in
+    let inside = pair_within from (drop from slots) key value pair in
+    let rest = length-drop from slots in let same = long slots refl in omega arith
+
+-- what the slots of a map show next is what the map does
+pub pair_is : (h : Holdings) (m from : ℕ) (slots : List (Option ℕ)) (pair : Option (ℕ × ℕ)) → slice_get h.maps m ≡ Some slots → pair ≡ next_pair from slots → IsNextPair (contents_of h) m from pair
+pair_is h m from slots (Some (key, value)) at_m is = shown_at h m from key value (Some slots) (answer (Shown (Some (key, value))) false) at_m (ap (λ p. Some (answer (Shown p) false)) (sym is)) refl
+pair_is h m from slots None at_m is = none_from h m from (Some slots) (answer (Shown None) false) at_m (ap (λ p. Some (answer (Shown p) false)) (sym is)) refl

@@ -29,6 +29,8 @@ use Rattle.shared_plain.specs.Fits.{has_room, has_kind, fits_in, fits}
 use Rattle.shared_plain.specs.PlainHistory.{Step}
 use Rattle.shared_plain.specs.PlainMachine.{Holdings, first_holdings, map_next, cursor_next, atomic_next, number_after, next}
 use Rattle.shared_plain.specs.Slots.{map_of, slot_after, keyed_after, slots_at, slots_after, next_pair}
+use Rattle.shared_plain.proofs.Cursors.{cursor_within}
+use Rattle.shared_plain.proofs.Replies.{replied}
 use Rattle.shared_plain.proofs.SlotMaps.{answer}
 
 is_kind : (kind : AtomicKind) (number : Number) → is_of kind number ≡ true → kind_of number ≡ kind
@@ -174,3 +176,37 @@ room call keys (Some k) inside = lt-ltb k keys (inside k refl)
 pub map_call_fits : (start : Holdings) (maps keys : ℕ) (are : List AtomicKind) (m : ℕ) (call : MapCall ℕ) → start ≡ first_holdings maps keys are → m < maps → IsMapCall (λ key. key < keys) call → fits start (Map m call) ≡ true
 map_call_fits start maps keys are m call begun below takes =
     ap (λ (h : Holdings). fits h (Map m call)) begun ∙ (ap (has_room call) (keys_at_start maps keys m below) ∙ room call keys (map_key call) takes.key)
+
+keys_of_all : (maps keys m : ℕ) (slots : ℕ) → slice_get (map (λ (slots : List (Option ℕ)). length slots) (replicate maps (replicate keys None))) m ≡ Some slots → slots ≡ keys
+keys_of_all zero keys m slots at = (cc)
+keys_of_all (suc maps) keys zero slots at = let same : (λ (l : List (Option ℕ)). length l) (replicate keys None) ≡ slots = (cc) in sym same ∙ length-replicate keys None
+keys_of_all (suc maps) keys (suc m) slots at = keys_of_all maps keys m slots at
+
+-- a cursor over maps of the keys below some number shows no other key
+event_within : (h : Holdings) (caller : ℕ) (event : Event) (answered : Answered) (key value keys : ℕ) → ((m k : ℕ) → slice_get (map (λ slots. length slots) h.maps) m ≡ Some k → k ≡ keys)
+    → (next h caller event).1 ≡ Some answered → answered.reply ≡ replies.Shown (Some (key, value)) → key < keys
+event_within h caller (Map m call) answered key value keys all is reply = let r = replied h caller (Map m call) answered is in (cc)
+event_within h caller (Begin m) answered key value keys all is reply = let r = replied h caller (Begin m) answered is in (cc)
+event_within h caller (Next m b from) answered key value keys all is reply =
+    cursor_within from (slice_get h.maps m) answered key value keys (λ slots at_m. all m (length slots) (get_map (λ slots. length slots) h.maps m (Some slots) at_m)) is reply
+event_within h caller (Atomic a call) answered key value keys all is reply = let r = replied h caller (Atomic a call) answered is in (cc)
+
+pub shown_fits : (start : Holdings) (journal : List Step) (caller : ℕ) (event : Event) (answered : Answered) (key value maps keys : ℕ) (are : List AtomicKind) → start ≡ first_holdings maps keys are
+    → (next (state_after next start journal) caller event).1 ≡ Some answered → answered.reply ≡ replies.Shown (Some (key, value)) → key < keys
+shown_fits start journal caller event answered key value maps keys are begun is reply =
+    let like = like_after start journal in
+    event_within (state_after next start journal) caller event answered key value keys
+    (λ m k at. keys_of_all maps keys m k (ap (λ (h : Holdings). slice_get (map (λ slots. length slots) h.maps) m) (sym begun) ∙ (ap (λ (l : List ℕ). slice_get l m) (sym like.keys) ∙ at))) is reply
+
+none_there : {A : Type 0} (xs : List A) (i : ℕ) → i < length xs → slice_get xs i ≡ None → ⊥
+none_there [] i below e = absurd (omega arith)
+none_there (x ∷ xs) zero below e = (cc)
+none_there (x ∷ xs) (suc i) below e = none_there xs i (omega arith) e
+
+-- a step of a cursor over a map that is there fits at the start
+pub next_fits : (start : Holdings) (m b from : ℕ) → m < length start.maps → fits start (Next m b from) ≡ true
+next_fits start m b from below = by_found (slice_get start.maps m) refl
+  where
+    by_found : (found : Option (List (Option ℕ))) → slice_get start.maps m ≡ found → is_some (slice_get (map (λ slots. length slots) start.maps) m) ≡ true
+    by_found None at_m = absurd (none_there start.maps m below at_m)
+    by_found (Some slots) at_m = ap is_some (get_map (λ slots. length slots) start.maps m (Some slots) at_m)

@@ -1,5 +1,5 @@
 -- Notes that are copied and merged.
-use Rattle.std.proofs.Common.{◌≡◌, ℕ, zero, suc, ◌+◌, ◌<◌, ◌≤◌, Bool, true, false, cond, eqb, List, [], ◌∷◌, ◌++◌, length, length-append, map, get_or, Option, Some, None, refl, sym, ap, ◌∙◌, subst, append_assoc, arith}
+use Rattle.std.proofs.Common.{◌≡◌, ℕ, zero, suc, ◌+◌, ◌<◌, ◌≤◌, Bool, true, false, cond, eqb, List, [], ◌∷◌, ◌++◌, length, length-append, map, take, get_or, Option, Some, None, refl, sym, ap, ◌∙◌, subst, append_assoc, arith}
 use Rattle.std.specs.List.{range_with_len}
 use Rattle.std.proofs.lemmas.List.{append-nil}
 use Rattle.sync_model.specs.declared.item.SharedCall.{SharedCall}
@@ -14,6 +14,11 @@ use Rattle.shared_plain.specs.Marks.{holding, own_by}
 use Rattle.shared_plain.specs.PlainHistory.{Step, call_in, count_of, front_of, item_at, listed, items_from, items_by}
 use Rattle.shared_plain.proofs.Items.{count-append, items-append}
 
+pub take_front : {A : Type 0} (xs ys : List A) → take (length xs) (xs ++ ys) ≡ xs
+take_front [] [] = refl
+take_front [] (y ∷ ys) = refl
+take_front (x ∷ xs) ys = ap (λ l. x ∷ l) (take_front xs ys)
+
 -- the entries of a caller in two journals, one after the other
 pub by-append : (c : ℕ) (xs ys : List Step) → by c (xs ++ ys) ≡ by c xs ++ by c ys
 by-append c [] ys = refl
@@ -24,7 +29,7 @@ by-append c (x ∷ xs) ys = by_caller (eqb x.caller c) (by-append c xs ys)
     by_caller false same = same
 
 -- a caller without entries has no calls
-no_items : (n c : ℕ) (before xs : List Step) → by c xs ≡ [] → items_from n c before xs ≡ []
+pub no_items : (n c : ℕ) (before xs : List Step) → by c xs ≡ [] → items_from n c before xs ≡ []
 no_items n c before [] none = refl
 no_items n c before (x ∷ xs) none = by_caller (eqb x.caller c) refl none (λ e. no_items n c (before ++ x ∷ []) xs e)
   where
@@ -39,7 +44,7 @@ no_items n c before (x ∷ xs) none = by_caller (eqb x.caller c) refl none (λ e
     by_caller true is e rest = (cc)
     by_caller false is e rest = skipped (call_in x.deed) is (rest e)
 
-nothing_more : (front rest : List Step) → front ++ rest ≡ front → rest ≡ []
+pub nothing_more : (front rest : List Step) → front ++ rest ≡ front → rest ≡ []
 nothing_more [] rest e = e
 nothing_more (x ∷ xs) rest e = nothing_more xs rest (let same : x ∷ (xs ++ rest) ≡ x ∷ xs = e in (cc))
 

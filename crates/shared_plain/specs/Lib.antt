@@ -1,8 +1,13 @@
 pub mod Counting
+pub mod CursorsStand
+pub mod EndsOfHistory
 pub mod Fits
 pub mod Marks
 pub mod NewCallers
 pub mod PlainHistory
 pub mod PlainMachine
 pub mod Plains
+pub mod Settling
 pub mod Slots
+pub mod Staying
+pub mod Walks

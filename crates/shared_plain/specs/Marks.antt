@@ -1,5 +1,5 @@
 -- A caller's note: what contracts see of it.
-use Rattle.std.specs.Prelude.{◌≡◌, ℕ, List, Option, Some, None}
+use Rattle.std.specs.Prelude.{◌≡◌, ◌≢◌, ℕ, ◌-◌, ◌^◌, List, [], Option, Some, None}
 use Rattle.sync_model.specs.declared.item.SharedEntry.{SharedEntry}
 use Rattle.sync_model.specs.Note.{Holding}
 use Rattle.sync_model.specs.Journal.{by}
@@ -7,7 +7,8 @@ use Rattle.ruled_object.specs.Notes.{held_by, IsNoteOf}
 use Rattle.ruled_object.specs.Passes.{callers_of, number_of, seen_by}
 use Rattle.shared_plain.specs.declared.mark.Mark.{Mark}
 use Rattle.shared_plain.specs.declared.plain.Plain.{Plain}
-use Rattle.shared_plain.specs.PlainHistory.{Step, front_of, history_of, items_by}
+use Rattle.shared_plain.specs.PlainHistory.{Step, count_of, front_of, history_of, items_by}
+use Rattle.shared_plain.specs.Walks.{AreInOrder}
 
 -- for each caller the number of its shared calls that are known
 abbrev pub front_by : Mark → List ℕ
@@ -21,12 +22,20 @@ holding mark (Some own) = Some (record { number = number_of mark.pass; items = i
 abbrev pub own_by : Mark → Option Holding
 own_by mark = holding mark (held_by mark.pass)
 
--- it is the note of a caller of these maps and atomics, or a copy of one
+-- what a caller's note keeps of the caller's own calls, of which these are in the pass
+pub record KeepsOwn (mark : Mark) (own : List Step) : Type 0 where
+  -- a caller has seen all that it did
+  pub own_is : own ≡ by (number_of mark.pass) (seen_by mark.pass)
+  -- and knew it each time, and where its cursors stood
+  pub order : AreInOrder mark.callers (number_of mark.pass) [] (seen_by mark.pass)
+  -- so many they are, unless the count stands at its last value
+  pub done : mark.done ≢ 2 ^ 64 - 1 → mark.done ≡ count_of (number_of mark.pass) (seen_by mark.pass)
+
+-- it is the note of a caller of these maps and atomics, or a copy of one, which is nobody's
 pub record IsMarkOf (plain : Plain) (mark : Mark) : Type 0 where
   pub pass : IsNoteOf plain.object mark.pass
   pub callers : mark.callers ≡ callers_of plain.object
-  -- a caller has seen all that it did
-  pub own : (own : List Step) → held_by mark.pass ≡ Some own → own ≡ by (number_of mark.pass) (seen_by mark.pass)
+  pub keeps : (own : List Step) → held_by mark.pass ≡ Some own → KeepsOwn mark own
 
 -- how much of the shared history the note's holder has seen
 abbrev pub seen_of : Mark → List SharedEntry

@@ -13,6 +13,8 @@ pub struct Mark {
     pub(crate) pass: PassOf<PlainMachine, NoNote>,
     pub(crate) callers: u32,
     pub(crate) spare: u32,
+    // How many shared calls the caller made; it stays at the type's last value.
+    pub(crate) done: u64,
 }
 
 impl Note for Mark {
@@ -29,6 +31,7 @@ impl Note for Mark {
             pass: home.object.copy(&mut self.pass),
             callers: self.callers,
             spare: 0,
+            done: 0,
         }
     }
 

@@ -44,7 +44,7 @@ fn callers_with(
     passes: Vec<PassOf<PlainMachine, NoNote>>,
     spare: &[u32],
 ) -> Result<Vec<Caller<Mark>>, AllocError>
-    ensures { IfOk result (λ callers. callers.items ≡ map (λ p. record { note = record { pass = p.0; callers = count; spare = p.1 } }) (zip passes.items spare.now)) }
+    ensures { IfOk result (λ callers. callers.items ≡ map (λ p. record { note = record { pass = p.0; callers = count; spare = p.1; done = 0 } }) (zip passes.items spare.now)) }
 {
     passes
         .into_iter()
@@ -54,6 +54,7 @@ fn callers_with(
                 pass,
                 callers: count,
                 spare: *spare,
+                done: 0,
             },
         })
         .collect(alloc)

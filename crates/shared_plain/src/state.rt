@@ -1,8 +1,9 @@
 //! The maps and atomics that callers share, as one thread has them.
-ghost use Rattle.std.specs.Prelude.{◌≡◌, ℕ, false, map, replicate, IfOk, None};
+ghost use Rattle.std.specs.Prelude.{◌≡◌, ℕ, ◌<◌, false, length, map, replicate, slice_get, IfOk, None};
 ghost use Rattle.sync_model.specs.declared.atomic_object.Number.{Number};
 ghost use Rattle.sync_model.specs.SequentialAtomic.{zero_of, is_of, has_bits, is_atomic_call, is_atomic_entry, atomic_reply};
-ghost use Rattle.shared_plain.specs.PlainMachine.{first_holdings, next, atomic_answer, number_after};
+ghost use Rattle.shared_plain.specs.EndsOfHistory.{IsNextPair};
+ghost use Rattle.shared_plain.specs.PlainMachine.{contents_of, first_holdings, next, atomic_answer, number_after};
 
 use crate::event::{Answered, Event};
 use crate::slots::Slots;
@@ -40,6 +41,22 @@ impl PlainState {
             maps: empty_maps(alloc, maps, keys)?,
             numbers: zeros(alloc, kinds)?,
         })
+    }
+
+    /// What an atomic holds, if there is one of this number.
+    pub fn number(&self, atomic: u32) -> Option<Number>
+        ensures { result ≡ slice_get self.now.numbers atomic }
+    {
+        self.numbers.get(atomic as usize).copied()
+    }
+
+    /// The least key of a map that is there and is at least `from`, with its value: a first step from 0, and each further
+    /// one from behind the last key, give all pairs of the map in order.
+    pub fn next_pair(&self, map: u32, from: u32) -> Option<(u32, u64)>
+        requires map { map < length self.now.maps }
+        ensures { IsNextPair (contents_of self.now) map from result }
+    {
+        self.maps[map as usize].next_pair(from)
     }
 
     /// What an event does. One that names no map or atomic that is here, a key without a slot, or a number that isn't of

@@ -10,7 +10,7 @@ use crate::{Mark, Plain};
 use std::alloc::{AllocError, Global};
 use std::sync::Wait;
 use sync_model::{
-    AtomicCall, AtomicKind, AtomicReply, Caller, CallerNote, MapCall, MapReply, Note,
+    AtomicCall, AtomicKind, AtomicReply, Caller, CallerNote, MapCall, MapReply, Note, Shared,
 };
 
 /// One of the two callers.

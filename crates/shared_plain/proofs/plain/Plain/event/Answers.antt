@@ -1,13 +1,20 @@
-use Rattle.std.proofs.Common.{◌≡◌, ◌<◌, ◌+◌, ◌-◌, false, ◌++◌, [], ◌∷◌, None, Some, arith, refl, sym, ap, ◌∙◌, subst}
+use Rattle.std.proofs.Common.{◌≡◌, ◌≢◌, ℕ, ◌<◌, ◌+◌, ◌-◌, ◌^◌, false, ◌++◌, [], ◌∷◌, None, Some, arith, refl, sym, ap, ◌∙◌, subst}
+use Rattle.std.proofs.Common.{Option}
+use Rattle.std.proofs.lemmas.Option.{same_Some}
+use Rattle.shared_plain.specs.declared.event.Event.TheVariants.{Next}
+use Rattle.shared_plain.specs.declared.event.Answered.{Answered}
 use Rattle.sync_model.specs.declared.journal.Deed.TheVariants.{Event as Did}
 use Rattle.sync_model.specs.Journal.{by, halt_of, state_after, Right, Follows}
-use Rattle.sync_model.specs.Shared.{Called, CallerState, state_of}
+use Rattle.sync_model.specs.Shared.{Called, CallerState, items_of, state_of}
 use Rattle.ruled_object.specs.Passes.{number_of, seen_by, start_of}
 use Rattle.shared_plain.specs.declared.mark.Mark.{Mark}
 use Rattle.shared_plain.specs.Marks.{front_by, holding, own_by, seen_of}
+use Rattle.shared_plain.specs.PlainHistory.{call_in, count_of, items_by}
 use Rattle.shared_plain.specs.PlainMachine.{call_of, contents_of, next}
+use Rattle.shared_plain.specs.Walks.{StandsAt, AreInOrder}
 use Rattle.shared_plain.proofs.Calling.{state_at, called, adds_same, held_there, unanswered}
-use Rattle.shared_plain.proofs.Fitting.{fits_for_ever}
+use Rattle.shared_plain.proofs.Fitting.{fits_for_ever, shown_fits}
+use Rattle.shared_plain.proofs.Orders.{note_of, more_count, more_order, same_event}
 use Rattle.shared_plain.proofs.plain.Plain.event.Goals as goal
 
 pub unreachable-requires : goal.unreachable-requires
@@ -21,12 +28,47 @@ unreachable-requires g c =
     let fit = fits_for_ever start front (number_of pass) c.args.event c.requires.fits in
     unanswered (next (state_after next start front) (number_of pass) c.args.event).1 fit.0 right.1 fit.1
 
+pub returns-clause-home : goal.returns-clause-home
+returns-clause-home g c home is =
+    let object = c.args.self.now.object in
+    let old : Mark = c.args.mark.now in
+    let new : Mark = record { pass = c.call.new.pass; callers = old.callers; spare = old.spare - c.args.cost; done = c.one_more-mark.result } in
+    let at_self = c.requires.mark.0 in
+    let had = held_there old c.requires.mark.1 in
+    let kept = at_self.keeps had.0 had.1 in
+    let was_pass = c.passes_and_copies.ensures.is_pass object old.pass had.0 at_self.pass had.1 in
+    let is_pass = c.passes_and_copies.ensures.holds object new.pass c.call.ensures.pass.0 in
+    let entry = c.in-Done-Some.ensures.entry in
+    let adds = entry.1 in
+    let answered = c.in-Done-Some.answered in
+    let deed = entry.2 ∙ ap (λ f. Did c.args.event f) (c.in-Done-Some.field-0-is) in
+    let n = old.callers in
+    let who = number_of old.pass in
+    let number = c.call.ensures.pass.1.0 in
+    let seen = seen_by old.pass in
+    let same = adds_same who seen adds.between entry.0 _ _ adds.mine (adds.all ∙ ap (λ l. by who l) adds.history) adds.caller (was_pass.1 ∙ kept.own_is) in
+    let asked : items_of (own_by old) ≡ items_by n who seen = ap (λ o. items_of (holding old o)) had.1 in
+    let steps : (m b from : ℕ) (reply : Option Answered) → entry.0.deed ≡ Did (Next m b from) reply → StandsAt (items_by n who seen) m b from = λ m b from reply did. subst (λ l. StandsAt l m b from) asked (c.requires.steps m b from (same_event c.args.event _ m b from reply (sym deed ∙ did))) in
+    let order = more_order n who seen adds.between entry.0 same adds.caller adds.knew steps kept.order in
+    let more = more_count n who seen adds.between entry.0 (call_of c.args.event, answered) same adds.caller (ap call_in deed) in
+    let whole : count_of (number_of new.pass) (seen_by new.pass) ≡ count_of who seen + 1 = ap (λ d. count_of d (seen_by new.pass)) number ∙ (ap (count_of who) adds.history ∙ more) in
+    let done : new.done ≢ 2 ^ 64 - 1 → new.done ≡ count_of (number_of new.pass) (seen_by new.pass) = λ below. let one = c.one_more-mark.ensures below in one.1 ∙ (ap (λ (k : ℕ). k + 1) (kept.done one.0) ∙ sym whole) in
+    record {
+      pass = note_of c.args.self.now home old new at_self.pass is_pass.0 number is.pass;
+      callers = is.callers;
+      keeps = λ own held. record {
+        own_is = same_Some own _ (sym held ∙ is_pass.1) ∙ (adds.all ∙ ap (λ d. by d (seen_by new.pass)) (sym number));
+        order = subst (λ d. AreInOrder n d [] (seen_by new.pass)) (sym number) (subst (λ l. AreInOrder n who [] l) (sym adds.history) order);
+        done = done;
+      };
+    }
+
 pub returns-clause-called : goal.returns-clause-called
 returns-clause-called g c =
     let object = c.args.self.now.object in
     let start = start_of object in
     let old : Mark = c.args.mark.now in
-    let new : Mark = record { pass = c.call.new.pass; callers = old.callers; spare = old.spare - c.args.cost } in
+    let new : Mark = record { pass = c.call.new.pass; callers = old.callers; spare = old.spare - c.args.cost; done = c.one_more-mark.result } in
     let is = c.requires.mark.0 in
     let had = held_there old c.requires.mark.1 in
     let was_pass = c.passes_and_copies.ensures.is_pass object old.pass had.0 is.pass had.1 in
@@ -48,7 +90,7 @@ returns-clause-called g c =
       caller = adds.caller;
       knew = adds.knew;
       deed = deed;
-      same = adds_same who (seen_by old.pass) adds.between entry.0 _ _ adds.mine (adds.all ∙ ap (λ l. by who l) adds.history) adds.caller (was_pass.1 ∙ is.own had.0 had.1);
+      same = adds_same who (seen_by old.pass) adds.between entry.0 _ _ adds.mine (adds.all ∙ ap (λ l. by who l) adds.history) adds.caller (was_pass.1 ∙ (is.keeps had.0 had.1).own_is);
       follows = subst (λ l. Follows next false start None l) adds.history adds.follows;
     } in
     let number = c.call.ensures.pass.1.0 in
@@ -57,3 +99,14 @@ returns-clause-called g c =
     (λ i. record { own = ap (holding new) is_pass.1 i; front = front_by new; seen = seen_of new }) ∙ (λ i. state_at n (number i) left (adds.history i)) in
     subst (λ s. Called (contents_of start) (call_of c.args.event) answered.reply c.args.cost s (state_of own_by front_by seen_of new)) (sym from)
     (subst (λ s. Called (contents_of start) (call_of c.args.event) answered.reply c.args.cost (state_at n who old.spare (seen_by old.pass)) s) (sym to) made)
+
+pub returns-clause-shown : goal.returns-clause-shown
+returns-clause-shown g c key value is =
+    let plain = c.args.self.now in
+    let start = start_of plain.object in
+    let pass = c.args.mark.now.pass in
+    let entry = c.in-Done-Some.ensures.entry in
+    let front = seen_by pass ++ entry.1.between in
+    let deed = entry.2 ∙ ap (λ f. Did c.args.event f) c.in-Done-Some.field-0-is in
+    let right = subst (Right next false (state_after next start front) (halt_of front) (number_of pass)) deed entry.1.right in
+    shown_fits start front (number_of pass) c.args.event c.in-Done-Some.answered key value _ plain.keys _ plain.begun (sym right.1) is

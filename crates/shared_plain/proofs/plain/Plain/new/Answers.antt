@@ -33,7 +33,7 @@ returns-clause-callers c =
     let pass = new.all.each i both.first both.at_first in
     let note = c.passes_and_copies.ensures.holds _ both.first pass.0 in
     subst (λ (x : Caller Mark). IsNewMark plain i (slice_index spare i) x.note) both.is
-    (new_mark plain _ i (slice_index spare i) note.0 note.1 pass.1 (new.seen i both.first both.at_first) (new.own i both.first both.at_first) (sym count) (sym (get_or_from_slice_get spare i both.second 0 both.at_second))) in
+    (new_mark plain _ i (slice_index spare i) note.0 note.1 pass.1 (new.seen i both.first both.at_first) (new.own i both.first both.at_first) (sym count) (sym (get_or_from_slice_get spare i both.second 0 both.at_second)) refl) in
     record {
       all = record {
         all = ap length made ∙ (length-beside _ passes spare many ∙ new.all.count);

@@ -1,7 +1,7 @@
 use Rattle.shared_plain.specs.Plains.{kinds_of, maps_of}
 use Rattle.ruled_object.specs.Passes.{start_of}
 use Rattle.shared_plain.proofs.Fitting.{map_call_fits}
-use Rattle.shared_plain.proofs.plain.Plain.map_call.Goals as goal
+use Rattle.shared_plain.proofs.shared.PlainShared.map_call.Goals as goal
 
 pub event-answered-requires-clause-fits : goal.event-answered-requires-clause-fits
 event-answered-requires-clause-fits g c =

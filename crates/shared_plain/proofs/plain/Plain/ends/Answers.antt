@@ -1,0 +1,39 @@
+use Rattle.std.proofs.Common.{◌≡◌, ◌≤◌, length, sym, ap, ◌∙◌, subst}
+use Rattle.sync_model.specs.Journal.{state_after}
+use Rattle.ruled_object.specs.Gathered.{AreAllPasses, IsWhole}
+use Rattle.ruled_object.specs.Passes.{start_of}
+use Rattle.shared_plain.specs.EndsOfHistory.{AreEnds}
+use Rattle.shared_plain.specs.Marks.{own_by, seen_of}
+use Rattle.shared_plain.specs.PlainMachine.{contents_of, next}
+use Rattle.shared_plain.specs.Plains.{kinds_of, maps_of}
+use Rattle.shared_plain.specs.Settling.{passes_in}
+use Rattle.shared_plain.proofs.AllEnded.{ended}
+use Rattle.shared_plain.proofs.AllSettled.{PassLaws, all_passes}
+use Rattle.shared_plain.proofs.Walking.{Laws}
+use Rattle.shared_plain.proofs.plain.Plain.ends.Goals as goal
+
+pub finish-requires : goal.finish-requires
+finish-requires c =
+    let plain = c.args.self in
+    let laws : PassLaws plain = record { holds = c.passes_and_copies.ensures.holds plain.object; is_pass = c.passes_and_copies.ensures.is_pass plain.object } in
+    subst (AreAllPasses plain.object) (sym c.passes_of-passes.ensures) (all_passes plain laws c.args.callers.items c.requires.callers)
+
+pub returns : goal.returns
+returns c =
+    let plain = c.args.self in
+    let laws : PassLaws plain = record { holds = c.passes_and_copies.ensures.holds plain.object; is_pass = c.passes_and_copies.ensures.is_pass plain.object } in
+    let callers = c.args.callers.items in
+    let start = start_of plain.object in
+    let journal = c.finish.ensures.0 in
+    let whole = subst (IsWhole next _ _ _ start journal) c.passes_of-passes.ensures c.finish.ensures.1 in
+    let of : Laws = record {
+      first = c.one_more_call_keeps_the_law.ensures.start;
+      more = c.one_more_call_keeps_the_law.ensures.more;
+      same = c.one_more_call_keeps_the_law.ensures.same;
+      grows = c.fronts_stay_known.ensures.grows;
+      known = c.fronts_stay_known.ensures.more;
+      was_so = c.what_was_so_stays_so.ensures;
+    } in
+    subst (λ s. AreEnds own_by seen_of s callers (contents_of c.finish.result)) (ap contents_of plain.begun ∙ c.starts_empty.ensures (maps_of plain) plain.keys (kinds_of plain))
+    (subst (λ s. AreEnds own_by seen_of (contents_of start) callers (contents_of s)) (sym c.finish.ensures.2)
+    (ended plain laws _ _ callers journal c.requires.callers whole of c.maps_and_atomics_stay.ensures.no_entry c.histories_go_on.ensures.all))

@@ -1,0 +1,71 @@
+//! What the maps and atomics contain when all calls have returned.
+ghost use Rattle.std.specs.Prelude.{◌≡◌, ◌<◌, ◌≤◌, List, [], IfOk, length, slice_get, vec_capacity};
+ghost use Rattle.sync_model.specs.SharedHistory.{first_contents};
+ghost use Rattle.sync_model.specs.Shared.{AreAllCallers};
+ghost use Rattle.shared_plain.specs.EndsOfHistory.{AreEnds};
+ghost use Rattle.shared_plain.specs.Marks.{own_by, seen_of, IsMarkOf};
+ghost use Rattle.shared_plain.specs.PlainMachine.{contents_of};
+ghost use Rattle.shared_plain.specs.Plains.{count_of, kinds_of, maps_of};
+ghost use Rattle.shared_plain.specs.Settling.{passes_in, room_of};
+
+use crate::laws::starts_empty;
+use crate::machine::PlainMachine;
+use crate::mark::Mark;
+use crate::plain::Plain;
+use crate::room::EndsRoom;
+use crate::state::PlainState;
+use ruled_object::PassOf;
+use ruled_object::laws::passes_and_copies;
+use std::alloc::{AllocError, Global};
+use sync_model::laws::shared_steps::{
+    fronts_stay_known, histories_go_on, maps_and_atomics_stay, one_more_call_keeps_the_law,
+    what_was_so_stays_so,
+};
+use sync_model::{Caller, NoNote};
+
+impl EndsRoom {
+    /// Room for so many callers.
+    pub fn new(alloc: Global, callers: u32) -> Result<Self, AllocError>
+        ensures { IfOk result (λ room. callers ≤ room_of room) }
+    {
+        Ok(EndsRoom {
+            passes: Vec::with_capacity(alloc, callers as usize)?,
+        })
+    }
+}
+
+impl Plain {
+    /// Ends the maps and atomics, with all their callers in order of number, and gives what they contain after the whole
+    /// history: one that begins with what each caller has seen, and that is lawful with all their calls. It takes no memory,
+    /// and waits for nobody. Who asks for a number of an atomic, or for the pairs of a map one by one, fills a report in.
+    pub fn ends(self, callers: Vec<Caller<Mark>>, room: EndsRoom) -> PlainState
+        requires callers { AreAllCallers IsMarkOf own_by self callers.items (count_of self) }
+        requires room { count_of self ≤ room_of room }
+        ensures { AreEnds own_by seen_of (first_contents (maps_of self) (kinds_of self)) callers.items (contents_of result) }
+    {
+        starts_empty();
+        passes_and_copies::<PlainMachine, NoNote>();
+        fronts_stay_known();
+        histories_go_on();
+        maps_and_atomics_stay();
+        one_more_call_keeps_the_law();
+        what_was_so_stays_so();
+        let passes = passes_of(callers, room);
+        let Plain { object, .. } = self;
+        object.finish(passes)
+    }
+}
+
+// The passes of callers, in their order.
+fn passes_of(callers: Vec<Caller<Mark>>, room: EndsRoom) -> Vec<PassOf<PlainMachine, NoNote>>
+    requires { length callers.items ≤ room_of room }
+    ensures { result.items ≡ passes_in callers.items }
+{
+    let EndsRoom { mut passes } = room;
+    for caller in callers {
+        let Caller { note } = caller;
+        let Mark { pass, .. } = note;
+        passes.push_reserved(pass);
+    }
+    passes
+}
