@@ -7,4 +7,4 @@ returns c =
     let made = c.in_ok-once.ensures in
     let count = made.passes.all.count ∙ made.once.0 in
     let ok = c.in_ok-once.passes.ok in
-    (fresh _ _ made.passes, (cc))
+    (fresh c.in_ok-once.once _ made.passes, (cc))

@@ -7,4 +7,4 @@ returns-clause-passes g c =
     let made = c.in_ok-value.ensures in
     let count = made.passes.all.count ∙ made.once.0 in
     let ok = c.in_ok-value.passes.ok in
-    (fresh _ _ made.passes, (cc))
+    (fresh c.in_ok-value.value.once _ made.passes, (cc))
