@@ -10,3 +10,4 @@ mod RunLogs
 mod RunRanges
 mod StartLemmas
 mod TurnLemmas
+pub mod FormLemmas

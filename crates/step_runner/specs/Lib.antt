@@ -5,3 +5,4 @@ pub mod MadeCalls
 pub mod Outcomes
 pub mod State
 pub mod Turns
+pub mod Forms

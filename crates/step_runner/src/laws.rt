@@ -36,13 +36,16 @@ ghost use Rattle.step_runner.specs.Outcomes.{StepsTo};
 ghost use Rattle.workload.specs.Puts.{puts_at};
 ghost use Rattle.step_runner.specs.State.{State, IsStateOf, start, with_moment};
 ghost use Rattle.step_runner.specs.Turns.{next_call, turn_of, items_of, after_items, has_ended};
+ghost use Rattle.step_runner.specs.Forms.{all_have_forms, has_forms};
 ghost use Rattle.step_runner.specs.Computed.{rounds_of, all_rounds, turns};
 
 use step_turns::laws::{
     maps_keep_to_the_keys_of_calls, numbers_stay_in_range, pools_have_room,
     some_calls_take_one_turn, turns_follow_the_machines, turns_keep_kinds_and_machines,
-    turns_use_something_up,
+    turns_use_something_up, workers_stand_in_their_calls,
 };
+use sync_model::Name;
+use sync_model::laws::replies as form;
 use workload::laws::keys_are_numbered_by_first_appearance;
 
 /// What is true of the state in which a run begins stays true with each turn, and so at every moment:
@@ -163,6 +166,17 @@ pub fn pairs_are_few()
     ensures { (plan : Plan) (items : List Turn) → list_all (list_all (has_pairs_to (distinct_count (all_keys plan.scripts)))) (after_items plan items (start plan)).replies ≡ true }
 {
     maps_keep_to_the_keys_of_calls();
+}
+
+/// At every moment each reply has the form of its call's replies, by the table of `sync_model`: a `lock` never answers a
+/// number. So what a report prints for a call is what the table says for it.
+pub fn replies_have_their_form()
+    ensures always { (plan : Plan) (items : List Turn) → is_valid plan ≡ true → all_have_forms plan.scripts (after_items plan items (start plan)).replies ≡ true }
+    ensures left { (plan : Plan) → is_valid plan ≡ true → has_forms plan (turns plan) ≡ true }
+{
+    validity();
+    workers_stand_in_their_calls();
+    form::replies_have_their_form::<Name, u32>();
 }
 
 /// At every moment a worker that stands before a put finds room for its item: by schedule no put is dropped.

@@ -3,6 +3,7 @@ ghost use Rattle.std.specs.Prelude.{◌≡◌, true, IfOk};
 ghost use Rattle.sync_model.specs.Outcome.{shows_to};
 ghost use Rattle.workload.specs.declared.limits.TheConstants.{MAX_KEYS};
 ghost use Rattle.workload.specs.Plan.{is_turn};
+ghost use Rattle.step_runner.specs.Forms.{has_forms};
 ghost use Rattle.step_runner.specs.Outcomes.{StepsTo};
 ghost use Rattle.step_runner.specs.State.{IsStateOf};
 ghost use Rattle.step_runner.specs.Turns.{item_of, items_of, round, has_ended};
@@ -152,13 +153,15 @@ fn outcome(
 /// sets the clock, which stands at 0 before. After the schedule come rounds, in which each worker from 0
 /// up takes one turn. The run ends once every script has ended, at the first turn that is a misuse, or
 /// behind a round in which nobody made an event. Only want of memory is an `Err`. No reply shows more
-/// pairs than a workload may have keys.
+/// pairs than a workload may have keys, and each has the form of its call's replies.
 pub fn stepped(alloc: Global, workload: &Workload) -> Result<Outcome, AllocError>
     ensures outcome { IfOk result (StepsTo workload.now) }
     ensures computed { IfOk result (λ outcome. outcome ≡ turns workload.now) }
     ensures pairs { IfOk result (λ outcome. shows_to MAX_KEYS outcome ≡ true) }
+    ensures forms { IfOk result (λ outcome. has_forms workload.now outcome ≡ true) }
 {
     maps_keep_to_the_keys_of_calls();
+    laws::replies_have_their_form();
     laws::each_run_has_one_outcome();
     let mut state = State::start(alloc, workload)?;
     let ending = take_all(alloc, workload, &mut state)?;

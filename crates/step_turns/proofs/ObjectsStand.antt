@@ -1,100 +1,20 @@
 -- At all objects a worker is out but at the mutex at which its call waits.
-use Rattle.std.proofs.Common.{◌≡◌, ◌≢◌, ℕ, zero, suc, ◌*◌, ◌<◌, ◌==◌, Bool, true, false, cond, ◌&&◌, List, [], ◌∷◌, map, set, Option, Some, None, refl, sym, ap, ◌∙◌, subst, ◌⊎◌, inl, inr, arith}
-use Rattle.std.specs.Prelude.{ℤ, negsuc, IsTrue, IsFalse, slice_get, if◌then◌else◌, unwrap_or}
-use Rattle.std.specs.Int.{w64, int_wrapping_add}
-use Rattle.std.specs.FinMap.{FinMap}
-use Rattle.std.specs.Ordering.{nat_cmp}
-use Rattle.std.specs.Cmp.Lexicographic.{slice_cmp}
+use Rattle.std.proofs.Common.{◌≡◌, ◌≢◌, ℕ, zero, suc, Bool, true, false, List, [], ◌∷◌, map, set, Option, Some, None, refl, sym, ap, ◌∙◌, subst}
+use Rattle.std.specs.Prelude.{slice_get, if◌then◌else◌, unwrap_or}
 use Rattle.std.specs.Option.{option_map, option_map_or}
-use Rattle.std.proofs.lemmas.Bool.{lt-ltb, eq-eqb, eqb-true}
 use Rattle.std.proofs.lemmas.Option.{slice_get-map}
-use Rattle.sync_model.specs.Replies.{is_reply_to, map_form, atomic_form, mutex_form, rw_mutex_form}
-use Rattle.sync_model.specs.SequentialMap.{map_reply}
-use Rattle.sync_model.specs.SequentialAtomic.{atomic_reply}
-use Rattle.sync_model.specs.declared.atomic_object.Number.{Number}
-use Rattle.sync_model.specs.declared.atomic_object.Number.TheVariants.{Int64}
-use Rattle.sync_model.specs.declared.atomic_object.AtomicCall.{AtomicCall}
 use Rattle.sync_model.specs.declared.call.Call.{Call}
 use Rattle.sync_model.specs.declared.call.Operation.{Operation}
-use Rattle.sync_model.specs.declared.call.Operation.TheVariants as operations
-use Rattle.sync_model.specs.declared.call.Reply.{Reply}
-use Rattle.sync_model.specs.declared.call.Reply.TheVariants as replies
-use Rattle.sync_model.specs.declared.once_call.DoReply.TheVariants as once_replies
-use Rattle.sync_model.specs.declared.lock_call.LockReply.TheVariants as lock_replies
-use Rattle.sync_model.specs.declared.lock_call.MutexCall.{MutexCall}
-use Rattle.sync_model.specs.declared.lock_call.MutexCall.TheVariants as mutex_calls
-use Rattle.sync_model.specs.declared.lock_call.RwMutexCall.{RwMutexCall}
-use Rattle.sync_model.specs.declared.lock_call.RwMutexCall.TheVariants as rw_calls
-use Rattle.sync_model.specs.declared.map_object.MapCall.{MapCall}
-use Rattle.sync_model.specs.declared.pool_call.PoolCall.{PoolCall}
-use Rattle.sync_model.specs.declared.pool_call.PoolCall.TheVariants as pool_calls
-use Rattle.sync_model.specs.declared.wait_call.CondCall.{CondCall}
-use Rattle.sync_model.specs.declared.wait_call.CondCall.TheVariants as cond_calls
-use Rattle.sync_model.specs.declared.wait_call.WaitGroupCall.{WaitGroupCall}
-use Rattle.mutex_core.specs.MutexMachine as mutex
-use Rattle.mutex_core.specs.Moves as mutex_moves
-use Rattle.mutex_core.specs.Standing as mutex_standing
-use Rattle.mutex_core.specs.declared.event.MutexEvent.{MutexEvent}
-use Rattle.mutex_core.specs.declared.event.MutexEvent.TheVariants as mutex_event
-use Rattle.mutex_core.specs.declared.place.Place.{Place as MutexPlace}
-use Rattle.mutex_core.specs.declared.place.Place.TheVariants as mutex_place
-use Rattle.mutex_core.specs.declared.reply.MutexReply.{MutexReply}
-use Rattle.mutex_core.specs.declared.reply.MutexReply.TheVariants as mutex_reply
-use Rattle.mutex_core.specs.declared.reply.Arrival.TheVariants as mutex_arrival
-use Rattle.mutex_core.specs.declared.reply.Resumption.TheVariants as mutex_resumption
-use Rattle.mutex_core.specs.declared.reply.Unlocking.{Unlocking}
-use Rattle.mutex_core.specs.declared.reply.Unlocking.TheVariants as mutex_unlocking
-use Rattle.rw_core.specs.RwMachine as rw
-use Rattle.rw_core.specs.Moves as rw_moves
-use Rattle.rw_core.specs.Standing as rw_standing
-use Rattle.rw_core.specs.declared.event.RwEvent.{RwEvent}
-use Rattle.rw_core.specs.declared.event.RwEvent.TheVariants as rw_event
-use Rattle.rw_core.specs.declared.place.Place.{Place as RwPlace}
-use Rattle.rw_core.specs.declared.place.Place.TheVariants as rw_place
-use Rattle.rw_core.specs.declared.reply.RwReply.{RwReply}
-use Rattle.rw_core.specs.declared.reply.RwReply.TheVariants as rw_reply
-use Rattle.rw_core.specs.declared.reply.Arrival.{Arrival as RwArrival}
-use Rattle.rw_core.specs.declared.reply.Arrival.TheVariants as rw_arrival
-use Rattle.rw_core.specs.declared.reply.Resumption.{Resumption as RwResumption}
-use Rattle.rw_core.specs.declared.reply.Resumption.TheVariants as rw_resumption
-use Rattle.rw_core.specs.declared.reply.Unlocking.{Unlocking as RwUnlocking}
-use Rattle.rw_core.specs.declared.reply.Unlocking.TheVariants as rw_unlocking
-use Rattle.wait_cores.specs.NotifyMachine as notify
-use Rattle.wait_cores.specs.OnceMachine as once
-use Rattle.pool_core.specs.PoolMachine as pool
-use Rattle.wait_cores.specs.declared.notify.NotifyPlace.{NotifyPlace}
-use Rattle.wait_cores.specs.declared.notify.NotifyPlace.TheVariants as notify_place
-use Rattle.wait_cores.specs.declared.group.GroupReply.{GroupReply}
-use Rattle.wait_cores.specs.declared.group.GroupReply.TheVariants as group_reply
-use Rattle.wait_cores.specs.declared.once.OnceReply.{OnceReply}
-use Rattle.wait_cores.specs.declared.once.OnceReply.TheVariants as once_reply
-use Rattle.pool_core.specs.declared.pool_event.PoolEvent.{PoolEvent}
-use Rattle.pool_core.specs.declared.pool_event.PoolReply.{PoolReply}
-use Rattle.pool_core.specs.declared.pool_event.PoolReply.TheVariants as pool_reply
 use Rattle.workload.specs.declared.object.ObjectKind.{ObjectKind}
 use Rattle.workload.specs.declared.object.ObjectKind.TheVariants as kinds
-use Rattle.workload.specs.Plan.{has_call, reference_of}
+use Rattle.workload.specs.Plan.{reference_of}
 use Rattle.step_turns.specs.declared.answer.Answer.{Answer}
 use Rattle.step_turns.specs.declared.answer.Answer.TheVariants as answers
 use Rattle.step_turns.specs.declared.object_state.ObjectState.{ObjectState}
-use Rattle.step_turns.specs.declared.object_state.ObjectState.TheVariants as states
-use Rattle.step_turns.specs.Objects.{new_object, kind_of, IsMachineOf, EachAt}
+use Rattle.step_turns.specs.Objects.{new_object, kind_of, EachAt}
 use Rattle.step_turns.specs.Ready.{IsReady}
 use Rattle.step_turns.specs.ReplyForm.{HasForm}
 use Rattle.step_turns.specs.Stands.{may_wait, waits_at, IsOutAt, IsOutBut, waits_behind}
-use Rattle.step_turns.specs.MapTurn.{map_turn, range_turn}
-use Rattle.step_turns.specs.AtomicTurn.{atomic_turn}
-use Rattle.step_turns.specs.MutexTurn.{mutex_turn}
-use Rattle.step_turns.specs.MutexTurn as of_mutex
-use Rattle.step_turns.specs.RwMutexTurn.{rw_mutex_turn}
-use Rattle.step_turns.specs.RwMutexTurn as of_rw
-use Rattle.step_turns.specs.CondTurn as of_cond
-use Rattle.step_turns.specs.CondTurn.{Pair, cond_turn}
-use Rattle.step_turns.specs.WaitGroupTurn as of_group
-use Rattle.step_turns.specs.WaitGroupTurn.{group_turn}
-use Rattle.step_turns.specs.OnceTurn as of_once
-use Rattle.step_turns.specs.OnceTurn.{once_step, failure, adding_turn, once_turn, func_turn, value_turn}
-use Rattle.step_turns.specs.PoolTurn.{PoolStep, found_or, found_by, looks_of, pool_step, pool_turn}
 use Rattle.step_turns.specs.Turns.{turn_on, turn_on_both, with_object, with_both, turn_at}
 use Rattle.step_turns.proofs.AtObjects.{Alone, Referring, at_ready}
 use Rattle.step_turns.proofs.OthersStand.{Stands, turn_other, first_other, second_other}

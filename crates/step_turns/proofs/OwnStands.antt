@@ -1,20 +1,12 @@
 -- Behind a worker's own turn it is out where its call doesn't wait, and a reply has the form of its call's.
-use Rattle.std.proofs.Common.{◌≡◌, ◌≢◌, ℕ, zero, suc, ◌*◌, ◌<◌, ◌==◌, Bool, true, false, cond, ◌&&◌, List, [], ◌∷◌, map, set, Option, Some, None, refl, sym, ap, ◌∙◌, subst, ◌⊎◌, inl, inr, arith}
-use Rattle.std.specs.Prelude.{ℤ, negsuc, IsTrue, IsFalse, slice_get, if◌then◌else◌, unwrap_or}
+use Rattle.std.proofs.Common.{◌≡◌, ℕ, ◌*◌, ◌<◌, Bool, true, false, ◌&&◌, List, [], ◌∷◌, refl, sym, ap, ◌∙◌, subst, ◌⊎◌, inl, inr, arith}
+use Rattle.std.specs.Prelude.{ℤ, if◌then◌else◌}
 use Rattle.std.specs.Int.{w64, int_wrapping_add}
-use Rattle.std.specs.FinMap.{FinMap}
-use Rattle.std.specs.Ordering.{nat_cmp}
-use Rattle.std.specs.Cmp.Lexicographic.{slice_cmp}
-use Rattle.std.specs.Option.{option_map, option_map_or}
-use Rattle.std.proofs.lemmas.Bool.{lt-ltb, eq-eqb, eqb-true}
-use Rattle.std.proofs.lemmas.Option.{slice_get-map}
-use Rattle.sync_model.specs.Replies.{is_reply_to, map_form, atomic_form, mutex_form, rw_mutex_form}
-use Rattle.sync_model.specs.SequentialMap.{map_reply}
-use Rattle.sync_model.specs.SequentialAtomic.{atomic_reply}
+use Rattle.std.proofs.lemmas.Bool.{lt-ltb, eq-eqb}
+use Rattle.sync_model.specs.Replies.{is_reply_to, rw_mutex_form}
 use Rattle.sync_model.specs.declared.atomic_object.Number.{Number}
 use Rattle.sync_model.specs.declared.atomic_object.Number.TheVariants.{Int64}
 use Rattle.sync_model.specs.declared.atomic_object.AtomicCall.{AtomicCall}
-use Rattle.sync_model.specs.declared.call.Call.{Call}
 use Rattle.sync_model.specs.declared.call.Operation.{Operation}
 use Rattle.sync_model.specs.declared.call.Operation.TheVariants as operations
 use Rattle.sync_model.specs.declared.call.Reply.{Reply}
@@ -71,17 +63,13 @@ use Rattle.wait_cores.specs.declared.once.OnceReply.TheVariants as once_reply
 use Rattle.pool_core.specs.declared.pool_event.PoolEvent.{PoolEvent}
 use Rattle.pool_core.specs.declared.pool_event.PoolReply.{PoolReply}
 use Rattle.pool_core.specs.declared.pool_event.PoolReply.TheVariants as pool_reply
-use Rattle.workload.specs.declared.object.ObjectKind.{ObjectKind}
-use Rattle.workload.specs.declared.object.ObjectKind.TheVariants as kinds
-use Rattle.workload.specs.Plan.{has_call, reference_of}
 use Rattle.step_turns.specs.declared.answer.Answer.{Answer}
 use Rattle.step_turns.specs.declared.answer.Answer.TheVariants as answers
 use Rattle.step_turns.specs.declared.object_state.ObjectState.{ObjectState}
 use Rattle.step_turns.specs.declared.object_state.ObjectState.TheVariants as states
-use Rattle.step_turns.specs.Objects.{new_object, kind_of, IsMachineOf, EachAt}
-use Rattle.step_turns.specs.Ready.{IsReady}
+use Rattle.step_turns.specs.Objects.{IsMachineOf}
 use Rattle.step_turns.specs.ReplyForm.{HasForm}
-use Rattle.step_turns.specs.Stands.{may_wait, waits_at, IsOutAt, IsOutBut, waits_behind}
+use Rattle.step_turns.specs.Stands.{may_wait, IsOutAt}
 use Rattle.step_turns.specs.MapTurn.{map_turn, range_turn}
 use Rattle.step_turns.specs.AtomicTurn.{atomic_turn}
 use Rattle.step_turns.specs.MutexTurn.{mutex_turn}
@@ -94,9 +82,8 @@ use Rattle.step_turns.specs.WaitGroupTurn as of_group
 use Rattle.step_turns.specs.WaitGroupTurn.{group_turn}
 use Rattle.step_turns.specs.OnceTurn as of_once
 use Rattle.step_turns.specs.OnceTurn.{once_step, failure, adding_turn, once_turn, func_turn, value_turn}
-use Rattle.step_turns.specs.PoolTurn.{PoolStep, found_or, found_by, looks_of, pool_step, pool_turn}
-use Rattle.step_turns.specs.Turns.{turn_on, turn_on_both, with_object, with_both, turn_at}
-use Rattle.step_turns.proofs.AtObjects.{Alone, Referring, at_ready}
+use Rattle.step_turns.specs.PoolTurn.{PoolStep, found_or, found_by, looks_of, pool_turn}
+use Rattle.step_turns.specs.Turns.{turn_on, turn_on_both}
 use Rattle.step_turns.proofs.OthersStand.{MutexStands, RwStands, Forms, Stands, no, untold}
 
 -- ---- a worker's own turn

@@ -5,6 +5,7 @@ use Rattle.sync_model.specs.declared.outcome.Ending.{Ending}
 use Rattle.sync_model.specs.declared.outcome.Outcome.{Outcome}
 use Rattle.sync_model.specs.Outcome.{shows_to}
 use Rattle.workload.specs.declared.limits.TheConstants.{MAX_KEYS}
+use Rattle.step_runner.specs.Forms.{has_forms}
 use Rattle.step_runner.specs.Outcomes.{StepsTo}
 use Rattle.step_runner.specs.State.{State}
 use Rattle.step_runner.specs.Turns.{items_of}
@@ -33,3 +34,9 @@ returns-clause-pairs c =
     let keys : Keys = record { begins = c.maps_keep_to_the_keys_of_calls.ensures.begins; goes_on = c.maps_keep_to_the_keys_of_calls.ensures.goes_on } in
     IfOk-weaker c.outcome.result (λ outcome. outcome ≡ turns c.args.workload.now) (λ outcome. shows_to MAX_KEYS outcome ≡ true)
     (λ outcome is. subst (λ (o : Outcome). shows_to MAX_KEYS o ≡ true) (sym is) (few_pairs keys c.args.workload.now c.in_ok-state.ensures.readable)) (computed c)
+
+pub returns-clause-forms : goal.returns-clause-forms
+returns-clause-forms c =
+    let plan = c.args.workload.now in
+    IfOk-weaker c.outcome.result (λ outcome. outcome ≡ turns plan) (λ outcome. has_forms plan outcome ≡ true)
+    (λ outcome is. subst (λ (o : Outcome). has_forms plan o ≡ true) (sym is) (c.replies_have_their_form.ensures.left plan c.in_ok-state.ensures.of.valid)) (computed c)

@@ -1,0 +1,211 @@
+-- Each reply of a run has the form of its call's replies, and each worker stands at the mutex at which its call waits, and at no other.
+use Rattle.std.proofs.Common.{◌≡◌, ◌≢◌, ℕ, zero, suc, ◌≤◌, Bool, true, false, eqb, ◌&&◌, List, [], ◌∷◌, ◌++◌, map, length, get_or, set, replicate, Option, Some, None, refl, sym, ap, ◌∙◌, subst, arith}
+use Rattle.std.specs.Prelude.{slice_get}
+use Rattle.std.specs.Option.{option_map_or}
+use Rattle.std.proofs.lemmas.Bool.{eqb-true, eqb-false}
+use Rattle.sync_model.specs.Outcome.{with_keys_renamed}
+use Rattle.sync_model.specs.Replies.{is_reply_to}
+use Rattle.sync_model.specs.declared.call.Call.{Call}
+use Rattle.sync_model.specs.declared.call.Operation.{Operation}
+use Rattle.sync_model.specs.declared.call.Reply.{Reply}
+use Rattle.sync_model.specs.declared.misuse.Misuse.{Misuse}
+use Rattle.sync_model.specs.declared.outcome.Ending.{Ending}
+use Rattle.sync_model.specs.declared.outcome.Ending.TheVariants as endings
+use Rattle.workload.specs.Keys.{keys_in, key_number}
+use Rattle.workload.specs.Plan.{Plan}
+use Rattle.workload.specs.Puts.{puts_at}
+use Rattle.workload.specs.declared.object.ObjectKind.{ObjectKind}
+use Rattle.workload.specs.declared.object.ObjectLine.{ObjectLine}
+use Rattle.workload.specs.declared.turn.Turn.{Turn}
+use Rattle.step_turns.specs.declared.answer.Answer.{Answer}
+use Rattle.step_turns.specs.declared.answer.Answer.TheVariants as answers
+use Rattle.step_turns.specs.declared.object_state.ObjectState.{ObjectState}
+use Rattle.step_turns.specs.Objects.{new_object, kind_of, EachAt}
+use Rattle.step_turns.specs.Ready.{IsReady}
+use Rattle.step_turns.specs.ReplyForm.{HasForm}
+use Rattle.step_turns.specs.Stands.{waits_at, IsOutAt, IsOutBut, waits_behind}
+use Rattle.step_turns.specs.Turns.{turn_at}
+use Rattle.step_runner.specs.declared.step.Step.{Step}
+use Rattle.step_runner.specs.declared.step.Step.TheVariants as steps
+use Rattle.step_runner.specs.Computed.{whole_run, outcome_of, turns}
+use Rattle.step_runner.specs.Ends.{numbered}
+use Rattle.step_runner.specs.Forms.{have_forms, all_have_forms, has_forms}
+use Rattle.step_runner.specs.State.{State, start, with_reply, with_moment, IsStateOf}
+use Rattle.step_runner.specs.Turns.{next_call, turn_of, after_items}
+use Rattle.step_runner.proofs.StartLemmas.{each_start}
+use Rattle.step_runner.proofs.TurnLemmas.{both, both_true, Takes, takes_by, turn_cases, moved, replied_other, valid_scripts}
+use Rattle.step_runner.proofs.RunLemmas.{GoesOn, moment_valid, Kept, items_keep, run_keeps}
+
+-- what the law of turns says
+pub record TurnStands : Type 0 where
+  pub begins : (worker workers room : ℕ) (kind : ObjectKind) → IsOutAt worker (new_object workers room kind)
+  pub forms : (workers worker moment : ℕ) (call : Call) (objects : List ObjectState) → IsReady workers worker call objects → IsOutBut (waits_at (map kind_of objects) call) worker objects
+      → HasForm call.operation (turn_at call worker moment objects).1
+  pub own : (workers worker moment : ℕ) (call : Call) (objects : List ObjectState) → IsReady workers worker call objects → IsOutBut (waits_at (map kind_of objects) call) worker objects
+      → IsOutBut (waits_behind (turn_at call worker moment objects).1 (waits_at (map kind_of objects) call)) worker (turn_at call worker moment objects).0
+  pub others : (workers worker other moment : ℕ) (call : Call) (but : Option ℕ) (objects : List ObjectState) → IsReady workers other call objects → worker ≢ other → IsOutBut but worker objects
+      → IsOutBut but worker (turn_at call other moment objects).0
+
+-- ---- replies in a list
+
+no_forms : (calls : List Call) → have_forms {K = List ℕ} calls [] ≡ true
+no_forms [] = refl
+no_forms (call ∷ calls) = refl
+
+forms_push : (calls : List Call) (replies : List (Reply (List ℕ))) (call : Call) (reply : Reply (List ℕ)) → have_forms calls replies ≡ true → slice_get calls (length replies) ≡ Some call → is_reply_to call.operation reply ≡ true
+    → have_forms calls (replies ++ reply ∷ []) ≡ true
+forms_push [] [] call reply e at form = absurd cc
+forms_push [] (x ∷ replies) call reply e at form = absurd cc
+forms_push (first ∷ calls) [] call reply e at form =
+    let same : first ≡ call = cc in
+    both_true (is_reply_to first.operation reply) (have_forms calls []) (subst (λ (c : Call). is_reply_to c.operation reply ≡ true) (sym same) form) (no_forms calls)
+forms_push (first ∷ calls) (x ∷ replies) call reply e at form =
+    let parts = both (is_reply_to first.operation x) (have_forms calls replies) e in
+    both_true (is_reply_to first.operation x) (have_forms calls (replies ++ reply ∷ [])) parts.0 (forms_push calls replies call reply parts.1 at form)
+
+forms_set : (scripts : List (List Call)) (lists : List (List (Reply (List ℕ)))) (worker : ℕ) (call : Call) (reply : Reply (List ℕ)) → all_have_forms scripts lists ≡ true
+    → slice_get (get_or scripts worker []) (length (get_or lists worker [])) ≡ Some call → is_reply_to call.operation reply ≡ true → all_have_forms scripts (set lists worker (get_or lists worker [] ++ reply ∷ [])) ≡ true
+forms_set [] [] worker call reply e at form = refl
+forms_set (script ∷ scripts) [] worker call reply e at form = refl
+forms_set [] (list ∷ lists) worker call reply e at form = absurd cc
+forms_set (script ∷ scripts) (list ∷ lists) zero call reply e at form =
+    let parts = both (have_forms script list) (all_have_forms scripts lists) e in
+    both_true (have_forms script (list ++ reply ∷ [])) (all_have_forms scripts lists) (forms_push script list call reply parts.0 at form) parts.1
+forms_set (script ∷ scripts) (list ∷ lists) (suc worker) call reply e at form =
+    let parts = both (have_forms script list) (all_have_forms scripts lists) e in
+    both_true (have_forms script list) (all_have_forms scripts (set lists worker (get_or lists worker [] ++ reply ∷ []))) parts.0 (forms_set scripts lists worker call reply parts.1 at form)
+
+forms_begin : (scripts : List (List Call)) (n : ℕ) → n ≤ length scripts → all_have_forms scripts (replicate {A = List (Reply (List ℕ))} n []) ≡ true
+forms_begin [] zero few = refl
+forms_begin [] (suc n) few = absurd (omega (arith, few))
+forms_begin (script ∷ scripts) zero few = refl
+forms_begin (script ∷ scripts) (suc n) few =
+    both_true (have_forms {K = List ℕ} script []) (all_have_forms scripts (replicate {A = List (Reply (List ℕ))} n [])) (no_forms script) (forms_begin scripts n (omega (arith, few)))
+
+-- other names for keys leave each reply its form
+abbrev pub Renamed : Type 0
+Renamed = (rename : List ℕ → ℕ) (operation : Operation) (reply : Reply (List ℕ)) → is_reply_to operation (with_keys_renamed rename reply) ≡ is_reply_to operation reply
+
+forms_renamed : Renamed → (rename : List ℕ → ℕ) (calls : List Call) (replies : List (Reply (List ℕ))) → have_forms calls (map (with_keys_renamed rename) replies) ≡ have_forms calls replies
+forms_renamed law rename [] [] = refl
+forms_renamed law rename (call ∷ calls) [] = refl
+forms_renamed law rename [] (reply ∷ replies) = refl
+forms_renamed law rename (call ∷ calls) (reply ∷ replies) = λ i. law rename call.operation reply i && forms_renamed law rename calls replies i
+
+all_renamed : Renamed → (rename : List ℕ → ℕ) (scripts : List (List Call)) (lists : List (List (Reply (List ℕ)))) → all_have_forms scripts (map (map (with_keys_renamed rename)) lists) ≡ all_have_forms scripts lists
+all_renamed law rename [] [] = refl
+all_renamed law rename (script ∷ scripts) [] = refl
+all_renamed law rename [] (list ∷ lists) = refl
+all_renamed law rename (script ∷ scripts) (list ∷ lists) = λ i. forms_renamed law rename script list i && all_renamed law rename scripts lists i
+
+-- ---- what every state keeps
+
+abbrev kinds_in : Plan → List ObjectKind
+kinds_in plan = map (λ (line : ObjectLine). line.kind) plan.objects
+
+-- the place at which a worker's call waits, if there is one
+abbrev awaited : Plan → ℕ → State → Option ℕ
+awaited plan worker s = option_map_or (λ call. waits_at (kinds_in plan) call) (next_call plan worker s) None
+
+pub record Standing (plan : Plan) (s : State) : Type 0 where
+  pub of : IsStateOf plan s
+  pub out : (worker : ℕ) → IsOutBut (awaited plan worker s) worker s.objects
+  pub forms : all_have_forms plan.scripts s.replies ≡ true
+
+-- one that is out everywhere is out but at any place
+out_anywhere : (but : Option ℕ) (worker : ℕ) (objects : List ObjectState) → IsOutBut None worker objects → IsOutBut but worker objects
+out_anywhere but worker objects out place object at ne = out place object at (λ e. cc)
+
+module _ (laws : TurnStands) (plan : Plan) (by : ℕ) (s : State) (h : Standing plan s) where
+  -- the worker that took the turn
+  own_at : (call : Call) (objects : List ObjectState) (answer : Answer) → Takes plan by s call objects answer → IsOutBut (waits_behind answer (waits_at (kinds_in plan) call)) by objects
+  own_at call objects answer takes =
+      takes_by (λ x. IsOutBut (waits_behind x.1 (waits_at (kinds_in plan) call)) by x.0) plan by s call objects answer h.of takes
+      (λ r. subst (λ (ks : List ObjectKind). IsOutBut (waits_at ks call) by s.objects → IsOutBut (waits_behind (turn_at call by s.moment s.objects).1 (waits_at ks call)) by (turn_at call by s.moment s.objects).0) h.of.objects
+      (laws.own plan.workers by s.moment call s.objects r) (stands call takes))
+    where
+      stands : (call : Call) → {objects : List ObjectState} {answer : Answer} → Takes plan by s call objects answer → IsOutBut (waits_at (kinds_in plan) call) by s.objects
+      stands call takes = subst (λ (o : Option Call). IsOutBut (option_map_or (λ c. waits_at (kinds_in plan) c) o None) by s.objects) takes.next (h.out by)
+
+  form_at : (call : Call) (objects : List ObjectState) (answer : Answer) → Takes plan by s call objects answer → HasForm call.operation answer
+  form_at call objects answer takes =
+      takes_by (λ x. HasForm call.operation x.1) plan by s call objects answer h.of takes
+      (λ r. laws.forms plan.workers by s.moment call s.objects r
+      (subst (λ (ks : List ObjectKind). IsOutBut (waits_at ks call) by s.objects) (sym h.of.objects)
+      (subst (λ (o : Option Call). IsOutBut (option_map_or (λ c. waits_at (kinds_in plan) c) o None) by s.objects) takes.next (h.out by))))
+
+  -- another worker
+  other_at : (worker : ℕ) (call : Call) (objects : List ObjectState) (answer : Answer) → worker ≢ by → Takes plan by s call objects answer → IsOutBut (awaited plan worker s) worker objects
+  other_at worker call objects answer apart takes =
+      takes_by (λ x. IsOutBut (awaited plan worker s) worker x.0) plan by s call objects answer h.of takes
+      (λ r. laws.others plan.workers worker by s.moment call (awaited plan worker s) s.objects r apart (h.out worker))
+
+  -- behind a turn that completes no call
+  unchanged : (worker : ℕ) (call : Call) (objects : List ObjectState) (answer : Answer) → waits_behind answer (waits_at (kinds_in plan) call) ≡ waits_at (kinds_in plan) call → Takes plan by s call objects answer
+      → IsOutBut (awaited plan worker s) worker objects
+  unchanged worker call objects answer same takes = elim (eqb worker by) as (λ b. eqb worker by ≡ b → IsOutBut (awaited plan worker s) worker objects) [
+    | true ↦ λ e.
+        let here : by ≡ worker = sym (eqb-true worker by e) in
+        subst (λ (w : ℕ). IsOutBut (awaited plan w s) w objects) here
+        (subst (λ (o : Option Call). IsOutBut (option_map_or (λ c. waits_at (kinds_in plan) c) o None) by objects) (sym takes.next)
+        (subst (λ (w : Option ℕ). IsOutBut w by objects) same (own_at call objects answer takes)))
+    | false ↦ λ e. other_at worker call objects answer (eqb-false worker by e) takes
+  ] refl
+
+  -- behind one that completes its call
+  replied : (worker : ℕ) (call : Call) (objects : List ObjectState) (reply : Reply (List ℕ)) → Takes plan by s call objects (answers.Completed reply)
+      → IsOutBut (awaited plan worker (with_reply by reply (moved objects s))) worker objects
+  replied worker call objects reply takes = elim (eqb worker by) as (λ b. eqb worker by ≡ b → IsOutBut (awaited plan worker (with_reply by reply (moved objects s))) worker objects) [
+    | true ↦ λ e.
+        let here : by ≡ worker = sym (eqb-true worker by e) in
+        subst (λ (w : ℕ). IsOutBut (awaited plan w (with_reply by reply (moved objects s))) w objects) here
+        (out_anywhere (awaited plan by (with_reply by reply (moved objects s))) by objects (own_at call objects (answers.Completed reply) takes))
+    | false ↦ λ e.
+        let apart : worker ≢ by = eqb-false worker by e in
+        subst (λ (done : List (Reply (List ℕ))). IsOutBut (option_map_or (λ c. waits_at (kinds_in plan) c) (slice_get (get_or plan.scripts worker []) (length done)) None) worker objects)
+        (sym (replied_other by worker reply (moved objects s) apart)) (other_at worker call objects (answers.Completed reply) apart takes)
+  ] refl
+
+  pub turn_out : (worker : ℕ) → IsOutBut (awaited plan worker (turn_of plan by s).0) worker (turn_of plan by s).0.objects
+  turn_out worker = turn_cases (λ step. IsOutBut (awaited plan worker step.0) worker step.0.objects) plan by s h.of (record {
+    ended = λ is. h.out worker;
+    still = λ call objects takes. unchanged worker call objects answers.Still refl takes;
+    unfinished = λ call objects takes. unchanged worker call objects answers.Unfinished refl takes;
+    completed = λ call objects reply takes. replied worker call objects reply takes;
+    misused = λ call objects misuse takes. unchanged worker call objects (answers.Misused misuse) refl takes;
+  })
+
+  pub turn_forms : all_have_forms plan.scripts (turn_of plan by s).0.replies ≡ true
+  turn_forms = turn_cases (λ step. all_have_forms plan.scripts step.0.replies ≡ true) plan by s h.of (record {
+    ended = λ is. h.forms;
+    still = λ call objects takes. h.forms;
+    unfinished = λ call objects takes. h.forms;
+    completed = λ call objects reply takes. forms_set plan.scripts s.replies by call reply h.forms takes.next (form_at call objects (answers.Completed reply) takes);
+    misused = λ call objects misuse takes. h.forms;
+  })
+
+standing_kept : TurnStands → (plan : Plan) → GoesOn plan → Kept plan (Standing plan)
+standing_kept laws plan goes_on = record {
+  turn = λ worker s h. record { of = goes_on worker s h.of; out = turn_out laws plan worker s h; forms = turn_forms laws plan worker s h };
+  moment = λ moment s h. record { of = moment_valid plan moment s h.of; out = h.out; forms = h.forms };
+}
+
+start_stands : TurnStands → (plan : Plan) → IsStateOf plan (start plan) → Standing plan (start plan)
+start_stands laws plan of = record {
+  of = of;
+  out = λ worker. each_start (λ place object. (awaited plan worker (start plan) ≡ Some place → ⊥) → IsOutAt worker object) plan (λ place kind ne. laws.begins worker plan.workers (puts_at place plan.scripts) kind);
+  forms = forms_begin plan.scripts plan.workers (omega (arith, valid_scripts plan of.valid));
+}
+
+pub items_stand : TurnStands → (plan : Plan) → GoesOn plan → IsStateOf plan (start plan) → (list : List Turn) → Standing plan (after_items plan list (start plan))
+items_stand laws plan goes_on of list = items_keep plan (Standing plan) (standing_kept laws plan goes_on) list (start plan) (start_stands laws plan of)
+
+left_forms : Renamed → (plan : Plan) (x : State × Ending) → all_have_forms plan.scripts x.0.replies ≡ true → has_forms plan (outcome_of plan x) ≡ true
+left_forms law plan (s, endings.Done) forms = all_renamed law (key_number (keys_in plan.scripts)) plan.scripts s.replies ∙ forms
+left_forms law plan (s, endings.Misused misuse) forms = all_renamed law (key_number (keys_in plan.scripts)) plan.scripts s.replies ∙ forms
+left_forms law plan (s, endings.Deadlocked) forms = all_renamed law (key_number (keys_in plan.scripts)) plan.scripts s.replies ∙ forms
+
+-- the replies of a run
+pub run_forms : TurnStands → Renamed → (plan : Plan) → GoesOn plan → IsStateOf plan (start plan) → has_forms plan (turns plan) ≡ true
+run_forms laws renamed plan goes_on of =
+    left_forms renamed plan (whole_run plan) (run_keeps plan (Standing plan) (standing_kept laws plan goes_on) (start_stands laws plan of)).forms
