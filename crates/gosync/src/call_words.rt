@@ -9,7 +9,7 @@ ghost use Rattle.gosync.specs.ReportText.{call_words};
 use crate::line::{push_atomic_word, push_word};
 use sync_model::{Call, Operation};
 use workload::ObjectLine;
-use workload::call::{verb, verb_text};
+use workload::call::verb;
 use workload::object::name_at;
 use workload::operands::{Numbers, operands_of};
 
@@ -25,7 +25,7 @@ fn push_verb(line: &mut Vec<u8>, operation: &Operation)
     ensures len { vec_len line.new ≤ vec_len line.old + 10 }
     ensures room { vec_capacity line.old ≤ vec_capacity line.new }
 {
-    push_word(line, verb_text(verb(operation)));
+    push_word(line, verb(operation).text());
 }
 
 /// Adds numbers of atomics' types, each behind a space.
