@@ -58,7 +58,7 @@ module _ {A B : Type 0} (f : A → B) where
   length_of (x ∷ xs) = ap suc (length_of xs)
 
 -- one placed call
-one_place : (call : SharedCall) (reply : SharedReply) (items : List Made) → (let asked : SharedCall × SharedReply = (call, reply) in Places (asked ∷ []) items) → (x : Item) × (items ≡ Shared x ∷ []) × (x.call ≡ call) × (x.reply ≡ reply)
+pub one_place : (call : SharedCall) (reply : SharedReply) (items : List Made) → (let asked : SharedCall × SharedReply = (call, reply) in Places (asked ∷ []) items) → (x : Item) × (items ≡ Shared x ∷ []) × (x.call ≡ call) × (x.reply ≡ reply)
 one_place call reply items (made, is, are) =
     let both = λ (x : Item). let asked : SharedCall × SharedReply = (x.call, x.reply) in asked in
     let one = one_of made (sym (length_of both made) ∙ ap (λ (l : List (SharedCall × SharedReply)). length l) are) in

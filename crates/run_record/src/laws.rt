@@ -3,3 +3,4 @@ pub mod edges;
 pub mod endings;
 pub mod examples;
 pub mod objects;
+pub mod spelling;

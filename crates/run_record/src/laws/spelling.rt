@@ -1,0 +1,21 @@
+//! What the items of a call are.
+ghost use Rattle.std.specs.Prelude.{◌≡◌, ◌≢◌, ℕ, ℤ, List, [], ◌∷◌, ◌++◌, Some, Ok, slice_get};
+ghost use Rattle.workload.specs.Plan.{Plan};
+ghost use Rattle.run_record.specs.Calls.{SpellsCall};
+ghost use Rattle.run_record.specs.Objects.{atomic_number};
+
+use crate::made::Made;
+use sync_model::{
+    Answer, AtomicCall, AtomicReply, Call, DoReply, Item, Number, Operation, Reply, SharedCall,
+    SharedReply,
+};
+use workload::{ObjectKind, ObjectLine};
+
+/// A `do` that ran its once's function added once, between the events that begin and end it, and answers the sum.
+pub fn a_do_that_ran_added_between()
+    ensures { (plan : Plan) (worker before atomic : ℕ) (delta sum : ℤ) (object : ObjectLine) (call : Call) (items : List Made)
+        → slice_get plan.objects call.object ≡ Some object → object.kind ≡ ObjectKind.Once atomic delta → call.operation ≡ Operation.Once
+        → SpellsCall plan worker before call items (Answer.Done (Ok (Reply.Once (DoReply.Ran sum))))
+        → (begun : List Made) × (ended : List Made) × (x : Item) × (items ≡ begun ++ Made.Shared x ∷ ended) × (begun ≢ []) × (ended ≢ [])
+        × (x.call ≡ SharedCall.Atomic (atomic_number plan.objects atomic) (AtomicCall.Add (Number.Int64 delta))) × (x.reply ≡ SharedReply.Atomic (AtomicReply.Held (Number.Int64 sum))) }
+{}
