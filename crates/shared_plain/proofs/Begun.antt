@@ -21,7 +21,7 @@ use Rattle.shared_plain.specs.CursorsStand.{Stands}
 use Rattle.shared_plain.specs.Marks.{holding, own_by, KeepsOwn}
 use Rattle.shared_plain.specs.PlainHistory.{Step, items_by}
 use Rattle.shared_plain.specs.Plains.{maps_of}
-use Rattle.shared_plain.specs.Staying.{spot_one_more}
+use Rattle.shared_plain.specs.Staying.{spot_one_more, stays}
 use Rattle.shared_plain.specs.Walks.{spot_shown, spot_behind, spot_next, spot_of, StandsAt}
 use Rattle.shared_plain.proofs.FirstCallers.{within, at_last}
 use Rattle.shared_plain.proofs.Orders.{unmade}
@@ -94,3 +94,10 @@ stepped_stands plain cursor map begin from shown start old new was becomes had h
             ∙ (ap (λ (b : Bool). cond b (spot_behind shown (spot_of begin was.items)) (spot_of begin was.items)) (eq-eqb begin begin refl) ∙ (ap (spot_behind shown) stands.at.spot ∙ sym is));
       };
     }
+
+-- a cursor stands as it stood after a call on a map
+pub beside_stands : (plain : Plain) (cursor : Cursor) (map begin : ℕ) (start : Contents) (call : SharedCall) (reply : SharedReply) (cost : ℕ) (old new : CallerState) → (call ≡ calls.Next begin → ⊥) → Called start call reply cost old new
+    → ((was : Holding) → old.own ≡ Some was → Stands plain cursor map begin was.items) → (becomes : Holding) → new.own ≡ Some becomes → Stands plain cursor map begin becomes.items
+beside_stands plain cursor map begin start call reply cost old new other called stands becomes has =
+    subst (λ l. Stands plain cursor map begin l) (sym (last_made start call reply cost old new called.was becomes called.own_old has called))
+    (stays plain cursor map begin called.was.items called.item (λ e. other (sym called.is_call ∙ e)) (stands called.was called.own_old))

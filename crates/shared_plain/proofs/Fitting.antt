@@ -210,3 +210,9 @@ next_fits start m b from below = by_found (slice_get start.maps m) refl
     by_found : (found : Option (List (Option ℕ))) → slice_get start.maps m ≡ found → is_some (slice_get (map (λ slots. length slots) start.maps) m) ≡ true
     by_found None at_m = absurd (none_there start.maps m below at_m)
     by_found (Some slots) at_m = ap is_some (get_map (λ slots. length slots) start.maps m (Some slots) at_m)
+
+-- there are as many maps after any journal
+pub maps_stay : (start : Holdings) (journal : List Step) → length (state_after next start journal).maps ≡ length start.maps
+maps_stay start journal =
+    let all = state_after next start journal in
+    sym (length-map all.maps (λ (slots : List (Option ℕ)). length slots)) ∙ (ap (λ (l : List ℕ). length l) (like_after start journal).keys ∙ length-map start.maps (λ (slots : List (Option ℕ)). length slots))

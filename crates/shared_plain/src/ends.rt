@@ -41,7 +41,8 @@ impl Plain {
     pub fn ends(self, callers: Vec<Caller<Mark>>, room: EndsRoom) -> PlainState
         requires callers { AreAllCallers IsMarkOf own_by self callers.items (count_of self) }
         requires room { count_of self ≤ room_of room }
-        ensures { AreEnds own_by seen_of (first_contents (maps_of self) (kinds_of self)) callers.items (contents_of result) }
+        ensures ends { AreEnds own_by seen_of (first_contents (maps_of self) (kinds_of self)) callers.items (contents_of result) }
+        ensures maps { length result.maps ≡ maps_of self }
     {
         starts_empty();
         passes_and_copies::<PlainMachine, NoNote>();

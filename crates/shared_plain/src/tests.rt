@@ -1,3 +1,4 @@
 mod callers;
 mod one_thread;
 mod pair;
+mod walks;

@@ -13,6 +13,9 @@ use sync_model::{
     AtomicCall, AtomicKind, AtomicReply, Caller, CallerNote, MapCall, MapReply, Note, Shared,
 };
 
+/// What two steps of a cursor show.
+pub(super) type TwoSteps = (Option<(u32, u64)>, Option<(u32, u64)>);
+
 /// One of the two callers.
 #[derive(Clone, Copy, Debug)]
 pub(super) enum Who {
@@ -90,6 +93,15 @@ impl Pair {
         shown
     }
 
+    /// The first caller's cursor over map 0 makes a step, then the caller a call there, where it may, and the cursor
+    /// another step.
+    pub(super) fn walk<R: Wait>(&mut self, rt: &R, between: MapCall<u32>) -> Option<TwoSteps> {
+        if !self.plain.takes(&between) {
+            return None;
+        }
+        walk(rt, &self.plain, &mut self.first, between)
+    }
+
     /// The number of each caller.
     pub(super) fn numbers(&self) -> (u32, u32) {
         (self.first.number(), self.second.number())
@@ -137,4 +149,26 @@ fn on_uint<R: Wait>(
     }
     let reply = plain.atomic_call(rt, caller, 1, call);
     Some(reply)
+}
+
+// A step of a cursor, another call of its caller where it has a spare entry, and another step.
+fn walk<R: Wait>(
+    rt: &R,
+    plain: &Plain,
+    caller: &mut Caller<Mark>,
+    between: MapCall<u32>,
+) -> Option<TwoSteps>
+    requires caller { IsCallerAt IsMarkOf own_by plain.now caller.old }
+    requires maps { 0 < maps_of plain.now }
+    requires call { IsMapCall (Takes plain.now) between }
+    ensures { IsCallerAt IsMarkOf own_by plain.now caller.new }
+{
+    let mut cursor = plain.begin(rt, caller, 0);
+    let first = plain.next(rt, caller, &mut cursor);
+    if caller.spare() == 0 {
+        return None;
+    }
+    plain.map_call(rt, caller, 0, between);
+    let second = plain.next(rt, caller, &mut cursor);
+    Some((first, second))
 }

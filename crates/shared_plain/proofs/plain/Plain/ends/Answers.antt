@@ -4,11 +4,12 @@ use Rattle.ruled_object.specs.Gathered.{AreAllPasses, IsWhole}
 use Rattle.ruled_object.specs.Passes.{start_of}
 use Rattle.shared_plain.specs.EndsOfHistory.{AreEnds}
 use Rattle.shared_plain.specs.Marks.{own_by, seen_of}
-use Rattle.shared_plain.specs.PlainMachine.{contents_of, next}
+use Rattle.shared_plain.specs.PlainMachine.{Holdings, contents_of, next}
 use Rattle.shared_plain.specs.Plains.{kinds_of, maps_of}
 use Rattle.shared_plain.specs.Settling.{passes_in}
 use Rattle.shared_plain.proofs.AllEnded.{ended}
 use Rattle.shared_plain.proofs.AllSettled.{PassLaws, all_passes}
+use Rattle.shared_plain.proofs.Fitting.{maps_stay}
 use Rattle.shared_plain.proofs.Walking.{Laws}
 use Rattle.shared_plain.proofs.plain.Plain.ends.Goals as goal
 
@@ -18,8 +19,8 @@ finish-requires c =
     let laws : PassLaws plain = record { holds = c.passes_and_copies.ensures.holds plain.object; is_pass = c.passes_and_copies.ensures.is_pass plain.object } in
     subst (AreAllPasses plain.object) (sym c.passes_of-passes.ensures) (all_passes plain laws c.args.callers.items c.requires.callers)
 
-pub returns : goal.returns
-returns c =
+pub returns-clause-ends : goal.returns-clause-ends
+returns-clause-ends c =
     let plain = c.args.self in
     let laws : PassLaws plain = record { holds = c.passes_and_copies.ensures.holds plain.object; is_pass = c.passes_and_copies.ensures.is_pass plain.object } in
     let callers = c.args.callers.items in
@@ -37,3 +38,6 @@ returns c =
     subst (λ s. AreEnds own_by seen_of s callers (contents_of c.finish.result)) (ap contents_of plain.begun ∙ c.starts_empty.ensures (maps_of plain) plain.keys (kinds_of plain))
     (subst (λ s. AreEnds own_by seen_of (contents_of start) callers (contents_of s)) (sym c.finish.ensures.2)
     (ended plain laws _ _ callers journal c.requires.callers whole of c.maps_and_atomics_stay.ensures.no_entry c.histories_go_on.ensures.all))
+
+pub returns-clause-maps : goal.returns-clause-maps
+returns-clause-maps c = ap (λ (h : Holdings). length h.maps) c.finish.ensures.2 ∙ maps_stay (start_of c.args.self.object) c.finish.ensures.0
