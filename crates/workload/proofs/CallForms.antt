@@ -6,8 +6,8 @@ use Rattle.std.specs.Option.{option_to_list}
 use Rattle.std.specs.Fmt.{decimal}
 use Rattle.std.proofs.lemmas.Bool.{leb-true}
 use Rattle.sync_model.specs.Name.{is_name}
-use Rattle.sync_model.specs.declared.call.Call.{Call}
-use Rattle.sync_model.specs.declared.call.Call.TheVariants as calls
+use Rattle.sync_model.specs.declared.call.Operation.{Operation}
+use Rattle.sync_model.specs.declared.call.Operation.TheVariants as operations
 use Rattle.sync_model.specs.declared.map_object.MapCall.{MapCall}
 use Rattle.sync_model.specs.declared.map_object.MapCall.TheVariants as map_calls
 use Rattle.sync_model.specs.declared.atomic_object.AtomicKind.{AtomicKind}
@@ -33,7 +33,7 @@ use Rattle.workload.specs.declared.object.ObjectKind.TheVariants as kinds
 use Rattle.workload.specs.Plan.{has_call}
 use Rattle.workload.specs.NumberWords.{number_word, is_number_to}
 use Rattle.workload.specs.CallWords.{map_verb, map_operands, atomic_verb, atomic_operands, mutex_verb, rw_mutex_verb, cond_verb, group_verb, group_operands, pool_verb, pool_operands, verb_of, operands_of}
-use Rattle.workload.specs.Draft.{keys_of, is_call, is_map_call, is_group_call, is_pool_call, is_value, is_range}
+use Rattle.workload.specs.Draft.{operation_keys, is_operation, is_map_call, is_group_call, is_pool_call, is_value, is_range_operation}
 use Rattle.workload.specs.Checks.{PassesWith, map_form, atomic_form, bits_form, mutex_form, rw_mutex_form, cond_form, group_form, pool_form, form_of, ranges_in}
 use Rattle.workload.proofs.Passing.{both}
 use Rattle.workload.proofs.Numbers.{is_number-decimal, number_of-decimal}
@@ -113,24 +113,24 @@ pool_passes (pool_calls.Put v) h = (refl, rw (value_passes v h) refl)
 pool_passes pool_calls.Get h = (refl, refl)
 pool_passes pool_calls.Sweep h = (refl, refl)
 
--- a call that the kind of its object has
-pub call_form : (kind : ObjectKind) (c : Call) → has_call kind c ≡ true → is_call c ≡ true → PassesWith (form_of (verb_of c) kind) (operands_of c) (keys_of c)
-call_form kinds.Map (calls.Map i c) on h = map_passes c h
-call_form kinds.Map (calls.Range i) on h = (refl, refl)
-call_form (kinds.Atomic k) (calls.Atomic i c) on h = atomic_passes k c on
-call_form kinds.Mutex (calls.Mutex i c) on h = mutex_passes c
-call_form kinds.RwMutex (calls.RwMutex i c) on h = rw_mutex_passes c
-call_form (kinds.Cond m) (calls.Cond i c) on h = cond_passes c
-call_form (kinds.WaitGroup n) (calls.WaitGroup i c) on h = group_passes c h
-call_form (kinds.Once a z) (calls.Once i) on h = (refl, refl)
-call_form (kinds.OnceFunc n) (calls.OnceFunc i) on h = (refl, refl)
-call_form (kinds.OnceValue n) (calls.OnceValue i) on h = (refl, refl)
-call_form kinds.Pool (calls.Pool i c) on h = pool_passes c h
+-- an operation that the kind of its object has
+pub call_form : (kind : ObjectKind) (o : Operation) → has_call kind o ≡ true → is_operation o ≡ true → PassesWith (form_of (verb_of o) kind) (operands_of o) (operation_keys o)
+call_form kinds.Map (operations.Map c) on h = map_passes c h
+call_form kinds.Map operations.Range on h = (refl, refl)
+call_form (kinds.Atomic k) (operations.Atomic c) on h = atomic_passes k c on
+call_form kinds.Mutex (operations.Mutex c) on h = mutex_passes c
+call_form kinds.RwMutex (operations.RwMutex c) on h = rw_mutex_passes c
+call_form (kinds.Cond m) (operations.Cond c) on h = cond_passes c
+call_form (kinds.WaitGroup n) (operations.WaitGroup c) on h = group_passes c h
+call_form (kinds.Once a z) operations.Once on h = (refl, refl)
+call_form (kinds.OnceFunc n) operations.OnceFunc on h = (refl, refl)
+call_form (kinds.OnceValue n) operations.OnceValue on h = (refl, refl)
+call_form kinds.Pool (operations.Pool c) on h = pool_passes c h
 call_form kind c on h = absurd cc
 
--- the word of a call says whether it is a `range` call
-pub ranges_of : (c : Call) → count_by is_range (c ∷ []) ≡ ranges_in (verb_of c)
-ranges_of (calls.Map i c) = no_range c
+-- the word of an operation says whether it is `range`
+pub ranges_of : (o : Operation) → count_by is_range_operation (o ∷ []) ≡ ranges_in (verb_of o)
+ranges_of (operations.Map c) = no_range c
   where
     no_range : (c : MapCall (List ℕ)) → 0 ≡ ranges_in (map_verb c)
     no_range (map_calls.Load k) = refl
@@ -142,8 +142,8 @@ ranges_of (calls.Map i c) = no_range c
     no_range (map_calls.CompareAndSwap k v w) = refl
     no_range (map_calls.CompareAndDelete k v) = refl
     no_range map_calls.Clear = refl
-ranges_of (calls.Range i) = refl
-ranges_of (calls.Atomic i c) = no_range c
+ranges_of operations.Range = refl
+ranges_of (operations.Atomic c) = no_range c
   where
     no_range : (c : AtomicCall) → 0 ≡ ranges_in (atomic_verb c)
     no_range atomic_calls.Load = refl
@@ -153,13 +153,13 @@ ranges_of (calls.Atomic i c) = no_range c
     no_range (atomic_calls.And v) = refl
     no_range (atomic_calls.Or v) = refl
     no_range (atomic_calls.CompareAndSwap v w) = refl
-ranges_of (calls.Mutex i c) = no_range c
+ranges_of (operations.Mutex c) = no_range c
   where
     no_range : (c : MutexCall) → 0 ≡ ranges_in (mutex_verb c)
     no_range mutex_calls.Lock = refl
     no_range mutex_calls.Unlock = refl
     no_range mutex_calls.TryLock = refl
-ranges_of (calls.RwMutex i c) = no_range c
+ranges_of (operations.RwMutex c) = no_range c
   where
     no_range : (c : RwMutexCall) → 0 ≡ ranges_in (rw_mutex_verb c)
     no_range rw_mutex_calls.Lock = refl
@@ -168,22 +168,22 @@ ranges_of (calls.RwMutex i c) = no_range c
     no_range rw_mutex_calls.RLock = refl
     no_range rw_mutex_calls.RUnlock = refl
     no_range rw_mutex_calls.TryRLock = refl
-ranges_of (calls.Cond i c) = no_range c
+ranges_of (operations.Cond c) = no_range c
   where
     no_range : (c : CondCall) → 0 ≡ ranges_in (cond_verb c)
     no_range cond_calls.Wait = refl
     no_range cond_calls.Signal = refl
     no_range cond_calls.Broadcast = refl
-ranges_of (calls.WaitGroup i c) = no_range c
+ranges_of (operations.WaitGroup c) = no_range c
   where
     no_range : (c : WaitGroupCall) → 0 ≡ ranges_in (group_verb c)
     no_range (group_calls.Add z) = refl
     no_range group_calls.Done = refl
     no_range group_calls.Wait = refl
-ranges_of (calls.Once i) = refl
-ranges_of (calls.OnceFunc i) = refl
-ranges_of (calls.OnceValue i) = refl
-ranges_of (calls.Pool i c) = no_range c
+ranges_of operations.Once = refl
+ranges_of operations.OnceFunc = refl
+ranges_of operations.OnceValue = refl
+ranges_of (operations.Pool c) = no_range c
   where
     no_range : (c : PoolCall) → 0 ≡ ranges_in (pool_verb c)
     no_range (pool_calls.Put v) = refl

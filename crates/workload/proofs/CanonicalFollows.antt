@@ -22,7 +22,7 @@ use Rattle.workload.specs.declared.object.ObjectWord.TheVariants as words
 use Rattle.workload.specs.declared.object.ObjectLine.{ObjectLine}
 use Rattle.workload.specs.declared.line.Line.TheVariants as lines
 use Rattle.workload.specs.declared.turn.Turn.{Turn}
-use Rattle.workload.specs.Plan.{Plan, word_of, reference_of, is_target, refers, object_of, has_call, is_on}
+use Rattle.workload.specs.Plan.{Plan, word_of, reference_of, is_target, refers, has_call, is_on}
 use Rattle.workload.specs.Draft.{Draft, started, may_follow, declared_from, count_of, count_together, limit_of, is_kind, names_reference, names_object, is_call, is_item, keys_of, all_keys, distinct_count, key_count, call_count, is_range, range_count}
 use Rattle.workload.specs.Canonical.{name_of, reference_name, object_line, call_line, script_lines, eights, canonical_lines}
 use Rattle.workload.specs.Readable.{may_join, may_declare, IsReadable}
@@ -313,14 +313,14 @@ ranges_fit done front rest c more =
     omega (arith, ranges-middle done front more, ranges-middle done (front ++ (c ∷ rest)) more, sum_by-append one front (c ∷ rest), sum_by-append one (c ∷ []) rest)
 
 -- a call on an object that is there is named by its name
-call_named : (objects : List ObjectLine) (c : Call) → may_declare [] objects ≡ true → is_on (slice_get objects (object_of c)) c ≡ true
-    → (is_name (name_of (slice_get objects (object_of c))) ≡ true) × (names_object (declared_from 0 (name_of (slice_get objects (object_of c))) objects) c ≡ true)
+call_named : (objects : List ObjectLine) (c : Call) → may_declare [] objects ≡ true → is_on (slice_get objects c.object) c ≡ true
+    → (is_name (name_of (slice_get objects c.object)) ≡ true) × (names_object (declared_from 0 (name_of (slice_get objects c.object)) objects) c ≡ true)
 call_named objects c new on =
-    elim (slice_get objects (object_of c)) as (λ o. slice_get objects (object_of c) ≡ o → is_on o c ≡ true → (is_name (name_of o) ≡ true) × (names_object (declared_from 0 (name_of o) objects) c ≡ true)) [
+    elim (slice_get objects c.object) as (λ o. slice_get objects c.object ≡ o → is_on o c ≡ true → (is_name (name_of o) ≡ true) × (names_object (declared_from 0 (name_of o) objects) c ≡ true)) [
       | None ↦ λ at h. absurd cc
       | Some o ↦ λ at h.
-          let found = found_in objects [] (object_of c) o new at in
-          (found.0, rw found.1 (pair (eqb (0 + object_of c) (object_of c)) (has_call o.kind c) (eq-eqb (0 + object_of c) (object_of c) (omega arith)) h))
+          let found = found_in objects [] c.object o new at in
+          (found.0, rw found.1 (pair (eqb (0 + c.object) c.object) (has_call o.kind c.operation) (eq-eqb (0 + c.object) c.object (omega arith)) h))
     ] refl on
 
 -- a draft by its parts
@@ -329,7 +329,7 @@ at workers objects schedule scripts worker = record { plan = record { workers = 
 
 -- what the calls of a script need
 record CallsFit (objects : List ObjectLine) (done : List (List Call)) (front rest : List Call) (more : List (List Call)) : Type 0 where
-  on : list_all (λ call. is_on (slice_get objects (object_of call)) call) rest ≡ true
+  on : list_all (λ call. is_on (slice_get objects call.object) call) rest ≡ true
   fits : list_all is_call rest ≡ true
   room : call_count (done ++ ((front ++ rest) ∷ more)) ≤ MAX_CALLS
   keys : distinct_count (all_keys (done ++ ((front ++ rest) ∷ more))) ≤ MAX_KEYS
@@ -340,7 +340,7 @@ calls_follow : (workers : ℕ) (objects : List ObjectLine) (schedule : List Turn
 calls_follow workers objects schedule done [] front more new fit = ap (λ (f : List Call). at workers objects schedule (done ++ (f ∷ more)) (Some (length done))) (append-nil front)
 calls_follow workers objects schedule done (c ∷ rest) front more new fit =
     let d = at workers objects schedule (done ++ (front ∷ more)) (Some (length done)) in
-    let test : Call → Bool = λ call. is_on (slice_get objects (object_of call)) call in
+    let test : Call → Bool = λ call. is_on (slice_get objects call.object) call in
     let on = both (test c) (list_all test rest) fit.on in
     let fits = both (is_call c) (list_all is_call rest) fit.fits in
     let named = call_named objects c new on.0 in
@@ -382,7 +382,7 @@ empty_calls (suc n) = empty_calls n
 
 -- what the scripts need
 record ScriptsFit (objects : List ObjectLine) (done rest : List (List Call)) : Type 0 where
-  on : list_all (list_all (λ call. is_on (slice_get objects (object_of call)) call)) rest ≡ true
+  on : list_all (list_all (λ call. is_on (slice_get objects call.object) call)) rest ≡ true
   fits : list_all (list_all is_call) rest ≡ true
   room : call_count (done ++ rest) ≤ MAX_CALLS
   keys : distinct_count (all_keys (done ++ rest)) ≤ MAX_KEYS
@@ -392,7 +392,7 @@ scripts_follow : (workers : ℕ) (objects : List ObjectLine) (schedule : List Tu
     → (last : Option ℕ) × FollowOn (at workers objects schedule (done ++ replicate (length rest) []) worker) (script_lines objects (length done) rest) (at workers objects schedule (done ++ rest) last)
 scripts_follow workers objects schedule [] done worker new count fit = (worker, refl)
 scripts_follow workers objects schedule (s ∷ rest) done worker new count fit =
-    let test : Call → Bool = λ call. is_on (slice_get objects (object_of call)) call in
+    let test : Call → Bool = λ call. is_on (slice_get objects call.object) call in
     let on = both (list_all test s) (list_all (list_all test) rest) fit.on in
     let fits = both (list_all is_call s) (list_all (list_all is_call) rest) fit.fits in
     let more = replicate (length rest) [] in

@@ -21,7 +21,7 @@ use Rattle.workload.specs.declared.line.Line.TheVariants as lines
 use Rattle.workload.specs.declared.turn.Turn.{Turn}
 use Rattle.workload.specs.declared.turn.Turn.TheVariants as turns
 use Rattle.workload.specs.declared.object.ObjectKind.{ObjectKind}
-use Rattle.workload.specs.Plan.{Plan, reference_of, is_target, refers, object_of, has_call, is_on, is_turn, is_valid}
+use Rattle.workload.specs.Plan.{Plan, reference_of, is_target, refers, has_call, is_on, is_turn, is_valid}
 use Rattle.workload.specs.Draft.{Draft, names_reference, declared_from, names_object, is_call, is_item, may_follow, call_count, key_count, keys_of, all_keys, distinct_count, is_range, range_count}
 use Rattle.workload.specs.Readable.{may_join, may_declare}
 use Rattle.workload.specs.Index.{IsIndexed, with_keys, marks}
@@ -88,15 +88,15 @@ refers_more os o kind h = at (reference_of kind) h
     at (Some place) h = there os place h
 
 -- a call whose name is that of its object is on it
-pub names_is_on : (name : List ℕ) (os : List ObjectLine) (call : Call) → names_object (declared_from 0 name os) call ≡ true → is_on (slice_get os (object_of call)) call ≡ true
+pub names_is_on : (name : List ℕ) (os : List ObjectLine) (call : Call) → names_object (declared_from 0 name os) call ≡ true → is_on (slice_get os call.object) call ≡ true
 names_is_on name os call e =
-    elim (declared_from 0 name os) as (λ o. declared_from 0 name os ≡ o → names_object o call ≡ true → is_on (slice_get os (object_of call)) call ≡ true) [
+    elim (declared_from 0 name os) as (λ o. declared_from 0 name os ≡ o → names_object o call ≡ true → is_on (slice_get os call.object) call ≡ true) [
       | None ↦ λ is h. absurd cc
       | Some d ↦ λ is h.
-          let parts = both (eqb d.place (object_of call)) (has_call d.kind call) h in
+          let parts = both (eqb d.place call.object) (has_call d.kind call.operation) h in
           let at = found_at 0 name os d is in
-          let place : d.place - 0 ≡ object_of call = omega (arith, eqb-true d.place (object_of call) parts.0) in
-          let there : slice_get os (object_of call) ≡ Some at.0 = ap (slice_get os) (sym place) ∙ at.2 in
+          let place : d.place - 0 ≡ call.object = omega (arith, eqb-true d.place call.object parts.0) in
+          let there : slice_get os call.object ≡ Some at.0 = ap (slice_get os) (sym place) ∙ at.2 in
           rw there (rw at.3 parts.1)
     ] refl e
 
@@ -108,13 +108,13 @@ get_more (p ∷ os) o (suc k) call e = get_more os o k call e
 -- the parts of a plan that is valid
 pub record IsValid (plan : Plan) : Type 0 where
   pub scripts : length plan.scripts ≡ plan.workers
-  pub calls : list_all (list_all (λ call. is_on (slice_get plan.objects (object_of call)) call)) plan.scripts ≡ true
+  pub calls : list_all (list_all (λ call. is_on (slice_get plan.objects call.object) call)) plan.scripts ≡ true
   pub turns : list_all (is_turn plan.workers) plan.schedule ≡ true
   pub references : list_all (λ object. refers plan.objects object.kind) plan.objects ≡ true
 
 pub valid_parts : (plan : Plan) → is_valid plan ≡ true → IsValid plan
 valid_parts plan e =
-    let calls = list_all (list_all (λ call. is_on (slice_get plan.objects (object_of call)) call)) plan.scripts in
+    let calls = list_all (list_all (λ call. is_on (slice_get plan.objects call.object) call)) plan.scripts in
     let turns = list_all (is_turn plan.workers) plan.schedule in
     let references = list_all (λ object. refers plan.objects object.kind) plan.objects in
     let first = both (eqb (length plan.scripts) plan.workers) (calls && (turns && references)) e in
@@ -125,7 +125,7 @@ valid_parts plan e =
 pub valid_from : (plan : Plan) → IsValid plan → is_valid plan ≡ true
 valid_from plan v =
     pair (eqb (length plan.scripts) plan.workers) _ (eq-eqb (length plan.scripts) plan.workers v.scripts)
-    (pair (list_all (list_all (λ call. is_on (slice_get plan.objects (object_of call)) call)) plan.scripts) _ v.calls
+    (pair (list_all (list_all (λ call. is_on (slice_get plan.objects call.object) call)) plan.scripts) _ v.calls
     (pair (list_all (is_turn plan.workers) plan.schedule) (list_all (λ object. refers plan.objects object.kind) plan.objects) v.turns v.references))
 
 no_name : (q name : List ℕ) (os : List ObjectLine) → is_some (declared_from 0 name os) ≡ false → bytes_eq q name ≡ true → declared_from 0 q os ≡ None
@@ -174,8 +174,8 @@ indexed_object plan worker table seen number many o to h follows =
       readable = record {
         valid = valid_from (record plan { objects = plan.objects ++ o ∷ [] }) (record {
           scripts = v.scripts;
-          calls = all_mono (list_all (λ call. is_on (slice_get plan.objects (object_of call)) call)) (list_all (λ call. is_on (slice_get (plan.objects ++ o ∷ []) (object_of call)) call))
-              (λ script. all_mono _ _ (λ call. get_more plan.objects o (object_of call) call) script) plan.scripts v.calls;
+          calls = all_mono (list_all (λ call. is_on (slice_get plan.objects call.object) call)) (list_all (λ call. is_on (slice_get (plan.objects ++ o ∷ []) call.object) call))
+              (λ script. all_mono _ _ (λ call. get_more plan.objects o call.object call) script) plan.scripts v.calls;
           turns = v.turns;
           references = all_append all plan.objects (o ∷ [])
               (all_mono (λ x. refers plan.objects x.kind) all (λ x. refers_more plan.objects o x.kind) plan.objects v.references)
@@ -243,10 +243,10 @@ indexed_call plan worker table seen number many name call h follows =
     let r = h.readable in
     let v = valid_parts plan r.valid in
     let parts = call_follows (record { plan = plan; current = Some worker }) name call follows in
-    let on : is_on (slice_get plan.objects (object_of call)) call ≡ true = names_is_on name plan.objects call parts.on in
+    let on : is_on (slice_get plan.objects call.object) call ≡ true = names_is_on name plan.objects call parts.on in
     let here : worker < length plan.scripts = omega (arith, ltb-true worker plan.workers h.current, v.scripts) in
     let script = get_or plan.scripts worker [] in
-    let test : Call → Bool = λ c. is_on (slice_get plan.objects (object_of c)) c in
+    let test : Call → Bool = λ c. is_on (slice_get plan.objects c.object) c in
     let grown : call_count (set plan.scripts worker (script ++ call ∷ [])) ≡ call_count plan.scripts + 1 = omega (arith, sum_by-set length plan.scripts worker (script ++ call ∷ []) [] here, length-append script (call ∷ [])) in
     let ranges : List Call → ℕ = λ calls. count_by is_range calls in
     let more : range_count (set plan.scripts worker (script ++ call ∷ [])) ≡ range_count plan.scripts + count_by is_range (call ∷ []) =
@@ -302,7 +302,7 @@ indexed_start workers some few = record {
   readable = record {
     valid = valid_from (record { workers = workers; objects = []; scripts = replicate workers []; schedule = [] }) (record {
       scripts = length-replicate workers [];
-      calls = all_empty (λ call. is_on (slice_get [] (object_of call)) call) workers;
+      calls = all_empty (λ call. is_on (slice_get [] call.object) call) workers;
       turns = refl;
       references = refl;
     });

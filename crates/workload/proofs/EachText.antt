@@ -10,7 +10,8 @@ use Rattle.std.proofs.lemmas.Slice.Eq.{bytes_eq-Decides}
 use Rattle.std.proofs.lemmas.List.{length-map}
 use Rattle.sync_model.specs.Name.{is_name}
 use Rattle.sync_model.specs.declared.call.Call.{Call}
-use Rattle.sync_model.specs.declared.call.Call.TheVariants as calls
+use Rattle.sync_model.specs.declared.call.Operation.{Operation}
+use Rattle.sync_model.specs.declared.call.Operation.TheVariants as operations
 use Rattle.sync_model.specs.declared.map_object.MapCall.TheVariants as map_calls
 use Rattle.sync_model.specs.declared.atomic_object.AtomicKind.{AtomicKind}
 use Rattle.sync_model.specs.declared.atomic_object.AtomicKind.TheVariants as types
@@ -43,13 +44,13 @@ use Rattle.workload.specs.declared.reason.Reason.{Reason}
 use Rattle.workload.specs.declared.reason.Reason.TheVariants.{NoWorkersLine, LineTooLong, BadByte, WrongNumberOfWords, BadName, NameTaken, BadNumber, CallOutsideWorker, LimitReached, InputTooLong}
 use Rattle.workload.specs.declared.turn.Turn.{Turn}
 use Rattle.workload.specs.declared.turn.Turn.TheVariants as turns
-use Rattle.workload.specs.Plan.{Plan, word_of, reference_of, is_target, is_amount, object_of, has_call}
+use Rattle.workload.specs.Plan.{Plan, word_of, reference_of, is_target, is_amount, has_call}
 use Rattle.workload.specs.Lines.{lines_of, words_of, is_short, is_clean, is_significant}
 use Rattle.workload.specs.KeywordWords.{keyword_word, keyword_at, verb_word}
 use Rattle.workload.specs.NumberWords.{number_word, is_number, is_number_to, is_amount_word, number_of}
 use Rattle.workload.specs.CallWords.{verb_of, operands_of}
 use Rattle.workload.specs.Words.{spelled, kind_parameters, turn_word}
-use Rattle.workload.specs.Draft.{Draft, started, with_line, declared, may_follow, names_object, names_reference, is_kind, is_call, is_value, is_item, is_range, keys_of, count_of, limit_of, range_count}
+use Rattle.workload.specs.Draft.{Draft, started, with_line, declared, may_follow, names_object, names_reference, is_kind, is_operation, is_value, is_item, is_range, operation_keys, count_of, limit_of, range_count}
 use Rattle.workload.specs.Checks.{Check, first_failing, form_words, parameter_words, PassesWith, map_form, bits_form, atomic_form, mutex_form, rw_mutex_form, cond_form, group_form, pool_form, form_of, parameters_of, parameters_checks, reference_checks, is_mutex, is_int64, key_operands, ranges_in, limit_checks, form_checks, object_checks, worker_checks, item_checks, line_checks, first_checks, word_checks, reason_of}
 use Rattle.workload.specs.Reads.{Says, IsRead, ReadsOn, Reads, FirstFault, IsRefused}
 use Rattle.workload.proofs.Passing.{both, pair}
@@ -259,7 +260,7 @@ object_said d word (name ∷ ws) h =
 -- ---- calls
 
 abbrev CallSaid : Draft → List ℕ → Verb → List (List ℕ) → Type 0
-CallSaid d name verb words = (c : Call) × (verb_of c ≡ verb) × (operands_of c ≡ words) × (may_follow d (lines.Call name c) ≡ true)
+CallSaid d name verb words = (c : Call) × (verb_of c.operation ≡ verb) × (operands_of c.operation ≡ words) × (may_follow d (lines.Call name c) ≡ true)
 
 -- ---- the operands that words spell
 
@@ -328,8 +329,8 @@ bits_said types.Bool words h = absurd cc
 
 -- ---- the call that words spell
 
-abbrev Spelled : ObjectKind → ℕ → Verb → List (List ℕ) → Type 0
-Spelled kind place verb words = (c : Call) × (verb_of c ≡ verb) × (operands_of c ≡ words) × (object_of c ≡ place) × (has_call kind c ≡ true) × (is_call c ≡ true)
+abbrev Spelled : ObjectKind → Verb → List (List ℕ) → Type 0
+Spelled kind verb words = (o : Operation) × (verb_of o ≡ verb) × (operands_of o ≡ words) × (has_call kind o ≡ true) × (is_operation o ≡ true)
 
 keyed : (k : List ℕ) → is_name k ≡ true → (list_all is_name (k ∷ []) && true) ≡ true
 keyed k h = rw h refl
@@ -337,49 +338,49 @@ keyed k h = rw h refl
 paired : (k : List ℕ) (v : ℕ) → is_name k ≡ true → is_value v ≡ true → (list_all is_name (k ∷ []) && list_all is_value (v ∷ [])) ≡ true
 paired k v h i = rw (h, i) refl
 
-map_spelled : (place : ℕ) (verb : Verb) (words : List (List ℕ)) → first_failing (form_words (map_form verb) words) ≡ None → Spelled kinds.Map place verb words
-map_spelled place verbs.Load words h = let said = key_said words h in (calls.Map place (map_calls.Load said.0), refl, sym said.2, refl, refl, keyed said.0 said.1)
-map_spelled place verbs.LoadAndDelete words h = let said = key_said words h in (calls.Map place (map_calls.LoadAndDelete said.0), refl, sym said.2, refl, refl, keyed said.0 said.1)
-map_spelled place verbs.Delete words h = let said = key_said words h in (calls.Map place (map_calls.Delete said.0), refl, sym said.2, refl, refl, keyed said.0 said.1)
-map_spelled place verbs.Store words h = let said = pair_said words h in (calls.Map place (map_calls.Store said.0 said.1), refl, sym said.4, refl, refl, paired said.0 said.1 said.2 said.3)
-map_spelled place verbs.LoadOrStore words h = let said = pair_said words h in (calls.Map place (map_calls.LoadOrStore said.0 said.1), refl, sym said.4, refl, refl, paired said.0 said.1 said.2 said.3)
-map_spelled place verbs.Swap words h = let said = pair_said words h in (calls.Map place (map_calls.Swap said.0 said.1), refl, sym said.4, refl, refl, paired said.0 said.1 said.2 said.3)
-map_spelled place verbs.CompareAndDelete words h = let said = pair_said words h in (calls.Map place (map_calls.CompareAndDelete said.0 said.1), refl, sym said.4, refl, refl, paired said.0 said.1 said.2 said.3)
-map_spelled place verbs.CompareAndSwap words h = let said = exchange_said words h in (calls.Map place (map_calls.CompareAndSwap said.0 said.1 said.2), refl, sym said.6, refl, refl, rw (said.3, said.4, said.5) refl)
-map_spelled place verbs.Clear words h = (calls.Map place map_calls.Clear, refl, sym (none_said words h), refl, refl, refl)
-map_spelled place verbs.Range words h = (calls.Range place, refl, sym (none_said words h), refl, refl, refl)
-map_spelled place verb words h = absurd cc
+map_spelled : (verb : Verb) (words : List (List ℕ)) → first_failing (form_words (map_form verb) words) ≡ None → Spelled kinds.Map verb words
+map_spelled verbs.Load words h = let said = key_said words h in (operations.Map (map_calls.Load said.0), refl, sym said.2, refl, keyed said.0 said.1)
+map_spelled verbs.LoadAndDelete words h = let said = key_said words h in (operations.Map (map_calls.LoadAndDelete said.0), refl, sym said.2, refl, keyed said.0 said.1)
+map_spelled verbs.Delete words h = let said = key_said words h in (operations.Map (map_calls.Delete said.0), refl, sym said.2, refl, keyed said.0 said.1)
+map_spelled verbs.Store words h = let said = pair_said words h in (operations.Map (map_calls.Store said.0 said.1), refl, sym said.4, refl, paired said.0 said.1 said.2 said.3)
+map_spelled verbs.LoadOrStore words h = let said = pair_said words h in (operations.Map (map_calls.LoadOrStore said.0 said.1), refl, sym said.4, refl, paired said.0 said.1 said.2 said.3)
+map_spelled verbs.Swap words h = let said = pair_said words h in (operations.Map (map_calls.Swap said.0 said.1), refl, sym said.4, refl, paired said.0 said.1 said.2 said.3)
+map_spelled verbs.CompareAndDelete words h = let said = pair_said words h in (operations.Map (map_calls.CompareAndDelete said.0 said.1), refl, sym said.4, refl, paired said.0 said.1 said.2 said.3)
+map_spelled verbs.CompareAndSwap words h = let said = exchange_said words h in (operations.Map (map_calls.CompareAndSwap said.0 said.1 said.2), refl, sym said.6, refl, rw (said.3, said.4, said.5) refl)
+map_spelled verbs.Clear words h = (operations.Map map_calls.Clear, refl, sym (none_said words h), refl, refl)
+map_spelled verbs.Range words h = (operations.Range, refl, sym (none_said words h), refl, refl)
+map_spelled verb words h = absurd cc
 
-atomic_spelled : (kind : AtomicKind) (place : ℕ) (verb : Verb) (words : List (List ℕ)) → first_failing (form_words (atomic_form kind verb) words) ≡ None → Spelled (kinds.Atomic kind) place verb words
-atomic_spelled kind place verbs.Load words h = (calls.Atomic place atomic_calls.Load, refl, sym (none_said words h), refl, refl, refl)
-atomic_spelled kind place verbs.Store words h = let said = number_alone_said kind words h in (calls.Atomic place (atomic_calls.Store said.0), refl, sym said.2, refl, said.1, refl)
-atomic_spelled kind place verbs.Swap words h = let said = number_alone_said kind words h in (calls.Atomic place (atomic_calls.Swap said.0), refl, sym said.2, refl, said.1, refl)
-atomic_spelled kind place verbs.Add words h = let said = bits_said kind words h in (calls.Atomic place (atomic_calls.Add said.0), refl, sym said.2, refl, said.1, refl)
-atomic_spelled kind place verbs.And words h = let said = bits_said kind words h in (calls.Atomic place (atomic_calls.And said.0), refl, sym said.2, refl, said.1, refl)
-atomic_spelled kind place verbs.Or words h = let said = bits_said kind words h in (calls.Atomic place (atomic_calls.Or said.0), refl, sym said.2, refl, said.1, refl)
-atomic_spelled kind place verbs.CompareAndSwap words h = let said = numbers_said kind words h in (calls.Atomic place (atomic_calls.CompareAndSwap said.0 said.1), refl, sym said.4, refl, pair (is_of kind said.0) (is_of kind said.1) said.2 said.3, refl)
-atomic_spelled kind place verb words h = absurd cc
+atomic_spelled : (kind : AtomicKind) (verb : Verb) (words : List (List ℕ)) → first_failing (form_words (atomic_form kind verb) words) ≡ None → Spelled (kinds.Atomic kind) verb words
+atomic_spelled kind verbs.Load words h = (operations.Atomic atomic_calls.Load, refl, sym (none_said words h), refl, refl)
+atomic_spelled kind verbs.Store words h = let said = number_alone_said kind words h in (operations.Atomic (atomic_calls.Store said.0), refl, sym said.2, said.1, refl)
+atomic_spelled kind verbs.Swap words h = let said = number_alone_said kind words h in (operations.Atomic (atomic_calls.Swap said.0), refl, sym said.2, said.1, refl)
+atomic_spelled kind verbs.Add words h = let said = bits_said kind words h in (operations.Atomic (atomic_calls.Add said.0), refl, sym said.2, said.1, refl)
+atomic_spelled kind verbs.And words h = let said = bits_said kind words h in (operations.Atomic (atomic_calls.And said.0), refl, sym said.2, said.1, refl)
+atomic_spelled kind verbs.Or words h = let said = bits_said kind words h in (operations.Atomic (atomic_calls.Or said.0), refl, sym said.2, said.1, refl)
+atomic_spelled kind verbs.CompareAndSwap words h = let said = numbers_said kind words h in (operations.Atomic (atomic_calls.CompareAndSwap said.0 said.1), refl, sym said.4, pair (is_of kind said.0) (is_of kind said.1) said.2 said.3, refl)
+atomic_spelled kind verb words h = absurd cc
 
-mutex_spelled : (place : ℕ) (verb : Verb) (words : List (List ℕ)) → first_failing (form_words (mutex_form verb) words) ≡ None → Spelled kinds.Mutex place verb words
-mutex_spelled place verbs.Lock words h = (calls.Mutex place mutex_calls.Lock, refl, sym (none_said words h), refl, refl, refl)
-mutex_spelled place verbs.Unlock words h = (calls.Mutex place mutex_calls.Unlock, refl, sym (none_said words h), refl, refl, refl)
-mutex_spelled place verbs.TryLock words h = (calls.Mutex place mutex_calls.TryLock, refl, sym (none_said words h), refl, refl, refl)
-mutex_spelled place verb words h = absurd cc
+mutex_spelled : (verb : Verb) (words : List (List ℕ)) → first_failing (form_words (mutex_form verb) words) ≡ None → Spelled kinds.Mutex verb words
+mutex_spelled verbs.Lock words h = (operations.Mutex mutex_calls.Lock, refl, sym (none_said words h), refl, refl)
+mutex_spelled verbs.Unlock words h = (operations.Mutex mutex_calls.Unlock, refl, sym (none_said words h), refl, refl)
+mutex_spelled verbs.TryLock words h = (operations.Mutex mutex_calls.TryLock, refl, sym (none_said words h), refl, refl)
+mutex_spelled verb words h = absurd cc
 
-rw_mutex_spelled : (place : ℕ) (verb : Verb) (words : List (List ℕ)) → first_failing (form_words (rw_mutex_form verb) words) ≡ None → Spelled kinds.RwMutex place verb words
-rw_mutex_spelled place verbs.Lock words h = (calls.RwMutex place rw_mutex_calls.Lock, refl, sym (none_said words h), refl, refl, refl)
-rw_mutex_spelled place verbs.Unlock words h = (calls.RwMutex place rw_mutex_calls.Unlock, refl, sym (none_said words h), refl, refl, refl)
-rw_mutex_spelled place verbs.TryLock words h = (calls.RwMutex place rw_mutex_calls.TryLock, refl, sym (none_said words h), refl, refl, refl)
-rw_mutex_spelled place verbs.RLock words h = (calls.RwMutex place rw_mutex_calls.RLock, refl, sym (none_said words h), refl, refl, refl)
-rw_mutex_spelled place verbs.RUnlock words h = (calls.RwMutex place rw_mutex_calls.RUnlock, refl, sym (none_said words h), refl, refl, refl)
-rw_mutex_spelled place verbs.TryRLock words h = (calls.RwMutex place rw_mutex_calls.TryRLock, refl, sym (none_said words h), refl, refl, refl)
-rw_mutex_spelled place verb words h = absurd cc
+rw_mutex_spelled : (verb : Verb) (words : List (List ℕ)) → first_failing (form_words (rw_mutex_form verb) words) ≡ None → Spelled kinds.RwMutex verb words
+rw_mutex_spelled verbs.Lock words h = (operations.RwMutex rw_mutex_calls.Lock, refl, sym (none_said words h), refl, refl)
+rw_mutex_spelled verbs.Unlock words h = (operations.RwMutex rw_mutex_calls.Unlock, refl, sym (none_said words h), refl, refl)
+rw_mutex_spelled verbs.TryLock words h = (operations.RwMutex rw_mutex_calls.TryLock, refl, sym (none_said words h), refl, refl)
+rw_mutex_spelled verbs.RLock words h = (operations.RwMutex rw_mutex_calls.RLock, refl, sym (none_said words h), refl, refl)
+rw_mutex_spelled verbs.RUnlock words h = (operations.RwMutex rw_mutex_calls.RUnlock, refl, sym (none_said words h), refl, refl)
+rw_mutex_spelled verbs.TryRLock words h = (operations.RwMutex rw_mutex_calls.TryRLock, refl, sym (none_said words h), refl, refl)
+rw_mutex_spelled verb words h = absurd cc
 
-cond_spelled : (m place : ℕ) (verb : Verb) (words : List (List ℕ)) → first_failing (form_words (cond_form verb) words) ≡ None → Spelled (kinds.Cond m) place verb words
-cond_spelled m place verbs.Wait words h = (calls.Cond place cond_calls.Wait, refl, sym (none_said words h), refl, refl, refl)
-cond_spelled m place verbs.Signal words h = (calls.Cond place cond_calls.Signal, refl, sym (none_said words h), refl, refl, refl)
-cond_spelled m place verbs.Broadcast words h = (calls.Cond place cond_calls.Broadcast, refl, sym (none_said words h), refl, refl, refl)
-cond_spelled m place verb words h = absurd cc
+cond_spelled : (m : ℕ) (verb : Verb) (words : List (List ℕ)) → first_failing (form_words (cond_form verb) words) ≡ None → Spelled (kinds.Cond m) verb words
+cond_spelled m verbs.Wait words h = (operations.Cond cond_calls.Wait, refl, sym (none_said words h), refl, refl)
+cond_spelled m verbs.Signal words h = (operations.Cond cond_calls.Signal, refl, sym (none_said words h), refl, refl)
+cond_spelled m verbs.Broadcast words h = (operations.Cond cond_calls.Broadcast, refl, sym (none_said words h), refl, refl)
+cond_spelled m verb words h = absurd cc
 
 amount_alone_said : (words : List (List ℕ)) → first_failing (form_words (Some (operands.Amount ∷ [])) words) ≡ None → (z : ℤ) × (is_amount z ≡ true) × (words ≡ signed_decimal z ∷ [])
 amount_alone_said [] h = absurd cc
@@ -389,11 +390,11 @@ amount_alone_said (w ∷ []) h =
     (signed_of w, said.0, ap (λ (x : List ℕ). x ∷ []) (sym said.1))
 amount_alone_said (w ∷ other ∷ words) h = absurd (omega (arith, eqb-true (length (w ∷ other ∷ words)) 1 (all_pass (form_words (Some (operands.Amount ∷ [])) (w ∷ other ∷ words)) h).0))
 
-group_spelled : (n place : ℕ) (verb : Verb) (words : List (List ℕ)) → first_failing (form_words (group_form verb) words) ≡ None → Spelled (kinds.WaitGroup n) place verb words
-group_spelled n place verbs.Add words h = let said = amount_alone_said words h in (calls.WaitGroup place (group_calls.Add said.0), refl, sym said.2, refl, refl, said.1)
-group_spelled n place verbs.Done words h = (calls.WaitGroup place group_calls.Done, refl, sym (none_said words h), refl, refl, refl)
-group_spelled n place verbs.Wait words h = (calls.WaitGroup place group_calls.Wait, refl, sym (none_said words h), refl, refl, refl)
-group_spelled n place verb words h = absurd cc
+group_spelled : (n : ℕ) (verb : Verb) (words : List (List ℕ)) → first_failing (form_words (group_form verb) words) ≡ None → Spelled (kinds.WaitGroup n) verb words
+group_spelled n verbs.Add words h = let said = amount_alone_said words h in (operations.WaitGroup (group_calls.Add said.0), refl, sym said.2, refl, said.1)
+group_spelled n verbs.Done words h = (operations.WaitGroup group_calls.Done, refl, sym (none_said words h), refl, refl)
+group_spelled n verbs.Wait words h = (operations.WaitGroup group_calls.Wait, refl, sym (none_said words h), refl, refl)
+group_spelled n verb words h = absurd cc
 
 item_alone_said : (words : List (List ℕ)) → first_failing (form_words (Some (operands.Value ∷ [])) words) ≡ None → (v : ℕ) × (is_value v ≡ true) × (words ≡ decimal v ∷ [])
 item_alone_said [] h = absurd cc
@@ -403,24 +404,24 @@ item_alone_said (w ∷ []) h =
     (number_of w, said.0, ap (λ (x : List ℕ). x ∷ []) said.1)
 item_alone_said (w ∷ other ∷ words) h = absurd (omega (arith, eqb-true (length (w ∷ other ∷ words)) 1 (all_pass (form_words (Some (operands.Value ∷ [])) (w ∷ other ∷ words)) h).0))
 
-pool_spelled : (place : ℕ) (verb : Verb) (words : List (List ℕ)) → first_failing (form_words (pool_form verb) words) ≡ None → Spelled kinds.Pool place verb words
-pool_spelled place verbs.Put words h = let said = item_alone_said words h in (calls.Pool place (pool_calls.Put said.0), refl, sym said.2, refl, refl, said.1)
-pool_spelled place verbs.Get words h = (calls.Pool place pool_calls.Get, refl, sym (none_said words h), refl, refl, refl)
-pool_spelled place verbs.Sweep words h = (calls.Pool place pool_calls.Sweep, refl, sym (none_said words h), refl, refl, refl)
-pool_spelled place verb words h = absurd cc
+pool_spelled : (verb : Verb) (words : List (List ℕ)) → first_failing (form_words (pool_form verb) words) ≡ None → Spelled kinds.Pool verb words
+pool_spelled verbs.Put words h = let said = item_alone_said words h in (operations.Pool (pool_calls.Put said.0), refl, sym said.2, refl, said.1)
+pool_spelled verbs.Get words h = (operations.Pool pool_calls.Get, refl, sym (none_said words h), refl, refl)
+pool_spelled verbs.Sweep words h = (operations.Pool pool_calls.Sweep, refl, sym (none_said words h), refl, refl)
+pool_spelled verb words h = absurd cc
 
-spelled_on : (kind : ObjectKind) (place : ℕ) (verb : Verb) (words : List (List ℕ)) → first_failing (form_words (form_of verb kind) words) ≡ None → Spelled kind place verb words
-spelled_on kinds.Map place verb words h = map_spelled place verb words h
-spelled_on (kinds.Atomic kind) place verb words h = atomic_spelled kind place verb words h
-spelled_on kinds.Mutex place verb words h = mutex_spelled place verb words h
-spelled_on kinds.RwMutex place verb words h = rw_mutex_spelled place verb words h
-spelled_on (kinds.Cond m) place verb words h = cond_spelled m place verb words h
-spelled_on (kinds.WaitGroup n) place verb words h = group_spelled n place verb words h
-spelled_on (kinds.Once a z) place verbs.Do words h = (calls.Once place, refl, sym (none_said words h), refl, refl, refl)
-spelled_on (kinds.OnceFunc n) place verbs.Call words h = (calls.OnceFunc place, refl, sym (none_said words h), refl, refl, refl)
-spelled_on (kinds.OnceValue n) place verbs.Value words h = (calls.OnceValue place, refl, sym (none_said words h), refl, refl, refl)
-spelled_on kinds.Pool place verb words h = pool_spelled place verb words h
-spelled_on kind place verb words h = absurd cc
+spelled_on : (kind : ObjectKind) (verb : Verb) (words : List (List ℕ)) → first_failing (form_words (form_of verb kind) words) ≡ None → Spelled kind verb words
+spelled_on kinds.Map verb words h = map_spelled verb words h
+spelled_on (kinds.Atomic kind) verb words h = atomic_spelled kind verb words h
+spelled_on kinds.Mutex verb words h = mutex_spelled verb words h
+spelled_on kinds.RwMutex verb words h = rw_mutex_spelled verb words h
+spelled_on (kinds.Cond m) verb words h = cond_spelled m verb words h
+spelled_on (kinds.WaitGroup n) verb words h = group_spelled n verb words h
+spelled_on (kinds.Once a z) verbs.Do words h = (operations.Once, refl, sym (none_said words h), refl, refl)
+spelled_on (kinds.OnceFunc n) verbs.Call words h = (operations.OnceFunc, refl, sym (none_said words h), refl, refl)
+spelled_on (kinds.OnceValue n) verbs.Value words h = (operations.OnceValue, refl, sym (none_said words h), refl, refl)
+spelled_on kinds.Pool verb words h = pool_spelled verb words h
+spelled_on kind verb words h = absurd cc
 
 -- the checks of the operands alone
 operands_pass : (d : Draft) (verb : Verb) (form : Option (List Operand)) (words : List (List ℕ)) → first_failing (form_checks d verb form words) ≡ None → first_failing (form_words form words) ≡ None
@@ -430,15 +431,17 @@ operands_pass d verb (Some form) words h = (both_pass (form_words (Some form) wo
 kind_said : (d : Draft) (name : List ℕ) (place : ℕ) (kind : ObjectKind) → declared d name ≡ Some (record { place = place; kind = kind }) → is_some d.current ≡ true → is_name name ≡ true → (verb : Verb) (words : List (List ℕ)) → first_failing (form_checks d verb (form_of verb kind) words) ≡ None → CallSaid d name verb words
 kind_said d name place kind at current named verb words h =
     let form = form_of verb kind in
-    let said = spelled_on kind place verb words (operands_pass d verb form words h) in
-    let c = said.0 in
-    let passes : PassesWith form words (keys_of c) =
-    subst (λ (ws : List (List ℕ)). PassesWith form ws (keys_of c)) said.2 (subst (λ (v : Verb). PassesWith (form_of v kind) (operands_of c) (keys_of c)) said.1 (call_form kind c said.4 said.5)) in
-    let limits = all_pass (limit_checks d (keys_of c) (ranges_in verb)) (sym (form_passes d verb form words (keys_of c) passes) ∙ h) in
-    let on : names_object (declared d name) c ≡ true = rw at (pair (eqb place (object_of c)) (has_call kind c) (eq-eqb place (object_of c) (sym said.3)) said.4) in
-    let many : ranges_in verb ≡ count_by is_range (c ∷ []) = ap ranges_in (sym said.1) ∙ sym (ranges_of c) in
+    let said = spelled_on kind verb words (operands_pass d verb form words h) in
+    let o = said.0 in
+    let c : Call = record { object = place; operation = o } in
+    let keys = operation_keys o in
+    let passes : PassesWith form words keys =
+    subst (λ (ws : List (List ℕ)). PassesWith form ws keys) said.2 (subst (λ (v : Verb). PassesWith (form_of v kind) (operands_of o) keys) said.1 (call_form kind o said.3 said.4)) in
+    let limits = all_pass (limit_checks d keys (ranges_in verb)) (sym (form_passes d verb form words keys passes) ∙ h) in
+    let on : names_object (declared d name) c ≡ true = rw at (pair (eqb place place) (has_call kind o) (eq-eqb place place refl) said.3) in
+    let many : ranges_in verb ≡ count_by is_range (c ∷ []) = ap ranges_in (sym said.1) ∙ sym (ranges_of o) in
     let ranges : nat_le (range_count d.plan.scripts + count_by is_range (c ∷ [])) MAX_RANGES ≡ true = ap (λ (n : ℕ). nat_le (range_count d.plan.scripts + n) MAX_RANGES) (sym many) ∙ limits.1.1.0 in
-    (c, said.1, said.2, rw (current, named, on, said.5, limits.0, limits.1.0, ranges) refl)
+    (c, said.1, said.2, rw (current, named, on, said.4, limits.0, limits.1.0, ranges) refl)
 
 call_said : (d : Draft) (verb : Verb) (words : List (List ℕ)) → first_failing (line_checks d (Some (keywords.Call verb)) words) ≡ None → Said d (keyword_word (keywords.Call verb) ∷ words)
 call_said d verb [] h = absurd (no_words d.current h)
@@ -455,7 +458,7 @@ call_said d verb (name ∷ words) h =
     found_said None is current named h = absurd cc
     found_said (Some found) is current named h =
         let said = kind_said d name found.place found.kind is current named verb words h in
-        (lines.Call name said.0, said.3, ap (λ (v : Verb). verb_word v ∷ name ∷ words) (sym said.1) ∙ ap (λ (ws : List (List ℕ)). verb_word (verb_of said.0) ∷ name ∷ ws) (sym said.2))
+        (lines.Call name said.0, said.3, ap (λ (v : Verb). verb_word v ∷ name ∷ words) (sym said.1) ∙ ap (λ (ws : List (List ℕ)). verb_word (verb_of said.0.operation) ∷ name ∷ ws) (sym said.2))
 
 line_said : (d : Draft) (word : List ℕ) (k : Option Keyword) (words : List (List ℕ)) → d.plan.workers ≤ MAX_WORKERS → keyword_at word ≡ k → first_failing (line_checks d k words) ≡ None → Said d (word ∷ words)
 line_said d word None words few is h = absurd cc

@@ -24,7 +24,8 @@ use Rattle.sync_model.specs.declared.wait_call.WaitGroupCall.TheVariants as grou
 use Rattle.sync_model.specs.declared.pool_call.PoolCall.{PoolCall}
 use Rattle.sync_model.specs.declared.pool_call.PoolCall.TheVariants as pool_calls
 use Rattle.sync_model.specs.declared.call.Call.{Call}
-use Rattle.sync_model.specs.declared.call.Call.TheVariants as calls
+use Rattle.sync_model.specs.declared.call.Operation.{Operation}
+use Rattle.sync_model.specs.declared.call.Operation.TheVariants as operations
 use Rattle.sync_model.specs.declared.map_object.MapCall.{MapCall}
 use Rattle.sync_model.specs.declared.map_object.MapCall.TheVariants as map_calls
 use Rattle.workload.specs.declared.keyword.Verb.{Verb}
@@ -43,10 +44,10 @@ use Rattle.workload.specs.KeywordWords.{object_word, verb_word}
 use Rattle.workload.specs.NumberWords.{number_word}
 use Rattle.workload.specs.CallWords.{group_operands, pool_operands, verb_of, operands_of, map_values, map_operands, atomic_operands}
 use Rattle.workload.specs.Words.{spelled, first_spelled, kind_parameters, turn_word}
-use Rattle.workload.specs.Plan.{word_of, is_amount, object_of, has_call}
+use Rattle.workload.specs.Plan.{word_of, is_amount, has_call}
 use Rattle.workload.specs.declared.object.Declared.{Declared}
 use Rattle.workload.proofs.CallWords.{narrow, amount_small}
-use Rattle.workload.specs.Draft.{Draft, declared, may_follow, names_object, is_call, is_map_call, is_group_call, is_pool_call, is_kind, is_reference, names_reference, is_value, is_item}
+use Rattle.workload.specs.Draft.{Draft, declared, may_follow, names_object, is_call, is_operation, is_map_call, is_group_call, is_pool_call, is_kind, is_reference, names_reference, is_value, is_item}
 use Rattle.workload.proofs.Follows.{object_follows, schedule_follows, call_follows}
 use Rattle.workload.proofs.Numbers.{numerals}
 use Rattle.workload.specs.Lines.{lines_of, words_of, is_clean, is_printable, is_filled}
@@ -311,19 +312,19 @@ references_fit d k (Some name) named h =
     let first = name_is_word name (both (is_name name) (is_reference k (declared d name)) named).0 in
     (pair (is_word name) (list_all is_word (kind_parameters k)) first.0 numbers.0, omega (arith, first.1, numbers.1))
 
-operands_fit : (kind : ObjectKind) (c : Call) → has_call kind c ≡ true → is_call c ≡ true → (list_all is_word (operands_of c) ≡ true) × (widths (operands_of c) ≤ 80)
-operands_fit kind (calls.Map i c) on h = map_operands_fit c h
-operands_fit kind (calls.Range i) on h = (refl, omega arith)
-operands_fit (kinds.Atomic k) (calls.Atomic i c) on h = atomic_operands_fit k c on
-operands_fit kind (calls.Mutex i c) on h = (refl, omega arith)
-operands_fit kind (calls.RwMutex i c) on h = (refl, omega arith)
-operands_fit kind (calls.Cond i c) on h = (refl, omega arith)
-operands_fit kind (calls.WaitGroup i c) on h = group_operands_fit c h
-operands_fit kind (calls.Once i) on h = (refl, omega arith)
-operands_fit kind (calls.OnceFunc i) on h = (refl, omega arith)
-operands_fit kind (calls.OnceValue i) on h = (refl, omega arith)
-operands_fit kind (calls.Pool i c) on h = pool_operands_fit c h
-operands_fit kind (calls.Atomic i c) on h = absurd cc
+operands_fit : (kind : ObjectKind) (o : Operation) → has_call kind o ≡ true → is_operation o ≡ true → (list_all is_word (operands_of o) ≡ true) × (widths (operands_of o) ≤ 80)
+operands_fit kind (operations.Map c) on h = map_operands_fit c h
+operands_fit kind operations.Range on h = (refl, omega arith)
+operands_fit (kinds.Atomic k) (operations.Atomic c) on h = atomic_operands_fit k c on
+operands_fit kind (operations.Mutex c) on h = (refl, omega arith)
+operands_fit kind (operations.RwMutex c) on h = (refl, omega arith)
+operands_fit kind (operations.Cond c) on h = (refl, omega arith)
+operands_fit kind (operations.WaitGroup c) on h = group_operands_fit c h
+operands_fit kind operations.Once on h = (refl, omega arith)
+operands_fit kind operations.OnceFunc on h = (refl, omega arith)
+operands_fit kind operations.OnceValue on h = (refl, omega arith)
+operands_fit kind (operations.Pool c) on h = pool_operands_fit c h
+operands_fit kind (operations.Atomic c) on h = absurd cc
 
 verb_fits : (v : Verb) → (is_word (verb_word v) ≡ true) × (length (verb_word v) ≤ 20)
 verb_fits verbs.Load = (refl, omega arith)
@@ -356,15 +357,15 @@ verb_fits verbs.Put = (refl, omega arith)
 verb_fits verbs.Get = (refl, omega arith)
 verb_fits verbs.Sweep = (refl, omega arith)
 
-call_fits : (o : Option Declared) (name : List ℕ) (c : Call) → names_object o c ≡ true → is_name name ≡ true → is_call c ≡ true → FitsLine (verb_word (verb_of c) ∷ name ∷ operands_of c)
+call_fits : (o : Option Declared) (name : List ℕ) (c : Call) → names_object o c ≡ true → is_name name ≡ true → is_call c ≡ true → FitsLine (verb_word (verb_of c.operation) ∷ name ∷ operands_of c.operation)
 call_fits None name c on named h = absurd cc
 call_fits (Some found) name c on named h =
-    let first = verb_fits (verb_of c) in
+    let first = verb_fits (verb_of c.operation) in
     let second = name_is_word name named in
-    let others = operands_fit found.kind c (both (eqb found.place (object_of c)) (has_call found.kind c) on).1 h in
+    let others = operands_fit found.kind c.operation (both (eqb found.place c.object) (has_call found.kind c.operation) on).1 h in
     record {
-      all = pair (is_word (verb_word (verb_of c))) (list_all is_word (name ∷ operands_of c)) first.0 (pair (is_word name) (list_all is_word (operands_of c)) second.0 others.0);
-      short = omega (arith, length-join (verb_word (verb_of c)) (name ∷ operands_of c), first.1, second.1, others.1);
+      all = pair (is_word (verb_word (verb_of c.operation))) (list_all is_word (name ∷ operands_of c.operation)) first.0 (pair (is_word name) (list_all is_word (operands_of c.operation)) second.0 others.0);
+      short = omega (arith, length-join (verb_word (verb_of c.operation)) (name ∷ operands_of c.operation), first.1, second.1, others.1);
     }
 
 object_word_fits : (w : ObjectWord) → (is_word (object_word w) ≡ true) × (length (object_word w) ≤ 20)

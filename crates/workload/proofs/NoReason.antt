@@ -24,7 +24,7 @@ use Rattle.workload.specs.declared.reason.Reason.{Reason}
 use Rattle.workload.specs.declared.reason.Reason.TheVariants.{BadNumber, LimitReached}
 use Rattle.workload.specs.declared.turn.Turn.{Turn}
 use Rattle.workload.specs.declared.turn.Turn.TheVariants as turns
-use Rattle.workload.specs.Plan.{Plan, word_of, reference_of, is_target, object_of, has_call}
+use Rattle.workload.specs.Plan.{Plan, word_of, reference_of, is_target, has_call}
 use Rattle.workload.specs.Lines.{lines_of, words_of, is_significant}
 use Rattle.workload.specs.NumberWords.{is_number, is_number_to, is_amount_word}
 use Rattle.workload.specs.CallWords.{verb_of, operands_of}
@@ -72,20 +72,20 @@ items_all_pass workers (t ∷ ts) few p =
     let parts = both (is_item workers t) (list_all (is_item workers) ts) p in
     passes_first (item_checks workers (turn_word t)) (flat_map (item_checks workers) (map turn_word ts)) (item_passes workers t few parts.0) ∙ items_all_pass workers ts few parts.1
 
-form_of_call : (d : Draft) (found : Declared) (c : Call) → has_call found.kind c ≡ true → is_call c ≡ true → nat_lt (call_count d.plan.scripts) MAX_CALLS ≡ true → nat_le (key_count d.plan.scripts (keys_of c)) MAX_KEYS ≡ true
+form_of_call : (d : Draft) (found : Declared) (c : Call) → has_call found.kind c.operation ≡ true → is_call c ≡ true → nat_lt (call_count d.plan.scripts) MAX_CALLS ≡ true → nat_le (key_count d.plan.scripts (keys_of c)) MAX_KEYS ≡ true
     → nat_le (range_count d.plan.scripts + count_by is_range (c ∷ [])) MAX_RANGES ≡ true
-    → first_failing (form_checks d (verb_of c) (form_of (verb_of c) found.kind) (operands_of c)) ≡ None
+    → first_failing (form_checks d (verb_of c.operation) (form_of (verb_of c.operation) found.kind) (operands_of c.operation)) ≡ None
 form_of_call d found c on fits room keys ranges =
-    let few : nat_le (range_count d.plan.scripts + ranges_in (verb_of c)) MAX_RANGES ≡ true = ap (λ (n : ℕ). nat_le (range_count d.plan.scripts + n) MAX_RANGES) (sym (ranges_of c)) ∙ ranges in
-    form_passes d (verb_of c) (form_of (verb_of c) found.kind) (operands_of c) (keys_of c) (call_form found.kind c on fits) ∙ rw (room, keys, few) refl
+    let few : nat_le (range_count d.plan.scripts + ranges_in (verb_of c.operation)) MAX_RANGES ≡ true = ap (λ (n : ℕ). nat_le (range_count d.plan.scripts + n) MAX_RANGES) (sym (ranges_of c.operation)) ∙ ranges in
+    form_passes d (verb_of c.operation) (form_of (verb_of c.operation) found.kind) (operands_of c.operation) (keys_of c) (call_form found.kind c.operation on fits) ∙ rw (room, keys, few) refl
 
 call_passes : (d : Draft) (o : Option Declared) (n : List ℕ) (c : Call) → declared d n ≡ o → names_object o c ≡ true → is_some d.current ≡ true → is_name n ≡ true → is_call c ≡ true
     → nat_lt (call_count d.plan.scripts) MAX_CALLS ≡ true → nat_le (key_count d.plan.scripts (keys_of c)) MAX_KEYS ≡ true
     → nat_le (range_count d.plan.scripts + count_by is_range (c ∷ [])) MAX_RANGES ≡ true
-    → first_failing (line_checks d (Some (keywords.Call (verb_of c))) (n ∷ operands_of c)) ≡ None
+    → first_failing (line_checks d (Some (keywords.Call (verb_of c.operation))) (n ∷ operands_of c.operation)) ≡ None
 call_passes d None n c is on current name fits room keys ranges = absurd cc
 call_passes d (Some found) n c is on current name fits room keys ranges =
-    let has = (both (eqb found.place (object_of c)) (has_call found.kind c) on).1 in
+    let has = (both (eqb found.place c.object) (has_call found.kind c.operation) on).1 in
     rw (current, name, is) (form_of_call d found c has fits room keys ranges)
 
 -- what the words behind an object's name need

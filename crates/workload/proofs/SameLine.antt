@@ -7,7 +7,8 @@ use Rattle.std.specs.Option.{option_to_list}
 use Rattle.std.proofs.lemmas.Bool.{eqb-true, ltb-true, leb-true}
 use Rattle.std.proofs.lemmas.Fmt.{decimal_injective}
 use Rattle.sync_model.specs.declared.call.Call.{Call}
-use Rattle.sync_model.specs.declared.call.Call.TheVariants as calls
+use Rattle.sync_model.specs.declared.call.Operation.{Operation}
+use Rattle.sync_model.specs.declared.call.Operation.TheVariants as operations
 use Rattle.sync_model.specs.declared.map_object.MapCall.{MapCall}
 use Rattle.sync_model.specs.declared.map_object.MapCall.TheVariants as map_calls
 use Rattle.sync_model.specs.declared.atomic_object.AtomicKind.{AtomicKind}
@@ -33,12 +34,12 @@ use Rattle.workload.specs.declared.line.Line.{Line}
 use Rattle.workload.specs.declared.line.Line.TheVariants as lines
 use Rattle.workload.specs.declared.turn.Turn.{Turn}
 use Rattle.workload.specs.declared.turn.Turn.TheVariants as turns
-use Rattle.workload.specs.Plan.{word_of, is_amount, reference_of, object_of, has_call}
+use Rattle.workload.specs.Plan.{word_of, is_amount, reference_of, has_call}
 use Rattle.workload.specs.KeywordWords.{keyword_word, keyword_at}
 use Rattle.workload.specs.NumberWords.{is_number}
 use Rattle.workload.specs.CallWords.{verb_of, map_verb, atomic_verb, mutex_verb, rw_mutex_verb, cond_verb, group_verb, pool_verb, operands_of, map_operands, atomic_operands, group_operands, pool_operands}
 use Rattle.workload.specs.Words.{keyword_of, arguments_of, spelled, kind_parameters, turn_word}
-use Rattle.workload.specs.Draft.{Draft, declared, may_follow, names_object, is_call, is_map_call, is_group_call, is_pool_call, is_kind, names_reference, is_item}
+use Rattle.workload.specs.Draft.{Draft, declared, may_follow, names_object, is_call, is_operation, is_map_call, is_group_call, is_pool_call, is_kind, names_reference, is_item}
 use Rattle.workload.proofs.Passing.{both}
 use Rattle.workload.proofs.Follows.{object_follows, schedule_follows, call_follows}
 use Rattle.workload.proofs.References.{Refers, some_reference, no_reference}
@@ -153,35 +154,37 @@ no_range (map_calls.CompareAndDelete k v) e = cc
 no_range map_calls.Clear e = cc
 
 -- a name gives the object of a call
-named : (o : Option Declared) (c d : Call) → names_object o c ≡ true → names_object o d ≡ true → object_of c ≡ object_of d
+named : (o : Option Declared) (c d : Call) → names_object o c ≡ true → names_object o d ≡ true → c.object ≡ d.object
 named None c d p q = absurd cc
 named (Some found) c d p q =
-    sym (eqb-true found.place (object_of c) (both (eqb found.place (object_of c)) (has_call found.kind c) p).0)
-    ∙ eqb-true found.place (object_of d) (both (eqb found.place (object_of d)) (has_call found.kind d) q).0
+    sym (eqb-true found.place c.object (both (eqb found.place c.object) (has_call found.kind c.operation) p).0)
+    ∙ eqb-true found.place d.object (both (eqb found.place d.object) (has_call found.kind d.operation) q).0
 
-same_call_on : (kind : ObjectKind) (c d : Call) → object_of c ≡ object_of d → has_call kind c ≡ true → has_call kind d ≡ true → is_call c ≡ true → is_call d ≡ true → verb_of c ≡ verb_of d → operands_of c ≡ operands_of d → c ≡ d
-same_call_on kinds.Map (calls.Map i c) (calls.Map j d) at on_c on_d p q v e = ap (λ (n : ℕ). calls.Map n c) at ∙ ap (λ (x : MapCall (List ℕ)). calls.Map j x) (same_map_call c d p q v e)
-same_call_on kinds.Map (calls.Range i) (calls.Range j) at on_c on_d p q v e = ap (λ (n : ℕ). calls.Range n) at
-same_call_on kinds.Map (calls.Map i c) (calls.Range j) at on_c on_d p q v e = absurd (no_range c v)
-same_call_on kinds.Map (calls.Range i) (calls.Map j d) at on_c on_d p q v e = absurd (no_range d (sym v))
-same_call_on (kinds.Atomic k) (calls.Atomic i c) (calls.Atomic j d) at on_c on_d p q v e = ap (λ (n : ℕ). calls.Atomic n c) at ∙ ap (λ (x : AtomicCall). calls.Atomic j x) (same_atomic_call k c d on_c on_d v e)
-same_call_on kinds.Mutex (calls.Mutex i c) (calls.Mutex j d) at on_c on_d p q v e = ap (λ (n : ℕ). calls.Mutex n c) at ∙ ap (λ (x : MutexCall). calls.Mutex j x) (same_mutex_call c d v)
-same_call_on kinds.RwMutex (calls.RwMutex i c) (calls.RwMutex j d) at on_c on_d p q v e = ap (λ (n : ℕ). calls.RwMutex n c) at ∙ ap (λ (x : RwMutexCall). calls.RwMutex j x) (same_rw_mutex_call c d v)
-same_call_on (kinds.Cond m) (calls.Cond i c) (calls.Cond j d) at on_c on_d p q v e = ap (λ (n : ℕ). calls.Cond n c) at ∙ ap (λ (x : CondCall). calls.Cond j x) (same_cond_call c d v)
-same_call_on (kinds.WaitGroup n) (calls.WaitGroup i c) (calls.WaitGroup j d) at on_c on_d p q v e = ap (λ (n : ℕ). calls.WaitGroup n c) at ∙ ap (λ (x : WaitGroupCall). calls.WaitGroup j x) (same_group_call c d p q v e)
-same_call_on (kinds.Once a z) (calls.Once i) (calls.Once j) at on_c on_d p q v e = ap (λ (n : ℕ). calls.Once n) at
-same_call_on (kinds.OnceFunc n) (calls.OnceFunc i) (calls.OnceFunc j) at on_c on_d p q v e = ap (λ (n : ℕ). calls.OnceFunc n) at
-same_call_on (kinds.OnceValue n) (calls.OnceValue i) (calls.OnceValue j) at on_c on_d p q v e = ap (λ (n : ℕ). calls.OnceValue n) at
-same_call_on kinds.Pool (calls.Pool i c) (calls.Pool j d) at on_c on_d p q v e = ap (λ (n : ℕ). calls.Pool n c) at ∙ ap (λ (x : PoolCall). calls.Pool j x) (same_pool_call c d p q v e)
-same_call_on kind c d at on_c on_d p q v e = absurd cc
+same_operation : (kind : ObjectKind) (a b : Operation) → has_call kind a ≡ true → has_call kind b ≡ true → is_operation a ≡ true → is_operation b ≡ true → verb_of a ≡ verb_of b → operands_of a ≡ operands_of b → a ≡ b
+same_operation kinds.Map (operations.Map c) (operations.Map d) on_c on_d p q v e = ap (λ (x : MapCall (List ℕ)). operations.Map x) (same_map_call c d p q v e)
+same_operation kinds.Map operations.Range operations.Range on_c on_d p q v e = refl
+same_operation kinds.Map (operations.Map c) operations.Range on_c on_d p q v e = absurd (no_range c v)
+same_operation kinds.Map operations.Range (operations.Map d) on_c on_d p q v e = absurd (no_range d (sym v))
+same_operation (kinds.Atomic k) (operations.Atomic c) (operations.Atomic d) on_c on_d p q v e = ap (λ (x : AtomicCall). operations.Atomic x) (same_atomic_call k c d on_c on_d v e)
+same_operation kinds.Mutex (operations.Mutex c) (operations.Mutex d) on_c on_d p q v e = ap (λ (x : MutexCall). operations.Mutex x) (same_mutex_call c d v)
+same_operation kinds.RwMutex (operations.RwMutex c) (operations.RwMutex d) on_c on_d p q v e = ap (λ (x : RwMutexCall). operations.RwMutex x) (same_rw_mutex_call c d v)
+same_operation (kinds.Cond m) (operations.Cond c) (operations.Cond d) on_c on_d p q v e = ap (λ (x : CondCall). operations.Cond x) (same_cond_call c d v)
+same_operation (kinds.WaitGroup n) (operations.WaitGroup c) (operations.WaitGroup d) on_c on_d p q v e = ap (λ (x : WaitGroupCall). operations.WaitGroup x) (same_group_call c d p q v e)
+same_operation (kinds.Once a z) operations.Once operations.Once on_c on_d p q v e = refl
+same_operation (kinds.OnceFunc n) operations.OnceFunc operations.OnceFunc on_c on_d p q v e = refl
+same_operation (kinds.OnceValue n) operations.OnceValue operations.OnceValue on_c on_d p q v e = refl
+same_operation kinds.Pool (operations.Pool c) (operations.Pool d) on_c on_d p q v e = ap (λ (x : PoolCall). operations.Pool x) (same_pool_call c d p q v e)
+same_operation kind a b on_c on_d p q v e = absurd cc
 
-same_call : (o : Option Declared) (c d : Call) → names_object o c ≡ true → names_object o d ≡ true → is_call c ≡ true → is_call d ≡ true → verb_of c ≡ verb_of d → operands_of c ≡ operands_of d → c ≡ d
+same_call : (o : Option Declared) (c d : Call) → names_object o c ≡ true → names_object o d ≡ true → is_call c ≡ true → is_call d ≡ true → verb_of c.operation ≡ verb_of d.operation → operands_of c.operation ≡ operands_of d.operation → c ≡ d
 same_call None c d on_c on_d p q v e = absurd cc
 same_call (Some found) c d on_c on_d p q v e =
-    same_call_on found.kind c d (named (Some found) c d on_c on_d)
-    (both (eqb found.place (object_of c)) (has_call found.kind c) on_c).1
-    (both (eqb found.place (object_of d)) (has_call found.kind d) on_d).1
-    p q v e
+    let operation = same_operation found.kind c.operation d.operation
+    (both (eqb found.place c.object) (has_call found.kind c.operation) on_c).1
+    (both (eqb found.place d.object) (has_call found.kind d.operation) on_d).1
+    p q v e in
+    ap (λ (n : ℕ). record { object = n; operation = c.operation }) (named (Some found) c d on_c on_d)
+    ∙ ap (λ (x : Operation). record { object = d.object; operation = x }) operation
 
 -- ---- objects
 
@@ -258,11 +261,11 @@ same_arguments d (lines.Worker i) (lines.Worker j) few f g k e =
 same_arguments d (lines.Schedule ts) (lines.Schedule us) few f g k e =
     ap (λ (xs : List Turn). lines.Schedule xs) (same_turns d.plan.workers ts us few (schedule_follows d ts f).items (schedule_follows d us g).items e)
 same_arguments d (lines.Call n c) (lines.Call m b) few f g k e =
-    let words = heads n m (operands_of c) (operands_of b) e in
+    let words = heads n m (operands_of c.operation) (operands_of b.operation) e in
     let first = call_follows d n c f in
     let second = call_follows d m b g in
     let on : names_object (declared d n) b ≡ true = subst (λ (x : List ℕ). names_object (declared d x) b ≡ true) (sym words.0) second.on in
-    let verb : verb_of c ≡ verb_of b = cc in
+    let verb : verb_of c.operation ≡ verb_of b.operation = cc in
     ap (λ (x : List ℕ). lines.Call x c) words.0 ∙ ap (λ (x : Call). lines.Call m x) (same_call (declared d n) c b first.on on first.call second.call verb words.1)
 same_arguments d l m few f g k e = absurd cc
 

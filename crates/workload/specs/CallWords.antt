@@ -2,8 +2,8 @@
 use Rattle.std.specs.Prelude.{ℕ, List, [], ◌∷◌, ◌++◌, map}
 use Rattle.std.specs.Option.{option_to_list}
 use Rattle.std.specs.Fmt.{decimal, signed_decimal}
-use Rattle.sync_model.specs.declared.call.Call.{Call}
-use Rattle.sync_model.specs.declared.call.Call.TheVariants as calls
+use Rattle.sync_model.specs.declared.call.Operation.{Operation}
+use Rattle.sync_model.specs.declared.call.Operation.TheVariants as operations
 use Rattle.sync_model.specs.declared.map_object.MapCall.{MapCall}
 use Rattle.sync_model.specs.declared.map_object.MapCall.TheVariants as map_calls
 use Rattle.sync_model.specs.declared.atomic_object.Number.{Number}
@@ -75,18 +75,18 @@ pool_verb (pool_calls.Put item) = verbs.Put
 pool_verb pool_calls.Get = verbs.Get
 pool_verb pool_calls.Sweep = verbs.Sweep
 
-abbrev pub verb_of : Call → Verb
-verb_of (calls.Map object call) = map_verb call
-verb_of (calls.Range object) = verbs.Range
-verb_of (calls.Atomic object call) = atomic_verb call
-verb_of (calls.Mutex object call) = mutex_verb call
-verb_of (calls.RwMutex object call) = rw_mutex_verb call
-verb_of (calls.Cond object call) = cond_verb call
-verb_of (calls.WaitGroup object call) = group_verb call
-verb_of (calls.Once object) = verbs.Do
-verb_of (calls.OnceFunc object) = verbs.Call
-verb_of (calls.OnceValue object) = verbs.Value
-verb_of (calls.Pool object call) = pool_verb call
+abbrev pub verb_of : Operation → Verb
+verb_of (operations.Map call) = map_verb call
+verb_of operations.Range = verbs.Range
+verb_of (operations.Atomic call) = atomic_verb call
+verb_of (operations.Mutex call) = mutex_verb call
+verb_of (operations.RwMutex call) = rw_mutex_verb call
+verb_of (operations.Cond call) = cond_verb call
+verb_of (operations.WaitGroup call) = group_verb call
+verb_of operations.Once = verbs.Do
+verb_of operations.OnceFunc = verbs.Call
+verb_of operations.OnceValue = verbs.Value
+verb_of (operations.Pool call) = pool_verb call
 
 -- the values of a call of a map, in order
 abbrev pub map_values : {K : Type 0} → MapCall K → List ℕ
@@ -133,15 +133,15 @@ pool_operands (pool_calls.Put item) = decimal item ∷ []
 pool_operands pool_calls.Get = []
 pool_operands pool_calls.Sweep = []
 
-abbrev pub operands_of : Call → List (List ℕ)
-operands_of (calls.Map object call) = map_operands call
-operands_of (calls.Range object) = []
-operands_of (calls.Atomic object call) = atomic_operands call
-operands_of (calls.Mutex object call) = []
-operands_of (calls.RwMutex object call) = []
-operands_of (calls.Cond object call) = []
-operands_of (calls.WaitGroup object call) = group_operands call
-operands_of (calls.Once object) = []
-operands_of (calls.OnceFunc object) = []
-operands_of (calls.OnceValue object) = []
-operands_of (calls.Pool object call) = pool_operands call
+abbrev pub operands_of : Operation → List (List ℕ)
+operands_of (operations.Map call) = map_operands call
+operands_of operations.Range = []
+operands_of (operations.Atomic call) = atomic_operands call
+operands_of (operations.Mutex call) = []
+operands_of (operations.RwMutex call) = []
+operands_of (operations.Cond call) = []
+operands_of (operations.WaitGroup call) = group_operands call
+operands_of operations.Once = []
+operands_of operations.OnceFunc = []
+operands_of operations.OnceValue = []
+operands_of (operations.Pool call) = pool_operands call

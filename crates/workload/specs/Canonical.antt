@@ -8,7 +8,7 @@ use Rattle.workload.specs.declared.line.Line.TheVariants as lines
 use Rattle.workload.specs.declared.object.ObjectKind.{ObjectKind}
 use Rattle.workload.specs.declared.object.ObjectLine.{ObjectLine}
 use Rattle.workload.specs.declared.turn.Turn.{Turn}
-use Rattle.workload.specs.Plan.{Plan, object_of, reference_of}
+use Rattle.workload.specs.Plan.{Plan, reference_of}
 use Rattle.workload.specs.Words.{spelled, first_spelled}
 
 -- words joined by one space, and a line feed
@@ -28,7 +28,7 @@ abbrev pub object_line : List ObjectLine → ObjectLine → Line
 object_line objects object = lines.Object object (reference_name objects object.kind)
 
 abbrev pub call_line : List ObjectLine → Call → Line
-call_line objects call = lines.Call (name_of (slice_get objects (object_of call))) call
+call_line objects call = lines.Call (name_of (slice_get objects call.object)) call
 
 -- a `worker` line for each worker, from one on, and its calls behind it
 abbrev pub script_lines : List ObjectLine → ℕ → List (List Call) → List Line

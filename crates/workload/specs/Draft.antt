@@ -5,7 +5,8 @@ use Rattle.std.specs.Option.{option_map_or, option_to_list}
 use Rattle.std.specs.Str.{bytes_eq}
 use Rattle.sync_model.specs.Name.{is_name}
 use Rattle.sync_model.specs.declared.call.Call.{Call}
-use Rattle.sync_model.specs.declared.call.Call.TheVariants as calls
+use Rattle.sync_model.specs.declared.call.Operation.{Operation}
+use Rattle.sync_model.specs.declared.call.Operation.TheVariants as operations
 use Rattle.sync_model.specs.declared.map_object.MapCall.{MapCall}
 use Rattle.sync_model.specs.declared.wait_call.WaitGroupCall.{WaitGroupCall}
 use Rattle.sync_model.specs.declared.wait_call.WaitGroupCall.TheVariants as group_calls
@@ -24,7 +25,7 @@ use Rattle.workload.specs.declared.line.Line.{Line}
 use Rattle.workload.specs.declared.line.Line.TheVariants as lines
 use Rattle.workload.specs.declared.turn.Turn.{Turn}
 use Rattle.workload.specs.declared.turn.Turn.TheVariants as turns
-use Rattle.workload.specs.Plan.{Plan, word_of, reference_of, is_target, is_amount, object_of, has_call}
+use Rattle.workload.specs.Plan.{Plan, word_of, reference_of, is_target, is_amount, has_call}
 use Rattle.workload.specs.CallWords.{map_values}
 
 -- the workload that the lines so far say, and the worker whose calls follow
@@ -79,10 +80,14 @@ count_together word other = false
 abbrev pub count_of : ObjectWord → List ObjectLine → ℕ
 count_of word objects = count_by (λ object. count_together word (word_of object.kind)) objects
 
--- the keys of a call
+-- the key of an operation, if it has one
+abbrev pub operation_keys : Operation → List (List ℕ)
+operation_keys (operations.Map call) = option_to_list (map_key call)
+operation_keys operation = []
+
+-- the key of a call, if it has one
 abbrev pub keys_of : Call → List (List ℕ)
-keys_of (calls.Map object call) = option_to_list (map_key call)
-keys_of call = []
+keys_of call = operation_keys call.operation
 
 -- the keys of all calls
 abbrev pub all_keys : List (List Call) → List (List ℕ)
@@ -101,10 +106,14 @@ key_count scripts more = distinct_count (more ++ all_keys scripts)
 abbrev pub call_count : List (List Call) → ℕ
 call_count scripts = sum_by length scripts
 
+-- whether an operation is `range`
+abbrev pub is_range_operation : Operation → Bool
+is_range_operation operations.Range = true
+is_range_operation operation = false
+
 -- whether it is a `range` call
 abbrev pub is_range : Call → Bool
-is_range (calls.Range object) = true
-is_range call = false
+is_range call = is_range_operation call.operation
 
 -- how many `range` calls there are, all workers together
 abbrev pub range_count : List (List Call) → ℕ
@@ -128,12 +137,15 @@ abbrev pub is_pool_call : PoolCall → Bool
 is_pool_call (pool_calls.Put item) = is_value item
 is_pool_call call = true
 
--- the same of a call of any kind; of an atomic's numbers the kind of the object says it
+-- the same of any operation; of an atomic's numbers the kind of the object says it
+abbrev pub is_operation : Operation → Bool
+is_operation (operations.Map call) = is_map_call call
+is_operation (operations.WaitGroup call) = is_group_call call
+is_operation (operations.Pool call) = is_pool_call call
+is_operation operation = true
+
 abbrev pub is_call : Call → Bool
-is_call (calls.Map object call) = is_map_call call
-is_call (calls.WaitGroup object call) = is_group_call call
-is_call (calls.Pool object call) = is_pool_call call
-is_call call = true
+is_call call = is_operation call.operation
 
 -- whether the numbers of an object are in range
 abbrev pub is_kind : ObjectKind → Bool
@@ -156,7 +168,7 @@ names_reference d kind (Some name) = is_name name && is_reference kind (declared
 -- whether the name is that of the call's object
 abbrev pub names_object : Option Declared → Call → Bool
 names_object None call = false
-names_object (Some found) call = (found.place == object_of call) && has_call found.kind call
+names_object (Some found) call = (found.place == call.object) && has_call found.kind call.operation
 
 -- whether an item of a schedule is in range
 abbrev pub is_item : ℕ → Turn → Bool

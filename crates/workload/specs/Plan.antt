@@ -3,7 +3,8 @@ use Rattle.std.specs.Prelude.{ℕ, ℤ, pos, negsuc, Bool, true, false, ◌&&◌
 use Rattle.std.specs.Option.{option_map_or}
 use Rattle.std.specs.List.{list_all}
 use Rattle.sync_model.specs.declared.call.Call.{Call}
-use Rattle.sync_model.specs.declared.call.Call.TheVariants as calls
+use Rattle.sync_model.specs.declared.call.Operation.{Operation}
+use Rattle.sync_model.specs.declared.call.Operation.TheVariants as operations
 use Rattle.sync_model.specs.declared.atomic_object.AtomicKind.TheVariants as types
 use Rattle.sync_model.specs.SequentialAtomic.{is_atomic_call}
 use Rattle.workload.specs.declared.limits.TheConstants.{MAX_AMOUNT}
@@ -55,39 +56,25 @@ abbrev pub is_amount : ℤ → Bool
 is_amount (pos n) = nat_le n MAX_AMOUNT
 is_amount (negsuc n) = nat_lt n MAX_AMOUNT
 
--- the object on which a call is made, by its place among the objects
-abbrev pub object_of : Call → ℕ
-object_of (calls.Map object call) = object
-object_of (calls.Range object) = object
-object_of (calls.Atomic object call) = object
-object_of (calls.Mutex object call) = object
-object_of (calls.RwMutex object call) = object
-object_of (calls.Cond object call) = object
-object_of (calls.WaitGroup object call) = object
-object_of (calls.Once object) = object
-object_of (calls.OnceFunc object) = object
-object_of (calls.OnceValue object) = object
-object_of (calls.Pool object call) = object
-
--- whether an object of this kind has the call: an atomic's operands are of its type, and in its range
-abbrev pub has_call : ObjectKind → Call → Bool
-has_call kinds.Map (calls.Map object call) = true
-has_call kinds.Map (calls.Range object) = true
-has_call (kinds.Atomic kind) (calls.Atomic object call) = is_atomic_call kind call
-has_call kinds.Mutex (calls.Mutex object call) = true
-has_call kinds.RwMutex (calls.RwMutex object call) = true
-has_call (kinds.Cond mutex) (calls.Cond object call) = true
-has_call (kinds.WaitGroup start) (calls.WaitGroup object call) = true
-has_call (kinds.Once atomic delta) (calls.Once object) = true
-has_call (kinds.OnceFunc code) (calls.OnceFunc object) = true
-has_call (kinds.OnceValue value) (calls.OnceValue object) = true
-has_call kinds.Pool (calls.Pool object call) = true
-has_call kind call = false
+-- whether an object of this kind has the operation: an atomic's operands are of its type, and in its range
+abbrev pub has_call : ObjectKind → Operation → Bool
+has_call kinds.Map (operations.Map call) = true
+has_call kinds.Map operations.Range = true
+has_call (kinds.Atomic kind) (operations.Atomic call) = is_atomic_call kind call
+has_call kinds.Mutex (operations.Mutex call) = true
+has_call kinds.RwMutex (operations.RwMutex call) = true
+has_call (kinds.Cond mutex) (operations.Cond call) = true
+has_call (kinds.WaitGroup start) (operations.WaitGroup call) = true
+has_call (kinds.Once atomic delta) operations.Once = true
+has_call (kinds.OnceFunc code) operations.OnceFunc = true
+has_call (kinds.OnceValue value) operations.OnceValue = true
+has_call kinds.Pool (operations.Pool call) = true
+has_call kind operation = false
 
 -- whether a call is on an object that is there and has it
 abbrev pub is_on : Option ObjectLine → Call → Bool
 is_on None call = false
-is_on (Some object) call = has_call object.kind call
+is_on (Some object) call = has_call object.kind call.operation
 
 -- whether a turn is that of a worker that is there
 abbrev pub is_turn : ℕ → Turn → Bool
@@ -98,6 +85,6 @@ is_turn workers (turns.Moment moment) = true
 abbrev pub is_valid : Plan → Bool
 is_valid plan =
     (length plan.scripts == plan.workers)
-    && (list_all (list_all (λ call. is_on (slice_get plan.objects (object_of call)) call)) plan.scripts
+    && (list_all (list_all (λ call. is_on (slice_get plan.objects call.object) call)) plan.scripts
     && (list_all (is_turn plan.workers) plan.schedule
     && list_all (λ object. refers plan.objects object.kind) plan.objects))

@@ -1,12 +1,11 @@
-//! What the line of a call says of it before its operands: the call's word, and the place of its object.
+//! The word of a call.
 ghost use Rattle.std.specs.Prelude.{◌≡◌};
 ghost use Rattle.workload.specs.KeywordWords.{verb_word};
 ghost use Rattle.workload.specs.CallWords.{map_verb, atomic_verb, mutex_verb, rw_mutex_verb, cond_verb, group_verb, pool_verb, verb_of};
-ghost use Rattle.workload.specs.Plan.{object_of};
 
 use crate::keyword::Verb;
 use sync_model::{
-    AtomicCall, Call, CondCall, MapCall, MutexCall, Name, PoolCall, RwMutexCall, WaitGroupCall,
+    AtomicCall, CondCall, MapCall, MutexCall, Name, Operation, PoolCall, RwMutexCall, WaitGroupCall,
 };
 
 /// The word of a call.
@@ -136,40 +135,21 @@ pub fn pool_verb(call: PoolCall) -> Verb
     }
 }
 
-/// Which call it is.
-pub fn verb(call: &Call) -> Verb
-    ensures { result ≡ verb_of call.now }
+/// Which call an operation is.
+pub fn verb(operation: &Operation) -> Verb
+    ensures { result ≡ verb_of operation.now }
 {
-    match call {
-        Call::Map { call, .. } => map_verb(call),
-        Call::Range { .. } => Verb::Range,
-        Call::Atomic { call, .. } => atomic_verb(*call),
-        Call::Mutex { call, .. } => mutex_verb(*call),
-        Call::RwMutex { call, .. } => rw_mutex_verb(*call),
-        Call::Cond { call, .. } => cond_verb(*call),
-        Call::WaitGroup { call, .. } => group_verb(*call),
-        Call::Once { .. } => Verb::Do,
-        Call::OnceFunc { .. } => Verb::Call,
-        Call::OnceValue { .. } => Verb::Value,
-        Call::Pool { call, .. } => pool_verb(*call),
-    }
-}
-
-/// The place of the object of a call.
-pub fn place_of(call: &Call) -> usize
-    ensures { result ≡ object_of call.now }
-{
-    match call {
-        Call::Map { object, .. }
-        | Call::Range { object }
-        | Call::Atomic { object, .. }
-        | Call::Mutex { object, .. }
-        | Call::RwMutex { object, .. }
-        | Call::Cond { object, .. }
-        | Call::WaitGroup { object, .. }
-        | Call::Once { object }
-        | Call::OnceFunc { object }
-        | Call::OnceValue { object }
-        | Call::Pool { object, .. } => *object,
+    match operation {
+        Operation::Map(call) => map_verb(call),
+        Operation::Range => Verb::Range,
+        Operation::Atomic(call) => atomic_verb(*call),
+        Operation::Mutex(call) => mutex_verb(*call),
+        Operation::RwMutex(call) => rw_mutex_verb(*call),
+        Operation::Cond(call) => cond_verb(*call),
+        Operation::WaitGroup(call) => group_verb(*call),
+        Operation::Once => Verb::Do,
+        Operation::OnceFunc => Verb::Call,
+        Operation::OnceValue => Verb::Value,
+        Operation::Pool(call) => pool_verb(*call),
     }
 }

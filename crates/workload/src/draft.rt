@@ -13,7 +13,7 @@ use crate::turn::Turn;
 use crate::workload::Workload;
 use std::alloc::{AllocError, Global};
 use std::marker::Model;
-use sync_model::{ByName, Call, Name, Seq};
+use sync_model::{ByName, Call, Name, Operation, Seq};
 
 /// The workload that the lines so far say, the worker whose calls follow, and tables of the names
 /// and keys, so that no look-up scans a list.
@@ -103,8 +103,8 @@ fn insert_keys(alloc: Global, keys: &mut ByName<()>, call: &Call) -> Result<(), 
 pub fn call_key(call: &Call) -> Option<&Name>
     ensures { keys_of call.now ≡ option_to_list (option_copied result) }
 {
-    match call {
-        Call::Map { call, .. } => call.key(),
+    match &call.operation {
+        Operation::Map(call) => call.key(),
         _ => None,
     }
 }
@@ -113,8 +113,8 @@ pub fn call_key(call: &Call) -> Option<&Name>
 fn ranges_in(call: &Call) -> usize
     ensures { result ≡ count_by is_range (call.now ∷ []) }
 {
-    match call {
-        Call::Range { .. } => 1,
+    match &call.operation {
+        Operation::Range => 1,
         _ => 0,
     }
 }

@@ -5,7 +5,7 @@ ghost use Rattle.std.specs.Option.{option_to_list, option_copied};
 ghost use Rattle.workload.specs.NumberWords.{number_word};
 ghost use Rattle.workload.specs.CallWords.{map_values, atomic_numbers, group_operands, pool_operands, operands_of, numbers_in};
 
-use sync_model::{AtomicCall, Call, MapCall, Name, Number, PoolCall, WaitGroupCall};
+use sync_model::{AtomicCall, MapCall, Name, Number, Operation, PoolCall, WaitGroupCall};
 
 /// The numbers of a call, in order. A value of a map and an item of a pool are of the type `Uint64` here,
 /// and an amount for a wait group is of `Int32`.
@@ -72,21 +72,21 @@ fn pool_numbers(call: PoolCall) -> Numbers
     }
 }
 
-/// The operands of a call: the key, and then the numbers.
-pub fn operands_of(call: &Call) -> (Option<&Name>, Numbers)
-    ensures { option_to_list (option_copied result.0) ++ map number_word (numbers_in result.1) ≡ operands_of call.now }
+/// The operands of an operation: the key, and then the numbers.
+pub fn operands_of(operation: &Operation) -> (Option<&Name>, Numbers)
+    ensures { option_to_list (option_copied result.0) ++ map number_word (numbers_in result.1) ≡ operands_of operation.now }
 {
-    match call {
-        Call::Map { call, .. } => (call.key(), map_numbers(call)),
-        Call::Atomic { call, .. } => (None, atomic_numbers(*call)),
-        Call::WaitGroup { call, .. } => (None, group_numbers(*call)),
-        Call::Pool { call, .. } => (None, pool_numbers(*call)),
-        Call::Range { .. }
-        | Call::Mutex { .. }
-        | Call::RwMutex { .. }
-        | Call::Cond { .. }
-        | Call::Once { .. }
-        | Call::OnceFunc { .. }
-        | Call::OnceValue { .. } => (None, Numbers::Empty),
+    match operation {
+        Operation::Map(call) => (call.key(), map_numbers(call)),
+        Operation::Atomic(call) => (None, atomic_numbers(*call)),
+        Operation::WaitGroup(call) => (None, group_numbers(*call)),
+        Operation::Pool(call) => (None, pool_numbers(*call)),
+        Operation::Range
+        | Operation::Mutex(_)
+        | Operation::RwMutex(_)
+        | Operation::Cond(_)
+        | Operation::Once
+        | Operation::OnceFunc
+        | Operation::OnceValue => (None, Numbers::Empty),
     }
 }

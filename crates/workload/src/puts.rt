@@ -1,21 +1,22 @@
 //! How many items a workload puts into a pool.
 ghost use Rattle.std.specs.Prelude.{◌≡◌, ◌≤◌, count_by, length, sum_by};
-ghost use Rattle.workload.specs.Puts.{is_put_at, puts_at};
+ghost use Rattle.workload.specs.Puts.{is_put, is_put_at, puts_at};
 ghost use Rattle.workload.specs.declared.limits.TheConstants.{MAX_CALLS};
 
-use sync_model::{Call, PoolCall, Seq};
+use sync_model::{Call, Operation, PoolCall, Seq};
+
+/// Whether an operation puts an item into a pool.
+fn is_put(operation: &Operation) -> bool
+    ensures { result ≡ is_put operation.now }
+{
+    matches!(operation, Operation::Pool(PoolCall::Put(_)))
+}
 
 /// Whether a call puts an item into the pool at this place.
 fn is_put_at(call: &Call, place: usize) -> bool
     ensures { result ≡ is_put_at place call.now }
 {
-    match call {
-        Call::Pool {
-            object,
-            call: PoolCall::Put(_),
-        } => *object == place,
-        _ => false,
-    }
+    call.object == place && is_put(&call.operation)
 }
 
 /// How many puts a script makes into the pool at this place.

@@ -1,0 +1,54 @@
+-- What an edge makes known.
+use Rattle.std.proofs.Common.{◌≡◌, ℕ, zero, suc, ◌+◌, ◌<◌, ◌≤◌, Bool, true, false, List, [], ◌∷◌, length, take, Option, Some, None, ◌⊎◌, inl, inr, get_or, slice_get, slice_index, refl, sym, ap, ◌∙◌, subst, arith}
+use Rattle.std.proofs.lemmas.Bool.{false≢true}
+use Rattle.std.proofs.lemmas.Option.{slice_get_cases, slice_get_within, get_or_from_slice_get}
+use Rattle.sync_model.specs.declared.item.Item.{Item}
+use Rattle.sync_model.specs.declared.journal.Deed.TheVariants.{Event, Refused, Halt}
+use Rattle.sync_model.specs.declared.misuse.Misuse.{Misuse}
+use Rattle.sync_model.specs.Front.{AtLeast}
+use Rattle.sync_model.specs.Journal.{is_such, KeepsEdges}
+use Rattle.workload.specs.declared.object.ObjectLine.{ObjectLine}
+use Rattle.workload.specs.Plan.{Plan}
+use Rattle.run_record.specs.declared.made.Made.TheVariants.{Shared, Entered}
+use Rattle.run_record.specs.Edges.{frees, takes}
+use Rattle.run_record.specs.Explains.{IsLawful}
+use Rattle.run_record.specs.Journals.{IsStops}
+use Rattle.run_record.specs.Record.{Record, ObjectEntry, stop, number_at, journal_of, list_of, calls_of, shared_in}
+use Rattle.run_record.proofs.ListLemmas.{shared_at, shared_before, get_past}
+use Rattle.run_record.proofs.ObjectJournals.{Keeps, nothing, of_kind}
+
+no_halt : (x : ObjectEntry) → (misuse : Misuse) × (x.deed ≡ Halt misuse) → is_such frees x.deed ≡ true → ⊥
+no_halt x halt is = halts (subst (λ d. is_such frees d ≡ true) halt.1 is) where
+  halts : false ≡ true → ⊥
+  halts e = false≢true e
+
+of_stop : (journal : List ObjectEntry) → IsStops journal → Keeps journal
+of_stop journal stops i j x y before at_x at_y is_x is_y =
+    let halt : (misuse : Misuse) × (x.deed ≡ Halt misuse) = subst (λ (e : ObjectEntry). (misuse : Misuse) × (e.deed ≡ Halt misuse)) (get_or_from_slice_get journal i x x at_x) (stops i x (slice_get_within journal i x at_x)) in
+    absurd (no_halt x halt is_x)
+
+module _ (plan : Plan) (r : Record) (lawful : IsLawful plan r) where
+  -- the edge law, of the object behind a place
+  at_place : (place : ℕ) → Keeps (journal_of r (number_at place))
+  at_place place = by_case (slice_get_cases plan.objects place).1 where
+    by_case : ((object : ObjectLine) × (place < length plan.objects) × (slice_get plan.objects place ≡ Some object) × (get_or plan.objects place object ≡ object)) ⊎ ((length plan.objects ≤ place) × (slice_get plan.objects place ≡ None)) → Keeps (journal_of r (number_at place))
+    by_case (inl (object, within, some, is)) = of_kind plan place object.kind (journal_of r (number_at place)) (lawful.journals place object some)
+    by_case (inr (past, none)) = subst Keeps (sym (get_past r.journals (number_at place) (omega (arith, past, lawful.objects)))) nothing
+
+  pub of_object : (object : ℕ) → Keeps (journal_of r object)
+  of_object zero = of_stop (journal_of r stop) lawful.stops
+  of_object (suc place) = let e : number_at place ≡ suc place = omega arith in subst (λ n. Keeps (journal_of r n)) e (at_place place)
+
+  -- a call that stands before a releasing entry of its worker is counted by the front of each call behind an entry that acquires later
+  pub counted : (giver taker i j k l object m n : ℕ) (known call : Item) (first second : ObjectEntry)
+      → slice_get (list_of r giver) i ≡ Some (Shared known) → i < j → slice_get (list_of r giver) j ≡ Some (Entered object first)
+      → slice_get (list_of r taker) k ≡ Some (Entered object second) → k < l → slice_get (list_of r taker) l ≡ Some (Shared call)
+      → m < n → slice_get (journal_of r object) m ≡ Some first → slice_get (journal_of r object) n ≡ Some second
+      → is_such frees first.deed ≡ true → is_such takes second.deed ≡ true
+      → length (shared_in (take i (list_of r giver))) < slice_index call.front giver
+  counted giver taker i j k l object m n known call first second at_known earlier at_first at_second later at_call before in_first in_second gives takes_in =
+      let counts = shared_before (list_of r giver) i j known earlier at_known in
+      let own = lawful.fronts.own giver j (Entered object first) at_first in
+      let edge = of_object object m n first second before in_first in_second gives takes_in giver in
+      let rises = lawful.fronts.rises taker k l (Entered object second) (Shared call) later at_second at_call giver in
+      omega (arith, counts, own, edge, rises)

@@ -1,0 +1,4 @@
+mod EdgeLemmas
+mod Lifts
+mod ListLemmas
+mod ObjectJournals

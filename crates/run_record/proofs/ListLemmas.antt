@@ -1,0 +1,50 @@
+-- Items of lists.
+use Rattle.std.proofs.Common.{◌≡◌, ℕ, zero, suc, ◌+◌, ◌<◌, ◌≤◌, List, [], ◌∷◌, ◌++◌, length, get_or, take, Option, Some, None, slice_get, refl, sym, ap, ◌∙◌, subst, arith}
+use Rattle.std.proofs.lemmas.Option.{none-some}
+use Rattle.sync_model.specs.declared.item.Item.{Item}
+use Rattle.run_record.specs.declared.made.Made.{Made}
+use Rattle.run_record.specs.declared.made.Made.TheVariants.{Shared, Entered}
+use Rattle.run_record.specs.Record.{shared_in}
+
+-- the place of a call among the calls on maps and atomics in its list
+pub shared_at : (list : List Made) (i : ℕ) (x : Item) → slice_get list i ≡ Some (Shared x) → slice_get (shared_in list) (length (shared_in (take i list))) ≡ Some x
+shared_at [] i x at = absurd (none-some (Shared x) at)
+shared_at (Shared y ∷ list) zero x at = ap from_shared at where
+  from_shared : Option Made → Option Item
+  from_shared None = None
+  from_shared (Some (Shared z)) = Some z
+  from_shared (Some (Entered object entry)) = None
+shared_at (Entered object entry ∷ list) zero x at = absurd (none-some x (ap from_shared at)) where
+  from_shared : Option Made → Option Item
+  from_shared None = None
+  from_shared (Some (Shared z)) = Some z
+  from_shared (Some (Entered object entry)) = None
+shared_at (Shared y ∷ list) (suc i) x at = later (length (shared_in (take i list))) (shared_at list i x at) where
+  later : (n : ℕ) → slice_get (shared_in list) n ≡ Some x → slice_get (y ∷ shared_in list) (suc n) ≡ Some x
+  later n is = is
+shared_at (Entered object entry ∷ list) (suc i) x at = shared_at list i x at
+
+-- a later item has more of them before it
+pub shared_before : (list : List Made) (i j : ℕ) (x : Item) → i < j → slice_get list i ≡ Some (Shared x) → length (shared_in (take i list)) < length (shared_in (take j list))
+shared_before [] i j x before at = absurd (none-some (Shared x) at)
+shared_before (y ∷ list) i zero x before at = absurd (omega (arith, before))
+shared_before (Shared y ∷ list) zero (suc j) x before at = omega arith
+shared_before (Entered object entry ∷ list) zero (suc j) x before at = absurd (none-some x (ap from_shared at)) where
+  from_shared : Option Made → Option Item
+  from_shared None = None
+  from_shared (Some (Shared z)) = Some z
+  from_shared (Some (Entered object entry)) = None
+shared_before (Shared y ∷ list) (suc i) (suc j) x before at = omega (arith, shared_before list i j x (omega (arith, before)) at)
+shared_before (Entered object entry ∷ list) (suc i) (suc j) x before at = shared_before list i j x (omega (arith, before)) at
+
+module _ {A : Type 0} where
+  -- an item that is there is the one that a list has, whatever it has elsewhere
+  pub get_past : (lists : List (List A)) (i : ℕ) → length lists ≤ i → get_or lists i [] ≡ []
+  get_past [] i past = refl
+  get_past (list ∷ lists) zero past = absurd (omega (arith, past))
+  get_past (list ∷ lists) (suc i) past = get_past lists i (omega (arith, past))
+
+  -- what stands behind a list is at its length
+  pub at_length : (xs ys : List A) (y : A) → slice_get (xs ++ y ∷ ys) (length xs) ≡ Some y
+  at_length [] ys y = refl
+  at_length (x ∷ xs) ys y = at_length xs ys y

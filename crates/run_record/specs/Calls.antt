@@ -1,0 +1,59 @@
+-- Which items spell a call of a workload, and what it answers by them. A kind of object is a line here, and one in `IsJournalOf`.
+use Rattle.std.specs.Prelude.{◌≡◌, ℕ, List, [], Option, Some, None, slice_get}
+use Rattle.sync_model.specs.declared.call.Call.{Call}
+use Rattle.sync_model.specs.declared.call.Operation.{Operation}
+use Rattle.sync_model.specs.declared.call.Operation.TheVariants as operations
+use Rattle.sync_model.specs.declared.call.Reply.{Reply}
+use Rattle.workload.specs.declared.object.ObjectKind.{ObjectKind}
+use Rattle.workload.specs.declared.object.ObjectKind.TheVariants as kinds
+use Rattle.workload.specs.declared.object.ObjectLine.{ObjectLine}
+use Rattle.workload.specs.Keys.{keys_in}
+use Rattle.workload.specs.Plan.{Plan}
+use Rattle.workload.specs.Puts.{puts_at}
+use Rattle.run_record.specs.AtomicKind.{atomic_call}
+use Rattle.run_record.specs.CondKind.{cond_call, IsCondJournal}
+use Rattle.run_record.specs.MapKind.{map_call, range_call}
+use Rattle.run_record.specs.MutexKind.{mutex_call, IsMutexJournal}
+use Rattle.run_record.specs.Objects.{map_number, atomic_number}
+use Rattle.run_record.specs.OnceKind.{do_call, func_call, value_call, IsOnceJournal, IsOnceFuncJournal, IsOnceValueJournal}
+use Rattle.run_record.specs.Parts.{Part, never}
+use Rattle.run_record.specs.PoolKind.{pool_call, IsPoolJournal}
+use Rattle.run_record.specs.Record.{ObjectEntry, number_at}
+use Rattle.run_record.specs.RwMutexKind.{rw_mutex_call, IsRwMutexJournal}
+use Rattle.run_record.specs.WaitGroupKind.{wait_group_call, IsWaitGroupJournal}
+
+-- a call on the object at a place, of a worker that has made so many calls on maps and atomics before. An object of another kind has no such call
+abbrev pub call_on : Plan → (worker before place : ℕ) → ObjectKind → Operation → Part (Reply ℕ)
+call_on plan worker before place kinds.Map (operations.Map call) = map_call (keys_in plan.scripts) (map_number plan.objects place) call
+call_on plan worker before place kinds.Map operations.Range = range_call (keys_in plan.scripts) (map_number plan.objects place) before
+call_on plan worker before place (kinds.Atomic type) (operations.Atomic call) = atomic_call (atomic_number plan.objects place) call
+call_on plan worker before place kinds.Mutex (operations.Mutex call) = mutex_call (number_at place) call
+call_on plan worker before place kinds.RwMutex (operations.RwMutex call) = rw_mutex_call (number_at place) call
+call_on plan worker before place (kinds.Cond mutex) (operations.Cond call) = cond_call (number_at place) (number_at mutex) call
+call_on plan worker before place (kinds.WaitGroup start) (operations.WaitGroup call) = wait_group_call (number_at place) call
+call_on plan worker before place (kinds.Once atomic delta) operations.Once = do_call (number_at place) (atomic_number plan.objects atomic) delta
+call_on plan worker before place (kinds.OnceFunc code) operations.OnceFunc = func_call (number_at place) code
+call_on plan worker before place (kinds.OnceValue value) operations.OnceValue = value_call (number_at place) value
+call_on plan worker before place kinds.Pool (operations.Pool call) = pool_call plan.workers worker (number_at place) call
+call_on plan worker before place kind operation = never
+
+abbrev pub call_at : Plan → (worker before place : ℕ) → Option ObjectLine → Operation → Part (Reply ℕ)
+call_at plan worker before place None operation = never
+call_at plan worker before place (Some object) operation = call_on plan worker before place object.kind operation
+
+-- the items spell the call, which answers this
+abbrev pub SpellsCall : Plan → (worker before : ℕ) → Call → Part (Reply ℕ)
+SpellsCall plan worker before call = call_at plan worker before call.object (slice_get plan.objects call.object) call.operation
+
+-- the journal is one of the object at a place: it follows the machine of the object's kind from the declared start, and keeps the edge law
+abbrev pub IsJournalOf : Plan → ℕ → ObjectKind → List ObjectEntry → Type 0
+IsJournalOf plan place kinds.Map journal = journal ≡ []
+IsJournalOf plan place (kinds.Atomic type) journal = journal ≡ []
+IsJournalOf plan place kinds.Mutex journal = IsMutexJournal plan.workers journal
+IsJournalOf plan place kinds.RwMutex journal = IsRwMutexJournal plan.workers journal
+IsJournalOf plan place (kinds.Cond mutex) journal = IsCondJournal plan.workers journal
+IsJournalOf plan place (kinds.WaitGroup start) journal = IsWaitGroupJournal plan.workers start journal
+IsJournalOf plan place (kinds.Once atomic delta) journal = IsOnceJournal plan.workers journal
+IsJournalOf plan place (kinds.OnceFunc code) journal = IsOnceFuncJournal plan.workers journal
+IsJournalOf plan place (kinds.OnceValue value) journal = IsOnceValueJournal plan.workers journal
+IsJournalOf plan place kinds.Pool journal = IsPoolJournal plan.workers (puts_at place plan.scripts) journal

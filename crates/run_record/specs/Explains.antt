@@ -1,0 +1,62 @@
+-- When a record explains the outcome of a run of a workload.
+use Rattle.std.specs.Prelude.{◌≡◌, ℕ, ◌+◌, ◌<◌, ◌≤◌, List, [], map, length, take, All, Some, slice_get, slice_index}
+use Rattle.sync_model.specs.declared.misuse.Misuse.{Misuse}
+use Rattle.sync_model.specs.declared.outcome.Outcome.{Outcome}
+use Rattle.sync_model.specs.declared.outcome.Outcome.TheVariants.{Done, Misused, Deadlocked}
+use Rattle.sync_model.specs.Front.{AtLeast}
+use Rattle.sync_model.specs.Journal.{by, halt_of}
+use Rattle.sync_model.specs.Outcome.{left_by}
+use Rattle.sync_model.specs.SharedCalls.{Lawful}
+use Rattle.sync_model.specs.SharedHistory.{contents_after}
+use Rattle.workload.specs.declared.object.ObjectLine.{ObjectLine}
+use Rattle.workload.specs.Plan.{Plan}
+use Rattle.run_record.specs.declared.made.Made.{Made}
+use Rattle.run_record.specs.Calls.{IsJournalOf}
+use Rattle.run_record.specs.Journals.{IsStops}
+use Rattle.run_record.specs.Lines.{Line, LineEnd, whole, misused, halted, unfinished, script_of, items_of, replies_of, IsLineOf}
+use Rattle.run_record.specs.Objects.{contents_of, ends_in}
+use Rattle.run_record.specs.Record.{Record, stop, number_at, journal_of, list_of, shared_in, entries_in, calls_of, front_of}
+
+-- The front law along a worker's list. No worker forgets what it knew, and it knows all its own earlier calls; nobody knows of a call that wasn't made.
+pub record KeepsFronts (r : Record) : Type 0 where
+  pub rises : (worker i j : ℕ) (x y : Made) → i < j → slice_get (list_of r worker) i ≡ Some x → slice_get (list_of r worker) j ≡ Some y → AtLeast (front_of y) (front_of x)
+  pub own : (worker i : ℕ) (x : Made) → slice_get (list_of r worker) i ≡ Some x → slice_index (front_of x) worker ≡ length (shared_in (take i (list_of r worker)))
+  pub made : (worker i other : ℕ) (x : Made) → slice_get (list_of r worker) i ≡ Some x → slice_index (front_of x) other ≤ length (calls_of r other)
+
+-- the record is a lawful one of the workload's objects, whoever calls them
+pub record IsLawful (plan : Plan) (r : Record) : Type 0 where
+  -- the history is legal, and the workers' own calls on maps and atomics explain it: the front law and the Range law are among this
+  pub shared : Lawful (contents_of plan) r.history (calls_of r)
+  pub objects : length r.journals ≡ number_at (length plan.objects)
+  pub stops : IsStops (journal_of r stop)
+  pub journals : (place : ℕ) (object : ObjectLine) → slice_get plan.objects place ≡ Some object → IsJournalOf plan place object.kind (journal_of r (number_at place))
+  -- each entry of a journal stands in exactly one list, once, which is that of its caller, in the order of the journal
+  pub once : (worker object : ℕ) → entries_in object (list_of r worker) ≡ by worker (journal_of r object)
+  pub fronts : KeepsFronts r
+
+-- the lists are these lines, call by call: each spells the first part of its worker's script, and the replies are those of the calls that were completed
+pub record AreLines (plan : Plan) (r : Record) (outcome : Outcome) (lines : List Line) : Type 0 where
+  pub scripts : map script_of lines ≡ plan.scripts
+  pub lists : map items_of lines ≡ r.lists
+  pub replies : map replies_of lines ≡ (left_by outcome).replies
+  pub each : (worker : ℕ) (line : Line) → slice_get lines worker ≡ Some line → IsLineOf plan worker line
+
+-- the worker has ended: its script is at its end, or its last call is a misuse or was halted
+abbrev pub HasEnded : LineEnd → Type 0
+HasEnded whole = Unit {0}
+HasEnded (misused misuse) = Unit {0}
+HasEnded (halted misuse) = Unit {0}
+HasEnded unfinished = ⊥
+
+-- what a run comes to that left these lines. Where it is done, each script is at its end, and the ends are what the maps and atomics contain after the whole history. Where it was misused, the misuse is the first that halted Stop. With threads none is seen to be deadlocked
+abbrev pub Agrees : Plan → Record → List Line → Outcome → Type 0
+Agrees plan r lines (Done left) = All (λ line. line.ending ≡ whole) lines × (left.ends ≡ ends_in plan (contents_after (contents_of plan) r.history))
+Agrees plan r lines (Misused left misuse) = All (λ line. HasEnded line.ending) lines × (left.ends ≡ []) × (halt_of (journal_of r stop) ≡ Some misuse)
+Agrees plan r lines (Deadlocked left) = ⊥
+
+-- the record explains the outcome
+pub record Explains (plan : Plan) (outcome : Outcome) (r : Record) : Type 0 where
+  pub lines : List Line
+  pub are : AreLines plan r outcome lines
+  pub lawful : IsLawful plan r
+  pub agrees : Agrees plan r lines outcome

@@ -1,0 +1,16 @@
+pub mod AtomicKind
+pub mod Calls
+pub mod CondKind
+pub mod Edges
+pub mod Explains
+pub mod Journals
+pub mod Lines
+pub mod MapKind
+pub mod MutexKind
+pub mod Objects
+pub mod OnceKind
+pub mod Parts
+pub mod PoolKind
+pub mod Record
+pub mod RwMutexKind
+pub mod WaitGroupKind

@@ -1,0 +1,2 @@
+//! What holds of the record of a run. Each law is the contract of a function that does nothing.
+pub mod edges;

@@ -1,0 +1,56 @@
+//! What a worker finds of what others did, and of what it did itself.
+ghost use Rattle.std.specs.Prelude.{◌≡◌, ℕ, ◌<◌, ◌≤◌, true, List, ◌∷◌, ◌++◌, length, Some, slice_get};
+ghost use Rattle.sync_model.specs.Journal.{is_such};
+ghost use Rattle.sync_model.specs.SharedLaws.{LeaveKey};
+ghost use Rattle.workload.specs.Plan.{Plan};
+ghost use Rattle.run_record.specs.Edges.{frees, takes};
+ghost use Rattle.run_record.specs.Explains.{IsLawful};
+ghost use Rattle.run_record.specs.Objects.{contents_of};
+ghost use Rattle.run_record.specs.Record.{Record, ObjectEntry, journal_of, list_of, calls_of};
+
+use crate::made::Made;
+use sync_model::item::{Item, SharedCall, SharedEntry, SharedReply};
+use sync_model::laws::shared::{
+    a_call_lies_behind_what_its_caller_knew, a_callers_calls_are_in_order,
+    a_load_finds_the_last_store, each_entry_is_a_call,
+};
+use sync_model::map_object::{MapCall, MapReply};
+
+/// An edge makes known. What a worker did before an event that releases lies behind whoever acquires later at the same
+/// object: no call that it makes from then on has a lower place, and an entry lies below it.
+pub fn an_edge_makes_known()
+    ensures order { (plan : Plan) (r : Record) (giver taker i j k l object m n : ℕ) (known call : Item) (first second : ObjectEntry)
+        → IsLawful plan r
+        → slice_get (list_of r giver) i ≡ Some (Made.Shared known) → i < j → slice_get (list_of r giver) j ≡ Some (Made.Entered object first)
+        → slice_get (list_of r taker) k ≡ Some (Made.Entered object second) → k < l → slice_get (list_of r taker) l ≡ Some (Made.Shared call)
+        → m < n → slice_get (journal_of r object) m ≡ Some first → slice_get (journal_of r object) n ≡ Some second
+        → is_such frees first.deed ≡ true → is_such takes second.deed ≡ true
+        → known.place ≤ call.place }
+    ensures below { (plan : Plan) (r : Record) (giver taker i j k l object m n : ℕ) (known call : Item) (first second : ObjectEntry)
+        → IsLawful plan r
+        → slice_get (list_of r giver) i ≡ Some (Made.Shared known) → i < j → slice_get (list_of r giver) j ≡ Some (Made.Entered object first)
+        → slice_get (list_of r taker) k ≡ Some (Made.Entered object second) → k < l → slice_get (list_of r taker) l ≡ Some (Made.Shared call)
+        → m < n → slice_get (journal_of r object) m ≡ Some first → slice_get (journal_of r object) n ≡ Some second
+        → is_such frees first.deed ≡ true → is_such takes second.deed ≡ true
+        → known.entry ≡ true → known.place < call.place }
+{
+    a_call_lies_behind_what_its_caller_knew();
+}
+
+/// A worker's load finds its own earlier store of the key, unless another entry on the key stands between.
+pub fn a_worker_finds_its_own_store()
+    ensures below { (plan : Plan) (r : Record) (worker i j m key value : ℕ) (store load : Item)
+        → IsLawful plan r → i < j → slice_get (calls_of r worker) i ≡ Some store → slice_get (calls_of r worker) j ≡ Some load
+        → store.call ≡ SharedCall.Map m (MapCall.Store key value)
+        → store.place < load.place }
+    ensures found { (plan : Plan) (r : Record) (worker i j m key value : ℕ) (store load : Item) (earlier between later : List SharedEntry) (entry : SharedEntry)
+        → IsLawful plan r → i < j → slice_get (calls_of r worker) i ≡ Some store → slice_get (calls_of r worker) j ≡ Some load
+        → store.call ≡ SharedCall.Map m (MapCall.Store key value) → load.call ≡ SharedCall.Map m (MapCall.Load key)
+        → r.history ≡ earlier ++ entry ∷ (between ++ later) → store.place ≡ length earlier → load.place ≡ length (earlier ++ entry ∷ between)
+        → LeaveKey m key between → m < length (contents_of plan).maps
+        → load.reply ≡ SharedReply.Map (MapReply.Found (Some value)) }
+{
+    each_entry_is_a_call();
+    a_callers_calls_are_in_order();
+    a_load_finds_the_last_store();
+}
