@@ -1,0 +1,5 @@
+pub mod HaltLemmas
+pub mod OnceParts
+pub mod SharedParts
+pub mod Slots
+pub mod Working

@@ -1,0 +1,9 @@
+pub mod Desks
+pub mod Halting
+pub mod Kinds
+pub mod Parts
+pub mod Passes
+pub mod Replies
+pub mod Seats
+pub mod Stop
+pub mod Working

@@ -1,0 +1,49 @@
+-- What a part of a call adds to what its worker has done.
+use Rattle.std.specs.Prelude.{◌≡◌, ℕ, ◌==◌, cond, List, [], ◌∷◌, ◌++◌, map, Option}
+use Rattle.sync_model.specs.declared.item.Item.{Item}
+use Rattle.sync_model.specs.Front.{AtLeast}
+use Rattle.sync_model.specs.Note.{Holding}
+use Rattle.sync_model.specs.Shared.{items_of}
+use Rattle.ruled_object.specs.declared.pass.Pass.{Pass}
+use Rattle.ruled_object.specs.Passes.{own_by}
+use Rattle.protocols.specs.Spelling.{CallAnswer}
+use Rattle.run_record.specs.declared.entered.ObjectEvent.{ObjectEvent}
+use Rattle.run_record.specs.declared.entered.ObjectReply.{ObjectReply}
+use Rattle.run_record.specs.declared.made.Made.{Made}
+use Rattle.run_record.specs.Parts.{Part, lifted}
+use Rattle.run_record.specs.Record.{ObjectEntry, shared_in, entries_in, front_of}
+
+-- what a worker has done, and knows
+pub record Desk : Type 0 where
+  pub owns : ℕ → List ObjectEntry  -- its entries in each object's journal, by the object's number
+  pub calls : List Item  -- its calls on maps and atomics
+  pub front : List ℕ
+
+-- no front falls along the items, from one front to another
+abbrev pub Rises : List ℕ → List Made → List ℕ → Type 0
+Rises from [] to = AtLeast to from
+Rises from (x ∷ xs) to = AtLeast (front_of x) from × Rises (front_of x) xs to
+
+-- The worker made these items and no others, and they spell the part and its answer.
+pub record Works {O : Type 0} (part : Part O) (old : Desk) (answer : CallAnswer O) (new : Desk) : Type 0 where
+  pub items : List Made
+  pub owns : (object : ℕ) → new.owns object ≡ old.owns object ++ entries_in object items
+  pub calls : new.calls ≡ old.calls ++ shared_in items
+  pub fronts : Rises old.front items new.front
+  pub spelt : part items answer
+
+-- entries in one object's journal, and none in any other's
+abbrev pub alone : ℕ → List ObjectEntry → ℕ → List ObjectEntry
+alone number own object = cond (number == object) own []
+
+-- what a worker has done, as its note tells of the maps and atomics, and these lists of each object
+abbrev pub desk_with : {N : Type 0} → (N → Option Holding) → (N → List ℕ) → (ℕ → List ObjectEntry) → N → Desk
+desk_with owner front owns note = record { owns = owns; calls = items_of (owner note); front = front note }
+
+-- the same, on one object alone
+abbrev pub desk_at : {N : Type 0} → (N → Option Holding) → (N → List ℕ) → ℕ → List ObjectEntry → N → Desk
+desk_at owner front number own note = desk_with owner front (alone number own) note
+
+-- a pass's entries, as those of whatever kind's
+abbrev pub own_as : {S N E R : Type 0} → (E → ObjectEvent) → (R → ObjectReply) → Pass S N E R → List ObjectEntry
+own_as event reply pass = map (lifted event reply) (own_by pass)

@@ -1,0 +1,24 @@
+//! The objects of a run.
+use crate::stop::StopCore;
+use mutex_core::MutexCore;
+use pool_core::PoolCore;
+use ruled_object::Object;
+use rw_core::RwCore;
+use sync_model::Note;
+use wait_cores::{GroupCore, NotifyCore, OnceCore};
+
+/// An object of a run, of whatever kind. A kind is a line here, and one in `AnyPass`.
+#[derive(Drop)]
+pub enum AnyObject<N: Note> {
+    /// A map or an atomic. All of them are shared as one, which isn't here.
+    Shared,
+    Stop(Object<StopCore, N>),
+    Mutex(Object<MutexCore, N>),
+    RwMutex(Object<RwCore, N>),
+    Cond(Object<NotifyCore, N>),
+    WaitGroup(Object<GroupCore, N>),
+    Once(Object<OnceCore<i64>, N>),
+    OnceFunc(Object<OnceCore<u32>, N>),
+    OnceValue(Object<OnceCore<u64>, N>),
+    Pool(Object<PoolCore, N>),
+}

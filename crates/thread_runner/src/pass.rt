@@ -1,0 +1,23 @@
+//! The passes of one worker.
+use crate::stop::StopCore;
+use mutex_core::MutexCore;
+use pool_core::PoolCore;
+use ruled_object::PassOf;
+use rw_core::RwCore;
+use wait_cores::{GroupCore, NotifyCore, OnceCore};
+
+/// A worker's pass to an object of a run, of whatever kind.
+#[derive(Drop)]
+pub enum AnyPass<N> {
+    /// To a map or an atomic, or a pass that was taken out for a while.
+    None,
+    Stop(PassOf<StopCore, N>),
+    Mutex(PassOf<MutexCore, N>),
+    RwMutex(PassOf<RwCore, N>),
+    Cond(PassOf<NotifyCore, N>),
+    WaitGroup(PassOf<GroupCore, N>),
+    Once(PassOf<OnceCore<i64>, N>),
+    OnceFunc(PassOf<OnceCore<u32>, N>),
+    OnceValue(PassOf<OnceCore<u64>, N>),
+    Pool(PassOf<PoolCore, N>),
+}
