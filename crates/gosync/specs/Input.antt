@@ -19,3 +19,11 @@ Takes before after taken = Gives before after taken × (length taken ≤ MAX_INP
 -- the file can't be read: the count of its failed opens rose, or that of failed reads
 abbrev pub ReadFailed : ℕ → ℕ → ℕ → ℕ → Type 0
 ReadFailed opens opens_now reads reads_now = Rose opens opens_now ⊎ Rose reads reads_now
+
+-- neither did
+abbrev pub NoReadFailed : ℕ → ℕ → ℕ → ℕ → Type 0
+NoReadFailed opens opens_now reads reads_now = ReadFailed opens opens_now reads reads_now → ⊥
+
+-- the count of failed writes didn't rise
+abbrev pub NoWriteFailed : ℕ → ℕ → Type 0
+NoWriteFailed writes writes_now = Rose writes writes_now → ⊥

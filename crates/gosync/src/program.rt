@@ -7,7 +7,7 @@ ghost use Rattle.workload.specs.Reads.{Reads};
 ghost use Rattle.sync_model.specs.declared.outcome.Outcome.{Outcome};
 ghost use Rattle.step_runner.specs.Outcomes.{StepsTo};
 ghost use Rattle.gosync.specs.Command.{file_of, AskFor};
-ghost use Rattle.gosync.specs.Input.{ReadFailed};
+ghost use Rattle.gosync.specs.Input.{ReadFailed, NoReadFailed, NoWriteFailed};
 ghost use Rattle.gosync.specs.Messages.{code_of, ending_of, message_of, IsOutOfMemory, Says};
 ghost use Rattle.gosync.specs.ComesTo.{ComesTo};
 ghost use Rattle.gosync.specs.declared.status.Status.TheVariants as statuses;
@@ -45,10 +45,10 @@ pub fn gosync<S: Sources, O: Sink, E: Sink>(
     // Without a fault, a text that is read is run, with the status of an outcome that its run comes to, and one that
     // isn't read is refused, unless memory is out.
     ensures runs { (file bytes : List ℕ) (plan : Plan) → AskFor (map string_bytes words.now) file → S.contents src.old file ≡ Some bytes → Reads bytes plan
-        → ¬ ReadFailed (S.open_faults src.old file) (S.open_faults src.new file) (S.read_faults src.old) (S.read_faults src.new) → ¬ Rose (O.faults out.old) (O.faults out.new)
+        → NoReadFailed (S.open_faults src.old file) (S.open_faults src.new file) (S.read_faults src.old) (S.read_faults src.new) → NoWriteFailed (O.faults out.old) (O.faults out.new)
         → ((outcome : Outcome) × StepsTo plan outcome × (result ≡ statuses.Ended (ending_of outcome))) ⊎ IsOutOfMemory result }
     ensures refused { (file bytes : List ℕ) → AskFor (map string_bytes words.now) file → S.contents src.old file ≡ Some bytes → ((plan : Plan) → ¬ Reads bytes plan)
-        → ¬ ReadFailed (S.open_faults src.old file) (S.open_faults src.new file) (S.read_faults src.old) (S.read_faults src.new)
+        → NoReadFailed (S.open_faults src.old file) (S.open_faults src.new file) (S.read_faults src.old) (S.read_faults src.new)
         → (code_of result ≡ 1) ⊎ IsOutOfMemory result }
 
     // How many reads there are at most, and that no count falls.
