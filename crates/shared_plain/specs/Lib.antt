@@ -4,6 +4,7 @@ pub mod EndsOfHistory
 pub mod Fits
 pub mod Marks
 pub mod NewCallers
+pub mod Pairs
 pub mod PlainHistory
 pub mod PlainMachine
 pub mod Plains

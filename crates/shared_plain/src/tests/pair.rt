@@ -1,9 +1,10 @@
 //! Plain maps and atomics for the tests, with two callers.
-ghost use Rattle.std.specs.Prelude.{◌≡◌, ◌<◌, ◌∷◌, []};
+ghost use Rattle.std.specs.Prelude.{◌≡◌, ◌<◌, ◌∷◌, [], IfOk, IfSome};
 ghost use Rattle.sync_model.specs.declared.atomic_object.AtomicKind.TheVariants as kinds;
 ghost use Rattle.sync_model.specs.Shared.{IsCallerAt, IsMapCall};
 ghost use Rattle.shared_plain.specs.Marks.{own_by, IsMarkOf};
-ghost use Rattle.shared_plain.specs.Plains.{keys_of, kinds_of, maps_of, Takes};
+ghost use Rattle.shared_plain.specs.Plains.{kinds_of, maps_of, Takes};
+ghost use Rattle.shared_plain.specs.Pairs.{ArePair};
 
 use crate::state::has_call;
 use crate::{Mark, Plain};
@@ -29,16 +30,13 @@ pub(super) struct Pair {
     plain: Plain,
     first: Caller<Mark>,
     second: Caller<Mark>,
-    ghost is_first: { IsCallerAt IsMarkOf own_by plain first },
-    ghost is_second: { IsCallerAt IsMarkOf own_by plain second },
-    ghost kinds: { kinds_of plain ≡ kinds.Bool ∷ kinds.Uint64 ∷ [] },
-    ghost maps: { maps_of plain ≡ 2 },
-    ghost keys: { keys_of plain ≡ 4 },
 }
 
 impl Pair {
     /// Two callers, each with so many spare entries.
-    pub(super) fn new(alloc: Global, spare: u32) -> Result<Option<Self>, AllocError> {
+    pub(super) fn new(alloc: Global, spare: u32) -> Result<Option<Self>, AllocError>
+        ensures { IfOk result (λ made. IfSome made (λ pair. ArePair pair.plain pair.first pair.second)) }
+    {
         let kinds = [AtomicKind::Bool, AtomicKind::Uint64];
         let (plain, mut callers) = Plain::new(alloc, &kinds, 2, 4, &[spare, spare])?;
         let Some(second) = callers.pop() else {
@@ -61,7 +59,10 @@ impl Pair {
         who: Who,
         map: u32,
         call: MapCall<u32>,
-    ) -> Option<MapReply> {
+    ) -> Option<MapReply>
+        requires { ArePair self.old.plain self.old.first self.old.second }
+        ensures { ArePair self.new.plain self.new.first self.new.second }
+    {
         if map >= 2 || !self.plain.takes(&call) {
             return None;
         }
@@ -77,7 +78,10 @@ impl Pair {
         rt: &R,
         who: Who,
         call: AtomicCall,
-    ) -> Option<AtomicReply> {
+    ) -> Option<AtomicReply>
+        requires { ArePair self.old.plain self.old.first self.old.second }
+        ensures { ArePair self.new.plain self.new.first self.new.second }
+    {
         match who {
             Who::First => on_uint(rt, &self.plain, &mut self.first, call),
             Who::Second => on_uint(rt, &self.plain, &mut self.second, call),
@@ -86,7 +90,10 @@ impl Pair {
 
     /// The second caller takes in a copy of what the first knows. What is answered is the copy's number and its spare
     /// entries.
-    pub(super) fn tell_second(&mut self) -> (u32, u32) {
+    pub(super) fn tell_second(&mut self) -> (u32, u32)
+        requires { ArePair self.old.plain self.old.first self.old.second }
+        ensures { ArePair self.new.plain self.new.first self.new.second }
+    {
         let copy = self.first.note.copy(&self.plain);
         let shown = (copy.number(), copy.spare());
         self.second.note.merge(&self.plain, copy);
@@ -95,7 +102,10 @@ impl Pair {
 
     /// The first caller's cursor over map 0 makes a step, then the caller a call there, where it may, and the cursor
     /// another step.
-    pub(super) fn walk<R: Wait>(&mut self, rt: &R, between: MapCall<u32>) -> Option<TwoSteps> {
+    pub(super) fn walk<R: Wait>(&mut self, rt: &R, between: MapCall<u32>) -> Option<TwoSteps>
+        requires { ArePair self.old.plain self.old.first self.old.second }
+        ensures { ArePair self.new.plain self.new.first self.new.second }
+    {
         if !self.plain.takes(&between) {
             return None;
         }

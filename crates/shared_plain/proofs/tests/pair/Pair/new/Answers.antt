@@ -2,8 +2,8 @@ use Rattle.std.proofs.Common.{◌≡◌, [], ◌∷◌, ◌++◌, length, slice_
 use Rattle.shared_plain.proofs.FirstCallers.{is_caller, within, at_last}
 use Rattle.shared_plain.proofs.tests.pair.Pair.new.Goals as goal
 
-pub invariant_of-result : goal.invariant_of-result
-invariant_of-result c =
+pub returns : goal.returns
+returns c =
     let new = c.in_ok-plain.ensures.callers in
     let rest = c.pop.new.self.items in
     let start = c.pop-2.new.self.items in
@@ -14,7 +14,7 @@ invariant_of-result c =
     record {
       is_first = is_caller _ _ _ new (length start) first (ap (λ l. slice_get l (length start)) (whole ∙ ap (λ l. l ++ second ∷ []) less) ∙ within (start ++ first ∷ []) (second ∷ []) (length start) first (at_last start first));
       is_second = is_caller _ _ _ new (length rest) second (ap (λ l. slice_get l (length rest)) whole ∙ at_last rest second);
-      kinds = c.in_ok-plain.ensures.plain.0;
+      types = c.in_ok-plain.ensures.plain.0;
       maps = c.in_ok-plain.ensures.plain.1;
       keys = c.in_ok-plain.ensures.plain.2;
     }
