@@ -1,13 +1,11 @@
 //! Halting an object of a run by a misuse.
-ghost use Rattle.std.specs.Prelude.{◌≡◌, ◌<◌, IsTrue, Ok, length};
-ghost use Rattle.sync_model.specs.declared.answer.Answer.TheVariants.{Done};
+ghost use Rattle.std.specs.Prelude.{◌≡◌, IsTrue};
 ghost use Rattle.run_record.specs.declared.entered.ObjectEvent.{ObjectEvent};
 ghost use Rattle.run_record.specs.declared.entered.ObjectReply.{ObjectReply};
-ghost use Rattle.thread_runner.specs.Desks.{AreSeats};
-ghost use Rattle.thread_runner.specs.Halting.{Halts, AreHalted, halting};
-ghost use Rattle.thread_runner.specs.Passes.{IsSeatAt, own_of, owns_of};
+ghost use Rattle.thread_runner.specs.Halting.{Halts, AreHalted};
+ghost use Rattle.thread_runner.specs.Passes.{IsSeatAt, own_of};
 ghost use Rattle.thread_runner.specs.Seats.{IsSeat};
-ghost use Rattle.thread_runner.specs.Working.{own_as, Works, desk_with};
+ghost use Rattle.thread_runner.specs.Working.{own_as};
 
 use crate::object::AnyObject;
 use crate::pass::AnyPass;
@@ -88,24 +86,4 @@ pub(crate) fn halt_any<N: Note, C: Clock, R: Wait>(
             _ => unreachable!(),
         },
     }
-}
-
-/// Halts the object with this number by a misuse.
-pub(crate) fn halt_at<N: Note, C: Clock, R: Wait>(
-    rt: &R,
-    worker: &Worker<N, C>,
-    objects: &[AnyObject<N>],
-    passes: &mut [AnyPass<N>],
-    note: &N,
-    number: usize,
-    misuse: Misuse,
-)
-    requires number { number < length objects.now }
-    requires seats { AreSeats N.at worker.now.at.home.now worker.now.workers worker.now.number objects.now passes.old }
-    ensures seats { AreSeats N.at worker.now.at.home.now worker.now.workers worker.now.number objects.now passes.new }
-    ensures works { Works (halting misuse (N.front note.now)) (desk_with N.own N.front (owns_of passes.old) note.now) (Done (Ok tt)) (desk_with N.own N.front (owns_of passes.new) note.now) }
-{
-    let object = &objects[number];
-    let pass = &mut passes[number];
-    halt_any(rt, worker, object, pass, note, misuse);
 }
