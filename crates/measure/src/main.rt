@@ -6,6 +6,7 @@ mod group;
 mod measured;
 mod mutex;
 mod once;
+mod one_call;
 mod plan;
 mod pool;
 mod run;
@@ -13,6 +14,7 @@ mod rw_mutex;
 mod standing_clock;
 
 use crate::fresh_note::FreshNote;
+use crate::one_call::{Add, Load, On, Store};
 use crate::plan::{Notes, Plan, Reads, What, plan_of};
 use crate::run::measure;
 use crate::rw_mutex::{Reading, Writing};
@@ -31,7 +33,7 @@ use sync_outside::{Clock, SystemClock};
 /// What is printed where the words aren't taken.
 const USAGE: &str = "usage: measure WHAT HOW NOTES CLOCK CALLERS ROUNDS
 Prints how many nanoseconds a pair of calls takes, for each thread.
-  WHAT     mutex | read | write | group | once | pool
+  WHAT     mutex | read | write | group | once | pool | load | store | add
   HOW      one | two-own | four-own | two-shared | four-shared
   NOTES    front | empty
   CLOCK    machine | standing
@@ -52,6 +54,9 @@ fn with_notes<N: FreshNote, C: Clock + Sync, R: Threads + Wait + rt::Clock + Syn
         What::Group => measure::<WaitGroup<N>, C, R>(rt, alloc, clock, plan),
         What::Once => measure::<Once<(), N>, C, R>(rt, alloc, clock, plan),
         What::Pool => measure::<Pool<N>, C, R>(rt, alloc, clock, plan),
+        What::Load => measure::<On<Load>, C, R>(rt, alloc, clock, plan),
+        What::Store => measure::<On<Store>, C, R>(rt, alloc, clock, plan),
+        What::Add => measure::<On<Add>, C, R>(rt, alloc, clock, plan),
     }
 }
 

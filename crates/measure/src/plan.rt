@@ -16,6 +16,12 @@ pub enum What {
     Once,
     /// A pool's `put` and `get`.
     Pool,
+    /// One load of a shared map.
+    Load,
+    /// One store to a shared map.
+    Store,
+    /// One `add` to a shared atomic.
+    Add,
 }
 
 impl What {
@@ -27,6 +33,9 @@ impl What {
             b"group" => Some(What::Group),
             b"once" => Some(What::Once),
             b"pool" => Some(What::Pool),
+            b"load" => Some(What::Load),
+            b"store" => Some(What::Store),
+            b"add" => Some(What::Add),
             _ => None,
         }
     }
