@@ -6,9 +6,9 @@ ghost use Rattle.thread_runner.specs.Stop.{StopBegins};
 use protocols::{Protocol, Step};
 use sync_model::Machine;
 
-/// What has no value: Stop has no events, and so no answers to them.
-#[derive(Clone, Copy, Debug)]
-pub enum NoEvent {}
+/// The event that a machine must have. Nobody may make it on Stop, and it changes nothing.
+#[derive(Clone, Copy, Debug, Drop)]
+pub struct NoEvent;
 
 /// The machine of Stop. Nothing is done on it but halts: the first one is the misuse that ends the run.
 pub struct StopCore;
