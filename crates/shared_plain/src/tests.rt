@@ -1,4 +1,5 @@
 mod callers;
 mod one_thread;
 mod pair;
+mod threads;
 mod walks;
