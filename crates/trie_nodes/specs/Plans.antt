@@ -17,11 +17,11 @@ abbrev pub two_slots : ℕ → ℕ → ℕ → ℕ → ℕ → ℕ
 two_slots slot word other other_word s = cond (s == slot) word (one_slot other other_word s)
 
 -- a node that nobody holds, below this parent, with these words in its slots
-pub record IsNewNode (words : List ℕ) (node parent : ℕ) (slots : ℕ → ℕ) : Type 0 where
+pub record IsNewNode (words : List ℕ) (node above : ℕ) (slots : ℕ → ℕ) : Type 0 where
   pub placed : 0 < node
   pub free : slice_index words (lock_word node) ≡ 0
-  pub parent : slice_index words (parent_word node) ≡ parent
-  pub slots : (slot : ℕ) → slot < 16 → slice_index words (slot_word node slot) ≡ slots slot
+  pub parent : slice_index words (parent_word node) ≡ above
+  pub holds : (slot : ℕ) → slot < 16 → slice_index words (slot_word node slot) ≡ slots slot
 
 -- a chain of so many new nodes down the path of a key, from a node of this level on, whose last node has these words in its slots: each other node has the next in its slot for the key, and nothing else
 abbrev pub IsChain : List ℕ → ℕ → ℕ → (ℕ → ℕ) → ℕ → ℕ → ℕ → ℕ → Type 0
