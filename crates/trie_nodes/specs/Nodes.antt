@@ -38,7 +38,7 @@ module _ (words : List ℕ) where
 
   -- no word of the node itself belongs to what its slots lead to
   pub record IsApart (level node : ℕ) : Type 0 where
-    pub apart : (slot i : ℕ) → slot < 16 → node ≤ i → i < node + 18 → BelongsToSlot (λ below. Belongs (level + 1) below i) (slot_at node slot) i → ⊥
+    pub apart : (slot i : ℕ) → slot < 16 → node ≤ i → i < node + 18 → BelongsToSlot (λ below. Belongs (suc level) below i) (slot_at node slot) i → ⊥
 
 module _ (words : List ℕ) (seed : ℕ) where
   -- what a node of a level gives a key, where so many levels are left: what its slot for the key gives

@@ -3,6 +3,7 @@
 #![tactic(auto)]
 
 pub mod expansion;
+pub mod laws;
 pub mod layout;
 pub mod path;
 pub mod pruning;
