@@ -1,3 +1,5 @@
+pub mod ChainLemmas
 pub mod NodeLemmas
 pub mod PathLemmas
+pub mod PlanLemmas
 pub mod SlotLemmas

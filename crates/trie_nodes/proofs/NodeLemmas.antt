@@ -18,6 +18,14 @@ stands_for-slot words seed level node key lt =
     let e : 8 - level ≡ suc (8 - suc level) = omega arith in
     ap (λ levels. value_within words seed levels level node key) e
 
+-- the same, where it is known what this slot holds
+pub stands_for-slot_is : (words : List ℕ) (seed level node key slot : ℕ) (held : Slot) → level < 8 → nibble key seed level ≡ slot → slot_at words node slot ≡ held →
+    stands_for words seed level node key ≡ slot_value words (λ below. stands_for words seed (suc level) below key) held key
+stands_for-slot_is words seed level node key slot held lt here is =
+    stands_for-slot words seed level node key lt
+    ∙ ap (λ s. slot_value words (λ below. stands_for words seed (suc level) below key) (slot_at words node s) key) here
+    ∙ ap (λ s. slot_value words (λ below. stands_for words seed (suc level) below key) s key) is
+
 pub stands_for-deep : (words : List ℕ) (seed level node key : ℕ) → 8 ≤ level → stands_for words seed level node key ≡ None
 unfolding stands_for value_within
 stands_for-deep words seed level node key le =

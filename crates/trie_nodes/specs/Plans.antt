@@ -1,8 +1,8 @@
 -- The two changes of nodes that have a plan: an entry gives its slot to a chain of new nodes that leads to it and to one more entry, and an emptied node is cut off.
 use Rattle.std.specs.Prelude.{◌≡◌, ◌≢◌, ℕ, zero, suc, ◌+◌, ◌-◌, ◌*◌, ◌<◌, ◌==◌, cond, List, slice_index}
 use Rattle.trie_nodes.specs.declared.slot.Slot.TheVariants.{Node, Entry}
-use Rattle.trie_nodes.specs.declared.expansion.Expansion.{Expansion}
-use Rattle.trie_nodes.specs.declared.pruning.Pruning.{Pruning}
+use Rattle.trie_nodes.specs.declared.plan.Expansion.{Expansion}
+use Rattle.trie_nodes.specs.declared.plan.Pruning.{Pruning}
 use Rattle.trie_nodes.specs.Layout.{lock_word, parent_word, slot_word, key_word, value_word}
 use Rattle.trie_nodes.specs.Paths.{nibble}
 use Rattle.trie_nodes.specs.Slots.{word_of_slot}
@@ -52,3 +52,11 @@ pub record Prunes (old new : List ℕ) (level place : ℕ) (node : List ℕ) (pl
   pub was : slice_index old (slot_word plan.parent plan.slot) ≡ word_of_slot (Node place)
   pub becomes : slice_index new (slot_word plan.parent plan.slot) ≡ 0
   pub stays : (i : ℕ) → Belongs old (level - 1) plan.parent i → i ≢ slot_word plan.parent plan.slot → slice_index new i ≡ slice_index old i
+
+-- of a node that has these words all slots are empty
+abbrev pub HasOnlyEmptySlots : List ℕ → Type 0
+HasOnlyEmptySlots node = (slot : ℕ) → slot < 16 → slice_index node (2 + slot) ≡ 0
+
+-- and of this one a slot isn't
+abbrev pub HasAFullSlot : List ℕ → Type 0
+HasAFullSlot node = (slot : ℕ) × (slot < 16) × (slice_index node (2 + slot) ≢ 0)

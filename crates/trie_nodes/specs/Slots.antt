@@ -12,3 +12,9 @@ word_of_slot (Entry place) = 2 * place + 1
 -- the slot whose word it is
 abbrev pub slot_in : ℕ → Slot
 slot_in word = cond (word == 0) Empty (cond (word % 2 == 0) (Node (word / 2)) (Entry (word / 2)))
+
+-- the place that a slot holds; 0 where it is empty
+abbrev pub place_of_slot : Slot → ℕ
+place_of_slot Empty = 0
+place_of_slot (Node place) = place
+place_of_slot (Entry place) = place

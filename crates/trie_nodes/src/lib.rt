@@ -2,15 +2,17 @@
 //! changes that concern more than one node. No call here reads or writes a word of a table, and none takes memory.
 #![tactic(auto)]
 
-pub mod expansion;
+pub mod expand;
 pub mod laws;
 pub mod layout;
 pub mod path;
-pub mod pruning;
+pub mod plan;
+pub mod prune;
 pub mod slot;
 
-pub use expansion::Expansion;
-pub use layout::Layout;
+pub use expand::expansion;
+pub use layout::{DEAD, FREE, LEVELS, Layout, SLOTS, UNIT_WORDS};
 pub use path::nibble;
-pub use pruning::Pruning;
+pub use plan::{Expansion, Pruning};
+pub use prune::pruning;
 pub use slot::Slot;
