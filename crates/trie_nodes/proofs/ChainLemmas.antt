@@ -1,16 +1,17 @@
 -- Where a chain of new nodes leads: the keys whose path goes along it come to its last node, and all others turn off to an empty slot.
-use Rattle.std.proofs.Common.{◌≡◌, ◌≢◌, ◌⊎◌, inl, inr, ℕ, zero, suc, ◌+◌, ◌*◌, ◌<◌, ◌≤◌, ◌==◌, true, false, cond, List, Option, Some, None, refl, sym, ap, subst, ◌∙◌, arith}
+use Rattle.std.proofs.Common.{◌≡◌, ◌≢◌, ◌⊎◌, inl, inr, ℕ, zero, suc, ◌+◌, ◌-◌, ◌*◌, ◌<◌, ◌≤◌, ◌==◌, true, false, cond, List, Option, Some, None, refl, sym, ap, subst, ◌∙◌, arith}
 use Rattle.std.specs.Prelude.{slice_index}
 use Rattle.std.proofs.lemmas.Bool.{cases_eq}
 use Rattle.std.proofs.lemmas.Bool.Decides.{eqb_tells}
 use Rattle.trie_nodes.specs.declared.slot.Slot.{Slot}
 use Rattle.trie_nodes.specs.declared.slot.Slot.TheVariants.{Empty, Node, Entry}
+use Rattle.trie_nodes.specs.declared.plan.Expansion.{Expansion}
 use Rattle.trie_nodes.specs.Layout.{slot_word, key_word, value_word}
 use Rattle.trie_nodes.specs.Paths.{nibble, route}
 use Rattle.trie_nodes.specs.Slots.{word_of_slot, slot_in}
 use Rattle.trie_nodes.specs.Nodes.{slot_at, entry_value, slot_value, stands_for}
-use Rattle.trie_nodes.specs.Plans.{one_slot, two_slots, IsNewNode, IsChain}
-use Rattle.trie_nodes.proofs.PathLemmas.{nibble-lt}
+use Rattle.trie_nodes.specs.Plans.{one_slot, two_slots, IsNewNode, IsChain, IsExpansion, IsPlannedChain}
+use Rattle.trie_nodes.proofs.PathLemmas.{nibble-lt, nibble-same}
 use Rattle.trie_nodes.proofs.SlotLemmas.{slot_in-zero, slot_in-node, slot_in-entry}
 use Rattle.trie_nodes.proofs.NodeLemmas.{stands_for-slot}
 
@@ -104,60 +105,81 @@ module _ (words : List ℕ) (seed key : ℕ) (slots : ℕ → ℕ) where
     | inr differs ↦ leads_nowhere first above level chain.0 k (omega arith) chain.1 differs
     ]
 
--- a chain to two entries, whose keys have paths that go together along it and part in its last node
-pub record LeadsToBoth (words : List ℕ) (seed level above first more held key held_entry key_entry : ℕ) : Type 0 where
-  pub last : level + more < 8
-  pub chain : IsChain words seed key (two_slots (nibble held seed (level + more)) (word_of_slot (Entry held_entry)) (nibble key seed (level + more)) (word_of_slot (Entry key_entry))) (suc more) level above first
-  pub along : (d : ℕ) → level ≤ d → d < level + more → nibble held seed d ≡ nibble key seed d
-  pub part : nibble held seed (level + more) ≢ nibble key seed (level + more)
-  pub is_held : slice_index words (key_word held_entry) ≡ held
-  pub is_key : slice_index words (key_word key_entry) ≡ key
-
-module _ (words : List ℕ) (seed level above first more held key held_entry key_entry : ℕ) (leads : LeadsToBoth words seed level above first more held key held_entry key_entry) where
+-- A chain of one node more than `more` to two entries, whose keys have paths that go together along it and part in its last node.
+module _ (words : List ℕ) (seed level above first held key held_entry key_entry more : ℕ) (plan : Expansion) (is : IsExpansion held key seed level plan)
+    (is_more : plan.nodes ≡ suc more) (chain : IsPlannedChain words seed key plan level above first held_entry key_entry)
+    (is_held : slice_index words (key_word held_entry) ≡ held) (is_key : slice_index words (key_word key_entry) ≡ key) where
   abbrev last : ℕ
   last = level + more
 
+  last_is : level + plan.nodes - 1 ≡ last
+  last_is = omega arith
+
+  last_lt : last < 8
+  last_lt = let within = is.within in omega arith
+
+  held_slot : plan.held_slot ≡ nibble held seed last
+  held_slot = is.held_slot ∙ ap (nibble held seed) last_is
+
+  key_slot : plan.key_slot ≡ nibble key seed last
+  key_slot = is.key_slot ∙ ap (nibble key seed) last_is
+
+  together : route seed last held ≡ route seed last key
+  together = subst (λ n. route seed n held ≡ route seed n key) last_is is.together
+
+  along : (d : ℕ) → level ≤ d → d < last → nibble held seed d ≡ nibble key seed d
+  along d from to = nibble-same seed d last held key to together
+
   abbrev slots : ℕ → ℕ
-  slots = two_slots (nibble held seed last) (word_of_slot (Entry held_entry)) (nibble key seed last) (word_of_slot (Entry key_entry))
+  slots = two_slots plan.held_slot (word_of_slot (Entry held_entry)) plan.key_slot (word_of_slot (Entry key_entry))
+
+  its_nodes : IsChain words seed key slots (suc more) level above first
+  its_nodes = subst (λ n. IsChain words seed key slots n level above first) is_more chain
 
   abbrev gives : ℕ → Slot → Option ℕ
   gives k slot = slot_value words (λ below. stands_for words seed (suc last) below k) slot k
 
-  come_to : (k s : ℕ) → ((d : ℕ) → level ≤ d → d < last → nibble k seed d ≡ nibble key seed d) → nibble k seed last ≡ s → stands_for words seed level first k ≡ gives k (slot_in (slots s))
-  come_to k s along e =
-      chain-along words seed key slots more level above first k last refl leads.last leads.chain along ∙ ap (λ s. gives k (slot_in (slots s))) e
+  come_to : (k s : ℕ) → ((d : ℕ) → level ≤ d → d < last → nibble k seed d ≡ nibble key seed d) → s ≡ nibble k seed last → stands_for words seed level first k ≡ gives k (slot_in (slots s))
+  come_to k s goes e =
+      chain-along words seed key slots more level above first k last refl last_lt its_nodes goes ∙ ap (λ s. gives k (slot_in (slots s))) (sym e)
 
-  at_held : slot_in (slots (nibble held seed last)) ≡ Entry held_entry
-  at_held = slot_in-entry (slots (nibble held seed last)) held_entry (two_slots-first (nibble held seed last) (2 * held_entry + 1) (nibble key seed last) (2 * key_entry + 1) (nibble held seed last) refl)
+  at_held : slot_in (slots plan.held_slot) ≡ Entry held_entry
+  at_held = slot_in-entry (slots plan.held_slot) held_entry (two_slots-first plan.held_slot (2 * held_entry + 1) plan.key_slot (2 * key_entry + 1) plan.held_slot refl)
 
-  at_key : slot_in (slots (nibble key seed last)) ≡ Entry key_entry
-  at_key = slot_in-entry (slots (nibble key seed last)) key_entry
-      (two_slots-later (nibble held seed last) (2 * held_entry + 1) (nibble key seed last) (2 * key_entry + 1) (nibble key seed last) (λ e. leads.part (sym e))
-      ∙ one_slot-same (nibble key seed last) (2 * key_entry + 1) (nibble key seed last) refl)
+  at_key : slot_in (slots plan.key_slot) ≡ Entry key_entry
+  at_key = slot_in-entry (slots plan.key_slot) key_entry
+      (two_slots-later plan.held_slot (2 * held_entry + 1) plan.key_slot (2 * key_entry + 1) plan.key_slot (λ e. is.part (sym e))
+      ∙ one_slot-same plan.key_slot (2 * key_entry + 1) plan.key_slot refl)
 
-  at_other : (s : ℕ) → s ≢ nibble held seed last → s ≢ nibble key seed last → slot_in (slots s) ≡ Empty
+  at_other : (s : ℕ) → s ≢ plan.held_slot → s ≢ plan.key_slot → slot_in (slots s) ≡ Empty
   at_other s not_held not_key = slot_in-zero (slots s)
-      (two_slots-later (nibble held seed last) (2 * held_entry + 1) (nibble key seed last) (2 * key_entry + 1) s not_held
-      ∙ one_slot-other (nibble key seed last) (2 * key_entry + 1) s not_key)
+      (two_slots-later plan.held_slot (2 * held_entry + 1) plan.key_slot (2 * key_entry + 1) s not_held
+      ∙ one_slot-other plan.key_slot (2 * key_entry + 1) s not_key)
 
-  pub chain-key : stands_for words seed level first key ≡ entry_value words key_entry key
-  chain-key = come_to key (nibble key seed last) (λ d from to. refl) refl ∙ ap (gives key) at_key
+  pub chain-first : 0 < first
+  chain-first = chain-placed words seed key slots more level above first its_nodes
 
-  pub chain-held : stands_for words seed level first held ≡ entry_value words held_entry held
-  chain-held = come_to held (nibble held seed last) leads.along refl ∙ ap (gives held) at_held
+  pub chain-differ : held ≢ key
+  chain-differ e = is.part (held_slot ∙ ap (λ k. nibble k seed last) e ∙ sym key_slot)
+
+  pub chain-key : stands_for words seed level first key ≡ Some (slice_index words (value_word key_entry))
+  chain-key = come_to key plan.key_slot (λ d from to. refl) key_slot ∙ ap (gives key) at_key ∙ entry_value-own words key_entry key is_key
+
+  pub chain-held : stands_for words seed level first held ≡ Some (slice_index words (value_word held_entry))
+  chain-held = come_to held plan.held_slot along held_slot ∙ ap (gives held) at_held ∙ entry_value-own words held_entry held is_held
 
   last-other : (k : ℕ) → k ≢ held → k ≢ key → (s : ℕ) → gives k (slot_in (slots s)) ≡ None
-  last-other k not_held not_key s = elim (cases_eq s (nibble held seed last)) [
-      inl here ↦ ap (λ n. gives k (slot_in (slots n))) here ∙ ap (gives k) at_held ∙ entry_value-other words held_entry k (λ e. not_held (sym e ∙ leads.is_held))
+  last-other k not_held not_key s = elim (cases_eq s plan.held_slot) [
+      inl here ↦ ap (λ n. gives k (slot_in (slots n))) here ∙ ap (gives k) at_held ∙ entry_value-other words held_entry k (λ e. not_held (sym e ∙ is_held))
     | inr apart ↦
-        elim (cases_eq s (nibble key seed last)) [
-          inl here ↦ ap (λ n. gives k (slot_in (slots n))) here ∙ ap (gives k) at_key ∙ entry_value-other words key_entry k (λ e. not_key (sym e ∙ leads.is_key))
+        elim (cases_eq s plan.key_slot) [
+          inl here ↦ ap (λ n. gives k (slot_in (slots n))) here ∙ ap (gives k) at_key ∙ entry_value-other words key_entry k (λ e. not_key (sym e ∙ is_key))
         | inr nowhere ↦ ap (gives k) (at_other s apart nowhere)
         ]
     ]
 
   pub chain-other : (k : ℕ) → k ≢ held → k ≢ key → stands_for words seed level first k ≡ None
   chain-other k not_held not_key = elim (along_or_off seed level more k key) [
-      inl along ↦ come_to k (nibble k seed last) along refl ∙ last-other k not_held not_key (nibble k seed last)
-    | inr off ↦ chain-off words seed key slots more level above first k last off.0 refl leads.last leads.chain off.1 off.2 off.3
+      inl goes ↦ come_to k (nibble k seed last) goes refl ∙ last-other k not_held not_key (nibble k seed last)
+    | inr off ↦ chain-off words seed key slots more level above first k last off.0 refl last_lt its_nodes off.1 off.2 off.3
     ]

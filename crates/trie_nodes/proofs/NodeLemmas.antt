@@ -6,7 +6,7 @@ use Rattle.trie_nodes.specs.declared.slot.Slot.TheVariants.{Empty, Node, Entry}
 use Rattle.trie_nodes.specs.Layout.{slot_word, key_word, value_word}
 use Rattle.trie_nodes.specs.Paths.{nibble, route}
 use Rattle.trie_nodes.specs.Slots.{slot_in}
-use Rattle.trie_nodes.specs.Nodes.{slot_at, entry_value, slot_value, BelongsToSlot, BelongsWithin, Belongs, IsApart, value_within, stands_for, Shows}
+use Rattle.trie_nodes.specs.Nodes.{slot_at, entry_value, slot_value, BelongsToSlot, BelongsWithin, Belongs, ChangesSlot, value_within, stands_for, Shows}
 use Rattle.trie_nodes.proofs.PathLemmas.{nibble-lt}
 use Rattle.trie_nodes.proofs.SlotLemmas.{slot_in-zero}
 
@@ -79,33 +79,25 @@ pub stands_for-same : (words new : List ℕ) (seed level node key : ℕ) → ((i
 unfolding stands_for Belongs
 stands_for-same words new seed level node key same = value_within-same words new seed (8 - level) level node key same
 
--- one slot of a node of this level changes, and no other word that belongs to the node
-pub record ChangesSlot (words new : List ℕ) (level node slot : ℕ) : Type 0 where
-  pub level_lt : level < 8
-  pub slot_lt : slot < 16
-  pub apart : IsApart words level node
-  pub stays : (i : ℕ) → Belongs words level node i → i ≢ slot_word node slot → slice_index new i ≡ slice_index words i
-
-module _ (words new : List ℕ) (level node slot : ℕ) (changes : ChangesSlot words new level node slot) where
+module _ (old new : List ℕ) (level node slot : ℕ) (level_lt : level < 8) (slot_lt : slot < 16) (changes : ChangesSlot old new level node slot) where
   -- what a slot of the node leads to stays
-  pub below_stays : (other i : ℕ) → other < 16 → BelongsToSlot words (λ below. Belongs words (suc level) below i) (slot_at words node other) i → slice_index new i ≡ slice_index words i
+  pub below_stays : (other i : ℕ) → other < 16 → BelongsToSlot old (λ below. Belongs old (suc level) below i) (slot_at old node other) i → slice_index new i ≡ slice_index old i
   below_stays other i fits belongs =
-      let lt = changes.slot_lt in
-      changes.stays i (Belongs-slot words level node other i changes.level_lt fits belongs)
-      (λ same. changes.apart.apart other i fits (omega (arith, same)) (omega (arith, same, lt)) belongs)
+      changes.stays i (Belongs-slot old level node other i level_lt fits belongs)
+      (λ same. changes.apart.apart other i fits (omega (arith, same)) (omega (arith, same, slot_lt)) belongs)
 
   -- a key of another slot has what it had
-  pub stands_for-other_slot : (seed key : ℕ) → nibble key seed level ≢ slot → stands_for new seed level node key ≡ stands_for words seed level node key
+  pub stands_for-other_slot : (seed key : ℕ) → nibble key seed level ≢ slot → stands_for new seed level node key ≡ stands_for old seed level node key
   stands_for-other_slot seed key differs =
       let other = nibble key seed level in
       let fits = nibble-lt key seed level in
-      let here = changes.stays (slot_word node other) (Belongs-own words level node (slot_word node other) changes.level_lt (omega arith) (omega (arith, fits))) (λ same. differs (omega (arith, same))) in
-      stands_for-slot new seed level node key changes.level_lt
+      let here = changes.stays (slot_word node other) (Belongs-own old level node (slot_word node other) level_lt (omega arith) (omega (arith, fits))) (λ same. differs (omega (arith, same))) in
+      stands_for-slot new seed level node key level_lt
       ∙ ap (λ word. slot_value new (λ below. stands_for new seed (suc level) below key) (slot_in word) key) here
-      ∙ slot_value-same words new (Belongs words (suc level)) (λ below. stands_for words seed (suc level) below key) (λ below. stands_for new seed (suc level) below key) key (slot_at words node other)
-        (λ below. stands_for-same words new seed (suc level) below key)
+      ∙ slot_value-same old new (Belongs old (suc level)) (λ below. stands_for old seed (suc level) below key) (λ below. stands_for new seed (suc level) below key) key (slot_at old node other)
+        (λ below. stands_for-same old new seed (suc level) below key)
         (λ i. below_stays other i fits)
-      ∙ sym (stands_for-slot words seed level node key changes.level_lt)
+      ∙ sym (stands_for-slot old seed level node key level_lt)
 
 -- a node whose slots are all empty stands for nothing
 pub stands_for-empty : (words : List ℕ) (seed level node key : ℕ) → ((slot : ℕ) → slot < 16 → slice_index words (slot_word node slot) ≡ 0) → stands_for words seed level node key ≡ None

@@ -10,59 +10,43 @@ use Rattle.trie_nodes.specs.Layout.{slot_word, key_word, value_word}
 use Rattle.trie_nodes.specs.Paths.{nibble, route}
 use Rattle.trie_nodes.specs.Slots.{word_of_slot, slot_in}
 use Rattle.trie_nodes.specs.Nodes.{slot_at, entry_value, slot_value, BelongsToSlot, Belongs, stands_for}
-use Rattle.trie_nodes.specs.Plans.{two_slots, IsChain, Expands, Prunes, HasOnlyEmptySlots}
+use Rattle.trie_nodes.specs.Plans.{IsExpansion, Expands, Prunes, HasOnlyEmptySlots}
 use Rattle.trie_nodes.proofs.PathLemmas.{nibble-lt, nibble-same}
 use Rattle.trie_nodes.proofs.SlotLemmas.{slot_in-zero, slot_in-node, slot_in-entry}
-use Rattle.trie_nodes.proofs.NodeLemmas.{stands_for-slot_is, stands_for-empty, entry_value-same, ChangesSlot, below_stays, stands_for-other_slot}
-use Rattle.trie_nodes.proofs.ChainLemmas.{test-same, test-apart, entry_value-own, entry_value-other, chain-placed, LeadsToBoth, chain-key, chain-held, chain-other}
+use Rattle.trie_nodes.proofs.NodeLemmas.{stands_for-slot_is, stands_for-empty, below_stays, stands_for-other_slot}
+use Rattle.trie_nodes.proofs.ChainLemmas.{test-same, test-apart, entry_value-own, entry_value-other, chain-first, chain-key, chain-held, chain-other}
 
--- what an expansion's plan says, where its chain has one node more than `more`
-pub record IsExpansion (held key seed level : ℕ) (plan : Expansion) (more : ℕ) : Type 0 where
-  pub below_a_root : 0 < level
-  pub last : level + more < 8
-  pub nodes : plan.nodes ≡ suc more
-  pub together : route seed (level + more) held ≡ route seed (level + more) key
-  pub held_slot : plan.held_slot ≡ nibble held seed (level + more)
-  pub key_slot : plan.key_slot ≡ nibble key seed (level + more)
-  pub part : plan.held_slot ≢ plan.key_slot
-
-module _ (old new : List ℕ) (seed level node held key value : ℕ) (plan : Expansion) (more : ℕ) (is : IsExpansion held key seed level plan more) (expands : Expands old new seed level node held key value plan) where
+module _ (old new : List ℕ) (seed level node held key value : ℕ) (plan : Expansion) (below_a_root : 0 < level) (is : IsExpansion held key seed level plan) (expands : Expands old new seed level node held key value plan) where
   abbrev above : ℕ
   above = level - 1
 
   abbrev slot : ℕ
   slot = nibble key seed above
 
+  abbrev more : ℕ
+  more = plan.nodes - 1
+
+  is_more : plan.nodes ≡ suc more
+  is_more = let some = is.some in omega arith
+
   level-above : suc above ≡ level
-  level-above = let below = is.below_a_root in omega arith
+  level-above = omega arith
 
   level_fits : above < 8
-  level_fits = let last = is.last in omega arith
-
-  changes : ChangesSlot old new above node slot
-  changes = record { level_lt = level_fits; slot_lt = nibble-lt key seed above; apart = expands.apart; stays = expands.stays }
+  level_fits = let within = is.within in omega arith
 
   was : slot_at old node slot ≡ Entry expands.held_entry
   was = slot_in-entry (slice_index old (slot_word node slot)) expands.held_entry expands.was
 
   -- the entry that was there stays
   entry_stays : (i : ℕ) → (i ≡ key_word expands.held_entry) ⊎ (i ≡ value_word expands.held_entry) → slice_index new i ≡ slice_index old i
-  entry_stays i belongs = below_stays old new above node slot changes slot i (nibble-lt key seed above) (subst (λ s. BelongsToSlot old (λ below. Belongs old (suc above) below i) s i) (sym was) belongs)
+  entry_stays i belongs = below_stays old new above node slot level_fits (nibble-lt key seed above) expands.changes slot i (nibble-lt key seed above) (subst (λ s. BelongsToSlot old (λ below. Belongs old (suc above) below i) s i) (sym was) belongs)
+
+  held_there : slice_index new (key_word expands.held_entry) ≡ held
+  held_there = entry_stays (key_word expands.held_entry) (inl refl) ∙ expands.is_held
 
   becomes : slot_at new node slot ≡ Node expands.first
-  becomes = slot_in-node (slice_index new (slot_word node slot)) expands.first (chain-placed new seed key (two_slots plan.held_slot (2 * expands.held_entry + 1) plan.key_slot (2 * expands.key_entry + 1)) more level node expands.first (subst (λ n. IsChain new seed key (two_slots plan.held_slot (2 * expands.held_entry + 1) plan.key_slot (2 * expands.key_entry + 1)) n level node expands.first) is.nodes expands.chain)) expands.becomes
-
-  leads : LeadsToBoth new seed level node expands.first more held key expands.held_entry expands.key_entry
-  leads = record {
-    last = is.last;
-    chain = subst (λ s. IsChain new seed key (two_slots (nibble held seed (level + more)) (2 * expands.held_entry + 1) s (2 * expands.key_entry + 1)) (suc more) level node expands.first) is.key_slot
-      (subst (λ s. IsChain new seed key (two_slots s (2 * expands.held_entry + 1) plan.key_slot (2 * expands.key_entry + 1)) (suc more) level node expands.first) is.held_slot
-      (subst (λ n. IsChain new seed key (two_slots plan.held_slot (2 * expands.held_entry + 1) plan.key_slot (2 * expands.key_entry + 1)) n level node expands.first) is.nodes expands.chain));
-    along = λ d from to. nibble-same seed d (level + more) held key to is.together;
-    part = λ e. is.part (is.held_slot ∙ e ∙ sym is.key_slot);
-    is_held = entry_stays (key_word expands.held_entry) (inl refl) ∙ expands.is_held;
-    is_key = expands.is_key;
-  }
+  becomes = slot_in-node (slice_index new (slot_word node slot)) expands.first (chain-first new seed level node expands.first held key expands.held_entry expands.key_entry more plan is is_more expands.chain held_there expands.is_key) expands.becomes
 
   -- what the node gives a key of the changed slot, before and afterwards
   before : (k : ℕ) → nibble k seed above ≡ slot → stands_for old seed above node k ≡ entry_value old expands.held_entry k
@@ -70,9 +54,6 @@ module _ (old new : List ℕ) (seed level node held key value : ℕ) (plan : Exp
 
   after : (k : ℕ) → nibble k seed above ≡ slot → stands_for new seed above node k ≡ stands_for new seed level expands.first k
   after k here = stands_for-slot_is new seed above node k slot (Node expands.first) level_fits here becomes ∙ ap (λ n. stands_for new seed n expands.first k) level-above
-
-  differ : held ≢ key
-  differ e = is.part (is.held_slot ∙ ap (λ k. nibble k seed (level + more)) e ∙ sym is.key_slot)
 
   abbrev Keeps : ℕ → Type 0
   Keeps k = stands_for new seed above node k ≡ cond (k == key) (Some value) (stands_for old seed above node k)
@@ -83,22 +64,23 @@ module _ (old new : List ℕ) (seed level node held key value : ℕ) (plan : Exp
   keeps-key : (k : ℕ) → k ≡ key → Keeps k
   keeps-key k is_key =
       ap (stands_for new seed above node) is_key
-      ∙ after key refl ∙ chain-key new seed level node expands.first more held key expands.held_entry expands.key_entry leads
-      ∙ entry_value-own new expands.key_entry key expands.is_key ∙ ap Some expands.is_value
+      ∙ after key refl ∙ chain-key new seed level node expands.first held key expands.held_entry expands.key_entry more plan is is_more expands.chain held_there expands.is_key
+      ∙ ap Some expands.is_value
       ∙ ap (λ b. cond b (Some value) (stands_for old seed above node k)) (sym (test-same k key is_key))
 
   keeps-held : stands_for new seed above node held ≡ stands_for old seed above node held
   keeps-held =
-      let last = is.last in
-      let below = is.below_a_root in
-      let here = nibble-same seed above (level + more) held key (omega arith) is.together in
-      after held here ∙ chain-held new seed level node expands.first more held key expands.held_entry expands.key_entry leads
-      ∙ entry_value-same old new expands.held_entry held (entry_stays (key_word expands.held_entry) (inl refl)) (entry_stays (value_word expands.held_entry) (inr refl))
-      ∙ sym (before held here)
+      let some = is.some in
+      let here = nibble-same seed above (level + plan.nodes - 1) held key (omega arith) is.together in
+      after held here
+      ∙ chain-held new seed level node expands.first held key expands.held_entry expands.key_entry more plan is is_more expands.chain held_there expands.is_key
+      ∙ ap Some (entry_stays (value_word expands.held_entry) (inr refl))
+      ∙ sym (before held here ∙ entry_value-own old expands.held_entry held expands.is_held)
 
   keeps-rest : (k : ℕ) → nibble k seed above ≡ slot → k ≢ held → k ≢ key → stands_for new seed above node k ≡ stands_for old seed above node k
   keeps-rest k here not_held not_key =
-      after k here ∙ chain-other new seed level node expands.first more held key expands.held_entry expands.key_entry leads k not_held not_key
+      after k here
+      ∙ chain-other new seed level node expands.first held key expands.held_entry expands.key_entry more plan is is_more expands.chain held_there expands.is_key k not_held not_key
       ∙ sym (before k here ∙ entry_value-other old expands.held_entry k (λ e. not_held (sym e ∙ expands.is_held)))
 
   -- an expansion changes nothing but that the one key has its value
@@ -111,7 +93,7 @@ module _ (old new : List ℕ) (seed level node held key value : ℕ) (plan : Exp
         | inr not_held ↦
             elim (cases_eq (nibble k seed above) slot) [
               inl here ↦ keeps-other k not_key (keeps-rest k here not_held not_key)
-            | inr elsewhere ↦ keeps-other k not_key (stands_for-other_slot old new above node slot changes seed k elsewhere)
+            | inr elsewhere ↦ keeps-other k not_key (stands_for-other_slot old new above node slot level_fits (nibble-lt key seed above) expands.changes seed k elsewhere)
             ]
         ]
     ]
@@ -122,9 +104,6 @@ module _ (old new : List ℕ) (seed level place : ℕ) (node : List ℕ) (plan :
 
   parent_level_lt : parent_level < 8
   parent_level_lt = omega arith
-
-  pruned : ChangesSlot old new parent_level plan.parent plan.slot
-  pruned = record { level_lt = parent_level_lt; slot_lt = slot_lt; apart = prunes.apart; stays = prunes.stays }
 
   slots_are_empty : (slot : ℕ) → slot < 16 → slice_index old (slot_word place slot) ≡ 0
   slots_are_empty slot lt =
@@ -138,5 +117,5 @@ module _ (old new : List ℕ) (seed level place : ℕ) (node : List ℕ) (plan :
         stands_for-slot_is new seed parent_level plan.parent k plan.slot Empty parent_level_lt here (slot_in-zero (slice_index new (slot_word plan.parent plan.slot)) prunes.becomes)
         ∙ sym (stands_for-slot_is old seed parent_level plan.parent k plan.slot (Node place) parent_level_lt here (slot_in-node (slice_index old (slot_word plan.parent plan.slot)) place prunes.placed prunes.was)
         ∙ stands_for-empty old seed (suc parent_level) place k slots_are_empty)
-    | inr elsewhere ↦ stands_for-other_slot old new parent_level plan.parent plan.slot pruned seed k elsewhere
+    | inr elsewhere ↦ stands_for-other_slot old new parent_level plan.parent plan.slot parent_level_lt slot_lt prunes.changes seed k elsewhere
     ]

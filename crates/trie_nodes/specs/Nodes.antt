@@ -1,5 +1,5 @@
 -- What a node stands for in a row of words: a map, which gives each key the value that a walk down from the node finds.
-use Rattle.std.specs.Prelude.{◌≡◌, ℕ, zero, suc, ◌+◌, ◌-◌, ◌<◌, ◌≤◌, ◌==◌, cond, ◌⊎◌, List, Option, Some, None, slice_index}
+use Rattle.std.specs.Prelude.{◌≡◌, ◌≢◌, ℕ, zero, suc, ◌+◌, ◌-◌, ◌<◌, ◌≤◌, ◌==◌, cond, ◌⊎◌, List, Option, Some, None, slice_index}
 use Rattle.trie_nodes.specs.declared.slot.Slot.{Slot}
 use Rattle.trie_nodes.specs.declared.slot.Slot.TheVariants.{Empty, Node, Entry}
 use Rattle.trie_nodes.specs.Layout.{slot_word, key_word, value_word}
@@ -39,6 +39,11 @@ module _ (words : List ℕ) where
   -- no word of the node itself belongs to what its slots lead to
   pub record IsApart (level node : ℕ) : Type 0 where
     pub apart : (slot i : ℕ) → slot < 16 → node ≤ i → i < node + 18 → BelongsToSlot (λ below. Belongs (suc level) below i) (slot_at node slot) i → ⊥
+
+-- From the old words to the new ones no word that belongs to the node of this level changes but that of one of its slots.
+pub record ChangesSlot (old new : List ℕ) (level node slot : ℕ) : Type 0 where
+  pub apart : IsApart old level node
+  pub stays : (i : ℕ) → Belongs old level node i → i ≢ slot_word node slot → slice_index new i ≡ slice_index old i
 
 module _ (words : List ℕ) (seed : ℕ) where
   -- what a node of a level gives a key, where so many levels are left: what its slot for the key gives

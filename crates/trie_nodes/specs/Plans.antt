@@ -1,12 +1,12 @@
 -- The two changes of nodes that have a plan: an entry gives its slot to a chain of new nodes that leads to it and to one more entry, and an emptied node is cut off.
-use Rattle.std.specs.Prelude.{◌≡◌, ◌≢◌, ℕ, zero, suc, ◌+◌, ◌-◌, ◌*◌, ◌<◌, ◌==◌, cond, List, slice_index}
+use Rattle.std.specs.Prelude.{◌≡◌, ◌≢◌, ℕ, zero, suc, ◌+◌, ◌-◌, ◌*◌, ◌<◌, ◌≤◌, ◌==◌, cond, List, slice_index}
 use Rattle.trie_nodes.specs.declared.slot.Slot.TheVariants.{Node, Entry}
 use Rattle.trie_nodes.specs.declared.plan.Expansion.{Expansion}
 use Rattle.trie_nodes.specs.declared.plan.Pruning.{Pruning}
 use Rattle.trie_nodes.specs.Layout.{lock_word, parent_word, slot_word, key_word, value_word}
-use Rattle.trie_nodes.specs.Paths.{nibble}
+use Rattle.trie_nodes.specs.Paths.{nibble, route}
 use Rattle.trie_nodes.specs.Slots.{word_of_slot}
-use Rattle.trie_nodes.specs.Nodes.{Belongs, IsApart}
+use Rattle.trie_nodes.specs.Nodes.{ChangesSlot}
 
 -- sixteen slots that are empty but for one
 abbrev pub one_slot : ℕ → ℕ → ℕ → ℕ
@@ -30,28 +30,40 @@ IsChain words seed key slots (suc zero) level parent node = IsNewNode words node
 IsChain words seed key slots (suc (suc nodes)) level parent node =
     (next : ℕ) × IsNewNode words node parent (one_slot (nibble key seed level) (word_of_slot (Node next))) × IsChain words seed key slots (suc nodes) (suc level) node next
 
--- From the old words to the new ones the slot that a node above this level has for two keys changes as an expansion plans it: it held the entry of one key, and holds a chain of new nodes, from this level on, to this entry and to that of the other key, which has this value. No other word of what the node stands for changes.
+-- The plan of an expansion for the entry of one key, in whose place the chain comes, and for another key. The chain begins at this level and goes as far as both paths go together; its last node has a slot of its own for each key.
+pub record IsExpansion (held key seed level : ℕ) (plan : Expansion) : Type 0 where
+  pub some : 0 < plan.nodes
+  pub within : level + plan.nodes ≤ 8
+  pub together : route seed (level + plan.nodes - 1) held ≡ route seed (level + plan.nodes - 1) key
+  pub held_slot : plan.held_slot ≡ nibble held seed (level + plan.nodes - 1)
+  pub key_slot : plan.key_slot ≡ nibble key seed (level + plan.nodes - 1)
+  pub part : plan.held_slot ≢ plan.key_slot
+
+-- a chain as planned, to the entries of both keys
+abbrev pub IsPlannedChain : List ℕ → ℕ → ℕ → Expansion → ℕ → ℕ → ℕ → ℕ → ℕ → Type 0
+IsPlannedChain words seed key plan level above first held_entry key_entry =
+    IsChain words seed key (two_slots plan.held_slot (word_of_slot (Entry held_entry)) plan.key_slot (word_of_slot (Entry key_entry))) plan.nodes level above first
+
+-- From the old words to the new ones one slot of a node changes as an expansion plans it: the slot that the node, one level above the chain's first one, has for two keys held the entry of one of them, and now holds the chain to this entry and to that of the other key, which has this value.
 pub record Expands (old new : List ℕ) (seed level node held key value : ℕ) (plan : Expansion) : Type 0 where
   pub held_entry : ℕ
   pub key_entry : ℕ
   pub first : ℕ
-  pub apart : IsApart old (level - 1) node
+  pub changes : ChangesSlot old new (level - 1) node (nibble key seed (level - 1))
   pub was : slice_index old (slot_word node (nibble key seed (level - 1))) ≡ word_of_slot (Entry held_entry)
   pub is_held : slice_index old (key_word held_entry) ≡ held
   pub becomes : slice_index new (slot_word node (nibble key seed (level - 1))) ≡ word_of_slot (Node first)
-  pub chain : IsChain new seed key (two_slots plan.held_slot (word_of_slot (Entry held_entry)) plan.key_slot (word_of_slot (Entry key_entry))) plan.nodes level node first
+  pub chain : IsPlannedChain new seed key plan level node first held_entry key_entry
   pub is_key : slice_index new (key_word key_entry) ≡ key
   pub is_value : slice_index new (value_word key_entry) ≡ value
-  pub stays : (i : ℕ) → Belongs old (level - 1) node i → i ≢ slot_word node (nibble key seed (level - 1)) → slice_index new i ≡ slice_index old i
 
--- From the old words to the new ones a node of this level, which has these words, is cut off as a pruning plans it: the slot of its parent that held it becomes empty, and no other word of what the parent stands for changes.
+-- From the old words to the new ones a node of this level, which has these words, is cut off as a pruning plans it: the slot of its parent that held it becomes empty.
 pub record Prunes (old new : List ℕ) (level place : ℕ) (node : List ℕ) (plan : Pruning) : Type 0 where
   pub placed : 0 < place
-  pub apart : IsApart old (level - 1) plan.parent
   pub words : (i : ℕ) → i < 18 → slice_index old (place + i) ≡ slice_index node i
+  pub changes : ChangesSlot old new (level - 1) plan.parent plan.slot
   pub was : slice_index old (slot_word plan.parent plan.slot) ≡ word_of_slot (Node place)
   pub becomes : slice_index new (slot_word plan.parent plan.slot) ≡ 0
-  pub stays : (i : ℕ) → Belongs old (level - 1) plan.parent i → i ≢ slot_word plan.parent plan.slot → slice_index new i ≡ slice_index old i
 
 -- of a node that has these words all slots are empty
 abbrev pub HasOnlyEmptySlots : List ℕ → Type 0

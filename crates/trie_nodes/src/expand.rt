@@ -2,7 +2,7 @@
 ghost use Rattle.std.specs.Prelude.{◌≡◌, ◌≢◌, ℕ, ◌+◌, ◌-◌, ◌<◌, ◌≤◌, ◌==◌, if◌then◌else◌, List, Some};
 ghost use Rattle.trie_nodes.specs.Paths.{nibble, route};
 ghost use Rattle.trie_nodes.specs.Nodes.{stands_for};
-ghost use Rattle.trie_nodes.specs.Plans.{Expands};
+ghost use Rattle.trie_nodes.specs.Plans.{IsExpansion, Expands};
 
 use crate::layout::LEVELS;
 use crate::path::nibble;
@@ -16,15 +16,7 @@ pub fn expansion(held: u32, key: u32, seed: u32, level: u32) -> Expansion
     requires differ { held ≢ key }
     requires together { route seed level held ≡ route seed level key }
 
-    // the chain goes as far as both paths go together
-    ensures some { 0 < result.nodes }
-    ensures within { level + result.nodes ≤ 8 }
-    ensures together { route seed (level + result.nodes - 1) held ≡ route seed (level + result.nodes - 1) key }
-
-    // and its last node has a slot of its own for each key
-    ensures held_slot { result.held_slot ≡ nibble held seed (level + result.nodes - 1) }
-    ensures key_slot { result.key_slot ≡ nibble key seed (level + result.nodes - 1) }
-    ensures part { result.held_slot ≢ result.key_slot }
+    ensures plan { IsExpansion held key seed level result }
 
     // the node whose slot it is then stands for the same map, but for the one key, which has its value
     ensures keeps { (old new : List ℕ) (node value other : ℕ) → Expands old new seed level node held key value result
