@@ -1,5 +1,6 @@
 pub mod ChainLemmas
 pub mod NodeLemmas
+pub mod OrderLemmas
 pub mod PathLemmas
 pub mod PlanLemmas
 pub mod SlotLemmas

@@ -1,2 +1,5 @@
-//! Laws of paths, words and nodes. Each is the contract of a function that does nothing.
+//! Laws of the words, of paths and of nodes. Each is the contract of a function that does nothing.
+pub mod nodes;
+pub mod order;
 pub mod paths;
+pub mod words;

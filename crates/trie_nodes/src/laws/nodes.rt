@@ -1,0 +1,60 @@
+//! Laws of what a node stands for.
+ghost use Rattle.std.specs.Prelude.{◌≡◌, ◌≢◌, ℕ, suc, ◌+◌, ◌<◌, ◌≤◌, Bool, IsTrue, List, Option, Some, None, slice_index};
+ghost use Rattle.trie_nodes.specs.Layout.{slot_word, key_word, value_word};
+ghost use Rattle.trie_nodes.specs.Paths.{nibble};
+ghost use Rattle.trie_nodes.specs.Nodes.{slot_at, entry_value, slot_value, Belongs, ChangesSlot, stands_for, Shows};
+ghost use Rattle.trie_nodes.specs.Plans.{IsExpansion, IsPlannedChain};
+
+use crate::plan::Expansion;
+
+/// A node gives a key what its slot for the key gives: nothing, where the slot is empty; the value of the entry in it, where it is
+/// the key's own; and else what the node below gives. There are levels 0 to 7.
+pub fn a_node_gives_what_its_slot_gives()
+    ensures slot { (words : List ℕ) (seed level node key : ℕ) → level < 8
+        → stands_for words seed level node key
+            ≡ slot_value words (λ below. stands_for words seed (suc level) below key) (slot_at words node (nibble key seed level)) key }
+    ensures own { (words : List ℕ) (entry key : ℕ) → slice_index words (key_word entry) ≡ key
+        → entry_value words entry key ≡ Some (slice_index words (value_word entry)) }
+    ensures other { (words : List ℕ) (entry key : ℕ) → slice_index words (key_word entry) ≢ key → entry_value words entry key ≡ None }
+    ensures levels { (words : List ℕ) (seed level node key : ℕ) → 8 ≤ level → stands_for words seed level node key ≡ None }
+{}
+
+/// A node whose slots are all empty stands for a map without keys.
+pub fn an_empty_node_stands_for_nothing()
+    ensures { (words : List ℕ) (seed level node key : ℕ) → ((slot : ℕ) → slot < 16 → slice_index words (slot_word node slot) ≡ 0)
+        → stands_for words seed level node key ≡ None }
+{}
+
+/// Words that don't belong to a node say nothing of what it stands for.
+pub fn other_words_dont_matter()
+    ensures { (old new : List ℕ) (seed level node key : ℕ) → ((i : ℕ) → Belongs old level node i → slice_index new i ≡ slice_index old i)
+        → stands_for new seed level node key ≡ stands_for old seed level node key }
+{}
+
+/// A write to one slot of a node changes only what the node gives the keys of this slot.
+pub fn a_slot_concerns_its_own_keys()
+    ensures { (old new : List ℕ) (seed level node slot key : ℕ) → level < 8 → slot < 16 → ChangesSlot old new level node slot → nibble key seed level ≢ slot
+        → stands_for new seed level node key ≡ stands_for old seed level node key }
+{}
+
+/// A chain as planned leads to the entries of both keys, and to no other key.
+pub fn a_chain_leads_to_both_entries()
+    ensures held { (words : List ℕ) (seed level above first held key held_entry key_entry : ℕ) (plan : Expansion) → IsExpansion held key seed level plan
+        → IsPlannedChain words seed key plan level above first held_entry key_entry → slice_index words (key_word held_entry) ≡ held → slice_index words (key_word key_entry) ≡ key
+        → stands_for words seed level first held ≡ Some (slice_index words (value_word held_entry)) }
+    ensures key { (words : List ℕ) (seed level above first held key held_entry key_entry : ℕ) (plan : Expansion) → IsExpansion held key seed level plan
+        → IsPlannedChain words seed key plan level above first held_entry key_entry → slice_index words (key_word held_entry) ≡ held → slice_index words (key_word key_entry) ≡ key
+        → stands_for words seed level first key ≡ Some (slice_index words (value_word key_entry)) }
+    ensures others { (words : List ℕ) (seed level above first held key held_entry key_entry other : ℕ) (plan : Expansion) → IsExpansion held key seed level plan
+        → IsPlannedChain words seed key plan level above first held_entry key_entry → slice_index words (key_word held_entry) ≡ held → slice_index words (key_word key_entry) ≡ key
+        → other ≢ held → other ≢ key → stands_for words seed level first other ≡ None }
+{}
+
+/// Where each node of a map shows in its slot for a key what the key has in the map, each of them stands for a map in which the
+/// key has that.
+pub fn nodes_stand_for_what_their_slots_show()
+    ensures { (words : List ℕ) (seed key : ℕ) (held : Option ℕ) (is_node : ℕ → ℕ → Bool)
+        → ((level node : ℕ) → level < 8 → IsTrue (is_node level node)
+            → Shows words seed (λ below. IsTrue (is_node (suc level) below)) level key held (slot_at words node (nibble key seed level)))
+        → (level node : ℕ) → level < 8 → IsTrue (is_node level node) → stands_for words seed level node key ≡ held }
+{}
