@@ -43,16 +43,16 @@ entry_value-other words entry key ne = ap (λ b. cond b (Some (slice_index words
 pub along_or_off : (seed level more k key : ℕ) → ((d : ℕ) → level ≤ d → d < level + more → nibble k seed d ≡ nibble key seed d) ⊎ ((d : ℕ) × (level ≤ d) × (d < level + more) × (nibble k seed d ≢ nibble key seed d))
 along_or_off seed level zero k key = inl (λ d from to. absurd (omega arith))
 along_or_off seed level (suc more) k key = elim (along_or_off seed level more k key) [
-    inl along ↦
+  | inl along ↦
       elim (cases_eq (nibble k seed (level + more)) (nibble key seed (level + more))) [
-        inl same ↦ inl (λ d from to. elim (cases_eq d (level + more)) [
-            inl last ↦ subst (λ n. nibble k seed n ≡ nibble key seed n) (sym last) same
+        | inl same ↦ inl (λ d from to. elim (cases_eq d (level + more)) [
+          | inl last ↦ subst (λ n. nibble k seed n ≡ nibble key seed n) (sym last) same
           | inr before ↦ along d from (omega (arith, before))
-          ])
-      | inr off ↦ inr (level + more, omega arith, omega arith, off)
+        ])
+        | inr off ↦ inr (level + more, omega arith, omega arith, off)
       ]
   | inr found ↦ inr (found.0, found.1, omega (arith, found.2), found.3)
-  ]
+]
 
 module _ (words : List ℕ) (seed key : ℕ) (slots : ℕ → ℕ) where
   pub chain-placed : (more level above first : ℕ) → IsChain words seed key slots (suc more) level above first → 0 < first
@@ -72,14 +72,14 @@ module _ (words : List ℕ) (seed key : ℕ) (slots : ℕ → ℕ) where
   leads_on node above level next k lt placed new same =
       new_node-slot node above level k (one_slot (nibble key seed level) (word_of_slot (Node next))) lt new
       ∙ ap (λ slot. slot_value words (λ below. stands_for words seed (suc level) below k) slot k)
-        (slot_in-node (one_slot (nibble key seed level) (word_of_slot (Node next)) (nibble k seed level)) next placed (one_slot-same (nibble key seed level) (2 * next) (nibble k seed level) same))
+      (slot_in-node (one_slot (nibble key seed level) (word_of_slot (Node next)) (nibble k seed level)) next placed (one_slot-same (nibble key seed level) (2 * next) (nibble k seed level) same))
 
   leads_nowhere : (node above level next k : ℕ) → level < 8 → IsNewNode words node above (one_slot (nibble key seed level) (word_of_slot (Node next))) → nibble k seed level ≢ nibble key seed level →
       stands_for words seed level node k ≡ None
   leads_nowhere node above level next k lt new differs =
       new_node-slot node above level k (one_slot (nibble key seed level) (word_of_slot (Node next))) lt new
       ∙ ap (λ slot. slot_value words (λ below. stands_for words seed (suc level) below k) slot k)
-        (slot_in-zero (one_slot (nibble key seed level) (word_of_slot (Node next)) (nibble k seed level)) (one_slot-other (nibble key seed level) (2 * next) (nibble k seed level) differs))
+      (slot_in-zero (one_slot (nibble key seed level) (word_of_slot (Node next)) (nibble k seed level)) (one_slot-other (nibble key seed level) (2 * next) (nibble k seed level) differs))
 
   -- a key whose path goes along the chain gets what the last node's slot for it gives
   pub chain-along : (more level above first k last : ℕ) → last ≡ level + more → last < 8 → IsChain words seed key slots (suc more) level above first
@@ -98,12 +98,12 @@ module _ (words : List ℕ) (seed key : ℕ) (slots : ℕ → ℕ) where
       → level ≤ d → d < last → nibble k seed d ≢ nibble key seed d → stands_for words seed level first k ≡ None
   chain-off zero level above first k last d e lt chain from to off = absurd (omega arith)
   chain-off (suc more) level above first k last d e lt chain from to off = elim (cases_eq (nibble k seed level) (nibble key seed level)) [
-      inl same ↦
+    | inl same ↦
         let further : level ≢ d = λ here. off (subst (λ n. nibble k seed n ≡ nibble key seed n) here same) in
         leads_on first above level chain.0 k (omega arith) (chain-placed more (suc level) first chain.0 chain.2) chain.1 same
         ∙ chain-off more (suc level) first chain.0 k last d (omega arith) lt chain.2 (omega arith) to off
     | inr differs ↦ leads_nowhere first above level chain.0 k (omega arith) chain.1 differs
-    ]
+  ]
 
 -- A chain of one node more than `more` to two entries, whose keys have paths that go together along it and part in its last node.
 module _ (words : List ℕ) (seed level above first held key held_entry key_entry more : ℕ) (plan : Expansion) (is : IsExpansion held key seed level plan)
@@ -170,16 +170,16 @@ module _ (words : List ℕ) (seed level above first held key held_entry key_entr
 
   last-other : (k : ℕ) → k ≢ held → k ≢ key → (s : ℕ) → gives k (slot_in (slots s)) ≡ None
   last-other k not_held not_key s = elim (cases_eq s plan.held_slot) [
-      inl here ↦ ap (λ n. gives k (slot_in (slots n))) here ∙ ap (gives k) at_held ∙ entry_value-other words held_entry k (λ e. not_held (sym e ∙ is_held))
+    | inl here ↦ ap (λ n. gives k (slot_in (slots n))) here ∙ ap (gives k) at_held ∙ entry_value-other words held_entry k (λ e. not_held (sym e ∙ is_held))
     | inr apart ↦
         elim (cases_eq s plan.key_slot) [
-          inl here ↦ ap (λ n. gives k (slot_in (slots n))) here ∙ ap (gives k) at_key ∙ entry_value-other words key_entry k (λ e. not_key (sym e ∙ is_key))
-        | inr nowhere ↦ ap (gives k) (at_other s apart nowhere)
+          | inl here ↦ ap (λ n. gives k (slot_in (slots n))) here ∙ ap (gives k) at_key ∙ entry_value-other words key_entry k (λ e. not_key (sym e ∙ is_key))
+          | inr nowhere ↦ ap (gives k) (at_other s apart nowhere)
         ]
-    ]
+  ]
 
   pub chain-other : (k : ℕ) → k ≢ held → k ≢ key → stands_for words seed level first k ≡ None
   chain-other k not_held not_key = elim (along_or_off seed level more k key) [
-      inl goes ↦ come_to k (nibble k seed last) goes refl ∙ last-other k not_held not_key (nibble k seed last)
+    | inl goes ↦ come_to k (nibble k seed last) goes refl ∙ last-other k not_held not_key (nibble k seed last)
     | inr off ↦ chain-off words seed key slots more level above first k last off.0 refl last_lt its_nodes off.1 off.2 off.3
-    ]
+  ]

@@ -71,8 +71,8 @@ value_within-same words new seed (suc levels) level node key same =
     let here = same (slot_word node slot) (inl (omega (arith, fits), omega (arith, fits))) in
     ap (λ word. slot_value new (λ below. value_within new seed levels (suc level) below key) (slot_in word) key) here
     ∙ slot_value-same words new (BelongsWithin words levels) (λ below. value_within words seed levels (suc level) below key) (λ below. value_within new seed levels (suc level) below key) key (slot_at words node slot)
-      (λ below. value_within-same words new seed levels (suc level) below key)
-      (λ i belongs. same i (inr (slot, fits, belongs)))
+    (λ below. value_within-same words new seed levels (suc level) below key)
+    (λ i belongs. same i (inr (slot, fits, belongs)))
 
 pub stands_for-same : (words new : List ℕ) (seed level node key : ℕ) → ((i : ℕ) → Belongs words level node i → slice_index new i ≡ slice_index words i) →
     stands_for new seed level node key ≡ stands_for words seed level node key
@@ -95,19 +95,19 @@ module _ (old new : List ℕ) (level node slot : ℕ) (level_lt : level < 8) (sl
       stands_for-slot new seed level node key level_lt
       ∙ ap (λ word. slot_value new (λ below. stands_for new seed (suc level) below key) (slot_in word) key) here
       ∙ slot_value-same old new (Belongs old (suc level)) (λ below. stands_for old seed (suc level) below key) (λ below. stands_for new seed (suc level) below key) key (slot_at old node other)
-        (λ below. stands_for-same old new seed (suc level) below key)
-        (λ i. below_stays other i fits)
+      (λ below. stands_for-same old new seed (suc level) below key)
+      (λ i. below_stays other i fits)
       ∙ sym (stands_for-slot old seed level node key level_lt)
 
 -- a node whose slots are all empty stands for nothing
 pub stands_for-empty : (words : List ℕ) (seed level node key : ℕ) → ((slot : ℕ) → slot < 16 → slice_index words (slot_word node slot) ≡ 0) → stands_for words seed level node key ≡ None
 stands_for-empty words seed level node key empty = elim (level_cases level) [
-    inl lt ↦
+  | inl lt ↦
       stands_for-slot words seed level node key lt
       ∙ ap (λ slot. slot_value words (λ below. stands_for words seed (suc level) below key) slot key)
-        (slot_in-zero (slice_index words (slot_word node (nibble key seed level))) (empty (nibble key seed level) (nibble-lt key seed level)))
+      (slot_in-zero (slice_index words (slot_word node (nibble key seed level))) (empty (nibble key seed level) (nibble-lt key seed level)))
   | inr le ↦ stands_for-deep words seed level node key le
-  ]
+]
   where
     level_cases : (level : ℕ) → (level < 8) ⊎ (8 ≤ level)
     level_cases level = grind arith

@@ -22,13 +22,13 @@ below_suc n slot lt = grind arith
 
 goes_on-to : (seed level slot key : ℕ) (slots : List ℕ) → Passed seed level (slots ++ suc slot ∷ []) key → Passed seed level (slots ++ slot ∷ []) key ⊎ Along seed level (slots ++ slot ∷ []) key
 goes_on-to seed level slot key [] passed = elim passed [
-    inl lt ↦ elim (below_suc (nibble key seed level) slot lt) [ inl below ↦ inl (inl below) | inr here ↦ inr (here, tt) ]
+  | inl lt ↦ elim (below_suc (nibble key seed level) slot lt) [ inl below ↦ inl (inl below) | inr here ↦ inr (here, tt) ]
   | inr never ↦ absurd never.1
-  ]
+]
 goes_on-to seed level slot key (s ∷ slots) passed = elim passed [
-    inl below ↦ inl (inl below)
+  | inl below ↦ inl (inl below)
   | inr here ↦ elim (goes_on-to seed (suc level) slot key slots here.1) [ inl before ↦ inl (inr (here.0, before)) | inr along ↦ inr (here.0, along) ]
-  ]
+]
 
 passed-more : (seed level slot key : ℕ) (slots : List ℕ) → Passed seed level (slots ++ slot ∷ []) key → Passed seed level (slots ++ suc slot ∷ []) key
 passed-more seed level slot key [] passed = elim passed [ inl below ↦ inl (omega (arith, below)) | inr never ↦ absurd never.1 ]
@@ -44,9 +44,9 @@ along-once seed level slot key (s ∷ slots) along passed = elim passed [ inl be
 
 goes_down-to : (seed level slot key : ℕ) (slots : List ℕ) → Passed seed level (slots ++ slot ∷ 0 ∷ []) key → Passed seed level (slots ++ slot ∷ []) key
 goes_down-to seed level slot key [] passed = elim passed [
-    inl below ↦ inl below
+  | inl below ↦ inl below
   | inr here ↦ elim here.1 [ inl below ↦ absurd (omega (arith, below)) | inr never ↦ absurd never.1 ]
-  ]
+]
 goes_down-to seed level slot key (s ∷ slots) passed = turn_map (nibble key seed level) s (Passed seed (suc level) (slots ++ slot ∷ 0 ∷ []) key) (Passed seed (suc level) (slots ++ slot ∷ []) key) (goes_down-to seed (suc level) slot key slots) passed
 
 goes_down-from : (seed level slot key : ℕ) (slots : List ℕ) → Passed seed level (slots ++ slot ∷ []) key → Passed seed level (slots ++ slot ∷ 0 ∷ []) key
@@ -55,16 +55,16 @@ goes_down-from seed level slot key (s ∷ slots) passed = turn_map (nibble key s
 
 goes_up-to : (seed level slot key : ℕ) (slots : List ℕ) → Passed seed level (slots ++ slot ∷ 16 ∷ []) key → Passed seed level (slots ++ suc slot ∷ []) key
 goes_up-to seed level slot key [] passed = elim passed [
-    inl below ↦ inl (omega (arith, below))
+  | inl below ↦ inl (omega (arith, below))
   | inr here ↦ inl (omega (arith, here.0))
-  ]
+]
 goes_up-to seed level slot key (s ∷ slots) passed = turn_map (nibble key seed level) s (Passed seed (suc level) (slots ++ slot ∷ 16 ∷ []) key) (Passed seed (suc level) (slots ++ suc slot ∷ []) key) (goes_up-to seed (suc level) slot key slots) passed
 
 goes_up-from : (seed level slot key : ℕ) (slots : List ℕ) → Passed seed level (slots ++ suc slot ∷ []) key → Passed seed level (slots ++ slot ∷ 16 ∷ []) key
 goes_up-from seed level slot key [] passed = elim passed [
-    inl lt ↦ elim (below_suc (nibble key seed level) slot lt) [ inl below ↦ inl below | inr here ↦ inr (here, inl (nibble-lt key seed (suc level))) ]
+  | inl lt ↦ elim (below_suc (nibble key seed level) slot lt) [ inl below ↦ inl below | inr here ↦ inr (here, inl (nibble-lt key seed (suc level))) ]
   | inr never ↦ absurd never.1
-  ]
+]
 goes_up-from seed level slot key (s ∷ slots) passed = turn_map (nibble key seed level) s (Passed seed (suc level) (slots ++ suc slot ∷ []) key) (Passed seed (suc level) (slots ++ slot ∷ 16 ∷ []) key) (goes_up-from seed (suc level) slot key slots) passed
 
 append_nil : (xs : List ℕ) → xs ++ [] ≡ xs
@@ -93,7 +93,7 @@ route-along : (seed level key : ℕ) (before slots : List ℕ) → length before
 route-along seed level key before [] len is = let e : level ≡ level + zero = omega arith in (ap (λ n. route seed n key) e ∙ is ∙ append_nil before, tt)
 route-along seed level key before (slot ∷ slots) len is =
     let further = route-along seed (suc level) key (before ++ slot ∷ []) slots (length_snoc level slot before len)
-        (ap (λ n. route seed n key) (sym (length_cons level slot slots)) ∙ is ∙ sym (append_snoc before slot slots)) in
+    (ap (λ n. route seed n key) (sym (length_cons level slot slots)) ∙ is ∙ sym (append_snoc before slot slots)) in
     let ends = same_ends (route seed level key) before (nibble key seed level) slot (length-route seed level key ∙ sym len) further.0 in
     (ends.0, (ends.1, further.1))
 
@@ -111,7 +111,8 @@ along-there seed slot key slots along =
 pub passed-next : (seed slot key : ℕ) (slots : List ℕ) → Passed seed 0 (slots ++ suc slot ∷ []) key ↔ (Passed seed 0 (slots ++ slot ∷ []) key ⊎ (route seed (suc (length slots)) key ≡ slots ++ slot ∷ []))
 passed-next seed slot key slots = (
   λ passed. elim (goes_on-to seed 0 slot key slots passed) [ inl before ↦ inl before | inr along ↦ inr (along-there seed slot key slots along) ],
-  λ either. elim either [ inl before ↦ passed-more seed 0 slot key slots before | inr there ↦ along-passed seed 0 slot key slots (there-along seed slot key slots there) ])
+  λ either. elim either [ inl before ↦ passed-more seed 0 slot key slots before | inr there ↦ along-passed seed 0 slot key slots (there-along seed slot key slots there) ],
+)
 
 -- which it hadn't passed
 pub passed-once : (seed slot key : ℕ) (slots : List ℕ) → route seed (suc (length slots)) key ≡ slots ++ slot ∷ [] → Passed seed 0 (slots ++ slot ∷ []) key → ⊥

@@ -23,7 +23,8 @@ length-route seed (suc level) key = length-append (route seed level key) (nibble
 pub same_ends : (xs ys : List ℕ) (x y : ℕ) → length xs ≡ length ys → xs ++ x ∷ [] ≡ ys ++ y ∷ [] → (xs ≡ ys) × (x ≡ y)
 same_ends xs ys x y len same = (
   sym (take-append_seam xs (x ∷ [])) ∙ ap (take (length xs)) same ∙ ap (λ n. take n (ys ++ y ∷ [])) len ∙ take-append_seam ys (y ∷ []),
-  sym (get_or-append_seam xs x [] 0) ∙ ap (λ l. get_or l (length xs) 0) same ∙ ap (λ n. get_or (ys ++ y ∷ []) n 0) len ∙ get_or-append_seam ys y [] 0)
+  sym (get_or-append_seam xs x [] 0) ∙ ap (λ l. get_or l (length xs) 0) same ∙ ap (λ n. get_or (ys ++ y ∷ []) n 0) len ∙ get_or-append_seam ys y [] 0,
+)
 
 -- routes that agree one level further down agree here, and have the same nibble of this level
 pub route-parts : (seed level key other : ℕ) → route seed (suc level) key ≡ route seed (suc level) other → (route seed level key ≡ route seed level other) × (nibble key seed level ≡ nibble other seed level)
@@ -74,7 +75,7 @@ low-route seed zero key other same = refl
 low-route seed (suc level) key other same =
     let joined = sym (low-suc (bit_xor key seed) level) ∙ same ∙ low-suc (bit_xor other seed) level in
     let parts = same_from_place (bit_xor key seed / 2 ^ (4 * level) % 2 ^ 4) (bit_xor key seed % 2 ^ (4 * level)) (bit_xor other seed / 2 ^ (4 * level) % 2 ^ 4) (bit_xor other seed % 2 ^ (4 * level)) (2 ^ (4 * level))
-        (mod-lt (bit_xor key seed) (pow_pos (4 * level))) (mod-lt (bit_xor other seed) (pow_pos (4 * level))) joined in
+    (mod-lt (bit_xor key seed) (pow_pos (4 * level))) (mod-lt (bit_xor other seed) (pow_pos (4 * level))) joined in
     route-join seed level key other (low-route seed level key other parts.1) (nibble-bits key seed level ∙ parts.0 ∙ sym (nibble-bits other seed level))
 
 -- a key comes back from its hash
@@ -92,21 +93,21 @@ route-one_to_one seed key other fits_seed fits_key fits_other same =
 pub route-part : (seed level key other : ℕ) → (route seed level key ≡ route seed level other) ⊎ ((d : ℕ) × (d < level) × (route seed d key ≡ route seed d other) × (nibble key seed d ≢ nibble other seed d))
 route-part seed zero key other = inl refl
 route-part seed (suc level) key other = elim (route-part seed level key other) [
-    inl same ↦
+  | inl same ↦
       elim (cases_eq (nibble key seed level) (nibble other seed level)) [
-        inl same_nibble ↦ inl (route-join seed level key other same same_nibble)
-      | inr parts ↦ inr (level, omega arith, same, parts)
+        | inl same_nibble ↦ inl (route-join seed level key other same same_nibble)
+        | inr parts ↦ inr (level, omega arith, same, parts)
       ]
   | inr found ↦ inr (found.0, omega (arith, found.1), found.2, found.3)
-  ]
+]
 
 -- the routes of different keys part
 pub different_part : (seed key other : ℕ) → seed < 2 ^ 32 → key < 2 ^ 32 → other < 2 ^ 32 → key ≢ other →
     (d : ℕ) × (d < 8) × (route seed d key ≡ route seed d other) × (nibble key seed d ≢ nibble other seed d)
 different_part seed key other fits_seed fits_key fits_other differ = elim (route-part seed 8 key other) [
-    inl same ↦ absurd (differ (route-one_to_one seed key other fits_seed fits_key fits_other same))
+  | inl same ↦ absurd (differ (route-one_to_one seed key other fits_seed fits_key fits_other same))
   | inr found ↦ found
-  ]
+]
 
 -- a hash that has these low bits and this nibble above them
 with_nibble : ℕ → ℕ → ℕ → ℕ
@@ -129,8 +130,9 @@ each_slot_has_key seed key level slot fits_seed lt fits =
     let low_fits = mod-lt (bit_xor key seed) (pow_pos (4 * level)) in
     let hash = with_nibble low slot level in
     let back = xor_back hash seed in
-    let small : slot % 2 ^ 4 ≡ slot = mod-eq_of_lt fits in
-    (bit_xor hash seed,
-        xor_lt 32 hash seed (with_nibble-lt low slot level lt fits low_fits) fits_seed,
-        low-route seed level (bit_xor hash seed) key (ap (λ h. h % 2 ^ (4 * level)) back ∙ mod_low slot (4 * level) low low_fits),
-        nibble-bits (bit_xor hash seed) seed level ∙ ap (λ h. h / 2 ^ (4 * level) % 2 ^ 4) back ∙ ap (λ n. n % 2 ^ 4) (shr_high slot (4 * level) low low_fits) ∙ small)
+    let small : slot % 2 ^ 4 ≡ slot = mod-eq_of_lt fits in (
+      bit_xor hash seed,
+      xor_lt 32 hash seed (with_nibble-lt low slot level lt fits low_fits) fits_seed,
+      low-route seed level (bit_xor hash seed) key (ap (λ h. h % 2 ^ (4 * level)) back ∙ mod_low slot (4 * level) low low_fits),
+      nibble-bits (bit_xor hash seed) seed level ∙ ap (λ h. h / 2 ^ (4 * level) % 2 ^ 4) back ∙ ap (λ n. n % 2 ^ 4) (shr_high slot (4 * level) low low_fits) ∙ small,
+    )

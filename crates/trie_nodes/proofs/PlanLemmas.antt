@@ -86,17 +86,17 @@ module _ (old new : List ℕ) (seed level node held key value : ℕ) (plan : Exp
   -- an expansion changes nothing but that the one key has its value
   pub expansion-keeps : (k : ℕ) → Keeps k
   expansion-keeps k = elim (cases_eq k key) [
-      inl is_key ↦ keeps-key k is_key
+    | inl is_key ↦ keeps-key k is_key
     | inr not_key ↦
         elim (cases_eq k held) [
-          inl is_held ↦ keeps-other k not_key (subst (λ n. stands_for new seed above node n ≡ stands_for old seed above node n) (sym is_held) keeps-held)
-        | inr not_held ↦
-            elim (cases_eq (nibble k seed above) slot) [
-              inl here ↦ keeps-other k not_key (keeps-rest k here not_held not_key)
-            | inr elsewhere ↦ keeps-other k not_key (stands_for-other_slot old new above node slot level_fits (nibble-lt key seed above) expands.changes seed k elsewhere)
-            ]
+          | inl is_held ↦ keeps-other k not_key (subst (λ n. stands_for new seed above node n ≡ stands_for old seed above node n) (sym is_held) keeps-held)
+          | inr not_held ↦
+              elim (cases_eq (nibble k seed above) slot) [
+                | inl here ↦ keeps-other k not_key (keeps-rest k here not_held not_key)
+                | inr elsewhere ↦ keeps-other k not_key (stands_for-other_slot old new above node slot level_fits (nibble-lt key seed above) expands.changes seed k elsewhere)
+              ]
         ]
-    ]
+  ]
 
 module _ (old new : List ℕ) (seed level place : ℕ) (node : List ℕ) (plan : Pruning) (below_a_root : 0 < level) (level_lt : level < 8) (slot_lt : plan.slot < 16) (empty : HasOnlyEmptySlots node) (prunes : Prunes old new level place node plan) where
   abbrev parent_level : ℕ
@@ -113,9 +113,9 @@ module _ (old new : List ℕ) (seed level place : ℕ) (node : List ℕ) (plan :
   -- a pruning changes nothing
   pub pruning-keeps : (k : ℕ) → stands_for new seed (level - 1) plan.parent k ≡ stands_for old seed (level - 1) plan.parent k
   pruning-keeps k = elim (cases_eq (nibble k seed parent_level) plan.slot) [
-      inl here ↦
+    | inl here ↦
         stands_for-slot_is new seed parent_level plan.parent k plan.slot Empty parent_level_lt here (slot_in-zero (slice_index new (slot_word plan.parent plan.slot)) prunes.becomes)
         ∙ sym (stands_for-slot_is old seed parent_level plan.parent k plan.slot (Node place) parent_level_lt here (slot_in-node (slice_index old (slot_word plan.parent plan.slot)) place prunes.placed prunes.was)
         ∙ stands_for-empty old seed (suc parent_level) place k slots_are_empty)
     | inr elsewhere ↦ stands_for-other_slot old new parent_level plan.parent plan.slot parent_level_lt slot_lt prunes.changes seed k elsewhere
-    ]
+  ]

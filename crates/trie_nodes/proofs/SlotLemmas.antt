@@ -32,21 +32,21 @@ slot_in-entry word place e = let half : word / 2 ≡ place = omega arith in slot
 -- a word of each kind
 pub word_kinds : (word : ℕ) → ((word ≡ 0) × (slot_in word ≡ Empty)) ⊎ (((word ≢ 0) × (word % 2 ≡ 0) × (slot_in word ≡ Node (word / 2))) ⊎ ((word % 2 ≡ 1) × (slot_in word ≡ Entry (word / 2))))
 word_kinds word = elim (eqb_tells word 0) [
-    inl same ↦ inl (same.1, slot_in-zero word same.1)
+  | inl same ↦ inl (same.1, slot_in-zero word same.1)
   | inr apart ↦
       elim (eqb_tells (word % 2) 0) [
-        inl even ↦ inr (inl (apart.1, even.1, slot_in-even word apart.1 even.1))
-      | inr uneven ↦ let odd : word % 2 ≡ 1 = omega (arith, uneven.1) in inr (inr (odd, slot_in-odd word odd))
+        | inl even ↦ inr (inl (apart.1, even.1, slot_in-even word apart.1 even.1))
+        | inr uneven ↦ let odd : word % 2 ≡ 1 = omega (arith, uneven.1) in inr (inr (odd, slot_in-odd word odd))
       ]
-  ]
+]
 
 -- the word of what a word says is the word
 pub word_of_slot-slot_in : (word : ℕ) → word_of_slot (slot_in word) ≡ word
 word_of_slot-slot_in word = elim (word_kinds word) [
-    inl empty ↦ ap word_of_slot empty.1 ∙ sym empty.0
+  | inl empty ↦ ap word_of_slot empty.1 ∙ sym empty.0
   | inr full ↦
       elim full [
-        inl node ↦ ap word_of_slot node.2 ∙ omega (arith, node.1)
-      | inr entry ↦ ap word_of_slot entry.1 ∙ omega (arith, entry.0)
+        | inl node ↦ ap word_of_slot node.2 ∙ omega (arith, node.1)
+        | inr entry ↦ ap word_of_slot entry.1 ∙ omega (arith, entry.0)
       ]
-  ]
+]

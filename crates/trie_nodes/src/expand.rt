@@ -21,7 +21,7 @@ pub fn expansion(held: u32, key: u32, seed: u32, level: u32) -> Expansion
     // the node whose slot it is then stands for the same map, but for the one key, which has its value
     ensures keeps { (old new : List ℕ) (node value other : ℕ) → Expands old new seed level node held key value result
         → stands_for new seed (level - 1) node other
-            ≡ (if other == key then Some value else stands_for old seed (level - 1) node other) }
+        ≡ (if other == key then Some value else stands_for old seed (level - 1) node other) }
 {
     let last = parting(held, key, seed, level);
     Expansion {

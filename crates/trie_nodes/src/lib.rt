@@ -12,7 +12,10 @@ pub mod slot;
 
 pub use expand::expansion;
 pub use layout::{DEAD, FREE, LEVELS, Layout, SLOTS, UNIT_WORDS};
-pub use path::nibble;
+pub use path::{go_together, nibble};
 pub use plan::{Expansion, Pruning};
 pub use prune::pruning;
 pub use slot::Slot;
+
+#[cfg(test)]
+mod tests;

@@ -12,7 +12,7 @@ use crate::plan::Expansion;
 pub fn a_node_gives_what_its_slot_gives()
     ensures slot { (words : List ℕ) (seed level node key : ℕ) → level < 8
         → stands_for words seed level node key
-            ≡ slot_value words (λ below. stands_for words seed (suc level) below key) (slot_at words node (nibble key seed level)) key }
+        ≡ slot_value words (λ below. stands_for words seed (suc level) below key) (slot_at words node (nibble key seed level)) key }
     ensures own { (words : List ℕ) (entry key : ℕ) → slice_index words (key_word entry) ≡ key
         → entry_value words entry key ≡ Some (slice_index words (value_word entry)) }
     ensures other { (words : List ℕ) (entry key : ℕ) → slice_index words (key_word entry) ≢ key → entry_value words entry key ≡ None }
@@ -55,6 +55,6 @@ pub fn a_chain_leads_to_both_entries()
 pub fn nodes_stand_for_what_their_slots_show()
     ensures { (words : List ℕ) (seed key : ℕ) (held : Option ℕ) (is_node : ℕ → ℕ → Bool)
         → ((level node : ℕ) → level < 8 → IsTrue (is_node level node)
-            → Shows words seed (λ below. IsTrue (is_node (suc level) below)) level key held (slot_at words node (nibble key seed level)))
+        → Shows words seed (λ below. IsTrue (is_node (suc level) below)) level key held (slot_at words node (nibble key seed level)))
         → (level node : ℕ) → level < 8 → IsTrue (is_node level node) → stands_for words seed level node key ≡ held }
 {}
