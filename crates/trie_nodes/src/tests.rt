@@ -6,17 +6,19 @@ use super::*;
 use crate::layout::{held_word, key_word, lock_word, parent_word, slot_word, value_word};
 use std::test::Fail;
 
+// a key, a seed, the key's path
+const PATHS: [(u32, u32, [u32; 8]); 6] = [
+    (0, 0, [0, 0, 0, 0, 0, 0, 0, 0]),
+    (268_435_456, 0, [0, 0, 0, 0, 0, 0, 0, 1]),
+    (0x1234_5678, 0, [8, 7, 6, 5, 4, 3, 2, 1]),
+    (0x1234_5678, 0x8765_4321, [9, 5, 5, 1, 1, 5, 5, 9]),
+    (0, 0xffff_ffff, [15, 15, 15, 15, 15, 15, 15, 15]),
+    (0xffff_ffff, 0x0000_000f, [0, 15, 15, 15, 15, 15, 15, 15]),
+];
+
 #[test]
 fn paths_are_nibbles_of_key_and_seed(rt: HostRuntime) -> Result<(), Fail> {
-    let table: [(u32, u32, [u32; 8]); 6] = [
-        (0, 0, [0, 0, 0, 0, 0, 0, 0, 0]),
-        (268_435_456, 0, [0, 0, 0, 0, 0, 0, 0, 1]),
-        (0x1234_5678, 0, [8, 7, 6, 5, 4, 3, 2, 1]),
-        (0x1234_5678, 0x8765_4321, [9, 5, 5, 1, 1, 5, 5, 9]),
-        (0, 0xffff_ffff, [15, 15, 15, 15, 15, 15, 15, 15]),
-        (0xffff_ffff, 0x0000_000f, [0, 15, 15, 15, 15, 15, 15, 15]),
-    ];
-    for (key, seed, path) in table {
+    for (key, seed, path) in PATHS {
         for level in 0..8 {
             assert_eq!(rt;
                 nibble(key, seed, level),
@@ -28,6 +30,19 @@ fn paths_are_nibbles_of_key_and_seed(rt: HostRuntime) -> Result<(), Fail> {
     Ok(())
 }
 
+// the held key, the other, the seed, the first node's level; then nodes, and slots of the last one
+const CHAINS: [(u32, u32, u32, u32, (u32, u32, u32)); 9] = [
+    (0, 268_435_456, 0, 1, (7, 0, 1)),
+    (268_435_456, 0, 0, 1, (7, 1, 0)),
+    (0, 268_435_456, 0, 5, (3, 0, 1)),
+    (0, 268_435_456, 0, 7, (1, 0, 1)),
+    (0, 268_435_456, 0xffff_ffff, 1, (7, 15, 14)),
+    (0, 16, 0, 1, (1, 0, 1)),
+    (0x005, 0x105, 0, 1, (2, 0, 1)),
+    (0x005, 0x105, 0x0000_0300, 1, (2, 3, 2)),
+    (0xdead_beef, 0xdead_bfef, 0, 2, (1, 14, 15)),
+];
+
 // The plan for two keys. None where one can't be asked for.
 fn planned(held: u32, key: u32, seed: u32, level: u32) -> Option<Expansion> {
     if level == 0 || level > 7 || held == key || !go_together(held, key, seed, level) {
@@ -38,19 +53,7 @@ fn planned(held: u32, key: u32, seed: u32, level: u32) -> Option<Expansion> {
 
 #[test]
 fn a_chain_goes_as_far_as_both_paths(rt: HostRuntime) -> Result<(), Fail> {
-    // the held key, the other, the seed, the first node's level; nodes, slots of the last one
-    let table: [(u32, u32, u32, u32, (u32, u32, u32)); 9] = [
-        (0, 268_435_456, 0, 1, (7, 0, 1)),
-        (268_435_456, 0, 0, 1, (7, 1, 0)),
-        (0, 268_435_456, 0, 5, (3, 0, 1)),
-        (0, 268_435_456, 0, 7, (1, 0, 1)),
-        (0, 268_435_456, 0xffff_ffff, 1, (7, 15, 14)),
-        (0, 16, 0, 1, (1, 0, 1)),
-        (0x005, 0x105, 0, 1, (2, 0, 1)),
-        (0x005, 0x105, 0x0000_0300, 1, (2, 3, 2)),
-        (0xdead_beef, 0xdead_bfef, 0, 2, (1, 14, 15)),
-    ];
-    for (held, key, seed, level, (nodes, held_slot, key_slot)) in table {
+    for (held, key, seed, level, (nodes, held_slot, key_slot)) in CHAINS {
         let plan = Expansion {
             nodes,
             held_slot,
@@ -66,17 +69,18 @@ fn a_chain_goes_as_far_as_both_paths(rt: HostRuntime) -> Result<(), Fail> {
     Ok(())
 }
 
+const SLOTS_OF_WORDS: [(u64, Slot); 6] = [
+    (0, Slot::Empty),
+    (2, Slot::Node(1)),
+    (5, Slot::Entry(2)),
+    (54, Slot::Node(27)),
+    (0x8000_0000_0000_0000, Slot::Node(0x4000_0000_0000_0000)),
+    (0xffff_ffff_ffff_ffff, Slot::Entry(0x7fff_ffff_ffff_ffff)),
+];
+
 #[test]
 fn words_say_what_a_slot_holds(rt: HostRuntime) -> Result<(), Fail> {
-    let table: [(u64, Slot); 6] = [
-        (0, Slot::Empty),
-        (2, Slot::Node(1)),
-        (5, Slot::Entry(2)),
-        (54, Slot::Node(27)),
-        (0x8000_0000_0000_0000, Slot::Node(0x4000_0000_0000_0000)),
-        (0xffff_ffff_ffff_ffff, Slot::Entry(0x7fff_ffff_ffff_ffff)),
-    ];
-    for (word, slot) in table {
+    for (word, slot) in SLOTS_OF_WORDS {
         assert_eq!(rt; Slot::of_word(word), slot, "{word}");
         assert_eq!(rt; Slot::of_word(word).to_word(), word, "{word}");
     }

@@ -11,6 +11,14 @@ fn node_with(parent: u64, slot: usize, word: u64) -> [u64; 18] {
     node
 }
 
+// a key on the node's path, the seed, the node's level, the parent's slot
+const PRUNED: [(u32, u32, u32, u32); 4] = [
+    (0, 0, 1, 0),
+    (268_435_456, 0, 7, 0),
+    (0x1234_5678, 0, 7, 2),
+    (0x1234_5678, 0x8765_4321, 1, 9),
+];
+
 #[test]
 fn an_empty_node_below_a_root_is_pruned(rt: HostRuntime) -> Result<(), Fail> {
     for slot in 0..16 {
@@ -18,13 +26,7 @@ fn an_empty_node_below_a_root_is_pruned(rt: HostRuntime) -> Result<(), Fail> {
         assert_eq!(rt; pruning(&node, 0, 0, 1), None, "a slot of {slot}");
     }
     assert_eq!(rt; pruning(&node_with(0, 0, 0), 0, 0, 1), None);
-    let table: [(u32, u32, u32, u32); 4] = [
-        (0, 0, 1, 0),
-        (268_435_456, 0, 7, 0),
-        (0x1234_5678, 0, 7, 2),
-        (0x1234_5678, 0x8765_4321, 1, 9),
-    ];
-    for (key, seed, level, slot) in table {
+    for (key, seed, level, slot) in PRUNED {
         let mut node = node_with(21, 0, 0);
         let plan = Pruning { parent: 21, slot };
         assert_eq!(rt;
