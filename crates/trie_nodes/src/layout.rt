@@ -108,17 +108,17 @@ pub fn slot_word(node: u64, slot: u32) -> usize
     node as usize + 2 + slot as usize
 }
 
-/// The word of an entry's key.
-pub fn key_word(entry: u64) -> usize
-    ensures { result ≡ words.key_word entry }
-{
-    entry as usize
-}
-
 /// The word of an entry's value.
 pub fn value_word(entry: u64) -> usize
     requires { entry < 2 ^ 63 }
     ensures { result ≡ words.value_word entry }
 {
     entry as usize + 1
+}
+
+/// The word of an entry's key.
+pub fn key_word(entry: u64) -> usize
+    ensures { result ≡ words.key_word entry }
+{
+    entry as usize
 }
