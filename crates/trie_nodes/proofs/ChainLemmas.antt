@@ -6,10 +6,10 @@ use Rattle.std.proofs.lemmas.Bool.Decides.{eqb_tells}
 use Rattle.trie_nodes.specs.declared.slot.Slot.{Slot}
 use Rattle.trie_nodes.specs.declared.slot.Slot.TheVariants.{Empty, Node, Entry}
 use Rattle.trie_nodes.specs.declared.plan.Expansion.{Expansion}
-use Rattle.trie_nodes.specs.Layout.{slot_word, key_word, value_word}
+use Rattle.trie_nodes.specs.Layout.{key_word, value_word}
 use Rattle.trie_nodes.specs.Paths.{nibble, route}
 use Rattle.trie_nodes.specs.Slots.{word_of_slot, slot_in}
-use Rattle.trie_nodes.specs.Nodes.{slot_at, entry_value, slot_value, stands_for}
+use Rattle.trie_nodes.specs.Nodes.{entry_value, slot_value, stands_for}
 use Rattle.trie_nodes.specs.Plans.{one_slot, two_slots, IsNewNode, IsChain, IsExpansion, IsPlannedChain}
 use Rattle.trie_nodes.proofs.PathLemmas.{nibble-lt, nibble-same}
 use Rattle.trie_nodes.proofs.SlotLemmas.{slot_in-zero, slot_in-node, slot_in-entry}

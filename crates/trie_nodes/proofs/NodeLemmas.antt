@@ -1,10 +1,10 @@
 -- What a node stands for, by its slots; and that it stays where the words do.
-use Rattle.std.proofs.Common.{◌≡◌, ◌≢◌, ◌⊎◌, inl, inr, ℕ, zero, suc, ◌+◌, ◌-◌, ◌*◌, ◌<◌, ◌≤◌, ◌==◌, cond, List, Option, Some, None, refl, sym, ap, subst, ◌∙◌, arith}
+use Rattle.std.proofs.Common.{◌≡◌, ◌≢◌, ◌⊎◌, inl, inr, ℕ, zero, suc, ◌+◌, ◌-◌, ◌<◌, ◌≤◌, List, Option, None, refl, sym, ap, subst, ◌∙◌, arith}
 use Rattle.std.specs.Prelude.{slice_index}
 use Rattle.trie_nodes.specs.declared.slot.Slot.{Slot}
 use Rattle.trie_nodes.specs.declared.slot.Slot.TheVariants.{Empty, Node, Entry}
 use Rattle.trie_nodes.specs.Layout.{slot_word, key_word, value_word}
-use Rattle.trie_nodes.specs.Paths.{nibble, route}
+use Rattle.trie_nodes.specs.Paths.{nibble}
 use Rattle.trie_nodes.specs.Slots.{slot_in}
 use Rattle.trie_nodes.specs.Nodes.{slot_at, entry_value, slot_value, BelongsToSlot, BelongsWithin, Belongs, ChangesSlot, value_within, stands_for, Shows}
 use Rattle.trie_nodes.proofs.PathLemmas.{nibble-lt}

@@ -4,7 +4,7 @@ use Rattle.std.specs.Int.Bits.{xor_assoc, xor_self, xor_zero_r}
 use Rattle.std.proofs.Math.Nat.{mod-lt, mod-one, mod-eq_of_lt, pow-le-pow_right}
 use Rattle.std.proofs.Math.Seq.{get_or-append_seam, take-append_seam}
 use Rattle.std.proofs.lemmas.Bool.{cases_eq}
-use Rattle.std.proofs.lemmas.Nat.{pow_pos, mod-pow-add, mod_low, shr_high, xor_lt, same_from_place, mul-add-lt, pow-add}
+use Rattle.std.proofs.lemmas.Nat.{pow_pos, mod-pow-add, mod_low, shr_high, xor_lt, same_from_place, mul-add-lt}
 use Rattle.trie_nodes.specs.Paths.{nibble, route}
 
 pub nibble-lt : (key seed level : ℕ) → nibble key seed level < 16

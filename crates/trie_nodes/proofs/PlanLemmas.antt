@@ -1,15 +1,13 @@
 -- The plans keep what a node stands for.
-use Rattle.std.proofs.Common.{◌≡◌, ◌≢◌, ◌⊎◌, inl, inr, ℕ, zero, suc, ◌+◌, ◌-◌, ◌*◌, ◌<◌, ◌≤◌, ◌==◌, true, false, cond, List, Option, Some, None, refl, sym, ap, subst, ◌∙◌, arith}
+use Rattle.std.proofs.Common.{◌≡◌, ◌≢◌, ◌⊎◌, inl, inr, ℕ, suc, ◌+◌, ◌-◌, ◌<◌, ◌==◌, cond, List, Some, refl, sym, ap, subst, ◌∙◌, arith}
 use Rattle.std.specs.Prelude.{slice_index}
 use Rattle.std.proofs.lemmas.Bool.{cases_eq}
-use Rattle.trie_nodes.specs.declared.slot.Slot.{Slot}
 use Rattle.trie_nodes.specs.declared.slot.Slot.TheVariants.{Empty, Node, Entry}
 use Rattle.trie_nodes.specs.declared.plan.Expansion.{Expansion}
 use Rattle.trie_nodes.specs.declared.plan.Pruning.{Pruning}
 use Rattle.trie_nodes.specs.Layout.{slot_word, key_word, value_word}
-use Rattle.trie_nodes.specs.Paths.{nibble, route}
-use Rattle.trie_nodes.specs.Slots.{word_of_slot, slot_in}
-use Rattle.trie_nodes.specs.Nodes.{slot_at, entry_value, slot_value, BelongsToSlot, Belongs, stands_for}
+use Rattle.trie_nodes.specs.Paths.{nibble}
+use Rattle.trie_nodes.specs.Nodes.{slot_at, entry_value, BelongsToSlot, Belongs, stands_for}
 use Rattle.trie_nodes.specs.Plans.{IsExpansion, Expands, Prunes, HasOnlyEmptySlots}
 use Rattle.trie_nodes.proofs.PathLemmas.{nibble-lt, nibble-same}
 use Rattle.trie_nodes.proofs.SlotLemmas.{slot_in-zero, slot_in-node, slot_in-entry}

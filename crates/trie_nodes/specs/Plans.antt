@@ -1,5 +1,5 @@
 -- The two changes of nodes that have a plan: an entry gives its slot to a chain of new nodes that leads to it and to one more entry, and an emptied node is cut off.
-use Rattle.std.specs.Prelude.{◌≡◌, ◌≢◌, ℕ, zero, suc, ◌+◌, ◌-◌, ◌*◌, ◌<◌, ◌≤◌, ◌==◌, cond, List, slice_index}
+use Rattle.std.specs.Prelude.{◌≡◌, ◌≢◌, ℕ, zero, suc, ◌+◌, ◌-◌, ◌<◌, ◌≤◌, ◌==◌, cond, List, slice_index}
 use Rattle.trie_nodes.specs.declared.slot.Slot.TheVariants.{Node, Entry}
 use Rattle.trie_nodes.specs.declared.plan.Expansion.{Expansion}
 use Rattle.trie_nodes.specs.declared.plan.Pruning.{Pruning}

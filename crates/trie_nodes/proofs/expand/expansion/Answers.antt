@@ -1,4 +1,4 @@
-use Rattle.std.proofs.Common.{◌≡◌, ◌+◌, ◌-◌, ◌<◌, ◌≤◌, sym, ap, ◌∙◌, subst, arith}
+use Rattle.std.proofs.Common.{◌≡◌, ◌+◌, ◌-◌, sym, ap, ◌∙◌, subst, arith}
 use Rattle.trie_nodes.specs.Paths.{nibble, route}
 use Rattle.trie_nodes.proofs.PlanLemmas.{expansion-keeps}
 use Rattle.trie_nodes.proofs.expand.expansion.Goals as goal

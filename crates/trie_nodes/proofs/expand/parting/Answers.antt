@@ -1,4 +1,4 @@
-use Rattle.std.proofs.Common.{◌≡◌, ◌<◌, ◌^◌, suc, subst, arith}
+use Rattle.std.proofs.Common.{◌≡◌, subst, arith}
 use Rattle.trie_nodes.specs.Paths.{route}
 use Rattle.trie_nodes.proofs.PathLemmas.{route-join, route-one_to_one}
 use Rattle.trie_nodes.proofs.expand.parting.Goals as goal

@@ -1,4 +1,4 @@
-use Rattle.std.proofs.Common.{◌≡◌, sym, ◌∙◌}
+use Rattle.std.proofs.Common.{sym, ◌∙◌}
 use Rattle.trie_nodes.proofs.PathLemmas.{nibble-same}
 use Rattle.trie_nodes.proofs.path.go_together.Goals as goal
 

@@ -1,5 +1,4 @@
-use Rattle.std.proofs.Common.{◌≡◌, ℕ, ◌<◌, slice_index, refl}
-use Rattle.trie_nodes.specs.Plans.{HasOnlyEmptySlots}
+use Rattle.std.proofs.Common.{slice_index, refl}
 use Rattle.trie_nodes.proofs.PlanLemmas.{pruning-keeps}
 use Rattle.trie_nodes.proofs.prune.pruning.Goals as goal
 
