@@ -4,3 +4,4 @@ pub mod OrderLemmas
 pub mod PathLemmas
 pub mod PlanLemmas
 pub mod SlotLemmas
+pub mod WriteLemmas

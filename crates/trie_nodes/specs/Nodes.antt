@@ -40,6 +40,12 @@ module _ (words : List ℕ) where
   pub record IsApart (level node : ℕ) : Type 0 where
     pub apart : (slot i : ℕ) → slot < 16 → node ≤ i → i < node + 18 → BelongsToSlot (λ below. Belongs (suc level) below i) (slot_at node slot) i → ⊥
 
+-- a slot may take the entry of this key and lose no other: it is empty, or has the key's own entry
+abbrev pub IsFreeFor : List ℕ → ℕ → Slot → Type 0
+IsFreeFor words key Empty = Unit {0}
+IsFreeFor words key (Node node) = ⊥
+IsFreeFor words key (Entry entry) = slice_index words (key_word entry) ≡ key
+
 -- From the old words to the new ones no word that belongs to the node of this level changes but that of one of its slots.
 pub record ChangesSlot (old new : List ℕ) (level node slot : ℕ) : Type 0 where
   pub apart : IsApart old level node

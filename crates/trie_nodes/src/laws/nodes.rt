@@ -1,11 +1,12 @@
 //! Laws of what a node stands for.
-ghost use Rattle.std.specs.Prelude.{◌≡◌, ◌≢◌, ℕ, suc, ◌+◌, ◌<◌, ◌≤◌, Bool, IsTrue, List, Option, Some, None, slice_index};
+ghost use Rattle.std.specs.Prelude.{◌≡◌, ◌≢◌, ℕ, suc, ◌+◌, ◌<◌, ◌≤◌, ◌==◌, if◌then◌else◌, Bool, IsTrue, List, Option, Some, None, slice_index};
 ghost use Rattle.trie_nodes.specs.Layout.{slot_word, key_word, value_word};
 ghost use Rattle.trie_nodes.specs.Paths.{nibble};
-ghost use Rattle.trie_nodes.specs.Nodes.{slot_at, entry_value, slot_value, Belongs, ChangesSlot, stands_for, Shows};
+ghost use Rattle.trie_nodes.specs.Nodes.{slot_at, entry_value, slot_value, Belongs, ChangesSlot, IsFreeFor, stands_for, Shows};
 ghost use Rattle.trie_nodes.specs.Plans.{IsExpansion, IsPlannedChain};
 
 use crate::plan::Expansion;
+use crate::slot::Slot;
 
 /// A node gives a key what its slot for the key gives: nothing, where the slot is empty; the value of the entry in it, where it is
 /// the key's own; and else what the node below gives. There are levels 0 to 7.
@@ -35,6 +36,18 @@ pub fn other_words_dont_matter()
 pub fn a_slot_concerns_its_own_keys()
     ensures { (old new : List ℕ) (seed level node slot key : ℕ) → level < 8 → slot < 16 → ChangesSlot old new level node slot → nibble key seed level ≢ slot
         → stands_for new seed level node key ≡ stands_for old seed level node key }
+{}
+
+/// Where a node's slot for a key is empty, or has the key's own entry, one write to it stores the key or deletes it, and changes
+/// no other key.
+pub fn a_write_to_a_free_slot_changes_one_key()
+    ensures stores { (old new : List ℕ) (seed level node key value entry other : ℕ) → level < 8 → ChangesSlot old new level node (nibble key seed level)
+        → IsFreeFor old key (slot_at old node (nibble key seed level)) → slot_at new node (nibble key seed level) ≡ Slot.Entry entry
+        → slice_index new (key_word entry) ≡ key → slice_index new (value_word entry) ≡ value
+        → stands_for new seed level node other ≡ (if other == key then Some value else stands_for old seed level node other) }
+    ensures deletes { (old new : List ℕ) (seed level node key other : ℕ) → level < 8 → ChangesSlot old new level node (nibble key seed level)
+        → IsFreeFor old key (slot_at old node (nibble key seed level)) → slot_at new node (nibble key seed level) ≡ Slot.Empty
+        → stands_for new seed level node other ≡ (if other == key then None else stands_for old seed level node other) }
 {}
 
 /// A chain as planned leads to the entries of both keys, and to no other key.
