@@ -6,7 +6,7 @@ use Rattle.trie_nodes.specs.declared.slot.Slot.{Slot}
 use Rattle.trie_nodes.specs.declared.slot.Slot.TheVariants.{Empty, Node, Entry}
 use Rattle.trie_nodes.specs.Layout.{key_word, value_word}
 use Rattle.trie_nodes.specs.Paths.{nibble}
-use Rattle.trie_nodes.specs.Nodes.{slot_at, entry_value, slot_value, ChangesSlot, IsFreeFor, stands_for}
+use Rattle.trie_nodes.specs.Nodes.{slot_at, slot_value, ChangesSlot, IsFreeFor, stands_for}
 use Rattle.trie_nodes.proofs.PathLemmas.{nibble-lt}
 use Rattle.trie_nodes.proofs.NodeLemmas.{stands_for-slot_is, stands_for-other_slot}
 use Rattle.trie_nodes.proofs.ChainLemmas.{test-same, test-apart, entry_value-own, entry_value-other}
@@ -25,21 +25,21 @@ module _ (old new : List ℕ) (seed level node key : ℕ) (lt : level < 8) (chan
       (others : (other : ℕ) → other ≢ key → slot_value new (λ below. stands_for new seed (suc level) below other) held other ≡ None) where
     unchanged : (other : ℕ) → other ≢ key → stands_for new seed level node other ≡ stands_for old seed level node other
     unchanged other differs = elim (cases_eq (nibble other seed level) slot) [
-        inl here ↦
+      | inl here ↦
           stands_for-slot_is new seed level node other slot held lt here becomes ∙ others other differs
           ∙ sym (stands_for-slot_is old seed level node other slot (slot_at old node slot) lt here refl
           ∙ free-other old (λ below. stands_for old seed (suc level) below other) key other (slot_at old node slot) free differs)
       | inr elsewhere ↦ stands_for-other_slot old new level node slot lt (nibble-lt key seed level) changes seed other elsewhere
-      ]
+    ]
 
     written : (other : ℕ) → stands_for new seed level node other ≡ cond (other == key) found (stands_for old seed level node other)
     written other = elim (cases_eq other key) [
-        inl same ↦
+      | inl same ↦
           ap (stands_for new seed level node) same
           ∙ stands_for-slot_is new seed level node key slot held lt refl becomes ∙ own
           ∙ ap (λ b. cond b found (stands_for old seed level node other)) (sym (test-same other key same))
       | inr differs ↦ unchanged other differs ∙ ap (λ b. cond b found (stands_for old seed level node other)) (sym (test-apart other key differs))
-      ]
+    ]
 
   pub stored : (entry value other : ℕ) → slot_at new node slot ≡ Entry entry → slice_index new (key_word entry) ≡ key → slice_index new (value_word entry) ≡ value →
       stands_for new seed level node other ≡ cond (other == key) (Some value) (stands_for old seed level node other)
