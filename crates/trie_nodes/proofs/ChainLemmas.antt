@@ -1,8 +1,7 @@
 -- Where a chain of new nodes leads: the keys whose path goes along it come to its last node, and all others turn off to an empty slot.
-use Rattle.std.proofs.Common.{◌≡◌, ◌≢◌, ◌⊎◌, inl, inr, ℕ, zero, suc, ◌+◌, ◌-◌, ◌*◌, ◌<◌, ◌≤◌, ◌==◌, true, false, cond, List, Option, Some, None, refl, sym, ap, subst, ◌∙◌, arith}
+use Rattle.std.proofs.Common.{◌≡◌, ◌≢◌, ◌⊎◌, inl, inr, ℕ, zero, suc, ◌+◌, ◌-◌, ◌*◌, ◌<◌, ◌≤◌, cond, List, Option, Some, None, refl, sym, ap, subst, ◌∙◌, arith}
 use Rattle.std.specs.Prelude.{slice_index}
 use Rattle.std.proofs.lemmas.Bool.{cases_eq}
-use Rattle.std.proofs.lemmas.Bool.Decides.{eqb_tells}
 use Rattle.trie_nodes.specs.declared.slot.Slot.{Slot}
 use Rattle.trie_nodes.specs.declared.slot.Slot.TheVariants.{Empty, Node, Entry}
 use Rattle.trie_nodes.specs.declared.plan.Expansion.{Expansion}
@@ -12,14 +11,8 @@ use Rattle.trie_nodes.specs.Slots.{word_of_slot, slot_in}
 use Rattle.trie_nodes.specs.Nodes.{entry_value, slot_value, stands_for}
 use Rattle.trie_nodes.specs.Plans.{one_slot, two_slots, IsNewNode, IsChain, IsExpansion, IsPlannedChain}
 use Rattle.trie_nodes.proofs.PathLemmas.{nibble-lt, nibble-same}
-use Rattle.trie_nodes.proofs.SlotLemmas.{slot_in-zero, slot_in-node, slot_in-entry}
+use Rattle.trie_nodes.proofs.SlotLemmas.{test-same, test-apart, slot_in-zero, slot_in-node, slot_in-entry}
 use Rattle.trie_nodes.proofs.NodeLemmas.{stands_for-slot}
-
-pub test-same : (a b : ℕ) → a ≡ b → (a == b) ≡ true
-test-same a b e = elim (eqb_tells a b) [ inl same ↦ same.0 | inr apart ↦ absurd (apart.1 e) ]
-
-pub test-apart : (a b : ℕ) → a ≢ b → (a == b) ≡ false
-test-apart a b ne = elim (eqb_tells a b) [ inl same ↦ absurd (ne same.1) | inr apart ↦ apart.0 ]
 
 pub one_slot-same : (slot word s : ℕ) → s ≡ slot → one_slot slot word s ≡ word
 one_slot-same slot word s e = ap (λ b. cond b word 0) (test-same s slot e)

@@ -1,4 +1,5 @@
 pub mod ChainLemmas
+pub mod ChainShows
 pub mod ExampleLemmas
 pub mod NodeLemmas
 pub mod OrderLemmas

@@ -10,9 +10,9 @@ use Rattle.trie_nodes.specs.Paths.{nibble}
 use Rattle.trie_nodes.specs.Nodes.{slot_at, entry_value, BelongsToSlot, Belongs, stands_for}
 use Rattle.trie_nodes.specs.Plans.{IsExpansion, Expands, Prunes, HasOnlyEmptySlots}
 use Rattle.trie_nodes.proofs.PathLemmas.{nibble-lt, nibble-same}
-use Rattle.trie_nodes.proofs.SlotLemmas.{slot_in-zero, slot_in-node, slot_in-entry}
+use Rattle.trie_nodes.proofs.SlotLemmas.{test-same, test-apart, slot_in-zero, slot_in-node, slot_in-entry}
 use Rattle.trie_nodes.proofs.NodeLemmas.{stands_for-slot_is, stands_for-empty, below_stays, stands_for-other_slot}
-use Rattle.trie_nodes.proofs.ChainLemmas.{test-same, test-apart, entry_value-own, entry_value-other, chain-first, chain-key, chain-held, chain-other}
+use Rattle.trie_nodes.proofs.ChainLemmas.{entry_value-own, entry_value-other, chain-first, chain-key, chain-held, chain-other}
 
 module _ (old new : List ℕ) (seed level node held key value : ℕ) (plan : Expansion) (below_a_root : 0 < level) (is : IsExpansion held key seed level plan) (expands : Expands old new seed level node held key value plan) where
   abbrev above : ℕ

@@ -4,23 +4,24 @@ use Rattle.std.proofs.lemmas.Bool.Decides.{eqb_tells}
 use Rattle.trie_nodes.specs.declared.slot.Slot.TheVariants.{Empty, Node, Entry}
 use Rattle.trie_nodes.specs.Slots.{word_of_slot, slot_in}
 
-is_zero : (word : ℕ) → word ≡ 0 → (word == 0) ≡ true
-is_zero word e = elim (eqb_tells word 0) [ inl same ↦ same.0 | inr apart ↦ absurd (apart.1 e) ]
+-- a test of two numbers
+pub test-same : (a b : ℕ) → a ≡ b → (a == b) ≡ true
+test-same a b e = elim (eqb_tells a b) [ inl same ↦ same.0 | inr apart ↦ absurd (apart.1 e) ]
 
-isnt_zero : (word : ℕ) → word ≢ 0 → (word == 0) ≡ false
-isnt_zero word ne = elim (eqb_tells word 0) [ inl same ↦ absurd (ne same.1) | inr apart ↦ apart.0 ]
+pub test-apart : (a b : ℕ) → a ≢ b → (a == b) ≡ false
+test-apart a b ne = elim (eqb_tells a b) [ inl same ↦ absurd (ne same.1) | inr apart ↦ apart.0 ]
 
 pub slot_in-zero : (word : ℕ) → word ≡ 0 → slot_in word ≡ Empty
-slot_in-zero word e = ap (λ b. cond b Empty (cond (word % 2 == 0) (Node (word / 2)) (Entry (word / 2)))) (is_zero word e)
+slot_in-zero word e = ap (λ b. cond b Empty (cond (word % 2 == 0) (Node (word / 2)) (Entry (word / 2)))) (test-same word 0 e)
 
 pub slot_in-even : (word : ℕ) → word ≢ 0 → word % 2 ≡ 0 → slot_in word ≡ Node (word / 2)
-slot_in-even word ne even = ap (λ b. cond b Empty (cond (word % 2 == 0) (Node (word / 2)) (Entry (word / 2)))) (isnt_zero word ne) ∙ ap (λ b. cond b (Node (word / 2)) (Entry (word / 2))) (is_zero (word % 2) even)
+slot_in-even word ne even = ap (λ b. cond b Empty (cond (word % 2 == 0) (Node (word / 2)) (Entry (word / 2)))) (test-apart word 0 ne) ∙ ap (λ b. cond b (Node (word / 2)) (Entry (word / 2))) (test-same (word % 2) 0 even)
 
 pub slot_in-odd : (word : ℕ) → word % 2 ≡ 1 → slot_in word ≡ Entry (word / 2)
 slot_in-odd word odd =
     let ne : word ≢ 0 = omega arith in
     let uneven : word % 2 ≢ 0 = omega arith in
-    ap (λ b. cond b Empty (cond (word % 2 == 0) (Node (word / 2)) (Entry (word / 2)))) (isnt_zero word ne) ∙ ap (λ b. cond b (Node (word / 2)) (Entry (word / 2))) (isnt_zero (word % 2) uneven)
+    ap (λ b. cond b Empty (cond (word % 2 == 0) (Node (word / 2)) (Entry (word / 2)))) (test-apart word 0 ne) ∙ ap (λ b. cond b (Node (word / 2)) (Entry (word / 2))) (test-apart (word % 2) 0 uneven)
 
 pub slot_in-node : (word place : ℕ) → 0 < place → word ≡ 2 * place → slot_in word ≡ Node place
 slot_in-node word place placed e = let half : word / 2 ≡ place = omega arith in slot_in-even word (omega arith) (omega arith) ∙ ap Node half

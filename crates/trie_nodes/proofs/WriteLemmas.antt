@@ -7,9 +7,10 @@ use Rattle.trie_nodes.specs.declared.slot.Slot.TheVariants.{Empty, Node, Entry}
 use Rattle.trie_nodes.specs.Layout.{key_word, value_word}
 use Rattle.trie_nodes.specs.Paths.{nibble}
 use Rattle.trie_nodes.specs.Nodes.{slot_at, slot_value, ChangesSlot, IsFreeFor, stands_for}
+use Rattle.trie_nodes.proofs.SlotLemmas.{test-same, test-apart}
 use Rattle.trie_nodes.proofs.PathLemmas.{nibble-lt}
 use Rattle.trie_nodes.proofs.NodeLemmas.{stands_for-slot_is, stands_for-other_slot}
-use Rattle.trie_nodes.proofs.ChainLemmas.{test-same, test-apart, entry_value-own, entry_value-other}
+use Rattle.trie_nodes.proofs.ChainLemmas.{entry_value-own, entry_value-other}
 
 -- a slot that is free for a key gives no other key anything
 free-other : (words : List ℕ) (node_value : ℕ → Option ℕ) (key other : ℕ) (slot : Slot) → IsFreeFor words key slot → other ≢ key → slot_value words node_value slot other ≡ None

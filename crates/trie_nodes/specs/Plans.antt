@@ -30,6 +30,17 @@ IsChain words seed key slots (suc zero) level parent node = IsNewNode words node
 IsChain words seed key slots (suc (suc nodes)) level parent node =
     (next : ℕ) × IsNewNode words node parent (one_slot (nibble key seed level) (word_of_slot (Node next))) × IsChain words seed key slots (suc nodes) (suc level) node next
 
+-- the place that stands before number i of these places
+abbrev pub place_before : ℕ → (ℕ → ℕ) → ℕ → ℕ
+place_before above place zero = above
+place_before above place (suc i) = place i
+
+-- the same chain, by the places of its nodes, which are counted from 0
+pub record IsChainAt (words : List ℕ) (seed key : ℕ) (slots : ℕ → ℕ) (nodes level above : ℕ) (place : ℕ → ℕ) : Type 0 where
+  pub some : 0 < nodes
+  pub links : (i : ℕ) → suc i < nodes → IsNewNode words (place i) (place_before above place i) (one_slot (nibble key seed (level + i)) (word_of_slot (Node (place (suc i)))))
+  pub last : (i : ℕ) → suc i ≡ nodes → IsNewNode words (place i) (place_before above place i) slots
+
 -- The plan of an expansion for the entry of one key, in whose place the chain comes, and for another key. The chain begins at this level and goes as far as both paths go together; its last node has a slot of its own for each key.
 pub record IsExpansion (held key seed level : ℕ) (plan : Expansion) : Type 0 where
   pub some : 0 < plan.nodes
@@ -39,10 +50,14 @@ pub record IsExpansion (held key seed level : ℕ) (plan : Expansion) : Type 0 w
   pub key_slot : plan.key_slot ≡ nibble key seed (level + plan.nodes - 1)
   pub part : plan.held_slot ≢ plan.key_slot
 
--- a chain as planned, to the entries of both keys
+-- the words in the slots of the last node of a chain as planned, to the entries of both keys
+abbrev pub last_slots : Expansion → ℕ → ℕ → ℕ → ℕ
+last_slots plan held_entry key_entry = two_slots plan.held_slot (word_of_slot (Entry held_entry)) plan.key_slot (word_of_slot (Entry key_entry))
+
+-- a chain as planned
 abbrev pub IsPlannedChain : List ℕ → ℕ → ℕ → Expansion → ℕ → ℕ → ℕ → ℕ → ℕ → Type 0
 IsPlannedChain words seed key plan level above first held_entry key_entry =
-    IsChain words seed key (two_slots plan.held_slot (word_of_slot (Entry held_entry)) plan.key_slot (word_of_slot (Entry key_entry))) plan.nodes level above first
+    IsChain words seed key (last_slots plan held_entry key_entry) plan.nodes level above first
 
 -- From the old words to the new ones one slot of a node changes as an expansion plans it: the slot that the node, one level above the chain's first one, has for two keys held the entry of one of them, and now holds the chain to this entry and to that of the other key, which has this value.
 pub record Expands (old new : List ℕ) (seed level node held key value : ℕ) (plan : Expansion) : Type 0 where
