@@ -98,6 +98,9 @@ module _ (words : List ℕ) (seed key : ℕ) (slots : ℕ → ℕ) where
     | inr differs ↦ leads_nowhere first above level chain.0 k (omega arith) chain.1 differs
   ]
 
+pub one_more : (nodes : ℕ) → 0 < nodes → nodes ≡ suc (nodes - 1)
+one_more nodes some = omega arith
+
 -- A chain of one node more than `more` to two entries, whose keys have paths that go together along it and part in its last node.
 module _ (words : List ℕ) (seed level above first held key held_entry key_entry more : ℕ) (plan : Expansion) (is : IsExpansion held key seed level plan)
     (is_more : plan.nodes ≡ suc more) (chain : IsPlannedChain words seed key plan level above first held_entry key_entry)

@@ -12,7 +12,7 @@ use Rattle.trie_nodes.specs.Plans.{IsExpansion, Expands, Prunes, HasOnlyEmptySlo
 use Rattle.trie_nodes.proofs.PathLemmas.{nibble-lt, nibble-same}
 use Rattle.trie_nodes.proofs.SlotLemmas.{test-same, test-apart, slot_in-zero, slot_in-node, slot_in-entry}
 use Rattle.trie_nodes.proofs.NodeLemmas.{stands_for-slot_is, stands_for-empty, below_stays, stands_for-other_slot}
-use Rattle.trie_nodes.proofs.ChainLemmas.{entry_value-own, entry_value-other, chain-first, chain-key, chain-held, chain-other}
+use Rattle.trie_nodes.proofs.ChainLemmas.{one_more, entry_value-own, entry_value-other, chain-first, chain-key, chain-held, chain-other}
 
 module _ (old new : List ℕ) (seed level node held key value : ℕ) (plan : Expansion) (below_a_root : 0 < level) (is : IsExpansion held key seed level plan) (expands : Expands old new seed level node held key value plan) where
   abbrev above : ℕ
@@ -25,7 +25,7 @@ module _ (old new : List ℕ) (seed level node held key value : ℕ) (plan : Exp
   more = plan.nodes - 1
 
   is_more : plan.nodes ≡ suc more
-  is_more = let some = is.some in omega arith
+  is_more = one_more plan.nodes is.some
 
   level-above : suc above ≡ level
   level-above = omega arith

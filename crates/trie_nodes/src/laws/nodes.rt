@@ -3,9 +3,7 @@ ghost use Rattle.std.specs.Prelude.{◌≡◌, ◌≢◌, ℕ, suc, ◌+◌, ◌
 ghost use Rattle.trie_nodes.specs.Layout.{slot_word, key_word, value_word};
 ghost use Rattle.trie_nodes.specs.Paths.{nibble};
 ghost use Rattle.trie_nodes.specs.Nodes.{slot_at, entry_value, slot_value, Belongs, ChangesSlot, IsFreeFor, stands_for, Shows};
-ghost use Rattle.trie_nodes.specs.Plans.{IsExpansion, IsPlannedChain};
 
-use crate::plan::Expansion;
 use crate::slot::Slot;
 
 /// A node gives a key what its slot for the key gives: nothing, where the slot is empty; the value of the entry in it, where it is
@@ -48,19 +46,6 @@ pub fn a_write_to_a_free_slot_changes_one_key()
     ensures deletes { (old new : List ℕ) (seed level node key other : ℕ) → level < 8 → ChangesSlot old new level node (nibble key seed level)
         → IsFreeFor old key (slot_at old node (nibble key seed level)) → slot_at new node (nibble key seed level) ≡ Slot.Empty
         → stands_for new seed level node other ≡ (if other == key then None else stands_for old seed level node other) }
-{}
-
-/// A chain as planned leads to the entries of both keys, and to no other key.
-pub fn a_chain_leads_to_both_entries()
-    ensures held { (words : List ℕ) (seed level above first held key held_entry key_entry : ℕ) (plan : Expansion) → IsExpansion held key seed level plan
-        → IsPlannedChain words seed key plan level above first held_entry key_entry → slice_index words (key_word held_entry) ≡ held → slice_index words (key_word key_entry) ≡ key
-        → stands_for words seed level first held ≡ Some (slice_index words (value_word held_entry)) }
-    ensures key { (words : List ℕ) (seed level above first held key held_entry key_entry : ℕ) (plan : Expansion) → IsExpansion held key seed level plan
-        → IsPlannedChain words seed key plan level above first held_entry key_entry → slice_index words (key_word held_entry) ≡ held → slice_index words (key_word key_entry) ≡ key
-        → stands_for words seed level first key ≡ Some (slice_index words (value_word key_entry)) }
-    ensures others { (words : List ℕ) (seed level above first held key held_entry key_entry other : ℕ) (plan : Expansion) → IsExpansion held key seed level plan
-        → IsPlannedChain words seed key plan level above first held_entry key_entry → slice_index words (key_word held_entry) ≡ held → slice_index words (key_word key_entry) ≡ key
-        → other ≢ held → other ≢ key → stands_for words seed level first other ≡ None }
 {}
 
 /// Where each node of a map shows in its slot for a key what the key has in the map, each of them stands for a map in which the

@@ -1,9 +1,6 @@
-use Rattle.std.proofs.Common.{◌≡◌, ℕ, suc, ◌-◌, ◌<◌, arith}
-use Rattle.trie_nodes.proofs.ChainLemmas.{chain-held, chain-key, chain-other}
-use Rattle.trie_nodes.proofs.laws.nodes.a_chain_leads_to_both_entries.Goals as goal
-
-one_more : (nodes : ℕ) → 0 < nodes → nodes ≡ suc (nodes - 1)
-one_more nodes some = omega arith
+use Rattle.std.proofs.Common.{◌-◌}
+use Rattle.trie_nodes.proofs.ChainLemmas.{one_more, chain-held, chain-key, chain-other}
+use Rattle.trie_nodes.proofs.laws.chains.a_chain_leads_to_both_entries.Goals as goal
 
 pub returns-clause-held : goal.returns-clause-held
 returns-clause-held c words seed level above first held key held_entry key_entry plan is chain is_held is_key =
