@@ -37,5 +37,5 @@ pub fn each_node_of_a_chain_shows_what_the_map_has()
         → ((i : ℕ) → suc i < plan.nodes → IsTrue (is_below (suc (level + i)) (place (suc i))))
         → (i other : ℕ) → i < plan.nodes → route seed (level + i) other ≡ route seed (level + i) key
         → Shows words seed (λ below. IsTrue (is_below (suc (level + i)) below)) (level + i) other
-            (if other == key then Some value else entry_value words held_entry other) (slot_at words (place i) (nibble other seed (level + i))) }
+        (if other == key then Some value else entry_value words held_entry other) (slot_at words (place i) (nibble other seed (level + i))) }
 {}
