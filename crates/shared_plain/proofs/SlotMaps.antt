@@ -29,7 +29,7 @@ apart Equal q k e ne = absurd (ne (nat_cmp-IsAntisymmetric q k e))
 apart Greater q k e ne = refl
 
 -- keys tie where they are equal
-tie : (q k : ℕ) → eq_by_cmp nat_cmp q k ≡ eqb q k
+pub tie : (q k : ℕ) → eq_by_cmp nat_cmp q k ≡ eqb q k
 tie q k = dite (ℕ_discrete q k)
     (λ is. subst (λ (j : ℕ). eq_by_cmp nat_cmp q j ≡ true) is (ap is_eq (tied_itself nat_cmp_total q)) ∙ sym (eq-eqb q k is))
     (λ ne. apart (nat_cmp q k) q k refl ne ∙ sym (ne_eqb q k ne))
