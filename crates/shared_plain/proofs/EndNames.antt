@@ -1,5 +1,5 @@
 -- A map's keys in byte order of their names are the keys of the map by name.
-use Rattle.std.proofs.Common.{◌≡◌, ◌≢◌, ℕ, zero, suc, ◌+◌, ◌<◌, Bool, true, false, cond, eq-eqb, ne_eqb, List, [], ◌∷◌, ◌++◌, map, length, slice_index_or, Option, Some, None, refl, sym, ap, ◌∙◌, subst, arith}
+use Rattle.std.proofs.Common.{◌≡◌, ◌≢◌, ℕ, zero, suc, ◌+◌, ◌<◌, Bool, true, false, ◌&&◌, cond, eq-eqb, ne_eqb, List, [], ◌∷◌, ◌++◌, map, length, slice_index_or, Option, Some, None, refl, sym, ap, ◌∙◌, subst, arith}
 use Rattle.std.specs.Prelude.{T, All, Contains, zip, flat_map, filter_map}
 use Rattle.std.specs.List.{AllByRecursion, cons_option}
 use Rattle.std.specs.Option.{option_map}
@@ -7,13 +7,13 @@ use mathlib.Core.Logic.{dite}
 use native.Mathlib.Decide.{ℕ_discrete}
 use Rattle.std.specs.declared.cmp.Ordering.{Ordering}
 use Rattle.std.specs.declared.cmp.Ordering.TheVariants.{Less, Equal, Greater}
-use Rattle.std.specs.Ordering.{nat_cmp, is_eq, is_lt, eq_by_cmp}
+use Rattle.std.specs.Ordering.{nat_cmp, is_eq, is_lt, eq_by_cmp, ordering_reverse}
 use Rattle.std.specs.Cmp.{tied_itself, nat_cmp_total}
 use Rattle.std.specs.Cmp.Lexicographic.{slice_cmp, nat_list_cmp_total}
 use Rattle.std.specs.List.Sorted.{IsStrictlySortedBy}
-use Rattle.std.proofs.lemmas.List.Elements.{All-contains, recursion_from_All}
+use Rattle.std.proofs.lemmas.List.Elements.{All-contains, All-from_recursion, recursion_from_All}
 use Rattle.std.proofs.lemmas.Map.Keys.{sorted_head, sorted_tail}
-use Rattle.std.specs.FinMap.{FinMap, empty, get, get-entries, entries, from_entries, get-from_entries, from_sorted, entries-from_sorted, get-from_sorted, find, is_sorted, same_map, nat_cmp-IsAntisymmetric, slice_cmp-IsAntisymmetric}
+use Rattle.std.specs.FinMap.{FinMap, empty, get, get-entries, entries, entries_sorted, from_entries, get-from_entries, from_sorted, entries-from_sorted, get-from_sorted, find, is_sorted, same_map, nat_cmp-IsAntisymmetric, slice_cmp-IsAntisymmetric}
 use Rattle.std.specs.FinMap.Entries.{below_all}
 use Rattle.sync_model.specs.declared.outcome.End.{End}
 use Rattle.sync_model.specs.declared.outcome.End.TheVariants as ends
@@ -189,3 +189,74 @@ module _ (name : ℕ → List ℕ) (number : List ℕ → ℕ) where
 
     pub in_name_order : (atomics maps : List ℕ) (contents : Contents) → HasKeysAmong order contents → ends_by order atomics maps contents ≡ ends_by_name name number atomics maps contents
     in_name_order atomics maps contents among = ap (λ rest. map number_end (zip atomics contents.numbers) ++ rest) (all_listed maps contents.maps (each_map contents.maps among))
+
+strictly : (r : Ordering) → T (is_lt r) → r ≡ Less
+strictly Less is = refl
+strictly Equal is = absurd is
+strictly Greater is = absurd is
+
+first_of : (a b : Bool) → T (a && b) → T a
+first_of true b is = tt
+first_of false b is = absurd is
+
+second_of : (a b : Bool) → T (a && b) → T b
+second_of true b is = is
+second_of false b is = absurd is
+
+tied : (x y : List ℕ) → x ≡ y → eq_by_cmp by_bytes x y ≡ true
+tied x y is = ap (λ (z : List ℕ). eq_by_cmp by_bytes x z) (sym is) ∙ ap is_eq (tied_itself nat_list_cmp_total x)
+
+behind : (x y : List ℕ) → by_bytes x y ≡ Less → eq_by_cmp by_bytes y x ≡ false
+behind x y less = ap is_eq (nat_list_cmp_total.antisymm y x ∙ ap ordering_reverse less)
+
+all_behind : (x : List ℕ) (es : List (List ℕ × ℕ)) → T (below_all by_bytes x es) → AllByRecursion (λ y. by_bytes x y ≡ Less) (map (λ e. e.0) es)
+all_behind x [] below = tt
+all_behind x (e ∷ es) below = (strictly (by_bytes x e.0) (first_of _ _ below), all_behind x es (second_of _ _ below))
+
+names_rise : (es : List (List ℕ × ℕ)) → T (is_sorted by_bytes es) → IsStrictlySortedBy by_bytes (map (λ e. e.0) es)
+unfolding IsStrictlySortedBy
+names_rise [] sorted = tt
+names_rise (e ∷ es) sorted = (all_behind e.0 es (first_of _ _ sorted), names_rise es (second_of _ _ sorted))
+
+-- each name is found with its own number
+found_each : (es : List (List ℕ × ℕ)) → T (is_sorted by_bytes es) → AllByRecursion (λ e. find by_bytes e.0 es ≡ Some e.1) es
+found_each [] sorted = tt
+found_each (e ∷ es) sorted = (ap (λ (b : Bool). cond b (Some e.1) (find by_bytes e.0 es)) (tied e.0 e.0 refl), others es (first_of _ _ sorted) (found_each es (second_of _ _ sorted)))
+  where
+    others : (fs : List (List ℕ × ℕ)) → T (below_all by_bytes e.0 fs) → AllByRecursion (λ f. find by_bytes f.0 es ≡ Some f.1) fs → AllByRecursion (λ f. find by_bytes f.0 (e ∷ es) ≡ Some f.1) fs
+    others [] below all = tt
+    others (f ∷ fs) below all = (ap (λ (b : Bool). cond b (Some e.1) (find by_bytes f.0 es)) (behind e.0 f.0 (strictly (by_bytes e.0 f.0) (first_of _ _ below))) ∙ all.0, others fs (second_of _ _ below) all.1)
+
+listed_key : (es : List (List ℕ × ℕ)) (q : List ℕ) (key : ℕ) → find by_bytes q es ≡ Some key → Contains (map (λ e. e.1) es) key
+listed_key [] q key found = (cc)
+listed_key (e ∷ es) q key found = by_test (eq_by_cmp by_bytes q e.0) found (listed_key es q key)
+  where
+    by_test : (b : Bool) → cond b (Some e.1) (find by_bytes q es) ≡ Some key → (find by_bytes q es ≡ Some key → Contains (map (λ f. f.1) es) key) → Contains (e.1 ∷ map (λ f. f.1) es) key
+    by_test true is rest = (0, omega arith, (cc))
+    by_test false is rest = let later = rest is in (suc later.0, (let below = later.1 in omega arith), later.2)
+
+pub listed_by_name : (numbers : FinMap (slice_cmp nat_cmp) ℕ) (q : List ℕ) (key : ℕ) → get numbers q ≡ Some key → Contains (map (λ e. e.1) (entries numbers)) key
+listed_by_name numbers q key is = listed_key (entries numbers) q key (sym (get-entries numbers q) ∙ is)
+
+module _ (name : ℕ → List ℕ) (number : List ℕ → ℕ) (numbers : FinMap (slice_cmp nat_cmp) ℕ) (are : (q : List ℕ) (key : ℕ) → get numbers q ≡ Some key → (name key ≡ q) × (number q ≡ key)) where
+  same_names : (es : List (List ℕ × ℕ)) → AllByRecursion (λ e. get numbers e.0 ≡ Some e.1) es → map name (map (λ e. e.1) es) ≡ map (λ e. e.0) es
+  same_names [] all = refl
+  same_names (e ∷ es) all = λ i. (are e.0 e.1 all.0).0 i ∷ same_names es all.1 i
+
+  same_numbers : (es : List (List ℕ × ℕ)) → AllByRecursion (λ e. get numbers e.0 ≡ Some e.1) es → AllByRecursion (λ key. number (name key) ≡ key) (map (λ e. e.1) es)
+  same_numbers [] all = tt
+  same_numbers (e ∷ es) all = let is = are e.0 e.1 all.0 in (ap number is.0 ∙ is.1, same_numbers es all.1)
+
+  each_got : (es : List (List ℕ × ℕ)) → AllByRecursion (λ e. find by_bytes e.0 (entries numbers) ≡ Some e.1) es → AllByRecursion (λ e. get numbers e.0 ≡ Some e.1) es
+  each_got [] all = tt
+  each_got (e ∷ es) all = (get-entries numbers e.0 ∙ all.0, each_got es all.1)
+
+  -- the numbers of names, in the order of the names
+  pub numbers_in_name_order : AreInNameOrder name number (map (λ e. e.1) (entries numbers))
+  numbers_in_name_order =
+      let es = entries numbers in
+      let got = each_got es (found_each es (entries_sorted numbers)) in
+      record {
+        numbers = All-from_recursion (λ key. number (name key) ≡ key) (map (λ e. e.1) es) (same_numbers es got);
+        rise = subst (IsStrictlySortedBy by_bytes) (sym (same_names es got)) (names_rise es (entries_sorted numbers));
+      }

@@ -1,7 +1,9 @@
 //! Laws of the machine, which answers as the one-thread maps and atomics do, and of the list of ends that a report shows.
 //! Each is the contract of a function that does nothing.
-ghost use Rattle.std.specs.Prelude.{◌≡◌, ℕ, ◌<◌, ◌≤◌, List, Some, None};
-ghost use Rattle.std.specs.FinMap.{entries};
+ghost use Rattle.std.specs.Prelude.{◌≡◌, ℕ, ◌<◌, ◌≤◌, List, map, Contains, Some, None};
+ghost use Rattle.std.specs.Ordering.{nat_cmp};
+ghost use Rattle.std.specs.Cmp.Lexicographic.{slice_cmp};
+ghost use Rattle.std.specs.FinMap.{FinMap, entries, get};
 ghost use Rattle.sync_model.specs.declared.item.SharedReply.TheVariants.{Shown};
 ghost use Rattle.shared_plain.specs.declared.event.Event.TheVariants.{Next};
 ghost use Rattle.sync_model.specs.declared.atomic_object.AtomicKind.{AtomicKind};
@@ -44,4 +46,11 @@ pub fn walks_show_the_entries()
 pub fn ends_are_in_name_order()
     ensures { (name : ℕ → List ℕ) (number : List ℕ → ℕ) (order atomics maps : List ℕ) (contents : Contents) → AreInNameOrder name number order → HasKeysAmong order contents
         → ends_by order atomics maps contents ≡ ends_by_name name number atomics maps contents }
+{}
+
+/// The numbers of a table of names, as they stand by name, are keys in byte order of their names, and all keys of the table.
+pub fn numbers_by_name_are_in_name_order()
+    ensures order { (name : ℕ → List ℕ) (number : List ℕ → ℕ) (numbers : FinMap (slice_cmp nat_cmp) ℕ) → ((word : List ℕ) (key : ℕ) → get numbers word ≡ Some key → (name key ≡ word) × (number word ≡ key))
+        → AreInNameOrder name number (map (λ entry. entry.1) (entries numbers)) }
+    ensures all { (numbers : FinMap (slice_cmp nat_cmp) ℕ) (word : List ℕ) (key : ℕ) → get numbers word ≡ Some key → Contains (map (λ entry. entry.1) (entries numbers)) key }
 {}
