@@ -166,9 +166,9 @@ module _ (name : ℕ → List ℕ) (number : List ℕ → ℕ) where
       named_entries =
           let sorted = rising order is.rise in
           ap entries (same_map nat_list_cmp_total (slice_cmp-IsAntisymmetric nat_cmp-IsAntisymmetric) (by_name name m) (from_sorted (renamed (pairs_by order m)))
-            (λ q. get-from_entries nat_list_cmp_total (renamed (entries m)) q ∙ (found_named q (entries m) numbered_entries
-              ∙ (ap (λ (found : Option ℕ). cond (eq_by_cmp by_bytes q (name (number q))) found None) (sym (get-entries m (number q)) ∙ sym (found_among m (number q) order (among (number q))))
-              ∙ (sym (found_named q (pairs_by order m) numbered) ∙ sym (get-from_sorted by_bytes (renamed (pairs_by order m)) q sorted))))))
+          (λ q. get-from_entries nat_list_cmp_total (renamed (entries m)) q ∙ (found_named q (entries m) numbered_entries
+          ∙ (ap (λ (found : Option ℕ). cond (eq_by_cmp by_bytes q (name (number q))) found None) (sym (get-entries m (number q)) ∙ sym (found_among m (number q) order (among (number q))))
+          ∙ (sym (found_named q (pairs_by order m) numbered) ∙ sym (get-from_sorted by_bytes (renamed (pairs_by order m)) q sorted))))))
           ∙ entries-from_sorted by_bytes (renamed (pairs_by order m)) sorted
 
       map_listed : (place : ℕ) → pair_ends_by order (place, m) ≡ pair_ends number (place, by_name name m)

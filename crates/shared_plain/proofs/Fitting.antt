@@ -245,8 +245,8 @@ keys_stay_below start journal maps keys are begun m key value is =
     let slots : List (Option ℕ) = get_or h.maps m [] in
     let there : get_or slots key None ≡ Some value = sym (get-map_of slots key) ∙ (sym (ap (λ held. get held key) (read_mapped map_of h.maps m [])) ∙ is) in
     let many : length slots ≡ length (first_slots maps keys m) =
-        sym (read_mapped (λ (l : List (Option ℕ)). length l) h.maps m []) ∙ (ap (λ (l : List ℕ). get_or l m 0) (like_after start journal).keys
-        ∙ (read_mapped (λ (l : List (Option ℕ)). length l) start.maps m [] ∙ ap (λ (s : Holdings). length (get_or s.maps m [])) begun)) in
+    sym (read_mapped (λ (l : List (Option ℕ)). length l) h.maps m []) ∙ (ap (λ (l : List ℕ). get_or l m 0) (like_after start journal).keys
+    ∙ (read_mapped (λ (l : List (Option ℕ)). length l) start.maps m [] ∙ ap (λ (s : Holdings). length (get_or s.maps m [])) begun)) in
     let inside = slot_within slots key value there in
     let most = slots_at_start maps keys m in
     omega arith
