@@ -1,6 +1,6 @@
 -- A map's keys in byte order of their names are the keys of the map by name.
-use Rattle.std.proofs.Common.{◌≡◌, ◌≢◌, ℕ, zero, suc, ◌+◌, ◌<◌, Bool, true, false, ◌&&◌, cond, eq-eqb, ne_eqb, List, [], ◌∷◌, ◌++◌, map, length, slice_index_or, Option, Some, None, refl, sym, ap, ◌∙◌, subst, arith}
-use Rattle.std.specs.Prelude.{T, All, Contains, zip, flat_map, filter_map}
+use Rattle.std.proofs.Common.{◌≡◌, ◌≢◌, ℕ, zero, suc, ◌<◌, Bool, true, false, ◌&&◌, cond, eq-eqb, ne_eqb, List, [], ◌∷◌, ◌++◌, map, length, slice_index_or, Option, Some, None, refl, sym, ap, ◌∙◌, subst, arith}
+use Rattle.std.specs.Prelude.{T, Contains, zip, flat_map, filter_map}
 use Rattle.std.specs.List.{AllByRecursion, cons_option}
 use Rattle.std.specs.Option.{option_map}
 use mathlib.Core.Logic.{dite}
@@ -8,18 +8,18 @@ use native.Mathlib.Decide.{ℕ_discrete}
 use Rattle.std.specs.declared.cmp.Ordering.{Ordering}
 use Rattle.std.specs.declared.cmp.Ordering.TheVariants.{Less, Equal, Greater}
 use Rattle.std.specs.Ordering.{nat_cmp, is_eq, is_lt, eq_by_cmp, ordering_reverse}
-use Rattle.std.specs.Cmp.{tied_itself, nat_cmp_total}
+use Rattle.std.specs.Cmp.{tied_itself}
 use Rattle.std.specs.Cmp.Lexicographic.{slice_cmp, nat_list_cmp_total}
 use Rattle.std.specs.List.Sorted.{IsStrictlySortedBy}
 use Rattle.std.proofs.lemmas.List.Elements.{All-contains, All-from_recursion, recursion_from_All}
 use Rattle.std.proofs.lemmas.Map.Keys.{sorted_head, sorted_tail}
-use Rattle.std.specs.FinMap.{FinMap, empty, get, get-entries, entries, entries_sorted, from_entries, get-from_entries, from_sorted, entries-from_sorted, get-from_sorted, find, is_sorted, same_map, nat_cmp-IsAntisymmetric, slice_cmp-IsAntisymmetric}
+use Rattle.std.specs.FinMap.{FinMap, empty, get, get-entries, entries, entries_sorted, get-from_entries, from_sorted, entries-from_sorted, get-from_sorted, find, is_sorted, same_map, nat_cmp-IsAntisymmetric, slice_cmp-IsAntisymmetric}
 use Rattle.std.specs.FinMap.Entries.{below_all}
 use Rattle.sync_model.specs.declared.outcome.End.{End}
 use Rattle.sync_model.specs.declared.outcome.End.TheVariants as ends
 use Rattle.sync_model.specs.Ends.{number_end, pair_ends}
 use Rattle.sync_model.specs.SharedHistory.{Contents}
-use Rattle.shared_plain.specs.EndLists.{pair_end, pair_ends_by, ends_by, HasKeysAmong, AreInNameOrder, by_name, ends_by_name}
+use Rattle.shared_plain.specs.EndLists.{pair_ends_by, ends_by, HasKeysAmong, AreInNameOrder, by_name, ends_by_name}
 use Rattle.shared_plain.proofs.EndWalks.{both}
 use Rattle.shared_plain.proofs.SlotMaps.{tie}
 
@@ -190,6 +190,14 @@ module _ (name : ℕ → List ℕ) (number : List ℕ → ℕ) where
     pub in_name_order : (atomics maps : List ℕ) (contents : Contents) → HasKeysAmong order contents → ends_by order atomics maps contents ≡ ends_by_name name number atomics maps contents
     in_name_order atomics maps contents among = ap (λ rest. map number_end (zip atomics contents.numbers) ++ rest) (all_listed maps contents.maps (each_map contents.maps among))
 
+-- a map by name has what the map has
+pub named_value : (name : ℕ → List ℕ) (number : List ℕ → ℕ) (m : FinMap nat_cmp ℕ) → ((key value : ℕ) → get m key ≡ Some value → number (name key) ≡ key) → (word : List ℕ)
+    → get (by_name name m) word ≡ cond (eq_by_cmp by_bytes word (name (number word))) (get m (number word)) None
+named_value name number m are word =
+    get-from_entries nat_list_cmp_total (renamed name number (entries m)) word
+    ∙ (found_named name number word (entries m) (each_key (λ key. number (name key) ≡ key) (entries m) (λ key value found. are key value (get-entries m key ∙ found)))
+    ∙ ap (λ (found : Option ℕ). cond (eq_by_cmp by_bytes word (name (number word))) found None) (sym (get-entries m (number word))))
+
 strictly : (r : Ordering) → T (is_lt r) → r ≡ Less
 strictly Less is = refl
 strictly Equal is = absurd is
@@ -226,6 +234,18 @@ found_each (e ∷ es) sorted = (ap (λ (b : Bool). cond b (Some e.1) (find by_by
     others : (fs : List (List ℕ × ℕ)) → T (below_all by_bytes e.0 fs) → AllByRecursion (λ f. find by_bytes f.0 es ≡ Some f.1) fs → AllByRecursion (λ f. find by_bytes f.0 (e ∷ es) ≡ Some f.1) fs
     others [] below all = tt
     others (f ∷ fs) below all = (ap (λ (b : Bool). cond b (Some e.1) (find by_bytes f.0 es)) (behind e.0 f.0 (strictly (by_bytes e.0 f.0) (first_of _ _ below))) ∙ all.0, others fs (second_of _ _ below) all.1)
+
+module _ (name : ℕ → List ℕ) (number : List ℕ → ℕ) (m : FinMap nat_cmp ℕ) (are : (key value : ℕ) → get m key ≡ Some value → number (name key) ≡ key) where
+  pub value_of_name : (key : ℕ) → number (name key) ≡ key → get (by_name name m) (name key) ≡ get m key
+  value_of_name key is = named_value name number m are (name key)
+      ∙ (ap (λ (b : Bool). cond b (get m (number (name key))) None) (tied (name key) (name (number (name key))) (ap name (sym is))) ∙ ap (get m) is)
+
+  pub no_other_name : (word : List ℕ) → name (number word) ≢ word → get (by_name name m) word ≡ None
+  no_other_name word ne = named_value name number m are word ∙ ap (λ (b : Bool). cond b (get m (number word)) None) (by_test (eq_by_cmp by_bytes word (name (number word))) refl)
+    where
+      by_test : (b : Bool) → eq_by_cmp by_bytes word (name (number word)) ≡ b → b ≡ false
+      by_test true t = absurd (ne (sym (same_name word (name (number word)) t)))
+      by_test false t = refl
 
 listed_key : (es : List (List ℕ × ℕ)) (q : List ℕ) (key : ℕ) → find by_bytes q es ≡ Some key → Contains (map (λ e. e.1) es) key
 listed_key [] q key found = (cc)

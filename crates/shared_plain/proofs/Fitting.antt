@@ -1,5 +1,5 @@
 -- What fits at the start fits for ever, and is answered.
-use Rattle.std.proofs.Common.{◌≡◌, ℕ, zero, suc, Bool, true, false, ◌&&◌, cond, List, [], ◌∷◌, map, length, length-set, get_or, set, replicate, slice_get, Option, Some, None, is_some, refl, sym, ap, ◌∙◌, subst}
+use Rattle.std.proofs.Common.{◌≡◌, ℕ, zero, suc, Bool, true, false, ◌&&◌, cond, List, [], ◌∷◌, map, length, length-set, get_or, replicate, slice_get, Option, Some, None, is_some, refl, sym, ap, ◌∙◌}
 use Rattle.std.proofs.Math.Seq.{map-set_same}
 use Rattle.std.specs.Prelude.{nat_lt, ◌<◌, ◌≤◌}
 use Rattle.std.specs.FinMap.{get}
@@ -9,7 +9,6 @@ use Rattle.std.proofs.lemmas.Bool.{lt-ltb}
 use Rattle.sync_model.specs.Shared.{IsMapCall}
 use Rattle.std.proofs.lemmas.List.{length-map, length-replicate}
 use Rattle.std.proofs.lemmas.Option.{get_or_from_slice_get}
-use Rattle.sync_model.specs.declared.misuse.Misuse.{Misuse}
 use Rattle.sync_model.specs.declared.journal.Deed.{Deed}
 use Rattle.sync_model.specs.declared.journal.Deed.TheVariants.{Event as Did, Refused, Halt}
 use Rattle.sync_model.specs.declared.atomic_object.AtomicCall.{AtomicCall}
@@ -22,7 +21,7 @@ use Rattle.sync_model.specs.declared.item.SharedReply.TheVariants as replies
 use Rattle.sync_model.specs.declared.map_object.MapCall.{MapCall}
 use Rattle.sync_model.specs.Journal.{state_next, state_after}
 use Rattle.sync_model.specs.SequentialMap.{map_key, map_reply, is_map_entry}
-use Rattle.sync_model.specs.SequentialAtomic.{kind_of, sum, bits_of_both, bits_of_either, is_same, is_of, has_bits, is_atomic_call, atomic_after, atomic_reply, is_atomic_entry}
+use Rattle.sync_model.specs.SequentialAtomic.{kind_of, sum, bits_of_both, bits_of_either, is_same, is_of, has_bits, atomic_reply, is_atomic_entry}
 use Rattle.shared_plain.specs.declared.event.Event.{Event}
 use Rattle.shared_plain.specs.declared.event.Event.TheVariants.{Map, Begin, Next, Atomic}
 use Rattle.shared_plain.specs.declared.event.Answered.{Answered}

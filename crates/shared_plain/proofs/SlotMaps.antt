@@ -1,5 +1,5 @@
 -- Slots are the finite map whose keys are the slots' numbers.
-use Rattle.std.proofs.Common.{◌≡◌, ◌≢◌, ℕ, zero, suc, ◌+◌, ◌<◌, Bool, true, false, cond, eqb, eq-eqb, ne_eqb, List, [], ◌∷◌, map, length, get_or, set, replicate, slice_get, Option, Some, None, is_some, refl, sym, ap, ◌∙◌, subst, arith, get_or-set_same, get_or-set_other}
+use Rattle.std.proofs.Common.{◌≡◌, ◌≢◌, ℕ, zero, suc, ◌+◌, ◌<◌, Bool, true, false, cond, eqb, eq-eqb, ne_eqb, List, [], ◌∷◌, length, get_or, set, replicate, slice_get, Option, Some, None, is_some, refl, sym, ap, ◌∙◌, subst, arith, get_or-set_same, get_or-set_other}
 use Rattle.std.proofs.lemmas.Option.{slice_get-get_or, slice_get_within, get_or_from_slice_get}
 use Rattle.std.specs.Option.{option_map_or}
 use Rattle.std.specs.Prelude.{nat_lt}
@@ -19,7 +19,7 @@ use Rattle.sync_model.specs.declared.item.SharedReply.TheVariants.{Map}
 use Rattle.sync_model.specs.declared.map_object.MapReply.{MapReply}
 use Rattle.sync_model.specs.declared.map_object.MapReply.TheVariants.{Found, Compared}
 use Rattle.sync_model.specs.SequentialMap.{is_value, settled, map_key, map_reply, map_after, is_map_entry}
-use Rattle.shared_plain.specs.Slots.{with_slot, map_from, map_of, slot_after, reply_at, is_entry_at, keyed_after, slots_at, slots_after, has_slot}
+use Rattle.shared_plain.specs.Slots.{map_from, map_of, slot_after, reply_at, is_entry_at, keyed_after, slots_at, slots_after, has_slot}
 use Rattle.shared_plain.specs.declared.event.Answered.{Answered}
 use Rattle.shared_plain.specs.PlainMachine.{map_answer}
 

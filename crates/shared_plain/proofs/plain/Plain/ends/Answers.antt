@@ -1,5 +1,4 @@
-use Rattle.std.proofs.Common.{◌≡◌, ◌≤◌, map, length, sym, ap, ◌∙◌, subst}
-use Rattle.sync_model.specs.Journal.{state_after}
+use Rattle.std.proofs.Common.{map, length, sym, ap, ◌∙◌, subst}
 use Rattle.sync_model.specs.SequentialAtomic.{kind_of}
 use Rattle.ruled_object.specs.Gathered.{AreAllPasses, IsWhole}
 use Rattle.ruled_object.specs.Passes.{start_of}
@@ -8,7 +7,6 @@ use Rattle.shared_plain.specs.EndsOfHistory.{AreEnds}
 use Rattle.shared_plain.specs.Marks.{own_by, seen_of}
 use Rattle.shared_plain.specs.PlainMachine.{Holdings, contents_of, next}
 use Rattle.shared_plain.specs.Plains.{kinds_of, maps_of}
-use Rattle.shared_plain.specs.Settling.{passes_in}
 use Rattle.shared_plain.proofs.AllEnded.{ended}
 use Rattle.shared_plain.proofs.AllSettled.{PassLaws, all_passes}
 use Rattle.shared_plain.proofs.Fitting.{keys_stay_below, like_after, maps_stay}

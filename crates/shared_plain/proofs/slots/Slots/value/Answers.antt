@@ -1,4 +1,4 @@
-use Rattle.std.proofs.Common.{◌≡◌, arith}
+use Rattle.std.proofs.Common.{arith}
 use Rattle.std.proofs.lemmas.Grind.{common_steps}
 use Rattle.shared_plain.proofs.SlotMaps.{get-map_of}
 use Rattle.shared_plain.proofs.slots.Slots.value.Goals as goal
