@@ -6,21 +6,9 @@ use Rattle.sync_model.specs.declared.call.Call.{Call}
 use Rattle.sync_model.specs.declared.call.Reply.{Reply}
 use Rattle.std.proofs.Common.{inl, inr}
 use Rattle.std.proofs.Math.Dec.{ltb}
-use Rattle.std.proofs.lemmas.Bool.{eqb-true, lt-ltb, cases_lt}
+use Rattle.std.proofs.lemmas.Bool.{eqb-true, lt-ltb, ltb-true, cases_lt}
 use Rattle.workload.specs.Plan.{Plan, is_valid}
-use Rattle.gosync.specs.ReportText.{call_line, calls_text, workers_text}
-
--- one more call
-pub calls_step : (plan : Plan) (worker i : ℕ) (script calls : List Call) (replies rest : List (Reply ℕ)) (call : Call) (reply : Reply ℕ)
-    → script ≡ call ∷ calls → replies ≡ reply ∷ rest → calls_text plan worker i script replies ≡ call_line plan worker i call reply ++ calls_text plan worker (i + 1) calls rest
-calls_step plan worker i script calls replies rest call reply e f =
-    ap (λ (cs : List Call). calls_text plan worker i cs replies) e ∙ ap (λ (rs : List (Reply ℕ)). calls_text plan worker i (call ∷ calls) rs) f
-
--- one more worker
-pub workers_step : (plan : Plan) (worker : ℕ) (scripts more : List (List Call)) (replies rest : List (List (Reply ℕ))) (script : List Call) (completed : List (Reply ℕ))
-    → scripts ≡ script ∷ more → replies ≡ completed ∷ rest → workers_text plan worker scripts replies ≡ calls_text plan worker 0 script completed ++ workers_text plan (worker + 1) more rest
-workers_step plan worker scripts more replies rest script completed e f =
-    ap (λ (ss : List (List Call)). workers_text plan worker ss replies) e ∙ ap (λ (rs : List (List (Reply ℕ))). workers_text plan worker (script ∷ more) rs) f
+use Rattle.gosync.specs.ReportText.{completed_line, calls_text, workers_text}
 
 -- no replies are left
 pub workers_none : (plan : Plan) (worker : ℕ) (scripts : List (List Call)) (replies : List (List (Reply ℕ))) → replies ≡ [] → workers_text plan worker scripts replies ≡ []
@@ -31,14 +19,27 @@ workers_none plan worker scripts replies e = ap (workers_text plan worker script
     none (s ∷ ss) = refl
 
 -- an item and those behind it
-pub drop_at : {X : Type 0} (xs : List X) (i : ℕ) (x : X) → i < length xs → x ≡ get_or xs i x → drop i xs ≡ x ∷ drop (i + 1) xs
+drop_at : {X : Type 0} (xs : List X) (i : ℕ) (x : X) → i < length xs → x ≡ get_or xs i x → drop i xs ≡ x ∷ drop (i + 1) xs
 drop_at xs i x lt e = drop-cons xs i x lt ∙ ap (λ y. y ∷ drop (suc i) xs) (sym e) ∙ ap (λ n. x ∷ drop n xs) (sym (add-one i))
 
 pub drop_item : {X : Type 0} (xs : List X) (i : ℕ) (d : X) → i < length xs → drop i xs ≡ get_or xs i d ∷ drop (i + 1) xs
 drop_item xs i d lt = drop-cons xs i d lt ∙ ap (λ n. get_or xs i d ∷ drop n xs) (sym (add-one i))
 
-pub drop_script : (scripts : List (List Call)) (i : ℕ) → i < length scripts → drop i scripts ≡ get_or scripts i [] ∷ drop (i + 1) scripts
-drop_script scripts i lt = drop-cons scripts i [] lt ∙ ap (λ n. get_or scripts i [] ∷ drop n scripts) (sym (add-one i))
+-- one more call
+pub calls_next : (plan : Plan) (worker i : ℕ) (script : List Call) (replies : List (Reply ℕ)) (call : Call) (reply : Reply ℕ)
+    → i < length script → call ≡ get_or script i call → ltb i (length replies) ≡ true → reply ≡ get_or replies i reply
+    → calls_text plan worker i (drop i script) (drop i replies) ≡ completed_line plan worker i call reply ++ calls_text plan worker (i + 1) (drop (i + 1) script) (drop (i + 1) replies)
+calls_next plan worker i script replies call reply made is some same =
+    ap (λ (cs : List Call). calls_text plan worker i cs (drop i replies)) (drop_at script i call made is)
+    ∙ ap (λ (rs : List (Reply ℕ)). calls_text plan worker i (call ∷ drop (i + 1) script) rs) (drop_at replies i reply (ltb-true i (length replies) some) same)
+
+-- one more worker
+pub workers_next : (plan : Plan) (i : ℕ) (replies : List (List (Reply ℕ))) (completed : List (Reply ℕ))
+    → i < length plan.scripts → ltb i (length replies) ≡ true → completed ≡ get_or replies i completed
+    → workers_text plan i (drop i plan.scripts) (drop i replies) ≡ calls_text plan i 0 (get_or plan.scripts i []) completed ++ workers_text plan (i + 1) (drop (i + 1) plan.scripts) (drop (i + 1) replies)
+workers_next plan i replies completed below some same =
+    ap (λ (ss : List (List Call)). workers_text plan i ss (drop i replies)) (drop_item plan.scripts i [] below)
+    ∙ ap (λ (rs : List (List (Reply ℕ))). workers_text plan i (get_or plan.scripts i [] ∷ drop (i + 1) plan.scripts) rs) (drop_at replies i completed (ltb-true i (length replies) some) same)
 
 and_left : (a b : Bool) → (a && b) ≡ true → a ≡ true
 and_left true b e = refl

@@ -1,10 +1,10 @@
 -- The lines on the error output, as their pieces.
 use Rattle.std.proofs.Common.{◌≡◌, ℕ, List, Option, [], ◌++◌, sym, ap, subst, ◌∙◌, append-nil, append_assoc}
 use Rattle.std.specs.Prelude.{codes}
-use Rattle.gosync.specs.Messages.{Says}
+use Rattle.gosync.specs.Messages.{WritesOut}
 
-pub says_same : (old new : Option (List ℕ)) (before after : ℕ) (text other : List ℕ) → text ≡ other → Says old new before after text → Says old new before after other
-says_same old new before after text other e h = subst (Says old new before after) e h
+pub says_same : (old new : Option (List ℕ)) (before after : ℕ) (text other : List ℕ) → text ≡ other → WritesOut old new before after text → WritesOut old new before after other
+says_same old new before after text other e h = subst (WritesOut old new before after) e h
 
 nested : (a b c d : List ℕ) → (a ++ (b ++ (c ++ d))) ≡ (((a ++ b) ++ c) ++ d)
 nested a b c d = sym (append_assoc (a ++ b) c d ∙ append_assoc a b (c ++ d))

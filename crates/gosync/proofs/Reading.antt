@@ -8,7 +8,7 @@ use Rattle.workload.specs.declared.reason.Reason.{Reason}
 use Rattle.workload.specs.Plan.{Plan, is_valid}
 use Rattle.workload.specs.Reads.{Reads, IsRefused}
 use Rattle.gosync.specs.declared.status.Unread.TheVariants.{NotAccepted}
-use Rattle.gosync.specs.Input.{AreBytesOf, IsInput}
+use Rattle.gosync.specs.Input.{IsInput}
 use Rattle.gosync.specs.ComesTo.{IsRead, IsUnread}
 
 some_is : {X : Type 0} (x y : X) → Some x ≡ Some y → x ≡ y

@@ -1,3 +1,4 @@
+pub mod Adding
 pub mod ComesTo
 pub mod Command
 pub mod Input

@@ -38,9 +38,9 @@ ending_of (outcomes.Deadlocked left) = endings.Deadlocked
 abbrev pub IsOutOfMemory : Status → Type 0
 IsOutOfMemory status = code_of status ≡ 4
 
--- a text is said: all of it was written, or a first part where the count of faults rose
-abbrev pub Says : Option (List ℕ) → Option (List ℕ) → ℕ → ℕ → List ℕ → Type 0
-Says old new before after text = Appends old new text ⊎ (AppendsFront old new text × Rose before after)
+-- a text is written out: all of it, or a first part where the count of faults rose
+abbrev pub WritesOut : Option (List ℕ) → Option (List ℕ) → ℕ → ℕ → List ℕ → Type 0
+WritesOut old new before after text = Appends old new text ⊎ (AppendsFront old new text × Rose before after)
 
 -- how a run ended; the texts of a misuse and of a deadlock are Go's
 abbrev pub ending_line : Ending → List ℕ

@@ -1,5 +1,5 @@
 -- The report: a line for each completed call, worker by worker, and then, where every script has ended, a line for each value that an object holds.
-use Rattle.std.specs.Prelude.{ℕ, ◌+◌, Bool, true, false, List, [], ◌∷◌, ◌++◌, map, codes, Option, Some, None, slice_get}
+use Rattle.std.specs.Prelude.{ℕ, ◌+◌, Bool, List, [], ◌∷◌, ◌++◌, map, codes, Option, Some, None, slice_get}
 use Rattle.std.specs.List.{flat_map}
 use Rattle.std.specs.Fmt.{decimal, signed_decimal}
 use Rattle.sync_model.specs.declared.call.Call.{Call}
@@ -15,9 +15,9 @@ use Rattle.sync_model.specs.declared.once_call.DoReply.{DoReply}
 use Rattle.sync_model.specs.declared.once_call.DoReply.TheVariants as once_replies
 use Rattle.sync_model.specs.declared.pool_call.PoolCallReply.{PoolCallReply}
 use Rattle.sync_model.specs.declared.pool_call.PoolCallReply.TheVariants as pool_replies
+use Rattle.sync_model.specs.declared.atomic_object.Number.TheVariants as numbers
 use Rattle.workload.specs.declared.object.ObjectLine.{ObjectLine}
-use Rattle.workload.specs.Canonical.{behind_spaces, name_of}
-use Rattle.workload.specs.Canonical as texts
+use Rattle.workload.specs.Canonical.{behind_spaces, name_of, call_line}
 use Rattle.workload.specs.Keys.{keys_in, key_name}
 use Rattle.workload.specs.Plan.{Plan}
 use Rattle.workload.specs.NumberWords.{number_word}
@@ -30,11 +30,11 @@ use Rattle.sync_model.specs.declared.outcome.Outcome.TheVariants as outcomes
 
 -- the words of a call, as a workload's text spells them
 abbrev pub call_words : List ObjectLine → Call → List (List ℕ)
-call_words objects call = spelled (texts.call_line objects call)
+call_words objects call = spelled (call_line objects call)
 
+-- as a number of a `bool`
 abbrev pub truth_text : Bool → List ℕ
-truth_text true = codes "true"
-truth_text false = codes "false"
+truth_text truth = number_word (numbers.Bool truth)
 
 -- a reply of a map: nothing, the value that was there or is there now and whether one was there, or whether the value was the old one
 abbrev pub map_reply_text : MapReply → List ℕ
@@ -93,13 +93,13 @@ reply_text keys (replies.OnceValue value) = decimal value
 reply_text keys (replies.Pool reply) = pool_reply_text reply
 
 -- the line of a completed call: `WORKER.INDEX CALL -> REPLY`
-abbrev pub call_line : Plan → ℕ → ℕ → Call → Reply ℕ → List ℕ
-call_line plan worker index call reply =
+abbrev pub completed_line : Plan → ℕ → ℕ → Call → Reply ℕ → List ℕ
+completed_line plan worker index call reply =
     decimal worker ++ codes "." ++ decimal index ++ behind_spaces (call_words plan.objects call) ++ codes " -> " ++ reply_text (keys_in plan.scripts) reply ++ codes "\n"
 
 -- a worker's completed calls, from an index on: as many of its script as there are replies
 abbrev pub calls_text : Plan → ℕ → ℕ → List Call → List (Reply ℕ) → List ℕ
-calls_text plan worker index (call ∷ calls) (reply ∷ replies) = call_line plan worker index call reply ++ calls_text plan worker (index + 1) calls replies
+calls_text plan worker index (call ∷ calls) (reply ∷ replies) = completed_line plan worker index call reply ++ calls_text plan worker (index + 1) calls replies
 calls_text plan worker index [] replies = []
 calls_text plan worker index (call ∷ calls) [] = []
 

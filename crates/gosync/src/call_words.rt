@@ -1,9 +1,10 @@
 //! The words of a call in a line of the report, as a workload's text spells them.
-ghost use Rattle.std.specs.Prelude.{◌≡◌, ◌+◌, ◌≤◌, ◌++◌, ◌∷◌, map, vec_len, vec_capacity};
+ghost use Rattle.std.specs.Prelude.{◌∷◌, map};
 ghost use Rattle.workload.specs.KeywordWords.{verb_word};
 ghost use Rattle.workload.specs.NumberWords.{number_word};
 ghost use Rattle.workload.specs.CallWords.{verb_of, numbers_in, operands_of};
 ghost use Rattle.workload.specs.Canonical.{behind_spaces};
+ghost use Rattle.gosync.specs.Adding.{Adds, HasRoom};
 ghost use Rattle.gosync.specs.ReportText.{call_words};
 
 use crate::line::{push_atomic_word, push_word};
@@ -20,20 +21,16 @@ pub const WORDS_ROOM: usize = 118;
 /// Adds the word of an operation behind a space.
 #[tactic(auto, using(crate::proofs::CallWords::verb_short))]
 fn push_verb(line: &mut Vec<u8>, operation: &Operation)
-    requires { vec_len line.old + 10 ≤ vec_capacity line.old }
-    ensures text { line.new.items ≡ line.old.items ++ 32 ∷ verb_word (verb_of operation.now) }
-    ensures len { vec_len line.new ≤ vec_len line.old + 10 }
-    ensures room { vec_capacity line.old ≤ vec_capacity line.new }
+    requires { HasRoom line.old 10 }
+    ensures { Adds line.old line.new (32 ∷ verb_word (verb_of operation.now)) 10 }
 {
     push_word(line, verb(operation).text());
 }
 
 /// Adds numbers of atomics' types, each behind a space.
 fn push_numbers(line: &mut Vec<u8>, numbers: Numbers)
-    requires { vec_len line.old + 42 ≤ vec_capacity line.old }
-    ensures text { line.new.items ≡ line.old.items ++ behind_spaces (map number_word (numbers_in numbers)) }
-    ensures len { vec_len line.new ≤ vec_len line.old + 42 }
-    ensures room { vec_capacity line.old ≤ vec_capacity line.new }
+    requires { HasRoom line.old 42 }
+    ensures { Adds line.old line.new (behind_spaces (map number_word (numbers_in numbers))) 42 }
 {
     match numbers {
         Numbers::Empty => {}
@@ -47,10 +44,8 @@ fn push_numbers(line: &mut Vec<u8>, numbers: Numbers)
 
 /// Adds the operands of an operation, each behind a space.
 fn push_operands(line: &mut Vec<u8>, operation: &Operation)
-    requires { vec_len line.old + 75 ≤ vec_capacity line.old }
-    ensures text { line.new.items ≡ line.old.items ++ behind_spaces (operands_of operation.now) }
-    ensures len { vec_len line.new ≤ vec_len line.old + 75 }
-    ensures room { vec_capacity line.old ≤ vec_capacity line.new }
+    requires { HasRoom line.old 75 }
+    ensures { Adds line.old line.new (behind_spaces (operands_of operation.now)) 75 }
 {
     let (key, numbers) = operands_of(operation);
     if let Some(key) = key {
@@ -61,10 +56,8 @@ fn push_operands(line: &mut Vec<u8>, operation: &Operation)
 
 /// Adds the words of a call, each behind a space.
 pub fn push_call(line: &mut Vec<u8>, objects: &[ObjectLine], call: &Call)
-    requires { vec_len line.old + WORDS_ROOM ≤ vec_capacity line.old }
-    ensures text { line.new.items ≡ line.old.items ++ behind_spaces (call_words objects.now call.now) }
-    ensures len { vec_len line.new ≤ vec_len line.old + WORDS_ROOM }
-    ensures room { vec_capacity line.old ≤ vec_capacity line.new }
+    requires { HasRoom line.old WORDS_ROOM }
+    ensures { Adds line.old line.new (behind_spaces (call_words objects.now call.now)) WORDS_ROOM }
 {
     push_verb(line, &call.operation);
     push_word(line, name_at(objects, call.object));

@@ -2,8 +2,8 @@
 ghost use Rattle.std.specs.Prelude.{◌≡◌, ◌≤◌, vec_capacity};
 ghost use Rattle.gosync.specs.ReportText.{end_line};
 
-use crate::line::{LINE_ROOM, push, push_atomic_word, push_number_word, push_word};
-use sync_model::End;
+use crate::line::{LINE_ROOM, push, push_atomic_word, push_word};
+use sync_model::{End, Number};
 use workload::Workload;
 use workload::keys::key_name;
 use workload::object::name_at;
@@ -25,7 +25,7 @@ pub fn set_end_line(line: &mut Vec<u8>, workload: &Workload, end: &End)
         End::Pair { object, key, value } => {
             push_word(line, name_at(objects, *object));
             push_word(line, key_name(workload.keys().names(), *key));
-            push_number_word(line, *value);
+            push_atomic_word(line, Number::Uint64(*value));
         }
     }
     push(line, b"\n");

@@ -1,8 +1,8 @@
 //! Runs written workloads over Go's `sync` and `sync/atomic`.
 #![tactic(auto)]
 
-mod call_line;
 mod call_words;
+mod completed_line;
 mod end_line;
 mod input;
 mod laws;

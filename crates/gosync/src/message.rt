@@ -1,7 +1,7 @@
 //! The line on the error output.
 ghost use Rattle.std.specs.Prelude.{◌≤◌};
 ghost use Rattle.std.specs.List.{flat_map};
-ghost use Rattle.gosync.specs.Messages.{ending_line, unread_line, fault_line, message_of, Says};
+ghost use Rattle.gosync.specs.Messages.{ending_line, unread_line, fault_line, message_of, WritesOut};
 
 use crate::status::{Ending, Fault, Status, Unread};
 use itoa::Buffer;
@@ -9,7 +9,7 @@ use sync_outside::Sink;
 
 /// Writes pieces of text, up to the first that fails.
 fn say_pieces<E: Sink>(err: &mut E, pieces: &[&[u8]])
-    ensures says { Says (E.contents err.old) (E.contents err.new) (E.faults err.old) (E.faults err.new) (flat_map (λ piece. piece.now) pieces.now) }
+    ensures says { WritesOut (E.contents err.old) (E.contents err.new) (E.faults err.old) (E.faults err.new) (flat_map (λ piece. piece.now) pieces.now) }
     ensures faults { E.faults err.old ≤ E.faults err.new }
 {
     for piece in pieces {
@@ -21,7 +21,7 @@ fn say_pieces<E: Sink>(err: &mut E, pieces: &[&[u8]])
 
 /// Writes a text.
 fn say_text<E: Sink>(err: &mut E, text: &[u8])
-    ensures says { Says (E.contents err.old) (E.contents err.new) (E.faults err.old) (E.faults err.new) text.now }
+    ensures says { WritesOut (E.contents err.old) (E.contents err.new) (E.faults err.old) (E.faults err.new) text.now }
     ensures faults { E.faults err.old ≤ E.faults err.new }
 {
     let _ = err.write(text);
@@ -29,7 +29,7 @@ fn say_text<E: Sink>(err: &mut E, text: &[u8])
 
 /// Says how a run ended, in Go's words; nothing where every script has ended.
 fn say_ending<E: Sink>(err: &mut E, ending: Ending)
-    ensures says { Says (E.contents err.old) (E.contents err.new) (E.faults err.old) (E.faults err.new) (ending_line ending) }
+    ensures says { WritesOut (E.contents err.old) (E.contents err.new) (E.faults err.old) (E.faults err.new) (ending_line ending) }
     ensures faults { E.faults err.old ≤ E.faults err.new }
 {
     match ending {
@@ -43,7 +43,7 @@ fn say_ending<E: Sink>(err: &mut E, ending: Ending)
 
 /// Says why no workload is read from this file.
 fn say_unread<E: Sink>(err: &mut E, file: &str, why: Unread)
-    ensures says { Says (E.contents err.old) (E.contents err.new) (E.faults err.old) (E.faults err.new) (unread_line file.now why) }
+    ensures says { WritesOut (E.contents err.old) (E.contents err.new) (E.faults err.old) (E.faults err.new) (unread_line file.now why) }
     ensures faults { E.faults err.old ≤ E.faults err.new }
 {
     match why {
@@ -60,7 +60,7 @@ fn say_unread<E: Sink>(err: &mut E, file: &str, why: Unread)
 
 /// Says why there is no whole report.
 fn say_fault<E: Sink>(err: &mut E, fault: Fault)
-    ensures says { Says (E.contents err.old) (E.contents err.new) (E.faults err.old) (E.faults err.new) (fault_line fault) }
+    ensures says { WritesOut (E.contents err.old) (E.contents err.new) (E.faults err.old) (E.faults err.new) (fault_line fault) }
     ensures faults { E.faults err.old ≤ E.faults err.new }
 {
     match fault {
@@ -72,7 +72,7 @@ fn say_fault<E: Sink>(err: &mut E, fault: Fault)
 /// Says on the error output how the program ends, of a run of this file. Where a write fails, a first
 /// part of the line is written, and nothing else comes of it.
 pub fn say<E: Sink>(err: &mut E, file: &str, status: Status)
-    ensures says { Says (E.contents err.old) (E.contents err.new) (E.faults err.old) (E.faults err.new) (message_of file.now status) }
+    ensures says { WritesOut (E.contents err.old) (E.contents err.new) (E.faults err.old) (E.faults err.new) (message_of file.now status) }
     ensures faults { E.faults err.old ≤ E.faults err.new }
 {
     match status {

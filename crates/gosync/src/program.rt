@@ -8,7 +8,7 @@ ghost use Rattle.sync_model.specs.declared.outcome.Outcome.{Outcome};
 ghost use Rattle.step_runner.specs.Outcomes.{StepsTo};
 ghost use Rattle.gosync.specs.Command.{file_of, AskFor};
 ghost use Rattle.gosync.specs.Input.{ReadFailed, NoReadFailed, NoWriteFailed};
-ghost use Rattle.gosync.specs.Messages.{code_of, ending_of, message_of, IsOutOfMemory, Says};
+ghost use Rattle.gosync.specs.Messages.{code_of, ending_of, message_of, IsOutOfMemory, WritesOut};
 ghost use Rattle.gosync.specs.ComesTo.{ComesTo};
 ghost use Rattle.gosync.specs.declared.status.Status.TheVariants as statuses;
 ghost use Rattle.gosync.specs.declared.status.Unread.TheVariants as unreads;
@@ -40,7 +40,7 @@ pub fn gosync<S: Sources, O: Sink, E: Sink>(
     ensures cannot_write { result ≡ statuses.Failed faults.CannotWrite → Rose (O.faults out.old) (O.faults out.new) }
 
     // The one line on the error output, of which there is none where all is done.
-    ensures says { Says (E.contents err.old) (E.contents err.new) (E.faults err.old) (E.faults err.new) (message_of (unwrap_or (file_of (map string_bytes words.now)) []) result) }
+    ensures says { WritesOut (E.contents err.old) (E.contents err.new) (E.faults err.old) (E.faults err.new) (message_of (unwrap_or (file_of (map string_bytes words.now)) []) result) }
 
     // Without a fault, a text that is read is run, with the status of an outcome that its run comes to, and one that
     // isn't read is refused, unless memory is out.

@@ -1,8 +1,9 @@
 //! A reply in a line of the report.
-ghost use Rattle.std.specs.Prelude.{◌≡◌, ◌+◌, ◌*◌, ◌≤◌, ◌++◌, true, length, map, vec_len, vec_capacity};
+ghost use Rattle.std.specs.Prelude.{◌≡◌, ◌*◌, ◌≤◌, true, length, map};
 ghost use Rattle.workload.specs.declared.limits.TheConstants.{MAX_KEYS};
 ghost use Rattle.sync_model.specs.Outcome.{has_pairs_to};
 ghost use Rattle.workload.specs.Canonical.{behind_spaces};
+ghost use Rattle.gosync.specs.Adding.{Adds, HasRoom};
 ghost use Rattle.gosync.specs.ReportText.{map_reply_text, pair_text, pairs_text, atomic_reply_text, lock_reply_text, once_reply_text, once_func_reply_text, pool_reply_text, reply_text};
 
 use crate::line::{push, push_atomic_number, push_number, push_signed, push_truth};
@@ -15,10 +16,8 @@ pub const REPLY_ROOM: usize = 221_184;
 
 /// Adds a reply of a map.
 fn push_map_reply(line: &mut Vec<u8>, reply: &MapReply)
-    requires { vec_len line.old + 30 ≤ vec_capacity line.old }
-    ensures text { line.new.items ≡ line.old.items ++ map_reply_text reply.now }
-    ensures len { vec_len line.new ≤ vec_len line.old + 30 }
-    ensures room { vec_capacity line.old ≤ vec_capacity line.new }
+    requires { HasRoom line.old 30 }
+    ensures { Adds line.old line.new (map_reply_text reply.now) 30 }
 {
     match reply {
         MapReply::Done => push(line, b"ok"),
@@ -38,10 +37,8 @@ fn push_map_reply(line: &mut Vec<u8>, reply: &MapReply)
 
 /// Adds a key, by its number among these, with its value.
 fn push_pair(line: &mut Vec<u8>, keys: &[Name], pair: (u32, u64))
-    requires { vec_len line.old + 53 ≤ vec_capacity line.old }
-    ensures text { line.new.items ≡ line.old.items ++ pair_text keys.now pair }
-    ensures len { vec_len line.new ≤ vec_len line.old + 53 }
-    ensures room { vec_capacity line.old ≤ vec_capacity line.new }
+    requires { HasRoom line.old 53 }
+    ensures { Adds line.old line.new (pair_text keys.now pair) 53 }
 {
     let (key, value) = pair;
     push(line, key_name(keys, key));
@@ -51,10 +48,8 @@ fn push_pair(line: &mut Vec<u8>, keys: &[Name], pair: (u32, u64))
 
 /// Adds keys with their values, each behind a space.
 fn push_more_pairs(line: &mut Vec<u8>, keys: &[Name], pairs: &[(u32, u64)])
-    requires { vec_len line.old + 54 * length pairs.now ≤ vec_capacity line.old }
-    ensures text { line.new.items ≡ line.old.items ++ behind_spaces (map (pair_text keys.now) pairs.now) }
-    ensures len { vec_len line.new ≤ vec_len line.old + 54 * length pairs.now }
-    ensures room { vec_capacity line.old ≤ vec_capacity line.new }
+    requires { HasRoom line.old (54 * length pairs.now) }
+    ensures { Adds line.old line.new (behind_spaces (map (pair_text keys.now) pairs.now)) (54 * length pairs.now) }
 {
     for pair in pairs {
         push(line, b" ");
@@ -65,10 +60,8 @@ fn push_more_pairs(line: &mut Vec<u8>, keys: &[Name], pairs: &[(u32, u64)])
 /// Adds the keys that a `range` shows, with their values.
 fn push_pairs(line: &mut Vec<u8>, keys: &[Name], pairs: &[(u32, u64)])
     requires few { length pairs.now ≤ MAX_KEYS }
-    requires room { vec_len line.old + REPLY_ROOM ≤ vec_capacity line.old }
-    ensures text { line.new.items ≡ line.old.items ++ pairs_text keys.now pairs.now }
-    ensures len { vec_len line.new ≤ vec_len line.old + REPLY_ROOM }
-    ensures room { vec_capacity line.old ≤ vec_capacity line.new }
+    requires room { HasRoom line.old REPLY_ROOM }
+    ensures { Adds line.old line.new (pairs_text keys.now pairs.now) REPLY_ROOM }
 {
     match pairs.split_first() {
         None => push(line, b"-"),
@@ -81,10 +74,8 @@ fn push_pairs(line: &mut Vec<u8>, keys: &[Name], pairs: &[(u32, u64)])
 
 /// Adds a reply of an atomic.
 fn push_atomic_reply(line: &mut Vec<u8>, reply: AtomicReply)
-    requires { vec_len line.old + 30 ≤ vec_capacity line.old }
-    ensures text { line.new.items ≡ line.old.items ++ atomic_reply_text reply }
-    ensures len { vec_len line.new ≤ vec_len line.old + 30 }
-    ensures room { vec_capacity line.old ≤ vec_capacity line.new }
+    requires { HasRoom line.old 30 }
+    ensures { Adds line.old line.new (atomic_reply_text reply) 30 }
 {
     match reply {
         AtomicReply::Done => push(line, b"ok"),
@@ -95,10 +86,8 @@ fn push_atomic_reply(line: &mut Vec<u8>, reply: AtomicReply)
 
 /// Adds a reply of a mutex or a reader/writer mutex.
 fn push_lock_reply(line: &mut Vec<u8>, reply: LockReply)
-    requires { vec_len line.old + 5 ≤ vec_capacity line.old }
-    ensures text { line.new.items ≡ line.old.items ++ lock_reply_text reply }
-    ensures len { vec_len line.new ≤ vec_len line.old + 5 }
-    ensures room { vec_capacity line.old ≤ vec_capacity line.new }
+    requires { HasRoom line.old 5 }
+    ensures { Adds line.old line.new (lock_reply_text reply) 5 }
 {
     match reply {
         LockReply::Done => push(line, b"ok"),
@@ -108,10 +97,8 @@ fn push_lock_reply(line: &mut Vec<u8>, reply: LockReply)
 
 /// Adds a reply of a once.
 fn push_once_reply(line: &mut Vec<u8>, reply: DoReply)
-    requires { vec_len line.old + 30 ≤ vec_capacity line.old }
-    ensures text { line.new.items ≡ line.old.items ++ once_reply_text reply }
-    ensures len { vec_len line.new ≤ vec_len line.old + 30 }
-    ensures room { vec_capacity line.old ≤ vec_capacity line.new }
+    requires { HasRoom line.old 30 }
+    ensures { Adds line.old line.new (once_reply_text reply) 30 }
 {
     match reply {
         DoReply::Ran(sum) => {
@@ -124,10 +111,8 @@ fn push_once_reply(line: &mut Vec<u8>, reply: DoReply)
 
 /// Adds the code with which the function of a `oncefunc` failed, if it did.
 fn push_once_func_reply(line: &mut Vec<u8>, code: Option<u32>)
-    requires { vec_len line.old + 30 ≤ vec_capacity line.old }
-    ensures text { line.new.items ≡ line.old.items ++ once_func_reply_text code }
-    ensures len { vec_len line.new ≤ vec_len line.old + 30 }
-    ensures room { vec_capacity line.old ≤ vec_capacity line.new }
+    requires { HasRoom line.old 30 }
+    ensures { Adds line.old line.new (once_func_reply_text code) 30 }
 {
     match code {
         None => push(line, b"ok"),
@@ -140,10 +125,8 @@ fn push_once_func_reply(line: &mut Vec<u8>, code: Option<u32>)
 
 /// Adds a reply of a pool.
 fn push_pool_reply(line: &mut Vec<u8>, reply: PoolCallReply)
-    requires { vec_len line.old + 30 ≤ vec_capacity line.old }
-    ensures text { line.new.items ≡ line.old.items ++ pool_reply_text reply }
-    ensures len { vec_len line.new ≤ vec_len line.old + 30 }
-    ensures room { vec_capacity line.old ≤ vec_capacity line.new }
+    requires { HasRoom line.old 30 }
+    ensures { Adds line.old line.new (pool_reply_text reply) 30 }
 {
     match reply {
         PoolCallReply::Done => push(line, b"ok"),
@@ -158,10 +141,8 @@ fn push_pool_reply(line: &mut Vec<u8>, reply: PoolCallReply)
 /// Adds a reply, whose keys have their numbers among these.
 pub fn push_reply(line: &mut Vec<u8>, keys: &[Name], reply: &Reply<u32>)
     requires pairs { has_pairs_to MAX_KEYS reply.now ≡ true }
-    requires room { vec_len line.old + REPLY_ROOM ≤ vec_capacity line.old }
-    ensures text { line.new.items ≡ line.old.items ++ reply_text keys.now reply.now }
-    ensures len { vec_len line.new ≤ vec_len line.old + REPLY_ROOM }
-    ensures room { vec_capacity line.old ≤ vec_capacity line.new }
+    requires room { HasRoom line.old REPLY_ROOM }
+    ensures { Adds line.old line.new (reply_text keys.now reply.now) REPLY_ROOM }
 {
     match reply {
         Reply::Map(reply) => push_map_reply(line, reply),

@@ -5,9 +5,9 @@ ghost use Rattle.sync_outside.specs.Bytes.{Appends, AppendsFront};
 ghost use Rattle.sync_outside.specs.Faults.{Rose};
 ghost use Rattle.workload.specs.declared.limits.TheConstants.{MAX_KEYS};
 ghost use Rattle.sync_model.specs.Outcome.{has_pairs_to, shows_to};
-ghost use Rattle.gosync.specs.ReportText.{call_line, calls_text, workers_text, ends_text, report_text};
+ghost use Rattle.gosync.specs.ReportText.{calls_text, workers_text, ends_text, report_text};
 
-use crate::call_line::set_call_line;
+use crate::completed_line::set_completed_line;
 use crate::end_line::set_end_line;
 use crate::line::LINE_ROOM;
 use sync_model::{End, Outcome, Reply, Seq};
@@ -36,7 +36,7 @@ fn write_calls<O: Sink>(
         let Some(reply) = replies.get(index) else {
             return Ok(());
         };
-        set_call_line(line, workload, worker, index, call, reply);
+        set_completed_line(line, workload, worker, index, call, reply);
         out.write(line)?;
     }
     Ok(())

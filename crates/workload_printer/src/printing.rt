@@ -2,6 +2,7 @@
 ghost use Rattle.std.specs.Prelude.{◌≡◌, ◌∷◌, ◌++◌, [], map, IfOk, OnOk};
 ghost use Rattle.std.specs.Fmt.{decimal, signed_decimal};
 ghost use Rattle.std.specs.Option.{option_to_list};
+ghost use Rattle.workload.specs.KeywordWords.{keyword_word};
 ghost use Rattle.workload.specs.NumberWords.{number_word};
 ghost use Rattle.workload.specs.CallWords.{numbers_in, operands_of};
 ghost use Rattle.workload.specs.Words.{turn_word, kind_parameters, spelled};
@@ -12,10 +13,18 @@ ghost use Rattle.workload.specs.Canonical.{text_line, call_line, object_line, re
 use std::alloc::{AllocError, Global};
 use sync_model::{Call, Number, Operation};
 use workload::call::verb;
+use workload::keyword::Keyword;
 use workload::laws::{canonical_reads, schedules_go_by_eights};
 use workload::object::name_at;
 use workload::operands::{Numbers, operands_of};
 use workload::{ObjectKind, ObjectLine, Turn, Workload};
+
+/// Writes the word that a line begins with.
+fn put_keyword(text: &mut Vec<u8>, keyword: Keyword) -> Result<(), AllocError>
+    ensures { OnOk result (text.new.items ≡ text.old.items ++ keyword_word keyword) }
+{
+    text.extend_from_slice(keyword.text())
+}
 
 /// Writes a word behind a space.
 fn put_word(text: &mut Vec<u8>, word: &[u8]) -> Result<(), AllocError>
@@ -84,23 +93,23 @@ fn put_operands(alloc: Global, text: &mut Vec<u8>, operation: &Operation) -> Res
 fn put_call(alloc: Global, text: &mut Vec<u8>, name: &[u8], call: &Call) -> Result<(), AllocError>
     ensures { OnOk result (text.new.items ≡ text.old.items ++ text_line (spelled (Line.Call name.now call.now))) }
 {
-    text.extend_from_slice(verb(&call.operation).text())?;
+    put_keyword(text, Keyword::Call(verb(&call.operation)))?;
     put_word(text, name)?;
     put_operands(alloc, text, &call.operation)?;
     text.push(b'\n')?;
     Ok(())
 }
 
-/// Writes a line of a word and a number.
+/// Writes a line of its first word and a number.
 fn put_numbered(
     alloc: Global,
     text: &mut Vec<u8>,
-    word: &[u8],
+    keyword: Keyword,
     number: u32,
 ) -> Result<(), AllocError>
-    ensures { OnOk result (text.new.items ≡ text.old.items ++ text_line (word.now ∷ decimal number ∷ [])) }
+    ensures { OnOk result (text.new.items ≡ text.old.items ++ text_line (keyword_word keyword ∷ decimal number ∷ [])) }
 {
-    text.extend_from_slice(word)?;
+    put_keyword(text, keyword)?;
     put_number(alloc, text, u64::from(number))?;
     text.push(b'\n')?;
     Ok(())
@@ -155,7 +164,7 @@ fn put_object(
 ) -> Result<(), AllocError>
     ensures { OnOk result (text.new.items ≡ text.old.items ++ text_line (spelled (object_line objects.now object.now))) }
 {
-    text.extend_from_slice(object.kind.word().text())?;
+    put_keyword(text, Keyword::Object(object.kind.word()))?;
     put_word(text, object.name.as_bytes())?;
     put_parameters(alloc, text, objects, object.kind)?;
     text.push(b'\n')?;
@@ -197,7 +206,7 @@ fn put_script(
 ) -> Result<(), AllocError>
     ensures { OnOk result (text.new.items ≡ text.old.items ++ lines_text (Line.Worker worker ∷ map (call_line objects.now) script.now)) }
 {
-    put_numbered(alloc, text, b"worker", worker)?;
+    put_numbered(alloc, text, Keyword::Worker, worker)?;
     put_calls(alloc, text, objects, script)
 }
 
@@ -205,7 +214,7 @@ fn put_script(
 fn put_turns(alloc: Global, text: &mut Vec<u8>, turns: &[Turn]) -> Result<(), AllocError>
     ensures { OnOk result (text.new.items ≡ text.old.items ++ text_line (spelled (Line.Schedule turns.now))) }
 {
-    text.extend_from_slice(b"schedule")?;
+    put_keyword(text, Keyword::Schedule)?;
     for turn in turns {
         put_turn(alloc, text, *turn)?;
     }
@@ -262,7 +271,7 @@ pub fn print(alloc: Global, workload: &Workload) -> Result<Vec<u8>, AllocError>
 {
     canonical_reads();
     let mut text = Vec::new(alloc);
-    put_numbered(alloc, &mut text, b"workers", workload.workers())?;
+    put_numbered(alloc, &mut text, Keyword::Workers, workload.workers())?;
     put_lines(alloc, &mut text, workload)?;
     Ok(text)
 }

@@ -1,9 +1,8 @@
 -- What the reading of a line, or of a word of it, answers.
-use Rattle.std.specs.Prelude.{◌≡◌, Bool, ◌++◌, codes, ◌<◌, ◌≤◌, map, ℕ, true, List, [], ◌∷◌, Option, Some, None, Result, MatchResult}
+use Rattle.std.specs.Prelude.{◌≡◌, Bool, ◌++◌, ◌<◌, ◌≤◌, map, ℕ, true, List, ◌∷◌, Option, Some, None, Result, MatchResult}
 use Rattle.std.specs.Option.{option_to_list}
 use Rattle.sync_model.specs.Name.{is_name}
 use Rattle.std.specs.List.{list_all, flat_map}
-use Rattle.std.specs.Fmt.{decimal}
 use Rattle.sync_model.specs.declared.call.Operation.{Operation}
 use Rattle.workload.specs.declared.fault.LineFault.{LineFault}
 use Rattle.workload.specs.declared.fault.LineFault.TheVariants as faults
@@ -17,7 +16,7 @@ use Rattle.workload.specs.declared.limits.TheConstants.{MAX_WORKERS}
 use Rattle.workload.specs.declared.line.Line.{Line}
 use Rattle.workload.specs.KeywordWords.{keyword_at}
 use Rattle.workload.specs.CallWords.{verb_of, operands_of}
-use Rattle.workload.specs.Words.{spelled, keyword_of, arguments_of, kind_parameters, turn_word}
+use Rattle.workload.specs.Words.{spelled, first_spelled, keyword_of, arguments_of, kind_parameters, turn_word}
 use Rattle.workload.specs.Plan.{word_of, has_operation}
 use Rattle.workload.specs.Lines.{is_short, is_clean, words_of, is_significant}
 use Rattle.workload.specs.Draft.{Draft, declared, may_follow, names_reference, is_kind, is_operation, is_item}
@@ -46,14 +45,14 @@ IsLine draft word arguments result =
 abbrev pub IsOperands : {X : Type 0} → (X → Type 0) → List Operand → List (List ℕ) → Result X LineFault → Type 0
 IsOperands Is form words result = MatchResult result (λ x. Is x × (first_failing (form_words (Some form) words) ≡ None)) (IsFault (form_words (Some form) words))
 
--- a call of this verb with these operands, in range, that objects of this word have; `make` says which operation it is
-abbrev pub IsCallOf : {X : Type 0} → (X → Operation) → ObjectWord → Verb → List (List ℕ) → X → Type 0
-IsCallOf make word verb words call =
-    (verb_of (make call) ≡ verb) × (operands_of (make call) ≡ words) × (is_operation (make call) ≡ true) × (has_operation word (make call) ≡ true)
+-- an operation of this verb with these operands, in range, that objects of this word have
+abbrev pub IsCallOf : ObjectWord → Verb → List (List ℕ) → Operation → Type 0
+IsCallOf word verb words operation =
+    (verb_of operation ≡ verb) × (operands_of operation ≡ words) × (is_operation operation ≡ true) × (has_operation word operation ≡ true)
 
--- such a call, or the first check that fails
-abbrev pub IsCall : {X : Type 0} → (X → Operation) → ObjectWord → Verb → List (List ℕ) → Result X LineFault → Type 0
-IsCall make word verb words result = MatchResult result (IsCallOf make word verb words) (IsFault (form_words (form_of verb word) words))
+-- such an operation, or the first check that fails
+abbrev pub IsCall : ObjectWord → Verb → List (List ℕ) → Result Operation LineFault → Type 0
+IsCall word verb words result = MatchResult result (IsCallOf word verb words) (IsFault (form_words (form_of verb word) words))
 
 -- the name and the place of an object of this kind that is declared, or the first check that fails
 abbrev pub IsReferenceTo : Draft → ObjectKind → (ObjectKind → Bool) → List ℕ → Result (List ℕ × ℕ) LineFault → Type 0
@@ -80,12 +79,12 @@ IsTurns workers words result =
 abbrev pub IsWorkers : List ℕ → List (List ℕ) → Result ℕ LineFault → Type 0
 IsWorkers word arguments result =
     MatchResult result
-    (λ workers. (0 < workers) × (workers ≤ MAX_WORKERS) × (word ≡ codes "workers") × (arguments ≡ decimal workers ∷ []))
+    (λ workers. (0 < workers) × (workers ≤ MAX_WORKERS) × (word ∷ arguments ≡ first_spelled workers))
     (IsFault (first_checks word arguments))
 
--- a line without a fault of its own, and whether it says something
+-- a line without a fault of its own, and whether it is significant
 abbrev pub IsSound : List ℕ → Bool → Type 0
-IsSound line says = (is_short line ≡ true) × (is_clean line ≡ true) × (is_significant (words_of line) ≡ says)
+IsSound line significant = (is_short line ≡ true) × (is_clean line ≡ true) × (is_significant (words_of line) ≡ significant)
 
 -- a line that is refused whatever stands before it
 abbrev pub IsUnsound : List ℕ → LineFault → Type 0

@@ -1,5 +1,5 @@
 //! The calls that the words of a line spell, by the kind of their object.
-ghost use Rattle.std.specs.Prelude.{◌≡◌, ◌≢◌, ℕ, ℤ, ◌∷◌, [], ◌≤◌, true, map, MatchResult, None};
+ghost use Rattle.std.specs.Prelude.{◌≡◌, ◌∷◌, [], ◌≤◌, true, map, MatchResult, None};
 ghost use Rattle.std.specs.Fmt.{decimal, signed_decimal};
 ghost use Rattle.sync_model.specs.Name.{is_name};
 ghost use Rattle.sync_model.specs.SequentialAtomic.{has_bits, is_of};
@@ -20,6 +20,14 @@ use workload::keyword::{Operand, Verb};
 use workload::laws::checks_go_in_order;
 use workload::object::ObjectWord;
 use workload::reason::Reason;
+
+/// A call that has no operands.
+fn read_bare(call: Operation, words: &[&[u8]]) -> Result<Operation, LineFault>
+    ensures { IsOperands (λ read. (read ≡ call) × (map (λ word. word.now) words.now ≡ [])) [] (map (λ word. word.now) words.now) result }
+{
+    read_none(words)?;
+    Ok(call)
+}
 
 /// A key.
 fn read_key(alloc: Global, words: &[&[u8]]) -> Result<Name, LineFault>
@@ -52,45 +60,55 @@ fn read_exchange(alloc: Global, words: &[&[u8]]) -> Result<(Name, u64, u64), Lin
     Ok((read_name(alloc, key)?, read_value(old)?, read_value(new)?))
 }
 
-/// A call of a map, `range` aside, which is read before.
-fn read_map_call(alloc: Global, verb: Verb, words: &[&[u8]]) -> Result<MapCall<Name>, LineFault>
-    requires { verb ≢ Verb.Range }
-    ensures { IsCall (λ call. Operation.Map call) ObjectWord.Map verb (map (λ word. word.now) words.now) result }
+/// The item of a `put`, alone.
+fn read_item(words: &[&[u8]]) -> Result<u64, LineFault>
+    ensures { IsOperands (λ item. (item ≤ MAX_VALUE) × (map (λ word. word.now) words.now ≡ decimal item ∷ [])) (Operand.Value ∷ []) (map (λ word. word.now) words.now) result }
+{
+    let [item] = words else {
+        return Err(LineFault::Refused(Reason::WrongNumberOfWords));
+    };
+    read_value(item)
+}
+
+/// A call of a map.
+fn read_map_call(alloc: Global, verb: Verb, words: &[&[u8]]) -> Result<Operation, LineFault>
+    ensures { IsCall ObjectWord.Map verb (map (λ word. word.now) words.now) result }
 {
     match verb {
-        Verb::Load => Ok(MapCall::Load {
-            key: read_key(alloc, words)?,
-        }),
+        Verb::Load => {
+            let key = read_key(alloc, words)?;
+            Ok(Operation::Map(MapCall::Load { key }))
+        }
         Verb::Store => {
             let (key, value) = read_pair(alloc, words)?;
-            Ok(MapCall::Store { key, value })
+            Ok(Operation::Map(MapCall::Store { key, value }))
         }
         Verb::LoadOrStore => {
             let (key, value) = read_pair(alloc, words)?;
-            Ok(MapCall::LoadOrStore { key, value })
+            Ok(Operation::Map(MapCall::LoadOrStore { key, value }))
         }
-        Verb::LoadAndDelete => Ok(MapCall::LoadAndDelete {
-            key: read_key(alloc, words)?,
-        }),
-        Verb::Delete => Ok(MapCall::Delete {
-            key: read_key(alloc, words)?,
-        }),
+        Verb::LoadAndDelete => {
+            let key = read_key(alloc, words)?;
+            Ok(Operation::Map(MapCall::LoadAndDelete { key }))
+        }
+        Verb::Delete => {
+            let key = read_key(alloc, words)?;
+            Ok(Operation::Map(MapCall::Delete { key }))
+        }
         Verb::Swap => {
             let (key, value) = read_pair(alloc, words)?;
-            Ok(MapCall::Swap { key, value })
+            Ok(Operation::Map(MapCall::Swap { key, value }))
         }
         Verb::CompareAndSwap => {
             let (key, old, new) = read_exchange(alloc, words)?;
-            Ok(MapCall::CompareAndSwap { key, old, new })
+            Ok(Operation::Map(MapCall::CompareAndSwap { key, old, new }))
         }
         Verb::CompareAndDelete => {
             let (key, old) = read_pair(alloc, words)?;
-            Ok(MapCall::CompareAndDelete { key, old })
+            Ok(Operation::Map(MapCall::CompareAndDelete { key, old }))
         }
-        Verb::Clear => {
-            read_none(words)?;
-            Ok(MapCall::Clear)
-        }
+        Verb::Clear => read_bare(Operation::Map(MapCall::Clear), words),
+        Verb::Range => read_bare(Operation::Range, words),
         _ => Err(LineFault::Refused(Reason::WrongKind)),
     }
 }
@@ -127,108 +145,45 @@ fn read_bits(kind: AtomicKind, words: &[&[u8]]) -> Result<Number, LineFault>
 }
 
 /// A call of an atomic of this type.
-fn read_atomic_call(kind: AtomicKind, verb: Verb, words: &[&[u8]]) -> Result<AtomicCall, LineFault>
-    ensures { IsCall (λ call. Operation.Atomic call) (ObjectWord.Atomic kind) verb (map (λ word. word.now) words.now) result }
+fn read_atomic_call(kind: AtomicKind, verb: Verb, words: &[&[u8]]) -> Result<Operation, LineFault>
+    ensures { IsCall (ObjectWord.Atomic kind) verb (map (λ word. word.now) words.now) result }
 {
     match verb {
-        Verb::Load => {
-            read_none(words)?;
-            Ok(AtomicCall::Load)
-        }
-        Verb::Store => Ok(AtomicCall::Store {
+        Verb::Load => read_bare(Operation::Atomic(AtomicCall::Load), words),
+        Verb::Store => Ok(Operation::Atomic(AtomicCall::Store {
             value: read_one_number(kind, words)?,
-        }),
-        Verb::Swap => Ok(AtomicCall::Swap {
+        })),
+        Verb::Swap => Ok(Operation::Atomic(AtomicCall::Swap {
             value: read_one_number(kind, words)?,
-        }),
-        Verb::Add => Ok(AtomicCall::Add {
+        })),
+        Verb::Add => Ok(Operation::Atomic(AtomicCall::Add {
             operand: read_bits(kind, words)?,
-        }),
-        Verb::And => Ok(AtomicCall::And {
+        })),
+        Verb::And => Ok(Operation::Atomic(AtomicCall::And {
             operand: read_bits(kind, words)?,
-        }),
-        Verb::Or => Ok(AtomicCall::Or {
+        })),
+        Verb::Or => Ok(Operation::Atomic(AtomicCall::Or {
             operand: read_bits(kind, words)?,
-        }),
+        })),
         Verb::CompareAndSwap => {
             let (old, new) = read_two_numbers(kind, words)?;
-            Ok(AtomicCall::CompareAndSwap { old, new })
-        }
-        _ => Err(LineFault::Refused(Reason::WrongKind)),
-    }
-}
-
-/// A call of a mutex.
-fn read_mutex_call(verb: Verb, words: &[&[u8]]) -> Result<MutexCall, LineFault>
-    ensures { IsCall (λ call. Operation.Mutex call) ObjectWord.Mutex verb (map (λ word. word.now) words.now) result }
-{
-    match verb {
-        Verb::Lock => {
-            read_none(words)?;
-            Ok(MutexCall::Lock)
-        }
-        Verb::Unlock => {
-            read_none(words)?;
-            Ok(MutexCall::Unlock)
-        }
-        Verb::TryLock => {
-            read_none(words)?;
-            Ok(MutexCall::TryLock)
+            Ok(Operation::Atomic(AtomicCall::CompareAndSwap { old, new }))
         }
         _ => Err(LineFault::Refused(Reason::WrongKind)),
     }
 }
 
 /// A call of a reader/writer mutex.
-fn read_rw_mutex_call(verb: Verb, words: &[&[u8]]) -> Result<RwMutexCall, LineFault>
-    ensures { IsCall (λ call. Operation.RwMutex call) ObjectWord.RwMutex verb (map (λ word. word.now) words.now) result }
+fn read_rw_mutex_call(verb: Verb, words: &[&[u8]]) -> Result<Operation, LineFault>
+    ensures { IsCall ObjectWord.RwMutex verb (map (λ word. word.now) words.now) result }
 {
     match verb {
-        Verb::Lock => {
-            read_none(words)?;
-            Ok(RwMutexCall::Lock)
-        }
-        Verb::Unlock => {
-            read_none(words)?;
-            Ok(RwMutexCall::Unlock)
-        }
-        Verb::TryLock => {
-            read_none(words)?;
-            Ok(RwMutexCall::TryLock)
-        }
-        Verb::RLock => {
-            read_none(words)?;
-            Ok(RwMutexCall::RLock)
-        }
-        Verb::RUnlock => {
-            read_none(words)?;
-            Ok(RwMutexCall::RUnlock)
-        }
-        Verb::TryRLock => {
-            read_none(words)?;
-            Ok(RwMutexCall::TryRLock)
-        }
-        _ => Err(LineFault::Refused(Reason::WrongKind)),
-    }
-}
-
-/// A call of a cond.
-fn read_cond_call(verb: Verb, words: &[&[u8]]) -> Result<CondCall, LineFault>
-    ensures { IsCall (λ call. Operation.Cond call) ObjectWord.Cond verb (map (λ word. word.now) words.now) result }
-{
-    match verb {
-        Verb::Wait => {
-            read_none(words)?;
-            Ok(CondCall::Wait)
-        }
-        Verb::Signal => {
-            read_none(words)?;
-            Ok(CondCall::Signal)
-        }
-        Verb::Broadcast => {
-            read_none(words)?;
-            Ok(CondCall::Broadcast)
-        }
+        Verb::Lock => read_bare(Operation::RwMutex(RwMutexCall::Lock), words),
+        Verb::Unlock => read_bare(Operation::RwMutex(RwMutexCall::Unlock), words),
+        Verb::TryLock => read_bare(Operation::RwMutex(RwMutexCall::TryLock), words),
+        Verb::RLock => read_bare(Operation::RwMutex(RwMutexCall::RLock), words),
+        Verb::RUnlock => read_bare(Operation::RwMutex(RwMutexCall::RUnlock), words),
+        Verb::TryRLock => read_bare(Operation::RwMutex(RwMutexCall::TryRLock), words),
         _ => Err(LineFault::Refused(Reason::WrongKind)),
     }
 }
@@ -244,100 +199,29 @@ fn read_one_amount(words: &[&[u8]]) -> Result<i32, LineFault>
 }
 
 /// A call of a wait group.
-fn read_group_call(verb: Verb, words: &[&[u8]]) -> Result<WaitGroupCall, LineFault>
-    ensures { IsCall (λ call. Operation.WaitGroup call) ObjectWord.WaitGroup verb (map (λ word. word.now) words.now) result }
+fn read_group_call(verb: Verb, words: &[&[u8]]) -> Result<Operation, LineFault>
+    ensures { IsCall ObjectWord.WaitGroup verb (map (λ word. word.now) words.now) result }
 {
     match verb {
-        Verb::Add => Ok(WaitGroupCall::Add(read_one_amount(words)?)),
-        Verb::Done => {
-            read_none(words)?;
-            Ok(WaitGroupCall::Done)
+        Verb::Add => {
+            let delta = read_one_amount(words)?;
+            Ok(Operation::WaitGroup(WaitGroupCall::Add(delta)))
         }
-        Verb::Wait => {
-            read_none(words)?;
-            Ok(WaitGroupCall::Wait)
-        }
+        Verb::Done => read_bare(Operation::WaitGroup(WaitGroupCall::Done), words),
+        Verb::Wait => read_bare(Operation::WaitGroup(WaitGroupCall::Wait), words),
         _ => Err(LineFault::Refused(Reason::WrongKind)),
     }
-}
-
-/// The item of a `put`, alone.
-fn read_item(words: &[&[u8]]) -> Result<u64, LineFault>
-    ensures { IsOperands (λ item. (item ≤ MAX_VALUE) × (map (λ word. word.now) words.now ≡ decimal item ∷ [])) (Operand.Value ∷ []) (map (λ word. word.now) words.now) result }
-{
-    let [item] = words else {
-        return Err(LineFault::Refused(Reason::WrongNumberOfWords));
-    };
-    read_value(item)
 }
 
 /// A call of a pool.
-fn read_pool_call(verb: Verb, words: &[&[u8]]) -> Result<PoolCall, LineFault>
-    ensures { IsCall (λ call. Operation.Pool call) ObjectWord.Pool verb (map (λ word. word.now) words.now) result }
+fn read_pool_call(verb: Verb, words: &[&[u8]]) -> Result<Operation, LineFault>
+    ensures { IsCall ObjectWord.Pool verb (map (λ word. word.now) words.now) result }
 {
     match verb {
-        Verb::Put => Ok(PoolCall::Put(read_item(words)?)),
-        Verb::Get => {
-            read_none(words)?;
-            Ok(PoolCall::Get)
-        }
-        Verb::Sweep => {
-            read_none(words)?;
-            Ok(PoolCall::Sweep)
-        }
+        Verb::Put => Ok(Operation::Pool(PoolCall::Put(read_item(words)?))),
+        Verb::Get => read_bare(Operation::Pool(PoolCall::Get), words),
+        Verb::Sweep => read_bare(Operation::Pool(PoolCall::Sweep), words),
         _ => Err(LineFault::Refused(Reason::WrongKind)),
-    }
-}
-
-/// A call of a once.
-fn read_once_call(verb: Verb, words: &[&[u8]]) -> Result<Operation, LineFault>
-    ensures { IsCall (λ call. call) ObjectWord.Once verb (map (λ word. word.now) words.now) result }
-{
-    match verb {
-        Verb::Do => {
-            read_none(words)?;
-            Ok(Operation::Once)
-        }
-        _ => Err(LineFault::Refused(Reason::WrongKind)),
-    }
-}
-
-/// A call of a function made by `OnceFunc`.
-fn read_once_func_call(verb: Verb, words: &[&[u8]]) -> Result<Operation, LineFault>
-    ensures { IsCall (λ call. call) ObjectWord.OnceFunc verb (map (λ word. word.now) words.now) result }
-{
-    match verb {
-        Verb::Call => {
-            read_none(words)?;
-            Ok(Operation::OnceFunc)
-        }
-        _ => Err(LineFault::Refused(Reason::WrongKind)),
-    }
-}
-
-/// A call of a function made by `OnceValue`.
-fn read_once_value_call(verb: Verb, words: &[&[u8]]) -> Result<Operation, LineFault>
-    ensures { IsCall (λ call. call) ObjectWord.OnceValue verb (map (λ word. word.now) words.now) result }
-{
-    match verb {
-        Verb::Value => {
-            read_none(words)?;
-            Ok(Operation::OnceValue)
-        }
-        _ => Err(LineFault::Refused(Reason::WrongKind)),
-    }
-}
-
-/// A call of a map, or `range`.
-fn read_map_operation(alloc: Global, verb: Verb, words: &[&[u8]]) -> Result<Operation, LineFault>
-    ensures { IsCall (λ call. call) ObjectWord.Map verb (map (λ word. word.now) words.now) result }
-{
-    match verb {
-        Verb::Range => {
-            read_none(words)?;
-            Ok(Operation::Range)
-        }
-        _ => Ok(Operation::Map(read_map_call(alloc, verb, words)?)),
     }
 }
 
@@ -348,18 +232,37 @@ pub fn read_operation(
     verb: Verb,
     words: &[&[u8]],
 ) -> Result<Operation, LineFault>
-    ensures { IsCall (λ call. call) word verb (map (λ word. word.now) words.now) result }
+    ensures { IsCall word verb (map (λ word. word.now) words.now) result }
 {
     match word {
-        ObjectWord::Map => read_map_operation(alloc, verb, words),
-        ObjectWord::Atomic(kind) => Ok(Operation::Atomic(read_atomic_call(kind, verb, words)?)),
-        ObjectWord::Mutex => Ok(Operation::Mutex(read_mutex_call(verb, words)?)),
-        ObjectWord::RwMutex => Ok(Operation::RwMutex(read_rw_mutex_call(verb, words)?)),
-        ObjectWord::Cond => Ok(Operation::Cond(read_cond_call(verb, words)?)),
-        ObjectWord::WaitGroup => Ok(Operation::WaitGroup(read_group_call(verb, words)?)),
-        ObjectWord::Once => read_once_call(verb, words),
-        ObjectWord::OnceFunc => read_once_func_call(verb, words),
-        ObjectWord::OnceValue => read_once_value_call(verb, words),
-        ObjectWord::Pool => Ok(Operation::Pool(read_pool_call(verb, words)?)),
+        ObjectWord::Map => read_map_call(alloc, verb, words),
+        ObjectWord::Atomic(kind) => read_atomic_call(kind, verb, words),
+        ObjectWord::Mutex => match verb {
+            Verb::Lock => read_bare(Operation::Mutex(MutexCall::Lock), words),
+            Verb::Unlock => read_bare(Operation::Mutex(MutexCall::Unlock), words),
+            Verb::TryLock => read_bare(Operation::Mutex(MutexCall::TryLock), words),
+            _ => Err(LineFault::Refused(Reason::WrongKind)),
+        },
+        ObjectWord::RwMutex => read_rw_mutex_call(verb, words),
+        ObjectWord::Cond => match verb {
+            Verb::Wait => read_bare(Operation::Cond(CondCall::Wait), words),
+            Verb::Signal => read_bare(Operation::Cond(CondCall::Signal), words),
+            Verb::Broadcast => read_bare(Operation::Cond(CondCall::Broadcast), words),
+            _ => Err(LineFault::Refused(Reason::WrongKind)),
+        },
+        ObjectWord::WaitGroup => read_group_call(verb, words),
+        ObjectWord::Once => match verb {
+            Verb::Do => read_bare(Operation::Once, words),
+            _ => Err(LineFault::Refused(Reason::WrongKind)),
+        },
+        ObjectWord::OnceFunc => match verb {
+            Verb::Call => read_bare(Operation::OnceFunc, words),
+            _ => Err(LineFault::Refused(Reason::WrongKind)),
+        },
+        ObjectWord::OnceValue => match verb {
+            Verb::Value => read_bare(Operation::OnceValue, words),
+            _ => Err(LineFault::Refused(Reason::WrongKind)),
+        },
+        ObjectWord::Pool => read_pool_call(verb, words),
     }
 }

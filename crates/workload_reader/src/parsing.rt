@@ -7,7 +7,7 @@ ghost use Rattle.workload.specs.Reads.{Continues, IsRead, ReadsOn, Reads, IsFirs
 ghost use Rattle.workload.specs.declared.limits.TheConstants.{MAX_INPUT};
 
 use crate::reading::{read_line, read_workers};
-use crate::text::{is_clean, is_short, says_something, split_line, words_of};
+use crate::text::{is_clean, is_short, is_significant, split_line, words_of};
 use std::alloc::Global;
 use workload::draft::Draft;
 use workload::fault::{LineFault, ParseFault};
@@ -15,7 +15,7 @@ use workload::limits::MAX_INPUT;
 use workload::reason::Reason;
 use workload::workload::Workload;
 
-/// The draft behind a line that says something: its first word and the others.
+/// The draft behind a significant line: its first word and the others.
 fn take_words(
     alloc: Global,
     before: Option<Draft>,
@@ -36,7 +36,7 @@ fn take_words(
     }
 }
 
-/// Whether a line says something, where it has no fault of its own, whatever stands before it.
+/// Whether a line is significant, where it has no fault of its own, whatever stands before it.
 fn check_line(line: &[u8]) -> Result<bool, LineFault>
     ensures { MatchResult result (IsSound line.now) (IsUnsound line.now) }
 {
@@ -46,10 +46,10 @@ fn check_line(line: &[u8]) -> Result<bool, LineFault>
     if !is_clean(line) {
         return Err(LineFault::Refused(Reason::BadByte));
     }
-    Ok(says_something(line))
+    Ok(is_significant(line))
 }
 
-/// The draft behind a line that says something.
+/// The draft behind a significant line.
 fn take_line(alloc: Global, before: Option<Draft>, line: &[u8]) -> Result<Option<Draft>, LineFault>
     requires { IsSound line.now true }
     ensures { MatchResult result (IsRead before line.now) (IsFault (checks_of before line.now)) }
@@ -71,7 +71,7 @@ fn at_line(line: u32, fault: LineFault) -> ParseFault
     }
 }
 
-/// The draft of all lines of a text, of which there is none where no line says anything.
+/// The draft of all lines of a text, of which there is none where no line is significant.
 fn read_lines(alloc: Global, bytes: &[u8]) -> Result<Draft, ParseFault>
     requires { length bytes.now ≤ MAX_INPUT }
     ensures { MatchResult result (λ draft. ReadsOn (lines_of bytes.now) None draft.plan) (IsFirstFault (lines_of bytes.now)) }

@@ -186,7 +186,7 @@ pub fn read_line(
 pub fn read_workers(word: &[u8], arguments: &[&[u8]]) -> Result<u32, LineFault>
     ensures { IsWorkers word.now (map (λ word. word.now) arguments.now) result }
 {
-    if word != b"workers".as_slice() {
+    if word != Keyword::Workers.text() {
         return Err(LineFault::Refused(Reason::NoWorkersLine));
     }
     let [workers] = arguments else {

@@ -61,8 +61,8 @@ pub fn words_of(alloc: Global, line: &[u8]) -> Result<Vec<&[u8]>, AllocError>
         .collect(alloc)
 }
 
-/// Whether a line says something: it has words, and the first doesn't begin with `#`.
-pub fn says_something(line: &[u8]) -> bool
+/// Whether a line is significant: it has words, and the first doesn't begin with `#`.
+pub fn is_significant(line: &[u8]) -> bool
     ensures { result ≡ is_significant (words_of line.now) }
 {
     for byte in line {

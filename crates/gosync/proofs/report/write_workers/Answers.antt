@@ -1,4 +1,4 @@
-use Rattle.std.proofs.Common.{◌+◌, ◌<◌, [], length, get_or, drop, sym, ap, ◌∙◌, subst, arith}
+use Rattle.std.proofs.Common.{◌<◌, [], length, get_or, drop, sym, ap, ◌∙◌, subst, arith}
 use Rattle.std.proofs.lemmas.Bool.{ltb-true}
 use Rattle.std.proofs.Math.ListN.{drop_of_length-le}
 use Rattle.sync_outside.specs.Bytes.{Appends, AppendsFront}
@@ -6,7 +6,7 @@ use Rattle.std.specs.List.{list_all}
 use Rattle.workload.specs.declared.limits.TheConstants.{MAX_KEYS}
 use Rattle.sync_model.specs.Outcome.{has_pairs_to}
 use Rattle.gosync.specs.ReportText.{calls_text}
-use Rattle.gosync.proofs.Lines.{all_at, drop_at, drop_script, not_below, scripts_are, workers_step, workers_none}
+use Rattle.gosync.proofs.Lines.{all_at, not_below, scripts_are, workers_next, workers_none}
 use Rattle.gosync.proofs.Writing.{goes_on, goes_cut, goes_end, on_err}
 use Rattle.gosync.proofs.report.write_workers.Goals as goal
 
@@ -28,31 +28,21 @@ returns-in_default-clause-ok g c =
 pub returns-in_err-write_calls-clause-err : goal.returns-in_err-write_calls-clause-err
 returns-in_err-write_calls-clause-err g c =
     let plan = c.args.workload.now in
-    let replies = c.args.replies.now in
     let i = c.loop-worker.worker in
-    let completed = c.in-Some.completed.now in
-    let script = get_or plan.scripts i [] in
     let below : i < length plan.scripts = omega (arith, c.loop-worker-test.true, c.workers-worker-end.ensures.workers, scripts_are plan c.workers-worker-end.ensures.valid) in
-    let here = workers_step plan i (drop i plan.scripts) (drop (i + 1) plan.scripts) (drop i replies) (drop (i + 1) replies) script completed
-    (drop_script plan.scripts i below)
-    (drop_at replies i completed (ltb-true i (length replies) (sym c.in-Some.ensures.lookup.0)) c.in-Some.ensures.lookup.1) in
-    let text = ap (calls_text plan i 0 script) c.as_slice.ensures in
-    on_err c.from_residual.result (goes_cut _ _ _ _ _ (calls_text plan i 0 script completed) _ here c.loop-worker.invariant.goes (subst (AppendsFront _ _) text c.in_err-write_calls.ensures.err))
+    let here = workers_next plan i _ _ below (sym c.in-Some.ensures.lookup.0) c.in-Some.ensures.lookup.1 in
+    let text = ap (calls_text plan i 0 (get_or plan.scripts i [])) c.as_slice.ensures in
+    on_err c.from_residual.result (goes_cut _ _ _ _ _ _ _ here c.loop-worker.invariant.goes (subst (AppendsFront _ _) text c.in_err-write_calls.ensures.err))
 
 pub loop-worker-preserved : goal.loop-worker-preserved
 loop-worker-preserved g c =
     let plan = c.args.workload.now in
-    let replies = c.args.replies.now in
     let i = c.loop-worker.worker in
-    let completed = c.in-Some.completed.now in
-    let script = get_or plan.scripts i [] in
     let below : i < length plan.scripts = omega (arith, c.loop-worker-test.true, c.workers-worker-end.ensures.workers, scripts_are plan c.workers-worker-end.ensures.valid) in
-    let here = workers_step plan i (drop i plan.scripts) (drop (i + 1) plan.scripts) (drop i replies) (drop (i + 1) replies) script completed
-    (drop_script plan.scripts i below)
-    (drop_at replies i completed (ltb-true i (length replies) (sym c.in-Some.ensures.lookup.0)) c.in-Some.ensures.lookup.1) in
-    let text = ap (calls_text plan i 0 script) c.as_slice.ensures in
+    let here = workers_next plan i _ _ below (sym c.in-Some.ensures.lookup.0) c.in-Some.ensures.lookup.1 in
+    let text = ap (calls_text plan i 0 (get_or plan.scripts i [])) c.as_slice.ensures in
     record {
-      goes = goes_on _ _ _ _ _ (calls_text plan i 0 script completed) _ here c.loop-worker.invariant.goes (subst (Appends _ _) text c.in_ok-write_calls.ensures.ok);
+      goes = goes_on _ _ _ _ _ _ _ here c.loop-worker.invariant.goes (subst (Appends _ _) text c.in_ok-write_calls.ensures.ok);
       faults = omega (arith, c.loop-worker.invariant.faults, c.in_ok-write_calls.ensures.faults);
       room = c.in_ok-write_calls.ensures.room;
     }

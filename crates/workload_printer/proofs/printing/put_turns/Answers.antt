@@ -9,5 +9,5 @@ pub returns : goal.returns
 returns c =
     let turns = c.args.turns.now in
     let done = ap (map turn_word) (drop_all c.loop-turn.turn-index turns c.loop-turn-test.false) in
-    let start = c.loop-turn.invariant ∙ ap (λ t. t ++ behind_spaces (map turn_word turns)) c.in_ok-extend_from_slice.ensures.items in
+    let start = c.loop-turn.invariant ∙ ap (λ t. t ++ behind_spaces (map turn_word turns)) c.in_ok-put_keyword.ensures in
     c.in_ok-push.ensures.items ∙ close_line c.args.text.now.items c.loop-turn.text.items _ (map turn_word turns) (map turn_word (drop c.loop-turn.turn-index turns)) done start

@@ -2,7 +2,7 @@
 ghost use Rattle.std.specs.Prelude.{◌≡◌, ◌≤◌, true, vec_capacity};
 ghost use Rattle.workload.specs.declared.limits.TheConstants.{MAX_KEYS};
 ghost use Rattle.sync_model.specs.Outcome.{has_pairs_to};
-ghost use Rattle.gosync.specs.ReportText.{call_line};
+ghost use Rattle.gosync.specs.ReportText.{completed_line};
 
 use crate::call_words::push_call;
 use crate::line::{LINE_ROOM, push, push_number};
@@ -11,7 +11,7 @@ use sync_model::{Call, Reply};
 use workload::Workload;
 
 /// Makes the line of a completed call.
-pub fn set_call_line(
+pub fn set_completed_line(
     line: &mut Vec<u8>,
     workload: &Workload,
     worker: u32,
@@ -21,7 +21,7 @@ pub fn set_call_line(
 )
     requires room { LINE_ROOM ≤ vec_capacity line.old }
     requires pairs { has_pairs_to MAX_KEYS reply.now ≡ true }
-    ensures line { line.new.items ≡ call_line workload.now worker index call.now reply.now }
+    ensures line { line.new.items ≡ completed_line workload.now worker index call.now reply.now }
     ensures room { vec_capacity line.old ≤ vec_capacity line.new }
 {
     line.clear();
