@@ -1,0 +1,66 @@
+-- What the stages of a turn leave as it was, and what is so of the turn's answers.
+use Rattle.std.proofs.Common.{◌≡◌, ℕ, ◌+◌, ◌<◌, ◌≤◌, List, [], ◌∷◌, Option, Some, None}
+use Rattle.std.specs.Prelude.{Result, Ok, Err}
+use Rattle.sync_model.specs.declared.misuse.Misuse.{Misuse}
+use Rattle.sync_model.specs.declared.pool_call.PoolCall.{PoolCall}
+use Rattle.sync_model.specs.declared.pool_call.PoolCall.TheVariants as pool_calls
+use Rattle.pool_core.specs.PoolMachine as pool
+use Rattle.pool_core.specs.declared.pool_event.PoolEvent.{PoolEvent}
+use Rattle.protocols.specs.declared.pool.PoolOutcome.{PoolOutcome}
+use Rattle.protocols.specs.declared.pool.PoolOutcome.TheVariants.{Item}
+use Rattle.protocols.specs.declared.pool.PoolStage.{PoolStage}
+use Rattle.protocols.specs.declared.pool.PoolStage.TheVariants as pool_stage
+use Rattle.protocols.specs.PoolStages as pools
+use Rattle.protocols.specs.declared.step.Step.{Step}
+use Rattle.protocols.specs.declared.step.Step.TheVariants.{Finished, Misused, Waits, Next, Never}
+use Rattle.step_turns.specs.declared.answer.Answer.{Answer}
+use Rattle.step_turns.specs.declared.answer.Answer.TheVariants as answers
+use Rattle.step_turns.specs.Due.{looks_of}
+use Rattle.step_turns.specs.ObjectLeft.{UsesBy}
+use Rattle.step_turns.specs.PoolTurn.{PoolStep, pool_made, found_or, found_by, pool_step}
+use Rattle.step_turns.specs.Stages.{outcome_of, make, answer_by}
+
+-- what is so of the stage that is due, if one is
+abbrev pub OfDue : {G : Type 0} → (G → Type 0) → Option G → Type 0
+OfDue P None = Unit {0}
+OfDue P (Some stage) = P stage
+
+module _ {S E R G O : Type 0} (next : S → ℕ → E → S × R) (event_of : G → ℕ → E) (meaning : G → R → Step G O) (worker moment : ℕ) where
+  -- what each event keeps
+  pub make_keeps : (P : S → Type 0) → ((s : S) (e : E) → P s → P (next s worker e).0) → (due : Option G) (s : S) → P s → P (make next event_of meaning worker moment due s).0
+  make_keeps P keeps None s is = is
+  make_keeps P keeps (Some stage) s is = keeps s (event_of stage moment) is
+
+  -- by whether a stage is due
+  pub make_by : (P : G → Type 0) (Q : S × Result O Answer → Type 0) (due : Option G) (s : S) → OfDue P due → Q (s, Err answers.Still)
+      → ((stage : G) → P stage → Q ((next s worker (event_of stage moment)).0, outcome_of (meaning stage (next s worker (event_of stage moment)).1))) → Q (make next event_of meaning worker moment due s)
+  make_by P Q None s of still made = still
+  make_by P Q (Some stage) s of still made = made stage of
+
+module _ {G O : Type 0} (Q : Answer → Type 0) (still : Q answers.Still) (unfinished : Q answers.Unfinished) (misused : (misuse : Misuse) → Q (answers.Misused misuse)) (read : O → Answer) (each : (outcome : O) → Q (read outcome)) where
+  -- of each answer that isn't a reply, and of what an outcome is read as
+  pub step_answer : (step : Step G O) → Q (answer_by read (outcome_of step))
+  step_answer (Finished outcome) = each outcome
+  step_answer (Misused misuse) = misused misuse
+  step_answer (Waits later) = unfinished
+  step_answer (Next later) = unfinished
+  step_answer Never = still
+
+  pub make_answer : {S E R : Type 0} (next : S → ℕ → E → S × R) (event_of : G → ℕ → E) (meaning : G → R → Step G O) (worker moment : ℕ) (due : Option G) (s : S) → Q (answer_by read (make next event_of meaning worker moment due s).1)
+  make_answer next event_of meaning worker moment None s = still
+  make_answer next event_of meaning worker moment (Some stage) s = step_answer (meaning stage (next s worker (event_of stage moment)).1)
+
+-- a call of a pool
+module _ (worker moment : ℕ) (P : pool.PoolState ℕ → Type 0) (keeps : (p : pool.PoolState ℕ) (e : PoolEvent ℕ) → P p → P (pool.next p worker e).0) where
+  found_or_keeps : (step : pool.PoolState ℕ × Result PoolOutcome Answer) (rest : pool.PoolState ℕ → PoolStep) → P step.0 → ((p : pool.PoolState ℕ) → P p → P (rest p).0) → P (found_or worker moment step rest).0
+  found_or_keeps (p, Ok (Item item)) rest is later = is
+  found_or_keeps (p, other) rest is later = later p is
+
+  found_keeps : (looks : List PoolStage) (p : pool.PoolState ℕ) → P p → P (found_by worker moment looks p).0
+  found_keeps [] p is = is
+  found_keeps (look ∷ looks) p is = found_or_keeps (pool_made worker moment look p) (found_by worker moment looks) (keeps p (pools.pool_event look moment) is) (found_keeps looks)
+
+  pub pool_keeps : (call : PoolCall) (p : pool.PoolState ℕ) → P p → P (pool_step worker moment call p).0
+  pool_keeps (pool_calls.Put item) p is = keeps p (pools.pool_event (pool_stage.Put item) moment) is
+  pool_keeps pool_calls.Sweep p is = keeps p (pools.pool_event pool_stage.Sweep moment) is
+  pool_keeps pool_calls.Get p is = found_keeps _ p is
