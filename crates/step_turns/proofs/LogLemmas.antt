@@ -1,5 +1,5 @@
 -- Each turn moves a machine by events of a log that follows it.
-use Rattle.std.proofs.Common.{ℕ, List, [], ◌∷◌, set, refl, subst}
+use Rattle.std.proofs.Common.{ℕ, List, [], ◌∷◌, set, Option, Some, refl, subst}
 use Rattle.std.specs.Prelude.{ℤ, pos}
 use Rattle.std.specs.Int.{w64, int_wrapping_add}
 use Rattle.sync_model.specs.Log.{Entry, entry, after, Follows}
@@ -16,15 +16,22 @@ use Rattle.wait_cores.specs.GroupMachine as group
 use Rattle.wait_cores.specs.OnceMachine as once
 use Rattle.wait_cores.specs.declared.group.GroupEvent.TheVariants.{Add}
 use Rattle.pool_core.specs.PoolMachine as pool
+use Rattle.protocols.specs.CondStages.{cond_event, cond_meaning}
+use Rattle.protocols.specs.MutexStages.{mutex_event, mutex_meaning}
+use Rattle.protocols.specs.declared.cond.CondStage.{CondStage}
+use Rattle.protocols.specs.declared.cond.CondStage.TheVariants as cond_stage
+use Rattle.protocols.specs.declared.mutex.MutexStage.{MutexStage}
 use Rattle.workload.specs.declared.object.ObjectKind.{ObjectKind}
 use Rattle.workload.specs.declared.object.ObjectKind.TheVariants as kinds
 use Rattle.step_turns.specs.declared.object_state.ObjectState.{ObjectState}
 use Rattle.step_turns.specs.declared.object_state.ObjectState.TheVariants as states
+use Rattle.step_turns.specs.Due.{mutex_due, rw_due, group_due, wait_due}
 use Rattle.step_turns.specs.MachineLogs.{Reaches, FollowsItsMachine}
 use Rattle.step_turns.specs.Objects.{new_object, EachAt}
+use Rattle.step_turns.specs.Stages.{make}
 use Rattle.step_turns.specs.Turns.{once_made, turn_on, turn_on_both, turn_at}
 use Rattle.step_turns.proofs.AtObjects.{each_set, at_any}
-use Rattle.step_turns.proofs.Makes.{make_keeps, pool_keeps}
+use Rattle.step_turns.proofs.Makes.{mutex_keeps, rw_keeps, group_keeps, cond_keeps, once_keeps, pool_keeps}
 
 -- ---- one event more
 
@@ -41,14 +48,21 @@ module _ {S E R : Type 0} (next : S → ℕ → E → S × R) where
 -- ---- any object that refers to no other
 
 once_reached : {T : Type 0} (workers worker moment : ℕ) (value : T) (o : once.OnceState T) → Reaches once.next (once.start workers) o → Reaches once.next (once.start workers) (once_made worker moment value o).0
-once_reached workers worker moment value o so_far = make_keeps _ _ _ worker moment (Reaches once.next (once.start workers)) (λ o e. one_more once.next (once.start workers) o worker e) _ o so_far
+once_reached workers worker moment = once_keeps worker moment (Reaches once.next (once.start workers)) (λ o e. one_more once.next (once.start workers) o worker e)
+
+mutex_reached : (workers worker moment : ℕ) (due : Option MutexStage) (m : mutex.State) → Reaches mutex.next (mutex.start workers) m → Reaches mutex.next (mutex.start workers) (make mutex.next mutex_event mutex_meaning worker moment due m).0
+mutex_reached workers worker moment = mutex_keeps worker moment (Reaches mutex.next (mutex.start workers)) (λ m e. one_more mutex.next (mutex.start workers) m worker e)
 
 turn_follows : (workers room : ℕ) (operation : Operation) (worker moment : ℕ) (o : ObjectState) → FollowsItsMachine workers room o → FollowsItsMachine workers room (turn_on operation worker moment o).0
-turn_follows workers room (operations.Mutex call) worker moment (states.Mutex m) so_far = make_keeps _ _ _ worker moment (Reaches mutex.next (mutex.start workers)) (λ m e. one_more mutex.next (mutex.start workers) m worker e) _ m so_far
-turn_follows workers room (operations.RwMutex call) worker moment (states.RwMutex m) so_far = make_keeps _ _ _ worker moment (Reaches rw.next (rw.start workers)) (λ m e. one_more rw.next (rw.start workers) m worker e) _ m so_far
+turn_follows workers room (operations.Map call) worker moment (states.Map m) so_far = tt
+turn_follows workers room operations.Range worker moment (states.Map m) so_far = tt
+turn_follows workers room (operations.Atomic call) worker moment (states.Atomic number) so_far = tt
+turn_follows workers room (operations.Mutex call) worker moment (states.Mutex m) so_far = mutex_reached workers worker moment (mutex_due call (mutex.place_of m worker)) m so_far
+turn_follows workers room (operations.RwMutex call) worker moment (states.RwMutex m) so_far =
+    rw_keeps worker moment (Reaches rw.next (rw.start workers)) (λ m e. one_more rw.next (rw.start workers) m worker e) (rw_due call (rw.place_of m worker)) m so_far
 turn_follows workers room (operations.WaitGroup call) worker moment (states.WaitGroup g first) so_far =
     let start = (group.next (group.start workers) 0 (Add (pos first))).0 in
-    make_keeps _ _ _ worker moment (Reaches group.next start) (λ g e. one_more group.next start g worker e) _ g so_far
+    group_keeps worker moment (Reaches group.next start) (λ g e. one_more group.next start g worker e) (group_due call (group.place_of g worker)) g so_far
 turn_follows workers room operations.OnceFunc worker moment (states.OnceFunc o code) so_far = once_reached workers worker moment code o so_far
 turn_follows workers room operations.OnceValue worker moment (states.OnceValue o value) so_far = once_reached workers worker moment value o so_far
 turn_follows workers room (operations.Pool call) worker moment (states.Pool p) so_far =
@@ -65,13 +79,15 @@ sum_follows : (workers room other worker moment : ℕ) (o : once.OnceState ℤ) 
 sum_follows workers room other worker moment o place delta (Int64 held) so_far = (once_reached workers worker moment (int_wrapping_add w64 held delta) o so_far, tt)
 sum_follows workers room other worker moment o place delta number so_far = (so_far, tt)
 
+list_reached : (workers worker moment : ℕ) (due : Option CondStage) (c : notify.NotifyState) → Reaches notify.next (notify.start workers) c → Reaches notify.next (notify.start workers) (make notify.next cond_event cond_meaning worker moment due c).0
+list_reached workers worker moment = cond_keeps worker moment (Reaches notify.next (notify.start workers)) (λ c e. one_more notify.next (notify.start workers) c worker e)
+
 both_follow : (workers room other : ℕ) (operation : Operation) (worker moment : ℕ) (o target : ObjectState) → BothFollow workers room other (o, target) → BothFollow workers room other (turn_on_both operation worker moment o target).0
-both_follow workers room other (operations.Cond cond_calls.Wait) worker moment (states.Cond c place) (states.Mutex m) so_far = (
-  make_keeps _ _ _ worker moment (Reaches notify.next (notify.start workers)) (λ c e. one_more notify.next (notify.start workers) c worker e) _ c so_far.0,
-  make_keeps _ _ _ worker moment (Reaches mutex.next (mutex.start workers)) (λ m e. one_more mutex.next (mutex.start workers) m worker e) _ m so_far.1,
-)
-both_follow workers room other (operations.Cond cond_calls.Signal) worker moment (states.Cond c place) (states.Mutex m) so_far = (one_more notify.next (notify.start workers) c worker _ so_far.0, so_far.1)
-both_follow workers room other (operations.Cond cond_calls.Broadcast) worker moment (states.Cond c place) (states.Mutex m) so_far = (one_more notify.next (notify.start workers) c worker _ so_far.0, so_far.1)
+both_follow workers room other (operations.Cond cond_calls.Wait) worker moment (states.Cond c place) (states.Mutex m) so_far =
+    let due = wait_due (mutex.place_of m worker) (notify.place_of c worker) in
+    (list_reached workers worker moment due.0 c so_far.0, mutex_reached workers worker moment due.1 m so_far.1)
+both_follow workers room other (operations.Cond cond_calls.Signal) worker moment (states.Cond c place) (states.Mutex m) so_far = (list_reached workers worker moment (Some cond_stage.Signal) c so_far.0, so_far.1)
+both_follow workers room other (operations.Cond cond_calls.Broadcast) worker moment (states.Cond c place) (states.Mutex m) so_far = (list_reached workers worker moment (Some cond_stage.Broadcast) c so_far.0, so_far.1)
 both_follow workers room other operations.Once worker moment (states.Once o place delta) (states.Atomic number) so_far = sum_follows workers room other worker moment o place delta number so_far.0
 both_follow workers room other operation worker moment o target so_far = so_far
 

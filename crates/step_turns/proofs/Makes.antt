@@ -4,8 +4,28 @@ use Rattle.std.specs.Prelude.{Result, Ok, Err}
 use Rattle.sync_model.specs.declared.misuse.Misuse.{Misuse}
 use Rattle.sync_model.specs.declared.pool_call.PoolCall.{PoolCall}
 use Rattle.sync_model.specs.declared.pool_call.PoolCall.TheVariants as pool_calls
+use Rattle.mutex_core.specs.MutexMachine as mutex
+use Rattle.mutex_core.specs.declared.event.MutexEvent.{MutexEvent}
+use Rattle.rw_core.specs.RwMachine as rw
+use Rattle.rw_core.specs.declared.event.RwEvent.{RwEvent}
+use Rattle.wait_cores.specs.NotifyMachine as notify
+use Rattle.wait_cores.specs.GroupMachine as group
+use Rattle.wait_cores.specs.OnceMachine as once
+use Rattle.wait_cores.specs.OnceStanding.{runs_at}
+use Rattle.wait_cores.specs.declared.notify.NotifyEvent.{NotifyEvent}
+use Rattle.wait_cores.specs.declared.group.GroupEvent.{GroupEvent}
+use Rattle.wait_cores.specs.declared.once.OnceEvent.{OnceEvent}
 use Rattle.pool_core.specs.PoolMachine as pool
 use Rattle.pool_core.specs.declared.pool_event.PoolEvent.{PoolEvent}
+use Rattle.protocols.specs.CondStages.{cond_event, cond_meaning}
+use Rattle.protocols.specs.GroupStages.{group_event, group_meaning}
+use Rattle.protocols.specs.MutexStages.{mutex_event, mutex_meaning}
+use Rattle.protocols.specs.OnceStages.{once_event, once_meaning}
+use Rattle.protocols.specs.RwMutexStages.{rw_event, rw_meaning}
+use Rattle.protocols.specs.declared.cond.CondStage.{CondStage}
+use Rattle.protocols.specs.declared.mutex.MutexStage.{MutexStage}
+use Rattle.protocols.specs.declared.rw_mutex.RwMutexStage.{RwMutexStage}
+use Rattle.protocols.specs.declared.wait_group.GroupStage.{GroupStage}
 use Rattle.protocols.specs.declared.pool.PoolOutcome.{PoolOutcome}
 use Rattle.protocols.specs.declared.pool.PoolOutcome.TheVariants.{Item}
 use Rattle.protocols.specs.declared.pool.PoolStage.{PoolStage}
@@ -15,10 +35,10 @@ use Rattle.protocols.specs.declared.step.Step.{Step}
 use Rattle.protocols.specs.declared.step.Step.TheVariants.{Finished, Misused, Waits, Next, Never}
 use Rattle.step_turns.specs.declared.answer.Answer.{Answer}
 use Rattle.step_turns.specs.declared.answer.Answer.TheVariants as answers
-use Rattle.step_turns.specs.Due.{looks_of}
-use Rattle.step_turns.specs.ObjectLeft.{UsesBy}
+use Rattle.step_turns.specs.Due.{once_due}
 use Rattle.step_turns.specs.PoolTurn.{PoolStep, pool_made, found_or, found_by, pool_step}
 use Rattle.step_turns.specs.Stages.{outcome_of, make, answer_by}
+use Rattle.step_turns.specs.Turns.{once_made}
 
 -- what is so of the stage that is due, if one is
 abbrev pub OfDue : {G : Type 0} → (G → Type 0) → Option G → Type 0
@@ -64,3 +84,20 @@ module _ (worker moment : ℕ) (P : pool.PoolState ℕ → Type 0) (keeps : (p :
   pool_keeps (pool_calls.Put item) p is = keeps p (pools.pool_event (pool_stage.Put item) moment) is
   pool_keeps pool_calls.Sweep p is = keeps p (pools.pool_event pool_stage.Sweep moment) is
   pool_keeps pool_calls.Get p is = found_keeps _ p is
+
+-- the same, by kind
+module _ (worker moment : ℕ) where
+  pub mutex_keeps : (P : mutex.State → Type 0) → ((m : mutex.State) (e : MutexEvent) → P m → P (mutex.next m worker e).0) → (due : Option MutexStage) (m : mutex.State) → P m → P (make mutex.next mutex_event mutex_meaning worker moment due m).0
+  mutex_keeps = make_keeps mutex.next mutex_event mutex_meaning worker moment
+
+  pub rw_keeps : (P : rw.State → Type 0) → ((m : rw.State) (e : RwEvent) → P m → P (rw.next m worker e).0) → (due : Option RwMutexStage) (m : rw.State) → P m → P (make rw.next rw_event rw_meaning worker moment due m).0
+  rw_keeps = make_keeps rw.next rw_event rw_meaning worker moment
+
+  pub group_keeps : (P : group.GroupState → Type 0) → ((g : group.GroupState) (e : GroupEvent) → P g → P (group.next g worker e).0) → (due : Option GroupStage) (g : group.GroupState) → P g → P (make group.next group_event group_meaning worker moment due g).0
+  group_keeps = make_keeps group.next group_event group_meaning worker moment
+
+  pub cond_keeps : (P : notify.NotifyState → Type 0) → ((c : notify.NotifyState) (e : NotifyEvent) → P c → P (notify.next c worker e).0) → (due : Option CondStage) (c : notify.NotifyState) → P c → P (make notify.next cond_event cond_meaning worker moment due c).0
+  cond_keeps = make_keeps notify.next cond_event cond_meaning worker moment
+
+  pub once_keeps : {T : Type 0} (P : once.OnceState T → Type 0) → ((o : once.OnceState T) (e : OnceEvent T) → P o → P (once.next o worker e).0) → (value : T) (o : once.OnceState T) → P o → P (once_made worker moment value o).0
+  once_keeps P keeps value o = make_keeps once.next once_event once_meaning worker moment P keeps (once_due value (runs_at o worker) (once.place_of o worker)) o

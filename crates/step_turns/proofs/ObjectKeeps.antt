@@ -11,11 +11,15 @@ use Rattle.sync_model.specs.declared.call.Operation.{Operation}
 use Rattle.sync_model.specs.declared.call.Operation.TheVariants as operations
 use Rattle.sync_model.specs.declared.wait_call.CondCall.TheVariants as cond_calls
 use Rattle.mutex_core.specs.MutexMachine as mutex
+use Rattle.rw_core.specs.RwMachine as rw
 use Rattle.wait_cores.specs.NotifyMachine as notify
+use Rattle.wait_cores.specs.GroupMachine as group
 use Rattle.wait_cores.specs.OnceMachine as once
 use Rattle.protocols.specs.declared.cond.CondStage.{CondStage}
 use Rattle.protocols.specs.declared.cond.CondStage.TheVariants as cond_stage
 use Rattle.protocols.specs.CondStages.{cond_event, cond_meaning}
+use Rattle.protocols.specs.MutexStages.{mutex_event, mutex_meaning}
+use Rattle.protocols.specs.declared.mutex.MutexStage.{MutexStage}
 use Rattle.protocols.specs.declared.once.OnceOutcome.{OnceOutcome}
 use Rattle.protocols.specs.declared.once.OnceOutcome.TheVariants.{Ended}
 use Rattle.workload.specs.declared.object.ObjectKind.TheVariants as kinds
@@ -24,14 +28,14 @@ use Rattle.step_turns.specs.declared.answer.Answer.{Answer}
 use Rattle.step_turns.specs.declared.object_state.ObjectState.{ObjectState}
 use Rattle.step_turns.specs.declared.object_state.ObjectState.TheVariants as states
 use Rattle.step_turns.specs.Objects.{kind_of, IsMachineOf, EachAt}
-use Rattle.step_turns.specs.Due.{wait_due}
+use Rattle.step_turns.specs.Due.{mutex_due, rw_due, group_due, wait_due}
 use Rattle.step_turns.specs.Ready.{IsReady}
 use Rattle.step_turns.specs.Stages.{make}
 use Rattle.step_turns.specs.Turns.{once_made, number_after, turn_on, turn_on_both, turn_at}
 use Rattle.step_turns.proofs.AtObjects.{at_ready, each_set}
 use Rattle.step_turns.proofs.AtomicTypes.{after_type}
 use Rattle.step_turns.proofs.MachineLaws.{OnceLaw, Laws}
-use Rattle.step_turns.proofs.Makes.{make_keeps, pool_keeps}
+use Rattle.step_turns.proofs.Makes.{mutex_keeps, rw_keeps, group_keeps, cond_keeps, once_keeps, pool_keeps}
 use Rattle.step_turns.proofs.Writes.{get_other}
 
 record Keeps (workers : ℕ) (old new : ObjectState) : Type 0 where
@@ -44,21 +48,25 @@ same workers object = record { kind = refl; machine = λ h. h }
 -- ---- any object that refers to no other
 
 once_callers : {T : Type 0} → OnceLaw T → (workers worker moment : ℕ) (value : T) (o : once.OnceState T) → once.callers_of o ≡ workers → once.callers_of (once_made worker moment value o).0 ≡ workers
-once_callers law workers worker moment value o is = make_keeps _ _ _ worker moment (λ o. once.callers_of o ≡ workers) (λ o e is. law o worker e ∙ is) _ o is
+once_callers law workers worker moment value o = once_keeps worker moment (λ o. once.callers_of o ≡ workers) (λ o e is. law o worker e ∙ is) value o
+
+mutex_machine : Laws → (workers worker moment : ℕ) (due : Option MutexStage) (m : mutex.State) → IsMachineOf workers (states.Mutex m) → IsMachineOf workers (states.Mutex (make mutex.next mutex_event mutex_meaning worker moment due m).0)
+mutex_machine laws workers worker moment = mutex_keeps worker moment (λ m. IsMachineOf workers (states.Mutex m)) (λ m e h. (laws.mutexes.goes_on m worker e h.0, laws.mutexes.same_callers m worker e ∙ h.1))
 
 turn_keeps : Laws → (workers : ℕ) (operation : Operation) (worker moment : ℕ) (o : ObjectState) → has_call (kind_of o) operation ≡ true → Keeps workers o (turn_on operation worker moment o).0
 turn_keeps laws workers (operations.Map call) worker moment (states.Map m) has = record { kind = refl; machine = λ h. h }
+turn_keeps laws workers operations.Range worker moment (states.Map m) has = same workers (states.Map m)
 turn_keeps laws workers (operations.Atomic call) worker moment (states.Atomic number) has = record { kind = ap (λ kind. kinds.Atomic kind) (after_type call number has); machine = λ h. h }
 turn_keeps laws workers (operations.Mutex call) worker moment (states.Mutex m) has = record {
   kind = refl;
-  machine = make_keeps _ _ _ worker moment (λ m. IsMachineOf workers (states.Mutex m)) (λ m e h. (laws.mutexes.goes_on m worker e h.0, laws.mutexes.same_callers m worker e ∙ h.1)) _ m;
+  machine = mutex_machine laws workers worker moment (mutex_due call (mutex.place_of m worker)) m;
 }
 turn_keeps laws workers (operations.RwMutex call) worker moment (states.RwMutex m) has = record {
   kind = refl;
-  machine = make_keeps _ _ _ worker moment (λ m. IsMachineOf workers (states.RwMutex m)) (λ m e h. (laws.rw_mutexes.goes_on m worker e h.0, laws.rw_mutexes.same_callers m worker e ∙ h.1)) _ m;
+  machine = rw_keeps worker moment (λ m. IsMachineOf workers (states.RwMutex m)) (λ m e h. (laws.rw_mutexes.goes_on m worker e h.0, laws.rw_mutexes.same_callers m worker e ∙ h.1)) (rw_due call (rw.place_of m worker)) m;
 }
 turn_keeps laws workers (operations.WaitGroup call) worker moment (states.WaitGroup g first) has =
-    record { kind = refl; machine = make_keeps _ _ _ worker moment (λ g. IsMachineOf workers (states.WaitGroup g first)) (λ g e h. laws.groups g worker e ∙ h) _ g }
+    record { kind = refl; machine = group_keeps worker moment (λ g. group.callers_of g ≡ workers) (λ g e h. laws.groups g worker e ∙ h) (group_due call (group.place_of g worker)) g }
 turn_keeps laws workers operations.OnceFunc worker moment (states.OnceFunc o code) has = record { kind = refl; machine = once_callers laws.giving workers worker moment code o }
 turn_keeps laws workers operations.OnceValue worker moment (states.OnceValue o value) has = record { kind = refl; machine = once_callers laws.giving workers worker moment value o }
 turn_keeps laws workers (operations.Pool call) worker moment (states.Pool p) has =
@@ -74,9 +82,9 @@ record KeepsBoth (workers : ℕ) (old target : ObjectState) (new : ObjectState �
 both_same : (workers : ℕ) (object target : ObjectState) → KeepsBoth workers object target (object, target)
 both_same workers object target = record { first = same workers object; second = same workers target }
 
-cond_keeps : Laws → (workers worker moment place : ℕ) (due : Option CondStage) (c : notify.NotifyState) → Keeps workers (states.Cond c place) (states.Cond (make notify.next cond_event cond_meaning worker moment due c).0 place)
-cond_keeps laws workers worker moment place due c =
-    record { kind = refl; machine = make_keeps _ _ _ worker moment (λ c. notify.callers_of c ≡ workers) (λ c e is. laws.conds c worker e ∙ is) due c }
+list_keeps : Laws → (workers worker moment place : ℕ) (due : Option CondStage) (c : notify.NotifyState) → Keeps workers (states.Cond c place) (states.Cond (make notify.next cond_event cond_meaning worker moment due c).0 place)
+list_keeps laws workers worker moment place due c =
+    record { kind = refl; machine = cond_keeps worker moment (λ c. notify.callers_of c ≡ workers) (λ c e is. laws.conds c worker e ∙ is) due c }
 
 -- what is so of the number and of the sum is so of the number behind the turn
 pub number_any : (P : Number → Type 0) (r : Result (OnceOutcome ℤ) Answer) (new old : Number) → P new → P old → P (number_after r new old)
@@ -96,16 +104,16 @@ sum_keeps laws workers worker moment o place delta number = both_same workers (s
 
 both_keep : Laws → (workers : ℕ) (operation : Operation) (worker moment : ℕ) (o target : ObjectState) → KeepsBoth workers o target (turn_on_both operation worker moment o target).0
 both_keep laws workers (operations.Cond cond_calls.Wait) worker moment (states.Cond c place) (states.Mutex m) = record {
-  first = cond_keeps laws workers worker moment place (wait_due (mutex.place_of m worker) (notify.place_of c worker)).0 c;
+  first = list_keeps laws workers worker moment place (wait_due (mutex.place_of m worker) (notify.place_of c worker)).0 c;
   second = record {
     kind = refl;
-    machine = make_keeps _ _ _ worker moment (λ m. IsMachineOf workers (states.Mutex m)) (λ m e h. (laws.mutexes.goes_on m worker e h.0, laws.mutexes.same_callers m worker e ∙ h.1)) _ m;
+    machine = mutex_machine laws workers worker moment (wait_due (mutex.place_of m worker) (notify.place_of c worker)).1 m;
   };
 }
 both_keep laws workers (operations.Cond cond_calls.Signal) worker moment (states.Cond c place) (states.Mutex m) =
-    record { first = cond_keeps laws workers worker moment place (Some cond_stage.Signal) c; second = same workers (states.Mutex m) }
+    record { first = list_keeps laws workers worker moment place (Some cond_stage.Signal) c; second = same workers (states.Mutex m) }
 both_keep laws workers (operations.Cond cond_calls.Broadcast) worker moment (states.Cond c place) (states.Mutex m) =
-    record { first = cond_keeps laws workers worker moment place (Some cond_stage.Broadcast) c; second = same workers (states.Mutex m) }
+    record { first = list_keeps laws workers worker moment place (Some cond_stage.Broadcast) c; second = same workers (states.Mutex m) }
 both_keep laws workers operations.Once worker moment (states.Once o place delta) (states.Atomic number) = sum_keeps laws workers worker moment o place delta number
 both_keep laws workers operation worker moment o target = both_same workers o target
 
