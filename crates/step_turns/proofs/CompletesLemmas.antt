@@ -1,41 +1,29 @@
 -- A call of a map, an atomic or a pool is completed in its first turn.
-use Rattle.std.proofs.Common.{◌≡◌, ℕ, true, List, [], ◌∷◌, Option, Some}
-use Rattle.std.specs.Prelude.{Result, Ok}
+use Rattle.std.proofs.Common.{◌≡◌, ℕ, ◌*◌, true, List, Some}
 use Rattle.sync_model.specs.declared.call.Call.{Call}
 use Rattle.sync_model.specs.declared.call.Operation.{Operation}
 use Rattle.sync_model.specs.declared.call.Operation.TheVariants as operations
 use Rattle.sync_model.specs.declared.pool_call.PoolCall.{PoolCall}
 use Rattle.sync_model.specs.declared.pool_call.PoolCall.TheVariants as pool_calls
-use Rattle.pool_core.specs.PoolMachine.{PoolState}
-use Rattle.protocols.specs.declared.pool.PoolOutcome.{PoolOutcome}
-use Rattle.protocols.specs.declared.pool.PoolOutcome.TheVariants.{Item}
-use Rattle.protocols.specs.declared.pool.PoolStage.{PoolStage}
+use Rattle.pool_core.specs.PoolMachine.{PoolState, callers_of}
 use Rattle.workload.specs.declared.object.ObjectKind.{ObjectKind}
 use Rattle.workload.specs.declared.object.ObjectKind.TheVariants as kinds
 use Rattle.workload.specs.Plan.{has_call, reference_of}
-use Rattle.step_turns.specs.declared.answer.Answer.{Answer}
 use Rattle.step_turns.specs.declared.object_state.ObjectState.{ObjectState}
 use Rattle.step_turns.specs.declared.object_state.ObjectState.TheVariants as states
 use Rattle.step_turns.specs.Completes.{takes_one_turn, IsCompleted}
+use Rattle.step_turns.specs.Due.{looks_of}
 use Rattle.step_turns.specs.Objects.{kind_of}
-use Rattle.step_turns.specs.PoolTurn.{PoolStep, pool_made, found_or, found_by, pool_step}
+use Rattle.step_turns.specs.PoolTurn.{pool_step}
 use Rattle.step_turns.specs.Ready.{IsReady}
 use Rattle.step_turns.specs.Turns.{turn_on, turn_at}
 use Rattle.step_turns.proofs.AtObjects.{at_ready}
+use Rattle.step_turns.proofs.Makes.{found_answer}
 
-module _ (worker moment : ℕ) where
-  found_or_completes : (step : PoolState ℕ × Result PoolOutcome Answer) (rest : PoolState ℕ → PoolStep) → ((p : PoolState ℕ) → IsCompleted (rest p).1) → IsCompleted (found_or worker moment step rest).1
-  found_or_completes (p, Ok (Item item)) rest later = tt
-  found_or_completes (p, other) rest later = later p
-
-  found_completes : (looks : List PoolStage) (p : PoolState ℕ) → IsCompleted (found_by worker moment looks p).1
-  found_completes [] p = tt
-  found_completes (look ∷ looks) p = found_or_completes (pool_made worker moment look p) (found_by worker moment looks) (found_completes looks)
-
-  pub pool_completes : (call : PoolCall) (p : PoolState ℕ) → IsCompleted (pool_step worker moment call p).1
-  pool_completes (pool_calls.Put item) p = tt
-  pool_completes pool_calls.Sweep p = tt
-  pool_completes pool_calls.Get p = found_completes _ p
+pub pool_completes : (worker moment : ℕ) (call : PoolCall) (p : PoolState ℕ) → IsCompleted (pool_step worker moment call p).1
+pool_completes worker moment (pool_calls.Put item) p = tt
+pool_completes worker moment pool_calls.Sweep p = tt
+pool_completes worker moment pool_calls.Get p = found_answer worker moment IsCompleted (λ item. tt) tt (looks_of (callers_of p) worker 0 (2 * callers_of p)) p
 
 completes : (operation : Operation) (worker moment : ℕ) (o : ObjectState) → takes_one_turn operation ≡ true → has_call (kind_of o) operation ≡ true → IsCompleted (turn_on operation worker moment o).1
 completes (operations.Map call) worker moment (states.Map m) one has = tt

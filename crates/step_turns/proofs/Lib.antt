@@ -1,10 +1,14 @@
 mod AtObjects
 mod AtomicTypes
 mod CompletesLemmas
+mod KeyLemmas
 mod LogLemmas
 mod MachineLaws
 mod Makes
 mod NewObjects
 mod ObjectKeeps
+mod PairLemmas
 mod PoolLooks
+mod RangeLemmas
+mod RoomLemmas
 mod Writes

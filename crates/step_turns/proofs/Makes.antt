@@ -1,9 +1,11 @@
 -- What the stages of a turn leave as it was, and what is so of the turn's answers.
 use Rattle.std.proofs.Common.{◌≡◌, ℕ, ◌+◌, ◌<◌, ◌≤◌, List, [], ◌∷◌, Option, Some, None}
 use Rattle.std.specs.Prelude.{Result, Ok, Err}
+use Rattle.sync_model.specs.declared.call.Reply.TheVariants as replies
 use Rattle.sync_model.specs.declared.misuse.Misuse.{Misuse}
 use Rattle.sync_model.specs.declared.pool_call.PoolCall.{PoolCall}
 use Rattle.sync_model.specs.declared.pool_call.PoolCall.TheVariants as pool_calls
+use Rattle.sync_model.specs.declared.pool_call.PoolCallReply.TheVariants as pool_replies
 use Rattle.mutex_core.specs.MutexMachine as mutex
 use Rattle.mutex_core.specs.declared.event.MutexEvent.{MutexEvent}
 use Rattle.rw_core.specs.RwMachine as rw
@@ -84,6 +86,16 @@ module _ (worker moment : ℕ) (P : pool.PoolState ℕ → Type 0) (keeps : (p :
   pool_keeps (pool_calls.Put item) p is = keeps p (pools.pool_event (pool_stage.Put item) moment) is
   pool_keeps pool_calls.Sweep p is = keeps p (pools.pool_event pool_stage.Sweep moment) is
   pool_keeps pool_calls.Get p is = found_keeps _ p is
+
+-- a get is answered by an item that was put, or by a new one
+module _ (worker moment : ℕ) (Q : Answer → Type 0) (put : (item : ℕ) → Q (answers.Completed (replies.Pool (pool_replies.Put item)))) (new : Q (answers.Completed (replies.Pool pool_replies.New))) where
+  found_or_answer : (step : pool.PoolState ℕ × Result PoolOutcome Answer) (rest : pool.PoolState ℕ → PoolStep) → ((p : pool.PoolState ℕ) → Q (rest p).1) → Q (found_or worker moment step rest).1
+  found_or_answer (p, Ok (Item item)) rest later = put item
+  found_or_answer (p, other) rest later = later p
+
+  pub found_answer : (looks : List PoolStage) (p : pool.PoolState ℕ) → Q (found_by worker moment looks p).1
+  found_answer [] p = new
+  found_answer (look ∷ looks) p = found_or_answer (pool_made worker moment look p) (found_by worker moment looks) (found_answer looks)
 
 -- the same, by kind
 module _ (worker moment : ℕ) where
