@@ -28,8 +28,6 @@ use Rattle.protocols.specs.declared.cond.CondStage.{CondStage}
 use Rattle.protocols.specs.declared.mutex.MutexStage.{MutexStage}
 use Rattle.protocols.specs.declared.rw_mutex.RwMutexStage.{RwMutexStage}
 use Rattle.protocols.specs.declared.wait_group.GroupStage.{GroupStage}
-use Rattle.protocols.specs.declared.pool.PoolOutcome.{PoolOutcome}
-use Rattle.protocols.specs.declared.pool.PoolOutcome.TheVariants.{Item}
 use Rattle.protocols.specs.declared.pool.PoolStage.{PoolStage}
 use Rattle.protocols.specs.declared.pool.PoolStage.TheVariants as pool_stage
 use Rattle.protocols.specs.PoolStages as pools
@@ -38,7 +36,7 @@ use Rattle.protocols.specs.declared.step.Step.TheVariants.{Finished, Misused, Wa
 use Rattle.step_turns.specs.declared.answer.Answer.{Answer}
 use Rattle.step_turns.specs.declared.answer.Answer.TheVariants as answers
 use Rattle.step_turns.specs.Due.{once_due}
-use Rattle.step_turns.specs.PoolTurn.{PoolStep, pool_made, found_or, found_by, pool_step}
+use Rattle.step_turns.specs.PoolTurn.{PoolStep, looked, found_or, found_by, pool_step}
 use Rattle.step_turns.specs.Stages.{outcome_of, make, answer_by}
 use Rattle.step_turns.specs.Turns.{once_made}
 
@@ -74,13 +72,13 @@ module _ {G O : Type 0} (Q : Answer → Type 0) (still : Q answers.Still) (unfin
 
 -- a call of a pool
 module _ (worker moment : ℕ) (P : pool.PoolState ℕ → Type 0) (keeps : (p : pool.PoolState ℕ) (e : PoolEvent ℕ) → P p → P (pool.next p worker e).0) where
-  found_or_keeps : (step : pool.PoolState ℕ × Result PoolOutcome Answer) (rest : pool.PoolState ℕ → PoolStep) → P step.0 → ((p : pool.PoolState ℕ) → P p → P (rest p).0) → P (found_or worker moment step rest).0
-  found_or_keeps (p, Ok (Item item)) rest is later = is
-  found_or_keeps (p, other) rest is later = later p is
+  found_or_keeps : (step : pool.PoolState ℕ × Option ℕ) (rest : pool.PoolState ℕ → PoolStep) → P step.0 → ((p : pool.PoolState ℕ) → P p → P (rest p).0) → P (found_or step rest).0
+  found_or_keeps (p, Some item) rest is later = is
+  found_or_keeps (p, None) rest is later = later p is
 
   found_keeps : (looks : List PoolStage) (p : pool.PoolState ℕ) → P p → P (found_by worker moment looks p).0
   found_keeps [] p is = is
-  found_keeps (look ∷ looks) p is = found_or_keeps (pool_made worker moment look p) (found_by worker moment looks) (keeps p (pools.pool_event look moment) is) (found_keeps looks)
+  found_keeps (look ∷ looks) p is = found_or_keeps (looked worker moment look p) (found_by worker moment looks) (keeps p (pools.pool_event look moment) is) (found_keeps looks)
 
   pub pool_keeps : (call : PoolCall) (p : pool.PoolState ℕ) → P p → P (pool_step worker moment call p).0
   pool_keeps (pool_calls.Put item) p is = keeps p (pools.pool_event (pool_stage.Put item) moment) is
@@ -89,13 +87,13 @@ module _ (worker moment : ℕ) (P : pool.PoolState ℕ → Type 0) (keeps : (p :
 
 -- a get is answered by an item that was put, or by a new one
 module _ (worker moment : ℕ) (Q : Answer → Type 0) (put : (item : ℕ) → Q (answers.Completed (replies.Pool (pool_replies.Put item)))) (new : Q (answers.Completed (replies.Pool pool_replies.New))) where
-  found_or_answer : (step : pool.PoolState ℕ × Result PoolOutcome Answer) (rest : pool.PoolState ℕ → PoolStep) → ((p : pool.PoolState ℕ) → Q (rest p).1) → Q (found_or worker moment step rest).1
-  found_or_answer (p, Ok (Item item)) rest later = put item
-  found_or_answer (p, other) rest later = later p
+  found_or_answer : (step : pool.PoolState ℕ × Option ℕ) (rest : pool.PoolState ℕ → PoolStep) → ((p : pool.PoolState ℕ) → Q (rest p).1) → Q (found_or step rest).1
+  found_or_answer (p, Some item) rest later = put item
+  found_or_answer (p, None) rest later = later p
 
   pub found_answer : (looks : List PoolStage) (p : pool.PoolState ℕ) → Q (found_by worker moment looks p).1
   found_answer [] p = new
-  found_answer (look ∷ looks) p = found_or_answer (pool_made worker moment look p) (found_by worker moment looks) (found_answer looks)
+  found_answer (look ∷ looks) p = found_or_answer (looked worker moment look p) (found_by worker moment looks) (found_answer looks)
 
 -- the same, by kind
 module _ (worker moment : ℕ) where

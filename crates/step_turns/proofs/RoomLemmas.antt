@@ -1,6 +1,6 @@
 -- Each turn leaves a pool room for the puts that are left to make on it.
 use Rattle.std.proofs.Common.{◌≡◌, ℕ, zero, suc, ◌+◌, ◌-◌, ◌*◌, ◌<◌, ◌≤◌, Bool, true, false, cond, eqb, ◌&&◌, List, [], ◌∷◌, map, length, set, replicate, Option, Some, None, refl, sym, ap, ◌∙◌, subst, arith}
-use Rattle.std.specs.Prelude.{ℤ, nat_lt, slice_get, Result, Ok}
+use Rattle.std.specs.Prelude.{ℤ, nat_lt, slice_get}
 use Rattle.std.specs.List.{range_with_len}
 use Rattle.std.specs.Option.{option_map}
 use Rattle.std.proofs.lemmas.Bool.{eq-eqb, lt-ltb}
@@ -21,8 +21,6 @@ use Rattle.pool_core.specs.declared.pool_event.PoolEvent.TheVariants as event
 use Rattle.pool_core.specs.declared.pool_event.PoolReply.{PoolReply}
 use Rattle.pool_core.specs.declared.pool_event.PoolReply.TheVariants as pool_reply
 use Rattle.protocols.specs.PoolStages.{pool_event}
-use Rattle.protocols.specs.declared.pool.PoolOutcome.{PoolOutcome}
-use Rattle.protocols.specs.declared.pool.PoolOutcome.TheVariants.{Item}
 use Rattle.workload.specs.Puts.{is_put}
 use Rattle.workload.specs.declared.object.ObjectKind.{ObjectKind}
 use Rattle.workload.specs.declared.object.ObjectKind.TheVariants as kinds
@@ -33,7 +31,7 @@ use Rattle.step_turns.specs.declared.object_state.ObjectState.TheVariants as sta
 use Rattle.step_turns.specs.Due.{stage_of}
 use Rattle.step_turns.specs.Objects.{new_object, EachAt}
 use Rattle.step_turns.specs.PoolRoom.{put_of, HavePartsRoom, HasPoolRoom, HasRoomFor, left_behind}
-use Rattle.step_turns.specs.PoolTurn.{PoolStep, pool_made, found_or, found_by, pool_step}
+use Rattle.step_turns.specs.PoolTurn.{PoolStep, pool_made, looked, found_or, found_by, pool_step}
 use Rattle.step_turns.specs.Turns.{turn_on, turn_on_both, turn_at}
 use Rattle.step_turns.proofs.AtObjects.{each_set, at_any}
 
@@ -155,15 +153,14 @@ look_fits left workers worker moment n p fit =
     subst (λ (e : PoolEvent ℕ). HasPoolRoom left (pool.next p worker e).0) (sym (event_back (look workers worker n) moment))
     (next_fits left p worker (look workers worker n) (pool_less (left + cost (look workers worker n)) left p (omega (arith, look_costs workers worker n)) fit))
 
-found_or_fits : (left worker moment : ℕ) (step : pool.PoolState ℕ × Result PoolOutcome Answer) (rest : pool.PoolState ℕ → PoolStep) → HasPoolRoom left step.0 → ((p : pool.PoolState ℕ) → HasPoolRoom left p → HasPoolRoom left (rest p).0)
-    → HasPoolRoom left (found_or worker moment step rest).0
-found_or_fits left worker moment (p, Ok (Item item)) rest fit later = fit
-found_or_fits left worker moment (p, other) rest fit later = later p fit
+found_or_fits : (left : ℕ) (step : pool.PoolState ℕ × Option ℕ) (rest : pool.PoolState ℕ → PoolStep) → HasPoolRoom left step.0 → ((p : pool.PoolState ℕ) → HasPoolRoom left p → HasPoolRoom left (rest p).0) → HasPoolRoom left (found_or step rest).0
+found_or_fits left (p, Some item) rest fit later = fit
+found_or_fits left (p, None) rest fit later = later p fit
 
 found_fits : (left workers worker moment : ℕ) (numbers : List ℕ) (p : pool.PoolState ℕ) → HasPoolRoom left p → HasPoolRoom left (found_by worker moment (map (λ number. stage_of (look workers worker number)) numbers) p).0
 found_fits left workers worker moment [] p fit = fit
 found_fits left workers worker moment (n ∷ numbers) p fit =
-    found_or_fits left worker moment (pool_made worker moment (stage_of (look workers worker n)) p) (found_by worker moment (map (λ number. stage_of (look workers worker number)) numbers))
+    found_or_fits left (looked worker moment (stage_of (look workers worker n)) p) (found_by worker moment (map (λ number. stage_of (look workers worker number)) numbers))
     (look_fits left workers worker moment n p fit) (found_fits left workers worker moment numbers)
 
 get_fits : (left worker moment : ℕ) (p : pool.PoolState ℕ) → HasPoolRoom left p → HasPoolRoom left (pool_step worker moment pool_calls.Get p).0

@@ -4,7 +4,7 @@ ghost use Rattle.pool_core.specs.PoolMachine as machine;
 ghost use Rattle.sync_model.specs.declared.call.Operation.TheVariants as operations;
 ghost use Rattle.step_turns.specs.declared.object_state.ObjectState.TheVariants as states;
 ghost use Rattle.step_turns.specs.Due.{looks_of};
-ghost use Rattle.step_turns.specs.PoolTurn.{found_by, pool_step};
+ghost use Rattle.step_turns.specs.PoolTurn.{looked, found_by, pool_step};
 ghost use Rattle.step_turns.specs.Turns.{turn_on};
 
 use crate::answer::Answer;
@@ -15,6 +15,16 @@ use pool_core::PoolCore;
 use protocols::{PoolOutcome, PoolStage};
 use sync_model::{PoolCall, PoolCallReply, Reply};
 
+/// Makes a look, and takes the item that it finds.
+fn look(pool: &mut PoolCore, taker: Taker, stage: PoolStage) -> Option<u64>
+    ensures { looked taker.worker taker.moment stage pool.old ≡ (pool.new, result) }
+{
+    match make::<PoolCore>(pool, taker, Some(stage)) {
+        Ok(PoolOutcome::Item(item)) => Some(item),
+        _ => None,
+    }
+}
+
 /// Takes the first item that a look finds. Where none does, the item is a new one.
 fn get(pool: &mut PoolCore, taker: Taker) -> Answer
     requires few { taker.workers ≤ 64 }
@@ -23,7 +33,7 @@ fn get(pool: &mut PoolCore, taker: Taker) -> Answer
 {
     for number in 0..2 * taker.workers {
         let stage = look_due(taker.workers, taker.worker, number);
-        if let Ok(PoolOutcome::Item(item)) = make::<PoolCore>(pool, taker, Some(stage)) {
+        if let Some(item) = look(pool, taker, stage) {
             return Answer::Completed(Reply::Pool(PoolCallReply::Put(item)));
         }
     }
