@@ -12,3 +12,6 @@ mod PoolLooks
 mod RangeLemmas
 mod RoomLemmas
 mod Writes
+pub mod OthersStand
+pub mod OwnStands
+pub mod ObjectsStand

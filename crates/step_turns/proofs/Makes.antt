@@ -46,10 +46,14 @@ OfDue P None = Unit {0}
 OfDue P (Some stage) = P stage
 
 module _ {S E R G O : Type 0} (next : S → ℕ → E → S × R) (event_of : G → ℕ → E) (meaning : G → R → Step G O) (worker moment : ℕ) where
+  -- what is so of the object, and behind each event
+  pub make_moves : (P : S → Type 0) (due : Option G) (s : S) → P s → ((e : E) → P (next s worker e).0) → P (make next event_of meaning worker moment due s).0
+  make_moves P None s is moved = is
+  make_moves P (Some stage) s is moved = moved (event_of stage moment)
+
   -- what each event keeps
   pub make_keeps : (P : S → Type 0) → ((s : S) (e : E) → P s → P (next s worker e).0) → (due : Option G) (s : S) → P s → P (make next event_of meaning worker moment due s).0
-  make_keeps P keeps None s is = is
-  make_keeps P keeps (Some stage) s is = keeps s (event_of stage moment) is
+  make_keeps P keeps due s is = make_moves P due s is (λ e. keeps s e is)
 
   -- by whether a stage is due
   pub make_by : (P : G → Type 0) (Q : S × Result O Answer → Type 0) (due : Option G) (s : S) → OfDue P due → Q (s, Err answers.Still)

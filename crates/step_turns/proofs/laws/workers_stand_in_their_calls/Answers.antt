@@ -1,0 +1,36 @@
+use Rattle.std.specs.Ordering.{nat_cmp}
+use Rattle.std.specs.Cmp.Lexicographic.{slice_cmp}
+use Rattle.step_turns.proofs.OthersStand.{Stands}
+use Rattle.step_turns.proofs.ObjectsStand.{at_own, at_other, new_out}
+use Rattle.step_turns.proofs.laws.workers_stand_in_their_calls.Goals as goal
+
+abbrev stands : goal.After-replies_have_their_form → Stands
+stands c = record {
+  mutexes = record {
+    moved = λ m x by e valid. c.moves.ensures.moved m x by e valid;
+    told = λ m x by e valid told. c.moves.ensures.told m x by e valid told;
+    unmoved = λ m x by e valid apart told. c.moves.ensures.unmoved m x by e valid apart told;
+    answered = c.standing.ensures.answered;
+  };
+  rw_mutexes = record {
+    others = λ m x by e valid apart. c.moves-2.ensures.others m x by e valid apart;
+    own = λ m x e valid. c.moves-2.ensures.own m x e valid;
+    answered = c.standing-2.ensures.answered;
+  };
+  forms = record {
+    map = λ call m. c.replies_have_their_form.ensures.map (slice_cmp nat_cmp) call m;
+    atomic = c.replies_have_their_form.ensures.atomic;
+  };
+}
+
+pub returns-clause-begins : goal.returns-clause-begins
+returns-clause-begins c worker workers room kind = new_out worker workers room kind
+
+pub returns-clause-own : goal.returns-clause-own
+returns-clause-own c workers worker moment call objects ready out = (at_own (stands c) workers worker call moment objects ready out).1
+
+pub returns-clause-others : goal.returns-clause-others
+returns-clause-others c workers worker other moment call but objects ready apart out = at_other (stands c) workers worker other call moment but objects ready apart out
+
+pub returns-clause-forms : goal.returns-clause-forms
+returns-clause-forms c workers worker moment call objects ready out = (at_own (stands c) workers worker call moment objects ready out).0
