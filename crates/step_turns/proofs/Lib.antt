@@ -1,6 +1,7 @@
 mod AtObjects
 mod AtomicTypes
 mod CompletesLemmas
+mod DueLemmas
 mod KeyLemmas
 mod LogLemmas
 mod MachineLaws

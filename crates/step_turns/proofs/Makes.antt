@@ -39,11 +39,7 @@ use Rattle.step_turns.specs.Due.{once_due}
 use Rattle.step_turns.specs.PoolTurn.{PoolStep, looked, found_or, found_by, pool_step}
 use Rattle.step_turns.specs.Stages.{outcome_of, make, answer_by}
 use Rattle.step_turns.specs.Turns.{once_made}
-
--- what is so of the stage that is due, if one is
-abbrev pub OfDue : {G : Type 0} → (G → Type 0) → Option G → Type 0
-OfDue P None = Unit {0}
-OfDue P (Some stage) = P stage
+use Rattle.step_turns.proofs.DueLemmas.{OfDue}
 
 module _ {S E R G O : Type 0} (next : S → ℕ → E → S × R) (event_of : G → ℕ → E) (meaning : G → R → Step G O) (worker moment : ℕ) where
   -- what is so of the object, and behind each event

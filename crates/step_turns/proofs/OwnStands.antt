@@ -2,7 +2,7 @@
 use Rattle.std.proofs.Common.{◌≡◌, ℕ, ◌*◌, ◌<◌, Bool, true, false, ◌&&◌, List, Option, Some, None, refl, sym, ap, ◌∙◌, subst, arith}
 use Rattle.std.specs.Prelude.{ℤ, if◌then◌else◌, Result}
 use Rattle.std.specs.Int.{w64, int_wrapping_add}
-use Rattle.std.proofs.lemmas.Bool.{lt-ltb, eq-eqb}
+use Rattle.std.proofs.lemmas.Bool.{eq-eqb}
 use Rattle.sync_model.specs.Replies.{is_reply_to}
 use Rattle.sync_model.specs.declared.atomic_object.Number.{Number}
 use Rattle.sync_model.specs.declared.atomic_object.Number.TheVariants.{Int64}
@@ -70,7 +70,8 @@ use Rattle.step_turns.specs.ReplyForm.{HasForm}
 use Rattle.step_turns.specs.Stages.{outcome_of, answer_by}
 use Rattle.step_turns.specs.Stands.{may_wait, IsOutAt}
 use Rattle.step_turns.specs.Turns.{turned, once_made, wait_turn, turn_on, turn_on_both}
-use Rattle.step_turns.proofs.Makes.{OfDue, make_by, step_answer, make_answer, found_answer}
+use Rattle.step_turns.proofs.DueLemmas.{OfDue, both_due, mutex_answer, mutex_answers, rw_answers}
+use Rattle.step_turns.proofs.Makes.{make_by, step_answer, make_answer, found_answer}
 use Rattle.step_turns.proofs.OthersStand.{MutexStands, RwStands, Forms, Stands, no, untold}
 
 -- ---- a worker's own turn
@@ -125,13 +126,13 @@ mutex_waits mutex_calls.Lock may = (may, refl)
 mutex_waits mutex_calls.Unlock may = no may
 mutex_waits mutex_calls.TryLock may = no may
 
-mutex_fits : (call : MutexCall) (p : MutexPlace) (now : ℕ) → (may_wait (operations.Mutex call) ≡ false → p ≡ mutex_place.Out) → OfDue (λ stage. MutexFits call p stage × (mutex.is_needed (mutex_event stage now) p ≡ true)) (mutex_due call p)
-mutex_fits mutex_calls.Lock mutex_place.Out now out = (((refl, refl), refl), refl)
-mutex_fits mutex_calls.Unlock mutex_place.Out now out = ((refl, refl), refl)
-mutex_fits mutex_calls.TryLock mutex_place.Out now out = ((λ taken. refl, refl), refl)
-mutex_fits call mutex_place.Waiting now out = tt
-mutex_fits call mutex_place.Woken now out = (mutex_waits call (waits_there mutex_place.Out mutex_place.Woken (may_wait (operations.Mutex call)) out (λ e. cc)), refl)
-mutex_fits call mutex_place.Handed now out = (mutex_waits call (waits_there mutex_place.Out mutex_place.Handed (may_wait (operations.Mutex call)) out (λ e. cc)), refl)
+mutex_fits : (call : MutexCall) (p : MutexPlace) → (may_wait (operations.Mutex call) ≡ false → p ≡ mutex_place.Out) → OfDue (MutexFits call p) (mutex_due call p)
+mutex_fits mutex_calls.Lock mutex_place.Out out = ((refl, refl), refl)
+mutex_fits mutex_calls.Unlock mutex_place.Out out = (refl, refl)
+mutex_fits mutex_calls.TryLock mutex_place.Out out = (λ taken. refl, refl)
+mutex_fits call mutex_place.Waiting out = tt
+mutex_fits call mutex_place.Woken out = mutex_waits call (waits_there mutex_place.Out mutex_place.Woken (may_wait (operations.Mutex call)) out (λ e. cc))
+mutex_fits call mutex_place.Handed out = mutex_waits call (waits_there mutex_place.Out mutex_place.Handed (may_wait (operations.Mutex call)) out (λ e. cc))
 
 -- the worker behind an answer to the stage's event
 mutex_stage_own : (call : MutexCall) (stage : MutexStage) (x now : ℕ) (p : MutexPlace) (n : mutex.State) (r : MutexReply) → MutexFits call p stage → mutex_standing.is_answer (mutex_event stage now) r ≡ true
@@ -151,21 +152,22 @@ mutex_stage_own call mutex_stage.Resume x now p n (mutex_reply.Resumed mutex_res
 mutex_stage_own call mutex_stage.Resume x now p n r fits is told at = no is
 
 -- behind a stage that fits where the worker stands
-mutex_made_own : MutexStands → (call : MutexCall) (stage : MutexStage) (x moment : ℕ) (p : MutexPlace) (m : mutex.State) → MutexFits call p stage → mutex.is_needed (mutex_event stage moment) p ≡ true → mutex.place_of m x ≡ p → x < m.callers → mutex.IsValid m
-    → let n = mutex.next m x (mutex_event stage moment) in MutexOwn call x (n.0, outcome_of (mutex_meaning stage n.1))
-mutex_made_own law call stage x moment p m fits needed at below valid =
+mutex_made_own : MutexStands → (call : MutexCall) (stage : MutexStage) (x moment : ℕ) (p : MutexPlace) (m : mutex.State) → MutexFits call p stage → mutex.place_of m x ≡ p → mutex.IsValid m
+    → let n = mutex.next m x (mutex_event stage moment) in mutex_standing.is_answer (mutex_event stage moment) n.1 ≡ true → MutexOwn call x (n.0, outcome_of (mutex_meaning stage n.1))
+mutex_made_own law call stage x moment p m fits at valid is =
     let e = mutex_event stage moment in
     let n = mutex.next m x e in
-    mutex_stage_own call stage x moment p n.0 n.1 fits
-    (law.answered m x e (ap (λ b. b && mutex.is_needed e (mutex.place_of m x)) (lt-ltb x m.callers below) ∙ ap (mutex.is_needed e) at ∙ needed))
+    mutex_stage_own call stage x moment p n.0 n.1 fits is
     (λ out. untold law m x x e valid (at ∙ out))
     (law.moved m x x e valid ∙ ap (λ (q : MutexPlace). mutex_moves.place_after x x q n.1) at)
 
 mutex_own : MutexStands → (call : MutexCall) (x moment : ℕ) (m : mutex.State) → x < m.callers → mutex.IsValid m → (may_wait (operations.Mutex call) ≡ false → mutex.place_of m x ≡ mutex_place.Out) → Own (operations.Mutex call) x (turn_on (operations.Mutex call) x moment (states.Mutex m))
 mutex_own law call x moment m below valid out =
     let p = mutex.place_of m x in
-    make_by mutex.next mutex_event mutex_meaning x moment (λ stage. MutexFits call p stage × (mutex.is_needed (mutex_event stage moment) p ≡ true)) (MutexOwn call x) (mutex_due call p) m
-    (mutex_fits call p moment out) (tt, out) (λ stage fits. mutex_made_own law call stage x moment p m fits.0 fits.1 refl below valid)
+    let Answered : MutexStage → Type 0 = λ stage. mutex_standing.is_answer (mutex_event stage moment) (mutex.next m x (mutex_event stage moment)).1 ≡ true in
+    make_by mutex.next mutex_event mutex_meaning x moment (λ stage. MutexFits call p stage × Answered stage) (MutexOwn call x) (mutex_due call p) m
+    (both_due (MutexFits call p) Answered (mutex_due call p) (mutex_fits call p out) (mutex_answers law.answered call m x moment below)) (tt, out)
+    (λ stage fits. mutex_made_own law call stage x moment p m fits.0 refl valid fits.1)
 
 -- ---- of a reader/writer mutex
 
@@ -192,19 +194,19 @@ rw_waits rw_calls.TryRLock may = no may
 rw_waits_at : (call : RwMutexCall) (p : RwPlace) → (may_wait (operations.RwMutex call) ≡ false → p ≡ rw_place.Out) → (p ≡ rw_place.Out → ⊥) → Waiting (operations.RwMutex call)
 rw_waits_at call p out elsewhere = rw_waits call (waits_there rw_place.Out p (may_wait (operations.RwMutex call)) out elsewhere)
 
-rw_fits : (call : RwMutexCall) (p : RwPlace) (now : ℕ) → (may_wait (operations.RwMutex call) ≡ false → p ≡ rw_place.Out) → OfDue (λ stage. RwFits call p stage × (rw.is_needed (rw_event stage now) p ≡ true)) (rw_due call p)
-rw_fits rw_calls.Lock rw_place.Out now out = (((refl, refl), refl), refl)
-rw_fits rw_calls.RLock rw_place.Out now out = (((refl, refl), refl), refl)
-rw_fits rw_calls.Unlock rw_place.Out now out = ((refl, refl), refl)
-rw_fits rw_calls.RUnlock rw_place.Out now out = ((refl, refl), refl)
-rw_fits rw_calls.TryLock rw_place.Out now out = ((λ taken. refl, refl), refl)
-rw_fits rw_calls.TryRLock rw_place.Out now out = ((λ taken. refl, refl), refl)
-rw_fits call rw_place.Queued now out = tt
-rw_fits call rw_place.Waiting now out = tt
-rw_fits call rw_place.Woken now out = (rw_waits_at call rw_place.Woken out (λ e. cc), refl)
-rw_fits call rw_place.Handed now out = (rw_waits_at call rw_place.Handed out (λ e. cc), refl)
-rw_fits call rw_place.Granted now out = (rw_waits_at call rw_place.Granted out (λ e. cc), refl)
-rw_fits call rw_place.Admitted now out = (rw_waits_at call rw_place.Admitted out (λ e. cc), refl)
+rw_fits : (call : RwMutexCall) (p : RwPlace) → (may_wait (operations.RwMutex call) ≡ false → p ≡ rw_place.Out) → OfDue (RwFits call p) (rw_due call p)
+rw_fits rw_calls.Lock rw_place.Out out = ((refl, refl), refl)
+rw_fits rw_calls.RLock rw_place.Out out = ((refl, refl), refl)
+rw_fits rw_calls.Unlock rw_place.Out out = (refl, refl)
+rw_fits rw_calls.RUnlock rw_place.Out out = (refl, refl)
+rw_fits rw_calls.TryLock rw_place.Out out = (λ taken. refl, refl)
+rw_fits rw_calls.TryRLock rw_place.Out out = (λ taken. refl, refl)
+rw_fits call rw_place.Queued out = tt
+rw_fits call rw_place.Waiting out = tt
+rw_fits call rw_place.Woken out = rw_waits_at call rw_place.Woken out (λ e. cc)
+rw_fits call rw_place.Handed out = rw_waits_at call rw_place.Handed out (λ e. cc)
+rw_fits call rw_place.Granted out = rw_waits_at call rw_place.Granted out (λ e. cc)
+rw_fits call rw_place.Admitted out = rw_waits_at call rw_place.Admitted out (λ e. cc)
 
 rw_stage_own : (call : RwMutexCall) (stage : RwMutexStage) (x now : ℕ) (p : RwPlace) (n : rw.State) (r : RwReply) → RwFits call p stage → rw_standing.is_answer (rw_event stage now) r ≡ true
     → rw_moves.MovesOwn r p (rw.place_of n x) → RwOwn call x (n, outcome_of (rw_meaning stage r))
@@ -236,13 +238,10 @@ rw_stage_own call rw_stage.LeaveReading x now p n r fits is moves = no is
 rw_own : RwStands → (call : RwMutexCall) (x moment : ℕ) (m : rw.State) → x < m.callers → rw.IsValid m → (may_wait (operations.RwMutex call) ≡ false → rw.place_of m x ≡ rw_place.Out) → Own (operations.RwMutex call) x (turn_on (operations.RwMutex call) x moment (states.RwMutex m))
 rw_own law call x moment m below valid out =
     let p = rw.place_of m x in
-    make_by rw.next rw_event rw_meaning x moment (λ stage. RwFits call p stage × (rw.is_needed (rw_event stage moment) p ≡ true)) (RwOwn call x) (rw_due call p) m
-    (rw_fits call p moment out) (tt, out)
-    (λ stage fits.
-    let e = rw_event stage moment in
-    let n = rw.next m x e in
-    rw_stage_own call stage x moment p n.0 n.1 fits.0
-    (law.answered m x e (ap (λ b. b && rw.is_needed e p) (lt-ltb x m.callers below) ∙ fits.1)) (law.own m x e valid))
+    let Answered : RwMutexStage → Type 0 = λ stage. rw_standing.is_answer (rw_event stage moment) (rw.next m x (rw_event stage moment)).1 ≡ true in
+    make_by rw.next rw_event rw_meaning x moment (λ stage. RwFits call p stage × Answered stage) (RwOwn call x) (rw_due call p) m
+    (both_due (RwFits call p) Answered (rw_due call p) (rw_fits call p out) (rw_answers law.answered call m x moment below)) (tt, out)
+    (λ stage fits. let n = rw.next m x (rw_event stage moment) in rw_stage_own call stage x moment p n.0 n.1 fits.0 fits.1 (law.own m x (rw_event stage moment) valid))
 
 -- ---- of a cond and its mutex
 
@@ -274,14 +273,14 @@ wait_own law mutex_place.Out notify_place.Out x moment place c m at below valid 
 wait_own law mutex_place.Out notify_place.Waiting x moment place c m at below valid = (tt, goes_on x (states.Mutex m))
 wait_own law mutex_place.Out notify_place.Notified x moment place c m at below valid =
     let n = mutex.next m x (mutex_event mutex_stage.Lock moment) in
-    locks_again x n.0 mutex_stage.Lock (mutex_meaning mutex_stage.Lock n.1) (λ outcome. refl) (mutex_made_own law mutex_calls.Lock mutex_stage.Lock x moment mutex_place.Out m ((refl, refl), refl) refl at below valid)
+    locks_again x n.0 mutex_stage.Lock (mutex_meaning mutex_stage.Lock n.1) (λ outcome. refl) (mutex_made_own law mutex_calls.Lock mutex_stage.Lock x moment mutex_place.Out m ((refl, refl), refl) at valid (mutex_answer law.answered mutex_stage.Lock mutex_place.Out m x moment at below refl))
 wait_own law mutex_place.Waiting at_cond x moment place c m at below valid = (tt, goes_on x (states.Mutex m))
 wait_own law mutex_place.Woken at_cond x moment place c m at below valid =
     let n = mutex.next m x (mutex_event mutex_stage.Resume moment) in
-    locks_again x n.0 mutex_stage.Resume (mutex_meaning mutex_stage.Resume n.1) (λ outcome. refl) (mutex_made_own law mutex_calls.Lock mutex_stage.Resume x moment mutex_place.Woken m (refl, refl) refl at below valid)
+    locks_again x n.0 mutex_stage.Resume (mutex_meaning mutex_stage.Resume n.1) (λ outcome. refl) (mutex_made_own law mutex_calls.Lock mutex_stage.Resume x moment mutex_place.Woken m (refl, refl) at valid (mutex_answer law.answered mutex_stage.Resume mutex_place.Woken m x moment at below refl))
 wait_own law mutex_place.Handed at_cond x moment place c m at below valid =
     let n = mutex.next m x (mutex_event mutex_stage.Resume moment) in
-    locks_again x n.0 mutex_stage.Resume (mutex_meaning mutex_stage.Resume n.1) (λ outcome. refl) (mutex_made_own law mutex_calls.Lock mutex_stage.Resume x moment mutex_place.Handed m (refl, refl) refl at below valid)
+    locks_again x n.0 mutex_stage.Resume (mutex_meaning mutex_stage.Resume n.1) (λ outcome. refl) (mutex_made_own law mutex_calls.Lock mutex_stage.Resume x moment mutex_place.Handed m (refl, refl) at valid (mutex_answer law.answered mutex_stage.Resume mutex_place.Handed m x moment at below refl))
 
 -- ---- of the others, at which nobody is
 
