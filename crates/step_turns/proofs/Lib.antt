@@ -8,6 +8,7 @@ mod MachineLaws
 mod Makes
 mod NewObjects
 mod ObjectKeeps
+mod ObjectUses
 mod PairLemmas
 mod PoolLooks
 mod RangeLemmas
