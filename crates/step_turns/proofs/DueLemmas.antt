@@ -34,7 +34,6 @@ use Rattle.protocols.specs.OnceStages.{once_event}
 use Rattle.protocols.specs.RwMutexStages.{rw_event}
 use Rattle.protocols.specs.declared.mutex.MutexStage.{MutexStage}
 use Rattle.protocols.specs.declared.once.OnceStage.{OnceStage}
-use Rattle.protocols.specs.declared.rw_mutex.RwMutexStage.{RwMutexStage}
 use Rattle.protocols.specs.declared.wait_group.GroupStage.{GroupStage}
 use Rattle.step_turns.specs.Due.{mutex_due, rw_due, group_due, once_due}
 use Rattle.step_turns.proofs.MachineLaws.{GroupUses, OnceUses}

@@ -1,6 +1,6 @@
 -- What the stages of a turn leave as it was, and what is so of the turn's answers.
-use Rattle.std.proofs.Common.{◌≡◌, ℕ, ◌+◌, ◌<◌, ◌≤◌, List, [], ◌∷◌, Option, Some, None}
-use Rattle.std.specs.Prelude.{Result, Ok, Err}
+use Rattle.std.proofs.Common.{ℕ, List, [], ◌∷◌, Option, Some, None}
+use Rattle.std.specs.Prelude.{Result, Err}
 use Rattle.sync_model.specs.declared.call.Reply.TheVariants as replies
 use Rattle.sync_model.specs.declared.misuse.Misuse.{Misuse}
 use Rattle.sync_model.specs.declared.pool_call.PoolCall.{PoolCall}

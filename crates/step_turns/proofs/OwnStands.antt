@@ -1,5 +1,5 @@
 -- Behind a worker's own turn it is out where its call doesn't wait, and a reply has the form of its call's.
-use Rattle.std.proofs.Common.{◌≡◌, ℕ, ◌*◌, ◌<◌, Bool, true, false, ◌&&◌, List, Option, Some, None, refl, sym, ap, ◌∙◌, subst, arith}
+use Rattle.std.proofs.Common.{◌≡◌, ℕ, ◌*◌, ◌<◌, Bool, true, false, List, Some, refl, sym, ap, ◌∙◌, subst, arith}
 use Rattle.std.specs.Prelude.{ℤ, if◌then◌else◌, Result}
 use Rattle.std.specs.Int.{w64, int_wrapping_add}
 use Rattle.std.proofs.lemmas.Bool.{eq-eqb}
@@ -72,7 +72,7 @@ use Rattle.step_turns.specs.Stands.{may_wait, IsOutAt}
 use Rattle.step_turns.specs.Turns.{turned, once_made, wait_turn, turn_on, turn_on_both}
 use Rattle.step_turns.proofs.DueLemmas.{OfDue, both_due, mutex_answer, mutex_answers, rw_answers}
 use Rattle.step_turns.proofs.Makes.{make_by, step_answer, make_answer, found_answer}
-use Rattle.step_turns.proofs.OthersStand.{MutexStands, RwStands, Forms, Stands, no, untold}
+use Rattle.step_turns.proofs.OthersStand.{MutexStands, RwStands, Stands, no, untold}
 
 -- ---- a worker's own turn
 

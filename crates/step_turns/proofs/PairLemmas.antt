@@ -1,5 +1,5 @@
 -- The keys of maps behind a turn, and the pairs that its reply shows.
-use Rattle.std.proofs.Common.{◌≡◌, ℕ, ◌*◌, ◌≤◌, true, List, [], ◌∷◌, length, set, refl, arith}
+use Rattle.std.proofs.Common.{◌≡◌, ℕ, ◌*◌, ◌≤◌, true, List, length, set, refl, arith}
 use Rattle.std.specs.Prelude.{ℤ, Option, Some}
 use Rattle.std.specs.Int.{w64, int_wrapping_add}
 use Rattle.std.specs.FinMap.{entries, len-entries}

@@ -1,5 +1,5 @@
 -- The turn of a worker that stands before a call, at the objects of a run.
-use Rattle.std.specs.Prelude.{ℕ, ℤ, List, set, slice_get, Option, Some, None, Result, Ok, Err}
+use Rattle.std.specs.Prelude.{ℕ, ℤ, List, set, slice_get, Option, Some, None, Result, Ok}
 use Rattle.std.specs.FinMap.{entries}
 use Rattle.std.specs.Option.{option_map_or}
 use Rattle.sync_model.specs.SequentialAtomic.{atomic_reply, atomic_after}
