@@ -6,34 +6,35 @@ ghost use Rattle.step_turns.specs.Due.{mutex_due, rw_due, locked, group_due, ret
 ghost use Rattle.step_turns.specs.Stages.{answer_by};
 
 use crate::answer::Answer;
-use mutex_core::Place;
+use mutex_core::Place as MutexPlace;
 use protocols::{CondStage, GroupStage, MutexStage, OnceStage, PoolStage, RwMutexStage};
+use rw_core::Place as RwPlace;
 use sync_model::{LockReply, MutexCall, Reply, RwMutexCall, WaitGroupCall};
 use wait_cores::{GroupPlace, NotifyPlace, OncePlace};
 
 /// Of a call of a mutex: its first stage where the worker is out, and the going on where it was woken or
 /// handed the mutex.
-pub(crate) fn mutex_due(call: MutexCall, place: Place) -> Option<MutexStage>
+pub(crate) fn mutex_due(call: MutexCall, place: MutexPlace) -> Option<MutexStage>
     ensures { result ≡ mutex_due call place }
 {
     match place {
-        Place::Out => Some(match call {
+        MutexPlace::Out => Some(match call {
             MutexCall::Lock => MutexStage::Lock,
             MutexCall::Unlock => MutexStage::Unlock,
             MutexCall::TryLock => MutexStage::TryLock,
         }),
-        Place::Waiting => None,
-        Place::Woken | Place::Handed => Some(MutexStage::Resume),
+        MutexPlace::Waiting => None,
+        MutexPlace::Woken | MutexPlace::Handed => Some(MutexStage::Resume),
     }
 }
 
 /// Of a call of a reader/writer mutex. A writer that was granted the lock, and a reader that was admitted,
 /// leave.
-pub(crate) fn rw_due(call: RwMutexCall, place: rw_core::Place) -> Option<RwMutexStage>
+pub(crate) fn rw_due(call: RwMutexCall, place: RwPlace) -> Option<RwMutexStage>
     ensures { result ≡ rw_due call place }
 {
     match place {
-        rw_core::Place::Out => Some(match call {
+        RwPlace::Out => Some(match call {
             RwMutexCall::Lock => RwMutexStage::Lock,
             RwMutexCall::Unlock => RwMutexStage::Unlock,
             RwMutexCall::TryLock => RwMutexStage::TryLock,
@@ -41,10 +42,10 @@ pub(crate) fn rw_due(call: RwMutexCall, place: rw_core::Place) -> Option<RwMutex
             RwMutexCall::RUnlock => RwMutexStage::RUnlock,
             RwMutexCall::TryRLock => RwMutexStage::TryRLock,
         }),
-        rw_core::Place::Queued | rw_core::Place::Waiting => None,
-        rw_core::Place::Woken | rw_core::Place::Handed => Some(RwMutexStage::Resume),
-        rw_core::Place::Granted => Some(RwMutexStage::LeaveWriting),
-        rw_core::Place::Admitted => Some(RwMutexStage::LeaveReading),
+        RwPlace::Queued | RwPlace::Waiting => None,
+        RwPlace::Woken | RwPlace::Handed => Some(RwMutexStage::Resume),
+        RwPlace::Granted => Some(RwMutexStage::LeaveWriting),
+        RwPlace::Admitted => Some(RwMutexStage::LeaveReading),
     }
 }
 
@@ -87,19 +88,19 @@ pub(crate) fn returned(made: Result<(), Answer>) -> Answer
 /// is one, and the one behind it at the mutex. It takes a ticket and unlocks the mutex; once it is notified
 /// it leaves the cond and locks the mutex again, and there it goes on as a lock does.
 pub(crate) fn wait_due(
-    at_mutex: Place,
+    at_mutex: MutexPlace,
     at_cond: NotifyPlace,
 ) -> (Option<CondStage>, Option<MutexStage>)
     ensures { result ≡ wait_due at_mutex at_cond }
 {
     match at_mutex {
-        Place::Out => match at_cond {
+        MutexPlace::Out => match at_cond {
             NotifyPlace::Out => (Some(CondStage::Ticket), Some(MutexStage::Unlock)),
             NotifyPlace::Waiting => (None, None),
             NotifyPlace::Notified => (Some(CondStage::Leave), Some(MutexStage::Lock)),
         },
-        Place::Waiting => (None, None),
-        Place::Woken | Place::Handed => (None, Some(MutexStage::Resume)),
+        MutexPlace::Waiting => (None, None),
+        MutexPlace::Woken | MutexPlace::Handed => (None, Some(MutexStage::Resume)),
     }
 }
 
