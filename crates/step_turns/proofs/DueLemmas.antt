@@ -48,7 +48,7 @@ module _ {G : Type 0} where
   both_due P Q None p q = tt
   both_due P Q (Some stage) p q = (p, q)
 
-  each_due : (P Q : G → Type 0) (due : Option G) → ((stage : G) → P stage → Q stage) → OfDue P due → OfDue Q due
+  pub each_due : (P Q : G → Type 0) (due : Option G) → ((stage : G) → P stage → Q stage) → OfDue P due → OfDue Q due
   each_due P Q None each p = tt
   each_due P Q (Some stage) each p = each stage p
 

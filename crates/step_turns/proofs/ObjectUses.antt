@@ -1,5 +1,5 @@
 -- What a turn uses up at the objects that it touches.
-use Rattle.std.proofs.Common.{◌≡◌, ◌≢◌, ℕ, ◌+◌, ◌*◌, ◌<◌, ◌≤◌, Bool, true, false, List, set, Some, refl, sym, ap, ◌∙◌, arith}
+use Rattle.std.proofs.Common.{◌≡◌, ◌≢◌, ℕ, ◌+◌, ◌*◌, ◌<◌, ◌≤◌, Bool, true, false, List, set, Option, Some, None, refl, sym, ap, ◌∙◌, arith}
 use Rattle.std.specs.Prelude.{ℤ, slice_get, sum_by, Result, Ok, Err}
 use Rattle.std.specs.Int.{w64, int_wrapping_add}
 use Rattle.std.proofs.lemmas.List.Sums.{sum_by-set}
@@ -62,6 +62,7 @@ use Rattle.protocols.specs.declared.once.OnceStage.{OnceStage}
 use Rattle.protocols.specs.declared.once.OnceStage.TheVariants as once_stage
 use Rattle.protocols.specs.declared.rw_mutex.RwMutexStage.{RwMutexStage}
 use Rattle.protocols.specs.declared.rw_mutex.RwMutexStage.TheVariants as rw_stage
+use Rattle.protocols.specs.declared.step.Step.{Step}
 use Rattle.protocols.specs.declared.wait_group.GroupStage.{GroupStage}
 use Rattle.protocols.specs.declared.wait_group.GroupStage.TheVariants as group_stage
 use Rattle.step_turns.specs.declared.answer.Answer.{Answer}
@@ -74,11 +75,11 @@ use Rattle.step_turns.specs.ObjectLeft.{object_left, UsesBy}
 use Rattle.step_turns.specs.Objects.{IsMachineOf}
 use Rattle.step_turns.specs.PoolTurn.{pool_step}
 use Rattle.step_turns.specs.Ready.{IsReady}
-use Rattle.step_turns.specs.Stages.{outcome_of, answer_by}
+use Rattle.step_turns.specs.Stages.{outcome_of, make, answer_by}
 use Rattle.step_turns.specs.Turns.{turned, once_made, number_after, wait_turn, turn_on, turn_on_both, with_object, with_both, turn_at}
 use Rattle.step_turns.proofs.AtObjects.{at_ready}
 use Rattle.step_turns.proofs.CompletesLemmas.{pool_completes}
-use Rattle.step_turns.proofs.DueLemmas.{GroupAnswer, OnceAnswer, mutex_answer, mutex_answers, rw_answers, group_answers, once_answers}
+use Rattle.step_turns.proofs.DueLemmas.{OfDue, each_due, OnceAnswer, mutex_answer, mutex_answers, rw_answers, group_answers, once_answers}
 use Rattle.step_turns.proofs.MachineLaws.{MutexUses, RwUses, OnceUses, Uses}
 use Rattle.step_turns.proofs.Makes.{make_by}
 use Rattle.step_turns.proofs.OthersStand.{no}
@@ -216,43 +217,57 @@ module _ {T : Type 0} where
   once_answer_uses ran had old new same (Err answers.Still) left = absurd left
   once_answer_uses ran had old new same (Err (answers.Completed reply)) left = absurd left
 
--- ---- locks
+-- ---- at a machine
+
+-- a reply gives room for less than four
+completed_uses : (a : Answer) (old new : ℕ) (same : Type 0) → IsCompleted a → new ≤ old + 3 → UsesBy old new same a
+completed_uses answers.Still old new same is more = absurd is
+completed_uses answers.Unfinished old new same is more = absurd is
+completed_uses (answers.Completed reply) old new same is more = omega (arith, more)
+completed_uses (answers.Misused misuse) old new same is more = absurd is
+
+module _ {S E R G O : Type 0} (next : S → ℕ → E → S × R) (event_of : G → ℕ → E) (meaning : G → R → Step G O) (worker moment : ℕ) (left_at : S → ℕ) (s : S) where
+  -- what the stage that is due leaves
+  abbrev LeftBy : G → Type 0
+  LeftBy stage = let n = next s worker (event_of stage moment) in Left 3 1 (left_at s) (left_at n.0) (outcome_of (meaning stage n.1))
+
+  -- where each outcome completes the call
+  made_uses : (read : O → Answer) → ((outcome : O) → IsCompleted (read outcome)) → (Same : S → Type 0) → Same s → (due : Option G) → OfDue LeftBy due
+      → let made = make next event_of meaning worker moment due s in UsesBy (left_at s) (left_at made.0) (Same made.0) (answer_by read made.1)
+  made_uses read completes Same same None left = same
+  made_uses read completes Same same (Some stage) left =
+      let n = next s worker (event_of stage moment) in
+      let new = left_at n.0 in
+      answer_uses read 3 1 (left_at s) new (left_at s) new (Same n.0) (outcome_of (meaning stage n.1)) left (λ outcome more. completed_uses (read outcome) (left_at s) new (Same n.0) (completes outcome) more) (λ less. omega (arith, less))
+
+-- a mutex counts twice
+twice : {O : Type 0} (old new : ℕ) (r : Result O Answer) → Left 1 1 old new r → Left 3 1 (2 * old) (2 * new) r
+twice old new (Ok outcome) left = omega (arith, left)
+twice old new (Err answers.Unfinished) left = omega (arith, left)
+twice old new (Err (answers.Misused misuse)) left = tt
+twice old new (Err answers.Still) left = absurd left
+twice old new (Err (answers.Completed reply)) left = absurd left
 
 mutex_uses : MutexUses → (call : MutexCall) (worker moment : ℕ) (m : mutex.State) → worker < m.callers → mutex.IsValid m → ObjectUses (states.Mutex m) (turn_on (operations.Mutex call) worker moment (states.Mutex m))
 mutex_uses law call worker moment m below valid =
-    make_by mutex.next mutex_event mutex_meaning worker moment (λ stage. mutex_standing.is_answer (mutex_event stage moment) (mutex.next m worker (mutex_event stage moment)).1 ≡ true)
-    (λ made. ObjectUses (states.Mutex m) (turned states.Mutex locked made)) (mutex_due call (mutex.place_of m worker)) m (mutex_answers law.answered call m worker moment below) refl
-    (λ stage is.
-    let n = mutex.next m worker (mutex_event stage moment) in
-    let old = mutex_left.events_left m in
-    let new = mutex_left.events_left n.0 in
-    answer_uses locked 1 1 old new (2 * old) (2 * new) (states.Mutex n.0 ≡ states.Mutex m) (outcome_of (mutex_meaning stage n.1)) (mutex_leaves stage moment n.1 old new is (law.used m worker (mutex_event stage moment) valid))
-    (λ outcome more. omega (arith, more)) (λ less. omega (arith, less)))
+    let due = mutex_due call (mutex.place_of m worker) in
+    made_uses mutex.next mutex_event mutex_meaning worker moment (λ n. 2 * mutex_left.events_left n) m locked (λ outcome. tt) (λ n. states.Mutex n ≡ states.Mutex m) refl due
+    (each_due _ _ due (λ stage is. let n = mutex.next m worker (mutex_event stage moment) in
+    twice (mutex_left.events_left m) (mutex_left.events_left n.0) (outcome_of (mutex_meaning stage n.1)) (mutex_leaves stage moment n.1 _ _ is (law.used m worker (mutex_event stage moment) valid)))
+    (mutex_answers law.answered call m worker moment below))
 
 rw_uses : RwUses → (call : RwMutexCall) (worker moment : ℕ) (m : rw.State) → worker < m.callers → rw.IsValid m → ObjectUses (states.RwMutex m) (turn_on (operations.RwMutex call) worker moment (states.RwMutex m))
 rw_uses law call worker moment m below valid =
-    make_by rw.next rw_event rw_meaning worker moment (λ stage. rw_standing.is_answer (rw_event stage moment) (rw.next m worker (rw_event stage moment)).1 ≡ true)
-    (λ made. ObjectUses (states.RwMutex m) (turned states.RwMutex locked made)) (rw_due call (rw.place_of m worker)) m (rw_answers law.answered call m worker moment below) refl
-    (λ stage is.
-    let n = rw.next m worker (rw_event stage moment) in
-    let old = rw_left.events_left m in
-    let new = rw_left.events_left n.0 in
-    answer_uses locked 3 1 old new old new (states.RwMutex n.0 ≡ states.RwMutex m) (outcome_of (rw_meaning stage n.1)) (rw_leaves stage moment n.1 old new is (law.used m worker (rw_event stage moment) valid))
-    (λ outcome more. omega (arith, more)) (λ less. omega (arith, less)))
-
--- ---- what waits
+    let due = rw_due call (rw.place_of m worker) in
+    made_uses rw.next rw_event rw_meaning worker moment rw_left.events_left m locked (λ outcome. tt) (λ n. states.RwMutex n ≡ states.RwMutex m) refl due
+    (each_due _ _ due (λ stage is. rw_leaves stage moment (rw.next m worker (rw_event stage moment)).1 _ _ is (law.used m worker (rw_event stage moment) valid)) (rw_answers law.answered call m worker moment below))
 
 group_uses : Uses → (call : WaitGroupCall) (worker moment first : ℕ) (g : group.GroupState) → worker < group.callers_of g → ObjectUses (states.WaitGroup g first) (turn_on (operations.WaitGroup call) worker moment (states.WaitGroup g first))
 group_uses uses call worker moment first g below =
-    make_by group.next group_event group_meaning worker moment (GroupAnswer g worker moment) (λ made. ObjectUses (states.WaitGroup g first) (turned (λ h. states.WaitGroup h first) returned made)) (group_due call (group.place_of g worker)) g
-    (group_answers uses.groups call g worker moment below) refl
-    (λ stage is.
-    let n = group.next g worker (group_event stage moment) in
-    let old = group_left g in
-    let new = group_left n.0 in
-    answer_uses returned 3 1 old new old new (states.WaitGroup n.0 first ≡ states.WaitGroup g first) (outcome_of (group_meaning stage n.1))
-    (group_leaves stage moment (group_standing.waits_at g worker) n.1 old new is.0 is.1 (uses.groups.used g worker (group_event stage moment)))
-    (λ outcome more. omega (arith, more)) (λ less. omega (arith, less)))
+    let due = group_due call (group.place_of g worker) in
+    made_uses group.next group_event group_meaning worker moment group_left g returned (λ outcome. tt) (λ h. states.WaitGroup h first ≡ states.WaitGroup g first) refl due
+    (each_due _ _ due (λ stage is. group_leaves stage moment (group_standing.waits_at g worker) (group.next g worker (group_event stage moment)).1 _ _ is.0 is.1 (uses.groups.used g worker (group_event stage moment)))
+    (group_answers uses.groups call g worker moment below))
 
 -- with whatever else it leaves, the same where no stage is due
 module _ {T : Type 0} (law : OnceUses T) (ran : Reply (List ℕ)) (had : T → Reply (List ℕ)) (worker moment : ℕ) (value : T) (o : once.OnceState T) (below : worker < once.callers_of o) where
@@ -265,12 +280,6 @@ module _ {T : Type 0} (law : OnceUses T) (ran : Reply (List ℕ)) (had : T → R
       let r = outcome_of (once_meaning stage n.1) in
       once_answer_uses ran had (once_left o) (once_left n.0) (Same (n.0, r)) r
       (once_leaves stage moment (once_standing.waits_at o worker) (once_standing.runs_at o worker) n.1 (once_left o) (once_left n.0) is.0 is.1 (law.used o worker (once_event stage moment))))
-
-completed_uses : (a : Answer) (same : Type 0) → IsCompleted a → UsesBy 0 0 same a
-completed_uses answers.Still same is = absurd is
-completed_uses answers.Unfinished same is = absurd is
-completed_uses (answers.Completed reply) same is = omega arith
-completed_uses (answers.Misused misuse) same is = absurd is
 
 -- ---- any object that refers to no other
 
@@ -287,7 +296,7 @@ turn_uses uses workers operations.OnceValue worker moment (states.OnceValue o va
     once_uses uses.giving (replies.OnceValue value) replies.OnceValue worker moment value o (omega (arith, below, is)) (λ made. states.OnceValue made.0 value ≡ states.OnceValue o value) refl
 turn_uses uses workers (operations.Pool call) worker moment (states.Pool p) below is =
     let step = pool_step worker moment call p in
-    completed_uses step.1 (states.Pool step.0 ≡ states.Pool p) (pool_completes worker moment call p)
+    completed_uses step.1 0 0 (states.Pool step.0 ≡ states.Pool p) (pool_completes worker moment call p) (omega arith)
 turn_uses uses workers operation worker moment o below is = refl
 
 -- ---- a cond and its mutex

@@ -34,6 +34,10 @@ pub(crate) fn rw_due(call: RwMutexCall, place: RwPlace) -> Option<RwMutexStage>
     ensures { result ≡ rw_due call place }
 {
     match place {
+        RwPlace::Queued | RwPlace::Waiting => None,
+        RwPlace::Woken | RwPlace::Handed => Some(RwMutexStage::Resume),
+        RwPlace::Granted => Some(RwMutexStage::LeaveWriting),
+        RwPlace::Admitted => Some(RwMutexStage::LeaveReading),
         RwPlace::Out => Some(match call {
             RwMutexCall::Lock => RwMutexStage::Lock,
             RwMutexCall::Unlock => RwMutexStage::Unlock,
@@ -42,10 +46,6 @@ pub(crate) fn rw_due(call: RwMutexCall, place: RwPlace) -> Option<RwMutexStage>
             RwMutexCall::RUnlock => RwMutexStage::RUnlock,
             RwMutexCall::TryRLock => RwMutexStage::TryRLock,
         }),
-        RwPlace::Queued | RwPlace::Waiting => None,
-        RwPlace::Woken | RwPlace::Handed => Some(RwMutexStage::Resume),
-        RwPlace::Granted => Some(RwMutexStage::LeaveWriting),
-        RwPlace::Admitted => Some(RwMutexStage::LeaveReading),
     }
 }
 

@@ -21,8 +21,7 @@ pub(crate) fn take_mutex_turn(object: &mut ObjectState, call: MutexCall, taker: 
 {
     match object {
         ObjectState::Mutex(mutex) => {
-            let due = mutex_due(call, mutex.place(taker.worker));
-            locked(make::<MutexCore>(mutex, taker, due))
+            locked(make::<MutexCore>(mutex_due(call, mutex.place(taker.worker)), mutex, taker))
         }
         _ => Answer::Still,
     }
@@ -39,8 +38,7 @@ pub(crate) fn take_rw_mutex_turn(
 {
     match object {
         ObjectState::RwMutex(lock) => {
-            let due = rw_due(call, lock.place(taker.worker));
-            locked(make::<RwCore>(lock, taker, due))
+            locked(make::<RwCore>(rw_due(call, lock.place(taker.worker)), lock, taker))
         }
         _ => Answer::Still,
     }

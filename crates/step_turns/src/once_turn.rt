@@ -37,7 +37,7 @@ fn make_stage<T: Copy>(
     ensures { once_made taker.worker taker.moment value once.old ≡ (once.new, result) }
 {
     let due = once_due(value, runs(once, taker.worker), once.place(taker.worker));
-    make::<OnceCore<T>>(once, taker, due)
+    make::<OnceCore<T>>(due, once, taker)
 }
 
 /// Takes a turn at a once whose function adds this amount to the number.

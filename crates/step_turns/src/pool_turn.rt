@@ -19,7 +19,7 @@ use sync_model::{PoolCall, PoolCallReply, Reply};
 fn look(pool: &mut PoolCore, taker: Taker, stage: PoolStage) -> Option<u64>
     ensures { looked taker.worker taker.moment stage pool.old ≡ (pool.new, result) }
 {
-    match make::<PoolCore>(pool, taker, Some(stage)) {
+    match make::<PoolCore>(Some(stage), pool, taker) {
         Ok(PoolOutcome::Item(item)) => Some(item),
         _ => None,
     }
@@ -49,12 +49,12 @@ fn take_step(pool: &mut PoolCore, call: PoolCall, taker: Taker) -> Answer
 {
     match call {
         PoolCall::Put(item) => {
-            let _kept = make::<PoolCore>(pool, taker, Some(PoolStage::Put(item)));
+            let _kept = make::<PoolCore>(Some(PoolStage::Put(item)), pool, taker);
             Answer::Completed(Reply::Pool(PoolCallReply::Done))
         }
         PoolCall::Get => get(pool, taker),
         PoolCall::Sweep => {
-            let _swept = make::<PoolCore>(pool, taker, Some(PoolStage::Sweep));
+            let _swept = make::<PoolCore>(Some(PoolStage::Sweep), pool, taker);
             Answer::Completed(Reply::Pool(PoolCallReply::Done))
         }
     }

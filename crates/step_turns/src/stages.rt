@@ -31,9 +31,9 @@ fn outcome_of<G: Drop, O>(step: Step<G, O>) -> Result<O, Answer>
 
 /// Makes the event of the stage that is due at an object, and nothing where none is.
 pub(crate) fn make<P: Protocol>(
+    due: Option<P::Stage>,
     object: &mut P::State,
     taker: Taker,
-    due: Option<P::Stage>,
 ) -> Result<P::Outcome, Answer>
     ensures { make P.next P.event P.meaning taker.worker taker.moment due object.old ≡ (object.new, result) }
 {

@@ -28,7 +28,7 @@ pub(crate) fn take_wait_group_turn(
     match object {
         ObjectState::WaitGroup { group, .. } => {
             let due = group_due(call, group.place(taker.worker));
-            returned(make::<GroupCore>(group, taker, due))
+            returned(make::<GroupCore>(due, group, taker))
         }
         _ => Answer::Still,
     }
@@ -48,15 +48,15 @@ fn take_turn_by_call(
     match call {
         CondCall::Wait => {
             let (at_cond, at_mutex) = wait_due(mutex.place(taker.worker), cond.place(taker.worker));
-            let _left = make::<NotifyCore>(cond, taker, at_cond);
-            waited(at_mutex, make::<MutexCore>(mutex, taker, at_mutex))
+            let _left = make::<NotifyCore>(at_cond, cond, taker);
+            waited(at_mutex, make::<MutexCore>(at_mutex, mutex, taker))
         }
         CondCall::Signal => {
-            let _made = make::<NotifyCore>(cond, taker, Some(CondStage::Signal));
+            let _made = make::<NotifyCore>(Some(CondStage::Signal), cond, taker);
             Answer::Completed(Reply::Returned)
         }
         CondCall::Broadcast => {
-            let _made = make::<NotifyCore>(cond, taker, Some(CondStage::Broadcast));
+            let _made = make::<NotifyCore>(Some(CondStage::Broadcast), cond, taker);
             Answer::Completed(Reply::Returned)
         }
     }
