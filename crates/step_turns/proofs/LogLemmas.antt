@@ -1,5 +1,5 @@
 -- Each turn moves a machine by events of a log that follows it.
-use Rattle.std.proofs.Common.{ℕ, List, [], ◌∷◌, set, Option, Some, refl, subst}
+use Rattle.std.proofs.Common.{ℕ, List, [], ◌∷◌, set, Option, refl, subst}
 use Rattle.std.specs.Prelude.{ℤ, pos}
 use Rattle.std.specs.Int.{w64, int_wrapping_add}
 use Rattle.sync_model.specs.Log.{Entry, entry, after, Follows}
@@ -8,7 +8,6 @@ use Rattle.sync_model.specs.declared.atomic_object.Number.TheVariants.{Int64}
 use Rattle.sync_model.specs.declared.call.Call.{Call}
 use Rattle.sync_model.specs.declared.call.Operation.{Operation}
 use Rattle.sync_model.specs.declared.call.Operation.TheVariants as operations
-use Rattle.sync_model.specs.declared.wait_call.CondCall.TheVariants as cond_calls
 use Rattle.mutex_core.specs.MutexMachine as mutex
 use Rattle.rw_core.specs.RwMachine as rw
 use Rattle.wait_cores.specs.NotifyMachine as notify
@@ -19,13 +18,12 @@ use Rattle.pool_core.specs.PoolMachine as pool
 use Rattle.protocols.specs.CondStages.{cond_event, cond_meaning}
 use Rattle.protocols.specs.MutexStages.{mutex_event, mutex_meaning}
 use Rattle.protocols.specs.declared.cond.CondStage.{CondStage}
-use Rattle.protocols.specs.declared.cond.CondStage.TheVariants as cond_stage
 use Rattle.protocols.specs.declared.mutex.MutexStage.{MutexStage}
 use Rattle.workload.specs.declared.object.ObjectKind.{ObjectKind}
 use Rattle.workload.specs.declared.object.ObjectKind.TheVariants as kinds
 use Rattle.step_turns.specs.declared.object_state.ObjectState.{ObjectState}
 use Rattle.step_turns.specs.declared.object_state.ObjectState.TheVariants as states
-use Rattle.step_turns.specs.Due.{mutex_due, rw_due, group_due, wait_due}
+use Rattle.step_turns.specs.Due.{mutex_due, rw_due, group_due, cond_due}
 use Rattle.step_turns.specs.MachineLogs.{Reaches, FollowsItsMachine}
 use Rattle.step_turns.specs.Objects.{new_object, EachAt}
 use Rattle.step_turns.specs.Stages.{make}
@@ -83,11 +81,9 @@ list_reached : (workers worker moment : ℕ) (due : Option CondStage) (c : notif
 list_reached workers worker moment = cond_keeps worker moment (Reaches notify.next (notify.start workers)) (λ c e. one_more notify.next (notify.start workers) c worker e)
 
 both_follow : (workers room other : ℕ) (operation : Operation) (worker moment : ℕ) (o target : ObjectState) → BothFollow workers room other (o, target) → BothFollow workers room other (turn_on_both operation worker moment o target).0
-both_follow workers room other (operations.Cond cond_calls.Wait) worker moment (states.Cond c place) (states.Mutex m) so_far =
-    let due = wait_due (mutex.place_of m worker) (notify.place_of c worker) in
+both_follow workers room other (operations.Cond call) worker moment (states.Cond c place) (states.Mutex m) so_far =
+    let due = cond_due call (mutex.place_of m worker) (notify.place_of c worker) in
     (list_reached workers worker moment due.0 c so_far.0, mutex_reached workers worker moment due.1 m so_far.1)
-both_follow workers room other (operations.Cond cond_calls.Signal) worker moment (states.Cond c place) (states.Mutex m) so_far = (list_reached workers worker moment (Some cond_stage.Signal) c so_far.0, so_far.1)
-both_follow workers room other (operations.Cond cond_calls.Broadcast) worker moment (states.Cond c place) (states.Mutex m) so_far = (list_reached workers worker moment (Some cond_stage.Broadcast) c so_far.0, so_far.1)
 both_follow workers room other operations.Once worker moment (states.Once o place delta) (states.Atomic number) so_far = sum_follows workers room other worker moment o place delta number so_far.0
 both_follow workers room other operation worker moment o target so_far = so_far
 

@@ -9,14 +9,12 @@ use Rattle.sync_model.specs.declared.atomic_object.Number.TheVariants.{Int64}
 use Rattle.sync_model.specs.declared.call.Call.{Call}
 use Rattle.sync_model.specs.declared.call.Operation.{Operation}
 use Rattle.sync_model.specs.declared.call.Operation.TheVariants as operations
-use Rattle.sync_model.specs.declared.wait_call.CondCall.TheVariants as cond_calls
 use Rattle.mutex_core.specs.MutexMachine as mutex
 use Rattle.rw_core.specs.RwMachine as rw
 use Rattle.wait_cores.specs.NotifyMachine as notify
 use Rattle.wait_cores.specs.GroupMachine as group
 use Rattle.wait_cores.specs.OnceMachine as once
 use Rattle.protocols.specs.declared.cond.CondStage.{CondStage}
-use Rattle.protocols.specs.declared.cond.CondStage.TheVariants as cond_stage
 use Rattle.protocols.specs.CondStages.{cond_event, cond_meaning}
 use Rattle.protocols.specs.MutexStages.{mutex_event, mutex_meaning}
 use Rattle.protocols.specs.declared.mutex.MutexStage.{MutexStage}
@@ -28,7 +26,7 @@ use Rattle.step_turns.specs.declared.answer.Answer.{Answer}
 use Rattle.step_turns.specs.declared.object_state.ObjectState.{ObjectState}
 use Rattle.step_turns.specs.declared.object_state.ObjectState.TheVariants as states
 use Rattle.step_turns.specs.Objects.{kind_of, IsMachineOf, EachAt}
-use Rattle.step_turns.specs.Due.{mutex_due, rw_due, group_due, wait_due}
+use Rattle.step_turns.specs.Due.{mutex_due, rw_due, group_due, cond_due}
 use Rattle.step_turns.specs.Ready.{IsReady}
 use Rattle.step_turns.specs.Stages.{make}
 use Rattle.step_turns.specs.Turns.{once_made, number_after, turn_on, turn_on_both, turn_at}
@@ -103,17 +101,9 @@ sum_keeps laws workers worker moment o place delta (Int64 held) =
 sum_keeps laws workers worker moment o place delta number = both_same workers (states.Once o place delta) (states.Atomic number)
 
 both_keep : Laws → (workers : ℕ) (operation : Operation) (worker moment : ℕ) (o target : ObjectState) → KeepsBoth workers o target (turn_on_both operation worker moment o target).0
-both_keep laws workers (operations.Cond cond_calls.Wait) worker moment (states.Cond c place) (states.Mutex m) = record {
-  first = list_keeps laws workers worker moment place (wait_due (mutex.place_of m worker) (notify.place_of c worker)).0 c;
-  second = record {
-    kind = refl;
-    machine = mutex_machine laws workers worker moment (wait_due (mutex.place_of m worker) (notify.place_of c worker)).1 m;
-  };
-}
-both_keep laws workers (operations.Cond cond_calls.Signal) worker moment (states.Cond c place) (states.Mutex m) =
-    record { first = list_keeps laws workers worker moment place (Some cond_stage.Signal) c; second = same workers (states.Mutex m) }
-both_keep laws workers (operations.Cond cond_calls.Broadcast) worker moment (states.Cond c place) (states.Mutex m) =
-    record { first = list_keeps laws workers worker moment place (Some cond_stage.Broadcast) c; second = same workers (states.Mutex m) }
+both_keep laws workers (operations.Cond call) worker moment (states.Cond c place) (states.Mutex m) =
+    let due = cond_due call (mutex.place_of m worker) (notify.place_of c worker) in
+    record { first = list_keeps laws workers worker moment place due.0 c; second = record { kind = refl; machine = mutex_machine laws workers worker moment due.1 m } }
 both_keep laws workers operations.Once worker moment (states.Once o place delta) (states.Atomic number) = sum_keeps laws workers worker moment o place delta number
 both_keep laws workers operation worker moment o target = both_same workers o target
 

@@ -70,13 +70,13 @@ use Rattle.step_turns.specs.declared.answer.Answer.TheVariants as answers
 use Rattle.step_turns.specs.declared.object_state.ObjectState.{ObjectState}
 use Rattle.step_turns.specs.declared.object_state.ObjectState.TheVariants as states
 use Rattle.step_turns.specs.Completes.{IsCompleted}
-use Rattle.step_turns.specs.Due.{mutex_due, rw_due, locked, group_due, returned, wait_due, waited, once_due, ran_or, failure}
+use Rattle.step_turns.specs.Due.{mutex_due, rw_due, locked, group_due, returned, cond_due, waited, once_due, ran_or, failure}
 use Rattle.step_turns.specs.ObjectLeft.{object_left, UsesBy}
 use Rattle.step_turns.specs.Objects.{IsMachineOf}
 use Rattle.step_turns.specs.PoolTurn.{pool_step}
 use Rattle.step_turns.specs.Ready.{IsReady}
 use Rattle.step_turns.specs.Stages.{outcome_of, make, answer_by}
-use Rattle.step_turns.specs.Turns.{turned, once_made, number_after, wait_turn, turn_on, turn_on_both, with_object, with_both, turn_at}
+use Rattle.step_turns.specs.Turns.{once_made, number_after, cond_turn, turn_on, turn_on_both, with_object, with_both, turn_at}
 use Rattle.step_turns.proofs.AtObjects.{at_ready}
 use Rattle.step_turns.proofs.CompletesLemmas.{pool_completes}
 use Rattle.step_turns.proofs.DueLemmas.{OfDue, each_due, OnceAnswer, mutex_answer, mutex_answers, rw_answers, group_answers, once_answers}
@@ -316,7 +316,7 @@ module _ (uses : Uses) (worker moment place : ℕ) (c : notify.NotifyState) (m :
       answer_uses (waited (Some stage)) given used old new (3 * notify_left c + 2 * old) (3 * notify_left d + 2 * new) ((states.Cond d place ≡ states.Cond c place) × (states.Mutex n.0 ≡ states.Mutex m)) (outcome_of (mutex_meaning stage n.1))
       (left (mutex_answer uses.mutexes.answered stage p m worker moment at below needed) (uses.mutexes.used m worker (mutex_event stage moment) valid)) done later
 
-  wait_uses : (p : MutexPlace) (q : NotifyPlace) → mutex.place_of m worker ≡ p → notify.place_of c worker ≡ q → worker < notify.callers_of c → BothUse (states.Cond c place) (states.Mutex m) (wait_turn worker moment place (wait_due p q) c m)
+  wait_uses : (p : MutexPlace) (q : NotifyPlace) → mutex.place_of m worker ≡ p → notify.place_of c worker ≡ q → worker < notify.callers_of c → BothUse (states.Cond c place) (states.Mutex m) (cond_turn cond_calls.Wait worker moment place (cond_due cond_calls.Wait p q) c m)
   wait_uses mutex_place.Out notify_place.Out at at_cond there =
       let d = (notify.next c worker notify_event.Ticket).0 in
       let one : notify_used (notify.place_of c worker) notify_event.Ticket ≡ 1 = ap (λ (q : NotifyPlace). notify_used q notify_event.Ticket) at_cond in

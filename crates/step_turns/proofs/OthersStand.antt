@@ -13,7 +13,6 @@ use Rattle.sync_model.specs.declared.atomic_object.AtomicCall.{AtomicCall}
 use Rattle.sync_model.specs.declared.call.Operation.{Operation}
 use Rattle.sync_model.specs.declared.call.Operation.TheVariants as operations
 use Rattle.sync_model.specs.declared.map_object.MapCall.{MapCall}
-use Rattle.sync_model.specs.declared.wait_call.CondCall.TheVariants as cond_calls
 use Rattle.mutex_core.specs.MutexMachine as mutex
 use Rattle.mutex_core.specs.Moves as mutex_moves
 use Rattle.mutex_core.specs.Standing as mutex_standing
@@ -34,7 +33,7 @@ use Rattle.protocols.specs.RwMutexStages.{rw_event as stage_event, rw_meaning}
 use Rattle.protocols.specs.declared.mutex.MutexStage.{MutexStage}
 use Rattle.step_turns.specs.declared.object_state.ObjectState.{ObjectState}
 use Rattle.step_turns.specs.declared.object_state.ObjectState.TheVariants as states
-use Rattle.step_turns.specs.Due.{mutex_due, rw_due, wait_due}
+use Rattle.step_turns.specs.Due.{mutex_due, rw_due, cond_due}
 use Rattle.step_turns.specs.Objects.{IsMachineOf}
 use Rattle.step_turns.specs.Stages.{make}
 use Rattle.step_turns.specs.Stands.{IsOutAt}
@@ -118,9 +117,7 @@ sum_other x by moment o place delta (Int64 held) = (tt, tt)
 sum_other x by moment o place delta number = (tt, tt)
 
 pub both_other : Stands → (workers x by : ℕ) (operation : Operation) (moment : ℕ) (o target : ObjectState) → IsMachineOf workers target → x ≢ by → let new = (turn_on_both operation by moment o target).0 in (IsOutAt x o → IsOutAt x new.0) × (IsOutAt x target → IsOutAt x new.1)
-both_other laws workers x by (operations.Cond cond_calls.Wait) moment (states.Cond c place) (states.Mutex m) is apart =
-    (λ out. tt, λ out. mutex_made_other laws.mutexes x by moment (wait_due (mutex.place_of m by) (notify.place_of c by)).1 m is.0 apart out)
-both_other laws workers x by (operations.Cond cond_calls.Signal) moment (states.Cond c place) (states.Mutex m) is apart = (λ out. tt, λ out. out)
-both_other laws workers x by (operations.Cond cond_calls.Broadcast) moment (states.Cond c place) (states.Mutex m) is apart = (λ out. tt, λ out. out)
+both_other laws workers x by (operations.Cond call) moment (states.Cond c place) (states.Mutex m) is apart =
+    (λ out. tt, λ out. mutex_made_other laws.mutexes x by moment (cond_due call (mutex.place_of m by) (notify.place_of c by)).1 m is.0 apart out)
 both_other laws workers x by operations.Once moment (states.Once o place delta) (states.Atomic number) is apart = let outs = sum_other x by moment o place delta number in (λ out. outs.0, λ out. outs.1)
 both_other laws workers x by operation moment o target is apart = (λ out. out, λ out. out)

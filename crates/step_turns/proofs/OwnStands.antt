@@ -63,13 +63,13 @@ use Rattle.step_turns.specs.declared.answer.Answer.{Answer}
 use Rattle.step_turns.specs.declared.answer.Answer.TheVariants as answers
 use Rattle.step_turns.specs.declared.object_state.ObjectState.{ObjectState}
 use Rattle.step_turns.specs.declared.object_state.ObjectState.TheVariants as states
-use Rattle.step_turns.specs.Due.{mutex_due, rw_due, locked, group_due, returned, wait_due, waited, once_due, ran_or, failure, looks_of}
+use Rattle.step_turns.specs.Due.{mutex_due, rw_due, locked, group_due, returned, cond_due, waited, once_due, ran_or, failure, looks_of}
 use Rattle.step_turns.specs.Objects.{IsMachineOf}
 use Rattle.step_turns.specs.PoolTurn.{pool_step}
 use Rattle.step_turns.specs.ReplyForm.{HasForm}
 use Rattle.step_turns.specs.Stages.{outcome_of, answer_by}
 use Rattle.step_turns.specs.Stands.{may_wait, IsOutAt}
-use Rattle.step_turns.specs.Turns.{turned, once_made, wait_turn, turn_on, turn_on_both}
+use Rattle.step_turns.specs.Turns.{turned, once_made, cond_turn, turn_on, turn_on_both}
 use Rattle.step_turns.proofs.DueLemmas.{OfDue, both_due, mutex_answer, mutex_answers, rw_answers}
 use Rattle.step_turns.proofs.Makes.{make_by, step_answer, make_answer, found_answer}
 use Rattle.step_turns.proofs.OthersStand.{MutexStands, RwStands, Stands, no, untold}
@@ -265,7 +265,7 @@ locks_again x n stage (Next later) back own = (tt, goes_on x (states.Mutex n))
 locks_again x n stage Never back own = (tt, goes_on x (states.Mutex n))
 
 wait_own : MutexStands → (at : MutexPlace) (at_cond : NotifyPlace) (x moment place : ℕ) (c : notify.NotifyState) (m : mutex.State) → mutex.place_of m x ≡ at → x < m.callers → mutex.IsValid m
-    → OwnBoth (operations.Cond cond_calls.Wait) x (wait_turn x moment place (wait_due at at_cond) c m)
+    → OwnBoth (operations.Cond cond_calls.Wait) x (cond_turn cond_calls.Wait x moment place (cond_due cond_calls.Wait at at_cond) c m)
 wait_own law mutex_place.Out notify_place.Out x moment place c m at below valid =
     let n = mutex.next m x (mutex_event mutex_stage.Unlock moment) in
     let on : WaitOwn x (states.Mutex n.0) answers.Unfinished = (tt, goes_on x (states.Mutex n.0)) in

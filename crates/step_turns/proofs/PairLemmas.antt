@@ -38,7 +38,7 @@ use Rattle.workload.specs.Draft.{operation_keys, keys_of, distinct_count}
 use Rattle.step_turns.specs.declared.answer.Answer.{Answer}
 use Rattle.step_turns.specs.declared.object_state.ObjectState.{ObjectState}
 use Rattle.step_turns.specs.declared.object_state.ObjectState.TheVariants as states
-use Rattle.step_turns.specs.Due.{mutex_due, rw_due, locked, group_due, returned, wait_due, waited, once_due, ran_or, failure, looks_of}
+use Rattle.step_turns.specs.Due.{mutex_due, rw_due, locked, group_due, returned, cond_due, waited, once_due, ran_or, failure, looks_of}
 use Rattle.step_turns.specs.MapKeys.{AreAmong, HasObjectKeysIn}
 use Rattle.step_turns.specs.Objects.{new_object, EachAt}
 use Rattle.step_turns.specs.Pairs.{ShowsTo}
@@ -106,7 +106,7 @@ sum_keeps names most worker moment o place delta number = ((tt, tt), tt)
 both_keep : (names : List (List ℕ)) (most : ℕ) (operation : Operation) (worker moment : ℕ) (o target : ObjectState) → HasObjectKeysIn names o → HasObjectKeysIn names target
     → KeepsBoth names most (turn_on_both operation worker moment o target)
 both_keep names most (operations.Cond cond_calls.Wait) worker moment (states.Cond c place) (states.Mutex m) has there =
-    let due = wait_due (mutex.place_of m worker) (notify.place_of c worker) in
+    let due = cond_due cond_calls.Wait (mutex.place_of m worker) (notify.place_of c worker) in
     ((tt, tt), make_answer (ShowsTo most) tt tt (λ misuse. tt) (waited due.1) (waited_few most due.1) mutex.next mutex_event mutex_meaning worker moment due.1 m)
 both_keep names most (operations.Cond cond_calls.Signal) worker moment (states.Cond c place) (states.Mutex m) has there = ((tt, tt), refl)
 both_keep names most (operations.Cond cond_calls.Broadcast) worker moment (states.Cond c place) (states.Mutex m) has there = ((tt, tt), refl)

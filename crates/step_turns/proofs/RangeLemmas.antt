@@ -12,7 +12,6 @@ use Rattle.sync_model.specs.declared.atomic_object.Number.TheVariants.{Int64}
 use Rattle.sync_model.specs.declared.call.Call.{Call}
 use Rattle.sync_model.specs.declared.call.Operation.{Operation}
 use Rattle.sync_model.specs.declared.call.Operation.TheVariants as operations
-use Rattle.sync_model.specs.declared.wait_call.CondCall.TheVariants as cond_calls
 use Rattle.wait_cores.specs.OnceMachine as once
 use Rattle.workload.specs.declared.object.ObjectKind.{ObjectKind}
 use Rattle.workload.specs.declared.object.ObjectKind.TheVariants as kinds
@@ -72,9 +71,7 @@ sum_stays worker moment o place delta (Int64 held) was =
 sum_stays worker moment o place delta number was = (tt, was)
 
 both_stay : (operation : Operation) (worker moment : ℕ) (o target : ObjectState) → IsInRange o → IsInRange target → BothStay (turn_on_both operation worker moment o target)
-both_stay (operations.Cond cond_calls.Wait) worker moment (states.Cond c place) (states.Mutex m) is was = (tt, tt)
-both_stay (operations.Cond cond_calls.Signal) worker moment (states.Cond c place) (states.Mutex m) is was = (tt, tt)
-both_stay (operations.Cond cond_calls.Broadcast) worker moment (states.Cond c place) (states.Mutex m) is was = (tt, tt)
+both_stay (operations.Cond call) worker moment (states.Cond c place) (states.Mutex m) is was = (tt, tt)
 both_stay operations.Once worker moment (states.Once o place delta) (states.Atomic number) is was = sum_stays worker moment o place delta number was
 both_stay operation worker moment o target is was = (is, was)
 

@@ -11,7 +11,6 @@ use Rattle.sync_model.specs.declared.call.Call.{Call}
 use Rattle.sync_model.specs.declared.call.Operation.{Operation}
 use Rattle.sync_model.specs.declared.call.Operation.TheVariants as operations
 use Rattle.sync_model.specs.declared.pool_call.PoolCall.TheVariants as pool_calls
-use Rattle.sync_model.specs.declared.wait_call.CondCall.TheVariants as cond_calls
 use Rattle.wait_cores.specs.OnceMachine as once
 use Rattle.pool_core.specs.Looks.{look}
 use Rattle.pool_core.specs.PoolMachine as pool
@@ -215,9 +214,7 @@ sum_fits left there worker moment o place delta (Int64 held) = (tt, tt)
 sum_fits left there worker moment o place delta number = (tt, tt)
 
 both_fit : (left there : ℕ) (operation : Operation) (worker moment : ℕ) (o target : ObjectState) → HasRoomFor left o → HasRoomFor there target → BothFit left there (turn_on_both operation worker moment o target).0
-both_fit left there (operations.Cond cond_calls.Wait) worker moment (states.Cond c place) (states.Mutex m) fit also = (tt, tt)
-both_fit left there (operations.Cond cond_calls.Signal) worker moment (states.Cond c place) (states.Mutex m) fit also = (tt, tt)
-both_fit left there (operations.Cond cond_calls.Broadcast) worker moment (states.Cond c place) (states.Mutex m) fit also = (tt, tt)
+both_fit left there (operations.Cond call) worker moment (states.Cond c place) (states.Mutex m) fit also = (tt, tt)
 both_fit left there operations.Once worker moment (states.Once o place delta) (states.Atomic number) fit also = sum_fits left there worker moment o place delta number
 both_fit left there operation worker moment o target fit also = (fit, also)
 

@@ -1,5 +1,5 @@
 -- The stage that a worker's call is at, by where the worker stands at the object: none, where it waits and isn't told to go on. With it, what an outcome makes of the call.
-use Rattle.std.specs.Prelude.{ℕ, ◌==◌, if◌then◌else◌, Bool, true, false, List, map, Option, Some, None}
+use Rattle.std.specs.Prelude.{ℕ, ◌==◌, if◌then◌else◌, Bool, true, false, List, map, Option, Some, None, Result}
 use Rattle.std.specs.List.{range_with_len}
 use Rattle.sync_model.specs.declared.call.Reply.{Reply}
 use Rattle.sync_model.specs.declared.call.Reply.TheVariants as replies
@@ -8,6 +8,8 @@ use Rattle.sync_model.specs.declared.lock_call.MutexCall.{MutexCall}
 use Rattle.sync_model.specs.declared.lock_call.MutexCall.TheVariants as mutex_calls
 use Rattle.sync_model.specs.declared.lock_call.RwMutexCall.{RwMutexCall}
 use Rattle.sync_model.specs.declared.lock_call.RwMutexCall.TheVariants as rw_calls
+use Rattle.sync_model.specs.declared.wait_call.CondCall.{CondCall}
+use Rattle.sync_model.specs.declared.wait_call.CondCall.TheVariants as cond_calls
 use Rattle.sync_model.specs.declared.wait_call.WaitGroupCall.{WaitGroupCall}
 use Rattle.sync_model.specs.declared.wait_call.WaitGroupCall.TheVariants as group_calls
 use Rattle.mutex_core.specs.declared.place.Place.{Place as MutexPlace}
@@ -39,6 +41,7 @@ use Rattle.protocols.specs.declared.wait_group.GroupStage.{GroupStage}
 use Rattle.protocols.specs.declared.wait_group.GroupStage.TheVariants as group_stage
 use Rattle.step_turns.specs.declared.answer.Answer.{Answer}
 use Rattle.step_turns.specs.declared.answer.Answer.TheVariants as answers
+use Rattle.step_turns.specs.Stages.{answer_by}
 
 -- ---- locks
 
@@ -87,20 +90,28 @@ group_due group_calls.Wait group_place.Released = Some group_stage.Leave
 abbrev pub returned : Unit {0} → Answer
 returned outcome = answers.Completed replies.Returned
 
--- of a cond's wait, by where the worker stands at the mutex and at the cond: the stage at the cond, if there is one, and the one behind it at the mutex.
+-- Of a cond's call, by where the worker stands at the mutex and at the cond: the stage at the cond, if there is one, and the one behind it at the mutex.
 -- One that stands at the mutex has left the cond
-abbrev pub wait_due : MutexPlace → NotifyPlace → Option CondStage × Option MutexStage
-wait_due mutex_place.Out notify_place.Out = (Some cond_stage.Ticket, Some mutex_stage.Unlock)
-wait_due mutex_place.Out notify_place.Waiting = (None, None)
-wait_due mutex_place.Out notify_place.Notified = (Some cond_stage.Leave, Some mutex_stage.Lock)
-wait_due mutex_place.Waiting at = (None, None)
-wait_due mutex_place.Woken at = (None, Some mutex_stage.Resume)
-wait_due mutex_place.Handed at = (None, Some mutex_stage.Resume)
+abbrev pub cond_due : CondCall → MutexPlace → NotifyPlace → Option CondStage × Option MutexStage
+cond_due cond_calls.Wait mutex_place.Out notify_place.Out = (Some cond_stage.Ticket, Some mutex_stage.Unlock)
+cond_due cond_calls.Wait mutex_place.Out notify_place.Waiting = (None, None)
+cond_due cond_calls.Wait mutex_place.Out notify_place.Notified = (Some cond_stage.Leave, Some mutex_stage.Lock)
+cond_due cond_calls.Wait mutex_place.Waiting at = (None, None)
+cond_due cond_calls.Wait mutex_place.Woken at = (None, Some mutex_stage.Resume)
+cond_due cond_calls.Wait mutex_place.Handed at = (None, Some mutex_stage.Resume)
+cond_due cond_calls.Signal at_mutex at = (Some cond_stage.Signal, None)
+cond_due cond_calls.Broadcast at_mutex at = (Some cond_stage.Broadcast, None)
 
 -- one that gave the mutex up waits, and one that has it again returns
 abbrev pub waited : Option MutexStage → LockReply → Answer
 waited (Some mutex_stage.Unlock) outcome = answers.Unfinished
 waited stage outcome = answers.Completed replies.Returned
+
+-- the stage at the mutex tells what a wait is at; the other calls return at once
+abbrev pub cond_answer : CondCall → Option MutexStage → Result LockReply Answer → Answer
+cond_answer cond_calls.Wait stage made = answer_by (waited stage) made
+cond_answer cond_calls.Signal stage made = returned tt
+cond_answer cond_calls.Broadcast stage made = returned tt
 
 -- ---- onces
 

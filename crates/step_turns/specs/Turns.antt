@@ -12,7 +12,7 @@ use Rattle.sync_model.specs.declared.call.Operation.{Operation}
 use Rattle.sync_model.specs.declared.call.Operation.TheVariants as operations
 use Rattle.sync_model.specs.declared.call.Reply.TheVariants as replies
 use Rattle.sync_model.specs.declared.once_call.DoReply.TheVariants as do_replies
-use Rattle.sync_model.specs.declared.wait_call.CondCall.TheVariants as cond_calls
+use Rattle.sync_model.specs.declared.wait_call.CondCall.{CondCall}
 use Rattle.mutex_core.specs.MutexMachine as mutex
 use Rattle.rw_core.specs.RwMachine as rw
 use Rattle.wait_cores.specs.NotifyMachine as notify
@@ -25,7 +25,6 @@ use Rattle.protocols.specs.MutexStages.{mutex_event, mutex_meaning}
 use Rattle.protocols.specs.OnceStages.{once_event, once_meaning}
 use Rattle.protocols.specs.RwMutexStages.{rw_event, rw_meaning}
 use Rattle.protocols.specs.declared.cond.CondStage.{CondStage}
-use Rattle.protocols.specs.declared.cond.CondStage.TheVariants as cond_stage
 use Rattle.protocols.specs.declared.mutex.MutexStage.{MutexStage}
 use Rattle.protocols.specs.declared.once.OnceOutcome.{OnceOutcome}
 use Rattle.protocols.specs.declared.once.OnceOutcome.TheVariants.{Ended}
@@ -34,7 +33,7 @@ use Rattle.step_turns.specs.declared.answer.Answer.{Answer}
 use Rattle.step_turns.specs.declared.answer.Answer.TheVariants as answers
 use Rattle.step_turns.specs.declared.object_state.ObjectState.{ObjectState}
 use Rattle.step_turns.specs.declared.object_state.ObjectState.TheVariants as states
-use Rattle.step_turns.specs.Due.{mutex_due, rw_due, locked, group_due, returned, wait_due, waited, once_due, ran_or, failure}
+use Rattle.step_turns.specs.Due.{mutex_due, rw_due, locked, group_due, returned, cond_due, cond_answer, once_due, ran_or, failure}
 use Rattle.step_turns.specs.Objects.{kind_of}
 use Rattle.step_turns.specs.PoolTurn.{pool_step}
 use Rattle.step_turns.specs.Stages.{make, answer_by}
@@ -65,15 +64,11 @@ turn_on operations.OnceValue worker moment (states.OnceValue o value) = turned (
 turn_on (operations.Pool call) worker moment (states.Pool p) = let step = pool_step worker moment call p in (states.Pool step.0, step.1)
 turn_on operation worker moment o = (o, answers.Still)
 
--- a turn of a wait: the stages that are due at the cond and at its mutex. The first is made in any case, and the other one tells what the wait is at
-abbrev pub wait_turn : ℕ → ℕ → ℕ → Option CondStage × Option MutexStage → notify.NotifyState → mutex.State → (ObjectState × ObjectState) × Answer
-wait_turn worker moment place due c m =
+-- a turn of a cond's call: the stages that are due at the cond and at its mutex, whatever the first comes to
+abbrev pub cond_turn : CondCall → ℕ → ℕ → ℕ → Option CondStage × Option MutexStage → notify.NotifyState → mutex.State → (ObjectState × ObjectState) × Answer
+cond_turn call worker moment place due c m =
     let locker = make mutex.next mutex_event mutex_meaning worker moment due.1 m in
-    ((states.Cond (make notify.next cond_event cond_meaning worker moment due.0 c).0 place, states.Mutex locker.0), answer_by (waited due.1) locker.1)
-
--- a signal and a broadcast return at once, and the mutex has no part in them
-abbrev pub notified : ℕ → ℕ → ℕ → CondStage → notify.NotifyState → mutex.State → (ObjectState × ObjectState) × Answer
-notified worker moment place stage c m = ((states.Cond (make notify.next cond_event cond_meaning worker moment (Some stage) c).0 place, states.Mutex m), returned tt)
+    ((states.Cond (make notify.next cond_event cond_meaning worker moment due.0 c).0 place, states.Mutex locker.0), cond_answer call due.1 locker.1)
 
 -- the number that a once's function changes, where this turn ended it
 abbrev pub number_after : Result (OnceOutcome ℤ) Answer → Number → Number → Number
@@ -92,9 +87,7 @@ sum_turn worker moment o place delta number other = ((states.Once o place delta,
 
 -- the turn at an object that refers to another one, and at that one
 abbrev pub turn_on_both : Operation → ℕ → ℕ → ObjectState → ObjectState → (ObjectState × ObjectState) × Answer
-turn_on_both (operations.Cond cond_calls.Wait) worker moment (states.Cond c place) (states.Mutex m) = wait_turn worker moment place (wait_due (mutex.place_of m worker) (notify.place_of c worker)) c m
-turn_on_both (operations.Cond cond_calls.Signal) worker moment (states.Cond c place) (states.Mutex m) = notified worker moment place cond_stage.Signal c m
-turn_on_both (operations.Cond cond_calls.Broadcast) worker moment (states.Cond c place) (states.Mutex m) = notified worker moment place cond_stage.Broadcast c m
+turn_on_both (operations.Cond call) worker moment (states.Cond c place) (states.Mutex m) = cond_turn call worker moment place (cond_due call (mutex.place_of m worker) (notify.place_of c worker)) c m
 -- the function adds as an atomic's `add` does
 turn_on_both operations.Once worker moment (states.Once o place delta) (states.Atomic number) = sum_turn worker moment o place delta number (atomic_after (Add (Int64 delta)) number)
 turn_on_both operation worker moment o target = ((o, target), answers.Still)

@@ -2,14 +2,14 @@
 //! isn't told to go on. With it, what an outcome makes of the call.
 ghost use Rattle.std.specs.Prelude.{◌≡◌, ◌*◌, ◌<◌, ◌≤◌, List};
 ghost use Rattle.pool_core.specs.Looks.{look};
-ghost use Rattle.step_turns.specs.Due.{mutex_due, rw_due, locked, group_due, returned, wait_due, waited, once_due, ran_or, stage_of};
+ghost use Rattle.step_turns.specs.Due.{mutex_due, rw_due, locked, group_due, returned, cond_due, cond_answer, once_due, ran_or, stage_of};
 ghost use Rattle.step_turns.specs.Stages.{answer_by};
 
 use crate::answer::Answer;
 use mutex_core::Place as MutexPlace;
 use protocols::{CondStage, GroupStage, MutexStage, OnceStage, PoolStage, RwMutexStage};
 use rw_core::Place as RwPlace;
-use sync_model::{LockReply, MutexCall, Reply, RwMutexCall, WaitGroupCall};
+use sync_model::{CondCall, LockReply, MutexCall, Reply, RwMutexCall, WaitGroupCall};
 use wait_cores::{GroupPlace, NotifyPlace, OncePlace};
 
 /// Of a call of a mutex: its first stage where the worker is out, and the going on where it was woken or
@@ -84,36 +84,49 @@ pub(crate) fn returned(made: Result<(), Answer>) -> Answer
     }
 }
 
-/// Of a cond's wait, by where the worker stands at the mutex and at the cond: the stage at the cond, if there
-/// is one, and the one behind it at the mutex. It takes a ticket and unlocks the mutex; once it is notified
-/// it leaves the cond and locks the mutex again, and there it goes on as a lock does.
-pub(crate) fn wait_due(
+/// Of a call of a cond, by where the worker stands at the mutex and at the cond: the stage at the cond, if
+/// there is one, and the one behind it at the mutex. A wait takes a ticket and unlocks the mutex; once it is
+/// notified it leaves the cond and locks the mutex again, and there it goes on as a lock does.
+pub(crate) fn cond_due(
+    call: CondCall,
     at_mutex: MutexPlace,
     at_cond: NotifyPlace,
 ) -> (Option<CondStage>, Option<MutexStage>)
-    ensures { result ≡ wait_due at_mutex at_cond }
+    ensures { result ≡ cond_due call at_mutex at_cond }
 {
-    match at_mutex {
-        MutexPlace::Out => match at_cond {
-            NotifyPlace::Out => (Some(CondStage::Ticket), Some(MutexStage::Unlock)),
-            NotifyPlace::Waiting => (None, None),
-            NotifyPlace::Notified => (Some(CondStage::Leave), Some(MutexStage::Lock)),
+    match call {
+        CondCall::Wait => match at_mutex {
+            MutexPlace::Out => match at_cond {
+                NotifyPlace::Out => (Some(CondStage::Ticket), Some(MutexStage::Unlock)),
+                NotifyPlace::Waiting => (None, None),
+                NotifyPlace::Notified => (Some(CondStage::Leave), Some(MutexStage::Lock)),
+            },
+            MutexPlace::Waiting => (None, None),
+            MutexPlace::Woken | MutexPlace::Handed => (None, Some(MutexStage::Resume)),
         },
-        MutexPlace::Waiting => (None, None),
-        MutexPlace::Woken | MutexPlace::Handed => (None, Some(MutexStage::Resume)),
+        CondCall::Signal => (Some(CondStage::Signal), None),
+        CondCall::Broadcast => (Some(CondStage::Broadcast), None),
     }
 }
 
-/// A wait that gave the mutex up isn't completed, and one that has it again returns.
-pub(crate) fn waited(stage: Option<MutexStage>, made: Result<LockReply, Answer>) -> Answer
-    ensures { result ≡ answer_by (waited stage) made }
+/// A wait that gave the mutex up isn't completed, and one that has it again returns. The other calls return
+/// at once.
+pub(crate) fn cond_answer(
+    call: CondCall,
+    stage: Option<MutexStage>,
+    made: Result<LockReply, Answer>,
+) -> Answer
+    ensures { result ≡ cond_answer call stage made }
 {
-    match made {
-        Ok(_) => match stage {
-            Some(MutexStage::Unlock) => Answer::Unfinished,
-            _ => Answer::Completed(Reply::Returned),
+    match call {
+        CondCall::Wait => match made {
+            Ok(_) => match stage {
+                Some(MutexStage::Unlock) => Answer::Unfinished,
+                _ => Answer::Completed(Reply::Returned),
+            },
+            Err(answer) => answer,
         },
-        Err(answer) => answer,
+        CondCall::Signal | CondCall::Broadcast => Answer::Completed(Reply::Returned),
     }
 }
 

@@ -8,11 +8,10 @@ ghost use Rattle.step_turns.specs.declared.object_state.ObjectState.TheVariants 
 ghost use Rattle.step_turns.specs.Turns.{turn_on, turn_on_both};
 
 use crate::answer::Answer;
-use crate::due::{group_due, returned, wait_due, waited};
+use crate::due::{cond_answer, cond_due, group_due, returned};
 use crate::object_state::ObjectState;
 use crate::stages::{Taker, make};
 use mutex_core::MutexCore;
-use protocols::CondStage;
 use sync_model::{CondCall, Reply, WaitGroupCall};
 use wait_cores::{GroupCore, NotifyCore};
 
@@ -34,7 +33,8 @@ pub(crate) fn take_wait_group_turn(
     }
 }
 
-/// Takes a turn before a call of a cond with this mutex. A signal and a broadcast return at once.
+/// Takes a turn before a call of a cond with this mutex. What the stage at the cond comes to is not looked
+/// at: a ticket, a signal and a broadcast are made at once, and only a notified worker leaves.
 fn take_turn_by_call(
     cond: &mut NotifyCore,
     mutex: &mut MutexCore,
@@ -45,21 +45,9 @@ fn take_turn_by_call(
     requires at_mutex { taker.worker < mutex.old.callers }
     ensures { (place : ℕ) → turn_on_both (operations.Cond call) taker.worker taker.moment (states.Cond cond.old place) (states.Mutex mutex.old) ≡ ((states.Cond cond.new place, states.Mutex mutex.new), result) }
 {
-    match call {
-        CondCall::Wait => {
-            let (at_cond, at_mutex) = wait_due(mutex.place(taker.worker), cond.place(taker.worker));
-            let _left = make::<NotifyCore>(at_cond, cond, taker);
-            waited(at_mutex, make::<MutexCore>(at_mutex, mutex, taker))
-        }
-        CondCall::Signal => {
-            let _made = make::<NotifyCore>(Some(CondStage::Signal), cond, taker);
-            Answer::Completed(Reply::Returned)
-        }
-        CondCall::Broadcast => {
-            let _made = make::<NotifyCore>(Some(CondStage::Broadcast), cond, taker);
-            Answer::Completed(Reply::Returned)
-        }
-    }
+    let due = cond_due(call, mutex.place(taker.worker), cond.place(taker.worker));
+    let _made = make::<NotifyCore>(due.0, cond, taker);
+    cond_answer(call, due.1, make::<MutexCore>(due.1, mutex, taker))
 }
 
 /// Takes a turn before a call of a cond, whose mutex the target is.
