@@ -1,48 +1,36 @@
 -- A call of a map, an atomic or a pool is completed in its first turn.
-use Rattle.std.proofs.Common.{◌≡◌, ℕ, true, List, Some}
+use Rattle.std.proofs.Common.{◌≡◌, ℕ, ◌*◌, true, List, Some}
 use Rattle.sync_model.specs.declared.call.Call.{Call}
 use Rattle.sync_model.specs.declared.call.Operation.{Operation}
 use Rattle.sync_model.specs.declared.call.Operation.TheVariants as operations
-use Rattle.sync_model.specs.declared.map_object.MapCall.{MapCall}
-use Rattle.sync_model.specs.declared.atomic_object.AtomicCall.{AtomicCall}
 use Rattle.sync_model.specs.declared.pool_call.PoolCall.{PoolCall}
+use Rattle.sync_model.specs.declared.pool_call.PoolCall.TheVariants as pool_calls
+use Rattle.pool_core.specs.PoolMachine.{PoolState, callers_of}
 use Rattle.workload.specs.declared.object.ObjectKind.{ObjectKind}
 use Rattle.workload.specs.declared.object.ObjectKind.TheVariants as kinds
 use Rattle.workload.specs.Plan.{has_call, reference_of}
 use Rattle.step_turns.specs.declared.object_state.ObjectState.{ObjectState}
 use Rattle.step_turns.specs.declared.object_state.ObjectState.TheVariants as states
-use Rattle.step_turns.specs.MapTurn.{map_turn, range_turn}
-use Rattle.step_turns.specs.AtomicTurn.{atomic_turn}
-use Rattle.step_turns.specs.PoolTurn.{pool_turn}
 use Rattle.step_turns.specs.Completes.{takes_one_turn, IsCompleted}
+use Rattle.step_turns.specs.Due.{looks_of}
 use Rattle.step_turns.specs.Objects.{kind_of}
+use Rattle.step_turns.specs.PoolTurn.{pool_step}
 use Rattle.step_turns.specs.Ready.{IsReady}
 use Rattle.step_turns.specs.Turns.{turn_on, turn_at}
 use Rattle.step_turns.proofs.AtObjects.{at_ready}
-use Rattle.step_turns.proofs.ObjectUses.{pool_completes}
+use Rattle.step_turns.proofs.Makes.{found_answer}
 
-map_completes : (call : MapCall (List ℕ)) (o : ObjectState) → has_call (kind_of o) (operations.Map call) ≡ true → IsCompleted (map_turn call o).1
-map_completes call (states.Map m) has = tt
-map_completes call o has = absurd cc
-
-range_completes : (o : ObjectState) → has_call (kind_of o) operations.Range ≡ true → IsCompleted (range_turn o).1
-range_completes (states.Map m) has = tt
-range_completes o has = absurd cc
-
-atomic_completes : (call : AtomicCall) (o : ObjectState) → has_call (kind_of o) (operations.Atomic call) ≡ true → IsCompleted (atomic_turn call o).1
-atomic_completes call (states.Atomic number) has = tt
-atomic_completes call o has = absurd cc
-
-turn_completes : (call : PoolCall) (worker : ℕ) (o : ObjectState) → has_call (kind_of o) (operations.Pool call) ≡ true → IsCompleted (pool_turn call worker o).1
-turn_completes call worker (states.Pool p) has = pool_completes call worker p
-turn_completes call worker o has = absurd cc
+pub pool_completes : (worker moment : ℕ) (call : PoolCall) (p : PoolState ℕ) → IsCompleted (pool_step worker moment call p).1
+pool_completes worker moment (pool_calls.Put item) p = tt
+pool_completes worker moment pool_calls.Sweep p = tt
+pool_completes worker moment pool_calls.Get p = found_answer worker moment IsCompleted (λ item. tt) tt (looks_of (callers_of p) worker 0 (2 * callers_of p)) p
 
 completes : (operation : Operation) (worker moment : ℕ) (o : ObjectState) → takes_one_turn operation ≡ true → has_call (kind_of o) operation ≡ true → IsCompleted (turn_on operation worker moment o).1
-completes (operations.Map call) worker moment o never has = map_completes call o has
-completes operations.Range worker moment o never has = range_completes o has
-completes (operations.Atomic call) worker moment o never has = atomic_completes call o has
-completes (operations.Pool call) worker moment o never has = turn_completes call worker o has
-completes operation worker moment o never has = absurd cc
+completes (operations.Map call) worker moment (states.Map m) one has = tt
+completes operations.Range worker moment (states.Map m) one has = tt
+completes (operations.Atomic call) worker moment (states.Atomic number) one has = tt
+completes (operations.Pool call) worker moment (states.Pool p) one has = pool_completes worker moment call p
+completes operation worker moment o one has = absurd cc
 
 -- an object that refers to another one has no such call
 none_referring : (kind : ObjectKind) (operation : Operation) (other : ℕ) → reference_of kind ≡ Some other → has_call kind operation ≡ true → takes_one_turn operation ≡ true → ⊥

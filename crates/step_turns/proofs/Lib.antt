@@ -1,9 +1,11 @@
 mod AtObjects
 mod AtomicTypes
 mod CompletesLemmas
+mod DueLemmas
 mod KeyLemmas
 mod LogLemmas
 mod MachineLaws
+mod Makes
 mod NewObjects
 mod ObjectKeeps
 mod ObjectUses

@@ -1,18 +1,19 @@
 -- What the laws of the machines say that the objects of a run are.
-use Rattle.std.proofs.Common.{◌≡◌, ℕ, ◌+◌, ◌<◌, ◌≤◌, ◌≢◌, true, false, refl, ap}
-use Rattle.std.specs.Prelude.{ℤ, IsTrue, length, Bool, IsFalse}
+use Rattle.std.proofs.Common.{◌≡◌, ℕ, ◌+◌, ◌<◌, ◌≤◌, ◌≢◌}
+use Rattle.std.specs.Prelude.{ℤ, IsTrue, length}
 use Rattle.mutex_core.specs.MutexMachine as mutex
 use Rattle.mutex_core.specs.EventsLeft as mutex_left
 use Rattle.mutex_core.specs.Standing.{is_answer}
 use Rattle.mutex_core.specs.declared.event.MutexEvent.{MutexEvent}
-use Rattle.mutex_core.specs.declared.reply.MutexReply.TheVariants as mutex_reply
 use Rattle.rw_core.specs.RwMachine as rw
 use Rattle.rw_core.specs.EventsLeft as rw_left
 use Rattle.rw_core.specs.declared.event.RwEvent.{RwEvent}
-use Rattle.rw_core.specs.declared.reply.RwReply.TheVariants as rw_reply
+use Rattle.rw_core.specs.Standing as rw_standing
 use Rattle.wait_cores.specs.NotifyEventsLeft.{notify_left, notify_used, notify_given}
 use Rattle.wait_cores.specs.GroupEventsLeft.{group_left, group_used, group_given}
 use Rattle.wait_cores.specs.OnceEventsLeft.{once_left, once_used, once_given}
+use Rattle.wait_cores.specs.GroupStanding as group_standing
+use Rattle.wait_cores.specs.OnceStanding as once_standing
 use Rattle.wait_cores.specs.NotifyMachine as notify
 use Rattle.wait_cores.specs.GroupMachine as group
 use Rattle.wait_cores.specs.OnceMachine as once
@@ -51,12 +52,11 @@ pub record Laws : Type 0 where
 
 pub record MutexUses : Type 0 where
   pub answered : (m : mutex.State) (c : ℕ) (e : MutexEvent) → IsTrue (mutex.may_make m c e) → IsTrue (is_answer e (mutex.next m c e).1)
-  pub unmoved : (m : mutex.State) (c : ℕ) (e : MutexEvent) → (mutex.next m c e).1 ≡ mutex_reply.Still → (mutex.next m c e).0 ≡ m
   pub used : (m : mutex.State) (c : ℕ) (e : MutexEvent) → mutex.IsValid m
       → mutex_left.events_left (mutex.next m c e).0 + mutex_left.used_by (mutex.next m c e).1 ≤ mutex_left.events_left m + mutex_left.given_by (mutex.next m c e).1
 
 pub record RwUses : Type 0 where
-  pub unmoved : (m : rw.State) (c : ℕ) (e : RwEvent) → (rw.next m c e).1 ≡ rw_reply.Still → (rw.next m c e).0 ≡ m
+  pub answered : (m : rw.State) (c : ℕ) (e : RwEvent) → IsTrue (rw.may_make m c e) → IsTrue (rw_standing.is_answer e (rw.next m c e).1)
   pub used : (m : rw.State) (c : ℕ) (e : RwEvent) → rw.IsValid m
       → rw_left.events_left (rw.next m c e).0 + rw_left.used_by (rw.next m c e).1 ≤ rw_left.events_left m + rw_left.given_by (rw.next m c e).1
 
@@ -65,11 +65,13 @@ NotifyUses = (s : notify.NotifyState) (c : ℕ) (e : NotifyEvent) → c < notify
     → notify_left (notify.next s c e).0 + notify_used (notify.place_of s c) e ≤ notify_left s + notify_given e
 
 pub record GroupUses : Type 0 where
-  pub unmoved : (g : group.GroupState) (c : ℕ) (e : GroupEvent) → (group.next g c e).1 ≡ group_reply.Still → (group.next g c e).0 ≡ g
+  pub answers : (g : group.GroupState) (c : ℕ) (e : GroupEvent) → c < group.callers_of g → IsTrue (group_standing.answers (group_standing.waits_at g c) e (group.next g c e).1)
+  pub made : (g : group.GroupState) (c : ℕ) (e : GroupEvent) → IsTrue (group_standing.may_make g c e) → (group.next g c e).1 ≢ group_reply.Still
   pub used : (g : group.GroupState) (c : ℕ) (e : GroupEvent) → group_left (group.next g c e).0 + group_used (group.next g c e).1 ≤ group_left g + group_given e (group.next g c e).1
 
 pub record OnceUses (T : Type 0) : Type 0 where
-  pub unmoved : (o : once.OnceState T) (c : ℕ) (e : OnceEvent T) → (once.next o c e).1 ≡ once_reply.Still → (once.next o c e).0 ≡ o
+  pub answers : (o : once.OnceState T) (c : ℕ) (e : OnceEvent T) → c < once.callers_of o → IsTrue (once_standing.answers (once_standing.waits_at o c) (once_standing.runs_at o c) e (once.next o c e).1)
+  pub made : (o : once.OnceState T) (c : ℕ) (e : OnceEvent T) → IsTrue (once_standing.may_make o c e) → (once.next o c e).1 ≢ once_reply.Still
   pub used : (o : once.OnceState T) (c : ℕ) (e : OnceEvent T) → once_left (once.next o c e).0 + once_used (once.next o c e).1 ≤ once_left o + once_given (once.next o c e).1
 
 pub record Uses : Type 0 where
@@ -79,8 +81,3 @@ pub record Uses : Type 0 where
   pub groups : GroupUses
   pub adding : OnceUses ℤ
   pub giving : OnceUses ℕ
-
--- an event that may not be made is answered `Still` and changes nothing, and any other isn't answered so. So one that is answered so leaves the state
-pub unmoved_by : {S R : Type 0} (may : Bool) (old : S) (step : S × R) (still : R) → (IsTrue may → step.1 ≢ still) → (IsFalse may → step ≡ (old, still)) → step.1 ≡ still → step.0 ≡ old
-unmoved_by true old step still made unmade is = absurd (made refl is)
-unmoved_by false old step still made unmade is = ap (λ n. n.0) (unmade refl)

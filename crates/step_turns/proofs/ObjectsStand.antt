@@ -17,7 +17,7 @@ use Rattle.step_turns.specs.ReplyForm.{HasForm}
 use Rattle.step_turns.specs.Stands.{may_wait, waits_at, IsOutAt, IsOutBut, waits_behind}
 use Rattle.step_turns.specs.Turns.{turn_on, turn_on_both, with_object, with_both, turn_at}
 use Rattle.step_turns.proofs.AtObjects.{Alone, Referring, at_ready}
-use Rattle.step_turns.proofs.OthersStand.{Stands, turn_other, first_other, second_other}
+use Rattle.step_turns.proofs.OthersStand.{Stands, turn_other, both_other}
 use Rattle.step_turns.proofs.OwnStands.{OutAfter, turn_own, both_own}
 
 -- ---- at all objects
@@ -111,9 +111,10 @@ at_other laws workers x by call moment but objects r apart out = at_ready (λ y.
     (λ ne. turn_other laws workers x by call.operation moment r.object st.machine apart (out call.object r.object st.at ne)))
     (λ other target st.
     let step = turn_on_both call.operation by moment r.object target in
+    let outs = both_other laws workers x by call.operation moment r.object target st.machine_there apart in
     each_but P (set objects call.object step.0.0) other step.0.1
-    (λ k o ne at. each_but P objects call.object step.0.0 (λ k o ne at. out k o at) (λ ne. first_other x by call.operation moment r.object target (out call.object r.object st.at ne)) k o at)
-    (λ ne. second_other laws workers x by call.operation moment r.object target st.machine_there apart (out other target st.there ne)))
+    (λ k o ne at. each_but P objects call.object step.0.0 (λ k o ne at. out k o at) (λ ne. outs.0 (out call.object r.object st.at ne)) k o at)
+    (λ ne. outs.1 (out other target st.there ne)))
   where
     P : ℕ → ObjectState → Type 0
     P place o = (but ≡ Some place → ⊥) → IsOutAt x o

@@ -3,21 +3,15 @@ use Rattle.std.proofs.Common.{◌≡◌, ℕ, suc, ◌+◌, ◌-◌, ◌<◌, �
 use Rattle.std.specs.Prelude.{ℤ, pos, negsuc}
 use Rattle.std.specs.Int.{w64, cast_unsigned, cast_signed, int_wrapping_add}
 use Rattle.std.proofs.lemmas.Bool.{ltb-false, lt-ltb}
-use Rattle.sync_model.specs.declared.call.Call.{Call}
-use Rattle.sync_model.specs.declared.call.Operation.{Operation}
-use Rattle.sync_model.specs.declared.call.Operation.TheVariants as operations
-use Rattle.sync_model.specs.declared.map_object.MapCall.{MapCall}
-use Rattle.sync_model.specs.declared.lock_call.MutexCall.{MutexCall}
-use Rattle.sync_model.specs.declared.lock_call.RwMutexCall.{RwMutexCall}
-use Rattle.sync_model.specs.declared.pool_call.PoolCall.{PoolCall}
-use Rattle.sync_model.specs.declared.wait_call.CondCall.{CondCall}
-use Rattle.sync_model.specs.declared.wait_call.WaitGroupCall.{WaitGroupCall}
+use Rattle.sync_model.specs.SequentialAtomic.{zero_of, is_signed, is_of, is_atomic_call, atomic_after}
+use Rattle.sync_model.specs.SequentialAtomic as atomics
+use Rattle.sync_model.specs.declared.atomic_object.AtomicCall.{AtomicCall}
 use Rattle.sync_model.specs.declared.atomic_object.AtomicKind.{AtomicKind}
 use Rattle.sync_model.specs.declared.atomic_object.Number.{Number}
 use Rattle.sync_model.specs.declared.atomic_object.Number.TheVariants.{Int64}
-use Rattle.sync_model.specs.declared.atomic_object.AtomicCall.{AtomicCall}
-use Rattle.sync_model.specs.SequentialAtomic.{zero_of, is_signed, is_of, is_atomic_call, atomic_after}
-use Rattle.sync_model.specs.SequentialAtomic as atomics
+use Rattle.sync_model.specs.declared.call.Call.{Call}
+use Rattle.sync_model.specs.declared.call.Operation.{Operation}
+use Rattle.sync_model.specs.declared.call.Operation.TheVariants as operations
 use Rattle.wait_cores.specs.OnceMachine as once
 use Rattle.workload.specs.declared.object.ObjectKind.{ObjectKind}
 use Rattle.workload.specs.declared.object.ObjectKind.TheVariants as kinds
@@ -28,18 +22,10 @@ use Rattle.step_turns.specs.declared.object_state.ObjectState.TheVariants as sta
 use Rattle.step_turns.specs.AtomicRange.{IsInRange}
 use Rattle.step_turns.specs.Objects.{new_object, kind_of, EachAt}
 use Rattle.step_turns.specs.Ready.{IsReady}
-use Rattle.step_turns.specs.MapTurn.{map_turn, range_turn}
-use Rattle.step_turns.specs.AtomicTurn.{atomic_turn}
-use Rattle.step_turns.specs.MutexTurn.{mutex_turn}
-use Rattle.step_turns.specs.RwMutexTurn.{rw_mutex_turn}
-use Rattle.step_turns.specs.CondTurn.{cond_turn}
-use Rattle.step_turns.specs.WaitGroupTurn.{group_turn}
-use Rattle.step_turns.specs.OnceTurn.{once_step, adding_turn, once_turn, func_turn, value_turn}
-use Rattle.step_turns.specs.PoolTurn.{pool_turn}
-use Rattle.step_turns.specs.Turns.{turn_on, turn_on_both, turn_at}
-use Rattle.step_turns.proofs.AtomicTypes.{after_type, zero_type}
-use Rattle.step_turns.proofs.ObjectKeeps.{where_any}
+use Rattle.step_turns.specs.Turns.{once_made, turn_on, turn_on_both, turn_at}
 use Rattle.step_turns.proofs.AtObjects.{each_set, at_ready}
+use Rattle.step_turns.proofs.AtomicTypes.{after_type, zero_type}
+use Rattle.step_turns.proofs.ObjectKeeps.{number_any}
 
 -- what is known of the one-thread atomic
 abbrev pub BeginsInRange : Type 0
@@ -48,54 +34,18 @@ BeginsInRange = (kind : AtomicKind) → is_of kind (zero_of kind) ≡ true
 abbrev pub StaysInRange : Type 0
 StaysInRange = (kind : AtomicKind) (call : AtomicCall) (held : Number) → is_of kind held ≡ true → is_atomic_call kind call ≡ true → is_of kind (atomic_after call held) ≡ true
 
-atomic_stays : StaysInRange → (call : AtomicCall) (o : ObjectState) → has_call (kind_of o) (operations.Atomic call) ≡ true → IsInRange o → IsInRange (atomic_turn call o).0
-atomic_stays law call (states.Atomic held) has is =
-    subst (λ (kind : AtomicKind). is_of kind (atomic_after call held) ≡ true) (sym (after_type call held has)) (law (atomics.kind_of held) call held is has)
-atomic_stays law call o has is = absurd cc
-
 -- no other call changes an atomic
-map_stays : (call : MapCall (List ℕ)) (o : ObjectState) → IsInRange o → IsInRange (map_turn call o).0
-map_stays call (states.Map m) is = tt
-map_stays call o is = is
-
-range_stays : (o : ObjectState) → IsInRange o → IsInRange (range_turn o).0
-range_stays (states.Map m) is = tt
-range_stays o is = is
-
-mutex_stays : (call : MutexCall) (worker moment : ℕ) (o : ObjectState) → IsInRange o → IsInRange (mutex_turn call worker moment o).0
-mutex_stays call worker moment (states.Mutex m) is = tt
-mutex_stays call worker moment o is = is
-
-rw_stays : (call : RwMutexCall) (worker moment : ℕ) (o : ObjectState) → IsInRange o → IsInRange (rw_mutex_turn call worker moment o).0
-rw_stays call worker moment (states.RwMutex m) is = tt
-rw_stays call worker moment o is = is
-
-group_stays : (call : WaitGroupCall) (worker : ℕ) (o : ObjectState) → IsInRange o → IsInRange (group_turn call worker o).0
-group_stays call worker (states.WaitGroup g first) is = tt
-group_stays call worker o is = is
-
-func_stays : (worker : ℕ) (o : ObjectState) → IsInRange o → IsInRange (func_turn worker o).0
-func_stays worker (states.OnceFunc f code) is = tt
-func_stays worker o is = is
-
-value_stays : (worker : ℕ) (o : ObjectState) → IsInRange o → IsInRange (value_turn worker o).0
-value_stays worker (states.OnceValue v value) is = tt
-value_stays worker o is = is
-
-pool_stays : (call : PoolCall) (worker : ℕ) (o : ObjectState) → IsInRange o → IsInRange (pool_turn call worker o).0
-pool_stays call worker (states.Pool p) is = tt
-pool_stays call worker o is = is
-
 turn_on_stays : StaysInRange → (operation : Operation) (worker moment : ℕ) (o : ObjectState) → has_call (kind_of o) operation ≡ true → IsInRange o → IsInRange (turn_on operation worker moment o).0
-turn_on_stays law (operations.Map call) worker moment o has is = map_stays call o is
-turn_on_stays law operations.Range worker moment o has is = range_stays o is
-turn_on_stays law (operations.Atomic call) worker moment o has is = atomic_stays law call o has is
-turn_on_stays law (operations.Mutex call) worker moment o has is = mutex_stays call worker moment o is
-turn_on_stays law (operations.RwMutex call) worker moment o has is = rw_stays call worker moment o is
-turn_on_stays law (operations.WaitGroup call) worker moment o has is = group_stays call worker o is
-turn_on_stays law operations.OnceFunc worker moment o has is = func_stays worker o is
-turn_on_stays law operations.OnceValue worker moment o has is = value_stays worker o is
-turn_on_stays law (operations.Pool call) worker moment o has is = pool_stays call worker o is
+turn_on_stays law (operations.Atomic call) worker moment (states.Atomic held) has is =
+    subst (λ (kind : AtomicKind). is_of kind (atomic_after call held) ≡ true) (sym (after_type call held has)) (law (atomics.kind_of held) call held is has)
+turn_on_stays law (operations.Map call) worker moment (states.Map m) has is = tt
+turn_on_stays law operations.Range worker moment (states.Map m) has is = tt
+turn_on_stays law (operations.Mutex call) worker moment (states.Mutex m) has is = tt
+turn_on_stays law (operations.RwMutex call) worker moment (states.RwMutex m) has is = tt
+turn_on_stays law (operations.WaitGroup call) worker moment (states.WaitGroup g first) has is = tt
+turn_on_stays law operations.OnceFunc worker moment (states.OnceFunc o code) has is = tt
+turn_on_stays law operations.OnceValue worker moment (states.OnceValue o value) has is = tt
+turn_on_stays law (operations.Pool call) worker moment (states.Pool p) has is = tt
 turn_on_stays law operation worker moment o has is = is
 
 -- ---- the sum of a once
@@ -114,22 +64,15 @@ sum_in_range a b = signed_64 ((cast_unsigned w64 a + cast_unsigned w64 b) % 2 ^ 
 abbrev BothStay : (ObjectState × ObjectState) × Answer → Type 0
 BothStay step = IsInRange step.0.0 × IsInRange step.0.1
 
-adding_stays : (worker : ℕ) (o : once.OnceState ℤ) (place : ℕ) (delta : ℤ) (number : Number) → IsInRange (states.Atomic number) → BothStay (adding_turn worker o place delta number)
-adding_stays worker o place delta (Int64 held) was =
-    (tt, where_any (λ number. IsInRange (states.Atomic number)) (once_step (int_wrapping_add w64 held delta) worker o).1 (Int64 (int_wrapping_add w64 held delta)) (Int64 held) (sum_in_range held delta) was)
-adding_stays worker o place delta number was = (tt, was)
-
-once_stays : (worker : ℕ) (o target : ObjectState) → IsInRange o → IsInRange target → BothStay (once_turn worker o target)
-once_stays worker (states.Once o place delta) (states.Atomic number) is was = adding_stays worker o place delta number was
-once_stays worker o target is was = (is, was)
-
-cond_stays : (call : CondCall) (worker moment : ℕ) (o target : ObjectState) → IsInRange o → IsInRange target → BothStay (cond_turn call worker moment o target)
-cond_stays call worker moment (states.Cond c place) (states.Mutex m) is was = (tt, tt)
-cond_stays call worker moment o target is was = (is, was)
+sum_stays : (worker moment : ℕ) (o : once.OnceState ℤ) (place : ℕ) (delta : ℤ) (number : Number) → IsInRange (states.Atomic number) → BothStay (turn_on_both operations.Once worker moment (states.Once o place delta) (states.Atomic number))
+sum_stays worker moment o place delta (Int64 held) was =
+    let sum = int_wrapping_add w64 held delta in
+    (tt, number_any (λ number. IsInRange (states.Atomic number)) (once_made worker moment sum o).1 (Int64 sum) (Int64 held) (sum_in_range held delta) was)
+sum_stays worker moment o place delta number was = (tt, was)
 
 both_stay : (operation : Operation) (worker moment : ℕ) (o target : ObjectState) → IsInRange o → IsInRange target → BothStay (turn_on_both operation worker moment o target)
-both_stay (operations.Cond call) worker moment o target is was = cond_stays call worker moment o target is was
-both_stay operations.Once worker moment o target is was = once_stays worker o target is was
+both_stay (operations.Cond call) worker moment (states.Cond c place) (states.Mutex m) is was = (tt, tt)
+both_stay operations.Once worker moment (states.Once o place delta) (states.Atomic number) is was = sum_stays worker moment o place delta number was
 both_stay operation worker moment o target is was = (is, was)
 
 -- ---- all objects

@@ -1,48 +1,36 @@
 -- Each turn leaves a pool room for the puts that are left to make on it.
-use Rattle.std.proofs.Common.{◌≡◌, ℕ, zero, suc, ◌+◌, ◌-◌, ◌*◌, ◌<◌, ◌≤◌, Bool, true, false, cond, eqb, ◌&&◌, List, [], ◌∷◌, map, length, set, replicate, Option, Some, None, refl, ap, ◌∙◌, subst, arith}
+use Rattle.std.proofs.Common.{◌≡◌, ℕ, zero, suc, ◌+◌, ◌-◌, ◌*◌, ◌<◌, ◌≤◌, Bool, true, false, cond, eqb, ◌&&◌, List, [], ◌∷◌, map, length, set, replicate, Option, Some, None, refl, sym, ap, ◌∙◌, subst, arith}
 use Rattle.std.specs.Prelude.{ℤ, nat_lt, slice_get}
 use Rattle.std.specs.List.{range_with_len}
 use Rattle.std.specs.Option.{option_map}
 use Rattle.std.proofs.lemmas.Bool.{eq-eqb, lt-ltb}
 use Rattle.std.proofs.lemmas.List.{length-take}
+use Rattle.sync_model.specs.declared.atomic_object.Number.{Number}
+use Rattle.sync_model.specs.declared.atomic_object.Number.TheVariants.{Int64}
 use Rattle.sync_model.specs.declared.call.Call.{Call}
 use Rattle.sync_model.specs.declared.call.Operation.{Operation}
 use Rattle.sync_model.specs.declared.call.Operation.TheVariants as operations
-use Rattle.sync_model.specs.declared.atomic_object.Number.{Number}
-use Rattle.sync_model.specs.declared.atomic_object.Number.TheVariants.{Int64}
-use Rattle.sync_model.specs.declared.atomic_object.AtomicCall.{AtomicCall}
-use Rattle.sync_model.specs.declared.lock_call.MutexCall.{MutexCall}
-use Rattle.sync_model.specs.declared.lock_call.RwMutexCall.{RwMutexCall}
-use Rattle.sync_model.specs.declared.map_object.MapCall.{MapCall}
-use Rattle.sync_model.specs.declared.pool_call.PoolCall.{PoolCall}
 use Rattle.sync_model.specs.declared.pool_call.PoolCall.TheVariants as pool_calls
-use Rattle.sync_model.specs.declared.wait_call.CondCall.{CondCall}
-use Rattle.sync_model.specs.declared.wait_call.WaitGroupCall.{WaitGroupCall}
-use Rattle.pool_core.specs.Looks.{look}
 use Rattle.wait_cores.specs.OnceMachine as once
-use Rattle.pool_core.specs.PoolParts.{PoolPart, empty, emptied, put_beside, put_in, head_of, tail_of, take_tail, private_or, take_own, take_victim}
+use Rattle.pool_core.specs.Looks.{look}
 use Rattle.pool_core.specs.PoolMachine as pool
+use Rattle.pool_core.specs.PoolParts.{PoolPart, empty, emptied, put_beside, put_in, head_of, tail_of, take_tail, private_or, take_own, take_victim}
 use Rattle.pool_core.specs.declared.pool_event.PoolEvent.{PoolEvent}
 use Rattle.pool_core.specs.declared.pool_event.PoolEvent.TheVariants as event
 use Rattle.pool_core.specs.declared.pool_event.PoolReply.{PoolReply}
 use Rattle.pool_core.specs.declared.pool_event.PoolReply.TheVariants as pool_reply
+use Rattle.protocols.specs.PoolStages.{pool_event}
+use Rattle.workload.specs.Puts.{is_put}
 use Rattle.workload.specs.declared.object.ObjectKind.{ObjectKind}
 use Rattle.workload.specs.declared.object.ObjectKind.TheVariants as kinds
-use Rattle.workload.specs.Puts.{is_put}
 use Rattle.step_turns.specs.declared.answer.Answer.{Answer}
 use Rattle.step_turns.specs.declared.answer.Answer.TheVariants as answers
 use Rattle.step_turns.specs.declared.object_state.ObjectState.{ObjectState}
 use Rattle.step_turns.specs.declared.object_state.ObjectState.TheVariants as states
+use Rattle.step_turns.specs.Due.{stage_of}
 use Rattle.step_turns.specs.Objects.{new_object, EachAt}
 use Rattle.step_turns.specs.PoolRoom.{put_of, HavePartsRoom, HasPoolRoom, HasRoomFor, left_behind}
-use Rattle.step_turns.specs.MapTurn.{map_turn, range_turn}
-use Rattle.step_turns.specs.AtomicTurn.{atomic_turn}
-use Rattle.step_turns.specs.MutexTurn.{mutex_turn}
-use Rattle.step_turns.specs.RwMutexTurn.{rw_mutex_turn}
-use Rattle.step_turns.specs.CondTurn.{cond_turn}
-use Rattle.step_turns.specs.WaitGroupTurn.{group_turn}
-use Rattle.step_turns.specs.OnceTurn.{adding_turn, once_turn, func_turn, value_turn}
-use Rattle.step_turns.specs.PoolTurn.{PoolStep, found_or, found_by, pool_step, pool_turn}
+use Rattle.step_turns.specs.PoolTurn.{PoolStep, pool_made, looked, found_or, found_by, pool_step}
 use Rattle.step_turns.specs.Turns.{turn_on, turn_on_both, turn_at}
 use Rattle.step_turns.proofs.AtObjects.{each_set, at_any}
 
@@ -151,23 +139,31 @@ look_costs : (workers worker n : ℕ) → cost (look workers worker n) ≡ 0
 look_costs workers worker zero = refl
 look_costs workers worker (suc k) = look_if_costs (nat_lt (suc k) workers) _
 
-found_or_fits : (left : ℕ) (step : pool.PoolState ℕ × PoolReply ℕ) (rest : pool.PoolState ℕ → PoolStep) → HasPoolRoom left step.0 → ((p : pool.PoolState ℕ) → HasPoolRoom left p → HasPoolRoom left (rest p).0) → HasPoolRoom left (found_or step rest).0
-found_or_fits left (p, pool_reply.Item item) rest fit later = fit
-found_or_fits left (p, pool_reply.Kept) rest fit later = later p fit
-found_or_fits left (p, pool_reply.Dropped item) rest fit later = later p fit
-found_or_fits left (p, pool_reply.Nothing) rest fit later = later p fit
-found_or_fits left (p, pool_reply.Swept) rest fit later = later p fit
-found_or_fits left (p, pool_reply.Still) rest fit later = later p fit
+-- the event of an event's stage is that event
+event_back : (e : PoolEvent ℕ) (now : ℕ) → pool_event (stage_of e) now ≡ e
+event_back (event.Put item) now = refl
+event_back event.LookOwn now = refl
+event_back (event.LookOther i) now = refl
+event_back (event.LookVictim i) now = refl
+event_back event.Sweep now = refl
 
-found_fits : (left workers worker : ℕ) (numbers : List ℕ) (p : pool.PoolState ℕ) → HasPoolRoom left p → HasPoolRoom left (found_by (map (look workers worker) numbers) worker p).0
-found_fits left workers worker [] p fit = fit
-found_fits left workers worker (n ∷ numbers) p fit =
-    found_or_fits left (pool.next p worker (look workers worker n)) (found_by (map (look workers worker) numbers) worker)
+look_fits : (left workers worker moment n : ℕ) (p : pool.PoolState ℕ) → HasPoolRoom left p → HasPoolRoom left (pool_made worker moment (stage_of (look workers worker n)) p).0
+look_fits left workers worker moment n p fit =
+    subst (λ (e : PoolEvent ℕ). HasPoolRoom left (pool.next p worker e).0) (sym (event_back (look workers worker n) moment))
     (next_fits left p worker (look workers worker n) (pool_less (left + cost (look workers worker n)) left p (omega (arith, look_costs workers worker n)) fit))
-    (found_fits left workers worker numbers)
 
-get_fits : (left worker : ℕ) (p : pool.PoolState ℕ) → HasPoolRoom left p → HasPoolRoom left (pool_step pool_calls.Get worker p).0
-get_fits left worker p fit = found_fits left (pool.callers_of p) worker (range_with_len 0 (2 * pool.callers_of p)) p fit
+found_or_fits : (left : ℕ) (step : pool.PoolState ℕ × Option ℕ) (rest : pool.PoolState ℕ → PoolStep) → HasPoolRoom left step.0 → ((p : pool.PoolState ℕ) → HasPoolRoom left p → HasPoolRoom left (rest p).0) → HasPoolRoom left (found_or step rest).0
+found_or_fits left (p, Some item) rest fit later = fit
+found_or_fits left (p, None) rest fit later = later p fit
+
+found_fits : (left workers worker moment : ℕ) (numbers : List ℕ) (p : pool.PoolState ℕ) → HasPoolRoom left p → HasPoolRoom left (found_by worker moment (map (λ number. stage_of (look workers worker number)) numbers) p).0
+found_fits left workers worker moment [] p fit = fit
+found_fits left workers worker moment (n ∷ numbers) p fit =
+    found_or_fits left (looked worker moment (stage_of (look workers worker n)) p) (found_by worker moment (map (λ number. stage_of (look workers worker number)) numbers))
+    (look_fits left workers worker moment n p fit) (found_fits left workers worker moment numbers)
+
+get_fits : (left worker moment : ℕ) (p : pool.PoolState ℕ) → HasPoolRoom left p → HasPoolRoom left (pool_step worker moment pool_calls.Get p).0
+get_fits left worker moment p fit = found_fits left (pool.callers_of p) worker moment (range_with_len 0 (2 * pool.callers_of p)) p fit
 
 -- ---- an object
 
@@ -188,84 +184,38 @@ StepFits one left step = HasRoomFor (left_behind step.1 one left) step.0
 settled_fits : (one left : ℕ) (step : ObjectState × Answer) → HasRoomFor left step.0 → StepFits one left step
 settled_fits one left step fit = object_less (left_behind step.1 one left) left step.0 (rest_less step.1 one left) fit
 
-map_fits : (left : ℕ) (call : MapCall (List ℕ)) (o : ObjectState) → HasRoomFor left o → HasRoomFor left (map_turn call o).0
-map_fits left call (states.Map m) fit = tt
-map_fits left call o fit = fit
-
-range_fits : (left : ℕ) (o : ObjectState) → HasRoomFor left o → HasRoomFor left (range_turn o).0
-range_fits left (states.Map m) fit = tt
-range_fits left o fit = fit
-
-atomic_fits : (left : ℕ) (call : AtomicCall) (o : ObjectState) → HasRoomFor left o → HasRoomFor left (atomic_turn call o).0
-atomic_fits left call (states.Atomic number) fit = tt
-atomic_fits left call o fit = fit
-
-mutex_fits : (left : ℕ) (call : MutexCall) (worker moment : ℕ) (o : ObjectState) → HasRoomFor left o → HasRoomFor left (mutex_turn call worker moment o).0
-mutex_fits left call worker moment (states.Mutex m) fit = tt
-mutex_fits left call worker moment o fit = fit
-
-rw_fits : (left : ℕ) (call : RwMutexCall) (worker moment : ℕ) (o : ObjectState) → HasRoomFor left o → HasRoomFor left (rw_mutex_turn call worker moment o).0
-rw_fits left call worker moment (states.RwMutex m) fit = tt
-rw_fits left call worker moment o fit = fit
-
-group_fits : (left : ℕ) (call : WaitGroupCall) (worker : ℕ) (o : ObjectState) → HasRoomFor left o → HasRoomFor left (group_turn call worker o).0
-group_fits left call worker (states.WaitGroup g first) fit = tt
-group_fits left call worker o fit = fit
-
-func_fits : (left worker : ℕ) (o : ObjectState) → HasRoomFor left o → HasRoomFor left (func_turn worker o).0
-func_fits left worker (states.OnceFunc f code) fit = tt
-func_fits left worker o fit = fit
-
-value_fits : (left worker : ℕ) (o : ObjectState) → HasRoomFor left o → HasRoomFor left (value_turn worker o).0
-value_fits left worker (states.OnceValue v value) fit = tt
-value_fits left worker o fit = fit
-
 -- a put at its own place counts
 own_put : (call : Call) → is_put call.operation ≡ true → put_of call.object call ≡ 1
 own_put call is = ap (λ b. cond (b && is_put call.operation) 1 0) (eq-eqb call.object call.object refl) ∙ ap (λ b. cond b 1 0) is
 
-pool_fits : (one left : ℕ) (call : PoolCall) (worker : ℕ) (o : ObjectState) → (is_put (operations.Pool call) ≡ true → one ≡ 1) → one ≤ left → HasRoomFor left o → StepFits one left (pool_turn call worker o)
-pool_fits one left (pool_calls.Put item) worker (states.Pool p) is some fit =
-    next_fits (left - one) p worker (event.Put item) (pool_less (left - one + 1) left p (omega (arith, is refl, some)) fit)
-pool_fits one left pool_calls.Get worker (states.Pool p) is some fit =
-    settled_fits one left (pool_turn pool_calls.Get worker (states.Pool p)) (get_fits left worker p fit)
-pool_fits one left pool_calls.Sweep worker (states.Pool p) is some fit =
-    settled_fits one left (pool_turn pool_calls.Sweep worker (states.Pool p)) (next_fits left p worker event.Sweep (pool_less (left + 0) left p (omega arith) fit))
-pool_fits one left call worker o is some fit = fit
-
 turn_on_fits : (one left : ℕ) (operation : Operation) (worker moment : ℕ) (o : ObjectState) → (is_put operation ≡ true → one ≡ 1) → one ≤ left → HasRoomFor left o → StepFits one left (turn_on operation worker moment o)
-turn_on_fits one left (operations.Map call) worker moment o is some fit = settled_fits one left (map_turn call o) (map_fits left call o fit)
-turn_on_fits one left operations.Range worker moment o is some fit = settled_fits one left (range_turn o) (range_fits left o fit)
-turn_on_fits one left (operations.Atomic call) worker moment o is some fit = settled_fits one left (atomic_turn call o) (atomic_fits left call o fit)
-turn_on_fits one left (operations.Mutex call) worker moment o is some fit = settled_fits one left (mutex_turn call worker moment o) (mutex_fits left call worker moment o fit)
-turn_on_fits one left (operations.RwMutex call) worker moment o is some fit = settled_fits one left (rw_mutex_turn call worker moment o) (rw_fits left call worker moment o fit)
-turn_on_fits one left (operations.WaitGroup call) worker moment o is some fit = settled_fits one left (group_turn call worker o) (group_fits left call worker o fit)
-turn_on_fits one left operations.OnceFunc worker moment o is some fit = settled_fits one left (func_turn worker o) (func_fits left worker o fit)
-turn_on_fits one left operations.OnceValue worker moment o is some fit = settled_fits one left (value_turn worker o) (value_fits left worker o fit)
-turn_on_fits one left (operations.Pool call) worker moment o is some fit = pool_fits one left call worker o is some fit
-turn_on_fits one left (operations.Cond call) worker moment o is some fit = fit
-turn_on_fits one left operations.Once worker moment o is some fit = fit
+turn_on_fits one left (operations.Pool (pool_calls.Put item)) worker moment (states.Pool p) is some fit = next_fits (left - one) p worker (event.Put item) (pool_less (left - one + 1) left p (omega (arith, is refl, some)) fit)
+turn_on_fits one left (operations.Pool pool_calls.Get) worker moment (states.Pool p) is some fit =
+    settled_fits one left (turn_on (operations.Pool pool_calls.Get) worker moment (states.Pool p)) (get_fits left worker moment p fit)
+turn_on_fits one left (operations.Pool pool_calls.Sweep) worker moment (states.Pool p) is some fit =
+    settled_fits one left (turn_on (operations.Pool pool_calls.Sweep) worker moment (states.Pool p)) (next_fits left p worker event.Sweep (pool_less (left + 0) left p (omega arith) fit))
+turn_on_fits one left (operations.Map call) worker moment (states.Map m) is some fit = tt
+turn_on_fits one left operations.Range worker moment (states.Map m) is some fit = tt
+turn_on_fits one left (operations.Atomic call) worker moment (states.Atomic number) is some fit = tt
+turn_on_fits one left (operations.Mutex call) worker moment (states.Mutex m) is some fit = tt
+turn_on_fits one left (operations.RwMutex call) worker moment (states.RwMutex m) is some fit = tt
+turn_on_fits one left (operations.WaitGroup call) worker moment (states.WaitGroup g first) is some fit = tt
+turn_on_fits one left operations.OnceFunc worker moment (states.OnceFunc o code) is some fit = tt
+turn_on_fits one left operations.OnceValue worker moment (states.OnceValue o value) is some fit = tt
+turn_on_fits one left operation worker moment o is some fit = fit
 
 -- ---- an object and the one to which it refers
 
 abbrev BothFit : ℕ → ℕ → ObjectState × ObjectState → Type 0
 BothFit left there new = HasRoomFor left new.0 × HasRoomFor there new.1
 
-cond_fits : (left there : ℕ) (call : CondCall) (worker moment : ℕ) (o target : ObjectState) → HasRoomFor left o → HasRoomFor there target → BothFit left there (cond_turn call worker moment o target).0
-cond_fits left there call worker moment (states.Cond c place) (states.Mutex m) fit also = (tt, tt)
-cond_fits left there call worker moment o target fit also = (fit, also)
-
-adding_fits : (left there worker : ℕ) (o : once.OnceState ℤ) (place : ℕ) (delta : ℤ) (number : Number) → BothFit left there (adding_turn worker o place delta number).0
-adding_fits left there worker o place delta (Int64 held) = (tt, tt)
-adding_fits left there worker o place delta number = (tt, tt)
-
-once_fits : (left there worker : ℕ) (o target : ObjectState) → HasRoomFor left o → HasRoomFor there target → BothFit left there (once_turn worker o target).0
-once_fits left there worker (states.Once o place delta) (states.Atomic number) fit also = adding_fits left there worker o place delta number
-once_fits left there worker o target fit also = (fit, also)
+sum_fits : (left there worker moment : ℕ) (o : once.OnceState ℤ) (place : ℕ) (delta : ℤ) (number : Number) → BothFit left there (turn_on_both operations.Once worker moment (states.Once o place delta) (states.Atomic number)).0
+sum_fits left there worker moment o place delta (Int64 held) = (tt, tt)
+sum_fits left there worker moment o place delta number = (tt, tt)
 
 both_fit : (left there : ℕ) (operation : Operation) (worker moment : ℕ) (o target : ObjectState) → HasRoomFor left o → HasRoomFor there target → BothFit left there (turn_on_both operation worker moment o target).0
-both_fit left there (operations.Cond call) worker moment o target fit also = cond_fits left there call worker moment o target fit also
-both_fit left there operations.Once worker moment o target fit also = once_fits left there worker o target fit also
+both_fit left there (operations.Cond call) worker moment (states.Cond c place) (states.Mutex m) fit also = (tt, tt)
+both_fit left there operations.Once worker moment (states.Once o place delta) (states.Atomic number) fit also = sum_fits left there worker moment o place delta number
 both_fit left there operation worker moment o target fit also = (fit, also)
 
 -- ---- all objects

@@ -51,16 +51,18 @@ pub fn turns_use_something_up()
 {
     mutex_core::laws::standing();
     mutex_core::laws::events_are_used_up();
+    rw_core::laws::standing();
     rw_core::laws::events_are_used_up();
     wait_cores::laws::notify::events_are_used_up();
-    wait_cores::laws::group::events_are_used_up();
-    wait_cores::laws::once::events_are_used_up::<i64>();
-    wait_cores::laws::once::events_are_used_up::<u64>();
-    mutex_core::laws::still();
-    rw_core::laws::still();
+    wait_cores::laws::group::knows_where_it_stands();
     wait_cores::laws::group::still();
+    wait_cores::laws::group::events_are_used_up();
+    wait_cores::laws::once::knows_where_it_stands::<i64>();
     wait_cores::laws::once::still::<i64>();
+    wait_cores::laws::once::events_are_used_up::<i64>();
+    wait_cores::laws::once::knows_where_it_stands::<u64>();
     wait_cores::laws::once::still::<u64>();
+    wait_cores::laws::once::events_are_used_up::<u64>();
 }
 
 /// A turn on a map, an atomic or a pool that has the call completes it.

@@ -3,18 +3,18 @@
 #![tactic(auto)]
 
 pub mod answer;
-pub mod atomic_turn;
-pub mod cond_turn;
+pub mod due;
 pub mod laws;
-pub mod map_turn;
-pub mod mutex_turn;
+pub mod lock_turn;
 pub mod object_state;
 pub mod once_turn;
+pub mod plain_turn;
 pub mod pool_turn;
-pub mod rw_mutex_turn;
+pub mod stages;
 pub mod turn;
-pub mod wait_group_turn;
+pub mod wait_turn;
 
 pub use answer::Answer;
 pub use object_state::ObjectState;
-pub use turn::{Taker, take_turn_at};
+pub use stages::Taker;
+pub use turn::take_turn_at;

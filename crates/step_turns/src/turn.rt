@@ -7,29 +7,16 @@ ghost use Rattle.step_turns.specs.Ready.{IsReady};
 ghost use Rattle.step_turns.specs.Turns.{turn_on, turn_on_both, with_both, turn_at};
 
 use crate::answer::Answer;
-use crate::atomic_turn::take_atomic_turn;
-use crate::cond_turn::take_cond_turn;
-use crate::map_turn::{take_map_turn, take_range_turn};
-use crate::mutex_turn::take_mutex_turn;
+use crate::lock_turn::{take_mutex_turn, take_rw_mutex_turn};
 use crate::object_state::ObjectState;
 use crate::once_turn::{take_once_func_turn, take_once_turn, take_once_value_turn};
+use crate::plain_turn::{take_atomic_turn, take_map_turn, take_range_turn};
 use crate::pool_turn::take_pool_turn;
-use crate::rw_mutex_turn::take_rw_mutex_turn;
-use crate::wait_group_turn::take_wait_group_turn;
+use crate::stages::Taker;
+use crate::wait_turn::{take_cond_turn, take_wait_group_turn};
 use std::alloc::{AllocError, Global};
 use std::mem;
 use sync_model::{Call, Number, Operation};
-
-/// Who takes a turn, and when.
-#[derive(Clone, Copy, Debug)]
-pub struct Taker {
-    /// The number of the worker, which is below that of all workers.
-    pub worker: u32,
-    /// How many workers there are, at most 64. They are the callers of each machine.
-    pub workers: u32,
-    /// What the clock shows, in nanoseconds.
-    pub moment: u64,
-}
 
 /// Takes a turn of a worker that stands before a call of this operation, at the call's object and by its
 /// kind, where that object refers to no other.
@@ -46,21 +33,16 @@ fn take_turn_on(
     requires few { taker.workers ≤ 64 }
     ensures { IfOk result (λ answer. turn_on operation.now taker.worker taker.moment object.old ≡ (object.new, answer)) }
 {
-    let Taker {
-        worker,
-        workers,
-        moment,
-    } = taker;
     match operation {
-        Operation::Map(call) => take_map_turn(alloc, object, call),
-        Operation::Range => take_range_turn(alloc, object),
-        Operation::Atomic(call) => Ok(take_atomic_turn(object, *call)),
-        Operation::Mutex(call) => Ok(take_mutex_turn(object, worker, *call, moment)),
-        Operation::RwMutex(call) => Ok(take_rw_mutex_turn(object, worker, *call, moment)),
-        Operation::WaitGroup(call) => Ok(take_wait_group_turn(object, worker, *call)),
-        Operation::OnceFunc => Ok(take_once_func_turn(object, worker)),
-        Operation::OnceValue => Ok(take_once_value_turn(object, worker)),
-        Operation::Pool(call) => Ok(take_pool_turn(object, worker, workers, *call)),
+        Operation::Map(call) => take_map_turn(alloc, object, call, taker),
+        Operation::Range => take_range_turn(alloc, object, taker),
+        Operation::Atomic(call) => Ok(take_atomic_turn(object, *call, taker)),
+        Operation::Mutex(call) => Ok(take_mutex_turn(object, *call, taker)),
+        Operation::RwMutex(call) => Ok(take_rw_mutex_turn(object, *call, taker)),
+        Operation::WaitGroup(call) => Ok(take_wait_group_turn(object, *call, taker)),
+        Operation::OnceFunc => Ok(take_once_func_turn(object, taker)),
+        Operation::OnceValue => Ok(take_once_value_turn(object, taker)),
+        Operation::Pool(call) => Ok(take_pool_turn(object, *call, taker)),
         Operation::Cond(_) | Operation::Once => Ok(Answer::Still),
     }
 }
@@ -78,8 +60,8 @@ fn take_turn_on_both(
     ensures { turn_on_both operation.now taker.worker taker.moment object.old target.old ≡ ((object.new, target.new), result) }
 {
     match operation {
-        Operation::Cond(call) => take_cond_turn(object, target, taker.worker, *call, taker.moment),
-        Operation::Once => take_once_turn(object, target, taker.worker),
+        Operation::Cond(call) => take_cond_turn(object, target, *call, taker),
+        Operation::Once => take_once_turn(object, target, taker),
         _ => Answer::Still,
     }
 }

@@ -1,15 +1,15 @@
-use Rattle.step_turns.proofs.MachineLaws.{Uses, unmoved_by}
+use Rattle.step_turns.proofs.MachineLaws.{Uses}
 use Rattle.step_turns.proofs.ObjectUses.{turn_use}
 use Rattle.step_turns.proofs.laws.turns_use_something_up.Goals as goal
 
-abbrev uses : goal.After-still-5 → Uses
+abbrev uses : goal.After-events_are_used_up-6 → Uses
 uses c = record {
-  mutexes = record { answered = c.standing.ensures.answered; unmoved = λ m w e. unmoved_by _ m _ _ (c.still.ensures.made m w e) (c.still.ensures.unmade m w e); used = c.events_are_used_up.ensures };
-  rw_mutexes = record { unmoved = λ m w e. unmoved_by _ m _ _ (c.still-2.ensures.made m w e) (c.still-2.ensures.unmade m w e); used = c.events_are_used_up-2.ensures };
+  mutexes = record { answered = c.standing.ensures.answered; used = c.events_are_used_up.ensures };
+  rw_mutexes = record { answered = c.standing-2.ensures.answered; used = c.events_are_used_up-2.ensures };
   conds = c.events_are_used_up-3.ensures;
-  groups = record { unmoved = λ g w e. unmoved_by _ g _ _ (c.still-3.ensures.made g w e) (c.still-3.ensures.unmade g w e); used = c.events_are_used_up-4.ensures };
-  adding = record { unmoved = λ o w e. unmoved_by _ o _ _ (c.still-4.ensures.made o w e) (c.still-4.ensures.unmade o w e); used = c.events_are_used_up-5.ensures };
-  giving = record { unmoved = λ o w e. unmoved_by _ o _ _ (c.still-5.ensures.made o w e) (c.still-5.ensures.unmade o w e); used = c.events_are_used_up-6.ensures };
+  groups = record { answers = c.knows_where_it_stands.ensures.answers; made = c.still.ensures.made; used = c.events_are_used_up-4.ensures };
+  adding = record { answers = c.knows_where_it_stands-2.ensures.answers; made = c.still-2.ensures.made; used = c.events_are_used_up-5.ensures };
+  giving = record { answers = c.knows_where_it_stands-3.ensures.answers; made = c.still-3.ensures.made; used = c.events_are_used_up-6.ensures };
 }
 
 pub returns : goal.returns
