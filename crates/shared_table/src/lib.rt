@@ -1,0 +1,6 @@
+//! One row of words that holds maps and atomics, shared by their callers.
+#![tactic(auto)]
+
+pub mod begin;
+pub mod rule;
+pub mod view;
