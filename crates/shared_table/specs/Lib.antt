@@ -1,3 +1,4 @@
+pub mod Laws
 pub mod Layout
 pub mod Routes
 pub mod Ledger

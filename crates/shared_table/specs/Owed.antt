@@ -81,6 +81,8 @@ AtGate k sh caller (Closed m alone) = (m < k.maps) × (sh.closed_by m ≡ suc ca
 pub record Suits (k : Begin) (sh : Shape) (log : List SharedEntry) (calls : ℕ → List Item) (ws : List ℕ) (v : View) : Type 0 where
   pub begin : v.begin ≡ k
   pub walk : (w : Walk) → v.walk ≡ Some w → Walks k sh log w
+  -- a node that a writer inside came by is reachable, or dead: it was not cleared away
+  pub steady : (w : Walk) → v.walk ≡ Some w → v.gate ≡ Inside w.map → (sh.cut_of w.node ≡ None) ⊎ (slice_index ws w.node ≡ dead_word)
   pub leaf : (l : Leaf) → v.leaf ≡ Some l → IsLeaf sh ws l
   pub spot : (s : Spot) → v.spot ≡ Some s → Stands k sh log calls s
   pub room : (i : ℕ) (own : Own) → slice_get v.owns i ≡ Some own → HasRoom k sh ws (v.number + i) own

@@ -1,5 +1,5 @@
 -- The second part of the rule: what the words mean. It speaks of words and of the history, and of no seat.
-use Rattle.std.specs.Prelude.{◌≡◌, ◌≢◌, ◌⊎◌, ℕ, suc, ◌+◌, ◌*◌, ◌/◌, ◌%◌, ◌^◌, ◌<◌, ◌≤◌, ◌==◌, Bool, true, cond, List, [], length, Option, Some, None, slice_get, slice_index}
+use Rattle.std.specs.Prelude.{◌≡◌, ◌≢◌, ℕ, suc, ◌+◌, ◌*◌, ◌/◌, ◌%◌, ◌^◌, ◌<◌, ◌≤◌, ◌==◌, Bool, true, cond, List, [], length, Option, Some, None, slice_get, slice_index}
 use Rattle.sync_model.specs.declared.atomic_object.AtomicKind.{AtomicKind}
 use Rattle.sync_model.specs.declared.atomic_object.Number.{Number}
 use Rattle.sync_model.specs.declared.item.SharedEntry.{SharedEntry}
@@ -20,9 +20,8 @@ pub record Shape : Type 0 where
   -- the map of a node, and its path from the root when it was reachable
   pub map_of : ℕ → ℕ
   pub path_of : ℕ → List ℕ
-  -- how long the history was when the node was cut off, and whether that was with the whole map
+  -- how long the history was when the node was cut off
   pub cut_of : ℕ → Option ℕ
-  pub swept : ℕ → Bool
   -- who holds a node's lock, to whose room a word belongs, and who closed the gate of a map: a caller's number and one more, 0 for nobody
   pub held_by : ℕ → ℕ
   pub area_of : ℕ → ℕ
@@ -106,8 +105,8 @@ module _ (k : Begin) (sh : Shape) (log : List SharedEntry) (ws : List ℕ) where
     -- a root has no parent, and the parent of another reachable node is the node above it
     pub top : (p : ℕ) → sh.kind_of p ≡ 1 → sh.path_of p ≡ [] → slice_index ws (parent_word p) ≡ 0
     pub parent : (p d key : ℕ) → sh.kind_of p ≡ 1 → sh.cut_of p ≡ None → key < 2 ^ 32 → sh.path_of p ≡ route k.seed (suc d) key → sh.node_at (sh.map_of p) (route k.seed d key) ≡ Some (slice_index ws (parent_word p))
-    -- a node that was cut off is dead, or was cleared away
-    pub cut : (p moment : ℕ) → sh.kind_of p ≡ 1 → sh.cut_of p ≡ Some moment → (moment ≤ length log) × ((slice_index ws p ≡ dead_word) ⊎ (sh.swept p ≡ true))
+    -- a node was cut off at some moment of the history
+    pub cut : (p moment : ℕ) → sh.kind_of p ≡ 1 → sh.cut_of p ≡ Some moment → moment ≤ length log
     -- a node's lock word says who holds it, unless the node is dead, and a dead node is empty
     pub held : (p : ℕ) → sh.kind_of p ≡ 1 → slice_index ws p ≢ dead_word → sh.held_by p ≡ slice_index ws p
     pub dead : (p i : ℕ) → sh.kind_of p ≡ 1 → slice_index ws p ≡ dead_word → i < 16 → slice_index ws (slot_word p i) ≡ 0

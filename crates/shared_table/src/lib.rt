@@ -2,5 +2,6 @@
 #![tactic(auto)]
 
 pub mod begin;
+mod laws;
 pub mod rule;
 pub mod view;
