@@ -1,3 +1,4 @@
 pub mod Frames
+pub mod Ledgers
 pub mod Lists
 pub mod Moves

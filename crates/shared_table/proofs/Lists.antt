@@ -22,3 +22,16 @@ module _ {V : Type 0} where
   at_end [] a b (suc j) e = absurd (some-ne-none b (sym e))
   at_end (x ∷ xs) a b zero e = inl e
   at_end (x ∷ xs) a b (suc j) e = ⊎_elim (λ t. inl t) (λ t. inr (ap suc t.0, t.1)) (at_end xs a b j e)
+
+module _ {A : Type 0} where
+  -- an item of a list with one more is one of the list, or the last
+  pub item_on : (xs : List A) (z x : A) (i : ℕ) → slice_get (xs ++ z ∷ []) i ≡ Some x → (slice_get xs i ≡ Some x) ⊎ ((i ≡ length xs) × (x ≡ z))
+  item_on [] z x zero e = inr (refl, sym (same_Some z x e))
+  item_on [] z x (suc i) e = absurd (none-some x e)
+  item_on (a ∷ xs) z x zero e = inl e
+  item_on (a ∷ xs) z x (suc i) e = elim (item_on xs z x i e) [ inl h ↦ inl h | inr h ↦ inr (ap suc h.0, h.1) ]
+
+  pub item_there : (xs : List A) (i : ℕ) → i < length xs → (x : A) × (slice_get xs i ≡ Some x)
+  item_there [] i below = absurd (omega arith)
+  item_there (x ∷ xs) zero below = (x, refl)
+  item_there (x ∷ xs) (suc i) below = item_there xs i (omega arith)

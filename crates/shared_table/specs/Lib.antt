@@ -7,3 +7,4 @@ pub mod Gates
 pub mod Owed
 pub mod Rule
 pub mod Views
+pub mod Operations

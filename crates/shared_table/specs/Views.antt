@@ -32,3 +32,25 @@ first_view k = record {
   gate = Outside;
   spot = None;
 }
+
+-- what contracts see of the first caller that a seat stands for
+abbrev pub held_in : ℕ → List Own → Option Holding
+held_in number [] = None
+held_in number (own ∷ owns) = Some (record { number = number; items = own.items; spare = own.spare })
+
+abbrev pub view_state : View → CallerState
+view_state v = record { own = held_in v.number v.owns; front = v.front; seen = v.seen }
+
+-- how many calls the first caller made
+abbrev pub made_by : List Own → ℕ
+made_by [] = 0
+made_by (own ∷ owns) = length own.items
+
+-- one more call of the first caller
+abbrev pub with_item : List Own → Item → List Own
+with_item [] x = []
+with_item (own ∷ owns) x = record own { items = own.items ++ x ∷ [] } ∷ owns
+
+-- the view after a call of the first caller, who has then seen this
+abbrev pub called_view : View → List Own → List SharedEntry → View
+called_view v owns seen = record v { seen = seen; front = slice_set v.front v.number (made_by owns); owns = owns }
