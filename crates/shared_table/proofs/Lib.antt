@@ -2,3 +2,5 @@ pub mod Frames
 pub mod Ledgers
 pub mod Lists
 pub mod Moves
+pub mod Numbers
+pub mod Operating
