@@ -1,0 +1,5 @@
+pub mod Layout
+pub mod Nodes
+pub mod Paths
+pub mod Plans
+pub mod Slots

@@ -1,0 +1,2 @@
+//! Laws of paths, words and nodes. Each is the contract of a function that does nothing.
+pub mod paths;
