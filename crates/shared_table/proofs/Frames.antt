@@ -16,7 +16,8 @@ use Rattle.shared_table.specs.declared.view.Gate.{Gate}
 use Rattle.shared_table.specs.declared.view.Gate.TheVariants.{Outside, Inside, Closed}
 use Rattle.shared_table.specs.declared.view.View.{View}
 use Rattle.shared_table.specs.Laws.{HistoryLaws}
-use Rattle.shared_table.specs.Layout.{parent_word, slot_word, unit_words, heads, dead_word}
+use Rattle.trie_nodes.specs.Layout.{parent_word, slot_word, unit_words, dead_word}
+use Rattle.shared_table.specs.Layout.{heads}
 use Rattle.shared_table.specs.Ledger.{Owned, Fits}
 use Rattle.shared_table.specs.Owed.{Walks, IsLeaf, Locks, HasRoom, Stands, AtGate, Suits}
 use Rattle.shared_table.specs.Shape.{Shape, start_of, held_at, till, time}

@@ -15,9 +15,14 @@ use Rattle.sync_model.specs.SharedHistory.{value_at, number_at, contents_after, 
 use Rattle.shared_table.specs.declared.begin.Begin.{Begin}
 use Rattle.shared_table.specs.Gates.{Gated}
 use Rattle.shared_table.specs.Laws.{HistoryLaws}
-use Rattle.shared_table.specs.Layout.{atomic_word, heads, parent_word, slot_word, root_word, gate_word, size_of, dead_word}
-use Rattle.shared_table.specs.Routes.{nibble, route}
-use Rattle.shared_table.specs.Shape.{Shape, start_of, held_at, till, time, picked, IsNumber, IsNode, IsEntry, Shows, Fine}
+use Rattle.trie_nodes.specs.Layout.{atomic_word, parent_word, slot_word, dead_word}
+use Rattle.shared_table.specs.Layout.{heads, root_word, gate_word, size_of}
+use Rattle.trie_nodes.specs.declared.slot.Slot.{Slot}
+use Rattle.trie_nodes.specs.declared.slot.Slot.TheVariants.{Empty, Node, Entry}
+use Rattle.trie_nodes.specs.Nodes.{entry_value, Shows}
+use Rattle.trie_nodes.specs.Slots.{slot_in}
+use Rattle.trie_nodes.specs.Paths.{nibble, route}
+use Rattle.shared_table.specs.Shape.{Shape, start_of, held_at, till, time, IsNumber, IsBelow, ShowsAt, Fine}
 use Rattle.shared_table.proofs.Frames.{Later, Apart}
 use Rattle.shared_table.proofs.Ledgers.{longer}
 
@@ -90,20 +95,21 @@ module _ (k : Begin) (laws : HistoryLaws) (sh : Shape) (log log' : List SharedEn
           by_cut (Some t) e =
               ap (λ h. held_at k h t m key) history.1 ∙ ap (λ contents. value_at contents m key) (laws.contents_same (start_of k) log history.0 t (fine.cut p t is e))
 
-      picked_same : (q key : ℕ) → sh.kind_of q ≡ 2 → picked (set ws (atomic_word a) word) q key ≡ picked ws q key
-      picked_same q key is = λ i. cond (in_entry q q is (omega arith) i == key) (Some (in_entry q (q + 1) is (omega arith) i)) None
+      value_same : (q key : ℕ) → sh.kind_of q ≡ 2 → entry_value (set ws (atomic_word a) word) q key ≡ entry_value ws q key
+      value_same q key is = λ i. cond (in_entry q q is (omega arith) i == key) (Some (in_entry q (q + 1) is (omega arith) i)) None
 
-      shows_on : (p d key w : ℕ) → sh.kind_of p ≡ 1 → Shows k sh log ws p d key w → Shows k sh log' (set ws (atomic_word a) word) p d key w
-      shows_on p d key w is shows = record {
-        nothing = λ e. held_same p (sh.map_of p) key is ∙ shows.nothing e;
-        leaf = λ e. let l = shows.leaf e in (
-          l.0,
-          ap (route k.seed (suc d)) (in_entry (w / 2) (w / 2) l.0 (omega arith)) ∙ l.1,
-          held_same p (sh.map_of p) key is ∙ l.2 ∙ sym (picked_same (w / 2) key l.0),
-        );
-        child = shows.child;
-        childless = shows.childless;
-      }
+      shows_on : (p d key w : ℕ) → sh.kind_of p ≡ 1 → ShowsAt k sh log ws p d key w → ShowsAt k sh log' (set ws (atomic_word a) word) p d key w
+      shows_on p d key w is at = record { shows = by_slot (slot_in w) at.entry at.shows; entry = at.entry; childless = at.childless }
+        where
+          now : held_at k log' (time sh log' p) (sh.map_of p) key ≡ held_at k log (time sh log p) (sh.map_of p) key
+          now = held_same p (sh.map_of p) key is
+
+          by_slot : (slot : Slot) → ((place : ℕ) → slot ≡ Entry place → sh.kind_of place ≡ 2)
+              → Shows ws k.seed (IsBelow k sh log ws p d key) d key (held_at k log (time sh log p) (sh.map_of p) key) slot
+              → Shows (set ws (atomic_word a) word) k.seed (IsBelow k sh log' (set ws (atomic_word a) word) p d key) d key (held_at k log' (time sh log' p) (sh.map_of p) key) slot
+          by_slot Empty entry shows = now ∙ shows
+          by_slot (Node node) entry shows = shows
+          by_slot (Entry place) entry shows = let is_entry = entry place refl in (ap (route k.seed (suc d)) (in_entry place place is_entry (omega arith)) ∙ shows.0, now ∙ shows.1 ∙ sym (value_same place key is_entry))
 
       numbers_on : IsNumber kind word number → (b : ℕ) (other : AtomicKind) → slice_get k.kinds b ≡ Some other → IsNumber other (slice_index (set ws (atomic_word a) word) (atomic_word b)) (number_at (contents_after (start_of k) log') b)
       numbers_on now b other at_b = elim (cases_eq b a) [
@@ -144,6 +150,6 @@ module _ (k : Begin) (laws : HistoryLaws) (sh : Shape) (log log' : List SharedEn
         cut = λ p moment is cut. let was = fine.cut p moment is cut in let up = longer log log' history in omega arith;
         held = λ p is alive. let e = in_node p p is (omega arith) in fine.held p is (λ dead. alive (e ∙ dead)) ∙ sym e;
         dead = λ p i is dead inside. in_node p (slot_word p i) is (omega arith) ∙ fine.dead p i is (sym (in_node p p is (omega arith)) ∙ dead) inside;
-        slots = λ p d key is level is_key path. subst (Shows k sh log' (set ws (atomic_word a) word) p d key) (sym (in_node p (slot_word p (nibble k.seed d key)) is (omega arith)))
-            (shows_on p d key (slice_index ws (slot_word p (nibble k.seed d key))) is (fine.slots p d key is level is_key path));
+        slots = λ p d key is level is_key path. subst (ShowsAt k sh log' (set ws (atomic_word a) word) p d key) (sym (in_node p (slot_word p (nibble key k.seed d)) is (omega arith)))
+            (shows_on p d key (slice_index ws (slot_word p (nibble key k.seed d))) is (fine.slots p d key is level is_key path));
       }

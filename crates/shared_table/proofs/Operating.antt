@@ -21,7 +21,8 @@ use Rattle.shared_table.specs.declared.view.Own.{Own}
 use Rattle.shared_table.specs.declared.view.Gate.TheVariants.{Inside}
 use Rattle.shared_table.specs.declared.view.View.{View}
 use Rattle.shared_table.specs.Laws.{HistoryLaws}
-use Rattle.shared_table.specs.Layout.{atomic_word, callers_of}
+use Rattle.trie_nodes.specs.Layout.{atomic_word}
+use Rattle.shared_table.specs.Layout.{callers_of}
 use Rattle.shared_table.specs.Ledger.{Owned, Fits}
 use Rattle.shared_table.specs.Operations.{IsOperation, Places, Operates}
 use Rattle.shared_table.specs.Owed.{HasRoom, Suits}

@@ -1,53 +1,34 @@
--- Where the words of a shared table stand. First a word that is always 0, so that no node and no entry has the place 0. Then a word for each atomic, and for each map its root word and its gate word. Then the nodes that are the maps' first roots, and then the room of each caller.
-use Rattle.std.specs.Prelude.{ℕ, ◌+◌, ◌*◌, ◌/◌, ◌<◌, ◌≤◌, ◌^◌, List, sum, length}
+-- The words of a shared table, by what it is made of.
+use Rattle.std.specs.Prelude.{ℕ, ◌+◌, ◌*◌, ◌<◌, ◌≤◌, ◌^◌, sum, length}
+use Rattle.trie_nodes.specs.Layout as layout
 use Rattle.shared_table.specs.declared.begin.Begin.{Begin}
 
--- the words of a node: its lock, its parent, and 16 slots; and of an entry: its key and its value
-abbrev pub lock_word : ℕ → ℕ
-lock_word node = node
-
-abbrev pub parent_word : ℕ → ℕ
-parent_word node = node + 1
-
-abbrev pub slot_word : ℕ → ℕ → ℕ
-slot_word node slot = node + 2 + slot
-
--- the words of one unit of room: an entry and seven nodes, the most that a call may add to a map
-abbrev pub unit_words : ℕ
-unit_words = 128
-
--- the word of a node that is dead, beyond the numbers of callers
-abbrev pub dead_word : ℕ
-dead_word = 2 ^ 32
-
-abbrev pub atomic_word : ℕ → ℕ
-atomic_word a = 1 + a
-
 module _ (k : Begin) where
+  -- the root word of a map, and the word of its gate
   abbrev pub root_word : ℕ → ℕ
-  root_word m = 1 + length k.kinds + 2 * m
+  root_word m = layout.root_word (length k.kinds) m
 
   abbrev pub gate_word : ℕ → ℕ
-  gate_word m = 2 + length k.kinds + 2 * m
+  gate_word m = layout.gate_word (length k.kinds) m
 
   -- the first word behind the dummy, the atomics, and the maps' roots and gates
   abbrev pub heads : ℕ
-  heads = 1 + length k.kinds + 2 * k.maps
+  heads = layout.heads (length k.kinds) k.maps
 
   -- the place of the node that is a map's first root
   abbrev pub first_root : ℕ → ℕ
-  first_root m = heads + 18 * m
+  first_root m = layout.first_root (length k.kinds) k.maps m
 
   -- where the callers' rooms begin
   abbrev pub first_room : ℕ
-  first_room = heads + 18 * k.maps
+  first_room = layout.first_room (length k.kinds) k.maps
 
   abbrev pub callers_of : ℕ
   callers_of = length k.spares
 
   -- how many words there are
   abbrev pub size_of : ℕ
-  size_of = first_room + unit_words * sum k.spares
+  size_of = first_room + layout.unit_words * sum k.spares
 
   -- what a table may be made of
   pub record IsBegin : Type 0 where

@@ -1,6 +1,5 @@
 pub mod Laws
 pub mod Layout
-pub mod Routes
 pub mod Ledger
 pub mod Shape
 pub mod Gates

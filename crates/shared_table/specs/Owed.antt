@@ -12,14 +12,10 @@ use Rattle.shared_table.specs.declared.view.Spot.{Spot}
 use Rattle.shared_table.specs.declared.view.Gate.{Gate}
 use Rattle.shared_table.specs.declared.view.Gate.TheVariants.{Outside, Inside, Closed}
 use Rattle.shared_table.specs.declared.view.View.{View}
-use Rattle.shared_table.specs.Layout.{parent_word, slot_word, unit_words, heads, size_of, dead_word}
-use Rattle.shared_table.specs.Routes.{nibble, route}
+use Rattle.trie_nodes.specs.Layout.{parent_word, slot_word, unit_words, dead_word}
+use Rattle.shared_table.specs.Layout.{heads, size_of}
+use Rattle.trie_nodes.specs.Paths.{route, Passed}
 use Rattle.shared_table.specs.Shape.{Shape, held_at, time}
-
--- a cursor that stands before these slots, from this level down, has passed the key
-abbrev pub HasPassed : ℕ → ℕ → List ℕ → ℕ → Type 0
-HasPassed seed level [] key = ⊥
-HasPassed seed level (slot ∷ slots) key = (nibble seed level key < slot) ⊎ ((nibble seed level key ≡ slot) × HasPassed seed (suc level) slots key)
 
 -- a seat stands at a node of its key's path, which stands for no less than what the seat saw when it read the root
 pub record Walks (k : Begin) (sh : Shape) (log : List SharedEntry) (w : Walk) : Type 0 where
@@ -68,8 +64,8 @@ pub record Stands (k : Begin) (sh : Shape) (log : List SharedEntry) (calls : ℕ
   pub nodes : (i p : ℕ) → slice_get s.nodes i ≡ Some p → (sh.kind_of p ≡ 1) × (sh.map_of p ≡ s.map) × (sh.path_of p ≡ take i s.slots) × (s.since ≤ time sh log p)
   pub slots : (i slot : ℕ) → slice_get s.slots i ≡ Some slot → slot ≤ 16
   pub entered : (i slot : ℕ) → slice_get s.slots i ≡ Some slot → suc i < length s.slots → slot < 16
-  pub shown : (key : ℕ) → Contains s.shown key → (key < 2 ^ 32) × HasPassed k.seed 0 s.slots key
-  pub passed : (key : ℕ) → key < 2 ^ 32 → HasPassed k.seed 0 s.slots key → Contains s.shown key ⊎ ((moment : ℕ) × (s.since ≤ moment) × (moment ≤ length log) × (held_at k log moment s.map key ≡ None))
+  pub shown : (key : ℕ) → Contains s.shown key → (key < 2 ^ 32) × Passed k.seed 0 s.slots key
+  pub passed : (key : ℕ) → key < 2 ^ 32 → Passed k.seed 0 s.slots key → Contains s.shown key ⊎ ((moment : ℕ) × (s.since ≤ moment) × (moment ≤ length log) × (held_at k log moment s.map key ≡ None))
 
 -- how a caller stands to a gate
 abbrev pub AtGate : Begin → Shape → ℕ → Gate → Type 0

@@ -6,8 +6,12 @@ use Rattle.sync_model.specs.declared.item.SharedEntry.{SharedEntry}
 use Rattle.sync_model.specs.SharedHistory.{Contents, first_contents, number_at, value_at, contents_after, contents_at}
 use Rattle.sync_model.specs.WordLayout.{is_word, number_in}
 use Rattle.shared_table.specs.declared.begin.Begin.{Begin}
-use Rattle.shared_table.specs.Layout.{parent_word, slot_word, atomic_word, root_word, heads, size_of, dead_word}
-use Rattle.shared_table.specs.Routes.{nibble, route}
+use Rattle.trie_nodes.specs.Layout.{parent_word, slot_word, atomic_word, dead_word}
+use Rattle.shared_table.specs.Layout.{root_word, heads, size_of}
+use Rattle.trie_nodes.specs.declared.slot.Slot.TheVariants.{Node, Entry}
+use Rattle.trie_nodes.specs.Nodes.{Shows}
+use Rattle.trie_nodes.specs.Slots.{slot_in}
+use Rattle.trie_nodes.specs.Paths.{nibble, route}
 
 -- what the blocks of words are, which no word tells alone
 pub record Shape : Type 0 where
@@ -46,10 +50,6 @@ till (Some moment) end = moment
 abbrev pub time : Shape → List SharedEntry → ℕ → ℕ
 time sh log p = till (sh.cut_of p) (length log)
 
--- the value of an entry, where it is this key's
-abbrev pub picked : List ℕ → ℕ → ℕ → Option ℕ
-picked ws p key = cond (slice_index ws p == key) (Some (slice_index ws (p + 1))) None
-
 -- the word of an atomic of this type stands for the number
 abbrev pub IsNumber : AtomicKind → ℕ → Number → Type 0
 IsNumber kind word number = (is_word kind word ≡ true) × (number ≡ number_in kind word)
@@ -76,17 +76,16 @@ module _ (k : Begin) (sh : Shape) where
     pub is_key : slice_index ws p < 2 ^ 32
 
 module _ (k : Begin) (sh : Shape) (log : List SharedEntry) (ws : List ℕ) where
-  -- what a slot of node p shows of a key on whose path the node stands at level d. An even number is twice a node's place, an odd one twice an entry's place and one more.
-  pub record Shows (p d key word : ℕ) : Type 0 where
-    -- an empty slot: the key is absent
-    pub nothing : word ≡ 0 → held_at k log (time sh log p) (sh.map_of p) key ≡ None
-    -- an entry, of this key or of one whose path is the same so far: the key has the entry's value, or is absent
-    pub leaf : word % 2 ≡ 1 → (sh.kind_of (word / 2) ≡ 2) × (route k.seed (suc d) (slice_index ws (word / 2)) ≡ route k.seed (suc d) key)
-        × (held_at k log (time sh log p) (sh.map_of p) key ≡ picked ws (word / 2) key)
-    -- a node of the next level, which stands for as long as this one
-    pub child : word % 2 ≡ 0 → word ≢ 0 → (sh.kind_of (word / 2) ≡ 1) × (sh.map_of (word / 2) ≡ sh.map_of p) × (sh.path_of (word / 2) ≡ route k.seed (suc d) key) × (sh.cut_of (word / 2) ≡ sh.cut_of p) × (suc d < 8)
-    -- where there is no node, none is reachable
-    pub childless : (word ≢ 0 → word % 2 ≡ 1) → sh.cut_of p ≡ None → sh.node_at (sh.map_of p) (route k.seed (suc d) key) ≡ None
+  -- the node below p on a key's path, which stands for as long as p
+  abbrev pub IsBelow : ℕ → ℕ → ℕ → ℕ → Type 0
+  IsBelow p d key node = (sh.kind_of node ≡ 1) × (sh.map_of node ≡ sh.map_of p) × (sh.path_of node ≡ route k.seed (suc d) key) × (sh.cut_of node ≡ sh.cut_of p)
+
+  -- what the slot of node p for a key, on whose path the node stands at level d, says of the key
+  pub record ShowsAt (p d key word : ℕ) : Type 0 where
+    pub shows : Shows ws k.seed (IsBelow p d key) d key (held_at k log (time sh log p) (sh.map_of p) key) (slot_in word)
+    pub entry : (place : ℕ) → slot_in word ≡ Entry place → sh.kind_of place ≡ 2
+    -- where the slot has no node, none is reachable
+    pub childless : ((node : ℕ) → slot_in word ≢ Node node) → sh.cut_of p ≡ None → sh.node_at (sh.map_of p) (route k.seed (suc d) key) ≡ None
 
   -- the words are those of this shape after this history
   pub record Fine : Type 0 where
@@ -110,4 +109,4 @@ module _ (k : Begin) (sh : Shape) (log : List SharedEntry) (ws : List ℕ) where
     -- a node's lock word says who holds it, unless the node is dead, and a dead node is empty
     pub held : (p : ℕ) → sh.kind_of p ≡ 1 → slice_index ws p ≢ dead_word → sh.held_by p ≡ slice_index ws p
     pub dead : (p i : ℕ) → sh.kind_of p ≡ 1 → slice_index ws p ≡ dead_word → i < 16 → slice_index ws (slot_word p i) ≡ 0
-    pub slots : (p d key : ℕ) → sh.kind_of p ≡ 1 → d < 8 → key < 2 ^ 32 → sh.path_of p ≡ route k.seed d key → Shows p d key (slice_index ws (slot_word p (nibble k.seed d key)))
+    pub slots : (p d key : ℕ) → sh.kind_of p ≡ 1 → d < 8 → key < 2 ^ 32 → sh.path_of p ≡ route k.seed d key → ShowsAt p d key (slice_index ws (slot_word p (nibble key k.seed d)))

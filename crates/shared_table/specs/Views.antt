@@ -8,7 +8,8 @@ use Rattle.shared_table.specs.declared.begin.Begin.{Begin}
 use Rattle.shared_table.specs.declared.view.Own.{Own}
 use Rattle.shared_table.specs.declared.view.Gate.TheVariants.{Outside}
 use Rattle.shared_table.specs.declared.view.View.{View}
-use Rattle.shared_table.specs.Layout.{unit_words, first_room, callers_of}
+use Rattle.trie_nodes.specs.Layout.{unit_words}
+use Rattle.shared_table.specs.Layout.{first_room, callers_of}
 
 -- callers that made no call, each with its room behind the one before
 abbrev pub new_owns : ℕ → List ℕ → List Own
