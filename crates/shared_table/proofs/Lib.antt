@@ -3,4 +3,5 @@ pub mod Ledgers
 pub mod Lists
 pub mod Moves
 pub mod Numbers
+pub mod Opening
 pub mod Operating

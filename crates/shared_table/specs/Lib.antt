@@ -6,4 +6,5 @@ pub mod Gates
 pub mod Owed
 pub mod Rule
 pub mod Views
+pub mod Blank
 pub mod Operations
