@@ -5,3 +5,4 @@ pub mod Moves
 pub mod Numbers
 pub mod Opening
 pub mod Operating
+pub mod Seats
