@@ -6,3 +6,4 @@ pub mod Numbers
 pub mod Opening
 pub mod Operating
 pub mod Seats
+pub mod Looking
