@@ -8,3 +8,5 @@ pub mod Rule
 pub mod Views
 pub mod Blank
 pub mod Operations
+pub mod Tables
+pub mod Notes

@@ -132,3 +132,12 @@ pub record Looks (v w : View) : Type 0 where
   pub owned : (i : ℕ) (own : Own) → slice_get v.owns i ≡ Some own → (v.number + i < callers_of v.begin) × (calls (v.number + i) ≡ own.items)
   pub made : (c : ℕ) → slice_index v.front c ≤ length (calls c)
   pub long : length v.front ≡ callers_of v.begin
+
+-- the room of the first caller, as its note has it
+abbrev pub spare_in : List Own → ℕ
+spare_in [] = 0
+spare_in (own ∷ owns) = own.spare
+
+abbrev pub next_in : List Own → ℕ
+next_in [] = 0
+next_in (own ∷ owns) = own.next
