@@ -6,4 +6,5 @@ pub mod Numbers
 pub mod Opening
 pub mod Operating
 pub mod Seats
+pub mod Calling
 pub mod Looking
