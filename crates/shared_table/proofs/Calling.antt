@@ -1,6 +1,7 @@
 -- Operations through a caller's note.
-use Rattle.std.proofs.Common.{◌≡◌, ℕ, zero, suc, ◌+◌, ◌*◌, ◌<◌, ◌≤◌, true, false, List, [], ◌∷◌, ◌++◌, length, Option, Some, None, IsSome, slice_get, slice_index, refl, sym, ap, ◌∙◌, subst, arith}
+use Rattle.std.proofs.Common.{◌≡◌, ℕ, zero, suc, ◌+◌, ◌*◌, ◌<◌, ◌≤◌, ◌==◌, Bool, true, false, cond, List, [], ◌∷◌, ◌++◌, length, Option, Some, None, IsSome, slice_get, slice_index, refl, sym, ap, ◌∙◌, subst, arith}
 use Rattle.std.proofs.lemmas.Option.{slice_get_within, none-some, same_Some}
+use prog.Atomic.{either}
 use Rattle.atomic_table.specs.Table.{Allows}
 use Rattle.sync_model.specs.declared.atomic_object.AtomicCall.{AtomicCall}
 use Rattle.sync_model.specs.declared.item.Item.{Item}
@@ -22,6 +23,9 @@ use Rattle.shared_table.specs.Layout.{size_of}
 use Rattle.shared_table.specs.Notes.{own_by, IsNoteOf, IsOperationOn}
 use Rattle.shared_table.specs.Operations.{Places, Operates}
 use Rattle.shared_table.specs.Rule.{Kept}
+use Rattle.shared_table.specs.declared.word_step.WordStep.{WordStep}
+use Rattle.shared_table.specs.declared.word_step.WordStep.TheVariants.{CompareExchange}
+use Rattle.shared_table.specs.WordSteps.{word_after}
 use Rattle.shared_table.specs.Views.{held_in, with_item, called_view, IsIdle}
 use Rattle.shared_table.proofs.Operating.{operates}
 
@@ -76,3 +80,19 @@ pub home_on : (table : SharedTable) (old new : SharedNote) (a atomic : ℕ) (cal
 home_on table old new a atomic call f found is same on table_is told home at_home =
     note_on home old new (Atomic a call) (replies.Atomic (atomic_reply call (number_in on.kind found))) at_home table_is told.0
     (told.1 on.kind (ap (λ (b : Begin). slice_get b.kinds a) is.begin ∙ ap (slice_get table.table.shared.key.kinds) same ∙ on.at)).1
+
+-- the same, by the step that an arm of a match makes
+pub may_step : (table : SharedTable) (note : SharedNote) (a atomic : ℕ) (call : AtomicCall) (step now : WordStep) → HistoryLaws → IsNoteOf table note → IsSome (own_by note) → a ≡ atomic → IsOperationOn table atomic call (word_after step) → step ≡ now
+    → (note.seat.table_id ≡ table.table.shared.table_id) × (1 + atomic < table.table.shared.table_id.words) × Allows (Kept table.table.shared.key) table.table.shared.table_id.slots note.seat.id note.seat.me (1 + atomic) (word_after now) (Operates a call note.seat.me)
+may_step table note a atomic call step now laws is owned same on arm = may_operate table note a atomic call (word_after now) laws is owned same (subst (λ z. IsOperationOn table atomic call (word_after z)) arm on)
+
+either_is : (b : Bool) (x y : ℕ) → cond b x y ≡ either b x y
+either_is true x y = refl
+either_is false x y = refl
+
+-- a compare-exchange, as the table has it
+pub may_exchange : (table : SharedTable) (note : SharedNote) (a : ℕ) (call : AtomicCall) (atomic old new : ℕ)
+    → (note.seat.table_id ≡ table.table.shared.table_id) × (1 + atomic < table.table.shared.table_id.words) × Allows (Kept table.table.shared.key) table.table.shared.table_id.slots note.seat.id note.seat.me (1 + atomic) (word_after (CompareExchange old new)) (Operates a call note.seat.me)
+    → (note.seat.table_id ≡ table.table.shared.table_id) × (1 + atomic < table.table.shared.table_id.words) × Allows (Kept table.table.shared.key) table.table.shared.table_id.slots note.seat.id note.seat.me (1 + atomic) (λ n. either (n == old) new n) (Operates a call note.seat.me)
+may_exchange table note a call atomic old new may = let same : word_after (CompareExchange old new) ≡ (λ n. either (n == old) new n) = (λ i n. either_is (n == old) new n i) in
+    (may.0, may.1, subst (λ f. Allows (Kept table.table.shared.key) table.table.shared.table_id.slots note.seat.id note.seat.me (1 + atomic) f (Operates a call note.seat.me)) same may.2)

@@ -10,3 +10,4 @@ pub mod Blank
 pub mod Operations
 pub mod Tables
 pub mod Notes
+pub mod WordSteps

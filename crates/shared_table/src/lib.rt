@@ -8,8 +8,10 @@ mod operations;
 pub mod rule;
 pub mod table;
 pub mod view;
+pub mod word_step;
 
 pub use begin::Begin;
 pub use note::SharedNote;
 pub use rule::Operation;
 pub use table::SharedTable;
+pub use word_step::WordStep;

@@ -1,25 +1,44 @@
 //! Operations on the words of atomics. Each is one atomic step on one word, waits for nobody, and can't be refused. It is a
 //! call of its caller, placed at that step.
-ghost use Rattle.std.specs.Prelude.{◌≡◌, ◌<◌, ◌+◌, ◌%◌, ◌^◌, ◌==◌, bit_and, bit_or, IsSome};
+ghost use Rattle.std.specs.Prelude.{◌≡◌, IsSome};
 ghost use Rattle.sync_model.specs.Note.{SameHome};
 ghost use Rattle.shared_table.specs.Notes.{own_by, IsNoteOf, IsOperationOn, Operated};
+ghost use Rattle.shared_table.specs.WordSteps.{word_after};
 
 use crate::laws::history_laws;
 use crate::note::SharedNote;
 use crate::rule::{Operate, Operation};
 use crate::table::SharedTable;
+use crate::word_step::WordStep;
 
 impl SharedTable {
-    /// Reads an atomic's word, as a call of the note's holder.
-    pub fn load_word<O: Operation>(&self, note: &mut SharedNote, atomic: u32) -> u64
+    /// Makes an atomic step on the word of an atomic, as a call of the note's holder, and tells the word as it was before.
+    /// The step makes of each word what the call makes of the number that the word stands for.
+    #[inline(always)]
+    pub fn operate<O: Operation>(
+        &self,
+        note: &mut SharedNote,
+        atomic: u32,
+        step: WordStep,
+    ) -> u64
         requires note { IsNoteOf self.now note.old × IsSome (own_by note.old) }
-        requires operation { (O.atomic ≡ atomic) × IsOperationOn self.now atomic O.call (λ word. word) }
+        requires operation { (O.atomic ≡ atomic) × IsOperationOn self.now atomic O.call (word_after step) }
         ensures home { SameHome IsNoteOf note.old note.new }
         ensures called { Operated self.now atomic O.call result note.old note.new }
     {
         history_laws();
-        self.table
-            .shared
-            .load::<Operate<O>>(&mut note.seat, 1 + atomic as usize)
+        let word = 1 + atomic as usize;
+        let shared = &self.table.shared;
+        let seat = &mut note.seat;
+        match step {
+            WordStep::Load => shared.load::<Operate<O>>(seat, word),
+            WordStep::Swap { new } => shared.swap::<Operate<O>>(seat, word, new),
+            WordStep::Add { operand } => shared.fetch_add::<Operate<O>>(seat, word, operand),
+            WordStep::And { operand } => shared.fetch_and::<Operate<O>>(seat, word, operand),
+            WordStep::Or { operand } => shared.fetch_or::<Operate<O>>(seat, word, operand),
+            WordStep::CompareExchange { old, new } => {
+                shared.compare_exchange::<Operate<O>>(seat, word, old, new)
+            }
+        }
     }
 }
