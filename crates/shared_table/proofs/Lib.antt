@@ -7,4 +7,5 @@ pub mod Opening
 pub mod Operating
 pub mod Seats
 pub mod Calling
+pub mod Noting
 pub mod Looking

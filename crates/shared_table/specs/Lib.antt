@@ -10,4 +10,5 @@ pub mod Blank
 pub mod Operations
 pub mod Tables
 pub mod Notes
+pub mod Counted
 pub mod WordSteps

@@ -1,19 +1,21 @@
 -- A caller's note: what contracts see of it.
-use Rattle.std.specs.Prelude.{◌≡◌, ℕ, ◌≤◌, true, List, [], Option, Some, length, slice_get}
+use Rattle.std.specs.Prelude.{◌≡◌, ℕ, ◌≤◌, true, List, [], Option, Some, length, slice_get, slice_index}
 use Rattle.sync_model.specs.declared.atomic_object.AtomicCall.{AtomicCall}
 use Rattle.sync_model.specs.declared.atomic_object.AtomicKind.{AtomicKind}
 use Rattle.sync_model.specs.declared.item.SharedCall.TheVariants.{Atomic}
 use Rattle.sync_model.specs.declared.item.SharedEntry.{SharedEntry}
+use Rattle.sync_model.specs.declared.item.Item.{Item}
 use Rattle.sync_model.specs.declared.item.SharedReply.TheVariants as replies
 use Rattle.sync_model.specs.Note.{Holding, IsCounted}
 use Rattle.sync_model.specs.SequentialAtomic.{atomic_reply}
+use Rattle.sync_model.specs.SharedCalls.{Lawful}
 use Rattle.sync_model.specs.Shared.{Called, state_of}
 use Rattle.sync_model.specs.WordLayout.{is_word, number_in}
 use Rattle.shared_table.specs.declared.note.SharedNote.{SharedNote}
 use Rattle.shared_table.specs.declared.table.SharedTable.{SharedTable}
 use Rattle.shared_table.specs.declared.view.Own.{Own}
 use Rattle.shared_table.specs.Operations.{IsOperation}
-use Rattle.shared_table.specs.Tables.{kinds_of, first_of}
+use Rattle.shared_table.specs.Tables.{kinds_of, count_of, first_of}
 use Rattle.shared_table.specs.Views.{held_in, IsIdle}
 
 -- for each caller the number of its shared calls that are known
@@ -49,3 +51,11 @@ pub record IsOperationOn (table : SharedTable) (atomic : ℕ) (call : AtomicCall
 abbrev pub Operated : SharedTable → ℕ → AtomicCall → ℕ → SharedNote → SharedNote → Type 0
 Operated table atomic call found old new = (kind : AtomicKind) → slice_get (kinds_of table) atomic ≡ Some kind
     → (is_word kind found ≡ true) × Called (first_of table) (Atomic atomic call) (replies.Atomic (atomic_reply call (number_in kind found))) 0 (state_of own_by front_by seen_by old) (state_of own_by front_by seen_by new)
+
+-- What the note's holder has seen is lawful with some lists of calls, of the table's callers alone. The holder's own list is among them, and the front counts no call that wasn't made
+pub record IsLawfulFor (table : SharedTable) (note : SharedNote) : Type 0 where
+  pub calls : ℕ → List Item
+  pub lawful : Lawful (first_of table) (seen_by note) calls
+  pub none_else : (c : ℕ) → count_of table ≤ c → calls c ≡ []
+  pub mine : (holding : Holding) → own_by note ≡ Some holding → calls holding.number ≡ holding.items
+  pub made : (c : ℕ) → slice_index (front_by note) c ≤ length (calls c)

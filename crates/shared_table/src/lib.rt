@@ -2,6 +2,8 @@
 #![tactic(auto)]
 
 pub mod begin;
+mod caller_note;
+mod copies;
 mod laws;
 pub mod note;
 mod operations;
