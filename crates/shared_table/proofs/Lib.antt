@@ -7,5 +7,7 @@ pub mod Opening
 pub mod Operating
 pub mod Seats
 pub mod Calling
+pub mod FirstWords
+pub mod FirstCallers
 pub mod Noting
 pub mod Looking

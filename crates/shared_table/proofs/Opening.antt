@@ -109,7 +109,7 @@ zeros_at [] a kind other at = absurd (none-some kind at)
 zeros_at (x ∷ xs) zero kind other at = ap zero_of (same_Some x kind at)
 zeros_at (x ∷ xs) (suc a) kind other at = zeros_at xs a kind other at
 
-same_for_all : {A : Type 0} (n i : ℕ) (x : A) → get_or (replicate n x) i x ≡ x
+pub same_for_all : {A : Type 0} (n i : ℕ) (x : A) → get_or (replicate n x) i x ≡ x
 same_for_all zero i x = refl
 same_for_all (suc n) zero x = refl
 same_for_all (suc n) (suc i) x = same_for_all n i x

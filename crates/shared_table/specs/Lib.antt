@@ -10,5 +10,7 @@ pub mod Blank
 pub mod Operations
 pub mod Tables
 pub mod Notes
+pub mod NewCallers
+pub mod Dealing
 pub mod Counted
 pub mod WordSteps

@@ -21,3 +21,7 @@ count_of table = callers_of table.table.shared.key
 -- what the maps and atomics contain at the start
 abbrev pub first_of : SharedTable → Contents
 first_of table = start_of table.table.shared.key
+
+-- what the hash of a key is made with
+abbrev pub seed_of : SharedTable → ℕ
+seed_of table = table.table.shared.key.seed

@@ -5,6 +5,7 @@ pub mod begin;
 mod caller_note;
 mod copies;
 mod laws;
+mod new;
 pub mod note;
 mod operations;
 pub mod rule;
@@ -13,6 +14,7 @@ pub mod view;
 pub mod word_step;
 
 pub use begin::Begin;
+pub use new::{MAX_OBJECTS, MAX_UNITS};
 pub use note::SharedNote;
 pub use rule::Operation;
 pub use table::SharedTable;
