@@ -80,8 +80,8 @@ module _ (k : Begin) (n next : ℕ) (inside : n < length k.spares) where
       unwritten zero own at = subst (λ (o : Own). o.draft ≡ []) (same_Some new_one own at) refl
       unwritten (suc i) own at = absurd (none-some own at)
 
-  pub ghosts_are : (me : Me (Unit {0}) View) → me ≡ (dealt (left_view k n next), []) → (me.0.number ≡ n) × (next_in me.0.owns ≡ next) × (spare_in me.0.owns ≡ slice_index k.spares n)
-  ghosts_are me is = let view : me.0 ≡ new_view = ap (λ m. m.0) is ∙ dealt_one in (ap (λ (u : View). u.number) view, ap (λ (u : View). next_in u.owns) view, ap (λ (u : View). spare_in u.owns) view)
+  pub ghosts_are : (me : Me (Unit {0}) View) → me ≡ (dealt (left_view k n next), []) → (me.0.number ≡ n) × (next_in next me.0.owns ≡ next) × (spare_in (slice_index k.spares n) me.0.owns ≡ slice_index k.spares n)
+  ghosts_are me is = let view : me.0 ≡ new_view = ap (λ m. m.0) is ∙ dealt_one in (ap (λ (u : View). u.number) view, ap (λ (u : View). next_in next u.owns) view, ap (λ (u : View). spare_in (slice_index k.spares n) u.owns) view)
 
 -- all callers were dealt
 pub all_new : (table : SharedTable) (k : Begin) (callers : List (Caller SharedNote)) → table.table.shared.key ≡ k → length callers ≡ length k.spares → ((i : ℕ) (caller : Caller SharedNote) → slice_get callers i ≡ Some caller → IsNewCaller table k.spares i caller) → AreNewCallers table k.spares callers

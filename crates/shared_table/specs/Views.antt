@@ -133,11 +133,11 @@ pub record Looks (v w : View) : Type 0 where
   pub made : (c : ℕ) → slice_index v.front c ≤ length (calls c)
   pub long : length v.front ≡ callers_of v.begin
 
--- the room of the first caller, as its note has it
-abbrev pub spare_in : List Own → ℕ
-spare_in [] = 0
-spare_in (own ∷ owns) = own.spare
+-- how many units of room the first caller has, and where the room begins; this number, where there is no caller
+abbrev pub spare_in : ℕ → List Own → ℕ
+spare_in else_spare [] = else_spare
+spare_in else_spare (own ∷ owns) = own.spare
 
-abbrev pub next_in : List Own → ℕ
-next_in [] = 0
-next_in (own ∷ owns) = own.next
+abbrev pub next_in : ℕ → List Own → ℕ
+next_in else_next [] = else_next
+next_in else_next (own ∷ owns) = own.next

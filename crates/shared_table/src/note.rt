@@ -14,6 +14,6 @@ pub struct SharedNote {
     pub(crate) next: u64,
     pub(crate) spare: u32,
     ghost number_is: { seat.me.0.number ≡ number },
-    ghost next_is: { next_in seat.me.0.owns ≡ next },
-    ghost spare_is: { spare_in seat.me.0.owns ≡ spare },
+    ghost next_is: { next_in next seat.me.0.owns ≡ next },
+    ghost spare_is: { spare_in spare seat.me.0.owns ≡ spare },
 }

@@ -37,7 +37,7 @@ invariant_of-note c =
     let inside = subst (λ l. c.loop-number.number < length l) c.as_slice-spares.ensures c.loop-number-test.true in
     let me = c.deal-seat.ensures.dealt.1 ∙ ap (λ m. (dealt m.0, [])) c.loop-number.invariant.left in
     let are = ghosts_are k c.loop-number.number c.loop-number.next inside c.deal-seat.result.me me in
-    record { number_is = are.0; next_is = are.1; spare_is = are.2 ∙ ap (λ l. get_or l c.loop-number.number 0) (sym c.as_slice-spares.ensures) }
+    record { number_is = are.0; next_is = are.1; spare_is = subst (λ n. spare_in n c.deal-seat.result.me.0.owns ≡ n) (ap (λ l. get_or l c.loop-number.number 0) (sym c.as_slice-spares.ensures)) are.2 }
 
 pub push_reserved-requires : goal.push_reserved-requires
 push_reserved-requires c =
