@@ -10,4 +10,5 @@ pub mod Calling
 pub mod FirstWords
 pub mod FirstCallers
 pub mod Noting
+pub mod Settles
 pub mod Looking

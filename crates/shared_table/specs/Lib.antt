@@ -10,6 +10,7 @@ pub mod Blank
 pub mod Operations
 pub mod Tables
 pub mod Notes
+pub mod Settling
 pub mod NewCallers
 pub mod Dealing
 pub mod Counted

@@ -9,6 +9,7 @@ mod new;
 pub mod note;
 mod operations;
 pub mod rule;
+mod settling;
 pub mod table;
 pub mod view;
 pub mod word_step;
