@@ -1,11 +1,11 @@
 -- What one caller's step leaves to all other seats.
-use Rattle.std.proofs.Common.{◌≡◌, ◌≢◌, ℕ, zero, suc, ◌+◌, ◌*◌, ◌<◌, ◌≤◌, Bool, true, false, List, [], ◌∷◌, ◌++◌, length, Option, Some, None, slice_get, slice_index, ◌⊎◌, inl, inr, refl, sym, ap, ◌∙◌, subst, arith, length-append, append_assoc}
+use Rattle.std.proofs.Common.{◌≡◌, ◌≢◌, ℕ, suc, ◌+◌, ◌<◌, ◌≤◌, true, false, List, [], ◌∷◌, ◌++◌, length, Option, Some, None, slice_get, slice_index, ◌⊎◌, inl, inr, refl, sym, ap, ◌∙◌, subst, arith, length-append, append_assoc}
 use Rattle.std.proofs.lemmas.Option.{none-some, same_Some}
 use Rattle.sync_model.specs.declared.item.SharedEntry.{SharedEntry}
 use Rattle.sync_model.specs.declared.item.Item.{Item}
 use Rattle.sync_model.specs.Journal.{Begins}
 use Rattle.sync_model.specs.SharedHistory.{value_at}
-use Rattle.sync_model.specs.SharedCalls.{Knows, Grows}
+use Rattle.sync_model.specs.SharedCalls.{Grows}
 use Rattle.shared_table.specs.declared.begin.Begin.{Begin}
 use Rattle.shared_table.specs.declared.view.Own.{Own}
 use Rattle.shared_table.specs.declared.view.Walk.{Walk}
@@ -16,9 +16,9 @@ use Rattle.shared_table.specs.declared.view.Gate.{Gate}
 use Rattle.shared_table.specs.declared.view.Gate.TheVariants.{Outside, Inside, Closed}
 use Rattle.shared_table.specs.declared.view.View.{View}
 use Rattle.shared_table.specs.Laws.{HistoryLaws}
-use Rattle.trie_nodes.specs.Layout.{parent_word, slot_word, unit_words, dead_word}
+use Rattle.trie_nodes.specs.Layout.{parent_word, slot_word, dead_word}
 use Rattle.shared_table.specs.Layout.{heads}
-use Rattle.shared_table.specs.Ledger.{Owned, Fits}
+use Rattle.shared_table.specs.Ledger.{Fits}
 use Rattle.shared_table.specs.Owed.{Walks, IsLeaf, Locks, HasRoom, Stands, AtGate, Suits}
 use Rattle.shared_table.specs.Shape.{Shape, start_of, held_at, till, time}
 

@@ -1,5 +1,5 @@
 -- A seat looks at the whole history. No word changes.
-use Rattle.std.proofs.Common.{◌≡◌, ◌≢◌, ℕ, ◌+◌, ◌<◌, ◌≤◌, true, List, [], ◌∷◌, ◌++◌, length, set, get_or, Some, slice_get, slice_index, refl, sym, ap, ◌∙◌, subst, arith}
+use Rattle.std.proofs.Common.{◌≡◌, ℕ, ◌+◌, ◌<◌, ◌≤◌, true, [], length, set, refl, sym, subst}
 use Rattle.std.proofs.lemmas.List.{append-nil, set-get_or}
 use mathlib.Core.Option.{some}
 use lib.ListN.{get_elem?}
@@ -66,16 +66,19 @@ looks k laws id me word live begin s r one at_me bounded =
       keeps,
       tt,
       subst (λ ws. Kept k record { words = ws; homes = s.homes; views = set s.views id (record v { seen = r.log }) }) (sym (set-get_or s.words word 0)) (kept_seen k laws s r id v at_me live),
-      (refl, record {
-        log = r.log;
-        calls = r.calls;
-        is = refl;
-        seen = f.seen;
-        heard = f.heard;
-        lawful = subst (λ b. Lawful (start_of b) r.log r.calls) (sym begin) r.lawful;
-        none_else = subst (λ (b : Begin). (c : ℕ) → callers_of b ≤ c → r.calls c ≡ []) (sym begin) r.none_else;
-        owned = λ i own at. let o = f.owns i own at in (subst (λ (b : Begin). v.number + i < callers_of b) (sym begin) o.below, o.items);
-        made = f.front.made;
-        long = subst (λ (b : Begin). length v.front ≡ callers_of b) (sym begin) f.long;
-      }),
+      (
+        refl,
+        record {
+          log = r.log;
+          calls = r.calls;
+          is = refl;
+          seen = f.seen;
+          heard = f.heard;
+          lawful = subst (λ b. Lawful (start_of b) r.log r.calls) (sym begin) r.lawful;
+          none_else = subst (λ (b : Begin). (c : ℕ) → callers_of b ≤ c → r.calls c ≡ []) (sym begin) r.none_else;
+          owned = λ i own at. let o = f.owns i own at in (subst (λ (b : Begin). v.number + i < callers_of b) (sym begin) o.below, o.items);
+          made = f.front.made;
+          long = subst (λ (b : Begin). length v.front ≡ callers_of b) (sym begin) f.long;
+        },
+      ),
     )

@@ -1,5 +1,5 @@
 -- Notes are copied and merged.
-use Rattle.std.proofs.Common.{◌≡◌, ℕ, zero, suc, ◌+◌, ◌*◌, ◌<◌, ◌≤◌, true, false, List, [], ◌∷◌, ◌++◌, length, Option, Some, None, slice_get, slice_index, refl, sym, ap, ◌∙◌, subst, arith}
+use Rattle.std.proofs.Common.{◌≡◌, ℕ, ◌+◌, ◌<◌, ◌≤◌, true, List, [], ◌∷◌, ◌++◌, length, Some, None, slice_get, slice_index, refl, sym, ap, ◌∙◌, subst, arith}
 use Rattle.std.proofs.lemmas.List.{append-nil}
 use Rattle.std.proofs.lemmas.Option.{none-some, same_Some}
 use Rattle.atomic_table.specs.Table.{Me, Allows, Splits, Joins}
@@ -13,7 +13,7 @@ use Rattle.shared_table.specs.declared.table.SharedTable.{SharedTable}
 use Rattle.shared_table.specs.declared.view.Own.{Own}
 use Rattle.shared_table.specs.declared.view.View.{View}
 use Rattle.shared_table.specs.Laws.{HistoryLaws}
-use Rattle.shared_table.specs.Layout.{callers_of, size_of}
+use Rattle.shared_table.specs.Layout.{callers_of}
 use Rattle.shared_table.specs.Notes.{own_by, IsNoteOf, IsLawfulFor}
 use Rattle.shared_table.specs.Rule.{Kept}
 use Rattle.shared_table.specs.Shape.{start_of}

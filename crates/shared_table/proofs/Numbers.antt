@@ -1,5 +1,5 @@
 -- An atomic's word changes: the shape stays.
-use Rattle.std.proofs.Common.{◌≡◌, ◌≢◌, ℕ, zero, suc, ◌+◌, ◌*◌, ◌/◌, ◌%◌, ◌^◌, ◌<◌, ◌≤◌, ◌==◌, Bool, true, false, cond, List, [], ◌∷◌, ◌++◌, length, map, set, get_or, Option, Some, None, slice_get, slice_index, ◌⊎◌, inl, inr, refl, sym, ap, ◌∙◌, subst, arith, length-set, get_or-set_same, get_or-set_other}
+use Rattle.std.proofs.Common.{◌≡◌, ◌≢◌, ℕ, suc, ◌+◌, ◌^◌, ◌<◌, ◌≤◌, ◌==◌, false, cond, List, length, set, get_or, Option, Some, None, slice_get, slice_index, inl, inr, refl, sym, ap, ◌∙◌, subst, arith, length-set, get_or-set_same, get_or-set_other}
 use Rattle.std.proofs.lemmas.Bool.{cases_eq}
 use Rattle.std.proofs.lemmas.List.{length-map}
 use Rattle.std.proofs.lemmas.Option.{same_Some, slice_get_within}
@@ -11,12 +11,12 @@ use Rattle.sync_model.specs.declared.atomic_object.Number.TheVariants.{Bool as T
 use Rattle.sync_model.specs.declared.item.SharedEntry.{SharedEntry}
 use Rattle.sync_model.specs.Journal.{Begins}
 use Rattle.sync_model.specs.SequentialAtomic.{zero_of}
-use Rattle.sync_model.specs.SharedHistory.{value_at, number_at, contents_after, contents_at}
+use Rattle.sync_model.specs.SharedHistory.{value_at, number_at, contents_after}
 use Rattle.shared_table.specs.declared.begin.Begin.{Begin}
 use Rattle.shared_table.specs.Gates.{Gated}
 use Rattle.shared_table.specs.Laws.{HistoryLaws}
-use Rattle.trie_nodes.specs.Layout.{atomic_word, parent_word, slot_word, dead_word}
-use Rattle.shared_table.specs.Layout.{heads, root_word, gate_word, size_of}
+use Rattle.trie_nodes.specs.Layout.{atomic_word, parent_word, slot_word}
+use Rattle.shared_table.specs.Layout.{root_word, gate_word}
 use Rattle.trie_nodes.specs.declared.slot.Slot.{Slot}
 use Rattle.trie_nodes.specs.declared.slot.Slot.TheVariants.{Empty, Node, Entry}
 use Rattle.trie_nodes.specs.Nodes.{entry_value, Shows}

@@ -1,5 +1,5 @@
 -- A new table keeps the rule.
-use Rattle.std.proofs.Common.{◌≡◌, ◌≢◌, ℕ, zero, suc, pred, ◌+◌, ◌-◌, ◌*◌, ◌/◌, ◌%◌, ◌^◌, ◌<◌, ◌≤◌, ◌==◌, Bool, true, false, ◌&&◌, cond, nat_lt, nat_le, eqb, leb, ltb, eq-eqb, List, [], ◌∷◌, ◌++◌, length, map, replicate, get_or, sum, Option, Some, None, slice_get, slice_index, ◌⊎◌, inl, inr, refl, sym, ap, ◌∙◌, subst, arith, length-append}
+use Rattle.std.proofs.Common.{◌≡◌, ℕ, zero, suc, pred, ◌+◌, ◌-◌, ◌*◌, ◌/◌, ◌%◌, ◌<◌, ◌≤◌, ◌==◌, Bool, true, false, ◌&&◌, cond, nat_lt, nat_le, eq-eqb, List, [], ◌∷◌, ◌++◌, length, map, replicate, get_or, sum, Some, None, slice_get, slice_index, refl, sym, ap, ◌∙◌, subst, arith, length-append}
 use Rattle.std.proofs.lemmas.Bool.{eqb-true, ltb-true, lt-ltb, leb-true, le-leb}
 use Rattle.std.proofs.lemmas.List.{length-replicate}
 use Rattle.std.proofs.lemmas.Option.{none-some, same_Some, slice_get_within}
@@ -13,19 +13,16 @@ use Rattle.sync_model.specs.declared.atomic_object.AtomicKind.{AtomicKind}
 use Rattle.sync_model.specs.declared.atomic_object.AtomicKind.TheVariants as kinds
 use Rattle.sync_model.specs.declared.atomic_object.Number.{Number}
 use Rattle.sync_model.specs.declared.atomic_object.Number.TheVariants.{Bool as Truth}
-use Rattle.sync_model.specs.declared.item.Item.{Item}
 use Rattle.sync_model.specs.SequentialAtomic.{zero_of}
-use Rattle.sync_model.specs.SharedCalls.{Knows}
-use Rattle.trie_nodes.specs.Layout.{unit_words, dead_word}
+use Rattle.trie_nodes.specs.Layout.{unit_words}
 use Rattle.trie_nodes.specs.Paths.{nibble, route}
 use Rattle.shared_table.specs.declared.begin.Begin.{Begin}
 use Rattle.shared_table.specs.declared.view.Own.{Own}
-use Rattle.shared_table.specs.declared.view.Gate.TheVariants.{Outside}
 use Rattle.shared_table.specs.declared.view.View.{View}
 use Rattle.shared_table.specs.Blank.{IsBlank}
 use Rattle.shared_table.specs.Gates.{count_below, Gated}
 use Rattle.shared_table.specs.Laws.{HistoryLaws}
-use Rattle.shared_table.specs.Layout.{root_word, gate_word, heads, first_root, first_room, callers_of, size_of, IsBegin}
+use Rattle.shared_table.specs.Layout.{gate_word, heads, first_root, first_room, callers_of, IsBegin}
 use Rattle.shared_table.specs.Ledger.{Owned, Fits}
 use Rattle.shared_table.specs.Owed.{HasRoom, Suits}
 use Rattle.shared_table.specs.Rule.{Kept}

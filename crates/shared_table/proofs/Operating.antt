@@ -1,18 +1,18 @@
 -- An operation on an atomic's word keeps the rule, and places its call.
-use Rattle.std.proofs.Common.{◌≡◌, ℕ, zero, suc, ◌+◌, ◌<◌, Bool, true, false, List, [], ◌∷◌, ◌++◌, length, set, Some, slice_get, slice_index, refl, sym, ap, ◌∙◌, subst, arith}
+use Rattle.std.proofs.Common.{◌≡◌, ℕ, zero, suc, ◌+◌, ◌<◌, true, List, [], ◌∷◌, ◌++◌, length, set, Some, slice_get, slice_index, refl, sym, ap, ◌∙◌, subst, arith}
 use Rattle.std.proofs.lemmas.Option.{same_Some}
 use mathlib.Core.Option.{some}
 use lib.ListN.{get_elem?}
-use Rattle.atomic_table.specs.Table.{Me, keeps, stepped, Allows}
+use Rattle.atomic_table.specs.Table.{Me, keeps, Allows}
 use Rattle.sync_model.specs.declared.atomic_object.AtomicCall.{AtomicCall}
 use Rattle.sync_model.specs.declared.atomic_object.AtomicKind.{AtomicKind}
 use Rattle.sync_model.specs.declared.atomic_object.Number.{Number}
 use Rattle.sync_model.specs.declared.item.Item.{Item}
-use Rattle.sync_model.specs.declared.item.SharedCall.TheVariants.{Begin as BeginCall, Next, Atomic}
+use Rattle.sync_model.specs.declared.item.SharedCall.TheVariants.{Atomic}
 use Rattle.sync_model.specs.declared.item.SharedReply.TheVariants as replies
 use Rattle.sync_model.specs.Journal.{Begins}
 use Rattle.sync_model.specs.SequentialAtomic.{atomic_reply, atomic_after, is_atomic_entry}
-use Rattle.sync_model.specs.SharedHistory.{number_at, contents_after, contents_at, IsReply, is_entry, with_call}
+use Rattle.sync_model.specs.SharedHistory.{number_at, contents_after, contents_at, with_call}
 use Rattle.sync_model.specs.SharedCalls.{Grows}
 use Rattle.sync_model.specs.Shared.{Called}
 use Rattle.sync_model.specs.WordLayout.{is_word, number_in}
@@ -171,15 +171,20 @@ operates k laws id me a kind call f live begin stands at operation = by_owns me.
           keeps,
           tt,
           kept_after k laws s r id v at_me live own owns is a kind at call f operation,
-          (refl, λ other at_other.
-            let same : kind ≡ other = same_Some kind other (sym at ∙ ap (λ (b : Begin). slice_get b.kinds a) (sym begin) ∙ at_other) in
-            let word = slice_index s.words (atomic_word a) in
-            subst (λ z. (is_word z word ≡ true) × Places (Atomic a call) (replies.Atomic (atomic_reply call (number_in z word))) v w) same
-            (was_word k laws s r id v at_me live own owns is a kind at call f operation, record {
-              item = item k laws s r id v at_me live own owns is a kind at call;
-              seen = with_call r.log v.number (item k laws s r id v at_me live own owns is a kind at call);
-              is = ap (λ l. called_view v (with_item l (item k laws s r id v at_me live own owns is a kind at call)) (with_call r.log v.number (item k laws s r id v at_me live own owns is a kind at call))) (sym is);
-              called = subst (λ b. Called (start_of b) (Atomic a call) (replies.Atomic (atomic_reply call (number_in kind word))) 0 (view_state v) (view_state w)) (sym begin)
-                  (is_called k laws s r id v at_me live own owns is a kind at call f operation);
-            })),
+          (
+            refl,
+            λ other at_other.
+                let same : kind ≡ other = same_Some kind other (sym at ∙ ap (λ (b : Begin). slice_get b.kinds a) (sym begin) ∙ at_other) in
+                let word = slice_index s.words (atomic_word a) in
+                subst (λ z. (is_word z word ≡ true) × Places (Atomic a call) (replies.Atomic (atomic_reply call (number_in z word))) v w) same (
+                  was_word k laws s r id v at_me live own owns is a kind at call f operation,
+                  record {
+                    item = item k laws s r id v at_me live own owns is a kind at call;
+                    seen = with_call r.log v.number (item k laws s r id v at_me live own owns is a kind at call);
+                    is = ap (λ l. called_view v (with_item l (item k laws s r id v at_me live own owns is a kind at call)) (with_call r.log v.number (item k laws s r id v at_me live own owns is a kind at call))) (sym is);
+                    called = subst (λ b. Called (start_of b) (Atomic a call) (replies.Atomic (atomic_reply call (number_in kind word))) 0 (view_state v) (view_state w)) (sym begin)
+                        (is_called k laws s r id v at_me live own owns is a kind at call f operation);
+                  },
+                ),
+          ),
         )

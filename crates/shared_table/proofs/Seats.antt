@@ -1,18 +1,17 @@
 -- Seats are cut in two and taken in, between calls. No word changes.
-use Rattle.std.proofs.Common.{◌≡◌, ◌≢◌, ℕ, zero, suc, ◌+◌, ◌<◌, ◌≤◌, ◌==◌, Bool, true, false, cond, nat_le, max, eq-eqb, ne_eqb, List, [], ◌∷◌, ◌++◌, length, set, Option, Some, None, slice_get, slice_index, ◌⊎◌, inl, inr, refl, sym, ap, ◌∙◌, subst, arith, length-append, length-set}
-use Rattle.std.proofs.lemmas.Bool.{cases_eq, leb-true, le-leb}
+use Rattle.std.proofs.Common.{◌≡◌, ◌≢◌, ℕ, zero, suc, ◌+◌, ◌<◌, ◌≤◌, ◌==◌, Bool, true, false, cond, nat_le, max, eq-eqb, ne_eqb, List, [], ◌∷◌, ◌++◌, length, set, Some, slice_get, slice_index, ◌⊎◌, inl, inr, refl, sym, ap, ◌∙◌, subst, arith, length-append}
+use Rattle.std.proofs.lemmas.Bool.{leb-true, le-leb}
 use Rattle.std.proofs.lemmas.List.{append-nil}
 use Rattle.std.proofs.lemmas.Option.{none-some, same_Some, slice_get_within}
-use mathlib.Core.Option.{some, some-injective}
+use mathlib.Core.Option.{some}
 use lib.ListN.{get_elem?}
 use Rattle.atomic_table.specs.Table.{Splits, Joins}
-use Rattle.atomic_table.proofs.Lists.{at_set, set_else}
+use Rattle.atomic_table.proofs.Lists.{set_else}
 use Rattle.sync_model.specs.declared.item.SharedEntry.{SharedEntry}
 use Rattle.sync_model.specs.declared.item.Item.{Item}
 use Rattle.sync_model.specs.Front.{AtLeast}
 use Rattle.sync_model.specs.Journal.{Begins}
 use Rattle.sync_model.specs.SharedCalls.{Knows}
-use Rattle.sync_model.specs.SharedLaws.{IsWithinBoth}
 use Rattle.shared_table.specs.declared.begin.Begin.{Begin}
 use Rattle.shared_table.specs.declared.view.Own.{Own}
 use Rattle.shared_table.specs.declared.view.Gate.{Gate}
@@ -24,7 +23,6 @@ use Rattle.shared_table.specs.Ledger.{Owned, Fits}
 use Rattle.shared_table.specs.Owed.{HasRoom, AtGate, Suits}
 use Rattle.shared_table.specs.Rule.{TableState, Kept}
 use Rattle.shared_table.specs.Views.{IsIdle, first_of, others_of, copied, dealt, kept, most, longest, joined, spent}
-use Rattle.shared_table.proofs.Ledgers.{longer}
 use Rattle.shared_table.proofs.Lists.{each_after, at_end, item_there}
 
 module _ (callers : ℕ) (log : List SharedEntry) (calls : ℕ → List Item) where
@@ -266,12 +264,12 @@ joins k laws id v other w live live_it idle next_callers s r at_me apart at_it =
       front = known;
       owns = λ i own at. elim (in_both v.owns w.owns i own at) [
         | inl mine ↦ let o = f.owns i own mine in let more = g.front.made (v.number + i) in let all = ap length o.items in let counted = o.counted in let e = most-index v.front w.front (v.number + i) in record {
-            below = o.below;
-            claimed = stays (v.number + i) id o.claimed (λ e. apart (sym e));
-            items = o.items;
-            counted = omega arith;
-            knew = λ j x at c. let up = most_first v.front w.front c in let was = o.knew j x at c in omega arith;
-          }
+          below = o.below;
+          claimed = stays (v.number + i) id o.claimed (λ e. apart (sym e));
+          items = o.items;
+          counted = omega arith;
+          knew = λ j x at c. let up = most_first v.front w.front c in let was = o.knew j x at c in omega arith;
+        }
         | inr its ↦ let o = g.owns its.0 own its.2 in let more = f.front.made (w.number + its.0) in let all = ap length o.items in let counted = o.counted in let e = most-index v.front w.front (w.number + its.0) in
             let inside = slice_get_within w.owns its.0 own its.2 in
             subst (λ c. Owned (callers_of k) r.calls claim id (most v.front w.front) c own) (number_of i its.0 inside its.1) record {

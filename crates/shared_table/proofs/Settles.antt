@@ -1,18 +1,16 @@
 -- All callers' seats are brought together and dealt out again.
-use Rattle.std.proofs.Common.{◌≡◌, ◌≢◌, ℕ, zero, suc, ◌+◌, ◌<◌, ◌≤◌, true, false, List, [], ◌∷◌, ◌++◌, length, drop, set, get_or, Option, Some, None, slice_get, slice_index, ◌⊎◌, inl, inr, refl, sym, ap, ◌∙◌, subst, arith, length-append, length-set}
+use Rattle.std.proofs.Common.{◌≡◌, ◌≢◌, ℕ, zero, suc, ◌+◌, ◌<◌, ◌≤◌, List, [], ◌∷◌, ◌++◌, length, drop, set, get_or, Some, slice_get, slice_index, inl, inr, refl, sym, ap, ◌∙◌, subst, arith, length-append, length-set}
 use Rattle.std.proofs.lemmas.Bool.{cases_eq, cases_lt}
-use Rattle.std.proofs.lemmas.List.{append-nil, set-get_or}
+use Rattle.std.proofs.lemmas.List.{set-get_or}
 use Rattle.std.proofs.lemmas.Option.{none-some, same_Some, slice_get_within}
 use Rattle.atomic_table.specs.Table.{Me}
 use Rattle.sync_model.specs.declared.caller.Caller.{Caller}
-use Rattle.sync_model.specs.declared.item.Item.{Item}
 use Rattle.sync_model.specs.declared.item.SharedEntry.{SharedEntry}
 use Rattle.sync_model.specs.Front.{AtLeast}
 use Rattle.sync_model.specs.Journal.{Begins}
 use Rattle.sync_model.specs.Note.{Holding, IsCounted}
 use Rattle.sync_model.specs.Shared.{IsHeldBy, items_of, AreAllCallers, calls_of, SameCalls, Settled}
 use Rattle.sync_model.specs.SharedCalls.{Lawful}
-use Rattle.shared_table.specs.declared.begin.Begin.{Begin}
 use Rattle.shared_table.specs.declared.note.SharedNote.{SharedNote}
 use Rattle.shared_table.specs.declared.table.SharedTable.{SharedTable}
 use Rattle.shared_table.specs.declared.view.Own.{Own}
@@ -111,10 +109,11 @@ gathered_on table callers n me me' caller g at is held e = subst (Gathered table
     new_own i other e at_i =
         let one = only_own caller.note n is.few held in
         let count = g.count in
-        let place : i ≡ length me.0.owns + 0 = omega arith in
-        (one.0,
-        ap (slice_get (me.0.owns ++ caller.note.seat.me.0.owns)) place ∙ get_behind me.0.owns caller.note.seat.me.0.owns 0 ∙ ap (λ l. slice_get l 0) one.1,
-        ap (λ (c : Caller SharedNote). c.note.seat.me.0.owns) (sym (it_is i other e at_i)) ∙ one.1)
+        let place : i ≡ length me.0.owns + 0 = omega arith in (
+          one.0,
+          ap (slice_get (me.0.owns ++ caller.note.seat.me.0.owns)) place ∙ get_behind me.0.owns caller.note.seat.me.0.owns 0 ∙ ap (λ l. slice_get l 0) one.1,
+          ap (λ (c : Caller SharedNote). c.note.seat.me.0.owns) (sym (it_is i other e at_i)) ∙ one.1,
+        )
 
     old_heard : (j : ℕ) (xs : List SharedEntry) → slice_get me.0.heard j ≡ Some xs → slice_get (me.0.seen ∷ caller.note.seat.me.0.seen ∷ (me.0.heard ++ caller.note.seat.me.0.heard)) (2 + j) ≡ Some xs
     old_heard j xs at_j = let e : 2 + j ≡ suc (suc j) = omega arith in

@@ -1,5 +1,5 @@
 -- The gate of a map's writers. Whoever closed it waits until no writer is inside, and may then replace the map's root.
-use Rattle.std.specs.Prelude.{◌≡◌, ℕ, zero, suc, ◌+◌, ◌^◌, ◌<◌, Bool, true, false, cond, nat_lt, List, slice_index}
+use Rattle.std.specs.Prelude.{◌≡◌, ℕ, zero, suc, ◌+◌, ◌^◌, ◌<◌, Bool, true, cond, nat_lt, List, slice_index}
 use Rattle.shared_table.specs.declared.begin.Begin.{Begin}
 use Rattle.shared_table.specs.Layout.{gate_word, callers_of}
 use Rattle.shared_table.specs.Shape.{Shape}

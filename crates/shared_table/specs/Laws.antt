@@ -1,11 +1,10 @@
 -- The laws of shared histories, together, as the lemmas of this crate take them.
-use Rattle.std.specs.Prelude.{◌≡◌, ◌≢◌, ℕ, ◌+◌, ◌<◌, ◌≤◌, true, false, List, [], ◌∷◌, ◌++◌, length, Option, Some, slice_get, slice_index}
+use Rattle.std.specs.Prelude.{◌≡◌, ℕ, ◌≤◌, false, List, [], ◌++◌, length}
 use Rattle.sync_model.specs.declared.item.Item.{Item}
 use Rattle.sync_model.specs.declared.item.SharedCall.{SharedCall}
 use Rattle.sync_model.specs.declared.item.SharedEntry.{SharedEntry}
-use Rattle.sync_model.specs.Front.{AtLeast}
 use Rattle.sync_model.specs.Journal.{Begins}
-use Rattle.sync_model.specs.SharedHistory.{Contents, contents_after, contents_at, shared_after, is_entry, IsLegal, with_call}
+use Rattle.sync_model.specs.SharedHistory.{Contents, contents_after, contents_at, shared_after, is_entry, with_call}
 use Rattle.sync_model.specs.SharedCalls.{Knows, Grows, Lawful, MayCall, AddsCall}
 use Rattle.sync_model.specs.Shared.{CallerState, Called}
 use Rattle.sync_model.specs.SharedLaws.{IsWithinBoth, TakesIn}

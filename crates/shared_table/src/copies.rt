@@ -44,9 +44,7 @@ impl SharedTable {
     {
         history_laws();
         let SharedNote { seat, .. } = other;
-        self.table
-            .shared
-            .join_seat::<Gather>(&mut note.seat, seat);
+        self.table.shared.join_seat::<Gather>(&mut note.seat, seat);
         self.table.shared.load::<Look>(&mut note.seat, ZERO);
     }
 }

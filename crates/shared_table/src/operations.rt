@@ -15,12 +15,7 @@ impl SharedTable {
     /// Makes an atomic step on the word of an atomic, as a call of the note's holder, and tells the word as it was before.
     /// The step makes of each word what the call makes of the number that the word stands for.
     #[inline(always)]
-    pub fn operate<O: Operation>(
-        &self,
-        note: &mut SharedNote,
-        atomic: u32,
-        step: WordStep,
-    ) -> u64
+    pub fn operate<O: Operation>(&self, note: &mut SharedNote, atomic: u32, step: WordStep) -> u64
         requires note { IsNoteOf self.now note.old × IsSome (own_by note.old) }
         requires operation { (O.atomic ≡ atomic) × IsOperationOn self.now atomic O.call (word_after step) }
         ensures home { SameHome IsNoteOf note.old note.new }

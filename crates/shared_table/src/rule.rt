@@ -23,11 +23,13 @@ impl TableRule<(), View, Begin> for SharedRule {
 /// The call on an atomic that an operation on its word is, for proofs. A call at `Brand` picks it.
 pub trait Operation {
     ghost atomic: { ℕ };
+
     ghost call: { AtomicCall };
 }
 
 impl Operation for Brand {
     ghost atomic = { 0 };
+
     ghost call = { Load };
 }
 

@@ -1,5 +1,5 @@
-use Rattle.std.proofs.Common.{rules, ◌≡◌, ℕ, ◌+◌, ◌*◌, ◌<◌, length, set, replicate, sum, refl, sym, ap, ◌∙◌, subst, arith}
-use Rattle.shared_table.specs.Layout.{root_word, first_root, size_of}
+use Rattle.std.proofs.Common.{rules, ◌≡◌, ◌+◌, ◌*◌, set, replicate, sum, sym, ap, ◌∙◌, subst, arith}
+use Rattle.shared_table.specs.Layout.{size_of}
 use Rattle.shared_table.proofs.FirstWords.{HasRoots, no_roots, root_on, all_roots}
 use Rattle.shared_table.proofs.new.first_words.Goals as goal
 

@@ -1,4 +1,4 @@
-use Rattle.std.proofs.Common.{◌≡◌, sym, ap, ◌∙◌, subst}
+use Rattle.std.proofs.Common.{sym, ap, ◌∙◌, subst}
 use Rattle.shared_table.specs.Views.{IsIdle}
 use Rattle.shared_table.proofs.Noting.{some_word}
 use Rattle.shared_table.proofs.Seats.{joins}

@@ -1,4 +1,4 @@
-use Rattle.std.proofs.Common.{◌≡◌, ◌<◌, ◌≤◌, ◌+◌, get_or, slice_get, length, refl, sym, ap, ◌∙◌, subst, arith, le_refl}
+use Rattle.std.proofs.Common.{◌≡◌, ◌<◌, get_or, length, refl, sym, ◌∙◌, subst, arith, le_refl}
 use Rattle.std.proofs.lemmas.Option.{slice_get-get_or}
 use Rattle.sync_model.specs.declared.caller.Caller.{Caller}
 use Rattle.shared_table.specs.declared.note.SharedNote.{SharedNote}

@@ -1,8 +1,8 @@
-use Rattle.std.proofs.Common.{rules, ◌≡◌, ℕ, ◌+◌, ◌*◌, ◌<◌, ◌^◌, List, [], ◌∷◌, ⊎_elim, length, drop, sum, length-append, get_or, slice_get, slice_index, Fits, w64, refl, sym, ap, ◌∙◌, subst, arith}
+use Rattle.std.proofs.Common.{rules, ◌≡◌, ℕ, ◌+◌, ◌*◌, ◌<◌, ◌^◌, [], ⊎_elim, length, drop, sum, get_or, slice_get, slice_index, sym, ap, ◌∙◌, subst, arith}
 use Rattle.std.proofs.lemmas.Option.{none-some}
 use Rattle.shared_table.specs.declared.view.View.{View}
 use Rattle.shared_table.specs.Dealing.{left_view, IsNewCaller}
-use Rattle.shared_table.specs.Views.{next_in, spare_in, dealt, kept, IsIdle}
+use Rattle.shared_table.specs.Views.{spare_in, dealt, kept, IsIdle}
 use Rattle.shared_table.proofs.FirstCallers.{left_idle, some_left, kept_left, room_left, fits_left, is_new, ghosts_are, all_new}
 use Rattle.shared_table.proofs.Lists.{item_on, one_longer}
 use Rattle.shared_table.proofs.table.SharedTable.first_callers.Goals as goal

@@ -1,4 +1,4 @@
-use Rattle.std.proofs.Common.{rules, ◌≡◌, ℕ, ◌+◌, ◌<◌, ◌≤◌, ◌^◌, List, [], length, sum, ap, sym, ◌∙◌, subst}
+use Rattle.std.proofs.Common.{rules, ℕ, ◌<◌, ◌≤◌, List, [], length, sum, sym, ◌∙◌, subst}
 use Rattle.atomic_table.specs.Table.{opening}
 use Rattle.shared_table.specs.declared.begin.Begin.{Begin}
 use Rattle.shared_table.specs.Layout.{IsBegin}

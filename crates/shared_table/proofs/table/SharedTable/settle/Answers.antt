@@ -1,8 +1,6 @@
-use Rattle.std.proofs.Common.{◌≡◌, ◌<◌, Some, get_or, set, slice_get, length, refl, sym, ap, ◌∙◌, subst, arith}
+use Rattle.std.proofs.Common.{◌<◌, get_or, length, ap, ◌∙◌, subst, arith}
 use Rattle.std.proofs.lemmas.Option.{slice_get-get_or}
-use Rattle.sync_model.specs.Shared.{AreAllCallers}
 use Rattle.shared_table.specs.Settling.{AreSameCallers, Gathered}
-use Rattle.shared_table.specs.Views.{Looks, IsIdle}
 use Rattle.shared_table.proofs.Noting.{some_word, may_look}
 use Rattle.shared_table.proofs.Settles.{only_own, same_list, nothing_gathered, may_take, all_back, same_calls, settled}
 use Rattle.shared_table.proofs.table.SharedTable.settle.Goals as goal
