@@ -17,6 +17,5 @@ pub mod word_step;
 pub use begin::Begin;
 pub use new::{MAX_OBJECTS, MAX_UNITS};
 pub use note::SharedNote;
-pub use rule::Operation;
 pub use table::SharedTable;
 pub use word_step::WordStep;

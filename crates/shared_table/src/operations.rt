@@ -10,14 +10,40 @@ use crate::note::SharedNote;
 use crate::rule::{Operate, Operation};
 use crate::table::SharedTable;
 use crate::word_step::WordStep;
+use std::marker::Brand;
+use sync_model::AtomicCall;
 
 impl SharedTable {
-    /// Makes an atomic step on the word of an atomic, as a call of the note's holder, and tells the word as it was before.
-    /// The step makes of each word what the call makes of the number that the word stands for.
+    /// Makes a call on an atomic, as an atomic step on the atomic's word, and tells the word as it was before. The step makes
+    /// of each word what the call makes of the number that the word stands for.
     #[inline(always)]
-    pub fn operate<O: Operation>(&self, note: &mut SharedNote, atomic: u32, step: WordStep) -> u64
+    pub fn operate(
+        &self,
+        note: &mut SharedNote,
+        atomic: u32,
+        call: AtomicCall,
+        step: WordStep,
+    ) -> u64
         requires note { IsNoteOf self.now note.old × IsSome (own_by note.old) }
-        requires operation { (O.atomic ≡ atomic) × IsOperationOn self.now atomic O.call (word_after step) }
+        requires operation { IsOperationOn self.now atomic call (word_after step) }
+        ensures home { SameHome IsNoteOf note.old note.new }
+        ensures called { Operated self.now atomic call result note.old note.new }
+    {
+        self.operate_as::<Brand>(note, atomic, call, step)
+    }
+
+    // The same, as a call that is told by a type.
+    #[inline(always)]
+    fn operate_as<O: Operation>(
+        &self,
+        note: &mut SharedNote,
+        atomic: u32,
+        _call: AtomicCall,
+        step: WordStep,
+    ) -> u64
+        requires note { IsNoteOf self.now note.old × IsSome (own_by note.old) }
+        requires told { O.atomic ≡ atomic }
+        requires operation { IsOperationOn self.now atomic O.call (word_after step) }
         ensures home { SameHome IsNoteOf note.old note.new }
         ensures called { Operated self.now atomic O.call result note.old note.new }
     {

@@ -21,7 +21,7 @@ impl TableRule<(), View, Begin> for SharedRule {
 }
 
 /// The call on an atomic that an operation on its word is, for proofs. A call at `Brand` picks it.
-pub trait Operation {
+pub(crate) trait Operation {
     ghost atomic: { ℕ };
 
     ghost call: { AtomicCall };
