@@ -1,0 +1,6 @@
+//! The typed atomics of Go's `sync/atomic`, on the words of a shared table.
+#![tactic(auto)]
+
+mod call;
+
+pub use call::atomic_call;
