@@ -1,7 +1,9 @@
 //! A call on an atomic of a shared table.
 ghost use Rattle.std.specs.Prelude.{◌≡◌, true, Some, slice_get};
 ghost use Rattle.sync_model.specs.Note.{SameHome};
-ghost use Rattle.sync_model.specs.SequentialAtomic.{is_atomic_call};
+ghost use Rattle.sync_model.specs.declared.atomic_object.Number.{Number};
+ghost use Rattle.sync_model.specs.Replies.{atomic_form};
+ghost use Rattle.sync_model.specs.SequentialAtomic.{is_atomic_call, is_of};
 ghost use Rattle.sync_model.specs.Shared.{Called, IsCallerAt, state_of};
 ghost use Rattle.shared_table.specs.Notes.{front_by, own_by, seen_by, IsNoteOf};
 ghost use Rattle.shared_table.specs.Tables.{kinds_of, first_of};
@@ -24,6 +26,8 @@ pub fn atomic_call(
     requires caller { IsCallerAt IsNoteOf own_by table.now caller.old }
     requires kind { slice_get (kinds_of table.now) atomic ≡ Some kind }
     requires call { is_atomic_call kind call ≡ true }
+    ensures form { atomic_form call result ≡ true }
+    ensures held { (number : Number) → result ≡ AtomicReply.Held number → is_of kind number ≡ true }
     ensures home { SameHome IsNoteOf caller.old.note caller.new.note }
     ensures called { Called (first_of table.now) (SharedCall.Atomic atomic call) (SharedReply.Atomic result) 0 (state_of own_by front_by seen_by caller.old.note) (state_of own_by front_by seen_by caller.new.note) }
 {

@@ -2,5 +2,7 @@
 #![tactic(auto)]
 
 mod call;
+pub mod value;
 
 pub use call::atomic_call;
+pub use value::{AtomicBits, AtomicValue};
