@@ -11,6 +11,7 @@ use sync_model::{AtomicKind, Number};
 /// A type of which there are atomics, with the number that each value is.
 pub trait AtomicValue: Copy {
     ghost kind: { AtomicKind };
+
     ghost of: { Self → Number };
 
     /// The type's name.
