@@ -1,5 +1,4 @@
-use Rattle.std.proofs.Common.{◌≡◌, true, Some, sym, ap, ◌∙◌, subst}
-use Rattle.std.specs.Prelude.{◌==◌}
+use Rattle.std.proofs.Common.{◌≡◌, true, subst}
 use Rattle.sync_model.specs.SequentialAtomic.{is_atomic_call}
 use Rattle.shared_atomics.proofs.Steps.{both, exchanges, swapped}
 use Rattle.shared_atomics.proofs.call.atomic_call.Goals as goal
