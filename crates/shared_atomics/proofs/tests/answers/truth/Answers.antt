@@ -1,4 +1,4 @@
-use Rattle.std.proofs.Common.{sym, ap}
+use Rattle.std.proofs.Common.{sym}
 use Rattle.shared_atomics.proofs.Pairs.{stays, on}
 use Rattle.shared_atomics.proofs.tests.answers.truth.Goals as goal
 
