@@ -21,20 +21,20 @@ pair true b e f = f
 pair false b e f = absurd cc
 
 -- the word of a number of 32 bits
-abbrev is_high : ℕ → Bool
+abbrev pub is_high : ℕ → Bool
 is_high word = nat_lt word (2 ^ 64) && (word % 2 ^ 32 == 0)
 
-high_is : (word : ℕ) → is_high word ≡ true → (word / 2 ^ 32 < 2 ^ 32) × (word / 2 ^ 32 * 2 ^ 32 ≡ word)
+pub high_is : (word : ℕ) → is_high word ≡ true → (word / 2 ^ 32 < 2 ^ 32) × (word / 2 ^ 32 * 2 ^ 32 ≡ word)
 high_is word e =
     let parts = both (nat_lt word (2 ^ 64)) (word % 2 ^ 32 == 0) e in
     let fits = ltb-true word (2 ^ 64) parts.0 in
     let low = eqb-true (word % 2 ^ 32) 0 parts.1 in
     (omega arith, omega arith)
 
-is_high-shl : (n : ℕ) → n < 2 ^ 32 → is_high (n * 2 ^ 32) ≡ true
+pub is_high-shl : (n : ℕ) → n < 2 ^ 32 → is_high (n * 2 ^ 32) ≡ true
 is_high-shl n fits = pair (nat_lt (n * 2 ^ 32) (2 ^ 64)) ((n * 2 ^ 32) % 2 ^ 32 == 0) (lt-ltb (n * 2 ^ 32) (2 ^ 64) (omega arith)) (eq-eqb ((n * 2 ^ 32) % 2 ^ 32) 0 (omega arith))
 
-below : (n : ℕ) → is_high (n * 2 ^ 32) ≡ true → n < 2 ^ 32
+pub below : (n : ℕ) → is_high (n * 2 ^ 32) ≡ true → n < 2 ^ 32
 below n e = omega (arith, (high_is (n * 2 ^ 32) e).0)
 
 -- an operation on words that goes bit by bit
@@ -43,7 +43,7 @@ pub record IsBitwise (op : ℕ → ℕ → ℕ) : Type 0 where
   pub fits : (k a b : ℕ) → a < 2 ^ k → b < 2 ^ k → op a b < 2 ^ k
 
 module _ {op : ℕ → ℕ → ℕ} (bitwise : IsBitwise op) where
-  high : (word n : ℕ) → is_high word ≡ true → op word (n * 2 ^ 32) ≡ op (word / 2 ^ 32) n * 2 ^ 32
+  pub high : (word n : ℕ) → is_high word ≡ true → op word (n * 2 ^ 32) ≡ op (word / 2 ^ 32) n * 2 ^ 32
   high word n e = ap (λ w. op w (n * 2 ^ 32)) (sym (high_is word e).1) ∙ bitwise.shl (word / 2 ^ 32) n
 
   high_signed : (word n : ℕ) → is_high word ≡ true → is_high (n * 2 ^ 32) ≡ true →

@@ -2,6 +2,7 @@
 //! operation makes of a word.
 #![tactic(auto)]
 
+pub mod laws;
 pub mod word;
 
 pub use word::{and_word, of_word, or_word, sum_word, to_word};

@@ -1,0 +1,14 @@
+pub mod Frames
+pub mod Ledgers
+pub mod Lists
+pub mod Moves
+pub mod Numbers
+pub mod Opening
+pub mod Operating
+pub mod Seats
+pub mod Calling
+pub mod FirstWords
+pub mod FirstCallers
+pub mod Noting
+pub mod Settles
+pub mod Looking

@@ -1,0 +1,40 @@
+-- Views in a list.
+use Rattle.std.proofs.Common.{◌≡◌, ◌≢◌, ℕ, zero, suc, ◌+◌, ◌<◌, List, [], ◌∷◌, ◌++◌, length, set, Some, slice_get, ◌⊎◌, inl, inr, ⊎_elim, refl, sym, ap, subst, arith, length-append}
+use Rattle.std.proofs.lemmas.Option.{none-some, same_Some}
+use mathlib.Core.Option.{some, some-ne-none, some-injective}
+use lib.ListN.{get_elem?}
+use Rattle.atomic_table.proofs.Lists.{at_set}
+
+module _ {V : Type 0} where
+  -- what holds of the seat that stepped, and of each other, holds of all
+  pub each_after : (P : ℕ → V → Type 0) (views : List V) (me : ℕ) (w : V) → P me w → ((j : ℕ) (u : V) → j ≢ me → get_elem? views j ≡ some u → P j u) → (j : ℕ) (u : V) → get_elem? (set views me w) j ≡ some u → P j u
+  each_after P views me w mine others j u at = ⊎_elim (λ (t : (j ≡ me) × (w ≡ u)). subst (λ (x : ℕ × V). P x.0 x.1) (λ i. (sym t.0 i, t.1 i)) mine)
+      (λ (t : (j ≢ me) × (get_elem? views j ≡ some u)). others j u t.0 t.1) (at_set views me j w u at)
+
+  pub within : (views : List V) (i : ℕ) (v : V) → get_elem? views i ≡ some v → i < length views
+  within [] i v e = absurd (some-ne-none v (sym e))
+  within (x ∷ xs) zero v e = omega arith
+  within (x ∷ xs) (suc i) v e = let h = within xs i v e in omega arith
+
+  -- a view in a list with one more is in the list, or is that one
+  pub at_end : (views : List V) (a b : V) (j : ℕ) → get_elem? (views ++ a ∷ []) j ≡ some b → (get_elem? views j ≡ some b) ⊎ ((j ≡ length views) × (a ≡ b))
+  at_end [] a b zero e = inr (refl, some-injective a b e)
+  at_end [] a b (suc j) e = absurd (some-ne-none b (sym e))
+  at_end (x ∷ xs) a b zero e = inl e
+  at_end (x ∷ xs) a b (suc j) e = ⊎_elim (λ t. inl t) (λ t. inr (ap suc t.0, t.1)) (at_end xs a b j e)
+
+module _ {A : Type 0} where
+  -- an item of a list with one more is one of the list, or the last
+  pub item_on : (xs : List A) (z x : A) (i : ℕ) → slice_get (xs ++ z ∷ []) i ≡ Some x → (slice_get xs i ≡ Some x) ⊎ ((i ≡ length xs) × (x ≡ z))
+  item_on [] z x zero e = inr (refl, sym (same_Some z x e))
+  item_on [] z x (suc i) e = absurd (none-some x e)
+  item_on (a ∷ xs) z x zero e = inl e
+  item_on (a ∷ xs) z x (suc i) e = elim (item_on xs z x i e) [ inl h ↦ inl h | inr h ↦ inr (ap suc h.0, h.1) ]
+
+  pub item_there : (xs : List A) (i : ℕ) → i < length xs → (x : A) × (slice_get xs i ≡ Some x)
+  item_there [] i below = absurd (omega arith)
+  item_there (x ∷ xs) zero below = (x, refl)
+  item_there (x ∷ xs) (suc i) below = item_there xs i (omega arith)
+
+  pub one_longer : (xs : List A) (x : A) (n : ℕ) → length xs ≡ n → length (xs ++ x ∷ []) ≡ n + 1
+  one_longer xs x n is = omega (arith, length-append xs (x ∷ []))

@@ -1,0 +1,17 @@
+pub mod Laws
+pub mod Layout
+pub mod Ledger
+pub mod Shape
+pub mod Gates
+pub mod Owed
+pub mod Rule
+pub mod Views
+pub mod Blank
+pub mod Operations
+pub mod Tables
+pub mod Notes
+pub mod Settling
+pub mod NewCallers
+pub mod Dealing
+pub mod Counted
+pub mod WordSteps

@@ -1,0 +1,21 @@
+//! One row of words that holds maps and atomics, shared by their callers.
+#![tactic(auto)]
+
+pub mod begin;
+mod caller_note;
+mod copies;
+mod laws;
+mod new;
+pub mod note;
+mod operations;
+pub mod rule;
+mod settling;
+pub mod table;
+pub mod view;
+pub mod word_step;
+
+pub use begin::Begin;
+pub use new::{MAX_OBJECTS, MAX_UNITS};
+pub use note::SharedNote;
+pub use table::SharedTable;
+pub use word_step::WordStep;

@@ -1,0 +1,19 @@
+//! The note of a caller of a shared table: a seat at the table, whose view has seen what the caller knows.
+ghost use Rattle.std.specs.Prelude.{◌≡◌};
+ghost use Rattle.shared_table.specs.Views.{spare_in, next_in};
+
+use crate::view::View;
+use atomic_table::Seat;
+
+/// What a caller knows of all shared calls, and the words of the table that it may still use for entries and nodes.
+#[derive(Drop)]
+pub struct SharedNote {
+    pub(crate) seat: Seat<(), View>,
+    pub(crate) number: u32,
+    // Where the room begins, and how many units it has.
+    pub(crate) next: u64,
+    pub(crate) spare: u32,
+    ghost number_is: { seat.me.0.number ≡ number },
+    ghost next_is: { next_in next seat.me.0.owns ≡ next },
+    ghost spare_is: { spare_in spare seat.me.0.owns ≡ spare },
+}
