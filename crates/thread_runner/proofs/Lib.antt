@@ -1,0 +1,4 @@
+pub mod Explaining
+pub mod ItemLists
+pub mod Joining
+pub mod LineSteps

@@ -1,0 +1,3 @@
+pub mod DidLines
+pub mod Gathering
+pub mod Runs

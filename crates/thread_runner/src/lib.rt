@@ -1,0 +1,2 @@
+//! Running a workload's workers in threads.
+#![tactic(auto)]
