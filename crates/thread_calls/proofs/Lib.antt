@@ -1,5 +1,6 @@
 pub mod HaltLemmas
 pub mod OnceParts
 pub mod SharedParts
+pub mod Numbers
 pub mod Slots
 pub mod Working

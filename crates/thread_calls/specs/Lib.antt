@@ -5,5 +5,6 @@ pub mod Parts
 pub mod Passes
 pub mod Replies
 pub mod Seats
+pub mod Sites
 pub mod Stop
 pub mod Working

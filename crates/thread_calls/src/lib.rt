@@ -9,10 +9,12 @@ mod object;
 mod part;
 mod pass;
 mod shared_calls;
+mod site;
 mod stop;
 mod worker;
 
 pub use object::AnyObject;
 pub use pass::AnyPass;
+pub use site::{Site, numbers_of};
 pub use stop::{NoEvent, StopCore};
 pub use worker::Worker;
