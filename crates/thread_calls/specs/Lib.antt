@@ -1,3 +1,4 @@
+pub mod AsDeclared
 pub mod Desks
 pub mod Halting
 pub mod Kinds
