@@ -2,5 +2,6 @@ pub mod HaltLemmas
 pub mod OnceParts
 pub mod SharedParts
 pub mod Numbers
+pub mod ScriptCalls
 pub mod Slots
 pub mod Working

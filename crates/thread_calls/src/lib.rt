@@ -5,6 +5,7 @@
 mod desk;
 mod halting;
 mod kinds;
+mod numbering;
 mod object;
 mod part;
 mod pass;
