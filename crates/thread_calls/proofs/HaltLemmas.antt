@@ -1,8 +1,9 @@
 -- Halting, in the words of the record.
-use Rattle.std.proofs.Common.{◌≡◌, ℕ, Bool, true, false, ◌==◌, cond, List, [], ◌∷◌, ◌++◌, map, refl, sym, ap, subst, ◌∙◌, arith, Ok}
-use Rattle.sync_model.specs.declared.item.Item.{Item}
+use Rattle.std.proofs.Common.{◌≡◌, ℕ, Bool, true, false, ◌==◌, cond, List, [], ◌∷◌, ◌++◌, map, refl, sym, ap, subst, ◌∙◌, arith, Option, slice_index, Ok}
 use Rattle.sync_model.specs.declared.answer.Answer.TheVariants.{Done}
 use Rattle.sync_model.specs.Front.{AtLeast}
+use Rattle.sync_model.specs.Note.{Holding, IsCounted}
+use Rattle.sync_model.specs.Shared.{items_of}
 use Rattle.std.proofs.lemmas.List.{map-append, append-nil}
 use Rattle.sync_model.specs.declared.journal.Deed.{Deed}
 use Rattle.sync_model.specs.declared.journal.Deed.TheVariants.{Halt}
@@ -18,8 +19,8 @@ use Rattle.run_record.specs.Record.{ObjectEntry}
 use Rattle.thread_calls.specs.declared.object.AnyObject.{AnyObject}
 use Rattle.thread_calls.specs.declared.object.AnyObject.TheVariants as objects
 use Rattle.thread_calls.specs.Halting.{Halts, AreHalted, halting}
-use Rattle.thread_calls.specs.Working.{own_as, Works, alone}
-use Rattle.thread_calls.proofs.Working.{rests}
+use Rattle.thread_calls.specs.Working.{Desk, Works, desk_at, own_as}
+use Rattle.thread_calls.proofs.Working.{rests, counted_of}
 
 module _ {S N E R : Type 0} (event : E → ObjectEvent) (reply : R → ObjectReply) where
   pub halted_as : (misuse : Misuse) (front : List ℕ) (old new : Pass S N E R) (e : Entry E R) → own_by new ≡ own_by old ++ e ∷ [] → e.deed ≡ Halt misuse → e.front ≡ front → Halts misuse front (own_as event reply old) (own_as event reply new)
@@ -30,28 +31,35 @@ module _ {S N E R : Type 0} (event : E → ObjectEvent) (reply : R → ObjectRep
     known = known;
   }
 
-module _ (number : ℕ) (misuse : Misuse) (front : List ℕ) (calls : List Item) (old new : List ObjectEntry) where
-  abbrev Halted : Type 0
-  Halted = Works (halting misuse front) (record { owns = alone number old; calls = calls; front = front }) (Done (Ok tt)) (record { owns = alone number new; calls = calls; front = front })
+module _ {K : Type 0} (owner : K → Option Holding) (front : K → List ℕ) (note : K) (counted : IsCounted (owner note) (front note)) (number : ℕ) (misuse : Misuse) (old new : List ObjectEntry) where
+  abbrev at : List ObjectEntry → Desk
+  at own = desk_at owner front number own note
 
-  one_more : (halts : Halts misuse front old new) (here : Bool) → cond here new [] ≡ cond here old [] ++ cond here (halts.entry ∷ []) []
+  abbrev Halted : Type 0
+  Halted = Works (halting misuse (front note)) (at old) (Done (Ok tt)) (at new)
+
+  one_more : (halts : Halts misuse (front note) old new) (here : Bool) → cond here new [] ≡ cond here old [] ++ cond here (halts.entry ∷ []) []
   one_more halts true = halts.own
   one_more halts false = refl
 
-  halts_once : Halts misuse front old new → Halted
+  halts_once : Halts misuse (front note) old new → Halted
   halts_once halts = record {
     items = Entered number halts.entry ∷ [];
-    owns = λ object. one_more halts (number == object);
-    calls = sym (append-nil calls);
-    fronts = (subst (λ (f : List ℕ). AtLeast f front) (sym halts.known) (λ i. omega arith), subst (λ (f : List ℕ). AtLeast front f) (sym halts.known) (λ i. omega arith));
+    moves = record {
+      worker = refl;
+      owns = λ object. one_more halts (number == object);
+      calls = sym (append-nil (items_of (owner note)));
+      fronts = (subst (λ (f : List ℕ). AtLeast f (front note)) (sym halts.known) (λ i. omega arith), subst (λ (f : List ℕ). AtLeast (front note) f) (sym halts.known) (λ i. omega arith));
+      counts = λ worker is. (ap (λ (f : List ℕ). slice_index f worker) halts.known ∙ counted_of (owner note) (front note) counted worker is, tt);
+    };
     spelt = (((halts.deed, halts.known), tt), refl);
   }
 
   leaves_it : new ≡ old → Halted
-  leaves_it same = subst (λ (l : List ObjectEntry). Works (halting misuse front) (record { owns = alone number old; calls = calls; front = front }) (Done (Ok tt)) (record { owns = alone number l; calls = calls; front = front })) (sym same) (rests (halting misuse front) _ (Done (Ok tt)) (tt, refl))
+  leaves_it same = subst (λ (l : List ObjectEntry). Works (halting misuse (front note)) (at old) (Done (Ok tt)) (at l)) (sym same) (rests (halting misuse (front note)) (at old) (Done (Ok tt)) (tt, refl))
 
   -- halting an object of whatever kind
-  pub halted_any : {N H : Type 0} (object : AnyObject N H) → AreHalted object misuse front old new → Halted
+  pub halted_any : {N H : Type 0} (object : AnyObject N H) → AreHalted object misuse (front note) old new → Halted
   halted_any objects.Shared halted = leaves_it halted
   halted_any (objects.Stop o) halted = halts_once halted
   halted_any (objects.Mutex o) halted = halts_once halted

@@ -5,6 +5,7 @@
 mod desk;
 mod halting;
 mod kinds;
+pub mod laws;
 mod object;
 mod part;
 mod pass;
