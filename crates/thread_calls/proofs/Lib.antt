@@ -1,4 +1,5 @@
 pub mod HaltLemmas
+pub mod Knowing
 pub mod OnceParts
 pub mod SharedParts
 pub mod Numbers

@@ -5,6 +5,10 @@ use Rattle.thread_calls.specs.declared.object.AnyObject.{AnyObject}
 use Rattle.thread_calls.specs.declared.object.AnyObject.TheVariants as objects
 
 module _ {N H : Type 0} where
+  abbrev pub IsStop : AnyObject N H → Type 0
+  IsStop (objects.Stop o) = Unit {0}
+  IsStop object = ⊥
+
   abbrev pub IsMutex : AnyObject N H → Type 0
   IsMutex (objects.Mutex o) = Unit {0}
   IsMutex object = ⊥

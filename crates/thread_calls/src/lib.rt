@@ -5,6 +5,7 @@
 mod desk;
 mod halting;
 mod kinds;
+pub mod laws;
 mod numbering;
 mod object;
 mod part;
@@ -14,6 +15,7 @@ mod site;
 mod stop;
 mod worker;
 
+pub use halting::halt_all;
 pub use object::AnyObject;
 pub use pass::AnyPass;
 pub use site::{Site, numbers_of};
