@@ -1,3 +1,4 @@
+pub mod AsDeclared
 pub mod Desks
 pub mod Halting
 pub mod Kinds
@@ -5,5 +6,6 @@ pub mod Parts
 pub mod Passes
 pub mod Replies
 pub mod Seats
+pub mod Sites
 pub mod Stop
 pub mod Working

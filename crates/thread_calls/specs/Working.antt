@@ -1,5 +1,5 @@
 -- What a part of a call adds to what its worker has done.
-use Rattle.std.specs.Prelude.{◌≡◌, ℕ, ◌==◌, cond, List, [], ◌∷◌, ◌++◌, map, length, Option, Some, option_map, slice_index, ◌+◌}
+use Rattle.std.specs.Prelude.{◌≡◌, ℕ, ◌+◌, ◌==◌, cond, List, [], ◌∷◌, ◌++◌, map, length, Option, Some, None, slice_index}
 use Rattle.sync_model.specs.declared.item.Item.{Item}
 use Rattle.sync_model.specs.Front.{AtLeast}
 use Rattle.sync_model.specs.Note.{Holding}
@@ -19,20 +19,20 @@ pub record Desk : Type 0 where
   pub owns : ℕ → List ObjectEntry  -- its entries in each object's journal, by the object's number
   pub calls : List Item  -- its calls on maps and atomics
   pub front : List ℕ
-  pub worker : Option ℕ  -- its number, where its note tells
+  pub worker : Option ℕ  -- its number, by its note
 
 -- no front falls along the items, from one front to another
 abbrev pub Rises : List ℕ → List Made → List ℕ → Type 0
 Rises from [] to = AtLeast to from
 Rises from (x ∷ xs) to = AtLeast (front_of x) from × Rises (front_of x) xs to
 
--- each item's front counts all its worker's own calls before it, of a worker that made so many before these
-abbrev pub CountsOwn : ℕ → ℕ → List Made → Type 0
+-- the front at each item counts all of its worker's own calls before it, where so many were made before these items
+abbrev pub CountsOwn : (worker before : ℕ) → List Made → Type 0
 CountsOwn worker before [] = Unit {0}
 CountsOwn worker before (Shared x ∷ xs) = (slice_index x.front worker ≡ before) × CountsOwn worker (before + 1) xs
 CountsOwn worker before (Entered object entry ∷ xs) = (slice_index entry.front worker ≡ before) × CountsOwn worker before xs
 
--- The worker made these items and no others, from one desk to another.
+-- The worker made these items and no others, in order.
 pub record Moves (old : Desk) (items : List Made) (new : Desk) : Type 0 where
   pub worker : new.worker ≡ old.worker
   pub owns : (object : ℕ) → new.owns object ≡ old.owns object ++ entries_in object items
@@ -40,7 +40,7 @@ pub record Moves (old : Desk) (items : List Made) (new : Desk) : Type 0 where
   pub fronts : Rises old.front items new.front
   pub counts : (worker : ℕ) → old.worker ≡ Some worker → CountsOwn worker (length old.calls) items
 
--- The worker made these items and no others, and they spell the part and its answer.
+-- What the worker made spells the part and its answer.
 pub record Works {O : Type 0} (part : Part O) (old : Desk) (answer : CallAnswer O) (new : Desk) : Type 0 where
   pub items : List Made
   pub moves : Moves old items new
@@ -50,9 +50,14 @@ pub record Works {O : Type 0} (part : Part O) (old : Desk) (answer : CallAnswer 
 abbrev pub alone : ℕ → List ObjectEntry → ℕ → List ObjectEntry
 alone number own object = cond (number == object) own []
 
+-- the number of a note's holder
+abbrev pub number_in : Option Holding → Option ℕ
+number_in None = None
+number_in (Some holding) = Some holding.number
+
 -- what a worker has done, as its note tells of the maps and atomics, and these lists of each object
 abbrev pub desk_with : {N : Type 0} → (N → Option Holding) → (N → List ℕ) → (ℕ → List ObjectEntry) → N → Desk
-desk_with owner front owns note = record { owns = owns; calls = items_of (owner note); front = front note; worker = option_map (λ holding. holding.number) (owner note) }
+desk_with owner front owns note = record { owns = owns; calls = items_of (owner note); front = front note; worker = number_in (owner note) }
 
 -- the same, on one object alone
 abbrev pub desk_at : {N : Type 0} → (N → Option Holding) → (N → List ℕ) → ℕ → List ObjectEntry → N → Desk

@@ -5,14 +5,19 @@
 mod desk;
 mod halting;
 mod kinds;
+pub mod laws;
+mod numbering;
 mod object;
 mod part;
 mod pass;
 mod shared_calls;
+mod site;
 mod stop;
 mod worker;
 
+pub use halting::halt_all;
 pub use object::AnyObject;
 pub use pass::AnyPass;
+pub use site::{Site, numbers_of};
 pub use stop::{NoEvent, StopCore};
 pub use worker::Worker;

@@ -1,0 +1,13 @@
+use Rattle.std.proofs.Common.{◌≡◌, ℕ, ◌<◌, length, take, Some, slice_get, slice_index, count_by}
+use Rattle.run_record.specs.Objects.{is_map, is_atomic, map_number, atomic_number}
+use Rattle.workload.specs.declared.object.ObjectLine.{ObjectLine}
+use Rattle.thread_calls.specs.Sites.{shared_number}
+use Rattle.thread_calls.proofs.site.numbers_of.Given as goal
+
+abbrev pub invariant-loop-object : goal.invariant-loop-object
+invariant-loop-object l = record {
+  maps : l.maps ≡ map_number l.object-items l.object-index;
+  atomics : l.atomics ≡ atomic_number l.object-items l.object-index;
+  count : length l.numbers.items ≡ l.object-index;
+  each : (place : ℕ) (object : ObjectLine) → place < l.object-index → slice_get l.object-items place ≡ Some object → slice_index l.numbers.items place ≡ shared_number (map_number l.object-items place) (atomic_number l.object-items place) object.kind;
+}

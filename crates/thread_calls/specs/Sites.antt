@@ -1,0 +1,65 @@
+-- What the workers of a run share, and what a call needs of it.
+use Rattle.std.specs.Prelude.{◌≡◌, ℕ, ◌+◌, ◌<◌, ◌≤◌, List, [], length, cond, count_by, sum_by, Option, Some, get_or, slice_get, slice_index}
+use Rattle.std.specs.List.{flat_map}
+use Rattle.sync_model.specs.declared.atomic_object.AtomicKind.{AtomicKind}
+use Rattle.sync_model.specs.declared.call.Call.{Call}
+use Rattle.sync_model.specs.declared.call.Operation.{Operation}
+use Rattle.sync_model.specs.declared.call.Operation.TheVariants as operations
+use Rattle.sync_model.specs.Note.{Holding}
+use Rattle.sync_model.specs.Shared.{cost_of}
+use Rattle.workload.specs.declared.object.ObjectKind.{ObjectKind}
+use Rattle.workload.specs.declared.object.ObjectKind.TheVariants as kinds
+use Rattle.workload.specs.declared.object.ObjectLine.{ObjectLine}
+use Rattle.workload.specs.Draft.{is_range}
+use Rattle.workload.specs.Keys.{keys_in}
+use Rattle.workload.specs.Plan.{Plan}
+use Rattle.thread_calls.specs.declared.object.AnyObject.{AnyObject}
+use Rattle.thread_calls.specs.AsDeclared.{AreDeclared}
+use Rattle.run_record.specs.Objects.{is_map, types_of, map_number, atomic_number}
+
+-- the number of a map among so many maps before it, and of an atomic among so many atomics; an object of another kind has none
+abbrev pub shared_number : (maps atomics : ℕ) → ObjectKind → ℕ
+shared_number maps atomics kinds.Map = maps
+shared_number maps atomics (kinds.Atomic type) = atomics
+shared_number maps atomics kind = 0
+
+-- the numbers of a workload's maps and atomics, by place
+pub record AreNumbers (objects : List ObjectLine) (numbers : List ℕ) : Type 0 where
+  pub count : length numbers ≡ length objects
+  pub each : (place : ℕ) (object : ObjectLine) → slice_get objects place ≡ Some object → slice_index numbers place ≡ shared_number (map_number objects place) (atomic_number objects place) object.kind
+
+-- maps of this number, and atomics of these types, that take these keys, are those of the workload
+pub record AreShared (plan : Plan) (maps : ℕ) (types : List AtomicKind) (takes : ℕ → Type 0) : Type 0 where
+  pub all_maps : maps ≡ count_by (λ object. is_map object.kind) plan.objects
+  pub all_types : types ≡ flat_map (λ object. types_of object.kind) plan.objects
+  pub keys : (key : ℕ) → key < length (keys_in plan.scripts) → takes key
+
+-- what all workers of a run share: its objects, with Stop, as the workload declares them, and its maps and atomics with their numbers
+pub record IsSite {N H : Type 0} (at : H → N → Type 0) (home : H) (plan : Plan) (maps : ℕ) (types : List AtomicKind) (takes : ℕ → Type 0) (objects : List (AnyObject N H)) (numbers : List ℕ) : Type 0 where
+  pub declared : AreDeclared at home plan objects
+  pub shared : AreShared plan maps types takes
+  pub numbered : AreNumbers plan.objects numbers
+
+-- the call stands in the worker's script
+abbrev pub IsScripted : Plan → (worker : ℕ) → Call → Type 0
+IsScripted plan worker call = (i : ℕ) × (slice_get (get_or plan.scripts worker []) i ≡ Some call)
+
+-- how many of its worker's spare entries a call takes at most
+abbrev pub operation_cost : Operation → ℕ
+operation_cost (operations.Map call) = cost_of call
+operation_cost operation = 0
+
+abbrev pub cost_of_call : Call → ℕ
+cost_of_call call = operation_cost call.operation
+
+-- and so many calls one after the other
+abbrev pub cost_of_calls : List Call → ℕ
+cost_of_calls calls = sum_by cost_of_call calls
+
+-- how many cursors a call takes to its end: one is the whole of a `range`
+abbrev pub ranges_in_call : Call → ℕ
+ranges_in_call call = cond (is_range call) 1 0
+
+-- of its spare entries the holder of a note has used so many at most
+abbrev pub Spends : {N : Type 0} → (N → Option Holding) → ℕ → N → N → Type 0
+Spends {N} own cost old new = (was becomes : Holding) → own old ≡ Some was → own new ≡ Some becomes → was.spare ≤ becomes.spare + cost

@@ -1,0 +1,58 @@
+//! What the workers of a run share.
+ghost use Rattle.std.specs.Prelude.{◌≡◌, ◌+◌, ◌<◌, ◌≤◌, ◌^◌, cond, IfOk};
+ghost use Rattle.run_record.specs.Objects.{is_map, is_atomic};
+ghost use Rattle.thread_calls.specs.Sites.{AreNumbers, shared_number};
+
+use crate::object::AnyObject;
+use std::alloc::{AllocError, Global};
+use sync_model::Shared;
+use workload::{ObjectKind, Workload};
+
+/// What all workers of a run share.
+#[derive(Drop)]
+pub struct Site<'a, S: Shared> {
+    /// The workload that is run.
+    pub workload: &'a Workload,
+    /// Its maps and atomics.
+    pub shared: &'a S,
+    /// Stop, and behind it the workload's objects in order of declaration.
+    pub objects: &'a [AnyObject<S::Mark>],
+    /// The number of each map among the maps, and of each atomic among the atomics, by place.
+    pub numbers: &'a [u32],
+}
+
+// The number of an object of this kind behind so many maps and atomics, which counts it among them.
+fn next_number(kind: ObjectKind, maps: &mut u32, atomics: &mut u32) -> u32
+    requires maps { maps.old < 2 ^ 31 }
+    requires atomics { atomics.old < 2 ^ 31 }
+    ensures number { result ≡ shared_number maps.old atomics.old kind }
+    ensures maps { maps.new ≡ maps.old + cond (is_map kind) 1 0 }
+    ensures atomics { atomics.new ≡ atomics.old + cond (is_atomic kind) 1 0 }
+{
+    match kind {
+        ObjectKind::Map => {
+            *maps += 1;
+            *maps - 1
+        }
+        ObjectKind::Atomic(_) => {
+            *atomics += 1;
+            *atomics - 1
+        }
+        _ => 0,
+    }
+}
+
+/// The number of each of a workload's maps among the maps, and of each atomic among the atomics, by place. An object of
+/// another kind has 0.
+pub fn numbers_of(alloc: Global, workload: &Workload) -> Result<Vec<u32>, AllocError>
+    ensures { IfOk result (λ numbers. AreNumbers workload.now.objects numbers.items) }
+{
+    let _workers = workload.workers();
+    let mut maps = 0;
+    let mut atomics = 0;
+    let mut numbers = Vec::new(alloc);
+    for object in workload.objects() {
+        numbers.push(next_number(object.kind, &mut maps, &mut atomics))?;
+    }
+    Ok(numbers)
+}
