@@ -26,19 +26,19 @@ use Rattle.workload.specs.Plan.{Plan, is_on, is_turn, refers, is_valid}
 use Rattle.workload.specs.Readable.{IsReadable}
 use Rattle.thread_calls.specs.Sites.{IsScripted}
 
+or_first : (a b : Bool) → a ≡ true → (a || b) ≡ true
+or_first true b is = refl
+or_first false b is = absurd cc
+
+or_second : (a b : Bool) → b ≡ true → (a || b) ≡ true
+or_second true b is = refl
+or_second false b is = is
+
 module _ {A : Type 0} where
   pub all_at : (p : A → Bool) (xs : List A) (i : ℕ) (x : A) → list_all p xs ≡ true → slice_get xs i ≡ Some x → p x ≡ true
   all_at p [] i x all at = absurd (none-some x at)
   all_at p (y ∷ ys) zero x all at = ap p (sym (same_Some y x at)) ∙ (and_parts (p y) (list_all p ys) all).0
   all_at p (y ∷ ys) (suc i) x all at = all_at p ys i x (and_parts (p y) (list_all p ys) all).1 at
-
-  or_first : (a b : Bool) → a ≡ true → (a || b) ≡ true
-  or_first true b is = refl
-  or_first false b is = absurd cc
-
-  or_second : (a b : Bool) → b ≡ true → (a || b) ≡ true
-  or_second true b is = refl
-  or_second false b is = is
 
   -- what one element gives is among what all give
   among_all : {B : Type 0} (f : A → List B) (p : B → Bool) (xs : List A) (i : ℕ) (x : A) → slice_get xs i ≡ Some x → list_any p (f x) ≡ true → list_any p (flat_map f xs) ≡ true

@@ -17,10 +17,16 @@ use Rattle.run_record.specs.Explains.{AreLines, IsRecordOf, KeepsFronts, HasEnde
 use Rattle.run_record.specs.Lines.{Line, script_of, items_of, replies_of, HaltsStop}
 use Rattle.run_record.specs.Objects.{contents_of}
 use Rattle.run_record.specs.Record.{Record, ObjectEntry, journal_of, list_of, shared_in, entries_in, calls_of, front_of}
-use Rattle.thread_calls.specs.Working.{Desk, Moves, CountsOwn}
+use Rattle.thread_calls.specs.Working.{Desk, Moves}
 use Rattle.thread_runner.specs.DidLines.{DidLine, IsFresh}
 use Rattle.thread_runner.specs.Gathering.{AreJournals}
-use Rattle.thread_runner.proofs.ItemLists.{knows_to, knows_more, counts_at, mapped_at, mapped_past, mapped_is}
+use Rattle.thread_runner.proofs.ItemLists.{mapped_at, mapped_past, mapped_is}
+
+-- what a worker knows, along what it made
+pub record Knowing : Type 0 where
+  pub own : (old new : Desk) (items : List Made) (worker i : ℕ) (made : Made) → Moves old items new → old.worker ≡ Some worker → slice_get items i ≡ Some made → slice_index (front_of made) worker ≡ length old.calls + length (shared_in (take i items))
+  pub rises : (old new : Desk) (items : List Made) (i j : ℕ) (earlier later : Made) → Moves old items new → i < j → slice_get items i ≡ Some earlier → slice_get items j ≡ Some later → AtLeast (front_of later) (front_of earlier)
+  pub ends : (old new : Desk) (items : List Made) (i : ℕ) (made : Made) → Moves old items new → slice_get items i ≡ Some made → AtLeast new.front (front_of made)
 
 -- a legal history's law depends on the callers' lists alone
 abbrev pub SameLists : Type 0
@@ -40,7 +46,7 @@ pub record AllDone (plan : Plan) (history : List SharedEntry) (journals : List (
   pub lawful : Lawful (contents_of plan) history calls
   pub known : (worker other : ℕ) → worker < length lines → slice_index (desk worker).front other ≤ length (calls other)
 
-module _ (plan : Plan) (history : List SharedEntry) (journals : List (List ObjectEntry)) (calls : ℕ → List Item) (replies : List (List (Reply ℕ))) (start desk : ℕ → Desk) (lines : List Line) (all : AllDone plan history journals calls replies start desk lines) where
+module _ (plan : Plan) (history : List SharedEntry) (journals : List (List ObjectEntry)) (calls : ℕ → List Item) (replies : List (List (Reply ℕ))) (start desk : ℕ → Desk) (lines : List Line) (all : AllDone plan history journals calls replies start desk lines) (knowing : Knowing) where
   abbrev pub joined : Record
   joined = record { history = history; journals = journals; lists = map items_of lines }
 
@@ -92,7 +98,7 @@ module _ (plan : Plan) (history : List SharedEntry) (journals : List (List Objec
     by_case : Cases worker → AtLeast (front_of y) (front_of x)
     by_case (inl (line, within, at)) =
         let did = all.did worker line at in
-        knows_more (start worker).front (desk worker).front (items_of line) i j x y did.moves.fronts before (within_line worker i x line at at_x) (within_line worker j y line at at_y)
+        knowing.rises (start worker) (desk worker) (items_of line) i j x y did.moves before (within_line worker i x line at at_x) (within_line worker j y line at at_y)
     by_case (inr past) = absurd (nothing_past worker i x past at_x)
 
   own : (worker i : ℕ) (x : Made) → slice_get (list_of joined worker) i ≡ Some x → slice_index (front_of x) worker ≡ length (shared_in (take i (list_of joined worker)))
@@ -101,9 +107,9 @@ module _ (plan : Plan) (history : List SharedEntry) (journals : List (List Objec
     by_case (inl (line, within, at_line)) =
         let did = all.did worker line at_line in
         let fresh = all.fresh worker within in
-        let counts : CountsOwn worker 0 (items_of line) = subst (λ (l : List Item). CountsOwn worker (length l) (items_of line)) fresh.calls (did.moves.counts worker fresh.number) in
-        let count = counts_at worker 0 (items_of line) i x counts (within_line worker i x line at_line at) in
-        let first : slice_index (front_of x) worker ≡ length (shared_in (take i (items_of line))) = omega (arith, count) in
+        let count = knowing.own (start worker) (desk worker) (items_of line) worker i x did.moves fresh.number (within_line worker i x line at_line at) in
+        let none : length (start worker).calls ≡ 0 = ap (λ (l : List Item). length l) fresh.calls in
+        let first : slice_index (front_of x) worker ≡ length (shared_in (take i (items_of line))) = omega (arith, count, none) in
         first ∙ ap (λ (l : List Made). length (shared_in (take i l))) (sym (list_at worker line at_line))
     by_case (inr past) = absurd (nothing_past worker i x past at)
 
@@ -112,7 +118,7 @@ module _ (plan : Plan) (history : List SharedEntry) (journals : List (List Objec
     by_case : Cases worker → slice_index (front_of x) other ≤ length (calls_of joined other)
     by_case (inl (line, within, at_line)) =
         let did = all.did worker line at_line in
-        let least = knows_to (start worker).front (desk worker).front (items_of line) i x did.moves.fronts (within_line worker i x line at_line at) other in
+        let least = knowing.ends (start worker) (desk worker) (items_of line) i x did.moves (within_line worker i x line at_line at) other in
         let known = all.known worker other within in
         subst (λ (l : List Item). slice_index (front_of x) other ≤ length l) (sym (joined_calls other)) (omega (arith, least, known))
     by_case (inr past) = absurd (nothing_past worker i x past at)

@@ -2,3 +2,4 @@ pub mod Explaining
 pub mod ItemLists
 pub mod Joining
 pub mod LineSteps
+pub mod ScriptLoop

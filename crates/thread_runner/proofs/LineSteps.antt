@@ -57,9 +57,9 @@ took j xs x found =
   more zero (y ∷ xs) found = ap (λ (z : Call). z ∷ []) (first_is y x xs found)
   more (suc j) (y ∷ xs) found = ap (λ (l : List Call). y ∷ l) (more j xs found)
 
-at_length : (xs ys : List Made) (y : Made) → slice_get (xs ++ y ∷ ys) (length xs) ≡ Some y
-at_length [] ys y = refl
-at_length (x ∷ xs) ys y = at_length xs ys y
+first_behind : (xs ys : List Made) (y : Made) → slice_get ys 0 ≡ Some y → slice_get (xs ++ ys) (length xs) ≡ Some y
+first_behind [] ys y at = at
+first_behind (x ∷ xs) ys y at = first_behind xs ys y at
 
 same_misuse : (m n : Misuse) → misused m ≡ misused n → m ≡ n
 same_misuse m n is = ap read is where
@@ -116,9 +116,9 @@ module _ (plan : Plan) (worker : ℕ) (script : List Call) (old : Desk) (none : 
         }
 
     -- a call that is a misuse, and the halts by it
-    pub ends_misused : (misuse : Misuse) (items halts : List Made) (stopped : ObjectEntry) (others : List Made) (last : Desk) → SpellsCall plan worker (length now.calls) call items (Done (Err misuse)) → Moves now items new → Moves new halts last
-        → All (IsHalt misuse) halts → halts ≡ Entered stop stopped ∷ others → stopped.deed ≡ Halt misuse → DidLineOf script replies old last
-    ends_misused misuse items halts stopped others last spelt first second are first_is deed = (record { spelt = went.spelt; last = items ++ halts; rest = call ∷ drop (suc i) script; ending = misused misuse }, record {
+    pub ends_misused : (misuse : Misuse) (items halts : List Made) (stopped : ObjectEntry) (last : Desk) → SpellsCall plan worker (length now.calls) call items (Done (Err misuse)) → Moves now items new → Moves new halts last
+        → All (IsHalt misuse) halts → slice_get halts 0 ≡ Some (Entered stop stopped) → stopped.deed ≡ Halt misuse → DidLineOf script replies old last
+    ends_misused misuse items halts stopped last spelt first second are first_is deed = (record { spelt = went.spelt; last = items ++ halts; rest = call ∷ drop (suc i) script; ending = misused misuse }, record {
       is = record { calls = went.are; ends = (items, halts, refl, spelt_here items (Done (Err misuse)) spelt, are) };
       calls = ap (λ (l : List Call). l ++ call ∷ drop (suc i) script) went.calls ∙ sym rest;
       answers = went.answers;
@@ -127,7 +127,7 @@ module _ (plan : Plan) (worker : ℕ) (script : List Call) (old : Desk) (none : 
       moves = subst (λ (l : List Made). Moves old l last) (append_assoc (items_in went.spelt) items halts) (joins old new last (items_in went.spelt ++ items) halts (all_moves items first) second);
     }) where
       halt_at : slice_get (items_in went.spelt ++ (items ++ halts)) (length (items_in went.spelt ++ items)) ≡ Some (Entered stop stopped)
-      halt_at = ap (λ (l : List Made). slice_get l (length (items_in went.spelt ++ items))) (sym (append_assoc (items_in went.spelt) items halts) ∙ ap (λ (l : List Made). (items_in went.spelt ++ items) ++ l) first_is) ∙ at_length (items_in went.spelt ++ items) others (Entered stop stopped)
+      halt_at = ap (λ (l : List Made). slice_get l (length (items_in went.spelt ++ items))) (sym (append_assoc (items_in went.spelt) items halts)) ∙ first_behind (items_in went.spelt ++ items) halts (Entered stop stopped) first_is
 
     -- a call that met a halt
     pub ends_halted : (misuse : Misuse) → Works (SpellsCall plan worker (length now.calls) call) now (Halted misuse) new → DidLineOf script replies old new

@@ -1,2 +1,4 @@
 //! Running a workload's workers in threads.
 #![tactic(auto)]
+
+mod script;

@@ -1,0 +1,70 @@
+-- What holds between two calls of a script.
+use Rattle.std.proofs.Common.{◌≡◌, ℕ, zero, suc, ◌+◌, ◌<◌, ◌≤◌, Bool, true, List, [], ◌∷◌, ◌++◌, length, drop, get_or, Option, Some, None, slice_get, refl, sym, ap, ◌∙◌, subst, arith, Ok}
+use Rattle.std.specs.Option.{ForSome, IsSome}
+use Rattle.std.proofs.lemmas.Bool.{false≢true}
+use Rattle.std.proofs.lemmas.List.{length-append}
+use Rattle.std.proofs.lemmas.List.Sums.{sum_by-drop_more}
+use Rattle.std.proofs.lemmas.Option.{get_or_from_slice_get, same_Some}
+use Rattle.sync_model.specs.declared.answer.Answer.TheVariants.{Done}
+use Rattle.sync_model.specs.declared.call.Call.{Call}
+use Rattle.sync_model.specs.declared.call.Reply.{Reply}
+use Rattle.sync_model.specs.declared.caller.Caller.{Caller}
+use Rattle.sync_model.specs.BoundedSeq.{Bounded}
+use Rattle.sync_model.specs.Note.{Holding}
+use Rattle.sync_model.specs.Shared.{IsCallerAt, IsHeldBy}
+use Rattle.workload.specs.Plan.{Plan}
+use Rattle.run_record.specs.declared.made.Made.{Made}
+use Rattle.run_record.specs.Calls.{SpellsCall}
+use Rattle.thread_calls.specs.declared.object.AnyObject.{AnyObject}
+use Rattle.thread_calls.specs.declared.pass.AnyPass.{AnyPass}
+use Rattle.thread_calls.specs.Desks.{AreSeats}
+use Rattle.thread_calls.specs.Passes.{owns_of}
+use Rattle.thread_calls.specs.Sites.{Spends, cost_of_call, cost_of_calls}
+use Rattle.thread_calls.specs.Working.{Desk, Works, desk_with}
+use Rattle.thread_runner.specs.DidLines.{Went}
+use Rattle.thread_runner.proofs.LineSteps.{Joins, went_on}
+
+owned : (own : Option Holding) → IsSome own → (was : Holding) × (own ≡ Some was)
+owned None is = absurd (false≢true is)
+owned (Some was) is = (was, refl)
+
+module _ {H N : Type 0} (at : H → N → Type 0) (own : N → Option Holding) (front : N → List ℕ) (home : H) (plan : Plan) (workers worker : ℕ) (objects : List (AnyObject N H)) (script : List Call) (room : ℕ) (start : Desk) (first : N) where
+  -- so many calls are made, and the worker is about to make the next
+  pub record AtCall (index : ℕ) (kept : Bool) (passes : List (AnyPass N)) (caller : Caller N) (replies : Bounded (Reply ℕ)) : Type 0 where
+    pub seats : AreSeats at home workers worker objects passes
+    pub is_caller : IsCallerAt at own home caller
+    pub held : (c : ℕ) → IsHeldBy c (own first) → IsHeldBy c (own caller.note)
+    pub spare : ForSome (own caller.note) (λ holding. cost_of_calls (drop index script) ≤ holding.spare)
+    pub room_is : replies.room ≡ room
+    pub count : length replies.items ≤ index
+    pub went : kept ≡ true → Went plan worker script index replies.items start (desk_with own front (owns_of passes) caller.note)
+
+  module _ (index : ℕ) (call : Call) (within : index < length script) (is_at : slice_get script index ≡ Some call) where
+    costs : cost_of_calls (drop index script) ≡ cost_of_call call + cost_of_calls (drop (index + 1) script)
+    costs = sum_by-drop_more cost_of_call script index call within ∙ ap (λ (c : Call). cost_of_call c + cost_of_calls (drop (index + 1) script)) (get_or_from_slice_get script index call call is_at)
+
+    -- there is enough for the next call, and then for those behind it
+    pub spare_here : (note : N) → ForSome (own note) (λ holding. cost_of_calls (drop index script) ≤ holding.spare) → ForSome (own note) (λ holding. cost_of_call call ≤ holding.spare)
+    spare_here note spare holding is = let all = spare holding is in let sum = costs in omega (arith, all, sum)
+
+    spare_behind : (caller note : N) (was : Holding) → own caller ≡ Some was → ForSome (own caller) (λ holding. cost_of_calls (drop index script) ≤ holding.spare) → Spends own (cost_of_call call) caller note
+        → ForSome (own note) (λ holding. cost_of_calls (drop (index + 1) script) ≤ holding.spare)
+    spare_behind caller note was is_was spare spends holding is =
+        let all = spare was is_was in let sum = costs in let spent = spends was holding is_was is in
+        omega (arith, all, sum, spent)
+
+    module _ (kept now_kept : Bool) (passes now_passes : List (AnyPass N)) (caller now_caller : Caller N) (replies now_replies : Bounded (Reply ℕ)) (before : AtCall index kept passes caller replies) where
+      -- behind a call the worker is about to make the one behind it
+      pub after_call : AreSeats at home workers worker objects now_passes → IsCallerAt at own home now_caller → ((c : ℕ) → IsHeldBy c (own caller.note) → IsHeldBy c (own now_caller.note)) → Spends own (cost_of_call call) caller.note now_caller.note
+          → now_replies.room ≡ replies.room → length now_replies.items ≤ index + 1
+          → (now_kept ≡ true → Went plan worker script (index + 1) now_replies.items start (desk_with own front (owns_of now_passes) now_caller.note))
+          → AtCall (index + 1) now_kept now_passes now_caller now_replies
+      after_call seats is_caller held spends room_same count went = let was = owned (own caller.note) before.is_caller.1 in record {
+        seats = seats;
+        is_caller = is_caller;
+        held = λ c of. held c (before.held c of);
+        spare = spare_behind caller.note now_caller.note was.0 was.1 before.spare spends;
+        room_is = room_same ∙ before.room_is;
+        count = count;
+        went = went;
+      }
