@@ -1,3 +1,4 @@
 pub mod DidLines
 pub mod Gathering
+pub mod Jobs
 pub mod Runs

@@ -1,4 +1,5 @@
 //! Running a workload's workers in threads.
 #![tactic(auto)]
 
+mod job;
 mod script;
