@@ -1,9 +1,8 @@
 -- What the machine holds at the end is what the callers' history leaves.
-use Rattle.std.proofs.Common.{◌≡◌, ℕ, ◌+◌, ◌<◌, ◌≤◌, ◌⊎◌, inl, inr, Bool, false, List, [], ◌∷◌, ◌++◌, map, length, slice_get, Option, Some, None, refl, sym, ap, ◌∙◌, subst, arith}
+use Rattle.std.proofs.Common.{◌≡◌, ℕ, ◌<◌, ◌≤◌, ◌⊎◌, inl, inr, Bool, false, List, [], length, slice_get, Option, Some, None, sym, ap, ◌∙◌, subst, arith}
 use Rattle.std.proofs.lemmas.Bool.{cases_lt}
 use Rattle.std.proofs.lemmas.List.{length-map}
 use Rattle.sync_model.specs.declared.caller.Caller.{Caller}
-use Rattle.sync_model.specs.declared.item.Item.{Item}
 use Rattle.sync_model.specs.Journal.{Begins, by, state_after}
 use Rattle.sync_model.specs.Shared.{AreAllCallers, calls_of, items_of}
 use Rattle.sync_model.specs.SharedHistory.{Contents, contents_after, contents_at}
@@ -15,11 +14,11 @@ use Rattle.shared_plain.specs.declared.event.Answered.{Answered}
 use Rattle.shared_plain.specs.declared.mark.Mark.{Mark}
 use Rattle.shared_plain.specs.declared.plain.Plain.{Plain}
 use Rattle.shared_plain.specs.EndsOfHistory.{AreEnds}
-use Rattle.shared_plain.specs.Marks.{holding, own_by, seen_of, KeepsOwn, IsMarkOf}
+use Rattle.shared_plain.specs.Marks.{holding, own_by, seen_of, IsMarkOf}
 use Rattle.shared_plain.specs.PlainHistory.{Step, history_of, items_by}
 use Rattle.shared_plain.specs.PlainMachine.{contents_of, next}
 use Rattle.shared_plain.specs.Plains.{count_of}
-use Rattle.shared_plain.specs.Settling.{PlainPass, passes_in}
+use Rattle.shared_plain.specs.Settling.{passes_in}
 use Rattle.shared_plain.specs.Walks.{AreInOrder}
 use Rattle.shared_plain.proofs.AllSettled.{PassLaws, calls_at, calls_past}
 use Rattle.shared_plain.proofs.Explained.{explained}

@@ -1,5 +1,5 @@
 -- Where a cursor stands when it begins, and after a step.
-use Rattle.std.proofs.Common.{◌≡◌, ◌≢◌, ℕ, zero, suc, ◌+◌, ◌-◌, ◌<◌, ◌≤◌, ◌^◌, Bool, true, cond, eqb, eq-eqb, List, [], ◌∷◌, ◌++◌, length, slice_get, Option, Some, None, refl, sym, ap, ◌∙◌, subst, le_refl}
+use Rattle.std.proofs.Common.{◌≡◌, ◌≢◌, ℕ, ◌-◌, ◌<◌, ◌≤◌, ◌^◌, Bool, cond, eq-eqb, List, [], ◌∷◌, ◌++◌, length, slice_get, Option, Some, refl, sym, ap, ◌∙◌, subst, le_refl}
 use Rattle.std.proofs.lemmas.Option.{same_Some}
 use Rattle.sync_model.specs.declared.item.SharedCall.{SharedCall}
 use Rattle.sync_model.specs.declared.item.SharedCall.TheVariants as calls
@@ -22,7 +22,7 @@ use Rattle.shared_plain.specs.Marks.{holding, own_by, KeepsOwn}
 use Rattle.shared_plain.specs.PlainHistory.{Step, items_by}
 use Rattle.shared_plain.specs.Plains.{maps_of}
 use Rattle.shared_plain.specs.Staying.{spot_one_more, stays}
-use Rattle.shared_plain.specs.Walks.{spot_shown, spot_behind, spot_next, spot_of, StandsAt}
+use Rattle.shared_plain.specs.Walks.{spot_behind, spot_next, spot_of, StandsAt}
 use Rattle.shared_plain.proofs.FirstCallers.{within, at_last}
 use Rattle.shared_plain.proofs.Orders.{unmade}
 

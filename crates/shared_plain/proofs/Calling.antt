@@ -1,28 +1,23 @@
 -- One entry more of a journal is one shared call more of its caller.
 use Rattle.std.proofs.Common.{◌≡◌, ℕ, zero, suc, ◌+◌, ◌<◌, ◌≤◌, Bool, true, false, cond, eqb, eq-eqb, List, [], ◌∷◌, ◌++◌, length, length-append, take, slice_get, Option, Some, None, refl, sym, ap, ◌∙◌, subst, append_assoc, arith}
-use Rattle.std.proofs.lemmas.List.{append-nil, append_cancel_right}
+use Rattle.std.proofs.lemmas.List.{append_cancel_right}
 use Rattle.std.specs.Prelude.{IsSome}
 use Rattle.ruled_object.specs.Notes.{held_by}
 use Rattle.shared_plain.specs.declared.mark.Mark.{Mark}
 use Rattle.shared_plain.specs.Marks.{holding, own_by}
 use Rattle.sync_model.specs.declared.misuse.Misuse.{Misuse}
-use Rattle.sync_model.specs.declared.journal.Deed.{Deed}
 use Rattle.sync_model.specs.declared.journal.Deed.TheVariants.{Event as Did}
-use Rattle.sync_model.specs.declared.item.SharedCall.{SharedCall}
-use Rattle.sync_model.specs.declared.item.SharedReply.{SharedReply}
-use Rattle.sync_model.specs.declared.item.SharedEntry.{SharedEntry}
 use Rattle.sync_model.specs.declared.item.Item.{Item}
-use Rattle.sync_model.specs.Journal.{Begins, by, halt_next, halt_after, state_next, state_after, Right, Follows}
-use Rattle.sync_model.specs.Note.{Holding}
+use Rattle.sync_model.specs.Journal.{by, halt_next, halt_after, state_next, state_after, Right, Follows}
 use Rattle.sync_model.specs.Shared.{CallerState, Called}
 use Rattle.sync_model.specs.SharedCalls.{bound}
-use Rattle.sync_model.specs.SharedHistory.{Contents, contents_after, contents_at, entry_of, IsReply, is_entry}
+use Rattle.sync_model.specs.SharedHistory.{contents_after, contents_at, entry_of, IsReply, is_entry}
 use Rattle.shared_plain.specs.declared.event.Event.{Event}
 use Rattle.shared_plain.specs.declared.event.Answered.{Answered}
 use Rattle.shared_plain.specs.Counting.{counted_by}
 use Rattle.shared_plain.specs.PlainMachine.{Holdings, contents_of, call_of, next}
-use Rattle.shared_plain.specs.PlainHistory.{Step, call_in, entered, history_of, count_of, front_of, item_at, listed, items_from, items_by}
-use Rattle.shared_plain.proofs.Histories.{Unseen, Was, a_call, is_history}
+use Rattle.shared_plain.specs.PlainHistory.{Step, call_in, entered, history_of, front_of, item_at, listed, items_from, items_by}
+use Rattle.shared_plain.proofs.Histories.{Unseen, a_call, is_history}
 use Rattle.shared_plain.proofs.Items.{Made, history-append, items-append, marks}
 use Rattle.shared_plain.proofs.Passing.{by-append, rises, kept_items, take_front}
 

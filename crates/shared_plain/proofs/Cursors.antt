@@ -1,12 +1,12 @@
 -- What a cursor's step shows.
-use Rattle.std.proofs.Common.{◌≡◌, false, ℕ, zero, suc, ◌+◌, ◌-◌, ◌<◌, ◌≤◌, List, [], ◌∷◌, drop, length, get_or, slice_get, Option, Some, None, refl, sym, ap, ◌∙◌, subst, arith}
+use Rattle.std.proofs.Common.{◌≡◌, false, ℕ, zero, suc, ◌+◌, ◌-◌, ◌<◌, ◌≤◌, List, [], ◌∷◌, drop, length, get_or, slice_get, Option, Some, None, refl, sym, ap, ◌∙◌, arith}
 use Rattle.std.proofs.lemmas.List.{get_or-drop, length-drop}
 use Rattle.std.specs.FinMap.{get}
 use Rattle.sync_model.specs.declared.item.SharedReply.TheVariants.{Shown}
 use Rattle.sync_model.specs.SharedHistory.{value_at}
 use Rattle.shared_plain.specs.declared.event.Answered.{Answered}
 use Rattle.shared_plain.specs.EndsOfHistory.{IsNextPair}
-use Rattle.shared_plain.specs.Slots.{map_of, pair_from, next_pair}
+use Rattle.shared_plain.specs.Slots.{pair_from, next_pair}
 use Rattle.shared_plain.specs.PlainMachine.{Holdings, contents_of, cursor_next}
 use Rattle.shared_plain.proofs.SlotMaps.{answer, get-map_of}
 use Rattle.shared_plain.proofs.Steps.{map_there, some_is}

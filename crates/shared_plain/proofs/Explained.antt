@@ -1,21 +1,18 @@
 -- A journal whose callers are all in order explains all their calls.
-use Rattle.std.proofs.Common.{◌≡◌, ◌≢◌, ℕ, zero, suc, ◌+◌, ◌<◌, ◌≤◌, ◌⊎◌, inl, inr, Bool, true, false, cond, eqb, eq-eqb, ne_eqb, List, [], ◌∷◌, ◌++◌, map, length, length-append, get_or, take, drop, slice_get, Option, Some, None, refl, sym, ap, ◌∙◌, subst, append_assoc, le_refl, arith}
+use Rattle.std.proofs.Common.{◌≡◌, ℕ, zero, suc, ◌+◌, ◌<◌, ◌≤◌, ◌⊎◌, inl, inr, Bool, true, false, cond, eqb, eq-eqb, ne_eqb, List, [], ◌∷◌, ◌++◌, map, length, length-append, get_or, take, drop, slice_get, Option, Some, None, refl, sym, ap, ◌∙◌, subst, append_assoc, le_refl, arith}
 use Rattle.std.specs.Prelude.{slice_index}
 use Rattle.std.specs.List.{range_with_len}
 use Rattle.std.proofs.lemmas.Bool.{cases_lt}
 use Rattle.std.proofs.lemmas.Option.{slice_get_within}
 use Rattle.std.proofs.lemmas.List.{append-nil, take-append-drop}
 use Rattle.sync_model.specs.declared.misuse.Misuse.{Misuse}
-use Rattle.sync_model.specs.declared.journal.Deed.TheVariants.{Event as Did}
 use Rattle.sync_model.specs.declared.item.SharedCall.TheVariants as calls
-use Rattle.sync_model.specs.declared.item.SharedReply.TheVariants as replies
 use Rattle.sync_model.specs.declared.item.SharedEntry.{SharedEntry}
 use Rattle.sync_model.specs.declared.item.Item.{Item}
 use Rattle.sync_model.specs.Front.{AtLeast}
 use Rattle.sync_model.specs.Journal.{Begins, by, halt_next, halt_after, state_next, state_after, Right, Follows}
-use Rattle.sync_model.specs.SharedCalls.{bound, Knows, IsSound, AddsCall}
+use Rattle.sync_model.specs.SharedCalls.{Knows, IsSound, AddsCall}
 use Rattle.sync_model.specs.SharedHistory.{Contents, IsReply, is_entry, contents_after, contents_at, value_at, with_call}
-use Rattle.shared_plain.specs.declared.event.Event.TheVariants.{Next}
 use Rattle.shared_plain.specs.Counting.{counted_by, length-items}
 use Rattle.shared_plain.specs.PlainMachine.{Holdings, contents_of, next}
 use Rattle.shared_plain.specs.PlainHistory.{Step, call_in, entered, history_of, count_of, front_of, item_at, listed, items_from, items_by}
@@ -26,7 +23,7 @@ use Rattle.shared_plain.proofs.Histories.{Unseen, a_call, is_history}
 use Rattle.shared_plain.proofs.Items.{Made, history-append, count-append, items-append}
 use Rattle.shared_plain.proofs.Orders.{is_next, unmade}
 use Rattle.shared_plain.proofs.Passing.{by-append, rises}
-use Rattle.shared_plain.proofs.Walking.{Laws, Walks, Steps, Goes, with_is, walks_on}
+use Rattle.shared_plain.proofs.Walking.{Laws, Walks, Steps, with_is, walks_on}
 
 -- a first part of a journal
 begins_take : (k : ℕ) (journal : List Step) → Begins journal (take k journal)

@@ -1,14 +1,14 @@
 -- What fits at the start fits for ever, and is answered.
-use Rattle.std.proofs.Common.{◌≡◌, ℕ, zero, suc, Bool, true, false, ◌&&◌, cond, List, [], ◌∷◌, map, length, length-set, get_or, set, replicate, slice_get, Option, Some, None, is_some, refl, sym, ap, ◌∙◌, subst}
+use Rattle.std.proofs.Common.{◌≡◌, ℕ, zero, suc, Bool, true, false, ◌&&◌, cond, List, [], ◌∷◌, map, length, length-set, get_or, replicate, slice_get, Option, Some, None, is_some, refl, sym, ap, ◌∙◌}
 use Rattle.std.proofs.Math.Seq.{map-set_same}
-use Rattle.std.specs.Prelude.{nat_lt, ◌<◌}
+use Rattle.std.specs.Prelude.{nat_lt, ◌<◌, ◌≤◌}
+use Rattle.std.specs.FinMap.{get}
 use Rattle.std.specs.Option.{option_map_or}
 use Rattle.std.proofs.Common.{arith}
 use Rattle.std.proofs.lemmas.Bool.{lt-ltb}
 use Rattle.sync_model.specs.Shared.{IsMapCall}
 use Rattle.std.proofs.lemmas.List.{length-map, length-replicate}
 use Rattle.std.proofs.lemmas.Option.{get_or_from_slice_get}
-use Rattle.sync_model.specs.declared.misuse.Misuse.{Misuse}
 use Rattle.sync_model.specs.declared.journal.Deed.{Deed}
 use Rattle.sync_model.specs.declared.journal.Deed.TheVariants.{Event as Did, Refused, Halt}
 use Rattle.sync_model.specs.declared.atomic_object.AtomicCall.{AtomicCall}
@@ -21,17 +21,18 @@ use Rattle.sync_model.specs.declared.item.SharedReply.TheVariants as replies
 use Rattle.sync_model.specs.declared.map_object.MapCall.{MapCall}
 use Rattle.sync_model.specs.Journal.{state_next, state_after}
 use Rattle.sync_model.specs.SequentialMap.{map_key, map_reply, is_map_entry}
-use Rattle.sync_model.specs.SequentialAtomic.{kind_of, sum, bits_of_both, bits_of_either, is_same, is_of, has_bits, is_atomic_call, atomic_after, atomic_reply, is_atomic_entry}
+use Rattle.sync_model.specs.SequentialAtomic.{kind_of, sum, bits_of_both, bits_of_either, is_same, is_of, has_bits, atomic_reply, is_atomic_entry}
 use Rattle.shared_plain.specs.declared.event.Event.{Event}
 use Rattle.shared_plain.specs.declared.event.Event.TheVariants.{Map, Begin, Next, Atomic}
 use Rattle.shared_plain.specs.declared.event.Answered.{Answered}
+use Rattle.shared_plain.specs.EndLists.{HasKeysBelow}
 use Rattle.shared_plain.specs.Fits.{has_room, has_kind, fits_in, fits}
 use Rattle.shared_plain.specs.PlainHistory.{Step}
-use Rattle.shared_plain.specs.PlainMachine.{Holdings, first_holdings, map_next, cursor_next, atomic_next, number_after, next}
+use Rattle.shared_plain.specs.PlainMachine.{Holdings, contents_of, first_holdings, map_next, cursor_next, atomic_next, number_after, next}
 use Rattle.shared_plain.specs.Slots.{map_of, slot_after, keyed_after, slots_at, slots_after, next_pair}
 use Rattle.shared_plain.proofs.Cursors.{cursor_within}
 use Rattle.shared_plain.proofs.Replies.{replied}
-use Rattle.shared_plain.proofs.SlotMaps.{answer}
+use Rattle.shared_plain.proofs.SlotMaps.{answer, get-map_of}
 
 is_kind : (kind : AtomicKind) (number : Number) → is_of kind number ≡ true → kind_of number ≡ kind
 is_kind kinds.Int32 (Int32 z) e = refl
@@ -216,3 +217,35 @@ pub maps_stay : (start : Holdings) (journal : List Step) → length (state_after
 maps_stay start journal =
     let all = state_after next start journal in
     sym (length-map all.maps (λ (slots : List (Option ℕ)). length slots)) ∙ (ap (λ (l : List ℕ). length l) (like_after start journal).keys ∙ length-map start.maps (λ (slots : List (Option ℕ)). length slots))
+
+read_mapped : {A B : Type 0} (f : A → B) (xs : List A) (i : ℕ) (d : A) → get_or (map f xs) i (f d) ≡ f (get_or xs i d)
+read_mapped f [] i d = refl
+read_mapped f (x ∷ xs) zero d = refl
+read_mapped f (x ∷ xs) (suc i) d = read_mapped f xs i d
+
+slot_within : (slots : List (Option ℕ)) (key value : ℕ) → get_or slots key None ≡ Some value → key < length slots
+slot_within [] key value is = (cc)
+slot_within (slot ∷ slots) zero value is = omega arith
+slot_within (slot ∷ slots) (suc key) value is = let rest = slot_within slots key value is in omega arith
+
+-- the slots of a map at the start
+abbrev first_slots : ℕ → ℕ → ℕ → List (Option ℕ)
+first_slots maps keys m = get_or (replicate maps (replicate keys None)) m []
+
+slots_at_start : (maps keys m : ℕ) → length (first_slots maps keys m) ≤ keys
+slots_at_start zero keys m = omega arith
+slots_at_start (suc maps) keys zero = let slots : List (Option ℕ) = replicate keys None in let all : length slots ≡ keys = length-replicate keys None in omega arith
+slots_at_start (suc maps) keys (suc m) = slots_at_start maps keys m
+
+-- no map has a key that isn't below the limit
+pub keys_stay_below : (start : Holdings) (journal : List Step) (maps keys : ℕ) (are : List AtomicKind) → start ≡ first_holdings maps keys are → HasKeysBelow keys (contents_of (state_after next start journal))
+keys_stay_below start journal maps keys are begun m key value is =
+    let h = state_after next start journal in
+    let slots : List (Option ℕ) = get_or h.maps m [] in
+    let there : get_or slots key None ≡ Some value = sym (get-map_of slots key) ∙ (sym (ap (λ held. get held key) (read_mapped map_of h.maps m [])) ∙ is) in
+    let many : length slots ≡ length (first_slots maps keys m) =
+    sym (read_mapped (λ (l : List (Option ℕ)). length l) h.maps m []) ∙ (ap (λ (l : List ℕ). get_or l m 0) (like_after start journal).keys
+    ∙ (read_mapped (λ (l : List (Option ℕ)). length l) start.maps m [] ∙ ap (λ (s : Holdings). length (get_or s.maps m [])) begun)) in
+    let inside = slot_within slots key value there in
+    let most = slots_at_start maps keys m in
+    omega arith

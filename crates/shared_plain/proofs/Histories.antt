@@ -1,18 +1,16 @@
 -- A journal of maps and atomics that follows the machine is a legal shared history.
-use Rattle.std.proofs.Common.{◌≡◌, ℕ, zero, suc, ◌+◌, ◌<◌, ◌≤◌, Bool, true, false, cond, eqb, List, [], ◌∷◌, ◌++◌, map, length, length-append, take, Option, Some, None, refl, sym, ap, ◌∙◌, subst, append_assoc, arith}
-use Rattle.std.proofs.lemmas.Bool.{eqb-true}
+use Rattle.std.proofs.Common.{◌≡◌, ℕ, Bool, true, false, cond, List, [], ◌∷◌, Option, Some, None, refl, sym, ap, ◌∙◌, subst}
 use Rattle.sync_model.specs.declared.misuse.Misuse.{Misuse}
 use Rattle.sync_model.specs.declared.journal.Deed.{Deed}
 use Rattle.sync_model.specs.declared.journal.Deed.TheVariants.{Event as Did, Refused, Halt}
 use Rattle.sync_model.specs.declared.item.SharedCall.{SharedCall}
 use Rattle.sync_model.specs.declared.item.SharedEntry.{SharedEntry}
-use Rattle.sync_model.specs.declared.item.Item.{Item}
 use Rattle.sync_model.specs.Journal.{halt_next, state_next, state_after, Right, Follows}
-use Rattle.sync_model.specs.SharedHistory.{Contents, IsReply, is_entry, shared_after, contents_after, IsLegal, entries_from, marked_in}
+use Rattle.sync_model.specs.SharedHistory.{Contents, IsReply, is_entry, shared_after, contents_after, IsLegal}
 use Rattle.shared_plain.specs.declared.event.Event.{Event}
 use Rattle.shared_plain.specs.declared.event.Answered.{Answered}
 use Rattle.shared_plain.specs.PlainMachine.{Holdings, contents_of, call_of, next}
-use Rattle.shared_plain.specs.PlainHistory.{Step, call_in, entered, history_of, counts, count_of, item_at, listed, items_from}
+use Rattle.shared_plain.specs.PlainHistory.{Step, call_in, entered, history_of}
 use Rattle.shared_plain.proofs.Steps.{some_is, made, unmade}
 use Rattle.shared_plain.proofs.Replies.{replied, entered_is}
 

@@ -1,15 +1,13 @@
 -- A caller's own calls in a journal of maps and atomics.
-use Rattle.std.proofs.Common.{◌≡◌, ℕ, zero, suc, ◌+◌, ◌<◌, ◌≤◌, Bool, true, false, cond, eqb, List, [], ◌∷◌, ◌++◌, length, length-append, slice_get, Option, Some, None, refl, sym, ap, ◌∙◌, subst, append_assoc, arith}
+use Rattle.std.proofs.Common.{◌≡◌, ℕ, ◌+◌, Bool, true, false, cond, eqb, List, [], ◌∷◌, ◌++◌, length, length-append, Option, Some, None, refl, sym, ap, ◌∙◌, append_assoc, arith}
 use Rattle.std.proofs.lemmas.Bool.{eqb-true}
 use Rattle.std.proofs.lemmas.List.{append-nil}
 use Rattle.sync_model.specs.declared.item.SharedCall.{SharedCall}
 use Rattle.sync_model.specs.declared.item.SharedEntry.{SharedEntry}
 use Rattle.sync_model.specs.declared.item.Item.{Item}
-use Rattle.sync_model.specs.SharedCalls.{bound}
-use Rattle.sync_model.specs.SharedHistory.{entries_from, marked_in, entry_of}
+use Rattle.sync_model.specs.SharedHistory.{entries_from, marked_in}
 use Rattle.shared_plain.specs.declared.event.Answered.{Answered}
-use Rattle.shared_plain.specs.PlainHistory.{Step, call_in, entered, history_of, counts, count_of, item_at, listed, items_from}
-use Rattle.shared_plain.proofs.Steps.{some_is}
+use Rattle.shared_plain.specs.PlainHistory.{Step, call_in, entered, history_of, count_of, item_at, listed, items_from}
 
 abbrev pub Made : Type 0
 Made = SharedCall × Answered

@@ -4,6 +4,8 @@ pub mod Beginnings
 pub mod Begun
 pub mod Calling
 pub mod Cursors
+pub mod EndNames
+pub mod EndWalks
 pub mod Explained
 pub mod FirstCallers
 pub mod Fitting

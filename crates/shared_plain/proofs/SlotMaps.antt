@@ -1,5 +1,5 @@
 -- Slots are the finite map whose keys are the slots' numbers.
-use Rattle.std.proofs.Common.{◌≡◌, ◌≢◌, ℕ, zero, suc, ◌+◌, ◌<◌, Bool, true, false, cond, eqb, eq-eqb, ne_eqb, List, [], ◌∷◌, map, length, get_or, set, replicate, slice_get, Option, Some, None, is_some, refl, sym, ap, ◌∙◌, subst, arith, get_or-set_same, get_or-set_other}
+use Rattle.std.proofs.Common.{◌≡◌, ◌≢◌, ℕ, zero, suc, ◌+◌, ◌<◌, Bool, true, false, cond, eqb, eq-eqb, ne_eqb, List, [], ◌∷◌, length, get_or, set, replicate, slice_get, Option, Some, None, is_some, refl, sym, ap, ◌∙◌, subst, arith, get_or-set_same, get_or-set_other}
 use Rattle.std.proofs.lemmas.Option.{slice_get-get_or, slice_get_within, get_or_from_slice_get}
 use Rattle.std.specs.Option.{option_map_or}
 use Rattle.std.specs.Prelude.{nat_lt}
@@ -19,7 +19,7 @@ use Rattle.sync_model.specs.declared.item.SharedReply.TheVariants.{Map}
 use Rattle.sync_model.specs.declared.map_object.MapReply.{MapReply}
 use Rattle.sync_model.specs.declared.map_object.MapReply.TheVariants.{Found, Compared}
 use Rattle.sync_model.specs.SequentialMap.{is_value, settled, map_key, map_reply, map_after, is_map_entry}
-use Rattle.shared_plain.specs.Slots.{with_slot, map_from, map_of, slot_after, reply_at, is_entry_at, keyed_after, slots_at, slots_after, has_slot}
+use Rattle.shared_plain.specs.Slots.{map_from, map_of, slot_after, reply_at, is_entry_at, keyed_after, slots_at, slots_after, has_slot}
 use Rattle.shared_plain.specs.declared.event.Answered.{Answered}
 use Rattle.shared_plain.specs.PlainMachine.{map_answer}
 
@@ -29,7 +29,7 @@ apart Equal q k e ne = absurd (ne (nat_cmp-IsAntisymmetric q k e))
 apart Greater q k e ne = refl
 
 -- keys tie where they are equal
-tie : (q k : ℕ) → eq_by_cmp nat_cmp q k ≡ eqb q k
+pub tie : (q k : ℕ) → eq_by_cmp nat_cmp q k ≡ eqb q k
 tie q k = dite (ℕ_discrete q k)
     (λ is. subst (λ (j : ℕ). eq_by_cmp nat_cmp q j ≡ true) is (ap is_eq (tied_itself nat_cmp_total q)) ∙ sym (eq-eqb q k is))
     (λ ne. apart (nat_cmp q k) q k refl ne ∙ sym (ne_eqb q k ne))

@@ -1,11 +1,10 @@
 -- Each event is answered as the one-thread objects answer its call.
-use Rattle.std.proofs.Common.{◌≡◌, ℕ, zero, suc, Bool, true, false, cond, List, [], ◌∷◌, map, length, get_or, set, slice_get, Option, Some, None, refl, sym, ap, ◌∙◌}
+use Rattle.std.proofs.Common.{◌≡◌, ℕ, zero, suc, Bool, true, false, cond, List, [], ◌∷◌, map, length, set, slice_get, Option, Some, None, refl, sym, ap, ◌∙◌}
 use Rattle.std.proofs.lemmas.Bool.{lt-ltb}
 use Rattle.std.proofs.lemmas.List.{map-set, set-get_or}
 use Rattle.std.specs.Prelude.{nat_lt}
 use Rattle.std.proofs.lemmas.Option.{get_or_from_slice_get, slice_get_within}
-use Rattle.std.specs.FinMap.{FinMap, empty}
-use Rattle.std.specs.Ordering.{nat_cmp}
+use Rattle.std.specs.FinMap.{empty}
 use Rattle.sync_model.specs.declared.atomic_object.AtomicCall.{AtomicCall}
 use Rattle.sync_model.specs.declared.atomic_object.Number.{Number}
 use Rattle.sync_model.specs.declared.atomic_object.Number.TheVariants.{Bool as Truth}
@@ -13,12 +12,12 @@ use Rattle.sync_model.specs.declared.map_object.MapCall.{MapCall}
 use Rattle.sync_model.specs.declared.map_object.MapCall.TheVariants.{Load, Store, LoadOrStore, LoadAndDelete, Delete, Swap, CompareAndSwap, CompareAndDelete, Clear}
 use Rattle.sync_model.specs.SequentialMap.{map_after}
 use Rattle.sync_model.specs.SequentialAtomic.{kind_of, is_atomic_call, atomic_after}
-use Rattle.sync_model.specs.SharedHistory.{Contents, map_at, number_at, shared_after}
+use Rattle.sync_model.specs.SharedHistory.{map_at, number_at, shared_after}
 use Rattle.shared_plain.specs.declared.event.Event.{Event}
 use Rattle.shared_plain.specs.declared.event.Event.TheVariants.{Map, Begin, Next, Atomic}
 use Rattle.shared_plain.specs.declared.event.Answered.{Answered}
 use Rattle.shared_plain.specs.Slots.{map_of, keyed_after, slots_after, has_slot}
-use Rattle.shared_plain.specs.PlainMachine.{Holdings, contents_of, call_of, map_answer, map_next, atomic_answer, number_after, atomic_next, next}
+use Rattle.shared_plain.specs.PlainMachine.{Holdings, contents_of, call_of, map_next, number_after, atomic_next, next}
 use Rattle.shared_plain.proofs.SlotMaps.{after_call}
 
 -- of two answers one is given

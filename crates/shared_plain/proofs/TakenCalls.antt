@@ -1,7 +1,7 @@
 -- Calls that maps take.
-use Rattle.std.proofs.Common.{◌≡◌, ℕ, zero, suc, ◌<◌, ◌≤◌, ◌^◌, Bool, true, false, ◌&&◌, List, [], ◌∷◌, Some, slice_get, refl, sym, subst, ap, arith}
+use Rattle.std.proofs.Common.{◌≡◌, ℕ, zero, suc, ◌<◌, ◌≤◌, ◌^◌, Bool, true, false, ◌&&◌, [], ◌∷◌, Some, slice_get, refl, subst, arith}
 use Rattle.std.specs.Prelude.{nat_lt}
-use Rattle.std.proofs.lemmas.Bool.{ltb-true}
+use Rattle.std.proofs.lemmas.Bool.{ltb-true, lt-ltb}
 use Rattle.std.proofs.lemmas.Option.{same_Some}
 use Rattle.sync_model.specs.declared.map_object.MapCall.{MapCall}
 use Rattle.sync_model.specs.declared.map_object.MapCall.TheVariants.{Load, Store, LoadOrStore, LoadAndDelete, Delete, Swap, CompareAndSwap, CompareAndDelete, Clear}
@@ -33,6 +33,21 @@ taken keys (Swap key value) is = let b = both _ _ is in record { key = below key
 taken keys (CompareAndSwap key old new) is = let b = both _ _ is in let v = both _ _ b.1 in record { key = below keys key b.0; values = two_values old new v.0 v.1 }
 taken keys (CompareAndDelete key old) is = let b = both _ _ is in record { key = below keys key b.0; values = one_value old b.1 }
 taken keys Clear is = record { key = λ key e. (cc); values = λ i value e. (cc) }
+
+either : (a b : Bool) → a ≡ true → b ≡ true → (a && b) ≡ true
+either true b is_a is_b = is_b
+either false b is_a is_b = (cc)
+
+pub all_taken : (keys : ℕ) (call : MapCall ℕ) → IsMapCall (λ key. key < keys) call → is_taken keys call ≡ true
+all_taken keys (Load key) is = lt-ltb key keys (is.key key refl)
+all_taken keys (Store key value) is = either _ _ (lt-ltb key keys (is.key key refl)) (lt-ltb value (2 ^ 63) (is.values 0 value refl))
+all_taken keys (LoadOrStore key value) is = either _ _ (lt-ltb key keys (is.key key refl)) (lt-ltb value (2 ^ 63) (is.values 0 value refl))
+all_taken keys (LoadAndDelete key) is = lt-ltb key keys (is.key key refl)
+all_taken keys (Delete key) is = lt-ltb key keys (is.key key refl)
+all_taken keys (Swap key value) is = either _ _ (lt-ltb key keys (is.key key refl)) (lt-ltb value (2 ^ 63) (is.values 0 value refl))
+all_taken keys (CompareAndSwap key old new) is = either _ _ (lt-ltb key keys (is.key key refl)) (either _ _ (lt-ltb old (2 ^ 63) (is.values 0 old refl)) (lt-ltb new (2 ^ 63) (is.values 1 new refl)))
+all_taken keys (CompareAndDelete key old) is = either _ _ (lt-ltb key keys (is.key key refl)) (lt-ltb old (2 ^ 63) (is.values 0 old refl))
+all_taken keys Clear is = refl
 
 -- no call takes more than one spare entry
 pub cost_small : (call : MapCall ℕ) → cost_of call ≤ 1

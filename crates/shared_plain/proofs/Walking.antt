@@ -1,5 +1,5 @@
 -- The law of a shared history and of its callers goes on, call by call, with where the cursors stand.
-use Rattle.std.proofs.Common.{◌≡◌, ◌≢◌, ℕ, zero, suc, ◌+◌, ◌<◌, ◌≤◌, ◌^◌, ◌⊎◌, inl, inr, Bool, true, false, cond, eqb, eq-eqb, List, [], ◌∷◌, ◌++◌, length, length-append, slice_get, Option, Some, None, refl, sym, ap, ◌∙◌, subst, le_refl, arith}
+use Rattle.std.proofs.Common.{◌≡◌, ◌≢◌, ℕ, zero, suc, ◌+◌, ◌<◌, ◌≤◌, ◌⊎◌, inl, inr, Bool, true, false, cond, eqb, eq-eqb, List, [], ◌∷◌, ◌++◌, length, length-append, slice_get, Option, Some, None, refl, sym, ap, ◌∙◌, subst, le_refl, arith}
 use Rattle.std.proofs.lemmas.List.{append-nil}
 use Rattle.std.proofs.lemmas.Option.{slice_get_within}
 use Rattle.std.proofs.lemmas.Bool.{cases_lt, eqb-true}
@@ -12,11 +12,10 @@ use Rattle.sync_model.specs.declared.item.SharedReply.TheVariants as replies
 use Rattle.sync_model.specs.declared.item.SharedEntry.{SharedEntry}
 use Rattle.sync_model.specs.declared.item.Item.{Item}
 use Rattle.sync_model.specs.Front.{AtLeast}
-use Rattle.sync_model.specs.Journal.{Begins}
 use Rattle.sync_model.specs.SharedHistory.{Contents, value_at, contents_at, entry_of, with_call}
 use Rattle.sync_model.specs.SharedCalls.{Knows, Grows, IsStep, IsUnshown, WasSo, MayShow, IsSound, Lawful, MayCall, AddsCall}
 use Rattle.shared_plain.specs.Staying.{spot_one_more}
-use Rattle.shared_plain.specs.Walks.{spot_behind, spot_shown, spot_next, spot_of, StandsAt}
+use Rattle.shared_plain.specs.Walks.{spot_shown, spot_next, spot_of, StandsAt}
 use Rattle.shared_plain.proofs.FirstCallers.{within, at_last}
 use Rattle.shared_plain.proofs.Steps.{some_is}
 

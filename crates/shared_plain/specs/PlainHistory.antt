@@ -1,5 +1,5 @@
 -- The shared history that a journal of maps and atomics is, and each caller's own calls in it. An entry of the journal that wasn't answered is no shared call.
-use Rattle.std.specs.Prelude.{ℕ, ◌+◌, Bool, ◌==◌, cond, List, [], ◌∷◌, ◌++◌, length, map, take, Option, Some, None}
+use Rattle.std.specs.Prelude.{ℕ, ◌+◌, ◌==◌, cond, List, [], ◌∷◌, ◌++◌, length, map, take, Option, Some, None}
 use Rattle.std.specs.List.{range_with_len}
 use Rattle.sync_model.specs.declared.journal.Deed.{Deed}
 use Rattle.sync_model.specs.declared.journal.Deed.TheVariants as deeds

@@ -1,5 +1,5 @@
 -- Maps and atomics for one thread, as a machine: the maps in slots, and the atomics' numbers.
-use Rattle.std.specs.Prelude.{ℕ, Bool, false, cond, nat_lt, List, length, map, replicate, Option, Some, None, slice_get, slice_set}
+use Rattle.std.specs.Prelude.{ℕ, false, cond, nat_lt, List, length, map, replicate, Option, Some, None, slice_get, slice_set}
 use Rattle.sync_model.specs.declared.atomic_object.AtomicCall.{AtomicCall}
 use Rattle.sync_model.specs.declared.atomic_object.AtomicKind.{AtomicKind}
 use Rattle.sync_model.specs.declared.atomic_object.Number.{Number}

@@ -1,6 +1,6 @@
 -- A cursor stands as it stood after any other call of its caller.
-use Rattle.std.specs.Prelude.{◌≡◌, ◌≢◌, ℕ, zero, suc, Bool, true, false, ◌==◌, cond, List, [], ◌∷◌, ◌++◌, Option, Some, None, slice_get}
-use mathlib.Core.Path.{refl, sym, ap, ◌∙◌}
+use Rattle.std.specs.Prelude.{◌≡◌, ◌≢◌, ℕ, zero, suc, Bool, true, false, ◌==◌, cond, List, [], ◌∷◌, ◌++◌, Some, slice_get}
+use mathlib.Core.Path.{refl, ap, ◌∙◌}
 use Rattle.sync_model.specs.declared.item.SharedCall.{SharedCall}
 use Rattle.sync_model.specs.declared.item.SharedCall.TheVariants.{Map, Begin, Next, Atomic}
 use Rattle.sync_model.specs.declared.item.SharedReply.{SharedReply}

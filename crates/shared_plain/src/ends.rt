@@ -1,11 +1,13 @@
 //! What the maps and atomics contain when all calls have returned.
-ghost use Rattle.std.specs.Prelude.{◌≡◌, ◌<◌, ◌≤◌, List, [], IfOk, length, slice_get, vec_capacity};
+ghost use Rattle.std.specs.Prelude.{◌≡◌, ◌<◌, ◌≤◌, List, [], IfOk, length, map, slice_get, vec_capacity};
+ghost use Rattle.sync_model.specs.SequentialAtomic.{kind_of};
 ghost use Rattle.sync_model.specs.SharedHistory.{first_contents};
 ghost use Rattle.sync_model.specs.Shared.{AreAllCallers};
+ghost use Rattle.shared_plain.specs.EndLists.{HasKeysBelow};
 ghost use Rattle.shared_plain.specs.EndsOfHistory.{AreEnds};
 ghost use Rattle.shared_plain.specs.Marks.{own_by, seen_of, IsMarkOf};
 ghost use Rattle.shared_plain.specs.PlainMachine.{contents_of};
-ghost use Rattle.shared_plain.specs.Plains.{count_of, kinds_of, maps_of};
+ghost use Rattle.shared_plain.specs.Plains.{count_of, keys_of, kinds_of, maps_of};
 ghost use Rattle.shared_plain.specs.Settling.{passes_in, room_of};
 
 use crate::laws::starts_empty;
@@ -37,12 +39,15 @@ impl EndsRoom {
 impl Plain {
     /// Ends the maps and atomics, with all their callers in order of number, and gives what they contain after the whole
     /// history: one that begins with what each caller has seen, and that is lawful with all their calls. It takes no memory,
-    /// and waits for nobody. Who asks for a number of an atomic, or for the pairs of a map one by one, fills a report in.
+    /// and waits for nobody. There is a map and an atomic of each number, of its type, and all keys that are there are below the maps' limit. `PlainState::push_ends` gives what a report
+    /// shows of them.
     pub fn ends(self, callers: Vec<Caller<Mark>>, room: EndsRoom) -> PlainState
         requires callers { AreAllCallers IsMarkOf own_by self callers.items (count_of self) }
         requires room { count_of self ≤ room_of room }
         ensures ends { AreEnds own_by seen_of (first_contents (maps_of self) (kinds_of self)) callers.items (contents_of result) }
         ensures maps { length result.maps ≡ maps_of self }
+        ensures kinds { map kind_of result.numbers ≡ kinds_of self }
+        ensures keys { HasKeysBelow (keys_of self) (contents_of result) }
     {
         starts_empty();
         passes_and_copies::<PlainMachine, NoNote>();

@@ -2,6 +2,7 @@
 #![tactic(auto)]
 
 pub mod cursor;
+mod end_list;
 pub mod ends;
 pub mod event;
 pub mod laws;

@@ -1,8 +1,9 @@
 //! One map, with a slot for each of its keys.
 ghost use Rattle.std.specs.Prelude.{◌≡◌, replicate, IfOk, None};
+ghost use Rattle.std.specs.FinMap.{get};
 ghost use Rattle.sync_model.specs.SequentialMap.{settled};
 ghost use Rattle.sync_model.specs.declared.item.SharedReply.TheVariants as replies;
-ghost use Rattle.shared_plain.specs.Slots.{slot_after, reply_at, is_entry_at, slots_after, next_pair};
+ghost use Rattle.shared_plain.specs.Slots.{map_of, slot_after, reply_at, is_entry_at, slots_after, next_pair};
 ghost use Rattle.shared_plain.specs.PlainMachine.{map_answer};
 
 use crate::event::Answered;
@@ -50,6 +51,13 @@ impl Slots {
         };
         let slot = self.values.get_mut(*key as usize)?;
         Some(apply_at(slot, call))
+    }
+
+    /// The value of a key, if it has one.
+    pub fn value(&self, key: u32) -> Option<u64>
+        ensures { result ≡ get (map_of self.now) key }
+    {
+        *self.values.get(key as usize)?
     }
 
     /// The least key that has a value and is at least `from`, with the value.

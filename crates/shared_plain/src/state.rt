@@ -15,8 +15,8 @@ use sync_model::{AtomicCall, AtomicKind, AtomicReply, Number, SharedReply};
 /// So many maps, and an atomic of each of some types.
 #[derive(Debug, Drop)]
 pub struct PlainState {
-    maps: Vec<Slots>,
-    numbers: Vec<Number>,
+    pub(crate) maps: Vec<Slots>,
+    pub(crate) numbers: Vec<Number>,
 }
 
 impl Model for PlainState {

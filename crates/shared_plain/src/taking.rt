@@ -10,7 +10,8 @@ use sync_model::MapCall;
 impl Plain {
     /// Whether the maps take a call: its key is below their limit, and its values are at most 2^63 - 1.
     pub fn takes(&self, call: &MapCall<u32>) -> bool
-        ensures { result ≡ true → IsMapCall (Takes self.now) call.now }
+        ensures taken { result ≡ true → IsMapCall (Takes self.now) call.now }
+        ensures all { IsMapCall (Takes self.now) call.now → result ≡ true }
     {
         is_taken(self.keys, *call)
     }

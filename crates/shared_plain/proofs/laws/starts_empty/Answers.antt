@@ -1,7 +1,7 @@
-use Rattle.std.proofs.Common.{◌≡◌, ℕ, zero, suc, ◌∷◌, map, replicate, List, refl, ap, ◌∙◌}
-use Rattle.std.proofs.Common.{Option, None}
+use Rattle.std.proofs.Common.{◌≡◌, ℕ, zero, suc, ◌∷◌, map, replicate, refl}
+use Rattle.std.proofs.Common.{None}
 use Rattle.sync_model.specs.SequentialAtomic.{zero_of}
-use Rattle.std.specs.FinMap.{FinMap, empty}
+use Rattle.std.specs.FinMap.{empty}
 use Rattle.shared_plain.specs.Slots.{map_of}
 use Rattle.shared_plain.proofs.SlotMaps.{all_none}
 use Rattle.shared_plain.proofs.laws.starts_empty.Goals as goal

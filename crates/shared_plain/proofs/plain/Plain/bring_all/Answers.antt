@@ -1,4 +1,4 @@
-use Rattle.std.proofs.Common.{◌<◌, ◌≤◌, ◌+◌, get_or, take, length, refl, sym, ◌∙◌, subst, arith, le_refl}
+use Rattle.std.proofs.Common.{◌<◌, ◌≤◌, get_or, take, length, refl, sym, ◌∙◌, subst, arith, le_refl}
 use Rattle.std.proofs.lemmas.Option.{slice_get-get_or}
 use Rattle.sync_model.specs.declared.caller.Caller.{Caller}
 use Rattle.ruled_object.specs.Assembled.{Brought}

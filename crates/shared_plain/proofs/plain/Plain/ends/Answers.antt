@@ -1,15 +1,15 @@
-use Rattle.std.proofs.Common.{◌≡◌, ◌≤◌, length, sym, ap, ◌∙◌, subst}
-use Rattle.sync_model.specs.Journal.{state_after}
+use Rattle.std.proofs.Common.{map, length, sym, ap, ◌∙◌, subst}
+use Rattle.sync_model.specs.SequentialAtomic.{kind_of}
 use Rattle.ruled_object.specs.Gathered.{AreAllPasses, IsWhole}
 use Rattle.ruled_object.specs.Passes.{start_of}
+use Rattle.shared_plain.specs.EndLists.{HasKeysBelow}
 use Rattle.shared_plain.specs.EndsOfHistory.{AreEnds}
 use Rattle.shared_plain.specs.Marks.{own_by, seen_of}
 use Rattle.shared_plain.specs.PlainMachine.{Holdings, contents_of, next}
 use Rattle.shared_plain.specs.Plains.{kinds_of, maps_of}
-use Rattle.shared_plain.specs.Settling.{passes_in}
 use Rattle.shared_plain.proofs.AllEnded.{ended}
 use Rattle.shared_plain.proofs.AllSettled.{PassLaws, all_passes}
-use Rattle.shared_plain.proofs.Fitting.{maps_stay}
+use Rattle.shared_plain.proofs.Fitting.{keys_stay_below, like_after, maps_stay}
 use Rattle.shared_plain.proofs.Walking.{Laws}
 use Rattle.shared_plain.proofs.plain.Plain.ends.Goals as goal
 
@@ -41,3 +41,12 @@ returns-clause-ends c =
 
 pub returns-clause-maps : goal.returns-clause-maps
 returns-clause-maps c = ap (λ (h : Holdings). length h.maps) c.finish.ensures.2 ∙ maps_stay (start_of c.args.self.object) c.finish.ensures.0
+
+pub returns-clause-keys : goal.returns-clause-keys
+returns-clause-keys c =
+    let plain = c.args.self in
+    let start = start_of plain.object in
+    subst (λ s. HasKeysBelow plain.keys (contents_of s)) (sym c.finish.ensures.2) (keys_stay_below start c.finish.ensures.0 (maps_of plain) plain.keys (kinds_of plain) plain.begun)
+
+pub returns-clause-kinds : goal.returns-clause-kinds
+returns-clause-kinds c = ap (λ (h : Holdings). map kind_of h.numbers) c.finish.ensures.2 ∙ (like_after (start_of c.args.self.object) c.finish.ensures.0).kinds_are

@@ -1,11 +1,11 @@
-use Rattle.std.proofs.Common.{◌≡◌, ◌≢◌, ℕ, ◌<◌, ◌+◌, ◌-◌, ◌^◌, false, ◌++◌, [], ◌∷◌, None, Some, arith, refl, sym, ap, ◌∙◌, subst}
+use Rattle.std.proofs.Common.{◌≡◌, ◌≢◌, ℕ, ◌<◌, ◌+◌, ◌-◌, ◌^◌, false, ◌++◌, [], ◌∷◌, None, arith, sym, ap, ◌∙◌, subst}
 use Rattle.std.proofs.Common.{Option}
 use Rattle.std.proofs.lemmas.Option.{same_Some}
 use Rattle.shared_plain.specs.declared.event.Event.TheVariants.{Next}
 use Rattle.shared_plain.specs.declared.event.Answered.{Answered}
 use Rattle.sync_model.specs.declared.journal.Deed.TheVariants.{Event as Did}
 use Rattle.sync_model.specs.Journal.{by, halt_of, state_after, Right, Follows}
-use Rattle.sync_model.specs.Shared.{Called, CallerState, items_of, state_of}
+use Rattle.sync_model.specs.Shared.{Called, items_of, state_of}
 use Rattle.ruled_object.specs.Passes.{number_of, seen_by, start_of}
 use Rattle.shared_plain.specs.declared.mark.Mark.{Mark}
 use Rattle.shared_plain.specs.Marks.{front_by, holding, own_by, seen_of}

@@ -1,10 +1,10 @@
-use Rattle.std.proofs.Common.{◌≡◌, ◌<◌, ◌+◌, zero, get_or, slice_get, set, length, refl, sym, ap, ◌∙◌, subst, arith, le_refl}
+use Rattle.std.proofs.Common.{◌≡◌, ◌<◌, ◌+◌, get_or, slice_get, set, length, refl, sym, ap, ◌∙◌, subst, arith, le_refl}
 use Rattle.std.proofs.lemmas.Option.{slice_get-get_or, slice_get_within}
 use mathlib.Core.Logic.{dite}
 use native.Mathlib.Decide.{ℕ_discrete}
 use Rattle.sync_model.specs.declared.caller.Caller.{Caller}
 use Rattle.ruled_object.specs.Assembled.{HandsBack}
-use Rattle.ruled_object.specs.Passes.{callers_of, number_of}
+use Rattle.ruled_object.specs.Passes.{number_of}
 use Rattle.shared_plain.specs.declared.mark.Mark.{Mark}
 use Rattle.shared_plain.specs.Settling.{IsBack}
 use Rattle.shared_plain.proofs.Gathered.{set_same, set_other, marks_on}

@@ -1,4 +1,3 @@
-use Rattle.shared_plain.proofs.Explained.{explained}
 use Rattle.shared_plain.specs.declared.mark.Mark.{Mark}
 use Rattle.shared_plain.proofs.Begun.{begun_stands}
 use Rattle.shared_plain.proofs.Calling.{held_there}

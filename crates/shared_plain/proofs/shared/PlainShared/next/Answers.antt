@@ -1,9 +1,9 @@
-use Rattle.std.proofs.Common.{◌≡◌, ◌<◌, length, Some, refl, sym, ap, ◌∙◌, subst}
+use Rattle.std.proofs.Common.{◌≡◌, ◌<◌, sym, ap, ◌∙◌, subst}
 use Rattle.sync_model.specs.declared.item.SharedCall.TheVariants as calls
 use Rattle.sync_model.specs.declared.item.SharedReply.TheVariants as replies
 use Rattle.sync_model.specs.Shared.{Called, items_of, state_of}
 use Rattle.sync_model.specs.SharedHistory.{first_contents}
-use Rattle.ruled_object.specs.Passes.{number_of, seen_by, start_of}
+use Rattle.ruled_object.specs.Passes.{start_of}
 use Rattle.shared_plain.specs.declared.mark.Mark.{Mark}
 use Rattle.shared_plain.specs.Fits.{fits}
 use Rattle.shared_plain.specs.Marks.{front_by, holding, own_by, seen_of}

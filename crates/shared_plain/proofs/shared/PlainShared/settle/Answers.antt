@@ -1,6 +1,5 @@
-use Rattle.std.proofs.Common.{false, sym, ap, ◌∙◌, subst}
+use Rattle.std.proofs.Common.{ap, ◌∙◌, subst}
 use Rattle.sync_model.specs.Shared.{Settled}
-use Rattle.ruled_object.specs.Passes.{start_of}
 use Rattle.shared_plain.specs.Marks.{front_by, own_by, seen_of}
 use Rattle.shared_plain.specs.PlainMachine.{contents_of}
 use Rattle.shared_plain.specs.Plains.{kinds_of, maps_of}

@@ -2,7 +2,7 @@ use Rattle.std.proofs.Common.{length, set, refl, sym, ap, ◌∙◌}
 use Rattle.std.proofs.lemmas.Bool.{ltb-true}
 use Rattle.std.proofs.lemmas.Option.{slice_get_read}
 use Rattle.shared_plain.specs.PlainMachine.{map_answer}
-use Rattle.shared_plain.specs.Slots.{slot_after, slots_after}
+use Rattle.shared_plain.specs.Slots.{slots_after}
 use Rattle.shared_plain.proofs.SlotMaps.{keyed_answer, keyed_slots}
 use Rattle.shared_plain.proofs.slots.Slots.apply.Goals as goal
 

@@ -1,4 +1,4 @@
-use Rattle.std.proofs.Common.{◌≡◌, length, refl, sym, subst}
+use Rattle.std.proofs.Common.{length, refl, sym, subst}
 use Rattle.std.specs.Option.{IsSome}
 use Rattle.shared_plain.proofs.Begun.{beside_stands}
 use Rattle.shared_plain.proofs.tests.pair.walk.Goals as goal

@@ -1,4 +1,3 @@
-use Rattle.shared_plain.specs.Marks.{own_by}
 use Rattle.shared_plain.proofs.FirstCallers.{held_on}
 use Rattle.shared_plain.proofs.tests.threads.store_and_add.Goals as goal
 

@@ -1,4 +1,4 @@
-use Rattle.std.proofs.Common.{◌≡◌, [], ◌∷◌, ◌++◌, ap, ◌∙◌}
+use Rattle.std.proofs.Common.{[], ◌∷◌, ◌++◌, ap, ◌∙◌}
 use Rattle.shared_plain.proofs.FirstCallers.{two_held}
 use Rattle.shared_plain.proofs.tests.threads.the_end_has_what_both_threads_did.Goals as goal
 

@@ -1,0 +1,11 @@
+use Rattle.std.proofs.Common.{◌≡◌, ◌+◌, ◌≤◌, ◌++◌, take, vec_len, vec_capacity}
+use Rattle.shared_plain.specs.EndLists.{pair_ends_by}
+use Rattle.shared_plain.specs.Slots.{map_of}
+use Rattle.shared_plain.proofs.end_list.push_map.Given as goal
+
+abbrev pub invariant-loop-key : goal.invariant-loop-key
+invariant-loop-key l = record {
+  are : l.ends.items ≡ l.initial.ends.items ++ pair_ends_by (take l.key-index l.order) (l.object, map_of l.slots);
+  count : vec_len l.ends ≤ vec_len l.initial.ends + l.key-index;
+  room : vec_capacity l.ends ≡ vec_capacity l.initial.ends;
+}

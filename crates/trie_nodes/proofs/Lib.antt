@@ -1,0 +1,9 @@
+pub mod ChainLemmas
+pub mod ChainShows
+pub mod ExampleLemmas
+pub mod NodeLemmas
+pub mod OrderLemmas
+pub mod PathLemmas
+pub mod PlanLemmas
+pub mod SlotLemmas
+pub mod WriteLemmas

@@ -1,0 +1,6 @@
+pub mod Examples
+pub mod Layout
+pub mod Nodes
+pub mod Paths
+pub mod Plans
+pub mod Slots

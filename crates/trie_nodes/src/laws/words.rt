@@ -1,0 +1,37 @@
+//! Laws of the words: no two things share one.
+ghost use Rattle.std.specs.Prelude.{◌≡◌, ◌≢◌, ℕ, ◌+◌, ◌*◌, ◌<◌, ◌≤◌, List, slice_index};
+ghost use Rattle.trie_nodes.specs.Layout.{atomic_word, root_word, gate_word, heads, first_root, first_room, unit_words};
+ghost use Rattle.trie_nodes.specs.Slots.{word_of_slot, slot_in};
+
+use crate::slot::Slot;
+
+/// The words before the first node are each that of one thing: word 0 is nobody's, and no atomic, no map's root and no map's gate
+/// shares a word with another.
+pub fn heads_are_apart()
+    ensures atomic { (atomics maps a : ℕ) → a < atomics → (0 < atomic_word a) × (atomic_word a < heads atomics maps) }
+    ensures root { (atomics maps m : ℕ) → m < maps → (0 < root_word atomics m) × (root_word atomics m < heads atomics maps) }
+    ensures gate { (atomics maps m : ℕ) → m < maps → (0 < gate_word atomics m) × (gate_word atomics m < heads atomics maps) }
+    ensures atomics { (a b : ℕ) → atomic_word a ≡ atomic_word b → a ≡ b }
+    ensures roots { (atomics m n : ℕ) → root_word atomics m ≡ root_word atomics n → m ≡ n }
+    ensures gates { (atomics m n : ℕ) → gate_word atomics m ≡ gate_word atomics n → m ≡ n }
+    ensures atomic_or_root { (atomics a m : ℕ) → a < atomics → atomic_word a ≢ root_word atomics m }
+    ensures atomic_or_gate { (atomics a m : ℕ) → a < atomics → atomic_word a ≢ gate_word atomics m }
+    ensures root_or_gate { (atomics m n : ℕ) → root_word atomics m ≢ gate_word atomics n }
+{}
+
+/// The first roots stand behind them, each in 18 words of its own, and the callers' room stands behind the roots. One unit of the
+/// room is enough for an entry and for as many nodes as an expansion can ask for.
+pub fn roots_and_room_are_apart()
+    ensures first { (atomics maps m : ℕ) → heads atomics maps ≤ first_root atomics maps m }
+    ensures roots { (atomics maps m n : ℕ) → m < n → first_root atomics maps m + 18 ≤ first_root atomics maps n }
+    ensures room { (atomics maps m : ℕ) → m < maps → first_root atomics maps m + 18 ≤ first_room atomics maps }
+    ensures unit { (level nodes : ℕ) → 0 < level → level + nodes ≤ 8 → 2 + 18 * nodes ≤ unit_words }
+{}
+
+/// A word says one thing, and what it says has no other word. Place 0 is no node's.
+pub fn a_word_is_that_of_one_slot()
+    ensures word { (word : ℕ) → word_of_slot (slot_in word) ≡ word }
+    ensures empty { slot_in (word_of_slot Slot.Empty) ≡ Slot.Empty }
+    ensures node { (place : ℕ) → 0 < place → slot_in (word_of_slot (Slot.Node place)) ≡ Slot.Node place }
+    ensures entry { (place : ℕ) → slot_in (word_of_slot (Slot.Entry place)) ≡ Slot.Entry place }
+{}
