@@ -1,8 +1,13 @@
+pub mod ByKind
 pub mod HaltLemmas
 pub mod Knowing
 pub mod OnceParts
+pub mod PoolLooks
+pub mod Ranging
 pub mod SharedParts
 pub mod Numbers
 pub mod ScriptCalls
+pub mod Sites
 pub mod Slots
+pub mod Spending
 pub mod Working

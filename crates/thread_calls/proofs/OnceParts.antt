@@ -1,15 +1,15 @@
 -- What a call of a function that runs once is made of.
-use Rattle.std.proofs.Common.{◌≡◌, ℕ, List, [], ◌∷◌, refl, subst, Result, Ok, Err}
+use Rattle.std.proofs.Common.{◌≡◌, ℕ, refl, Ok, Err}
 use Rattle.sync_model.specs.declared.answer.Answer.TheVariants.{Done, Halted}
 use Rattle.sync_model.specs.declared.call.Reply.{Reply}
 use Rattle.sync_model.specs.declared.misuse.Misuse.{Misuse}
 use Rattle.protocols.specs.declared.once.OnceOutcome.{OnceOutcome}
-use Rattle.protocols.specs.declared.once.OnceOutcome.TheVariants.{Run, Already, Ended}
+use Rattle.protocols.specs.declared.once.OnceOutcome.TheVariants.{Run, Already}
 use Rattle.protocols.specs.declared.once.OnceStage.{OnceStage}
 use Rattle.protocols.specs.declared.once.OnceStage.TheVariants as stage
 use Rattle.protocols.specs.Spelling.{CallAnswer}
 use Rattle.run_record.specs.OnceKind.{once_part, goes_on_once}
-use Rattle.run_record.specs.Parts.{Part, returns, read_as, with_outcome, GoesOn}
+use Rattle.run_record.specs.Parts.{Part, read_as, with_outcome}
 use Rattle.thread_calls.specs.Working.{Desk, Works}
 use Rattle.thread_calls.proofs.Working.{reads, rests, works_on}
 

@@ -20,7 +20,7 @@ use Rattle.sync_model.specs.SequentialMap.{map_key}
 use Rattle.sync_model.specs.Shared.{IsMapCall, values_of}
 use Rattle.workload.specs.declared.object.ObjectLine.{ObjectLine}
 use Rattle.workload.specs.CallWords.{map_values}
-use Rattle.workload.specs.Draft.{all_keys, is_call, is_map_call, is_value, keys_of}
+use Rattle.workload.specs.Draft.{all_keys, is_call, is_map_call, is_value, keys_of, operation_keys}
 use Rattle.workload.specs.Keys.{keys_in, number_in, key_number}
 use Rattle.workload.specs.Plan.{Plan, is_on, is_turn, refers, is_valid}
 use Rattle.workload.specs.Readable.{IsReadable}
@@ -134,3 +134,8 @@ module _ (keys : List (List ℕ)) (takes : ℕ → Type 0) (each : (key : ℕ) �
         let ranges = and_parts (list_all is_name (option_to_list (map_key call))) (list_all is_value (map_values call)) ranged in
         values_fit (map_values call) i value ranges.1 (ap (λ (l : List ℕ). slice_get l i) (sym (same_values call)) ∙ at);
   }
+
+-- the key of a map's call is among the operation's
+pub key_among : (operation : Operation) (call : MapCall (List ℕ)) (name : List ℕ) → operation ≡ operations.Map call → map_key call ≡ Some name → list_any (bytes_eq name) (operation_keys operation) ≡ true
+key_among operation call name is at =
+    ap (λ (o : Operation). list_any (bytes_eq name) (operation_keys o)) is ∙ ap (λ (key : Option (List ℕ)). list_any (bytes_eq name) (option_to_list key)) at ∙ or_first (bytes_eq name name) false ((bytes_eq-Decides name name).1 refl)

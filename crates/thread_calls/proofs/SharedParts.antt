@@ -1,15 +1,24 @@
 -- Calls on maps and atomics, as items of the record.
-use Rattle.std.proofs.Common.{◌≡◌, ℕ, List, [], ◌∷◌, ◌++◌, map, refl, sym, ap, ◌∙◌, subst, arith, Option, Some, slice_index}
+use Rattle.std.proofs.Common.{◌≡◌, ℕ, ℤ, List, [], ◌∷◌, ◌++◌, refl, sym, ap, ◌∙◌, subst, arith, Option, Some, Ok, slice_index}
 use Rattle.std.proofs.lemmas.List.{append-nil}
+use Rattle.sync_model.specs.declared.answer.Answer.TheVariants.{Done}
+use Rattle.sync_model.specs.declared.atomic_object.AtomicCall.TheVariants.{Add}
+use Rattle.sync_model.specs.declared.atomic_object.AtomicReply.{AtomicReply}
+use Rattle.sync_model.specs.declared.atomic_object.AtomicReply.TheVariants.{Held}
+use Rattle.sync_model.specs.declared.atomic_object.Number.{Number}
+use Rattle.sync_model.specs.declared.atomic_object.Number.TheVariants.{Int64}
 use Rattle.sync_model.specs.declared.item.Item.{Item}
 use Rattle.sync_model.specs.declared.item.SharedCall.{SharedCall}
+use Rattle.sync_model.specs.declared.item.SharedCall.TheVariants as calls
 use Rattle.sync_model.specs.declared.item.SharedReply.{SharedReply}
+use Rattle.sync_model.specs.declared.item.SharedReply.TheVariants as answers
 use Rattle.sync_model.specs.declared.item.SharedEntry.{SharedEntry}
 use Rattle.sync_model.specs.Front.{AtLeast}
 use Rattle.sync_model.specs.Note.{Holding, IsCounted}
 use Rattle.sync_model.specs.Shared.{Called, items_of, state_of}
 use Rattle.sync_model.specs.SharedHistory.{Contents}
 use Rattle.protocols.specs.Spelling.{CallAnswer}
+use Rattle.run_record.specs.AtomicKind.{adds}
 use Rattle.run_record.specs.declared.made.Made.{Made}
 use Rattle.run_record.specs.declared.made.Made.TheVariants.{Shared}
 use Rattle.run_record.specs.Parts.{Part, Places}
@@ -38,3 +47,9 @@ module _ {O N : Type 0} (start : Contents) (call : SharedCall) (reply : SharedRe
     };
     spelt = spelt (Shared called.item ∷ []) (called.item ∷ [], refl, same_calls called.item.call call called.item.reply reply called.is_call called.is_reply);
   }
+
+-- an `add` to an int64 that is answered by an int64
+pub sum_placed : (a : ℕ) (amount sum : ℤ) (operand : Number) (reply : AtomicReply) (items : List Made) → operand ≡ Int64 amount → reply ≡ Held (Int64 sum)
+    → Places ((calls.Atomic a (Add operand), answers.Atomic reply) ∷ []) items → adds a amount items (Done (Ok sum))
+sum_placed a amount sum operand reply items is told placed =
+    (sum, (placed.0, placed.1, placed.2 ∙ same_calls _ _ _ _ (ap (λ (n : Number). calls.Atomic a (Add n)) is) (ap (λ (r : AtomicReply). answers.Atomic r) told)), refl)

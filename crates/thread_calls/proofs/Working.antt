@@ -1,5 +1,5 @@
 -- Parts of calls, and what they add to what their worker has done.
-use Rattle.std.proofs.Common.{◌≡◌, ℕ, ◌+◌, Bool, true, false, ◌==◌, cond, List, [], ◌∷◌, ◌++◌, map, length, refl, sym, ap, ◌∙◌, subst, arith, Option, Some, None, slice_index, Result, Ok, Err}
+use Rattle.std.proofs.Common.{◌≡◌, ℕ, ◌+◌, Bool, true, false, ◌==◌, cond, List, [], ◌∷◌, ◌++◌, map, length, refl, sym, ap, ◌∙◌, subst, arith, Option, Some, None, slice_index, Ok, Err}
 use Rattle.std.proofs.lemmas.Bool.{eqb-true}
 use Rattle.std.proofs.lemmas.List.{map-append, append-nil, length-append}
 use Rattle.std.proofs.lemmas.Option.{none-some, same_Some}
@@ -127,6 +127,10 @@ module _ {N O : Type 0} (part : Part O) (owner : N → Option Holding) (front : 
 -- where the answer is the same
 pub answers_as : {O : Type 0} (part : Part O) (old new : Desk) (told answer : CallAnswer O) → answer ≡ told → Works part old told new → Works part old answer new
 answers_as {O} part old new told answer is works = subst (λ (a : CallAnswer O). Works part old a new) (sym is) works
+
+-- where the call is the same
+pub part_as : {O G : Type 0} (part_of : G → Part O) (call due : G) (old new : Desk) (answer : CallAnswer O) → call ≡ due → Works (part_of due) old answer new → Works (part_of call) old answer new
+part_as {O} {G} part_of call due old new answer is works = subst (λ (g : G). Works (part_of g) old answer new) (sym is) works
 
 append_assoc : {A : Type 0} (xs ys zs : List A) → (xs ++ ys) ++ zs ≡ xs ++ (ys ++ zs)
 append_assoc [] ys zs = refl

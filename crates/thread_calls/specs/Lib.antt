@@ -1,3 +1,4 @@
+pub mod Alone
 pub mod AsDeclared
 pub mod Desks
 pub mod Halting

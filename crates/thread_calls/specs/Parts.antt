@@ -1,9 +1,11 @@
 -- Parts of calls that the record has no word for.
-use Rattle.std.specs.Prelude.{◌≡◌, ℕ, [], ◌∷◌, Ok}
+use Rattle.std.specs.Prelude.{◌≡◌, ℕ, List, [], ◌∷◌, ◌++◌, map, Some, None, Ok}
 use Rattle.sync_model.specs.declared.answer.Answer.TheVariants.{Done}
 use Rattle.sync_model.specs.declared.call.Reply.{Reply}
 use Rattle.sync_model.specs.declared.call.Reply.TheVariants as replies
+use Rattle.sync_model.specs.declared.item.SharedCall.{SharedCall}
 use Rattle.sync_model.specs.declared.item.SharedCall.TheVariants as calls
+use Rattle.sync_model.specs.declared.item.SharedReply.{SharedReply}
 use Rattle.sync_model.specs.declared.item.SharedReply.TheVariants as answers
 use Rattle.sync_model.specs.declared.lock_call.LockReply.{LockReply}
 use Rattle.sync_model.specs.declared.map_object.MapCall.{MapCall}
@@ -41,3 +43,14 @@ leave_part cond mutex = and_then (cond_part cond stage.Leave) (λ left. lock_aga
 
 abbrev pub unlock_part : ℕ → ℕ → Part (Reply ℕ)
 unlock_part cond mutex = and_then (mutex_part mutex mutex_stage.Unlock) (λ unlocked. leave_part cond mutex)
+
+-- these calls on maps and atomics are made, which are answered so
+abbrev pub placed : List (SharedCall × SharedReply) → Part (Unit {0})
+placed made items answer = Places made items × (answer ≡ Done (Ok tt))
+
+-- the steps of a cursor that show these pairs, and all steps of one that shows these pairs and then none
+abbrev pub shows : ℕ → List (ℕ × ℕ) → List (SharedCall × SharedReply)
+shows begin shown = map (λ pair. (calls.Next begin, answers.Shown (Some pair))) shown
+
+abbrev pub shows_all : ℕ → List (ℕ × ℕ) → List (SharedCall × SharedReply)
+shows_all begin shown = shows begin shown ++ (calls.Next begin, answers.Shown None) ∷ []

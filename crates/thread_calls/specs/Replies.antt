@@ -1,8 +1,11 @@
 -- What calls of a workload reply.
-use Rattle.std.specs.Prelude.{ℕ}
+use Rattle.std.specs.Prelude.{ℕ, ℤ}
 use Rattle.sync_model.specs.declared.call.Reply.{Reply}
 use Rattle.sync_model.specs.declared.call.Reply.TheVariants as replies
 use Rattle.sync_model.specs.declared.lock_call.LockReply.{LockReply}
+use Rattle.sync_model.specs.declared.once_call.DoReply.TheVariants as do_replies
+use Rattle.sync_model.specs.declared.pool_call.PoolCallReply.TheVariants as pool_replies
+use Rattle.protocols.specs.declared.pool.PoolOutcome.{PoolOutcome}
 use Rattle.run_record.specs.OnceKind.{failure}
 
 -- of a lock, of a call that only returns, and of a function that runs once
@@ -20,3 +23,11 @@ value_told kept = replies.OnceValue kept
 
 abbrev pub relocked : LockReply → Reply ℕ
 relocked reply = replies.Returned
+
+-- of a put into a pool, and of a sweep
+abbrev pub pool_done : PoolOutcome → Reply ℕ
+pool_done outcome = replies.Pool pool_replies.Done
+
+-- of a once, where the call ran the function
+abbrev pub ran : ℤ → Reply ℕ
+ran sum = replies.Once (do_replies.Ran sum)

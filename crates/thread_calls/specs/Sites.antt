@@ -1,16 +1,16 @@
 -- What the workers of a run share, and what a call needs of it.
-use Rattle.std.specs.Prelude.{◌≡◌, ℕ, ◌+◌, ◌<◌, ◌≤◌, List, [], length, cond, count_by, sum_by, Option, Some, get_or, slice_get, slice_index}
+use Rattle.std.specs.Prelude.{◌≡◌, ℕ, ◌+◌, ◌<◌, ◌≤◌, List, [], length, All, count_by, sum_by, Option, Some, get_or, slice_get, slice_index}
 use Rattle.std.specs.List.{flat_map}
 use Rattle.sync_model.specs.declared.atomic_object.AtomicKind.{AtomicKind}
 use Rattle.sync_model.specs.declared.call.Call.{Call}
 use Rattle.sync_model.specs.declared.call.Operation.{Operation}
 use Rattle.sync_model.specs.declared.call.Operation.TheVariants as operations
+use Rattle.sync_model.specs.BoundedSeq.{Bounded}
 use Rattle.sync_model.specs.Note.{Holding}
 use Rattle.sync_model.specs.Shared.{cost_of}
 use Rattle.workload.specs.declared.object.ObjectKind.{ObjectKind}
 use Rattle.workload.specs.declared.object.ObjectKind.TheVariants as kinds
 use Rattle.workload.specs.declared.object.ObjectLine.{ObjectLine}
-use Rattle.workload.specs.Draft.{is_range}
 use Rattle.workload.specs.Keys.{keys_in}
 use Rattle.workload.specs.Plan.{Plan}
 use Rattle.thread_calls.specs.declared.object.AnyObject.{AnyObject}
@@ -40,6 +40,10 @@ pub record IsSite {N H : Type 0} (at : H → N → Type 0) (home : H) (plan : Pl
   pub shared : AreShared plan maps types takes
   pub numbered : AreNumbers plan.objects numbers
 
+-- the workload declares an object of this kind at the place
+abbrev pub IsAt : Plan → ℕ → ObjectKind → Type 0
+IsAt plan place kind = (line : ObjectLine) × (slice_get plan.objects place ≡ Some line) × (line.kind ≡ kind)
+
 -- the call stands in the worker's script
 abbrev pub IsScripted : Plan → (worker : ℕ) → Call → Type 0
 IsScripted plan worker call = (i : ℕ) × (slice_get (get_or plan.scripts worker []) i ≡ Some call)
@@ -56,10 +60,26 @@ cost_of_call call = operation_cost call.operation
 abbrev pub cost_of_calls : List Call → ℕ
 cost_of_calls calls = sum_by cost_of_call calls
 
--- how many cursors a call takes to its end: one is the whole of a `range`
-abbrev pub ranges_in_call : Call → ℕ
-ranges_in_call call = cond (is_range call) 1 0
+-- how many lists for the pairs of a `range` a call takes
+abbrev pub operation_ranges : Operation → ℕ
+operation_ranges operations.Range = 1
+operation_ranges operation = 0
 
--- of its spare entries the holder of a note has used so many at most
-abbrev pub Spends : {N : Type 0} → (N → Option Holding) → ℕ → N → N → Type 0
-Spends {N} own cost old new = (was becomes : Holding) → own old ≡ Some was → own new ≡ Some becomes → was.spare ≤ becomes.spare + cost
+abbrev pub ranges_in_call : Call → ℕ
+ranges_in_call call = operation_ranges call.operation
+
+abbrev pub ranges_in_calls : List Call → ℕ
+ranges_in_calls calls = sum_by ranges_in_call calls
+
+-- the lists that were made for the pairs of `range` calls are empty
+abbrev pub AreEmpty : List (Bounded (ℕ × ℕ)) → Type 0
+AreEmpty rooms = All (λ room. room.items ≡ []) rooms
+
+-- The caller of a note made some calls: the note is still its own, and no more of its spare entries are gone than this.
+pub record Spends {N : Type 0} (own : N → Option Holding) (cost : ℕ) (old new : N) : Type 0 where
+  pub was : Holding
+  pub becomes : Holding
+  pub own_old : own old ≡ Some was
+  pub own_new : own new ≡ Some becomes
+  pub number : becomes.number ≡ was.number
+  pub spare : was.spare ≤ becomes.spare + cost

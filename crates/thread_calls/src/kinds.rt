@@ -1,8 +1,11 @@
 //! The calls of each kind of object, a file each.
 pub(crate) mod cond;
+pub(crate) mod do_once;
 pub(crate) mod mutex;
-mod once;
+pub(crate) mod once;
+pub(crate) mod pool;
+pub(crate) mod range;
 pub(crate) mod replies;
-mod rw_mutex;
-mod wait;
-mod wait_group;
+pub(crate) mod rw_mutex;
+pub(crate) mod wait;
+pub(crate) mod wait_group;

@@ -3,19 +3,24 @@
 #![tactic(auto)]
 
 mod desk;
+mod dispatch;
 mod halting;
 mod kinds;
 pub mod laws;
 mod numbering;
 mod object;
+mod object_calls;
 mod part;
 mod pass;
+mod placed_calls;
 mod shared_calls;
 mod site;
 mod stop;
 mod worker;
 
+pub use dispatch::make_call;
 pub use halting::halt_all;
+pub use kinds::replies::CallAnswer;
 pub use object::AnyObject;
 pub use pass::AnyPass;
 pub use site::{Site, numbers_of};

@@ -2,6 +2,7 @@
 ghost use Rattle.std.specs.Prelude.{◌≡◌, ℕ, true};
 ghost use Rattle.ruled_object.specs.Growth.{KeepsNote};
 ghost use Rattle.ruled_object.specs.Passes.{start_of};
+ghost use Rattle.running.specs.Calls.{IsGiven};
 ghost use Rattle.run_record.specs.declared.entered.ObjectEvent.{ObjectEvent};
 ghost use Rattle.run_record.specs.declared.entered.ObjectReply.{ObjectReply};
 ghost use Rattle.run_record.specs.Parts.{stages};
@@ -32,6 +33,7 @@ pub(crate) fn part<P: Protocol, N: Note, C: Clock, R: Wait>(
     requires returns { (outcome : P.Outcome) → P.left outcome ≡ P.out }
     ensures seat { IsSeat P.begins P.out P.stands N.at worker.now.at.home.now worker.now.workers worker.now.number object.now pass.new }
     ensures note { KeepsNote N.at N.own N.front note.old note.new }
+    ensures gives { IsGiven (P.gives stage) result }
     ensures works { (event : P.Event → ObjectEvent) (reply : P.Reply → ObjectReply) (number : ℕ)
         → Works (stages event reply P.event P.meaning number stage) (desk_at N.own N.front number (own_as event reply pass.old) note.old) result (desk_at N.own N.front number (own_as event reply pass.new) note.new) }
 {

@@ -6,6 +6,7 @@ ghost use Rattle.sync_model.specs.Shared.{IsMapCall, IsAtomicCall, cost_of, IsCa
 ghost use Rattle.run_record.specs.AtomicKind.{atomic_call};
 ghost use Rattle.run_record.specs.Record.{ObjectEntry};
 ghost use Rattle.thread_calls.specs.Parts.{placed_map};
+ghost use Rattle.thread_calls.specs.Sites.{Spends};
 ghost use Rattle.thread_calls.specs.Working.{Works, desk_with};
 
 use crate::kinds::replies::CallAnswer;
@@ -23,6 +24,7 @@ pub(crate) fn call_atomic<S: Shared, R: Wait>(
     requires caller { IsCallerAt S.Mark.at S.Mark.own (S.home_of shared.now) caller.old }
     requires call { IsAtomicCall (S.kinds shared.now) atomic call }
     ensures home { SameHome S.Mark.at caller.old.note caller.new.note }
+    ensures spends { Spends S.Mark.own 0 caller.old.note caller.new.note }
     ensures works { (owns : ℕ → List ObjectEntry) → Works (atomic_call atomic call) (desk_with S.Mark.own S.Mark.front owns caller.old.note) result (desk_with S.Mark.own S.Mark.front owns caller.new.note) }
 {
     Answer::Done(Ok(Reply::Atomic(shared.atomic_call(rt, caller, atomic, call))))
@@ -41,6 +43,7 @@ pub(crate) fn call_map<S: Shared, R: Wait>(
     requires call { IsMapCall (S.takes shared.now) call }
     requires spare { ForSome (S.Mark.own caller.old.note) (λ holding. cost_of call ≤ holding.spare) }
     ensures home { SameHome S.Mark.at caller.old.note caller.new.note }
+    ensures spends { Spends S.Mark.own (cost_of call) caller.old.note caller.new.note }
     ensures works { (owns : ℕ → List ObjectEntry) → Works (placed_map map call) (desk_with S.Mark.own S.Mark.front owns caller.old.note) result (desk_with S.Mark.own S.Mark.front owns caller.new.note) }
 {
     Answer::Done(Ok(Reply::Map(shared.map_call(rt, caller, map, call))))

@@ -55,6 +55,6 @@ module _ (plan : Plan) (history : List SharedEntry) (journals : List (List Objec
           lines = lines;
           are = are_lines plan history journals calls replies start desk lines all knowing outcome is;
           lawful = is_record plan history journals calls replies start desk lines all knowing same;
-          agrees = (have_ended plan history journals calls replies start desk lines all, ends, first);
+          agrees = (have_ended plan history journals calls replies start desk lines all knowing, ends, first);
         };
       }

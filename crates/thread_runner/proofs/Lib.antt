@@ -1,4 +1,5 @@
 pub mod Explaining
+pub mod Hiring
 pub mod ItemLists
 pub mod Joining
 pub mod LineSteps

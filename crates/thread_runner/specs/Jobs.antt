@@ -12,13 +12,13 @@ use Rattle.thread_calls.specs.declared.object.AnyObject.{AnyObject}
 use Rattle.thread_calls.specs.declared.pass.AnyPass.{AnyPass}
 use Rattle.thread_calls.specs.Desks.{AreSeats}
 use Rattle.thread_calls.specs.Passes.{owns_of}
-use Rattle.thread_calls.specs.Sites.{cost_of_calls}
+use Rattle.thread_calls.specs.Sites.{AreEmpty, cost_of_calls, ranges_in_calls}
 use Rattle.thread_calls.specs.Working.{Desk, desk_with}
 use Rattle.thread_runner.specs.DidLines.{DidLine, IsFresh}
 
 module _ {N H : Type 0} (at : H → N → Type 0) (own : N → Option Holding) (front : N → List ℕ) (home : H) (plan : Plan) (objects : List (AnyObject N H)) (worker : ℕ) where
   -- the worker with this number has its passes and is the caller with its number, has done nothing, and has room for what it is to do
-  pub record IsReady (passes : List (AnyPass N)) (caller : Caller N) (replies : Bounded (Reply ℕ)) : Type 0 where
+  pub record IsReady (passes : List (AnyPass N)) (caller : Caller N) (replies : Bounded (Reply ℕ)) (rooms : List (Bounded (ℕ × ℕ))) : Type 0 where
     pub number : worker < plan.workers
     pub seats : AreSeats at home plan.workers worker objects passes
     pub is_at : at home caller.note
@@ -26,6 +26,8 @@ module _ {N H : Type 0} (at : H → N → Type 0) (own : N → Option Holding) (
     pub fresh : IsFresh worker (desk_with own front (owns_of passes) caller.note)
     pub spare : ForSome (own caller.note) (λ holding. cost_of_calls (get_or plan.scripts worker []) ≤ holding.spare)
     pub few : length (get_or plan.scripts worker []) < 2 ^ 32
+    pub empty : AreEmpty rooms
+    pub enough : ranges_in_calls (get_or plan.scripts worker []) ≤ length rooms
     pub none : replies.items ≡ []
     pub room : length (get_or plan.scripts worker []) ≤ replies.room
 

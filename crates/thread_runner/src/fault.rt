@@ -1,5 +1,8 @@
 //! Why a run by threads comes to nothing.
-use std::alloc::{AllocError, AllocFailed};
+ghost use Rattle.std.specs.Prelude.{◌≡◌};
+ghost use Rattle.thread_runner.specs.declared.fault.RunFault.TheVariants as faults;
+
+use std::alloc::AllocError;
 use thiserror::Error;
 
 /// Why no outcome of a run by threads is known.

@@ -1,6 +1,8 @@
 //! Running a workload's workers in threads.
 #![tactic(auto)]
 
+mod fault;
 mod gather;
+mod hire;
 mod job;
 mod script;

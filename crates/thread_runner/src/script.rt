@@ -1,5 +1,5 @@
 //! A worker's script, call by call.
-ghost use Rattle.std.specs.Prelude.{◌≡◌, ℕ, ◌<◌, ◌≤◌, ◌^◌, List, [], ◌∷◌, ◌++◌, get_or, length, true, Some, slice_get, All, Ok, Err};
+ghost use Rattle.std.specs.Prelude.{◌≡◌, ℕ, ◌<◌, ◌≤◌, ◌^◌, List, [], ◌∷◌, ◌++◌, get_or, length, true, Some, slice_get, vec_len, All, Ok, Err};
 ghost use Rattle.std.specs.Option.{ForSome};
 ghost use Rattle.sync_model.specs.Note.{SameHome, Holding};
 ghost use Rattle.sync_model.specs.Shared.{IsCallerAt, IsHeldBy};
@@ -11,43 +11,19 @@ ghost use Rattle.run_record.specs.Record.{ObjectEntry, stop};
 ghost use Rattle.thread_calls.specs.Desks.{AreSeats, IsObjectAt};
 ghost use Rattle.thread_calls.specs.Kinds.{IsStop};
 ghost use Rattle.thread_calls.specs.Passes.{owns_of};
-ghost use Rattle.thread_calls.specs.Sites.{IsScripted, IsSite, Spends, cost_of_call, cost_of_calls};
+ghost use Rattle.thread_calls.specs.Sites.{IsSite, AreEmpty, cost_of_calls, ranges_in_calls};
 ghost use Rattle.thread_calls.specs.Working.{Desk, Works, Moves, desk_with};
 ghost use Rattle.thread_runner.specs.DidLines.{DidLine, IsFresh};
 
 use std::sync::Wait;
-use sync_model::{Answer, BoundedSeq, Call, Caller, Misuse, Note, Reply, Shared};
+use sync_model::{Answer, BoundedSeq, Caller, Note, Reply, Shared};
 use sync_outside::{Clock, Gate};
 use thread_calls::laws::moves;
-use thread_calls::{AnyPass, Site, Worker, halt_all};
-
-pub type CallAnswer = Answer<Result<Reply<u32>, Misuse>>;
-
-pub trait Stub {
-    fn make_call<S: Shared, C: Clock, R: Wait>(
-        rt: &R,
-        site: &Site<S>,
-        worker: &Worker<S::Mark, C>,
-        caller: &mut Caller<S::Mark>,
-        passes: &mut [AnyPass<S::Mark>],
-        rooms: &mut Vec<BoundedSeq<(u32, u64)>>,
-        call: &Call,
-    ) -> Option<CallAnswer>
-        requires scripted { IsScripted site.now.workload.now worker.now.number call.now }
-        requires site { IsSite S.Mark.at worker.now.at.home.now site.now.workload.now (S.maps site.now.shared.now) (S.kinds site.now.shared.now) (S.takes site.now.shared.now) site.now.objects.now site.now.numbers.now }
-        requires seats { AreSeats S.Mark.at worker.now.at.home.now worker.now.workers worker.now.number site.now.objects.now passes.old }
-        requires caller { IsCallerAt S.Mark.at S.Mark.own worker.now.at.home.now caller.old }
-        requires spare { ForSome (S.Mark.own caller.old.note) (λ holding. cost_of_call call.now ≤ holding.spare) }
-        ensures seats { AreSeats S.Mark.at worker.now.at.home.now worker.now.workers worker.now.number site.now.objects.now passes.new }
-        ensures caller { IsCallerAt S.Mark.at S.Mark.own worker.now.at.home.now caller.new }
-        ensures held { (c : ℕ) → IsHeldBy c (S.Mark.own caller.old.note) → IsHeldBy c (S.Mark.own caller.new.note) }
-        ensures spare { Spends S.Mark.own (cost_of_call call.now) caller.old.note caller.new.note }
-        ensures works { ForSome result (λ answer. Works (SpellsCall site.now.workload.now worker.now.number (length (desk_with S.Mark.own S.Mark.front (owns_of passes.old) caller.old.note).calls) call.now) (desk_with S.Mark.own S.Mark.front (owns_of passes.old) caller.old.note) answer (desk_with S.Mark.own S.Mark.front (owns_of passes.new) caller.new.note)) };
-}
+use thread_calls::{AnyPass, Site, Worker, halt_all, make_call};
 
 /// Makes the calls of a worker's script in order, with the gate before and behind each. A misuse halts Stop, and then every
 /// object, and ends the worker, as a halt does that it meets. Answers whether each `range` had room for its pairs.
-pub(crate) fn run_script<S: Shared, K: Stub, C: Clock, G: Gate, R: Wait>(
+pub(crate) fn run_script<S: Shared, C: Clock, G: Gate, R: Wait>(
     rt: &R,
     site: &Site<S>,
     worker: &Worker<S::Mark, C>,
@@ -57,14 +33,18 @@ pub(crate) fn run_script<S: Shared, K: Stub, C: Clock, G: Gate, R: Wait>(
     replies: &mut BoundedSeq<Reply<u32>>,
     rooms: &mut Vec<BoundedSeq<(u32, u64)>>,
 ) -> bool
-    requires worker { worker.now.number < site.now.workload.now.workers }
+    requires number { worker.now.number < site.now.workload.now.workers }
     requires site { IsSite S.Mark.at worker.now.at.home.now site.now.workload.now (S.maps site.now.shared.now) (S.kinds site.now.shared.now) (S.takes site.now.shared.now) site.now.objects.now site.now.numbers.now }
+    requires homes { S.home_of site.now.shared.now ≡ worker.now.at.home.now }
+    requires workers { site.now.workload.now.workers ≡ worker.now.workers }
     requires stop { IsObjectAt IsStop site.now.objects.now stop }
     requires seats { AreSeats S.Mark.at worker.now.at.home.now worker.now.workers worker.now.number site.now.objects.now passes.old }
     requires caller { IsCallerAt S.Mark.at S.Mark.own worker.now.at.home.now caller.old }
     requires spare { ForSome (S.Mark.own caller.old.note) (λ holding. cost_of_calls (get_or site.now.workload.now.scripts worker.now.number []) ≤ holding.spare) }
     requires fresh { IsFresh worker.now.number (desk_with S.Mark.own S.Mark.front (owns_of passes.old) caller.old.note) }
     requires few { length (get_or site.now.workload.now.scripts worker.now.number []) < 2 ^ 32 }
+    requires rooms { AreEmpty rooms.old.items }
+    requires enough { ranges_in_calls (get_or site.now.workload.now.scripts worker.now.number []) ≤ vec_len rooms.old }
     requires replies { (replies.old.items ≡ []) × (length (get_or site.now.workload.now.scripts worker.now.number []) ≤ replies.old.room) }
     ensures seats { AreSeats S.Mark.at worker.now.at.home.now worker.now.workers worker.now.number site.now.objects.now passes.new }
     ensures caller { IsCallerAt S.Mark.at S.Mark.own worker.now.at.home.now caller.new }
@@ -77,7 +57,7 @@ pub(crate) fn run_script<S: Shared, K: Stub, C: Clock, G: Gate, R: Wait>(
     let script = site.workload.script(worker.number);
     for index in 0..script.len() {
         gate.before(rt, worker.number, index as u32);
-        let answer = K::make_call(rt, site, worker, caller, passes, rooms, &script[index]);
+        let answer = make_call(rt, site, worker, caller, passes, rooms, &script[index]);
         gate.after(rt, worker.number, index as u32);
         match answer {
             None => kept = false,

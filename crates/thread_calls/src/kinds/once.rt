@@ -29,7 +29,7 @@ use sync_outside::Clock;
 use wait_cores::OnceCore;
 
 // Begins, and tells whether the caller is to run the function. It may wait for the caller that runs it.
-fn begin<T: Copy, N: Note, C: Clock, R: Wait>(
+pub(super) fn begin<T: Copy, N: Note, C: Clock, R: Wait>(
     rt: &R,
     worker: &Worker<N, C>,
     once: &Object<OnceCore<T>, N>,
@@ -48,7 +48,7 @@ fn begin<T: Copy, N: Note, C: Clock, R: Wait>(
 }
 
 // Ends the function, which came to this.
-fn end<T: Copy, N: Note, C: Clock, R: Wait>(
+pub(super) fn end<T: Copy, N: Note, C: Clock, R: Wait>(
     rt: &R,
     worker: &Worker<N, C>,
     once: &Object<OnceCore<T>, N>,
@@ -67,7 +67,7 @@ fn end<T: Copy, N: Note, C: Clock, R: Wait>(
 }
 
 // What a call comes to that ended the function with this.
-fn ended<T: Copy>(
+pub(super) fn ended<T: Copy>(
     answer: Answer<Result<OnceOutcome<T>, Misuse>>,
     value: T,
 ) -> Answer<Result<T, Misuse>>

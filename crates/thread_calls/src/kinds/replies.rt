@@ -2,12 +2,13 @@
 ghost use Rattle.std.specs.Prelude.{◌≡◌};
 ghost use Rattle.run_record.specs.OnceKind.{failure};
 ghost use Rattle.run_record.specs.Parts.{with_outcome};
-ghost use Rattle.thread_calls.specs.Replies.{of_lock, relocked, returned, func_told, value_told};
+ghost use Rattle.thread_calls.specs.Replies.{of_lock, relocked, returned, func_told, value_told, pool_done, ran};
 
-use sync_model::{Answer, LockReply, Misuse, Reply};
+use protocols::PoolOutcome;
+use sync_model::{Answer, DoReply, LockReply, Misuse, PoolCallReply, Reply};
 
 /// The answer to a call of a workload.
-pub(crate) type CallAnswer = Answer<Result<Reply<u32>, Misuse>>;
+pub type CallAnswer = Answer<Result<Reply<u32>, Misuse>>;
 
 /// Of a lock.
 pub(crate) fn lock_reply(answer: Answer<Result<LockReply, Misuse>>) -> CallAnswer
@@ -66,6 +67,28 @@ pub(crate) fn locked_again(answer: Answer<Result<LockReply, Misuse>>) -> CallAns
 {
     match answer {
         Answer::Done(Ok(_outcome)) => Answer::Done(Ok(Reply::Returned)),
+        Answer::Done(Err(misuse)) => Answer::Done(Err(misuse)),
+        Answer::Halted(misuse) => Answer::Halted(misuse),
+    }
+}
+
+/// Of a put into a pool, and of a sweep.
+pub(crate) fn pool_done(answer: Answer<Result<PoolOutcome, Misuse>>) -> CallAnswer
+    ensures { result ≡ with_outcome pool_done answer }
+{
+    match answer {
+        Answer::Done(Ok(_outcome)) => Answer::Done(Ok(Reply::Pool(PoolCallReply::Done))),
+        Answer::Done(Err(misuse)) => Answer::Done(Err(misuse)),
+        Answer::Halted(misuse) => Answer::Halted(misuse),
+    }
+}
+
+/// Of a once, where the call ran the function.
+pub(crate) fn ran(answer: Answer<Result<i64, Misuse>>) -> CallAnswer
+    ensures { result ≡ with_outcome ran answer }
+{
+    match answer {
+        Answer::Done(Ok(sum)) => Answer::Done(Ok(Reply::Once(DoReply::Ran(sum)))),
         Answer::Done(Err(misuse)) => Answer::Done(Err(misuse)),
         Answer::Halted(misuse) => Answer::Halted(misuse),
     }

@@ -2,7 +2,7 @@ use Rattle.std.proofs.Common.{refl, ap}
 use Rattle.protocols.specs.OnceStages.{once_event, once_meaning}
 use Rattle.protocols.specs.Spelling.{CallAnswer}
 use Rattle.run_record.specs.Parts.{returns, stages, with_outcome}
-use Rattle.thread_calls.proofs.OnceParts.{stopped, erred, had, ran}
+use Rattle.thread_calls.proofs.OnceParts.{stopped, had, ran}
 use Rattle.thread_calls.proofs.Working.{rests, answers_as}
 use Rattle.thread_calls.proofs.kinds.once.kept.Goals as goal
 

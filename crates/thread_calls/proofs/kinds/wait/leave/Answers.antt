@@ -1,8 +1,6 @@
 use Rattle.protocols.specs.declared.cond.CondStage.TheVariants as stage
-use Rattle.protocols.specs.declared.mutex.MutexStage.TheVariants as mutex_stage
 use Rattle.run_record.specs.CondKind.{cond_part}
-use Rattle.run_record.specs.MutexKind.{mutex_part}
-use Rattle.thread_calls.specs.Parts.{lock_again, leave_part, unlock_part}
+use Rattle.thread_calls.specs.Parts.{lock_again}
 use Rattle.thread_calls.proofs.Working.{halted_first, erred_first, went_first}
 use Rattle.thread_calls.proofs.kinds.wait.leave.Goals as goal
 

@@ -1,0 +1,167 @@
+//! Each call of a script, by the kind of its object.
+ghost use Rattle.std.specs.Prelude.{◌≡◌, ℕ, ◌+◌, ◌<◌, ◌≤◌, true, List, [], length, vec_len, IfSome, IfNone};
+ghost use Rattle.std.specs.List.{list_any};
+ghost use Rattle.std.specs.Option.{ForSome};
+ghost use Rattle.std.specs.Str.{bytes_eq};
+ghost use Rattle.sync_model.specs.Note.{SameHome};
+ghost use Rattle.sync_model.specs.Shared.{IsCallerAt, items_of};
+ghost use Rattle.workload.specs.Draft.{all_keys, is_operation, operation_keys};
+ghost use Rattle.workload.specs.Plan.{has_call, refers};
+ghost use Rattle.run_record.specs.Calls.{SpellsCall, call_on};
+ghost use Rattle.thread_calls.specs.Alone.{MayGiveUp};
+ghost use Rattle.thread_calls.specs.Desks.{AreSeats};
+ghost use Rattle.thread_calls.specs.Passes.{owns_of};
+ghost use Rattle.thread_calls.specs.Sites.{AreEmpty, IsAt, IsScripted, IsSite, Spends, operation_cost, operation_ranges, cost_of_call, ranges_in_call};
+ghost use Rattle.thread_calls.specs.Working.{Works, desk_with};
+
+use crate::kinds::replies::CallAnswer;
+use crate::object_calls::{object_at, wait_at};
+use crate::pass::AnyPass;
+use crate::placed_calls::{atomic_at, map_at, once_at, range_at};
+use crate::site::Site;
+use crate::worker::Worker;
+use std::sync::Wait;
+use sync_model::{BoundedSeq, Call, Caller, CondCall, Operation, Shared};
+use sync_outside::Clock;
+use workload::{ObjectKind, Workload};
+
+// Of which kind the object at a place is.
+fn kind_at(workload: &Workload, place: usize) -> ObjectKind
+    requires { place < length workload.now.objects }
+    ensures { IsAt workload.now place result }
+{
+    workload.objects()[place].kind
+}
+
+// Takes one of the lists that were made for the pairs of `range` calls.
+fn take_room(rooms: &mut Vec<BoundedSeq<(u32, u64)>>) -> BoundedSeq<(u32, u64)>
+    requires empty { AreEmpty rooms.old.items }
+    requires some { 0 < vec_len rooms.old }
+    ensures taken { result.items ≡ [] }
+    ensures empty { AreEmpty rooms.new.items }
+    ensures left { vec_len rooms.new + 1 ≡ vec_len rooms.old }
+{
+    rooms.pop().unwrap()
+}
+
+// Makes a call on the object at a place, which is of this kind and has the call.
+fn call_at<S: Shared, C: Clock, R: Wait>(
+    rt: &R,
+    site: &Site<S>,
+    worker: &Worker<S::Mark, C>,
+    caller: &mut Caller<S::Mark>,
+    passes: &mut [AnyPass<S::Mark>],
+    rooms: &mut Vec<BoundedSeq<(u32, u64)>>,
+    place: usize,
+    kind: ObjectKind,
+    operation: &Operation,
+) -> Option<CallAnswer>
+    requires site { IsSite S.Mark.at worker.now.at.home.now site.now.workload.now (S.maps site.now.shared.now) (S.kinds site.now.shared.now) (S.takes site.now.shared.now) site.now.objects.now site.now.numbers.now }
+    requires homes { S.home_of site.now.shared.now ≡ worker.now.at.home.now }
+    requires workers { site.now.workload.now.workers ≡ worker.now.workers }
+    requires place { IsAt site.now.workload.now place kind }
+    requires call { has_call kind operation.now ≡ true }
+    requires reference { refers site.now.workload.now.objects kind ≡ true }
+    requires ranged { is_operation operation.now ≡ true }
+    requires keys { (name : List ℕ) → list_any (bytes_eq name) (operation_keys operation.now) ≡ true → list_any (bytes_eq name) (all_keys site.now.workload.now.scripts) ≡ true }
+    requires caller { IsCallerAt S.Mark.at S.Mark.own worker.now.at.home.now caller.old }
+    requires spare { ForSome (S.Mark.own caller.old.note) (λ holding. operation_cost operation.now ≤ holding.spare) }
+    requires seats { AreSeats S.Mark.at worker.now.at.home.now worker.now.workers worker.now.number site.now.objects.now passes.old }
+    requires rooms { AreEmpty rooms.old.items }
+    requires enough { operation_ranges operation.now ≤ vec_len rooms.old }
+    ensures seats { AreSeats S.Mark.at worker.now.at.home.now worker.now.workers worker.now.number site.now.objects.now passes.new }
+    ensures home { SameHome S.Mark.at caller.old.note caller.new.note }
+    ensures spends { Spends S.Mark.own (operation_cost operation.now) caller.old.note caller.new.note }
+    ensures rooms { AreEmpty rooms.new.items }
+    ensures left { vec_len rooms.old ≤ vec_len rooms.new + operation_ranges operation.now }
+    ensures given_up { IfNone result (MayGiveUp operation.now) }
+    ensures works { IfSome result (λ answer. Works (call_on site.now.workload.now worker.now.number (length (items_of (S.Mark.own caller.old.note))) place kind operation.now)
+        (desk_with S.Mark.own S.Mark.front (owns_of passes.old) caller.old.note) answer (desk_with S.Mark.own S.Mark.front (owns_of passes.new) caller.new.note)) }
+{
+    match operation {
+        Operation::Map(call) => Some(map_at(rt, site, caller, place, call)),
+        Operation::Atomic(call) => Some(atomic_at(rt, site, caller, place, *call)),
+        Operation::Range => range_at(rt, site, caller, place, take_room(rooms)),
+        Operation::Once => match kind {
+            ObjectKind::Once { atomic, delta } => {
+                once_at(rt, site, worker, caller, passes, place, atomic, delta)
+            }
+            _ => unreachable!(),
+        },
+        Operation::Cond(CondCall::Wait) => match kind {
+            ObjectKind::Cond { mutex } => Some(wait_at(
+                rt,
+                worker,
+                site.objects,
+                passes,
+                &mut caller.note,
+                place,
+                mutex,
+            )),
+            _ => unreachable!(),
+        },
+        Operation::Cond(CondCall::Signal)
+        | Operation::Cond(CondCall::Broadcast)
+        | Operation::Mutex(_)
+        | Operation::RwMutex(_)
+        | Operation::WaitGroup(_)
+        | Operation::OnceFunc
+        | Operation::OnceValue
+        | Operation::Pool(_) => Some(object_at(
+            rt,
+            worker,
+            site.objects,
+            passes,
+            &mut caller.note,
+            place,
+            kind,
+            operation,
+        )),
+    }
+}
+
+/// Makes a call of the worker's script. It may wait for other workers. `None` comes only of a `range` that shows more pairs than
+/// there is room for, and of a once whose int64 holds a number of another type: the laws of maps and atomics say that neither
+/// can be.
+pub fn make_call<S: Shared, C: Clock, R: Wait>(
+    rt: &R,
+    site: &Site<S>,
+    worker: &Worker<S::Mark, C>,
+    caller: &mut Caller<S::Mark>,
+    passes: &mut [AnyPass<S::Mark>],
+    rooms: &mut Vec<BoundedSeq<(u32, u64)>>,
+    call: &Call,
+) -> Option<CallAnswer>
+    requires site { IsSite S.Mark.at worker.now.at.home.now site.now.workload.now (S.maps site.now.shared.now) (S.kinds site.now.shared.now) (S.takes site.now.shared.now) site.now.objects.now site.now.numbers.now }
+    requires homes { S.home_of site.now.shared.now ≡ worker.now.at.home.now }
+    requires workers { site.now.workload.now.workers ≡ worker.now.workers }
+    requires call { IsScripted site.now.workload.now worker.now.number call.now }
+    requires caller { IsCallerAt S.Mark.at S.Mark.own worker.now.at.home.now caller.old }
+    requires spare { ForSome (S.Mark.own caller.old.note) (λ holding. cost_of_call call.now ≤ holding.spare) }
+    requires seats { AreSeats S.Mark.at worker.now.at.home.now worker.now.workers worker.now.number site.now.objects.now passes.old }
+    requires rooms { AreEmpty rooms.old.items }
+    requires enough { ranges_in_call call.now ≤ vec_len rooms.old }
+    ensures seats { AreSeats S.Mark.at worker.now.at.home.now worker.now.workers worker.now.number site.now.objects.now passes.new }
+    ensures caller { IsCallerAt S.Mark.at S.Mark.own worker.now.at.home.now caller.new }
+    ensures spends { Spends S.Mark.own (cost_of_call call.now) caller.old.note caller.new.note }
+    ensures rooms { AreEmpty rooms.new.items }
+    ensures left { vec_len rooms.old ≤ vec_len rooms.new + ranges_in_call call.now }
+    ensures given_up { IfNone result (MayGiveUp call.now.operation) }
+    ensures works { IfSome result (λ answer. Works (SpellsCall site.now.workload.now worker.now.number (length (items_of (S.Mark.own caller.old.note))) call.now)
+        (desk_with S.Mark.own S.Mark.front (owns_of passes.old) caller.old.note) answer (desk_with S.Mark.own S.Mark.front (owns_of passes.new) caller.new.note)) }
+{
+    let _workers = site.workload.workers();
+    let kind = kind_at(site.workload, call.object);
+    let operation = &call.operation;
+    call_at(
+        rt,
+        site,
+        worker,
+        caller,
+        passes,
+        rooms,
+        call.object,
+        kind,
+        operation,
+    )
+}
