@@ -20,7 +20,7 @@ use Rattle.thread_calls.specs.declared.object.AnyObject.TheVariants as objects
 -- the object has so many callers, began in this state, and its notes are of this home
 pub record Began {M N S E R H : Type 0} (at : H → N → Type 0) (home : H) (workers : ℕ) (start : S) (object : Object M N S E R H) : Type 0 where
   pub callers : callers_of object ≡ workers
-  pub start : start_of object ≡ start
+  pub begun : start_of object ≡ start
   pub homed : IsHomeOf at object home
 
 module _ {N H : Type 0} (at : H → N → Type 0) (home : H) where

@@ -1,4 +1,5 @@
 pub mod AsDeclared
+pub mod Columns
 pub mod Desks
 pub mod Halting
 pub mod Kinds
