@@ -1,5 +1,8 @@
+pub mod ColumnLemmas
+pub mod ColumnLists
 pub mod HaltLemmas
 pub mod OnceParts
 pub mod SharedParts
 pub mod Slots
+pub mod StopColumns
 pub mod Working

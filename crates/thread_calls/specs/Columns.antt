@@ -22,7 +22,8 @@ use Rattle.protocols.specs.PoolStages.{pool_stands, PoolBegins}
 use Rattle.protocols.specs.RwMutexStages.{rw_stands, RwMutexBegins}
 use Rattle.ruled_object.specs.declared.object.Object.{Object}
 use Rattle.ruled_object.specs.declared.pass.Pass.{Pass}
-use Rattle.ruled_object.specs.Passes.{own_by, start_of}
+use Rattle.ruled_object.specs.Passes.{number_of, own_by, callers_of, start_of, IsHomeOf}
+use Rattle.running.specs.Between.{IsBetween}
 use Rattle.run_record.specs.declared.entered.ObjectEvent.TheVariants as event
 use Rattle.run_record.specs.declared.entered.ObjectReply.TheVariants as reply
 use Rattle.run_record.specs.Journals.{FollowsFrom, IsStops}
@@ -35,14 +36,16 @@ use Rattle.thread_calls.specs.declared.pass.AnyPass.{AnyPass}
 use Rattle.thread_calls.specs.declared.pass.AnyPass.TheVariants as passes
 use Rattle.thread_calls.specs.declared.stop.NoEvent.{NoEvent}
 use Rattle.thread_calls.specs.Passes.{owns_of}
-use Rattle.thread_calls.specs.Seats.{IsSeat}
 use Rattle.thread_calls.specs.Stop.{StopBegins, stop_stands, no_event, no_reply}
 use Rattle.thread_calls.specs.Working.{own_as}
 
--- the passes of the object's first workers, in order. Each worker is between two calls
+-- The object of so many workers began as such ones may, and its notes are of this home. These are the passes of its first workers, in order, each between two calls.
 pub record AreSeated {M N S E R H W : Type 0} (begins : ℕ → S → Type 0) (out : W) (move : W → E → R → W) (at : H → N → Type 0) (home : H) (workers count : ℕ) (object : Object M N S E R H) (passes : List (Pass S N E R)) : Type 0 where
+  pub begun : begins (callers_of object) (start_of object)
+  pub callers : callers_of object ≡ workers
+  pub homed : IsHomeOf at object home
   pub sized : length passes ≡ count
-  pub each : (worker : ℕ) (pass : Pass S N E R) → slice_get passes worker ≡ Some pass → IsSeat begins out move at home workers worker object pass
+  pub each : (worker : ℕ) (pass : Pass S N E R) → slice_get passes worker ≡ Some pass → IsBetween out move object pass × (number_of pass ≡ worker)
 
 module _ {S N E R : Type 0} where
   -- nobody whose pass is here made an entry

@@ -4,9 +4,12 @@
 
 mod column;
 mod crew;
+mod dealing;
 mod desk;
+mod first_halt;
 mod halting;
 mod kinds;
+mod making;
 mod object;
 mod part;
 mod pass;
@@ -17,6 +20,7 @@ mod worker;
 
 pub use column::AnyColumn;
 pub use crew::Crew;
+pub use making::{make_object, make_stop};
 pub use object::AnyObject;
 pub use pass::AnyPass;
 pub use stop::{NoEvent, StopCore};

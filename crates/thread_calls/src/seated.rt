@@ -1,12 +1,19 @@
 //! The passes of one object, of one kind.
-ghost use Rattle.std.specs.Prelude.{◌≡◌, ℕ, ◌+◌, ◌<◌, ◌≤◌, [], ◌∷◌, ◌++◌, List, true, IfOk, Some, slice_get, vec_capacity};
-ghost use Rattle.sync_model.specs.declared.journal.Entry.{Entry};
+ghost use Rattle.std.specs.Prelude.{◌≡◌, ℕ, ◌+◌, ◌<◌, ◌≤◌, [], ◌∷◌, ◌++◌, List, map, IsTrue, IfOk, Some, slice_get, vec_capacity};
 ghost use Rattle.sync_model.specs.Journal.{halt_of};
-ghost use Rattle.ruled_object.specs.Gathered.{IsWhole};
-ghost use Rattle.ruled_object.specs.Passes.{own_by, start_of};
+ghost use Rattle.ruled_object.specs.declared.pass.Pass.{Pass};
+ghost use Rattle.ruled_object.specs.Gathered.{SameOwn};
+ghost use Rattle.ruled_object.specs.Passes.{start_of};
+ghost use Rattle.run_record.specs.declared.entered.ObjectEvent.{ObjectEvent};
+ghost use Rattle.run_record.specs.declared.entered.ObjectReply.{ObjectReply};
+ghost use Rattle.run_record.specs.Journals.{FollowsFrom};
+ghost use Rattle.run_record.specs.Record.{ObjectEntry};
+ghost use Rattle.thread_calls.specs.declared.pass.AnyPass.{AnyPass};
 ghost use Rattle.thread_calls.specs.AsDeclared.{Began};
-ghost use Rattle.thread_calls.specs.Columns.{AreSeated, AreUntouched};
+ghost use Rattle.thread_calls.specs.Columns.{AreSeated, AreUntouched, AreParts};
+ghost use Rattle.thread_calls.specs.Passes.{own_of};
 ghost use Rattle.thread_calls.specs.Seats.{IsSeat};
+ghost use Rattle.thread_calls.specs.Working.{own_as};
 
 use crate::crew::Crew;
 use protocols::Protocol;
@@ -30,7 +37,8 @@ pub(crate) fn begin<P: Protocol, N: Note>(
     ensures room { IfOk result (λ made. crew.now.workers ≤ vec_capacity made.1) }
     ensures untouched { IfOk result (λ made. AreUntouched made.1.items) }
 {
-    running::new(alloc, crew.workers, 0, start, note)
+    let (object, passes) = running::new(alloc, crew.workers, 0, start, note)?;
+    Ok((object, passes))
 }
 
 /// Takes the pass of the last worker that has one here.
@@ -45,7 +53,7 @@ pub(crate) fn take_pass<P: Protocol, N: Note>(
     ensures seated { AreSeated P.begins P.out P.stands N.at _crew.now.home.now _crew.now.workers _worker _object.now passes.new.items }
     ensures items { passes.old.items ≡ passes.new.items ++ result ∷ [] }
     ensures last { slice_get passes.old.items _worker ≡ Some result }
-    ensures rest { (worker : ℕ) (pass : _) → slice_get passes.new.items worker ≡ Some pass → slice_get passes.old.items worker ≡ Some pass }
+    ensures rest { (worker : ℕ) (pass : Pass P.State N P.Event P.Reply) → slice_get passes.new.items worker ≡ Some pass → slice_get passes.old.items worker ≡ Some pass }
     ensures room { vec_capacity passes.new ≡ vec_capacity passes.old }
 {
     passes.take_last()
@@ -76,11 +84,14 @@ pub(crate) fn first_of<P: Protocol, N: Note>(
     object: &Object<P, N>,
     passes: &mut Vec<PassOf<P, N>>,
 ) -> Option<Misuse>
+    requires halts { IsTrue P.HALTS }
     requires seated { AreSeated P.begins P.out P.stands N.at _crew.now.home.now _crew.now.workers _crew.now.workers object.now passes.old.items }
     ensures seated { AreSeated P.begins P.out P.stands N.at _crew.now.home.now _crew.now.workers _crew.now.workers object.now passes.new.items }
     ensures room { vec_capacity passes.new ≡ vec_capacity passes.old }
-    ensures history { (journal : List (Entry P.Event P.Reply)) × (result ≡ halt_of journal)
-        × IsWhole P.next P.HALTS P.frees P.takes (start_of object.now) journal passes.old.items }
+    ensures owns { SameOwn passes.old.items passes.new.items }
+    ensures history { (event : P.Event → ObjectEvent) (reply : P.Reply → ObjectReply) (pass_as : Pass P.State N P.Event P.Reply → AnyPass N)
+        → ((pass : Pass P.State N P.Event P.Reply) → own_of (pass_as pass) ≡ own_as event reply pass)
+        → (journal : List ObjectEntry) × FollowsFrom event reply P.next P.frees P.takes (start_of object.now) journal × (result ≡ halt_of journal) × AreParts journal (map pass_as passes.old.items) }
 {
     running::first_halt(object, passes)
 }
