@@ -1,6 +1,6 @@
 -- Lists to which an element is added at the end, or from which the last one is taken.
 use Rattle.std.proofs.Common.{◌≡◌, ◌⊎◌, inl, inr, ℕ, zero, suc, ◌+◌, ◌<◌, ◌≤◌, Bool, true, false, ◌==◌, cond, List, [], ◌∷◌, ◌++◌, map, length, get_or, replicate, take, Option, Some, None, slice_get, refl, sym, ap, subst, ◌∙◌, arith, length-append}
-use Rattle.std.specs.Prelude.{unwrap_or, All}
+use Rattle.std.specs.Prelude.{unwrap_or, All, slice_set}
 use Rattle.std.proofs.Math.Seq.{take-append_seam}
 use Rattle.std.proofs.lemmas.Bool.{eq-eqb}
 use Rattle.std.proofs.lemmas.List.{replicate-append-replicate}
@@ -57,6 +57,19 @@ module _ {A : Type 0} where
 
   pub one_more : (n : ℕ) (d : A) → replicate (n + 1) d ≡ replicate n d ++ d ∷ []
   one_more n d = sym (replicate-append-replicate n 1 d)
+
+  -- a list of which one element was changed
+  pub set_other : (xs : List A) (i n : ℕ) (x : A) → (i ≡ n → ⊥) → slice_get (slice_set xs i x) n ≡ slice_get xs n
+  set_other [] i n x other = refl
+  set_other (y ∷ xs) zero zero x other = absurd (other refl)
+  set_other (y ∷ xs) zero (suc n) x other = refl
+  set_other (y ∷ xs) (suc i) zero x other = refl
+  set_other (y ∷ xs) (suc i) (suc n) x other = set_other xs i n x (λ e. other (ap (λ k. suc k) e))
+
+  pub set_here : (xs : List A) (i : ℕ) (x : A) → i < length xs → slice_get (slice_set xs i x) i ≡ Some x
+  set_here [] i x within = absurd (omega (arith, within))
+  set_here (y ∷ xs) zero x within = refl
+  set_here (y ∷ xs) (suc i) x within = set_here xs i x (omega (arith, within))
 
 -- what holds of each caller's entries holds of all
 module _ {E R : Type 0} (P : Entry E R → Type 0) where

@@ -1,8 +1,13 @@
 pub mod ColumnLemmas
 pub mod ColumnLists
+pub mod DeclaredJournals
+pub mod GroupStart
 pub mod HaltLemmas
+pub mod Histories
+pub mod KindsFit
 pub mod OnceParts
 pub mod SharedParts
 pub mod Slots
 pub mod StopColumns
+pub mod Telling
 pub mod Working

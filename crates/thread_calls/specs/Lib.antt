@@ -6,6 +6,7 @@ pub mod Kinds
 pub mod Parts
 pub mod Passes
 pub mod Replies
+pub mod Rows
 pub mod Seats
 pub mod Stop
 pub mod Working

@@ -7,6 +7,7 @@ mod crew;
 mod dealing;
 mod desk;
 mod first_halt;
+mod gathering;
 mod halting;
 mod kinds;
 mod making;
@@ -20,6 +21,7 @@ mod worker;
 
 pub use column::AnyColumn;
 pub use crew::Crew;
+pub use gathering::journals;
 pub use making::{make_object, make_stop};
 pub use object::AnyObject;
 pub use pass::AnyPass;
