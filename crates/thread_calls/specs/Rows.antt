@@ -1,5 +1,5 @@
 -- The passes of all workers to all objects of a run, and the journals of the objects.
-use Rattle.std.specs.Prelude.{◌≡◌, ℕ, List, [], length, get_or, Some, slice_get}
+use Rattle.std.specs.Prelude.{◌≡◌, ℕ, ◌<◌, List, [], ◌∷◌, ◌++◌, length, get_or, Some, slice_get}
 use Rattle.workload.specs.declared.object.ObjectLine.{ObjectLine}
 use Rattle.workload.specs.Plan.{Plan}
 use Rattle.run_record.specs.Calls.{IsJournalOf}
@@ -8,6 +8,8 @@ use Rattle.run_record.specs.Record.{ObjectEntry, stop, number_at}
 use Rattle.thread_calls.specs.declared.column.AnyColumn.{AnyColumn}
 use Rattle.thread_calls.specs.declared.column.AnyColumn.TheVariants as columns
 use Rattle.thread_calls.specs.declared.object.AnyObject.{AnyObject}
+use Rattle.thread_calls.specs.declared.pass.AnyPass.{AnyPass}
+use Rattle.thread_calls.specs.declared.pass.AnyPass.TheVariants as passes
 use Rattle.thread_calls.specs.Columns.{IsColumnOf, passes_in}
 use Rattle.thread_calls.specs.Passes.{owns_of}
 
@@ -25,3 +27,7 @@ pub record AreJournals (plan : Plan) (journals : List (List ObjectEntry)) : Type
   pub count : length journals ≡ number_at (length plan.objects)
   pub stops : IsStops (get_or journals stop [])
   pub each : (place : ℕ) (object : ObjectLine) → slice_get plan.objects place ≡ Some object → IsJournalOf plan place object.kind (get_or journals (number_at place) [])
+
+-- from each of these columns one pass was taken, the last one: these, in order of the objects. What is left is in those
+abbrev pub AreDealt : {N : Type 0} → List (AnyColumn N) → List (AnyColumn N) → List (AnyPass N) → Type 0
+AreDealt full rest row = (number : ℕ) → number < length row → passes_in (get_or full number (columns.None 0)) ≡ passes_in (get_or rest number (columns.None 0)) ++ get_or row number passes.None ∷ []
