@@ -23,7 +23,7 @@ use Rattle.thread_calls.specs.Columns.{AreSeated, AreUntouched, AreParts}
 use Rattle.thread_calls.specs.Passes.{own_of, owns_of}
 use Rattle.thread_calls.specs.Seats.{IsSeat}
 use Rattle.thread_calls.specs.Working.{own_as}
-use Rattle.thread_calls.proofs.ColumnLists.{in_front, added_at, last_at, fewer_by_one, got, got_none}
+use Rattle.thread_calls.proofs.ColumnLists.{in_front, added_at, fewer_by_one, got, got_none}
 
 module _ {M N S E R H W : Type 0} (begins : ℕ → S → Type 0) (out : W) (move : W → E → R → W) (at : H → N → Type 0) (home : H) (workers : ℕ) (object : Object M N S E R H) where
   abbrev Seated : ℕ → List (Pass S N E R) → Type 0
@@ -116,4 +116,5 @@ module _ {E R : Type 0} (event : E → ObjectEvent) (reply : R → ObjectReply) 
       lift journal,
       (journal, refl, subst (λ (b : Bool). Follows next b start None journal) does whole.follows, whole.edges),
       is ∙ sym (halt_lifted None journal),
-      parts_of next halts frees takes start journal whole)
+      parts_of next halts frees takes start journal whole,
+    )

@@ -1,7 +1,7 @@
 -- The state that a wait group begins in, whose counter the workload declares.
 use Rattle.std.proofs.Common.{◌≡◌, ℕ, zero, suc, ◌≤◌, Bool, true, false, cond, List, ◌∷◌, replicate, map, refl, sym, ap, ◌∙◌, subst, arith}
 use Rattle.std.proofs.Math.Nat.{zero-add}
-use Rattle.std.specs.Prelude.{ℤ, pos, ◌+ℤ◌, ◌==◌, nat_lt, nat_le, length, Some, None, slice_get}
+use Rattle.std.specs.Prelude.{ℤ, pos, ◌==◌, nat_lt, nat_le, length, Some, None}
 use Rattle.std.proofs.lemmas.Bool.Decides.{nat_tests}
 use Rattle.std.proofs.lemmas.List.{length-replicate}
 use Rattle.wait_cores.specs.declared.group.GroupEvent.TheVariants.{Add}

@@ -1,11 +1,11 @@
 -- The kinds that a workload declares are in range.
-use Rattle.std.proofs.Common.{◌≡◌, ℕ, zero, suc, Bool, true, false, List, [], ◌∷◌, ◌++◌, Option, Some, slice_get, sym, ap, subst}
-use Rattle.std.specs.Prelude.{◌&&◌, not, nat_lt, is_some, unwrap_or}
+use Rattle.std.proofs.Common.{◌≡◌, ℕ, zero, suc, Bool, true, false, List, [], ◌∷◌, ◌++◌, Option, Some, slice_get, ap, subst}
+use Rattle.std.specs.Prelude.{◌&&◌, not, is_some, unwrap_or}
 use Rattle.std.proofs.lemmas.Option.{none-some}
 use Rattle.sync_model.specs.Name.{is_name}
 use Rattle.workload.specs.declared.object.ObjectLine.{ObjectLine}
-use Rattle.workload.specs.Draft.{declared_from, count_of, limit_of, is_kind}
-use Rattle.workload.specs.Plan.{word_of, refers}
+use Rattle.workload.specs.Draft.{declared_from, is_kind}
+use Rattle.workload.specs.Plan.{refers}
 use Rattle.workload.specs.Readable.{may_join, may_declare}
 
 first : (a b : Bool) → (a && b) ≡ true → a ≡ true

@@ -1,5 +1,5 @@
 -- Going along the columns of all objects, one after the other.
-use Rattle.std.proofs.Common.{◌≡◌, ◌⊎◌, inl, inr, ℕ, ◌+◌, ◌<◌, ◌≤◌, List, [], ◌∷◌, ◌++◌, length, get_or, Option, Some, None, slice_get, sym, ap, ◌∙◌, subst, arith, length-append}
+use Rattle.std.proofs.Common.{◌≡◌, ◌⊎◌, inl, inr, ℕ, ◌+◌, ◌<◌, ◌≤◌, List, [], ◌∷◌, ◌++◌, length, get_or, Some, slice_get, sym, ap, ◌∙◌, subst, arith}
 use Rattle.std.specs.Prelude.{slice_set}
 use Rattle.std.proofs.lemmas.Bool.{cases_lt}
 use Rattle.std.proofs.lemmas.List.{length-set, get_or-set_same, get_or-set_other, get_or_append_left}
@@ -49,8 +49,8 @@ module _ {N H : Type 0} (at : H → N → Type 0) (home : H) (workers : ℕ) (ob
       by_case (inr last) =
           let e : i ≡ n = omega (arith, before, last) in
           subst (λ (k : ℕ). IsColumnOf at home workers count other (column_at (slice_set all i new) k)) e
-            (subst (λ (c : AnyColumn N). IsColumnOf at home workers count other c) (sym now_at)
-              (subst (λ (o : AnyObject N H). IsColumnOf at home workers count o new) (same_object n object other (subst (λ (k : ℕ). slice_get objects k ≡ Some object) e here) there) is))
+          (subst (λ (c : AnyColumn N). IsColumnOf at home workers count other c) (sym now_at)
+          (subst (λ (o : AnyObject N H). IsColumnOf at home workers count o new) (same_object n object other (subst (λ (k : ℕ). slice_get objects k ≡ Some object) e here) there) is))
 
     rest_more : ((n : ℕ) → i ≤ n → slice_get all n ≡ slice_get old n) → (n : ℕ) → i + 1 ≤ n → slice_get (slice_set all i new) n ≡ slice_get old n
     rest_more rest n beyond = set_other all i n new (λ e. absurd (omega (arith, e, beyond))) ∙ rest n (omega (arith, beyond))
@@ -67,14 +67,14 @@ module _ {N H : Type 0} (at : H → N → Type 0) (home : H) (workers : ℕ) (ob
       by_case : (n : ℕ) → n < i + 1 → (n < i) ⊎ (i ≤ n) → passes_in (column_at old n) ≡ passes_in (column_at (slice_set all i new) n) ++ pass_at (row ++ pass ∷ []) n ∷ []
       by_case n before (inl first) =
           subst (λ (c : AnyColumn N). passes_in (column_at old n) ≡ passes_in c ++ pass_at (row ++ pass ∷ []) n ∷ []) (sym (was_at n first))
-            (subst (λ (p : AnyPass N). passes_in (column_at old n) ≡ passes_in (column_at all n) ++ p ∷ []) (sym (get_or_append_left row (pass ∷ []) passes.None n (omega (arith, first, row_sized)))) (went.dealt n first))
+          (subst (λ (p : AnyPass N). passes_in (column_at old n) ≡ passes_in (column_at all n) ++ p ∷ []) (sym (get_or_append_left row (pass ∷ []) passes.None n (omega (arith, first, row_sized)))) (went.dealt n first))
       by_case n before (inr last) =
           let e : i ≡ n = omega (arith, before, last) in
           let added : pass_at (row ++ pass ∷ []) i ≡ pass = subst (λ (k : ℕ). pass_at (row ++ pass ∷ []) k ≡ pass) row_sized (get_or-append_seam row pass [] passes.None) in
           subst (λ (k : ℕ). passes_in (column_at old k) ≡ passes_in (column_at (slice_set all i new) k) ++ pass_at (row ++ pass ∷ []) k ∷ []) e
-            (subst (λ (c : AnyColumn N). passes_in (column_at old i) ≡ passes_in c ++ pass_at (row ++ pass ∷ []) i ∷ []) (sym now_at)
-              (subst (λ (p : AnyPass N). passes_in (column_at old i) ≡ passes_in new ++ p ∷ []) (sym added)
-                (ap (λ (c : AnyColumn N). passes_in c) (got old i was (columns.None 0) (sym (went.rest i (omega arith)) ∙ there)) ∙ parts)))
+          (subst (λ (c : AnyColumn N). passes_in (column_at old i) ≡ passes_in c ++ pass_at (row ++ pass ∷ []) i ∷ []) (sym now_at)
+          (subst (λ (p : AnyPass N). passes_in (column_at old i) ≡ passes_in new ++ p ∷ []) (sym added)
+          (ap (λ (c : AnyColumn N). passes_in c) (got old i was (columns.None 0) (sym (went.rest i (omega arith)) ∙ there)) ∙ parts)))
 
     -- a pass more was put back
     pub put_more : (count : ℕ) (object : AnyObject N H) (was : AnyColumn N) (row : List (AnyPass N)) → slice_get objects i ≡ Some object → slice_get all i ≡ Some was → IsColumnOf at home workers count object new → passes_in new ≡ passes_in was ++ pass_at row i ∷ []
@@ -91,7 +91,7 @@ module _ {N H : Type 0} (at : H → N → Type 0) (home : H) (workers : ℕ) (ob
           let e : i ≡ n = omega (arith, before, last) in
           let back : column_at old i ≡ was = got old i was (columns.None 0) (sym (went.rest i (omega arith)) ∙ there) in
           subst (λ (k : ℕ). passes_in (column_at (slice_set all i new) k) ≡ passes_in (column_at old k) ++ pass_at row k ∷ []) e
-            (ap (λ (c : AnyColumn N). passes_in c) now_at ∙ (parts ∙ ap (λ (c : AnyColumn N). passes_in c ++ pass_at row i ∷ []) (sym back)))
+          (ap (λ (c : AnyColumn N). passes_in c) now_at ∙ (parts ∙ ap (λ (c : AnyColumn N). passes_in c ++ pass_at row i ∷ []) (sym back)))
 
   -- all of them
   pub columns_of : (count : ℕ) (more less : List (AnyColumn N)) (all : List (AnyColumn N)) (row : List (AnyPass N)) → length old ≡ length objects → WentTo count more less all row (length objects) → AreColumns at home workers count objects all

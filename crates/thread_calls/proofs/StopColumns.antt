@@ -1,7 +1,6 @@
 -- Stop: its workers do nothing on it but halt it.
-use Rattle.std.proofs.Common.{◌≡◌, ◌⊎◌, inl, inr, ℕ, ◌+◌, ◌<◌, ◌≤◌, List, [], ◌∷◌, ◌++◌, length, map, get_or, Option, Some, None, slice_get, refl, sym, ap, subst, ◌∙◌}
+use Rattle.std.proofs.Common.{◌≡◌, ◌⊎◌, inl, inr, ℕ, ◌<◌, ◌≤◌, List, [], ◌∷◌, ◌++◌, length, map, get_or, Some, None, slice_get, sym, subst}
 use Rattle.std.specs.Global.{Vec}
-use Rattle.std.specs.Prelude.{All}
 use Rattle.std.proofs.lemmas.List.Elements.{All-nil, All-same, All-push}
 use Rattle.std.proofs.lemmas.Option.{slice_get_cases}
 use Rattle.sync_model.specs.declared.journal.Deed.TheVariants.{Halt}
@@ -11,7 +10,6 @@ use Rattle.sync_model.specs.Journal.{by}
 use Rattle.ruled_object.specs.declared.object.Object.{Object}
 use Rattle.ruled_object.specs.declared.pass.Pass.{Pass}
 use Rattle.ruled_object.specs.Gathered.{SameOwn}
-use Rattle.ruled_object.specs.Passes.{own_by}
 use Rattle.run_record.specs.Journals.{IsStops}
 use Rattle.run_record.specs.Parts.{lifted}
 use Rattle.run_record.specs.Record.{ObjectEntry}

@@ -1,11 +1,10 @@
 -- The journals of the objects so far.
-use Rattle.std.proofs.Common.{◌≡◌, ◌⊎◌, inl, inr, ℕ, zero, ◌+◌, ◌<◌, ◌≤◌, List, [], ◌∷◌, ◌++◌, length, get_or, Option, Some, None, slice_get, refl, sym, ap, ◌∙◌, subst, arith, length-append}
+use Rattle.std.proofs.Common.{◌≡◌, ◌⊎◌, inl, inr, ℕ, ◌+◌, ◌<◌, ◌≤◌, List, [], ◌∷◌, ◌++◌, length, get_or, Option, Some, None, slice_get, refl, sym, ap, ◌∙◌, subst, arith, length-append}
 use Rattle.std.proofs.lemmas.List.{get_or_append_left}
 use Rattle.std.proofs.Math.Seq.{get_or-append_seam}
 use Rattle.std.proofs.lemmas.Option.{slice_get_cases, slice_get_past, slice_get_within}
 use Rattle.sync_model.specs.declared.misuse.Misuse.{Misuse}
 use Rattle.sync_model.specs.Journal.{by, halt_of}
-use Rattle.workload.specs.declared.object.ObjectLine.{ObjectLine}
 use Rattle.workload.specs.Plan.{Plan}
 use Rattle.run_record.specs.Record.{ObjectEntry, stop, number_at}
 use Rattle.thread_calls.specs.declared.column.AnyColumn.{AnyColumn}
@@ -43,7 +42,7 @@ module _ {N H : Type 0} (objects : List (AnyObject N H)) (all : List (AnyColumn 
     stops = history.2;
     each = λ n object column before here there. let e : n ≡ 0 = omega (arith, before) in
         subst (λ (k : ℕ). IsJournalAt object (get_or (history.0 ∷ []) k []) × AreParts (get_or (history.0 ∷ []) k []) (passes_in column)) (sym e)
-          (told_by 0 known those history.0 at_object at_column history.1 history.3 object column (subst (λ (k : ℕ). slice_get objects k ≡ Some object) e here) (subst (λ (k : ℕ). slice_get all k ≡ Some column) e there));
+        (told_by 0 known those history.0 at_object at_column history.1 history.3 object column (subst (λ (k : ℕ). slice_get objects k ≡ Some object) e here) (subst (λ (k : ℕ). slice_get all k ≡ Some column) e there));
   }
 
   module _ (stopped result : Option Misuse) (i : ℕ) (known : AnyObject N H) (those : AnyColumn N) (some : 0 < i) (told : ToldTo stopped i) (at_object : slice_get objects i ≡ Some known) (at_column : slice_get all i ≡ Some those) (history : History result known those) where
@@ -65,7 +64,7 @@ module _ {N H : Type 0} (objects : List (AnyObject N H)) (all : List (AnyColumn 
     by_case n object column here there (inr (past, none)) before =
         let e : n ≡ i = omega (arith, past, told.count, before) in
         subst (λ (k : ℕ). At object column (get_or more k [])) (sym e) (subst (At object column) (sym last)
-          (told_by i known those history.0 at_object at_column history.1 history.3 object column (subst (λ (k : ℕ). slice_get objects k ≡ Some object) e here) (subst (λ (k : ℕ). slice_get all k ≡ Some column) e there)))
+        (told_by i known those history.0 at_object at_column history.1 history.3 object column (subst (λ (k : ℕ). slice_get objects k ≡ Some object) e here) (subst (λ (k : ℕ). slice_get all k ≡ Some column) e there)))
 
     -- and of one more
     pub told_more : ToldTo stopped (i + 1)
@@ -88,16 +87,16 @@ module _ {N H : Type 0} (objects : List (AnyObject N H)) (all : List (AnyColumn 
     are_journals = record {
       count = told.count ∙ declared.count;
       stops =
-        let within : stop < length objects = omega (arith, declared.count) in
-        let object = there_is objects stop within in
-        let column = there_is all stop (omega (arith, sized, within)) in
-        of_stop at home plan 0 (get_or told.journals stop []) plan.workers object.0 (declared.stops object.0 object.1) (told.each stop object.0 column.0 within object.1 column.1).0;
+          let within : stop < length objects = omega (arith, declared.count) in
+          let object = there_is objects stop within in
+          let column = there_is all stop (omega (arith, sized, within)) in
+          of_stop at home plan 0 (get_or told.journals stop []) plan.workers object.0 (declared.stops object.0 object.1) (told.each stop object.0 column.0 within object.1 column.1).0;
       each = λ place line here.
-        let inside = slice_get_within plan.objects place line here in
-        let within : number_at place < length objects = omega (arith, declared.count, inside) in
-        let object = there_is objects (number_at place) within in
-        let column = there_is all (number_at place) (omega (arith, sized, within)) in
-        of_declared at home plan place (get_or told.journals (number_at place) []) line.kind object.0 (declared.each place line object.0 here object.1) (told.each (number_at place) object.0 column.0 within object.1 column.1).0;
+          let inside = slice_get_within plan.objects place line here in
+          let within : number_at place < length objects = omega (arith, declared.count, inside) in
+          let object = there_is objects (number_at place) within in
+          let column = there_is all (number_at place) (omega (arith, sized, within)) in
+          of_declared at home plan place (get_or told.journals (number_at place) []) line.kind object.0 (declared.each place line object.0 here object.1) (told.each (number_at place) object.0 column.0 within object.1 column.1).0;
     }
 
     pub are_parts : (object worker : ℕ) → made_on all object worker ≡ by worker (get_or told.journals object [])

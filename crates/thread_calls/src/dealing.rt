@@ -47,7 +47,9 @@ pub(crate) fn take_last<N: Note>(
             _ => unreachable!(),
         },
         AnyObject::WaitGroup(object) => match column {
-            AnyColumn::WaitGroup(passes) => AnyPass::WaitGroup(take_pass(crew, worker, object, passes)),
+            AnyColumn::WaitGroup(passes) => AnyPass::WaitGroup(take_pass(
+                crew, worker, object, passes,
+            )),
             _ => unreachable!(),
         },
         AnyObject::Once(object) => match column {
@@ -55,11 +57,15 @@ pub(crate) fn take_last<N: Note>(
             _ => unreachable!(),
         },
         AnyObject::OnceFunc(object) => match column {
-            AnyColumn::OnceFunc(passes) => AnyPass::OnceFunc(take_pass(crew, worker, object, passes)),
+            AnyColumn::OnceFunc(passes) => AnyPass::OnceFunc(take_pass(
+                crew, worker, object, passes,
+            )),
             _ => unreachable!(),
         },
         AnyObject::OnceValue(object) => match column {
-            AnyColumn::OnceValue(passes) => AnyPass::OnceValue(take_pass(crew, worker, object, passes)),
+            AnyColumn::OnceValue(passes) => AnyPass::OnceValue(take_pass(
+                crew, worker, object, passes,
+            )),
             _ => unreachable!(),
         },
         AnyObject::Pool(object) => match column {

@@ -1,4 +1,4 @@
-use Rattle.std.proofs.Common.{◌≡◌, ℕ, ◌<◌, ◌≤◌, length, slice_get, Some, refl, sym, ap, ◌∙◌, subst, arith}
+use Rattle.std.proofs.Common.{◌≡◌, ◌<◌, length, refl, sym, ◌∙◌, subst, arith}
 use Rattle.std.proofs.lemmas.List.{length-set}
 use Rattle.std.proofs.lemmas.Option.{slice_get-get_or, slice_get_read}
 use Rattle.thread_calls.proofs.ColumnLists.{set_other}
@@ -37,9 +37,9 @@ loop-number-preserved g c =
     let inside : number < length columns = omega (arith, within, c.requires.columns.sized, so_far.sized) in
     record {
       told = told_more objects c.args.columns.now c.first_halt-stopped.result c.first_halt.result number c.index-objects-number.result _ so_far.some so_far.told
-        (slice_get_read objects (length objects) number c.index-objects-number.result refl within c.index-objects-number.is)
-        (sym (so_far.rest number (omega arith)) ∙ slice_get-get_or columns number c.index-columns-number.result inside)
-        c.first_halt.ensures.history;
+          (slice_get_read objects (length objects) number c.index-objects-number.result refl within c.index-objects-number.is)
+          (sym (so_far.rest number (omega arith)) ∙ slice_get-get_or columns number c.index-columns-number.result inside)
+          c.first_halt.ensures.history;
       some = omega arith;
       sized = length-set columns number _ ∙ so_far.sized;
       rest = λ n beyond. set_other columns number n _ (λ e. absurd (omega (arith, e, beyond))) ∙ so_far.rest n (omega (arith, beyond));
@@ -56,5 +56,6 @@ returns g c =
         told.journals,
         are_journals objects columns g.N.Note.at c.args.crew.now.home.now c.args._workload.now c.first_halt-stopped.result c.requires.declared c.requires.columns.sized told,
         told.stops,
-        are_parts objects columns g.N.Note.at c.args.crew.now.home.now c.args._workload.now c.first_halt-stopped.result c.requires.declared c.requires.columns.sized told);
+        are_parts objects columns g.N.Note.at c.args.crew.now.home.now c.args._workload.now c.first_halt-stopped.result c.requires.declared c.requires.columns.sized told,
+      );
     }

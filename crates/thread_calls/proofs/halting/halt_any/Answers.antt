@@ -1,4 +1,3 @@
-use Rattle.std.proofs.Common.{refl, sym}
 use Rattle.thread_calls.specs.Stop.{no_event, no_reply}
 use Rattle.thread_calls.proofs.StopColumns.{halts_more, seat_from, seat_to}
 use Rattle.thread_calls.proofs.halting.halt_any.Goals as goal

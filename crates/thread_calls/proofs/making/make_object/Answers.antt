@@ -2,7 +2,6 @@ use Rattle.std.proofs.Common.{◌≡◌, ◌<◌, true, length, List, [], sym, a
 use Rattle.std.proofs.lemmas.Option.{slice_get-get_or}
 use Rattle.workload.specs.declared.object.ObjectLine.{ObjectLine}
 use Rattle.workload.specs.Readable.{may_declare}
-use Rattle.thread_calls.proofs.DeclaredJournals.{of_declared}
 use Rattle.thread_calls.proofs.KindsFit.{kind_fits}
 use Rattle.thread_calls.proofs.making.make_object.Goals as goal
 

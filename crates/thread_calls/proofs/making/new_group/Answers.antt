@@ -1,5 +1,5 @@
 use Rattle.thread_calls.proofs.GroupStart.{begins}
-use Rattle.std.proofs.Common.{arith, ◌≡◌, ◌<◌, w32}
+use Rattle.std.proofs.Common.{arith, ◌<◌, w32}
 use Rattle.std.proofs.lemmas.Int.{to_z_pos}
 use Rattle.wait_cores.specs.GroupMachine.{callers_of}
 use Rattle.thread_calls.proofs.making.new_group.Goals as goal

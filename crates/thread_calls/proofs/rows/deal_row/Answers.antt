@@ -1,4 +1,4 @@
-use Rattle.std.proofs.Common.{◌≡◌, ℕ, ◌+◌, ◌<◌, ◌≤◌, List, [], ◌∷◌, ◌++◌, length, Some, slice_get, refl, sym, ap, ◌∙◌, subst, arith, length-append}
+use Rattle.std.proofs.Common.{◌≡◌, ◌+◌, ◌<◌, ◌≤◌, List, [], ◌∷◌, length, Some, slice_get, refl, sym, ap, ◌∙◌, subst, arith, length-append}
 use Rattle.std.specs.Prelude.{slice_set}
 use Rattle.std.proofs.lemmas.Option.{slice_get-get_or, slice_get_read}
 use Rattle.thread_calls.specs.declared.pass.AnyPass.{AnyPass}
@@ -25,11 +25,11 @@ loop-number-preserved g c =
     let items = c.push_reserved.ensures.items in
     record {
       went = subst (λ (xs : List (AnyPass g.row.N.Denot)). WentTo at home workers objects old worker old (slice_set all number new) (slice_set all number new) xs (number + 1)) (sym items)
-        (dealt_more at home workers objects old number all new inside worker c.index-objects-number.result _ pass row so_far.row here (slice_get-get_or all number c.index-columns-number.result inside) c.take_last-pass.ensures.column c.take_last-pass.ensures.passes so_far.went);
+          (dealt_more at home workers objects old number all new inside worker c.index-objects-number.result _ pass row so_far.row here (slice_get-get_or all number c.index-columns-number.result inside) c.take_last-pass.ensures.column c.take_last-pass.ensures.passes so_far.went);
       row = ap (λ (xs : List (AnyPass g.row.N.Denot)). length xs) items ∙ length-append row (pass ∷ []) ∙ ap (λ n. n + 1) so_far.row;
       room = subst (λ n. length objects ≤ n) (sym c.push_reserved.ensures.capacity) so_far.room;
       seats = subst (λ (xs : List (AnyPass g.row.N.Denot)). AreSo at home workers worker objects xs) (sym items)
-        (seats_more at home workers worker objects row c.index-objects-number.result pass (subst (λ n. slice_get objects n ≡ Some c.index-objects-number.result) (sym so_far.row) here) c.take_last-pass.ensures.seat so_far.seats);
+          (seats_more at home workers worker objects row c.index-objects-number.result pass (subst (λ n. slice_get objects n ≡ Some c.index-objects-number.result) (sym so_far.row) here) c.take_last-pass.ensures.seat so_far.seats);
     }
 
 pub returns-clause-columns : goal.returns-clause-columns

@@ -1,4 +1,4 @@
-use Rattle.std.proofs.Common.{◌≡◌, ℕ, ◌+◌, ◌<◌, ◌≤◌, List, [], ◌∷◌, ◌++◌, length, get_or, Some, slice_get, refl, sym, ap, ◌∙◌, subst, arith}
+use Rattle.std.proofs.Common.{◌≡◌, ◌+◌, ◌<◌, [], ◌∷◌, ◌++◌, length, get_or, Some, refl, sym, ap, ◌∙◌, subst, arith}
 use Rattle.std.proofs.lemmas.List.{length-set}
 use Rattle.std.proofs.lemmas.Option.{slice_get-get_or, slice_get_read}
 use Rattle.thread_calls.specs.declared.pass.AnyPass.{AnyPass}
@@ -25,14 +25,14 @@ loop-number-preserved g c =
     let inside : number < length all = omega (arith, within, c.requires.columns.sized, so_far.went.sized) in
     let in_row : number < length c.loop-number.row = omega (arith, within, c.requires.seats.count, so_far.sized) in
     let pass : pass_at row number ≡ c.replace-pass.result =
-      got row number c.replace-pass.result passes.None (sym (so_far.same number (omega arith)) ∙ slice_get-get_or c.loop-number.row number c.index-row-number.result in_row ∙ ap (λ (p : AnyPass g.row.N.Denot). Some p) (sym c.replace-pass.ensures.value)) in
+    got row number c.replace-pass.result passes.None (sym (so_far.same number (omega arith)) ∙ slice_get-get_or c.loop-number.row number c.index-row-number.result in_row ∙ ap (λ (p : AnyPass g.row.N.Denot). Some p) (sym c.replace-pass.ensures.value)) in
     record {
       went = put_more at home workers objects old number all new inside count c.index-objects-number.result _ row
-        (slice_get_read objects (length objects) number c.index-objects-number.result refl within c.index-objects-number.is)
-        (slice_get-get_or all number c.index-columns-number.result inside)
-        c.put.ensures.column
-        (c.put.ensures.passes ∙ ap (λ (p : AnyPass g.row.N.Denot). passes_in (get_or all number c.index-columns-number.result) ++ p ∷ []) (sym pass))
-        so_far.went;
+          (slice_get_read objects (length objects) number c.index-objects-number.result refl within c.index-objects-number.is)
+          (slice_get-get_or all number c.index-columns-number.result inside)
+          c.put.ensures.column
+          (c.put.ensures.passes ∙ ap (λ (p : AnyPass g.row.N.Denot). passes_in (get_or all number c.index-columns-number.result) ++ p ∷ []) (sym pass))
+          so_far.went;
       sized = length-set c.loop-number.row number _ ∙ so_far.sized;
       same = λ n beyond. set_other c.loop-number.row number n _ (λ e. absurd (omega (arith, e, beyond))) ∙ so_far.same n (omega (arith, beyond));
     }
