@@ -1,11 +1,11 @@
 -- Lists to which an element is added at the end, or from which the last one is taken.
-use Rattle.std.proofs.Common.{◌≡◌, ◌⊎◌, inl, inr, ℕ, zero, suc, ◌+◌, ◌<◌, Bool, true, false, ◌==◌, cond, List, [], ◌∷◌, ◌++◌, length, get_or, replicate, take, Option, Some, None, slice_get, refl, sym, ap, subst, ◌∙◌, arith, length-append}
+use Rattle.std.proofs.Common.{◌≡◌, ◌⊎◌, inl, inr, ℕ, zero, suc, ◌+◌, ◌<◌, ◌≤◌, Bool, true, false, ◌==◌, cond, List, [], ◌∷◌, ◌++◌, length, get_or, replicate, take, Option, Some, None, slice_get, refl, sym, ap, subst, ◌∙◌, arith, length-append}
 use Rattle.std.specs.Prelude.{unwrap_or, All, slice_set}
 use Rattle.std.proofs.Math.Seq.{take-append_seam}
 use Rattle.std.proofs.lemmas.Bool.{eq-eqb}
 use Rattle.std.proofs.lemmas.List.{replicate-append-replicate}
 use Rattle.std.proofs.lemmas.List.Elements.{All-nil, All-cons, All-head, All-tail}
-use Rattle.std.proofs.lemmas.Option.{none-some, unwrap_or-slice_get}
+use Rattle.std.proofs.lemmas.Option.{none-some, slice_get_cases, unwrap_or-slice_get}
 use Rattle.sync_model.specs.declared.journal.Entry.{Entry}
 use Rattle.sync_model.specs.Journal.{by}
 
@@ -57,6 +57,13 @@ module _ {A : Type 0} where
 
   pub one_more : (n : ℕ) (d : A) → replicate (n + 1) d ≡ replicate n d ++ d ∷ []
   one_more n d = sym (replicate-append-replicate n 1 d)
+
+  -- within a list there is an element
+  pub there_is : (xs : List A) (n : ℕ) → n < length xs → (x : A) × (slice_get xs n ≡ Some x)
+  there_is xs n within = by_case (slice_get_cases xs n).1 where
+    by_case : ((x : A) × (n < length xs) × (slice_get xs n ≡ Some x) × (get_or xs n x ≡ x)) ⊎ ((length xs ≤ n) × (slice_get xs n ≡ None)) → (x : A) × (slice_get xs n ≡ Some x)
+    by_case (inl (x, here, some, is)) = (x, some)
+    by_case (inr (past, none)) = absurd (omega (arith, past, within))
 
   -- a list of which one element was changed
   pub set_other : (xs : List A) (i n : ℕ) (x : A) → (i ≡ n → ⊥) → slice_get (slice_set xs i x) n ≡ slice_get xs n

@@ -5,6 +5,7 @@ pub mod GroupStart
 pub mod HaltLemmas
 pub mod Histories
 pub mod KindsFit
+pub mod MadeOn
 pub mod OnceParts
 pub mod RowSteps
 pub mod SharedParts

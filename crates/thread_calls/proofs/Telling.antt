@@ -13,7 +13,7 @@ use Rattle.thread_calls.specs.declared.object.AnyObject.{AnyObject}
 use Rattle.thread_calls.specs.AsDeclared.{AreDeclared}
 use Rattle.thread_calls.specs.Columns.{AreParts, IsJournalAt, passes_in}
 use Rattle.thread_calls.specs.Rows.{AreJournals, made_on}
-use Rattle.thread_calls.proofs.ColumnLists.{got, got_none}
+use Rattle.thread_calls.proofs.ColumnLists.{got, got_none, there_is}
 use Rattle.thread_calls.proofs.DeclaredJournals.{of_declared, of_stop}
 use Rattle.thread_calls.proofs.Histories.{History}
 
@@ -77,12 +77,6 @@ module _ {N H : Type 0} (objects : List (AnyObject N H)) (all : List (AnyColumn 
 
   -- the journals of all objects
   module _ (at : H → N → Type 0) (home : H) (plan : Plan) (stopped : Option Misuse) (declared : AreDeclared at home plan objects) (sized : length all ≡ length objects) (told : ToldTo stopped (length objects)) where
-    there_is : {A : Type 0} (xs : List A) (n : ℕ) → n < length xs → (x : A) × (slice_get xs n ≡ Some x)
-    there_is {A} xs n within = by_case (slice_get_cases xs n).1 where
-      by_case : ((x : A) × (n < length xs) × (slice_get xs n ≡ Some x) × (get_or xs n x ≡ x)) ⊎ ((length xs ≤ n) × (slice_get xs n ≡ None)) → (x : A) × (slice_get xs n ≡ Some x)
-      by_case (inl (x, here, some, is)) = (x, some)
-      by_case (inr (past, none)) = absurd (omega (arith, past, within))
-
     pub are_journals : AreJournals plan told.journals
     are_journals = record {
       count = told.count ∙ declared.count;

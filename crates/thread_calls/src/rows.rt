@@ -1,7 +1,8 @@
 //! Dealing a worker its passes to all objects, and collecting them.
-ghost use Rattle.std.specs.Prelude.{◌≡◌, ◌+◌, ◌<◌, IfOk};
+ghost use Rattle.std.specs.Prelude.{◌≡◌, ℕ, ◌+◌, ◌<◌, ◌==◌, cond, IfOk};
 ghost use Rattle.thread_calls.specs.Desks.{AreSeats};
-ghost use Rattle.thread_calls.specs.Rows.{AreColumns, AreDealt};
+ghost use Rattle.thread_calls.specs.Passes.{owns_of};
+ghost use Rattle.thread_calls.specs.Rows.{AreColumns, AreDealt, made_on};
 
 use crate::column::AnyColumn;
 use crate::crew::Crew;
@@ -24,6 +25,7 @@ pub fn deal_row<N: Note>(
     ensures seats { IfOk result (λ row. AreSeats N.at crew.now.home.now crew.now.workers worker objects.now row.items) }
     ensures columns { IfOk result (λ row. AreColumns N.at crew.now.home.now crew.now.workers worker objects.now columns.new) }
     ensures passes { IfOk result (λ row. AreDealt columns.old columns.new row.items) }
+    ensures made { IfOk result (λ row. (object other : ℕ) → made_on columns.old object other ≡ cond (other == worker) (owns_of row.items object) (made_on columns.new object other)) }
 {
     let mut row = Vec::with_capacity(alloc, objects.len())?;
     for number in 0..objects.len() {
@@ -47,6 +49,7 @@ pub fn put_row<N: Note>(
     requires seats { AreSeats N.at crew.now.home.now crew.now.workers worker objects.now row.old }
     ensures columns { AreColumns N.at crew.now.home.now crew.now.workers (worker + 1) objects.now columns.new }
     ensures passes { AreDealt columns.new columns.old row.old }
+    ensures made { (object other : ℕ) → made_on columns.new object other ≡ cond (other == worker) (owns_of row.old object) (made_on columns.old object other) }
 {
     for number in 0..objects.len() {
         let pass = mem::replace(&mut row[number], AnyPass::None);

@@ -2,6 +2,7 @@ use Rattle.std.proofs.Common.{◌≡◌, ◌+◌, ◌<◌, ◌≤◌, List, [], 
 use Rattle.std.specs.Prelude.{slice_set}
 use Rattle.std.proofs.lemmas.Option.{slice_get-get_or, slice_get_read}
 use Rattle.thread_calls.specs.declared.pass.AnyPass.{AnyPass}
+use Rattle.thread_calls.proofs.MadeOn.{made_with}
 use Rattle.thread_calls.proofs.RowSteps.{WentTo, AreSo, dealt_more, seats_more, columns_of}
 use Rattle.thread_calls.proofs.rows.deal_row.Goals as goal
 
@@ -43,3 +44,10 @@ returns-clause-columns g c =
     let row = c.loop-number.row.items in
     let ends : c.loop-number.number ≡ length objects = omega (arith, c.loop-number-test.false, c.loop-number.auto.number-end) in
     columns_of at home workers objects old c.args.worker old all all row c.requires.columns.sized (subst (λ n. WentTo at home workers objects old c.args.worker old all all row n) ends c.loop-number.invariant.went)
+
+pub returns-clause-made : goal.returns-clause-made
+returns-clause-made g c =
+    let so_far = c.loop-number.invariant in
+    let row = c.loop-number.row.items in
+    let ends : c.loop-number.number ≡ length c.args.objects.now = omega (arith, c.loop-number-test.false, c.loop-number.auto.number-end) in
+    made_with g.N.Note.at c.args.crew.now.home.now c.args.crew.now.workers c.args.worker c.args.objects.now c.args.columns.now c.loop-number.columns row (returns-clause-columns g c) c.requires.columns.sized (so_far.row ∙ ends) (λ n within. so_far.went.dealt n (omega (arith, within, so_far.row)))

@@ -5,6 +5,7 @@ use Rattle.thread_calls.specs.declared.pass.AnyPass.{AnyPass}
 use Rattle.thread_calls.specs.declared.pass.AnyPass.TheVariants as passes
 use Rattle.thread_calls.specs.Columns.{passes_in}
 use Rattle.thread_calls.proofs.ColumnLists.{got, set_other}
+use Rattle.thread_calls.proofs.MadeOn.{made_with}
 use Rattle.thread_calls.proofs.RowSteps.{WentTo, put_more, columns_of, pass_at}
 use Rattle.thread_calls.proofs.rows.put_row.Goals as goal
 
@@ -49,3 +50,9 @@ returns-clause-columns g c =
     let row = c.args.row.now in
     let ends : c.loop-number.number ≡ length objects = omega (arith, c.loop-number-test.false, c.loop-number.auto.number-end) in
     columns_of at home workers objects old count all old all row c.requires.columns.sized (subst (λ n. WentTo at home workers objects old count all old all row n) ends c.loop-number.invariant.went)
+
+pub returns-clause-made : goal.returns-clause-made
+returns-clause-made g c =
+    let so_far = c.loop-number.invariant in
+    let ends : c.loop-number.number ≡ length c.args.objects.now = omega (arith, c.loop-number-test.false, c.loop-number.auto.number-end) in
+    made_with g.N.Note.at c.args.crew.now.home.now c.args.crew.now.workers c.args.worker c.args.objects.now c.loop-number.columns c.args.columns.now c.args.row.now c.requires.columns (so_far.went.sized ∙ c.requires.columns.sized) c.requires.seats.count (λ n within. so_far.went.dealt n (omega (arith, within, c.requires.seats.count, ends)))
