@@ -6,6 +6,7 @@ pub mod HaltLemmas
 pub mod Histories
 pub mod KindsFit
 pub mod MadeOn
+pub mod NewColumns
 pub mod OnceParts
 pub mod RowSteps
 pub mod SharedParts

@@ -1,10 +1,11 @@
 //! Making the objects of a run.
-ghost use Rattle.std.specs.Prelude.{◌≡◌, ◌<◌, ◌≤◌, true, length, IfOk, Some, slice_get};
+ghost use Rattle.std.specs.Prelude.{◌≡◌, ℕ, ◌<◌, ◌≤◌, true, [], length, IfOk, Some, slice_get};
 ghost use Rattle.workload.specs.declared.object.ObjectLine.{ObjectLine};
 ghost use Rattle.workload.specs.Draft.{is_kind};
 ghost use Rattle.run_record.specs.WaitGroupKind.{group_start};
 ghost use Rattle.thread_calls.specs.AsDeclared.{IsDeclared, IsStopOf};
-ghost use Rattle.thread_calls.specs.Columns.{IsColumnOf, IsUntouched};
+ghost use Rattle.thread_calls.specs.Columns.{IsColumnOf, IsUntouched, passes_in};
+ghost use Rattle.thread_calls.specs.Passes.{owns_of};
 
 use crate::column::AnyColumn;
 use crate::crew::Crew;
@@ -28,7 +29,7 @@ pub fn make_stop<N: Note>(
     requires home { N.at crew.now.home.now note }
     ensures declared { IfOk result (λ made. IsStopOf N.at crew.now.home.now crew.now.workers made.0) }
     ensures column { IfOk result (λ made. IsColumnOf N.at crew.now.home.now crew.now.workers crew.now.workers made.0 made.1) }
-    ensures untouched { IfOk result (λ made. IsUntouched made.1) }
+    ensures untouched { IfOk result (λ made. (worker : ℕ) → owns_of (passes_in made.1) worker ≡ []) }
 {
     let (object, passes) = begin(alloc, crew, (), note)?;
     Ok((AnyObject::Stop(object), AnyColumn::Stop(passes)))
@@ -122,7 +123,7 @@ pub fn make_object<N: Note>(
     requires home { N.at crew.now.home.now note }
     ensures declared { IfOk result (λ made. (line : ObjectLine) → slice_get workload.now.objects place ≡ Some line → IsDeclared N.at crew.now.home.now workload.now place line.kind made.0) }
     ensures column { IfOk result (λ made. IsColumnOf N.at crew.now.home.now crew.now.workers crew.now.workers made.0 made.1) }
-    ensures untouched { IfOk result (λ made. IsUntouched made.1) }
+    ensures untouched { IfOk result (λ made. (worker : ℕ) → owns_of (passes_in made.1) worker ≡ []) }
 {
     let _workers = workload.workers();
     let kind = workload.objects()[place].kind;
