@@ -1,4 +1,4 @@
+pub mod Dealing
 pub mod DidLines
-pub mod Gathering
 pub mod Jobs
 pub mod Runs

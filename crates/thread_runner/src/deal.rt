@@ -1,5 +1,5 @@
 //! The objects of a run, and dealing their passes to the workers.
-ghost use Rattle.std.specs.Prelude.{◌≡◌, ℕ, ◌×◌, ◌<◌, ◌≤◌, IfOk, [], get_or, map};
+ghost use Rattle.std.specs.Prelude.{◌≡◌, ℕ, ◌<◌, ◌≤◌, IfOk, List, [], length, get_or, map, Some, slice_get};
 ghost use Rattle.sync_model.specs.Note.{SameHome};
 ghost use Rattle.thread_calls.specs.AsDeclared.{AreDeclared};
 ghost use Rattle.thread_calls.specs.Desks.{AreSeats};
@@ -26,6 +26,7 @@ pub(crate) fn make_objects<N: Note>(
     ensures columns { IfOk result (λ made. AreColumns N.at crew.now.home.now crew.now.workers crew.now.workers made.0.items made.1.items) }
     ensures nothing { IfOk result (λ made. MadeNothingFrom 0 made.1.items) }
 {
+    let _workers = workload.workers();
     let count = workload.objects().len();
     let mut objects = Vec::with_capacity(alloc, count + 1)?;
     let mut columns = Vec::with_capacity(alloc, count + 1)?;
@@ -57,7 +58,8 @@ pub(crate) fn deal<N: Note>(
     let mut worker = crew.workers;
     while worker > 0 {
         worker -= 1;
-        rows.push_reserved(deal_row(alloc, crew, worker, objects, columns)?);
+        let row = deal_row(alloc, crew, worker, objects, columns)?;
+        rows.push_reserved(row);
     }
     rows.reverse();
     Ok(rows)
@@ -70,6 +72,7 @@ pub(crate) fn collect<N: Note>(
     columns: &mut [AnyColumn<N>],
     rows: Vec<Vec<AnyPass<N>>>,
 )
+    requires few { crew.now.workers ≤ 64 }
     requires count { length rows.items ≡ crew.now.workers }
     requires seats { (worker : ℕ) (row : List (AnyPass N)) → slice_get (map (λ row. row.items) rows.items) worker ≡ Some row → AreSeats N.at crew.now.home.now crew.now.workers worker objects.now row }
     requires columns { AreColumns N.at crew.now.home.now crew.now.workers 0 objects.now columns.old }

@@ -1,6 +1,7 @@
 //! Running a workload's workers in threads.
 #![tactic(auto)]
 
+mod deal;
 mod fault;
 mod gather;
 mod hire;
