@@ -1,5 +1,7 @@
+pub mod Counting
 pub mod Explaining
 pub mod ItemLists
 pub mod Joining
 pub mod LineSteps
+pub mod NameTables
 pub mod ScriptLoop

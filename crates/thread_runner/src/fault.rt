@@ -1,5 +1,8 @@
 //! Why a run by threads comes to nothing.
-use std::alloc::{AllocError, AllocFailed};
+ghost use Rattle.std.specs.Prelude.{◌≡◌};
+ghost use Rattle.thread_runner.specs.declared.fault.RunFault.TheVariants as faults;
+
+use std::alloc::AllocError;
 use thiserror::Error;
 
 /// Why no outcome of a run by threads is known.
@@ -16,7 +19,7 @@ pub enum RunFault {
 impl From<AllocError> for RunFault {
     ghost from_gives = { λ _ e. e ≡ faults.Memory };
 
-    fn from(_error: AllocError) -> Self {
+    fn from(_error: AllocError) -> RunFault {
         RunFault::Memory
     }
 }
