@@ -1,4 +1,5 @@
 pub mod DidLines
+pub mod EndsPlans
 pub mod Gathering
 pub mod Jobs
 pub mod Runs

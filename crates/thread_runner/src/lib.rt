@@ -2,10 +2,12 @@
 #![tactic(auto)]
 
 mod counts;
+mod ends_plan;
 pub mod fault;
 mod gather;
 mod job;
 mod key_order;
+mod plain_run;
 mod script;
 
 pub use fault::RunFault;

@@ -11,9 +11,11 @@ loop-place-preserved c =
     let i = c.loop-place.place in
     let within : i < length objects = search rules in
     let at : slice_get objects i ≡ Some here = slice_get_read objects (length objects) i here refl within c.index-objects-place.is in
+    let atomic : c.is_atomic.result ≡ is_atomic here.kind = search rules in
+    let map : c.is_map.result ≡ is_map here.kind = search rules in
     record {
-      atomics = c.in_ok-push_place.ensures ∙ ap (λ (b : Bool). c.loop-place.atomics.items ++ cond b (i ∷ []) []) c.is_atomic.ensures
+      atomics = c.in_ok-push_place.ensures ∙ ap (λ (b : Bool). c.loop-place.atomics.items ++ cond b (i ∷ []) []) atomic
           ∙ ap (λ (l : List ℕ). l ++ cond (is_atomic here.kind) (i ∷ []) []) c.loop-place.invariant.atomics ∙ sym (more_places is_atomic objects i here at);
-      maps = c.in_ok-push_place-2.ensures ∙ ap (λ (b : Bool). c.loop-place.maps.items ++ cond b (i ∷ []) []) c.is_map.ensures
+      maps = c.in_ok-push_place-2.ensures ∙ ap (λ (b : Bool). c.loop-place.maps.items ++ cond b (i ∷ []) []) map
           ∙ ap (λ (l : List ℕ). l ++ cond (is_map here.kind) (i ∷ []) []) c.loop-place.invariant.maps ∙ sym (more_places is_map objects i here at);
     }
