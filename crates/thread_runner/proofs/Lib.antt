@@ -1,3 +1,4 @@
+pub mod BothClauses
 pub mod Counting
 pub mod Explaining
 pub mod ItemLists

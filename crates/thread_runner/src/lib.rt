@@ -9,5 +9,6 @@ mod job;
 mod key_order;
 mod plain_run;
 mod script;
+pub mod threaded;
 
 pub use fault::RunFault;
