@@ -43,13 +43,13 @@ module _ (names : List (List ℕ)) (apart : (i j : ℕ) (name : List ℕ) → sl
       get-insert nat_list_cmp_total table here i name
       ∙ elim (cases_lt place i) as (λ side. cond (eq_by_cmp (slice_cmp nat_cmp) name here) (Some i) (get table name) ≡ Some place) [
         | inl before ↦ elim (eq_by_cmp (slice_cmp nat_cmp) name here) as (λ b. eq_by_cmp (slice_cmp nat_cmp) name here ≡ b → cond b (Some i) (get table name) ≡ Some place) [
-            | true ↦ λ e. ap (λ (k : ℕ). Some k) (apart i place here at (found ∙ ap (λ (word : List ℕ). Some word) (is_same name here e)))
-            | false ↦ λ e. has.all name place before found
-          ] refl
+          | true ↦ λ e. ap (λ (k : ℕ). Some k) (apart i place here at (found ∙ ap (λ (word : List ℕ). Some word) (is_same name here e)))
+          | false ↦ λ e. has.all name place before found
+        ] refl
         | inr behind ↦
-          let last : place ≡ i = omega (arith, behind, below) in
-          let same : name ≡ here = same_Some name here (sym found ∙ ap (λ (k : ℕ). slice_get names k) last ∙ at) in
-          ap (λ (b : Bool). cond b (Some i) (get table name)) (is_self name here same) ∙ ap (λ (k : ℕ). Some k) (sym last)
+            let last : place ≡ i = omega (arith, behind, below) in
+            let same : name ≡ here = same_Some name here (sym found ∙ ap (λ (k : ℕ). slice_get names k) last ∙ at) in
+            ap (λ (b : Bool). cond b (Some i) (get table name)) (is_self name here same) ∙ ap (λ (k : ℕ). Some k) (sym last)
       ]
 
   -- with one name more

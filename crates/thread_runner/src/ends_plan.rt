@@ -56,12 +56,7 @@ impl EndsPlan {
 }
 
 // Room for an end of each atomic, and of each key in each map. Room that can't be counted isn't to be had.
-fn room_for(
-    alloc: Global,
-    atomics: usize,
-    maps: usize,
-    keys: usize,
-) -> Result<Vec<End>, AllocError>
+fn room_for(alloc: Global, atomics: usize, maps: usize, keys: usize) -> Result<Vec<End>, AllocError>
     ensures none { IfOk result (λ ends. ends.items ≡ []) }
     ensures room { IfOk result (λ ends. atomics + maps * keys ≤ vec_capacity ends) }
 {

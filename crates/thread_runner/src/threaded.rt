@@ -21,7 +21,13 @@ use sync_outside::{Clock, Gate, Spawner};
 use workload::Workload;
 
 pub trait OverStub {
-    fn threaded_over<S: Shared + Sync, C: Clock + Sync, P: Spawner, G: Gate + Sync, R: Threads + Wait + Sync>(
+    fn threaded_over<
+        S: Shared + Sync,
+        C: Clock + Sync,
+        P: Spawner,
+        G: Gate + Sync,
+        R: Threads + Wait + Sync,
+    >(
         rt: &R,
         alloc: Global,
         workload: &Workload,
@@ -71,7 +77,8 @@ pub fn threaded<K: OverStub, C: Clock + Sync, P: Spawner, G: Gate + Sync, R: Thr
     let (plain, callers) = new_plain(alloc, workload)?;
     let room = EndsRoom::new(alloc, workload.workers())?;
     let ends = EndsPlan::new(alloc, workload)?;
-    let (outcome, callers) =
-        K::threaded_over(rt, alloc, workload, &plain, callers, clock, spawner, gate)?;
+    let (outcome, callers) = K::threaded_over(
+        rt, alloc, workload, &plain, callers, clock, spawner, gate,
+    )?;
     Ok(finish(workload, plain, callers, room, ends, outcome))
 }

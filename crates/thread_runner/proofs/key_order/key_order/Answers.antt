@@ -1,6 +1,5 @@
-use Rattle.std.proofs.Common.{◌≡◌, ℕ, ◌<◌, List, [], Contains, length, map, get_or, Option, Some, slice_get, sym, ap, ◌∙◌, subst, arith}
+use Rattle.std.proofs.Common.{◌≡◌, ℕ, List, [], Contains, length, map, get_or, Option, Some, slice_get, sym, ap, ◌∙◌, subst, arith}
 use Rattle.std.specs.Option.{option_map_or}
-use Rattle.std.specs.FinMap.{entries}
 use Rattle.std.proofs.lemmas.Option.{slice_get-get_or, get_or_from_slice_get, same_Some}
 use Rattle.std.proofs.lemmas.Result.{IfOk-weaker}
 use Rattle.workload.specs.Keys.{keys_in, number_in, key_number, key_name}
@@ -29,11 +28,11 @@ returns-clause-order c =
     let law = c.keys_are_numbered_by_first_appearance.ensures.number c.args.workload.now.scripts in
     IfOk-weaker c.numbers_of.result _ _
     (λ order is.
-      subst (AreInNameOrder (key_name keys) (key_number keys)) (sym (is ∙ ap (map (λ entry. entry.1)) c.in_ok-entries.ensures))
-      (c.numbers_by_name_are_in_name_order.ensures.order (key_name keys) (key_number keys) c.in_ok-places.places
-        (λ word key found.
-          let at : slice_get keys key ≡ Some word = ap (λ (names : List (List ℕ)). slice_get names key) (sym same) ∙ c.in_ok-places.ensures.name word key found in
-          (get_or_from_slice_get keys key word [] at, ap (λ (n : Option ℕ). option_map_or (λ number. number) n 0) ((law word key).1 at)))))
+    subst (AreInNameOrder (key_name keys) (key_number keys)) (sym (is ∙ ap (map (λ entry. entry.1)) c.in_ok-entries.ensures))
+    (c.numbers_by_name_are_in_name_order.ensures.order (key_name keys) (key_number keys) c.in_ok-places.places
+    (λ word key found.
+    let at : slice_get keys key ≡ Some word = ap (λ (names : List (List ℕ)). slice_get names key) (sym same) ∙ c.in_ok-places.ensures.name word key found in
+    (get_or_from_slice_get keys key word [] at, ap (λ (n : Option ℕ). option_map_or (λ number. number) n 0) ((law word key).1 at)))))
     c.numbers_of.ensures
 
 pub returns-clause-all : goal.returns-clause-all
@@ -42,8 +41,8 @@ returns-clause-all c =
     let same = c.names.ensures ∙ c.keys.ensures in
     IfOk-weaker c.numbers_of.result _ _
     (λ order is key below.
-      let word = get_or keys key [] in
-      let at : slice_get c.names.result.now key ≡ Some word = ap (λ (names : List (List ℕ)). slice_get names key) same ∙ slice_get-get_or keys key [] below in
-      subst (λ (numbers : List ℕ). Contains numbers key) (sym (is ∙ ap (map (λ entry. entry.1)) c.in_ok-entries.ensures))
-      (c.numbers_by_name_are_in_name_order.ensures.all c.in_ok-places.places word key (c.in_ok-places.ensures.all word key at)))
+    let word = get_or keys key [] in
+    let at : slice_get c.names.result.now key ≡ Some word = ap (λ (names : List (List ℕ)). slice_get names key) same ∙ slice_get-get_or keys key [] below in
+    subst (λ (numbers : List ℕ). Contains numbers key) (sym (is ∙ ap (map (λ entry. entry.1)) c.in_ok-entries.ensures))
+    (c.numbers_by_name_are_in_name_order.ensures.all c.in_ok-places.places word key (c.in_ok-places.ensures.all word key at)))
     c.numbers_of.ensures

@@ -1,4 +1,4 @@
-use Rattle.std.proofs.Common.{◌≡◌, ℕ, ◌<◌, List, [], length, get_or, Some, slice_get, slice_index, ap, sym, ◌∙◌, subst, arith}
+use Rattle.std.proofs.Common.{◌≡◌, ℕ, ◌<◌, List, length, slice_index, ap, sym, ◌∙◌, subst, arith}
 use Rattle.std.proofs.lemmas.Option.{slice_get_within, same_Some}
 use Rattle.sync_model.specs.Note.{Holding}
 use Rattle.sync_model.specs.Shared.{AreAllCallers, items_of}
@@ -22,15 +22,15 @@ returns-clause-callers c =
     let value = c.deref-2.ensures.value in
     both c.new.result _ _ _
     (λ made plain new.
-      let workers : count_of made.0 ≡ plan.workers = plain.3 ∙ ap (λ (l : List ℕ). length l) value ∙ spares.count in
-      record {
-        all = subst (λ (n : ℕ). AreAllCallers IsMarkOf own_by made.0 made.1.items n) workers new.all;
-        unused = λ i caller at. ap items_of (new.own i caller at);
-        spare = λ i caller at holding own.
-            let within = slice_get_within made.1.items i caller at in
-            let below : i < plan.workers = omega (arith, within, new.all.all, workers) in
-            let same = same_Some holding _ (sym own ∙ new.own i caller at) in
-            let cost = ap (λ (h : Holding). h.spare) same ∙ ap (λ (l : List ℕ). slice_index l i) value ∙ spares.each i below in
-            omega (arith, cost);
-      })
+    let workers : count_of made.0 ≡ plan.workers = plain.3 ∙ ap (λ (l : List ℕ). length l) value ∙ spares.count in
+    record {
+      all = subst (λ (n : ℕ). AreAllCallers IsMarkOf own_by made.0 made.1.items n) workers new.all;
+      unused = λ i caller at. ap items_of (new.own i caller at);
+      spare = λ i caller at holding own.
+          let within = slice_get_within made.1.items i caller at in
+          let below : i < plan.workers = omega (arith, within, new.all.all, workers) in
+          let same = same_Some holding _ (sym own ∙ new.own i caller at) in
+          let cost = ap (λ (h : Holding). h.spare) same ∙ ap (λ (l : List ℕ). slice_index l i) value ∙ spares.each i below in
+          omega (arith, cost);
+    })
     c.new.ensures.plain c.new.ensures.callers
