@@ -113,14 +113,7 @@ fn call_cost(call: &Call) -> u32
     match &call.operation {
         Operation::Map(call) => match call {
             MapCall::Load { .. } => 0,
-            MapCall::Store { .. } => 1,
-            MapCall::LoadOrStore { .. } => 1,
-            MapCall::LoadAndDelete { .. } => 1,
-            MapCall::Delete { .. } => 1,
-            MapCall::Swap { .. } => 1,
-            MapCall::CompareAndSwap { .. } => 1,
-            MapCall::CompareAndDelete { .. } => 1,
-            MapCall::Clear => 1,
+            _ => 1,
         },
         _ => 0,
     }

@@ -7,8 +7,9 @@ pub mod fault;
 mod gather;
 mod job;
 mod key_order;
+mod plain;
 mod plain_run;
 mod script;
-pub mod threaded;
 
 pub use fault::RunFault;
+pub use plain_run::{OverStub, threaded};

@@ -1,64 +1,84 @@
-//! A run by threads over plain maps and atomics.
-ghost use Rattle.std.specs.Prelude.{◌≡◌, ◌≤◌, IfOk, vec_capacity};
+//! A run of a workload by threads, over plain maps and atomics.
+ghost use Rattle.std.specs.Prelude.{◌≡◌, ◌≤◌, ◌+◌, IfOk, Err};
 ghost use Rattle.sync_model.specs.Shared.{AreAllCallers};
+ghost use Rattle.sync_outside.specs.Faults.{Rose, RoseBy};
 ghost use Rattle.run_record.specs.Explains.{Explains};
 ghost use Rattle.run_record.specs.Record.{Record};
-ghost use Rattle.shared_plain.specs.Marks.{front_by, own_by, seen_of, IsMarkOf};
-ghost use Rattle.shared_plain.specs.Settling.{room_of};
-ghost use Rattle.thread_runner.specs.EndsPlans.{IsEndsPlan, IsPlainOf, AreUnused};
+ghost use Rattle.thread_calls.specs.Sites.{AreShared};
+ghost use Rattle.thread_runner.specs.declared.fault.RunFault.TheVariants as faults;
+ghost use Rattle.thread_runner.specs.EndsPlans.{HaveMadeNone, HaveSpare};
 ghost use Rattle.thread_runner.specs.Runs.{ComesTo};
 
-use crate::counts::{atomic_kinds, map_count, spares};
 use crate::ends_plan::EndsPlan;
-use shared_plain::{EndsRoom, Mark, Plain};
-use std::alloc::{AllocError, Global};
-use sync_model::laws::shared::the_calls_determine_the_history;
-use sync_model::{Caller, Outcome, Report};
+use crate::fault::RunFault;
+use crate::plain::{finish, new_plain};
+use shared_plain::EndsRoom;
+use std::alloc::Global;
+use std::sync::Wait;
+use std::thread::Threads;
+use sync_model::{Caller, Note, Outcome, Shared};
+use sync_outside::{Clock, Gate, Spawner};
 use workload::Workload;
-use workload::laws::keys_are_numbered_by_first_appearance;
 
-/// A workload's maps and atomics, with a caller for each worker.
-pub(crate) fn new_plain(
-    alloc: Global,
-    workload: &Workload,
-) -> Result<(Plain, Vec<Caller<Mark>>), AllocError>
-    ensures plain { IfOk result (λ made. IsPlainOf workload.now made.0) }
-    ensures callers { IfOk result (λ made. AreUnused workload.now made.0 made.1.items) }
-{
-    keys_are_numbered_by_first_appearance();
-    let _workers = workload.workers();
-    let kinds = atomic_kinds(alloc, workload)?;
-    let spares = spares(alloc, workload)?;
-    let keys = workload.keys().names().len() as u32;
-    Plain::new(alloc, &kinds, map_count(workload), keys, &spares)
+pub trait OverStub {
+    fn threaded_over<
+        S: Shared + Sync,
+        C: Clock + Sync,
+        P: Spawner,
+        G: Gate + Sync,
+        R: Threads + Wait + Sync,
+    >(
+        rt: &R,
+        alloc: Global,
+        workload: &Workload,
+        shared: &S,
+        callers: Vec<Caller<S::Mark>>,
+        clock: &C,
+        spawner: &mut P,
+        gate: &G,
+    ) -> Result<(Outcome, Vec<Caller<S::Mark>>), RunFault>
+    where
+        S::Mark: Send,
+        <S::Mark as Note>::Home: Sync,
+        requires shared { AreShared workload.now (S.maps shared.now) (S.kinds shared.now) (S.takes shared.now) }
+        requires count { S.count shared.now ≡ workload.now.workers }
+        requires callers { AreAllCallers S.Mark.at S.Mark.own (S.home_of shared.now) callers.items workload.now.workers }
+        requires unused { HaveMadeNone S.Mark.own callers.items }
+        requires spare { HaveSpare S.Mark.own workload.now callers.items }
+        ensures comes { IfOk result (λ done. ComesTo S.Mark.at S.Mark.own S.Mark.front S.seen (S.home_of shared.now) workload.now done.0 done.1.items) }
+        ensures refused { result ≡ Err faults.StartRefused → Rose (P.faults spawner.old) (P.faults spawner.new) }
+        ensures faults { P.faults spawner.old ≤ P.faults spawner.new }
+        ensures ran { IfOk result (λ done. RoseBy workload.now.workers (P.ran spawner.old) (P.ran spawner.new)) }
+        ensures rounds { P.rounds spawner.new ≤ P.rounds spawner.old + 1 };
 }
 
-/// The outcome with its ends, once all workers have ended.
-pub(crate) fn finish(
+/// Makes the calls of a workload's workers in threads, one for each worker, on maps and atomics that take turns, and answers
+/// what the run comes to. Each call passes the gate before and after. All memory is taken before the first start.
+///
+/// The outcome is explained by one record. A run that is misused tells the first misuse; none is told to be deadlocked.
+///
+/// # Errors
+///
+/// `StartRefused` where a thread's start was refused, and `Memory`; no worker made a call then.
+pub fn threaded<K: OverStub, C: Clock + Sync, P: Spawner, G: Gate + Sync, R: Threads + Wait + Sync>(
+    rt: &R,
+    alloc: Global,
     workload: &Workload,
-    plain: Plain,
-    callers: Vec<Caller<Mark>>,
-    room: EndsRoom,
-    ends: EndsPlan,
-    outcome: Outcome,
-) -> Outcome
-    requires plain { IsPlainOf workload.now plain }
-    requires room { workload.now.workers ≤ room_of room }
-    requires ends { IsEndsPlan workload.now ends.places.atomics.items ends.places.maps.items ends.order.items ends.ends.items (vec_capacity ends.ends) }
-    requires comes { ComesTo IsMarkOf own_by front_by seen_of plain workload.now outcome callers.items }
-    ensures { (r : Record) × Explains workload.now result r }
+    clock: &C,
+    spawner: &mut P,
+    gate: &G,
+) -> Result<Outcome, RunFault>
+    ensures explained { IfOk result (λ outcome. (r : Record) × Explains workload.now outcome r) }
+    ensures refused { result ≡ Err faults.StartRefused → Rose (P.faults spawner.old) (P.faults spawner.new) }
+    ensures faults { P.faults spawner.old ≤ P.faults spawner.new }
+    ensures ran { IfOk result (λ outcome. RoseBy workload.now.workers (P.ran spawner.old) (P.ran spawner.new)) }
+    ensures rounds { P.rounds spawner.new ≤ P.rounds spawner.old + 1 }
 {
-    the_calls_determine_the_history();
-    match outcome {
-        Outcome::Done(left) => {
-            let Report { replies, .. } = left;
-            let state = plain.ends(callers, room);
-            Outcome::Done(Report {
-                replies,
-                ends: ends.list(workload, &state),
-            })
-        }
-        Outcome::Misused(left, misuse) => Outcome::Misused(left, misuse),
-        Outcome::Deadlocked(left) => Outcome::Deadlocked(left),
-    }
+    let (plain, callers) = new_plain(alloc, workload)?;
+    let room = EndsRoom::new(alloc, workload.workers())?;
+    let ends = EndsPlan::new(alloc, workload)?;
+    let (outcome, callers) = K::threaded_over(
+        rt, alloc, workload, &plain, callers, clock, spawner, gate,
+    )?;
+    Ok(finish(workload, plain, callers, room, ends, outcome))
 }

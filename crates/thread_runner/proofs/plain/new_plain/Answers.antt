@@ -6,7 +6,7 @@ use Rattle.workload.specs.Keys.{keys_in}
 use Rattle.shared_plain.specs.Marks.{own_by, IsMarkOf}
 use Rattle.shared_plain.specs.Plains.{count_of}
 use Rattle.thread_runner.proofs.BothClauses.{both}
-use Rattle.thread_runner.proofs.plain_run.new_plain.Goals as goal
+use Rattle.thread_runner.proofs.plain.new_plain.Goals as goal
 
 pub overflow_cast-keys : goal.overflow_cast-keys
 overflow_cast-keys c =

@@ -12,7 +12,7 @@ use Rattle.shared_plain.specs.Marks.{own_by}
 use Rattle.shared_plain.specs.PlainMachine as machine
 use Rattle.shared_plain.specs.Plains.{kinds_of, maps_of}
 use Rattle.thread_runner.specs.Runs.{with_ends, ends_after}
-use Rattle.thread_runner.proofs.plain_run.finish.Goals as goal
+use Rattle.thread_runner.proofs.plain.finish.Goals as goal
 
 pub returns-in-Done : goal.returns-in-Done
 returns-in-Done c =
