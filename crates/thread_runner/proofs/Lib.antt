@@ -1,3 +1,5 @@
+pub mod BothClauses
+pub mod Counting
 pub mod Dealt
 pub mod Explaining
 pub mod Hiring
@@ -5,4 +7,6 @@ pub mod ItemLists
 pub mod Joining
 pub mod LineSteps
 pub mod Made
+pub mod NameTables
 pub mod ScriptLoop
+pub mod Ended
