@@ -128,6 +128,53 @@ where
     }
 }
 
+// Runs a workload on its objects, to which no pass was dealt yet.
+fn run_on<
+    S: Shared + Sync,
+    C: Clock + Sync,
+    P: Spawner,
+    G: Gate + Sync,
+    R: Threads + Wait + Sync,
+>(
+    rt: &R,
+    alloc: Global,
+    workload: &Workload,
+    shared: &S,
+    crew: &Crew<S::Mark>,
+    objects: &[AnyObject<S::Mark>],
+    columns: &mut [AnyColumn<S::Mark>],
+    numbers: &[u32],
+    clock: &C,
+    spawner: &mut P,
+    gate: &G,
+    callers: Vec<Caller<S::Mark>>,
+) -> Result<(Outcome, Vec<Caller<S::Mark>>), RunFault>
+where
+    S::Mark: Send,
+    S::Cursor: Send,
+    <S::Mark as Note>::Home: Sync,
+    requires home { crew.now.home.now ≡ S.home_of shared.now }
+    requires workers { (crew.now.workers ≡ workload.now.workers) × (S.count shared.now ≡ workload.now.workers) }
+    requires site { IsSite S.Mark.at (S.home_of shared.now) workload.now (S.maps shared.now) (S.kinds shared.now) (S.takes shared.now) objects.now numbers.now }
+    requires columns { AreColumns S.Mark.at (S.home_of shared.now) workload.now.workers workload.now.workers objects.now columns.old }
+    requires nothing { MadeNothingFrom 0 columns.old }
+    requires callers { AreAllCallers S.Mark.at S.Mark.own (S.home_of shared.now) callers.items workload.now.workers }
+    requires unused { HaveMadeNone S.Mark.own callers.items }
+    requires spare { HaveSpare S.Mark.own workload.now callers.items }
+    ensures comes { IfOk result (λ done. ComesTo S.Mark.at S.Mark.own S.Mark.front S.seen (S.home_of shared.now) workload.now done.0 done.1.items) }
+    ensures refused { result ≡ Err faults.StartRefused → Rose (P.faults spawner.old) (P.faults spawner.new) }
+    ensures faults { P.faults spawner.old ≤ P.faults spawner.new }
+    ensures ran { IfOk result (λ done. RoseBy workload.now.workers (P.ran spawner.old) (P.ran spawner.new)) }
+    ensures rounds { P.rounds spawner.new ≤ P.rounds spawner.old + 1 }
+{
+    let rows = deal(alloc, crew, objects, columns)?;
+    let mut left = Left::with_room(alloc, crew.workers as usize)?;
+    work_all(
+        rt, alloc, workload, shared, objects, numbers, clock, spawner, gate, callers, rows, &mut left,
+    )?;
+    outcome_of(alloc, workload, shared, crew, objects, columns, left)
+}
+
 /// Makes the calls of a workload's workers in threads, one for each worker, on these maps and atomics, of which the callers are
 /// all callers, one for each worker, in order of number. Each call passes the gate before and after. All memory is taken
 /// before the first start.
@@ -176,11 +223,8 @@ where
     };
     let numbers = numbers_of(alloc, workload)?;
     let (objects, mut columns) = make_objects_by(alloc, &crew, workload, &mut callers)?;
-    let rows = deal(alloc, &crew, &objects, &mut columns)?;
-    let mut left = Left::with_room(alloc, workers as usize)?;
-    work_all(
-        rt, alloc, workload, shared, &objects, &numbers, clock, spawner, gate, callers, rows,
-        &mut left,
-    )?;
-    outcome_of(alloc, workload, shared, &crew, &objects, &mut columns, left)
+    run_on(
+        rt, alloc, workload, shared, &crew, &objects, &mut columns, &numbers, clock, spawner, gate,
+        callers,
+    )
 }
