@@ -1,22 +1,19 @@
 -- What a workload's objects and scripts come to, one at a time.
-use Rattle.std.proofs.Common.{◌≡◌, ℕ, zero, suc, ◌+◌, ◌<◌, ◌≤◌, Bool, true, false, ◌&&◌, not, cond, List, [], ◌∷◌, ◌++◌, length, take, get_or, Some, None, slice_get, slice_index, refl, sym, ap, ◌∙◌, subst, arith, append_assoc, ◌⊎◌, inl, inr}
-use Rattle.std.specs.Prelude.{nat_lt, is_some, count_by, sum_by}
-use Rattle.std.specs.List.{flat_map}
-use Rattle.std.proofs.lemmas.Bool.{and_parts, ltb-true, cases_lt}
-use Rattle.std.proofs.lemmas.List.{append-nil, get_or_append_left, get_or_at}
+use Rattle.std.proofs.Common.{◌≡◌, ℕ, zero, suc, ◌+◌, ◌<◌, ◌≤◌, Bool, true, false, ◌&&◌, not, cond, List, [], ◌∷◌, ◌++◌, take, Some, slice_get, refl, sym, ap, ◌∙◌, subst, arith, append_assoc, ◌⊎◌, inl, inr}
+use Rattle.std.specs.Prelude.{nat_lt, is_some, count_by}
+use Rattle.std.proofs.lemmas.Bool.{and_parts, ltb-true}
+use Rattle.std.proofs.lemmas.List.{append-nil}
 use Rattle.std.proofs.lemmas.List.Sums.{sum_by-append}
 use Rattle.std.proofs.lemmas.Option.{none-some}
 use Rattle.sync_model.specs.Name.{is_name}
-use Rattle.sync_model.specs.declared.call.Call.{Call}
 use Rattle.workload.specs.declared.object.ObjectKind.{ObjectKind}
 use Rattle.workload.specs.declared.object.ObjectKind.TheVariants as kinds
 use Rattle.workload.specs.declared.object.ObjectLine.{ObjectLine}
 use Rattle.workload.specs.declared.object.ObjectWord.TheVariants as words
-use Rattle.workload.specs.Draft.{count_of, count_together, limit_of, is_kind, declared_from, call_count}
+use Rattle.workload.specs.Draft.{count_of, count_together, limit_of, is_kind, declared_from}
 use Rattle.workload.specs.Plan.{word_of, refers}
 use Rattle.workload.specs.Readable.{may_join, may_declare}
 use Rattle.run_record.specs.Objects.{is_map, places_from}
-use Rattle.thread_calls.specs.Sites.{cost_of_call, cost_of_calls}
 use Rattle.thread_runner.proofs.ItemLists.{first_is}
 
 -- the places with one object more

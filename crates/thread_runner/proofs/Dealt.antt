@@ -1,18 +1,16 @@
 -- Rows that are dealt, and collected again.
-use Rattle.std.proofs.Common.{◌≡◌, ℕ, zero, suc, ◌+◌, ◌-◌, ◌<◌, ◌≤◌, Bool, true, false, ◌==◌, cond, List, [], ◌∷◌, ◌++◌, length, get_or, map, reverse, Option, Some, None, ◌⊎◌, inl, inr, slice_get, refl, sym, ap, ◌∙◌, subst, arith}
+use Rattle.std.proofs.Common.{◌≡◌, ℕ, zero, suc, ◌+◌, ◌-◌, ◌<◌, ◌≤◌, Bool, true, false, ◌==◌, cond, List, [], ◌∷◌, ◌++◌, length, get_or, map, reverse, Some, ◌⊎◌, inl, inr, slice_get, refl, sym, ap, ◌∙◌, subst, arith}
 use Rattle.std.specs.Prelude.{nat_lt}
 use Rattle.std.proofs.lemmas.Bool.{eqb-true, eq-eqb, false≢true, ltb-true, ltb-false}
 use mathlib.Core.List.{reverse-cons}
 use Rattle.std.proofs.lemmas.List.{get_or-reverse, length-reverse, length_push, get_or_push, get_or_append_left, map_push}
-use Rattle.std.proofs.lemmas.Option.{none-some, same_Some, slice_get_cases, slice_get_within, get_or_from_slice_get, slice_get-get_or}
-use Rattle.run_record.specs.Record.{ObjectEntry}
+use Rattle.std.proofs.lemmas.Option.{none-some, same_Some, slice_get_within, get_or_from_slice_get, slice_get-get_or}
 use Rattle.thread_calls.specs.declared.column.AnyColumn.{AnyColumn}
 use Rattle.thread_calls.specs.declared.object.AnyObject.{AnyObject}
 use Rattle.thread_calls.specs.declared.pass.AnyPass.{AnyPass}
-use Rattle.thread_calls.specs.Desks.{AreSeats}
 use Rattle.thread_calls.specs.Passes.{owns_of}
 use Rattle.thread_calls.specs.Rows.{made_on}
-use Rattle.thread_runner.specs.Dealing.{MadeNothingFrom, IsRow, AreRows}
+use Rattle.thread_runner.specs.Dealing.{IsRow, AreRows}
 
 module _ {A : Type 0} where
   -- an item of a list with one more behind it is one of the list's, or that one

@@ -1,10 +1,8 @@
 -- What is known once all workers have ended, and the maps and atomics are settled.
 use Rattle.std.proofs.Common.{◌≡◌, ℕ, zero, suc, ◌+◌, ◌<◌, ◌≤◌, Bool, true, List, [], ◌∷◌, length, get_or, Option, Some, None, ◌⊎◌, inl, inr, slice_get, slice_index, refl, sym, ap, ◌∙◌, subst, arith}
 use Rattle.std.proofs.lemmas.Option.{none-some, same_Some, slice_get_cases, slice_get_within, slice_get-get_or, get_or_from_slice_get}
-use Rattle.sync_model.specs.declared.call.Call.{Call}
 use Rattle.sync_model.specs.declared.call.Reply.{Reply}
 use Rattle.sync_model.specs.declared.caller.Caller.{Caller}
-use Rattle.sync_model.specs.declared.item.Item.{Item}
 use Rattle.sync_model.specs.declared.item.SharedEntry.{SharedEntry}
 use Rattle.sync_model.specs.Journal.{by}
 use Rattle.sync_model.specs.Note.{Holding}
@@ -20,7 +18,7 @@ use Rattle.thread_calls.specs.Passes.{owns_of}
 use Rattle.thread_calls.specs.Rows.{AreJournals}
 use Rattle.thread_calls.specs.Working.{Desk, desk_with, number_in}
 use Rattle.thread_runner.specs.AllGone.{HaveGone}
-use Rattle.thread_runner.specs.Dealing.{AreRows, IsRow}
+use Rattle.thread_runner.specs.Dealing.{AreRows}
 use Rattle.thread_runner.specs.DidLines.{DidLine, IsFresh}
 use Rattle.thread_runner.specs.EndsPlans.{HaveMadeNone}
 use Rattle.thread_runner.proofs.ItemLists.{gathered}

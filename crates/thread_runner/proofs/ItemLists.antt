@@ -1,7 +1,7 @@
 -- Items of workers' lists, and lists of lists.
-use Rattle.std.proofs.Common.{◌≡◌, ℕ, zero, suc, ◌+◌, ◌<◌, ◌≤◌, List, [], ◌∷◌, length, get_or, take, map, Option, Some, None, slice_get, slice_index, refl, sym, ap, ◌∙◌, subst, arith}
+use Rattle.std.proofs.Common.{◌≡◌, ℕ, zero, suc, ◌+◌, ◌<◌, ◌≤◌, List, [], ◌∷◌, length, get_or, map, Option, Some, slice_get, refl, ap, ◌∙◌, subst, arith}
 use Rattle.std.specs.Prelude.{unwrap_or}
-use Rattle.std.proofs.lemmas.Option.{none-some, get_or_from_slice_get}
+use Rattle.std.proofs.lemmas.Option.{none-some}
 
 pub first_is : {A : Type 0} (x y : A) (xs : List A) → slice_get (x ∷ xs) 0 ≡ Some y → x ≡ y
 first_is {A} x y xs at = ap (λ (o : Option A). unwrap_or o x) at

@@ -1,7 +1,6 @@
 -- From what each worker did, the objects' journals and the shared history to the record of the run.
-use Rattle.std.proofs.Common.{◌≡◌, ℕ, zero, suc, ◌+◌, ◌<◌, ◌≤◌, List, [], ◌∷◌, ◌++◌, length, get_or, take, map, Option, Some, None, ◌⊎◌, inl, inr, slice_get, slice_index, All, refl, sym, ap, ◌∙◌, subst, arith}
-use Rattle.std.proofs.lemmas.Option.{slice_get_cases, slice_get_within, get_or_from_slice_get, slice_get-get_or, none-some}
-use Rattle.sync_model.specs.declared.call.Call.{Call}
+use Rattle.std.proofs.Common.{◌≡◌, ℕ, ◌+◌, ◌<◌, ◌≤◌, List, [], ◌++◌, length, get_or, take, map, Some, None, ◌⊎◌, inl, inr, slice_get, slice_index, All, refl, sym, ap, ◌∙◌, subst, arith}
+use Rattle.std.proofs.lemmas.Option.{slice_get_cases, slice_get-get_or, none-some}
 use Rattle.sync_model.specs.declared.call.Reply.{Reply}
 use Rattle.sync_model.specs.declared.item.Item.{Item}
 use Rattle.sync_model.specs.declared.item.SharedEntry.{SharedEntry}
@@ -13,7 +12,7 @@ use Rattle.sync_model.specs.SharedCalls.{Lawful}
 use Rattle.sync_model.specs.SharedHistory.{Contents}
 use Rattle.workload.specs.Plan.{Plan}
 use Rattle.run_record.specs.declared.made.Made.{Made}
-use Rattle.run_record.specs.Explains.{AreLines, IsRecordOf, KeepsFronts, HasEnded}
+use Rattle.run_record.specs.Explains.{AreLines, IsRecordOf, HasEnded}
 use Rattle.run_record.specs.Lines.{Line, script_of, items_of, replies_of, HaltsStop}
 use Rattle.run_record.specs.Objects.{contents_of}
 use Rattle.run_record.specs.Record.{Record, ObjectEntry, journal_of, list_of, shared_in, entries_in, calls_of, front_of}

@@ -13,8 +13,7 @@ use Rattle.workload.specs.Plan.{Plan}
 use Rattle.run_record.specs.declared.made.Made.{Made}
 use Rattle.run_record.specs.declared.made.Made.TheVariants.{Shared, Entered}
 use Rattle.run_record.specs.Calls.{SpellsCall}
-use Rattle.run_record.specs.Explains.{HasEnded}
-use Rattle.run_record.specs.Lines.{Line, LineEnd, SpeltCall, whole, misused, halted, unfinished, script_of, items_of, replies_of, HaltsStop, AreSpelt, EndsBy, IsLineOf, IsHalt}
+use Rattle.run_record.specs.Lines.{Line, LineEnd, SpeltCall, whole, misused, halted, unfinished, AreSpelt, IsHalt}
 use Rattle.run_record.specs.Record.{ObjectEntry, stop, shared_in}
 use Rattle.thread_calls.specs.Working.{Desk, Moves, Works}
 use Rattle.thread_runner.specs.DidLines.{DidLine, Went}

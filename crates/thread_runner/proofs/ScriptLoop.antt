@@ -1,12 +1,9 @@
 -- What holds between two calls of a script.
-use Rattle.std.proofs.Common.{◌≡◌, ℕ, zero, suc, ◌+◌, ◌<◌, ◌≤◌, Bool, true, List, [], ◌∷◌, ◌++◌, length, drop, get_or, Option, Some, None, slice_get, refl, sym, ap, ◌∙◌, subst, arith, Ok}
+use Rattle.std.proofs.Common.{◌≡◌, ℕ, ◌+◌, ◌<◌, ◌≤◌, Bool, true, List, length, drop, Option, Some, slice_get, sym, ap, ◌∙◌, subst, arith}
 use Rattle.std.specs.Prelude.{IfSome}
 use Rattle.std.specs.Option.{ForSome}
-use Rattle.std.proofs.lemmas.Bool.{false≢true}
-use Rattle.std.proofs.lemmas.List.{length-append}
 use Rattle.std.proofs.lemmas.List.Sums.{sum_by-drop_more}
 use Rattle.std.proofs.lemmas.Option.{get_or_from_slice_get, same_Some}
-use Rattle.sync_model.specs.declared.answer.Answer.TheVariants.{Done}
 use Rattle.sync_model.specs.declared.call.Call.{Call}
 use Rattle.sync_model.specs.declared.call.Reply.{Reply}
 use Rattle.sync_model.specs.declared.caller.Caller.{Caller}
@@ -14,16 +11,13 @@ use Rattle.sync_model.specs.BoundedSeq.{Bounded}
 use Rattle.sync_model.specs.Note.{Holding}
 use Rattle.sync_model.specs.Shared.{IsCallerAt, IsHeldBy}
 use Rattle.workload.specs.Plan.{Plan}
-use Rattle.run_record.specs.declared.made.Made.{Made}
-use Rattle.run_record.specs.Calls.{SpellsCall}
 use Rattle.thread_calls.specs.declared.object.AnyObject.{AnyObject}
 use Rattle.thread_calls.specs.declared.pass.AnyPass.{AnyPass}
 use Rattle.thread_calls.specs.Desks.{AreSeats}
 use Rattle.thread_calls.specs.Passes.{owns_of}
 use Rattle.thread_calls.specs.Sites.{Spends, AreEmpty, cost_of_call, cost_of_calls, ranges_in_call, ranges_in_calls}
-use Rattle.thread_calls.specs.Working.{Desk, Works, desk_with}
+use Rattle.thread_calls.specs.Working.{Desk, desk_with}
 use Rattle.thread_runner.specs.DidLines.{Went}
-use Rattle.thread_runner.proofs.LineSteps.{Joins, went_on}
 
 -- a worker's caller is still its own behind a call
 pub held_behind : {N : Type 0} (own : N → Option Holding) (cost : ℕ) (old new : N) → Spends own cost old new → (c : ℕ) → IsHeldBy c (own old) → IsHeldBy c (own new)

@@ -1,8 +1,7 @@
 -- The passes of all workers to all objects, by column and by row.
-use Rattle.std.specs.Prelude.{◌≡◌, ℕ, ◌+◌, ◌-◌, ◌<◌, ◌≤◌, List, [], length, Option, Some, slice_get}
+use Rattle.std.specs.Prelude.{◌≡◌, ℕ, ◌≤◌, List, [], length, Option, Some, slice_get}
 use Rattle.sync_model.specs.declared.caller.Caller.{Caller}
 use Rattle.sync_model.specs.Note.{Holding, SameHome}
-use Rattle.run_record.specs.Record.{ObjectEntry}
 use Rattle.thread_calls.specs.declared.column.AnyColumn.{AnyColumn}
 use Rattle.thread_calls.specs.declared.object.AnyObject.{AnyObject}
 use Rattle.thread_calls.specs.declared.pass.AnyPass.{AnyPass}

@@ -1,5 +1,5 @@
 -- What a worker did of its script, from its first call to its end.
-use Rattle.std.specs.Prelude.{◌≡◌, ℕ, List, [], map, take, Option, Some}
+use Rattle.std.specs.Prelude.{◌≡◌, ℕ, List, [], map, take, Some}
 use Rattle.std.specs.List.{flat_map}
 use Rattle.sync_model.specs.declared.call.Call.{Call}
 use Rattle.sync_model.specs.declared.call.Reply.{Reply}

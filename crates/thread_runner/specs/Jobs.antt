@@ -5,7 +5,7 @@ use Rattle.sync_model.specs.declared.call.Reply.{Reply}
 use Rattle.sync_model.specs.declared.caller.Caller.{Caller}
 use Rattle.sync_model.specs.BoundedSeq.{Bounded}
 use Rattle.sync_model.specs.Note.{Holding}
-use Rattle.sync_model.specs.Shared.{IsCallerAt, IsHeldBy}
+use Rattle.sync_model.specs.Shared.{IsHeldBy}
 use Rattle.workload.specs.Plan.{Plan}
 use Rattle.run_record.specs.Lines.{Line}
 use Rattle.thread_calls.specs.declared.object.AnyObject.{AnyObject}
@@ -13,7 +13,7 @@ use Rattle.thread_calls.specs.declared.pass.AnyPass.{AnyPass}
 use Rattle.thread_calls.specs.Desks.{AreSeats}
 use Rattle.thread_calls.specs.Passes.{owns_of}
 use Rattle.thread_calls.specs.Sites.{AreEmpty, cost_of_calls, ranges_in_calls}
-use Rattle.thread_calls.specs.Working.{Desk, desk_with}
+use Rattle.thread_calls.specs.Working.{desk_with}
 use Rattle.thread_runner.specs.DidLines.{DidLine, IsFresh}
 
 module _ {N H : Type 0} (at : H → N → Type 0) (own : N → Option Holding) (front : N → List ℕ) (home : H) (plan : Plan) (objects : List (AnyObject N H)) (worker : ℕ) where

@@ -1,5 +1,5 @@
 -- Stop and the first objects are made.
-use Rattle.std.proofs.Common.{◌≡◌, ℕ, ◌+◌, ◌≤◌, [], length, Some, slice_get}
+use Rattle.std.proofs.Common.{◌≡◌, ◌+◌, ◌≤◌, length}
 use Rattle.std.specs.Prelude.{vec_capacity}
 use Rattle.sync_model.specs.Note.{SameHome}
 use Rattle.thread_runner.proofs.Made.{AreMade}

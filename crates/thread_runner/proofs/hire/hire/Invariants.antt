@@ -1,5 +1,5 @@
 -- The first workers have their jobs.
-use Rattle.std.proofs.Common.{◌≡◌, ◌≤◌, ◌<◌, [], length, map, get_or, All}
+use Rattle.std.proofs.Common.{◌≡◌, ◌≤◌, [], length, map, get_or, All}
 use Rattle.std.specs.Prelude.{vec_len, vec_capacity}
 use Rattle.std.specs.List.{range_with_len}
 use Rattle.thread_calls.specs.Sites.{AreEmpty, ranges_in_calls}

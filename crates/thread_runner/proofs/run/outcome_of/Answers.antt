@@ -1,7 +1,5 @@
-use Rattle.std.proofs.Common.{◌≡◌, ℕ, ◌<◌, ◌≤◌, ◌++◌, ◌&&◌, Bool, true, false, ◌==◌, List, [], length, take, drop, map, get_or, Some, None, refl, sym, ap, ◌∙◌, subst, arith, rules}
-use Rattle.std.specs.List.{list_all, flat_map}
+use Rattle.std.proofs.Common.{◌≡◌, ℕ, ◌<◌, ◌≤◌, ◌++◌, true, List, [], length, take, drop, map, get_or, sym, ap, ◌∙◌, subst, arith, rules}
 use Rattle.std.specs.Prelude.{count_by}
-use Rattle.std.proofs.lemmas.Bool.{and_parts, eqb-true}
 use Rattle.std.proofs.lemmas.List.{take-append-le, take_all}
 use Rattle.sync_model.specs.declared.caller.Caller.{Caller}
 use Rattle.sync_model.specs.declared.outcome.Outcome.{Outcome}
@@ -11,14 +9,12 @@ use Rattle.sync_model.specs.Outcome.{left_by}
 use Rattle.sync_model.specs.Shared.{AreAllCallers, SameCalls, Settled, calls_of}
 use Rattle.sync_model.specs.SharedHistory.{first_contents}
 use Rattle.run_record.specs.Objects.{is_map, contents_of}
-use Rattle.run_record.specs.Record.{stop}
-use Rattle.thread_calls.specs.declared.pass.AnyPass.{AnyPass}
 use Rattle.sync_model.specs.Journal.{by}
 use Rattle.thread_calls.specs.Desks.{AreSeats}
 use Rattle.thread_calls.specs.Passes.{owns_of}
 use Rattle.thread_runner.specs.Runs.{ComesTo, IsExplained}
 use Rattle.thread_runner.proofs.AllReady.{one_script_each}
-use Rattle.thread_runner.proofs.Ended.{seats_of, callers_stay, all_done, all_lines, start, desk}
+use Rattle.thread_runner.proofs.Ended.{seats_of, callers_stay, all_done}
 use Rattle.thread_runner.proofs.Explaining.{done, stopped}
 use Rattle.thread_runner.proofs.Joining.{Knowing}
 use Rattle.thread_runner.proofs.run.outcome_of.Goals.{in-None, in-Some}

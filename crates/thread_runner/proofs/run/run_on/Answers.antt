@@ -1,6 +1,5 @@
-use Rattle.std.proofs.Common.{◌≡◌, ℕ, ◌≤◌, List, [], map, sym, ap, ◌∙◌, subst, rules}
-use Rattle.thread_calls.specs.Rows.{AreColumns}
-use Rattle.thread_runner.specs.Dealing.{AreRows, MadeNothingFrom}
+use Rattle.std.proofs.Common.{map, rules}
+use Rattle.thread_runner.specs.Dealing.{AreRows}
 use Rattle.thread_runner.proofs.run.run_on.Goals as goal
 
 pub outcome_of-requires-clause-gone : goal.outcome_of-requires-clause-gone

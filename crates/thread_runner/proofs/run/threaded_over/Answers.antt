@@ -1,13 +1,8 @@
-use Rattle.std.proofs.Common.{◌≡◌, ℕ, ◌<◌, ◌≤◌, ◌++◌, List, [], length, take, drop, map, sym, ap, ◌∙◌, subst, arith, rules}
+use Rattle.std.proofs.Common.{◌≡◌, ◌++◌, List, length, take, drop, sym, ◌∙◌, subst, arith}
 use Rattle.std.proofs.lemmas.List.{take-append-le, take_all}
 use Rattle.sync_model.specs.declared.caller.Caller.{Caller}
 use Rattle.sync_model.specs.Shared.{AreAllCallers}
-use Rattle.thread_calls.specs.declared.column.AnyColumn.{AnyColumn}
-use Rattle.thread_calls.specs.declared.object.AnyObject.{AnyObject}
-use Rattle.thread_calls.specs.declared.pass.AnyPass.{AnyPass}
-use Rattle.thread_calls.specs.Rows.{AreColumns, made_on}
-use Rattle.thread_runner.specs.AllGone.{HaveGone}
-use Rattle.thread_runner.specs.Dealing.{AreRows, SameNotes, MadeNothingFrom}
+use Rattle.thread_runner.specs.Dealing.{SameNotes}
 use Rattle.thread_runner.specs.EndsPlans.{HaveMadeNone, HaveSpare}
 use Rattle.thread_runner.proofs.SameCallers.{all_stay, none_still, spare_still}
 use Rattle.thread_runner.proofs.run.threaded_over.Goals as goal

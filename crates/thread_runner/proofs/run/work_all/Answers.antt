@@ -1,4 +1,4 @@
-use Rattle.std.proofs.Common.{◌≡◌, ℕ, ◌+◌, ◌^◌, ◌<◌, ◌≤◌, ◌&&◌, ◌==◌, Bool, List, [], length, get_or, map, Some, slice_get, refl, sym, ap, ◌∙◌, subst, arith, rules}
+use Rattle.std.proofs.Common.{◌≡◌, ℕ, ◌^◌, ◌<◌, ◌≤◌, Bool, List, [], length, get_or, map, Some, slice_get, sym, ap, ◌∙◌, subst, arith, rules}
 use Rattle.std.specs.List.{list_all, range_with_len}
 use Rattle.std.specs.Prelude.{vec_len}
 use Rattle.std.proofs.lemmas.List.Sums.{get_or-le-sum_by}
@@ -13,8 +13,6 @@ use Rattle.thread_calls.specs.declared.pass.AnyPass.{AnyPass}
 use Rattle.thread_calls.specs.Desks.{IsObjectAt}
 use Rattle.thread_calls.specs.Kinds.{IsStop}
 use Rattle.thread_calls.specs.Sites.{IsSite, ranges_in_calls}
-use Rattle.thread_runner.specs.declared.job.Gone.{Gone}
-use Rattle.thread_runner.specs.declared.job.Job.{Job}
 use Rattle.thread_runner.specs.AllGone.{HaveGone}
 use Rattle.thread_runner.specs.Jobs.{IsReady, HasGone}
 use Rattle.thread_runner.proofs.AllReady.{ready_at, have_gone, number_at_place, one_script_each, zipped_long}

@@ -1,4 +1,4 @@
-use Rattle.std.proofs.Common.{◌≡◌, ℕ, ◌+◌, ◌<◌, ◌≤◌, Bool, true, false, List, [], ◌∷◌, ◌++◌, get_or, length, drop, Some, Ok, Err, slice_get, refl, ◌∙◌, ap, arith, subst, sym, rules}
+use Rattle.std.proofs.Common.{◌≡◌, ℕ, ◌+◌, ◌<◌, ◌≤◌, [], ◌∷◌, ◌++◌, get_or, length, Some, Ok, Err, slice_get, refl, ◌∙◌, ap, arith, subst, sym, rules}
 use Rattle.std.proofs.lemmas.Bool.{false≢true}
 use Rattle.std.proofs.lemmas.List.{length_push}
 use Rattle.std.proofs.lemmas.Option.{slice_get_read}
@@ -12,7 +12,7 @@ use Rattle.thread_calls.specs.Passes.{owns_of}
 use Rattle.thread_calls.specs.Sites.{cost_of_call, ranges_in_call}
 use Rattle.thread_calls.specs.Working.{Works, desk_with}
 use Rattle.thread_runner.specs.DidLines.{Went}
-use Rattle.thread_runner.proofs.ScriptLoop.{AtCall, after_call, held_behind, of_some}
+use Rattle.thread_runner.proofs.ScriptLoop.{after_call, held_behind, of_some}
 use Rattle.thread_runner.proofs.LineSteps.{begun, went_on, ends_misused, ends_halted, ends_whole}
 use Rattle.thread_runner.proofs.script.run_script.Goals.{in-None, in-Some-Done-Ok}
 use Rattle.thread_runner.proofs.script.run_script.Goals as goal

@@ -1,4 +1,4 @@
-use Rattle.std.proofs.Common.{◌≡◌, ◌≤◌, get_or, [], length}
+use Rattle.std.proofs.Common.{get_or, []}
 use Rattle.thread_calls.specs.Passes.{owns_of}
 use Rattle.thread_calls.specs.Working.{desk_with}
 use Rattle.thread_runner.proofs.ScriptLoop.{AtCall}

@@ -1,4 +1,4 @@
-use Rattle.std.proofs.Common.{◌≡◌, ℕ, List, [], ◌++◌, length, get_or, take, drop, true, sym, ◌∙◌, subst, arith}
+use Rattle.std.proofs.Common.{◌≡◌, ℕ, List, [], ◌++◌, length, get_or, take, drop, sym, ◌∙◌, subst, arith}
 use Rattle.std.proofs.lemmas.List.{take-append-le, take_all}
 use Rattle.sync_model.specs.declared.call.Reply.{Reply}
 use Rattle.thread_calls.specs.declared.pass.AnyPass.{AnyPass}
@@ -7,7 +7,7 @@ use Rattle.thread_calls.specs.Passes.{owns_of}
 use Rattle.thread_calls.specs.Working.{desk_with}
 use Rattle.run_record.specs.Lines.{Line}
 use Rattle.thread_runner.specs.DidLines.{DidLine}
-use Rattle.thread_runner.specs.Jobs.{IsReady, HasGone}
+use Rattle.thread_runner.specs.Jobs.{HasGone}
 use Rattle.thread_runner.proofs.job.JobWork.work.Goals as goal
 
 pub returns : goal.returns
