@@ -1,0 +1,149 @@
+-- From what each worker did, the objects' journals and the shared history to the record of the run.
+use Rattle.std.proofs.Common.{◌≡◌, ℕ, ◌+◌, ◌<◌, ◌≤◌, List, [], ◌++◌, length, get_or, take, map, Some, None, ◌⊎◌, inl, inr, slice_get, slice_index, All, refl, sym, ap, ◌∙◌, subst, arith}
+use Rattle.std.proofs.lemmas.Option.{slice_get_cases, slice_get-get_or, none-some}
+use Rattle.sync_model.specs.declared.call.Reply.{Reply}
+use Rattle.sync_model.specs.declared.item.Item.{Item}
+use Rattle.sync_model.specs.declared.item.SharedEntry.{SharedEntry}
+use Rattle.sync_model.specs.declared.outcome.Outcome.{Outcome}
+use Rattle.sync_model.specs.Front.{AtLeast}
+use Rattle.sync_model.specs.Journal.{by}
+use Rattle.sync_model.specs.Outcome.{left_by}
+use Rattle.sync_model.specs.SharedCalls.{Lawful}
+use Rattle.sync_model.specs.SharedHistory.{Contents}
+use Rattle.workload.specs.Plan.{Plan}
+use Rattle.run_record.specs.declared.made.Made.{Made}
+use Rattle.run_record.specs.Explains.{AreLines, IsRecordOf, HasEnded}
+use Rattle.run_record.specs.Lines.{Line, script_of, items_of, replies_of, HaltsStop}
+use Rattle.run_record.specs.Objects.{contents_of}
+use Rattle.run_record.specs.Record.{Record, ObjectEntry, journal_of, list_of, shared_in, entries_in, calls_of, front_of}
+use Rattle.thread_calls.specs.Working.{Desk, Moves}
+use Rattle.thread_runner.specs.DidLines.{DidLine, IsFresh}
+use Rattle.thread_calls.specs.Rows.{AreJournals}
+use Rattle.thread_runner.proofs.ItemLists.{mapped_at, mapped_past, mapped_is}
+
+-- what a worker knows, along what it made
+pub record Knowing : Type 0 where
+  pub own : (old new : Desk) (items : List Made) (worker i : ℕ) (made : Made) → Moves old items new → old.worker ≡ Some worker → slice_get items i ≡ Some made → slice_index (front_of made) worker ≡ length old.calls + length (shared_in (take i items))
+  pub rises : (old new : Desk) (items : List Made) (i j : ℕ) (earlier later : Made) → Moves old items new → i < j → slice_get items i ≡ Some earlier → slice_get items j ≡ Some later → AtLeast (front_of later) (front_of earlier)
+  pub ends : (old new : Desk) (items : List Made) (i : ℕ) (made : Made) → Moves old items new → slice_get items i ≡ Some made → AtLeast new.front (front_of made)
+
+-- a legal history's law depends on the callers' lists alone
+abbrev pub SameLists : Type 0
+SameLists = (start : Contents) (history : List SharedEntry) (calls other : ℕ → List Item) → ((c : ℕ) → other c ≡ calls c) → Lawful start history calls → Lawful start history other
+
+-- all that is known when each worker has ended
+pub record AllDone (plan : Plan) (history : List SharedEntry) (journals : List (List ObjectEntry)) (calls : ℕ → List Item) (replies : List (List (Reply ℕ))) (start desk : ℕ → Desk) (lines : List Line) : Type 0 where
+  pub did : (worker : ℕ) (line : Line) → slice_get lines worker ≡ Some line → DidLine plan worker (get_or plan.scripts worker []) (get_or replies worker []) (start worker) (desk worker) line
+  pub fresh : (worker : ℕ) → worker < length lines → IsFresh worker (start worker)
+  pub scripts : length lines ≡ length plan.scripts
+  pub answered : length lines ≡ length replies
+  pub objects : AreJournals plan journals
+  pub own : (worker object : ℕ) → worker < length lines → (desk worker).owns object ≡ by worker (get_or journals object [])
+  pub beyond : (worker object : ℕ) → length lines ≤ worker → by worker (get_or journals object []) ≡ []
+  pub called : (worker : ℕ) → worker < length lines → (desk worker).calls ≡ calls worker
+  pub uncalled : (worker : ℕ) → length lines ≤ worker → calls worker ≡ []
+  pub lawful : Lawful (contents_of plan) history calls
+  pub known : (worker other : ℕ) → worker < length lines → slice_index (desk worker).front other ≤ length (calls other)
+
+module _ (plan : Plan) (history : List SharedEntry) (journals : List (List ObjectEntry)) (calls : ℕ → List Item) (replies : List (List (Reply ℕ))) (start desk : ℕ → Desk) (lines : List Line) (all : AllDone plan history journals calls replies start desk lines) (knowing : Knowing) where
+  abbrev pub joined : Record
+  joined = record { history = history; journals = journals; lists = map items_of lines }
+
+  list_at : (worker : ℕ) (line : Line) → slice_get lines worker ≡ Some line → list_of joined worker ≡ items_of line
+  list_at worker line at = mapped_at items_of lines worker line at
+
+  list_past : (worker : ℕ) → length lines ≤ worker → list_of joined worker ≡ []
+  list_past worker past = mapped_past items_of lines worker past
+
+  -- each worker is one with a line, or has no number of a worker
+  abbrev Cases : ℕ → Type 0
+  Cases worker = ((line : Line) × (worker < length lines) × (slice_get lines worker ≡ Some line)) ⊎ (length lines ≤ worker)
+
+  case : (worker : ℕ) → Cases worker
+  case worker = found (slice_get_cases lines worker).1 where
+    found : ((line : Line) × (worker < length lines) × (slice_get lines worker ≡ Some line) × (get_or lines worker line ≡ line)) ⊎ ((length lines ≤ worker) × (slice_get lines worker ≡ None)) → Cases worker
+    found (inl (line, within, at, same)) = inl (line, within, at)
+    found (inr (past, none)) = inr past
+
+  once : (worker object : ℕ) → entries_in object (list_of joined worker) ≡ by worker (journal_of joined object)
+  once worker object = by_case (case worker) where
+    by_case : Cases worker → entries_in object (list_of joined worker) ≡ by worker (journal_of joined object)
+    by_case (inl (line, within, at)) =
+        let did = all.did worker line at in
+        ap (λ (l : List Made). entries_in object l) (list_at worker line at)
+        ∙ sym (did.moves.owns object ∙ ap (λ (l : List ObjectEntry). l ++ entries_in object (items_of line)) ((all.fresh worker within).owns object))
+        ∙ all.own worker object within
+    by_case (inr past) = ap (λ (l : List Made). entries_in object l) (list_past worker past) ∙ sym (all.beyond worker object past)
+
+  called_at : (worker : ℕ) (line : Line) → worker < length lines → slice_get lines worker ≡ Some line → shared_in (items_of line) ≡ calls worker
+  called_at worker line within at =
+      let did = all.did worker line at in
+      sym (did.moves.calls ∙ ap (λ (l : List Item). l ++ shared_in (items_of line)) (all.fresh worker within).calls) ∙ all.called worker within
+
+  pub joined_calls : (worker : ℕ) → calls_of joined worker ≡ calls worker
+  joined_calls worker = by_case (case worker) where
+    by_case : Cases worker → calls_of joined worker ≡ calls worker
+    by_case (inl (line, within, at)) = ap (λ (l : List Made). shared_in l) (list_at worker line at) ∙ called_at worker line within at
+    by_case (inr past) = ap (λ (l : List Made). shared_in l) (list_past worker past) ∙ sym (all.uncalled worker past)
+
+  nothing_past : (worker i : ℕ) (x : Made) → length lines ≤ worker → slice_get (list_of joined worker) i ≡ Some x → ⊥
+  nothing_past worker i x past at = none-some x (sym (ap (λ (l : List Made). slice_get l i) (list_past worker past)) ∙ at)
+
+  within_line : (worker i : ℕ) (x : Made) (line : Line) → slice_get lines worker ≡ Some line → slice_get (list_of joined worker) i ≡ Some x → slice_get (items_of line) i ≡ Some x
+  within_line worker i x line at_line at = sym (ap (λ (l : List Made). slice_get l i) (list_at worker line at_line)) ∙ at
+
+  rises : (worker i j : ℕ) (x y : Made) → i < j → slice_get (list_of joined worker) i ≡ Some x → slice_get (list_of joined worker) j ≡ Some y → AtLeast (front_of y) (front_of x)
+  rises worker i j x y before at_x at_y = by_case (case worker) where
+    by_case : Cases worker → AtLeast (front_of y) (front_of x)
+    by_case (inl (line, within, at)) =
+        let did = all.did worker line at in
+        knowing.rises (start worker) (desk worker) (items_of line) i j x y did.moves before (within_line worker i x line at at_x) (within_line worker j y line at at_y)
+    by_case (inr past) = absurd (nothing_past worker i x past at_x)
+
+  own : (worker i : ℕ) (x : Made) → slice_get (list_of joined worker) i ≡ Some x → slice_index (front_of x) worker ≡ length (shared_in (take i (list_of joined worker)))
+  own worker i x at = by_case (case worker) where
+    by_case : Cases worker → slice_index (front_of x) worker ≡ length (shared_in (take i (list_of joined worker)))
+    by_case (inl (line, within, at_line)) =
+        let did = all.did worker line at_line in
+        let fresh = all.fresh worker within in
+        let count = knowing.own (start worker) (desk worker) (items_of line) worker i x did.moves fresh.number (within_line worker i x line at_line at) in
+        let none : length (start worker).calls ≡ 0 = ap (λ (l : List Item). length l) fresh.calls in
+        let first : slice_index (front_of x) worker ≡ length (shared_in (take i (items_of line))) = omega (arith, count, none) in
+        first ∙ ap (λ (l : List Made). length (shared_in (take i l))) (sym (list_at worker line at_line))
+    by_case (inr past) = absurd (nothing_past worker i x past at)
+
+  made : (worker i other : ℕ) (x : Made) → slice_get (list_of joined worker) i ≡ Some x → slice_index (front_of x) other ≤ length (calls_of joined other)
+  made worker i other x at = by_case (case worker) where
+    by_case : Cases worker → slice_index (front_of x) other ≤ length (calls_of joined other)
+    by_case (inl (line, within, at_line)) =
+        let did = all.did worker line at_line in
+        let least = knowing.ends (start worker) (desk worker) (items_of line) i x did.moves (within_line worker i x line at_line at) other in
+        let known = all.known worker other within in
+        subst (λ (l : List Item). slice_index (front_of x) other ≤ length l) (sym (joined_calls other)) (omega (arith, least, known))
+    by_case (inr past) = absurd (nothing_past worker i x past at)
+
+  -- it is a record of the workload's objects
+  pub is_record : SameLists → IsRecordOf plan joined
+  is_record same = record {
+    shared = same (contents_of plan) history calls (calls_of joined) joined_calls all.lawful;
+    objects = all.objects.count;
+    stops = all.objects.stops;
+    journals = all.objects.each;
+    once = once;
+    fronts = record { rises = rises; own = own; made = made };
+  }
+
+  -- and the lines are those of its lists
+  pub are_lines : (outcome : Outcome) → (left_by outcome).replies ≡ replies → AreLines plan joined outcome lines
+  are_lines outcome is = record {
+    scripts = mapped_is script_of lines plan.scripts all.scripts (λ worker line at. (all.did worker line at).calls);
+    lists = refl;
+    replies = mapped_is replies_of lines replies all.answered (λ worker line at. (all.did worker line at).answers) ∙ sym is;
+    each = λ worker line at. (all.did worker line at).is;
+  }
+
+  pub have_ended : All (λ line. HasEnded line.ending) lines
+  have_ended worker d within = (all.did worker (get_or lines worker d) (slice_get-get_or lines worker d within)).ended
+
+  pub halt_stop : (worker : ℕ) (line : Line) → slice_get lines worker ≡ Some line → HaltsStop line
+  halt_stop worker line at = (all.did worker line at).stops

@@ -1,0 +1,151 @@
+-- A worker's line, call by call.
+use Rattle.std.proofs.Common.{◌≡◌, ℕ, zero, suc, ◌+◌, ◌<◌, List, [], ◌∷◌, ◌++◌, length, take, drop, map, Some, slice_get, All, refl, sym, ap, ◌∙◌, subst, arith, Ok, Err}
+use Rattle.std.specs.List.{flat_map}
+use Rattle.std.proofs.lemmas.List.{append-nil, append_assoc, take-append-drop, take_all, map_push, length-append}
+use Rattle.std.proofs.lemmas.Option.{none-some}
+use Rattle.sync_model.specs.declared.answer.Answer.TheVariants.{Done, Halted}
+use Rattle.sync_model.specs.declared.call.Call.{Call}
+use Rattle.sync_model.specs.declared.call.Reply.{Reply}
+use Rattle.sync_model.specs.declared.item.Item.{Item}
+use Rattle.sync_model.specs.declared.journal.Deed.TheVariants.{Halt}
+use Rattle.sync_model.specs.declared.misuse.Misuse.{Misuse}
+use Rattle.workload.specs.Plan.{Plan}
+use Rattle.run_record.specs.declared.made.Made.{Made}
+use Rattle.run_record.specs.declared.made.Made.TheVariants.{Shared, Entered}
+use Rattle.run_record.specs.Calls.{SpellsCall}
+use Rattle.run_record.specs.Lines.{Line, LineEnd, SpeltCall, whole, misused, halted, unfinished, AreSpelt, IsHalt}
+use Rattle.run_record.specs.Record.{ObjectEntry, stop, shared_in}
+use Rattle.thread_calls.specs.Working.{Desk, Moves, Works}
+use Rattle.thread_runner.specs.DidLines.{DidLine, Went}
+use Rattle.thread_runner.proofs.ItemLists.{first_is}
+
+-- what two lists of items do, one after the other, both do
+abbrev pub Joins : Type 0
+Joins = (old between new : Desk) (xs ys : List Made) → Moves old xs between → Moves between ys new → Moves old (xs ++ ys) new
+
+abbrev items_in : List SpeltCall → List Made
+items_in spelt = flat_map (λ s. s.items) spelt
+
+shared_append : (xs ys : List Made) → shared_in (xs ++ ys) ≡ shared_in xs ++ shared_in ys
+shared_append [] ys = refl
+shared_append (Shared x ∷ xs) ys = ap (λ (l : List Item). x ∷ l) (shared_append xs ys)
+shared_append (Entered object entry ∷ xs) ys = shared_append xs ys
+
+items_push : (xs : List SpeltCall) (x : SpeltCall) → items_in (xs ++ x ∷ []) ≡ items_in xs ++ x.items
+items_push [] x = append-nil x.items
+items_push (y ∷ xs) x = ap (λ (l : List Made). y.items ++ l) (items_push xs x) ∙ sym (append_assoc y.items (items_in xs) x.items)
+
+module _ (plan : Plan) (worker : ℕ) where
+  spelt_push : (before : ℕ) (xs : List SpeltCall) (x : SpeltCall) → AreSpelt plan worker before xs → SpellsCall plan worker (before + length (shared_in (items_in xs))) x.call x.items (Done (Ok x.reply)) → AreSpelt plan worker before (xs ++ x ∷ [])
+  spelt_push before [] x are spelt = (subst (λ n. SpellsCall plan worker n x.call x.items (Done (Ok x.reply))) (omega arith) spelt, tt)
+  spelt_push before (y ∷ xs) x are spelt =
+      let count : length (shared_in (y.items ++ items_in xs)) ≡ length (shared_in y.items) + length (shared_in (items_in xs)) = ap (λ (l : List Item). length l) (shared_append y.items (items_in xs)) ∙ length-append (shared_in y.items) (shared_in (items_in xs)) in
+      (are.0, spelt_push (before + length (shared_in y.items)) xs x are.1 (subst (λ n. SpellsCall plan worker n x.call x.items (Done (Ok x.reply))) (omega (arith, count)) spelt))
+
+drop_from : (j : ℕ) (xs : List Call) (x : Call) → slice_get xs j ≡ Some x → drop j xs ≡ x ∷ drop (suc j) xs
+drop_from j [] x found = absurd (none-some x found)
+drop_from zero (y ∷ xs) x found = ap (λ (z : Call). z ∷ xs) (first_is y x xs found)
+drop_from (suc j) (y ∷ xs) x found = drop_from j xs x found
+
+took : (j : ℕ) (xs : List Call) (x : Call) → slice_get xs j ≡ Some x → take (j + 1) xs ≡ take j xs ++ x ∷ []
+took j xs x found =
+    let next : j + 1 ≡ suc j = omega arith in
+    ap (λ n. take n xs) next ∙ more j xs found where
+  more : (j : ℕ) (xs : List Call) → slice_get xs j ≡ Some x → take (suc j) xs ≡ take j xs ++ x ∷ []
+  more j [] found = absurd (none-some x found)
+  more zero (y ∷ xs) found = ap (λ (z : Call). z ∷ []) (first_is y x xs found)
+  more (suc j) (y ∷ xs) found = ap (λ (l : List Call). y ∷ l) (more j xs found)
+
+first_behind : (xs ys : List Made) (y : Made) → slice_get ys 0 ≡ Some y → slice_get (xs ++ ys) (length xs) ≡ Some y
+first_behind [] ys y at = at
+first_behind (x ∷ xs) ys y at = first_behind xs ys y at
+
+same_misuse : (m n : Misuse) → misused m ≡ misused n → m ≡ n
+same_misuse m n is = ap read is where
+  read : LineEnd → Misuse
+  read (misused k) = k
+  read whole = m
+  read (halted k) = m
+  read unfinished = m
+
+abbrev is_misused : LineEnd → Type 0
+is_misused (misused k) = Unit {0}
+is_misused whole = ⊥
+is_misused (halted k) = ⊥
+is_misused unfinished = ⊥
+
+not_misused : (m n : Misuse) → halted m ≡ misused n → ⊥
+not_misused m n is = subst is_misused (sym is) tt
+
+not_whole : (n : Misuse) → whole ≡ misused n → ⊥
+not_whole n is = subst is_misused (sym is) tt
+
+module _ (plan : Plan) (worker : ℕ) (script : List Call) (old : Desk) (none : old.calls ≡ []) where
+  abbrev DidLineOf : List Call → List (Reply ℕ) → Desk → Desk → Type 0
+  DidLineOf calls replies from to = (line : Line) × DidLine plan worker calls replies from to line
+
+  -- nothing is done yet
+  pub begun : Moves old [] old → Went plan worker script 0 [] old old
+  begun rests = record { spelt = []; are = tt; calls = refl; answers = refl; moves = rests }
+
+  module _ (i : ℕ) (call : Call) (within : i < length script) (at : slice_get script i ≡ Some call) (replies : List (Reply ℕ)) (now new : Desk) (joins : Joins) (went : Went plan worker script i replies old now) where
+    -- a worker's own calls are those of the items
+    made_before : length now.calls ≡ length (shared_in (items_in went.spelt))
+    made_before = ap (λ (l : List Item). length l) (went.moves.calls ∙ ap (λ (l : List Item). l ++ shared_in (items_in went.spelt)) none)
+
+    spelt_here : (items : List Made) (answer : _) → SpellsCall plan worker (length now.calls) call items answer → SpellsCall plan worker (length (shared_in (items_in went.spelt))) call items answer
+    spelt_here items answer spelt = subst (λ n. SpellsCall plan worker n call items answer) made_before spelt
+
+    all_moves : (items : List Made) → Moves now items new → Moves old (items_in went.spelt ++ items) new
+    all_moves items moves = joins old now new (items_in went.spelt) items went.moves moves
+
+    rest : script ≡ take i script ++ call ∷ drop (suc i) script
+    rest = sym (take-append-drop i script) ∙ ap (λ (l : List Call). take i script ++ l) (drop_from i script call at)
+
+    -- a call that was answered comes behind the others
+    pub went_on : (reply : Reply ℕ) → Works (SpellsCall plan worker (length now.calls) call) now (Done (Ok reply)) new → Went plan worker script (i + 1) (replies ++ reply ∷ []) old new
+    went_on reply works =
+        let one : SpeltCall = record { call = call; items = works.items; reply = reply } in
+        record {
+          spelt = went.spelt ++ one ∷ [];
+          are = spelt_push plan worker 0 went.spelt one went.are (subst (λ n. SpellsCall plan worker n call works.items (Done (Ok reply))) (omega arith) (spelt_here works.items (Done (Ok reply)) works.spelt));
+          calls = map_push (λ s. s.call) went.spelt one ∙ ap (λ (l : List Call). l ++ call ∷ []) went.calls ∙ sym (took i script call at);
+          answers = map_push (λ s. s.reply) went.spelt one ∙ ap (λ (l : List (Reply ℕ)). l ++ reply ∷ []) went.answers;
+          moves = subst (λ (l : List Made). Moves old l new) (sym (items_push went.spelt one)) (all_moves works.items works.moves);
+        }
+
+    -- a call that is a misuse, and the halts by it
+    pub ends_misused : (misuse : Misuse) (items halts : List Made) (stopped : ObjectEntry) (last : Desk) → SpellsCall plan worker (length now.calls) call items (Done (Err misuse)) → Moves now items new → Moves new halts last
+        → All (IsHalt misuse) halts → slice_get halts 0 ≡ Some (Entered stop stopped) → stopped.deed ≡ Halt misuse → DidLineOf script replies old last
+    ends_misused misuse items halts stopped last spelt first second are first_is deed = (record { spelt = went.spelt; last = items ++ halts; rest = call ∷ drop (suc i) script; ending = misused misuse }, record {
+      is = record { calls = went.are; ends = (items, halts, refl, spelt_here items (Done (Err misuse)) spelt, are) };
+      calls = ap (λ (l : List Call). l ++ call ∷ drop (suc i) script) went.calls ∙ sym rest;
+      answers = went.answers;
+      ended = tt;
+      stops = λ met is. (length (items_in went.spelt ++ items), stopped, halt_at, deed ∙ ap (λ m. Halt m) (same_misuse misuse met is));
+      moves = subst (λ (l : List Made). Moves old l last) (append_assoc (items_in went.spelt) items halts) (joins old new last (items_in went.spelt ++ items) halts (all_moves items first) second);
+    }) where
+      halt_at : slice_get (items_in went.spelt ++ (items ++ halts)) (length (items_in went.spelt ++ items)) ≡ Some (Entered stop stopped)
+      halt_at = ap (λ (l : List Made). slice_get l (length (items_in went.spelt ++ items))) (sym (append_assoc (items_in went.spelt) items halts)) ∙ first_behind (items_in went.spelt ++ items) halts (Entered stop stopped) first_is
+
+    -- a call that met a halt
+    pub ends_halted : (misuse : Misuse) → Works (SpellsCall plan worker (length now.calls) call) now (Halted misuse) new → DidLineOf script replies old new
+    ends_halted misuse works = (record { spelt = went.spelt; last = works.items; rest = call ∷ drop (suc i) script; ending = halted misuse }, record {
+      is = record { calls = went.are; ends = spelt_here works.items (Halted misuse) works.spelt };
+      calls = ap (λ (l : List Call). l ++ call ∷ drop (suc i) script) went.calls ∙ sym rest;
+      answers = went.answers;
+      ended = tt;
+      stops = λ met is. absurd (not_misused misuse met is);
+      moves = all_moves works.items works.moves;
+    })
+
+  -- the end of the script
+  pub ends_whole : (replies : List (Reply ℕ)) (now : Desk) → Went plan worker script (length script) replies old now → DidLineOf script replies old now
+  ends_whole replies now went = (record { spelt = went.spelt; last = []; rest = []; ending = whole }, record {
+    is = record { calls = went.are; ends = (refl, refl) };
+    calls = append-nil (map (λ s. s.call) went.spelt) ∙ went.calls ∙ take_all (length script) script (omega arith);
+    answers = went.answers;
+    ended = tt;
+    stops = λ met is. absurd (not_whole met is);
+    moves = subst (λ (l : List Made). Moves old l now) (sym (append-nil (items_in went.spelt))) went.moves;
+  })

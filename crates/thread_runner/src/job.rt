@@ -1,0 +1,60 @@
+//! The job of one thread: a worker's script.
+ghost use Rattle.std.specs.Prelude.{◌≡◌};
+
+use crate::script::run_script;
+use std::sync::Wait;
+use sync_model::{BoundedSeq, Caller, Note, Reply, Seq, Shared};
+use sync_outside::{Clock, Gate, Work};
+use thread_calls::{AnyPass, Site, Worker};
+
+/// A worker, with all that its script takes.
+#[derive(Drop)]
+pub(crate) struct Job<'a, S: Shared, C: Clock, G: Gate> {
+    pub site: Site<'a, S>,
+    pub worker: Worker<'a, S::Mark, C>,
+    pub gate: &'a G,
+    pub caller: Caller<S::Mark>,
+    pub passes: Vec<AnyPass<S::Mark>>,
+    /// Room for the replies.
+    pub replies: BoundedSeq<Reply<u32>>,
+    /// Room for the pairs of each `range`.
+    pub rooms: Vec<BoundedSeq<(u32, u64)>>,
+}
+
+/// What a worker leaves that has ended.
+#[derive(Drop)]
+pub(crate) struct Gone<M> {
+    pub caller: Caller<M>,
+    pub passes: Vec<AnyPass<M>>,
+    pub replies: Seq<Reply<u32>>,
+    /// Whether each `range` had room for its pairs.
+    pub kept: bool,
+}
+
+impl<'a, S: Shared + Sync, C: Clock + Sync, G: Gate + Sync> Work for Job<'a, S, C, G>
+where
+    S::Mark: Send,
+    S::Cursor: Send,
+    <S::Mark as Note>::Home: Sync,
+{
+    ghost use Rattle.std.specs.Prelude.{◌≡◌};
+    ghost use Rattle.run_record.specs.Record.{stop};
+    ghost use Rattle.thread_calls.specs.Desks.{IsObjectAt};
+    ghost use Rattle.thread_calls.specs.Kinds.{IsStop};
+    ghost use Rattle.thread_calls.specs.Sites.{IsSite};
+    ghost use Rattle.thread_runner.specs.Jobs.{IsReady, HasGone};
+
+    type Out = Gone<S::Mark>;
+
+    ghost ready = { λ job. IsSite S.Mark.at job.worker.at.home.now job.site.workload.now (S.maps job.site.shared.now) (S.kinds job.site.shared.now) (S.takes job.site.shared.now) job.site.objects.now job.site.numbers.now
+        × IsObjectAt IsStop job.site.objects.now stop × (job.site.workload.now.workers ≡ job.worker.workers) × (S.home_of job.site.shared.now ≡ job.worker.at.home.now)
+        × IsReady S.Mark.at S.Mark.own S.Mark.front job.worker.at.home.now job.site.workload.now job.site.objects.now job.worker.number job.passes.items job.caller job.replies job.rooms.items };
+
+    ghost gives = { λ job gone. HasGone S.Mark.at S.Mark.own S.Mark.front job.worker.at.home.now job.site.workload.now job.site.objects.now job.worker.number job.passes.items job.caller gone.passes.items gone.caller gone.replies gone.kept };
+
+    fn work<R: Wait>(self, rt: &R) -> Gone<S::Mark> {
+        let Job { site, worker, gate, mut caller, mut passes, mut replies, mut rooms } = self;
+        let kept = run_script(rt, &site, &worker, gate, &mut caller, &mut passes, &mut replies, &mut rooms);
+        Gone { caller, passes, replies: replies.into_seq(), kept }
+    }
+}
