@@ -1,7 +1,7 @@
 -- What a site says of the object at a place.
-use Rattle.std.proofs.Common.{◌≡◌, ℕ, zero, suc, ◌+◌, ◌<◌, ◌≤◌, ◌^◌, ℤ, pos, negsuc, Bool, true, false, cond, List, [], ◌∷◌, ◌++◌, length, take, Option, Some, None, slice_get, slice_index, refl, sym, ap, ◌∙◌, subst, arith}
+use Rattle.std.proofs.Common.{◌≡◌, ℕ, zero, suc, ◌+◌, ◌<◌, ◌^◌, ℤ, pos, negsuc, true, false, cond, List, [], ◌∷◌, ◌++◌, length, take, Option, Some, None, slice_get, slice_index, refl, sym, ap, ◌∙◌, subst, arith}
 use Rattle.std.specs.Int.{w64}
-use Rattle.std.specs.Prelude.{FitsSigned, count_by}
+use Rattle.std.specs.Prelude.{FitsSigned}
 use Rattle.std.specs.List.{flat_map}
 use Rattle.std.proofs.lemmas.List.Sums.{sum_by-append, sum_by-take-le}
 use Rattle.std.proofs.lemmas.Option.{slice_get_within, same_Some, none-some}
@@ -28,12 +28,12 @@ use Rattle.run_record.specs.AtomicKind.{atomic_call}
 use Rattle.run_record.specs.MapKind.{map_call, range_call}
 use Rattle.run_record.specs.OnceKind.{do_call}
 use Rattle.run_record.specs.Objects.{is_map, is_atomic, types_of, map_number, atomic_number}
-use Rattle.run_record.specs.Record.{number_at}
+use Rattle.run_record.specs.Record.{stop, number_at}
 use Rattle.thread_calls.specs.declared.object.AnyObject.{AnyObject}
 use Rattle.thread_calls.specs.declared.object.AnyObject.TheVariants as those
-use Rattle.thread_calls.specs.AsDeclared.{IsDeclared, AreDeclared}
+use Rattle.thread_calls.specs.AsDeclared.{IsStopOf, IsDeclared, AreDeclared}
 use Rattle.thread_calls.specs.Desks.{IsObjectAt}
-use Rattle.thread_calls.specs.Kinds.{IsOfKind}
+use Rattle.thread_calls.specs.Kinds.{IsStop, IsOfKind}
 use Rattle.thread_calls.specs.Parts.{placed_map}
 use Rattle.thread_calls.specs.Sites.{AreNumbers, AreShared, IsAt, shared_number}
 use Rattle.thread_calls.specs.Working.{Desk, Works}
@@ -137,6 +137,16 @@ module _ {N H : Type 0} (at : H → N → Type 0) (home : H) (plan : Plan) where
   of_kind place (kinds.OnceValue value) (those.OnceValue o) is = tt
   of_kind place kinds.Pool (those.Pool o) is = tt
   of_kind place kind object is = absurd is
+
+  stop_of : (object : AnyObject N H) → IsStopOf at home plan.workers object → IsStop object
+  stop_of (those.Stop o) is = tt
+  stop_of object is = absurd is
+
+  -- the first object of a run is Stop
+  pub stop_is_first : (all : List (AnyObject N H)) → AreDeclared at home plan all → IsObjectAt IsStop all stop
+  stop_is_first all declared =
+      let object = slice_get_some all stop (omega (arith, declared.count)) in
+      (object.0, object.1, stop_of object.0 (declared.stops object.0 object.1))
 
   module _ (all : List (AnyObject N H)) (declared : AreDeclared at home plan all) (place : ℕ) (kind : ObjectKind) (is : IsAt plan place kind) where
     pub has_room : place + 1 < length all

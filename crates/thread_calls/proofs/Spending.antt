@@ -1,5 +1,5 @@
 -- What a caller's calls leave of its spare entries.
-use Rattle.std.proofs.Common.{◌≡◌, ℕ, ◌+◌, ◌≤◌, List, Option, Some, None, refl, sym, ap, ◌∙◌, subst, arith}
+use Rattle.std.proofs.Common.{◌≡◌, ℕ, ◌+◌, List, Option, Some, None, refl, sym, ap, ◌∙◌, arith}
 use Rattle.std.specs.Prelude.{IsSome, is_some}
 use Rattle.std.proofs.lemmas.Bool.{false≢true}
 use Rattle.std.proofs.lemmas.Option.{same_Some}
@@ -7,7 +7,7 @@ use Rattle.sync_model.specs.declared.item.SharedCall.{SharedCall}
 use Rattle.sync_model.specs.declared.item.SharedReply.{SharedReply}
 use Rattle.sync_model.specs.declared.item.SharedEntry.{SharedEntry}
 use Rattle.sync_model.specs.Note.{Holding}
-use Rattle.sync_model.specs.Shared.{CallerState, Called, state_of}
+use Rattle.sync_model.specs.Shared.{Called, state_of}
 use Rattle.sync_model.specs.SharedHistory.{Contents}
 use Rattle.ruled_object.specs.Growth.{KeepsNote}
 use Rattle.thread_calls.specs.Sites.{Spends}

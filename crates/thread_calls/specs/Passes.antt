@@ -9,6 +9,7 @@ use Rattle.protocols.specs.RwMutexStages.{rw_stands, RwMutexBegins}
 use Rattle.wait_cores.specs.GroupStanding.{waits_after}
 use Rattle.run_record.specs.declared.entered.ObjectEvent.TheVariants as event
 use Rattle.run_record.specs.declared.entered.ObjectReply.TheVariants as reply
+use Rattle.run_record.specs.Journals.{IsStops}
 use Rattle.run_record.specs.Record.{ObjectEntry}
 use Rattle.thread_calls.specs.declared.object.AnyObject.{AnyObject}
 use Rattle.thread_calls.specs.declared.object.AnyObject.TheVariants as objects
@@ -36,10 +37,10 @@ abbrev pub owns_of : {N : Type 0} → List (AnyPass N) → ℕ → List ObjectEn
 owns_of all object = own_of (get_or all object passes.None)
 
 module _ {N H : Type 0} (at : H → N → Type 0) (home : H) (workers worker : ℕ) where
-  -- it is the worker's pass to the object, and the worker is between two calls
+  -- it is the worker's pass to the object, and the worker is between two calls. On Stop it did nothing but halt it
   abbrev pub IsSeatAt : AnyObject N H → AnyPass N → Type 0
   IsSeatAt objects.Shared passes.None = Unit {0}
-  IsSeatAt (objects.Stop o) (passes.Stop p) = IsSeat StopBegins tt stop_stands at home workers worker o p
+  IsSeatAt (objects.Stop o) (passes.Stop p) = IsSeat StopBegins tt stop_stands at home workers worker o p × IsStops (own_as no_event no_reply p)
   IsSeatAt (objects.Mutex o) (passes.Mutex p) = IsSeat MutexBegins false mutex_stands at home workers worker o p
   IsSeatAt (objects.RwMutex o) (passes.RwMutex p) = IsSeat RwMutexBegins false rw_stands at home workers worker o p
   IsSeatAt (objects.Cond o) (passes.Cond p) = IsSeat CondBegins tt cond_stands at home workers worker o p

@@ -1,5 +1,5 @@
 -- A worker's pass to an object, between two calls.
-use Rattle.std.specs.Prelude.{◌≡◌, ℕ, List}
+use Rattle.std.specs.Prelude.{◌≡◌, ℕ}
 use Rattle.ruled_object.specs.declared.object.Object.{Object}
 use Rattle.ruled_object.specs.declared.pass.Pass.{Pass}
 use Rattle.ruled_object.specs.Passes.{number_of, own_by, callers_of, start_of, IsHomeOf, IsPassOf}

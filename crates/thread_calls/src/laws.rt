@@ -1,10 +1,16 @@
 //! What holds of what a worker makes. Each law is the contract of a function that does nothing.
 ghost use Rattle.std.specs.Prelude.{◌≡◌, ℕ, ◌+◌, ◌<◌, List, [], ◌++◌, length, take, Some, slice_get, slice_index};
 ghost use Rattle.sync_model.specs.Front.{AtLeast};
-ghost use Rattle.run_record.specs.Record.{shared_in, front_of};
+ghost use Rattle.run_record.specs.Record.{shared_in, front_of, stop};
+ghost use Rattle.thread_calls.specs.AsDeclared.{AreDeclared};
+ghost use Rattle.thread_calls.specs.Desks.{IsObjectAt};
+ghost use Rattle.thread_calls.specs.Kinds.{IsStop};
 ghost use Rattle.thread_calls.specs.Working.{Desk, Moves};
+ghost use Rattle.workload.specs.Plan.{Plan};
 
+use crate::object::AnyObject;
 use run_record::Made;
+use sync_model::Note;
 
 /// A worker that makes nothing stays at its desk. What it makes from one desk to another, and then to a third, it makes from
 /// the first one to the third.
@@ -22,4 +28,9 @@ pub fn a_worker_knows_its_own_calls()
         → Moves old items new → i < j → slice_get items i ≡ Some earlier → slice_get items j ≡ Some later → AtLeast (front_of later) (front_of earlier) }
     ensures ends { (old new : Desk) (items : List Made) (i : ℕ) (made : Made)
         → Moves old items new → slice_get items i ≡ Some made → AtLeast new.front (front_of made) }
+{}
+
+/// The first object of a run is Stop.
+pub fn stop_is_the_first_object<N: Note>()
+    ensures { (home : N.Home) (plan : Plan) (objects : List (AnyObject N N.Home)) → AreDeclared N.at home plan objects → IsObjectAt IsStop objects stop }
 {}

@@ -4,9 +4,7 @@ use Rattle.thread_calls.specs.Passes.{owns_of}
 use Rattle.thread_calls.proofs.ByKind.{on_map, on_atomic, on_range}
 use Rattle.thread_calls.proofs.ScriptCalls.{key_among}
 use Rattle.thread_calls.proofs.Sites.{declared_at, has_room, mutex_of}
-use Rattle.std.proofs.Common.{sym, subst}
-use Rattle.thread_calls.specs.declared.object.AnyObject.{AnyObject}
-use Rattle.thread_calls.specs.Kinds.{IsOfKind}
+use Rattle.std.proofs.Common.{subst}
 use Rattle.workload.specs.declared.object.ObjectKind.{ObjectKind}
 use Rattle.thread_calls.specs.Sites.{IsAt}
 use Rattle.thread_calls.proofs.dispatch.call_at.Goals as goal

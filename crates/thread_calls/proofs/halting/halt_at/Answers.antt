@@ -1,10 +1,7 @@
-use Rattle.std.proofs.Common.{◌≡◌, length, Some, slice_get, Ok, refl, sym, ◌∙◌, subst, arith}
-use Rattle.std.proofs.lemmas.Option.{slice_get_read, same_Some}
+use Rattle.std.proofs.Common.{length, Ok, refl, arith}
+use Rattle.std.proofs.lemmas.Option.{slice_get_read}
 use Rattle.sync_model.specs.declared.answer.Answer.TheVariants.{Done}
-use Rattle.thread_calls.specs.declared.object.AnyObject.{AnyObject}
 use Rattle.thread_calls.specs.Halting.{halting}
-use Rattle.thread_calls.specs.Passes.{owns_of}
-use Rattle.thread_calls.specs.Working.{Works, desk_with}
 use Rattle.thread_calls.proofs.HaltLemmas.{halted_any, halted_here, halted_it}
 use Rattle.thread_calls.proofs.Slots.{in_slot, seats_kept}
 use Rattle.thread_calls.proofs.halting.halt_at.Goals as goal

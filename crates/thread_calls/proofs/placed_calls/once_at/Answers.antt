@@ -1,4 +1,4 @@
-use Rattle.std.proofs.Common.{◌≡◌, ℤ, refl, to_z, of_z, rules}
+use Rattle.std.proofs.Common.{◌≡◌, refl, to_z, of_z, rules}
 use Rattle.std.proofs.lemmas.Option.{IfSome_then}
 use Rattle.std.specs.Int.{w64}
 use Rattle.sync_model.specs.declared.atomic_object.AtomicKind.TheVariants as types

@@ -1,10 +1,10 @@
-use Rattle.std.proofs.Common.{◌≡◌, ℕ, ◌+◌, ◌<◌, true, cond, List, ◌∷◌, [], length, Some, slice_get, slice_index, refl, ap, sym, subst, ◌∙◌, arith}
+use Rattle.std.proofs.Common.{◌≡◌, ℕ, ◌+◌, ◌<◌, true, cond, List, [], length, Some, slice_get, slice_index, refl, ap, sym, subst, ◌∙◌, arith}
 use Rattle.std.proofs.lemmas.List.{length_push}
 use Rattle.std.proofs.lemmas.Option.{slice_get_read, slice_get_within}
-use Rattle.run_record.specs.Objects.{is_map, is_atomic, map_number, atomic_number}
+use Rattle.run_record.specs.Objects.{is_map, is_atomic}
 use Rattle.workload.specs.declared.object.ObjectLine.{ObjectLine}
 use Rattle.workload.specs.Readable.{may_declare}
-use Rattle.thread_calls.specs.Sites.{AreNumbers, shared_number}
+use Rattle.thread_calls.specs.Sites.{AreNumbers}
 use Rattle.thread_calls.proofs.Numbers.{few_maps, few_atomics, one_more, numbered, same_number, number_of}
 use Rattle.thread_calls.proofs.site.numbers_of.Goals as goal
 

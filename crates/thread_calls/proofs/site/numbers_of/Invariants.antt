@@ -1,5 +1,5 @@
-use Rattle.std.proofs.Common.{◌≡◌, ℕ, ◌<◌, length, take, Some, slice_get, slice_index, count_by}
-use Rattle.run_record.specs.Objects.{is_map, is_atomic, map_number, atomic_number}
+use Rattle.std.proofs.Common.{◌≡◌, ℕ, ◌<◌, length, Some, slice_get, slice_index}
+use Rattle.run_record.specs.Objects.{map_number, atomic_number}
 use Rattle.workload.specs.declared.object.ObjectLine.{ObjectLine}
 use Rattle.thread_calls.specs.Sites.{shared_number}
 use Rattle.thread_calls.proofs.site.numbers_of.Given as goal

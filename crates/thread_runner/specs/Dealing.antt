@@ -1,0 +1,23 @@
+-- The passes of all workers to all objects, by column and by row.
+use Rattle.std.specs.Prelude.{◌≡◌, ℕ, ◌+◌, ◌-◌, ◌<◌, ◌≤◌, List, [], length, Some, slice_get}
+use Rattle.run_record.specs.Record.{ObjectEntry}
+use Rattle.thread_calls.specs.declared.column.AnyColumn.{AnyColumn}
+use Rattle.thread_calls.specs.declared.object.AnyObject.{AnyObject}
+use Rattle.thread_calls.specs.declared.pass.AnyPass.{AnyPass}
+use Rattle.thread_calls.specs.Desks.{AreSeats}
+use Rattle.thread_calls.specs.Passes.{owns_of}
+use Rattle.thread_calls.specs.Rows.{made_on}
+
+-- nobody whose number isn't below this one made an entry, by the passes that are in these columns
+abbrev pub MadeNothingFrom : {N : Type 0} → ℕ → List (AnyColumn N) → Type 0
+MadeNothingFrom from all = (object worker : ℕ) → from ≤ worker → made_on all object worker ≡ []
+
+-- the worker's passes to all objects, on which it made nothing
+pub record IsRow {N H : Type 0} (at : H → N → Type 0) (home : H) (workers worker : ℕ) (objects : List (AnyObject N H)) (row : List (AnyPass N)) : Type 0 where
+  pub seats : AreSeats at home workers worker objects row
+  pub none : (object : ℕ) → owns_of row object ≡ []
+
+-- the rows of all workers, in order of number
+pub record AreRows {N H : Type 0} (at : H → N → Type 0) (home : H) (workers : ℕ) (objects : List (AnyObject N H)) (rows : List (List (AnyPass N))) : Type 0 where
+  pub count : length rows ≡ workers
+  pub each : (worker : ℕ) (row : List (AnyPass N)) → slice_get rows worker ≡ Some row → IsRow at home workers worker objects row

@@ -1,0 +1,86 @@
+//! The objects of a run, and dealing their passes to the workers.
+ghost use Rattle.std.specs.Prelude.{◌≡◌, ℕ, ◌×◌, ◌<◌, ◌≤◌, IfOk, [], get_or, map};
+ghost use Rattle.sync_model.specs.Note.{SameHome};
+ghost use Rattle.thread_calls.specs.AsDeclared.{AreDeclared};
+ghost use Rattle.thread_calls.specs.Desks.{AreSeats};
+ghost use Rattle.thread_calls.specs.Passes.{owns_of};
+ghost use Rattle.thread_calls.specs.Rows.{AreColumns, made_on};
+ghost use Rattle.thread_runner.specs.Dealing.{MadeNothingFrom, AreRows};
+
+use std::alloc::{AllocError, Global};
+use sync_model::Note;
+use thread_calls::{AnyColumn, AnyObject, AnyPass, Crew, deal_row, make_object, make_stop, put_row};
+use workload::Workload;
+
+/// Stop, and the objects that the workload declares, with the passes of all workers. Each object keeps a copy of the note.
+pub(crate) fn make_objects<N: Note>(
+    alloc: Global,
+    crew: &Crew<N>,
+    workload: &Workload,
+    note: &mut N,
+) -> Result<(Vec<AnyObject<N>>, Vec<AnyColumn<N>>), AllocError>
+    requires workers { crew.now.workers ≡ workload.now.workers }
+    requires note { N.at crew.now.home.now note.old }
+    ensures note { SameHome N.at note.old note.new × (N.own note.new ≡ N.own note.old) × (N.front note.new ≡ N.front note.old) }
+    ensures declared { IfOk result (λ made. AreDeclared N.at crew.now.home.now workload.now made.0.items) }
+    ensures columns { IfOk result (λ made. AreColumns N.at crew.now.home.now crew.now.workers crew.now.workers made.0.items made.1.items) }
+    ensures nothing { IfOk result (λ made. MadeNothingFrom 0 made.1.items) }
+{
+    let count = workload.objects().len();
+    let mut objects = Vec::with_capacity(alloc, count + 1)?;
+    let mut columns = Vec::with_capacity(alloc, count + 1)?;
+    let (stop, passes) = make_stop(alloc, crew, note.copy(crew.home))?;
+    objects.push_reserved(stop);
+    columns.push_reserved(passes);
+    for place in 0..count {
+        let (object, passes) = make_object(alloc, crew, workload, place, note.copy(crew.home))?;
+        objects.push_reserved(object);
+        columns.push_reserved(passes);
+    }
+    Ok((objects, columns))
+}
+
+/// Deals each worker its passes to all objects, in order of worker.
+pub(crate) fn deal<N: Note>(
+    alloc: Global,
+    crew: &Crew<N>,
+    objects: &[AnyObject<N>],
+    columns: &mut [AnyColumn<N>],
+) -> Result<Vec<Vec<AnyPass<N>>>, AllocError>
+    requires columns { AreColumns N.at crew.now.home.now crew.now.workers crew.now.workers objects.now columns.old }
+    requires nothing { MadeNothingFrom 0 columns.old }
+    ensures rows { IfOk result (λ rows. AreRows N.at crew.now.home.now crew.now.workers objects.now (map (λ row. row.items) rows.items)) }
+    ensures columns { IfOk result (λ rows. AreColumns N.at crew.now.home.now crew.now.workers 0 objects.now columns.new) }
+    ensures nothing { IfOk result (λ rows. MadeNothingFrom crew.now.workers columns.new) }
+{
+    let mut rows = Vec::with_capacity(alloc, crew.workers as usize)?;
+    let mut worker = crew.workers;
+    while worker > 0 {
+        worker -= 1;
+        rows.push_reserved(deal_row(alloc, crew, worker, objects, columns)?);
+    }
+    rows.reverse();
+    Ok(rows)
+}
+
+/// Puts the passes of all workers back into the columns of their objects. It takes no memory.
+pub(crate) fn collect<N: Note>(
+    crew: &Crew<N>,
+    objects: &[AnyObject<N>],
+    columns: &mut [AnyColumn<N>],
+    rows: Vec<Vec<AnyPass<N>>>,
+)
+    requires count { length rows.items ≡ crew.now.workers }
+    requires seats { (worker : ℕ) (row : List (AnyPass N)) → slice_get (map (λ row. row.items) rows.items) worker ≡ Some row → AreSeats N.at crew.now.home.now crew.now.workers worker objects.now row }
+    requires columns { AreColumns N.at crew.now.home.now crew.now.workers 0 objects.now columns.old }
+    ensures columns { AreColumns N.at crew.now.home.now crew.now.workers crew.now.workers objects.now columns.new }
+    ensures made { (object worker : ℕ) → worker < crew.now.workers → made_on columns.new object worker ≡ owns_of (get_or (map (λ row. row.items) rows.items) worker []) object }
+    ensures others { (object worker : ℕ) → crew.now.workers ≤ worker → made_on columns.new object worker ≡ made_on columns.old object worker }
+{
+    let mut worker = 0;
+    for row in rows {
+        let mut row = row;
+        put_row(crew, worker, objects, columns, &mut row);
+        worker += 1;
+    }
+}
