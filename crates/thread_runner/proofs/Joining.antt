@@ -19,7 +19,7 @@ use Rattle.run_record.specs.Objects.{contents_of}
 use Rattle.run_record.specs.Record.{Record, ObjectEntry, journal_of, list_of, shared_in, entries_in, calls_of, front_of}
 use Rattle.thread_calls.specs.Working.{Desk, Moves}
 use Rattle.thread_runner.specs.DidLines.{DidLine, IsFresh}
-use Rattle.thread_runner.specs.Gathering.{AreJournals}
+use Rattle.thread_calls.specs.Rows.{AreJournals}
 use Rattle.thread_runner.proofs.ItemLists.{mapped_at, mapped_past, mapped_is}
 
 -- what a worker knows, along what it made

@@ -1,6 +1,12 @@
+pub mod BothClauses
+pub mod Counting
+pub mod Dealt
 pub mod Explaining
 pub mod Hiring
 pub mod ItemLists
 pub mod Joining
 pub mod LineSteps
+pub mod Made
+pub mod NameTables
 pub mod ScriptLoop
+pub mod Ended

@@ -1,4 +1,6 @@
+pub mod Dealing
 pub mod DidLines
-pub mod Gathering
+pub mod EndsPlans
 pub mod Jobs
 pub mod Runs
+pub mod AllGone

@@ -1,5 +1,5 @@
 //! The objects of a run, and dealing their passes to the workers.
-ghost use Rattle.std.specs.Prelude.{◌≡◌, ℕ, ◌×◌, ◌<◌, ◌≤◌, IfOk, [], get_or, map};
+ghost use Rattle.std.specs.Prelude.{◌≡◌, ℕ, ◌<◌, ◌≤◌, IfOk, List, [], length, get_or, map, Some, slice_get};
 ghost use Rattle.sync_model.specs.Note.{SameHome};
 ghost use Rattle.thread_calls.specs.AsDeclared.{AreDeclared};
 ghost use Rattle.thread_calls.specs.Desks.{AreSeats};
@@ -9,7 +9,9 @@ ghost use Rattle.thread_runner.specs.Dealing.{MadeNothingFrom, AreRows};
 
 use std::alloc::{AllocError, Global};
 use sync_model::Note;
-use thread_calls::{AnyColumn, AnyObject, AnyPass, Crew, deal_row, make_object, make_stop, put_row};
+use thread_calls::{
+    AnyColumn, AnyObject, AnyPass, Crew, deal_row, make_object, make_stop, put_row,
+};
 use workload::Workload;
 
 /// Stop, and the objects that the workload declares, with the passes of all workers. Each object keeps a copy of the note.
@@ -26,6 +28,7 @@ pub(crate) fn make_objects<N: Note>(
     ensures columns { IfOk result (λ made. AreColumns N.at crew.now.home.now crew.now.workers crew.now.workers made.0.items made.1.items) }
     ensures nothing { IfOk result (λ made. MadeNothingFrom 0 made.1.items) }
 {
+    let _workers = workload.workers();
     let count = workload.objects().len();
     let mut objects = Vec::with_capacity(alloc, count + 1)?;
     let mut columns = Vec::with_capacity(alloc, count + 1)?;
@@ -57,7 +60,8 @@ pub(crate) fn deal<N: Note>(
     let mut worker = crew.workers;
     while worker > 0 {
         worker -= 1;
-        rows.push_reserved(deal_row(alloc, crew, worker, objects, columns)?);
+        let row = deal_row(alloc, crew, worker, objects, columns)?;
+        rows.push_reserved(row);
     }
     rows.reverse();
     Ok(rows)
@@ -70,6 +74,7 @@ pub(crate) fn collect<N: Note>(
     columns: &mut [AnyColumn<N>],
     rows: Vec<Vec<AnyPass<N>>>,
 )
+    requires few { crew.now.workers ≤ 64 }
     requires count { length rows.items ≡ crew.now.workers }
     requires seats { (worker : ℕ) (row : List (AnyPass N)) → slice_get (map (λ row. row.items) rows.items) worker ≡ Some row → AreSeats N.at crew.now.home.now crew.now.workers worker objects.now row }
     requires columns { AreColumns N.at crew.now.home.now crew.now.workers 0 objects.now columns.old }

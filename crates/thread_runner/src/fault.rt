@@ -19,7 +19,7 @@ pub enum RunFault {
 impl From<AllocError> for RunFault {
     ghost from_gives = { λ _ e. e ≡ faults.Memory };
 
-    fn from(_error: AllocError) -> Self {
+    fn from(_error: AllocError) -> RunFault {
         RunFault::Memory
     }
 }

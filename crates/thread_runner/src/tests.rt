@@ -78,7 +78,8 @@ fn first_other<C: Clock + Sync, R: Threads + Wait + Sync>(
 }
 
 // Two workers of whom each waits for the other: run one after the other they would never end.
-const EACH_WAITS: &str = "workers 2\nwaitgroup g0 1\nwaitgroup g1 1\nworker 0\ndone g0\nwait g1\nworker 1\ndone g1\nwait g0\n";
+const EACH_WAITS: &str =
+    "workers 2\nwaitgroup g0 1\nwaitgroup g1 1\nworker 0\ndone g0\nwait g1\nworker 1\ndone g1\nwait g0\n";
 
 const RUNS: [(&str, &str); 7] = [
     (
@@ -105,10 +106,7 @@ const RUNS: [(&str, &str); 7] = [
         "workers 2\nint64 a\nonce o a 5\noncefunc g 3\nworker 0\ndo o\ncall g\ncall g\nworker 1\n",
         "[Once(Ran(5)), OnceFunc(Some(3)), OnceFunc(Some(3))] [] [Number { object: 0, number: Int64(5) }]",
     ),
-    (
-        EACH_WAITS,
-        "[Returned, Returned] [Returned, Returned] []",
-    ),
+    (EACH_WAITS, "[Returned, Returned] [Returned, Returned] []"),
 ];
 
 #[test]
@@ -230,7 +228,10 @@ fn a_gate_decides_who_comes_first(rt: HostRuntime) -> Result<(), Fail> {
 
 #[test]
 fn a_gate_is_passed_before_and_after_each_call(rt: HostRuntime) -> Result<(), Fail> {
-    for (text, answered) in [(EACH_WAITS, 4), ("workers 1\nmutex m\nworker 0\nunlock m\n", 1)] {
+    for (text, answered) in [
+        (EACH_WAITS, 4),
+        ("workers 1\nmutex m\nworker 0\nunlock m\n", 1),
+    ] {
         let gate = HoldGate::new(2);
         told_through(&rt, rt.alloc(), text, &gate)?;
         assert_eq!(rt; gate.answered(), answered, "{text}");
@@ -332,7 +333,14 @@ fn a_start_that_is_refused_ends_the_run(rt: HostRuntime) -> Result<(), Fail> {
     let clock = MemClock::new(Vec::new(rt.alloc()));
     for &(refused, want, numbers) in &REFUSED {
         let mut spawner = RefuseStart::new(refused);
-        let got = told_of(&rt, rt.alloc(), "workers 3\n", &clock, &mut spawner, &OpenGate)?;
+        let got = told_of(
+            &rt,
+            rt.alloc(),
+            "workers 3\n",
+            &clock,
+            &mut spawner,
+            &OpenGate,
+        )?;
         assert_eq!(rt; got.as_str(), want, "{refused}");
         let counts = spawner.counts();
         let counted = (counts.faults(), counts.ran(), counts.rounds());

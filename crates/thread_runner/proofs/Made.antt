@@ -1,0 +1,95 @@
+-- Objects and their columns, one after the other.
+use Rattle.std.proofs.Common.{◌≡◌, ℕ, zero, suc, ◌+◌, ◌<◌, ◌≤◌, List, [], ◌∷◌, ◌++◌, length, get_or, Option, Some, None, ◌⊎◌, inl, inr, slice_get, refl, sym, ap, ◌∙◌, subst, arith}
+use Rattle.std.proofs.lemmas.List.{length_push, get_or_past}
+use Rattle.std.proofs.lemmas.Option.{none-some, same_Some, slice_get_cases, slice_get_within, get_or_from_slice_get}
+use Rattle.workload.specs.declared.object.ObjectLine.{ObjectLine}
+use Rattle.workload.specs.Plan.{Plan}
+use Rattle.run_record.specs.Record.{stop, number_at}
+use Rattle.thread_calls.specs.declared.column.AnyColumn.{AnyColumn}
+use Rattle.thread_calls.specs.declared.column.AnyColumn.TheVariants as columns
+use Rattle.thread_calls.specs.declared.object.AnyObject.{AnyObject}
+use Rattle.thread_calls.specs.AsDeclared.{IsStopOf, IsDeclared, AreDeclared}
+use Rattle.thread_calls.specs.Columns.{IsColumnOf, passes_in}
+use Rattle.thread_calls.specs.Passes.{owns_of}
+use Rattle.thread_calls.specs.Rows.{AreColumns, made_on}
+use Rattle.thread_runner.specs.Dealing.{MadeNothingFrom}
+use Rattle.thread_runner.proofs.Dealt.{pushed_at}
+
+module _ {N H : Type 0} (at : H → N → Type 0) (home : H) (workers : ℕ) (plan : Plan) where
+  -- Stop and so many objects of the workload, each with the passes of all workers, none of whom made an entry
+  pub record AreMade (count : ℕ) (objects : List (AnyObject N H)) (all : List (AnyColumn N)) : Type 0 where
+    pub objects_count : length objects ≡ count + 1
+    pub columns_count : length all ≡ count + 1
+    pub stops : (object : AnyObject N H) → slice_get objects stop ≡ Some object → IsStopOf at home workers object
+    pub declared : (place : ℕ) (line : ObjectLine) (object : AnyObject N H) → slice_get plan.objects place ≡ Some line → slice_get objects (number_at place) ≡ Some object → IsDeclared at home plan place line.kind object
+    pub columns : (number : ℕ) (object : AnyObject N H) (column : AnyColumn N) → slice_get objects number ≡ Some object → slice_get all number ≡ Some column → IsColumnOf at home workers workers object column
+    pub nothing : (number : ℕ) (column : AnyColumn N) (worker : ℕ) → slice_get all number ≡ Some column → owns_of (passes_in column) worker ≡ []
+
+  pub first_made : (object : AnyObject N H) (column : AnyColumn N) → IsStopOf at home workers object → IsColumnOf at home workers workers object column → ((worker : ℕ) → owns_of (passes_in column) worker ≡ []) → AreMade 0 (object ∷ []) (column ∷ [])
+  first_made object column is seated none = record {
+    objects_count = refl;
+    columns_count = refl;
+    stops = λ other at_other. subst (λ o. IsStopOf at home workers o) (same_Some object other at_other) is;
+    declared = λ place line other at_line at_other. absurd (past place other at_other);
+    columns = one;
+    nothing = empty;
+  } where
+    past : (place : ℕ) (other : AnyObject N H) → slice_get (object ∷ []) (number_at place) ≡ Some other → ⊥
+    past place other found = let within = slice_get_within (object ∷ []) (number_at place) other found in absurd (omega (arith, within))
+
+    one : (number : ℕ) (o : AnyObject N H) (c : AnyColumn N) → slice_get (object ∷ []) number ≡ Some o → slice_get (column ∷ []) number ≡ Some c → IsColumnOf at home workers workers o c
+    one zero o c at_o at_c = subst (λ k. IsColumnOf at home workers workers o k) (same_Some column c at_c) (subst (λ k. IsColumnOf at home workers workers k column) (same_Some object o at_o) seated)
+    one (suc n) o c at_o at_c = absurd (none-some o at_o)
+
+    empty : (number : ℕ) (c : AnyColumn N) (worker : ℕ) → slice_get (column ∷ []) number ≡ Some c → owns_of (passes_in c) worker ≡ []
+    empty zero c worker at_c = subst (λ k. owns_of (passes_in k) worker ≡ []) (same_Some column c at_c) (none worker)
+    empty (suc n) c worker at_c = absurd (none-some c at_c)
+
+  pub next_made : (count : ℕ) (objects : List (AnyObject N H)) (all : List (AnyColumn N)) (object : AnyObject N H) (column : AnyColumn N) → AreMade count objects all
+      → ((line : ObjectLine) → slice_get plan.objects count ≡ Some line → IsDeclared at home plan count line.kind object) → IsColumnOf at home workers workers object column → ((worker : ℕ) → owns_of (passes_in column) worker ≡ [])
+      → AreMade (count + 1) (objects ++ object ∷ []) (all ++ column ∷ [])
+  next_made count objects all object column made is seated none = record {
+    objects_count = length_push objects object ∙ ap (λ n. n + 1) made.objects_count;
+    columns_count = length_push all column ∙ ap (λ n. n + 1) made.columns_count;
+    stops = λ other found. stops_by other (pushed_at objects object other stop found);
+    declared = λ place line other at_line found. declared_by place line other at_line (pushed_at objects object other (number_at place) found);
+    columns = λ number o c at_o at_c. columns_by number o c (pushed_at objects object o number at_o) (pushed_at all column c number at_c);
+    nothing = λ number c worker found. nothing_by number c worker (pushed_at all column c number found);
+  } where
+    stops_by : (other : AnyObject N H) → (slice_get objects stop ≡ Some other) ⊎ ((stop ≡ length objects) × (object ≡ other)) → IsStopOf at home workers other
+    stops_by other (inl found) = made.stops other found
+    stops_by other (inr (behind, same)) = let long = made.objects_count in absurd (omega (arith, behind, long))
+
+    declared_by : (place : ℕ) (line : ObjectLine) (other : AnyObject N H) → slice_get plan.objects place ≡ Some line → (slice_get objects (number_at place) ≡ Some other) ⊎ ((number_at place ≡ length objects) × (object ≡ other)) → IsDeclared at home plan place line.kind other
+    declared_by place line other at_line (inl found) = made.declared place line other at_line found
+    declared_by place line other at_line (inr (behind, same)) =
+        let long = made.objects_count in
+        let here : count ≡ place = omega (arith, behind, long) in
+        subst (λ o. IsDeclared at home plan place line.kind o) same (subst (λ n. IsDeclared at home plan n line.kind object) here (is line (ap (λ n. slice_get plan.objects n) here ∙ at_line)))
+
+    columns_by : (number : ℕ) (o : AnyObject N H) (c : AnyColumn N) → (slice_get objects number ≡ Some o) ⊎ ((number ≡ length objects) × (object ≡ o)) → (slice_get all number ≡ Some c) ⊎ ((number ≡ length all) × (column ≡ c)) → IsColumnOf at home workers workers o c
+    columns_by number o c (inl at_o) (inl at_c) = made.columns number o c at_o at_c
+    columns_by number o c (inl at_o) (inr (behind, same)) = let within = slice_get_within objects number o at_o in absurd (omega (arith, within, behind, made.objects_count, made.columns_count))
+    columns_by number o c (inr (behind, same)) (inl at_c) = let within = slice_get_within all number c at_c in absurd (omega (arith, within, behind, made.objects_count, made.columns_count))
+    columns_by number o c (inr (behind, same)) (inr (behind_too, same_too)) = subst (λ k. IsColumnOf at home workers workers o k) same_too (subst (λ k. IsColumnOf at home workers workers k column) same seated)
+
+    nothing_by : (number : ℕ) (c : AnyColumn N) (worker : ℕ) → (slice_get all number ≡ Some c) ⊎ ((number ≡ length all) × (column ≡ c)) → owns_of (passes_in c) worker ≡ []
+    nothing_by number c worker (inl found) = made.nothing number c worker found
+    nothing_by number c worker (inr (behind, same)) = subst (λ k. owns_of (passes_in k) worker ≡ []) same (none worker)
+
+  module _ (objects : List (AnyObject N H)) (all : List (AnyColumn N)) (made : AreMade (length plan.objects) objects all) where
+    pub all_declared : workers ≡ plan.workers → AreDeclared at home plan objects
+    all_declared same = record {
+      count = made.objects_count;
+      stops = λ object found. subst (λ n. IsStopOf at home n object) same (made.stops object found);
+      each = made.declared;
+    }
+
+    pub all_columns : AreColumns at home workers workers objects all
+    all_columns = record { sized = made.columns_count ∙ sym made.objects_count; each = made.columns }
+
+    pub all_nothing : MadeNothingFrom 0 all
+    all_nothing object worker low = by_case (slice_get_cases all object).1 where
+      by_case : ((c : AnyColumn N) × (object < length all) × (slice_get all object ≡ Some c) × (get_or all object c ≡ c)) ⊎ ((length all ≤ object) × (slice_get all object ≡ None)) → made_on all object worker ≡ []
+      by_case (inl (c, within, found, is)) = ap (λ (k : AnyColumn N). owns_of (passes_in k) worker) (get_or_from_slice_get all object c (columns.None 0) found) ∙ made.nothing object c worker found
+      by_case (inr (past, none)) = ap (λ (k : AnyColumn N). owns_of (passes_in k) worker) (get_or_past all object (columns.None 0) past)

@@ -1,0 +1,138 @@
+//! A run of a workload by threads, over any shared maps and atomics.
+ghost use Rattle.std.specs.Prelude.{◌≡◌, ◌≤◌, ◌+◌, IfOk, List, Err, [], map};
+ghost use Rattle.sync_model.specs.Shared.{AreAllCallers};
+ghost use Rattle.sync_outside.specs.Faults.{Rose, RoseBy};
+ghost use Rattle.thread_calls.specs.AsDeclared.{AreDeclared};
+ghost use Rattle.thread_calls.specs.Rows.{AreColumns};
+ghost use Rattle.thread_calls.specs.Sites.{AreShared};
+ghost use Rattle.thread_runner.specs.declared.fault.RunFault.TheVariants as faults;
+ghost use Rattle.thread_runner.specs.AllGone.{HaveGone};
+ghost use Rattle.thread_runner.specs.Dealing.{MadeNothingFrom, AreRows};
+ghost use Rattle.thread_runner.specs.EndsPlans.{HaveMadeNone, HaveSpare};
+ghost use Rattle.thread_runner.specs.Runs.{ComesTo};
+
+use crate::deal::{collect, deal, make_objects};
+use crate::fault::RunFault;
+use crate::gather::Left;
+use crate::hire::hire;
+use run_record::laws::endings::stop_says_how_a_run_ended;
+use std::alloc::Global;
+use std::sync::Wait;
+use std::thread::Threads;
+use sync_model::laws::shared_steps::one_more_call_keeps_the_law;
+use sync_model::{Caller, Note, Outcome, Report, Seq, Shared};
+use sync_outside::{Clock, Gate, Spawner, Started};
+use thread_calls::laws::{a_worker_knows_its_own_calls, stop_is_the_first_object};
+use thread_calls::{AnyColumn, AnyObject, AnyPass, Crew, journals, numbers_of};
+use workload::Workload;
+
+// What a run comes to whose workers have all ended.
+fn outcome_of<S: Shared>(
+    alloc: Global,
+    workload: &Workload,
+    shared: &S,
+    crew: &Crew<S::Mark>,
+    objects: &[AnyObject<S::Mark>],
+    columns: &mut [AnyColumn<S::Mark>],
+    left: Left<S::Mark>,
+) -> Result<(Outcome, Vec<Caller<S::Mark>>), RunFault>
+    requires home { crew.now.home.now ≡ S.home_of shared.now }
+    requires workers { (crew.now.workers ≡ workload.now.workers) × (S.count shared.now ≡ workload.now.workers) }
+    requires shared { AreShared workload.now (S.maps shared.now) (S.kinds shared.now) (S.takes shared.now) }
+    requires declared { AreDeclared S.Mark.at (S.home_of shared.now) workload.now objects.now }
+    requires columns { AreColumns S.Mark.at (S.home_of shared.now) workload.now.workers 0 objects.now columns.old }
+    requires nothing { MadeNothingFrom workload.now.workers columns.old }
+    requires gone { (rows : List (List (AnyPass S.Mark))) × (callers : List (Caller S.Mark)) × AreRows S.Mark.at (S.home_of shared.now) workload.now.workers objects.now rows × AreAllCallers S.Mark.at S.Mark.own (S.home_of shared.now) callers workload.now.workers × HaveMadeNone S.Mark.own callers
+        × HaveGone S.Mark.at S.Mark.own S.Mark.front (S.home_of shared.now) workload.now objects.now rows callers (map (λ row. row.items) left.passes.items) left.callers.items left.replies.items left.kept }
+    ensures comes { IfOk result (λ done. ComesTo S.Mark.at S.Mark.own S.Mark.front S.seen (S.home_of shared.now) workload.now done.0 done.1.items) }
+    ensures refused { result ≡ Err faults.StartRefused → ⊥ }
+{
+    a_worker_knows_its_own_calls();
+    one_more_call_keeps_the_law();
+    stop_says_how_a_run_ended();
+    let _workers = workload.workers();
+    let Left {
+        mut callers,
+        passes,
+        replies,
+        kept,
+    } = left;
+    if !kept {
+        return Err(RunFault::Memory);
+    }
+    collect(crew, objects, columns, passes);
+    let stopped = journals(crew, workload, objects, columns);
+    shared.settle(&mut callers);
+    let report = Report {
+        replies: replies.into_seq(),
+        ends: Seq::new(alloc),
+    };
+    let outcome = match stopped {
+        None => Outcome::Done(report),
+        Some(misuse) => Outcome::Misused(report, misuse),
+    };
+    Ok((outcome, callers))
+}
+
+/// Makes the calls of a workload's workers in threads, one for each worker, on these maps and atomics, of which the callers are
+/// all callers, one for each worker, in order of number. Each call passes the gate before and after. All memory is taken
+/// before the first start.
+///
+/// The outcome lacks its ends. The callers come back in order of number, and have seen the whole history.
+///
+/// # Errors
+///
+/// `StartRefused` where a thread's start was refused, and `Memory`. The callers are gone then.
+pub fn threaded_over<
+    S: Shared + Sync,
+    C: Clock + Sync,
+    P: Spawner,
+    G: Gate + Sync,
+    R: Threads + Wait + Sync,
+>(
+    rt: &R,
+    alloc: Global,
+    workload: &Workload,
+    shared: &S,
+    callers: Vec<Caller<S::Mark>>,
+    clock: &C,
+    spawner: &mut P,
+    gate: &G,
+) -> Result<(Outcome, Vec<Caller<S::Mark>>), RunFault>
+where
+    S::Mark: Send,
+    <S::Mark as Note>::Home: Sync,
+    requires shared { AreShared workload.now (S.maps shared.now) (S.kinds shared.now) (S.takes shared.now) }
+    requires count { S.count shared.now ≡ workload.now.workers }
+    requires callers { AreAllCallers S.Mark.at S.Mark.own (S.home_of shared.now) callers.items workload.now.workers }
+    requires unused { HaveMadeNone S.Mark.own callers.items }
+    requires spare { HaveSpare S.Mark.own workload.now callers.items }
+    ensures comes { IfOk result (λ done. ComesTo S.Mark.at S.Mark.own S.Mark.front S.seen (S.home_of shared.now) workload.now done.0 done.1.items) }
+    ensures refused { result ≡ Err faults.StartRefused → Rose (P.faults spawner.old) (P.faults spawner.new) }
+    ensures faults { P.faults spawner.old ≤ P.faults spawner.new }
+    ensures ran { IfOk result (λ done. RoseBy workload.now.workers (P.ran spawner.old) (P.ran spawner.new)) }
+    ensures rounds { P.rounds spawner.new ≤ P.rounds spawner.old + 1 }
+{
+    stop_is_the_first_object::<S::Mark>();
+    let mut callers = callers;
+    let workers = workload.workers();
+    let crew = Crew {
+        home: shared.home(),
+        workers,
+    };
+    let numbers = numbers_of(alloc, workload)?;
+    let (objects, mut columns) = make_objects(alloc, &crew, workload, &mut callers[0].note)?;
+    let rows = deal(alloc, &crew, &objects, &mut columns)?;
+    let mut left = Left::with_room(alloc, workers as usize)?;
+    let jobs = hire(
+        alloc, workload, shared, &objects, &numbers, clock, gate, callers, rows,
+    )?;
+    match spawner.start_all(rt, alloc, jobs) {
+        Started::Memory => Err(RunFault::Memory),
+        Started::Refused(_jobs) => Err(RunFault::StartRefused),
+        Started::Done(gone) => {
+            left.gather(gone);
+            outcome_of(alloc, workload, shared, &crew, &objects, &mut columns, left)
+        }
+    }
+}
