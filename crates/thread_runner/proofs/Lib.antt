@@ -10,3 +10,4 @@ pub mod Made
 pub mod NameTables
 pub mod ScriptLoop
 pub mod Ended
+pub mod SameCallers

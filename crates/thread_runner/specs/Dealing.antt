@@ -1,5 +1,7 @@
 -- The passes of all workers to all objects, by column and by row.
-use Rattle.std.specs.Prelude.{◌≡◌, ℕ, ◌+◌, ◌-◌, ◌<◌, ◌≤◌, List, [], length, Some, slice_get}
+use Rattle.std.specs.Prelude.{◌≡◌, ℕ, ◌+◌, ◌-◌, ◌<◌, ◌≤◌, List, [], length, Option, Some, slice_get}
+use Rattle.sync_model.specs.declared.caller.Caller.{Caller}
+use Rattle.sync_model.specs.Note.{Holding, SameHome}
 use Rattle.run_record.specs.Record.{ObjectEntry}
 use Rattle.thread_calls.specs.declared.column.AnyColumn.{AnyColumn}
 use Rattle.thread_calls.specs.declared.object.AnyObject.{AnyObject}
@@ -21,3 +23,8 @@ pub record IsRow {N H : Type 0} (at : H → N → Type 0) (home : H) (workers wo
 pub record AreRows {N H : Type 0} (at : H → N → Type 0) (home : H) (workers : ℕ) (objects : List (AnyObject N H)) (rows : List (List (AnyPass N))) : Type 0 where
   pub count : length rows ≡ workers
   pub each : (worker : ℕ) (row : List (AnyPass N)) → slice_get rows worker ≡ Some row → IsRow at home workers worker objects row
+
+-- the same callers: each note is of the homes of which it was one, and its caller's still
+pub record SameNotes {N H : Type 0} (at : H → N → Type 0) (own : N → Option Holding) (old new : List (Caller N)) : Type 0 where
+  pub count : length new ≡ length old
+  pub same : (i : ℕ) (before after : Caller N) → slice_get old i ≡ Some before → slice_get new i ≡ Some after → SameHome at before.note after.note × (own after.note ≡ own before.note)

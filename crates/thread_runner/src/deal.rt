@@ -5,10 +5,10 @@ ghost use Rattle.thread_calls.specs.AsDeclared.{AreDeclared};
 ghost use Rattle.thread_calls.specs.Desks.{AreSeats};
 ghost use Rattle.thread_calls.specs.Passes.{owns_of};
 ghost use Rattle.thread_calls.specs.Rows.{AreColumns, made_on};
-ghost use Rattle.thread_runner.specs.Dealing.{MadeNothingFrom, AreRows};
+ghost use Rattle.thread_runner.specs.Dealing.{MadeNothingFrom, AreRows, SameNotes};
 
 use std::alloc::{AllocError, Global};
-use sync_model::Note;
+use sync_model::{Caller, Note};
 use thread_calls::{AnyColumn, AnyObject, AnyPass, Crew, deal_row, make_object, make_stop, put_row};
 use workload::Workload;
 
@@ -39,6 +39,25 @@ pub(crate) fn make_objects<N: Note>(
         columns.push_reserved(passes);
     }
     Ok((objects, columns))
+}
+
+/// The same by the note of the first of these callers, who stay as they are.
+pub(crate) fn make_objects_by<N: Note>(
+    alloc: Global,
+    crew: &Crew<N>,
+    workload: &Workload,
+    callers: &mut [Caller<N>],
+) -> Result<(Vec<AnyObject<N>>, Vec<AnyColumn<N>>), AllocError>
+    requires workers { crew.now.workers ≡ workload.now.workers }
+    requires some { 0 < length callers.old }
+    requires notes { (i : ℕ) (caller : Caller N) → slice_get callers.old i ≡ Some caller → N.at crew.now.home.now caller.note }
+    ensures callers { SameNotes N.at N.own callers.old callers.new }
+    ensures declared { IfOk result (λ made. AreDeclared N.at crew.now.home.now workload.now made.0.items) }
+    ensures columns { IfOk result (λ made. AreColumns N.at crew.now.home.now crew.now.workers crew.now.workers made.0.items made.1.items) }
+    ensures nothing { IfOk result (λ made. MadeNothingFrom 0 made.1.items) }
+{
+    let first = &mut callers[0];
+    make_objects(alloc, crew, workload, &mut first.note)
 }
 
 /// Deals each worker its passes to all objects, in order of worker.

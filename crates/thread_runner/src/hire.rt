@@ -1,6 +1,7 @@
 //! The jobs of a run's threads, one for each worker.
 ghost use Rattle.std.specs.Prelude.{◌≡◌, ◌<◌, ◌≤◌, All, IfOk, [], length, map, get_or, vec_len};
 ghost use Rattle.std.specs.List.{range_with_len};
+ghost use Rattle.thread_calls.specs.Sites.{AreEmpty, ranges_in_calls};
 
 use crate::job::Job;
 use std::alloc::{AllocError, Global};
@@ -14,10 +15,13 @@ fn rooms_of(
     alloc: Global,
     script: &[Call],
     keys: usize,
-) -> Result<Vec<BoundedSeq<(u32, u64)>>, AllocError> {
+) -> Result<Vec<BoundedSeq<(u32, u64)>>, AllocError>
+    ensures empty { IfOk result (λ rooms. AreEmpty rooms.items) }
+    ensures enough { IfOk result (λ rooms. ranges_in_calls script.now ≤ vec_len rooms) }
+{
     let mut rooms = Vec::new(alloc);
-    for call in script {
-        if let Operation::Range = call.operation {
+    for index in 0..script.len() {
+        if let Operation::Range = script[index].operation {
             rooms.push(BoundedSeq::with_room(alloc, keys)?)?;
         }
     }
@@ -45,6 +49,7 @@ pub(crate) fn hire<'a, S: Shared, C: Clock, G: Gate>(
     ensures site { IfOk result (λ jobs. All (λ job. (job.site.workload.now ≡ workload.now) × (job.site.shared.now ≡ shared.now) × (job.site.objects.now ≡ objects.now) × (job.site.numbers.now ≡ numbers.now)) jobs.items) }
     ensures at { IfOk result (λ jobs. All (λ job. (job.worker.at.home.now ≡ S.home_of shared.now) × (job.worker.workers ≡ workload.now.workers)) jobs.items) }
     ensures replies { IfOk result (λ jobs. All (λ job. (job.replies.items ≡ []) × (length (get_or workload.now.scripts job.worker.number []) ≤ job.replies.room)) jobs.items) }
+    ensures rooms { IfOk result (λ jobs. All (λ job. AreEmpty job.rooms.items × (ranges_in_calls (get_or workload.now.scripts job.worker.number []) ≤ vec_len job.rooms)) jobs.items) }
 {
     let workers = workload.workers();
     let keys = workload.keys().names().len();

@@ -34,6 +34,7 @@ pub(crate) struct Gone<M> {
 impl<'a, S: Shared + Sync, C: Clock + Sync, G: Gate + Sync> Work for Job<'a, S, C, G>
 where
     S::Mark: Send,
+    S::Cursor: Send,
     <S::Mark as Note>::Home: Sync,
 {
     ghost use Rattle.std.specs.Prelude.{◌≡◌};

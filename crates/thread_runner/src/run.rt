@@ -11,7 +11,7 @@ ghost use Rattle.thread_runner.specs.Dealing.{MadeNothingFrom, AreRows};
 ghost use Rattle.thread_runner.specs.EndsPlans.{HaveMadeNone, HaveSpare};
 ghost use Rattle.thread_runner.specs.Runs.{ComesTo};
 
-use crate::deal::{collect, deal, make_objects};
+use crate::deal::{collect, deal, make_objects_by};
 use crate::fault::RunFault;
 use crate::gather::Left;
 use crate::hire::hire;
@@ -101,6 +101,7 @@ pub fn threaded_over<
 ) -> Result<(Outcome, Vec<Caller<S::Mark>>), RunFault>
 where
     S::Mark: Send,
+    S::Cursor: Send,
     <S::Mark as Note>::Home: Sync,
     requires shared { AreShared workload.now (S.maps shared.now) (S.kinds shared.now) (S.takes shared.now) }
     requires count { S.count shared.now ≡ workload.now.workers }
@@ -121,7 +122,7 @@ where
         workers,
     };
     let numbers = numbers_of(alloc, workload)?;
-    let (objects, mut columns) = make_objects(alloc, &crew, workload, &mut callers[0].note)?;
+    let (objects, mut columns) = make_objects_by(alloc, &crew, workload, &mut callers)?;
     let rows = deal(alloc, &crew, &objects, &mut columns)?;
     let mut left = Left::with_room(alloc, workers as usize)?;
     let jobs = hire(

@@ -4,6 +4,7 @@ use Rattle.std.proofs.lemmas.Iterator.{YieldsList-from_zip}
 use Rattle.std.proofs.lemmas.Iterator.Adapters.{YieldsList-from_vec}
 use Rattle.std.proofs.lemmas.Iterator.Consumers.{YieldsList-turn, YieldsList-end}
 use Rattle.std.proofs.lemmas.List.{length_push, map_push}
+use Rattle.thread_calls.specs.Sites.{AreEmpty, ranges_in_calls}
 use Rattle.thread_runner.proofs.Hiring.{all_firsts, all_seconds, sized, mapped_more, all_more, counted_more}
 use Rattle.thread_runner.proofs.hire.hire.Goals as goal
 
@@ -35,6 +36,7 @@ loop-caller-preserved g c =
       site = all_more (λ job. (job.site.workload.now ≡ c.args.workload.now) × (job.site.shared.now ≡ c.args.shared.now) × (job.site.objects.now ≡ c.args.objects.now) × (job.site.numbers.now ≡ c.args.numbers.now)) _ _ _ items before.site (refl, refl, refl, refl);
       at = all_more (λ job. (job.worker.at.home.now ≡ g.S.Shared.home_of c.args.shared.now) × (job.worker.workers ≡ c.args.workload.now.workers)) _ _ _ items before.at (c.home.ensures, c.workers-workers.ensures.workers);
       replies = all_more (λ job. (job.replies.items ≡ []) × (length (get_or c.args.workload.now.scripts job.worker.number []) ≤ job.replies.room)) _ _ _ items before.replies (replies_none, replies_room);
+      rooms = all_more (λ job. AreEmpty job.rooms.items × (ranges_in_calls (get_or c.args.workload.now.scripts job.worker.number []) ≤ vec_len job.rooms)) _ _ _ items before.rooms (c.in_ok-rooms.ensures.empty, subst (λ script. ranges_in_calls script ≤ vec_len c.in_ok-rooms.rooms) c.script-script.ensures.script c.in_ok-rooms.ensures.enough);
       capacity = search rules;
     }
 
