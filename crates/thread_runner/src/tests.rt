@@ -77,7 +77,7 @@ fn first_other<C: Clock + Sync, R: Threads + Wait + Sync>(
     Ok(None)
 }
 
-// Two workers of whom each waits for the other: run one after the other they would never end.
+// Two workers that wait for each other. Run one after the other, they would never end.
 const EACH_WAITS: &str =
     "workers 2\nwaitgroup g0 1\nwaitgroup g1 1\nworker 0\ndone g0\nwait g1\nworker 1\ndone g1\nwait g0\n";
 
@@ -117,7 +117,7 @@ fn a_workload_is_run_in_threads(rt: HostRuntime) -> Result<(), Fail> {
     Ok(())
 }
 
-// What is left depends on no order of the workers that their calls leave open.
+// Each leaves the same in every order of its workers that their calls allow.
 const KINDS: [(&str, &str); 14] = [
     // Each worker has keys of its own.
     (
@@ -239,7 +239,7 @@ fn a_gate_is_passed_before_and_after_each_call(rt: HostRuntime) -> Result<(), Fa
     Ok(())
 }
 
-// Worker 1 makes the misuse, once the first call of worker 0 was answered. The others wait for good.
+// Worker 1 makes the misuse, and its first call is held until that of worker 0 was answered. The others wait for good, unless said.
 const MISUSES: [(&str, &str); 8] = [
     (
         "workers 3\nmutex m\nmutex n\nwaitgroup g 1\nworker 0\nlock m\nlock m\nworker 1\nunlock n\nworker 2\nwait g\n",
@@ -257,7 +257,7 @@ const MISUSES: [(&str, &str); 8] = [
         "workers 2\nmutex m\ncond c m\nwaitgroup g 0\nworker 0\nlock m\nwait c\nworker 1\ndone g\n",
         "[Lock(Done)] [] [] panic: sync: negative WaitGroup counter",
     ),
-    // It waits for its mutex.
+    // Who was signalled waits for the mutex.
     (
         "workers 2\nmutex m\ncond c m\nwaitgroup g 0\nworker 0\nlock m\nwait c\nworker 1\nlock m\nsignal c\ndone g\n",
         "[Lock(Done)] [Lock(Done), Returned] [] panic: sync: negative WaitGroup counter",
@@ -266,7 +266,7 @@ const MISUSES: [(&str, &str); 8] = [
         "workers 4\nmutex m\ncond c m\nwaitgroup g 1\nworker 0\nadd g 1\nwait g\nworker 1\nwait c\nworker 2\nwait g\nworker 3\nwait g\n",
         "[Returned] [] [] [] [] fatal error: sync: unlock of unlocked mutex",
     ),
-    // Nobody waits on these for good: they are halted behind their calls.
+    // Nobody waits for good on these kinds of object. They are halted when their calls have returned.
     (
         "workers 3\nint64 a\nonce o a 5\noncefunc f 3\noncevalue v 9\npool p\nwaitgroup g 1\nwaitgroup h 1\nmutex m\nworker 0\ncall f\nwait g\nworker 1\nwait h\nunlock m\nworker 2\ndo o\ncall f\nvalue v\nput p 1\nget p\ndone h\nwait g\n",
         "[OnceFunc(Some(3))] [Returned] [Once(Ran(5)), OnceFunc(Some(3)), OnceValue(9), Pool(Done), Pool(Put(1)), Returned] [] fatal error: sync: unlock of unlocked mutex",
@@ -289,7 +289,7 @@ fn a_misuse_ends_all_who_wait(rt: HostRuntime) -> Result<(), Fail> {
     Ok(())
 }
 
-// The replies depend on the order of the workers, but not what stands behind them.
+// How the text ends, which is the same in every order of the workers. Their replies aren't.
 const RACES: [(&str, &str); 4] = [
     (
         "workers 4\nint64 a\nworker 0\nadd a 1\nadd a 2\nworker 1\nadd a 4\nadd a 8\nworker 2\nadd a 16\nworker 3\nadd a 32\n",
@@ -299,7 +299,7 @@ const RACES: [(&str, &str); 4] = [
         "workers 3\nint64 a\nonce o a 5\nworker 0\ndo o\nworker 1\ndo o\nworker 2\ndo o\n",
         "] [Number { object: 0, number: Int64(5) }]",
     ),
-    // A worker is halted at any of its calls, or at none.
+    // Each worker may be halted at any of its calls, or at none.
     (
         "workers 4\nint64 a\nonce o a 5\noncefunc f 3\noncevalue v 9\npool p\nmutex m\nworker 0\ndo o\ndo o\nworker 1\ncall f\nvalue v\nworker 2\nput p 1\nget p\nworker 3\nunlock m\n",
         "] [] fatal error: sync: unlock of unlocked mutex",
