@@ -44,7 +44,7 @@ module _ {N : Type 0} (own : N → Option Holding) (front : N → List ℕ) wher
   desk_of (Some caller) row = desk_with own front (owns_of row) caller.note
   desk_of None row = record { owns = λ object. []; calls = []; front = []; worker = None }
 
-held_number : (own : Option Holding) (c : ℕ) → IsHeldBy c own → number_in own ≡ Some c
+pub held_number : (own : Option Holding) (c : ℕ) → IsHeldBy c own → number_in own ≡ Some c
 held_number own c (holding, is, number) = ap number_in is ∙ ap (λ n. Some n) number
 
 item_of : {A : Type 0} (all : List A) (i : ℕ) → i < length all → (x : A) × (slice_get all i ≡ Some x)

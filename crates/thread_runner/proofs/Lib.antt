@@ -11,3 +11,4 @@ pub mod NameTables
 pub mod ScriptLoop
 pub mod Ended
 pub mod SameCallers
+pub mod AllReady

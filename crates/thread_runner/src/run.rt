@@ -1,10 +1,10 @@
 //! A run of a workload by threads, over any shared maps and atomics.
-ghost use Rattle.std.specs.Prelude.{◌≡◌, ◌≤◌, ◌+◌, IfOk, List, Err, [], map};
+ghost use Rattle.std.specs.Prelude.{◌≡◌, ◌≤◌, ◌+◌, IfOk, OnOk, List, Err, [], true, map, vec_capacity};
 ghost use Rattle.sync_model.specs.Shared.{AreAllCallers};
 ghost use Rattle.sync_outside.specs.Faults.{Rose, RoseBy};
 ghost use Rattle.thread_calls.specs.AsDeclared.{AreDeclared};
 ghost use Rattle.thread_calls.specs.Rows.{AreColumns};
-ghost use Rattle.thread_calls.specs.Sites.{AreShared};
+ghost use Rattle.thread_calls.specs.Sites.{AreShared, IsSite};
 ghost use Rattle.thread_runner.specs.declared.fault.RunFault.TheVariants as faults;
 ghost use Rattle.thread_runner.specs.AllGone.{HaveGone};
 ghost use Rattle.thread_runner.specs.Dealing.{MadeNothingFrom, AreRows};
@@ -74,6 +74,60 @@ fn outcome_of<S: Shared>(
     Ok((outcome, callers))
 }
 
+// Starts the workers, and takes in what they leave.
+fn work_all<
+    S: Shared + Sync,
+    C: Clock + Sync,
+    P: Spawner,
+    G: Gate + Sync,
+    R: Threads + Wait + Sync,
+>(
+    rt: &R,
+    alloc: Global,
+    workload: &Workload,
+    shared: &S,
+    objects: &[AnyObject<S::Mark>],
+    numbers: &[u32],
+    clock: &C,
+    spawner: &mut P,
+    gate: &G,
+    callers: Vec<Caller<S::Mark>>,
+    rows: Vec<Vec<AnyPass<S::Mark>>>,
+    left: &mut Left<S::Mark>,
+) -> Result<(), RunFault>
+where
+    S::Mark: Send,
+    S::Cursor: Send,
+    <S::Mark as Note>::Home: Sync,
+    requires site { IsSite S.Mark.at (S.home_of shared.now) workload.now (S.maps shared.now) (S.kinds shared.now) (S.takes shared.now) objects.now numbers.now }
+    requires rows { AreRows S.Mark.at (S.home_of shared.now) workload.now.workers objects.now (map (λ row. row.items) rows.items) }
+    requires callers { AreAllCallers S.Mark.at S.Mark.own (S.home_of shared.now) callers.items workload.now.workers }
+    requires unused { HaveMadeNone S.Mark.own callers.items }
+    requires spare { HaveSpare S.Mark.own workload.now callers.items }
+    requires empty { (left.old.callers.items ≡ []) × (left.old.passes.items ≡ []) × (left.old.replies.items ≡ []) × (left.old.kept ≡ true) }
+    requires room { (workload.now.workers ≤ vec_capacity left.old.callers) × (workload.now.workers ≤ vec_capacity left.old.passes) × (workload.now.workers ≤ left.old.replies.room) }
+    ensures gone { OnOk result (HaveGone S.Mark.at S.Mark.own S.Mark.front (S.home_of shared.now) workload.now objects.now (map (λ row. row.items) rows.items) callers.items
+        (map (λ row. row.items) left.new.passes.items) left.new.callers.items left.new.replies.items left.new.kept) }
+    ensures refused { result ≡ Err faults.StartRefused → Rose (P.faults spawner.old) (P.faults spawner.new) }
+    ensures faults { P.faults spawner.old ≤ P.faults spawner.new }
+    ensures ran { OnOk result (RoseBy workload.now.workers (P.ran spawner.old) (P.ran spawner.new)) }
+    ensures rounds { P.rounds spawner.new ≤ P.rounds spawner.old + 1 }
+{
+    stop_is_the_first_object::<S::Mark>();
+    let _workers = workload.workers();
+    let jobs = hire(
+        alloc, workload, shared, objects, numbers, clock, gate, callers, rows,
+    )?;
+    match spawner.start_all(rt, alloc, jobs) {
+        Started::Memory => Err(RunFault::Memory),
+        Started::Refused(_jobs) => Err(RunFault::StartRefused),
+        Started::Done(gone) => {
+            left.gather(gone);
+            Ok(())
+        }
+    }
+}
+
 /// Makes the calls of a workload's workers in threads, one for each worker, on these maps and atomics, of which the callers are
 /// all callers, one for each worker, in order of number. Each call passes the gate before and after. All memory is taken
 /// before the first start.
@@ -114,7 +168,6 @@ where
     ensures ran { IfOk result (λ done. RoseBy workload.now.workers (P.ran spawner.old) (P.ran spawner.new)) }
     ensures rounds { P.rounds spawner.new ≤ P.rounds spawner.old + 1 }
 {
-    stop_is_the_first_object::<S::Mark>();
     let mut callers = callers;
     let workers = workload.workers();
     let crew = Crew {
@@ -125,15 +178,9 @@ where
     let (objects, mut columns) = make_objects_by(alloc, &crew, workload, &mut callers)?;
     let rows = deal(alloc, &crew, &objects, &mut columns)?;
     let mut left = Left::with_room(alloc, workers as usize)?;
-    let jobs = hire(
-        alloc, workload, shared, &objects, &numbers, clock, gate, callers, rows,
+    work_all(
+        rt, alloc, workload, shared, &objects, &numbers, clock, spawner, gate, callers, rows,
+        &mut left,
     )?;
-    match spawner.start_all(rt, alloc, jobs) {
-        Started::Memory => Err(RunFault::Memory),
-        Started::Refused(_jobs) => Err(RunFault::StartRefused),
-        Started::Done(gone) => {
-            left.gather(gone);
-            outcome_of(alloc, workload, shared, &crew, &objects, &mut columns, left)
-        }
-    }
+    outcome_of(alloc, workload, shared, &crew, &objects, &mut columns, left)
 }

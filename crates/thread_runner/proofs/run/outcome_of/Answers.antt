@@ -10,7 +10,6 @@ use Rattle.sync_model.specs.declared.outcome.Report.{Report}
 use Rattle.sync_model.specs.Outcome.{left_by}
 use Rattle.sync_model.specs.Shared.{AreAllCallers, SameCalls, Settled, calls_of}
 use Rattle.sync_model.specs.SharedHistory.{first_contents}
-use Rattle.workload.specs.Plan.{Plan, is_on, is_turn, refers, is_valid}
 use Rattle.run_record.specs.Objects.{is_map, contents_of}
 use Rattle.run_record.specs.Record.{stop}
 use Rattle.thread_calls.specs.declared.pass.AnyPass.{AnyPass}
@@ -18,14 +17,12 @@ use Rattle.sync_model.specs.Journal.{by}
 use Rattle.thread_calls.specs.Desks.{AreSeats}
 use Rattle.thread_calls.specs.Passes.{owns_of}
 use Rattle.thread_runner.specs.Runs.{ComesTo, IsExplained}
+use Rattle.thread_runner.proofs.AllReady.{one_script_each}
 use Rattle.thread_runner.proofs.Ended.{seats_of, callers_stay, all_done, all_lines, start, desk}
 use Rattle.thread_runner.proofs.Explaining.{done, stopped}
 use Rattle.thread_runner.proofs.Joining.{Knowing}
 use Rattle.thread_runner.proofs.run.outcome_of.Goals.{in-None, in-Some}
 use Rattle.thread_runner.proofs.run.outcome_of.Goals as goal
-
-one_script_each : (plan : Plan) → is_valid plan ≡ true → length plan.scripts ≡ plan.workers
-one_script_each plan valid = eqb-true (length plan.scripts) plan.workers (and_parts (length plan.scripts == plan.workers) (list_all (list_all (λ call. is_on _ call)) plan.scripts && _) valid).0
 
 pub collect-requires-clause-seats : goal.collect-requires-clause-seats
 collect-requires-clause-seats g c worker row found =
