@@ -17,3 +17,6 @@ mod script;
 pub use fault::RunFault;
 pub use plain_run::threaded;
 pub use run::threaded_over;
+
+#[cfg(test)]
+mod tests;
