@@ -106,7 +106,7 @@ module _ {N H : Type 0} (at : H → N → Type 0) (own : N → Option Holding) (
           let is_now_row : now_passes g.0 ≡ get_or (map now_passes gone) worker [] = sym (get_or_from_slice_get (map now_passes gone) worker (now_passes g.0) [] (mapped_found now_passes gone worker g.0 g.1)) in
           let is_replies : replies g.0 ≡ get_or (map replies gone) worker [] = sym (get_or_from_slice_get (map replies gone) worker (replies g.0) [] (mapped_found replies gone worker g.0 g.1)) in
           let all_of : HasGone at own front home plan objects (number job.0) (passes job.0) (caller job.0) (now_passes g.0) (now_caller g.0) (replies g.0) (list_all kept gone) =
-                record { seats = it.seats; is_at = it.is_at; held = it.held; did = λ every. it.did (all_kept kept gone worker g.0 every g.1) } in
+          record { seats = it.seats; is_at = it.is_at; held = it.held; did = λ every. it.did (all_kept kept gone worker g.0 every g.1) } in
           subst (λ (r : List (Reply ℕ)). HasGone at own front home plan objects worker (get_or rows worker []) was (get_or (map now_passes gone) worker []) now r (list_all kept gone)) is_replies
           (subst (λ (c : Caller N). HasGone at own front home plan objects worker (get_or rows worker []) was (get_or (map now_passes gone) worker []) c (replies g.0) (list_all kept gone)) g.2
           (subst (λ (p : List (AnyPass N)). HasGone at own front home plan objects worker (get_or rows worker []) was p (now_caller g.0) (replies g.0) (list_all kept gone)) is_now_row

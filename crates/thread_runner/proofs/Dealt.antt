@@ -80,9 +80,10 @@ module _ (a b : ℕ) where
 module _ {N : Type 0} (full rest : List (AnyColumn N)) (row : List (AnyPass N)) (workers worker : ℕ) (made : (object other : ℕ) → made_on full object other ≡ cond (other == worker) (owns_of row object) (made_on rest object other)) (low : worker < workers) where
   -- where nobody made anything so far, nobody did behind the row
   pub nothing_left : ((object other : ℕ) → (other < suc worker → made_on full object other ≡ []) × (workers ≤ other → made_on full object other ≡ [])) → (object other : ℕ) → (other < worker → made_on rest object other ≡ []) × (workers ≤ other → made_on rest object other ≡ [])
-  nothing_left nothing object other =
-      (λ below. sym (others_stay full rest row worker made object other (apart other worker (λ is. absurd (omega (arith, below, is))))) ∙ (nothing object other).0 (omega (arith, below)),
-       λ beyond. sym (others_stay full rest row worker made object other (apart other worker (λ is. absurd (omega (arith, beyond, low, is))))) ∙ (nothing object other).1 beyond)
+  nothing_left nothing object other = (
+    λ below. sym (others_stay full rest row worker made object other (apart other worker (λ is. absurd (omega (arith, below, is))))) ∙ (nothing object other).0 (omega (arith, below)),
+    λ beyond. sym (others_stay full rest row worker made object other (apart other worker (λ is. absurd (omega (arith, beyond, low, is))))) ∙ (nothing object other).1 beyond,
+  )
 
 less_from : (a b : ℕ) → a ≤ b → (a ≡ b → ⊥) → a < b
 less_from a b most differ = by_order (nat_lt a b) refl where

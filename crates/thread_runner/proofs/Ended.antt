@@ -52,7 +52,7 @@ item_of {A} all i within = found (slice_get_cases all i).1 where
   found (inr (past, none)) = absurd (omega (arith, within, past))
 
 module _ {N H : Type 0} (at : H → N → Type 0) (own : N → Option Holding) (front : N → List ℕ) (home : H) (plan : Plan) (objects : List (AnyObject N H)) (rows now_rows : List (List (AnyPass N))) (callers now_callers : List (Caller N)) (replies : List (List (Reply ℕ))) (kept : Bool)
-  (callers_are : AreAllCallers at own home callers plan.workers) (gone : HaveGone at own front home plan objects rows callers now_rows now_callers replies kept) where
+    (callers_are : AreAllCallers at own home callers plan.workers) (gone : HaveGone at own front home plan objects rows callers now_rows now_callers replies kept) where
   -- each worker's passes are its own still
   pub seats_of : (worker : ℕ) (row : List (AnyPass N)) → slice_get now_rows worker ≡ Some row → AreSeats at home plan.workers worker objects row
   seats_of worker row found =
@@ -73,12 +73,12 @@ module _ {N H : Type 0} (at : H → N → Type 0) (own : N → Option Holding) (
   }
 
 module _ {N H : Type 0} (at : H → N → Type 0) (own : N → Option Holding) (front : N → List ℕ) (seen : N → List SharedEntry) (home : H) (plan : Plan) (objects : List (AnyObject N H)) (rows now_rows : List (List (AnyPass N))) (callers now_callers settled_callers : List (Caller N)) (replies : List (List (Reply ℕ))) (kept : Bool) (kept_is : kept ≡ true)
-  (rows_are : AreRows at home plan.workers objects rows) (callers_are : AreAllCallers at own home callers plan.workers) (unmade : HaveMadeNone own callers)
-  (gone : HaveGone at own front home plan objects rows callers now_rows now_callers replies kept)
-  (same : SameCalls own front seen now_callers settled_callers) (settled : Settled own front seen (contents_of plan) settled_callers) (scripts : length plan.scripts ≡ plan.workers)
-  (journals : List (List ObjectEntry)) (are : AreJournals plan journals)
-  (parts : (object worker : ℕ) → worker < plan.workers → owns_of (get_or now_rows worker []) object ≡ by worker (get_or journals object []))
-  (beyond : (object worker : ℕ) → plan.workers ≤ worker → by worker (get_or journals object []) ≡ []) where
+    (rows_are : AreRows at home plan.workers objects rows) (callers_are : AreAllCallers at own home callers plan.workers) (unmade : HaveMadeNone own callers)
+    (gone : HaveGone at own front home plan objects rows callers now_rows now_callers replies kept)
+    (same : SameCalls own front seen now_callers settled_callers) (settled : Settled own front seen (contents_of plan) settled_callers) (scripts : length plan.scripts ≡ plan.workers)
+    (journals : List (List ObjectEntry)) (are : AreJournals plan journals)
+    (parts : (object worker : ℕ) → worker < plan.workers → owns_of (get_or now_rows worker []) object ≡ by worker (get_or journals object []))
+    (beyond : (object worker : ℕ) → plan.workers ≤ worker → by worker (get_or journals object []) ≡ []) where
   abbrev pub start : ℕ → Desk
   start worker = desk_of own front (slice_get callers worker) (get_or rows worker [])
 
@@ -97,9 +97,11 @@ module _ {N H : Type 0} (at : H → N → Type 0) (own : N → Option Holding) (
       let now = caller_of now_callers worker (omega (arith, within, gone.callers_count)) in
       let it = (gone.each worker was.0 now.0 was.1 now.1).did kept_is in
       let first : desk_with own front (owns_of (get_or rows worker [])) was.0.note ≡ start worker = ap (λ (o : Option (Caller N)). desk_of own front o (get_or rows worker [])) (sym was.1) in
-      let last : desk_with own front (owns_of (get_or now_rows worker [])) now.0.note ≡ desk worker = ap (λ (o : Option (Caller N)). desk_of own front o (get_or now_rows worker [])) (sym now.1) in
-      (it.0, subst (λ (d : Desk). DidLine plan worker (get_or plan.scripts worker []) (get_or replies worker []) (start worker) d it.0) last
-        (subst (λ (d : Desk). DidLine plan worker (get_or plan.scripts worker []) (get_or replies worker []) d (desk_with own front (owns_of (get_or now_rows worker [])) now.0.note) it.0) first it.1))
+      let last : desk_with own front (owns_of (get_or now_rows worker [])) now.0.note ≡ desk worker = ap (λ (o : Option (Caller N)). desk_of own front o (get_or now_rows worker [])) (sym now.1) in (
+        it.0,
+        subst (λ (d : Desk). DidLine plan worker (get_or plan.scripts worker []) (get_or replies worker []) (start worker) d it.0) last
+            (subst (λ (d : Desk). DidLine plan worker (get_or plan.scripts worker []) (get_or replies worker []) d (desk_with own front (owns_of (get_or now_rows worker [])) now.0.note) it.0) first it.1),
+      )
 
   pub all_lines : (lines : List Line) × (length lines ≡ plan.workers) × ((i : ℕ) (line : Line) → slice_get lines i ≡ Some line → Did (0 + i) line)
   all_lines = gathered Did plan.workers 0 (λ i low high. did i (omega (arith, high)))

@@ -51,10 +51,10 @@ took : (j : ℕ) (xs : List Call) (x : Call) → slice_get xs j ≡ Some x → t
 took j xs x found =
     let next : j + 1 ≡ suc j = omega arith in
     ap (λ n. take n xs) next ∙ more j xs found where
-  more : (j : ℕ) (xs : List Call) → slice_get xs j ≡ Some x → take (suc j) xs ≡ take j xs ++ x ∷ []
-  more j [] found = absurd (none-some x found)
-  more zero (y ∷ xs) found = ap (λ (z : Call). z ∷ []) (first_is y x xs found)
-  more (suc j) (y ∷ xs) found = ap (λ (l : List Call). y ∷ l) (more j xs found)
+      more : (j : ℕ) (xs : List Call) → slice_get xs j ≡ Some x → take (suc j) xs ≡ take j xs ++ x ∷ []
+      more j [] found = absurd (none-some x found)
+      more zero (y ∷ xs) found = ap (λ (z : Call). z ∷ []) (first_is y x xs found)
+      more (suc j) (y ∷ xs) found = ap (λ (l : List Call). y ∷ l) (more j xs found)
 
 first_behind : (xs ys : List Made) (y : Made) → slice_get ys 0 ≡ Some y → slice_get (xs ++ ys) (length xs) ≡ Some y
 first_behind [] ys y at = at
@@ -117,35 +117,44 @@ module _ (plan : Plan) (worker : ℕ) (script : List Call) (old : Desk) (none : 
     -- a call that is a misuse, and the halts by it
     pub ends_misused : (misuse : Misuse) (items halts : List Made) (stopped : ObjectEntry) (last : Desk) → SpellsCall plan worker (length now.calls) call items (Done (Err misuse)) → Moves now items new → Moves new halts last
         → All (IsHalt misuse) halts → slice_get halts 0 ≡ Some (Entered stop stopped) → stopped.deed ≡ Halt misuse → DidLineOf script replies old last
-    ends_misused misuse items halts stopped last spelt first second are first_is deed = (record { spelt = went.spelt; last = items ++ halts; rest = call ∷ drop (suc i) script; ending = misused misuse }, record {
-      is = record { calls = went.are; ends = (items, halts, refl, spelt_here items (Done (Err misuse)) spelt, are) };
-      calls = ap (λ (l : List Call). l ++ call ∷ drop (suc i) script) went.calls ∙ sym rest;
-      answers = went.answers;
-      ended = tt;
-      stops = λ met is. (length (items_in went.spelt ++ items), stopped, halt_at, deed ∙ ap (λ m. Halt m) (same_misuse misuse met is));
-      moves = subst (λ (l : List Made). Moves old l last) (append_assoc (items_in went.spelt) items halts) (joins old new last (items_in went.spelt ++ items) halts (all_moves items first) second);
-    }) where
+    ends_misused misuse items halts stopped last spelt first second are first_is deed = (
+      record { spelt = went.spelt; last = items ++ halts; rest = call ∷ drop (suc i) script; ending = misused misuse },
+      record {
+        is = record { calls = went.are; ends = (items, halts, refl, spelt_here items (Done (Err misuse)) spelt, are) };
+        calls = ap (λ (l : List Call). l ++ call ∷ drop (suc i) script) went.calls ∙ sym rest;
+        answers = went.answers;
+        ended = tt;
+        stops = λ met is. (length (items_in went.spelt ++ items), stopped, halt_at, deed ∙ ap (λ m. Halt m) (same_misuse misuse met is));
+        moves = subst (λ (l : List Made). Moves old l last) (append_assoc (items_in went.spelt) items halts) (joins old new last (items_in went.spelt ++ items) halts (all_moves items first) second);
+      },
+    ) where
       halt_at : slice_get (items_in went.spelt ++ (items ++ halts)) (length (items_in went.spelt ++ items)) ≡ Some (Entered stop stopped)
       halt_at = ap (λ (l : List Made). slice_get l (length (items_in went.spelt ++ items))) (sym (append_assoc (items_in went.spelt) items halts)) ∙ first_behind (items_in went.spelt ++ items) halts (Entered stop stopped) first_is
 
     -- a call that met a halt
     pub ends_halted : (misuse : Misuse) → Works (SpellsCall plan worker (length now.calls) call) now (Halted misuse) new → DidLineOf script replies old new
-    ends_halted misuse works = (record { spelt = went.spelt; last = works.items; rest = call ∷ drop (suc i) script; ending = halted misuse }, record {
-      is = record { calls = went.are; ends = spelt_here works.items (Halted misuse) works.spelt };
-      calls = ap (λ (l : List Call). l ++ call ∷ drop (suc i) script) went.calls ∙ sym rest;
-      answers = went.answers;
-      ended = tt;
-      stops = λ met is. absurd (not_misused misuse met is);
-      moves = all_moves works.items works.moves;
-    })
+    ends_halted misuse works = (
+      record { spelt = went.spelt; last = works.items; rest = call ∷ drop (suc i) script; ending = halted misuse },
+      record {
+        is = record { calls = went.are; ends = spelt_here works.items (Halted misuse) works.spelt };
+        calls = ap (λ (l : List Call). l ++ call ∷ drop (suc i) script) went.calls ∙ sym rest;
+        answers = went.answers;
+        ended = tt;
+        stops = λ met is. absurd (not_misused misuse met is);
+        moves = all_moves works.items works.moves;
+      },
+    )
 
   -- the end of the script
   pub ends_whole : (replies : List (Reply ℕ)) (now : Desk) → Went plan worker script (length script) replies old now → DidLineOf script replies old now
-  ends_whole replies now went = (record { spelt = went.spelt; last = []; rest = []; ending = whole }, record {
-    is = record { calls = went.are; ends = (refl, refl) };
-    calls = append-nil (map (λ s. s.call) went.spelt) ∙ went.calls ∙ take_all (length script) script (omega arith);
-    answers = went.answers;
-    ended = tt;
-    stops = λ met is. absurd (not_whole met is);
-    moves = subst (λ (l : List Made). Moves old l now) (sym (append-nil (items_in went.spelt))) went.moves;
-  })
+  ends_whole replies now went = (
+    record { spelt = went.spelt; last = []; rest = []; ending = whole },
+    record {
+      is = record { calls = went.are; ends = (refl, refl) };
+      calls = append-nil (map (λ s. s.call) went.spelt) ∙ went.calls ∙ take_all (length script) script (omega arith);
+      answers = went.answers;
+      ended = tt;
+      stops = λ met is. absurd (not_whole met is);
+      moves = subst (λ (l : List Made). Moves old l now) (sym (append-nil (items_in went.spelt))) went.moves;
+    },
+  )

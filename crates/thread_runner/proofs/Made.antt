@@ -36,9 +36,11 @@ module _ {N H : Type 0} (at : H → N → Type 0) (home : H) (workers : ℕ) (pl
   } where
     past : (place : ℕ) (other : AnyObject N H) → slice_get (object ∷ []) (number_at place) ≡ Some other → ⊥
     past place other found = let within = slice_get_within (object ∷ []) (number_at place) other found in absurd (omega (arith, within))
+
     one : (number : ℕ) (o : AnyObject N H) (c : AnyColumn N) → slice_get (object ∷ []) number ≡ Some o → slice_get (column ∷ []) number ≡ Some c → IsColumnOf at home workers workers o c
     one zero o c at_o at_c = subst (λ k. IsColumnOf at home workers workers o k) (same_Some column c at_c) (subst (λ k. IsColumnOf at home workers workers k column) (same_Some object o at_o) seated)
     one (suc n) o c at_o at_c = absurd (none-some o at_o)
+
     empty : (number : ℕ) (c : AnyColumn N) (worker : ℕ) → slice_get (column ∷ []) number ≡ Some c → owns_of (passes_in c) worker ≡ []
     empty zero c worker at_c = subst (λ k. owns_of (passes_in k) worker ≡ []) (same_Some column c at_c) (none worker)
     empty (suc n) c worker at_c = absurd (none-some c at_c)
@@ -57,17 +59,20 @@ module _ {N H : Type 0} (at : H → N → Type 0) (home : H) (workers : ℕ) (pl
     stops_by : (other : AnyObject N H) → (slice_get objects stop ≡ Some other) ⊎ ((stop ≡ length objects) × (object ≡ other)) → IsStopOf at home workers other
     stops_by other (inl found) = made.stops other found
     stops_by other (inr (behind, same)) = let long = made.objects_count in absurd (omega (arith, behind, long))
+
     declared_by : (place : ℕ) (line : ObjectLine) (other : AnyObject N H) → slice_get plan.objects place ≡ Some line → (slice_get objects (number_at place) ≡ Some other) ⊎ ((number_at place ≡ length objects) × (object ≡ other)) → IsDeclared at home plan place line.kind other
     declared_by place line other at_line (inl found) = made.declared place line other at_line found
     declared_by place line other at_line (inr (behind, same)) =
         let long = made.objects_count in
         let here : count ≡ place = omega (arith, behind, long) in
         subst (λ o. IsDeclared at home plan place line.kind o) same (subst (λ n. IsDeclared at home plan n line.kind object) here (is line (ap (λ n. slice_get plan.objects n) here ∙ at_line)))
+
     columns_by : (number : ℕ) (o : AnyObject N H) (c : AnyColumn N) → (slice_get objects number ≡ Some o) ⊎ ((number ≡ length objects) × (object ≡ o)) → (slice_get all number ≡ Some c) ⊎ ((number ≡ length all) × (column ≡ c)) → IsColumnOf at home workers workers o c
     columns_by number o c (inl at_o) (inl at_c) = made.columns number o c at_o at_c
     columns_by number o c (inl at_o) (inr (behind, same)) = let within = slice_get_within objects number o at_o in absurd (omega (arith, within, behind, made.objects_count, made.columns_count))
     columns_by number o c (inr (behind, same)) (inl at_c) = let within = slice_get_within all number c at_c in absurd (omega (arith, within, behind, made.objects_count, made.columns_count))
     columns_by number o c (inr (behind, same)) (inr (behind_too, same_too)) = subst (λ k. IsColumnOf at home workers workers o k) same_too (subst (λ k. IsColumnOf at home workers workers k column) same seated)
+
     nothing_by : (number : ℕ) (c : AnyColumn N) (worker : ℕ) → (slice_get all number ≡ Some c) ⊎ ((number ≡ length all) × (column ≡ c)) → owns_of (passes_in c) worker ≡ []
     nothing_by number c worker (inl found) = made.nothing number c worker found
     nothing_by number c worker (inr (behind, same)) = subst (λ k. owns_of (passes_in k) worker ≡ []) same (none worker)

@@ -9,7 +9,9 @@ ghost use Rattle.thread_runner.specs.Dealing.{MadeNothingFrom, AreRows, SameNote
 
 use std::alloc::{AllocError, Global};
 use sync_model::{Caller, Note};
-use thread_calls::{AnyColumn, AnyObject, AnyPass, Crew, deal_row, make_object, make_stop, put_row};
+use thread_calls::{
+    AnyColumn, AnyObject, AnyPass, Crew, deal_row, make_object, make_stop, put_row,
+};
 use workload::Workload;
 
 /// Stop, and the objects that the workload declares, with the passes of all workers. Each object keeps a copy of the note.

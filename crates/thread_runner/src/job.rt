@@ -53,8 +53,30 @@ where
     ghost gives = { λ job gone. HasGone S.Mark.at S.Mark.own S.Mark.front job.worker.at.home.now job.site.workload.now job.site.objects.now job.worker.number job.passes.items job.caller gone.passes.items gone.caller gone.replies gone.kept };
 
     fn work<R: Wait>(self, rt: &R) -> Gone<S::Mark> {
-        let Job { site, worker, gate, mut caller, mut passes, mut replies, mut rooms } = self;
-        let kept = run_script(rt, &site, &worker, gate, &mut caller, &mut passes, &mut replies, &mut rooms);
-        Gone { caller, passes, replies: replies.into_seq(), kept }
+        let Job {
+            site,
+            worker,
+            gate,
+            mut caller,
+            mut passes,
+            mut replies,
+            mut rooms,
+        } = self;
+        let kept = run_script(
+            rt,
+            &site,
+            &worker,
+            gate,
+            &mut caller,
+            &mut passes,
+            &mut replies,
+            &mut rooms,
+        );
+        Gone {
+            caller,
+            passes,
+            replies: replies.into_seq(),
+            kept,
+        }
     }
 }

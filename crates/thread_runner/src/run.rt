@@ -129,13 +129,7 @@ where
 }
 
 // Runs a workload on its objects, to which no pass was dealt yet.
-fn run_on<
-    S: Shared + Sync,
-    C: Clock + Sync,
-    P: Spawner,
-    G: Gate + Sync,
-    R: Threads + Wait + Sync,
->(
+fn run_on<S: Shared + Sync, C: Clock + Sync, P: Spawner, G: Gate + Sync, R: Threads + Wait + Sync>(
     rt: &R,
     alloc: Global,
     workload: &Workload,
@@ -170,7 +164,8 @@ where
     let rows = deal(alloc, crew, objects, columns)?;
     let mut left = Left::with_room(alloc, crew.workers as usize)?;
     work_all(
-        rt, alloc, workload, shared, objects, numbers, clock, spawner, gate, callers, rows, &mut left,
+        rt, alloc, workload, shared, objects, numbers, clock, spawner, gate, callers, rows,
+        &mut left,
     )?;
     outcome_of(alloc, workload, shared, crew, objects, columns, left)
 }
@@ -224,7 +219,17 @@ where
     let numbers = numbers_of(alloc, workload)?;
     let (objects, mut columns) = make_objects_by(alloc, &crew, workload, &mut callers)?;
     run_on(
-        rt, alloc, workload, shared, &crew, &objects, &mut columns, &numbers, clock, spawner, gate,
+        rt,
+        alloc,
+        workload,
+        shared,
+        &crew,
+        &objects,
+        &mut columns,
+        &numbers,
+        clock,
+        spawner,
+        gate,
         callers,
     )
 }

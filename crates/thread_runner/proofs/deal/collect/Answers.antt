@@ -50,8 +50,8 @@ loop-row-preserved g c =
     let longer = length_push c.loop-row.yielded c.in-Some.row in
     let longer_too = length_push before row in
     let put : (object other : ℕ) → made_on c.put_row.new.columns object other ≡ cond (other == length before) (owns_of row object) (made_on c.loop-row.columns object other) =
-        λ object other. c.put_row.ensures.made object other ∙ ap (λ n. cond (other == n) (owns_of c.deref_mut.result.now object) (made_on c.loop-row.columns object other)) (c.loop-row.invariant.worker ∙ sym same)
-          ∙ ap (λ (r : List (AnyPass g.row.N.Denot)). cond (other == length before) (owns_of r object) (made_on c.loop-row.columns object other)) c.deref_mut.ensures.value in
+    λ object other. c.put_row.ensures.made object other ∙ ap (λ n. cond (other == n) (owns_of c.deref_mut.result.now object) (made_on c.loop-row.columns object other)) (c.loop-row.invariant.worker ∙ sym same)
+    ∙ ap (λ (r : List (AnyPass g.row.N.Denot)). cond (other == length before) (owns_of r object) (made_on c.loop-row.columns object other)) c.deref_mut.ensures.value in
     let back = all_back c.args.columns.now c.loop-row.columns c.put_row.new.columns before row put (λ object worker low. c.loop-row.invariant.made object worker (omega (arith, low, same))) in
     let others = others_as_before c.args.columns.now c.loop-row.columns c.put_row.new.columns before row put (λ object worker high. c.loop-row.invariant.others object worker (omega (arith, high, same))) in
     record {

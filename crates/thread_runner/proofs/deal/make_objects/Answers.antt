@@ -21,7 +21,7 @@ loop-place-preserved g c =
       own = search rules;
       front = search rules;
       made = subst (λ (l : List (AnyColumn g.row.N.Denot)). AreMade at home workers plan (c.loop-place.place + 1) c.push_reserved-in-loop-place.new.self.items l) (sym c.push_reserved-in-loop-place-2.ensures.items)
-        (subst (λ (l : List (AnyObject g.row.N.Denot g.row.N-Home.Denot)). AreMade at home workers plan (c.loop-place.place + 1) l (c.loop-place.columns.items ++ c.in_ok-object.passes ∷ [])) (sym c.push_reserved-in-loop-place.ensures.items) more);
+          (subst (λ (l : List (AnyObject g.row.N.Denot g.row.N-Home.Denot)). AreMade at home workers plan (c.loop-place.place + 1) l (c.loop-place.columns.items ++ c.in_ok-object.passes ∷ [])) (sym c.push_reserved-in-loop-place.ensures.items) more);
       objects_room = search rules;
       columns_room = search rules;
     }

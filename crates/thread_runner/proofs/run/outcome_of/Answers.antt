@@ -51,15 +51,15 @@ returns-clause-comes g c =
     let replies = c.args.left.replies.items in
     let rows = map (λ r. r.items) c.args.left.passes.items in
     let begun : first_contents (g.S.Shared.maps c.args.shared.now) (g.S.Shared.kinds c.args.shared.now) ≡ contents_of plan =
-        ap (λ n. first_contents n (g.S.Shared.kinds c.args.shared.now)) c.requires.shared.all_maps ∙ ap (λ types. first_contents (count_by (λ object. is_map object.kind) plan.objects) types) c.requires.shared.all_types in
+    ap (λ n. first_contents n (g.S.Shared.kinds c.args.shared.now)) c.requires.shared.all_maps ∙ ap (λ types. first_contents (count_by (λ object. is_map object.kind) plan.objects) types) c.requires.shared.all_types in
     let settled : Settled mark.own mark.front g.S.Shared.seen (contents_of plan) new = subst (λ s. Settled mark.own mark.front g.S.Shared.seen s new) begun c.settle.ensures.settled in
     let same : SameCalls mark.own mark.front g.S.Shared.seen now new = subst (λ (l : List (Caller g.row.S-Mark.Denot)). SameCalls mark.own mark.front g.S.Shared.seen l new) c.deref_mut.ensures.value c.settle.ensures.same in
     let callers : AreAllCallers mark.at mark.own home new plan.workers = subst (λ n. AreAllCallers mark.at mark.own home new n) c.requires.workers.1 c.settle.ensures.callers in
     let told = c.journals-stopped.ensures.journals in
     let parts : (object worker : ℕ) → worker < plan.workers → owns_of (get_or rows worker []) object ≡ by worker (get_or told.0 object []) =
-        λ object worker low. sym (c.collect.ensures.made object worker (omega (arith, low, c.requires.workers.0))) ∙ told.3 object worker in
+    λ object worker low. sym (c.collect.ensures.made object worker (omega (arith, low, c.requires.workers.0))) ∙ told.3 object worker in
     let beyond : (object worker : ℕ) → plan.workers ≤ worker → by worker (get_or told.0 object []) ≡ [] =
-        λ object worker high. sym (told.3 object worker) ∙ c.collect.ensures.others object worker (omega (arith, high, c.requires.workers.0)) ∙ c.requires.nothing object worker high in
+    λ object worker high. sym (told.3 object worker) ∙ c.collect.ensures.others object worker (omega (arith, high, c.requires.workers.0)) ∙ c.requires.nothing object worker high in
     let kept : c.args.left.kept ≡ true = search rules in
     let all = all_done mark.at mark.own mark.front g.S.Shared.seen home plan c.args.objects.now of.0 rows of.1 now new replies c.args.left.kept kept of.2 of.3 of.4 of.5 same settled (one_script_each plan c.workers-workers.ensures.valid) told.0 told.1 parts beyond in
     let knowing : Knowing = record { own = c.a_worker_knows_its_own_calls.ensures.own; rises = c.a_worker_knows_its_own_calls.ensures.rises; ends = c.a_worker_knows_its_own_calls.ensures.ends } in
@@ -69,10 +69,10 @@ returns-clause-comes g c =
     let long : c.args.left.callers.len ≡ length new = omega (arith, c.args.left.callers.ok.0, same.count) in
     let list : take c.args.left.callers.len (new ++ drop (length new) c.args.left.callers.items) ≡ new = take-append-le c.args.left.callers.len new (drop (length new) c.args.left.callers.items) (omega (arith, long)) ∙ take_all c.args.left.callers.len new (omega (arith, long)) in
     let leaves : (outcome : Outcome) → IsExplained plan outcome settled.history (calls_of mark.own new) → (left_by outcome).ends ≡ [] → Leaves outcome new =
-        λ outcome explained none. record { all = callers; settled = settled; explained = explained; none = none } in
+    λ outcome explained none. record { all = callers; settled = settled; explained = explained; none = none } in
     let leaves_it : (outcome : Outcome) → c.match-stopped.outcome ≡ outcome → Leaves outcome new → Leaves c.match-stopped.outcome (take c.args.left.callers.len (new ++ drop (length new) c.args.left.callers.items)) =
-        λ outcome is it. subst (λ (l : List (Caller g.row.S-Mark.Denot)). Leaves c.match-stopped.outcome l) (sym list) (subst (λ (o : Outcome). Leaves o new) (sym is) it) in
+    λ outcome is it. subst (λ (l : List (Caller g.row.S-Mark.Denot)). Leaves c.match-stopped.outcome l) (sym list) (subst (λ (o : Outcome). Leaves o new) (sym is) it) in
     elim c.match-stopped.branch [
-      in-None w ↦ leaves_it (Done report) w.outcome-is (leaves (Done report) (done _ _ _ _ _ _ _ _ all knowing law c.stop_says_how_a_run_ended.ensures.done (sym told.2 ∙ w.in-None.is) report c.into_seq.ensures) c.new.ensures)
+      | in-None w ↦ leaves_it (Done report) w.outcome-is (leaves (Done report) (done _ _ _ _ _ _ _ _ all knowing law c.stop_says_how_a_run_ended.ensures.done (sym told.2 ∙ w.in-None.is) report c.into_seq.ensures) c.new.ensures)
       | in-Some w ↦ leaves_it (Misused report w.in-Some.misuse) w.outcome-is (leaves (Misused report w.in-Some.misuse) (stopped _ _ _ _ _ _ _ _ all knowing law w.in-Some.misuse (sym told.2 ∙ w.in-Some.is) report c.into_seq.ensures c.new.ensures) c.new.ensures)
     ]

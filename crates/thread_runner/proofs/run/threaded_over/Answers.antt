@@ -38,4 +38,3 @@ run_on-requires-clause-spare g c κs within =
     let long : c.args.callers.len ≡ length new = omega (arith, c.args.callers.ok.0, same.count) in
     let list : take c.args.callers.len (new ++ drop (length new) old) ≡ new = take-append-le c.args.callers.len new (drop (length new) old) (omega (arith, long)) ∙ take_all c.args.callers.len new (omega (arith, long)) in
     subst (λ (l : List (Caller g.row.S-Mark.Denot)). HaveSpare mark.own c.args.workload.now l) (sym list) (spare_still mark.at mark.own old new same c.args.workload.now c.requires.spare)
-

@@ -44,11 +44,11 @@ start_all-requires-after_bounds g c κs within k d low =
     let rooms = made.rooms k d low in
     let Site : g.row.S-Mark-Home.Denot → Plan → g.row.S.Denot → List (AnyObject g.row.S-Mark.Denot g.row.S-Mark-Home.Denot) → List ℕ → Type 0 = λ h p s o n. IsSite mark.at h p (g.S.Shared.maps s) (g.S.Shared.kinds s) (g.S.Shared.takes s) o n in
     let is_site : Site job.worker.at.home.now job.site.workload.now job.site.shared.now job.site.objects.now job.site.numbers.now =
-        subst (λ n. Site job.worker.at.home.now job.site.workload.now job.site.shared.now job.site.objects.now n) (sym site.3)
-        (subst (λ o. Site job.worker.at.home.now job.site.workload.now job.site.shared.now o c.args.numbers.now) (sym site.2)
-        (subst (λ s. Site job.worker.at.home.now job.site.workload.now s objects c.args.numbers.now) (sym site.1)
-        (subst (λ p. Site job.worker.at.home.now p shared objects c.args.numbers.now) (sym site.0)
-        (subst (λ h. Site h plan shared objects c.args.numbers.now) (sym at.0) c.requires.site)))) in
+    subst (λ n. Site job.worker.at.home.now job.site.workload.now job.site.shared.now job.site.objects.now n) (sym site.3)
+    (subst (λ o. Site job.worker.at.home.now job.site.workload.now job.site.shared.now o c.args.numbers.now) (sym site.2)
+    (subst (λ s. Site job.worker.at.home.now job.site.workload.now s objects c.args.numbers.now) (sym site.1)
+    (subst (λ p. Site job.worker.at.home.now p shared objects c.args.numbers.now) (sym site.0)
+    (subst (λ h. Site h plan shared objects c.args.numbers.now) (sym at.0) c.requires.site)))) in
     let stops = subst (λ o. IsObjectAt IsStop o stop) (sym site.2) (c.stop_is_the_first_object.ensures home plan objects c.requires.site.declared) in
     let room : length (get_or plan.scripts k []) ≤ job.replies.room = subst (λ s. length s ≤ job.replies.room) by_place replies.1 in
     let rooms_len : vec_len job.rooms ≡ length job.rooms.items = search rules in
@@ -56,10 +56,10 @@ start_all-requires-after_bounds g c κs within k d low =
     let ready = ready_at mark.at mark.own mark.front home plan objects rows c.args.callers.items c.requires.rows c.requires.callers c.requires.unused c.requires.spare k job.passes.items job.caller job.replies job.rooms.items at_row at_caller few replies.0 room rooms.0 enough in
     let Ready : g.row.S-Mark-Home.Denot → Plan → List (AnyObject g.row.S-Mark.Denot g.row.S-Mark-Home.Denot) → ℕ → Type 0 = λ h p o n. IsReady mark.at mark.own mark.front h p o n job.passes.items job.caller job.replies job.rooms.items in
     let is_ready : Ready job.worker.at.home.now job.site.workload.now job.site.objects.now job.worker.number =
-        subst (λ n. Ready job.worker.at.home.now job.site.workload.now job.site.objects.now n) (sym number)
-        (subst (λ o. Ready job.worker.at.home.now job.site.workload.now o k) (sym site.2)
-        (subst (λ p. Ready job.worker.at.home.now p objects k) (sym site.0)
-        (subst (λ h. Ready h plan objects k) (sym at.0) ready))) in
+    subst (λ n. Ready job.worker.at.home.now job.site.workload.now job.site.objects.now n) (sym number)
+    (subst (λ o. Ready job.worker.at.home.now job.site.workload.now o k) (sym site.2)
+    (subst (λ p. Ready job.worker.at.home.now p objects k) (sym site.0)
+    (subst (λ h. Ready h plan objects k) (sym at.0) ready))) in
     (is_site, stops, ap (λ (p : Plan). p.workers) site.0 ∙ sym at.1, ap g.S.Shared.home_of site.1 ∙ sym at.0, is_ready)
 
 pub gather-requires-clause-room : goal.gather-requires-clause-room
@@ -86,15 +86,15 @@ returns-in-Done-clause-gone g c =
     let numbers : map (λ j. j.worker.number) jobs ≡ range_with_len 0 (length jobs) = made.numbers ∙ ap (range_with_len 0) long in
     let Left : List (List (AnyPass g.row.S-Mark.Denot)) → List (Caller g.row.S-Mark.Denot) → List (List (Reply ℕ)) → Bool → Type 0 = λ p k r e. HaveGone mark.at mark.own mark.front home plan objects rows callers p k r e in
     let all = have_gone mark.at mark.own mark.front home plan objects rows callers (λ j. j.worker.number) (λ j. j.passes.items) (λ j. j.caller) jobs (λ o. o.passes.items) (λ o. o.caller) (λ o. o.replies) (λ o. o.kept) gone _ count numbers made.callers made.passes c.in-Done.ensures.jobs
-          (λ k job o found it.
-            let low = slice_get_within jobs k job found in
-            let is : get_or jobs k job ≡ job = get_or_from_slice_get jobs k job job found in
-            let site = made.site k job low in
-            let at = made.at k job low in
-            let Gone-by : g.row.S-Mark-Home.Denot → Plan → List (AnyObject g.row.S-Mark.Denot g.row.S-Mark-Home.Denot) → Type 0 = λ h p b. HasGone mark.at mark.own mark.front h p b job.worker.number job.passes.items job.caller o.passes.items o.caller o.replies o.kept in
-            subst (λ h. Gone-by h plan objects) (sym (ap (λ j. j.worker.at.home.now) is) ∙ at.0)
-            (subst (λ p. Gone-by job.worker.at.home.now p objects) (sym (ap (λ j. j.site.workload.now) is) ∙ site.0)
-            (subst (λ b. Gone-by job.worker.at.home.now job.site.workload.now b) (sym (ap (λ j. j.site.objects.now) is) ∙ site.2) it))) in
+    (λ k job o found it.
+    let low = slice_get_within jobs k job found in
+    let is : get_or jobs k job ≡ job = get_or_from_slice_get jobs k job job found in
+    let site = made.site k job low in
+    let at = made.at k job low in
+    let Gone-by : g.row.S-Mark-Home.Denot → Plan → List (AnyObject g.row.S-Mark.Denot g.row.S-Mark-Home.Denot) → Type 0 = λ h p b. HasGone mark.at mark.own mark.front h p b job.worker.number job.passes.items job.caller o.passes.items o.caller o.replies o.kept in
+    subst (λ h. Gone-by h plan objects) (sym (ap (λ j. j.worker.at.home.now) is) ∙ at.0)
+    (subst (λ p. Gone-by job.worker.at.home.now p objects) (sym (ap (λ j. j.site.workload.now) is) ∙ site.0)
+    (subst (λ b. Gone-by job.worker.at.home.now job.site.workload.now b) (sym (ap (λ j. j.site.objects.now) is) ∙ site.2) it))) in
     let passes_now = map (λ o. o.passes.items) gone in
     let callers_now = map (λ o. o.caller) gone in
     let replies_now = map (λ o. o.replies) gone in

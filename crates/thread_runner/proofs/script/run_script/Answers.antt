@@ -51,7 +51,7 @@ returns-in-Some-Done-Err-clause-line g c kept =
     let works = of_some c.make_call-answer.result Made (Done (Err c.in-Some-Done-Err.misuse)) (c.in-Some-Done-Err.is ∙ ap Some (c.in-Some-Done-Err.field-0-is ∙ ap Done c.in-Some-Done-Err.field-0-0-is)) c.make_call-answer.ensures.works in
     let halted = c.halt_all.ensures.halted in
     ends_misused plan number script start c.requires.fresh.calls c.loop-index.index c.index-script-index.result within at c.loop-index.replies.items now new c.moves.ensures.joined (c.loop-index.invariant.went kept)
-      c.in-Some-Done-Err.misuse works.items halted.items halted.stops.0 last works.spelt works.moves halted.moves halted.halts halted.stops.1 halted.stops.2
+    c.in-Some-Done-Err.misuse works.items halted.items halted.stops.0 last works.spelt works.moves halted.moves halted.halts halted.stops.1 halted.stops.2
 
 pub returns-in-Some-Halted-clause-line : goal.returns-in-Some-Halted-clause-line
 returns-in-Some-Halted-clause-line g c kept =
@@ -83,21 +83,21 @@ loop-index-preserved g c =
     let made = c.make_call-answer.ensures in
     let left : length c.loop-index.rooms.items ≤ length c.make_call-answer.new.rooms.items + ranges_in_call c.index-script-index.result = search rules in
     let goes_on = after_call mark.at mark.own mark.front c.args.worker.now.at.home.now plan c.args.worker.now.workers number c.args.site.now.objects.now script c.args.replies.now.room start c.args.caller.now.note c.loop-index.index c.index-script-index.result within at
-      c.loop-index.kept c.match-answer.kept c.loop-index.passes c.make_call-answer.new.passes c.loop-index.caller c.make_call-answer.new.caller c.loop-index.replies c.match-answer.replies c.loop-index.rooms.items c.make_call-answer.new.rooms.items c.loop-index.invariant
-      made.seats made.caller made.spends made.rooms left in
+    c.loop-index.kept c.match-answer.kept c.loop-index.passes c.make_call-answer.new.passes c.loop-index.caller c.make_call-answer.new.caller c.loop-index.replies c.match-answer.replies c.loop-index.rooms.items c.make_call-answer.new.rooms.items c.loop-index.invariant
+    made.seats made.caller made.spends made.rooms left in
     let before = c.loop-index.replies in
     elim c.match-answer.branch [
-      in-None w ↦ goes_on (ap (λ (b : Bounded (Reply ℕ)). b.room) w.replies-is)
-        (subst (λ (b : Bounded (Reply ℕ)). length b.items ≤ c.loop-index.index + 1) (sym w.replies-is) (omega (arith, c.loop-index.invariant.count)))
-        (λ kept. absurd (false≢true (sym w.kept-is ∙ kept)))
+      | in-None w ↦ goes_on (ap (λ (b : Bounded (Reply ℕ)). b.room) w.replies-is)
+          (subst (λ (b : Bounded (Reply ℕ)). length b.items ≤ c.loop-index.index + 1) (sym w.replies-is) (omega (arith, c.loop-index.invariant.count)))
+          (λ kept. absurd (false≢true (sym w.kept-is ∙ kept)))
       | in-Some-Done-Ok w ↦
-        let reply = w.in-Some-Done-Ok.reply in
-        let pushed : c.match-answer.replies ≡ record before { items = before.items ++ reply ∷ [] } = w.replies-is ∙ w.push.ensures in
-        let works = of_some c.make_call-answer.result Made (Done (Ok reply)) (w.in-Some-Done-Ok.is ∙ ap Some (w.in-Some-Done-Ok.field-0-is ∙ ap Done w.in-Some-Done-Ok.field-0-0-is)) made.works in
-        let count : length (before.items ++ reply ∷ []) ≤ c.loop-index.index + 1 = omega (arith, c.loop-index.invariant.count, length_push before.items reply) in
-        goes_on (ap (λ (b : Bounded (Reply ℕ)). b.room) pushed)
-        (subst (λ (b : Bounded (Reply ℕ)). length b.items ≤ c.loop-index.index + 1) (sym pushed) count)
-        (λ kept. subst (λ (b : Bounded (Reply ℕ)). Went plan number script (c.loop-index.index + 1) b.items start new) (sym pushed)
+          let reply = w.in-Some-Done-Ok.reply in
+          let pushed : c.match-answer.replies ≡ record before { items = before.items ++ reply ∷ [] } = w.replies-is ∙ w.push.ensures in
+          let works = of_some c.make_call-answer.result Made (Done (Ok reply)) (w.in-Some-Done-Ok.is ∙ ap Some (w.in-Some-Done-Ok.field-0-is ∙ ap Done w.in-Some-Done-Ok.field-0-0-is)) made.works in
+          let count : length (before.items ++ reply ∷ []) ≤ c.loop-index.index + 1 = omega (arith, c.loop-index.invariant.count, length_push before.items reply) in
+          goes_on (ap (λ (b : Bounded (Reply ℕ)). b.room) pushed)
+          (subst (λ (b : Bounded (Reply ℕ)). length b.items ≤ c.loop-index.index + 1) (sym pushed) count)
+          (λ kept. subst (λ (b : Bounded (Reply ℕ)). Went plan number script (c.loop-index.index + 1) b.items start new) (sym pushed)
           (went_on plan number script start c.requires.fresh.calls c.loop-index.index c.index-script-index.result within at before.items now new c.moves.ensures.joined (c.loop-index.invariant.went (sym w.kept-is ∙ kept)) reply works))
     ]
 
