@@ -24,7 +24,7 @@ use workload::Workload;
 ///
 /// # Errors
 ///
-/// `StartRefused` where a thread's start was refused, and `Memory`; no worker made a call then.
+/// `StartRefused` where a thread's start was refused, and `Memory`, where there is no outcome.
 pub fn threaded<C: Clock + Sync, P: Spawner, G: Gate + Sync, R: Threads + Wait + Sync>(
     rt: &R,
     alloc: Global,
