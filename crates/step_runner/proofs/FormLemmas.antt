@@ -118,7 +118,7 @@ out_anywhere but worker objects out place object at ne = out place object at (λ
 
 module _ (laws : TurnStands) (plan : Plan) (by : ℕ) (s : State) (h : Standing plan s) where
   -- the worker that took the turn
-  own_at : (call : Call) (objects : List ObjectState) (answer : Answer) → Takes plan by s call objects answer → IsOutBut (waits_behind answer (waits_at (kinds_in plan) call)) by objects
+  pub own_at : (call : Call) (objects : List ObjectState) (answer : Answer) → Takes plan by s call objects answer → IsOutBut (waits_behind answer (waits_at (kinds_in plan) call)) by objects
   own_at call objects answer takes =
       takes_by (λ x. IsOutBut (waits_behind x.1 (waits_at (kinds_in plan) call)) by x.0) plan by s call objects answer h.of takes
       (λ r. subst (λ (ks : List ObjectKind). IsOutBut (waits_at ks call) by s.objects → IsOutBut (waits_behind (turn_at call by s.moment s.objects).1 (waits_at ks call)) by (turn_at call by s.moment s.objects).0) h.of.objects
@@ -184,13 +184,13 @@ module _ (laws : TurnStands) (plan : Plan) (by : ℕ) (s : State) (h : Standing 
     misused = λ call objects misuse takes. h.forms;
   })
 
-standing_kept : TurnStands → (plan : Plan) → GoesOn plan → Kept plan (Standing plan)
+pub standing_kept : TurnStands → (plan : Plan) → GoesOn plan → Kept plan (Standing plan)
 standing_kept laws plan goes_on = record {
   turn = λ worker s h. record { of = goes_on worker s h.of; out = turn_out laws plan worker s h; forms = turn_forms laws plan worker s h };
   moment = λ moment s h. record { of = moment_valid plan moment s h.of; out = h.out; forms = h.forms };
 }
 
-start_stands : TurnStands → (plan : Plan) → IsStateOf plan (start plan) → Standing plan (start plan)
+pub start_stands : TurnStands → (plan : Plan) → IsStateOf plan (start plan) → Standing plan (start plan)
 start_stands laws plan of = record {
   of = of;
   out = λ worker. each_start (λ place object. (awaited plan worker (start plan) ≡ Some place → ⊥) → IsOutAt worker object) plan (λ place kind ne. laws.begins worker plan.workers (puts_at place plan.scripts) kind);

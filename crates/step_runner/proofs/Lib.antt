@@ -1,3 +1,4 @@
+mod CallBounds
 mod EndLemmas
 mod MadeLemmas
 mod OneTurnCalls

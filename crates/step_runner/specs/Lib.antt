@@ -1,8 +1,9 @@
+pub mod CallTurns
 pub mod Computed
 pub mod Ends
+pub mod Forms
 pub mod LeftToDo
 pub mod MadeCalls
 pub mod Outcomes
 pub mod State
 pub mod Turns
-pub mod Forms

@@ -30,6 +30,7 @@ ghost use Rattle.step_runner.specs.declared.step.Step.TheVariants as steps;
 ghost use Rattle.sync_model.specs.declared.outcome.Report.{Report};
 ghost use Rattle.sync_model.specs.declared.outcome.Outcome.{Outcome};
 ghost use Rattle.sync_model.specs.declared.outcome.Outcome.TheVariants as outcomes;
+ghost use Rattle.step_runner.specs.CallTurns.{goes_on, requeues, wakes, count_turns};
 ghost use Rattle.step_runner.specs.LeftToDo.{left_to_do};
 ghost use Rattle.step_runner.specs.MadeCalls.{made_calls, calls_of};
 ghost use Rattle.step_runner.specs.Outcomes.{StepsTo};
@@ -40,7 +41,7 @@ ghost use Rattle.step_runner.specs.Forms.{all_have_forms, has_forms};
 ghost use Rattle.step_runner.specs.Computed.{rounds_of, all_rounds, turns};
 
 use step_turns::laws::{
-    maps_keep_to_the_keys_of_calls, numbers_stay_in_range, pools_have_room,
+    few_turns_are_left_of_a_call, maps_keep_to_the_keys_of_calls, numbers_stay_in_range, pools_have_room,
     some_calls_take_one_turn, turns_follow_the_machines, turns_keep_kinds_and_machines,
     turns_use_something_up, workers_stand_in_their_calls,
 };
@@ -69,6 +70,19 @@ pub fn events_use_something_up()
 {
     turns_keep_kinds_and_machines();
     turns_use_something_up();
+}
+
+/// A call takes at most four turns that make an event, but those with which its worker goes back to the queue of a mutex. For
+/// each of these another worker took a turn that unlocked, and told the worker to go on. The number of the call counts from 0
+/// in its worker's script.
+pub fn a_call_takes_few_turns()
+    ensures few { (plan : Plan) (items : List Turn) (worker number : ℕ) → is_valid plan ≡ true → count_turns plan (goes_on plan worker number) items (start plan) ≤ 4 }
+    ensures woken { (plan : Plan) (items : List Turn) (worker number : ℕ) → is_valid plan ≡ true → count_turns plan (requeues plan worker number) items (start plan) ≤ count_turns plan (wakes plan worker number) items (start plan) }
+{
+    validity();
+    events_use_something_up();
+    workers_stand_in_their_calls();
+    few_turns_are_left_of_a_call();
 }
 
 /// Every run ends, in one of the three ways: one round more than is left to do is enough, and any more

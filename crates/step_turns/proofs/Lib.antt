@@ -1,7 +1,11 @@
 mod AtObjects
+mod CallAt
+mod CallOthers
+mod CallOwn
 mod AtomicTypes
 mod CompletesLemmas
 mod DueLemmas
+mod ItemLogs
 mod KeyLemmas
 mod LogLemmas
 mod MachineLaws

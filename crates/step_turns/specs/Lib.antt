@@ -1,6 +1,9 @@
 pub mod AtomicRange
+pub mod CallTurns
+pub mod ComesTo
 pub mod Completes
 pub mod Due
+pub mod Items
 pub mod MachineLogs
 pub mod MapKeys
 pub mod ObjectLeft

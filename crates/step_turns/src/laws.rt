@@ -1,5 +1,5 @@
 //! What a turn keeps at the objects of a run, whatever the workload, and what it uses up.
-ghost use Rattle.std.specs.Prelude.{◌≡◌, ◌≢◌, ℕ, ◌<◌, ◌≤◌, true, List, Option, map, sum_by};
+ghost use Rattle.std.specs.Prelude.{◌≡◌, ◌≢◌, ℕ, ◌<◌, ◌≤◌, true, false, List, [], ◌++◌, Option, Some, map, slice_get, sum_by};
 ghost use Rattle.sync_model.specs.declared.call.Call.{Call};
 ghost use Rattle.pool_core.specs.PoolMachine as pool;
 ghost use Rattle.pool_core.specs.declared.pool_event.PoolEvent.{PoolEvent};
@@ -9,7 +9,10 @@ ghost use Rattle.workload.specs.Draft.{keys_of, distinct_count};
 ghost use Rattle.step_turns.specs.declared.object_state.ObjectState.{ObjectState};
 ghost use Rattle.step_turns.specs.declared.object_state.ObjectState.TheVariants as states;
 ghost use Rattle.step_turns.specs.AtomicRange.{IsInRange};
+ghost use Rattle.step_turns.specs.CallTurns.{turns_left, TakesBy, told_at, is_told, TellsOwn};
+ghost use Rattle.step_turns.specs.ComesTo.{on_object, ComesTo};
 ghost use Rattle.step_turns.specs.Completes.{takes_one_turn, IsCompleted};
+ghost use Rattle.step_turns.specs.Items.{Item, items_at, goes_back, unlocks};
 ghost use Rattle.step_turns.specs.MachineLogs.{FollowsItsMachine};
 ghost use Rattle.step_turns.specs.MapKeys.{AreAmong, HasObjectKeysIn};
 ghost use Rattle.step_turns.specs.ObjectLeft.{object_left, UsesBy};
@@ -121,4 +124,47 @@ pub fn pools_have_room()
     ensures goes_on { (worker moment : ℕ) (left : ℕ → ℕ) (call : Call) (objects : List ObjectState) → put_of call.object call ≤ left call.object → EachAt (λ place. HasRoomFor (left place)) objects
         → EachAt (λ place. HasRoomFor (left_behind (turn_at call worker moment objects).1 (put_of place call) (left place))) (turn_at call worker moment objects).0 }
     ensures kept { (worker item left : ℕ) (p : pool.PoolState ℕ) → worker < pool.callers_of p → 1 ≤ left → HasRoomFor left (states.Pool p) → (pool.next p worker (PoolEvent.Put item)).1 ≡ PoolReply.Kept }
+{}
+
+/// Of a call's turns with an event at most four are left, but those with which its worker goes back to the queue of a mutex:
+/// its own turn that completes no call takes one of them, unless the worker goes back, and another's gives none.
+/// A worker goes back only where it was told to go on, and isn't told any more then. Only another's turn tells it that
+/// unlocks, and nobody tells a worker that is out.
+pub fn few_turns_are_left_of_a_call()
+    ensures most { (worker : ℕ) (call : Call) (objects : List ObjectState) → turns_left (map kind_of objects) call worker objects ≤ 4 }
+    ensures own { (workers worker moment : ℕ) (call : Call) (objects : List ObjectState) → IsReady workers worker call objects
+        → TakesBy (goes_back (items_at call worker moment objects)) (turns_left (map kind_of objects) call worker objects) (turns_left (map kind_of objects) call worker (turn_at call worker moment objects).0) (turn_at call worker moment objects).1 }
+    ensures others { (workers worker other moment : ℕ) (own call : Call) (objects : List ObjectState) → IsReady workers other call objects → worker ≢ other
+        → turns_left (map kind_of objects) own worker (turn_at call other moment objects).0 ≤ turns_left (map kind_of objects) own worker objects }
+    ensures told_before { (workers worker moment : ℕ) (call : Call) (objects : List ObjectState) → IsReady workers worker call objects
+        → TellsOwn (goes_back (items_at call worker moment objects)) (is_told (map kind_of objects) call worker objects) (is_told (map kind_of objects) call worker (turn_at call worker moment objects).0) }
+    ensures told_by_unlocks { (workers worker other moment : ℕ) (own call : Call) (objects : List ObjectState) → IsReady workers other call objects → worker ≢ other
+        → is_told (map kind_of objects) own worker objects ≡ false → is_told (map kind_of objects) own worker (turn_at call other moment objects).0 ≡ true → unlocks (items_at call other moment objects) ≡ true }
+    ensures untold { (worker : ℕ) (object : ObjectState) → IsOutAt worker object → told_at worker object ≡ false }
+{
+    mutex_core::laws::moves();
+    mutex_core::laws::standing();
+    rw_core::laws::moves();
+    rw_core::laws::standing();
+    wait_cores::laws::notify::answers_its_callers();
+    wait_cores::laws::notify::knows_where_it_stands();
+    wait_cores::laws::group::knows_where_it_stands();
+    wait_cores::laws::group::still();
+    wait_cores::laws::group::events_are_used_up();
+    wait_cores::laws::once::knows_where_it_stands::<i64>();
+    wait_cores::laws::once::still::<i64>();
+    wait_cores::laws::once::events_are_used_up::<i64>();
+    wait_cores::laws::once::knows_where_it_stands::<u64>();
+    wait_cores::laws::once::still::<u64>();
+    wait_cores::laws::once::events_are_used_up::<u64>();
+}
+
+/// The items that a turn makes on an object lead from what it was to what it is behind the turn: a machine follows them, and a
+/// call on a map or an atomic answers what the one-thread object answers. No items lead nowhere, and items lead on from where
+/// earlier ones led to.
+pub fn items_lead_from_turn_to_turn()
+    ensures turn { (workers worker moment place : ℕ) (call : Call) (objects : List ObjectState) (old new : ObjectState) → IsReady workers worker call objects → slice_get objects place ≡ Some old
+        → slice_get (turn_at call worker moment objects).0 place ≡ Some new → ComesTo old (on_object place (items_at call worker moment objects)) new }
+    ensures nowhere { (object : ObjectState) → ComesTo object [] object }
+    ensures on { (first middle last : ObjectState) (earlier later : List Item) → ComesTo first earlier middle → ComesTo middle later last → ComesTo first (earlier ++ later) last }
 {}

@@ -1,0 +1,452 @@
+-- A call takes few turns, and a worker goes back to a queue no more often than it was told to go on.
+use Rattle.std.proofs.Common.{◌≡◌, ◌≢◌, ℕ, zero, suc, ◌+◌, ◌<◌, ◌≤◌, Bool, true, false, eqb, ◌&&◌, List, [], ◌∷◌, map, length, get_or, Option, Some, None, refl, sym, ap, ◌∙◌, subst, arith}
+use Rattle.std.specs.Prelude.{◌==◌, nat_lt, not, slice_get, unwrap_or, if◌then◌else◌}
+use Rattle.std.specs.Option.{option_map_or}
+use Rattle.std.proofs.lemmas.Bool.{eqb-true, eqb-false, eq-eqb, lt-ltb, ltb-true, ltb-false}
+use Rattle.sync_model.specs.declared.call.Call.{Call}
+use Rattle.sync_model.specs.declared.call.Reply.{Reply}
+use Rattle.sync_model.specs.declared.misuse.Misuse.{Misuse}
+use Rattle.workload.specs.declared.object.ObjectKind.{ObjectKind}
+use Rattle.workload.specs.declared.turn.Turn.{Turn}
+use Rattle.workload.specs.declared.turn.Turn.TheVariants as items
+use Rattle.workload.specs.Plan.{Plan}
+use Rattle.workload.specs.Puts.{puts_at}
+use Rattle.step_turns.specs.declared.answer.Answer.{Answer}
+use Rattle.step_turns.specs.declared.answer.Answer.TheVariants as answers
+use Rattle.step_turns.specs.declared.object_state.ObjectState.{ObjectState}
+use Rattle.step_turns.specs.CallTurns.{refers_to, turns_left, TakesBy, told_at, is_told, TellsOwn}
+use Rattle.step_turns.specs.Items.{Item, items_at, goes_back, unlocks}
+use Rattle.step_turns.specs.Objects.{kind_of}
+use Rattle.step_turns.specs.Ready.{IsReady}
+use Rattle.step_turns.specs.Stands.{IsOutAt, IsOutBut}
+use Rattle.step_turns.specs.Turns.{turn_at}
+use Rattle.step_runner.specs.declared.step.Step.{Step}
+use Rattle.step_runner.specs.declared.step.Step.TheVariants as steps
+use Rattle.step_runner.specs.CallTurns.{made_by, makes_event, stands_before, kinds_in, was_told, goes_on, requeues, wakes, one_if, behind, count_turns}
+use Rattle.step_runner.specs.State.{State, start, with_reply, with_moment, IsStateOf}
+use Rattle.step_runner.specs.Turns.{next_call, turn_of}
+use Rattle.step_runner.proofs.FormLemmas.{TurnStands, Standing, own_at, standing_kept, start_stands}
+use Rattle.step_runner.proofs.RunLemmas.{GoesOn, Kept, moment_valid}
+use Rattle.step_runner.proofs.StartLemmas.{each_start, none_yet}
+use Rattle.step_runner.proofs.TurnLemmas.{Takes, takes_by, turn_cases, moved, replied_more, replied_other, turn_before}
+
+-- what the laws of turns say
+pub record CallLaws : Type 0 where
+  pub most : (worker : ℕ) (call : Call) (objects : List ObjectState) → turns_left (map kind_of objects) call worker objects ≤ 4
+  pub own : (workers worker moment : ℕ) (call : Call) (objects : List ObjectState) → IsReady workers worker call objects
+      → TakesBy (goes_back (items_at call worker moment objects)) (turns_left (map kind_of objects) call worker objects) (turns_left (map kind_of objects) call worker (turn_at call worker moment objects).0) (turn_at call worker moment objects).1
+  pub others : (workers worker other moment : ℕ) (own call : Call) (objects : List ObjectState) → IsReady workers other call objects → worker ≢ other
+      → turns_left (map kind_of objects) own worker (turn_at call other moment objects).0 ≤ turns_left (map kind_of objects) own worker objects
+  pub told_before : (workers worker moment : ℕ) (call : Call) (objects : List ObjectState) → IsReady workers worker call objects
+      → TellsOwn (goes_back (items_at call worker moment objects)) (is_told (map kind_of objects) call worker objects) (is_told (map kind_of objects) call worker (turn_at call worker moment objects).0)
+  pub told_by : (workers worker other moment : ℕ) (own call : Call) (objects : List ObjectState) → IsReady workers other call objects → worker ≢ other
+      → is_told (map kind_of objects) own worker objects ≡ false → is_told (map kind_of objects) own worker (turn_at call other moment objects).0 ≡ true → unlocks (items_at call other moment objects) ≡ true
+  pub untold : (worker : ℕ) (object : ObjectState) → IsOutAt worker object → told_at worker object ≡ false
+
+-- a turn without an event changes nothing
+abbrev pub StillSame : Type 0
+StillSame = (plan : Plan) (worker : ℕ) (old new : State) → IsStateOf plan old → turn_of plan worker old ≡ (new, steps.Still) → new ≡ old
+
+no : {A : Type 0} → false ≡ true → A
+no e = absurd cc
+
+one_most : (b : Bool) → one_if b ≤ 1
+one_most true = search
+one_most false = search
+
+-- tests of which one fails
+none_by : (a : Bool) (b : Bool) → a ≡ false → one_if (a && b) ≡ 0
+none_by a b e = ap (λ (t : Bool). one_if (t && b)) e
+
+none_second : (a b c : Bool) → b ≡ false → one_if (a && (b && c)) ≡ 0
+none_second true b c e = ap (λ (t : Bool). one_if (t && c)) e
+none_second false b c e = refl
+
+none_still : (a b c : Bool) → one_if (a && (b && (false && c))) ≡ 0
+none_still true true c = refl
+none_still true false c = refl
+none_still false b c = refl
+
+none_back : (a b c back : Bool) → back ≡ true → one_if (a && (b && (c && not back))) ≡ 0
+none_back true true true back e = ap (λ (t : Bool). one_if (not t)) e
+none_back true true false back e = refl
+none_back true false c back e = refl
+none_back false b c back e = refl
+
+-- what a worker's own turn, and another's, does to whether it was told
+own_told : (a n back o w : Bool) → TellsOwn back o w → one_if (a && (n && back)) + one_if (n && w) ≤ one_if (n && o)
+own_told a false back o w tells = omega (arith, none_second a false back refl)
+own_told a true true o w tells = omega (arith, one_most (a && true), ap one_if tells.0, ap one_if tells.1)
+own_told a true false o false tells = omega (arith, dropped a)
+  where
+    dropped : (a : Bool) → one_if (a && false) ≡ 0
+    dropped true = refl
+    dropped false = refl
+own_told a true false o true tells = omega (arith, dropped a, ap one_if (tells refl))
+  where
+    dropped : (a : Bool) → one_if (a && false) ≡ 0
+    dropped true = refl
+    dropped false = refl
+
+other_told : (e n u o w : Bool) → e ≡ false → (o ≡ false → w ≡ true → u ≡ true) → one_if (n && w) ≤ one_if (not e && (n && (u && (not o && w)))) + one_if (n && o)
+other_told true n u o w apart tells = no (sym apart)
+other_told false false u o w apart tells = omega arith
+other_told false true u true w apart tells = omega (arith, one_most w)
+other_told false true u false false apart tells = omega arith
+other_told false true true false true apart tells = omega arith
+other_told false true false false true apart tells = no (tells refl refl)
+
+-- ---- one call of one worker
+
+module _ (plan : Plan) (worker number : ℕ) where
+  -- what is left of the call before which the worker stands, and whether it was told to go on, by its replies so far
+  left_by : List (Reply (List ℕ)) → List ObjectState → ℕ
+  left_by done objects = option_map_or (λ call. turns_left (kinds_in plan) call worker objects) (slice_get (get_or plan.scripts worker []) (length done)) 0
+
+  told_by : List (Reply (List ℕ)) → List ObjectState → Bool
+  told_by done objects = option_map_or (λ call. is_told (kinds_in plan) call worker objects) (slice_get (get_or plan.scripts worker []) (length done)) false
+
+  -- the most turns that can be counted: four before the call, what is left of it then, and none behind it
+  most_of : Bool → Bool → ℕ → ℕ
+  most_of true at n = 4
+  most_of false true n = n
+  most_of false false n = 0
+
+  most_by : List (Reply (List ℕ)) → List ObjectState → ℕ
+  most_by done objects = most_of (nat_lt (length done) number) (length done == number) (left_by done objects)
+
+  most : State → ℕ
+  most s = most_by (get_or s.replies worker []) s.objects
+
+  told : State → ℕ
+  told s = one_if ((length (get_or s.replies worker []) == number) && told_by (get_or s.replies worker []) s.objects)
+
+  not_less : (n m : ℕ) → m ≤ n → nat_lt n m ≡ false
+  not_less n m e = elim (nat_lt n m) as (λ b. nat_lt n m ≡ b → b ≡ false) [
+    | true ↦ λ f. absurd (omega (arith, ltb-true n m f, e))
+    | false ↦ λ f. refl
+  ] refl
+
+  not_same : (n m : ℕ) → (n ≡ m → ⊥) → (n == m) ≡ false
+  not_same n m ne = elim (n == m) as (λ b. (n == m) ≡ b → b ≡ false) [
+    | true ↦ λ f. absurd (ne (eqb-true n m f))
+    | false ↦ λ f. refl
+  ] refl
+
+  most_before : (done : List (Reply (List ℕ))) (objects : List ObjectState) → length done < number → most_by done objects ≡ 4
+  most_before done objects e = ap (λ (b : Bool). most_of b (length done == number) (left_by done objects)) (lt-ltb (length done) number e)
+
+  most_at : (done : List (Reply (List ℕ))) (objects : List ObjectState) → length done ≡ number → most_by done objects ≡ left_by done objects
+  most_at done objects e =
+      ap (λ (b : Bool). most_of b (length done == number) (left_by done objects)) (not_less (length done) number (omega (arith, e)))
+      ∙ ap (λ (b : Bool). most_of false b (left_by done objects)) (eq-eqb (length done) number e)
+
+  most_past : (done : List (Reply (List ℕ))) (objects : List ObjectState) → number < length done → most_by done objects ≡ 0
+  most_past done objects e =
+      ap (λ (b : Bool). most_of b (length done == number) (left_by done objects)) (not_less (length done) number (omega (arith, e)))
+      ∙ ap (λ (b : Bool). most_of false b (left_by done objects)) (not_same (length done) number (λ same. omega (arith, e, same)))
+
+  -- no more where no more is left of the call, or where the worker stands before another one
+  most_less : (done : List (Reply (List ℕ))) (old new : List ObjectState) → left_by done new ≤ left_by done old → most_by done new ≤ most_by done old
+  most_less done old new less = by_place (nat_lt (length done) number) (length done == number)
+    where
+      by_place : (a b : Bool) → most_of a b (left_by done new) ≤ most_of a b (left_by done old)
+      by_place true b = search
+      by_place false true = less
+      by_place false false = search
+
+  most_apart : (done : List (Reply (List ℕ))) (old new : List ObjectState) → (length done == number) ≡ false → most_by done new ≡ most_by done old
+  most_apart done old new apart =
+      ap (λ (b : Bool). most_of (nat_lt (length done) number) b (left_by done new)) apart
+      ∙ by_place (nat_lt (length done) number)
+      ∙ ap (λ (b : Bool). most_of (nat_lt (length done) number) b (left_by done old)) (sym apart)
+    where
+      by_place : (a : Bool) → most_of a false (left_by done new) ≡ most_of a false (left_by done old)
+      by_place true = refl
+      by_place false = refl
+
+  module _ (laws : CallLaws) where
+    most_four : (done : List (Reply (List ℕ))) (objects : List ObjectState) → map kind_of objects ≡ kinds_in plan → most_by done objects ≤ 4
+    most_four done objects kinds = by_place (nat_lt (length done) number) (length done == number)
+      where
+        left_few : (o : Option Call) → option_map_or (λ call. turns_left (kinds_in plan) call worker objects) o 0 ≤ 4
+        left_few None = search
+        left_few (Some call) = subst (λ (ks : List ObjectKind). turns_left ks call worker objects ≤ 4) kinds (laws.most worker call objects)
+
+        by_place : (a b : Bool) → most_of a b (left_by done objects) ≤ 4
+        by_place true b = search
+        by_place false true = left_few (slice_get (get_or plan.scripts worker []) (length done))
+        by_place false false = search
+
+    -- ---- another's turn
+
+    module _ (by : ℕ) (s : State) (of : IsStateOf plan s) (apart : worker ≢ by) where
+      done : List (Reply (List ℕ))
+      done = get_or s.replies worker []
+
+      eased : (call : Call) (objects : List ObjectState) (answer : Answer) → Takes plan by s call objects answer → most_by done objects ≤ most_by done s.objects
+      eased call objects answer takes = most_less done s.objects objects (by_own (slice_get (get_or plan.scripts worker []) (length done)))
+        where
+          by_own : (o : Option Call) → option_map_or (λ call. turns_left (kinds_in plan) call worker objects) o 0 ≤ option_map_or (λ call. turns_left (kinds_in plan) call worker s.objects) o 0
+          by_own None = search
+          by_own (Some own) = subst (λ (ks : List ObjectKind). turns_left ks own worker objects ≤ turns_left ks own worker s.objects) of.objects
+              (takes_by (λ y. turns_left (map kind_of s.objects) own worker y.0 ≤ turns_left (map kind_of s.objects) own worker s.objects) plan by s call objects answer of takes
+              (λ r. laws.others plan.workers worker by s.moment own call s.objects r apart))
+
+      other_few : behind (turn_of plan by s) most ≤ most s
+      other_few = turn_cases (λ x. behind x most ≤ most s) plan by s of (record {
+        ended = λ is. search;
+        still = λ call objects takes. eased call objects answers.Still takes;
+        unfinished = λ call objects takes. eased call objects answers.Unfinished takes;
+        completed = λ call objects reply takes. subst (λ (replies : List (Reply (List ℕ))). most_by replies objects ≤ most s) (sym (replied_other by worker reply (moved objects s) apart)) (eased call objects (answers.Completed reply) takes);
+        misused = λ call objects misuse takes. search;
+      })
+
+      tells : (call : Call) (objects : List ObjectState) (answer : Answer) → Takes plan by s call objects answer → told_by done s.objects ≡ false → told_by done objects ≡ true → unlocks (made_by plan by s) ≡ true
+      tells call objects answer takes = by_own (slice_get (get_or plan.scripts worker []) (length done))
+        where
+          made : made_by plan by s ≡ items_at call by s.moment s.objects
+          made = ap (λ (o : Option Call). option_map_or (λ call. items_at call by s.moment s.objects) o []) takes.next
+
+          by_own : (o : Option Call) → option_map_or (λ call. is_told (kinds_in plan) call worker s.objects) o false ≡ false → option_map_or (λ call. is_told (kinds_in plan) call worker objects) o false ≡ true → unlocks (made_by plan by s) ≡ true
+          by_own None was now = no now
+          by_own (Some own) = subst (λ (ks : List ObjectKind). is_told ks own worker s.objects ≡ false → is_told ks own worker objects ≡ true → unlocks (made_by plan by s) ≡ true) of.objects
+              (takes_by (λ y. is_told (map kind_of s.objects) own worker s.objects ≡ false → is_told (map kind_of s.objects) own worker y.0 ≡ true → unlocks (made_by plan by s) ≡ true) plan by s call objects answer of takes
+              (λ r was now. ap unlocks made ∙ laws.told_by plan.workers worker by s.moment own call s.objects r apart was now))
+
+      abbrev Wakes : State → Type 0
+      Wakes t = told t ≤ one_if (not (by == worker) && (stands_before worker number s && (unlocks (made_by plan by s) && (not (was_told plan worker s) && was_told plan worker t)))) + told s
+
+      woken : (call : Call) (objects : List ObjectState) (answer : Answer) → Takes plan by s call objects answer → Wakes (moved objects s)
+      woken call objects answer takes =
+          other_told (by == worker) (length done == number) (unlocks (made_by plan by s)) (told_by done s.objects) (told_by done objects) (not_same by worker (λ same. apart (sym same))) (tells call objects answer takes)
+
+      other_woken : behind (turn_of plan by s) told ≤ one_if (wakes plan worker number by s) + told s
+      other_woken = turn_cases (λ x. behind x told ≤ one_if (not (by == worker) && (stands_before worker number s && (unlocks (made_by plan by s) && (not (was_told plan worker s) && was_told plan worker x.0)))) + told s) plan by s of (record {
+        ended = λ is. omega arith;
+        still = λ call objects takes. woken call objects answers.Still takes;
+        unfinished = λ call objects takes. woken call objects answers.Unfinished takes;
+        completed = λ call objects reply takes.
+            subst (λ (replies : List (Reply (List ℕ))). one_if ((length replies == number) && told_by replies objects)
+            ≤ one_if (not (by == worker) && (stands_before worker number s && (unlocks (made_by plan by s) && (not (was_told plan worker s) && told_by replies objects)))) + told s)
+            (sym (replied_other by worker reply (moved objects s) apart)) (woken call objects (answers.Completed reply) takes);
+        misused = λ call objects misuse takes. omega arith;
+      })
+
+    -- ---- the worker's own turn
+
+    module _ (same : StillSame) (s : State) (of : IsStateOf plan s) where
+      own_done : List (Reply (List ℕ))
+      own_done = get_or s.replies worker []
+
+      own_made : (call : Call) → next_call plan worker s ≡ Some call → made_by plan worker s ≡ items_at call worker s.moment s.objects
+      own_made call next = ap (λ (o : Option Call). option_map_or (λ call. items_at call worker s.moment s.objects) o []) next
+
+      own_left : (call : Call) (objects : List ObjectState) → next_call plan worker s ≡ Some call → left_by own_done objects ≡ turns_left (kinds_in plan) call worker objects
+      own_left call objects next = ap (λ (o : Option Call). option_map_or (λ call. turns_left (kinds_in plan) call worker objects) o 0) next
+
+      own_takes : (call : Call) (objects : List ObjectState) (answer : Answer) → Takes plan worker s call objects answer → TakesBy (goes_back (made_by plan worker s)) (left_by own_done s.objects) (left_by own_done objects) answer
+      own_takes call objects answer takes =
+          subst (λ (made : List Item). TakesBy (goes_back made) (left_by own_done s.objects) (left_by own_done objects) answer) (sym (own_made call takes.next))
+          (subst (λ (n : ℕ). TakesBy (goes_back (items_at call worker s.moment s.objects)) n (left_by own_done objects) answer) (sym (own_left call s.objects takes.next))
+          (subst (λ (n : ℕ). TakesBy (goes_back (items_at call worker s.moment s.objects)) (turns_left (kinds_in plan) call worker s.objects) n answer) (sym (own_left call objects takes.next))
+          (subst (λ (ks : List ObjectKind). TakesBy (goes_back (items_at call worker s.moment s.objects)) (turns_left ks call worker s.objects) (turns_left ks call worker objects) answer) of.objects
+          (takes_by (λ y. TakesBy (goes_back (items_at call worker s.moment s.objects)) (turns_left (map kind_of s.objects) call worker s.objects) (turns_left (map kind_of s.objects) call worker y.0) y.1) plan worker s call objects answer of takes
+          (λ r. laws.own plan.workers worker s.moment call s.objects r)))))
+
+      some_left : (call : Call) → next_call plan worker s ≡ Some call → 1 ≤ left_by own_done s.objects
+      some_left call next = omega (arith, own_left call s.objects next)
+
+      advance : Step → ℕ
+      advance step = one_if ((worker == worker) && (stands_before worker number s && (makes_event step && not (goes_back (made_by plan worker s)))))
+
+      -- before another call of the worker
+      elsewhere : GoesOn plan → (length own_done == number) ≡ false → behind (turn_of plan worker s) most ≤ most s
+      elsewhere goes apart = turn_cases (λ x. IsStateOf plan x.0 → behind x most ≤ most s) plan worker s of (record {
+        ended = λ is valid. search;
+        still = λ call objects takes valid. omega (arith, most_apart own_done s.objects objects apart);
+        unfinished = λ call objects takes valid. omega (arith, most_apart own_done s.objects objects apart);
+        completed = λ call objects reply takes valid. replied reply objects takes.below valid;
+        misused = λ call objects misuse takes valid. search;
+      }) (goes worker s of)
+        where
+          replied : (reply : Reply (List ℕ)) (objects : List ObjectState) → worker < plan.workers → IsStateOf plan (with_reply worker reply (moved objects s)) → most (with_reply worker reply (moved objects s)) ≤ most s
+          replied reply objects below valid =
+              let after = get_or (with_reply worker reply (moved objects s)).replies worker [] in
+              let more = replied_more worker reply (moved objects s) (omega (arith, of.workers, below)) in
+              elim (nat_lt (length own_done) number) as (λ b. nat_lt (length own_done) number ≡ b → most_by after objects ≤ most s) [
+                | true ↦ λ e. omega (arith, most_before own_done s.objects (ltb-true (length own_done) number e), most_four after objects valid.objects)
+                | false ↦ λ e. omega (arith, most_past after objects (omega (arith, more, past e)))
+              ] refl
+            where
+              past : nat_lt (length own_done) number ≡ false → number < length own_done
+              past e = elim (nat_lt number (length own_done)) as (λ b. nat_lt number (length own_done) ≡ b → number < length own_done) [
+                | true ↦ λ f. ltb-true number (length own_done) f
+                | false ↦ λ f. absurd (eqb-false (length own_done) number apart (omega (arith, ltb-false (length own_done) number e, ltb-false number (length own_done) f)))
+              ] refl
+
+      -- before this call
+      here : (length own_done == number) ≡ true → advance (turn_of plan worker s).1 + behind (turn_of plan worker s) most ≤ most s
+      here is = turn_cases (λ x. advance x.1 + behind x most ≤ most s) plan worker s of (record {
+        ended = λ none. omega (arith, none_still (worker == worker) (stands_before worker number s) (not (goes_back (made_by plan worker s))));
+        still = λ call objects takes. omega (
+          arith,
+          none_still (worker == worker) (stands_before worker number s) (not (goes_back (made_by plan worker s))),
+          ap most (same plan worker s (moved objects s) of (turn_before plan worker s call objects answers.Still takes.next takes.turn)),
+        );
+        unfinished = λ call objects takes. unfinished (goes_back (made_by plan worker s)) objects refl (own_takes call objects answers.Unfinished takes);
+        completed = λ call objects reply takes. omega (
+          arith,
+          at,
+          most_at own_done s.objects at,
+          some_left call takes.next,
+          one_most ((worker == worker) && (stands_before worker number s && (true && not (goes_back (made_by plan worker s))))),
+          most_past (get_or (with_reply worker reply (moved objects s)).replies worker []) objects (omega (arith, at, replied_more worker reply (moved objects s) (omega (arith, of.workers, takes.below)))),
+        );
+        misused = λ call objects misuse takes. omega (
+          arith,
+          most_at own_done s.objects at,
+          some_left call takes.next,
+          one_most ((worker == worker) && (stands_before worker number s && (true && not (goes_back (made_by plan worker s))))),
+        );
+      })
+        where
+          at : length own_done ≡ number
+          at = eqb-true (length own_done) number is
+
+          unfinished : (back : Bool) (objects : List ObjectState) → goes_back (made_by plan worker s) ≡ back → TakesBy (goes_back (made_by plan worker s)) (left_by own_done s.objects) (left_by own_done objects) answers.Unfinished
+              → advance steps.Made + most_by own_done objects ≤ most s
+          unfinished true objects e takes =
+              let less : left_by own_done objects ≤ left_by own_done s.objects = subst (λ (b : Bool). TakesBy b (left_by own_done s.objects) (left_by own_done objects) answers.Unfinished) e takes in
+              omega (arith, less, most_at own_done s.objects at, most_at own_done objects at, none_back (worker == worker) (stands_before worker number s) true (goes_back (made_by plan worker s)) e)
+          unfinished false objects e takes =
+              let less : left_by own_done objects < left_by own_done s.objects = subst (λ (b : Bool). TakesBy b (left_by own_done s.objects) (left_by own_done objects) answers.Unfinished) e takes in
+              omega (arith, less, most_at own_done s.objects at, most_at own_done objects at, one_most ((worker == worker) && (stands_before worker number s && (true && not (goes_back (made_by plan worker s))))))
+
+      own_few : GoesOn plan → advance (turn_of plan worker s).1 + behind (turn_of plan worker s) most ≤ most s
+      own_few goes = elim (length own_done == number) as (λ b. (length own_done == number) ≡ b → advance (turn_of plan worker s).1 + behind (turn_of plan worker s) most ≤ most s) [
+        | true ↦ λ e. here e
+        | false ↦ λ e. omega (
+            arith,
+            none_second (worker == worker) (stands_before worker number s) (makes_event (turn_of plan worker s).1 && not (goes_back (made_by plan worker s))) e,
+            elsewhere goes e,
+          )
+      ] refl
+
+      -- whether it was told, by its own turn
+      own_tells : (call : Call) (objects : List ObjectState) (answer : Answer) → Takes plan worker s call objects answer → TellsOwn (goes_back (made_by plan worker s)) (told_by own_done s.objects) (told_by own_done objects)
+      own_tells call objects answer takes =
+          subst (λ (o : Option Call). TellsOwn (goes_back (option_map_or (λ call. items_at call worker s.moment s.objects) o [])) (option_map_or (λ call. is_told (kinds_in plan) call worker s.objects) o false) (option_map_or (λ call. is_told (kinds_in plan) call worker objects) o false)) (sym takes.next)
+          (subst (λ (ks : List ObjectKind). TellsOwn (goes_back (items_at call worker s.moment s.objects)) (is_told ks call worker s.objects) (is_told ks call worker objects)) of.objects
+          (takes_by (λ y. TellsOwn (goes_back (items_at call worker s.moment s.objects)) (is_told (map kind_of s.objects) call worker s.objects) (is_told (map kind_of s.objects) call worker y.0)) plan worker s call objects answer of takes
+          (λ r. laws.told_before plan.workers worker s.moment call s.objects r)))
+
+      returned : ℕ
+      returned = one_if ((worker == worker) && (stands_before worker number s && goes_back (made_by plan worker s)))
+
+      kept : (call : Call) (objects : List ObjectState) (answer : Answer) → Takes plan worker s call objects answer → returned + told (moved objects s) ≤ told s
+      kept call objects answer takes = own_told (worker == worker) (length own_done == number) (goes_back (made_by plan worker s)) (told_by own_done s.objects) (told_by own_done objects) (own_tells call objects answer takes)
+
+      -- at objects at which it is out
+      out_everywhere : (objects : List ObjectState) → IsOutBut None worker objects → (done : List (Reply (List ℕ))) → told_by done objects ≡ false
+      out_everywhere objects out done = by_call (slice_get (get_or plan.scripts worker []) (length done))
+        where
+          by_object : (k : ℕ) (o : Option ObjectState) → slice_get objects k ≡ o → option_map_or (told_at worker) o false ≡ false
+          by_object k None at = refl
+          by_object k (Some object) at = laws.untold worker object (out k object at (λ e. cc))
+
+          by_call : (o : Option Call) → option_map_or (λ call. is_told (kinds_in plan) call worker objects) o false ≡ false
+          by_call None = refl
+          by_call (Some call) = let k = unwrap_or (refers_to (kinds_in plan) call) call.object in by_object k (slice_get objects k) refl
+
+      own_woken : ((call : Call) (objects : List ObjectState) (reply : Reply (List ℕ)) → Takes plan worker s call objects (answers.Completed reply) → IsOutBut None worker objects) → returned + behind (turn_of plan worker s) told ≤ told s
+      own_woken outs = turn_cases (λ x. returned + behind x told ≤ told s) plan worker s of (record {
+        ended = λ none. own_told (worker == worker) (length own_done == number) (goes_back (made_by plan worker s)) (told_by own_done s.objects) (told_by own_done s.objects) (nothing none);
+        still = λ call objects takes. kept call objects answers.Still takes;
+        unfinished = λ call objects takes. kept call objects answers.Unfinished takes;
+        completed = λ call objects reply takes.
+            let after = get_or (with_reply worker reply (moved objects s)).replies worker [] in
+            omega (
+              arith,
+              kept call objects (answers.Completed reply) takes,
+              told_none (length after == number) (told_by after objects) (out_everywhere objects (outs call objects reply takes) after),
+            );
+        misused = λ call objects misuse takes. omega (arith, kept call objects (answers.Misused misuse) takes);
+      })
+        where
+          nothing : next_call plan worker s ≡ None → TellsOwn (goes_back (made_by plan worker s)) (told_by own_done s.objects) (told_by own_done s.objects)
+          nothing none = subst (λ (o : Option Call). TellsOwn (goes_back (option_map_or (λ call. items_at call worker s.moment s.objects) o [])) (told_by own_done s.objects) (told_by own_done s.objects)) (sym none) (λ was. was)
+
+          told_none : (a b : Bool) → b ≡ false → one_if (a && b) ≡ 0
+          told_none true b e = ap one_if e
+          told_none false b e = refl
+
+    -- ---- any turn
+
+    turn_few : StillSame → GoesOn plan → (by : ℕ) (s : State) → IsStateOf plan s → one_if (goes_on plan worker number by s) + behind (turn_of plan by s) most ≤ most s
+    turn_few same goes by s of = elim (by == worker) as (λ b. (by == worker) ≡ b → one_if (goes_on plan worker number by s) + behind (turn_of plan by s) most ≤ most s) [
+      | true ↦ λ e. let same_worker : worker ≡ by = sym (eqb-true by worker e) in
+          subst (λ (w : ℕ). one_if (goes_on plan worker number w s) + behind (turn_of plan w s) most ≤ most s) same_worker (own_few same s of goes)
+      | false ↦ λ e. omega (
+          arith,
+          none_by (by == worker) (stands_before worker number s && (makes_event (turn_of plan by s).1 && not (goes_back (made_by plan by s)))) e,
+          other_few by s of (λ one. eqb-false by worker e (sym one)),
+        )
+    ] refl
+
+    turn_woken : TurnStands → StillSame → (by : ℕ) (s : State) → Standing plan s → one_if (requeues plan worker number by s) + behind (turn_of plan by s) told ≤ one_if (wakes plan worker number by s) + told s
+    turn_woken stands same by s h = elim (by == worker) as (λ b. (by == worker) ≡ b → one_if (requeues plan worker number by s) + behind (turn_of plan by s) told ≤ one_if (wakes plan worker number by s) + told s) [
+      | true ↦ λ e. let same_worker : worker ≡ by = sym (eqb-true by worker e) in
+          subst (λ (w : ℕ). one_if (requeues plan worker number w s) + behind (turn_of plan w s) told ≤ one_if (wakes plan worker number w s) + told s) same_worker
+          (omega (arith, own_woken same s h.of (λ call objects reply takes. own_at stands plan worker s h call objects (answers.Completed reply) takes)))
+      | false ↦ λ e. omega (
+          arith,
+          none_by (by == worker) (stands_before worker number s && goes_back (made_by plan by s)) e,
+          other_woken by s h.of (λ one. eqb-false by worker e (sym one)),
+        )
+    ] refl
+
+    -- ---- turns in order
+
+    behind_less : (x : State × Step) (f g : State → ℕ) → f x.0 ≤ g x.0 → behind x f ≤ behind x g
+    behind_less (s, steps.Still) f g less = less
+    behind_less (s, steps.Made) f g less = less
+    behind_less (s, steps.Misused misuse) f g less = search
+
+    behind_sum : (x : State × Step) (f g h : State → ℕ) → f x.0 ≤ g x.0 + h x.0 → behind x f ≤ behind x g + behind x h
+    behind_sum (s, steps.Still) f g h less = less
+    behind_sum (s, steps.Made) f g h less = less
+    behind_sum (s, steps.Misused misuse) f g h less = search
+
+    few_turns : StillSame → GoesOn plan → (list : List Turn) (s : State) → IsStateOf plan s → count_turns plan (goes_on plan worker number) list s ≤ most s
+    few_turns same goes [] s of = omega arith
+    few_turns same goes (items.Worker by ∷ rest) s of = omega (
+      arith,
+      turn_few same goes by s of,
+      behind_less (turn_of plan by s) (count_turns plan (goes_on plan worker number) rest) most (few_turns same goes rest (turn_of plan by s).0 (goes by s of)),
+    )
+    few_turns same goes (items.Moment moment ∷ rest) s of = few_turns same goes rest (with_moment moment s) (moment_valid plan moment s of)
+
+    woken_turns : TurnStands → StillSame → Kept plan (Standing plan) → (list : List Turn) (s : State) → Standing plan s → count_turns plan (requeues plan worker number) list s ≤ count_turns plan (wakes plan worker number) list s + told s
+    woken_turns stands same keeps [] s h = omega arith
+    woken_turns stands same keeps (items.Worker by ∷ rest) s h = omega (
+      arith,
+      turn_woken stands same by s h,
+      behind_sum (turn_of plan by s) (count_turns plan (requeues plan worker number) rest) (count_turns plan (wakes plan worker number) rest) told (woken_turns stands same keeps rest (turn_of plan by s).0 (keeps.turn by s h)),
+    )
+    woken_turns stands same keeps (items.Moment moment ∷ rest) s h = woken_turns stands same keeps rest (with_moment moment s) (keeps.moment moment s h)
+
+    -- ---- from the start on
+
+    pub few_from_start : StillSame → GoesOn plan → IsStateOf plan (start plan) → (list : List Turn) → count_turns plan (goes_on plan worker number) list (start plan) ≤ 4
+    few_from_start same goes of list = omega (arith, few_turns same goes list (start plan) of, most_four (get_or (start plan).replies worker []) (start plan).objects of.objects)
+
+    pub woken_from_start : TurnStands → StillSame → GoesOn plan → IsStateOf plan (start plan) → (list : List Turn) → count_turns plan (requeues plan worker number) list (start plan) ≤ count_turns plan (wakes plan worker number) list (start plan)
+    woken_from_start stands same goes of list =
+        let h = start_stands stands plan of in
+        omega (arith, woken_turns stands same (standing_kept stands plan goes) list (start plan) h, begun (length (get_or (start plan).replies worker []) == number) (told_by (get_or (start plan).replies worker []) (start plan).objects)
+        (out_everywhere same (start plan) of (start plan).objects (each_start (λ place object. (None ≡ Some place → ⊥) → IsOutAt worker object) plan (λ place kind ne. stands.begins worker plan.workers (puts_at place plan.scripts) kind)) (get_or (start plan).replies worker [])))
+      where
+        begun : (a b : Bool) → b ≡ false → one_if (a && b) ≡ 0
+        begun true b e = ap one_if e
+        begun false b e = refl
