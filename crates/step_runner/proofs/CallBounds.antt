@@ -22,7 +22,8 @@ use Rattle.step_turns.specs.Stands.{IsOutAt, IsOutBut}
 use Rattle.step_turns.specs.Turns.{turn_at}
 use Rattle.step_runner.specs.declared.step.Step.{Step}
 use Rattle.step_runner.specs.declared.step.Step.TheVariants as steps
-use Rattle.step_runner.specs.CallTurns.{made_by, makes_event, stands_before, kinds_in, was_told, goes_on, requeues, wakes, one_if, behind, count_turns}
+use Rattle.step_runner.specs.CallTurns.{makes_event, stands_before, kinds_in, was_told, goes_on, requeues, wakes, one_if, behind, count_turns}
+use Rattle.step_runner.specs.RunItems.{made_by}
 use Rattle.step_runner.specs.State.{State, start, with_reply, with_moment, IsStateOf}
 use Rattle.step_runner.specs.Turns.{next_call, turn_of}
 use Rattle.step_runner.proofs.FormLemmas.{TurnStands, Standing, own_at, standing_kept, start_stands}

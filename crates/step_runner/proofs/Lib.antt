@@ -3,6 +3,7 @@ mod EndLemmas
 mod MadeLemmas
 mod OneTurnCalls
 mod Numbered
+mod PlacedRun
 mod PutsLeft
 mod RoundLemmas
 mod RunKeys

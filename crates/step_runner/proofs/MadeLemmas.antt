@@ -99,7 +99,7 @@ made_next plan worker turn s more of = elim (turn_replies plan turn s of) [
       ∙ made_turn plan worker turn s more (eqb turn worker) refl c
 ]
 
-event_state : (x : State × Step) → (with_event x).0 ≡ x.0
+pub event_state : (x : State × Step) → (with_event x).0 ≡ x.0
 event_state (s, steps.Still) = refl
 event_state (s, steps.Made) = refl
 event_state (s, steps.Misused misuse) = refl

@@ -1,51 +1,125 @@
--- Each machine of a run goes on with a log that follows it.
-use Rattle.std.proofs.Common.{ℕ, List, Option, Some, None}
-use Rattle.std.specs.Option.{option_map_or}
+-- Each object of a run comes by the run's own items on it to what it is.
+use Rattle.std.proofs.Common.{◌≡◌, ℕ, zero, suc, ◌+◌, true, List, [], ◌∷◌, ◌++◌, map, Option, Some, None, refl, sym, ap, ◌∙◌, subst, append-nil, arith}
+use Rattle.std.specs.Prelude.{slice_get, ◌==◌}
+use Rattle.std.specs.Option.{option_map, option_map_or}
+use Rattle.std.proofs.lemmas.List.Elements.{filter-append}
 use Rattle.sync_model.specs.declared.call.Call.{Call}
+use Rattle.sync_model.specs.declared.call.Reply.{Reply}
+use Rattle.sync_model.specs.declared.misuse.Misuse.{Misuse}
+use Rattle.sync_model.specs.declared.outcome.Report.{Report}
 use Rattle.workload.specs.declared.object.ObjectKind.{ObjectKind}
+use Rattle.workload.specs.declared.object.ObjectLine.{ObjectLine}
 use Rattle.workload.specs.declared.turn.Turn.{Turn}
-use Rattle.workload.specs.Plan.{Plan}
+use Rattle.workload.specs.declared.turn.Turn.TheVariants as items
+use Rattle.workload.specs.Plan.{Plan, is_valid}
+use Rattle.workload.specs.Puts.{puts_at}
 use Rattle.step_turns.specs.declared.answer.Answer.{Answer}
 use Rattle.step_turns.specs.declared.answer.Answer.TheVariants as answers
 use Rattle.step_turns.specs.declared.object_state.ObjectState.{ObjectState}
-use Rattle.step_turns.specs.MachineLogs.{FollowsItsMachine}
-use Rattle.step_turns.specs.Objects.{new_object, EachAt}
+use Rattle.step_turns.specs.ComesTo.{on_object, ComesTo}
+use Rattle.step_turns.specs.Items.{Item, items_at}
+use Rattle.step_turns.specs.Objects.{new_object, kind_of}
+use Rattle.step_turns.specs.Ready.{IsReady}
 use Rattle.step_turns.specs.Turns.{turn_at}
+use Rattle.step_runner.specs.declared.step.Step.{Step}
 use Rattle.step_runner.specs.declared.step.Step.TheVariants as steps
-use Rattle.workload.specs.Puts.{puts_at}
-use Rattle.step_runner.specs.State.{State, start}
-use Rattle.step_runner.specs.Turns.{next_call, settled, settled_with, after_items}
-use Rattle.step_runner.proofs.StartLemmas.{each_start}
-use Rattle.step_runner.proofs.RunLemmas.{Kept, items_keep}
+use Rattle.step_runner.specs.Ends.{ends_of}
+use Rattle.step_runner.specs.Outcomes.{rounds, IsDone}
+use Rattle.step_runner.specs.RunItems.{made_by, unless_ended, all_made, LeadTo}
+use Rattle.step_runner.specs.State.{State, start, new_objects, with_moment, IsStateOf}
+use Rattle.step_runner.specs.Turns.{next_call, turn_of, and_then, items_of, after_items}
+use Rattle.step_runner.proofs.MadeLemmas.{event_state}
+use Rattle.step_runner.proofs.RunLemmas.{GoesOn, moment_valid}
+use Rattle.step_runner.proofs.TurnLemmas.{Takes, takes_by, turn_cases, kind_there}
 
 -- what the law of turns says
-pub record Logs : Type 0 where
-  pub begins : (workers room : ℕ) (kind : ObjectKind) → FollowsItsMachine workers room (new_object workers room kind)
-  pub goes_on : (workers worker moment : ℕ) (room : ℕ → ℕ) (call : Call) (objects : List ObjectState) → EachAt (λ place. FollowsItsMachine workers (room place)) objects
-      → EachAt (λ place. FollowsItsMachine workers (room place)) (turn_at call worker moment objects).0
+pub record Leads : Type 0 where
+  pub turn : (workers worker moment place : ℕ) (call : Call) (objects : List ObjectState) (old new : ObjectState) → IsReady workers worker call objects → slice_get objects place ≡ Some old
+      → slice_get (turn_at call worker moment objects).0 place ≡ Some new → ComesTo old (on_object place (items_at call worker moment objects)) new
+  pub nowhere : (object : ObjectState) → ComesTo object [] object
+  pub on : (first middle last : ObjectState) (earlier later : List Item) → ComesTo first earlier middle → ComesTo middle later last → ComesTo first (earlier ++ later) last
 
--- each object, with room for the puts that the scripts make there
-abbrev AllFollow : Plan → State → Type 0
-AllFollow plan s = EachAt (λ place. FollowsItsMachine plan.workers (puts_at place plan.scripts)) s.objects
+module _ (laws : Leads) (plan : Plan) (k : ℕ) where
+  -- from what the object is to what it is behind, if it is there
+  abbrev Comes : State → List Item → State → Type 0
+  Comes s made t = (old new : ObjectState) → slice_get s.objects k ≡ Some old → slice_get t.objects k ≡ Some new → ComesTo old (on_object k made) new
 
-settled_follows : (plan : Plan) (worker : ℕ) (answer : Answer) (s : State) → AllFollow plan s → AllFollow plan (settled worker answer s).0
-settled_follows plan worker answers.Still s all = all
-settled_follows plan worker answers.Unfinished s all = all
-settled_follows plan worker (answers.Completed reply) s all = all
-settled_follows plan worker (answers.Misused misuse) s all = all
+  stays : (s : State) → Comes s [] s
+  stays s old new at there = let same : old ≡ new = one (sym at ∙ there) in subst (λ (o : ObjectState). ComesTo old [] o) same (laws.nowhere old)
+    where
+      one : {a b : ObjectState} → Some a ≡ Some b → a ≡ b
+      one e = cc
 
-by_call : Logs → (plan : Plan) (worker : ℕ) (s : State) (o : Option Call) → AllFollow plan s → AllFollow plan (option_map_or (λ call. settled_with worker (turn_at call worker s.moment s.objects) s) o (s, steps.Still)).0
-by_call logs plan worker s None all = all
-by_call logs plan worker s (Some call) all =
-    let step = turn_at call worker s.moment s.objects in
-    settled_follows plan worker step.1 (record s { objects = step.0 }) (logs.goes_on plan.workers worker s.moment (λ place. puts_at place plan.scripts) call s.objects all)
+  -- an object that was there is there behind the turn
+  still_there : (s t : State) (old : ObjectState) → IsStateOf plan s → IsStateOf plan t → slice_get s.objects k ≡ Some old → (middle : ObjectState) × (slice_get t.objects k ≡ Some middle)
+  still_there s t old of later at = by_option (slice_get t.objects k) refl
+    where
+      kinds : option_map kind_of (slice_get t.objects k) ≡ Some (kind_of old)
+      kinds = kind_there plan t k later ∙ (sym (kind_there plan s k of) ∙ ap (option_map kind_of) at)
 
-all_kept : Logs → (plan : Plan) → Kept plan (AllFollow plan)
-all_kept logs plan = record {
-  turn = λ worker s all. by_call logs plan worker s (next_call plan worker s) all;
-  moment = λ moment s all. all;
-}
+      by_option : (o : Option ObjectState) → slice_get t.objects k ≡ o → (middle : ObjectState) × (slice_get t.objects k ≡ Some middle)
+      by_option None none = let no : None ≡ Some (kind_of old) = sym (ap (option_map kind_of) none) ∙ kinds in cc
+      by_option (Some middle) is = (middle, is)
 
-pub items_follow : Logs → (plan : Plan) (list : List Turn) → AllFollow plan (after_items plan list (start plan))
-items_follow logs plan list = items_keep plan (AllFollow plan) (all_kept logs plan) list (start plan)
-    (each_start (λ place. FollowsItsMachine plan.workers (puts_at place plan.scripts)) plan (λ place kind. logs.begins plan.workers (puts_at place plan.scripts) kind))
+  joined : (s t u : State) (earlier later : List Item) → IsStateOf plan s → IsStateOf plan t → Comes s earlier t → Comes t later u → Comes s (earlier ++ later) u
+  joined s t u earlier later of goes first second old new at there =
+      let middle = still_there s t old of goes at in
+      subst (λ (made : List Item). ComesTo old made new) (sym (filter-append (λ item. item.object == k) earlier later))
+      (laws.on old middle.0 new (on_object k earlier) (on_object k later) (first old middle.0 at middle.1) (second middle.0 new middle.1 there))
+
+  -- one turn
+  turn_comes : (worker : ℕ) (s : State) → IsStateOf plan s → Comes s (made_by plan worker s) (turn_of plan worker s).0
+  turn_comes worker s of = turn_cases (λ x. Comes s (made_by plan worker s) x.0) plan worker s of (record {
+    ended = λ none. subst (λ (o : Option Call). Comes s (option_map_or (λ call. items_at call worker s.moment s.objects) o []) s) (sym none) (stays s);
+    still = λ call objects takes. at_objects call objects answers.Still takes;
+    unfinished = λ call objects takes. at_objects call objects answers.Unfinished takes;
+    completed = λ call objects reply takes. at_objects call objects (answers.Completed reply) takes;
+    misused = λ call objects misuse takes. at_objects call objects (answers.Misused misuse) takes;
+  })
+    where
+      at_objects : (call : Call) (objects : List ObjectState) (answer : Answer) → Takes plan worker s call objects answer → (old new : ObjectState) → slice_get s.objects k ≡ Some old → slice_get objects k ≡ Some new
+          → ComesTo old (on_object k (made_by plan worker s)) new
+      at_objects call objects answer takes old new at there =
+          subst (λ (o : Option Call). ComesTo old (on_object k (option_map_or (λ call. items_at call worker s.moment s.objects) o [])) new) (sym takes.next)
+          (takes_by (λ y. slice_get y.0 k ≡ Some new → ComesTo old (on_object k (items_at call worker s.moment s.objects)) new) plan worker s call objects answer of takes
+          (λ r there. laws.turn plan.workers worker s.moment k call s.objects old new r at there) there)
+
+  -- what follows, unless the turn was a misuse
+  later_comes : (rest : List Turn) (x : State × Step) → ((t : State) → IsStateOf plan t → Comes t (all_made plan rest t) (after_items plan rest t)) → IsStateOf plan x.0 → Comes x.0 (unless_ended x (all_made plan rest)) (and_then x (items_of plan rest)).0
+  later_comes rest (t, steps.Still) later of = later t of
+  later_comes rest (t, steps.Made) later of = subst (λ (u : State). Comes t (all_made plan rest t) u) (sym (event_state (items_of plan rest t))) (later t of)
+  later_comes rest (t, steps.Misused misuse) later of = stays t
+
+  pub items_come : GoesOn plan → (list : List Turn) (s : State) → IsStateOf plan s → Comes s (all_made plan list s) (after_items plan list s)
+  items_come goes [] s of = stays s
+  items_come goes (items.Worker worker ∷ rest) s of =
+      let x = turn_of plan worker s in
+      joined s x.0 (and_then x (items_of plan rest)).0 (made_by plan worker s) (unless_ended x (all_made plan rest)) of (goes worker s of) (turn_comes worker s of)
+      (later_comes rest x (items_come goes rest) (goes worker s of))
+  items_come goes (items.Moment moment ∷ rest) s of = items_come goes rest (with_moment moment s) (moment_valid plan moment s of)
+
+-- an object begins as its line says
+new_there : (plan : Plan) (first k : ℕ) (lines : List ObjectLine) (line : ObjectLine) → slice_get lines k ≡ Some line → slice_get (new_objects plan first lines) k ≡ Some (new_object plan.workers (puts_at (first + k) plan.scripts) line.kind)
+new_there plan first k [] line at = absurd cc
+new_there plan first zero (here ∷ lines) line at =
+    let same : here ≡ line = cc in
+    let place : first ≡ first + 0 = omega arith in
+    ap (λ (l : ObjectLine). Some (new_object plan.workers (puts_at first plan.scripts) l.kind)) same ∙ ap (λ (n : ℕ). Some (new_object plan.workers (puts_at n plan.scripts) line.kind)) place
+new_there plan first (suc k) (here ∷ lines) line at =
+    let place : first + 1 + k ≡ first + suc k = omega arith in
+    new_there plan (first + 1) k lines line at ∙ ap (λ (n : ℕ). Some (new_object plan.workers (puts_at n plan.scripts) line.kind)) place
+
+-- at every moment
+pub run_leads : Leads → (plan : Plan) → GoesOn plan → IsStateOf plan (start plan) → (list : List Turn) → LeadTo plan (all_made plan list (start plan)) (after_items plan list (start plan)).objects
+run_leads laws plan goes of list place line object at there = items_come laws plan place goes list (start plan) of (new_object plan.workers (puts_at place plan.scripts) line.kind) object (new_there plan 0 place plan.objects line at) there
+
+-- at the end of a run that is done
+pub ends_lead : Leads → (plan : Plan) → GoesOn plan → IsStateOf plan (start plan) → (report : Report) → IsDone plan report
+    → (count : ℕ) × (objects : List ObjectState) × LeadTo plan (all_made plan (plan.schedule ++ rounds count plan.workers) (start plan)) objects × (report.ends ≡ ends_of plan objects)
+ends_lead laws plan goes of report done =
+    let turns = plan.schedule ++ rounds done.reached.count plan.workers in (
+      done.reached.count,
+      done.state.objects,
+      subst (λ (x : State × Step). LeadTo plan (all_made plan turns (start plan)) x.0.objects) done.reached.is (run_leads laws plan goes of turns),
+      ap (λ (r : Report). r.ends) done.leaves,
+    )

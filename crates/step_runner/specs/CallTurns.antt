@@ -7,15 +7,12 @@ use Rattle.workload.specs.declared.turn.Turn.{Turn}
 use Rattle.workload.specs.declared.turn.Turn.TheVariants as items
 use Rattle.workload.specs.Plan.{Plan}
 use Rattle.step_turns.specs.CallTurns.{is_told}
-use Rattle.step_turns.specs.Items.{Item, items_at, goes_back, unlocks}
+use Rattle.step_turns.specs.Items.{goes_back, unlocks}
 use Rattle.step_runner.specs.declared.step.Step.{Step}
 use Rattle.step_runner.specs.declared.step.Step.TheVariants as steps
+use Rattle.step_runner.specs.RunItems.{made_by}
 use Rattle.step_runner.specs.State.{State, with_moment}
 use Rattle.step_runner.specs.Turns.{next_call, turn_of}
-
--- what a worker's turn makes: nothing, where its script has ended
-abbrev pub made_by : Plan → ℕ → State → List Item
-made_by plan worker s = option_map_or (λ call. items_at call worker s.moment s.objects) (next_call plan worker s) []
 
 -- an event, or a misuse
 abbrev pub makes_event : Step → Bool

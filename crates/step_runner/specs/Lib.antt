@@ -5,5 +5,6 @@ pub mod Forms
 pub mod LeftToDo
 pub mod MadeCalls
 pub mod Outcomes
+pub mod RunItems
 pub mod State
 pub mod Turns

@@ -1,11 +1,12 @@
 //! What every run by schedule keeps.
-ghost use Rattle.std.specs.Prelude.{◌≡◌, ◌↔◌, ◌<◌, ◌≤◌, ℕ, true, List, [], Some, map, length, take, get_or, slice_get};
+ghost use Rattle.std.specs.Prelude.{◌≡◌, ◌↔◌, ◌<◌, ◌≤◌, ℕ, true, List, [], ◌++◌, Some, map, length, take, get_or, slice_get};
 ghost use Rattle.std.specs.List.{list_all, list_any};
 ghost use Rattle.std.specs.Str.{bytes_eq};
 ghost use Rattle.std.specs.Ordering.{nat_cmp};
 ghost use Rattle.std.specs.Cmp.Lexicographic.{slice_cmp};
 ghost use Rattle.std.specs.FinMap.{FinMap, contains_key};
 ghost use Rattle.sync_model.specs.declared.atomic_object.Number.{Number};
+ghost use Rattle.sync_model.specs.declared.call.Call.{Call};
 ghost use Rattle.sync_model.specs.declared.call.Operation.TheVariants as operations;
 ghost use Rattle.sync_model.specs.declared.misuse.Misuse.{Misuse};
 ghost use Rattle.sync_model.specs.declared.pool_call.PoolCall.{PoolCall};
@@ -23,7 +24,7 @@ ghost use Rattle.workload.specs.Plan.{Plan, is_valid};
 ghost use Rattle.step_turns.specs.declared.object_state.ObjectState.{ObjectState};
 ghost use Rattle.step_turns.specs.declared.object_state.ObjectState.TheVariants as states;
 ghost use Rattle.step_turns.specs.Completes.{takes_one_turn};
-ghost use Rattle.step_turns.specs.MachineLogs.{FollowsItsMachine};
+ghost use Rattle.step_turns.specs.PlacedCalls.{is_placed};
 ghost use Rattle.step_turns.specs.Objects.{kind_of, IsMachineOf};
 ghost use Rattle.sync_model.specs.Outcome.{has_pairs_to};
 ghost use Rattle.step_runner.specs.declared.step.Step.TheVariants as steps;
@@ -31,19 +32,20 @@ ghost use Rattle.sync_model.specs.declared.outcome.Report.{Report};
 ghost use Rattle.sync_model.specs.declared.outcome.Outcome.{Outcome};
 ghost use Rattle.sync_model.specs.declared.outcome.Outcome.TheVariants as outcomes;
 ghost use Rattle.step_runner.specs.CallTurns.{goes_on, requeues, wakes, count_turns};
+ghost use Rattle.step_runner.specs.Ends.{ends_of};
 ghost use Rattle.step_runner.specs.LeftToDo.{left_to_do};
 ghost use Rattle.step_runner.specs.MadeCalls.{made_calls, calls_of};
-ghost use Rattle.step_runner.specs.Outcomes.{StepsTo};
-ghost use Rattle.workload.specs.Puts.{puts_at};
+ghost use Rattle.step_runner.specs.Outcomes.{rounds, StepsTo};
+ghost use Rattle.step_runner.specs.RunItems.{all_made, IsAnswered, LeadTo};
 ghost use Rattle.step_runner.specs.State.{State, IsStateOf, start, with_moment};
 ghost use Rattle.step_runner.specs.Turns.{next_call, turn_of, items_of, after_items, has_ended};
 ghost use Rattle.step_runner.specs.Forms.{all_have_forms, has_forms};
 ghost use Rattle.step_runner.specs.Computed.{rounds_of, all_rounds, turns};
 
 use step_turns::laws::{
-    few_turns_are_left_of_a_call, maps_keep_to_the_keys_of_calls, numbers_stay_in_range, pools_have_room,
-    some_calls_take_one_turn, turns_follow_the_machines, turns_keep_kinds_and_machines,
-    turns_use_something_up, workers_stand_in_their_calls,
+    a_placed_call_is_one_item, few_turns_are_left_of_a_call, items_lead_from_turn_to_turn,
+    maps_keep_to_the_keys_of_calls, numbers_stay_in_range, pools_have_room, some_calls_take_one_turn,
+    turns_keep_kinds_and_machines, turns_use_something_up, workers_stand_in_their_calls,
 };
 use sync_model::Name;
 use sync_model::laws::replies as form;
@@ -151,16 +153,29 @@ pub fn objects_keep_their_kinds()
     numbers_stay_in_range();
 }
 
-/// At every moment, behind any items up to the first misuse, each object that is a machine is in a state that
-/// the machine reaches from its start by the events of a log that follows it. So what the laws of
-/// `mutex_core`, `rw_core`, `wait_cores` and `pool_core` say of the state behind every such log is true of it. A wait
-/// group's log goes on behind the one `Add` of its line's number, and a pool's parts have room for every put
-/// that the scripts make there.
-pub fn objects_follow_their_machines()
-    ensures { (plan : Plan) (items : List Turn) (place : ℕ) (object : ObjectState) → slice_get (after_items plan items (start plan)).objects place ≡ Some object
-        → FollowsItsMachine plan.workers (puts_at place plan.scripts) object }
+/// At every moment, behind any turns up to the first misuse, the items that the run has made on an object lead from what it
+/// began as to what it is. Those on a map or an atomic are a legal history: each is a call that answers what the one-thread object
+/// answers behind the earlier ones. Those on any other object are its log: its machine gives these answers to these events of these workers, one after the other. So what the laws of `mutex_core`,
+/// `rw_core`, `wait_cores` and `pool_core` say of the state behind a log is true of it, by the run's own log. A wait group
+/// begins behind the one `Add` of its line's number, and a pool's parts have room for every put that the scripts make there.
+/// The ends of a run that is Done show what stands after all items of its turns.
+pub fn objects_come_by_the_items_of_the_run()
+    ensures always { (plan : Plan) (items : List Turn) → is_valid plan ≡ true → LeadTo plan (all_made plan items (start plan)) (after_items plan items (start plan)).objects }
+    ensures ends { (plan : Plan) (report : Report) → is_valid plan ≡ true → StepsTo plan (outcomes.Done report)
+        → (count : ℕ) × (objects : List ObjectState) × LeadTo plan (all_made plan (plan.schedule ++ rounds count plan.workers) (start plan)) objects × (report.ends ≡ ends_of plan objects) }
 {
-    turns_follow_the_machines();
+    validity();
+    items_lead_from_turn_to_turn();
+}
+
+/// At every moment the next turn of a worker that stands before a call of a map or an atomic makes the call whole, by one item on
+/// its object, and the reply in that item is the call's.
+pub fn placed_calls_are_answered_by_their_items()
+    ensures { (plan : Plan) (items : List Turn) (worker : ℕ) (call : Call) → is_valid plan ≡ true → next_call plan worker (after_items plan items (start plan)) ≡ Some call → is_placed call.operation ≡ true
+        → IsAnswered plan worker call (after_items plan items (start plan)) }
+{
+    validity();
+    a_placed_call_is_one_item();
 }
 
 /// At every moment each key that is there in a map is a key of the workload's calls, and its number leads back to it: so

@@ -1,6 +1,6 @@
 -- At all objects: what a turn takes of what is left of its worker's call and of others', and whom it tells to go on.
-use Rattle.std.proofs.Common.{◌≡◌, ◌≢◌, ℕ, zero, suc, ◌+◌, ◌<◌, ◌≤◌, Bool, true, false, List, [], ◌∷◌, map, set, Option, Some, None, refl, sym, ap, ◌∙◌, subst, arith}
-use Rattle.std.specs.Prelude.{slice_get, unwrap_or, ◌||◌, if◌then◌else◌}
+use Rattle.std.proofs.Common.{◌≡◌, ◌≢◌, ℕ, zero, suc, ◌+◌, ◌≤◌, Bool, true, false, List, [], ◌∷◌, map, set, Option, Some, None, refl, sym, ap, ◌∙◌, subst, arith}
+use Rattle.std.specs.Prelude.{slice_get, unwrap_or, ◌||◌}
 use Rattle.std.specs.Option.{option_map, option_map_or}
 use Rattle.std.proofs.lemmas.Option.{slice_get-map}
 use Rattle.sync_model.specs.declared.call.Call.{Call}
@@ -19,7 +19,7 @@ use Rattle.step_turns.specs.declared.answer.Answer.{Answer}
 use Rattle.step_turns.specs.declared.answer.Answer.TheVariants as answers
 use Rattle.step_turns.specs.declared.object_state.ObjectState.{ObjectState}
 use Rattle.step_turns.specs.declared.object_state.ObjectState.TheVariants as states
-use Rattle.step_turns.specs.CallTurns.{refers_to, mutex_left, rw_left, left_at, left_in, turns_left, TakesOf, TakesBy, mutex_told, rw_told, told_at, is_told, TellsOwn}
+use Rattle.step_turns.specs.CallTurns.{refers_to, mutex_left, rw_left, left_at, left_in, turns_left, TakesBy, mutex_told, rw_told, told_at, is_told, TellsOwn}
 use Rattle.step_turns.specs.Items.{Item, items_on, items_on_both, items_by, items_at, goes_back, unlocks}
 use Rattle.step_turns.specs.Objects.{kind_of}
 use Rattle.step_turns.specs.Ready.{IsReady}
@@ -27,7 +27,7 @@ use Rattle.step_turns.specs.Stands.{IsOutAt}
 use Rattle.step_turns.specs.Turns.{turn_on, turn_on_both, with_object, with_both, turn_at}
 use Rattle.step_turns.proofs.AtObjects.{Alone, Referring, at_ready}
 use Rattle.step_turns.proofs.CallOthers.{CallStands, Eases, same_eases, turn_eases, both_ease}
-use Rattle.step_turns.proofs.CallOwn.{Takes, BothTake, turn_takes, both_take, few}
+use Rattle.step_turns.proofs.CallOwn.{turn_takes, both_take, few}
 use Rattle.step_turns.proofs.OthersStand.{no}
 use Rattle.step_turns.proofs.Writes.{get_other}
 
@@ -36,12 +36,12 @@ use Rattle.step_turns.proofs.Writes.{get_other}
 refers_at : (objects : List ObjectState) (call : Call) (object : ObjectState) (o : Option ℕ) → slice_get objects call.object ≡ Some object → reference_of (kind_of object) ≡ o → refers_to (map kind_of objects) call ≡ o
 refers_at objects call object o at is = ap (λ (k : Option ObjectKind). option_map_or reference_of k None) (slice_get-map kind_of objects call.object ∙ ap (option_map kind_of) at) ∙ is
 
-items_alone : (call : Call) (worker moment : ℕ) (objects : List ObjectState) (object : ObjectState) → slice_get objects call.object ≡ Some object → reference_of (kind_of object) ≡ None
+pub items_alone : (call : Call) (worker moment : ℕ) (objects : List ObjectState) (object : ObjectState) → slice_get objects call.object ≡ Some object → reference_of (kind_of object) ≡ None
     → items_at call worker moment objects ≡ items_on call.operation worker moment call.object object
 items_alone call worker moment objects object at none =
     ap (λ (o : Option ObjectState). option_map_or (λ object. items_by (reference_of (kind_of object)) call worker moment objects object) o []) at ∙ ap (λ (o : Option ℕ). items_by o call worker moment objects object) none
 
-items_referring : (call : Call) (worker moment : ℕ) (objects : List ObjectState) (object : ObjectState) (other : ℕ) (target : ObjectState) → slice_get objects call.object ≡ Some object → reference_of (kind_of object) ≡ Some other
+pub items_referring : (call : Call) (worker moment : ℕ) (objects : List ObjectState) (object : ObjectState) (other : ℕ) (target : ObjectState) → slice_get objects call.object ≡ Some object → reference_of (kind_of object) ≡ Some other
     → slice_get objects other ≡ Some target → items_at call worker moment objects ≡ items_on_both call.operation worker moment call.object other object target
 items_referring call worker moment objects object other target at some there =
     ap (λ (o : Option ObjectState). option_map_or (λ object. items_by (reference_of (kind_of object)) call worker moment objects object) o []) at

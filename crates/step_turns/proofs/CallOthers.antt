@@ -1,6 +1,6 @@
 -- Another's turn takes nothing from what is left of a worker's call, and only an unlock tells it to go on.
-use Rattle.std.proofs.Common.{◌≡◌, ◌≢◌, ℕ, ◌+◌, ◌<◌, ◌≤◌, ◌⊎◌, inl, inr, Bool, true, false, List, [], ◌∷◌, ◌++◌, Option, Some, None, refl, sym, ap, ◌∙◌, subst, arith}
-use Rattle.std.specs.Prelude.{◌==◌, ℤ, ◌||◌, IsTrue, if◌then◌else◌}
+use Rattle.std.proofs.Common.{◌≡◌, ◌≢◌, ℕ, ◌<◌, ◌≤◌, inl, inr, Bool, true, false, List, [], ◌++◌, Option, Some, None, refl, sym, ap, ◌∙◌, arith}
+use Rattle.std.specs.Prelude.{ℤ, ◌||◌, IsTrue, if◌then◌else◌}
 use Rattle.std.specs.Int.{w64, int_wrapping_add}
 use Rattle.sync_model.specs.declared.atomic_object.Number.{Number}
 use Rattle.sync_model.specs.declared.atomic_object.Number.TheVariants.{Int64}
@@ -9,7 +9,6 @@ use Rattle.sync_model.specs.declared.call.Operation.TheVariants as operations
 use Rattle.mutex_core.specs.MutexMachine as mutex
 use Rattle.mutex_core.specs.Moves as mutex_moves
 use Rattle.mutex_core.specs.declared.event.MutexEvent.{MutexEvent}
-use Rattle.mutex_core.specs.declared.event.MutexEvent.TheVariants as mutex_event
 use Rattle.mutex_core.specs.declared.place.Place.{Place as MutexPlace}
 use Rattle.mutex_core.specs.declared.place.Place.TheVariants as mutex_place
 use Rattle.mutex_core.specs.declared.reply.MutexReply.{MutexReply}
@@ -46,7 +45,7 @@ use Rattle.step_turns.specs.declared.object_state.ObjectState.{ObjectState}
 use Rattle.step_turns.specs.declared.object_state.ObjectState.TheVariants as states
 use Rattle.step_turns.specs.CallTurns.{mutex_left, rw_left, once_left, left_at, mutex_told, rw_told, told_at}
 use Rattle.step_turns.specs.Due.{mutex_due, rw_due, group_due, cond_due, once_due}
-use Rattle.step_turns.specs.Items.{Item, Deed, entered, stage_items, items_on, items_on_both, sum_items, is_unlock, unlocks}
+use Rattle.step_turns.specs.Items.{Item, entered, stage_items, items_on, items_on_both, is_unlock, unlocks}
 use Rattle.step_turns.specs.Objects.{IsMachineOf}
 use Rattle.step_turns.specs.Stages.{make}
 use Rattle.step_turns.specs.Turns.{once_made, turn_on, turn_on_both}

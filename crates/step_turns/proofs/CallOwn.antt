@@ -3,10 +3,8 @@ use Rattle.std.proofs.Common.{◌≡◌, ◌≢◌, ℕ, ◌+◌, ◌<◌, ◌�
 use Rattle.std.specs.Prelude.{◌==◌, ℤ, ◌||◌, slice_get, is_some, unwrap_or, nat_lt, Result, Ok, Err, if◌then◌else◌}
 use Rattle.std.specs.Int.{w64, int_wrapping_add}
 use Rattle.std.proofs.lemmas.Bool.{eq-eqb}
-use Rattle.sync_model.specs.declared.atomic_object.AtomicCall.TheVariants.{Add}
 use Rattle.sync_model.specs.declared.atomic_object.Number.{Number}
 use Rattle.sync_model.specs.declared.atomic_object.Number.TheVariants.{Int64}
-use Rattle.sync_model.specs.SequentialAtomic.{atomic_after}
 use Rattle.sync_model.specs.declared.call.Operation.{Operation}
 use Rattle.sync_model.specs.declared.call.Operation.TheVariants as operations
 use Rattle.sync_model.specs.declared.call.Reply.{Reply}
@@ -17,7 +15,6 @@ use Rattle.sync_model.specs.declared.lock_call.MutexCall.{MutexCall}
 use Rattle.sync_model.specs.declared.lock_call.MutexCall.TheVariants as mutex_calls
 use Rattle.sync_model.specs.declared.lock_call.RwMutexCall.{RwMutexCall}
 use Rattle.sync_model.specs.declared.lock_call.RwMutexCall.TheVariants as rw_calls
-use Rattle.sync_model.specs.declared.misuse.Misuse.{Misuse}
 use Rattle.sync_model.specs.declared.pool_call.PoolCall.{PoolCall}
 use Rattle.sync_model.specs.declared.pool_call.PoolCall.TheVariants as pool_calls
 use Rattle.sync_model.specs.declared.wait_call.CondCall.{CondCall}
@@ -73,7 +70,6 @@ use Rattle.protocols.specs.GroupStages.{group_event, group_meaning}
 use Rattle.protocols.specs.MutexStages.{mutex_event, mutex_meaning}
 use Rattle.protocols.specs.OnceStages.{once_event, once_meaning}
 use Rattle.protocols.specs.RwMutexStages.{rw_event, rw_meaning}
-use Rattle.protocols.specs.declared.cond.CondStage.{CondStage}
 use Rattle.protocols.specs.declared.cond.CondStage.TheVariants as cond_stage
 use Rattle.protocols.specs.declared.mutex.MutexStage.{MutexStage}
 use Rattle.protocols.specs.declared.mutex.MutexStage.TheVariants as mutex_stage
@@ -98,8 +94,8 @@ use Rattle.step_turns.specs.declared.object_state.ObjectState.{ObjectState}
 use Rattle.step_turns.specs.declared.object_state.ObjectState.TheVariants as states
 use Rattle.step_turns.specs.CallTurns.{mutex_left, rw_left, once_left, left_at, TakesOf, TakesBy, mutex_told, rw_told, told_at, TellsOwn}
 use Rattle.step_turns.specs.Completes.{IsCompleted}
-use Rattle.step_turns.specs.Due.{mutex_due, rw_due, locked, group_due, returned, cond_due, cond_answer, waited, once_due, ran_or, failure, looks_of}
-use Rattle.step_turns.specs.Items.{Item, Deed, entered, stage_item, stage_items, items_on, items_on_both, sum_items, add_items, once_items, look_items, unless_found, pool_items, is_requeued, goes_back}
+use Rattle.step_turns.specs.Due.{mutex_due, rw_due, locked, group_due, returned, cond_due, waited, once_due, ran_or, failure}
+use Rattle.step_turns.specs.Items.{Item, entered, stage_items, items_on, items_on_both, add_items, once_items, look_items, unless_found, pool_items, is_requeued, goes_back}
 use Rattle.step_turns.specs.Objects.{IsMachineOf}
 use Rattle.step_turns.specs.PoolTurn.{looked, pool_step}
 use Rattle.step_turns.specs.Stages.{outcome_of, make, answer_by}

@@ -1,10 +1,6 @@
 -- Each object comes by the items of a turn on it to what stands behind the turn.
-use Rattle.std.proofs.Common.{◌≡◌, ◌≢◌, ℕ, zero, suc, ◌*◌, Bool, true, false, cond, List, [], ◌∷◌, ◌++◌, map, set, Option, Some, None, refl, sym, ap, ◌∙◌, subst, append-nil}
+use Rattle.std.proofs.Common.{◌≡◌, ◌≢◌, ℕ, zero, suc, ◌*◌, Bool, true, false, cond, List, [], ◌∷◌, ◌++◌, set, Option, Some, None, refl, sym, ap, ◌∙◌, subst, append-nil}
 use Rattle.std.specs.Prelude.{◌==◌, ℤ, slice_get, Result, Ok, Err}
-use Rattle.std.specs.FinMap.{FinMap}
-use Rattle.std.specs.List.{filter}
-use Rattle.std.specs.Ordering.{nat_cmp}
-use Rattle.std.specs.Cmp.Lexicographic.{slice_cmp}
 use Rattle.std.specs.Int.{w64, int_wrapping_add}
 use Rattle.std.proofs.lemmas.Bool.{eq-eqb, eqb-true, eqb-false}
 use Rattle.std.proofs.lemmas.List.{map-append}
@@ -13,7 +9,6 @@ use Rattle.sync_model.specs.Log.{Entry, entry, after, Follows}
 use Rattle.sync_model.specs.declared.atomic_object.AtomicCall.TheVariants.{Add}
 use Rattle.sync_model.specs.declared.atomic_object.Number.{Number}
 use Rattle.sync_model.specs.declared.atomic_object.Number.TheVariants.{Int64}
-use Rattle.sync_model.specs.SequentialAtomic.{atomic_reply, atomic_after}
 use Rattle.sync_model.specs.declared.call.Call.{Call}
 use Rattle.sync_model.specs.declared.call.Operation.{Operation}
 use Rattle.sync_model.specs.declared.call.Operation.TheVariants as operations
@@ -38,6 +33,7 @@ use Rattle.protocols.specs.RwMutexStages.{rw_event, rw_meaning}
 use Rattle.protocols.specs.declared.once.OnceOutcome.{OnceOutcome}
 use Rattle.protocols.specs.declared.once.OnceOutcome.TheVariants.{Run, Already, Ended}
 use Rattle.protocols.specs.declared.pool.PoolStage.{PoolStage}
+use Rattle.protocols.specs.declared.pool.PoolStage.TheVariants as pool_stage
 use Rattle.protocols.specs.declared.step.Step.{Step}
 use Rattle.run_record.specs.declared.entered.ObjectEvent.{ObjectEvent}
 use Rattle.run_record.specs.declared.entered.ObjectEvent.TheVariants as events
@@ -48,14 +44,13 @@ use Rattle.step_turns.specs.declared.object_state.ObjectState.{ObjectState}
 use Rattle.step_turns.specs.declared.object_state.ObjectState.TheVariants as states
 use Rattle.step_turns.specs.ComesTo.{on_object, told_in, told_by, FollowsTo, CallsTo, MapGoes, AtomicGoes, ComesTo}
 use Rattle.step_turns.specs.Due.{mutex_due, rw_due, group_due, cond_due, once_due, looks_of}
-use Rattle.step_turns.specs.Items.{Item, placed, stage_items, once_items, pool_item, unless_found, look_items, pool_items, items_on, add_items, sum_items, items_on_both, items_at}
-use Rattle.step_turns.specs.PoolTurn.{PoolStep, looked, found_or, found_by, pool_step}
+use Rattle.step_turns.specs.Items.{Item, Deed, stage_items, once_items, pool_item, unless_found, look_items, pool_items, items_on, add_items, items_on_both, items_at}
+use Rattle.step_turns.specs.PoolTurn.{looked, found_or, found_by, pool_step}
 use Rattle.step_turns.specs.Ready.{IsReady}
 use Rattle.step_turns.specs.Stages.{make}
 use Rattle.step_turns.specs.Turns.{once_made, turn_on, turn_on_both, number_after, turn_at}
 use Rattle.step_turns.proofs.AtObjects.{at_ready}
 use Rattle.step_turns.proofs.CallAt.{items_alone, items_referring}
-use Rattle.step_turns.proofs.Writes.{get_other}
 
 -- ---- one log behind another
 
@@ -145,19 +140,19 @@ module _ (worker moment object : ℕ) where
   one_first : (stage : PoolStage) (p q : pool.PoolState ℕ) (made : List Item) → PoolComes (pool.next p worker (pool_event stage moment)).0 made q → PoolComes p (pool_item worker moment object stage p ∷ made) q
   one_first stage p q made (log, is, follows, to) =
       let e = entry worker (pool_event stage moment) (pool.next p worker (pool_event stage moment)).1 in
-      (e ∷ log, ap (λ (l : List _). told_by events.Pool answered.Pool pool.next e ∷ l) is, (refl, follows), to)
+      (e ∷ log, ap (λ (l : List (ℕ × Deed)). told_by events.Pool answered.Pool e ∷ l) is, (refl, follows), to)
 
   looks_come : (looks : List PoolStage) (p : pool.PoolState ℕ) → PoolComes p (look_items worker moment object looks p) (found_by worker moment looks p).0
   looks_come [] p = ([], refl, tt, refl)
-  looks_come (look ∷ looks) p = one_first look p (found_by worker moment (look ∷ looks) p).0 (unless_found worker moment object (looked worker moment look p) (look_items worker moment object looks)) (by_found (looked worker moment look p))
+  looks_come (look ∷ looks) p = one_first look p (found_by worker moment (look ∷ looks) p).0 (unless_found worker moment object (looked worker moment look p) (look_items worker moment object looks)) (by_found (looked worker moment look p) (looks_come looks))
     where
-      by_found : (step : pool.PoolState ℕ × Option ℕ) → PoolComes step.0 (unless_found worker moment object step (look_items worker moment object looks)) (found_or step (found_by worker moment looks)).0
-      by_found (q, Some item) = ([], refl, tt, refl)
-      by_found (q, None) = looks_come looks q
+      by_found : (step : pool.PoolState ℕ × Option ℕ) → ((q : pool.PoolState ℕ) → PoolComes q (look_items worker moment object looks q) (found_by worker moment looks q).0) → PoolComes step.0 (unless_found worker moment object step (look_items worker moment object looks)) (found_or step (found_by worker moment looks)).0
+      by_found (q, Some item) later = ([], refl, tt, refl)
+      by_found (q, None) later = later q
 
   pool_comes : (call : PoolCall) (p : pool.PoolState ℕ) → PoolComes p (pool_items worker moment object call p) (pool_step worker moment call p).0
-  pool_comes (pool_calls.Put item) p = one_first _ p _ [] ([], refl, tt, refl)
-  pool_comes pool_calls.Sweep p = one_first _ p _ [] ([], refl, tt, refl)
+  pool_comes (pool_calls.Put item) p = one_first (pool_stage.Put item) p (pool_step worker moment (pool_calls.Put item) p).0 [] ([], refl, tt, refl)
+  pool_comes pool_calls.Sweep p = one_first pool_stage.Sweep p (pool_step worker moment pool_calls.Sweep p).0 [] ([], refl, tt, refl)
   pool_comes pool_calls.Get p = looks_come (looks_of (pool.callers_of p) worker 0 (2 * pool.callers_of p)) p
 
 -- at an object that refers to no other
@@ -198,11 +193,11 @@ module _ {S E R G : Type 0} (event : E → ObjectEvent) (answer : R → ObjectRe
 
 looks_at : (worker moment object : ℕ) (looks : List PoolStage) (p : pool.PoolState ℕ) → AllAt object (look_items worker moment object looks p)
 looks_at worker moment object [] p = tt
-looks_at worker moment object (look ∷ looks) p = (refl, by_found (looked worker moment look p))
+looks_at worker moment object (look ∷ looks) p = (refl, by_found (looked worker moment look p) (looks_at worker moment object looks))
   where
-    by_found : (step : pool.PoolState ℕ × Option ℕ) → AllAt object (unless_found worker moment object step (look_items worker moment object looks))
-    by_found (q, Some item) = tt
-    by_found (q, None) = looks_at worker moment object looks q
+    by_found : (step : pool.PoolState ℕ × Option ℕ) → ((q : pool.PoolState ℕ) → AllAt object (look_items worker moment object looks q)) → AllAt object (unless_found worker moment object step (look_items worker moment object looks))
+    by_found (q, Some item) later = tt
+    by_found (q, None) later = later q
 
 pool_at : (worker moment object : ℕ) (call : PoolCall) (p : pool.PoolState ℕ) → AllAt object (pool_items worker moment object call p)
 pool_at worker moment object (pool_calls.Put item) p = (refl, tt)
@@ -305,10 +300,10 @@ set_stays (first ∷ objects) zero (suc k) next apart = refl
 set_stays (first ∷ objects) (suc place) zero next apart = refl
 set_stays (first ∷ objects) (suc place) (suc k) next apart = set_stays objects place k next (λ same. apart (ap suc same))
 
-by_place : (k place : ℕ) {P : Type 0} → (k ≡ place → P) → (k ≢ place → P) → P
-by_place k place same apart = by_test (k == place) refl
+by_place : {P : Type 0} (k place : ℕ) → (k ≡ place → P) → (k ≢ place → P) → P
+by_place {P = P} k place same apart = by_test (k == place) refl
   where
-    by_test : (b : Bool) → (k == place) ≡ b → _
+    by_test : (b : Bool) → (k == place) ≡ b → P
     by_test true e = same (eqb-true k place e)
     by_test false e = apart (eqb-false k place e)
 

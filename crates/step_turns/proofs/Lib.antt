@@ -7,13 +7,13 @@ mod CompletesLemmas
 mod DueLemmas
 mod ItemLogs
 mod KeyLemmas
-mod LogLemmas
 mod MachineLaws
 mod Makes
 mod NewObjects
 mod ObjectKeeps
 mod ObjectUses
 mod PairLemmas
+mod PlacedLemmas
 mod PoolLooks
 mod RangeLemmas
 mod RoomLemmas

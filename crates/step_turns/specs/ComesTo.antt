@@ -35,14 +35,15 @@ on_object place made = filter (λ item. item.object == place) made
 abbrev pub told_in : Item → ℕ × Deed
 told_in item = (item.caller, item.deed)
 
-module _ {S E R : Type 0} (event : E → ObjectEvent) (answer : R → ObjectReply) (next : S → ℕ → E → S × R) where
+module _ {E R : Type 0} (event : E → ObjectEvent) (answer : R → ObjectReply) where
   -- an entry of one kind's log, as an item says it
   abbrev pub told_by : Entry E R → ℕ × Deed
   told_by e = (e.caller, entered (event e.event) (answer e.reply))
 
+module _ {S E R : Type 0} (event : E → ObjectEvent) (answer : R → ObjectReply) (next : S → ℕ → E → S × R) where
   -- the items are a log that follows the machine from the first state, and leads to the last
   abbrev pub FollowsTo : S → List Item → S → Type 0
-  FollowsTo first made last = (log : List (Entry E R)) × (map told_in made ≡ map told_by log) × Follows next first log × (after next first log ≡ last)
+  FollowsTo first made last = (log : List (Entry E R)) × (map told_in made ≡ map (told_by event answer) log) × Follows next first log × (after next first log ≡ last)
 
 module _ {S : Type 0} (goes : Operation → S → Reply (List ℕ) → S → Type 0) where
   -- the items are calls, each of which goes so from what stands after those before it, and the last stands after all of them

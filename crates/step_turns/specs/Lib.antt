@@ -4,11 +4,11 @@ pub mod ComesTo
 pub mod Completes
 pub mod Due
 pub mod Items
-pub mod MachineLogs
 pub mod MapKeys
 pub mod ObjectLeft
 pub mod Objects
 pub mod Pairs
+pub mod PlacedCalls
 pub mod PoolRoom
 pub mod PoolTurn
 pub mod Ready

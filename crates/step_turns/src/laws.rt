@@ -13,11 +13,11 @@ ghost use Rattle.step_turns.specs.CallTurns.{turns_left, TakesBy, told_at, is_to
 ghost use Rattle.step_turns.specs.ComesTo.{on_object, ComesTo};
 ghost use Rattle.step_turns.specs.Completes.{takes_one_turn, IsCompleted};
 ghost use Rattle.step_turns.specs.Items.{Item, items_at, goes_back, unlocks};
-ghost use Rattle.step_turns.specs.MachineLogs.{FollowsItsMachine};
 ghost use Rattle.step_turns.specs.MapKeys.{AreAmong, HasObjectKeysIn};
 ghost use Rattle.step_turns.specs.ObjectLeft.{object_left, UsesBy};
 ghost use Rattle.step_turns.specs.Objects.{new_object, kind_of, IsMachineOf, EachAt};
 ghost use Rattle.step_turns.specs.Pairs.{ShowsTo};
+ghost use Rattle.step_turns.specs.PlacedCalls.{is_placed, IsAnswered};
 ghost use Rattle.step_turns.specs.PoolRoom.{put_of, HasRoomFor, left_behind};
 ghost use Rattle.step_turns.specs.Ready.{IsReady};
 ghost use Rattle.step_turns.specs.ReplyForm.{HasForm};
@@ -92,14 +92,6 @@ pub fn workers_stand_in_their_calls()
     replies_have_their_form::<Name, u32>();
 }
 
-/// An object that is a machine begins in a state that the machine reaches from its start by the events of a
-/// log, and a turn leaves it in such a state. The room of a pool's parts may differ from place to place.
-pub fn turns_follow_the_machines()
-    ensures begins { (workers room : ℕ) (kind : ObjectKind) → FollowsItsMachine workers room (new_object workers room kind) }
-    ensures goes_on { (workers worker moment : ℕ) (room : ℕ → ℕ) (call : Call) (objects : List ObjectState) → EachAt (λ place. FollowsItsMachine workers (room place)) objects
-        → EachAt (λ place. FollowsItsMachine workers (room place)) (turn_at call worker moment objects).0 }
-{}
-
 /// An atomic begins in the range of its type, and a turn leaves each atomic in it.
 pub fn numbers_stay_in_range()
     ensures begins { (workers room : ℕ) (kind : ObjectKind) → IsInRange (new_object workers room kind) }
@@ -167,4 +159,11 @@ pub fn items_lead_from_turn_to_turn()
         → slice_get (turn_at call worker moment objects).0 place ≡ Some new → ComesTo old (on_object place (items_at call worker moment objects)) new }
     ensures nowhere { (object : ObjectState) → ComesTo object [] object }
     ensures on { (first middle last : ObjectState) (earlier later : List Item) → ComesTo first earlier middle → ComesTo middle later last → ComesTo first (earlier ++ later) last }
+{}
+
+/// A turn before a call of a map or an atomic makes the call whole, by one item on the call's object: the call is placed there, and
+/// the reply in the item is the one by which the turn completes the call.
+pub fn a_placed_call_is_one_item()
+    ensures { (workers worker moment : ℕ) (call : Call) (objects : List ObjectState) → IsReady workers worker call objects → is_placed call.operation ≡ true
+        → IsAnswered call worker (items_at call worker moment objects) (turn_at call worker moment objects).1 }
 {}

@@ -1,0 +1,37 @@
+-- At every moment the next turn of a worker that stands before a call of a map or an atomic makes the call whole.
+use Rattle.std.proofs.Common.{◌≡◌, ℕ, ◌<◌, true, List, [], ◌∷◌, ◌++◌, get_or, length, Option, Some, refl, sym, ap, ◌∙◌, arith}
+use Rattle.std.specs.Option.{option_map_or}
+use Rattle.std.proofs.lemmas.List.{get_or-set_same}
+use Rattle.sync_model.specs.declared.call.Call.{Call}
+use Rattle.sync_model.specs.declared.call.Reply.{Reply}
+use Rattle.workload.specs.Plan.{Plan}
+use Rattle.step_turns.specs.declared.answer.Answer.{Answer}
+use Rattle.step_turns.specs.declared.answer.Answer.TheVariants as answers
+use Rattle.step_turns.specs.declared.object_state.ObjectState.{ObjectState}
+use Rattle.step_turns.specs.Items.{Item, items_at}
+use Rattle.step_turns.specs.PlacedCalls as turns
+use Rattle.step_turns.specs.Ready.{IsReady}
+use Rattle.step_turns.specs.Turns.{turn_at}
+use Rattle.step_runner.specs.declared.step.Step.{Step}
+use Rattle.step_runner.specs.RunItems.{made_by, IsAnswered}
+use Rattle.step_runner.specs.State.{State, IsStateOf}
+use Rattle.step_runner.specs.Turns.{next_call, settled, turn_of}
+use Rattle.step_runner.proofs.TurnLemmas.{moved, ready, turn_before}
+
+-- what the law of turns says
+abbrev pub Placed : Type 0
+Placed = (workers worker moment : ℕ) (call : Call) (objects : List ObjectState) → IsReady workers worker call objects → turns.is_placed call.operation ≡ true
+    → turns.IsAnswered call worker (items_at call worker moment objects) (turn_at call worker moment objects).1
+
+pub call_answered : Placed → (plan : Plan) (worker : ℕ) (call : Call) (s : State) → IsStateOf plan s → next_call plan worker s ≡ Some call → turns.is_placed call.operation ≡ true → IsAnswered plan worker call s
+call_answered law plan worker call s of next one =
+    let r = ready plan worker s call of next in
+    let y = turn_at call worker s.moment s.objects in
+    let answered = law plan.workers worker s.moment call s.objects r one in
+    let reply = answered.0 in
+    let turn = turn_before plan worker s call y.0 y.1 next refl ∙ ap (λ (a : Answer). settled worker a (moved y.0 s)) answered.2 in
+    let here : worker < length s.replies = omega (arith, r.below, of.workers) in (
+      reply,
+      ap (λ (o : Option Call). option_map_or (λ call. items_at call worker s.moment s.objects) o []) next ∙ answered.1,
+      ap (λ (x : State × Step). get_or x.0.replies worker []) turn ∙ get_or-set_same s.replies worker (get_or s.replies worker [] ++ reply ∷ []) [] here,
+    )

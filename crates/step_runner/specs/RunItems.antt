@@ -1,0 +1,46 @@
+-- The items that a run makes: what was done on which object, by whom and with which answer, in order.
+use Rattle.std.specs.Prelude.{◌≡◌, ℕ, List, [], ◌∷◌, ◌++◌, get_or, slice_get, Some}
+use Rattle.std.specs.Option.{option_map_or}
+use Rattle.sync_model.specs.declared.call.Call.{Call}
+use Rattle.sync_model.specs.declared.call.Reply.{Reply}
+use Rattle.workload.specs.declared.object.ObjectLine.{ObjectLine}
+use Rattle.workload.specs.declared.turn.Turn.{Turn}
+use Rattle.workload.specs.declared.turn.Turn.TheVariants as items
+use Rattle.workload.specs.Plan.{Plan}
+use Rattle.workload.specs.Puts.{puts_at}
+use Rattle.step_turns.specs.declared.object_state.ObjectState.{ObjectState}
+use Rattle.step_turns.specs.ComesTo.{on_object, ComesTo}
+use Rattle.step_turns.specs.Items.{Item, placed, items_at}
+use Rattle.step_turns.specs.Objects.{new_object}
+use Rattle.step_runner.specs.declared.step.Step.{Step}
+use Rattle.step_runner.specs.declared.step.Step.TheVariants as steps
+use Rattle.step_runner.specs.State.{State, with_moment}
+use Rattle.step_runner.specs.Turns.{next_call, turn_of}
+
+-- what a worker's turn makes: nothing, where its script has ended
+abbrev pub made_by : Plan → ℕ → State → List Item
+made_by plan worker s = option_map_or (λ call. items_at call worker s.moment s.objects) (next_call plan worker s) []
+
+-- nothing follows a misuse
+abbrev pub unless_ended : State × Step → (State → List Item) → List Item
+unless_ended (s, steps.Still) rest = rest s
+unless_ended (s, steps.Made) rest = rest s
+unless_ended (s, steps.Misused misuse) rest = []
+
+-- what all turns make that a schedule gives from a state on
+abbrev pub all_made : Plan → List Turn → State → List Item
+all_made plan [] s = []
+all_made plan (items.Worker worker ∷ rest) s = made_by plan worker s ++ unless_ended (turn_of plan worker s) (all_made plan rest)
+all_made plan (items.Moment moment ∷ rest) s = all_made plan rest (with_moment moment s)
+
+-- the items lead from the objects with which a run begins to these: those on each object from what its line says
+abbrev pub LeadTo : Plan → List Item → List ObjectState → Type 0
+LeadTo plan made objects =
+    (place : ℕ) (line : ObjectLine) (object : ObjectState) → slice_get plan.objects place ≡ Some line → slice_get objects place ≡ Some object
+    → ComesTo (new_object plan.workers (puts_at place plan.scripts) line.kind) (on_object place made) object
+
+-- the worker's next turn makes its call whole, in one item whose reply is the call's
+abbrev pub IsAnswered : Plan → ℕ → Call → State → Type 0
+IsAnswered plan worker call s =
+    (reply : Reply (List ℕ)) × (made_by plan worker s ≡ record { object = call.object; caller = worker; deed = placed call.operation reply } ∷ [])
+    × (get_or (turn_of plan worker s).0.replies worker [] ≡ get_or s.replies worker [] ++ reply ∷ [])
