@@ -52,8 +52,8 @@ no : {A : Type 0} → false ≡ true → A
 no e = absurd cc
 
 one_most : (b : Bool) → one_if b ≤ 1
-one_most true = search
-one_most false = search
+one_most true = omega arith
+one_most false = omega arith
 
 -- tests of which one fails
 none_by : (a : Bool) (b : Bool) → a ≡ false → one_if (a && b) ≡ 0
@@ -101,25 +101,25 @@ other_told false true false false true apart tells = no (tells refl refl)
 
 module _ (plan : Plan) (worker number : ℕ) where
   -- what is left of the call before which the worker stands, and whether it was told to go on, by its replies so far
-  left_by : List (Reply (List ℕ)) → List ObjectState → ℕ
+  abbrev left_by : List (Reply (List ℕ)) → List ObjectState → ℕ
   left_by done objects = option_map_or (λ call. turns_left (kinds_in plan) call worker objects) (slice_get (get_or plan.scripts worker []) (length done)) 0
 
-  told_by : List (Reply (List ℕ)) → List ObjectState → Bool
+  abbrev told_by : List (Reply (List ℕ)) → List ObjectState → Bool
   told_by done objects = option_map_or (λ call. is_told (kinds_in plan) call worker objects) (slice_get (get_or plan.scripts worker []) (length done)) false
 
   -- the most turns that can be counted: four before the call, what is left of it then, and none behind it
-  most_of : Bool → Bool → ℕ → ℕ
+  abbrev most_of : Bool → Bool → ℕ → ℕ
   most_of true at n = 4
   most_of false true n = n
   most_of false false n = 0
 
-  most_by : List (Reply (List ℕ)) → List ObjectState → ℕ
+  abbrev most_by : List (Reply (List ℕ)) → List ObjectState → ℕ
   most_by done objects = most_of (nat_lt (length done) number) (length done == number) (left_by done objects)
 
-  most : State → ℕ
+  abbrev most : State → ℕ
   most s = most_by (get_or s.replies worker []) s.objects
 
-  told : State → ℕ
+  abbrev told : State → ℕ
   told s = one_if ((length (get_or s.replies worker []) == number) && told_by (get_or s.replies worker []) s.objects)
 
   not_less : (n m : ℕ) → m ≤ n → nat_lt n m ≡ false
@@ -152,9 +152,9 @@ module _ (plan : Plan) (worker number : ℕ) where
   most_less done old new less = by_place (nat_lt (length done) number) (length done == number)
     where
       by_place : (a b : Bool) → most_of a b (left_by done new) ≤ most_of a b (left_by done old)
-      by_place true b = search
+      by_place true b = omega arith
       by_place false true = less
-      by_place false false = search
+      by_place false false = omega arith
 
   most_apart : (done : List (Reply (List ℕ))) (old new : List ObjectState) → (length done == number) ≡ false → most_by done new ≡ most_by done old
   most_apart done old new apart =
@@ -171,36 +171,36 @@ module _ (plan : Plan) (worker number : ℕ) where
     most_four done objects kinds = by_place (nat_lt (length done) number) (length done == number)
       where
         left_few : (o : Option Call) → option_map_or (λ call. turns_left (kinds_in plan) call worker objects) o 0 ≤ 4
-        left_few None = search
+        left_few None = omega arith
         left_few (Some call) = subst (λ (ks : List ObjectKind). turns_left ks call worker objects ≤ 4) kinds (laws.most worker call objects)
 
         by_place : (a b : Bool) → most_of a b (left_by done objects) ≤ 4
-        by_place true b = search
+        by_place true b = omega arith
         by_place false true = left_few (slice_get (get_or plan.scripts worker []) (length done))
-        by_place false false = search
+        by_place false false = omega arith
 
     -- ---- another's turn
 
     module _ (by : ℕ) (s : State) (of : IsStateOf plan s) (apart : worker ≢ by) where
-      done : List (Reply (List ℕ))
+      abbrev done : List (Reply (List ℕ))
       done = get_or s.replies worker []
 
       eased : (call : Call) (objects : List ObjectState) (answer : Answer) → Takes plan by s call objects answer → most_by done objects ≤ most_by done s.objects
       eased call objects answer takes = most_less done s.objects objects (by_own (slice_get (get_or plan.scripts worker []) (length done)))
         where
           by_own : (o : Option Call) → option_map_or (λ call. turns_left (kinds_in plan) call worker objects) o 0 ≤ option_map_or (λ call. turns_left (kinds_in plan) call worker s.objects) o 0
-          by_own None = search
+          by_own None = omega arith
           by_own (Some own) = subst (λ (ks : List ObjectKind). turns_left ks own worker objects ≤ turns_left ks own worker s.objects) of.objects
               (takes_by (λ y. turns_left (map kind_of s.objects) own worker y.0 ≤ turns_left (map kind_of s.objects) own worker s.objects) plan by s call objects answer of takes
               (λ r. laws.others plan.workers worker by s.moment own call s.objects r apart))
 
       other_few : behind (turn_of plan by s) most ≤ most s
       other_few = turn_cases (λ x. behind x most ≤ most s) plan by s of (record {
-        ended = λ is. search;
+        ended = λ is. omega arith;
         still = λ call objects takes. eased call objects answers.Still takes;
         unfinished = λ call objects takes. eased call objects answers.Unfinished takes;
         completed = λ call objects reply takes. subst (λ (replies : List (Reply (List ℕ))). most_by replies objects ≤ most s) (sym (replied_other by worker reply (moved objects s) apart)) (eased call objects (answers.Completed reply) takes);
-        misused = λ call objects misuse takes. search;
+        misused = λ call objects misuse takes. omega arith;
       })
 
       tells : (call : Call) (objects : List ObjectState) (answer : Answer) → Takes plan by s call objects answer → told_by done s.objects ≡ false → told_by done objects ≡ true → unlocks (made_by plan by s) ≡ true
@@ -210,7 +210,7 @@ module _ (plan : Plan) (worker number : ℕ) where
           made = ap (λ (o : Option Call). option_map_or (λ call. items_at call by s.moment s.objects) o []) takes.next
 
           by_own : (o : Option Call) → option_map_or (λ call. is_told (kinds_in plan) call worker s.objects) o false ≡ false → option_map_or (λ call. is_told (kinds_in plan) call worker objects) o false ≡ true → unlocks (made_by plan by s) ≡ true
-          by_own None was now = no now
+          by_own None = λ was now. no now
           by_own (Some own) = subst (λ (ks : List ObjectKind). is_told ks own worker s.objects ≡ false → is_told ks own worker objects ≡ true → unlocks (made_by plan by s) ≡ true) of.objects
               (takes_by (λ y. is_told (map kind_of s.objects) own worker s.objects ≡ false → is_told (map kind_of s.objects) own worker y.0 ≡ true → unlocks (made_by plan by s) ≡ true) plan by s call objects answer of takes
               (λ r was now. ap unlocks made ∙ laws.told_by plan.workers worker by s.moment own call s.objects r apart was now))
@@ -237,7 +237,7 @@ module _ (plan : Plan) (worker number : ℕ) where
     -- ---- the worker's own turn
 
     module _ (same : StillSame) (s : State) (of : IsStateOf plan s) where
-      own_done : List (Reply (List ℕ))
+      abbrev own_done : List (Reply (List ℕ))
       own_done = get_or s.replies worker []
 
       own_made : (call : Call) → next_call plan worker s ≡ Some call → made_by plan worker s ≡ items_at call worker s.moment s.objects
@@ -258,17 +258,17 @@ module _ (plan : Plan) (worker number : ℕ) where
       some_left : (call : Call) → next_call plan worker s ≡ Some call → 1 ≤ left_by own_done s.objects
       some_left call next = omega (arith, own_left call s.objects next)
 
-      advance : Step → ℕ
+      abbrev advance : Step → ℕ
       advance step = one_if ((worker == worker) && (stands_before worker number s && (makes_event step && not (goes_back (made_by plan worker s)))))
 
       -- before another call of the worker
       elsewhere : GoesOn plan → (length own_done == number) ≡ false → behind (turn_of plan worker s) most ≤ most s
       elsewhere goes apart = turn_cases (λ x. IsStateOf plan x.0 → behind x most ≤ most s) plan worker s of (record {
-        ended = λ is valid. search;
+        ended = λ is valid. omega arith;
         still = λ call objects takes valid. omega (arith, most_apart own_done s.objects objects apart);
         unfinished = λ call objects takes valid. omega (arith, most_apart own_done s.objects objects apart);
         completed = λ call objects reply takes valid. replied reply objects takes.below valid;
-        misused = λ call objects misuse takes valid. search;
+        misused = λ call objects misuse takes valid. omega arith;
       }) (goes worker s of)
         where
           replied : (reply : Reply (List ℕ)) (objects : List ObjectState) → worker < plan.workers → IsStateOf plan (with_reply worker reply (moved objects s)) → most (with_reply worker reply (moved objects s)) ≤ most s
@@ -342,7 +342,7 @@ module _ (plan : Plan) (worker number : ℕ) where
           (takes_by (λ y. TellsOwn (goes_back (items_at call worker s.moment s.objects)) (is_told (map kind_of s.objects) call worker s.objects) (is_told (map kind_of s.objects) call worker y.0)) plan worker s call objects answer of takes
           (λ r. laws.told_before plan.workers worker s.moment call s.objects r)))
 
-      returned : ℕ
+      abbrev returned : ℕ
       returned = one_if ((worker == worker) && (stands_before worker number s && goes_back (made_by plan worker s)))
 
       kept : (call : Call) (objects : List ObjectState) (answer : Answer) → Takes plan worker s call objects answer → returned + told (moved objects s) ≤ told s
@@ -412,12 +412,12 @@ module _ (plan : Plan) (worker number : ℕ) where
     behind_less : (x : State × Step) (f g : State → ℕ) → f x.0 ≤ g x.0 → behind x f ≤ behind x g
     behind_less (s, steps.Still) f g less = less
     behind_less (s, steps.Made) f g less = less
-    behind_less (s, steps.Misused misuse) f g less = search
+    behind_less (s, steps.Misused misuse) f g less = omega arith
 
     behind_sum : (x : State × Step) (f g h : State → ℕ) → f x.0 ≤ g x.0 + h x.0 → behind x f ≤ behind x g + behind x h
     behind_sum (s, steps.Still) f g h less = less
     behind_sum (s, steps.Made) f g h less = less
-    behind_sum (s, steps.Misused misuse) f g h less = search
+    behind_sum (s, steps.Misused misuse) f g h less = omega arith
 
     few_turns : StillSame → GoesOn plan → (list : List Turn) (s : State) → IsStateOf plan s → count_turns plan (goes_on plan worker number) list s ≤ most s
     few_turns same goes [] s of = omega arith
