@@ -328,10 +328,10 @@ module _ (plan : Plan) (worker number : ℕ) where
       own_few goes = elim (length own_done == number) as (λ b. (length own_done == number) ≡ b → advance (turn_of plan worker s).1 + behind (turn_of plan worker s) most ≤ most s) [
         | true ↦ λ e. here e
         | false ↦ λ e. omega (
-            arith,
-            none_second (worker == worker) (stands_before worker number s) (makes_event (turn_of plan worker s).1 && not (goes_back (made_by plan worker s))) e,
-            elsewhere goes e,
-          )
+          arith,
+          none_second (worker == worker) (stands_before worker number s) (makes_event (turn_of plan worker s).1 && not (goes_back (made_by plan worker s))) e,
+          elsewhere goes e,
+        )
       ] refl
 
       -- whether it was told, by its own turn
@@ -389,10 +389,10 @@ module _ (plan : Plan) (worker number : ℕ) where
       | true ↦ λ e. let same_worker : worker ≡ by = sym (eqb-true by worker e) in
           subst (λ (w : ℕ). one_if (goes_on plan worker number w s) + behind (turn_of plan w s) most ≤ most s) same_worker (own_few same s of goes)
       | false ↦ λ e. omega (
-          arith,
-          none_by (by == worker) (stands_before worker number s && (makes_event (turn_of plan by s).1 && not (goes_back (made_by plan by s)))) e,
-          other_few by s of (λ one. eqb-false by worker e (sym one)),
-        )
+        arith,
+        none_by (by == worker) (stands_before worker number s && (makes_event (turn_of plan by s).1 && not (goes_back (made_by plan by s)))) e,
+        other_few by s of (λ one. eqb-false by worker e (sym one)),
+      )
     ] refl
 
     turn_woken : TurnStands → StillSame → (by : ℕ) (s : State) → Standing plan s → one_if (requeues plan worker number by s) + behind (turn_of plan by s) told ≤ one_if (wakes plan worker number by s) + told s
@@ -401,10 +401,10 @@ module _ (plan : Plan) (worker number : ℕ) where
           subst (λ (w : ℕ). one_if (requeues plan worker number w s) + behind (turn_of plan w s) told ≤ one_if (wakes plan worker number w s) + told s) same_worker
           (omega (arith, own_woken same s h.of (λ call objects reply takes. own_at stands plan worker s h call objects (answers.Completed reply) takes)))
       | false ↦ λ e. omega (
-          arith,
-          none_by (by == worker) (stands_before worker number s && goes_back (made_by plan by s)) e,
-          other_woken by s h.of (λ one. eqb-false by worker e (sym one)),
-        )
+        arith,
+        none_by (by == worker) (stands_before worker number s && goes_back (made_by plan by s)) e,
+        other_woken by s h.of (λ one. eqb-false by worker e (sym one)),
+      )
     ] refl
 
     -- ---- turns in order
@@ -445,8 +445,12 @@ module _ (plan : Plan) (worker number : ℕ) where
     pub woken_from_start : TurnStands → StillSame → GoesOn plan → IsStateOf plan (start plan) → (list : List Turn) → count_turns plan (requeues plan worker number) list (start plan) ≤ count_turns plan (wakes plan worker number) list (start plan)
     woken_from_start stands same goes of list =
         let h = start_stands stands plan of in
-        omega (arith, woken_turns stands same (standing_kept stands plan goes) list (start plan) h, begun (length (get_or (start plan).replies worker []) == number) (told_by (get_or (start plan).replies worker []) (start plan).objects)
-        (out_everywhere same (start plan) of (start plan).objects (each_start (λ place object. (None ≡ Some place → ⊥) → IsOutAt worker object) plan (λ place kind ne. stands.begins worker plan.workers (puts_at place plan.scripts) kind)) (get_or (start plan).replies worker [])))
+        omega (
+          arith,
+          woken_turns stands same (standing_kept stands plan goes) list (start plan) h,
+          begun (length (get_or (start plan).replies worker []) == number) (told_by (get_or (start plan).replies worker []) (start plan).objects)
+              (out_everywhere same (start plan) of (start plan).objects (each_start (λ place object. (None ≡ Some place → ⊥) → IsOutAt worker object) plan (λ place kind ne. stands.begins worker plan.workers (puts_at place plan.scripts) kind)) (get_or (start plan).replies worker [])),
+        )
       where
         begun : (a b : Bool) → b ≡ false → one_if (a && b) ≡ 0
         begun true b e = ap one_if e

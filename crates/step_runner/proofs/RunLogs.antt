@@ -114,7 +114,7 @@ pub run_leads : Leads → (plan : Plan) → GoesOn plan → IsStateOf plan (star
 run_leads laws plan goes of list place line object at there =
     let same : 0 + place ≡ place = omega arith in
     let begun : slice_get (start plan).objects place ≡ Some (new_object plan.workers (puts_at place plan.scripts) line.kind) =
-        new_there plan 0 place plan.objects line at ∙ ap (λ (n : ℕ). Some (new_object plan.workers (puts_at n plan.scripts) line.kind)) same in
+    new_there plan 0 place plan.objects line at ∙ ap (λ (n : ℕ). Some (new_object plan.workers (puts_at n plan.scripts) line.kind)) same in
     items_come laws plan place goes list (start plan) of (new_object plan.workers (puts_at place plan.scripts) line.kind) object begun there
 
 -- at the end of a run that is done

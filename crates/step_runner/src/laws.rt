@@ -44,8 +44,9 @@ ghost use Rattle.step_runner.specs.Computed.{rounds_of, all_rounds, turns};
 
 use step_turns::laws::{
     a_placed_call_is_one_item, few_turns_are_left_of_a_call, items_lead_from_turn_to_turn,
-    maps_keep_to_the_keys_of_calls, numbers_stay_in_range, pools_have_room, some_calls_take_one_turn,
-    turns_keep_kinds_and_machines, turns_use_something_up, workers_stand_in_their_calls,
+    maps_keep_to_the_keys_of_calls, numbers_stay_in_range, pools_have_room,
+    some_calls_take_one_turn, turns_keep_kinds_and_machines, turns_use_something_up,
+    workers_stand_in_their_calls,
 };
 use sync_model::Name;
 use sync_model::laws::replies as form;

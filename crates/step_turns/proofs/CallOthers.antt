@@ -112,7 +112,7 @@ mutex_eases law x by moment object stage m valid apart = by_test (mutex_moves.te
     by_test true told =
         let was = law.told m x by e valid told in
         let zero : mutex_left (mutex.place_of (mutex.next m by e).0 x) ≡ 0 =
-            ap mutex_left (law.moved m x by e valid) ∙ ap (λ (p : MutexPlace). mutex_left (mutex_moves.place_after x by p (mutex.next m by e).1)) was.1 ∙ told_waiting x by (mutex.next m by e).1 told in
+        ap mutex_left (law.moved m x by e valid) ∙ ap (λ (p : MutexPlace). mutex_left (mutex_moves.place_after x by p (mutex.next m by e).1)) was.1 ∙ told_waiting x by (mutex.next m by e).1 told in
         (omega (arith, zero), λ untold now. ap (λ (f : MutexEvent). is_unlock (entered (events.Mutex f) (answered.Mutex (mutex.next m by e).1)) || false) was.0)
     by_test false told =
         let same = law.unmoved m x by e valid apart told in
@@ -157,12 +157,12 @@ rw_eases rw_event.ReadUnlock r rw_place.Admitted q moves = rw_same rw_event.Read
 rw_eases rw_event.WriteUnlock r rw_place.Queued q moves = elim moves [
   | inl same ↦ rw_tells r q (ap rw_left same)
   | inr told ↦ elim told [
-      | inl woken ↦ rw_tells r q (ap rw_left woken)
-      | inr rest ↦ elim rest [
-          | inl handed ↦ rw_tells r q (ap rw_left handed)
-          | inr admitted ↦ rw_less rw_event.WriteUnlock r rw_place.Queued q (ap rw_left admitted) (ap rw_told admitted)
-        ]
+    | inl woken ↦ rw_tells r q (ap rw_left woken)
+    | inr rest ↦ elim rest [
+      | inl handed ↦ rw_tells r q (ap rw_left handed)
+      | inr admitted ↦ rw_less rw_event.WriteUnlock r rw_place.Queued q (ap rw_left admitted) (ap rw_told admitted)
     ]
+  ]
 ]
 rw_eases rw_event.WriteUnlock r rw_place.Out q moves = rw_same rw_event.WriteUnlock r rw_place.Out q moves
 rw_eases rw_event.WriteUnlock r rw_place.Waiting q moves = rw_same rw_event.WriteUnlock r rw_place.Waiting q moves
@@ -189,12 +189,14 @@ turn_eases laws workers x by moment object operations.Range (states.Map m) is ap
 turn_eases laws workers x by moment object (operations.Atomic call) (states.Atomic number) is apart = (omega arith, λ was told. no told)
 turn_eases laws workers x by moment object (operations.Mutex call) (states.Mutex m) is apart = mutex_due_eases laws.mutexes x by moment object (mutex_due call (mutex.place_of m by)) m is.0 apart
 turn_eases laws workers x by moment object (operations.RwMutex call) (states.RwMutex m) is apart = rw_due_eases laws.rw_mutexes x by moment object (rw_due call (rw.place_of m by)) m is.0 apart
-turn_eases laws workers x by moment object (operations.WaitGroup call) (states.WaitGroup g first) is apart =
-    (omega (
-      arith,
-      ap {B = ℕ} (λ (b : Bool). if b then 0 else 1)
-      (make_moves group.next group_event group_meaning by moment (λ n. group_standing.waits_at n x ≡ group_standing.waits_at g x) (group_due call (group.place_of g by)) g refl (λ e. laws.groups.others g x by e apart)),
-    ), λ was told. no told)
+turn_eases laws workers x by moment object (operations.WaitGroup call) (states.WaitGroup g first) is apart = (
+  omega (
+    arith,
+    ap {B = ℕ} (λ (b : Bool). if b then 0 else 1)
+        (make_moves group.next group_event group_meaning by moment (λ n. group_standing.waits_at n x ≡ group_standing.waits_at g x) (group_due call (group.place_of g by)) g refl (λ e. laws.groups.others g x by e apart)),
+  ),
+  λ was told. no told,
+)
 turn_eases laws workers x by moment object operations.OnceFunc (states.OnceFunc o code) is apart = (omega (arith, once_same laws.giving x by moment code o apart), λ was told. no told)
 turn_eases laws workers x by moment object operations.OnceValue (states.OnceValue o value) is apart = (omega (arith, once_same laws.giving x by moment value o apart), λ was told. no told)
 turn_eases laws workers x by moment object (operations.Pool call) (states.Pool p) is apart = (omega arith, λ was told. no told)
@@ -221,11 +223,14 @@ pub both_ease : CallStands → (workers x by moment object other : ℕ) (operati
 both_ease laws workers x by moment object other (operations.Cond call) (states.Cond c place) (states.Mutex m) is apart =
     let due = cond_due call (mutex.place_of m by) (notify.place_of c by) in
     let eases = mutex_due_eases laws.mutexes x by moment other due.1 m is.0 apart in (
-      (omega (
-        arith,
-        ap {B = ℕ} (λ (b : Bool). if b then 0 else 1)
-        (make_moves notify.next cond_event cond_meaning by moment (λ n. notify_standing.has_ticket n x ≡ notify_standing.has_ticket c x) due.0 c refl (λ e. laws.conds.others c x by e apart)),
-      ), λ was told. no told),
+      (
+        omega (
+          arith,
+          ap {B = ℕ} (λ (b : Bool). if b then 0 else 1)
+              (make_moves notify.next cond_event cond_meaning by moment (λ n. notify_standing.has_ticket n x ≡ notify_standing.has_ticket c x) due.0 c refl (λ e. laws.conds.others c x by e apart)),
+        ),
+        λ was told. no told,
+      ),
       (eases.0, λ was told. behind_cond by moment object due.0 c (stage_items events.Mutex answered.Mutex mutex.next mutex_stages.mutex_event by moment other due.1 m) (eases.1 was told)),
     )
 both_ease laws workers x by moment object other operations.Once (states.Once o place delta) (states.Atomic number) is apart = sum_eases laws.adding x by moment object other o place delta number apart

@@ -311,9 +311,11 @@ group_due_takes law None x moment object first g of = (tt, λ told. told)
 group_due_takes law (Some stage) x moment object first g of =
     let n = group.next g x (group_event stage moment) in
     let w = group_standing.waits_at g x in
-    let v = group_standing.waits_at n.0 x in
-    (takes_by returned false (if w then 0 else 1) (if v then 0 else 1) (λ outcome. tt) (group_meaning stage n.1)
-    (group_takes stage moment w v n.1 of.0 of.1.0 of.1.1 (law.own g x (group_event stage moment))), λ told. told)
+    let v = group_standing.waits_at n.0 x in (
+      takes_by returned false (if w then 0 else 1) (if v then 0 else 1) (λ outcome. tt) (group_meaning stage n.1)
+          (group_takes stage moment w v n.1 of.0 of.1.0 of.1.1 (law.own g x (group_event stage moment))),
+      λ told. told,
+    )
 
 -- ---- of a once
 

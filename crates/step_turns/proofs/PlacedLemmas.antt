@@ -1,5 +1,5 @@
 -- A call of a map or an atomic is made whole in its one item, which has its reply.
-use Rattle.std.proofs.Common.{◌≡◌, ℕ, true, List, Some, refl, sym, ◌∙◌, subst}
+use Rattle.std.proofs.Common.{◌≡◌, ℕ, true, List, Some, refl, sym, subst}
 use Rattle.sync_model.specs.declared.call.Call.{Call}
 use Rattle.sync_model.specs.declared.call.Operation.{Operation}
 use Rattle.sync_model.specs.declared.call.Operation.TheVariants as operations
