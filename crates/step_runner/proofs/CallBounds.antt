@@ -1,11 +1,10 @@
 -- A call takes few turns, and a worker goes back to a queue no more often than it was told to go on.
-use Rattle.std.proofs.Common.{◌≡◌, ◌≢◌, ℕ, zero, suc, ◌+◌, ◌<◌, ◌≤◌, Bool, true, false, eqb, ◌&&◌, List, [], ◌∷◌, map, length, get_or, Option, Some, None, refl, sym, ap, ◌∙◌, subst, arith}
-use Rattle.std.specs.Prelude.{◌==◌, nat_lt, not, slice_get, unwrap_or, if◌then◌else◌}
+use Rattle.std.proofs.Common.{◌≡◌, ◌≢◌, ℕ, ◌+◌, ◌<◌, ◌≤◌, Bool, true, false, ◌&&◌, List, [], ◌∷◌, map, length, get_or, Option, Some, None, refl, sym, ap, ◌∙◌, subst, arith}
+use Rattle.std.specs.Prelude.{◌==◌, nat_lt, not, slice_get, unwrap_or}
 use Rattle.std.specs.Option.{option_map_or}
 use Rattle.std.proofs.lemmas.Bool.{eqb-true, eqb-false, eq-eqb, lt-ltb, ltb-true, ltb-false}
 use Rattle.sync_model.specs.declared.call.Call.{Call}
 use Rattle.sync_model.specs.declared.call.Reply.{Reply}
-use Rattle.sync_model.specs.declared.misuse.Misuse.{Misuse}
 use Rattle.workload.specs.declared.object.ObjectKind.{ObjectKind}
 use Rattle.workload.specs.declared.turn.Turn.{Turn}
 use Rattle.workload.specs.declared.turn.Turn.TheVariants as items
@@ -22,13 +21,13 @@ use Rattle.step_turns.specs.Stands.{IsOutAt, IsOutBut}
 use Rattle.step_turns.specs.Turns.{turn_at}
 use Rattle.step_runner.specs.declared.step.Step.{Step}
 use Rattle.step_runner.specs.declared.step.Step.TheVariants as steps
-use Rattle.step_runner.specs.CallTurns.{makes_event, stands_before, kinds_in, was_told, goes_on, requeues, wakes, one_if, behind, count_turns}
+use Rattle.step_runner.specs.CallTurns.{makes_event, stands_before, kinds_in, was_told, advances, requeues, wakes, one_if, behind, count_turns}
 use Rattle.step_runner.specs.RunItems.{made_by}
 use Rattle.step_runner.specs.State.{State, start, with_reply, with_moment, IsStateOf}
 use Rattle.step_runner.specs.Turns.{next_call, turn_of}
 use Rattle.step_runner.proofs.FormLemmas.{TurnStands, Standing, own_at, standing_kept, start_stands}
 use Rattle.step_runner.proofs.RunLemmas.{GoesOn, Kept, moment_valid}
-use Rattle.step_runner.proofs.StartLemmas.{each_start, none_yet}
+use Rattle.step_runner.proofs.StartLemmas.{each_start}
 use Rattle.step_runner.proofs.TurnLemmas.{Takes, takes_by, turn_cases, moved, replied_more, replied_other, turn_before}
 
 -- what the laws of turns say
@@ -384,10 +383,10 @@ module _ (plan : Plan) (worker number : ℕ) where
 
     -- ---- any turn
 
-    turn_few : StillSame → GoesOn plan → (by : ℕ) (s : State) → IsStateOf plan s → one_if (goes_on plan worker number by s) + behind (turn_of plan by s) most ≤ most s
-    turn_few same goes by s of = elim (by == worker) as (λ b. (by == worker) ≡ b → one_if (goes_on plan worker number by s) + behind (turn_of plan by s) most ≤ most s) [
+    turn_few : StillSame → GoesOn plan → (by : ℕ) (s : State) → IsStateOf plan s → one_if (advances plan worker number by s) + behind (turn_of plan by s) most ≤ most s
+    turn_few same goes by s of = elim (by == worker) as (λ b. (by == worker) ≡ b → one_if (advances plan worker number by s) + behind (turn_of plan by s) most ≤ most s) [
       | true ↦ λ e. let same_worker : worker ≡ by = sym (eqb-true by worker e) in
-          subst (λ (w : ℕ). one_if (goes_on plan worker number w s) + behind (turn_of plan w s) most ≤ most s) same_worker (own_few same s of goes)
+          subst (λ (w : ℕ). one_if (advances plan worker number w s) + behind (turn_of plan w s) most ≤ most s) same_worker (own_few same s of goes)
       | false ↦ λ e. omega (
         arith,
         none_by (by == worker) (stands_before worker number s && (makes_event (turn_of plan by s).1 && not (goes_back (made_by plan by s)))) e,
@@ -419,12 +418,12 @@ module _ (plan : Plan) (worker number : ℕ) where
     behind_sum (s, steps.Made) f g h less = less
     behind_sum (s, steps.Misused misuse) f g h less = omega arith
 
-    few_turns : StillSame → GoesOn plan → (list : List Turn) (s : State) → IsStateOf plan s → count_turns plan (goes_on plan worker number) list s ≤ most s
+    few_turns : StillSame → GoesOn plan → (list : List Turn) (s : State) → IsStateOf plan s → count_turns plan (advances plan worker number) list s ≤ most s
     few_turns same goes [] s of = omega arith
     few_turns same goes (items.Worker by ∷ rest) s of = omega (
       arith,
       turn_few same goes by s of,
-      behind_less (turn_of plan by s) (count_turns plan (goes_on plan worker number) rest) most (few_turns same goes rest (turn_of plan by s).0 (goes by s of)),
+      behind_less (turn_of plan by s) (count_turns plan (advances plan worker number) rest) most (few_turns same goes rest (turn_of plan by s).0 (goes by s of)),
     )
     few_turns same goes (items.Moment moment ∷ rest) s of = few_turns same goes rest (with_moment moment s) (moment_valid plan moment s of)
 
@@ -439,7 +438,7 @@ module _ (plan : Plan) (worker number : ℕ) where
 
     -- ---- from the start on
 
-    pub few_from_start : StillSame → GoesOn plan → IsStateOf plan (start plan) → (list : List Turn) → count_turns plan (goes_on plan worker number) list (start plan) ≤ 4
+    pub few_from_start : StillSame → GoesOn plan → IsStateOf plan (start plan) → (list : List Turn) → count_turns plan (advances plan worker number) list (start plan) ≤ 4
     few_from_start same goes of list = omega (arith, few_turns same goes list (start plan) of, most_four (get_or (start plan).replies worker []) (start plan).objects of.objects)
 
     pub woken_from_start : TurnStands → StillSame → GoesOn plan → IsStateOf plan (start plan) → (list : List Turn) → count_turns plan (requeues plan worker number) list (start plan) ≤ count_turns plan (wakes plan worker number) list (start plan)

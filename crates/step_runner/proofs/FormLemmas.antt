@@ -1,5 +1,5 @@
 -- Each reply of a run has the form of its call's replies, and each worker stands at the mutex at which its call waits, and at no other.
-use Rattle.std.proofs.Common.{◌≡◌, ◌≢◌, ℕ, zero, suc, ◌≤◌, Bool, true, false, eqb, ◌&&◌, List, [], ◌∷◌, ◌++◌, map, length, get_or, set, replicate, Option, Some, None, refl, sym, ap, ◌∙◌, subst, arith}
+use Rattle.std.proofs.Common.{◌≡◌, ◌≢◌, ℕ, zero, suc, ◌≤◌, true, false, eqb, ◌&&◌, List, [], ◌∷◌, ◌++◌, map, length, get_or, set, replicate, Option, Some, None, refl, sym, ◌∙◌, subst, arith}
 use Rattle.std.specs.Prelude.{slice_get}
 use Rattle.std.specs.Option.{option_map_or}
 use Rattle.std.proofs.lemmas.Bool.{eqb-true, eqb-false}
@@ -8,7 +8,6 @@ use Rattle.sync_model.specs.Replies.{is_reply_to}
 use Rattle.sync_model.specs.declared.call.Call.{Call}
 use Rattle.sync_model.specs.declared.call.Operation.{Operation}
 use Rattle.sync_model.specs.declared.call.Reply.{Reply}
-use Rattle.sync_model.specs.declared.misuse.Misuse.{Misuse}
 use Rattle.sync_model.specs.declared.outcome.Ending.{Ending}
 use Rattle.sync_model.specs.declared.outcome.Ending.TheVariants as endings
 use Rattle.workload.specs.Keys.{keys_in, key_number}
@@ -20,17 +19,14 @@ use Rattle.workload.specs.declared.turn.Turn.{Turn}
 use Rattle.step_turns.specs.declared.answer.Answer.{Answer}
 use Rattle.step_turns.specs.declared.answer.Answer.TheVariants as answers
 use Rattle.step_turns.specs.declared.object_state.ObjectState.{ObjectState}
-use Rattle.step_turns.specs.Objects.{new_object, kind_of, EachAt}
+use Rattle.step_turns.specs.Objects.{new_object, kind_of}
 use Rattle.step_turns.specs.Ready.{IsReady}
 use Rattle.step_turns.specs.ReplyForm.{HasForm}
 use Rattle.step_turns.specs.Stands.{waits_at, IsOutAt, IsOutBut, waits_behind}
 use Rattle.step_turns.specs.Turns.{turn_at}
-use Rattle.step_runner.specs.declared.step.Step.{Step}
-use Rattle.step_runner.specs.declared.step.Step.TheVariants as steps
 use Rattle.step_runner.specs.Computed.{whole_run, outcome_of, turns}
-use Rattle.step_runner.specs.Ends.{numbered}
 use Rattle.step_runner.specs.Forms.{have_forms, all_have_forms, has_forms}
-use Rattle.step_runner.specs.State.{State, start, with_reply, with_moment, IsStateOf}
+use Rattle.step_runner.specs.State.{State, start, with_reply, IsStateOf}
 use Rattle.step_runner.specs.Turns.{next_call, turn_of, after_items}
 use Rattle.step_runner.proofs.StartLemmas.{each_start}
 use Rattle.step_runner.proofs.TurnLemmas.{both, both_true, Takes, takes_by, turn_cases, moved, replied_other, valid_scripts}

@@ -1,21 +1,19 @@
 -- At every moment the next turn of a worker that stands before a call of a map or an atomic makes the call whole.
-use Rattle.std.proofs.Common.{◌≡◌, ℕ, ◌<◌, true, List, [], ◌∷◌, ◌++◌, get_or, length, Option, Some, refl, sym, ap, ◌∙◌, arith}
+use Rattle.std.proofs.Common.{◌≡◌, ℕ, ◌<◌, true, List, [], ◌∷◌, ◌++◌, get_or, length, Option, Some, refl, ap, ◌∙◌, arith}
 use Rattle.std.specs.Option.{option_map_or}
 use Rattle.std.proofs.lemmas.List.{get_or-set_same}
 use Rattle.sync_model.specs.declared.call.Call.{Call}
-use Rattle.sync_model.specs.declared.call.Reply.{Reply}
 use Rattle.workload.specs.Plan.{Plan}
 use Rattle.step_turns.specs.declared.answer.Answer.{Answer}
-use Rattle.step_turns.specs.declared.answer.Answer.TheVariants as answers
 use Rattle.step_turns.specs.declared.object_state.ObjectState.{ObjectState}
-use Rattle.step_turns.specs.Items.{Item, items_at}
+use Rattle.step_turns.specs.Items.{items_at}
 use Rattle.step_turns.specs.PlacedCalls as turns
 use Rattle.step_turns.specs.Ready.{IsReady}
 use Rattle.step_turns.specs.Turns.{turn_at}
 use Rattle.step_runner.specs.declared.step.Step.{Step}
-use Rattle.step_runner.specs.RunItems.{made_by, IsAnswered}
+use Rattle.step_runner.specs.RunItems.{IsAnswered}
 use Rattle.step_runner.specs.State.{State, IsStateOf}
-use Rattle.step_runner.specs.Turns.{next_call, settled, turn_of}
+use Rattle.step_runner.specs.Turns.{next_call, settled}
 use Rattle.step_runner.proofs.TurnLemmas.{moved, ready, turn_before}
 
 -- what the law of turns says

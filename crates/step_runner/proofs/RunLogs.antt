@@ -1,17 +1,14 @@
 -- Each object of a run comes by the run's own items on it to what it is.
-use Rattle.std.proofs.Common.{◌≡◌, ℕ, zero, suc, ◌+◌, true, List, [], ◌∷◌, ◌++◌, map, Option, Some, None, refl, sym, ap, ◌∙◌, subst, append-nil, arith}
+use Rattle.std.proofs.Common.{◌≡◌, ℕ, zero, suc, ◌+◌, List, [], ◌∷◌, ◌++◌, Option, Some, None, refl, sym, ap, ◌∙◌, subst, arith}
 use Rattle.std.specs.Prelude.{slice_get, ◌==◌}
 use Rattle.std.specs.Option.{option_map, option_map_or}
 use Rattle.std.proofs.lemmas.List.Elements.{filter-append}
 use Rattle.sync_model.specs.declared.call.Call.{Call}
-use Rattle.sync_model.specs.declared.call.Reply.{Reply}
-use Rattle.sync_model.specs.declared.misuse.Misuse.{Misuse}
 use Rattle.sync_model.specs.declared.outcome.Report.{Report}
-use Rattle.workload.specs.declared.object.ObjectKind.{ObjectKind}
 use Rattle.workload.specs.declared.object.ObjectLine.{ObjectLine}
 use Rattle.workload.specs.declared.turn.Turn.{Turn}
 use Rattle.workload.specs.declared.turn.Turn.TheVariants as items
-use Rattle.workload.specs.Plan.{Plan, is_valid}
+use Rattle.workload.specs.Plan.{Plan}
 use Rattle.workload.specs.Puts.{puts_at}
 use Rattle.step_turns.specs.declared.answer.Answer.{Answer}
 use Rattle.step_turns.specs.declared.answer.Answer.TheVariants as answers
@@ -27,7 +24,7 @@ use Rattle.step_runner.specs.Ends.{ends_of}
 use Rattle.step_runner.specs.Outcomes.{rounds, IsDone}
 use Rattle.step_runner.specs.RunItems.{made_by, unless_ended, all_made, LeadTo}
 use Rattle.step_runner.specs.State.{State, start, new_objects, with_moment, IsStateOf}
-use Rattle.step_runner.specs.Turns.{next_call, turn_of, and_then, items_of, after_items}
+use Rattle.step_runner.specs.Turns.{turn_of, and_then, items_of, after_items}
 use Rattle.step_runner.proofs.MadeLemmas.{event_state}
 use Rattle.step_runner.proofs.RunLemmas.{GoesOn, moment_valid}
 use Rattle.step_runner.proofs.TurnLemmas.{Takes, takes_by, turn_cases, kind_there}

@@ -1,7 +1,6 @@
 -- The turns of a run that are taken for one call, and what they make.
 use Rattle.std.specs.Prelude.{ℕ, ◌+◌, ◌==◌, Bool, true, false, not, ◌&&◌, if◌then◌else◌, List, [], ◌∷◌, map, length, get_or}
 use Rattle.std.specs.Option.{option_map_or}
-use Rattle.sync_model.specs.declared.call.Call.{Call}
 use Rattle.workload.specs.declared.object.ObjectKind.{ObjectKind}
 use Rattle.workload.specs.declared.turn.Turn.{Turn}
 use Rattle.workload.specs.declared.turn.Turn.TheVariants as items
@@ -35,8 +34,8 @@ was_told plan worker s = option_map_or (λ call. is_told (kinds_in plan) call wo
 
 module _ (plan : Plan) (worker number : ℕ) where
   -- a turn of the worker for its call of this number, which makes an event and isn't a going back to the queue of a mutex
-  abbrev pub goes_on : ℕ → State → Bool
-  goes_on by s = (by == worker) && (stands_before worker number s && (makes_event (turn_of plan by s).1 && not (goes_back (made_by plan by s))))
+  abbrev pub advances : ℕ → State → Bool
+  advances by s = (by == worker) && (stands_before worker number s && (makes_event (turn_of plan by s).1 && not (goes_back (made_by plan by s))))
 
   -- a turn of the worker for that call which is such a going back
   abbrev pub requeues : ℕ → State → Bool

@@ -31,7 +31,7 @@ ghost use Rattle.step_runner.specs.declared.step.Step.TheVariants as steps;
 ghost use Rattle.sync_model.specs.declared.outcome.Report.{Report};
 ghost use Rattle.sync_model.specs.declared.outcome.Outcome.{Outcome};
 ghost use Rattle.sync_model.specs.declared.outcome.Outcome.TheVariants as outcomes;
-ghost use Rattle.step_runner.specs.CallTurns.{goes_on, requeues, wakes, count_turns};
+ghost use Rattle.step_runner.specs.CallTurns.{advances, requeues, wakes, count_turns};
 ghost use Rattle.step_runner.specs.Ends.{ends_of};
 ghost use Rattle.step_runner.specs.LeftToDo.{left_to_do};
 ghost use Rattle.step_runner.specs.MadeCalls.{made_calls, calls_of};
@@ -79,7 +79,7 @@ pub fn events_use_something_up()
 /// each of these another worker took a turn that unlocked, and told the worker to go on. The number of the call counts from 0
 /// in its worker's script.
 pub fn a_call_takes_few_turns()
-    ensures few { (plan : Plan) (items : List Turn) (worker number : ℕ) → is_valid plan ≡ true → count_turns plan (goes_on plan worker number) items (start plan) ≤ 4 }
+    ensures few { (plan : Plan) (items : List Turn) (worker number : ℕ) → is_valid plan ≡ true → count_turns plan (advances plan worker number) items (start plan) ≤ 4 }
     ensures woken { (plan : Plan) (items : List Turn) (worker number : ℕ) → is_valid plan ≡ true → count_turns plan (requeues plan worker number) items (start plan) ≤ count_turns plan (wakes plan worker number) items (start plan) }
 {
     validity();

@@ -1,7 +1,6 @@
 use Rattle.std.proofs.Common.{refl, sym, ◌∙◌}
 use Rattle.workload.specs.Plan.{Plan}
 use Rattle.step_runner.specs.Computed.{turns}
-use Rattle.sync_model.specs.declared.outcome.Outcome.TheVariants as outcomes
 use Rattle.step_runner.proofs.EndLemmas.{steps_is, is_steps, done_replied}
 use Rattle.step_runner.proofs.RunLemmas.{UsesUp, uses_up}
 use Rattle.step_runner.proofs.laws.each_run_has_one_outcome.Goals as goal
