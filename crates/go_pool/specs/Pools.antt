@@ -1,5 +1,5 @@
 -- What contracts see of a pool and of the passes to it. One object keeps all parts, so the journal of each part is that object's.
-use Rattle.std.specs.Prelude.{◌≡◌, ℕ, true, List, Some, slice_get}
+use Rattle.std.specs.Prelude.{◌≡◌, ℕ, true, List, All}
 use Rattle.sync_model.specs.declared.answer.Answer.{Answer}
 use Rattle.sync_model.specs.declared.journal.Deed.{Deed}
 use Rattle.sync_model.specs.declared.journal.Entry.{Entry}
@@ -58,7 +58,7 @@ module _ {N H : Type 0} where
 
   -- each of these is a pass of the pool
   abbrev pub ArePasses : Pool N H → List (PoolPass N) → Type 0
-  ArePasses pool passes = (i : ℕ) (pass : PoolPass N) → slice_get passes i ≡ Some pass → IsPassOf pool pass
+  ArePasses pool passes = All (IsPassOf pool) passes
 
   -- all passes of the pool, in order of number
   abbrev pub AreAllPasses : Pool N H → List (PoolPass N) → Type 0

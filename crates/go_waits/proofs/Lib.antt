@@ -1,7 +1,6 @@
 pub mod GroupStart
 pub mod Calling
 pub mod GroupSpelling
-pub mod Lasts
 pub mod OnceSpelling
 pub mod FreshPasses
 pub mod OnceRunning

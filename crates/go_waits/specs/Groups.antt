@@ -1,5 +1,5 @@
 -- What contracts see of a running WaitGroup and of the passes to it.
-use Rattle.std.specs.Prelude.{◌≡◌, ℕ, ℤ, pos, Bool, true, false, List, Some, replicate, slice_get}
+use Rattle.std.specs.Prelude.{◌≡◌, ℕ, ℤ, pos, Bool, true, false, List, All, replicate}
 use Rattle.sync_model.specs.declared.journal.Entry.{Entry}
 use Rattle.wait_cores.specs.declared.group.GroupEvent.{GroupEvent}
 use Rattle.wait_cores.specs.declared.group.GroupPlace.TheVariants.{Out}
@@ -48,7 +48,7 @@ module _ {N H : Type 0} where
 
   -- each of these is the pass of a caller of the group
   abbrev pub AreGroupPasses : WaitGroup N H → List (GroupPass N) → Type 0
-  AreGroupPasses group passes = (i : ℕ) (pass : GroupPass N) → slice_get passes i ≡ Some pass → IsPassOf group pass
+  AreGroupPasses group passes = All (IsPassOf group) passes
 
   -- all passes of the group, in order of number, each between two calls
   abbrev pub AreAllPasses : WaitGroup N H → List (GroupPass N) → Type 0

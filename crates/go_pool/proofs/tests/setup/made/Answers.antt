@@ -1,4 +1,5 @@
+use Rattle.std.proofs.lemmas.Option.{slice_get-get_or}
 use Rattle.go_pool.proofs.tests.setup.made.Goals as goal
 
 pub returns : goal.returns
-returns c i pass is = (c.in_ok-pool.ensures.passes.all.each i pass is).0
+returns c = λ k d below. (c.in_ok-pool.ensures.passes.all.each k _ (slice_get-get_or _ k d below)).0
