@@ -12,3 +12,6 @@ pub mod FirstCallers
 pub mod Noting
 pub mod Settles
 pub mod Looking
+pub mod Quiet
+pub mod Lookups
+pub mod Reading

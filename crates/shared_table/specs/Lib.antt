@@ -15,3 +15,4 @@ pub mod NewCallers
 pub mod Dealing
 pub mod Counted
 pub mod WordSteps
+pub mod Walking
