@@ -1,5 +1,5 @@
 -- The reads of a seat that looks a key up.
-use Rattle.std.proofs.Common.{◌≡◌, ◌≢◌, ℕ, zero, suc, ◌+◌, ◌^◌, ◌<◌, ◌≤◌, ◌==◌, true, cond, List, [], ◌∷◌, length, set, Option, Some, None, slice_index, ◌⊎◌, inl, inr, refl, sym, ap, ◌∙◌, subst, arith, le_refl}
+use Rattle.std.proofs.Common.{◌≡◌, ℕ, suc, ◌+◌, ◌^◌, ◌<◌, ◌≤◌, true, List, [], ◌∷◌, length, set, Option, Some, None, slice_index, ◌⊎◌, inl, inr, refl, sym, ap, ◌∙◌, subst, arith, le_refl}
 use Rattle.std.proofs.lemmas.List.{set-get_or}
 use Rattle.std.proofs.lemmas.Option.{none-some, same_Some}
 use mathlib.Core.Option.{some}
@@ -7,7 +7,6 @@ use lib.ListN.{get_elem?}
 use Rattle.atomic_table.specs.Table.{Me, Act, keeps, Valid, stepped, carried_after, Allows}
 use Rattle.sync_model.specs.declared.item.SharedCall.TheVariants as calls
 use Rattle.sync_model.specs.declared.item.SharedReply.TheVariants as replies
-use Rattle.sync_model.specs.declared.item.SharedEntry.{SharedEntry}
 use Rattle.sync_model.specs.declared.map_object.MapCall.TheVariants.{Load}
 use Rattle.sync_model.specs.declared.map_object.MapReply.TheVariants.{Found}
 use Rattle.sync_model.specs.SharedHistory.{contents_at, IsReply}
@@ -27,7 +26,7 @@ use Rattle.trie_nodes.specs.Slots.{slot_in}
 use Rattle.shared_table.specs.Layout.{root_word, size_of, IsBegin}
 use Rattle.shared_table.specs.Owed.{Walks, IsLeaf}
 use Rattle.shared_table.specs.Rule.{TableState, Kept}
-use Rattle.shared_table.specs.Shape.{Shape, start_of, held_at, till, time, IsBelow}
+use Rattle.shared_table.specs.Shape.{start_of, held_at, till, time, IsBelow}
 use Rattle.shared_table.specs.Walking.{standing, walk_at, HasWords, Enters, FindsIn, LooksIn, ReadsKey, ReadsValue}
 use Rattle.shared_table.proofs.Ledgers.{longer}
 use Rattle.shared_table.proofs.Quiet.{kept_standing, view_after, kept_quiet, answers}

@@ -1,5 +1,5 @@
 -- A table's own seats may make the reads of a lookup.
-use Rattle.std.proofs.Common.{◌≡◌, ℕ, suc, ◌+◌, ◌*◌, ◌^◌, ◌<◌, ◌≤◌, List, length, Option, Some, None, IsSome, refl, sym, ap, ◌∙◌, subst, arith}
+use Rattle.std.proofs.Common.{◌≡◌, ℕ, suc, ◌+◌, ◌*◌, ◌^◌, ◌<◌, ◌≤◌, length, Option, Some, None, IsSome, refl, sym, ap, ◌∙◌, subst, arith}
 use Rattle.atomic_table.specs.Table.{Me, Allows}
 use Rattle.sync_model.specs.declared.item.SharedCall.TheVariants as calls
 use Rattle.sync_model.specs.declared.item.SharedReply.TheVariants as replies
@@ -24,7 +24,7 @@ use Rattle.shared_table.specs.Notes.{own_by, IsNoteOf}
 use Rattle.shared_table.specs.Operations.{Places}
 use Rattle.shared_table.specs.Rule.{Kept}
 use Rattle.shared_table.specs.Shape.{start_of}
-use Rattle.shared_table.specs.Views.{with_item, called_view, view_state, IsIdle}
+use Rattle.shared_table.specs.Views.{with_item, called_view, view_state}
 use Rattle.shared_table.specs.Walking.{standing, walk_at, given_by, HasWords, Enters, Answers, FindsIn, LooksIn, ReadsKey, ReadsValue, IsFree, OnWay, AtEntry}
 use Rattle.shared_table.proofs.Calling.{some_own}
 use Rattle.shared_table.proofs.Lookups.{enters, looks_in, reads_key, reads_value}

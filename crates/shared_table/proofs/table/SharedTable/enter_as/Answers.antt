@@ -1,4 +1,4 @@
-use Rattle.std.proofs.Common.{◌≡◌, ◌+◌, ◌*◌, ◌<◌, length, sym, ap, ◌∙◌, subst, arith}
+use Rattle.std.proofs.Common.{◌+◌, ◌*◌, ◌<◌, sym, subst, arith}
 use Rattle.shared_table.proofs.Reading.{root_fits, may_enter}
 use Rattle.shared_table.proofs.table.SharedTable.enter_as.Goals as goal
 

@@ -1,4 +1,4 @@
-use Rattle.std.proofs.Common.{◌≡◌, ◌+◌, suc, length, refl, sym, ap, ◌∙◌, subst, arith}
+use Rattle.std.proofs.Common.{◌∙◌, subst, arith}
 use Rattle.shared_table.proofs.Reading.{IsAt, on_way, words_there, goes_on, finds_none, at_entry, finds}
 use Rattle.shared_table.proofs.table.SharedTable.walk.Goals as goal
 
