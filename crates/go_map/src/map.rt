@@ -40,6 +40,7 @@ impl<'a> Map<'a> {
         ensures called { MakesCall self.now.table.now self.now.number (MapCall.Load key) (MapReply.Found result) caller.old.note caller.new.note }
         ensures cost { steps.new ≤ steps.old + 11 }
     {
-        self.table.look_up(&mut caller.note, self.number, key, steps)
+        self.table
+            .look_up(&mut caller.note, self.number, key, steps)
     }
 }
