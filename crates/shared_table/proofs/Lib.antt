@@ -15,3 +15,9 @@ pub mod Looking
 pub mod Quiet
 pub mod Lookups
 pub mod Reading
+pub mod Outside
+pub mod Still
+pub mod Holding
+pub mod Locking
+pub mod Gating
+pub mod Writes

@@ -16,3 +16,4 @@ pub mod Dealing
 pub mod Counted
 pub mod WordSteps
 pub mod Walking
+pub mod Writing

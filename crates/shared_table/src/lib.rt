@@ -15,6 +15,7 @@ pub mod steps;
 pub mod table;
 pub mod view;
 pub mod word_step;
+mod writing;
 
 pub use begin::Begin;
 pub use new::{MAX_OBJECTS, MAX_UNITS};
