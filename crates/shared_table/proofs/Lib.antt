@@ -20,4 +20,5 @@ pub mod Still
 pub mod Holding
 pub mod Locking
 pub mod Gating
+pub mod Drafting
 pub mod Writes

@@ -1,11 +1,12 @@
 -- A table's own seats may make the steps of a call that writes, up to the write.
-use Rattle.std.proofs.Common.{◌≡◌, ℕ, suc, ◌+◌, ◌-◌, ◌*◌, ◌%◌, ◌^◌, ◌<◌, ◌≤◌, ◌==◌, length, Some, sym, ap, ◌∙◌, subst, arith}
+use Rattle.std.proofs.Common.{◌≡◌, ℕ, suc, ◌+◌, ◌-◌, ◌*◌, ◌%◌, ◌^◌, ◌<◌, ◌≤◌, ◌==◌, List, length, Some, sym, ap, ◌∙◌, subst, arith}
 use Rattle.std.proofs.lemmas.Option.{same_Some}
 use prog.Atomic.{either}
 use Rattle.atomic_table.specs.Table.{Me, State, Allows}
 use Rattle.shared_table.specs.declared.begin.Begin.{Begin}
 use Rattle.shared_table.specs.declared.table.SharedTable.{SharedTable}
 use Rattle.shared_table.specs.declared.view.Lock.{Lock}
+use Rattle.shared_table.specs.declared.view.Own.{Own}
 use Rattle.shared_table.specs.declared.view.View.{View}
 use Rattle.shared_table.specs.declared.view.Walk.{Walk}
 use Rattle.shared_table.specs.Laws.{HistoryLaws}
@@ -13,7 +14,8 @@ use Rattle.trie_nodes.specs.Layout.{slot_word}
 use Rattle.shared_table.specs.Layout.{gate_word, size_of}
 use Rattle.shared_table.specs.Rule.{Kept}
 use Rattle.shared_table.specs.Walking.{HasWords, IsFree}
-use Rattle.shared_table.specs.Writing.{IsWriter, TriesLock, Holds, ReadsHeld, Unlocks, ComesIn, IsInside, GoesOut}
+use Rattle.shared_table.specs.Writing.{IsWriter, TriesLock, Holds, ReadsHeld, Unlocks, ComesIn, IsInside, GoesOut, Drafts, HasDraft}
+use Rattle.shared_table.proofs.Drafting.{drafts}
 use Rattle.shared_table.proofs.Gating.{comes_in, goes_out}
 use Rattle.shared_table.proofs.Locking.{tries_lock, reads_held, unlocks}
 
@@ -79,3 +81,14 @@ module _ (table : SharedTable) (id : ℕ) (me : Me (Unit {0}) View) (word : ℕ)
   pub may_unlock : (node : ℕ) → (l : Lock) × (l.node ≡ node) × Holds table.table.shared.key me l → HasWords me.0 node 18 → word ≡ node → MayChange (λ n. 0) (λ found. Unlocks me 0)
   may_unlock node lock has is = let within = words_within node lock.2.begin has in let node_is = lock.1 in
       may_change lock.0.node (λ n. 0) (λ found. Unlocks me 0) (lock.1 ∙ sym is) (omega arith) (unlocks key laws id me lock.0 lock.2)
+
+  pub may_draft : (own : Own) (owns : List Own) (next written x : ℕ) → HasDraft table.table.shared.key me own owns next written → word ≡ next + written → MayChange (λ n. x) (λ found. Drafts x me x)
+  may_draft own owns next written x has is =
+      let next_is = has.next_is in
+      let written_is = has.written_is in
+      let room = has.room in
+      let within = has.within in
+      may_change (own.next + length own.draft) (λ n. x) (λ found. Drafts x me x) (omega arith) (omega arith) (drafts key laws id me own owns x has.live has.owns_are (omega arith))
+
+pub draft_within : (table : SharedTable) (me : Me (Unit {0}) View) (own : Own) (owns : List Own) (next written : ℕ) → HasDraft table.table.shared.key me own owns next written → next + written < 2 ^ 32
+draft_within table me own owns next written has = let room = has.room in let within = has.within in let objects = table.made.objects in let units = table.made.units in omega arith

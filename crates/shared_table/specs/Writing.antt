@@ -1,12 +1,15 @@
 -- A seat that writes: what it holds, and what its steps tell.
-use Rattle.std.specs.Prelude.{◌≡◌, ℕ, ◌<◌, ◌≤◌, ◌==◌, Bool, true, false, length, Option, Some, None, MatchBool}
+use Rattle.std.specs.Prelude.{◌≡◌, ℕ, ◌+◌, ◌*◌, ◌<◌, ◌≤◌, ◌==◌, Bool, true, false, List, [], ◌∷◌, ◌++◌, length, Option, Some, None, MatchBool}
 use Rattle.atomic_table.specs.Table.{Me}
 use Rattle.shared_table.specs.declared.begin.Begin.{Begin}
 use Rattle.shared_table.specs.declared.view.Gate.{Gate}
 use Rattle.shared_table.specs.declared.view.Gate.TheVariants.{Outside, Inside}
 use Rattle.shared_table.specs.declared.view.Lock.{Lock}
+use Rattle.shared_table.specs.declared.view.Own.{Own}
 use Rattle.shared_table.specs.declared.view.View.{View}
 use Rattle.shared_table.specs.declared.view.Walk.{Walk}
+use Rattle.trie_nodes.specs.Layout.{unit_words}
+use Rattle.shared_table.specs.Layout.{size_of}
 
 -- the view of a seat that stands to a gate so, and holds these locks
 abbrev pub holding : View → Gate → Option Lock → Option Lock → View
@@ -70,3 +73,24 @@ pub record IsInside (k : Begin) (me : Me (Unit {0}) View) (m : ℕ) : Type 0 whe
 -- a seat went out
 abbrev pub GoesOut : Me (Unit {0}) View → ℕ → Me (Unit {0}) View → Type 0
 GoesOut before found after = (after.1 ≡ before.1) × (after.0 ≡ holding before.0 Outside None None)
+
+-- one more word in the room of the first caller
+abbrev pub with_word : List Own → ℕ → List Own
+with_word [] x = []
+with_word (own ∷ owns) x = record own { draft = own.draft ++ x ∷ [] } ∷ owns
+
+abbrev pub drafted : View → ℕ → View
+drafted v x = record v { owns = with_word v.owns x }
+
+-- a seat wrote the next word of its own room
+abbrev pub Drafts : ℕ → Me (Unit {0}) View → ℕ → Me (Unit {0}) View → Type 0
+Drafts x before found after = (after.1 ≡ before.1) × (after.0 ≡ drafted before.0 x)
+
+-- the first caller of a seat has this room, and has written so many words of it
+pub record HasDraft (k : Begin) (me : Me (Unit {0}) View) (own : Own) (owns : List Own) (next written : ℕ) : Type 0 where
+  pub live : me.0.live ≡ true
+  pub owns_are : me.0.owns ≡ own ∷ owns
+  pub next_is : own.next ≡ next
+  pub written_is : length own.draft ≡ written
+  pub room : written < unit_words * own.spare
+  pub within : next + unit_words * own.spare ≤ size_of k

@@ -1,12 +1,13 @@
 //! The steps of a call that writes a map, up to the write: coming in by the map's gate, taking the lock of a node, reading a
-//! slot under it, giving the lock back, and going out.
-ghost use Rattle.std.specs.Prelude.{◌≡◌, ℕ, ◌+◌, ◌<◌, ◌≤◌, true, Some, None, MatchBool, length};
+//! slot under it, writing a word of the own room, giving the lock back, and going out.
+ghost use Rattle.std.specs.Prelude.{◌≡◌, ℕ, ◌+◌, ◌<◌, ◌≤◌, true, List, Some, None, MatchBool, length};
 ghost use Rattle.shared_table.specs.declared.view.Gate.TheVariants.{Outside, Inside};
 ghost use Rattle.shared_table.specs.declared.view.Lock.{Lock};
+ghost use Rattle.shared_table.specs.declared.view.Own.{Own};
 ghost use Rattle.shared_table.specs.declared.view.Walk.{Walk};
 ghost use Rattle.shared_table.specs.Tables.{maps_of};
 ghost use Rattle.shared_table.specs.Walking.{HasWords, IsFree};
-ghost use Rattle.shared_table.specs.Writing.{holding, lock_at, IsWriter, TriesLock, Holds, ReadsHeld, Unlocks, ComesIn, IsInside, GoesOut};
+ghost use Rattle.shared_table.specs.Writing.{holding, lock_at, IsWriter, TriesLock, Holds, ReadsHeld, Unlocks, ComesIn, IsInside, GoesOut, drafted, Drafts, HasDraft};
 ghost use Rattle.trie_nodes.specs.Layout.{slot_word as slot_at};
 
 use crate::laws::history_laws;
@@ -52,6 +53,13 @@ pub(crate) struct Unlock;
 
 impl Play<(), View> for Unlock {
     ghost then = { λ step before found after. Unlocks before found after };
+}
+
+/// A seat writes the next word of its own room.
+pub(crate) struct Draft;
+
+impl Play<(), View> for Draft {
+    ghost then = { λ step before found after. Drafts step.first before found after };
 }
 
 impl SharedTable {
@@ -145,5 +153,17 @@ impl SharedTable {
         history_laws();
         let word = 2 + self.begin.kinds.len() + 2 * map as usize;
         self.table.shared.fetch_sub::<GoOut>(seat, word, 1);
+    }
+
+    // Writes the next word of the caller's own room, which no slot leads to. So far it holds this many words.
+    pub(crate) fn draft(&self, seat: &mut Seat<(), View>, next: u64, written: u64, new: u64)
+        requires table { seat.old.table_id ≡ self.now.table.shared.table_id }
+        requires room { (own : Own) × (owns : List Own) × HasDraft self.now.table.shared.key seat.old.me own owns next written }
+        ensures table { seat.new.table_id ≡ seat.old.table_id }
+        ensures written { (seat.new.me.1 ≡ seat.old.me.1) × (seat.new.me.0 ≡ drafted seat.old.me.0 new) }
+    {
+        history_laws();
+        let word = (next + written) as usize;
+        self.table.shared.store::<Draft>(seat, word, new);
     }
 }
