@@ -27,7 +27,7 @@ use Rattle.shared_table.specs.WordSteps.{word_after}
 use Rattle.shared_table.specs.Views.{held_in, with_item, called_view, IsIdle}
 use Rattle.shared_table.proofs.Operating.{operates}
 
-some_own : (n : ℕ) (owns : List Own) → IsSome (held_in n owns) → 0 < length owns
+pub some_own : (n : ℕ) (owns : List Own) → IsSome (held_in n owns) → 0 < length owns
 some_own n [] is = absurd (let e : false ≡ true = is in (cc))
 some_own n (own ∷ owns) is = omega arith
 

@@ -12,3 +12,13 @@ pub mod FirstCallers
 pub mod Noting
 pub mod Settles
 pub mod Looking
+pub mod Quiet
+pub mod Lookups
+pub mod Reading
+pub mod Outside
+pub mod Still
+pub mod Holding
+pub mod Locking
+pub mod Gating
+pub mod Drafting
+pub mod Writes

@@ -15,3 +15,5 @@ pub mod NewCallers
 pub mod Dealing
 pub mod Counted
 pub mod WordSteps
+pub mod Walking
+pub mod Writing

@@ -1,6 +1,6 @@
 //! Maps and atomics in one row of words.
 ghost use Rattle.std.specs.Prelude.{◌≡◌, ◌<◌};
-ghost use Rattle.shared_table.specs.Layout.{callers_of, size_of};
+ghost use Rattle.shared_table.specs.Layout.{callers_of, size_of, IsBegin};
 
 use crate::begin::Begin;
 use crate::rule::SharedRule;
@@ -16,6 +16,7 @@ pub struct SharedTable {
     // What the table was made of.
     pub(crate) begin: Begin,
     ghost same: { table.shared.key ≡ begin },
+    ghost made: { IsBegin table.shared.key },
     ghost some: { 0 < callers_of table.shared.key },
     ghost sized: { (table.shared.table_id.words ≡ size_of table.shared.key) × (table.shared.table_id.slots ≡ 0) },
 }

@@ -1,0 +1,28 @@
+-- A call leaves a caller a caller.
+use Rattle.std.proofs.Common.{◌≡◌, ℕ, List, [], ◌∷◌, ◌++◌, length, Option, Some, IsSome, slice_get, refl, sym, subst}
+use Rattle.sync_model.specs.declared.caller.Caller.{Caller}
+use Rattle.sync_model.specs.declared.map_object.MapCall.{MapCall}
+use Rattle.sync_model.specs.declared.map_object.MapReply.{MapReply}
+use Rattle.sync_model.specs.Note.{Holding}
+use Rattle.sync_model.specs.Shared.{IsCallerAt}
+use Rattle.shared_table.specs.declared.note.SharedNote.{SharedNote}
+use Rattle.shared_table.specs.declared.table.SharedTable.{SharedTable}
+use Rattle.shared_table.specs.NewCallers.{AreNewCallers}
+use Rattle.shared_table.specs.Notes.{own_by, IsNoteOf}
+use Rattle.go_map.specs.Maps.{MakesCall}
+
+some_is : (own : Option Holding) (h : Holding) → own ≡ Some h → IsSome own
+some_is own h e = subst (λ (o : Option Holding). IsSome o) (sym e) refl
+
+pub stays : (table : SharedTable) (map : ℕ) (call : MapCall ℕ) (reply : MapReply) (old new : SharedNote) → IsNoteOf table old → MakesCall table map call reply old new → IsCallerAt IsNoteOf own_by table (record { note = new })
+stays table map call reply old new is makes = (makes.0 table is, some_is (own_by new) makes.1.becomes makes.1.own_new)
+
+at_last : {A : Type 0} (xs : List A) (x : A) → slice_get (xs ++ x ∷ []) (length xs) ≡ Some x
+at_last [] x = refl
+at_last (y ∷ xs) x = at_last xs x
+
+-- the last of a new table's callers
+pub last_caller : (table : SharedTable) (spare : List ℕ) (callers rest : List (Caller SharedNote)) (caller : Caller SharedNote) → AreNewCallers table spare callers → callers ≡ rest ++ caller ∷ [] → IsCallerAt IsNoteOf own_by table caller
+last_caller table spare callers rest caller new is =
+    let each = new.all.each (length rest) caller (subst (λ l. slice_get l (length rest) ≡ Some caller) (sym is) (at_last rest caller)) in
+    (each.0, some_is (own_by caller.note) each.1.0 each.1.1)

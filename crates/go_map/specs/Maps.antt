@@ -1,0 +1,17 @@
+-- Calls on the maps of a shared table.
+use Rattle.std.specs.Prelude.{ℕ}
+use Rattle.sync_model.specs.declared.item.SharedCall.TheVariants as calls
+use Rattle.sync_model.specs.declared.item.SharedReply.TheVariants as replies
+use Rattle.sync_model.specs.declared.map_object.MapCall.{MapCall}
+use Rattle.sync_model.specs.declared.map_object.MapReply.{MapReply}
+use Rattle.sync_model.specs.Note.{SameHome}
+use Rattle.sync_model.specs.Shared.{Called, cost_of, state_of}
+use Rattle.shared_table.specs.declared.note.SharedNote.{SharedNote}
+use Rattle.shared_table.specs.declared.table.SharedTable.{SharedTable}
+use Rattle.shared_table.specs.Notes.{front_by, own_by, seen_by, IsNoteOf}
+use Rattle.shared_table.specs.Tables.{first_of}
+
+-- a note's holder made this call on a map, and was answered so: the call is one more of the holder's own, at its place in the history, and the note is of each table of which it was one
+abbrev pub MakesCall : SharedTable → ℕ → MapCall ℕ → MapReply → SharedNote → SharedNote → Type 0
+MakesCall table map call reply old new =
+    SameHome IsNoteOf old new × Called (first_of table) (calls.Map map call) (replies.Map reply) (cost_of call) (state_of own_by front_by seen_by old) (state_of own_by front_by seen_by new)

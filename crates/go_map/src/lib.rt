@@ -1,0 +1,9 @@
+//! Go's `sync.Map` on the words of a shared table.
+#![tactic(auto)]
+
+pub mod map;
+
+pub use map::Map;
+
+#[cfg(test)]
+mod tests;

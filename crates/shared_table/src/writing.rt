@@ -1,0 +1,169 @@
+//! The steps of a call that writes a map, up to the write: coming in by the map's gate, taking the lock of a node, reading a
+//! slot under it, writing a word of the own room, giving the lock back, and going out.
+ghost use Rattle.std.specs.Prelude.{◌≡◌, ℕ, ◌+◌, ◌<◌, ◌≤◌, true, List, Some, None, MatchBool, length};
+ghost use Rattle.shared_table.specs.declared.view.Gate.TheVariants.{Outside, Inside};
+ghost use Rattle.shared_table.specs.declared.view.Lock.{Lock};
+ghost use Rattle.shared_table.specs.declared.view.Own.{Own};
+ghost use Rattle.shared_table.specs.declared.view.Walk.{Walk};
+ghost use Rattle.shared_table.specs.Tables.{maps_of};
+ghost use Rattle.shared_table.specs.Walking.{HasWords, IsFree};
+ghost use Rattle.shared_table.specs.Writing.{holding, lock_at, IsWriter, TriesLock, Holds, ReadsHeld, Unlocks, ComesIn, IsInside, GoesOut, drafted, Drafts, HasDraft};
+ghost use Rattle.trie_nodes.specs.Layout.{slot_word as slot_at};
+
+use crate::laws::history_laws;
+use crate::lookup::Way;
+use crate::table::SharedTable;
+use crate::view::View;
+use atomic_table::{Play, Seat};
+use std::marker::{Brand, PhantomData};
+use trie_nodes::layout::{DEAD, FREE, held_word, lock_word, slot_word};
+
+/// A seat comes in as a writer of a map.
+pub(crate) struct ComeIn<W> {
+    marker: PhantomData<W>,
+}
+
+impl<W: Way> Play<(), View> for ComeIn<W> {
+    ghost then = { λ step before found after. ComesIn W.map step.first before found after };
+}
+
+/// A seat goes out.
+pub(crate) struct GoOut;
+
+impl Play<(), View> for GoOut {
+    ghost then = { λ step before found after. GoesOut before found after };
+}
+
+/// A seat tries the lock of the node where it stands.
+pub(crate) struct TryLock;
+
+impl Play<(), View> for TryLock {
+    ghost then = { λ step before found after. (w : Walk) → before.0.walk ≡ Some w → TriesLock w before found after };
+}
+
+/// A seat reads a slot of the node whose lock it holds.
+pub(crate) struct ReadHeld;
+
+impl Play<(), View> for ReadHeld {
+    ghost then = { λ step before found after. (l : Lock) (slot : ℕ) → before.0.lock ≡ Some l → step.word ≡ slot_at l.node slot → ReadsHeld l slot before found after };
+}
+
+/// A seat gives its lock back.
+pub(crate) struct Unlock;
+
+impl Play<(), View> for Unlock {
+    ghost then = { λ step before found after. Unlocks before found after };
+}
+
+/// A seat writes the next word of its own room.
+pub(crate) struct Draft;
+
+impl Play<(), View> for Draft {
+    ghost then = { λ step before found after. Drafts step.first before found after };
+}
+
+impl SharedTable {
+    // Tries to come in as a writer of the map. It doesn't where the gate is closed, or where another passed it just then.
+    pub(crate) fn try_come_in(&self, seat: &mut Seat<(), View>, map: u32) -> bool
+        requires table { seat.old.table_id ≡ self.now.table.shared.table_id }
+        requires free { IsFree self.now.table.shared.key seat.old.me }
+        requires map { map < maps_of self.now }
+        ensures table { seat.new.table_id ≡ seat.old.table_id }
+        ensures slots { seat.new.me.1 ≡ seat.old.me.1 }
+        ensures inside { MatchBool result (seat.new.me.0 ≡ holding seat.old.me.0 (Inside map) None None) (seat.new.me.0 ≡ seat.old.me.0) }
+    {
+        self.come_in_as::<Brand>(seat, map)
+    }
+
+    // The same, at a map that is told by a type.
+    fn come_in_as<W: Way>(&self, seat: &mut Seat<(), View>, map: u32) -> bool
+        requires table { seat.old.table_id ≡ self.now.table.shared.table_id }
+        requires free { IsFree self.now.table.shared.key seat.old.me }
+        requires map { map < maps_of self.now }
+        requires told { W.map ≡ map }
+        ensures table { seat.new.table_id ≡ seat.old.table_id }
+        ensures slots { seat.new.me.1 ≡ seat.old.me.1 }
+        ensures inside { MatchBool result (seat.new.me.0 ≡ holding seat.old.me.0 (Inside map) None None) (seat.new.me.0 ≡ seat.old.me.0) }
+    {
+        history_laws();
+        let word = 2 + self.begin.kinds.len() + 2 * map as usize;
+        let shared = &self.table.shared;
+        let writers = shared.peek(word);
+        if writers >= DEAD {
+            return false;
+        }
+        shared.compare_exchange::<ComeIn<W>>(seat, word, writers, writers + 1) == writers
+    }
+
+    // Tries the lock of the node where the seat stands, for the seat's caller.
+    pub(crate) fn try_lock(&self, seat: &mut Seat<(), View>, node: u64, caller: u32) -> bool
+        requires table { seat.old.table_id ≡ self.now.table.shared.table_id }
+        requires writer { (w : Walk) × (w.node ≡ node) × IsWriter self.now.table.shared.key seat.old.me w }
+        requires words { HasWords seat.old.me.0 node 18 }
+        requires caller { caller ≡ seat.old.me.0.number }
+        ensures table { seat.new.table_id ≡ seat.old.table_id }
+        ensures slots { seat.new.me.1 ≡ seat.old.me.1 }
+        ensures lock { (w : Walk) → seat.old.me.0.walk ≡ Some w → MatchBool result ((up : ℕ) × (seat.new.me.0 ≡ holding seat.old.me.0 seat.old.me.0.gate (Some (lock_at w up)) None)) (seat.new.me.0 ≡ seat.old.me.0) }
+    {
+        history_laws();
+        let found = self
+            .table
+            .shared
+            .compare_exchange::<TryLock>(seat, lock_word(node), FREE, held_word(caller));
+        found == FREE
+    }
+
+    // A slot of the node whose lock the seat holds.
+    pub(crate) fn read_held(&self, seat: &mut Seat<(), View>, node: u64, slot: u32) -> u64
+        requires table { seat.old.table_id ≡ self.now.table.shared.table_id }
+        requires lock { (l : Lock) × (l.node ≡ node) × Holds self.now.table.shared.key seat.old.me l }
+        requires words { HasWords seat.old.me.0 node 18 }
+        requires slot { slot < 16 }
+        ensures table { seat.new.table_id ≡ seat.old.table_id }
+        ensures read { (l : Lock) → seat.old.me.0.lock ≡ Some l → ReadsHeld l slot seat.old.me result seat.new.me }
+    {
+        history_laws();
+        self.table
+            .shared
+            .load::<ReadHeld>(seat, slot_word(node, slot))
+    }
+
+    // Gives the lock of a node back.
+    pub(crate) fn unlock(&self, seat: &mut Seat<(), View>, node: u64)
+        requires table { seat.old.table_id ≡ self.now.table.shared.table_id }
+        requires lock { (l : Lock) × (l.node ≡ node) × Holds self.now.table.shared.key seat.old.me l }
+        requires words { HasWords seat.old.me.0 node 18 }
+        ensures table { seat.new.table_id ≡ seat.old.table_id }
+        ensures unlocked { (seat.new.me.1 ≡ seat.old.me.1) × (seat.new.me.0 ≡ holding seat.old.me.0 seat.old.me.0.gate None None) }
+    {
+        history_laws();
+        self.table
+            .shared
+            .store::<Unlock>(seat, lock_word(node), FREE);
+    }
+
+    // Goes out of the map's gate.
+    pub(crate) fn go_out(&self, seat: &mut Seat<(), View>, map: u32)
+        requires table { seat.old.table_id ≡ self.now.table.shared.table_id }
+        requires inside { IsInside self.now.table.shared.key seat.old.me map }
+        requires map { map < maps_of self.now }
+        ensures table { seat.new.table_id ≡ seat.old.table_id }
+        ensures out { (seat.new.me.1 ≡ seat.old.me.1) × (seat.new.me.0 ≡ holding seat.old.me.0 Outside None None) }
+    {
+        history_laws();
+        let word = 2 + self.begin.kinds.len() + 2 * map as usize;
+        self.table.shared.fetch_sub::<GoOut>(seat, word, 1);
+    }
+
+    // Writes the next word of the caller's own room, which no slot leads to. So far it holds this many words.
+    pub(crate) fn draft(&self, seat: &mut Seat<(), View>, next: u64, written: u64, new: u64)
+        requires table { seat.old.table_id ≡ self.now.table.shared.table_id }
+        requires room { (own : Own) × (owns : List Own) × HasDraft self.now.table.shared.key seat.old.me own owns next written }
+        ensures table { seat.new.table_id ≡ seat.old.table_id }
+        ensures written { (seat.new.me.1 ≡ seat.old.me.1) × (seat.new.me.0 ≡ drafted seat.old.me.0 new) }
+    {
+        history_laws();
+        let word = (next + written) as usize;
+        self.table.shared.store::<Draft>(seat, word, new);
+    }
+}
