@@ -2,4 +2,5 @@ pub mod CallWords
 pub mod Lines
 pub mod MessageTexts
 pub mod Reading
+pub mod Runs
 pub mod Writing

@@ -33,6 +33,7 @@ Ends Comes plan old new ending = (outcome : Outcome) × Comes plan outcome × (e
 -- what a fault leaves of the report of an outcome that the workload's run came to: a first part, or nothing
 abbrev pub Fails : (Plan → Outcome → Type 0) → Plan → Option (List ℕ) → Option (List ℕ) → Fault → Type 0
 Fails Comes plan old new faults.CannotWrite = (outcome : Outcome) × Comes plan outcome × AppendsFront old new (report_text plan outcome)
+Fails Comes plan old new faults.CannotStart = new ≡ old
 Fails Comes plan old new faults.Memory = new ≡ old
 
 -- what the bytes of a file come to, where they are told, with what was written before and after

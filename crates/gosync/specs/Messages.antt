@@ -25,6 +25,7 @@ code_of (statuses.Unread (unreads.NotAccepted line reason)) = 1
 code_of (statuses.Unread unreads.CannotRead) = 3
 code_of (statuses.Unread unreads.Memory) = 4
 code_of (statuses.Failed faults.CannotWrite) = 3
+code_of (statuses.Failed faults.CannotStart) = 3
 code_of (statuses.Failed faults.Memory) = 4
 code_of statuses.Usage = 5
 
@@ -57,6 +58,7 @@ unread_line file unreads.Memory = codes "gosync: out of memory\n"
 -- why there is no whole report
 abbrev pub fault_line : Fault → List ℕ
 fault_line faults.CannotWrite = codes "gosync: cannot write the report\n"
+fault_line faults.CannotStart = codes "gosync: cannot start the workers\n"
 fault_line faults.Memory = codes "gosync: out of memory\n"
 
 -- the line on the error output, of a run of this file

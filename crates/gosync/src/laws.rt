@@ -1,5 +1,5 @@
-//! What it means that a run by schedule has one outcome.
-ghost use Rattle.std.specs.Prelude.{◌≡◌, ℕ, List, Option, Some};
+//! What it means that a run by schedule has one outcome, and that one with threads is explained.
+ghost use Rattle.std.specs.Prelude.{◌≡◌, ℕ, List, map, length, Option, Some};
 ghost use Rattle.sync_outside.specs.Bytes.{Appends, AppendsFront};
 ghost use Rattle.workload.specs.Plan.{Plan};
 ghost use Rattle.workload.specs.Reads.{Reads};
@@ -7,11 +7,21 @@ ghost use Rattle.step_runner.specs.Computed.{turns};
 ghost use Rattle.step_runner.specs.Outcomes.{StepsTo};
 ghost use Rattle.gosync.specs.Messages.{ending_of};
 ghost use Rattle.gosync.specs.ReportText.{report_text};
-ghost use Rattle.gosync.specs.ComesTo.{ComesTo, IsRead};
+ghost use Rattle.sync_model.specs.declared.outcome.Report.{Report};
+ghost use Rattle.sync_model.specs.declared.outcome.Outcome.TheVariants as outcomes;
+ghost use Rattle.sync_model.specs.declared.misuse.Misuse.{Misuse};
+ghost use Rattle.run_record.specs.Explains.{Explains};
+ghost use Rattle.run_record.specs.Record.{Record};
+ghost use Rattle.gosync.specs.ComesTo.{ComesTo, Ends, IsRead};
+ghost use Rattle.gosync.specs.Headline.{Headline, HasMet, RunsTo};
+ghost use Rattle.gosync.specs.declared.status.Ending.TheVariants as endings;
 ghost use Rattle.gosync.specs.declared.status.Ending.{Ending};
 ghost use Rattle.gosync.specs.declared.status.Status.TheVariants as statuses;
 ghost use Rattle.gosync.specs.declared.status.Fault.TheVariants as faults;
 
+use run_record::laws::endings::{
+    a_run_is_done_unless_it_was_misused, a_run_that_is_done_answers_each_call,
+};
 use step_runner::laws::each_run_has_one_outcome;
 use workload::laws::one_reading;
 
@@ -26,5 +36,22 @@ pub fn a_run_by_schedule_is_computed()
         → (ending ≡ ending_of (turns plan)) × Appends old new (report_text plan (turns plan)) }
 {
     each_run_has_one_outcome();
+    one_reading();
+}
+
+/// What the headline says in short, where all is written. A run with threads that ends done answered each call of each script once.
+/// One that ends misused tells a misuse that some worker met. None is told to be deadlocked. Where the bytes are told, all
+/// this is so of the workload that they are read as.
+pub fn a_run_with_threads_is_explained()
+    ensures done { (told old new : Option (List ℕ)) → Headline told old new (statuses.Ended endings.Done)
+        → (plan : Plan) × (left : Report) × (r : Record) × IsRead told plan × Explains plan (outcomes.Done left) r × (map length left.replies ≡ map length plan.scripts) × Appends old new (report_text plan (outcomes.Done left)) }
+    ensures misused { (told old new : Option (List ℕ)) (misuse : Misuse) → Headline told old new (statuses.Ended (endings.Misused misuse))
+        → (plan : Plan) × (left : Report) × (r : Record) × IsRead told plan × HasMet plan (outcomes.Misused left misuse) r misuse × Appends old new (report_text plan (outcomes.Misused left misuse)) }
+    ensures never_deadlocked { (told old new : Option (List ℕ)) → Headline told old new (statuses.Ended endings.Deadlocked) → ⊥ }
+    ensures told { (bytes : List ℕ) (plan : Plan) (old new : Option (List ℕ)) (ending : Ending) → Reads bytes plan → Headline (Some bytes) old new (statuses.Ended ending)
+        → Ends RunsTo plan old new ending }
+{
+    a_run_is_done_unless_it_was_misused();
+    a_run_that_is_done_answers_each_call();
     one_reading();
 }

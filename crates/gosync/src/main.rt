@@ -4,13 +4,16 @@
 mod call_words;
 mod completed_line;
 mod end_line;
+mod front;
 mod input;
 mod laws;
 mod line;
 mod message;
 mod program;
+mod read;
 mod reply;
 mod report;
+mod run;
 mod status;
 mod step;
 #[cfg(test)]
@@ -23,7 +26,7 @@ use crate::status::{Status, Unread};
 use std::env;
 use std::io::ErrorKind;
 use std::process::ExitCode;
-use sync_outside::{SystemSources, WriterSink};
+use sync_outside::{OpenGate, SystemClock, SystemSources, ThreadSpawner, WriterSink};
 
 /// The words of the command line. Those that aren't UTF-8 aren't taken.
 fn words_of(rt: &HostRuntime) -> Result<Vec<String>, Status> {
@@ -46,8 +49,20 @@ fn main(rt: HostRuntime) -> ExitCode {
     let mut src = SystemSources::new(&rt);
     let mut out = WriterSink::new(rt.stdout());
     let mut err = WriterSink::new(rt.stderr());
+    let clock = SystemClock::new(&rt);
+    let mut spawner = ThreadSpawner::new();
     let status = match words_of(&rt) {
-        Ok(words) => gosync(rt.alloc(), &words, &mut src, &mut out, &mut err),
+        Ok(words) => gosync(
+            &rt,
+            rt.alloc(),
+            &words,
+            &mut src,
+            &mut out,
+            &mut err,
+            &clock,
+            &mut spawner,
+            &OpenGate,
+        ),
         Err(status) => {
             say(&mut err, "", status);
             status

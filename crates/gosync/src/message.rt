@@ -1,5 +1,5 @@
 //! The line on the error output.
-ghost use Rattle.std.specs.Prelude.{◌≤◌};
+ghost use Rattle.std.specs.Prelude.{◌≡◌, ◌≤◌, []};
 ghost use Rattle.std.specs.List.{flat_map};
 ghost use Rattle.gosync.specs.Messages.{ending_line, unread_line, fault_line, message_of, WritesOut};
 
@@ -65,6 +65,7 @@ fn say_fault<E: Sink>(err: &mut E, fault: Fault)
 {
     match fault {
         Fault::CannotWrite => say_text(err, b"gosync: cannot write the report\n"),
+        Fault::CannotStart => say_text(err, b"gosync: cannot start the workers\n"),
         Fault::Memory => say_text(err, b"gosync: out of memory\n"),
     }
 }
@@ -84,4 +85,14 @@ pub fn say<E: Sink>(err: &mut E, file: &str, status: Status)
             b"usage: gosync run FILE | gosync step FILE | gosync make SEED\n",
         ),
     }
+}
+
+/// Says how the program ends behind a run, and answers it.
+pub fn say_run<E: Sink>(err: &mut E, status: Status) -> Status
+    ensures status { result ≡ status }
+    ensures says { WritesOut (E.contents err.old) (E.contents err.new) (E.faults err.old) (E.faults err.new) (message_of [] status) }
+    ensures faults { E.faults err.old ≤ E.faults err.new }
+{
+    say(err, "", status);
+    status
 }

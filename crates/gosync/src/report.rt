@@ -1,15 +1,18 @@
 //! The report of a run.
-ghost use Rattle.std.specs.Prelude.{◌≡◌, ◌≤◌, ◌<◌, true, [], get_or, vec_capacity, OnOk, OnErr};
+ghost use Rattle.std.specs.Prelude.{◌≡◌, ◌≤◌, ◌<◌, true, [], get_or, vec_capacity, MatchResult, OnOk, OnErr};
 ghost use Rattle.std.specs.List.{list_all};
 ghost use Rattle.sync_outside.specs.Bytes.{Appends, AppendsFront};
 ghost use Rattle.sync_outside.specs.Faults.{Rose};
 ghost use Rattle.workload.specs.declared.limits.TheConstants.{MAX_KEYS};
 ghost use Rattle.sync_model.specs.Outcome.{has_pairs_to, shows_to};
+ghost use Rattle.gosync.specs.Messages.{ending_of};
+ghost use Rattle.gosync.specs.declared.status.Fault.TheVariants as faults;
 ghost use Rattle.gosync.specs.ReportText.{calls_text, workers_text, ends_text, report_text};
 
 use crate::completed_line::set_completed_line;
 use crate::end_line::set_end_line;
 use crate::line::LINE_ROOM;
+use crate::status::{Ending, Fault};
 use sync_model::{End, Outcome, Reply, Seq};
 use sync_outside::{Failed, Sink};
 use workload::Workload;
@@ -114,5 +117,37 @@ pub fn report<O: Sink>(
         Outcome::Misused(left, _) | Outcome::Deadlocked(left) => {
             write_workers(workload, left.replies.as_slice(), line, out)
         }
+    }
+}
+
+/// How a run ended that came to this.
+fn ending_of(outcome: &Outcome) -> Ending
+    ensures { result ≡ ending_of outcome.now }
+{
+    match outcome {
+        Outcome::Done(_) => Ending::Done,
+        Outcome::Misused(_, misuse) => Ending::Misused(*misuse),
+        Outcome::Deadlocked(_) => Ending::Deadlocked,
+    }
+}
+
+/// Writes the report of what a run came to, and answers how the run ended.
+pub fn report_run<O: Sink>(
+    workload: &Workload,
+    outcome: &Outcome,
+    line: &mut Vec<u8>,
+    out: &mut O,
+) -> Result<Ending, Fault>
+    requires pairs { shows_to MAX_KEYS outcome.now ≡ true }
+    requires room { LINE_ROOM ≤ vec_capacity line.old }
+    ensures written { MatchResult result
+        (λ ending. (ending ≡ ending_of outcome.now) × Appends (O.contents out.old) (O.contents out.new) (report_text workload.now outcome.now))
+        (λ fault. (fault ≡ faults.CannotWrite) × AppendsFront (O.contents out.old) (O.contents out.new) (report_text workload.now outcome.now)) }
+    ensures cannot_write { OnErr result (Rose (O.faults out.old) (O.faults out.new)) }
+    ensures out_faults { O.faults out.old ≤ O.faults out.new }
+{
+    match report(workload, outcome, line, out) {
+        Ok(()) => Ok(ending_of(outcome)),
+        Err(_) => Err(Fault::CannotWrite),
     }
 }

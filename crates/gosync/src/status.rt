@@ -3,7 +3,7 @@ ghost use Rattle.std.specs.Prelude.{◌≡◌};
 ghost use Rattle.gosync.specs.Messages.{code_of};
 
 use sync_model::Misuse;
-use workload::Reason;
+use workload::{Reason, Workload};
 
 /// How a run of a workload ended.
 #[derive(Clone, Copy, Debug, PartialEq, Eq)]
@@ -32,6 +32,8 @@ pub enum Unread {
 pub enum Fault {
     /// A write of the report failed. What was written is a first part of it.
     CannotWrite,
+    /// The start of a thread was refused. No worker made a call, and nothing is written.
+    CannotStart,
     /// Memory is out. Nothing is written.
     Memory,
 }
@@ -58,9 +60,19 @@ impl Status {
             Status::Ended(Ending::Done) => 0,
             Status::Ended(Ending::Misused(_) | Ending::Deadlocked) => 2,
             Status::Unread(Unread::NotAccepted { .. }) => 1,
-            Status::Unread(Unread::CannotRead) | Status::Failed(Fault::CannotWrite) => 3,
+            Status::Unread(Unread::CannotRead)
+            | Status::Failed(Fault::CannotWrite | Fault::CannotStart) => 3,
             Status::Unread(Unread::Memory) | Status::Failed(Fault::Memory) => 4,
             Status::Usage => 5,
         }
     }
+}
+
+/// What is left to be done before any thread is started.
+#[derive(Drop)]
+pub enum Front {
+    /// Nothing: the program ends so, and has said it.
+    Ended(Status),
+    /// A workload is to be run with a thread for each worker. Nothing is written yet.
+    Run(Workload),
 }

@@ -1,12 +1,18 @@
 ghost use Rattle.std.specs.Prelude.{◌≡◌};
 
+mod run;
+
 use crate::message::say;
 use crate::program::gosync;
 use crate::status::{Ending, Fault, Status, Unread};
 use std::alloc::{AllocError, Global};
+use std::sync::Wait;
 use std::test::Fail;
+use std::thread::Threads;
 use sync_model::Misuse;
-use sync_outside::{MemFile, MemSink, MemSources};
+use sync_outside::{
+    Gate, MemClock, MemFile, MemSink, MemSources, OpenGate, Spawner, ThreadSpawner,
+};
 use workload::Reason;
 use workload_printer::print;
 use workload_reader::parse;
@@ -59,8 +65,16 @@ fn words_of(alloc: Global, line: &str) -> Result<Vec<String>, AllocError> {
     Ok(words)
 }
 
-/// Runs a row on this text, with room for so many bytes of the report.
-fn run_on(alloc: Global, text: &str, room: usize, row: &Row) -> Result<Ran, AllocError> {
+/// Runs a row on this text, with room for so many bytes of the report, with this spawner and this gate.
+fn run_through<R: Threads + Wait + Sync, P: Spawner, G: Gate + Sync>(
+    rt: &R,
+    alloc: Global,
+    text: &str,
+    room: usize,
+    row: &Row,
+    spawner: &mut P,
+    gate: &G,
+) -> Result<Ran, AllocError> {
     let mut files = Vec::new(alloc);
     let name = String::from_str(alloc, "w.txt")?;
     files.push(MemFile::new(name, Vec::from_slice(alloc, text.as_bytes())?))?;
@@ -68,37 +82,67 @@ fn run_on(alloc: Global, text: &str, room: usize, row: &Row) -> Result<Ran, Allo
     let mut out = MemSink::new(alloc, room, Vec::from_slice(alloc, row.out)?)?;
     let mut err = MemSink::new(alloc, 1_000, Vec::from_slice(alloc, row.err)?)?;
     let words = words_of(alloc, row.words)?;
-    let status = gosync(alloc, &words, &mut src, &mut out, &mut err);
+    let clock = MemClock::new(Vec::new(alloc));
+    let status = gosync(
+        rt, alloc, &words, &mut src, &mut out, &mut err, &clock, spawner, gate,
+    );
     Ok(Ran { status, out, err })
 }
 
+/// Runs a row on this text, in threads of the machine, where the row asks for threads.
+fn run_on<R: Threads + Wait + Sync>(
+    rt: &R,
+    alloc: Global,
+    text: &str,
+    room: usize,
+    row: &Row,
+) -> Result<Ran, AllocError> {
+    let mut spawner = ThreadSpawner::new();
+    run_through(rt, alloc, text, room, row, &mut spawner, &OpenGate)
+}
+
+/// Whether this is what the row says.
+fn is_of(ran: &Ran, row: &Row) -> bool {
+    ran.status.code() == row.status
+        && ran.out.as_bytes() == row.report.as_bytes()
+        && ran.err.as_bytes() == row.message.as_bytes()
+}
+
 /// Whether the program answers and writes on this text what the row says.
-fn comes_out_on(alloc: Global, text: &str, row: &Row) -> Result<bool, AllocError> {
-    let ran = run_on(alloc, text, 10_000, row)?;
-    Ok(
-        ran.status.code() == row.status
-            && ran.out.as_bytes() == row.report.as_bytes()
-            && ran.err.as_bytes() == row.message.as_bytes(),
-    )
+fn comes_out_on<R: Threads + Wait + Sync>(
+    rt: &R,
+    alloc: Global,
+    text: &str,
+    row: &Row,
+) -> Result<bool, AllocError> {
+    let ran = run_on(rt, alloc, text, 10_000, row)?;
+    Ok(is_of(&ran, row))
 }
 
 /// Whether the program answers and writes what the row says.
-fn comes_out(alloc: Global, row: &Row) -> Result<bool, AllocError> {
-    comes_out_on(alloc, row.text, row)
+fn comes_out<R: Threads + Wait + Sync>(
+    rt: &R,
+    alloc: Global,
+    row: &Row,
+) -> Result<bool, AllocError> {
+    comes_out_on(rt, alloc, row.text, row)
 }
 
 /// The first of these texts whose run doesn't end in status 0 with the report beside it.
-fn first_other(
+fn first_other<R: Threads + Wait + Sync>(
+    rt: &R,
     alloc: Global,
+    words: &'static str,
     table: &[(&'static str, &'static str)],
 ) -> Result<Option<&'static str>, AllocError> {
     for &(text, report) in table {
         let row = Row {
             text,
+            words,
             report,
             ..STEP
         };
-        if !comes_out(alloc, &row)? {
+        if !comes_out(rt, alloc, &row)? {
             return Ok(Some(text));
         }
     }
@@ -127,7 +171,7 @@ const RUNS: [(&str, &str); 5] = [
 
 #[test]
 fn a_text_is_run_and_reported(rt: HostRuntime) -> Result<(), Fail> {
-    assert_eq!(rt; first_other(rt.alloc(), &RUNS)?, None);
+    assert_eq!(rt; first_other(&rt, rt.alloc(), STEP.words, &RUNS)?, None);
     Ok(())
 }
 
@@ -168,7 +212,10 @@ const MAPS_AND_ATOMICS: [(&str, &str); 8] = [
 
 #[test]
 fn the_calls_of_maps_and_atomics_are_reported(rt: HostRuntime) -> Result<(), Fail> {
-    assert_eq!(rt; first_other(rt.alloc(), &MAPS_AND_ATOMICS)?, None);
+    assert_eq!(rt;
+        first_other(&rt, rt.alloc(), STEP.words, &MAPS_AND_ATOMICS)?,
+        None
+    );
     Ok(())
 }
 
@@ -197,7 +244,7 @@ const LOCKS: [(&str, &str); 5] = [
 
 #[test]
 fn locks_are_taken_and_reported(rt: HostRuntime) -> Result<(), Fail> {
-    assert_eq!(rt; first_other(rt.alloc(), &LOCKS)?, None);
+    assert_eq!(rt; first_other(&rt, rt.alloc(), STEP.words, &LOCKS)?, None);
     Ok(())
 }
 
@@ -234,16 +281,37 @@ const WAITING_OBJECTS: [(&str, &str); 7] = [
 
 #[test]
 fn waiting_objects_and_pools_are_reported(rt: HostRuntime) -> Result<(), Fail> {
-    assert_eq!(rt; first_other(rt.alloc(), &WAITING_OBJECTS)?, None);
+    assert_eq!(rt;
+        first_other(&rt, rt.alloc(), STEP.words, &WAITING_OBJECTS)?,
+        None
+    );
     Ok(())
 }
 
-const ENDED_RUNS: [(&str, &str, &str); 11] = [
+const MISUSES: [(&str, &str, &str); 4] = [
     (
         "workers 1\nmutex m\nworker 0\nunlock m\n",
         "",
         "fatal error: sync: unlock of unlocked mutex\n",
     ),
+    (
+        "workers 1\nwaitgroup g 0\nworker 0\nadd g 1\ndone g\ndone g\n",
+        "0.0 add g 1 -> ok\n0.1 done g -> ok\n",
+        "panic: sync: negative WaitGroup counter\n",
+    ),
+    (
+        "workers 1\nmutex m\ncond c m\nworker 0\nwait c\n",
+        "",
+        "fatal error: sync: unlock of unlocked mutex\n",
+    ),
+    (
+        "workers 1\nmutex m\nint64 a\nworker 0\nadd a 1\nunlock m\nadd a 1\n",
+        "0.0 add a 1 -> 1\n",
+        "fatal error: sync: unlock of unlocked mutex\n",
+    ),
+];
+
+const ENDED_RUNS: [(&str, &str, &str); 7] = [
     (
         "workers 2\nmutex a\nmutex b\nworker 0\nlock a\nlock b\nworker 1\nlock b\nlock a\n",
         "0.0 lock a -> ok\n1.0 lock b -> ok\n",
@@ -265,11 +333,6 @@ const ENDED_RUNS: [(&str, &str, &str); 11] = [
         "fatal error: sync: Unlock of unlocked RWMutex\n",
     ),
     (
-        "workers 1\nwaitgroup g 0\nworker 0\nadd g 1\ndone g\ndone g\n",
-        "0.0 add g 1 -> ok\n0.1 done g -> ok\n",
-        "panic: sync: negative WaitGroup counter\n",
-    ),
-    (
         "workers 2\nmutex m\nwaitgroup g 0\nworker 0\nlock m\nlock m\nworker 1\ndone g\nschedule 0 0 1\n",
         "0.0 lock m -> ok\n",
         "panic: sync: negative WaitGroup counter\n",
@@ -280,25 +343,15 @@ const ENDED_RUNS: [(&str, &str, &str); 11] = [
         "panic: sync: WaitGroup is reused before previous Wait has returned\n",
     ),
     (
-        "workers 1\nmutex m\ncond c m\nworker 0\nwait c\n",
-        "",
-        "fatal error: sync: unlock of unlocked mutex\n",
-    ),
-    (
         "workers 1\nint64 a\nwaitgroup g 1\nonce o a 5\nworker 0\ndo o\nwait g\n",
         "0.0 do o -> ran 5\n",
         "fatal error: all goroutines are asleep - deadlock!\n",
-    ),
-    (
-        "workers 1\nmutex m\nint64 a\nworker 0\nadd a 1\nunlock m\nadd a 1\n",
-        "0.0 add a 1 -> 1\n",
-        "fatal error: sync: unlock of unlocked mutex\n",
     ),
 ];
 
 #[test]
 fn a_misuse_or_a_deadlock_ends_the_run(rt: HostRuntime) -> Result<(), Fail> {
-    for &(text, report, message) in &ENDED_RUNS {
+    for &(text, report, message) in MISUSES.iter().chain(&ENDED_RUNS) {
         let row = Row {
             text,
             status: 2,
@@ -306,7 +359,7 @@ fn a_misuse_or_a_deadlock_ends_the_run(rt: HostRuntime) -> Result<(), Fail> {
             message,
             ..STEP
         };
-        assert!(rt; comes_out(rt.alloc(), &row)?, "{text}");
+        assert!(rt; comes_out(&rt, rt.alloc(), &row)?, "{text}");
     }
     // Behind a write that failed there is no text of Go's.
     let row = Row {
@@ -317,7 +370,7 @@ fn a_misuse_or_a_deadlock_ends_the_run(rt: HostRuntime) -> Result<(), Fail> {
         message: "gosync: cannot write the report\n",
         ..STEP
     };
-    assert!(rt; comes_out(rt.alloc(), &row)?);
+    assert!(rt; comes_out(&rt, rt.alloc(), &row)?);
     Ok(())
 }
 
@@ -365,7 +418,7 @@ fn calls_and_ranges_are_limited(rt: HostRuntime) -> Result<(), Fail> {
         for _ in 0..times {
             text.push_str(call)?;
         }
-        let ran = run_on(rt.alloc(), &text, 400_000, &STEP)?;
+        let ran = run_on(&rt, rt.alloc(), &text, 400_000, &STEP)?;
         assert_eq!(rt; ran.status.code(), status, "{times}");
         assert_eq!(rt; ran.out.as_bytes().len(), bytes, "{times}");
         assert_eq!(rt; ran.err.as_bytes(), message.as_bytes(), "{times}");
@@ -394,15 +447,16 @@ fn a_text_that_is_not_read_names_its_first_fault(rt: HostRuntime) -> Result<(), 
             status: 1,
             ..STEP
         };
-        assert!(rt; comes_out(rt.alloc(), &row)?, "{text}");
+        assert!(rt; comes_out(&rt, rt.alloc(), &row)?, "{text}");
     }
     Ok(())
 }
 
-const NOT_TAKEN: [&str; 9] = [
+const NOT_TAKEN: [&str; 10] = [
     "gosync",
     "gosync make 007",
-    "gosync run w.txt",
+    "gosync run",
+    "gosync run -x",
     "gosync step",
     "gosync step ",
     "gosync step -x",
@@ -420,7 +474,7 @@ fn words_that_are_not_taken_get_the_usage_line(rt: HostRuntime) -> Result<(), Fa
             message: USAGE,
             ..STEP
         };
-        assert!(rt; comes_out(rt.alloc(), &row)?, "{words}");
+        assert!(rt; comes_out(&rt, rt.alloc(), &row)?, "{words}");
     }
     Ok(())
 }
@@ -440,7 +494,7 @@ fn a_file_that_is_not_there_is_status_3(rt: HostRuntime) -> Result<(), Fail> {
             message,
             ..STEP
         };
-        assert!(rt; comes_out(rt.alloc(), &row)?, "{message}");
+        assert!(rt; comes_out(&rt, rt.alloc(), &row)?, "{message}");
     }
     Ok(())
 }
@@ -461,7 +515,7 @@ fn each_open_and_read_fails_in_turn(rt: HostRuntime) -> Result<(), Fail> {
             message: "gosync: cannot read w.txt\n",
             ..STEP
         };
-        assert!(rt; comes_out_on(rt.alloc(), &text, &row)?, "{source:?}");
+        assert!(rt; comes_out_on(&rt, rt.alloc(), &text, &row)?, "{source:?}");
     }
     // A fifth call isn't made.
     let row = Row {
@@ -469,7 +523,7 @@ fn each_open_and_read_fails_in_turn(rt: HostRuntime) -> Result<(), Fail> {
         report: "0.0 lock m -> ok\n0.1 wait c -> ok\n0.2 unlock m -> ok\n1.0 lock m -> ok\n1.1 signal c -> ok\n1.2 unlock m -> ok\n",
         ..STEP
     };
-    assert!(rt; comes_out_on(rt.alloc(), &text, &row)?);
+    assert!(rt; comes_out_on(&rt, rt.alloc(), &text, &row)?);
     Ok(())
 }
 
@@ -513,7 +567,7 @@ fn each_write_fails_in_turn(rt: HostRuntime) -> Result<(), Fail> {
             message: "gosync: cannot write the report\n",
             ..STEP
         };
-        assert!(rt; comes_out(rt.alloc(), &row)?, "{out:?} of {text}");
+        assert!(rt; comes_out(&rt, rt.alloc(), &row)?, "{out:?} of {text}");
     }
     Ok(())
 }
@@ -546,12 +600,12 @@ fn each_write_of_the_one_line_fails_in_turn(rt: HostRuntime) -> Result<(), Fail>
             message,
             ..STEP
         };
-        assert!(rt; comes_out(rt.alloc(), &row)?, "{words}: {message}");
+        assert!(rt; comes_out(&rt, rt.alloc(), &row)?, "{words}: {message}");
     }
     Ok(())
 }
 
-const STATUSES: [(Status, u8, &str); 13] = [
+const STATUSES: [(Status, u8, &str); 14] = [
     (Status::Ended(Ending::Done), 0, ""),
     (
         Status::Unread(Unread::NotAccepted {
@@ -600,6 +654,11 @@ const STATUSES: [(Status, u8, &str); 13] = [
         Status::Failed(Fault::CannotWrite),
         3,
         "gosync: cannot write the report\n",
+    ),
+    (
+        Status::Failed(Fault::CannotStart),
+        3,
+        "gosync: cannot start the workers\n",
     ),
     (Status::Unread(Unread::Memory), 4, "gosync: out of memory\n"),
     (Status::Failed(Fault::Memory), 4, "gosync: out of memory\n"),

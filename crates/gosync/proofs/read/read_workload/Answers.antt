@@ -1,7 +1,7 @@
 use Rattle.std.proofs.Common.{ℕ, List, subst}
 use Rattle.workload.specs.Reads.{Reads, IsRefused, IsFaultOf}
 use Rattle.gosync.proofs.Reading.{whole_read, whole_refused}
-use Rattle.gosync.proofs.step.read_workload.Goals as goal
+use Rattle.gosync.proofs.read.read_workload.Goals as goal
 
 pub returns-in-Ok-parse-clause-read : goal.returns-in-Ok-parse-clause-read
 returns-in-Ok-parse-clause-read g c =

@@ -1,0 +1,23 @@
+-- What is done before any thread is started.
+use Rattle.std.specs.Prelude.{◌≡◌, ℕ, ◌⊎◌, List, Option}
+use Rattle.workload.specs.Plan.{Plan}
+use Rattle.gosync.specs.ComesTo.{IsRead, IsUnread}
+use Rattle.gosync.specs.declared.status.Front.{Front}
+use Rattle.gosync.specs.declared.status.Front.TheVariants as fronts
+use Rattle.gosync.specs.declared.status.Status.{Status}
+use Rattle.gosync.specs.declared.status.Status.TheVariants as statuses
+use Rattle.gosync.specs.declared.status.Unread.{Unread}
+use Rattle.gosync.specs.declared.status.Fault.TheVariants as faults
+
+-- what is left of a file that is to be run with threads: its workload, or why none is read
+abbrev pub IsFrontOfRun : Option (List ℕ) → Front → Type 0
+IsFrontOfRun told front = ((plan : Plan) × (front ≡ fronts.Run plan) × IsRead told plan) ⊎ ((why : Unread) × (front ≡ fronts.Ended (statuses.Unread why)) × IsUnread told why)
+
+-- no worker made a call: no workload is read, or there was a fault before the first start ended
+abbrev pub IsUnstarted : Status → Type 0
+IsUnstarted (statuses.Ended ending) = ⊥
+IsUnstarted (statuses.Unread why) = Unit {0}
+IsUnstarted (statuses.Failed faults.CannotWrite) = ⊥
+IsUnstarted (statuses.Failed faults.CannotStart) = Unit {0}
+IsUnstarted (statuses.Failed faults.Memory) = Unit {0}
+IsUnstarted statuses.Usage = Unit {0}

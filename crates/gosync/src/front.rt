@@ -1,0 +1,82 @@
+//! What the program does before any thread is started.
+ghost use Rattle.std.specs.Prelude.{◌≡◌, ◌↔◌, ◌+◌, ◌≤◌, ℕ, List, None, map, string_bytes};
+ghost use Rattle.sync_outside.specs.Faults.{Rose};
+ghost use Rattle.workload.specs.declared.limits.TheConstants.{MAX_INPUT};
+ghost use Rattle.workload.specs.Plan.{Plan};
+ghost use Rattle.step_runner.specs.Outcomes.{StepsTo};
+ghost use Rattle.gosync.specs.Command.{asked, file_in, AskFor};
+ghost use Rattle.gosync.specs.ComesTo.{ComesTo};
+ghost use Rattle.gosync.specs.Front.{IsFrontOfRun};
+ghost use Rattle.gosync.specs.Input.{ReadFailed};
+ghost use Rattle.gosync.specs.Messages.{message_of, WritesOut};
+ghost use Rattle.gosync.specs.declared.status.Front.TheVariants as fronts;
+ghost use Rattle.gosync.specs.declared.status.Status.{Status};
+ghost use Rattle.gosync.specs.declared.status.Status.TheVariants as statuses;
+ghost use Rattle.gosync.specs.declared.status.Unread.TheVariants as unreads;
+ghost use Rattle.gosync.specs.declared.status.Fault.TheVariants as faults;
+ghost use Rattle.gosync.specs.declared.words.Mode.{Mode};
+ghost use Rattle.gosync.specs.declared.words.Mode.TheVariants as modes;
+
+use crate::message::say;
+use crate::read::read_workload;
+use crate::status::{Front, Status};
+use crate::step::step;
+use crate::words::{Mode, asked};
+use std::alloc::Global;
+use sync_outside::{Sink, Sources};
+
+// Says how the program ends, and ends it.
+fn ended<E: Sink>(err: &mut E, file: &str, status: Status) -> Front
+    ensures ended { result ≡ fronts.Ended status }
+    ensures says { WritesOut (E.contents err.old) (E.contents err.new) (E.faults err.old) (E.faults err.new) (message_of file.now status) }
+    ensures faults { E.faults err.old ≤ E.faults err.new }
+{
+    say(err, file, status);
+    Front::Ended(status)
+}
+
+/// Does what the words ask for up to the first start of a thread: all of a run by schedule, and the reading of the file for
+/// a run with threads. It waits for nobody.
+pub fn front<S: Sources, O: Sink, E: Sink>(
+    alloc: Global,
+    words: &[String],
+    src: &mut S,
+    out: &mut O,
+    err: &mut E,
+) -> Front
+    // What the words ask for, and what the bytes of the file come to.
+    ensures usage { (result ≡ fronts.Ended statuses.Usage) ↔ (asked (map string_bytes words.now) ≡ None) }
+    ensures step { (file : List ℕ) → AskFor (map string_bytes words.now) modes.Step file → (status : Status) × (result ≡ fronts.Ended status) × ComesTo StepsTo (S.contents src.old file) (O.contents out.old) (O.contents out.new) status }
+    ensures run { (file : List ℕ) → AskFor (map string_bytes words.now) modes.Run file → IsFrontOfRun (S.contents src.old file) result }
+    ensures unwritten { ((file : List ℕ) → ¬ AskFor (map string_bytes words.now) modes.Step file) → (O.contents out.new ≡ O.contents out.old) × (O.faults out.new ≡ O.faults out.old) }
+
+    // Whose faults are answered.
+    ensures cannot_read { (mode : Mode) (file : List ℕ) → AskFor (map string_bytes words.now) mode file → result ≡ fronts.Ended (statuses.Unread unreads.CannotRead) → ReadFailed (S.open_faults src.old file) (S.open_faults src.new file) (S.read_faults src.old) (S.read_faults src.new) }
+    ensures cannot_write { result ≡ fronts.Ended (statuses.Failed faults.CannotWrite) → Rose (O.faults out.old) (O.faults out.new) }
+    ensures started { result ≡ fronts.Ended (statuses.Failed faults.CannotStart) → ⊥ }
+
+    // The one line on the error output.
+    ensures says { (status : Status) → result ≡ fronts.Ended status → WritesOut (E.contents err.old) (E.contents err.new) (E.faults err.old) (E.faults err.new) (message_of (file_in (asked (map string_bytes words.now))) status) }
+    ensures silent { (plan : Plan) → result ≡ fronts.Run plan → (E.contents err.new ≡ E.contents err.old) × (E.faults err.new ≡ E.faults err.old) }
+
+    // How many reads there are at most, and that no count falls.
+    ensures reads { S.reads src.new ≤ S.reads src.old + (MAX_INPUT + 1) }
+    ensures read_faults { S.read_faults src.old ≤ S.read_faults src.new }
+    ensures open_faults { (name : List ℕ) → S.open_faults src.old name ≤ S.open_faults src.new name }
+    ensures out_faults { O.faults out.old ≤ O.faults out.new }
+    ensures err_faults { E.faults err.old ≤ E.faults err.new }
+{
+    let Some((mode, file)) = asked(words) else {
+        return ended(err, "", Status::Usage);
+    };
+    match mode {
+        Mode::Step => {
+            let status = step(alloc, file, src, out);
+            ended(err, file, status)
+        }
+        Mode::Run => match read_workload(alloc, file, src) {
+            Ok(workload) => Front::Run(workload),
+            Err(why) => ended(err, file, Status::Unread(why)),
+        },
+    }
+}
