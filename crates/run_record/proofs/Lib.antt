@@ -4,6 +4,7 @@ mod ExampleLemmas
 mod HaltLemmas
 mod Having
 mod Lifts
+mod Limits
 mod LineLemmas
 mod ListLemmas
 mod ObjectJournals
