@@ -1,5 +1,7 @@
+mod AskLemmas
 mod CallLemmas
 mod EdgeLemmas
+mod FewLemmas
 mod ExampleLemmas
 mod HaltLemmas
 mod Having
@@ -7,6 +9,8 @@ mod Lifts
 mod Limits
 mod LineLemmas
 mod ListLemmas
+mod NamedLemmas
 mod ObjectJournals
+mod PairLemmas
 mod PartLemmas
 mod TwoCalls

@@ -1,5 +1,5 @@
 -- A workload's calls keep its maps to its keys, and its atomics to their types.
-use Rattle.std.proofs.Common.{◌≡◌, ◌≢◌, ℕ, ℤ, zero, suc, ◌+◌, ◌<◌, ◌≤◌, Bool, true, false, ◌&&◌, ◌==◌, List, [], ◌∷◌, ◌++◌, length, map, replicate, take, get_or, set, Option, Some, None, slice_get, inl, inr, ◌⊎◌, refl, sym, ap, ◌∙◌, subst, arith}
+use Rattle.std.proofs.Common.{◌≡◌, ◌≢◌, ℕ, ℤ, zero, suc, ◌+◌, ◌≤◌, Bool, true, false, ◌==◌, List, [], ◌∷◌, ◌++◌, length, map, replicate, take, get_or, set, Option, Some, None, slice_get, inl, inr, ◌⊎◌, refl, sym, ap, ◌∙◌, subst, arith}
 use Rattle.std.specs.Prelude.{All, ◌||◌, count_by, eqb}
 use Rattle.std.specs.List.{IsDistinct, AllByRecursion, list_any}
 use Rattle.std.specs.Option.{option_map}
@@ -8,7 +8,7 @@ use Rattle.std.specs.FinMap.{FinMap, empty, get, get-empty}
 use Rattle.std.proofs.lemmas.Bool.{and_parts, eqb-true, eqb-false, false≢true, cases_lt}
 use Rattle.std.proofs.lemmas.List.{get_or_past, get_or-replicate, length-replicate, length-map}
 use Rattle.std.proofs.lemmas.Map.Steps.{length-le_from_distinct_below}
-use Rattle.std.proofs.lemmas.Option.{none-some, same_Some, slice_get-map, get_or_from_slice_get, slice_get_within, slice_get-get_or}
+use Rattle.std.proofs.lemmas.Option.{none-some, same_Some, slice_get-map, get_or_from_slice_get, slice_get_within}
 use Rattle.sync_model.specs.declared.atomic_object.AtomicKind.{AtomicKind}
 use Rattle.sync_model.specs.declared.atomic_object.AtomicKind.TheVariants as kinds
 use Rattle.sync_model.specs.declared.atomic_object.AtomicCall.{AtomicCall}
@@ -62,7 +62,7 @@ module _ {A : Type 0} where
   mid_at [] made after i x at = let same : i ≡ 0 + i = omega arith in subst (λ n. slice_get (made ++ after) n ≡ Some x) same (first_at made after i x at)
   mid_at (y ∷ before) made after i x at = let same : suc (length before + i) ≡ length (y ∷ before) + i = omega arith in subst (λ n. slice_get (y ∷ (before ++ (made ++ after))) n ≡ Some x) same (mid_at before made after i x at)
 
-  item_of : (P : A → Type 0) (xs : List A) (i : ℕ) (x : A) → All P xs → slice_get xs i ≡ Some x → P x
+  pub item_of : (P : A → Type 0) (xs : List A) (i : ℕ) (x : A) → All P xs → slice_get xs i ≡ Some x → P x
   item_of P xs i x all at = subst P (get_or_from_slice_get xs i x x at) (all i x (slice_get_within xs i x at))
 
 abbrev found_in : MapReply → Option ℕ
@@ -83,15 +83,72 @@ sum_of_int64 kinds.Int64 (Uint32 a) amount is fits = absurd (false≢true is)
 sum_of_int64 kinds.Int64 (Uint64 a) amount is fits = absurd (false≢true is)
 sum_of_int64 kinds.Int64 (Truth b) amount is fits = absurd (false≢true is)
 
-module _ (plan : Plan) (leaves : (m : FinMap nat_cmp ℕ) (call : MapCall ℕ) (key other : ℕ) → map_key call ≡ Some key → other ≢ key → map_reply (maps.Load other) (map_after call m) ≡ map_reply (maps.Load other) m)
-    (clears : (call : MapCall ℕ) → map_key call ≡ None → call ≡ maps.Clear)
-    (zero_is : (kind : AtomicKind) → is_of kind (zero_of kind) ≡ true)
-    (after_is : (kind : AtomicKind) (call : AtomicCall) (held : Number) → is_of kind held ≡ true → is_atomic_call kind call ≡ true → is_of kind (atomic_after call held) ≡ true) where
-  -- maps that have no key but the workload's, and atomics that hold numbers of their types
-  record AreWithin (contents : Contents) : Type 0 where
-    pub keys : (m key value : ℕ) → value_at contents m key ≡ Some value → IsKeyOf plan key
-    pub numbers : (a : ℕ) (kind : AtomicKind) → slice_get (atomic_types plan) a ≡ Some kind → is_of kind (number_at contents a) ≡ true
+-- a call on a map is by a key that the workload has
+abbrev pub KnowsKey : Plan → SharedCall → Type 0
+KnowsKey plan (Map m call) = (key : ℕ) → map_key call ≡ Some key → IsKeyOf plan key
+KnowsKey plan (Begin m) = Unit {0}
+KnowsKey plan (Next begin) = Unit {0}
+KnowsKey plan (Atomic a call) = Unit {0}
 
+pub knows_key : (plan : Plan) (call : SharedCall) → IsCallOf plan call → KnowsKey plan call
+knows_key plan (Map m call) is = is
+knows_key plan (Begin m) is = tt
+knows_key plan (Next begin) is = tt
+knows_key plan (Atomic a call) is = tt
+
+-- what each of some calls keeps
+module _ (Is : SharedCall → Type 0) (Within : Contents → Type 0) (step : (call : SharedCall) (contents : Contents) → Is call → Within contents → Within (shared_after call contents)) where
+  after_all : (contents : Contents) (history : List SharedEntry) → ((n : ℕ) (entry : SharedEntry) → slice_get history n ≡ Some entry → Is entry.call) → Within contents → Within (contents_after contents history)
+  after_all contents [] all within = within
+  after_all contents (entry ∷ later) all within = after_all (shared_after entry.call contents) later (λ n e at. all (suc n) e at) (step entry.call contents (all 0 entry refl) within)
+
+  module _ (start : Contents) (history : List SharedEntry) (calls : ℕ → List Item) (all : (c : ℕ) → All (λ x. Is x.call) (calls c)) (first : Within start)
+      (is_call : (n : ℕ) (entry : SharedEntry) → slice_get history n ≡ Some entry → (j : ℕ) × (x : Item) × (slice_get (calls entry.caller) j ≡ Some x) × (x.entry ≡ true) × (x.place ≡ n) × (x.call ≡ entry.call) × (x.reply ≡ entry.reply)) where
+    entries : (n : ℕ) (entry : SharedEntry) → slice_get history n ≡ Some entry → Is entry.call
+    entries n entry at =
+        let it = is_call n entry at in
+        subst Is it.5 (item_of (λ x. Is x.call) (calls entry.caller) it.0 it.1 (all entry.caller) it.2)
+
+    -- what all of them keep holds at each moment
+    within_at : (n : ℕ) → Within (contents_at start history n)
+    within_at n = after_all start (take n history) (λ i entry at. entries i entry (taken_at history n i entry at)) first
+
+-- atomics hold numbers of their types
+abbrev HaveTypes : Plan → Contents → Type 0
+HaveTypes plan contents = (a : ℕ) (kind : AtomicKind) → slice_get (atomic_types plan) a ≡ Some kind → is_of kind (number_at contents a) ≡ true
+
+module _ (plan : Plan) (zero_is : (kind : AtomicKind) → is_of kind (zero_of kind) ≡ true)
+    (after_is : (kind : AtomicKind) (call : AtomicCall) (held : Number) → is_of kind held ≡ true → is_atomic_call kind call ≡ true → is_of kind (atomic_after call held) ≡ true) where
+  types_stay : (call : SharedCall) (contents : Contents) → IsCallOf plan call → HaveTypes plan contents → HaveTypes plan (shared_after call contents)
+  types_stay (Map n call) contents is within = within
+  types_stay (Begin n) contents is within = within
+  types_stay (Next begin) contents is within = within
+  types_stay (Atomic b call) contents is within = λ a kind at. elim (set_at contents.numbers b a (atomic_after call (number_at contents b)) (Truth false)) [
+    | inl new ↦
+        let same : is.kind ≡ kind = same_Some is.kind kind (sym is.at ∙ ap (λ n. slice_get (atomic_types plan) n) (sym new.1) ∙ at) in
+        ap (is_of kind) new.0 ∙ subst (λ k. is_of k (atomic_after call (number_at contents b)) ≡ true) same (after_is is.kind call (number_at contents b) (within b is.kind is.at) is.has)
+    | inr same ↦ ap (is_of kind) same ∙ within a kind at
+  ]
+
+  zero_first : (many : ℕ) (types : List AtomicKind) (a : ℕ) (kind : AtomicKind) → slice_get types a ≡ Some kind → is_of kind (number_at (first_contents many types) a) ≡ true
+  zero_first many types a kind at = ap (is_of kind) (get_or_from_slice_get (map zero_of types) a (zero_of kind) (Truth false) (slice_get-map zero_of types a ∙ ap (option_map zero_of) at)) ∙ zero_is kind
+
+  module _ (history : List SharedEntry) (calls : ℕ → List Item) (lawful : Lawful (contents_of plan) history calls) (all : (c : ℕ) → All (λ x. IsCallOf plan x.call) (calls c))
+      (is_call : (n : ℕ) (entry : SharedEntry) → slice_get history n ≡ Some entry → (j : ℕ) × (x : Item) × (slice_get (calls entry.caller) j ≡ Some x) × (x.entry ≡ true) × (x.place ≡ n) × (x.call ≡ entry.call) × (x.reply ≡ entry.reply)) where
+    pub adds_int64 : (caller i a : ℕ) (amount : ℤ) (x : Item) → slice_get (calls caller) i ≡ Some x → x.call ≡ Atomic a (atomics.Add (Int64 amount)) → (s : ℤ) × (x.reply ≡ replies.Atomic (Held (Int64 s)))
+    adds_int64 caller i a amount x at is =
+        let contents = contents_at (contents_of plan) history x.place in
+        let call : IsAtomicCall (atomic_types plan) a (atomics.Add (Int64 amount)) = subst (IsCallOf plan) is (item_of (λ y. IsCallOf plan y.call) (calls caller) i x (all caller) at) in
+        let reply : IsReply (Atomic a (atomics.Add (Int64 amount))) x.reply contents = subst (λ c. IsReply c x.reply contents) is (lawful.sound caller i x at).reply in
+        let s = sum_of_int64 call.kind (number_at contents a) amount (within_at (IsCallOf plan) (HaveTypes plan) types_stay (contents_of plan) history calls all (zero_first (count_by (λ object. is_map object.kind) plan.objects) (atomic_types plan)) is_call x.place a call.kind call.at) (and_parts (has_bits call.kind) (is_of call.kind (Int64 amount)) call.has).1 in
+        (s.0, reply ∙ ap (λ number. replies.Atomic (Held number)) s.1)
+
+-- maps have no key but the workload's
+abbrev HaveKeys : Plan → Contents → Type 0
+HaveKeys plan contents = (m key value : ℕ) → value_at contents m key ≡ Some value → IsKeyOf plan key
+
+module _ (plan : Plan) (leaves : (m : FinMap nat_cmp ℕ) (call : MapCall ℕ) (key other : ℕ) → map_key call ≡ Some key → other ≢ key → map_reply (maps.Load other) (map_after call m) ≡ map_reply (maps.Load other) m)
+    (clears : (call : MapCall ℕ) → map_key call ≡ None → call ≡ maps.Clear) where
   keys_after : (m : FinMap nat_cmp ℕ) (call : MapCall ℕ) → ((k : ℕ) → map_key call ≡ Some k → IsKeyOf plan k) → ((key value : ℕ) → get m key ≡ Some value → IsKeyOf plan key) → (key value : ℕ) → get (map_after call m) key ≡ Some value → IsKeyOf plan key
   keys_after m call is within key value there = by_key (map_key call) refl where
     by_key : (o : Option ℕ) → map_key call ≡ o → IsKeyOf plan key
@@ -101,30 +158,14 @@ module _ (plan : Plan) (leaves : (m : FinMap nat_cmp ℕ) (call : MapCall ℕ) (
       by_same true same = subst (IsKeyOf plan) (eqb-true k key same) (is k has)
       by_same false other = within key value (sym (ap found_in (leaves m call k key has (λ same. eqb-false k key other (sym same)))) ∙ there)
 
-  after_call : (call : SharedCall) (contents : Contents) → IsCallOf plan call → AreWithin contents → AreWithin (shared_after call contents)
-  after_call (Map n call) contents is within = record { keys = keys_on; numbers = within.numbers } where
-    X : FinMap nat_cmp ℕ
-    X = map_after call (map_at contents n)
-
-    keys_on : (m key value : ℕ) → value_at (shared_after (Map n call) contents) m key ≡ Some value → IsKeyOf plan key
-    keys_on m key value there = elim (set_at contents.maps n m (map_after call (map_at contents n)) empty) [
-      | inl new ↦ keys_after (map_at contents n) call is (within.keys n) key value (sym (ap (λ held. get held key) new.0) ∙ there)
-      | inr same ↦ within.keys m key value (sym (ap (λ held. get held key) same) ∙ there)
-    ]
-  after_call (Begin n) contents is within = within
-  after_call (Next begin) contents is within = within
-  after_call (Atomic b call) contents is within = record { keys = within.keys; numbers = numbers_on } where
-    numbers_on : (a : ℕ) (kind : AtomicKind) → slice_get (atomic_types plan) a ≡ Some kind → is_of kind (number_at (shared_after (Atomic b call) contents) a) ≡ true
-    numbers_on a kind at = elim (set_at contents.numbers b a (atomic_after call (number_at contents b)) (Truth false)) [
-      | inl new ↦
-          let same : is.kind ≡ kind = same_Some is.kind kind (sym is.at ∙ ap (λ n. slice_get (atomic_types plan) n) (sym new.1) ∙ at) in
-          ap (is_of kind) new.0 ∙ subst (λ k. is_of k (atomic_after call (number_at contents b)) ≡ true) same (after_is is.kind call (number_at contents b) (within.numbers b is.kind is.at) is.has)
-      | inr same ↦ ap (is_of kind) same ∙ within.numbers a kind at
-    ]
-
-  after_all : (contents : Contents) (history : List SharedEntry) → ((n : ℕ) (entry : SharedEntry) → slice_get history n ≡ Some entry → IsCallOf plan entry.call) → AreWithin contents → AreWithin (contents_after contents history)
-  after_all contents [] all within = within
-  after_all contents (entry ∷ later) all within = after_all (shared_after entry.call contents) later (λ n e at. all (suc n) e at) (after_call entry.call contents (all 0 entry refl) within)
+  keys_stay : (call : SharedCall) (contents : Contents) → KnowsKey plan call → HaveKeys plan contents → HaveKeys plan (shared_after call contents)
+  keys_stay (Map n call) contents is within = λ m key value there. elim (set_at contents.maps n m (map_after call (map_at contents n)) empty) [
+    | inl new ↦ keys_after (map_at contents n) call is (within n) key value (sym (ap (λ held. get held key) new.0) ∙ there)
+    | inr same ↦ within m key value (sym (ap (λ held. get held key) same) ∙ there)
+  ]
+  keys_stay (Begin n) contents is within = within
+  keys_stay (Next begin) contents is within = within
+  keys_stay (Atomic a call) contents is within = within
 
   none_first : (many : ℕ) (types : List AtomicKind) (m key : ℕ) → value_at (first_contents many types) m key ≡ None
   none_first many types m key = elim (cases_lt m many) [
@@ -132,30 +173,10 @@ module _ (plan : Plan) (leaves : (m : FinMap nat_cmp ℕ) (call : MapCall ℕ) (
     | inr past ↦ ap (λ held. get held key) (get_or_past (replicate many empty) m empty (let long = length-replicate many (empty {X = ℕ} {R = nat_cmp}) in omega arith)) ∙ get-empty nat_cmp key
   ]
 
-  zero_first : (many : ℕ) (types : List AtomicKind) (a : ℕ) (kind : AtomicKind) → slice_get types a ≡ Some kind → is_of kind (number_at (first_contents many types) a) ≡ true
-  zero_first many types a kind at = ap (is_of kind) (get_or_from_slice_get (map zero_of types) a (zero_of kind) (Truth false) (slice_get-map zero_of types a ∙ ap (option_map zero_of) at)) ∙ zero_is kind
-
-  at_first : AreWithin (contents_of plan)
-  at_first = record { keys = λ m key value there. absurd (none-some value (sym (none_first (count_by (λ object. is_map object.kind) plan.objects) (atomic_types plan) m key) ∙ there)); numbers = zero_first (count_by (λ object. is_map object.kind) plan.objects) (atomic_types plan) }
-
-  module _ (history : List SharedEntry) (calls : ℕ → List Item) (lawful : Lawful (contents_of plan) history calls) (all : (c : ℕ) → All (λ x. IsCallOf plan x.call) (calls c))
+  module _ (history : List SharedEntry) (calls : ℕ → List Item) (all : (c : ℕ) → All (λ x. KnowsKey plan x.call) (calls c))
       (is_call : (n : ℕ) (entry : SharedEntry) → slice_get history n ≡ Some entry → (j : ℕ) × (x : Item) × (slice_get (calls entry.caller) j ≡ Some x) × (x.entry ≡ true) × (x.place ≡ n) × (x.call ≡ entry.call) × (x.reply ≡ entry.reply)) where
-    entries : (n : ℕ) (entry : SharedEntry) → slice_get history n ≡ Some entry → IsCallOf plan entry.call
-    entries n entry at =
-        let it = is_call n entry at in
-        subst (IsCallOf plan) it.5 (item_of (λ x. IsCallOf plan x.call) (calls entry.caller) it.0 it.1 (all entry.caller) it.2)
-
-    -- at each moment
-    within_at : (n : ℕ) → AreWithin (contents_at (contents_of plan) history n)
-    within_at n = after_all (contents_of plan) (take n history) (λ i entry at. entries i entry (taken_at history n i entry at)) at_first
-
-    pub adds_int64 : (caller i a : ℕ) (amount : ℤ) (x : Item) → slice_get (calls caller) i ≡ Some x → x.call ≡ Atomic a (atomics.Add (Int64 amount)) → (s : ℤ) × (x.reply ≡ replies.Atomic (Held (Int64 s)))
-    adds_int64 caller i a amount x at is =
-        let contents = contents_at (contents_of plan) history x.place in
-        let call : IsAtomicCall (atomic_types plan) a (atomics.Add (Int64 amount)) = subst (IsCallOf plan) is (item_of (λ y. IsCallOf plan y.call) (calls caller) i x (all caller) at) in
-        let reply : IsReply (Atomic a (atomics.Add (Int64 amount))) x.reply contents = subst (λ c. IsReply c x.reply contents) is (lawful.sound caller i x at).reply in
-        let s = sum_of_int64 call.kind (number_at contents a) amount ((within_at x.place).numbers a call.kind call.at) (and_parts (has_bits call.kind) (is_of call.kind (Int64 amount)) call.has).1 in
-        (s.0, reply ∙ ap (λ number. replies.Atomic (Held number)) s.1)
+    keys_at : (n : ℕ) → HaveKeys plan (contents_at (contents_of plan) history n)
+    keys_at n = within_at (KnowsKey plan) (HaveKeys plan) keys_stay (contents_of plan) history calls all (λ m key value there. absurd (none-some value (sym (none_first (count_by (λ object. is_map object.kind) plan.objects) (atomic_types plan) m key) ∙ there))) is_call n
 
     -- the keys that one cursor shows are the workload's
     module _ (caller : ℕ) (shown : List (ℕ × ℕ)) (has : HasShown (calls caller) shown)
@@ -165,7 +186,7 @@ module _ (plan : Plan) (leaves : (m : FinMap nat_cmp ℕ) (call : MapCall ℕ) (
       begin = length has.before
 
       abbrev steps : List (SharedCall × SharedReply)
-      steps = (Begin has.m, replies.Begun) ∷ map (step_of (length has.before)) shown
+      steps = (Begin has.m, replies.Begun) ∷ (map (step_of (length has.before)) shown ++ has.more)
 
       -- the item of the cursor that was answered so
       made_at : (xs : List Item) (i : ℕ) (call : SharedCall × SharedReply) → slice_get (map told xs) i ≡ Some call → (x : Item) × (slice_get xs i ≡ Some x) × (told x ≡ call)
@@ -180,7 +201,7 @@ module _ (plan : Plan) (leaves : (m : FinMap nat_cmp ℕ) (call : MapCall ℕ) (
 
       step_at : (k : ℕ) (pair : ℕ × ℕ) → slice_get shown k ≡ Some pair → (x : Item) × IsStep (calls caller) begin (begin + suc k) x (Some pair)
       step_at k pair at =
-          let made = item_at (suc k) (Next begin, replies.Shown (Some pair)) (slice_get-map (step_of begin) shown k ∙ ap (option_map (step_of begin)) at) in
+          let made = item_at (suc k) (Next begin, replies.Shown (Some pair)) (first_at (map (step_of begin) shown) has.more k (Next begin, replies.Shown (Some pair)) (slice_get-map (step_of begin) shown k ∙ ap (option_map (step_of begin)) at)) in
           (made.0, record { at = made.1; call = ap (λ (t : SharedCall × SharedReply). t.0) made.2; reply = ap (λ (t : SharedCall × SharedReply). t.1) made.2 })
 
       key_at : (k : ℕ) (pair : ℕ × ℕ) → slice_get shown k ≡ Some pair → IsKeyOf plan pair.0
@@ -188,7 +209,7 @@ module _ (plan : Plan) (leaves : (m : FinMap nat_cmp ℕ) (call : MapCall ℕ) (
           let first = item_at 0 (Begin has.m, replies.Begun) refl in
           let step = step_at k pair at in
           let moment = was begin (begin + suc k) has.m pair.0 pair.1 first.0 step.0 (subst (λ n. slice_get (calls caller) n ≡ Some first.0) (omega arith) first.1) (ap (λ (t : SharedCall × SharedReply). t.0) first.2) step.1 in
-          (within_at moment.0).keys has.m pair.0 pair.1 moment.1
+          keys_at moment.0 has.m pair.0 pair.1 moment.1
 
       apart : (i j : ℕ) (p q : ℕ × ℕ) → slice_get shown i ≡ Some p → slice_get shown j ≡ Some q → p.0 ≡ q.0 → i ≡ j
       apart i j p q at_i at_j same =

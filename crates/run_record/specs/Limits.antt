@@ -1,5 +1,5 @@
 -- Which calls on maps and atomics a workload has, and what a cursor has shown.
-use Rattle.std.specs.Prelude.{◌≡◌, ℕ, ◌<◌, List, [], ◌∷◌, ◌++◌, map, length, Some}
+use Rattle.std.specs.Prelude.{◌≡◌, ℕ, ◌<◌, List, ◌∷◌, ◌++◌, map, length, Some}
 use Rattle.std.specs.List.{flat_map}
 use Rattle.sync_model.specs.declared.atomic_object.AtomicKind.{AtomicKind}
 use Rattle.sync_model.specs.declared.item.Item.{Item}
@@ -42,5 +42,6 @@ pub record HasShown (items : List Item) (shown : List (ℕ × ℕ)) : Type 0 whe
   pub before : List Item
   pub made : List Item
   pub after : List Item
+  pub more : List (SharedCall × SharedReply)  -- what stands behind these steps in `made`
   pub are : items ≡ before ++ (made ++ after)
-  pub steps : map told made ≡ (calls.Begin m, answers.Begun) ∷ map (step_of (length before)) shown
+  pub steps : map told made ≡ (calls.Begin m, answers.Begun) ∷ (map (step_of (length before)) shown ++ more)
