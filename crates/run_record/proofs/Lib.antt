@@ -1,11 +1,16 @@
+mod AskLemmas
 mod CallLemmas
 mod EdgeLemmas
+mod FewLemmas
 mod ExampleLemmas
 mod HaltLemmas
 mod Having
 mod Lifts
+mod Limits
 mod LineLemmas
 mod ListLemmas
+mod NamedLemmas
 mod ObjectJournals
+mod PairLemmas
 mod PartLemmas
 mod TwoCalls

@@ -5,6 +5,7 @@ pub mod Edges
 pub mod Example
 pub mod Explains
 pub mod Journals
+pub mod Limits
 pub mod Lines
 pub mod Logs
 pub mod MapKind

@@ -2,5 +2,6 @@
 pub mod edges;
 pub mod endings;
 pub mod examples;
+pub mod limits;
 pub mod objects;
 pub mod spelling;
