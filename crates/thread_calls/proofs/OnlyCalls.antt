@@ -6,6 +6,7 @@ use Rattle.std.proofs.lemmas.List.{append-nil}
 use Rattle.std.proofs.lemmas.List.Elements.{All-nil, All-cons, All-append, All-from_recursion, recursion_from_All}
 use Rattle.sync_model.specs.declared.answer.Answer.TheVariants.{Done}
 use Rattle.sync_model.specs.declared.atomic_object.AtomicKind.{AtomicKind}
+use Rattle.sync_model.specs.declared.atomic_object.AtomicCall.{AtomicCall}
 use Rattle.sync_model.specs.declared.atomic_object.AtomicCall.TheVariants.{Add}
 use Rattle.sync_model.specs.declared.atomic_object.AtomicReply.{AtomicReply}
 use Rattle.sync_model.specs.declared.atomic_object.AtomicReply.TheVariants.{Done as AtomicDone, Held}
@@ -114,3 +115,7 @@ IfNone_then (Some x) holds then = tt
 
 pub IfNone_of : {X : Type 0} (o : Option X) {P : Type 0} → o ≡ None → IfNone o P → P
 IfNone_of {X} o {P} is holds = subst (λ (r : Option X). IfNone r P) is holds
+
+-- a call that the atomics of these types have, which are the workload's
+pub of_types : (plan : Plan) (types : List AtomicKind) (a : ℕ) (call : AtomicCall) → types ≡ atomic_types plan → IsAtomicCall types a call → IsCallOf plan (calls.Atomic a call)
+of_types plan types a call same has = subst (λ (t : List AtomicKind). IsAtomicCall t a call) same has

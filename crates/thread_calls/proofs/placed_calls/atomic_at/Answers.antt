@@ -1,9 +1,7 @@
-use Rattle.sync_model.specs.declared.atomic_object.AtomicKind.{AtomicKind}
-use Rattle.sync_model.specs.Shared.{IsAtomicCall}
 use Rattle.run_record.specs.Limits.{IsCallOf}
 use Rattle.thread_calls.specs.Working.{desk_with}
-use Rattle.thread_calls.proofs.OnlyCalls.{placed_only}
-use Rattle.std.proofs.Common.{List, [], refl, subst}
+use Rattle.thread_calls.proofs.OnlyCalls.{of_types, placed_only}
+use Rattle.std.proofs.Common.{[], refl}
 use Rattle.workload.specs.declared.object.ObjectKind.TheVariants as kinds
 use Rattle.thread_calls.proofs.Sites.{number_is, atomic_fits, atomic_as}
 use Rattle.thread_calls.proofs.placed_calls.atomic_at.Goals as goal
@@ -25,4 +23,4 @@ returns-clause-calls g c =
     let front = g.S.Mark.Note.front in
     let fits = atomic_fits plan c.args.place c.args.site.now.numbers.now c.requires.site.numbered _ _ _ c.requires.site.shared _ c.requires.place.0 c.args.call c.requires.place.1 c.requires.place.2 refl in
     let works = c.call_atomic.ensures.works (λ object. []) in
-    placed_only (IsCallOf plan) _ _ (desk_with own front (λ object. []) c.args.caller.now.note) (desk_with own front (λ object. []) c.call_atomic.new.caller.note) works.items (subst (λ (types : List AtomicKind). IsAtomicCall types _ c.args.call) c.requires.site.shared.all_types fits) works.spelt.1 works.moves
+    placed_only (IsCallOf plan) _ _ (desk_with own front (λ object. []) c.args.caller.now.note) (desk_with own front (λ object. []) c.call_atomic.new.caller.note) works.items (of_types plan _ _ _ c.requires.site.shared.all_types fits) works.spelt.1 works.moves

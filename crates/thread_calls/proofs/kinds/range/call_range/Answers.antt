@@ -9,6 +9,8 @@ use Rattle.sync_model.specs.Note.{Holding}
 use Rattle.sync_model.specs.Shared.{items_of}
 use Rattle.thread_calls.specs.Parts.{placed}
 use Rattle.thread_calls.specs.Working.{desk_with}
+use Rattle.run_record.specs.Limits.{IsCallOf}
+use Rattle.thread_calls.proofs.OnlyCalls.{called_only, made_on}
 use Rattle.thread_calls.proofs.Ranging.{ranged}
 use Rattle.thread_calls.proofs.SharedParts.{called_works}
 use Rattle.thread_calls.proofs.kinds.range.call_range.Goals as goal
@@ -35,3 +37,9 @@ returns-clause-works g c = λ owns.
     let begun = called_works _ (Begin c.args.map) Begun 0 own front g.S.Shared.seen old between owns (placed ((Begin c.args.map, Begun) ∷ [])) (Done (Ok tt)) (λ items made. (made, refl)) (g.met.S.Mark.Note.counted _ _ c.requires.caller.0) called in
     ranged (desk_with own front owns old) (desk_with own front owns between) (desk_with own front owns new) c.args.keys.now c.args.map begin c.in_ok-shown.shown.items c.sorted.result begun (c.in_ok-shown.ensures.works c.args.map begin owns stands)
     (subst (λ (shown : List (ℕ × ℕ)). IsPermutation shown c.sorted.result) c.into_seq.ensures c.sorted.ensures.permutation, c.sorted.ensures.sorted)
+
+pub returns-clause-calls : goal.returns-clause-calls
+returns-clause-calls g c = λ plan. made_on (IsCallOf plan) _ _ _ (called_only (IsCallOf plan) _ _ _ _ _ _ tt c.begin-cursor.ensures.called) (c.take_all.ensures.calls plan)
+
+pub returns-in_err-shown-clause-calls : goal.returns-in_err-shown-clause-calls
+returns-in_err-shown-clause-calls g c = λ plan. made_on (IsCallOf plan) _ _ _ (called_only (IsCallOf plan) _ _ _ _ _ _ tt c.begin-cursor.ensures.called) (c.take_all.ensures.calls plan)

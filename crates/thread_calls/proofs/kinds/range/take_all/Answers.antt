@@ -29,20 +29,30 @@ loop-init g c =
 pub next-requires-in-loop-clause-cursor : goal.next-requires-in-loop-clause-cursor
 next-requires-in-loop-clause-cursor g c = (c.requires.cursor.0, c.requires.cursor.1, c.loop.invariant.3 c.requires.cursor.0 c.requires.cursor.1 c.requires.cursor.2)
 
-pub returns-in-None-clause-works : goal.returns-in-None-clause-works
-returns-in-None-clause-works g c = λ map begin owns stands.
+pub returns-in-None-next-clause-works : goal.returns-in-None-next-clause-works
+returns-in-None-next-clause-works g c = λ map begin owns stands.
     let own = g.S.Mark.Note.own in
     let front = g.S.Mark.Note.front in
     let called = c.in-None-next.ensures.called map begin (c.loop.invariant.3 map begin stands) in
     let last = called_works _ (Next begin) (Shown None) 0 own front g.S.Shared.seen c.loop.caller.note c.next-in-loop.new.caller.note owns (placed ((Next begin, Shown None) ∷ [])) (Done (Ok tt)) (λ items made. (made, refl)) (g.met.S.Mark.Note.counted _ _ c.loop.invariant.1.0) called in
     placed_on (desk_with own front owns c.args.caller.now.note) (desk_with own front owns c.loop.caller.note) (desk_with own front owns c.next-in-loop.new.caller.note) (shows begin c.loop.shown.items) ((Next begin, Shown None) ∷ []) (c.loop.invariant.5 map begin owns stands) last
 
-pub returns-in-None-clause-calls : goal.returns-in-None-clause-calls
-returns-in-None-clause-calls g c = λ plan.
+pub returns-in-None-next-clause-calls : goal.returns-in-None-next-clause-calls
+returns-in-None-next-clause-calls g c = λ plan.
     let called = c.next-in-loop.ensures.called c.requires.cursor.0 c.requires.cursor.1 (c.loop.invariant.3 c.requires.cursor.0 c.requires.cursor.1 c.requires.cursor.2) in
     made_on (IsCallOf plan) _ _ _ (c.loop.invariant.6 plan) (called_only (IsCallOf plan) _ _ _ _ _ _ tt called)
 
-pub returns-in-None-clause-spends : goal.returns-in-None-clause-spends
-returns-in-None-clause-spends g c =
+pub returns-in-None-next-clause-spends : goal.returns-in-None-next-clause-spends
+returns-in-None-next-clause-spends g c =
+    let last = c.next-in-loop.ensures.called c.requires.cursor.0 c.requires.cursor.1 (c.loop.invariant.3 c.requires.cursor.0 c.requires.cursor.1 c.requires.cursor.2) in
+    spends_on g.S.Mark.Note.own 0 0 _ _ _ c.loop.invariant.4 (called_spends g.S.Mark.Note.own g.S.Mark.Note.front g.S.Shared.seen _ _ _ _ _ _ last)
+
+pub returns-then-as_slice-room-clause-calls : goal.returns-then-as_slice-room-clause-calls
+returns-then-as_slice-room-clause-calls g c = λ plan.
+    let called = c.next-in-loop.ensures.called c.requires.cursor.0 c.requires.cursor.1 (c.loop.invariant.3 c.requires.cursor.0 c.requires.cursor.1 c.requires.cursor.2) in
+    made_on (IsCallOf plan) _ _ _ (c.loop.invariant.6 plan) (called_only (IsCallOf plan) _ _ _ _ _ _ tt called)
+
+pub returns-then-as_slice-room-clause-spends : goal.returns-then-as_slice-room-clause-spends
+returns-then-as_slice-room-clause-spends g c =
     let last = c.next-in-loop.ensures.called c.requires.cursor.0 c.requires.cursor.1 (c.loop.invariant.3 c.requires.cursor.0 c.requires.cursor.1 c.requires.cursor.2) in
     spends_on g.S.Mark.Note.own 0 0 _ _ _ c.loop.invariant.4 (called_spends g.S.Mark.Note.own g.S.Mark.Note.front g.S.Shared.seen _ _ _ _ _ _ last)
