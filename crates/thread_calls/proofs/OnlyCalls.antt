@@ -113,6 +113,10 @@ pub IfNone_then : {X : Type 0} (o : Option X) {P Q : Type 0} → IfNone o P → 
 IfNone_then None holds then = then holds
 IfNone_then (Some x) holds then = tt
 
+pub IfNone_always : {X : Type 0} (o : Option X) {P : Type 0} → P → IfNone o P
+IfNone_always None holds = holds
+IfNone_always (Some x) holds = tt
+
 pub IfNone_of : {X : Type 0} (o : Option X) {P : Type 0} → o ≡ None → IfNone o P → P
 IfNone_of {X} o {P} is holds = subst (λ (r : Option X). IfNone r P) is holds
 
