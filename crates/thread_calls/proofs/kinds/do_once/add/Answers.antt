@@ -1,8 +1,6 @@
-use Rattle.std.proofs.Common.{◌≡◌, Ok, to_z, of_z, rules}
-use Rattle.std.specs.Int.{w64}
+use Rattle.std.proofs.Common.{Ok, rules}
 use Rattle.std.proofs.lemmas.Option.{IfSome_then}
 use Rattle.sync_model.specs.declared.answer.Answer.TheVariants.{Done}
-use Rattle.sync_model.specs.declared.atomic_object.Number.TheVariants.{Int64}
 use Rattle.run_record.specs.AtomicKind.{adds}
 use Rattle.run_record.specs.Limits.{IsCallOf}
 use Rattle.thread_calls.proofs.OnlyCalls.{IfNone_then, add_fits, answered_amiss, called_only}
