@@ -11,6 +11,7 @@ pub mod MadeOn
 pub mod NewColumns
 pub mod Numbers
 pub mod OnceParts
+pub mod OnlyCalls
 pub mod PoolLooks
 pub mod Ranging
 pub mod RowSteps

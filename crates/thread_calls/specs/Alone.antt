@@ -23,10 +23,3 @@ IsAlone operations.Once = ⊥
 IsAlone operations.OnceFunc = Unit {0}
 IsAlone operations.OnceValue = Unit {0}
 IsAlone (operations.Pool call) = Unit {0}
-
--- A call that may find that it can't be done as the record has it: a `range` that shows more pairs than there is room for, and a
--- once whose int64 holds no int64. The laws of maps and atomics rule both out, for whole runs.
-abbrev pub MayGiveUp : Operation → Type 0
-MayGiveUp operations.Range = Unit {0}
-MayGiveUp operations.Once = Unit {0}
-MayGiveUp operation = ⊥

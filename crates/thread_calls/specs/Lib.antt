@@ -3,6 +3,7 @@ pub mod AsDeclared
 pub mod Columns
 pub mod Desks
 pub mod Halting
+pub mod GivenUp
 pub mod Kinds
 pub mod Parts
 pub mod Passes

@@ -71,9 +71,9 @@ ranges_in_call call = operation_ranges call.operation
 abbrev pub ranges_in_calls : List Call → ℕ
 ranges_in_calls calls = sum_by ranges_in_call calls
 
--- the lists that were made for the pairs of `range` calls are empty
-abbrev pub AreEmpty : List (Bounded (ℕ × ℕ)) → Type 0
-AreEmpty rooms = All (λ room. room.items ≡ []) rooms
+-- the lists that were made for the pairs of `range` calls are empty, and have room for so many keys
+abbrev pub AreRooms : ℕ → List (Bounded (ℕ × ℕ)) → Type 0
+AreRooms keys rooms = All (λ room. (room.items ≡ []) × (keys ≤ room.room)) rooms
 
 -- The caller of a note made some calls: the note is still its own, and no more of its spare entries are gone than this.
 pub record Spends {N : Type 0} (own : N → Option Holding) (cost : ℕ) (old new : N) : Type 0 where

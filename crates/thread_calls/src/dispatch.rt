@@ -6,12 +6,14 @@ ghost use Rattle.std.specs.Str.{bytes_eq};
 ghost use Rattle.sync_model.specs.Note.{SameHome};
 ghost use Rattle.sync_model.specs.Shared.{IsCallerAt, items_of};
 ghost use Rattle.workload.specs.Draft.{all_keys, is_operation, operation_keys};
+ghost use Rattle.workload.specs.Keys.{keys_in};
 ghost use Rattle.workload.specs.Plan.{has_call, refers};
 ghost use Rattle.run_record.specs.Calls.{SpellsCall, call_on};
-ghost use Rattle.thread_calls.specs.Alone.{MayGiveUp};
+ghost use Rattle.run_record.specs.Limits.{IsCallOf};
 ghost use Rattle.thread_calls.specs.Desks.{AreSeats};
+ghost use Rattle.thread_calls.specs.GivenUp.{GaveUp, MakesOnly};
 ghost use Rattle.thread_calls.specs.Passes.{owns_of};
-ghost use Rattle.thread_calls.specs.Sites.{AreEmpty, IsAt, IsScripted, IsSite, Spends, operation_cost, operation_ranges, cost_of_call, ranges_in_call};
+ghost use Rattle.thread_calls.specs.Sites.{AreRooms, IsAt, IsScripted, IsSite, Spends, operation_cost, operation_ranges, cost_of_call, ranges_in_call};
 ghost use Rattle.thread_calls.specs.Working.{Works, desk_with};
 
 use crate::kinds::replies::CallAnswer;
@@ -35,10 +37,9 @@ fn kind_at(workload: &Workload, place: usize) -> ObjectKind
 
 // Takes one of the lists that were made for the pairs of `range` calls.
 fn take_room(rooms: &mut Vec<BoundedSeq<(u32, u64)>>) -> BoundedSeq<(u32, u64)>
-    requires empty { AreEmpty rooms.old.items }
     requires some { 0 < vec_len rooms.old }
-    ensures taken { result.items ≡ [] }
-    ensures empty { AreEmpty rooms.new.items }
+    ensures taken { (keys : ℕ) → AreRooms keys rooms.old.items → (result.items ≡ []) × (keys ≤ result.room) }
+    ensures rooms { (keys : ℕ) → AreRooms keys rooms.old.items → AreRooms keys rooms.new.items }
     ensures left { vec_len rooms.new + 1 ≡ vec_len rooms.old }
 {
     rooms.pop().unwrap()
@@ -67,14 +68,15 @@ fn call_at<S: Shared, C: Clock, R: Wait>(
     requires caller { IsCallerAt S.Mark.at S.Mark.own worker.now.at.home.now caller.old }
     requires spare { ForSome (S.Mark.own caller.old.note) (λ holding. operation_cost operation.now ≤ holding.spare) }
     requires seats { AreSeats S.Mark.at worker.now.at.home.now worker.now.workers worker.now.number site.now.objects.now passes.old }
-    requires rooms { AreEmpty rooms.old.items }
+    requires rooms { AreRooms (length (keys_in site.now.workload.now.scripts)) rooms.old.items }
     requires enough { operation_ranges operation.now ≤ vec_len rooms.old }
     ensures seats { AreSeats S.Mark.at worker.now.at.home.now worker.now.workers worker.now.number site.now.objects.now passes.new }
     ensures home { SameHome S.Mark.at caller.old.note caller.new.note }
     ensures spends { Spends S.Mark.own (operation_cost operation.now) caller.old.note caller.new.note }
-    ensures rooms { AreEmpty rooms.new.items }
+    ensures rooms { AreRooms (length (keys_in site.now.workload.now.scripts)) rooms.new.items }
     ensures left { vec_len rooms.old ≤ vec_len rooms.new + operation_ranges operation.now }
-    ensures given_up { IfNone result (MayGiveUp operation.now) }
+    ensures calls { MakesOnly (IsCallOf site.now.workload.now) (items_of (S.Mark.own caller.old.note)) (items_of (S.Mark.own caller.new.note)) }
+    ensures given_up { IfNone result (GaveUp site.now.workload.now (items_of (S.Mark.own caller.new.note))) }
     ensures works { IfSome result (λ answer. Works (call_on site.now.workload.now worker.now.number (length (items_of (S.Mark.own caller.old.note))) place kind operation.now)
         (desk_with S.Mark.own S.Mark.front (owns_of passes.old) caller.old.note) answer (desk_with S.Mark.own S.Mark.front (owns_of passes.new) caller.new.note)) }
 {
@@ -121,8 +123,8 @@ fn call_at<S: Shared, C: Clock, R: Wait>(
 }
 
 /// Makes a call of the worker's script. It may wait for other workers. `None` comes only of a `range` that shows more pairs than
-/// there is room for, and of a once whose int64 holds a number of another type: the laws of maps and atomics say that neither
-/// can be.
+/// the workload has keys, and of a once whose int64 answers by a number of another type. Neither can be: what all workers did
+/// shows it, once they have ended.
 pub fn make_call<S: Shared, C: Clock, R: Wait>(
     rt: &R,
     site: &Site<S>,
@@ -139,14 +141,15 @@ pub fn make_call<S: Shared, C: Clock, R: Wait>(
     requires caller { IsCallerAt S.Mark.at S.Mark.own worker.now.at.home.now caller.old }
     requires spare { ForSome (S.Mark.own caller.old.note) (λ holding. cost_of_call call.now ≤ holding.spare) }
     requires seats { AreSeats S.Mark.at worker.now.at.home.now worker.now.workers worker.now.number site.now.objects.now passes.old }
-    requires rooms { AreEmpty rooms.old.items }
+    requires rooms { AreRooms (length (keys_in site.now.workload.now.scripts)) rooms.old.items }
     requires enough { ranges_in_call call.now ≤ vec_len rooms.old }
     ensures seats { AreSeats S.Mark.at worker.now.at.home.now worker.now.workers worker.now.number site.now.objects.now passes.new }
     ensures caller { IsCallerAt S.Mark.at S.Mark.own worker.now.at.home.now caller.new }
     ensures spends { Spends S.Mark.own (cost_of_call call.now) caller.old.note caller.new.note }
-    ensures rooms { AreEmpty rooms.new.items }
+    ensures rooms { AreRooms (length (keys_in site.now.workload.now.scripts)) rooms.new.items }
     ensures left { vec_len rooms.old ≤ vec_len rooms.new + ranges_in_call call.now }
-    ensures given_up { IfNone result (MayGiveUp call.now.operation) }
+    ensures calls { MakesOnly (IsCallOf site.now.workload.now) (items_of (S.Mark.own caller.old.note)) (items_of (S.Mark.own caller.new.note)) }
+    ensures given_up { IfNone result (GaveUp site.now.workload.now (items_of (S.Mark.own caller.new.note))) }
     ensures works { IfSome result (λ answer. Works (SpellsCall site.now.workload.now worker.now.number (length (items_of (S.Mark.own caller.old.note))) call.now)
         (desk_with S.Mark.own S.Mark.front (owns_of passes.old) caller.old.note) answer (desk_with S.Mark.own S.Mark.front (owns_of passes.new) caller.new.note)) }
 {

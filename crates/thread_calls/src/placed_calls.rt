@@ -1,5 +1,5 @@
 //! Calls on the map or the atomic at a place among the workload's objects.
-ghost use Rattle.std.specs.Prelude.{◌≡◌, ℕ, ◌+◌, ◌<◌, ◌≤◌, true, List, [], length, IfSome, Some};
+ghost use Rattle.std.specs.Prelude.{◌≡◌, ℕ, ◌+◌, ◌<◌, ◌≤◌, true, List, [], length, IfSome, IfNone, Some};
 ghost use Rattle.std.specs.List.{list_any};
 ghost use Rattle.std.specs.Option.{ForSome};
 ghost use Rattle.std.specs.Str.{bytes_eq};
@@ -13,11 +13,13 @@ ghost use Rattle.workload.specs.declared.object.ObjectKind.TheVariants as kinds;
 ghost use Rattle.workload.specs.Draft.{all_keys, is_map_call};
 ghost use Rattle.workload.specs.Keys.{keys_in};
 ghost use Rattle.run_record.specs.AtomicKind.{atomic_call};
+ghost use Rattle.run_record.specs.Limits.{IsCallOf};
 ghost use Rattle.run_record.specs.MapKind.{map_call, range_call};
 ghost use Rattle.run_record.specs.Objects.{map_number, atomic_number};
 ghost use Rattle.run_record.specs.OnceKind.{do_call};
 ghost use Rattle.run_record.specs.Record.{ObjectEntry, number_at};
 ghost use Rattle.thread_calls.specs.Desks.{AreSeats, IsObjectAt};
+ghost use Rattle.thread_calls.specs.GivenUp.{MakesOnly, ShowedTooMany, AnsweredAmiss};
 ghost use Rattle.thread_calls.specs.Kinds.{IsOnce};
 ghost use Rattle.thread_calls.specs.Passes.{owns_of};
 ghost use Rattle.thread_calls.specs.Sites.{IsAt, IsSite, Spends};
@@ -52,6 +54,7 @@ pub(crate) fn map_at<S: Shared, R: Wait>(
     requires spare { ForSome (S.Mark.own caller.old.note) (λ holding. cost_of call.now ≤ holding.spare) }
     ensures home { SameHome S.Mark.at caller.old.note caller.new.note }
     ensures spends { Spends S.Mark.own (cost_of call.now) caller.old.note caller.new.note }
+    ensures calls { MakesOnly (IsCallOf site.now.workload.now) (items_of (S.Mark.own caller.old.note)) (items_of (S.Mark.own caller.new.note)) }
     ensures works { (owns : ℕ → List ObjectEntry) → Works (map_call (keys_in site.now.workload.now.scripts) (map_number site.now.workload.now.objects place) call.now) (desk_with S.Mark.own S.Mark.front owns caller.old.note) result (desk_with S.Mark.own S.Mark.front owns caller.new.note) }
 {
     keys_are_numbered_by_first_appearance();
@@ -73,14 +76,15 @@ pub(crate) fn atomic_at<S: Shared, R: Wait>(
     requires caller { IsCallerAt S.Mark.at S.Mark.own (S.home_of site.now.shared.now) caller.old }
     ensures home { SameHome S.Mark.at caller.old.note caller.new.note }
     ensures spends { Spends S.Mark.own 0 caller.old.note caller.new.note }
+    ensures calls { MakesOnly (IsCallOf site.now.workload.now) (items_of (S.Mark.own caller.old.note)) (items_of (S.Mark.own caller.new.note)) }
     ensures works { (owns : ℕ → List ObjectEntry) → Works (atomic_call (atomic_number site.now.workload.now.objects place) call) (desk_with S.Mark.own S.Mark.front owns caller.old.note) result (desk_with S.Mark.own S.Mark.front owns caller.new.note) }
 {
     let atomic = site.numbers[place];
     call_atomic(rt, site.shared, caller, atomic, call)
 }
 
-/// Shows all keys of the map at a place with their values. It may wait for other callers. `None`, where the list has too little
-/// room for them.
+/// Shows all keys of the map at a place with their values. It may wait for other callers. The list has room for all keys of the
+/// workload; `None`, once more pairs than that are shown.
 pub(crate) fn range_at<S: Shared, R: Wait>(
     rt: &R,
     site: &Site<S>,
@@ -92,8 +96,11 @@ pub(crate) fn range_at<S: Shared, R: Wait>(
     requires place { IsAt site.now.workload.now place kinds.Map }
     requires caller { IsCallerAt S.Mark.at S.Mark.own (S.home_of site.now.shared.now) caller.old }
     requires empty { room.items ≡ [] }
+    requires room { length (keys_in site.now.workload.now.scripts) ≤ room.room }
     ensures home { SameHome S.Mark.at caller.old.note caller.new.note }
     ensures spends { Spends S.Mark.own 0 caller.old.note caller.new.note }
+    ensures calls { MakesOnly (IsCallOf site.now.workload.now) (items_of (S.Mark.own caller.old.note)) (items_of (S.Mark.own caller.new.note)) }
+    ensures many { IfNone result (ShowedTooMany (length (keys_in site.now.workload.now.scripts)) (items_of (S.Mark.own caller.new.note))) }
     ensures works { IfSome result (λ answer. (owns : ℕ → List ObjectEntry)
         → Works (range_call (keys_in site.now.workload.now.scripts) (map_number site.now.workload.now.objects place) (length (items_of (S.Mark.own caller.old.note)))) (desk_with S.Mark.own S.Mark.front owns caller.old.note) answer (desk_with S.Mark.own S.Mark.front owns caller.new.note)) }
 {
@@ -102,7 +109,8 @@ pub(crate) fn range_at<S: Shared, R: Wait>(
     call_range(rt, site.shared, caller, map, names, room)
 }
 
-/// `do` on the once at a place, whose function adds an amount to the int64 at that one.
+/// `do` on the once at a place, whose function adds an amount to the int64 at that one. `None`, where that answers by a number of
+/// another type.
 pub(crate) fn once_at<S: Shared, C: Clock, R: Wait>(
     rt: &R,
     site: &Site<S>,
@@ -123,6 +131,8 @@ pub(crate) fn once_at<S: Shared, C: Clock, R: Wait>(
     ensures seats { AreSeats S.Mark.at worker.now.at.home.now worker.now.workers worker.now.number site.now.objects.now passes.new }
     ensures home { SameHome S.Mark.at caller.old.note caller.new.note }
     ensures spends { Spends S.Mark.own 0 caller.old.note caller.new.note }
+    ensures calls { MakesOnly (IsCallOf site.now.workload.now) (items_of (S.Mark.own caller.old.note)) (items_of (S.Mark.own caller.new.note)) }
+    ensures amiss { IfNone result (AnsweredAmiss (items_of (S.Mark.own caller.new.note))) }
     ensures works { IfSome result (λ answer. Works (do_call (number_at place) (atomic_number site.now.workload.now.objects atomic) delta)
         (desk_with S.Mark.own S.Mark.front (owns_of passes.old) caller.old.note) answer (desk_with S.Mark.own S.Mark.front (owns_of passes.new) caller.new.note)) }
 {

@@ -9,10 +9,11 @@ use Rattle.sync_model.specs.declared.caller.Caller.{Caller}
 use Rattle.sync_model.specs.BoundedSeq.{Bounded}
 use Rattle.sync_model.specs.Note.{Holding}
 use Rattle.sync_model.specs.Shared.{AreAllCallers}
+use Rattle.workload.specs.Keys.{keys_in}
 use Rattle.workload.specs.Plan.{Plan, is_on, is_turn, refers, is_valid}
 use Rattle.thread_calls.specs.declared.object.AnyObject.{AnyObject}
 use Rattle.thread_calls.specs.declared.pass.AnyPass.{AnyPass}
-use Rattle.thread_calls.specs.Sites.{AreEmpty, ranges_in_calls}
+use Rattle.thread_calls.specs.Sites.{AreRooms, ranges_in_calls}
 use Rattle.thread_runner.specs.AllGone.{HaveGone}
 use Rattle.thread_runner.specs.Dealing.{AreRows}
 use Rattle.thread_runner.specs.EndsPlans.{HaveMadeNone, HaveSpare}
@@ -43,11 +44,6 @@ zipped_long R [] (z ∷ ys) all = absurd all
 zipped_long R (x ∷ xs) [] all = absurd all
 zipped_long R (x ∷ xs) (z ∷ ys) all = ap (λ n. suc n) (zipped_long R xs ys all.1)
 
-all_kept : {A : Type 0} (p : A → Bool) (xs : List A) (k : ℕ) (x : A) → list_all p xs ≡ true → slice_get xs k ≡ Some x → p x ≡ true
-all_kept p [] k x all at = absurd (none-some x at)
-all_kept p (y ∷ xs) zero x all at = ap p (sym (same_Some y x at)) ∙ (and_parts (p y) (list_all p xs) all).0
-all_kept p (y ∷ xs) (suc k) x all at = all_kept p xs k x (and_parts (p y) (list_all p xs) all).1 at
-
 counted_at : (a n k x : ℕ) → slice_get (range_with_len a n) k ≡ Some x → x ≡ a + k
 counted_at a zero k x at = absurd (none-some x at)
 counted_at a (suc n) zero x at = sym (same_Some a x at) ∙ omega arith
@@ -61,8 +57,8 @@ module _ {N H : Type 0} (at : H → N → Type 0) (own : N → Option Holding) (
   -- a worker with its row, its caller and its rooms may begin
   pub ready_at : AreRows at home plan.workers objects rows → AreAllCallers at own home callers plan.workers → HaveMadeNone own callers → HaveSpare own plan callers
       → (worker : ℕ) (row : List (AnyPass N)) (caller : Caller N) (replies : Bounded (Reply ℕ)) (rooms : List (Bounded (ℕ × ℕ))) → slice_get rows worker ≡ Some row → slice_get callers worker ≡ Some caller → length (get_or plan.scripts worker []) < 2 ^ 32
-      → replies.items ≡ [] → length (get_or plan.scripts worker []) ≤ replies.room → AreEmpty rooms → ranges_in_calls (get_or plan.scripts worker []) ≤ length rooms → IsReady at own front home plan objects worker row caller replies rooms
-  ready_at rows_are callers_are none spare worker row caller replies rooms at_row at_caller few empty_replies room empty enough =
+      → replies.items ≡ [] → length (get_or plan.scripts worker []) ≤ replies.room → AreRooms (length (keys_in plan.scripts)) rooms → ranges_in_calls (get_or plan.scripts worker []) ≤ length rooms → IsReady at own front home plan objects worker row caller replies rooms
+  ready_at rows_are callers_are none spare worker row caller replies rooms at_row at_caller few empty_replies room roomy enough =
       let is_row = rows_are.each worker row at_row in
       let is_caller = callers_are.each worker caller at_caller in
       let within = slice_get_within callers worker caller at_caller in
@@ -74,17 +70,17 @@ module _ {N H : Type 0} (at : H → N → Type 0) (own : N → Option Holding) (
         fresh = record { owns = is_row.none; calls = none worker caller at_caller; number = held_number (own caller.note) worker is_caller.1 };
         spare = spare worker caller at_caller;
         few = few;
-        empty = empty;
+        roomy = roomy;
         enough = enough;
         none = empty_replies;
         room = room;
       }
 
-  module _ {J G : Type 0} (number : J → ℕ) (passes : J → List (AnyPass N)) (caller : J → Caller N) (jobs : List J) (now_passes : G → List (AnyPass N)) (now_caller : G → Caller N) (replies : G → List (Reply ℕ)) (kept : G → Bool) (gone : List G) (R : J → G → Type 0) where
+  module _ {J G : Type 0} (number : J → ℕ) (passes : J → List (AnyPass N)) (caller : J → Caller N) (jobs : List J) (now_passes : G → List (AnyPass N)) (now_caller : G → Caller N) (replies : G → List (Reply ℕ)) (gone : List G) (R : J → G → Type 0) where
     -- workers whose jobs came to these results have ended
     pub have_gone : length jobs ≡ plan.workers → map number jobs ≡ range_with_len 0 (length jobs) → map caller jobs ≡ callers → map passes jobs ≡ rows → AllZip R jobs gone
-        → ((k : ℕ) (job : J) (g : G) → slice_get jobs k ≡ Some job → R job g → HasGone at own front home plan objects (number job) (passes job) (caller job) (now_passes g) (now_caller g) (replies g) (kept g))
-        → HaveGone at own front home plan objects rows callers (map now_passes gone) (map now_caller gone) (map replies gone) (list_all kept gone)
+        → ((k : ℕ) (job : J) (g : G) → slice_get jobs k ≡ Some job → R job g → HasGone at own front home plan objects (number job) (passes job) (caller job) (now_passes g) (now_caller g) (replies g))
+        → HaveGone at own front home plan objects rows callers (map now_passes gone) (map now_caller gone) (map replies gone)
     have_gone count numbers callers_are rows_are all gives = record {
       rows_count = length-map gone now_passes ∙ long;
       callers_count = length-map gone now_caller ∙ long;
@@ -95,7 +91,7 @@ module _ {N H : Type 0} (at : H → N → Type 0) (own : N → Option Holding) (
       long = zipped_long R jobs gone all ∙ count
 
       each : (worker : ℕ) (was now : Caller N) → slice_get callers worker ≡ Some was → slice_get (map now_caller gone) worker ≡ Some now
-          → HasGone at own front home plan objects worker (get_or rows worker []) was (get_or (map now_passes gone) worker []) now (get_or (map replies gone) worker []) (list_all kept gone)
+          → HasGone at own front home plan objects worker (get_or rows worker []) was (get_or (map now_passes gone) worker []) now (get_or (map replies gone) worker [])
       each worker was now at_was at_now =
           let g = mapped_from now_caller gone worker now at_now in
           let job = zipped_at R jobs gone worker g.0 all g.1 in
@@ -105,11 +101,9 @@ module _ {N H : Type 0} (at : H → N → Type 0) (own : N → Option Holding) (
           let is_row : passes job.0 ≡ get_or rows worker [] = sym (get_or_from_slice_get rows worker (passes job.0) [] (ap (λ (l : List (List (AnyPass N))). slice_get l worker) (sym rows_are) ∙ mapped_found passes jobs worker job.0 job.1)) in
           let is_now_row : now_passes g.0 ≡ get_or (map now_passes gone) worker [] = sym (get_or_from_slice_get (map now_passes gone) worker (now_passes g.0) [] (mapped_found now_passes gone worker g.0 g.1)) in
           let is_replies : replies g.0 ≡ get_or (map replies gone) worker [] = sym (get_or_from_slice_get (map replies gone) worker (replies g.0) [] (mapped_found replies gone worker g.0 g.1)) in
-          let all_of : HasGone at own front home plan objects (number job.0) (passes job.0) (caller job.0) (now_passes g.0) (now_caller g.0) (replies g.0) (list_all kept gone) =
-          record { seats = it.seats; is_at = it.is_at; held = it.held; did = λ every. it.did (all_kept kept gone worker g.0 every g.1) } in
-          subst (λ (r : List (Reply ℕ)). HasGone at own front home plan objects worker (get_or rows worker []) was (get_or (map now_passes gone) worker []) now r (list_all kept gone)) is_replies
-          (subst (λ (c : Caller N). HasGone at own front home plan objects worker (get_or rows worker []) was (get_or (map now_passes gone) worker []) c (replies g.0) (list_all kept gone)) g.2
-          (subst (λ (p : List (AnyPass N)). HasGone at own front home plan objects worker (get_or rows worker []) was p (now_caller g.0) (replies g.0) (list_all kept gone)) is_now_row
-          (subst (λ (c : Caller N). HasGone at own front home plan objects worker (get_or rows worker []) c (now_passes g.0) (now_caller g.0) (replies g.0) (list_all kept gone)) is_was
-          (subst (λ (p : List (AnyPass N)). HasGone at own front home plan objects worker p (caller job.0) (now_passes g.0) (now_caller g.0) (replies g.0) (list_all kept gone)) is_row
-          (subst (λ n. HasGone at own front home plan objects n (passes job.0) (caller job.0) (now_passes g.0) (now_caller g.0) (replies g.0) (list_all kept gone)) is_number all_of)))))
+          subst (λ (r : List (Reply ℕ)). HasGone at own front home plan objects worker (get_or rows worker []) was (get_or (map now_passes gone) worker []) now r) is_replies
+          (subst (λ (c : Caller N). HasGone at own front home plan objects worker (get_or rows worker []) was (get_or (map now_passes gone) worker []) c (replies g.0)) g.2
+          (subst (λ (p : List (AnyPass N)). HasGone at own front home plan objects worker (get_or rows worker []) was p (now_caller g.0) (replies g.0)) is_now_row
+          (subst (λ (c : Caller N). HasGone at own front home plan objects worker (get_or rows worker []) c (now_passes g.0) (now_caller g.0) (replies g.0)) is_was
+          (subst (λ (p : List (AnyPass N)). HasGone at own front home plan objects worker p (caller job.0) (now_passes g.0) (now_caller g.0) (replies g.0)) is_row
+          (subst (λ n. HasGone at own front home plan objects n (passes job.0) (caller job.0) (now_passes g.0) (now_caller g.0) (replies g.0)) is_number it)))))

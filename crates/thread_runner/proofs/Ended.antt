@@ -1,19 +1,31 @@
 -- What is known once all workers have ended, and the maps and atomics are settled.
-use Rattle.std.proofs.Common.{◌≡◌, ℕ, zero, suc, ◌+◌, ◌<◌, ◌≤◌, Bool, true, List, [], ◌∷◌, length, get_or, Option, Some, None, ◌⊎◌, inl, inr, slice_get, slice_index, refl, sym, ap, ◌∙◌, subst, arith}
+use Rattle.std.proofs.Common.{◌≡◌, ℕ, ℤ, zero, suc, ◌+◌, ◌<◌, ◌≤◌, List, [], ◌∷◌, length, get_or, Option, Some, None, ◌⊎◌, inl, inr, slice_get, slice_index, refl, sym, ap, ◌∙◌, subst, arith}
+use Rattle.std.specs.Prelude.{All}
+use Rattle.std.proofs.lemmas.Bool.{cases_lt}
+use Rattle.std.proofs.lemmas.List.Elements.{All-nil}
 use Rattle.std.proofs.lemmas.Option.{none-some, same_Some, slice_get_cases, slice_get_within, slice_get-get_or, get_or_from_slice_get}
 use Rattle.sync_model.specs.declared.call.Reply.{Reply}
 use Rattle.sync_model.specs.declared.caller.Caller.{Caller}
+use Rattle.sync_model.specs.declared.atomic_object.AtomicCall.TheVariants.{Add}
+use Rattle.sync_model.specs.declared.atomic_object.AtomicReply.TheVariants.{Held}
+use Rattle.sync_model.specs.declared.atomic_object.Number.TheVariants.{Int64}
+use Rattle.sync_model.specs.declared.item.Item.{Item}
+use Rattle.sync_model.specs.declared.item.SharedCall.TheVariants.{Atomic}
+use Rattle.sync_model.specs.declared.item.SharedReply.TheVariants as replies_to
 use Rattle.sync_model.specs.declared.item.SharedEntry.{SharedEntry}
 use Rattle.sync_model.specs.Journal.{by}
 use Rattle.sync_model.specs.Note.{Holding}
 use Rattle.sync_model.specs.Shared.{AreAllCallers, IsHeldBy, SameCalls, Settled, calls_of, items_of}
+use Rattle.workload.specs.Keys.{keys_in}
 use Rattle.workload.specs.Plan.{Plan}
+use Rattle.run_record.specs.Limits.{IsCallOf, HasShown}
 use Rattle.run_record.specs.Lines.{Line}
 use Rattle.run_record.specs.Objects.{contents_of}
 use Rattle.run_record.specs.Record.{ObjectEntry}
 use Rattle.thread_calls.specs.declared.object.AnyObject.{AnyObject}
 use Rattle.thread_calls.specs.declared.pass.AnyPass.{AnyPass}
 use Rattle.thread_calls.specs.Desks.{AreSeats}
+use Rattle.thread_calls.specs.GivenUp.{GaveUp}
 use Rattle.thread_calls.specs.Passes.{owns_of}
 use Rattle.thread_calls.specs.Rows.{AreJournals}
 use Rattle.thread_calls.specs.Working.{Desk, desk_with, number_in}
@@ -51,8 +63,8 @@ item_of {A} all i within = found (slice_get_cases all i).1 where
   found (inl (x, low, is, read)) = (x, is)
   found (inr (past, none)) = absurd (omega (arith, within, past))
 
-module _ {N H : Type 0} (at : H → N → Type 0) (own : N → Option Holding) (front : N → List ℕ) (home : H) (plan : Plan) (objects : List (AnyObject N H)) (rows now_rows : List (List (AnyPass N))) (callers now_callers : List (Caller N)) (replies : List (List (Reply ℕ))) (kept : Bool)
-    (callers_are : AreAllCallers at own home callers plan.workers) (gone : HaveGone at own front home plan objects rows callers now_rows now_callers replies kept) where
+module _ {N H : Type 0} (at : H → N → Type 0) (own : N → Option Holding) (front : N → List ℕ) (home : H) (plan : Plan) (objects : List (AnyObject N H)) (rows now_rows : List (List (AnyPass N))) (callers now_callers : List (Caller N)) (replies : List (List (Reply ℕ)))
+    (callers_are : AreAllCallers at own home callers plan.workers) (gone : HaveGone at own front home plan objects rows callers now_rows now_callers replies) where
   -- each worker's passes are its own still
   pub seats_of : (worker : ℕ) (row : List (AnyPass N)) → slice_get now_rows worker ≡ Some row → AreSeats at home plan.workers worker objects row
   seats_of worker row found =
@@ -72,10 +84,31 @@ module _ {N H : Type 0} (at : H → N → Type 0) (own : N → Option Holding) (
         (it.is_at, it.held);
   }
 
-module _ {N H : Type 0} (at : H → N → Type 0) (own : N → Option Holding) (front : N → List ℕ) (seen : N → List SharedEntry) (home : H) (plan : Plan) (objects : List (AnyObject N H)) (rows now_rows : List (List (AnyPass N))) (callers now_callers settled_callers : List (Caller N)) (replies : List (List (Reply ℕ))) (kept : Bool) (kept_is : kept ≡ true)
+module _ {N H : Type 0} (at : H → N → Type 0) (own : N → Option Holding) (front : N → List ℕ) (seen : N → List SharedEntry) (home : H) (plan : Plan) (objects : List (AnyObject N H)) (rows now_rows : List (List (AnyPass N))) (callers now_callers settled_callers : List (Caller N)) (replies : List (List (Reply ℕ)))
+    (callers_are : AreAllCallers at own home callers plan.workers) (gone : HaveGone at own front home plan objects rows callers now_rows now_callers replies)
+    (same : SameCalls own front seen now_callers settled_callers) (settled : Settled own front seen (contents_of plan) settled_callers) where
+  -- all calls on maps and atomics are the workload's
+  all_of : (worker : ℕ) → All (λ x. IsCallOf plan x.call) (calls_of own settled_callers worker)
+  all_of worker = elim (cases_lt worker plan.workers) [
+    | inl within ↦
+        let was = item_of callers worker (omega (arith, within, callers_are.all)) in
+        let now = item_of now_callers worker (omega (arith, within, gone.callers_count)) in
+        let last = item_of settled_callers worker (omega (arith, within, gone.callers_count, same.count)) in
+        subst (All (λ x. IsCallOf plan x.call)) (sym (ap (λ (h : Option Holding). items_of h) (same.same worker now.0 last.0 now.1 last.1)) ∙ sym (calls_at own settled_callers worker last.0 last.1)) (gone.each worker was.0 now.0 was.1 now.1).calls
+    | inr past ↦ subst (All (λ x. IsCallOf plan x.call)) (sym (calls_past own settled_callers worker (omega (arith, past, gone.callers_count, same.count)))) (All-nil (λ x. IsCallOf plan x.call))
+  ]
+
+  -- so no worker has given up
+  pub none_gave_up : ((caller : ℕ) (shown : List (ℕ × ℕ)) → ((c : ℕ) → All (λ x. IsCallOf plan x.call) (calls_of own settled_callers c)) → HasShown (calls_of own settled_callers caller) shown → length shown ≤ length (keys_in plan.scripts))
+      → ((caller i a : ℕ) (amount : ℤ) (x : Item) → ((c : ℕ) → All (λ x. IsCallOf plan x.call) (calls_of own settled_callers c)) → slice_get (calls_of own settled_callers caller) i ≡ Some x → x.call ≡ Atomic a (Add (Int64 amount)) → (sum : ℤ) × (x.reply ≡ replies_to.Atomic (Held (Int64 sum))))
+      → (worker : ℕ) → GaveUp plan (calls_of own settled_callers worker) → ⊥
+  none_gave_up few int64 worker (inl over) = let most = few worker over.shown all_of over.has in let many = over.many in omega (arith, most, many)
+  none_gave_up few int64 worker (inr wrong) = let is = int64 worker wrong.i wrong.a wrong.amount wrong.x all_of wrong.at wrong.call in wrong.amiss is.0 is.1
+
+module _ {N H : Type 0} (at : H → N → Type 0) (own : N → Option Holding) (front : N → List ℕ) (seen : N → List SharedEntry) (home : H) (plan : Plan) (objects : List (AnyObject N H)) (rows now_rows : List (List (AnyPass N))) (callers now_callers settled_callers : List (Caller N)) (replies : List (List (Reply ℕ)))
     (rows_are : AreRows at home plan.workers objects rows) (callers_are : AreAllCallers at own home callers plan.workers) (unmade : HaveMadeNone own callers)
-    (gone : HaveGone at own front home plan objects rows callers now_rows now_callers replies kept)
-    (same : SameCalls own front seen now_callers settled_callers) (settled : Settled own front seen (contents_of plan) settled_callers) (scripts : length plan.scripts ≡ plan.workers)
+    (gone : HaveGone at own front home plan objects rows callers now_rows now_callers replies)
+    (same : SameCalls own front seen now_callers settled_callers) (settled : Settled own front seen (contents_of plan) settled_callers) (scripts : length plan.scripts ≡ plan.workers) (never : (worker : ℕ) → GaveUp plan (calls_of own settled_callers worker) → ⊥)
     (journals : List (List ObjectEntry)) (are : AreJournals plan journals)
     (parts : (object worker : ℕ) → worker < plan.workers → owns_of (get_or now_rows worker []) object ≡ by worker (get_or journals object []))
     (beyond : (object worker : ℕ) → plan.workers ≤ worker → by worker (get_or journals object []) ≡ []) where
@@ -91,17 +124,29 @@ module _ {N H : Type 0} (at : H → N → Type 0) (own : N → Option Holding) (
   abbrev Did : ℕ → Line → Type 0
   Did worker line = DidLine plan worker (get_or plan.scripts worker []) (get_or replies worker []) (start worker) (desk worker) line
 
+  -- a worker's caller, before and after the maps and atomics were settled
+  called : (worker : ℕ) → worker < plan.workers → (desk worker).calls ≡ calls_of own settled_callers worker
+  called worker within =
+      let now = caller_of now_callers worker (omega (arith, within, gone.callers_count)) in
+      let last = caller_of settled_callers worker (omega (arith, within, gone.callers_count, same.count)) in
+      ap (λ (o : Option (Caller N)). (desk_of own front o (get_or now_rows worker [])).calls) now.1
+      ∙ sym (ap (λ (h : Option Holding). items_of h) (same.same worker now.0 last.0 now.1 last.1))
+      ∙ sym (calls_at own settled_callers worker last.0 last.1)
+
   did : (worker : ℕ) → worker < plan.workers → (line : Line) × Did worker line
   did worker within =
       let was = caller_of callers worker (omega (arith, within, callers_are.all)) in
       let now = caller_of now_callers worker (omega (arith, within, gone.callers_count)) in
-      let it = (gone.each worker was.0 now.0 was.1 now.1).did kept_is in
       let first : desk_with own front (owns_of (get_or rows worker [])) was.0.note ≡ start worker = ap (λ (o : Option (Caller N)). desk_of own front o (get_or rows worker [])) (sym was.1) in
-      let last : desk_with own front (owns_of (get_or now_rows worker [])) now.0.note ≡ desk worker = ap (λ (o : Option (Caller N)). desk_of own front o (get_or now_rows worker [])) (sym now.1) in (
-        it.0,
-        subst (λ (d : Desk). DidLine plan worker (get_or plan.scripts worker []) (get_or replies worker []) (start worker) d it.0) last
-            (subst (λ (d : Desk). DidLine plan worker (get_or plan.scripts worker []) (get_or replies worker []) d (desk_with own front (owns_of (get_or now_rows worker [])) now.0.note) it.0) first it.1),
-      )
+      let last : desk_with own front (owns_of (get_or now_rows worker [])) now.0.note ≡ desk worker = ap (λ (o : Option (Caller N)). desk_of own front o (get_or now_rows worker [])) (sym now.1) in
+      elim ((gone.each worker was.0 now.0 was.1 now.1).did) [
+        | inl it ↦ (
+            it.0,
+            subst (λ (d : Desk). DidLine plan worker (get_or plan.scripts worker []) (get_or replies worker []) (start worker) d it.0) last
+                (subst (λ (d : Desk). DidLine plan worker (get_or plan.scripts worker []) (get_or replies worker []) d (desk_with own front (owns_of (get_or now_rows worker [])) now.0.note) it.0) first it.1),
+          )
+        | inr up ↦ absurd (never worker (subst (GaveUp plan) (ap (λ (d : Desk). d.calls) last ∙ called worker within) up))
+      ]
 
   pub all_lines : (lines : List Line) × (length lines ≡ plan.workers) × ((i : ℕ) (line : Line) → slice_get lines i ≡ Some line → Did (0 + i) line)
   all_lines = gathered Did plan.workers 0 (λ i low high. did i (omega (arith, high)))
@@ -112,15 +157,6 @@ module _ {N H : Type 0} (at : H → N → Type 0) (own : N → Option Holding) (
       let row = rows_are.each worker (get_or rows worker []) (slice_get-get_or rows worker [] (omega (arith, within, rows_are.count))) in
       subst (λ (o : Option (Caller N)). IsFresh worker (desk_of own front o (get_or rows worker []))) (sym was.1)
       (record { owns = row.none; calls = unmade worker was.0 was.1; number = held_number (own was.0.note) worker (callers_are.each worker was.0 was.1).1 })
-
-  -- a worker's caller, before and after the maps and atomics were settled
-  called : (worker : ℕ) → worker < plan.workers → (desk worker).calls ≡ calls_of own settled_callers worker
-  called worker within =
-      let now = caller_of now_callers worker (omega (arith, within, gone.callers_count)) in
-      let last = caller_of settled_callers worker (omega (arith, within, gone.callers_count, same.count)) in
-      ap (λ (o : Option (Caller N)). (desk_of own front o (get_or now_rows worker [])).calls) now.1
-      ∙ sym (ap (λ (h : Option Holding). items_of h) (same.same worker now.0 last.0 now.1 last.1))
-      ∙ sym (calls_at own settled_callers worker last.0 last.1)
 
   known : (worker other : ℕ) → worker < plan.workers → slice_index (desk worker).front other ≤ length (calls_of own settled_callers other)
   known worker other within =

@@ -1,21 +1,26 @@
 -- What holds between two calls of a script.
-use Rattle.std.proofs.Common.{◌≡◌, ℕ, ◌+◌, ◌<◌, ◌≤◌, Bool, true, List, length, drop, Option, Some, slice_get, sym, ap, ◌∙◌, subst, arith}
-use Rattle.std.specs.Prelude.{IfSome}
+use Rattle.std.proofs.Common.{◌≡◌, ℕ, ◌+◌, ◌<◌, ◌≤◌, List, ◌++◌, length, drop, Option, Some, slice_get, sym, ap, ◌∙◌, subst, arith}
+use Rattle.std.specs.Prelude.{All, IfSome, IfNone, None}
+use Rattle.std.proofs.lemmas.List.Elements.{All-append}
 use Rattle.std.specs.Option.{ForSome}
 use Rattle.std.proofs.lemmas.List.Sums.{sum_by-drop_more}
 use Rattle.std.proofs.lemmas.Option.{get_or_from_slice_get, same_Some}
 use Rattle.sync_model.specs.declared.call.Call.{Call}
 use Rattle.sync_model.specs.declared.call.Reply.{Reply}
 use Rattle.sync_model.specs.declared.caller.Caller.{Caller}
+use Rattle.sync_model.specs.declared.item.Item.{Item}
 use Rattle.sync_model.specs.BoundedSeq.{Bounded}
 use Rattle.sync_model.specs.Note.{Holding}
-use Rattle.sync_model.specs.Shared.{IsCallerAt, IsHeldBy}
+use Rattle.sync_model.specs.Shared.{IsCallerAt, IsHeldBy, items_of}
+use Rattle.workload.specs.Keys.{keys_in}
 use Rattle.workload.specs.Plan.{Plan}
+use Rattle.run_record.specs.Limits.{IsCallOf}
 use Rattle.thread_calls.specs.declared.object.AnyObject.{AnyObject}
 use Rattle.thread_calls.specs.declared.pass.AnyPass.{AnyPass}
 use Rattle.thread_calls.specs.Desks.{AreSeats}
+use Rattle.thread_calls.specs.GivenUp.{MakesOnly}
 use Rattle.thread_calls.specs.Passes.{owns_of}
-use Rattle.thread_calls.specs.Sites.{Spends, AreEmpty, cost_of_call, cost_of_calls, ranges_in_call, ranges_in_calls}
+use Rattle.thread_calls.specs.Sites.{Spends, AreRooms, cost_of_call, cost_of_calls, ranges_in_call, ranges_in_calls}
 use Rattle.thread_calls.specs.Working.{Desk, desk_with}
 use Rattle.thread_runner.specs.DidLines.{Went}
 
@@ -28,18 +33,26 @@ held_behind own cost old new spends c (holding, is, number) =
 pub of_some : {X : Type 0} (o : Option X) (P : X → Type 0) (x : X) → o ≡ Some x → IfSome o P → P x
 of_some o P x is holds = subst (λ r. IfSome r P) is holds
 
+pub of_none : {X : Type 0} (o : Option X) (P : Type 0) → o ≡ None → IfNone o P → P
+of_none o P is holds = subst (λ r. IfNone r P) is holds
+
+-- what holds of a caller's calls holds still, where it makes only such calls
+pub all_behind : (plan : Plan) (old new : List Item) → All (λ x. IsCallOf plan x.call) old → MakesOnly (IsCallOf plan) old new → All (λ x. IsCallOf plan x.call) new
+all_behind plan old new all made = subst (All (λ x. IsCallOf plan x.call)) (sym made.are) (All-append (λ x. IsCallOf plan x.call) old made.made all made.each)
+
 module _ {H N : Type 0} (at : H → N → Type 0) (own : N → Option Holding) (front : N → List ℕ) (home : H) (plan : Plan) (workers worker : ℕ) (objects : List (AnyObject N H)) (script : List Call) (room : ℕ) (start : Desk) (first : N) where
   -- so many calls are made, and the worker is about to make the next
-  pub record AtCall (index : ℕ) (kept : Bool) (passes : List (AnyPass N)) (caller : Caller N) (replies : Bounded (Reply ℕ)) (rooms : List (Bounded (ℕ × ℕ))) : Type 0 where
+  pub record AtCall (index : ℕ) (passes : List (AnyPass N)) (caller : Caller N) (replies : Bounded (Reply ℕ)) (rooms : List (Bounded (ℕ × ℕ))) : Type 0 where
     pub seats : AreSeats at home workers worker objects passes
     pub is_caller : IsCallerAt at own home caller
     pub held : (c : ℕ) → IsHeldBy c (own first) → IsHeldBy c (own caller.note)
     pub spare : ForSome (own caller.note) (λ holding. cost_of_calls (drop index script) ≤ holding.spare)
-    pub empty : AreEmpty rooms
+    pub roomy : AreRooms (length (keys_in plan.scripts)) rooms
     pub enough : ranges_in_calls (drop index script) ≤ length rooms
     pub room_is : replies.room ≡ room
     pub count : length replies.items ≤ index
-    pub went : kept ≡ true → Went plan worker script index replies.items start (desk_with own front (owns_of passes) caller.note)
+    pub calls : All (λ x. IsCallOf plan x.call) (items_of (own caller.note))
+    pub went : Went plan worker script index replies.items start (desk_with own front (owns_of passes) caller.note)
 
   module _ (index : ℕ) (call : Call) (within : index < length script) (is_at : slice_get script index ≡ Some call) where
     costs : cost_of_calls (drop index script) ≡ cost_of_call call + cost_of_calls (drop (index + 1) script)
@@ -63,21 +76,23 @@ module _ {H N : Type 0} (at : H → N → Type 0) (own : N → Option Holding) (
     pub rooms_here : (n : ℕ) → ranges_in_calls (drop index script) ≤ n → ranges_in_call call ≤ n
     rooms_here n enough = let sum = ranges in omega (arith, sum, enough)
 
-    module _ (kept now_kept : Bool) (passes now_passes : List (AnyPass N)) (caller now_caller : Caller N) (replies now_replies : Bounded (Reply ℕ)) (rooms now_rooms : List (Bounded (ℕ × ℕ))) (before : AtCall index kept passes caller replies rooms) where
+    module _ (passes now_passes : List (AnyPass N)) (caller now_caller : Caller N) (replies now_replies : Bounded (Reply ℕ)) (rooms now_rooms : List (Bounded (ℕ × ℕ))) (before : AtCall index passes caller replies rooms) where
       -- behind a call the worker is about to make the one behind it
       pub after_call : AreSeats at home workers worker objects now_passes → IsCallerAt at own home now_caller → Spends own (cost_of_call call) caller.note now_caller.note
-          → AreEmpty now_rooms → length rooms ≤ length now_rooms + ranges_in_call call
+          → AreRooms (length (keys_in plan.scripts)) now_rooms → length rooms ≤ length now_rooms + ranges_in_call call
           → now_replies.room ≡ replies.room → length now_replies.items ≤ index + 1
-          → (now_kept ≡ true → Went plan worker script (index + 1) now_replies.items start (desk_with own front (owns_of now_passes) now_caller.note))
-          → AtCall (index + 1) now_kept now_passes now_caller now_replies now_rooms
-      after_call seats is_caller spends empty left room_same count went = record {
+          → MakesOnly (IsCallOf plan) (items_of (own caller.note)) (items_of (own now_caller.note))
+          → Went plan worker script (index + 1) now_replies.items start (desk_with own front (owns_of now_passes) now_caller.note)
+          → AtCall (index + 1) now_passes now_caller now_replies now_rooms
+      after_call seats is_caller spends roomy left room_same count made went = record {
         seats = seats;
         is_caller = is_caller;
         held = λ c of. held_behind own (cost_of_call call) caller.note now_caller.note spends c (before.held c of);
         spare = spare_behind caller.note now_caller.note before.spare spends;
-        empty = empty;
+        roomy = roomy;
         enough = let sum = ranges in let was = before.enough in omega (arith, sum, was, left);
         room_is = room_same ∙ before.room_is;
         count = count;
+        calls = all_behind plan (items_of (own caller.note)) (items_of (own now_caller.note)) before.calls made;
         went = went;
       }

@@ -1,18 +1,21 @@
 -- A worker before its script, and what it leaves behind it.
-use Rattle.std.specs.Prelude.{◌≡◌, ℕ, ◌^◌, ◌<◌, ◌≤◌, Bool, true, List, [], length, get_or, Option}
+use Rattle.std.specs.Prelude.{◌≡◌, ℕ, ◌^◌, ◌<◌, ◌≤◌, ◌⊎◌, List, [], length, get_or, All, Option}
 use Rattle.std.specs.Option.{ForSome}
 use Rattle.sync_model.specs.declared.call.Reply.{Reply}
 use Rattle.sync_model.specs.declared.caller.Caller.{Caller}
 use Rattle.sync_model.specs.BoundedSeq.{Bounded}
 use Rattle.sync_model.specs.Note.{Holding}
-use Rattle.sync_model.specs.Shared.{IsHeldBy}
+use Rattle.sync_model.specs.Shared.{IsHeldBy, items_of}
+use Rattle.workload.specs.Keys.{keys_in}
 use Rattle.workload.specs.Plan.{Plan}
+use Rattle.run_record.specs.Limits.{IsCallOf}
 use Rattle.run_record.specs.Lines.{Line}
 use Rattle.thread_calls.specs.declared.object.AnyObject.{AnyObject}
 use Rattle.thread_calls.specs.declared.pass.AnyPass.{AnyPass}
 use Rattle.thread_calls.specs.Desks.{AreSeats}
+use Rattle.thread_calls.specs.GivenUp.{GaveUp}
 use Rattle.thread_calls.specs.Passes.{owns_of}
-use Rattle.thread_calls.specs.Sites.{AreEmpty, cost_of_calls, ranges_in_calls}
+use Rattle.thread_calls.specs.Sites.{AreRooms, cost_of_calls, ranges_in_calls}
 use Rattle.thread_calls.specs.Working.{desk_with}
 use Rattle.thread_runner.specs.DidLines.{DidLine, IsFresh}
 
@@ -26,14 +29,15 @@ module _ {N H : Type 0} (at : H → N → Type 0) (own : N → Option Holding) (
     pub fresh : IsFresh worker (desk_with own front (owns_of passes) caller.note)
     pub spare : ForSome (own caller.note) (λ holding. cost_of_calls (get_or plan.scripts worker []) ≤ holding.spare)
     pub few : length (get_or plan.scripts worker []) < 2 ^ 32
-    pub empty : AreEmpty rooms
+    pub roomy : AreRooms (length (keys_in plan.scripts)) rooms
     pub enough : ranges_in_calls (get_or plan.scripts worker []) ≤ length rooms
     pub none : replies.items ≡ []
     pub room : length (get_or plan.scripts worker []) ≤ replies.room
 
-  -- the worker that had these passes and was this caller has ended
-  pub record HasGone (passes : List (AnyPass N)) (caller : Caller N) (now_passes : List (AnyPass N)) (now_caller : Caller N) (replies : List (Reply ℕ)) (kept : Bool) : Type 0 where
+  -- The worker that had these passes and was this caller has ended. All its calls on maps and atomics are the workload's; it has gone along its script, or has seen what can't be.
+  pub record HasGone (passes : List (AnyPass N)) (caller : Caller N) (now_passes : List (AnyPass N)) (now_caller : Caller N) (replies : List (Reply ℕ)) : Type 0 where
     pub seats : AreSeats at home plan.workers worker objects now_passes
     pub is_at : at home now_caller.note
     pub held : IsHeldBy worker (own now_caller.note)
-    pub did : kept ≡ true → (line : Line) × DidLine plan worker (get_or plan.scripts worker []) replies (desk_with own front (owns_of passes) caller.note) (desk_with own front (owns_of now_passes) now_caller.note) line
+    pub calls : All (λ x. IsCallOf plan x.call) (items_of (own now_caller.note))
+    pub did : ((line : Line) × DidLine plan worker (get_or plan.scripts worker []) replies (desk_with own front (owns_of passes) caller.note) (desk_with own front (owns_of now_passes) now_caller.note) line) ⊎ GaveUp plan (items_of (own now_caller.note))

@@ -1,6 +1,5 @@
 //! What the workers of a run leave, once all have ended.
-ghost use Rattle.std.specs.Prelude.{◌≡◌, ◌≤◌, true, false, length, map, IfOk, vec_len, vec_capacity, []};
-ghost use Rattle.std.specs.List.{list_all};
+ghost use Rattle.std.specs.Prelude.{◌≡◌, ◌≤◌, length, map, IfOk, vec_len, vec_capacity, []};
 
 use crate::job::Gone;
 use std::alloc::{AllocError, Global};
@@ -13,44 +12,38 @@ pub(crate) struct Left<M> {
     pub callers: Vec<Caller<M>>,
     pub passes: Vec<Vec<AnyPass<M>>>,
     pub replies: BoundedSeq<Seq<Reply<u32>>>,
-    /// Whether each `range` had room for its pairs.
-    pub kept: bool,
 }
 
 impl<M: Drop> Left<M> {
     /// Room for what so many workers leave.
     pub fn with_room(alloc: Global, workers: usize) -> Result<Self, AllocError>
-        ensures empty { IfOk result (λ left. (left.callers.items ≡ []) × (left.passes.items ≡ []) × (left.replies.items ≡ []) × (left.kept ≡ true)) }
+        ensures empty { IfOk result (λ left. (left.callers.items ≡ []) × (left.passes.items ≡ []) × (left.replies.items ≡ [])) }
         ensures room { IfOk result (λ left. (workers ≤ vec_capacity left.callers) × (workers ≤ vec_capacity left.passes) × (workers ≤ left.replies.room)) }
     {
         Ok(Left {
             callers: Vec::with_capacity(alloc, workers)?,
             passes: Vec::with_capacity(alloc, workers)?,
             replies: BoundedSeq::with_room(alloc, workers)?,
-            kept: true,
         })
     }
 
     /// Takes in what all workers left, for whom there is room.
     pub fn gather(&mut self, gone: Vec<Gone<M>>)
-        requires empty { (self.old.callers.items ≡ []) × (self.old.passes.items ≡ []) × (self.old.replies.items ≡ []) × (self.old.kept ≡ true) }
+        requires empty { (self.old.callers.items ≡ []) × (self.old.passes.items ≡ []) × (self.old.replies.items ≡ []) }
         requires room { (vec_len gone ≤ vec_capacity self.old.callers) × (vec_len gone ≤ vec_capacity self.old.passes) × (vec_len gone ≤ self.old.replies.room) }
         ensures callers { self.new.callers.items ≡ map (λ g. g.caller) gone.items }
         ensures passes { map (λ p. p.items) self.new.passes.items ≡ map (λ g. g.passes.items) gone.items }
         ensures replies { self.new.replies.items ≡ map (λ g. g.replies) gone.items }
-        ensures kept { self.new.kept ≡ list_all (λ g. g.kept) gone.items }
     {
         for worker in gone {
             let Gone {
                 caller,
                 passes,
                 replies,
-                kept,
             } = worker;
             self.callers.push_reserved(caller);
             self.passes.push_reserved(passes);
             self.replies.push(replies);
-            self.kept = self.kept && kept;
         }
     }
 }

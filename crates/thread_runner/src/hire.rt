@@ -1,7 +1,8 @@
 //! The jobs of a run's threads, one for each worker.
 ghost use Rattle.std.specs.Prelude.{◌≡◌, ◌<◌, ◌≤◌, All, IfOk, [], length, map, get_or, vec_len};
 ghost use Rattle.std.specs.List.{range_with_len};
-ghost use Rattle.thread_calls.specs.Sites.{AreEmpty, ranges_in_calls};
+ghost use Rattle.workload.specs.Keys.{keys_in};
+ghost use Rattle.thread_calls.specs.Sites.{AreRooms, ranges_in_calls};
 
 use crate::job::Job;
 use std::alloc::{AllocError, Global};
@@ -10,13 +11,13 @@ use sync_outside::{At, Clock, Gate};
 use thread_calls::{AnyObject, AnyPass, Site, Worker};
 use workload::Workload;
 
-// Room for the pairs of each `range` of a script, which shows at most so many.
+// Room for the pairs of each `range` of a script, which shows at most all keys, so many.
 fn rooms_of(
     alloc: Global,
     script: &[Call],
     keys: usize,
 ) -> Result<Vec<BoundedSeq<(u32, u64)>>, AllocError>
-    ensures empty { IfOk result (λ rooms. AreEmpty rooms.items) }
+    ensures roomy { IfOk result (λ rooms. AreRooms keys rooms.items) }
     ensures enough { IfOk result (λ rooms. ranges_in_calls script.now ≤ vec_len rooms) }
 {
     let mut rooms = Vec::new(alloc);
@@ -49,7 +50,7 @@ pub(crate) fn hire<'a, S: Shared, C: Clock, G: Gate>(
     ensures site { IfOk result (λ jobs. All (λ job. (job.site.workload.now ≡ workload.now) × (job.site.shared.now ≡ shared.now) × (job.site.objects.now ≡ objects.now) × (job.site.numbers.now ≡ numbers.now)) jobs.items) }
     ensures at { IfOk result (λ jobs. All (λ job. (job.worker.at.home.now ≡ S.home_of shared.now) × (job.worker.workers ≡ workload.now.workers)) jobs.items) }
     ensures replies { IfOk result (λ jobs. All (λ job. (job.replies.items ≡ []) × (length (get_or workload.now.scripts job.worker.number []) ≤ job.replies.room)) jobs.items) }
-    ensures rooms { IfOk result (λ jobs. All (λ job. AreEmpty job.rooms.items × (ranges_in_calls (get_or workload.now.scripts job.worker.number []) ≤ vec_len job.rooms)) jobs.items) }
+    ensures rooms { IfOk result (λ jobs. All (λ job. AreRooms (length (keys_in workload.now.scripts)) job.rooms.items × (ranges_in_calls (get_or workload.now.scripts job.worker.number []) ≤ vec_len job.rooms)) jobs.items) }
 {
     let workers = workload.workers();
     let keys = workload.keys().names().len();

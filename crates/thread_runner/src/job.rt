@@ -17,7 +17,7 @@ pub(crate) struct Job<'a, S: Shared, C: Clock, G: Gate> {
     pub passes: Vec<AnyPass<S::Mark>>,
     /// Room for the replies.
     pub replies: BoundedSeq<Reply<u32>>,
-    /// Room for the pairs of each `range`.
+    /// Room for the pairs of each `range`, which are at most all keys.
     pub rooms: Vec<BoundedSeq<(u32, u64)>>,
 }
 
@@ -27,8 +27,6 @@ pub(crate) struct Gone<M> {
     pub caller: Caller<M>,
     pub passes: Vec<AnyPass<M>>,
     pub replies: Seq<Reply<u32>>,
-    /// Whether each `range` had room for its pairs.
-    pub kept: bool,
 }
 
 impl<'a, S: Shared + Sync, C: Clock + Sync, G: Gate + Sync> Work for Job<'a, S, C, G>
@@ -50,7 +48,7 @@ where
         × IsObjectAt IsStop job.site.objects.now stop × (job.site.workload.now.workers ≡ job.worker.workers) × (S.home_of job.site.shared.now ≡ job.worker.at.home.now)
         × IsReady S.Mark.at S.Mark.own S.Mark.front job.worker.at.home.now job.site.workload.now job.site.objects.now job.worker.number job.passes.items job.caller job.replies job.rooms.items };
 
-    ghost gives = { λ job gone. HasGone S.Mark.at S.Mark.own S.Mark.front job.worker.at.home.now job.site.workload.now job.site.objects.now job.worker.number job.passes.items job.caller gone.passes.items gone.caller gone.replies gone.kept };
+    ghost gives = { λ job gone. HasGone S.Mark.at S.Mark.own S.Mark.front job.worker.at.home.now job.site.workload.now job.site.objects.now job.worker.number job.passes.items job.caller gone.passes.items gone.caller gone.replies };
 
     fn work<R: Wait>(self, rt: &R) -> Gone<S::Mark> {
         let Job {
@@ -62,7 +60,7 @@ where
             mut replies,
             mut rooms,
         } = self;
-        let kept = run_script(
+        run_script(
             rt,
             &site,
             &worker,
@@ -76,7 +74,6 @@ where
             caller,
             passes,
             replies: replies.into_seq(),
-            kept,
         }
     }
 }

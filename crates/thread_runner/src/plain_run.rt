@@ -1,5 +1,5 @@
 //! A run of a workload by threads, over plain maps and atomics.
-ghost use Rattle.std.specs.Prelude.{◌≡◌, ◌≤◌, ◌+◌, IfOk, Err};
+ghost use Rattle.std.specs.Prelude.{◌≡◌, ◌≤◌, ◌+◌, IfOk, IfErr, Err};
 ghost use Rattle.sync_outside.specs.Faults.{Rose, RoseBy};
 ghost use Rattle.run_record.specs.Explains.{Explains};
 ghost use Rattle.run_record.specs.Record.{Record};
@@ -24,7 +24,7 @@ use workload::Workload;
 ///
 /// # Errors
 ///
-/// `StartRefused` where a thread's start was refused, and `Memory`, where there is no outcome.
+/// `StartRefused` where a thread's start was refused, and `Memory`. There is no outcome then, and no worker has made a call.
 pub fn threaded<C: Clock + Sync, P: Spawner, G: Gate + Sync, R: Threads + Wait + Sync>(
     rt: &R,
     alloc: Global,
@@ -38,6 +38,7 @@ pub fn threaded<C: Clock + Sync, P: Spawner, G: Gate + Sync, R: Threads + Wait +
     ensures faults { P.faults spawner.old ≤ P.faults spawner.new }
     ensures ran { IfOk result (λ outcome. RoseBy workload.now.workers (P.ran spawner.old) (P.ran spawner.new)) }
     ensures rounds { P.rounds spawner.new ≤ P.rounds spawner.old + 1 }
+    ensures unstarted { IfErr result (λ fault. (P.ran spawner.new ≡ P.ran spawner.old) × (P.rounds spawner.new ≡ P.rounds spawner.old)) }
 {
     let (plain, callers) = new_plain(alloc, workload)?;
     let room = EndsRoom::new(alloc, workload.workers())?;

@@ -1,5 +1,5 @@
 //! A run of a workload by threads, over any shared maps and atomics.
-ghost use Rattle.std.specs.Prelude.{◌≡◌, ◌≤◌, ◌+◌, IfOk, OnOk, List, Err, [], true, map, vec_capacity};
+ghost use Rattle.std.specs.Prelude.{◌≡◌, ◌≤◌, ◌+◌, IfOk, IfErr, OnOk, List, Err, [], true, map, vec_capacity};
 ghost use Rattle.sync_model.specs.Shared.{AreAllCallers};
 ghost use Rattle.sync_outside.specs.Faults.{Rose, RoseBy};
 ghost use Rattle.thread_calls.specs.AsDeclared.{AreDeclared};
@@ -16,6 +16,7 @@ use crate::fault::RunFault;
 use crate::gather::Left;
 use crate::hire::hire;
 use run_record::laws::endings::stop_says_how_a_run_ended;
+use run_record::laws::limits::{a_range_shows_no_key_but_the_workloads, an_int64_answers_an_int64};
 use std::alloc::Global;
 use std::sync::Wait;
 use std::thread::Threads;
@@ -35,7 +36,7 @@ fn outcome_of<S: Shared>(
     objects: &[AnyObject<S::Mark>],
     columns: &mut [AnyColumn<S::Mark>],
     left: Left<S::Mark>,
-) -> Result<(Outcome, Vec<Caller<S::Mark>>), RunFault>
+) -> (Outcome, Vec<Caller<S::Mark>>)
     requires home { crew.now.home.now ≡ S.home_of shared.now }
     requires workers { (crew.now.workers ≡ workload.now.workers) × (S.count shared.now ≡ workload.now.workers) }
     requires shared { AreShared workload.now (S.maps shared.now) (S.kinds shared.now) (S.takes shared.now) }
@@ -43,10 +44,11 @@ fn outcome_of<S: Shared>(
     requires columns { AreColumns S.Mark.at (S.home_of shared.now) workload.now.workers 0 objects.now columns.old }
     requires nothing { MadeNothingFrom workload.now.workers columns.old }
     requires gone { (rows : List (List (AnyPass S.Mark))) × (callers : List (Caller S.Mark)) × AreRows S.Mark.at (S.home_of shared.now) workload.now.workers objects.now rows × AreAllCallers S.Mark.at S.Mark.own (S.home_of shared.now) callers workload.now.workers × HaveMadeNone S.Mark.own callers
-        × HaveGone S.Mark.at S.Mark.own S.Mark.front (S.home_of shared.now) workload.now objects.now rows callers (map (λ row. row.items) left.passes.items) left.callers.items left.replies.items left.kept }
-    ensures comes { IfOk result (λ done. ComesTo S.Mark.at S.Mark.own S.Mark.front S.seen (S.home_of shared.now) workload.now done.0 done.1.items) }
-    ensures refused { result ≡ Err faults.StartRefused → ⊥ }
+        × HaveGone S.Mark.at S.Mark.own S.Mark.front (S.home_of shared.now) workload.now objects.now rows callers (map (λ row. row.items) left.passes.items) left.callers.items left.replies.items }
+    ensures comes { ComesTo S.Mark.at S.Mark.own S.Mark.front S.seen (S.home_of shared.now) workload.now result.0 result.1.items }
 {
+    a_range_shows_no_key_but_the_workloads();
+    an_int64_answers_an_int64();
     a_worker_knows_its_own_calls();
     one_more_call_keeps_the_law();
     stop_says_how_a_run_ended();
@@ -55,11 +57,7 @@ fn outcome_of<S: Shared>(
         mut callers,
         passes,
         replies,
-        kept,
     } = left;
-    if !kept {
-        return Err(RunFault::Memory);
-    }
     collect(crew, objects, columns, passes);
     let stopped = journals(crew, workload, objects, columns);
     shared.settle(&mut callers);
@@ -71,7 +69,7 @@ fn outcome_of<S: Shared>(
         None => Outcome::Done(report),
         Some(misuse) => Outcome::Misused(report, misuse),
     };
-    Ok((outcome, callers))
+    (outcome, callers)
 }
 
 // Starts the workers, and takes in what they leave.
@@ -104,14 +102,15 @@ where
     requires callers { AreAllCallers S.Mark.at S.Mark.own (S.home_of shared.now) callers.items workload.now.workers }
     requires unused { HaveMadeNone S.Mark.own callers.items }
     requires spare { HaveSpare S.Mark.own workload.now callers.items }
-    requires empty { (left.old.callers.items ≡ []) × (left.old.passes.items ≡ []) × (left.old.replies.items ≡ []) × (left.old.kept ≡ true) }
+    requires empty { (left.old.callers.items ≡ []) × (left.old.passes.items ≡ []) × (left.old.replies.items ≡ []) }
     requires room { (workload.now.workers ≤ vec_capacity left.old.callers) × (workload.now.workers ≤ vec_capacity left.old.passes) × (workload.now.workers ≤ left.old.replies.room) }
     ensures gone { OnOk result (HaveGone S.Mark.at S.Mark.own S.Mark.front (S.home_of shared.now) workload.now objects.now (map (λ row. row.items) rows.items) callers.items
-        (map (λ row. row.items) left.new.passes.items) left.new.callers.items left.new.replies.items left.new.kept) }
+        (map (λ row. row.items) left.new.passes.items) left.new.callers.items left.new.replies.items) }
     ensures refused { result ≡ Err faults.StartRefused → Rose (P.faults spawner.old) (P.faults spawner.new) }
     ensures faults { P.faults spawner.old ≤ P.faults spawner.new }
     ensures ran { OnOk result (RoseBy workload.now.workers (P.ran spawner.old) (P.ran spawner.new)) }
     ensures rounds { P.rounds spawner.new ≤ P.rounds spawner.old + 1 }
+    ensures unstarted { IfErr result (λ fault. (P.ran spawner.new ≡ P.ran spawner.old) × (P.rounds spawner.new ≡ P.rounds spawner.old)) }
 {
     stop_is_the_first_object::<S::Mark>();
     let _workers = workload.workers();
@@ -160,6 +159,7 @@ where
     ensures faults { P.faults spawner.old ≤ P.faults spawner.new }
     ensures ran { IfOk result (λ done. RoseBy workload.now.workers (P.ran spawner.old) (P.ran spawner.new)) }
     ensures rounds { P.rounds spawner.new ≤ P.rounds spawner.old + 1 }
+    ensures unstarted { IfErr result (λ fault. (P.ran spawner.new ≡ P.ran spawner.old) × (P.rounds spawner.new ≡ P.rounds spawner.old)) }
 {
     let rows = deal(alloc, crew, objects, columns)?;
     let mut left = Left::with_room(alloc, crew.workers as usize)?;
@@ -167,7 +167,7 @@ where
         rt, alloc, workload, shared, objects, numbers, clock, spawner, gate, callers, rows,
         &mut left,
     )?;
-    outcome_of(alloc, workload, shared, crew, objects, columns, left)
+    Ok(outcome_of(alloc, workload, shared, crew, objects, columns, left))
 }
 
 /// Makes the calls of a workload's workers in threads, one for each worker, on these maps and atomics, of which the callers are
@@ -178,7 +178,7 @@ where
 ///
 /// # Errors
 ///
-/// `StartRefused` where a thread's start was refused, and `Memory`. The callers are gone then.
+/// `StartRefused` where a thread's start was refused, and `Memory`. No worker has made a call then, and the callers are gone.
 pub fn threaded_over<
     S: Shared + Sync,
     C: Clock + Sync,
@@ -209,6 +209,7 @@ where
     ensures faults { P.faults spawner.old ≤ P.faults spawner.new }
     ensures ran { IfOk result (λ done. RoseBy workload.now.workers (P.ran spawner.old) (P.ran spawner.new)) }
     ensures rounds { P.rounds spawner.new ≤ P.rounds spawner.old + 1 }
+    ensures unstarted { IfErr result (λ fault. (P.ran spawner.new ≡ P.ran spawner.old) × (P.rounds spawner.new ≡ P.rounds spawner.old)) }
 {
     let mut callers = callers;
     let workers = workload.workers();

@@ -1,17 +1,20 @@
 //! A worker's script, call by call.
-ghost use Rattle.std.specs.Prelude.{◌≡◌, ℕ, ◌<◌, ◌≤◌, ◌^◌, List, [], ◌∷◌, ◌++◌, get_or, length, true, Some, slice_get, vec_len, All, Ok, Err};
+ghost use Rattle.std.specs.Prelude.{◌≡◌, ℕ, ◌<◌, ◌≤◌, ◌^◌, List, [], ◌∷◌, ◌++◌, ◌⊎◌, get_or, length, Some, slice_get, vec_len, All, Ok, Err};
 ghost use Rattle.std.specs.Option.{ForSome};
 ghost use Rattle.sync_model.specs.Note.{SameHome, Holding};
-ghost use Rattle.sync_model.specs.Shared.{IsCallerAt, IsHeldBy};
+ghost use Rattle.sync_model.specs.Shared.{IsCallerAt, IsHeldBy, items_of};
+ghost use Rattle.workload.specs.Keys.{keys_in};
 ghost use Rattle.workload.specs.Plan.{is_on};
 ghost use Rattle.run_record.specs.declared.made.Made.{Made};
 ghost use Rattle.run_record.specs.Calls.{SpellsCall};
+ghost use Rattle.run_record.specs.Limits.{IsCallOf};
 ghost use Rattle.run_record.specs.Lines.{Line, IsHalt};
 ghost use Rattle.run_record.specs.Record.{ObjectEntry, stop};
 ghost use Rattle.thread_calls.specs.Desks.{AreSeats, IsObjectAt};
+ghost use Rattle.thread_calls.specs.GivenUp.{GaveUp};
 ghost use Rattle.thread_calls.specs.Kinds.{IsStop};
 ghost use Rattle.thread_calls.specs.Passes.{owns_of};
-ghost use Rattle.thread_calls.specs.Sites.{IsSite, AreEmpty, cost_of_calls, ranges_in_calls};
+ghost use Rattle.thread_calls.specs.Sites.{IsSite, AreRooms, cost_of_calls, ranges_in_calls};
 ghost use Rattle.thread_calls.specs.Working.{Desk, Works, Moves, desk_with};
 ghost use Rattle.thread_runner.specs.DidLines.{DidLine, IsFresh};
 
@@ -22,7 +25,8 @@ use thread_calls::laws::moves;
 use thread_calls::{AnyPass, Site, Worker, halt_all, make_call};
 
 /// Makes the calls of a worker's script in order, with the gate before and behind each. A misuse halts Stop, and then every
-/// object, and ends the worker, as a halt does that it meets. Answers whether each `range` had room for its pairs.
+/// object, and ends the worker, as a halt does that it meets. A call that answers nothing ends it too: none does, as is known once
+/// all workers have ended.
 pub(crate) fn run_script<S: Shared, C: Clock, G: Gate, R: Wait>(
     rt: &R,
     site: &Site<S>,
@@ -32,7 +36,7 @@ pub(crate) fn run_script<S: Shared, C: Clock, G: Gate, R: Wait>(
     passes: &mut [AnyPass<S::Mark>],
     replies: &mut BoundedSeq<Reply<u32>>,
     rooms: &mut Vec<BoundedSeq<(u32, u64)>>,
-) -> bool
+)
     requires number { worker.now.number < site.now.workload.now.workers }
     requires site { IsSite S.Mark.at worker.now.at.home.now site.now.workload.now (S.maps site.now.shared.now) (S.kinds site.now.shared.now) (S.takes site.now.shared.now) site.now.objects.now site.now.numbers.now }
     requires homes { S.home_of site.now.shared.now ≡ worker.now.at.home.now }
@@ -43,31 +47,31 @@ pub(crate) fn run_script<S: Shared, C: Clock, G: Gate, R: Wait>(
     requires spare { ForSome (S.Mark.own caller.old.note) (λ holding. cost_of_calls (get_or site.now.workload.now.scripts worker.now.number []) ≤ holding.spare) }
     requires fresh { IsFresh worker.now.number (desk_with S.Mark.own S.Mark.front (owns_of passes.old) caller.old.note) }
     requires few { length (get_or site.now.workload.now.scripts worker.now.number []) < 2 ^ 32 }
-    requires rooms { AreEmpty rooms.old.items }
+    requires rooms { AreRooms (length (keys_in site.now.workload.now.scripts)) rooms.old.items }
     requires enough { ranges_in_calls (get_or site.now.workload.now.scripts worker.now.number []) ≤ vec_len rooms.old }
     requires replies { (replies.old.items ≡ []) × (length (get_or site.now.workload.now.scripts worker.now.number []) ≤ replies.old.room) }
     ensures seats { AreSeats S.Mark.at worker.now.at.home.now worker.now.workers worker.now.number site.now.objects.now passes.new }
     ensures caller { IsCallerAt S.Mark.at S.Mark.own worker.now.at.home.now caller.new }
     ensures held { (c : ℕ) → IsHeldBy c (S.Mark.own caller.old.note) → IsHeldBy c (S.Mark.own caller.new.note) }
-    ensures line { result ≡ true → (line : Line) × DidLine site.now.workload.now worker.now.number (get_or site.now.workload.now.scripts worker.now.number []) replies.new.items
-        (desk_with S.Mark.own S.Mark.front (owns_of passes.old) caller.old.note) (desk_with S.Mark.own S.Mark.front (owns_of passes.new) caller.new.note) line }
+    ensures calls { All (λ x. IsCallOf site.now.workload.now x.call) (items_of (S.Mark.own caller.new.note)) }
+    ensures line { ((line : Line) × DidLine site.now.workload.now worker.now.number (get_or site.now.workload.now.scripts worker.now.number []) replies.new.items
+        (desk_with S.Mark.own S.Mark.front (owns_of passes.old) caller.old.note) (desk_with S.Mark.own S.Mark.front (owns_of passes.new) caller.new.note) line)
+        ⊎ GaveUp site.now.workload.now (items_of (S.Mark.own caller.new.note)) }
 {
     moves();
-    let mut kept = true;
     let script = site.workload.script(worker.number);
     for index in 0..script.len() {
         gate.before(rt, worker.number, index as u32);
         let answer = make_call(rt, site, worker, caller, passes, rooms, &script[index]);
         gate.after(rt, worker.number, index as u32);
         match answer {
-            None => kept = false,
+            None => return,
             Some(Answer::Done(Ok(reply))) => replies.push(reply),
             Some(Answer::Done(Err(misuse))) => {
                 halt_all(rt, worker, site.objects, passes, &caller.note, misuse);
-                return kept;
+                return;
             }
-            Some(Answer::Halted(_misuse)) => return kept,
+            Some(Answer::Halted(_misuse)) => return,
         }
     }
-    kept
 }

@@ -41,3 +41,6 @@ once_at-requires-clause-room g c = has_room g.S.Mark.Note.at c.args.worker.now.a
 
 pub returns-in-Range-clause-works : goal.returns-in-Range-clause-works
 returns-in-Range-clause-works g c = IfSome_then c.range_at.result c.range_at.ensures.works (λ answer works. on_range c.args.site.now.workload.now c.args.worker.now.number _ c.args.place _ _ answer c.args.kind c.args.operation.now c.requires.call c.in-Range.is (works (owns_of c.args.passes.now)))
+
+pub returns-in-Range-clause-rooms : goal.returns-in-Range-clause-rooms
+returns-in-Range-clause-rooms g c = c.take_room.ensures.rooms _ c.requires.rooms

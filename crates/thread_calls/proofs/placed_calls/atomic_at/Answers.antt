@@ -1,4 +1,7 @@
-use Rattle.std.proofs.Common.{refl}
+use Rattle.run_record.specs.Limits.{IsCallOf}
+use Rattle.thread_calls.specs.Working.{desk_with}
+use Rattle.thread_calls.proofs.OnlyCalls.{of_types, placed_only}
+use Rattle.std.proofs.Common.{[], refl}
 use Rattle.workload.specs.declared.object.ObjectKind.TheVariants as kinds
 use Rattle.thread_calls.proofs.Sites.{number_is, atomic_fits, atomic_as}
 use Rattle.thread_calls.proofs.placed_calls.atomic_at.Goals as goal
@@ -12,3 +15,12 @@ pub returns-clause-works : goal.returns-clause-works
 returns-clause-works g c = λ owns.
     let plan = c.args.site.now.workload.now in
     atomic_as _ _ c.args.call _ _ _ (number_is plan c.args.place c.args.site.now.numbers.now c.requires.site.numbered (kinds.Atomic c.requires.place.0) c.requires.place.1) (c.call_atomic.ensures.works owns)
+
+pub returns-clause-calls : goal.returns-clause-calls
+returns-clause-calls g c =
+    let plan = c.args.site.now.workload.now in
+    let own = g.S.Mark.Note.own in
+    let front = g.S.Mark.Note.front in
+    let fits = atomic_fits plan c.args.place c.args.site.now.numbers.now c.requires.site.numbered _ _ _ c.requires.site.shared _ c.requires.place.0 c.args.call c.requires.place.1 c.requires.place.2 refl in
+    let works = c.call_atomic.ensures.works (λ object. []) in
+    placed_only (IsCallOf plan) _ _ (desk_with own front (λ object. []) c.args.caller.now.note) (desk_with own front (λ object. []) c.call_atomic.new.caller.note) works.items (of_types plan _ _ _ c.requires.site.shared.all_types fits) works.spelt.1 works.moves

@@ -1,4 +1,4 @@
-use Rattle.std.proofs.Common.{◌≡◌, refl, to_z, of_z, rules}
+use Rattle.std.proofs.Common.{◌≡◌, refl, sym, to_z, of_z, rules}
 use Rattle.std.proofs.lemmas.Option.{IfSome_then}
 use Rattle.std.specs.Int.{w64}
 use Rattle.sync_model.specs.declared.atomic_object.AtomicKind.TheVariants as types
@@ -19,3 +19,6 @@ returns-clause-works g c =
     let at = number_is plan c.args.atomic c.args.site.now.numbers.now c.requires.site.numbered (kinds.Atomic types.Int64) c.requires.atomic in
     let fits : to_z w64 (of_z w64 c.args.delta) ≡ c.args.delta = search rules in
     IfSome_then c.do_at.result c.do_at.ensures.works (λ answer works. once_as _ _ answer (number_at c.args.place) _ _ c.args.delta _ at fits works)
+
+pub returns-clause-calls : goal.returns-clause-calls
+returns-clause-calls g c = c.do_at.ensures.calls c.args.site.now.workload.now (sym c.requires.site.shared.all_types)

@@ -4,7 +4,8 @@ use Rattle.std.proofs.lemmas.Iterator.{YieldsList-from_zip}
 use Rattle.std.proofs.lemmas.Iterator.Adapters.{YieldsList-from_vec}
 use Rattle.std.proofs.lemmas.Iterator.Consumers.{YieldsList-turn, YieldsList-end}
 use Rattle.std.proofs.lemmas.List.{length_push, map_push}
-use Rattle.thread_calls.specs.Sites.{AreEmpty, ranges_in_calls}
+use Rattle.workload.specs.Keys.{keys_in}
+use Rattle.thread_calls.specs.Sites.{AreRooms, ranges_in_calls}
 use Rattle.thread_runner.proofs.Hiring.{all_firsts, all_seconds, sized, mapped_more, all_more, counted_more}
 use Rattle.thread_runner.proofs.hire.hire.Goals as goal
 
@@ -27,6 +28,8 @@ loop-caller-preserved g c =
     let count : vec_len c.push_reserved.new.self ≡ length (c.loop-caller.yielded ++ (c.in-Some.caller, c.in-Some.passes) ∷ []) = search rules in
     let replies_none : c.in_ok-replies.replies.items ≡ [] = search rules in
     let replies_room : length (get_or c.args.workload.now.scripts c.len-number.result []) ≤ c.in_ok-replies.replies.room = search rules in
+    let keys : c.len-keys.result ≡ length (keys_in c.args.workload.now.scripts) = search rules in
+    let roomy : AreRooms (length (keys_in c.args.workload.now.scripts)) c.in_ok-rooms.rooms.items = subst (λ n. AreRooms n c.in_ok-rooms.rooms.items) keys c.in_ok-rooms.ensures.roomy in
     record {
       count = count;
       within = omega (arith, within, longer, c.requires.callers);
@@ -36,7 +39,7 @@ loop-caller-preserved g c =
       site = all_more (λ job. (job.site.workload.now ≡ c.args.workload.now) × (job.site.shared.now ≡ c.args.shared.now) × (job.site.objects.now ≡ c.args.objects.now) × (job.site.numbers.now ≡ c.args.numbers.now)) _ _ _ items before.site (refl, refl, refl, refl);
       at = all_more (λ job. (job.worker.at.home.now ≡ g.S.Shared.home_of c.args.shared.now) × (job.worker.workers ≡ c.args.workload.now.workers)) _ _ _ items before.at (c.home.ensures, c.workers-workers.ensures.workers);
       replies = all_more (λ job. (job.replies.items ≡ []) × (length (get_or c.args.workload.now.scripts job.worker.number []) ≤ job.replies.room)) _ _ _ items before.replies (replies_none, replies_room);
-      rooms = all_more (λ job. AreEmpty job.rooms.items × (ranges_in_calls (get_or c.args.workload.now.scripts job.worker.number []) ≤ vec_len job.rooms)) _ _ _ items before.rooms (c.in_ok-rooms.ensures.empty, subst (λ script. ranges_in_calls script ≤ vec_len c.in_ok-rooms.rooms) c.script-script.ensures.script c.in_ok-rooms.ensures.enough);
+      rooms = all_more (λ job. AreRooms (length (keys_in c.args.workload.now.scripts)) job.rooms.items × (ranges_in_calls (get_or c.args.workload.now.scripts job.worker.number []) ≤ vec_len job.rooms)) _ _ _ items before.rooms (roomy, subst (λ script. ranges_in_calls script ≤ vec_len c.in_ok-rooms.rooms) c.script-script.ensures.script c.in_ok-rooms.ensures.enough);
       capacity = search rules;
     }
 

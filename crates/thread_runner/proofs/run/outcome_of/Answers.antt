@@ -1,4 +1,4 @@
-use Rattle.std.proofs.Common.{◌≡◌, ℕ, ◌<◌, ◌≤◌, ◌++◌, true, List, [], length, take, drop, map, get_or, sym, ap, ◌∙◌, subst, arith, rules}
+use Rattle.std.proofs.Common.{◌≡◌, ℕ, ◌<◌, ◌≤◌, ◌++◌, List, [], length, take, drop, map, get_or, sym, ap, ◌∙◌, subst, arith, rules}
 use Rattle.std.specs.Prelude.{count_by}
 use Rattle.std.proofs.lemmas.List.{take-append-le, take_all}
 use Rattle.sync_model.specs.declared.caller.Caller.{Caller}
@@ -14,7 +14,7 @@ use Rattle.thread_calls.specs.Desks.{AreSeats}
 use Rattle.thread_calls.specs.Passes.{owns_of}
 use Rattle.thread_runner.specs.Runs.{ComesTo, IsExplained}
 use Rattle.thread_runner.proofs.AllReady.{one_script_each}
-use Rattle.thread_runner.proofs.Ended.{seats_of, callers_stay, all_done}
+use Rattle.thread_runner.proofs.Ended.{seats_of, callers_stay, none_gave_up, all_done}
 use Rattle.thread_runner.proofs.Explaining.{done, stopped}
 use Rattle.thread_runner.proofs.Joining.{Knowing}
 use Rattle.thread_runner.proofs.run.outcome_of.Goals.{in-None, in-Some}
@@ -28,7 +28,7 @@ collect-requires-clause-seats g c worker row found =
     let of = c.requires.gone in
     subst (λ h. AreSeats mark.at h c.args.crew.now.workers worker c.args.objects.now row) (sym c.requires.home)
     (subst (λ n. AreSeats mark.at home n worker c.args.objects.now row) (sym c.requires.workers.0)
-    (seats_of mark.at mark.own mark.front home plan c.args.objects.now of.0 (map (λ r. r.items) c.args.left.passes.items) of.1 c.args.left.callers.items c.args.left.replies.items c.args.left.kept of.3 of.5 worker row found))
+    (seats_of mark.at mark.own mark.front home plan c.args.objects.now of.0 (map (λ r. r.items) c.args.left.passes.items) of.1 c.args.left.callers.items c.args.left.replies.items of.3 of.5 worker row found))
 
 pub settle-requires : goal.settle-requires
 settle-requires g c =
@@ -36,7 +36,7 @@ settle-requires g c =
     let plan = c.args.workload.now in
     let home = g.S.Shared.home_of c.args.shared.now in
     let of = c.requires.gone in
-    let all = callers_stay mark.at mark.own mark.front home plan c.args.objects.now of.0 (map (λ r. r.items) c.args.left.passes.items) of.1 c.args.left.callers.items c.args.left.replies.items c.args.left.kept of.3 of.5 in
+    let all = callers_stay mark.at mark.own mark.front home plan c.args.objects.now of.0 (map (λ r. r.items) c.args.left.passes.items) of.1 c.args.left.callers.items c.args.left.replies.items of.3 of.5 in
     subst (λ (l : List (Caller g.row.S-Mark.Denot)). AreAllCallers mark.at mark.own home l (g.S.Shared.count c.args.shared.now)) (sym c.deref_mut.ensures.value)
     (subst (λ n. AreAllCallers mark.at mark.own home c.args.left.callers.items n) (sym c.requires.workers.1) all)
 
@@ -60,8 +60,12 @@ returns-clause-comes g c =
     λ object worker low. sym (c.collect.ensures.made object worker (omega (arith, low, c.requires.workers.0))) ∙ told.3 object worker in
     let beyond : (object worker : ℕ) → plan.workers ≤ worker → by worker (get_or told.0 object []) ≡ [] =
     λ object worker high. sym (told.3 object worker) ∙ c.collect.ensures.others object worker (omega (arith, high, c.requires.workers.0)) ∙ c.requires.nothing object worker high in
-    let kept : c.args.left.kept ≡ true = search rules in
-    let all = all_done mark.at mark.own mark.front g.S.Shared.seen home plan c.args.objects.now of.0 rows of.1 now new replies c.args.left.kept kept of.2 of.3 of.4 of.5 same settled (one_script_each plan c.workers-workers.ensures.valid) told.0 told.1 parts beyond in
+    let few = c.a_range_shows_no_key_but_the_workloads.ensures in
+    let int64 = c.an_int64_answers_an_int64.ensures in
+    let never = none_gave_up mark.at mark.own mark.front g.S.Shared.seen home plan c.args.objects.now of.0 rows of.1 now new replies of.3 of.5 same settled
+    (λ caller shown all has. few plan settled.history (calls_of mark.own new) caller shown settled.lawful all has)
+    (λ caller i a amount x all at is. int64 plan settled.history (calls_of mark.own new) caller i a amount x settled.lawful all at is) in
+    let all = all_done mark.at mark.own mark.front g.S.Shared.seen home plan c.args.objects.now of.0 rows of.1 now new replies of.2 of.3 of.4 of.5 same settled (one_script_each plan c.workers-workers.ensures.valid) never told.0 told.1 parts beyond in
     let knowing : Knowing = record { own = c.a_worker_knows_its_own_calls.ensures.own; rises = c.a_worker_knows_its_own_calls.ensures.rises; ends = c.a_worker_knows_its_own_calls.ensures.ends } in
     let law = c.one_more_call_keeps_the_law.ensures.same in
     let report : Report = record { replies = c.into_seq.result; ends = c.new.result } in

@@ -1,5 +1,5 @@
-use Rattle.std.proofs.Common.{◌≡◌, ℕ, ◌^◌, ◌<◌, ◌≤◌, Bool, List, [], length, get_or, map, Some, slice_get, sym, ap, ◌∙◌, subst, arith, rules}
-use Rattle.std.specs.List.{list_all, range_with_len}
+use Rattle.std.proofs.Common.{◌≡◌, ℕ, ◌^◌, ◌<◌, ◌≤◌, List, [], length, get_or, map, Some, slice_get, sym, ap, ◌∙◌, subst, arith, rules}
+use Rattle.std.specs.List.{range_with_len}
 use Rattle.std.specs.Prelude.{vec_len}
 use Rattle.std.proofs.lemmas.List.Sums.{get_or-le-sum_by}
 use Rattle.std.proofs.lemmas.Option.{slice_get-get_or, slice_get_within, get_or_from_slice_get}
@@ -84,28 +84,25 @@ returns-in-Done-clause-gone g c =
     let long : vec_len c.in_ok-jobs.jobs ≡ length jobs = search rules in
     let count : length jobs ≡ plan.workers = sym long ∙ made.count in
     let numbers : map (λ j. j.worker.number) jobs ≡ range_with_len 0 (length jobs) = made.numbers ∙ ap (range_with_len 0) long in
-    let Left : List (List (AnyPass g.row.S-Mark.Denot)) → List (Caller g.row.S-Mark.Denot) → List (List (Reply ℕ)) → Bool → Type 0 = λ p k r e. HaveGone mark.at mark.own mark.front home plan objects rows callers p k r e in
-    let all = have_gone mark.at mark.own mark.front home plan objects rows callers (λ j. j.worker.number) (λ j. j.passes.items) (λ j. j.caller) jobs (λ o. o.passes.items) (λ o. o.caller) (λ o. o.replies) (λ o. o.kept) gone _ count numbers made.callers made.passes c.in-Done.ensures.jobs
+    let Left : List (List (AnyPass g.row.S-Mark.Denot)) → List (Caller g.row.S-Mark.Denot) → List (List (Reply ℕ)) → Type 0 = λ p k r. HaveGone mark.at mark.own mark.front home plan objects rows callers p k r in
+    let all = have_gone mark.at mark.own mark.front home plan objects rows callers (λ j. j.worker.number) (λ j. j.passes.items) (λ j. j.caller) jobs (λ o. o.passes.items) (λ o. o.caller) (λ o. o.replies) gone _ count numbers made.callers made.passes c.in-Done.ensures.jobs
     (λ k job o found it.
     let low = slice_get_within jobs k job found in
     let is : get_or jobs k job ≡ job = get_or_from_slice_get jobs k job job found in
     let site = made.site k job low in
     let at = made.at k job low in
-    let Gone-by : g.row.S-Mark-Home.Denot → Plan → List (AnyObject g.row.S-Mark.Denot g.row.S-Mark-Home.Denot) → Type 0 = λ h p b. HasGone mark.at mark.own mark.front h p b job.worker.number job.passes.items job.caller o.passes.items o.caller o.replies o.kept in
+    let Gone-by : g.row.S-Mark-Home.Denot → Plan → List (AnyObject g.row.S-Mark.Denot g.row.S-Mark-Home.Denot) → Type 0 = λ h p b. HasGone mark.at mark.own mark.front h p b job.worker.number job.passes.items job.caller o.passes.items o.caller o.replies in
     subst (λ h. Gone-by h plan objects) (sym (ap (λ j. j.worker.at.home.now) is) ∙ at.0)
     (subst (λ p. Gone-by job.worker.at.home.now p objects) (sym (ap (λ j. j.site.workload.now) is) ∙ site.0)
     (subst (λ b. Gone-by job.worker.at.home.now job.site.workload.now b) (sym (ap (λ j. j.site.objects.now) is) ∙ site.2) it))) in
     let passes_now = map (λ o. o.passes.items) gone in
     let callers_now = map (λ o. o.caller) gone in
     let replies_now = map (λ o. o.replies) gone in
-    let kept_now = list_all (λ o. o.kept) gone in
     let passes_left = map (λ r. r.items) c.gather.new.self.passes.items in
     let callers_left = c.gather.new.self.callers.items in
-    let replies_left = c.gather.new.self.replies.items in
-    subst (λ (e : Bool). Left passes_left callers_left replies_left e) (sym c.gather.ensures.kept)
-    (subst (λ (r : List (List (Reply ℕ))). Left passes_left callers_left r kept_now) (sym c.gather.ensures.replies)
-    (subst (λ (k : List (Caller g.row.S-Mark.Denot)). Left passes_left k replies_now kept_now) (sym c.gather.ensures.callers)
-    (subst (λ (p : List (List (AnyPass g.row.S-Mark.Denot))). Left p callers_now replies_now kept_now) (sym c.gather.ensures.passes) all)))
+    subst (λ (r : List (List (Reply ℕ))). Left passes_left callers_left r) (sym c.gather.ensures.replies)
+    (subst (λ (k : List (Caller g.row.S-Mark.Denot)). Left passes_left k replies_now) (sym c.gather.ensures.callers)
+    (subst (λ (p : List (List (AnyPass g.row.S-Mark.Denot))). Left p callers_now replies_now) (sym c.gather.ensures.passes) all))
 
 pub returns-in-Done-clause-ran : goal.returns-in-Done-clause-ran
 returns-in-Done-clause-ran g c = subst (λ n. RoseBy n (g.P.Spawner.ran c.args.spawner.now) (g.P.Spawner.ran c.start_all.new.self)) c.in_ok-jobs.ensures.count c.in-Done.ensures.ran

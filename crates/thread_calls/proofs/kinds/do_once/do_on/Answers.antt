@@ -1,4 +1,9 @@
-use Rattle.std.proofs.Common.{◌≡◌, ℕ, ℤ, Ok, sym, ap, ◌∙◌, to_z, of_z, rules}
+use Rattle.sync_model.specs.Note.{Holding}
+use Rattle.sync_model.specs.Shared.{items_of}
+use Rattle.run_record.specs.Limits.{IsCallOf}
+use Rattle.thread_calls.specs.GivenUp.{AnsweredAmiss}
+use Rattle.thread_calls.proofs.OnlyCalls.{IfNone_of, made_on, none_made}
+use Rattle.std.proofs.Common.{◌≡◌, ℕ, ℤ, Option, Ok, subst, sym, ap, ◌∙◌, to_z, of_z, rules}
 use Rattle.std.specs.Int.{w64}
 use Rattle.sync_model.specs.declared.answer.Answer.TheVariants.{Done}
 use Rattle.sync_model.specs.declared.call.Reply.{Reply}
@@ -54,3 +59,21 @@ returns-in-Some-clause-spends g c =
     let begun = kept_spends own g.S.Mark.Note.at g.S.Mark.Note.front c.args.caller.now.note c.begin.new.note c.begin.ensures.note c.requires.caller.1 in
     let added = spends_on own 0 0 _ _ _ begun c.add.ensures.spends in
     spends_on own 0 0 _ _ _ added (kept_spends own g.S.Mark.Note.at g.S.Mark.Note.front c.add.new.caller.note c.end-answer.new.note c.end-answer.ensures.note (still_some own 0 _ _ added))
+
+pub returns-in-Halted-clause-calls : goal.returns-in-Halted-clause-calls
+returns-in-Halted-clause-calls g c = λ plan same. none_made (IsCallOf plan) _ _ c.begin.ensures.note.kept
+
+pub returns-in-Done-Err-clause-calls : goal.returns-in-Done-Err-clause-calls
+returns-in-Done-Err-clause-calls g c = λ plan same. none_made (IsCallOf plan) _ _ c.begin.ensures.note.kept
+
+pub returns-in-Done-Ok-Already-clause-calls : goal.returns-in-Done-Ok-Already-clause-calls
+returns-in-Done-Ok-Already-clause-calls g c = λ plan same. none_made (IsCallOf plan) _ _ c.begin.ensures.note.kept
+
+pub returns-in-Some-clause-calls : goal.returns-in-Some-clause-calls
+returns-in-Some-clause-calls g c = λ plan same. made_on (IsCallOf plan) _ _ _ (made_on (IsCallOf plan) _ _ _ (none_made (IsCallOf plan) _ _ c.begin.ensures.note.kept) (c.add.ensures.calls plan same)) (none_made (IsCallOf plan) _ _ c.end-answer.ensures.note.kept)
+
+pub returns-in-None-clause-calls : goal.returns-in-None-clause-calls
+returns-in-None-clause-calls g c = λ plan same. made_on (IsCallOf plan) _ _ _ (made_on (IsCallOf plan) _ _ _ (none_made (IsCallOf plan) _ _ c.begin.ensures.note.kept) (c.add.ensures.calls plan same)) (none_made (IsCallOf plan) _ _ c.end.ensures.note.kept)
+
+pub returns-in-None-clause-amiss : goal.returns-in-None-clause-amiss
+returns-in-None-clause-amiss g c = subst (λ (o : Option Holding). AnsweredAmiss (items_of o)) (sym c.end.ensures.note.kept) (IfNone_of c.add.result c.in-None.is c.add.ensures.amiss)

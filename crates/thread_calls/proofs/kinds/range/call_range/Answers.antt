@@ -1,4 +1,4 @@
-use Rattle.std.proofs.Common.{◌≡◌, ℕ, List, [], ◌∷◌, Option, Some, Ok, length, refl, sym, ap, subst}
+use Rattle.std.proofs.Common.{◌≡◌, ℕ, List, [], ◌∷◌, Option, Some, Ok, length, refl, sym, ap, subst, arith}
 use Rattle.std.specs.Option.{ForSome}
 use Rattle.std.specs.Prelude.{IsPermutation}
 use Rattle.sync_model.specs.declared.answer.Answer.TheVariants.{Done}
@@ -9,6 +9,9 @@ use Rattle.sync_model.specs.Note.{Holding}
 use Rattle.sync_model.specs.Shared.{items_of}
 use Rattle.thread_calls.specs.Parts.{placed}
 use Rattle.thread_calls.specs.Working.{desk_with}
+use Rattle.run_record.specs.Limits.{IsCallOf}
+use Rattle.run_record.specs.Record.{ObjectEntry}
+use Rattle.thread_calls.proofs.OnlyCalls.{IfNone_always, called_only, has_shown, made_on}
 use Rattle.thread_calls.proofs.Ranging.{ranged}
 use Rattle.thread_calls.proofs.SharedParts.{called_works}
 use Rattle.thread_calls.proofs.kinds.range.call_range.Goals as goal
@@ -35,3 +38,24 @@ returns-clause-works g c = λ owns.
     let begun = called_works _ (Begin c.args.map) Begun 0 own front g.S.Shared.seen old between owns (placed ((Begin c.args.map, Begun) ∷ [])) (Done (Ok tt)) (λ items made. (made, refl)) (g.met.S.Mark.Note.counted _ _ c.requires.caller.0) called in
     ranged (desk_with own front owns old) (desk_with own front owns between) (desk_with own front owns new) c.args.keys.now c.args.map begin c.in_ok-shown.shown.items c.sorted.result begun (c.in_ok-shown.ensures.works c.args.map begin owns stands)
     (subst (λ (shown : List (ℕ × ℕ)). IsPermutation shown c.sorted.result) c.into_seq.ensures c.sorted.ensures.permutation, c.sorted.ensures.sorted)
+
+pub returns-clause-calls : goal.returns-clause-calls
+returns-clause-calls g c = λ plan. made_on (IsCallOf plan) _ _ _ (called_only (IsCallOf plan) _ _ _ _ _ _ tt c.begin-cursor.ensures.called) (c.take_all.ensures.calls plan)
+
+pub returns-in_err-shown-clause-calls : goal.returns-in_err-shown-clause-calls
+returns-in_err-shown-clause-calls g c = λ plan. made_on (IsCallOf plan) _ _ _ (called_only (IsCallOf plan) _ _ _ _ _ _ tt c.begin-cursor.ensures.called) (c.take_all.ensures.calls plan)
+
+pub returns-in_err-shown-clause-many : goal.returns-in_err-shown-clause-many
+returns-in_err-shown-clause-many g c =
+    let own = g.S.Mark.Note.own in
+    let front = g.S.Mark.Note.front in
+    let owns : ℕ → List ObjectEntry = λ object. [] in
+    let old = c.args.caller.now.note in
+    let between = c.begin-cursor.new.caller.note in
+    let new = c.take_all.new.caller.note in
+    let begin = length (items_of (own old)) in
+    let called = c.begin-cursor.ensures.called in
+    let stands = stands_from (g.S.Shared.stands c.args.shared.now c.begin-cursor.result c.args.map) _ _ called.was called.own_old c.begin-cursor.ensures.stands in
+    let begun = called_works _ (Begin c.args.map) Begun 0 own front g.S.Shared.seen old between owns (placed ((Begin c.args.map, Begun) ∷ [])) (Done (Ok tt)) (λ items made. (made, refl)) (g.met.S.Mark.Note.counted _ _ c.requires.caller.0) called in
+    let many = c.in_err-shown.ensures.many c.args.map begin owns stands in
+    IfNone_always c.from_residual.result (record { shown = many.0; has = has_shown (desk_with own front owns old) (desk_with own front owns between) (desk_with own front owns new) c.args.map many.0 begun many.2; many = omega (arith, c.requires.room, many.1) })

@@ -1,9 +1,12 @@
-use Rattle.std.proofs.Common.{◌≡◌, ℕ, List, true, Ok}
+use Rattle.std.proofs.Common.{◌≡◌, ℕ, List, Ok}
 use Rattle.std.specs.Option.{ForSome}
 use Rattle.sync_model.specs.declared.answer.Answer.TheVariants.{Done}
 use Rattle.sync_model.specs.Note.{SameHome}
-use Rattle.sync_model.specs.Shared.{IsCallerAt}
+use Rattle.sync_model.specs.Shared.{IsCallerAt, items_of}
+use Rattle.workload.specs.Plan.{Plan}
+use Rattle.run_record.specs.Limits.{IsCallOf}
 use Rattle.run_record.specs.Record.{ObjectEntry}
+use Rattle.thread_calls.specs.GivenUp.{MakesOnly}
 use Rattle.thread_calls.specs.Parts.{placed, shows}
 use Rattle.thread_calls.specs.Sites.{Spends}
 use Rattle.thread_calls.specs.Working.{Works, desk_with}
@@ -18,5 +21,7 @@ invariant-loop g l =
     × SameHome g.S.Mark.Note.at l.fn.caller.note l.caller.note
     × ((map begin : ℕ) → ForSome (own l.fn.caller.note) (λ holding. stands l.fn.cursor map begin holding.items) → ForSome (own l.caller.note) (λ holding. stands l.cursor map begin holding.items))
     × Spends own 0 l.fn.caller.note l.caller.note
-    × (l.fits ≡ true → (map begin : ℕ) (owns : ℕ → List ObjectEntry) → ForSome (own l.fn.caller.note) (λ holding. stands l.fn.cursor map begin holding.items)
+    × ((map begin : ℕ) (owns : ℕ → List ObjectEntry) → ForSome (own l.fn.caller.note) (λ holding. stands l.fn.cursor map begin holding.items)
     → Works (placed (shows begin l.shown.items)) (desk_with own g.S.Mark.Note.front owns l.fn.caller.note) (Done (Ok tt)) (desk_with own g.S.Mark.Note.front owns l.caller.note))
+    × ((plan : Plan) → MakesOnly (IsCallOf plan) (items_of (own l.fn.caller.note)) (items_of (own l.caller.note)))
+    × (l.shown.room ≡ l.fn.room.room)
