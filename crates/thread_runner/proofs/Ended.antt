@@ -141,10 +141,10 @@ module _ {N H : Type 0} (at : H → N → Type 0) (own : N → Option Holding) (
       let last : desk_with own front (owns_of (get_or now_rows worker [])) now.0.note ≡ desk worker = ap (λ (o : Option (Caller N)). desk_of own front o (get_or now_rows worker [])) (sym now.1) in
       elim ((gone.each worker was.0 now.0 was.1 now.1).did) [
         | inl it ↦ (
-            it.0,
-            subst (λ (d : Desk). DidLine plan worker (get_or plan.scripts worker []) (get_or replies worker []) (start worker) d it.0) last
-                (subst (λ (d : Desk). DidLine plan worker (get_or plan.scripts worker []) (get_or replies worker []) d (desk_with own front (owns_of (get_or now_rows worker [])) now.0.note) it.0) first it.1),
-          )
+          it.0,
+          subst (λ (d : Desk). DidLine plan worker (get_or plan.scripts worker []) (get_or replies worker []) (start worker) d it.0) last
+              (subst (λ (d : Desk). DidLine plan worker (get_or plan.scripts worker []) (get_or replies worker []) d (desk_with own front (owns_of (get_or now_rows worker [])) now.0.note) it.0) first it.1),
+        )
         | inr up ↦ absurd (never worker (subst (GaveUp plan) (ap (λ (d : Desk). d.calls) last ∙ called worker within) up))
       ]
 

@@ -1,4 +1,4 @@
-use Rattle.std.proofs.Common.{◌≡◌, ◌≤◌, ◌<◌, [], ◌∷◌, ◌++◌, get_or, length, rules, refl, sym, ap, ◌∙◌, subst, arith}
+use Rattle.std.proofs.Common.{◌≡◌, ℕ, List, ◌≤◌, ◌<◌, [], ◌∷◌, ◌++◌, get_or, length, rules, refl, sym, ap, ◌∙◌, subst, arith}
 use Rattle.std.specs.Prelude.{vec_len}
 use Rattle.std.proofs.lemmas.Iterator.{YieldsList-from_zip}
 use Rattle.std.proofs.lemmas.Iterator.Adapters.{YieldsList-from_vec}
@@ -28,7 +28,7 @@ loop-caller-preserved g c =
     let count : vec_len c.push_reserved.new.self ≡ length (c.loop-caller.yielded ++ (c.in-Some.caller, c.in-Some.passes) ∷ []) = search rules in
     let replies_none : c.in_ok-replies.replies.items ≡ [] = search rules in
     let replies_room : length (get_or c.args.workload.now.scripts c.len-number.result []) ≤ c.in_ok-replies.replies.room = search rules in
-    let keys : c.len-keys.result ≡ length (keys_in c.args.workload.now.scripts) = search rules in
+    let keys : length c.names-keys.result.now ≡ length (keys_in c.args.workload.now.scripts) = ap (λ (l : List (List ℕ)). length l) (c.names-keys.ensures ∙ c.keys.ensures) in
     let roomy : AreRooms (length (keys_in c.args.workload.now.scripts)) c.in_ok-rooms.rooms.items = subst (λ n. AreRooms n c.in_ok-rooms.rooms.items) keys c.in_ok-rooms.ensures.roomy in
     record {
       count = count;
