@@ -40,8 +40,8 @@ settle-requires g c =
     subst (λ (l : List (Caller g.row.S-Mark.Denot)). AreAllCallers mark.at mark.own home l (g.S.Shared.count c.args.shared.now)) (sym c.deref_mut.ensures.value)
     (subst (λ n. AreAllCallers mark.at mark.own home c.args.left.callers.items n) (sym c.requires.workers.1) all)
 
-pub returns-clause-comes : goal.returns-clause-comes
-returns-clause-comes g c =
+pub returns : goal.returns
+returns g c =
     let mark = g.S.Mark.Note in
     let plan = c.args.workload.now in
     let home = g.S.Shared.home_of c.args.shared.now in
@@ -76,7 +76,7 @@ returns-clause-comes g c =
     λ outcome explained none. record { all = callers; settled = settled; explained = explained; none = none } in
     let leaves_it : (outcome : Outcome) → c.match-stopped.outcome ≡ outcome → Leaves outcome new → Leaves c.match-stopped.outcome (take c.args.left.callers.len (new ++ drop (length new) c.args.left.callers.items)) =
     λ outcome is it. subst (λ (l : List (Caller g.row.S-Mark.Denot)). Leaves c.match-stopped.outcome l) (sym list) (subst (λ (o : Outcome). Leaves o new) (sym is) it) in
-    elim c.match-stopped.branch [
+    record { comes = elim c.match-stopped.branch [
       | in-None w ↦ leaves_it (Done report) w.outcome-is (leaves (Done report) (done _ _ _ _ _ _ _ _ all knowing law c.stop_says_how_a_run_ended.ensures.done (sym told.2 ∙ w.in-None.is) report c.into_seq.ensures) c.new.ensures)
       | in-Some w ↦ leaves_it (Misused report w.in-Some.misuse) w.outcome-is (leaves (Misused report w.in-Some.misuse) (stopped _ _ _ _ _ _ _ _ all knowing law w.in-Some.misuse (sym told.2 ∙ w.in-Some.is) report c.into_seq.ensures c.new.ensures) c.new.ensures)
-    ]
+    ] }
