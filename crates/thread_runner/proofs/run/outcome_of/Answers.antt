@@ -1,4 +1,4 @@
-use Rattle.std.proofs.Common.{◌≡◌, ℕ, ◌<◌, ◌≤◌, ◌++◌, List, [], length, take, drop, map, get_or, sym, ap, ◌∙◌, subst, arith, rules}
+use Rattle.std.proofs.Common.{◌≡◌, ℕ, ◌<◌, ◌≤◌, ◌++◌, List, [], length, take, drop, map, get_or, sym, ap, ◌∙◌, subst, arith}
 use Rattle.std.specs.Prelude.{count_by}
 use Rattle.std.proofs.lemmas.List.{take-append-le, take_all}
 use Rattle.sync_model.specs.declared.caller.Caller.{Caller}
@@ -76,7 +76,9 @@ returns g c =
     λ outcome explained none. record { all = callers; settled = settled; explained = explained; none = none } in
     let leaves_it : (outcome : Outcome) → c.match-stopped.outcome ≡ outcome → Leaves outcome new → Leaves c.match-stopped.outcome (take c.args.left.callers.len (new ++ drop (length new) c.args.left.callers.items)) =
     λ outcome is it. subst (λ (l : List (Caller g.row.S-Mark.Denot)). Leaves c.match-stopped.outcome l) (sym list) (subst (λ (o : Outcome). Leaves o new) (sym is) it) in
-    record { comes = elim c.match-stopped.branch [
-      | in-None w ↦ leaves_it (Done report) w.outcome-is (leaves (Done report) (done _ _ _ _ _ _ _ _ all knowing law c.stop_says_how_a_run_ended.ensures.done (sym told.2 ∙ w.in-None.is) report c.into_seq.ensures) c.new.ensures)
-      | in-Some w ↦ leaves_it (Misused report w.in-Some.misuse) w.outcome-is (leaves (Misused report w.in-Some.misuse) (stopped _ _ _ _ _ _ _ _ all knowing law w.in-Some.misuse (sym told.2 ∙ w.in-Some.is) report c.into_seq.ensures c.new.ensures) c.new.ensures)
-    ] }
+    record {
+      comes = elim c.match-stopped.branch [
+        | in-None w ↦ leaves_it (Done report) w.outcome-is (leaves (Done report) (done _ _ _ _ _ _ _ _ all knowing law c.stop_says_how_a_run_ended.ensures.done (sym told.2 ∙ w.in-None.is) report c.into_seq.ensures) c.new.ensures)
+        | in-Some w ↦ leaves_it (Misused report w.in-Some.misuse) w.outcome-is (leaves (Misused report w.in-Some.misuse) (stopped _ _ _ _ _ _ _ _ all knowing law w.in-Some.misuse (sym told.2 ∙ w.in-Some.is) report c.into_seq.ensures c.new.ensures) c.new.ensures)
+      ];
+    }
