@@ -1,0 +1,4 @@
+//! The workload that a seed gives, as text.
+#![tactic(auto)]
+
+pub mod laws;
