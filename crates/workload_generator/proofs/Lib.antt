@@ -1,3 +1,4 @@
 mod Draws
 mod Rounds
+mod Workers
 mod WrittenText

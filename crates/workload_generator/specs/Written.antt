@@ -24,7 +24,7 @@ abbrev pub worker_text : ℕ → List ℕ → List ℕ
 worker_text worker words = codes "worker " ++ decimal worker ++ codes "\n" ++ rounds_text worker words
 
 -- the lines of so many workers, from one on
-abbrev pub workers_text : ℕ → ℕ → ℕ → List ℕ
+unfoldable pub workers_text : ℕ → ℕ → ℕ → List ℕ
 workers_text seed worker count = flat_map (λ w. worker_text w (drawn_for seed w)) (range_with_len worker count)
 
 abbrev pub written_text : ℕ → List ℕ
