@@ -1,9 +1,14 @@
 -- The words that a generator draws, one behind the other.
-use Rattle.std.proofs.Common.{◌≡◌, ℕ, zero, suc, ◌+◌, ◌*◌, ◌-◌, ◌<◌, ◌≤◌, List, [], ◌∷◌, take, drop, length, refl, sym, ap, ◌∙◌, zero-add, suc-add, arith}
+use Rattle.std.proofs.Common.{◌≡◌, ℕ, zero, suc, ◌+◌, ◌*◌, ◌-◌, ◌<◌, ◌≤◌, List, [], ◌∷◌, take, drop, length, refl, sym, ap, subst, ◌∙◌, zero-add, suc-add, add-suc, ◌/◌, ◌%◌, ◌^◌, bit_xor, nat_lt, Bool, true, lit<, arith}
+use Rattle.std.specs.List.{list_all}
+use Rattle.std.proofs.lemmas.Bool.{lt-ltb}
+use Rattle.std.proofs.lemmas.Nat.{or_lt}
+use Rattle.std.proofs.Math.Nat.{lt_of_le_of_lt, div-le_self, mod-lt}
 use Rattle.rand_core.specs.Steps.{first_words}
 use Rattle.rand_pcg.specs.Lcg.{Lcg, advance, state_after}
 use Rattle.rand_pcg.specs.Pcg.{multiplier_64, pcg32}
 use Rattle.workload_generator.specs.Generated.{generator_of, drawn, drawn_for, in_twos}
+use Rattle.workload_generator.proofs.Ranges.{pair}
 
 -- the next words of a generator, and the generator behind them
 abbrev pub words : ℕ → Lcg → List ℕ
@@ -65,3 +70,35 @@ length_drawn seed = length_words 8000 (generator_of seed)
 pub twos_next : (n : ℕ) (g : Lcg) → in_twos (words (suc (suc n)) g) ≡ ((pcg32 g).0, (pcg32 (pcg32 g).1).0) ∷ in_twos (words n (pcg32 (pcg32 g).1).1)
 unfolding first_words
 twos_next n g = refl
+
+-- a word is one of 32 bits
+pub word_small : (g : Lcg) → (pcg32 g).0 < 2 ^ 32
+word_small g =
+    let word = bit_xor (g.state / 2 ^ 18) g.state / 2 ^ 27 % 2 ^ 32 in
+    or_lt 32 _ _ (lt_of_le_of_lt (div-le_self word _) (mod-lt _ (lit< tt))) (mod-lt _ (lit< tt))
+
+-- whether the second word of a round is one
+abbrev pub is_small : ℕ × ℕ → Bool
+is_small words = nat_lt words.1 (2 ^ 32)
+
+-- so many rounds, each by words of 32 bits
+pub record AreRounds (count : ℕ) (rounds : List (ℕ × ℕ)) : Type 0 where
+  pub many : length rounds ≡ count
+  pub small : list_all is_small rounds ≡ true
+
+rounds_are : (n : ℕ) (g : Lcg) → AreRounds n (in_twos (words (n + n) g))
+unfolding first_words
+rounds_are zero g = record { many = refl; small = refl }
+rounds_are (suc n) g =
+    let two_more : suc n + suc n ≡ suc (suc (n + n)) = rw (suc-add n (suc n), add-suc n n) refl in
+    let next = pcg32 (pcg32 g).1 in
+    let others = rounds_are n next.1 in
+    let whole : in_twos (words (suc n + suc n) g) ≡ ((pcg32 g).0, next.0) ∷ in_twos (words (n + n) next.1) = ap (λ (k : ℕ). in_twos (words k g)) two_more ∙ twos_next (n + n) g in
+    record {
+      many = ap length whole ∙ ap suc others.many;
+      small = ap (list_all is_small) whole ∙ pair (nat_lt next.0 (2 ^ 32)) _ (lt-ltb next.0 (2 ^ 32) (word_small (pcg32 g).1)) others.small;
+    }
+
+-- a worker draws 500 rounds
+pub drawn_rounds : (seed worker : ℕ) → worker < 8 → AreRounds 500 (in_twos (drawn_for seed worker))
+drawn_rounds seed worker there = subst (λ (ws : List ℕ). AreRounds 500 (in_twos ws)) (sym (drawn_is seed worker there)) (rounds_are 500 (behind (1000 * worker) (generator_of seed)))

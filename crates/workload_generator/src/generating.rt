@@ -12,6 +12,7 @@ use itoa::Buffer;
 use rand_core::utils::NextWord;
 use rand_pcg::Lcg64Xsh32;
 use std::alloc::{AllocError, Global};
+use workload::laws::canonical_reads;
 
 /// How many workers there are.
 const WORKERS: u32 = 8;
@@ -67,11 +68,7 @@ fn put_round(text: &mut Vec<u8>, worker: u32, first: u32, second: u32) -> Result
 }
 
 /// Writes the lines of a worker's rounds, each of which draws two words.
-fn put_rounds(
-    text: &mut Vec<u8>,
-    worker: u32,
-    generator: &mut Lcg64Xsh32,
-) -> Result<(), AllocError>
+fn put_rounds(text: &mut Vec<u8>, worker: u32, generator: &mut Lcg64Xsh32) -> Result<(), AllocError>
     ensures text { OnOk result (text.new.items ≡ text.old.items ++ rounds_text worker (first_words pcg32 1000 generator.old)) }
     ensures generator { OnOk result (generator.new ≡ advance 64 multiplier_64 1000 generator.old) }
 {
@@ -84,11 +81,7 @@ fn put_rounds(
 }
 
 /// Writes the lines of a worker.
-fn put_worker(
-    text: &mut Vec<u8>,
-    worker: u32,
-    generator: &mut Lcg64Xsh32,
-) -> Result<(), AllocError>
+fn put_worker(text: &mut Vec<u8>, worker: u32, generator: &mut Lcg64Xsh32) -> Result<(), AllocError>
     ensures text { OnOk result (text.new.items ≡ text.old.items ++ worker_text worker (first_words pcg32 1000 generator.old)) }
     ensures generator { OnOk result (generator.new ≡ advance 64 multiplier_64 1000 generator.old) }
 {
@@ -116,6 +109,7 @@ pub fn generate(alloc: Global, seed: u64) -> Result<Vec<u8>, AllocError>
     ensures text { IfOk result (λ text. text.items ≡ generated_text seed) }
     ensures read { IfOk result (λ text. Reads text.items (generated_plan seed)) }
 {
+    canonical_reads();
     let mut text = Vec::new(alloc);
     text.extend_from_slice(b"workers 8\nmutex m\nint64 total\nmap t\n")?;
     put_workers(&mut text, seed)?;

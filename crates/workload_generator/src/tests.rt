@@ -16,19 +16,16 @@ fn generated(alloc: Global, seed: u64) -> Result<Workload, Fail> {
 }
 
 // Makes a call on the map or on `total`.
-fn make(
-    alloc: Global,
-    map: &mut ByName<u64>,
-    total: &mut i64,
-    call: &Call,
-) -> Result<(), Fail> {
+fn make(alloc: Global, map: &mut ByName<u64>, total: &mut i64, call: &Call) -> Result<(), Fail> {
     match &call.operation {
         Operation::Map(on_map) => {
             map_object::apply(alloc, map, on_map)?;
         }
-        Operation::Atomic(AtomicCall::Add {
-            operand: Number::Int64(amount),
-        }) => {
+        Operation::Atomic(
+            AtomicCall::Add {
+                operand: Number::Int64(amount),
+            },
+        ) => {
             *total = total.wrapping_add(*amount);
         }
         _ => {}
