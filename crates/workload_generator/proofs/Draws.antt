@@ -1,6 +1,7 @@
 -- The words that a generator draws, one behind the other.
-use Rattle.std.proofs.Common.{◌≡◌, ℕ, zero, suc, ◌+◌, ◌*◌, ◌-◌, ◌<◌, ◌≤◌, List, [], ◌∷◌, take, drop, length, refl, sym, ap, subst, ◌∙◌, zero-add, suc-add, add-suc, ◌/◌, ◌%◌, ◌^◌, bit_xor, nat_lt, Bool, true, lit<, arith}
-use Rattle.std.specs.List.{list_all}
+use Rattle.std.proofs.Common.{◌≡◌, ℕ, zero, suc, ◌+◌, ◌*◌, ◌-◌, ◌<◌, ◌≤◌, List, [], ◌∷◌, ◌++◌, take, drop, length, refl, sym, ap, subst, ◌∙◌, zero-add, suc-add, add-suc, ◌/◌, ◌%◌, ◌^◌, bit_xor, nat_lt, Bool, true, lit<, Some, slice_get, arith}
+use Rattle.std.specs.List.{list_all, flat_map, range_with_len}
+use Rattle.std.proofs.lemmas.List.{drop_all, drop-drop, take-append-drop}
 use Rattle.std.proofs.lemmas.Bool.{lt-ltb}
 use Rattle.std.proofs.lemmas.Nat.{or_lt}
 use Rattle.std.proofs.Math.Nat.{lt_of_le_of_lt, div-le_self, mod-lt}
@@ -102,3 +103,44 @@ rounds_are (suc n) g =
 -- a worker draws 500 rounds
 pub drawn_rounds : (seed worker : ℕ) → worker < 8 → AreRounds 500 (in_twos (drawn_for seed worker))
 drawn_rounds seed worker there = subst (λ (ws : List ℕ). AreRounds 500 (in_twos ws)) (sym (drawn_is seed worker there)) (rounds_are 500 (behind (1000 * worker) (generator_of seed)))
+
+word_at : (all i : ℕ) (g : Lcg) → i < all → slice_get (words all g) i ≡ Some (pcg32 (behind i g)).0
+unfolding first_words
+word_at zero i g there = absurd (omega arith)
+word_at (suc all) zero g there = ap (λ (h : Lcg). Some (pcg32 h).0) (sym (behind_none g))
+word_at (suc all) (suc i) g there = word_at all i (pcg32 g).1 (omega arith) ∙ ap (λ (h : Lcg). Some (pcg32 h).0) (sym (behind_next i g))
+
+-- each word by the steps before it
+pub drawn_at : (seed i : ℕ) → i < 8000 → slice_get (drawn seed) i ≡ Some (pcg32 (behind i (generator_of seed))).0
+unfolding drawn
+drawn_at seed i there = word_at 8000 i (generator_of seed) there
+
+-- words two by two are the words
+pairs_are : (n : ℕ) (g : Lcg) → flat_map (λ (p : ℕ × ℕ). p.0 ∷ p.1 ∷ []) (in_twos (words (n + n) g)) ≡ words (n + n) g
+unfolding first_words
+pairs_are zero g = refl
+pairs_are (suc n) g =
+    let two_more : suc n + suc n ≡ suc (suc (n + n)) = rw (suc-add n (suc n), add-suc n n) refl in
+    let next = pcg32 (pcg32 g).1 in
+    ap (λ (k : ℕ). flat_map (λ (p : ℕ × ℕ). p.0 ∷ p.1 ∷ []) (in_twos (words k g))) two_more
+    ∙ ap (λ (ws : List ℕ). (pcg32 g).0 ∷ next.0 ∷ ws) (pairs_are n next.1)
+    ∙ ap (λ (k : ℕ). words k g) (sym two_more)
+
+pub twos_are : (seed worker : ℕ) → worker < 8 → flat_map (λ (p : ℕ × ℕ). p.0 ∷ p.1 ∷ []) (in_twos (drawn_for seed worker)) ≡ drawn_for seed worker
+twos_are seed worker there =
+    let whole = sym (drawn_is seed worker there) in
+    let P : List ℕ → Type 0 = λ ws. flat_map (λ (p : ℕ × ℕ). p.0 ∷ p.1 ∷ []) (in_twos ws) ≡ ws in
+    subst P whole (pairs_are 500 (behind (1000 * worker) (generator_of seed)))
+
+-- one thousand of a list behind the other
+parts_are : (from count : ℕ) (xs : List ℕ) → length xs ≤ 1000 * (from + count)
+    → flat_map (λ (i : ℕ). take 1000 (drop (1000 * i) xs)) (range_with_len from count) ≡ drop (1000 * from) xs
+parts_are from zero xs fits = sym (drop_all (1000 * from) xs (omega arith))
+parts_are from (suc count) xs fits =
+    let next : 1000 * (from + 1) ≡ 1000 * from + 1000 = omega arith in
+    ap (λ (ys : List ℕ). take 1000 (drop (1000 * from) xs) ++ ys) (parts_are (from + 1) count xs (omega arith) ∙ ap (λ (n : ℕ). drop n xs) next ∙ sym (drop-drop 1000 (1000 * from) xs))
+    ∙ take-append-drop 1000 (drop (1000 * from) xs)
+
+-- the workers' words are all of them
+pub drawn_by_all : (seed : ℕ) → flat_map (drawn_for seed) (range_with_len 0 8) ≡ drawn seed
+drawn_by_all seed = parts_are 0 8 (drawn seed) (omega (arith, length_drawn seed))

@@ -5,4 +5,5 @@ mod Workers
 mod Names
 mod Scripts
 mod Readable
+mod Keys
 mod WrittenText

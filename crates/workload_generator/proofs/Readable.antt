@@ -1,5 +1,5 @@
 -- The workload of a seed has a text.
-use Rattle.std.proofs.Common.{◌≡◌, ℕ, ◌+◌, ◌*◌, ◌<◌, ◌≤◌, true, false, Bool, cond, ◌==◌, eq-eqb, List, [], ◌∷◌, map, length, refl, sym, ap, ◌∙◌, arith}
+use Rattle.std.proofs.Common.{◌≡◌, ℕ, ◌+◌, ◌*◌, ◌<◌, ◌≤◌, true, false, Bool, cond, ◌==◌, eq-eqb, List, [], ◌∷◌, map, length, Some, slice_get, zero, suc, add-zero, zero-add, refl, sym, ap, ◌∙◌, arith}
 use Rattle.std.specs.List.{list_all, list_any, flat_map, range_with_len, count_by, sum_by}
 use Rattle.std.specs.Str.{bytes_eq}
 use Rattle.std.proofs.lemmas.List.{length-map}
@@ -68,3 +68,11 @@ readable seed =
 pub text_is_canonical : (seed : ℕ) → generated_text seed ≡ canonical (generated_plan seed)
 unfolding generated_text
 text_is_canonical seed = refl
+
+get_at : {X : Type 0} (f : ℕ → X) (a n k : ℕ) → k < n → slice_get (map f (range_with_len a n)) k ≡ Some (f (a + k))
+get_at f a zero k there = absurd (omega arith)
+get_at f a (suc n) zero there = ap (λ (m : ℕ). Some (f m)) (sym (add-zero a))
+get_at f a (suc n) (suc k) there = get_at f (a + 1) n k (omega arith) ∙ ap (λ (m : ℕ). Some (f m)) (omega arith)
+
+pub script_at : (seed worker : ℕ) → worker < 8 → slice_get (generated_scripts seed) worker ≡ Some (script_by worker (drawn_for seed worker))
+script_at seed worker there = get_at (script seed) 0 8 worker there ∙ ap (λ (w : ℕ). Some (script seed w)) (zero-add worker)
