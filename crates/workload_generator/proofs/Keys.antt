@@ -1,5 +1,5 @@
 -- Whose a key is.
-use Rattle.std.proofs.Common.{◌≡◌, ℕ, ◌+◌, ◌*◌, ◌/◌, ◌%◌, ◌<◌, ◌≤◌, Bool, true, false, ◌||◌, List, [], ◌∷◌, ◌++◌, map, take, get_or, codes, refl, sym, ap, subst, ◌∙◌, inl, inr, ◌⊎◌, arith}
+use Rattle.std.proofs.Common.{◌≡◌, ℕ, ◌+◌, ◌/◌, ◌%◌, ◌<◌, Bool, true, false, ◌||◌, List, [], ◌∷◌, ◌++◌, map, take, get_or, codes, refl, sym, ap, ◌∙◌, inl, inr, ◌⊎◌, arith}
 use Rattle.std.specs.Fmt.{decimal}
 use Rattle.std.specs.List.{flat_map, list_any}
 use Rattle.std.specs.Str.{bytes_eq}
@@ -13,7 +13,7 @@ use Rattle.workload_generator.proofs.Scripts.{round_key, script_keys}
 abbrev pub mark_of : ℕ → List ℕ
 mark_of worker = codes "k" ++ decimal worker ++ codes "_"
 
-key_marked : (worker number : ℕ) → worker < 8 → take 3 (key_of worker number) ≡ mark_of worker
+pub key_marked : (worker number : ℕ) → worker < 8 → take 3 (key_of worker number) ≡ mark_of worker
 key_marked worker number there =
     let digit = decimal_digit worker (omega arith) in
     ap (λ (d : List ℕ). take 3 (codes "k" ++ d ++ codes "_" ++ decimal number)) digit ∙ ap (λ (d : List ℕ). codes "k" ++ d ++ codes "_") (sym digit)

@@ -6,4 +6,6 @@ mod Names
 mod Scripts
 mod Readable
 mod Keys
+mod Union
+mod Totals
 mod WrittenText

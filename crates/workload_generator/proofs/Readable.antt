@@ -1,6 +1,6 @@
 -- The workload of a seed has a text.
-use Rattle.std.proofs.Common.{◌≡◌, ℕ, ◌+◌, ◌*◌, ◌<◌, ◌≤◌, true, false, Bool, cond, ◌==◌, eq-eqb, List, [], ◌∷◌, map, length, Some, slice_get, zero, suc, add-zero, zero-add, refl, sym, ap, ◌∙◌, arith}
-use Rattle.std.specs.List.{list_all, list_any, flat_map, range_with_len, count_by, sum_by}
+use Rattle.std.proofs.Common.{◌≡◌, ℕ, ◌+◌, ◌<◌, ◌≤◌, true, false, Bool, cond, ◌==◌, eq-eqb, List, [], ◌∷◌, map, length, Some, slice_get, zero, suc, add-zero, zero-add, refl, sym, ap, ◌∙◌, arith}
+use Rattle.std.specs.List.{list_all, list_any, flat_map, range_with_len, count_by}
 use Rattle.std.specs.Str.{bytes_eq}
 use Rattle.std.proofs.lemmas.List.{length-map}
 use Rattle.std.proofs.lemmas.List.Concat.{length-flat_map}
@@ -11,7 +11,7 @@ use Rattle.workload.specs.Canonical.{canonical}
 use Rattle.workload.specs.Readable.{IsReadable}
 use Rattle.workload_generator.specs.Generated.{in_twos, script_by, drawn_for, generated_scripts, generated_plan, generated_text}
 use Rattle.workload_generator.proofs.Ranges.{pair, all_pass, sum_of_same}
-use Rattle.workload_generator.proofs.Draws.{AreRounds, drawn_rounds}
+use Rattle.workload_generator.proofs.Draws.{drawn_rounds}
 use Rattle.workload_generator.proofs.Scripts.{is_in_place, script_in_place, script_in_range, length_script, script_keys, script_ranges, round_key}
 
 abbrev script : ℕ → ℕ → List Call

@@ -1,19 +1,17 @@
 -- The scripts of the workers.
-use Rattle.std.proofs.Common.{◌≡◌, ℕ, zero, suc, ◌+◌, ◌*◌, ◌/◌, ◌%◌, ◌^◌, ◌<◌, ◌≤◌, nat_lt, nat_le, ◌==◌, Bool, true, false, ◌&&◌, cond, List, [], ◌∷◌, ◌++◌, map, length, Option, Some, slice_get, refl, sym, ap, ◌∙◌, mod-lt, arith}
-use Rattle.std.specs.List.{list_all, flat_map, range_with_len, count_by, sum_by}
+use Rattle.std.proofs.Common.{◌≡◌, ℕ, ◌*◌, ◌/◌, ◌%◌, ◌^◌, ◌<◌, ◌≤◌, nat_lt, ◌==◌, Bool, true, false, ◌&&◌, cond, List, [], ◌∷◌, ◌++◌, map, length, Option, Some, slice_get, refl, ap, ◌∙◌, arith}
+use Rattle.std.specs.List.{list_all, flat_map, count_by}
 use Rattle.std.specs.Option.{option_to_list}
 use Rattle.std.proofs.lemmas.Bool.{lt-ltb, le-leb, ltb-true}
 use Rattle.std.proofs.lemmas.List.Folds.{list_all-append}
-use Rattle.std.proofs.lemmas.List.{length-append}
 use Rattle.sync_model.specs.declared.call.Call.{Call}
-use Rattle.sync_model.specs.declared.map_object.MapCall.{MapCall}
 use Rattle.sync_model.specs.declared.map_object.MapCall.TheVariants.{Load, Store, Delete}
 use Rattle.sync_model.specs.declared.value.TheConstants.{MAX_VALUE}
 use Rattle.sync_model.specs.Name.{is_name}
 use Rattle.sync_model.specs.SequentialMap.{map_key}
 use Rattle.workload.specs.Draft.{keys_of, is_call, is_map_call, is_value, is_range}
 use Rattle.workload.specs.Plan.{is_on}
-use Rattle.workload_generator.specs.Generated.{key_of, call_by, in_twos, round, script_by, drawn_for, generated_objects}
+use Rattle.workload_generator.specs.Generated.{key_of, call_by, round, generated_objects}
 use Rattle.workload_generator.proofs.Ranges.{both, pair}
 use Rattle.workload_generator.proofs.Draws.{is_small}
 use Rattle.workload_generator.proofs.Names.{key_is_name}

@@ -1,5 +1,5 @@
 -- The text of a seed, line by line, is the canonical text of its workload.
-use Rattle.std.proofs.Common.{◌≡◌, ℕ, zero, suc, ◌+◌, ◌*◌, ◌/◌, ◌%◌, nat_lt, ◌==◌, Bool, true, false, cond, List, [], ◌∷◌, ◌++◌, map, codes, refl, sym, ap, ◌∙◌, append_assoc, lit<}
+use Rattle.std.proofs.Common.{◌≡◌, ℕ, zero, suc, ◌+◌, ◌/◌, ◌%◌, nat_lt, ◌==◌, Bool, true, false, cond, List, [], ◌∷◌, ◌++◌, map, codes, refl, ap, ◌∙◌, append_assoc, lit<}
 use Rattle.std.specs.List.{flat_map, range_with_len}
 use Rattle.std.specs.Fmt.{decimal}
 use Rattle.std.proofs.lemmas.List.{append-nil}
@@ -13,7 +13,7 @@ use Rattle.workload.specs.declared.line.Line.TheVariants as lines
 use Rattle.workload.specs.Canonical.{text_line, call_line, script_lines, lines_text, canonical}
 use Rattle.workload.specs.Words.{spelled}
 use Rattle.workload_generator.specs.Generated.{key_of, call_by, in_twos, round, script_by, drawn_for, generated_objects, generated_scripts, generated_plan, generated_text}
-use Rattle.workload_generator.specs.Written.{call_text, round_text, rounds_text, worker_text, workers_text, written_text}
+use Rattle.workload_generator.specs.Written.{call_text, round_text, worker_text, workers_text, written_text}
 
 -- the line of a call
 abbrev line_of : Call → List ℕ

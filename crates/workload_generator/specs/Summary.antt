@@ -1,5 +1,5 @@
 -- What the calls of a seed's workload come to, whatever the order in which the workers make them.
-use Rattle.std.specs.Prelude.{ℕ, pos, List, [], ◌∷◌, ◌++◌, map, sum, sum_by, codes}
+use Rattle.std.specs.Prelude.{ℕ, pos, List, [], ◌∷◌, ◌++◌, sum, sum_by, codes}
 use Rattle.std.specs.List.{flat_map}
 use Rattle.std.specs.Fmt.{decimal}
 use Rattle.std.specs.Ordering.{nat_cmp}
@@ -12,7 +12,6 @@ use Rattle.sync_model.specs.declared.call.Operation.{Operation}
 use Rattle.sync_model.specs.declared.call.Operation.TheVariants as operations
 use Rattle.sync_model.specs.SequentialMap.{map_after}
 use Rattle.workload.specs.Canonical.{text_line}
-use Rattle.workload.specs.Plan.{Plan}
 use Rattle.workload_generator.specs.Generated.{generated_plan}
 
 pub record Summary : Type 0 where

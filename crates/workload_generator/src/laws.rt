@@ -1,7 +1,8 @@
 //! Laws of the workload of a seed, and of what its calls come to.
-ghost use Rattle.std.specs.Prelude.{◌≡◌, ◌<◌, ◌*◌, ◌^◌, ◌++◌, ◌∷◌, [], ℕ, List, Some, None, true, length, take, slice_get, codes};
+ghost use Rattle.std.specs.Prelude.{◌≡◌, ◌≢◌, ◌<◌, ◌%◌, ◌++◌, ◌∷◌, [], ℕ, List, Some, None, true, length, take, slice_get, sum_by, codes};
 ghost use Rattle.std.specs.Fmt.{decimal};
 ghost use Rattle.std.specs.List.{flat_map, list_any, range_with_len};
+ghost use Rattle.std.specs.FinMap.{get};
 ghost use Rattle.std.specs.Str.{bytes_eq};
 ghost use Rattle.rand_pcg.specs.Lcg.{advance};
 ghost use Rattle.rand_pcg.specs.Pcg.{multiplier_64, pcg32};
@@ -10,7 +11,7 @@ ghost use Rattle.workload.specs.Draft.{keys_of, call_count};
 ghost use Rattle.workload.specs.Readable.{IsReadable};
 ghost use Rattle.workload_generator.specs.Generated.{generator_of, drawn, drawn_for, in_twos, script_by, generated_objects, generated_plan, generated_text};
 ghost use Rattle.workload_generator.specs.Written.{written_text};
-ghost use Rattle.workload_generator.specs.Summary.{summary, summary_of};
+ghost use Rattle.workload_generator.specs.Summary.{summary, summary_of, map_of, union_of};
 
 /// The text of a seed is the canonical text of its workload, which is these lines.
 pub fn text_is_canonical()
@@ -43,7 +44,11 @@ pub fn keys_tell_their_workers()
     ensures apart { (seed worker other : ℕ) (key : List ℕ) → worker < 8 → other < 8 → list_any (bytes_eq key) (flat_map keys_of (script_by worker (drawn_for seed worker))) ≡ true → list_any (bytes_eq key) (flat_map keys_of (script_by other (drawn_for seed other))) ≡ true → worker ≡ other }
 {}
 
-/// What the calls come to is that of the scripts.
-pub fn summary_of_scripts()
-    ensures { (seed : ℕ) → summary seed ≡ summary_of (generated_plan seed).scripts }
+/// What the calls come to: the sum of the rounds' amounts, and the union of the workers' maps, which has at each key what
+/// the map of its worker has, and no other key.
+pub fn summary_of_a_seed()
+    ensures summary { (seed : ℕ) → summary seed ≡ summary_of (generated_plan seed).scripts }
+    ensures total { (seed : ℕ) → (summary seed).total ≡ sum_by (λ words. words.0 % 1000) (in_twos (drawn seed)) }
+    ensures own { (seed worker : ℕ) (key : List ℕ) → worker < 8 → take 3 key ≡ codes "k" ++ decimal worker ++ codes "_" → get (union_of (generated_plan seed).scripts) key ≡ get (map_of (script_by worker (drawn_for seed worker))) key }
+    ensures others { (seed : ℕ) (key : List ℕ) → ((worker : ℕ) → worker < 8 → take 3 key ≢ codes "k" ++ decimal worker ++ codes "_") → get (union_of (generated_plan seed).scripts) key ≡ None }
 {}

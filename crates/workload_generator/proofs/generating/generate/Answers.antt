@@ -1,6 +1,6 @@
 use Rattle.std.proofs.Common.{rules, ◌≡◌, ◌++◌, codes, sym, ap, subst, ◌∙◌}
 use Rattle.workload.specs.Reads.{Reads}
-use Rattle.workload_generator.specs.Generated.{generated_plan, generated_text}
+use Rattle.workload_generator.specs.Generated.{generated_plan}
 use Rattle.workload_generator.specs.Written.{workers_text}
 use Rattle.workload_generator.proofs.Readable.{readable, text_is_canonical}
 use Rattle.workload_generator.proofs.WrittenText.{text_as_written}
