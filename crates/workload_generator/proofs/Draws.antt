@@ -144,3 +144,8 @@ parts_are from (suc count) xs fits =
 -- the workers' words are all of them
 pub drawn_by_all : (seed : ℕ) → flat_map (drawn_for seed) (range_with_len 0 8) ≡ drawn seed
 drawn_by_all seed = parts_are 0 8 (drawn seed) (omega (arith, length_drawn seed))
+
+-- there are 4,000 rounds
+pub drawn_twos : (seed : ℕ) → length (in_twos (drawn seed)) ≡ 4000
+unfolding drawn
+drawn_twos seed = (rounds_are 4000 (generator_of seed)).many

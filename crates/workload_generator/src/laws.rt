@@ -1,5 +1,5 @@
 //! Laws of the workload of a seed, and of what its calls come to.
-ghost use Rattle.std.specs.Prelude.{◌≡◌, ◌≢◌, ◌<◌, ◌%◌, ◌++◌, ◌∷◌, [], ℕ, List, Some, None, true, length, take, slice_get, sum_by, codes};
+ghost use Rattle.std.specs.Prelude.{◌≡◌, ◌≢◌, ◌<◌, ◌≤◌, ◌%◌, ◌++◌, ◌∷◌, [], ℕ, List, Some, None, true, length, take, slice_get, sum_by, codes};
 ghost use Rattle.std.specs.Fmt.{decimal};
 ghost use Rattle.std.specs.List.{flat_map, list_any, range_with_len};
 ghost use Rattle.std.specs.FinMap.{get};
@@ -11,7 +11,7 @@ ghost use Rattle.workload.specs.Draft.{keys_of, call_count};
 ghost use Rattle.workload.specs.Readable.{IsReadable};
 ghost use Rattle.workload_generator.specs.Generated.{generator_of, drawn, drawn_for, in_twos, script_by, generated_objects, generated_plan, generated_text};
 ghost use Rattle.workload_generator.specs.Written.{written_text};
-ghost use Rattle.workload_generator.specs.Summary.{summary, summary_of, map_of, union_of};
+ghost use Rattle.workload_generator.specs.Summary.{Summary, summary, summary_of, summary_text, map_of, union_of};
 
 /// The text of a seed is the canonical text of its workload, which is these lines.
 pub fn text_is_canonical()
@@ -49,6 +49,13 @@ pub fn keys_tell_their_workers()
 pub fn summary_of_a_seed()
     ensures summary { (seed : ℕ) → summary seed ≡ summary_of (generated_plan seed).scripts }
     ensures total { (seed : ℕ) → (summary seed).total ≡ sum_by (λ words. words.0 % 1000) (in_twos (drawn seed)) }
+    ensures total_small { (seed : ℕ) → (summary seed).total ≤ 3996000 }
     ensures own { (seed worker : ℕ) (key : List ℕ) → worker < 8 → take 3 key ≡ codes "k" ++ decimal worker ++ codes "_" → get (union_of (generated_plan seed).scripts) key ≡ get (map_of (script_by worker (drawn_for seed worker))) key }
     ensures others { (seed : ℕ) (key : List ℕ) → ((worker : ℕ) → worker < 8 → take 3 key ≢ codes "k" ++ decimal worker ++ codes "_") → get (union_of (generated_plan seed).scripts) key ≡ None }
+    ensures keys_few { (seed : ℕ) → (summary seed).keys ≤ 512 }
+{}
+
+/// The five lines say the three numbers in decimal.
+pub fn five_lines()
+    ensures { (s : Summary) → summary_text s ≡ codes "workers 8\ncalls 16000\ntotal " ++ decimal s.total ++ codes "\nkeys " ++ decimal s.keys ++ codes "\nsum " ++ decimal s.sum ++ codes "\n" }
 {}
