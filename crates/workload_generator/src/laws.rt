@@ -1,5 +1,5 @@
 //! Laws of the workload of a seed, and of what its calls come to.
-ghost use Rattle.std.specs.Prelude.{◌≡◌, ◌≢◌, ◌<◌, ◌≤◌, ◌%◌, ◌++◌, ◌∷◌, [], ℕ, List, Some, None, true, length, take, slice_get, sum_by, codes};
+ghost use Rattle.std.specs.Prelude.{◌≡◌, ◌≢◌, ◌<◌, ◌≤◌, ◌+◌, ◌^◌, ◌%◌, ◌++◌, ◌∷◌, [], ℕ, List, Some, None, true, length, take, slice_get, sum_by, codes};
 ghost use Rattle.std.specs.Fmt.{decimal};
 ghost use Rattle.std.specs.List.{flat_map, list_any, range_with_len};
 ghost use Rattle.std.specs.FinMap.{get};
@@ -26,6 +26,12 @@ pub fn words_are_drawn_in_order()
     ensures shares { (seed : ℕ) → flat_map (drawn_for seed) (range_with_len 0 8) ≡ drawn seed }
     ensures twos { (seed worker : ℕ) → worker < 8 → flat_map (λ words. words.0 ∷ words.1 ∷ []) (in_twos (drawn_for seed worker)) ≡ drawn_for seed worker }
     ensures rounds { (seed worker : ℕ) → worker < 8 → length (in_twos (drawn_for seed worker)) ≡ 500 }
+{}
+
+/// The first words of two seeds, which differ in the high half alone.
+pub fn first_words_of_seeds()
+    ensures seven { take 2 (drawn 7) ≡ 4063834449 ∷ 2143014202 ∷ [] }
+    ensures high_half { take 2 (drawn (2 ^ 32 + 7)) ≡ 4065474018 ∷ 4658041 ∷ [] }
 {}
 
 /// Eight workers have 2,000 calls each, by the words that they draw, on three objects. The workload has a text.
