@@ -103,8 +103,9 @@ fn put_workers(text: &mut Vec<u8>, seed: u64) -> Result<(), AllocError>
 }
 
 /// The text of the workload that a seed gives: eight workers, each with 500 rounds of four calls on a
-/// mutex, an int64 and a map, as 32-bit words say that PCG's generator (XSH RR 64/32, stream 0) draws
-/// from the seed on. The text is canonical, and is read as that workload.
+/// mutex, an int64 and a map (`docs/generator.md`). What the rounds do is drawn by PCG's generator XSH RR
+/// 64/32 from the seed on, at stream 0. Every seed has a text: it is canonical, and is read as the seed's
+/// workload. An `Err` is want of memory.
 pub fn generate(alloc: Global, seed: u64) -> Result<Vec<u8>, AllocError>
     ensures text { IfOk result (λ text. text.items ≡ generated_text seed) }
     ensures read { IfOk result (λ text. Reads text.items (generated_plan seed)) }
