@@ -1,0 +1,5 @@
+mod Holders
+mod LockSteps
+mod LockLines
+mod Orderly
+mod PlainCalls
