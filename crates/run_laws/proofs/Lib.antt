@@ -1,5 +1,10 @@
+mod AddedUp
+mod AddItems
+mod ByCaller
+mod DoneLines
 mod Holders
-mod LockSteps
 mod LockLines
+mod LockSteps
+mod Numbered
 mod Orderly
 mod PlainCalls

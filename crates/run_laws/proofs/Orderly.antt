@@ -103,12 +103,12 @@ uses_by c (x ∷ xs) used = chosen (x.caller == c) used.0 (uses_by c xs used.1) 
   chosen true first rest = (first, rest)
   chosen false first rest = rest
 
-get_past : {A : Type 0} (lists : List (List A)) (i : ℕ) → slice_get lists i ≡ None → get_or lists i [] ≡ []
+pub get_past : {A : Type 0} (lists : List (List A)) (i : ℕ) → slice_get lists i ≡ None → get_or lists i [] ≡ []
 get_past [] i none = refl
 get_past (list ∷ lists) zero none = absurd (none-some list (sym none))
 get_past (list ∷ lists) (suc i) none = get_past lists i none
 
-get_at : {A : Type 0} (lists : List (List A)) (i : ℕ) (list : List A) → slice_get lists i ≡ Some list → get_or lists i [] ≡ list
+pub get_at : {A : Type 0} (lists : List (List A)) (i : ℕ) (list : List A) → slice_get lists i ≡ Some list → get_or lists i [] ≡ list
 get_at {A} lists i list at = get_or_from_slice_get lists i list [] at
 
 module _ (keeps_valid : (s : State) (c : ℕ) (e : MutexEvent) → IsValid s → IsValid (next s c e).0) (starts_valid : (callers : ℕ) → IsValid (start callers))

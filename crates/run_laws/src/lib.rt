@@ -2,4 +2,5 @@
 //! runs. The crate stands in proofs alone.
 #![tactic(auto)]
 
+pub mod adds;
 pub mod locks;
