@@ -137,6 +137,10 @@ is_atomics (calls.Begin m) = false
 is_atomics (calls.Next begin) = false
 is_atomics (calls.Atomic a call) = true
 
+pub no_entries_shared : (o : ℕ) (entries : List (Entry MutexEvent MutexReply)) → shared_in (entered o entries) ≡ []
+no_entries_shared o [] = refl
+no_entries_shared o (x ∷ entries) = no_entries_shared o entries
+
 -- the items of calls that are adds, where they are on the int64 at a place
 module _ (plan : Plan) (place : ℕ) (object : ObjectLine) (at : slice_get plan.objects place ≡ Some object) (kind : object.kind ≡ kinds.Atomic types.Int64) where
   -- the call is an add, where it is on the int64
@@ -217,10 +221,6 @@ module _ (plan : Plan) (place : ℕ) (object : ObjectLine) (at : slice_get plan.
     nothing [] others = refl
     nothing (x ∷ xs) others = let here = (adds_none x.call (others 0 x refl)).1 in let rest = nothing xs (λ i y. others (suc i) y) in
         omega (arith, here, rest, sum_by-cons (λ (y : Item). shared_bits (atomic_number plan.objects place) y.call) x xs)
-
-  no_entries_shared : (o : ℕ) (entries : List (Entry MutexEvent MutexReply)) → shared_in (entered o entries) ≡ []
-  no_entries_shared o [] = refl
-  no_entries_shared o (x ∷ entries) = no_entries_shared o entries
 
   alike_at : (call : Call) (items : List Item) (made : List Made) → shared_in made ≡ items → AddsAlike call items → AddsAlike call (shared_in made)
   alike_at call items made is alike = subst (AddsAlike call) (sym is) alike

@@ -51,7 +51,7 @@ module _ (plan : Plan) (r : Record) (left : Report) (explains : Explains plan (D
       let list : list_of r worker ≡ items_of line = get_at r.lists worker (items_of line) (ap (λ (l : List (List Made)). slice_get l worker) (sym explains.are.lists) ∙ (slice_get-map items_of explains.lines worker ∙ ap (option_map items_of) at)) in
       ap shared_in (list ∙ (ap (λ (l : List Made). items_in line.spelt ++ l) (ended worker line at).1 ∙ append-nil (items_in line.spelt)))
 
-  calls_past : (worker : ℕ) → slice_get explains.lines worker ≡ None → calls_of r worker ≡ []
+  pub calls_past : (worker : ℕ) → slice_get explains.lines worker ≡ None → calls_of r worker ≡ []
   calls_past worker none = ap shared_in (get_past r.lists worker (ap (λ (l : List (List Made)). slice_get l worker) (sym explains.are.lists) ∙ (slice_get-map items_of explains.lines worker ∙ ap (option_map items_of) none)))
 
   -- who made a call has a line

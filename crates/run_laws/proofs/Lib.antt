@@ -3,8 +3,13 @@ mod AddItems
 mod ByCaller
 mod DoneLines
 mod Holders
+mod KeyAtEnd
 mod LockLines
 mod LockSteps
+mod MapItems
+mod NamedKeys
 mod Numbered
+mod OneKey
 mod Orderly
 mod PlainCalls
+mod Weaving

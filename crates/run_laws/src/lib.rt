@@ -4,3 +4,4 @@
 
 pub mod adds;
 pub mod locks;
+pub mod owners;
