@@ -50,15 +50,15 @@ pub record Facts (r : Record) : Type 0 where
 module _ (plan : Plan) (r : Record) (left : Report) (explains : Explains plan (Done left) r) (facts : Facts r) (plain : has_plain_objects plan ≡ true)
     (named : (name : List ℕ) → list_any (bytes_eq name) (all_keys plan.scripts) ≡ true → key_name (keys_in plan.scripts) (key_number (keys_in plan.scripts) name) ≡ name)
     (place : ℕ) (object : ObjectLine) (at : slice_get plan.objects place ≡ Some object) (kind : object.kind ≡ kinds.Map) where
-  scripted : (worker : ℕ) (line : Line) → slice_get explains.lines worker ≡ Some line → slice_get plan.scripts worker ≡ Some (script_of line)
+  pub scripted : (worker : ℕ) (line : Line) → slice_get explains.lines worker ≡ Some line → slice_get plan.scripts worker ≡ Some (script_of line)
   scripted worker line is = ap (λ (l : List (List Call)). slice_get l worker) (sym explains.are.scripts) ∙ (slice_get-map script_of explains.lines worker ∙ ap (option_map script_of) is)
 
   -- the map is there from the start, and empty
-  map_there : map_number plan.objects place < length (contents_of plan).maps
+  pub map_there : map_number plan.objects place < length (contents_of plan).maps
   map_there = let within = number_within (λ (o : ObjectLine). is_map o.kind) plan.objects place object at (ap is_map kind) in
       omega (arith, within, length-replicate (count_by (λ (o : ObjectLine). is_map o.kind) plan.objects) (empty {X = ℕ} {R = nat_cmp}))
 
-  starts_empty : (key : ℕ) → value_at (contents_of plan) (map_number plan.objects place) key ≡ None
+  pub starts_empty : (key : ℕ) → value_at (contents_of plan) (map_number plan.objects place) key ≡ None
   starts_empty key = ap (λ (m : FinMap nat_cmp ℕ). get m key) (get_or-replicate (count_by (λ (o : ObjectLine). is_map o.kind) plan.objects) (map_number plan.objects place) empty empty (number_within (λ (o : ObjectLine). is_map o.kind) plan.objects place object at (ap is_map kind)))
       ∙ get-empty nat_cmp key
 

@@ -7,9 +7,11 @@ mod KeyAtEnd
 mod LockLines
 mod LockSteps
 mod MapItems
+mod NamedFind
 mod NamedKeys
 mod Numbered
 mod OneKey
 mod Orderly
 mod PlainCalls
+mod UnionAtEnd
 mod Weaving

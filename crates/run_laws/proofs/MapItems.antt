@@ -68,7 +68,7 @@ cursors_are_none (x ∷ items) all = let both = and_parts (is_cursors x.call) (l
   none (calls.Next begin) is = refl
   none (calls.Atomic a call) is = refl
 
-map_items : (plan : Plan) (call : Call) (items : List Made) (answer : CallAnswer (Reply ℕ)) → PlainCall plan call items answer → MapItems plan call (shared_in items)
+pub map_items : (plan : Plan) (call : Call) (items : List Made) (answer : CallAnswer (Reply ℕ)) → PlainCall plan call items answer → MapItems plan call (shared_in items)
 map_items plan call items answer (on_map op kind asks one) = one_call op one.item kind asks (ap shared_in one.are) one.asks
 map_items plan call items answer (on_range kind asks cursor) = no_call (ap is_map_operation asks) (ap (list_all (λ (x : Item). is_no_map x.call)) (ap shared_in cursor.are ∙ shared_map cursor.made) ∙ cursors_are_none cursor.made cursor.asks)
 map_items plan call items answer (on_atomic type op kind asks one) = no_call (ap is_map_operation asks) (ap (list_all (λ (x : Item). is_no_map x.call)) (ap shared_in one.are) ∙ ap (λ (c : SharedCall). is_no_map c && true) one.asks)
@@ -79,9 +79,23 @@ or_false true b is = absurd (false≢true (sym is))
 or_false false b is = (refl, is)
 
 -- what an operation leaves at its key
-abbrev op_value : Operation → Option ℕ → Option ℕ
+abbrev pub op_value : Operation → Option ℕ → Option ℕ
 op_value (operations.Map op) was = value_after op was
 op_value operation was = was
+
+-- what a call leaves at the key, by name
+pub named_op : (key : List ℕ) (operation : Operation) (m : NamedMap) → get (after_operation operation m) key ≡ cond (is_on_name key operation) (op_value operation (get m key)) (get m key)
+named_op key (operations.Map op) m = key_after nat_list_cmp_total key op m ∙ ap (λ (b : Bool). cond b (value_after op (get m key)) (get m key)) (alike (map_key op)) where
+  alike : (o : Option (List ℕ)) → option_map_or (λ other. eq_by_cmp (slice_cmp nat_cmp) key other) o true ≡ option_map_or (bytes_eq key) o true
+  alike (Some other) = is_eq-slice_cmp key other
+  alike None = refl
+named_op key operation m = refl
+
+pub named_call : (place : ℕ) (key : List ℕ) (call : Call) (m : NamedMap) → get (cond (call.object == place) (after_operation call.operation m) m) key ≡ cond (uses_key place key call) (op_value call.operation (get m key)) (get m key)
+named_call place key call m = by_object (call.object == place) where
+  by_object : (b : Bool) → get (cond b (after_operation call.operation m) m) key ≡ cond (b && is_on_name key call.operation) (op_value call.operation (get m key)) (get m key)
+  by_object true = named_op key call.operation m
+  by_object false = refl
 
 both_ways : (b : Bool) (v : Option ℕ) → cond b v v ≡ v
 both_ways true v = refl
@@ -114,20 +128,6 @@ module _ (plan : Plan) (place : ℕ) (object : ObjectLine) (at : slice_get plan.
       ∙ (ap (λ (b : Bool). (call.object == place) && b) (key_renamed (key_number (keys_in plan.scripts)) (λ q. q == number_of_key) op ∙ one_key (map_key op) (λ name is. keyed op name asks is))
       ∙ ap (λ (o : Operation). (call.object == place) && is_on_name key o) (sym asks))
 
-  -- what a call leaves at the key, by name
-  named_op : (operation : Operation) (m : NamedMap) → get (after_operation operation m) key ≡ cond (is_on_name key operation) (op_value operation (get m key)) (get m key)
-  named_op (operations.Map op) m = key_after nat_list_cmp_total key op m ∙ ap (λ (b : Bool). cond b (value_after op (get m key)) (get m key)) (alike (map_key op)) where
-    alike : (o : Option (List ℕ)) → option_map_or (λ other. eq_by_cmp (slice_cmp nat_cmp) key other) o true ≡ option_map_or (bytes_eq key) o true
-    alike (Some other) = is_eq-slice_cmp key other
-    alike None = refl
-  named_op operation m = refl
-
-  named_call : (call : Call) (m : NamedMap) → get (cond (call.object == place) (after_operation call.operation m) m) key ≡ cond (uses_key place key call) (op_value call.operation (get m key)) (get m key)
-  named_call call m = by_object (call.object == place) where
-    by_object : (b : Bool) → get (cond b (after_operation call.operation m) m) key ≡ cond (b && is_on_name key call.operation) (op_value call.operation (get m key)) (get m key)
-    by_object true = named_op call.operation m
-    by_object false = refl
-
   -- and by number
   no_key : (call : SharedCall) → is_no_map call ≡ true → is_on_key (map_number plan.objects place) number_of_key call ≡ false
   no_key (calls.Map m call) is = absurd (false≢true is)
@@ -153,7 +153,7 @@ module _ (plan : Plan) (place : ℕ) (object : ObjectLine) (at : slice_get plan.
     by_operation operation none b = both_ways (b && false) was
 
   module _ (plain : has_plain_objects plan ≡ true) (worker : ℕ) where
-    items_of_call : (before : ℕ) (call : SpeltCall) (spelt : List SpeltCall) → AreSpelt plan worker before (call ∷ spelt) → MapItems plan call.call (shared_in call.items)
+    pub items_of_call : (before : ℕ) (call : SpeltCall) (spelt : List SpeltCall) → AreSpelt plan worker before (call ∷ spelt) → MapItems plan call.call (shared_in call.items)
     items_of_call before call spelt are = map_items plan call.call call.items (Done (Ok call.reply)) (plain_call plan plain worker before call.call call.items (Done (Ok call.reply)) are.0)
 
     along_append : (was : Option ℕ) (xs ys : List Item) → key_along (map_number plan.objects place) number_of_key was (xs ++ ys) ≡ key_along (map_number plan.objects place) number_of_key (key_along (map_number plan.objects place) number_of_key was xs) ys
@@ -167,7 +167,7 @@ module _ (plan : Plan) (place : ℕ) (object : ObjectLine) (at : slice_get plan.
     script_along before (call ∷ spelt) m are keyed =
         ap (key_along (map_number plan.objects place) number_of_key (get m key)) (shared_append call.items (items_in spelt))
         ∙ (along_append (get m key) (shared_in call.items) (shared_in (items_in spelt))
-        ∙ (ap (λ (v : Option ℕ). key_along (map_number plan.objects place) number_of_key v (shared_in (items_in spelt))) (item_call call.call (shared_in call.items) (get m key) (items_of_call before call spelt are) (keyed 0 call.call refl) ∙ sym (named_call call.call m))
+        ∙ (ap (λ (v : Option ℕ). key_along (map_number plan.objects place) number_of_key v (shared_in (items_in spelt))) (item_call call.call (shared_in call.items) (get m key) (items_of_call before call spelt are) (keyed 0 call.call refl) ∙ sym (named_call place key call.call m))
         ∙ script_along (before + length (shared_in call.items)) spelt (cond (call.call.object == place) (after_operation call.call.operation m) m) are.1 (λ i c is. keyed (suc i) c is)))
 
     -- and where no call is on the key no item is

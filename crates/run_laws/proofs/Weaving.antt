@@ -90,7 +90,7 @@ module _ (m key : ℕ) where
     by_number (inr e) = ap (λ (b : Bool). cond (b && option_map_or (λ other. other == key) (map_key call) true) (value_after call (value_at contents m key)) (value_at contents m key)) e
 
   -- the maps stay as many
-  maps_one : (call : SharedCall) (contents : Contents) → m < length contents.maps → m < length (shared_after call contents).maps
+  pub maps_one : (call : SharedCall) (contents : Contents) → m < length contents.maps → m < length (shared_after call contents).maps
   maps_one (calls.Map n call) contents within = omega (arith, within, length-set contents.maps n (map_after call (map_at contents n)))
   maps_one (calls.Begin n) contents within = within
   maps_one (calls.Next begin) contents within = within

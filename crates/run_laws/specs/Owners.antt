@@ -46,3 +46,7 @@ uses_key place key call = (call.object == place) && is_on_name key call.operatio
 -- of all scripts this worker's alone has calls on the key of the map at a place
 abbrev pub IsOwnedBy : Plan → (place worker : ℕ) → List ℕ → Type 0
 IsOwnedBy plan place worker key = (other : ℕ) (script : List Call) → slice_get plan.scripts other ≡ Some script → other ≢ worker → list_any (uses_key place key) script ≡ false
+
+-- no two scripts have calls on one key of the map at a place
+abbrev pub AreApart : Plan → (place : ℕ) → Type 0
+AreApart plan place = (key : List ℕ) (worker : ℕ) (script : List Call) → slice_get plan.scripts worker ≡ Some script → list_any (uses_key place key) script ≡ true → IsOwnedBy plan place worker key
