@@ -1,0 +1,11 @@
+mod Ranges
+mod Draws
+mod Rounds
+mod Workers
+mod Names
+mod Scripts
+mod Readable
+mod Keys
+mod Union
+mod Totals
+mod WrittenText

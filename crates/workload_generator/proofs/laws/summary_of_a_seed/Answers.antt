@@ -1,0 +1,18 @@
+use Rattle.std.proofs.Common.{refl}
+use Rattle.workload_generator.specs.Summary.{summary}
+use Rattle.workload_generator.proofs.Totals.{total_is}
+use Rattle.workload_generator.proofs.Union.{union_at, union_without}
+use Rattle.workload_generator.proofs.laws.summary_of_a_seed.Goals as goal
+
+pub returns-clause-summary : goal.returns-clause-summary
+unfolding summary
+returns-clause-summary c = λ seed. refl
+
+pub returns-clause-total : goal.returns-clause-total
+returns-clause-total c = total_is
+
+pub returns-clause-own : goal.returns-clause-own
+returns-clause-own c = union_at
+
+pub returns-clause-others : goal.returns-clause-others
+returns-clause-others c = union_without
