@@ -1,22 +1,19 @@
 -- The ends of a run of a seed's workload.
-use Rattle.std.proofs.Common.{◌≡◌, ℕ, suc, pos, false, cond, List, [], ◌∷◌, ◌++◌, map, length, get_or, refl, sym, ap, ◌∙◌, arith}
+use Rattle.std.proofs.Common.{◌≡◌, ℕ, pos, false, cond, List, [], ◌∷◌, ◌++◌, map, length, get_or, refl, sym, ap, ◌∙◌, arith}
 use Rattle.std.specs.Prelude.{sum, sum_by, count_by, zip, codes}
 use Rattle.std.specs.FinMap.{empty, entries, values, len, len-entries}
 use Rattle.std.specs.List.{flat_map}
-use Rattle.std.proofs.lemmas.List.{append-nil, length-set, length-replicate}
+use Rattle.std.proofs.lemmas.List.{append-nil, length-map, length-replicate}
 use Rattle.std.proofs.lemmas.List.Sums.{sum-map, sum_by-cons}
 use Rattle.sync_model.specs.declared.atomic_object.Number.{Number}
 use Rattle.sync_model.specs.declared.atomic_object.Number.TheVariants.{Int64, Bool as Truth}
-use Rattle.sync_model.specs.declared.item.SharedCall.{SharedCall}
-use Rattle.sync_model.specs.declared.item.SharedCall.TheVariants as calls
 use Rattle.sync_model.specs.declared.item.SharedEntry.{SharedEntry}
 use Rattle.sync_model.specs.declared.outcome.End.{End}
 use Rattle.sync_model.specs.declared.outcome.End.TheVariants as ends
 use Rattle.sync_model.specs.declared.outcome.Report.{Report}
 use Rattle.sync_model.specs.Ends.{ends_of}
-use Rattle.sync_model.specs.SequentialAtomic.{atomic_after, zero_of}
-use Rattle.sync_model.specs.SequentialMap.{map_after}
-use Rattle.sync_model.specs.SharedHistory.{Contents, map_at, number_at, shared_after, contents_after}
+use Rattle.sync_model.specs.SequentialAtomic.{zero_of}
+use Rattle.sync_model.specs.SharedHistory.{map_at, number_at, contents_after}
 use Rattle.workload.specs.declared.object.ObjectLine.{ObjectLine}
 use Rattle.workload.specs.Keys.{keys_in, key_number}
 use Rattle.run_record.specs.Objects.{is_map, is_atomic, types_of, map_number, atomic_number, places_from, contents_of, named, ends_in}
@@ -25,35 +22,17 @@ use Rattle.workload_generator.specs.Summary.{Summary, summary, summary_of, union
 use Rattle.generated_runs.specs.Runs.{ends_of_seed, number_in, is_key, value_in, five_lines}
 use Rattle.generated_runs.proofs.Rounds.{objects_are}
 
--- calls leave as many maps and atomics as there were
-as_many : (call : SharedCall) (contents : Contents) → (length (shared_after call contents).maps ≡ length contents.maps) × (length (shared_after call contents).numbers ≡ length contents.numbers)
-as_many (calls.Map m call) contents = (length-set contents.maps m (map_after call (map_at contents m)), refl)
-as_many (calls.Begin m) contents = (refl, refl)
-as_many (calls.Next begin) contents = (refl, refl)
-as_many (calls.Atomic a call) contents = (refl, length-set contents.numbers a (atomic_after call (number_at contents a)))
-
-as_many_after : (history : List SharedEntry) (contents : Contents) → (length (contents_after contents history).maps ≡ length contents.maps) × (length (contents_after contents history).numbers ≡ length contents.numbers)
-as_many_after [] contents = (refl, refl)
-as_many_after (e ∷ history) contents =
-    let one = as_many e.call contents in
-    let rest = as_many_after history (shared_after e.call contents) in
-    (rest.0 ∙ one.0, rest.1 ∙ one.1)
-
 -- a list of one
 one_item : {A : Type 0} (xs : List A) (d : A) → length xs ≡ 1 → xs ≡ get_or xs 0 d ∷ []
 one_item [] d one = absurd (omega (arith, one))
 one_item (x ∷ []) d one = refl
 one_item (x ∷ (y ∷ xs)) d one = absurd (omega (arith, one))
 
-length_mapped : {A B : Type 0} (f : A → B) (xs : List A) → length (map f xs) ≡ length xs
-length_mapped f [] = refl
-length_mapped f (x ∷ xs) = ap suc (length_mapped f xs)
-
 one_map : (seed : ℕ) → length (contents_of (generated_plan seed)).maps ≡ 1
 one_map seed = length-replicate (count_by (λ (o : ObjectLine). is_map o.kind) (generated_plan seed).objects) empty ∙ ap (count_by (λ (o : ObjectLine). is_map o.kind)) (objects_are seed)
 
 one_number : (seed : ℕ) → length (contents_of (generated_plan seed)).numbers ≡ 1
-one_number seed = length_mapped zero_of (flat_map (λ (o : ObjectLine). types_of o.kind) (generated_plan seed).objects) ∙ ap (λ (objects : List ObjectLine). length (flat_map (λ (o : ObjectLine). types_of o.kind) objects)) (objects_are seed)
+one_number seed = length-map (flat_map (λ (o : ObjectLine). types_of o.kind) (generated_plan seed).objects) zero_of ∙ ap (λ (objects : List ObjectLine). length (flat_map (λ (o : ObjectLine). types_of o.kind) objects)) (objects_are seed)
 
 pub first_number : (seed : ℕ) → atomic_number (generated_plan seed).objects 1 ≡ 0
 first_number seed = ap (λ (objects : List ObjectLine). atomic_number objects 1) (objects_are seed)
@@ -62,15 +41,17 @@ pub first_map : (seed : ℕ) → map_number (generated_plan seed).objects 2 ≡ 
 first_map seed = ap (λ (objects : List ObjectLine). map_number objects 2) (objects_are seed)
 
 -- the ends, by what the int64 and the map hold
-pub ends_are : (seed : ℕ) (history : List SharedEntry) (n : Number) (m : NamedMap) → number_at (contents_after (contents_of (generated_plan seed)) history) 0 ≡ n
+pub ends_are : (seed : ℕ) (history : List SharedEntry) (n : Number) (m : NamedMap)
+    → length (contents_after (contents_of (generated_plan seed)) history).maps ≡ length (contents_of (generated_plan seed)).maps
+    → length (contents_after (contents_of (generated_plan seed)) history).numbers ≡ length (contents_of (generated_plan seed)).numbers
+    → number_at (contents_after (contents_of (generated_plan seed)) history) 0 ≡ n
     → named (keys_in (generated_plan seed).scripts) (map_at (contents_after (contents_of (generated_plan seed)) history) 0) ≡ m
     → ends_in (generated_plan seed) (contents_after (contents_of (generated_plan seed)) history) ≡ ends.Number 1 n ∷ map (λ entry. ends.Pair 2 (key_number (keys_in (generated_plan seed).scripts) entry.0) entry.1) (entries m)
-ends_are seed history n m number_is map_is =
+ends_are seed history n m maps_stay numbers_stay number_is map_is =
     let keys = keys_in (generated_plan seed).scripts in
     let contents = contents_after (contents_of (generated_plan seed)) history in
-    let many = as_many_after history (contents_of (generated_plan seed)) in
-    let numbers : contents.numbers ≡ n ∷ [] = one_item contents.numbers (Truth false) (many.1 ∙ one_number seed) ∙ ap (λ (x : Number). x ∷ []) number_is in
-    let maps : map (named keys) contents.maps ≡ m ∷ [] = ap (map (named keys)) (one_item contents.maps empty (many.0 ∙ one_map seed)) ∙ ap (λ (x : NamedMap). x ∷ []) map_is in
+    let numbers : contents.numbers ≡ n ∷ [] = one_item contents.numbers (Truth false) (numbers_stay ∙ one_number seed) ∙ ap (λ (x : Number). x ∷ []) number_is in
+    let maps : map (named keys) contents.maps ≡ m ∷ [] = ap (map (named keys)) (one_item contents.maps empty (maps_stay ∙ one_map seed)) ∙ ap (λ (x : NamedMap). x ∷ []) map_is in
     let atomics : places_from 0 is_atomic (generated_plan seed).objects ≡ 1 ∷ [] = ap (places_from 0 is_atomic) (objects_are seed) in
     let places : places_from 0 is_map (generated_plan seed).objects ≡ 2 ∷ [] = ap (places_from 0 is_map) (objects_are seed) in
     ap (λ (p : List ℕ). ends_of (key_number keys) (record { numbers = zip p contents.numbers; maps = zip (places_from 0 is_map (generated_plan seed).objects) (map (named keys) contents.maps) })) atomics

@@ -7,6 +7,7 @@ ghost use Rattle.workload_generator.specs.Summary.{summary, summary_text};
 ghost use Rattle.generated_runs.specs.Runs.{ends_of_seed, five_lines};
 
 use run_laws::adds::an_int64_holds_the_sum_of_all_adds;
+use run_laws::ends::calls_leave_as_many_maps_and_atomics;
 use run_laws::locks::an_orderly_workload_is_never_misused;
 use run_laws::owners::a_map_is_the_union_of_its_workers_maps;
 use run_record::laws::endings::a_run_that_is_done_answers_each_call;
@@ -34,6 +35,7 @@ pub fn every_run_of_a_seed_comes_to_its_summary()
     a_run_that_is_done_answers_each_call();
     an_int64_holds_the_sum_of_all_adds();
     a_map_is_the_union_of_its_workers_maps();
+    calls_leave_as_many_maps_and_atomics();
     sums_in_range_are_exact();
     workload_of_a_seed();
     keys_tell_their_workers();

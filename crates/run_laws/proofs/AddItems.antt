@@ -1,5 +1,5 @@
 -- The adds to an int64 that a script's items are, where all calls on it are adds.
-use Rattle.std.proofs.Common.{◌≡◌, ◌⊎◌, inl, inr, ℕ, zero, suc, ◌+◌, ◌<◌, ◌==◌, ℤ, Bool, true, false, cond, List, [], ◌∷◌, ◌++◌, length, get_or, Option, Some, slice_get, refl, sym, ap, ◌∙◌, subst, arith}
+use Rattle.std.proofs.Common.{◌≡◌, ◌⊎◌, inl, inr, ℕ, zero, suc, ◌+◌, ◌<◌, ◌==◌, ℤ, Bool, true, false, cond, List, [], ◌∷◌, length, get_or, Option, Some, slice_get, refl, sym, ap, ◌∙◌, subst, arith}
 use Rattle.std.specs.Prelude.{slice_set, sum_by, unwrap_or, Ok}
 use Rattle.std.specs.List.{list_all}
 use Rattle.std.proofs.lemmas.Bool.{false≢true, and_parts, cases_Bool, eqb-true, eqb-false, eq-eqb, ne_eqb}
@@ -37,6 +37,7 @@ use Rattle.run_laws.specs.Adds.{amount_of, is_add}
 use Rattle.run_laws.specs.Locks.{has_plain_objects}
 use Rattle.run_laws.proofs.AddedUp.{of_bits, bits_of, add_bits, call_bits}
 use Rattle.run_laws.proofs.DoneLines.{calls_in, items_in, shared_append, shared_map}
+use Rattle.run_laws.proofs.EachOf.{Each, each_both}
 use Rattle.run_laws.proofs.LockLines.{entered}
 use Rattle.run_laws.proofs.Numbered.{numbers_apart}
 use Rattle.run_laws.proofs.PlainCalls.{PlainCall, on_map, on_range, on_atomic, on_mutex, IsOfKind, is_cursors, plain_call, list_all_at}
@@ -65,17 +66,7 @@ AddsTo a (calls.Next begin) = Unit {0}
 AddsTo a (calls.Atomic b call) = (b == a) ≡ true → is_int64_add call ≡ true
 
 abbrev pub AllAdd : ℕ → List Item → Type 0
-AllAdd a [] = Unit {0}
-AllAdd a (x ∷ xs) = AddsTo a x.call × AllAdd a xs
-
-pub adds_at : (a : ℕ) (xs : List Item) (i : ℕ) (x : Item) → AllAdd a xs → slice_get xs i ≡ Some x → AddsTo a x.call
-adds_at a [] i x all at = absurd (none-some x at)
-adds_at a (y ∷ xs) zero x all at = subst (λ (z : Item). AddsTo a z.call) (ap (λ (o : Option Item). unwrap_or o y) at) all.0
-adds_at a (y ∷ xs) (suc i) x all at = adds_at a xs i x all.1 at
-
-all_add_both : (a : ℕ) (xs ys : List Item) → AllAdd a xs → AllAdd a ys → AllAdd a (xs ++ ys)
-all_add_both a [] ys first second = second
-all_add_both a (x ∷ xs) ys first second = (first.0, all_add_both a xs ys first.1 second)
+AllAdd a xs = Each (λ x. AddsTo a x.call) xs
 
 -- an int64 after a history in which it is only added to
 module _ (a : ℕ) where
@@ -248,6 +239,6 @@ module _ (plan : Plan) (place : ℕ) (object : ObjectLine) (at : slice_get plan.
         let rest = script_alike (before + length (shared_in call.items)) spelt are.1 both.1 in
         let bits : Item → ℕ = λ x. shared_bits (atomic_number plan.objects place) x.call in
         subst (λ (l : List Item). AllAdd (atomic_number plan.objects place) l × (sum_by bits l ≡ sum_by (call_bits place) (calls_in (call ∷ spelt)))) (sym (shared_append call.items (items_in spelt))) (
-          all_add_both (atomic_number plan.objects place) (shared_in call.items) (shared_in (items_in spelt)) here.0 rest.0,
+          each_both (λ (x : Item). AddsTo (atomic_number plan.objects place) x.call) (shared_in call.items) (shared_in (items_in spelt)) here.0 rest.0,
           sum_by-append bits (shared_in call.items) (shared_in (items_in spelt)) ∙ (ap (λ n. n + sum_by bits (shared_in (items_in spelt))) here.1 ∙ (ap (λ n. call_bits place call.call + n) rest.1 ∙ sym (sum_by-cons (call_bits place) call.call (calls_in spelt)))),
         )

@@ -20,6 +20,7 @@ use Rattle.run_record.specs.declared.entered.ObjectReply.TheVariants as reply
 use Rattle.run_record.specs.MutexKind.{IsMutexJournal}
 use Rattle.run_record.specs.Parts.{lifted, lifted_deed}
 use Rattle.run_record.specs.Record.{ObjectEntry}
+use Rattle.run_laws.proofs.EachOf.{Each}
 use Rattle.run_laws.proofs.LockSteps.{LockStep, is_unlocking, lock_step}
 
 -- an unlock that found the mutex unlocked
@@ -48,8 +49,7 @@ IsUse (Event e (reply.Mutex r)) = is_misuse r ≡ true → ⊥
 IsUse deed = Unit {0}
 
 abbrev pub AreUses : List ObjectEntry → Type 0
-AreUses [] = Unit {0}
-AreUses (x ∷ xs) = IsUse x.deed × AreUses xs
+AreUses xs = Each (λ x. IsUse x.deed) xs
 
 -- who holds the mutex: one caller at most, and only while it is locked
 record Held (holds : ℕ → Bool) (locked : Bool) : Type 0 where

@@ -1,7 +1,9 @@
 mod AddedUp
 mod AddItems
+mod AsMany
 mod ByCaller
 mod DoneLines
+mod EachOf
 mod Holders
 mod KeyAtEnd
 mod LockLines
@@ -9,6 +11,7 @@ mod LockSteps
 mod MapItems
 mod NamedFind
 mod NamedKeys
+mod LockTurns
 mod Numbered
 mod OneKey
 mod Orderly

@@ -179,13 +179,13 @@ halts_only object misuse (Entered other entry ∷ halts) all held = either (othe
   either true on is = subst (λ (d : Deed ObjectEvent ObjectReply). IsHolders held d × OnlyHolder (holds_after held d) (entries_in object halts)) (sym is) (tt, on)
 
 -- whether a call of a worker that holds the mutex at a place, or doesn't, comes in its turn, and whether it holds it then
-abbrev comes_in_turn : ℕ → Bool → Call → Bool
+abbrev pub comes_in_turn : ℕ → Bool → Call → Bool
 comes_in_turn place held call = cond (call.object == place) (is_in_turn held call.operation) true
 
-abbrev next_held : ℕ → Bool → Call → Bool
+abbrev pub next_held : ℕ → Bool → Call → Bool
 next_held place held call = cond (call.object == place) (not held) held
 
-keeps_on : (place : ℕ) (held : Bool) (call : Call) (calls : List Call) → keeps_lock place held (call ∷ calls) ≡ true → (comes_in_turn place held call ≡ true) × (keeps_lock place (next_held place held call) calls ≡ true)
+pub keeps_on : (place : ℕ) (held : Bool) (call : Call) (calls : List Call) → keeps_lock place held (call ∷ calls) ≡ true → (comes_in_turn place held call ≡ true) × (keeps_lock place (next_held place held call) calls ≡ true)
 keeps_on place held call calls keeps = by_object (call.object == place) keeps where
   by_object : (b : Bool) → cond b (is_in_turn held call.operation && keeps_lock place (not held) calls) (keeps_lock place held calls) ≡ true
       → (cond b (is_in_turn held call.operation) true ≡ true) × (keeps_lock place (cond b (not held) held) calls ≡ true)

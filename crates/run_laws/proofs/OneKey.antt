@@ -1,13 +1,13 @@
 -- What calls on maps make of the value at one key.
-use Rattle.std.proofs.Common.{◌≡◌, ◌⊎◌, inl, inr, ℕ, Bool, true, false, cond, Option, Some, None, refl, sym, ap, ◌∙◌}
-use Rattle.std.specs.Prelude.{is_some}
+use Rattle.std.proofs.Common.{◌≡◌, ℕ, Bool, true, false, cond, Option, Some, None, refl, sym, ap, ◌∙◌}
+use Rattle.std.specs.Prelude.{is_some, not}
 use Rattle.std.specs.Option.{option_map_or}
 use Rattle.std.specs.declared.cmp.Ordering.{Ordering}
 use Rattle.std.specs.declared.cmp.Ordering.TheVariants.{Less, Equal, Greater}
 use Rattle.std.specs.Cmp.{IsTotalOrder}
 use Rattle.std.specs.FinMap.{FinMap, get, insert, remove, get-empty, get-insert, get-remove, get_tied}
 use Rattle.std.specs.Ordering.{eq_by_cmp, is_eq}
-use Rattle.std.proofs.lemmas.Bool.{false≢true, cases_Bool}
+use Rattle.std.proofs.lemmas.Bool.{false≢true}
 use Rattle.sync_model.specs.declared.map_object.MapCall.{MapCall}
 use Rattle.sync_model.specs.declared.map_object.MapCall.TheVariants.{Load, Store, LoadOrStore, LoadAndDelete, Delete, Swap, CompareAndSwap, CompareAndDelete, Clear}
 use Rattle.sync_model.specs.Renaming.{renamed_call}
@@ -76,44 +76,30 @@ module _ {K : Type 0} {R : K → K → Ordering} (total : IsTotalOrder R) (key :
   chosen true m n = refl
   chosen false m n = refl
 
+  abbrev is_none : Option ℕ → Bool
+  is_none v = not (is_some v)
+
+  turned : (b : Bool) (v w : Option ℕ) → cond b v w ≡ cond (not b) w v
+  turned true v w = refl
+  turned false v w = refl
+
+  -- a change that is made where a test of what is at the other key passes
+  by_key : (test : Option ℕ → Bool) (new : Option ℕ) (m : FinMap R ℕ) (other : K)
+      → cond (test (get m other)) (cond (eq_by_cmp R key other) new (get m key)) (get m key) ≡ cond (eq_by_cmp R key other) (cond (test (get m key)) new (get m key)) (get m key)
+  by_key test new m other = either (eq_by_cmp R key other) (λ same. tied m other same) where
+    either : (b : Bool) → (b ≡ true → get m other ≡ get m key) → cond (test (get m other)) (cond b new (get m key)) (get m key) ≡ cond b (cond (test (get m key)) new (get m key)) (get m key)
+    either true same = ap (λ (v : Option ℕ). cond (test v) new (get m key)) (same refl)
+    either false same = sym (same_both (test (get m other)) (get m key))
+
   -- what a call leaves at the key
   pub key_after : (call : MapCall K) (m : FinMap R ℕ) → get (map_after call m) key ≡ cond (is_at call) (value_after call (get m key)) (get m key)
   key_after (Load other) m = same_both (eq_by_cmp R key other) (get m key)
   key_after (Store other value) m = inserted m other value
-  key_after (LoadOrStore other value) m = chosen (is_some (get m other)) m (insert m other value) ∙ (ap (cond (is_some (get m other)) (get m key)) (inserted m other value) ∙ by_key (cases_Bool (eq_by_cmp R key other))) where
-    is_left : (b : Bool) (v : Option ℕ) → cond b v (cond false (Some value) v) ≡ v
-    is_left true v = refl
-    is_left false v = refl
-
-    by_key : (eq_by_cmp R key other ≡ true) ⊎ (eq_by_cmp R key other ≡ false)
-        → cond (is_some (get m other)) (get m key) (cond (eq_by_cmp R key other) (Some value) (get m key)) ≡ cond (eq_by_cmp R key other) (cond (is_some (get m key)) (get m key) (Some value)) (get m key)
-    by_key (inl e) = ap (λ (v : Option ℕ). cond (is_some v) (get m key) (cond (eq_by_cmp R key other) (Some value) (get m key))) (tied m other e)
-        ∙ (ap (λ (b : Bool). cond (is_some (get m key)) (get m key) (cond b (Some value) (get m key))) e ∙ ap (λ (b : Bool). cond b (cond (is_some (get m key)) (get m key) (Some value)) (get m key)) (sym e))
-    by_key (inr e) = ap (λ (b : Bool). cond (is_some (get m other)) (get m key) (cond b (Some value) (get m key))) e
-        ∙ (is_left (is_some (get m other)) (get m key) ∙ ap (λ (b : Bool). cond b (cond (is_some (get m key)) (get m key) (Some value)) (get m key)) (sym e))
+  key_after (LoadOrStore other value) m = chosen (is_some (get m other)) m (insert m other value) ∙ (ap (cond (is_some (get m other)) (get m key)) (inserted m other value)
+      ∙ (turned (is_some (get m other)) (get m key) _ ∙ (by_key is_none (Some value) m other ∙ ap (λ (v : Option ℕ). cond (eq_by_cmp R key other) v (get m key)) (sym (turned (is_some (get m key)) (get m key) (Some value))))))
   key_after (LoadAndDelete other) m = removed m other
   key_after (Delete other) m = removed m other
   key_after (Swap other value) m = inserted m other value
-  key_after (CompareAndSwap other old new) m = chosen (is_value old (get m other)) (insert m other new) m ∙ (ap (λ (v : Option ℕ). cond (is_value old (get m other)) v (get m key)) (inserted m other new) ∙ by_key (cases_Bool (eq_by_cmp R key other))) where
-    is_left : (b : Bool) (v : Option ℕ) → cond b (cond false (Some new) v) v ≡ v
-    is_left true v = refl
-    is_left false v = refl
-
-    by_key : (eq_by_cmp R key other ≡ true) ⊎ (eq_by_cmp R key other ≡ false)
-        → cond (is_value old (get m other)) (cond (eq_by_cmp R key other) (Some new) (get m key)) (get m key) ≡ cond (eq_by_cmp R key other) (cond (is_value old (get m key)) (Some new) (get m key)) (get m key)
-    by_key (inl e) = ap (λ (v : Option ℕ). cond (is_value old v) (cond (eq_by_cmp R key other) (Some new) (get m key)) (get m key)) (tied m other e)
-        ∙ (ap (λ (b : Bool). cond (is_value old (get m key)) (cond b (Some new) (get m key)) (get m key)) e ∙ ap (λ (b : Bool). cond b (cond (is_value old (get m key)) (Some new) (get m key)) (get m key)) (sym e))
-    by_key (inr e) = ap (λ (b : Bool). cond (is_value old (get m other)) (cond b (Some new) (get m key)) (get m key)) e
-        ∙ (is_left (is_value old (get m other)) (get m key) ∙ ap (λ (b : Bool). cond b (cond (is_value old (get m key)) (Some new) (get m key)) (get m key)) (sym e))
-  key_after (CompareAndDelete other old) m = chosen (is_value old (get m other)) (remove m other) m ∙ (ap (λ (v : Option ℕ). cond (is_value old (get m other)) v (get m key)) (removed m other) ∙ by_key (cases_Bool (eq_by_cmp R key other))) where
-    is_left : (b : Bool) (v : Option ℕ) → cond b (cond false None v) v ≡ v
-    is_left true v = refl
-    is_left false v = refl
-
-    by_key : (eq_by_cmp R key other ≡ true) ⊎ (eq_by_cmp R key other ≡ false)
-        → cond (is_value old (get m other)) (cond (eq_by_cmp R key other) None (get m key)) (get m key) ≡ cond (eq_by_cmp R key other) (cond (is_value old (get m key)) None (get m key)) (get m key)
-    by_key (inl e) = ap (λ (v : Option ℕ). cond (is_value old v) (cond (eq_by_cmp R key other) None (get m key)) (get m key)) (tied m other e)
-        ∙ (ap (λ (b : Bool). cond (is_value old (get m key)) (cond b None (get m key)) (get m key)) e ∙ ap (λ (b : Bool). cond b (cond (is_value old (get m key)) None (get m key)) (get m key)) (sym e))
-    by_key (inr e) = ap (λ (b : Bool). cond (is_value old (get m other)) (cond b None (get m key)) (get m key)) e
-        ∙ (is_left (is_value old (get m other)) (get m key) ∙ ap (λ (b : Bool). cond b (cond (is_value old (get m key)) None (get m key)) (get m key)) (sym e))
+  key_after (CompareAndSwap other old new) m = chosen (is_value old (get m other)) (insert m other new) m ∙ (ap (λ (v : Option ℕ). cond (is_value old (get m other)) v (get m key)) (inserted m other new) ∙ by_key (is_value old) (Some new) m other)
+  key_after (CompareAndDelete other old) m = chosen (is_value old (get m other)) (remove m other) m ∙ (ap (λ (v : Option ℕ). cond (is_value old (get m other)) v (get m key)) (removed m other) ∙ by_key (is_value old) None m other)
   key_after Clear m = get-empty R key

@@ -40,6 +40,7 @@ use Rattle.run_record.specs.Lines.{LineEnd, misused, Line, script_of, items_of, 
 use Rattle.run_record.specs.Parts.{lifted_deed, with_outcome}
 use Rattle.run_record.specs.Record.{Record, ObjectEntry, number_at, journal_of, list_of, shared_in, entries_in}
 use Rattle.run_laws.specs.Locks.{keeps_lock, KeepsItsLocks}
+use Rattle.run_laws.proofs.EachOf.{each_left, each_right}
 use Rattle.run_laws.proofs.Holders.{IsUse, AreUses, OnlyHolder, is_misuse, journal_uses}
 use Rattle.run_laws.proofs.LockLines.{entries_append, entries_here, of_kind, deeds, line_turns}
 use Rattle.run_laws.proofs.PlainCalls.{PlainCall, on_map, on_range, on_atomic, on_mutex, IsOfKind, list_all_at, plain_call}
@@ -88,14 +89,6 @@ given_err (Done (Ok outcome)) is = is
 given_err (Done (Err misuse)) is = is
 given_err (Halted misuse) is = is
 
-uses_left : (xs ys : List ObjectEntry) → AreUses (xs ++ ys) → AreUses xs
-uses_left [] ys used = tt
-uses_left (x ∷ xs) ys used = (used.0, uses_left xs ys used.1)
-
-uses_right : (xs ys : List ObjectEntry) → AreUses (xs ++ ys) → AreUses ys
-uses_right [] ys used = used
-uses_right (x ∷ xs) ys used = uses_right xs ys used.1
-
 uses_by : (c : ℕ) (xs : List ObjectEntry) → AreUses xs → AreUses (by c xs)
 uses_by c [] used = tt
 uses_by c (x ∷ xs) used = chosen (x.caller == c) used.0 (uses_by c xs used.1) where
@@ -143,8 +136,8 @@ module _ (keeps_valid : (s : State) (c : ℕ) (e : MutexEvent) → IsValid s →
   no_call worker line at call items before behind m is (on_mutex op kind asks (given, (entries, are_items, spelt), gives)) =
       let object = number_at call.object in
       let listed : AreUses (entries_in object (before ++ (items ++ behind))) = subst (λ (l : List Made). AreUses (entries_in object l)) is (subst AreUses (sym (lawful.once worker object)) (uses_by worker (journal_of r object) (uses call.object kind))) in
-      let behind_them = uses_right (entries_in object before) (entries_in object (items ++ behind)) (subst AreUses (entries_append object before (items ++ behind)) listed) in
-      let own = uses_left (entries_in object items) (entries_in object behind) (subst AreUses (entries_append object items behind) behind_them) in
+      let behind_them = each_right (λ (x : ObjectEntry). IsUse x.deed) (entries_in object before) (entries_in object (items ++ behind)) (subst AreUses (entries_append object before (items ++ behind)) listed) in
+      let own = each_left (λ (x : ObjectEntry). IsUse x.deed) (entries_in object items) (entries_in object behind) (subst AreUses (entries_append object items behind) behind_them) in
       no_misuse entries _ given (given_err given (sym (ap (is_err {O = Reply ℕ}) gives))) spelt
       (subst AreUses (ap (λ (l : List Made). entries_in object l) are_items ∙ entries_here object object entries (eq-eqb object object refl)) own)
 

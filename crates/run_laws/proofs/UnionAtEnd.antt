@@ -1,5 +1,5 @@
 -- A map whose keys each belong to one worker is, at the end of a run that is done, the workers' own maps together.
-use Rattle.std.proofs.Common.{◌≡◌, ◌⊎◌, inl, inr, ℕ, zero, suc, ◌+◌, ◌<◌, ◌≤◌, ◌==◌, Bool, true, false, ◌||◌, cond, List, [], ◌∷◌, ◌++◌, map, length, Option, Some, None, slice_get, refl, sym, ap, ◌∙◌, subst, arith}
+use Rattle.std.proofs.Common.{◌≡◌, ◌⊎◌, inl, inr, ℕ, zero, suc, ◌+◌, ◌<◌, ◌≤◌, ◌==◌, Bool, true, false, ◌||◌, cond, List, [], ◌∷◌, map, length, Option, Some, None, slice_get, refl, sym, ap, ◌∙◌, subst, arith}
 use Rattle.std.specs.Prelude.{◌&&◌, is_some}
 use Rattle.std.specs.Cmp.{nat_cmp_total}
 use Rattle.std.specs.Cmp.Lexicographic.{slice_cmp, nat_list_cmp_total}
@@ -37,6 +37,7 @@ use Rattle.run_record.specs.Record.{Record, shared_in}
 use Rattle.run_laws.specs.Locks.{has_plain_objects}
 use Rattle.run_laws.specs.Owners.{NamedMap, after_operation, after_script, map_of, union_of, is_on_name, uses_key, AreApart}
 use Rattle.run_laws.proofs.DoneLines.{calls_in, items_in, shared_append, script_at, calls_at, line_at}
+use Rattle.run_laws.proofs.EachOf.{Each, each_at, each_both}
 use Rattle.run_laws.proofs.KeyAtEnd.{Facts, scripted, map_there, starts_empty, own_value, no_value}
 use Rattle.run_laws.proofs.MapItems.{MapItems, one_call, no_call, is_no_map, map_items, op_value, named_call}
 use Rattle.run_laws.proofs.NamedFind.{find_none, find_one, entry_found, number_at_key, find_named, find_unnamed}
@@ -129,18 +130,8 @@ module _ (plan : Plan) (r : Record) (left : Report) (explains : Explains plan (D
 
   -- no call leaves anything at a number that is no key's
   module _ (number : ℕ) (past : length (keys_in plan.scripts) ≤ number) where
-    abbrev AllLeaveNone : List Item → Type 0
-    AllLeaveNone [] = Unit {0}
-    AllLeaveNone (x ∷ xs) = (shared_key_after (map_number plan.objects place) number x.call None ≡ None) × AllLeaveNone xs
-
-    all_leave_both : (xs ys : List Item) → AllLeaveNone xs → AllLeaveNone ys → AllLeaveNone (xs ++ ys)
-    all_leave_both [] ys first second = second
-    all_leave_both (x ∷ xs) ys first second = (first.0, all_leave_both xs ys first.1 second)
-
-    leaves_at : (xs : List Item) (i : ℕ) (x : Item) → AllLeaveNone xs → slice_get xs i ≡ Some x → shared_key_after (map_number plan.objects place) number x.call None ≡ None
-    leaves_at [] i x all is = absurd (none-some x is)
-    leaves_at (y ∷ xs) zero x all is = subst (λ (z : Item). shared_key_after (map_number plan.objects place) number z.call None ≡ None) (same_Some y x is) all.0
-    leaves_at (y ∷ xs) (suc i) x all is = leaves_at xs i x all.1 is
+    abbrev LeavesNoneHere : Item → Type 0
+    LeavesNoneHere x = shared_key_after (map_number plan.objects place) number x.call None ≡ None
 
     no_map_none : (call : SharedCall) → is_no_map call ≡ true → shared_key_after (map_number plan.objects place) number call None ≡ None
     no_map_none (calls.Map m call) is = absurd (false≢true is)
@@ -148,12 +139,12 @@ module _ (plan : Plan) (r : Record) (left : Report) (explains : Explains plan (D
     no_map_none (calls.Next begin) is = refl
     no_map_none (calls.Atomic a call) is = refl
 
-    of_call : (call : Call) (items : List Item) → MapItems plan call items → ((op : MapCall (List ℕ)) (name : List ℕ) → call.operation ≡ operations.Map op → map_key op ≡ Some name → list_any (bytes_eq name) (all_keys plan.scripts) ≡ true) → AllLeaveNone items
+    of_call : (call : Call) (items : List Item) → MapItems plan call items → ((op : MapCall (List ℕ)) (name : List ℕ) → call.operation ≡ operations.Map op → map_key op ≡ Some name → list_any (bytes_eq name) (all_keys plan.scripts) ≡ true) → Each LeavesNoneHere items
     of_call call items (no_call none all) known = each items all where
-      each : (items : List Item) → list_all (λ (x : Item). is_no_map x.call) items ≡ true → AllLeaveNone items
+      each : (items : List Item) → list_all (λ (x : Item). is_no_map x.call) items ≡ true → Each LeavesNoneHere items
       each [] all = tt
       each (x ∷ items) all = let both = and_parts (is_no_map x.call) (list_all (λ (y : Item). is_no_map y.call) items) all in (no_map_none x.call both.0, each items both.1)
-    of_call call items (one_call op x is_a_map asks are is) known = subst AllLeaveNone (sym are) (ap (λ (c : SharedCall). shared_key_after (map_number plan.objects place) number c None) is ∙ by_number (map_number plan.objects call.object == map_number plan.objects place), tt) where
+    of_call call items (one_call op x is_a_map asks are is) known = subst (Each LeavesNoneHere) (sym are) (ap (λ (c : SharedCall). shared_key_after (map_number plan.objects place) number c None) is ∙ by_number (map_number plan.objects call.object == map_number plan.objects place), tt) where
       another : (name : List ℕ) → map_key op ≡ Some name → (key_number (keys_in plan.scripts) name == number) ≡ false
       another name has = let within = slice_get_within (keys_in plan.scripts) (key_number (keys_in plan.scripts) name) name (number_at_key (keys_in plan.scripts) numbered placed name (among name ∙ known op name asks has)) in
           ne_eqb (key_number (keys_in plan.scripts) name) number (λ e. omega (arith, e, within, past))
@@ -165,10 +156,10 @@ module _ (plan : Plan) (r : Record) (left : Report) (explains : Explains plan (D
           ∙ none_stays (λ name. key_number (keys_in plan.scripts) name == number) op another)
 
     of_script : (worker before : ℕ) (spelt : List SpeltCall) → AreSpelt plan worker before spelt → ((i : ℕ) (call : Call) (op : MapCall (List ℕ)) (name : List ℕ) → slice_get (calls_in spelt) i ≡ Some call → call.operation ≡ operations.Map op → map_key op ≡ Some name
-        → list_any (bytes_eq name) (all_keys plan.scripts) ≡ true) → AllLeaveNone (shared_in (items_in spelt))
+        → list_any (bytes_eq name) (all_keys plan.scripts) ≡ true) → Each LeavesNoneHere (shared_in (items_in spelt))
     of_script worker before [] are known = tt
-    of_script worker before (call ∷ spelt) are known = subst AllLeaveNone (sym (shared_append call.items (items_in spelt)))
-        (all_leave_both (shared_in call.items) (shared_in (items_in spelt))
+    of_script worker before (call ∷ spelt) are known = subst (Each LeavesNoneHere) (sym (shared_append call.items (items_in spelt)))
+        (each_both LeavesNoneHere (shared_in call.items) (shared_in (items_in spelt))
         (of_call call.call (shared_in call.items) (map_items plan call.call call.items _ (plain_call plan plain worker before call.call call.items _ are.0)) (λ op name asks has. known 0 call.call op name refl asks has))
         (of_script worker (before + length (shared_in call.items)) spelt are.1 (λ i c op name in_script asks has. known (suc i) c op name in_script asks has)))
 
@@ -178,7 +169,7 @@ module _ (plan : Plan) (r : Record) (left : Report) (explains : Explains plan (D
         let line = line_at plan r left explains e.caller made.0 made.1 made.2 in
         let listed : slice_get (shared_in (items_in line.0.spelt)) made.0 ≡ Some made.1 = ap (λ (l : List Item). slice_get l made.0) (sym (calls_at plan r left explains e.caller line.0 line.1)) ∙ made.2 in
         subst (λ (call : SharedCall). shared_key_after (map_number plan.objects place) number call None ≡ None) made.5
-        (leaves_at (shared_in (items_in line.0.spelt)) made.0 made.1 (of_script e.caller 0 line.0.spelt (explains.are.each e.caller line.0 line.1).calls (known_in e.caller line.0 line.1)) listed))
+        (each_at LeavesNoneHere (shared_in (items_in line.0.spelt)) made.0 made.1 (of_script e.caller 0 line.0.spelt (explains.are.each e.caller line.0 line.1).calls (known_in e.caller line.0 line.1)) listed))
 
   -- so each entry's key is a number of a key
   all_within : (i : ℕ) (e : ℕ × ℕ) → slice_get (entries contents) i ≡ Some e → e.0 < length (keys_in plan.scripts)

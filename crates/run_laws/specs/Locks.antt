@@ -32,6 +32,21 @@ abbrev pub keeps_lock : ℕ → Bool → List Call → Bool
 keeps_lock place held [] = true
 keeps_lock place held (call ∷ calls) = cond (call.object == place) (is_in_turn held call.operation && keeps_lock place (not held) calls) (keeps_lock place held calls)
 
+-- whether a call locks the mutex at a place, and whether it unlocks it
+abbrev pub is_lock : Operation → Bool
+is_lock (operations.Mutex Lock) = true
+is_lock operation = false
+
+abbrev pub is_unlock : Operation → Bool
+is_unlock (operations.Mutex Unlock) = true
+is_unlock operation = false
+
+abbrev pub locks_at : ℕ → Call → Bool
+locks_at place call = (call.object == place) && is_lock call.operation
+
+abbrev pub unlocks_at : ℕ → Call → Bool
+unlocks_at place call = (call.object == place) && is_unlock call.operation
+
 -- all objects are maps, atomics and mutexes, and along each script the calls on each mutex are `lock` and `unlock` by turns, `lock` first
 pub record KeepsItsLocks (plan : Plan) : Type 0 where
   pub plain : has_plain_objects plan ≡ true

@@ -3,5 +3,6 @@
 #![tactic(auto)]
 
 pub mod adds;
+pub mod ends;
 pub mod locks;
 pub mod owners;

@@ -1,5 +1,6 @@
-use Rattle.std.proofs.Common.{◌≡◌, ℕ, suc, pos, List, [], ◌∷◌, map, length, refl, sym, ap, ◌∙◌}
+use Rattle.std.proofs.Common.{◌≡◌, ℕ, pos, List, map, length, sym, ap, ◌∙◌}
 use Rattle.std.specs.Prelude.{sum, sum_by}
+use Rattle.std.proofs.lemmas.List.{length-map}
 use Rattle.std.proofs.lemmas.List.FromFn.{length-map-range_with_len}
 use Rattle.std.proofs.lemmas.List.Sums.{sum-map}
 use Rattle.sync_model.specs.declared.atomic_object.Number.TheVariants.{Int64}
@@ -16,12 +17,8 @@ use Rattle.generated_runs.proofs.EndsOfRuns.{first_number, first_map, ends_are, 
 use Rattle.generated_runs.proofs.Rounds.{script_of_worker, scripts_are, only_adds, plain, apart, unions_are, int64_at, map_is_at}
 use Rattle.generated_runs.proofs.laws.every_run_of_a_seed_comes_to_its_summary.Goals as goal
 
-length_mapped : {A B : Type 0} (f : A → B) (xs : List A) → length (map f xs) ≡ length xs
-length_mapped f [] = refl
-length_mapped f (x ∷ xs) = ap suc (length_mapped f xs)
-
 workers_are : (seed : ℕ) (replies : List (List (Reply ℕ))) → map length replies ≡ map length (generated_plan seed).scripts → length replies ≡ 8
-workers_are seed replies answered = sym (length_mapped length replies) ∙ (ap (λ (l : List ℕ). length l) answered ∙ (length_mapped length (generated_plan seed).scripts
+workers_are seed replies answered = sym (length-map replies length) ∙ (ap (λ (l : List ℕ). length l) answered ∙ (length-map (generated_plan seed).scripts length
     ∙ (ap (λ (scripts : List (List Call)). length scripts) (scripts_are seed) ∙ length-map-range_with_len (script_of_worker seed) 0 8)))
 
 calls_are : (seed : ℕ) (replies : List (List (Reply ℕ))) → call_count (generated_plan seed).scripts ≡ 16000 → map length replies ≡ map length (generated_plan seed).scripts → sum_by length replies ≡ 16000
@@ -42,6 +39,7 @@ returns-clause-ends c seed left r explains =
     let held = c.an_int64_holds_the_sum_of_all_adds.ensures.holds plan 1 int64.0 left r (only_adds seed) int64.1 int64.2 explains in
     let unions = c.a_map_is_the_union_of_its_workers_maps.ensures plan 2 the_map.0 left r (plain seed) the_map.1 the_map.2 (apart c.workload_of_a_seed.ensures.scripts seed (c.keys_tell_their_workers.ensures.apart seed)) explains in
     explains.agrees.1 ∙ ends_are seed r.history (Int64 (pos (summary seed).total)) (union_of plan.scripts)
+    (c.calls_leave_as_many_maps_and_atomics.ensures.maps (contents_of plan) r.history) (c.calls_leave_as_many_maps_and_atomics.ensures.numbers (contents_of plan) r.history)
     (ap (λ n. number_at contents n) (sym (first_number seed)) ∙ (held ∙ (total_after c.sums_in_range_are_exact.ensures.int64 seed (c.workload_of_a_seed.ensures.calls seed) ∙ ap (λ (s : Summary). Int64 (pos s.total)) (sym (c.summary_of_a_seed.ensures.summary seed)))))
     (ap (λ n. named (keys_in plan.scripts) (map_at contents n)) (sym (first_map seed)) ∙ (unions ∙ unions_are seed))
 
