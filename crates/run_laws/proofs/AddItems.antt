@@ -155,9 +155,6 @@ module _ (plan : Plan) (place : ℕ) (object : ObjectLine) (at : slice_get plan.
   of_atomic : (call : Call) (op : AtomicCall) (x : Item) → call.operation ≡ operations.Atomic op → x.call ≡ calls.Atomic (atomic_number plan.objects call.object) op
       → ((call.object == place) ≡ false → (atomic_number plan.objects call.object == atomic_number plan.objects place) ≡ false) → IsAddAt call → AddsAlike call (x ∷ [])
   of_atomic call op x asks is another adds = by_object (cases_Bool (call.object == place)) where
-    a : ℕ
-    a = atomic_number plan.objects place
-
     one : (w : ℕ) → shared_bits (atomic_number plan.objects place) x.call ≡ w → sum_by (λ (y : Item). shared_bits (atomic_number plan.objects place) y.call) (x ∷ []) ≡ w
     one w e = omega (arith, e, sum_by-cons (λ (y : Item). shared_bits (atomic_number plan.objects place) y.call) x [])
 

@@ -60,6 +60,3 @@ module _ (plan : Plan) (r : Record) (left : Report) (explains : Explains plan (D
     by_line : (o : Option Line) → slice_get explains.lines worker ≡ o → (line : Line) × (slice_get explains.lines worker ≡ Some line)
     by_line (Some line) is = (line, is)
     by_line None is = absurd (none-some x (ap (λ (l : List Item). slice_get l i) (sym (calls_past worker is)) ∙ at))
-
-  pub scripts_are : plan.scripts ≡ map script_of explains.lines
-  scripts_are = sym explains.are.scripts
