@@ -1,4 +1,4 @@
--- A mutex that is unlocked by its holder alone is locked exactly where somebody holds it, so no unlock finds it unlocked.
+-- A mutex that is unlocked by its holder alone is locked while somebody holds it, so no unlock finds it unlocked.
 use Rattle.std.proofs.Common.{◌≡◌, inl, inr, ℕ, ◌==◌, Bool, true, false, cond, List, [], ◌∷◌, map, Option, None, refl, sym, ap, ◌∙◌, subst}
 use Rattle.std.proofs.lemmas.Bool.{false≢true, cases_Bool, eq-eqb, eqb-true}
 use Rattle.sync_model.specs.declared.journal.Deed.{Deed}

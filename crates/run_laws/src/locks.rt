@@ -28,8 +28,8 @@ pub fn an_unlock_stands_behind_its_lock()
         → keeps_lock place false (first ∷ (between ++ last ∷ later)) ≡ keeps_lock place false later }
 {}
 
-/// A workload whose workers keep to their locks is never misused. Each mutex is locked exactly where one worker holds it, and
-/// that worker alone unlocks it, so no unlock finds it unlocked. So each run of it that returns is Done, whatever its
+/// A workload whose workers keep to their locks is never misused. A mutex is locked while a worker holds it, and
+/// that worker alone unlocks it then, so no unlock finds it unlocked. So each run of it that returns is Done, whatever its
 /// interleaving.
 pub fn an_orderly_workload_is_never_misused()
     ensures { (plan : Plan) (outcome : Outcome) (r : Record)
