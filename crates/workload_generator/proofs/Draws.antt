@@ -39,6 +39,10 @@ unfolding first_words
 length_words zero g = refl
 length_words (suc n) g = ap suc (length_words n (pcg32 g).1)
 
+two_words : (g : Lcg) → words 2 g ≡ (pcg32 g).0 ∷ (pcg32 (pcg32 g).1).0 ∷ []
+unfolding first_words
+two_words g = refl
+
 drop_words : (n m : ℕ) (g : Lcg) → drop n (words (n + m) g) ≡ words m (behind n g)
 drop_words zero m g = ap (λ (k : ℕ). words k g) (zero-add m) ∙ ap (words m) (sym (behind_none g))
 drop_words (suc n) m g =
@@ -144,3 +148,13 @@ parts_are from (suc count) xs fits =
 -- the workers' words are all of them
 pub drawn_by_all : (seed : ℕ) → flat_map (drawn_for seed) (range_with_len 0 8) ≡ drawn seed
 drawn_by_all seed = parts_are 0 8 (drawn seed) (omega (arith, length_drawn seed))
+
+-- there are 4,000 rounds
+pub drawn_twos : (seed : ℕ) → length (in_twos (drawn seed)) ≡ 4000
+unfolding drawn
+drawn_twos seed = (rounds_are 4000 (generator_of seed)).many
+
+pub first_two : (seed : ℕ) → take 2 (drawn seed) ≡ (pcg32 (generator_of seed)).0 ∷ (pcg32 (pcg32 (generator_of seed)).1).0 ∷ []
+unfolding drawn
+first_two seed =
+    take_words 2 7998 (generator_of seed) ∙ two_words (generator_of seed)

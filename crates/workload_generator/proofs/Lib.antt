@@ -8,4 +8,6 @@ mod Readable
 mod Keys
 mod Union
 mod Totals
+mod Bounds
+mod Lines
 mod WrittenText

@@ -28,19 +28,18 @@ not_marked worker number q there apart =
       | false ↦ λ same. refl
     ] refl
 
--- a worker's rounds change nothing at a key that isn't marked as the worker's
-rounds_keep : (worker : ℕ) (rounds : List (ℕ × ℕ)) (m : NamedMap) (q : List ℕ) → worker < 8 → (take 3 q ≡ mark_of worker → ⊥) → get (after_script m (flat_map (round worker) rounds)) q ≡ get m q
-rounds_keep worker [] m q there apart = refl
-rounds_keep worker (words ∷ rounds) m q there apart =
-    rounds_keep worker rounds _ q there apart
-    ∙ other_key (nat_lt (words.1 % 4) 2) (words.1 % 4 == 2) (round_key worker words) q (words.1 / 256) m (not_marked worker (words.1 / 4 % 64) q there apart)
+-- a worker's rounds change nothing at a key that is none of the worker's
+pub rounds_keep : (worker : ℕ) (rounds : List (ℕ × ℕ)) (m : NamedMap) (q : List ℕ) → ((number : ℕ) → number < 64 → bytes_eq q (key_of worker number) ≡ false) → get (after_script m (flat_map (round worker) rounds)) q ≡ get m q
+rounds_keep worker [] m q apart = refl
+rounds_keep worker (words ∷ rounds) m q apart =
+    rounds_keep worker rounds _ q apart ∙ other_key (nat_lt (words.1 % 4) 2) (words.1 % 4 == 2) (round_key worker words) q (words.1 / 256) m (apart (words.1 / 4 % 64) (omega arith))
 
 -- the map of a worker
 abbrev own : ℕ → ℕ → NamedMap
 own seed worker = map_of (script_by worker (drawn_for seed worker))
 
 not_own : (seed worker : ℕ) (q : List ℕ) → worker < 8 → (take 3 q ≡ mark_of worker → ⊥) → get (own seed worker) q ≡ None
-not_own seed worker q there apart = rounds_keep worker (in_twos (drawn_for seed worker)) empty q there apart ∙ get-empty (slice_cmp nat_cmp) q
+not_own seed worker q there apart = rounds_keep worker (in_twos (drawn_for seed worker)) empty q (λ number small. not_marked worker number q there apart) ∙ get-empty (slice_cmp nat_cmp) q
 
 -- the value at a key in two lists, where one of them hasn't the key
 step_over : (here : Bool) (value : ℕ) (rest more found : Option ℕ) → cond here (Some value) rest ≡ None → (rest ≡ None → more ≡ found) → cond here (Some value) more ≡ found
@@ -56,7 +55,7 @@ find_before q [] ys none = none
 find_before q (x ∷ xs) ys none = ap (λ (later : Option ℕ). cond (eq_by_cmp (slice_cmp nat_cmp) q x.0) (Some x.1) later) (find_before q xs ys none)
 
 -- the entries of the maps of some workers, one worker behind the other
-abbrev entries_of : ℕ → ℕ → ℕ → List (List ℕ × ℕ)
+abbrev pub entries_of : ℕ → ℕ → ℕ → List (List ℕ × ℕ)
 entries_of seed from count = flat_map (λ script. entries (map_of script)) (map (λ worker. script_by worker (drawn_for seed worker)) (range_with_len from count))
 
 nowhere : (seed from count : ℕ) (q : List ℕ) → ((i : ℕ) → from ≤ i → i < from + count → get (own seed i) q ≡ None) → find (slice_cmp nat_cmp) q (entries_of seed from count) ≡ None

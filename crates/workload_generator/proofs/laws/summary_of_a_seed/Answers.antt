@@ -1,5 +1,6 @@
 use Rattle.std.proofs.Common.{refl}
 use Rattle.workload_generator.specs.Summary.{summary}
+use Rattle.workload_generator.proofs.Bounds.{keys_few, total_small}
 use Rattle.workload_generator.proofs.Totals.{total_is}
 use Rattle.workload_generator.proofs.Union.{union_at, union_without}
 use Rattle.workload_generator.proofs.laws.summary_of_a_seed.Goals as goal
@@ -16,3 +17,9 @@ returns-clause-own c = union_at
 
 pub returns-clause-others : goal.returns-clause-others
 returns-clause-others c = union_without
+
+pub returns-clause-total_small : goal.returns-clause-total_small
+returns-clause-total_small c = total_small
+
+pub returns-clause-keys_few : goal.returns-clause-keys_few
+returns-clause-keys_few c = keys_few
