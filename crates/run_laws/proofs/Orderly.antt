@@ -1,0 +1,150 @@
+-- Where all workers keep to their locks, nobody meets a misuse.
+use Rattle.std.proofs.Common.{◌≡◌, ◌⊎◌, inl, inr, ℕ, zero, suc, ◌<◌, ◌≤◌, ◌==◌, Bool, true, false, cond, List, [], ◌∷◌, ◌++◌, length, get_or, Some, None, slice_get, refl, sym, ap, ◌∙◌, subst}
+use Rattle.std.specs.Prelude.{Ok, Err}
+use Rattle.std.specs.List.{flat_map}
+use Rattle.std.specs.Option.{option_map}
+use Rattle.std.proofs.lemmas.Bool.{false≢true, eq-eqb}
+use Rattle.std.proofs.lemmas.Option.{none-some, slice_get_cases, slice_get-map, get_or_from_slice_get}
+use Rattle.sync_model.specs.declared.answer.Answer.TheVariants.{Done, Halted}
+use Rattle.sync_model.specs.declared.call.Call.{Call}
+use Rattle.sync_model.specs.declared.call.Reply.{Reply}
+use Rattle.sync_model.specs.declared.call.Reply.TheVariants as replies
+use Rattle.sync_model.specs.declared.journal.Deed.{Deed}
+use Rattle.sync_model.specs.declared.journal.Deed.TheVariants.{Event, Refused, Halt}
+use Rattle.sync_model.specs.declared.journal.Entry.{Entry}
+use Rattle.sync_model.specs.declared.lock_call.LockReply.{LockReply}
+use Rattle.sync_model.specs.declared.misuse.Misuse.{Misuse}
+use Rattle.sync_model.specs.declared.outcome.Outcome.{Outcome}
+use Rattle.sync_model.specs.Journal.{by}
+use Rattle.mutex_core.specs.declared.event.MutexEvent.{MutexEvent}
+use Rattle.mutex_core.specs.declared.reply.MutexReply.{MutexReply}
+use Rattle.mutex_core.specs.declared.reply.MutexReply.TheVariants.{Arrived, Tried, Unlocked, Resumed}
+use Rattle.mutex_core.specs.declared.reply.Arrival.TheVariants as arrival
+use Rattle.mutex_core.specs.declared.reply.Resumption.TheVariants as resumption
+use Rattle.mutex_core.specs.declared.reply.Unlocking.TheVariants as unlocking
+use Rattle.mutex_core.specs.MutexMachine.{State, start, next, IsValid}
+use Rattle.protocols.specs.declared.mutex.MutexStage.{MutexStage}
+use Rattle.protocols.specs.declared.mutex.MutexStage.TheVariants as stage
+use Rattle.protocols.specs.declared.step.Step.{Step}
+use Rattle.protocols.specs.declared.step.Step.TheVariants.{Finished, Misused, Waits, Next, Never}
+use Rattle.protocols.specs.MutexStages.{mutex_event, mutex_meaning}
+use Rattle.protocols.specs.Spelling.{CallAnswer, Rest, Begun, Spells}
+use Rattle.workload.specs.declared.object.ObjectKind.TheVariants as kinds
+use Rattle.workload.specs.Plan.{Plan}
+use Rattle.run_record.specs.declared.entered.ObjectEvent.TheVariants as event
+use Rattle.run_record.specs.declared.entered.ObjectReply.TheVariants as reply
+use Rattle.run_record.specs.declared.made.Made.{Made}
+use Rattle.run_record.specs.Calls.{IsJournalOf}
+use Rattle.run_record.specs.Explains.{AreLines, IsRecordOf}
+use Rattle.run_record.specs.Lines.{LineEnd, misused, Line, script_of, items_of, EndsBy}
+use Rattle.run_record.specs.Parts.{lifted_deed, with_outcome}
+use Rattle.run_record.specs.Record.{Record, ObjectEntry, number_at, journal_of, list_of, shared_in, entries_in}
+use Rattle.run_laws.specs.Locks.{keeps_lock, KeepsItsLocks}
+use Rattle.run_laws.proofs.EachOf.{each_left, each_right}
+use Rattle.run_laws.proofs.Holders.{IsUse, AreUses, OnlyHolder, is_misuse, journal_uses}
+use Rattle.run_laws.proofs.LockLines.{entries_append, entries_here, of_kind, deeds, line_turns}
+use Rattle.run_laws.proofs.PlainCalls.{PlainCall, on_map, on_range, on_atomic, on_mutex, IsOfKind, list_all_at, plain_call}
+
+-- whether an answer is a misuse
+abbrev is_err : {O : Type 0} → CallAnswer O → Bool
+is_err (Done (Ok outcome)) = false
+is_err (Done (Err misuse)) = true
+is_err (Halted misuse) = false
+
+abbrev is_misused_step : Step MutexStage LockReply → Bool
+is_misused_step (Misused misuse) = true
+is_misused_step step = false
+
+-- an event means a misuse only where its answer is one
+misuse_means : (from : MutexStage) (r : MutexReply) → is_misused_step (mutex_meaning from r) ≡ true → is_misuse r ≡ true
+misuse_means stage.Unlock (Unlocked (unlocking.Misuse misuse)) is = refl
+misuse_means stage.Unlock r is = absurd (false≢true is)
+misuse_means stage.Lock (Arrived arrival.Acquired) is = absurd (false≢true is)
+misuse_means stage.Lock r is = absurd (false≢true is)
+misuse_means stage.TryLock (Tried acquired) is = absurd (false≢true is)
+misuse_means stage.TryLock r is = absurd (false≢true is)
+misuse_means stage.Resume (Resumed resumption.Acquired) is = absurd (false≢true is)
+misuse_means stage.Resume r is = absurd (false≢true is)
+
+module _ (xs : List (Entry MutexEvent MutexReply)) (answer : CallAnswer LockReply) (err : is_err answer ≡ true) (on : (later : MutexStage) → Spells mutex_event mutex_meaning later (deeds xs) answer → ⊥) where
+  by_step : (from : MutexStage) (r : MutexReply) (step : Step MutexStage LockReply) → mutex_meaning from r ≡ step → Rest step (deeds xs) (λ later. Spells mutex_event mutex_meaning later (deeds xs) answer) answer → (is_misuse r ≡ true → ⊥) → ⊥
+  by_step from r (Finished outcome) is (none, gives) used = false≢true (sym (ap (is_err {O = LockReply}) gives) ∙ err)
+  by_step from r (Misused misuse) is rest used = used (misuse_means from r (ap is_misused_step is))
+  by_step from r (Waits later) is rest used = on later rest
+  by_step from r (Next later) is rest used = on later rest
+  by_step from r Never is rest used = rest
+
+  by_deed : (from : MutexStage) (deed : Deed MutexEvent MutexReply) → Begun mutex_event mutex_meaning from deed (deeds xs) (λ later. Spells mutex_event mutex_meaning later (deeds xs) answer) answer → IsUse (lifted_deed event.Mutex reply.Mutex deed) → ⊥
+  by_deed from (Event e r) begun used = by_step from r (mutex_meaning from r) refl begun.1 used
+  by_deed from (Refused e misuse) (is, none, gives) used = false≢true (sym (ap (is_err {O = LockReply}) gives) ∙ err)
+  by_deed from (Halt misuse) begun used = begun
+
+-- a call that is a misuse has an entry that is one
+no_misuse : (entries : List (Entry MutexEvent MutexReply)) (from : MutexStage) (answer : CallAnswer LockReply) → is_err answer ≡ true → Spells mutex_event mutex_meaning from (deeds entries) answer → AreUses (of_kind entries) → ⊥
+no_misuse [] from answer err spelt used = spelt
+no_misuse (x ∷ xs) from answer err spelt used = by_deed xs answer err (λ later on. no_misuse xs later answer err on used.1) from x.deed spelt used.0
+
+given_err : (given : CallAnswer LockReply) → is_err {O = Reply ℕ} (with_outcome replies.Lock given) ≡ true → is_err given ≡ true
+given_err (Done (Ok outcome)) is = is
+given_err (Done (Err misuse)) is = is
+given_err (Halted misuse) is = is
+
+uses_by : (c : ℕ) (xs : List ObjectEntry) → AreUses xs → AreUses (by c xs)
+uses_by c [] used = tt
+uses_by c (x ∷ xs) used = chosen (x.caller == c) used.0 (uses_by c xs used.1) where
+  chosen : (b : Bool) → IsUse x.deed → AreUses (by c xs) → AreUses (cond b (x ∷ by c xs) (by c xs))
+  chosen true first rest = (first, rest)
+  chosen false first rest = rest
+
+pub get_past : {A : Type 0} (lists : List (List A)) (i : ℕ) → slice_get lists i ≡ None → get_or lists i [] ≡ []
+get_past [] i none = refl
+get_past (list ∷ lists) zero none = absurd (none-some list (sym none))
+get_past (list ∷ lists) (suc i) none = get_past lists i none
+
+pub get_at : {A : Type 0} (lists : List (List A)) (i : ℕ) (list : List A) → slice_get lists i ≡ Some list → get_or lists i [] ≡ list
+get_at {A} lists i list at = get_or_from_slice_get lists i list [] at
+
+module _ (keeps_valid : (s : State) (c : ℕ) (e : MutexEvent) → IsValid s → IsValid (next s c e).0) (starts_valid : (callers : ℕ) → IsValid (start callers))
+    (plan : Plan) (keeps : KeepsItsLocks plan) (r : Record) (outcome : Outcome) (lines : List Line) (are : AreLines plan r outcome lines) (lawful : IsRecordOf plan r) where
+  -- a worker's list is its line's, and its script too
+  list_at : (worker : ℕ) (line : Line) → slice_get lines worker ≡ Some line → list_of r worker ≡ items_of line
+  list_at worker line at = get_at r.lists worker (items_of line) (ap (λ (l : List (List Made)). slice_get l worker) (sym are.lists) ∙ (slice_get-map items_of lines worker ∙ ap (option_map items_of) at))
+
+  list_past : (worker : ℕ) → slice_get lines worker ≡ None → list_of r worker ≡ []
+  list_past worker none = get_past r.lists worker (ap (λ (l : List (List Made)). slice_get l worker) (sym are.lists) ∙ (slice_get-map items_of lines worker ∙ ap (option_map items_of) none))
+
+  script_at : (worker : ℕ) (line : Line) → slice_get lines worker ≡ Some line → slice_get plan.scripts worker ≡ Some (script_of line)
+  script_at worker line at = ap (λ (l : List (List Call)). slice_get l worker) (sym are.scripts) ∙ (slice_get-map script_of lines worker ∙ ap (option_map script_of) at)
+
+  -- each worker unlocks a mutex only where it holds it
+  turns : (place : ℕ) → IsOfKind plan place kinds.Mutex → (c : ℕ) → OnlyHolder false (by c (journal_of r (number_at place)))
+  turns place mutex c = subst (λ (es : List ObjectEntry). OnlyHolder false es) (lawful.once c (number_at place)) (by_line (slice_get_cases lines c).1) where
+    by_line : ((line : Line) × (c < length lines) × (slice_get lines c ≡ Some line) × (get_or lines c line ≡ line)) ⊎ ((length lines ≤ c) × (slice_get lines c ≡ None)) → OnlyHolder false (entries_in (number_at place) (list_of r c))
+    by_line (inl (line, within, at, is)) = subst (λ (l : List Made). OnlyHolder false (entries_in (number_at place) l)) (sym (list_at c line at))
+        (line_turns plan keeps.plain place mutex c line (are.each c line at) (list_all_at (keeps_lock place false) plan.scripts c (script_of line) (keeps.locks place mutex.0 mutex.1 mutex.2) (script_at c line at)))
+    by_line (inr (past, none)) = subst (λ (l : List Made). OnlyHolder false (entries_in (number_at place) l)) (sym (list_past c none)) tt
+
+  -- so no entry of a mutex is a misuse
+  uses : (place : ℕ) → IsOfKind plan place kinds.Mutex → AreUses (journal_of r (number_at place))
+  uses place mutex = journal_uses keeps_valid plan.workers (journal_of r (number_at place)) (starts_valid plan.workers) (subst (λ kind. IsJournalOf plan place kind (journal_of r (number_at place))) mutex.2 (lawful.journals place mutex.0 mutex.1)) (turns place mutex)
+
+  -- and so no call is one
+  no_call : (worker : ℕ) (line : Line) → slice_get lines worker ≡ Some line → (call : Call) (items before behind : List Made) (m : Misuse) → list_of r worker ≡ before ++ (items ++ behind) → PlainCall plan call items (Done (Err m)) → ⊥
+  no_call worker line at call items before behind m is (on_map op kind asks one) = false≢true (sym (ap (is_err {O = Reply ℕ}) one.answers))
+  no_call worker line at call items before behind m is (on_range kind asks cursor) = false≢true (sym (ap (is_err {O = Reply ℕ}) cursor.answers))
+  no_call worker line at call items before behind m is (on_atomic type op kind asks one) = false≢true (sym (ap (is_err {O = Reply ℕ}) one.answers))
+  no_call worker line at call items before behind m is (on_mutex op kind asks (given, (entries, are_items, spelt), gives)) =
+      let object = number_at call.object in
+      let listed : AreUses (entries_in object (before ++ (items ++ behind))) = subst (λ (l : List Made). AreUses (entries_in object l)) is (subst AreUses (sym (lawful.once worker object)) (uses_by worker (journal_of r object) (uses call.object kind))) in
+      let behind_them = each_right (λ (x : ObjectEntry). IsUse x.deed) (entries_in object before) (entries_in object (items ++ behind)) (subst AreUses (entries_append object before (items ++ behind)) listed) in
+      let own = each_left (λ (x : ObjectEntry). IsUse x.deed) (entries_in object items) (entries_in object behind) (subst AreUses (entries_append object items behind) behind_them) in
+      no_misuse entries _ given (given_err given (sym (ap (is_err {O = Reply ℕ}) gives))) spelt
+      (subst AreUses (ap (λ (l : List Made). entries_in object l) are_items ∙ entries_here object object entries (eq-eqb object object refl)) own)
+
+  pub nobody_misuses : (worker : ℕ) (line : Line) (m : Misuse) → slice_get lines worker ≡ Some line → line.ending ≡ misused m → ⊥
+  nobody_misuses worker line m at ending = ended line.rest line.last (subst (λ (e : LineEnd). EndsBy plan worker (length (shared_in (flat_map (λ spelt. spelt.items) line.spelt))) e line.rest line.last) ending (are.each worker line at).ends) (list_at worker line at) where
+    ended : (left : List Call) (last : List Made) → EndsBy plan worker (length (shared_in (flat_map (λ spelt. spelt.items) line.spelt))) (misused m) left last → list_of r worker ≡ flat_map (λ spelt. spelt.items) line.spelt ++ last → ⊥
+    ended [] last ends is = ends
+    ended (call ∷ left) last (items, halts, both, spelt, all) is = no_call worker line at call items (flat_map (λ spelt. spelt.items) line.spelt) halts m
+        (is ∙ ap (λ (l : List Made). flat_map (λ spelt. spelt.items) line.spelt ++ l) both)
+        (plain_call plan keeps.plain worker _ call items (Done (Err m)) spelt)
