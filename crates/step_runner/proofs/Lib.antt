@@ -10,6 +10,9 @@ mod RunKeys
 mod RunLemmas
 mod RunLogs
 mod RunRanges
+mod SpeltLines
+mod SpeltOutcome
+mod SpeltRun
 mod StartLemmas
 mod TurnLemmas
 pub mod FormLemmas

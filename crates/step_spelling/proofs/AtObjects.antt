@@ -1,34 +1,19 @@
 -- A worker's own turn, its items and what is left of its call, by whether the call's object refers to another one.
-use Rattle.std.proofs.Common.{◌≡◌, ◌≢◌, ℕ, zero, suc, ◌+◌, ◌<◌, Bool, true, false, eqb, List, [], ◌∷◌, map, set, length, Option, Some, None, refl, sym, ap, ◌∙◌, subst}
-use Rattle.std.specs.Prelude.{slice_get, unwrap_or, if◌then◌else◌}
-use Rattle.std.specs.Option.{option_map, option_map_or}
+use Rattle.std.proofs.Common.{◌≡◌, ◌≢◌, ℕ, zero, suc, Bool, true, false, eqb, List, [], ◌∷◌, set, Option, Some, None, refl, sym, ap, ◌∙◌, subst}
+use Rattle.std.specs.Prelude.{slice_get}
+use Rattle.std.specs.Option.{option_map_or}
 use Rattle.std.proofs.lemmas.Bool.{eqb-true, eqb-false}
-use Rattle.std.proofs.lemmas.Option.{slice_get-map}
 use Rattle.sync_model.specs.declared.call.Call.{Call}
-use Rattle.sync_model.specs.declared.call.Operation.{Operation}
-use Rattle.sync_model.specs.declared.call.Reply.{Reply}
-use Rattle.run_record.specs.Parts.{Part}
-use Rattle.run_record.specs.Record.{shared_in}
-use Rattle.run_record.specs.declared.made.Made.{Made}
 use Rattle.workload.specs.declared.object.ObjectKind.{ObjectKind}
 use Rattle.workload.specs.declared.object.ObjectKind.TheVariants as kinds
-use Rattle.workload.specs.Draft.{all_keys}
-use Rattle.workload.specs.Plan.{Plan, has_call, is_target, reference_of}
-use Rattle.step_turns.specs.declared.answer.Answer.{Answer}
+use Rattle.workload.specs.Plan.{Plan, is_target, reference_of}
 use Rattle.step_turns.specs.declared.answer.Answer.TheVariants as answers
 use Rattle.step_turns.specs.declared.object_state.ObjectState.{ObjectState}
-use Rattle.step_turns.specs.Items.{Item, items_on, items_on_both, items_by, items_at}
-use Rattle.step_turns.specs.MapKeys.{HasObjectKeysIn}
-use Rattle.step_turns.specs.Objects.{kind_of, IsMachineOf, EachAt}
-use Rattle.step_turns.specs.Ready.{HasTarget, IsReady}
-use Rattle.step_turns.specs.Stands.{may_wait, waits_at, IsOutAt, IsOutBut}
+use Rattle.step_turns.specs.Items.{items_on, items_on_both, items_by, items_at}
+use Rattle.step_turns.specs.Objects.{kind_of, EachAt}
 use Rattle.step_turns.specs.Turns.{turn_on, turn_on_both, with_object, with_both, turn_by, turn_at}
 use Rattle.step_spelling.specs.Left.{left_on, left_on_both, left_beside, left_by, left_found, left_at}
-use Rattle.step_spelling.specs.Recorded.{recorded}
-use Rattle.step_spelling.specs.Tells.{Tells}
-use Rattle.step_spelling.specs.Within.{IsIdle, StandsOn, StandsOnBoth, StandsBeside, StandsBy, StandsFound, IsWithin, StandsBehind}
-use Rattle.step_spelling.proofs.MachineLaws.{Laws}
-use Rattle.step_spelling.proofs.TurnOwn.{BehindOn, OwnOn, turn_own, BehindBoth, OwnBoth, both_own}
+use Rattle.step_spelling.specs.Within.{StandsOn, StandsOnBoth, StandsBeside, StandsBy, StandsFound}
 
 -- ---- lists of objects
 

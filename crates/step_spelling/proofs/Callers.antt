@@ -1,5 +1,5 @@
 -- The items of a turn are all its worker's.
-use Rattle.std.proofs.Common.{◌≡◌, ◌≢◌, ℕ, ℤ, ◌*◌, Bool, true, false, cond, List, [], ◌∷◌, ◌++◌, filter, Option, Some, None, refl, sym, ap, ◌∙◌, subst}
+use Rattle.std.proofs.Common.{◌≡◌, ◌≢◌, ℕ, ℤ, ◌*◌, Bool, true, false, cond, List, [], ◌∷◌, ◌++◌, filter, Option, Some, None, refl, sym, ap, ◌∙◌}
 use Rattle.std.specs.Prelude.{◌==◌, slice_get, Result, Ok, Err}
 use Rattle.std.specs.Option.{option_map_or}
 use Rattle.std.proofs.lemmas.Bool.{eq-eqb, eqb-true}
@@ -38,7 +38,7 @@ use Rattle.step_turns.specs.declared.answer.Answer.{Answer}
 use Rattle.step_turns.specs.declared.object_state.ObjectState.{ObjectState}
 use Rattle.step_turns.specs.declared.object_state.ObjectState.TheVariants as states
 use Rattle.step_turns.specs.Due.{mutex_due, rw_due, group_due, cond_due, once_due, looks_of}
-use Rattle.step_turns.specs.Items.{Item, stage_items, tries_first, pool_item, unless_found, look_items, pool_items, items_on, add_items, sum_items, items_on_both, items_by, items_at}
+use Rattle.step_turns.specs.Items.{Item, stage_items, tries_first, unless_found, look_items, pool_items, items_on, add_items, sum_items, items_on_both, items_by, items_at}
 use Rattle.step_turns.specs.Objects.{kind_of}
 use Rattle.step_turns.specs.PoolTurn.{looked}
 use Rattle.step_turns.specs.Turns.{once_made}

@@ -1,12 +1,11 @@
 -- A turn at a cond and its mutex spells the stages at both.
-use Rattle.std.proofs.Common.{◌≡◌, ◌≢◌, ℕ, ◌<◌, ◌&&◌, Bool, true, false, List, [], ◌∷◌, ◌++◌, refl, sym, ap, ◌∙◌, subst}
+use Rattle.std.proofs.Common.{◌≡◌, ◌≢◌, ℕ, ◌<◌, Bool, true, false, List, [], ◌∷◌, ◌++◌, refl, sym, ap, ◌∙◌, subst}
 use Rattle.std.specs.Prelude.{Ok, Err, slice_get, unwrap_or, is_some, Option, Some, None, nat_lt, if◌then◌else◌}
 use Rattle.sync_model.specs.declared.answer.Answer.TheVariants.{Done}
 use Rattle.sync_model.specs.declared.call.Reply.{Reply}
 use Rattle.sync_model.specs.declared.call.Reply.TheVariants as replies
 use Rattle.sync_model.specs.declared.lock_call.LockReply.{LockReply}
 use Rattle.sync_model.specs.declared.lock_call.LockReply.TheVariants as lock_replies
-use Rattle.sync_model.specs.declared.misuse.Misuse.{Misuse}
 use Rattle.sync_model.specs.declared.wait_call.CondCall.{CondCall}
 use Rattle.sync_model.specs.declared.wait_call.CondCall.TheVariants as cond_calls
 use Rattle.mutex_core.specs.MutexMachine as mutex
@@ -34,9 +33,9 @@ use Rattle.protocols.specs.declared.mutex.MutexStage.{MutexStage}
 use Rattle.protocols.specs.declared.mutex.MutexStage.TheVariants as mutex_stage
 use Rattle.protocols.specs.declared.step.Step.{Step}
 use Rattle.protocols.specs.declared.step.Step.TheVariants as steps
-use Rattle.run_record.specs.CondKind.{cond_part, wait_part}
+use Rattle.run_record.specs.CondKind.{cond_part}
 use Rattle.run_record.specs.MutexKind.{mutex_part}
-use Rattle.run_record.specs.Parts.{Part, and_then, read_as, stages}
+use Rattle.run_record.specs.Parts.{Part, read_as}
 use Rattle.run_record.specs.Record.{number_at}
 use Rattle.run_record.specs.declared.entered.ObjectEvent.TheVariants as events
 use Rattle.run_record.specs.declared.entered.ObjectReply.TheVariants as answered
@@ -51,7 +50,7 @@ use Rattle.step_spelling.specs.Left.{mutex_waits, cond_left}
 use Rattle.step_spelling.specs.Recorded.{recorded}
 use Rattle.step_spelling.specs.Tells.{Tells}
 use Rattle.step_spelling.proofs.MachineLaws.{MutexStands, CondStands, no, may}
-use Rattle.step_spelling.proofs.MutexSpelled.{mutex_made, mutex_answer}
+use Rattle.step_spelling.proofs.MutexSpelled.{mutex_made}
 use Rattle.step_spelling.proofs.Spelled.{event_made, says}
 
 -- ---- whether a worker has a ticket, by its place
@@ -159,10 +158,21 @@ module _ (law : MutexStands) (cond_law : CondStands) (plan : Plan) (place other 
       goes_on : (s : MutexReply) → mutex_meaning mutex_stage.Unlock s ≡ steps.Finished lock_replies.Done
           → Told (left false false) (cond_made cond_stage.Ticket r ∷ lock_made mutex_stage.Unlock s ∷ []) c m answers.Unfinished
       goes_on s means = (
-        λ rest given l.
-            (cond_made cond_stage.Ticket r ∷ [], lock_made mutex_stage.Unlock s ∷ rest, Done (Ok tt), refl, cond_said cond_stage.Ticket r made,
-              (lock_made mutex_stage.Unlock s ∷ [], rest, Done (Ok lock_replies.Done), refl, lock_said s (mutex_meaning mutex_stage.Unlock s) refl lock_replies.Done means,
-                subst (λ (b : Bool). left b false rest given) has (subst (λ (b : Bool). left (has_ticket c worker) b rest given) (ap mutex_waits out) l))),
+        λ rest given l. (
+          cond_made cond_stage.Ticket r ∷ [],
+          lock_made mutex_stage.Unlock s ∷ rest,
+          Done (Ok tt),
+          refl,
+          cond_said cond_stage.Ticket r made,
+          (
+            lock_made mutex_stage.Unlock s ∷ [],
+            rest,
+            Done (Ok lock_replies.Done),
+            refl,
+            lock_said s (mutex_meaning mutex_stage.Unlock s) refl lock_replies.Done means,
+            subst (λ (b : Bool). left b false rest given) has (subst (λ (b : Bool). left (has_ticket c worker) b rest given) (ap mutex_waits out) l),
+          ),
+        ),
         λ has. out,
       )
 
@@ -172,9 +182,21 @@ module _ (law : MutexStands) (cond_law : CondStands) (plan : Plan) (place other 
       by_reply (mutex_reply.Unlocked (mutex_unlocking.Woke ticket)) is = goes_on (mutex_reply.Unlocked (mutex_unlocking.Woke ticket)) refl
       by_reply (mutex_reply.Unlocked (mutex_unlocking.Handed ticket)) is = goes_on (mutex_reply.Unlocked (mutex_unlocking.Handed ticket)) refl
       by_reply (mutex_reply.Unlocked (mutex_unlocking.Misuse misuse)) is = (
-        (cond_made cond_stage.Ticket r ∷ [], lock_made mutex_stage.Unlock (mutex_reply.Unlocked (mutex_unlocking.Misuse misuse)) ∷ [], Done (Ok tt), refl, cond_said cond_stage.Ticket r made,
-          (lock_made mutex_stage.Unlock (mutex_reply.Unlocked (mutex_unlocking.Misuse misuse)) ∷ [], [], Done (Err misuse), refl,
-            says events.Mutex answered.Mutex mutex_event mutex_meaning (number_at other) worker mutex_stage.Unlock moment (mutex_reply.Unlocked (mutex_unlocking.Misuse misuse)) (steps.Misused misuse) refl, (refl, refl))),
+        (
+          cond_made cond_stage.Ticket r ∷ [],
+          lock_made mutex_stage.Unlock (mutex_reply.Unlocked (mutex_unlocking.Misuse misuse)) ∷ [],
+          Done (Ok tt),
+          refl,
+          cond_said cond_stage.Ticket r made,
+          (
+            lock_made mutex_stage.Unlock (mutex_reply.Unlocked (mutex_unlocking.Misuse misuse)) ∷ [],
+            [],
+            Done (Err misuse),
+            refl,
+            says events.Mutex answered.Mutex mutex_event mutex_meaning (number_at other) worker mutex_stage.Unlock moment (mutex_reply.Unlocked (mutex_unlocking.Misuse misuse)) (steps.Misused misuse) refl,
+            (refl, refl),
+          ),
+        ),
         tt,
       )
       by_reply s is = no is
@@ -199,8 +221,8 @@ module _ (law : MutexStands) (cond_law : CondStands) (plan : Plan) (place other 
       let at_cond = make notify.next cond_event cond_meaning worker moment due.0 c in
       let at_mutex = make mutex.next mutex_event mutex_meaning worker moment due.1 m in
       Told (left (cond_waits q) (mutex_waits p))
-          (recorded plan before (stage_items events.Cond answered.Cond notify.next cond_event worker moment place due.0 c ++ stage_items events.Mutex answered.Mutex mutex.next mutex_event worker moment other due.1 m))
-          at_cond.0 at_mutex.0 (cond_answer cond_calls.Wait due.1 at_mutex.1)
+      (recorded plan before (stage_items events.Cond answered.Cond notify.next cond_event worker moment place due.0 c ++ stage_items events.Mutex answered.Mutex mutex.next mutex_event worker moment other due.1 m))
+      at_cond.0 at_mutex.0 (cond_answer cond_calls.Wait due.1 at_mutex.1)
 
   wait_tells : (before : ℕ) (p : MutexPlace) (q : NotifyPlace) (c : notify.NotifyState) (m : mutex.State) → mutex.place_of m worker ≡ p → notify.place_of c worker ≡ q
       → (has_ticket c worker ≡ true → mutex.place_of m worker ≡ mutex_place.Out) → worker < notify.callers_of c → worker < m.callers → mutex.IsValid m → WaitTurn before p q c m
@@ -253,8 +275,8 @@ module _ (law : MutexStands) (cond_law : CondStands) (plan : Plan) (place other 
       let at_cond = make notify.next cond_event cond_meaning worker moment due.0 c in
       let at_mutex = make mutex.next mutex_event mutex_meaning worker moment due.1 m in
       subst (λ (b : Bool). Told (left b (mutex_waits p))
-          (recorded plan before (stage_items events.Cond answered.Cond notify.next cond_event worker moment place due.0 c ++ stage_items events.Mutex answered.Mutex mutex.next mutex_event worker moment other due.1 m))
-          at_cond.0 at_mutex.0 (cond_answer cond_calls.Wait due.1 at_mutex.1)) (sym (has_where c worker))
+      (recorded plan before (stage_items events.Cond answered.Cond notify.next cond_event worker moment place due.0 c ++ stage_items events.Mutex answered.Mutex mutex.next mutex_event worker moment other due.1 m))
+      at_cond.0 at_mutex.0 (cond_answer cond_calls.Wait due.1 at_mutex.1)) (sym (has_where c worker))
       (wait_tells before p q c m refl refl stands below within valid)
   cond_tells before cond_calls.Signal c m stands below within valid =
       let e = cond_event cond_stage.Signal moment in

@@ -1,39 +1,19 @@
 -- How a worker enters its next call, which is then all left to be spelt; and that whatever is left can be spelt.
-use Rattle.std.proofs.Common.{◌≡◌, ◌≢◌, ℕ, ℤ, zero, suc, ◌+◌, ◌*◌, Bool, true, false, eqb, List, [], ◌∷◌, ◌++◌, map, Option, Some, None, refl, sym, ap, ◌∙◌, subst, append-nil, arith}
-use Rattle.std.specs.Prelude.{Ok, slice_get, pos}
+use Rattle.std.proofs.Common.{◌≡◌, ◌≢◌, ℕ, ℤ, Bool, true, false, eqb, List, map, Option, Some, None, refl, sym, ap, ◌∙◌, subst}
+use Rattle.std.specs.Prelude.{slice_get, pos}
 use Rattle.std.specs.Option.{option_map}
-use Rattle.std.specs.List.{range_with_len}
 use Rattle.std.proofs.lemmas.Bool.{eqb-true, eqb-false}
-use Rattle.std.proofs.lemmas.List.{get_or-replicate}
-use Rattle.std.proofs.lemmas.List.Sorted.{IsPermutation-refl}
 use Rattle.std.proofs.lemmas.Option.{slice_get-map}
-use Rattle.sync_model.specs.Renaming.{renamed_call}
-use Rattle.sync_model.specs.declared.answer.Answer.TheVariants.{Done, Halted}
-use Rattle.sync_model.specs.declared.atomic_object.AtomicCall.TheVariants.{Add}
-use Rattle.sync_model.specs.declared.atomic_object.AtomicReply.TheVariants as atomic_replies
 use Rattle.sync_model.specs.declared.atomic_object.Number.TheVariants.{Int64}
 use Rattle.sync_model.specs.declared.call.Call.{Call}
 use Rattle.sync_model.specs.declared.call.Operation.{Operation}
 use Rattle.sync_model.specs.declared.call.Operation.TheVariants as operations
 use Rattle.sync_model.specs.declared.call.Reply.{Reply}
 use Rattle.sync_model.specs.declared.call.Reply.TheVariants as replies
-use Rattle.sync_model.specs.declared.item.SharedCall.TheVariants as calls
-use Rattle.sync_model.specs.declared.item.SharedReply.TheVariants as shared
-use Rattle.sync_model.specs.declared.lock_call.LockReply.{LockReply}
-use Rattle.sync_model.specs.declared.lock_call.MutexCall.{MutexCall}
-use Rattle.sync_model.specs.declared.lock_call.RwMutexCall.{RwMutexCall}
 use Rattle.sync_model.specs.declared.lock_call.RwMutexCall.TheVariants as rw_calls
-use Rattle.sync_model.specs.declared.map_object.MapReply.TheVariants as map_replies
-use Rattle.sync_model.specs.declared.misuse.Misuse.TheVariants.{UnlockOfUnlockedMutex}
 use Rattle.sync_model.specs.declared.once_call.DoReply.TheVariants as do_replies
-use Rattle.sync_model.specs.declared.pool_call.PoolCall.TheVariants as pool_calls
-use Rattle.sync_model.specs.declared.wait_call.CondCall.{CondCall}
 use Rattle.sync_model.specs.declared.wait_call.CondCall.TheVariants as cond_calls
-use Rattle.sync_model.specs.declared.wait_call.WaitGroupCall.{WaitGroupCall}
 use Rattle.sync_model.specs.declared.wait_call.WaitGroupCall.TheVariants as group_calls
-use Rattle.mutex_core.specs.MutexMachine as mutex
-use Rattle.rw_core.specs.RwMachine as rw
-use Rattle.rw_core.specs.declared.place.Place.TheVariants as rw_place
 use Rattle.wait_cores.specs.GroupMachine as group
 use Rattle.wait_cores.specs.NotifyMachine as notify
 use Rattle.wait_cores.specs.OnceMachine as once
@@ -42,62 +22,30 @@ use Rattle.wait_cores.specs.GroupStanding as group_standing
 use Rattle.wait_cores.specs.NotifyStanding.{has_ticket}
 use Rattle.wait_cores.specs.OnceStanding as once_standing
 use Rattle.wait_cores.specs.declared.group.GroupEvent.TheVariants as group_event
-use Rattle.wait_cores.specs.declared.once.OnceEvent.{OnceEvent}
-use Rattle.wait_cores.specs.declared.once.OnceReply.{OnceReply}
-use Rattle.pool_core.specs.declared.pool_event.PoolEvent.{PoolEvent}
-use Rattle.protocols.specs.CondStages.{cond_event, cond_meaning}
-use Rattle.protocols.specs.GroupStages as group_stages
-use Rattle.protocols.specs.MutexStages.{mutex_event, mutex_meaning}
 use Rattle.protocols.specs.OnceStages.{once_event, once_meaning}
-use Rattle.protocols.specs.PoolStages.{pool_event, pool_meaning}
-use Rattle.protocols.specs.RwMutexStages.{rw_event, rw_meaning}
 use Rattle.protocols.specs.Spelling.{CallAnswer}
-use Rattle.protocols.specs.declared.cond.CondStage.{CondStage}
-use Rattle.protocols.specs.declared.cond.CondStage.TheVariants as cond_stage
-use Rattle.protocols.specs.declared.mutex.MutexStage.{MutexStage}
-use Rattle.protocols.specs.declared.mutex.MutexStage.TheVariants as mutex_stage
-use Rattle.protocols.specs.declared.once.OnceStage.TheVariants as once_stage
-use Rattle.protocols.specs.declared.pool.PoolStage.{PoolStage}
-use Rattle.protocols.specs.declared.pool.PoolStage.TheVariants as pool_stage
-use Rattle.protocols.specs.declared.rw_mutex.RwMutexStage.{RwMutexStage}
-use Rattle.protocols.specs.declared.step.Step.{Step}
-use Rattle.protocols.specs.declared.wait_group.GroupStage.{GroupStage}
-use Rattle.protocols.specs.declared.wait_group.GroupStage.TheVariants as group_stage
 use Rattle.run_record.specs.AtomicKind.{adds}
 use Rattle.run_record.specs.Calls.{call_on, call_at, SpellsCall}
-use Rattle.run_record.specs.CondKind.{cond_part}
-use Rattle.run_record.specs.MapKind.{cursor_showing}
-use Rattle.run_record.specs.MutexKind.{mutex_part, mutex_stage as first_stage}
-use Rattle.run_record.specs.Objects.{map_number, atomic_number}
+use Rattle.run_record.specs.Objects.{atomic_number}
 use Rattle.run_record.specs.OnceKind.{failure}
-use Rattle.run_record.specs.Parts.{Part, and_then, read_as, with_outcome, returns, stages}
-use Rattle.run_record.specs.PoolKind as record_pool
+use Rattle.run_record.specs.Parts.{Part, returns, stages}
 use Rattle.run_record.specs.Record.{number_at}
-use Rattle.run_record.specs.RwMutexKind.{rw_mutex_stage}
-use Rattle.run_record.specs.WaitGroupKind.{wait_group_stage}
-use Rattle.run_record.specs.declared.entered.ObjectEvent.{ObjectEvent}
 use Rattle.run_record.specs.declared.entered.ObjectEvent.TheVariants as events
-use Rattle.run_record.specs.declared.entered.ObjectReply.{ObjectReply}
 use Rattle.run_record.specs.declared.entered.ObjectReply.TheVariants as answered
 use Rattle.run_record.specs.declared.made.Made.{Made}
 use Rattle.workload.specs.declared.object.ObjectKind.{ObjectKind}
 use Rattle.workload.specs.declared.object.ObjectKind.TheVariants as kinds
 use Rattle.workload.specs.declared.object.ObjectLine.{ObjectLine}
-use Rattle.workload.specs.Keys.{keys_in, key_number, key_name}
-use Rattle.workload.specs.Plan.{Plan, has_call, is_target, reference_of}
+use Rattle.workload.specs.Plan.{Plan, has_call, reference_of}
 use Rattle.step_turns.specs.declared.object_state.ObjectState.{ObjectState}
 use Rattle.step_turns.specs.declared.object_state.ObjectState.TheVariants as states
 use Rattle.step_turns.specs.Objects.{new_object, kind_of, EachAt}
 use Rattle.step_turns.specs.Ready.{IsReady}
 use Rattle.step_turns.specs.Stands.{IsOutAt, IsOutBut}
-use Rattle.step_spelling.specs.Left.{mutex_waits, rw_waits, rw_later, mutex_left, rw_left, group_left, cond_left, once_left, left_on, left_on_both, left_at}
-use Rattle.step_spelling.specs.Recorded.{made_shared}
-use Rattle.step_spelling.specs.Within.{IsIdle, StandsAtRw, StandsOn, StandsOnBoth, IsWithin}
+use Rattle.step_spelling.specs.Left.{mutex_waits, rw_waits, mutex_left, rw_left, group_left, cond_left, once_left, left_on, left_on_both, left_at}
+use Rattle.step_spelling.specs.Within.{IsIdle, StandsOn, StandsOnBoth, IsWithin}
 use Rattle.step_spelling.proofs.AtObjects.{left_alone, left_referring, stands_alone, stands_referring}
-use Rattle.step_spelling.proofs.MachineLaws.{Laws}
-use Rattle.step_spelling.proofs.PlacedSpelled.{places}
 use Rattle.step_spelling.proofs.RwSides.{out_sides}
-use Rattle.step_spelling.proofs.Spelled.{refused}
 use Rattle.step_spelling.proofs.TurnOwn.{Pair, only_pairs, cond_refers, once_refers}
 
 -- ---- a new object
@@ -227,8 +175,8 @@ module _ (plan : Plan) (x before : ℕ) (call : Call) (objects : List ObjectStat
         },
         λ items answer l.
             subst (λ (P : Part (Reply ℕ)). P items answer) by_kind
-                (subst (λ (P : Part (Reply ℕ)). P items answer) (whole_on plan x before call.object call.operation r.object r.has none (idle call.object r.object r.there) (out_at call.object r.object r.there))
-                (subst (λ (P : Part (Reply ℕ)). P items answer) (left_alone call objects r.object r.there plan x before none) l)),
+            (subst (λ (P : Part (Reply ℕ)). P items answer) (whole_on plan x before call.object call.operation r.object r.has none (idle call.object r.object r.there) (out_at call.object r.object r.there))
+            (subst (λ (P : Part (Reply ℕ)). P items answer) (left_alone call objects r.object r.there plan x before none) l)),
       )
       by_reference (Some other) some =
           let t = r.refers other some in
@@ -239,6 +187,6 @@ module _ (plan : Plan) (x before : ℕ) (call : Call) (objects : List ObjectStat
             },
             λ items answer l.
                 subst (λ (P : Part (Reply ℕ)). P items answer) by_kind
-                    (subst (λ (P : Part (Reply ℕ)). P items answer) (whole_both plan x before call.object other call.operation r.object t.target pair some (idle call.object r.object r.there) (out_at other t.target t.there))
-                    (subst (λ (P : Part (Reply ℕ)). P items answer) (left_referring call objects r.object r.there plan x before other t.target some t.there) l)),
+                (subst (λ (P : Part (Reply ℕ)). P items answer) (whole_both plan x before call.object other call.operation r.object t.target pair some (idle call.object r.object r.there) (out_at other t.target t.there))
+                (subst (λ (P : Part (Reply ℕ)). P items answer) (left_referring call objects r.object r.there plan x before other t.target some t.there) l)),
           )

@@ -1,7 +1,6 @@
 -- Whatever is left of a call can be spelt.
-use Rattle.std.proofs.Common.{◌≡◌, ℕ, ℤ, zero, suc, ◌+◌, ◌*◌, Bool, true, false, List, [], ◌∷◌, ◌++◌, map, Option, Some, None, refl, sym, ap, ◌∙◌, subst, append-nil, arith}
-use Rattle.std.specs.Prelude.{Ok, slice_get}
-use Rattle.std.specs.List.{range_with_len}
+use Rattle.std.proofs.Common.{◌≡◌, ℕ, Bool, true, false, List, [], ◌∷◌, ◌++◌, Option, Some, None, refl, sym, subst, append-nil, arith}
+use Rattle.std.specs.Prelude.{Ok}
 use Rattle.std.proofs.lemmas.List.Sorted.{IsPermutation-refl}
 use Rattle.sync_model.specs.Renaming.{renamed_call}
 use Rattle.sync_model.specs.declared.answer.Answer.TheVariants.{Done, Halted}
@@ -46,16 +45,16 @@ use Rattle.protocols.specs.declared.once.OnceStage.TheVariants as once_stage
 use Rattle.protocols.specs.declared.pool.PoolStage.TheVariants as pool_stage
 use Rattle.protocols.specs.declared.step.Step.{Step}
 use Rattle.protocols.specs.declared.wait_group.GroupStage.TheVariants as group_stage
-use Rattle.run_record.specs.AtomicKind.{adds, atomic_call}
-use Rattle.run_record.specs.MapKind.{cursor_showing, map_call, range_call}
+use Rattle.run_record.specs.AtomicKind.{adds}
+use Rattle.run_record.specs.MapKind.{cursor_showing}
 use Rattle.run_record.specs.MutexKind.{mutex_stage as mutex_first}
 use Rattle.run_record.specs.Objects.{map_number, atomic_number}
-use Rattle.run_record.specs.OnceKind.{failure, goes_on_once}
-use Rattle.run_record.specs.Parts.{Part, and_then, read_as, with_outcome, returns, stages}
+use Rattle.run_record.specs.OnceKind.{failure}
+use Rattle.run_record.specs.Parts.{Part, and_then, read_as, returns, stages}
 use Rattle.run_record.specs.PoolKind as record_pool
 use Rattle.run_record.specs.Record.{number_at}
 use Rattle.run_record.specs.RwMutexKind.{rw_mutex_stage}
-use Rattle.run_record.specs.WaitGroupKind.{wait_group_stage}
+use Rattle.run_record.specs.WaitGroupKind.{wait_group_stage, wait_group_call}
 use Rattle.run_record.specs.declared.entered.ObjectEvent.{ObjectEvent}
 use Rattle.run_record.specs.declared.entered.ObjectEvent.TheVariants as events
 use Rattle.run_record.specs.declared.entered.ObjectReply.{ObjectReply}
@@ -68,7 +67,6 @@ use Rattle.step_turns.specs.declared.object_state.ObjectState.TheVariants as sta
 use Rattle.step_turns.specs.Objects.{kind_of}
 use Rattle.step_turns.specs.Ready.{IsReady}
 use Rattle.step_spelling.specs.Left.{mutex_waits, rw_waits, rw_later, mutex_left, rw_left, group_left, cond_left, once_left, left_on, left_on_both, left_at}
-use Rattle.step_spelling.specs.Recorded.{made_shared}
 use Rattle.step_spelling.proofs.AtObjects.{left_alone, left_referring}
 use Rattle.step_spelling.proofs.PlacedSpelled.{places}
 use Rattle.step_spelling.proofs.Spelled.{refused}
@@ -102,7 +100,7 @@ rw_can : (object : ℕ) (call : RwMutexCall) (waits : Bool) → CanHalt (rw_left
 rw_can object call true = read_halts replies.Lock (stages events.RwMutex answered.RwMutex rw_event rw_meaning object (rw_later call)) (stage_halts events.RwMutex answered.RwMutex rw_event rw_meaning object (rw_later call))
 rw_can object call false = read_halts replies.Lock (stages events.RwMutex answered.RwMutex rw_event rw_meaning object (rw_mutex_stage call)) (stage_halts events.RwMutex answered.RwMutex rw_event rw_meaning object (rw_mutex_stage call))
 
-group_whole : (object : ℕ) (call : WaitGroupCall) → CanHalt (Rattle.run_record.specs.WaitGroupKind.wait_group_call object call)
+group_whole : (object : ℕ) (call : WaitGroupCall) → CanHalt (wait_group_call object call)
 group_whole object call =
     read_halts (λ done. replies.Returned) (stages events.WaitGroup answered.WaitGroup group_stages.group_event group_stages.group_meaning object (wait_group_stage call))
     (stage_halts events.WaitGroup answered.WaitGroup group_stages.group_event group_stages.group_meaning object (wait_group_stage call))

@@ -1,6 +1,6 @@
 -- What the laws of the machines say of where callers stand, and of answers.
 use Rattle.std.proofs.Common.{◌≡◌, ◌≢◌, ℕ, ◌<◌, ◌&&◌, Bool, true, false, List, ap, ◌∙◌}
-use Rattle.std.specs.Prelude.{ℤ, IsTrue, IsFalse, length}
+use Rattle.std.specs.Prelude.{ℤ, IsTrue, IsFalse, length, nat_lt}
 use Rattle.std.specs.List.{list_any}
 use Rattle.std.specs.Str.{bytes_eq}
 use Rattle.std.proofs.lemmas.Bool.{lt-ltb}
@@ -17,14 +17,12 @@ use Rattle.rw_core.specs.Standing as rw_standing
 use Rattle.rw_core.specs.declared.event.RwEvent.{RwEvent}
 use Rattle.rw_core.specs.declared.reply.RwReply.TheVariants as rw_reply
 use Rattle.wait_cores.specs.NotifyMachine as notify
-use Rattle.wait_cores.specs.NotifyLaws as notify_laws
 use Rattle.wait_cores.specs.NotifyStanding as notify_standing
 use Rattle.wait_cores.specs.GroupMachine as group
 use Rattle.wait_cores.specs.GroupStanding as group_standing
 use Rattle.wait_cores.specs.OnceMachine as once
 use Rattle.wait_cores.specs.OnceStanding as once_standing
 use Rattle.wait_cores.specs.declared.notify.NotifyEvent.{NotifyEvent}
-use Rattle.wait_cores.specs.declared.notify.NotifyEvent.TheVariants as notify_event
 use Rattle.wait_cores.specs.declared.notify.NotifyReply.TheVariants as notify_reply
 use Rattle.wait_cores.specs.declared.group.GroupEvent.{GroupEvent}
 use Rattle.wait_cores.specs.declared.group.GroupReply.TheVariants as group_reply
@@ -86,6 +84,5 @@ pub no : {A : Type 0} → false ≡ true → A
 no e = absurd cc
 
 -- a caller that is there may make what is needed where it is
-pub may : (x n : ℕ) (needed : Bool) → x < n → needed ≡ true → (Rattle.std.specs.Prelude.nat_lt x n && needed) ≡ true
+pub may : (x n : ℕ) (needed : Bool) → x < n → needed ≡ true → (nat_lt x n && needed) ≡ true
 may x n needed below is = ap (λ b. b && needed) (lt-ltb x n below) ∙ is
-

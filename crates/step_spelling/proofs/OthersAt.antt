@@ -1,27 +1,24 @@
 -- At all objects: another's turn leaves a worker's call where it is; how a call is entered, and that it can be gone on with.
-use Rattle.std.proofs.Common.{◌≡◌, ◌≢◌, ℕ, zero, suc, ◌+◌, Bool, true, false, eqb, List, [], ◌∷◌, map, set, Option, Some, None, refl, sym, ap, ◌∙◌, subst}
-use Rattle.std.specs.Prelude.{slice_get, pos}
-use Rattle.std.specs.Option.{option_map}
+use Rattle.std.proofs.Common.{◌≡◌, ◌≢◌, ℕ, Bool, true, false, eqb, List, map, set, Option, Some, None, refl, sym, ap, ◌∙◌, subst}
+use Rattle.std.specs.Prelude.{slice_get}
 use Rattle.std.proofs.lemmas.Bool.{eqb-true, eqb-false}
-use Rattle.std.proofs.lemmas.Option.{slice_get-map}
 use Rattle.sync_model.specs.declared.call.Call.{Call}
 use Rattle.sync_model.specs.declared.call.Reply.{Reply}
 use Rattle.protocols.specs.Spelling.{CallAnswer}
 use Rattle.run_record.specs.Parts.{Part}
 use Rattle.run_record.specs.declared.made.Made.{Made}
-use Rattle.workload.specs.declared.object.ObjectKind.{ObjectKind}
-use Rattle.workload.specs.Plan.{Plan, is_target, reference_of}
+use Rattle.workload.specs.Plan.{Plan, reference_of}
 use Rattle.step_turns.specs.declared.answer.Answer.{Answer}
 use Rattle.step_turns.specs.declared.object_state.ObjectState.{ObjectState}
-use Rattle.step_turns.specs.Objects.{kind_of, IsMachineOf, EachAt}
+use Rattle.step_turns.specs.Objects.{kind_of, EachAt}
 use Rattle.step_turns.specs.Ready.{IsReady}
-use Rattle.step_turns.specs.Turns.{turn_on, turn_on_both, with_object, with_both, turn_at}
-use Rattle.step_spelling.specs.Left.{left_on, left_on_both, left_at}
-use Rattle.step_spelling.specs.Within.{IsIdle, StandsOn, StandsOnBoth, StandsFound, IsWithin}
+use Rattle.step_turns.specs.Turns.{turn_on, turn_on_both, turn_at}
+use Rattle.step_spelling.specs.Left.{left_at}
+use Rattle.step_spelling.specs.Within.{IsIdle, IsWithin}
 use Rattle.step_spelling.proofs.AtObjects.{set_there, set_other, apart, turn_alone, turn_referring, left_alone, left_referring, stands_alone, stands_referring}
 use Rattle.step_spelling.proofs.MachineLaws.{Laws}
 use Rattle.step_spelling.proofs.OthersKeep.{Same, same_self, turn_same, both_same, left_same, left_both_same, idle_same, stands_same, both_stands_same}
-use Rattle.step_spelling.proofs.OwnAt.{KindsKept, same_kind}
+use Rattle.step_spelling.proofs.OwnAt.{same_kind}
 use Rattle.step_spelling.proofs.TurnOwn.{only_pairs}
 
 -- the object at each place is the same to a worker
@@ -119,8 +116,8 @@ module _ (plan : Plan) (x before : ℕ) (call : Call) (objects others : List Obj
                 },
             λ items answer l.
                 subst (λ (P : Part (Reply ℕ)). P items answer) (sym (left_alone call objects r.object r.there plan x before none))
-                    (subst (λ (P : Part (Reply ℕ)). P items answer) (left_same plan x before call.object r.object n.0 call.operation n.2)
-                    (subst (λ (P : Part (Reply ℕ)). P items answer) (left_alone call others n.0 n.1 plan x before none_now) l)),
+                (subst (λ (P : Part (Reply ℕ)). P items answer) (left_same plan x before call.object r.object n.0 call.operation n.2)
+                (subst (λ (P : Part (Reply ℕ)). P items answer) (left_alone call others n.0 n.1 plan x before none_now) l)),
           )
       by_reference (Some other) some =
           let t = r.refers other some in
@@ -137,6 +134,6 @@ module _ (plan : Plan) (x before : ℕ) (call : Call) (objects others : List Obj
                 },
             λ items answer l.
                 subst (λ (P : Part (Reply ℕ)). P items answer) (sym (left_referring call objects r.object r.there plan x before other t.target some t.there))
-                    (subst (λ (P : Part (Reply ℕ)). P items answer) (left_both_same plan x before call.object other call.operation r.object t.target n.0 u.0 pair n.2 u.2)
-                    (subst (λ (P : Part (Reply ℕ)). P items answer) (left_referring call others n.0 n.1 plan x before other u.0 some_now u.1) l)),
+                (subst (λ (P : Part (Reply ℕ)). P items answer) (left_both_same plan x before call.object other call.operation r.object t.target n.0 u.0 pair n.2 u.2)
+                (subst (λ (P : Part (Reply ℕ)). P items answer) (left_referring call others n.0 n.1 plan x before other u.0 some_now u.1) l)),
           )

@@ -1,6 +1,6 @@
 -- Another's turn leaves a worker's call where it is: what is left of it is the same, and so is where the worker stands.
-use Rattle.std.proofs.Common.{◌≡◌, ◌≢◌, ℕ, Bool, true, false, List, Option, Some, None, inl, inr, refl, sym, ap, ◌∙◌, subst}
-use Rattle.std.specs.Prelude.{ℤ, ◌==◌, if◌then◌else◌}
+use Rattle.std.proofs.Common.{◌≡◌, ◌≢◌, ℕ, Bool, true, false, Option, Some, None, inl, inr, refl, sym, ap, ◌∙◌}
+use Rattle.std.specs.Prelude.{ℤ, if◌then◌else◌}
 use Rattle.sync_model.specs.declared.call.Operation.{Operation}
 use Rattle.sync_model.specs.declared.call.Operation.TheVariants as operations
 use Rattle.sync_model.specs.declared.atomic_object.Number.{Number}
@@ -9,7 +9,6 @@ use Rattle.sync_model.specs.declared.lock_call.RwMutexCall.{RwMutexCall}
 use Rattle.sync_model.specs.declared.lock_call.RwMutexCall.TheVariants as rw_calls
 use Rattle.sync_model.specs.declared.wait_call.CondCall.TheVariants as cond_calls
 use Rattle.sync_model.specs.declared.wait_call.WaitGroupCall.TheVariants as group_calls
-use Rattle.sync_model.specs.declared.call.Reply.{Reply}
 use Rattle.sync_model.specs.declared.call.Reply.TheVariants as replies
 use Rattle.sync_model.specs.declared.once_call.DoReply.TheVariants as do_replies
 use Rattle.mutex_core.specs.MutexMachine as mutex
@@ -38,13 +37,12 @@ use Rattle.protocols.specs.MutexStages.{mutex_event, mutex_meaning}
 use Rattle.protocols.specs.OnceStages.{once_event, once_meaning}
 use Rattle.protocols.specs.RwMutexStages as rw_stages
 use Rattle.protocols.specs.declared.mutex.MutexStage.{MutexStage}
-use Rattle.protocols.specs.declared.once.OnceStage.{OnceStage}
 use Rattle.protocols.specs.declared.step.Step.{Step}
 use Rattle.run_record.specs.AtomicKind.{adds}
 use Rattle.run_record.specs.Objects.{atomic_number}
 use Rattle.run_record.specs.CondKind.{cond_call}
 use Rattle.run_record.specs.OnceKind.{do_call, failure}
-use Rattle.run_record.specs.Parts.{Part, returns, stages}
+use Rattle.run_record.specs.Parts.{returns, stages}
 use Rattle.run_record.specs.Record.{number_at}
 use Rattle.run_record.specs.declared.entered.ObjectEvent.TheVariants as events
 use Rattle.run_record.specs.declared.entered.ObjectReply.TheVariants as answered
@@ -56,8 +54,8 @@ use Rattle.step_turns.specs.Objects.{IsMachineOf}
 use Rattle.step_turns.specs.Stages.{make}
 use Rattle.step_turns.specs.Turns.{once_made, turn_on, turn_on_both}
 use Rattle.step_spelling.specs.Left.{mutex_waits, rw_waits, mutex_left, rw_left, group_left, cond_left, once_left, left_on, left_on_both}
-use Rattle.step_spelling.specs.Within.{IsIdle, StandsAtRw, StandsAtGroup, StandsAtOnce, StandsOn, StandsOnBoth}
-use Rattle.step_spelling.proofs.MachineLaws.{MutexStands, RwStands, OnceStands, Laws, no}
+use Rattle.step_spelling.specs.Within.{IsIdle, StandsAtRw, StandsAtOnce, StandsOn, StandsOnBoth}
+use Rattle.step_spelling.proofs.MachineLaws.{MutexStands, OnceStands, Laws, no}
 use Rattle.step_spelling.proofs.RwSides.{reads_after, writes_after, ApartFor}
 use Rattle.step_spelling.proofs.TurnOwn.{Pair}
 

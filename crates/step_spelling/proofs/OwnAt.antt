@@ -1,5 +1,5 @@
 -- A worker's own turn at all objects.
-use Rattle.std.proofs.Common.{◌≡◌, ◌≢◌, ℕ, ◌+◌, true, false, List, map, set, length, Option, Some, None, refl, sym, ap, ◌∙◌, subst, Bool}
+use Rattle.std.proofs.Common.{◌≡◌, ◌≢◌, ℕ, ◌+◌, false, List, map, set, length, Option, Some, None, refl, sym, ap, ◌∙◌, subst, Bool}
 use Rattle.std.specs.Prelude.{slice_get, if◌then◌else◌, unwrap_or}
 use Rattle.std.specs.Option.{option_map, option_map_or}
 use Rattle.std.proofs.lemmas.Option.{slice_get-map}
@@ -14,13 +14,12 @@ use Rattle.workload.specs.Plan.{Plan, reference_of}
 use Rattle.step_turns.specs.declared.answer.Answer.{Answer}
 use Rattle.step_turns.specs.declared.answer.Answer.TheVariants as answers
 use Rattle.step_turns.specs.declared.object_state.ObjectState.{ObjectState}
-use Rattle.step_turns.specs.CallTurns.{refers_to}
 use Rattle.step_turns.specs.Items.{Item, items_on, items_on_both, items_at}
 use Rattle.step_turns.specs.MapKeys.{HasObjectKeysIn}
 use Rattle.step_turns.specs.Objects.{kind_of, EachAt}
 use Rattle.step_turns.specs.Ready.{IsReady}
 use Rattle.step_turns.specs.Stands.{may_wait, waits_at, IsOutAt, IsOutBut}
-use Rattle.step_turns.specs.Turns.{turn_on, turn_on_both, with_object, with_both, turn_at}
+use Rattle.step_turns.specs.Turns.{turn_on, turn_on_both, turn_at}
 use Rattle.step_spelling.specs.Left.{left_on, left_on_both, left_at}
 use Rattle.step_spelling.specs.Recorded.{recorded}
 use Rattle.step_spelling.specs.Tells.{Tells}
@@ -45,9 +44,9 @@ same_kind objects others place o n kinds at there =
 out_waitless : (objects : List ObjectState) (call : Call) (worker place : ℕ) (o : ObjectState) → IsOutBut (waits_at (map kind_of objects) call) worker objects → slice_get objects place ≡ Some o → may_wait call.operation ≡ false → IsOutAt worker o
 out_waitless objects call worker place o out at is =
     out place o at (λ e.
-        let waits = Some (unwrap_or (option_map_or reference_of (slice_get (map kind_of objects) call.object) None) call.object) in
-        let none : None ≡ Some place = sym (ap (λ (b : Bool). if b then waits else None) is) ∙ e in
-        cc)
+    let waits = Some (unwrap_or (option_map_or reference_of (slice_get (map kind_of objects) call.object) None) call.object) in
+    let none : None ≡ Some place = sym (ap (λ (b : Bool). if b then waits else None) is) ∙ e in
+    cc)
 
 -- ---- where it stands behind the turn
 
@@ -138,7 +137,7 @@ module _ (laws : Laws) (kinds : KindsKept) (plan : Plan) (worker before moment :
         let second = set_there (set objects call.object step.0.0) other step.0.1 target (set_other objects call.object other step.0.0 two ∙ t.there) in
         let made = recorded plan before (items_on_both call.operation worker moment call.object other object target) in
         let told = subst (λ (P : Part (Reply ℕ)). Tells plan (left_on_both plan worker before call.object other call.operation object target) P made step.1)
-            (sym (left_referring call new step.0.0 there plan worker (before + length (shared_in made)) other step.0.1 some_new second)) own.0 in
+        (sym (left_referring call new step.0.0 there plan worker (before + length (shared_in made)) other step.0.1 some_new second)) own.0 in
         let stands_now = behind_both worker call objects other object target step.0.0 step.0.1 r.there t.there two some_new elsewhere own.1.1 step.1 own.1.0 in
         subst (λ (x : List ObjectState × Answer). Own (left_at plan worker before call objects) (recorded plan before (items_at call worker moment objects)) x) (sym turn)
         (subst (λ (l : List Item). Own (left_at plan worker before call objects) (recorded plan before l) (new, step.1)) (sym (items_referring call worker moment objects object r.there other target some t.there))

@@ -1,6 +1,6 @@
 -- A turn at a pool spells its call: a get is a row of looks.
-use Rattle.std.proofs.Common.{◌≡◌, ◌≢◌, ℕ, zero, suc, ◌+◌, ◌*◌, ◌%◌, ◌<◌, ◌≤◌, ◌&&◌, Bool, true, false, List, [], ◌∷◌, ◌++◌, map, length, Option, Some, None, refl, sym, ap, ◌∙◌, subst, arith}
-use Rattle.std.specs.Prelude.{Ok, slice_get, option_map, nat_lt, if◌then◌else◌, ◌==◌, Result}
+use Rattle.std.proofs.Common.{◌≡◌, ℕ, zero, suc, ◌+◌, ◌*◌, ◌%◌, ◌<◌, Bool, true, false, List, [], ◌∷◌, map, length, Option, Some, None, refl, sym, subst, arith}
+use Rattle.std.specs.Prelude.{Ok, slice_get, option_map, nat_lt, if◌then◌else◌, ◌==◌}
 use Rattle.std.specs.List.{range_with_len}
 use Rattle.std.proofs.lemmas.Bool.{lt-ltb}
 use Rattle.std.proofs.lemmas.Nat.{mod_below}
@@ -25,7 +25,7 @@ use Rattle.protocols.specs.declared.pool.PoolStage.{PoolStage}
 use Rattle.protocols.specs.declared.pool.PoolStage.TheVariants as stage
 use Rattle.protocols.specs.declared.step.Step.TheVariants.{Finished}
 use Rattle.protocols.specs.Spelling.{CallAnswer}
-use Rattle.run_record.specs.Parts.{Part, and_then, returns}
+use Rattle.run_record.specs.Parts.{Part, and_then}
 use Rattle.run_record.specs.PoolKind as record_pool
 use Rattle.run_record.specs.PoolKind.{pool_part, pool_call}
 use Rattle.run_record.specs.Record.{number_at}
@@ -36,8 +36,8 @@ use Rattle.workload.specs.Plan.{Plan}
 use Rattle.step_turns.specs.declared.answer.Answer.{Answer}
 use Rattle.step_turns.specs.declared.answer.Answer.TheVariants as answers
 use Rattle.step_turns.specs.Due as due
-use Rattle.step_turns.specs.Items.{Item, pool_item, unless_found, look_items, pool_items}
-use Rattle.step_turns.specs.PoolTurn.{PoolStep, looked, found_or, found_by, pool_step, item_of}
+use Rattle.step_turns.specs.Items.{unless_found, look_items, pool_items}
+use Rattle.step_turns.specs.PoolTurn.{found_or, found_by, pool_step, item_of}
 use Rattle.step_turns.specs.Stages.{outcome_of}
 use Rattle.step_spelling.specs.Recorded.{recorded_reply, recorded}
 use Rattle.step_spelling.specs.Tells.{Tells}
@@ -142,7 +142,7 @@ module _ (keeps : PoolKeeps) (plan : Plan) (place worker moment n : ℕ) (below 
   LookWhole e r q before looks rest =
       let found = item_of (outcome_of (pool_meaning (due.stage_of e) r)) in
       Whole (and_then (pool_part (number_at place) (record_pool.stage_of e)) (record_pool.found_or rest))
-          (made_of (due.stage_of e) r ∷ recorded plan before (unless_found worker moment place (q, found) (look_items worker moment place looks))) (found_or (q, found) (found_by worker moment looks)).1
+      (made_of (due.stage_of e) r ∷ recorded plan before (unless_found worker moment place (q, found) (look_items worker moment place looks))) (found_or (q, found) (found_by worker moment looks)).1
 
   abbrev RestWhole : pool.PoolState ℕ → ℕ → List PoolStage → Part (Reply ℕ) → Type 0
   RestWhole q before looks rest = Whole rest (recorded plan before (look_items worker moment place looks q)) (found_by worker moment looks q).1

@@ -1,5 +1,5 @@
 -- A turn at a reader/writer mutex spells its stage. That of a writer that was granted the lock spells two.
-use Rattle.std.proofs.Common.{◌≡◌, ℕ, ◌<◌, ◌&&◌, Bool, true, false, List, [], ◌∷◌, ◌++◌, inl, inr, refl, sym, ap, ◌∙◌, subst}
+use Rattle.std.proofs.Common.{◌≡◌, ℕ, ◌<◌, ◌&&◌, Bool, true, false, List, [], ◌∷◌, ◌++◌, inl, inr, refl, ap, ◌∙◌, subst}
 use Rattle.std.specs.Prelude.{nat_lt, Ok}
 use Rattle.sync_model.specs.declared.answer.Answer.TheVariants.{Done}
 use Rattle.sync_model.specs.declared.call.Operation.TheVariants as operations
@@ -34,6 +34,7 @@ use Rattle.run_record.specs.declared.made.Made.{Made}
 use Rattle.workload.specs.Plan.{Plan}
 use Rattle.step_turns.specs.Due.{rw_due, locked}
 use Rattle.step_turns.specs.Items.{tries_first, stage_items}
+use Rattle.step_turns.specs.Stands.{may_wait}
 use Rattle.step_turns.specs.Stages.{outcome_of, make, answer_by}
 use Rattle.step_spelling.specs.Left.{rw_waits, rw_later, rw_left}
 use Rattle.step_spelling.specs.Recorded.{recorded}
@@ -173,7 +174,7 @@ module _ (law : RwStands) (plan : Plan) (place worker moment : ℕ) where
   rw_tells before rw_calls.TryRLock rw_place.Admitted m at fits below valid = absurd cc
 
 -- it stands as its call says, behind its own turn too
-pub stands_fit : (call : RwMutexCall) (x : ℕ) (m : rw.State) → StandsAtRw call x m → (Rattle.step_turns.specs.Stands.may_wait (operations.RwMutex call) ≡ false → rw.place_of m x ≡ rw_place.Out) → RwFits call (rw.place_of m x)
+pub stands_fit : (call : RwMutexCall) (x : ℕ) (m : rw.State) → StandsAtRw call x m → (may_wait (operations.RwMutex call) ≡ false → rw.place_of m x ≡ rw_place.Out) → RwFits call (rw.place_of m x)
 stands_fit rw_calls.Lock x m stands out = no_reader x m stands
 stands_fit rw_calls.RLock x m stands out = no_writer x m stands
 stands_fit rw_calls.Unlock x m stands out = out refl

@@ -1,5 +1,5 @@
 -- A worker's own turn at the objects of its call.
-use Rattle.std.proofs.Common.{◌≡◌, ◌≢◌, ℕ, ◌+◌, ◌<◌, Bool, true, false, List, [], ◌∷◌, ◌++◌, map, length, Option, Some, None, refl, sym, ap, ◌∙◌, subst, arith, append-nil}
+use Rattle.std.proofs.Common.{◌≡◌, ℕ, ◌+◌, ◌<◌, true, false, List, [], ◌++◌, map, length, Option, Some, None, refl, sym, ◌∙◌, subst, arith, append-nil}
 use Rattle.std.specs.Prelude.{ℤ, Ok, Err, Result}
 use Rattle.std.specs.FinMap.{entries}
 use Rattle.std.specs.Int.{w64, int_wrapping_add}
@@ -12,27 +12,19 @@ use Rattle.sync_model.specs.declared.atomic_object.Number.TheVariants.{Int64}
 use Rattle.sync_model.specs.declared.call.Operation.{Operation}
 use Rattle.sync_model.specs.declared.call.Operation.TheVariants as operations
 use Rattle.sync_model.specs.declared.call.Reply.TheVariants as replies
-use Rattle.sync_model.specs.declared.item.SharedCall.TheVariants as calls
-use Rattle.sync_model.specs.declared.item.SharedReply.TheVariants as shared
 use Rattle.sync_model.specs.declared.once_call.DoReply.TheVariants as do_replies
-use Rattle.sync_model.specs.declared.pool_call.PoolCall.{PoolCall}
-use Rattle.sync_model.specs.declared.lock_call.RwMutexCall.{RwMutexCall}
 use Rattle.sync_model.specs.declared.wait_call.CondCall.{CondCall}
 use Rattle.sync_model.specs.declared.wait_call.CondCall.TheVariants as cond_calls
 use Rattle.sync_model.specs.declared.wait_call.WaitGroupCall.{WaitGroupCall}
 use Rattle.mutex_core.specs.MutexMachine as mutex
-use Rattle.mutex_core.specs.declared.place.Place.TheVariants as mutex_place
 use Rattle.rw_core.specs.RwMachine as rw
-use Rattle.rw_core.specs.declared.place.Place.TheVariants as rw_place
 use Rattle.wait_cores.specs.NotifyMachine as notify
-use Rattle.wait_cores.specs.NotifyStanding.{has_ticket}
 use Rattle.wait_cores.specs.GroupMachine as group
 use Rattle.wait_cores.specs.OnceMachine as once
 use Rattle.wait_cores.specs.OnceStanding as once_standing
 use Rattle.wait_cores.specs.declared.once.OnceEvent.{OnceEvent}
 use Rattle.wait_cores.specs.declared.once.OnceReply.{OnceReply}
-use Rattle.pool_core.specs.PoolMachine as pool
-use Rattle.protocols.specs.OnceStages.{once_event, once_meaning}
+use Rattle.protocols.specs.OnceStages.{once_event}
 use Rattle.protocols.specs.declared.once.OnceOutcome.{OnceOutcome}
 use Rattle.protocols.specs.declared.once.OnceOutcome.TheVariants.{Run, Already, Ended}
 use Rattle.protocols.specs.declared.once.OnceStage.{OnceStage}
@@ -40,7 +32,7 @@ use Rattle.run_record.specs.AtomicKind.{adds}
 use Rattle.run_record.specs.MapKind.{cursor_showing, range_call}
 use Rattle.run_record.specs.Objects.{map_number, atomic_number}
 use Rattle.run_record.specs.OnceKind.{failure}
-use Rattle.run_record.specs.Parts.{Part, returns}
+use Rattle.run_record.specs.Parts.{returns}
 use Rattle.run_record.specs.PoolKind.{pool_call}
 use Rattle.run_record.specs.Record.{number_at, shared_in}
 use Rattle.run_record.specs.declared.entered.ObjectEvent.{ObjectEvent}
@@ -56,18 +48,17 @@ use Rattle.step_turns.specs.declared.answer.Answer.TheVariants as answers
 use Rattle.step_turns.specs.declared.object_state.ObjectState.{ObjectState}
 use Rattle.step_turns.specs.declared.object_state.ObjectState.TheVariants as states
 use Rattle.step_turns.specs.Due as due
-use Rattle.step_turns.specs.Items.{Item, stage_items, once_items, add_items, items_on, items_on_both}
+use Rattle.step_turns.specs.Items.{stage_items, add_items, items_on, items_on_both}
 use Rattle.step_turns.specs.MapKeys.{HasObjectKeysIn}
 use Rattle.step_turns.specs.Objects.{kind_of, IsMachineOf}
-use Rattle.step_turns.specs.Stages.{make}
 use Rattle.step_turns.specs.Stands.{may_wait, IsOutAt}
 use Rattle.step_turns.specs.Turns.{once_made, turn_on, turn_on_both}
 use Rattle.step_spelling.specs.Left.{left_on, left_on_both}
-use Rattle.step_spelling.specs.Recorded.{recorded_reply, recorded, made_shared, shared_calls}
+use Rattle.step_spelling.specs.Recorded.{recorded, made_shared, shared_calls}
 use Rattle.step_spelling.specs.Tells.{Tells}
 use Rattle.step_spelling.specs.Within.{IsIdle, IsOutOfOnce, StandsAtOnce, StandsOn, StandsOnBoth}
 use Rattle.step_spelling.proofs.CondSpelled.{CondBehind, CondStandsAt, cond_tells}
-use Rattle.step_spelling.proofs.MachineLaws.{Laws, no}
+use Rattle.step_spelling.proofs.MachineLaws.{Laws}
 use Rattle.step_spelling.proofs.MutexSpelled.{mutex_tells}
 use Rattle.step_spelling.proofs.PlacedSpelled.{places, range_sorted}
 use Rattle.step_spelling.proofs.PoolSpelled.{pool_whole, whole_tells}
@@ -180,7 +171,7 @@ module _ (laws : Laws) (plan : Plan) (worker before place moment : ℕ) where
       let stage = due.once_due code (once_standing.runs_at o worker) (once.place_of o worker) in
       let made = once_made worker moment code o in
       let told = once_tells events.OnceFunc answered.OnceFunc laws.giving plan place worker moment (returns code) (λ kept. replies.OnceFunc (failure kept)) (λ kept. replies.OnceFunc (failure kept)) code
-          (replies.OnceFunc (due.failure code)) (λ kept. replies.OnceFunc (due.failure kept)) refl (λ kept. refl) [] (refl, refl) o stands below in
+      (replies.OnceFunc (due.failure code)) (λ kept. replies.OnceFunc (due.failure kept)) refl (λ kept. refl) [] (refl, refl) o stands below in
       let step = turn_on operations.OnceFunc worker moment (states.OnceFunc o code) in (
         subst (λ (l : List Made). Tells plan (left_on plan worker before place operations.OnceFunc (states.OnceFunc o code)) (left_on plan worker (before + length (shared_in l)) place operations.OnceFunc step.0) l step.1)
             (nothing_first made.1 (due_made events.OnceFunc answered.OnceFunc place worker moment stage o) ∙ sym (due_recorded events.OnceFunc answered.OnceFunc plan place worker moment before stage o)) told.0,
@@ -192,7 +183,7 @@ module _ (laws : Laws) (plan : Plan) (worker before place moment : ℕ) where
       let stage = due.once_due value (once_standing.runs_at o worker) (once.place_of o worker) in
       let made = once_made worker moment value o in
       let told = once_tells events.OnceValue answered.OnceValue laws.giving plan place worker moment (returns value) replies.OnceValue replies.OnceValue value
-          (replies.OnceValue value) replies.OnceValue refl (λ kept. refl) [] (refl, refl) o stands below in
+      (replies.OnceValue value) replies.OnceValue refl (λ kept. refl) [] (refl, refl) o stands below in
       let step = turn_on operations.OnceValue worker moment (states.OnceValue o value) in (
         subst (λ (l : List Made). Tells plan (left_on plan worker before place operations.OnceValue (states.OnceValue o value)) (left_on plan worker (before + length (shared_in l)) place operations.OnceValue step.0) l step.1)
             (nothing_first made.1 (due_made events.OnceValue answered.OnceValue place worker moment stage o) ∙ sym (due_recorded events.OnceValue answered.OnceValue plan place worker moment before stage o)) told.0,
@@ -266,8 +257,8 @@ module _ (laws : Laws) (plan : Plan) (worker before place moment : ℕ) where
       let made = once_made worker moment sum o in
       let ended = map (made_shared plan) (shared_calls plan before other (operations.Atomic (Add (Int64 delta))) (replies.Atomic (atomic_reply (Add (Int64 delta)) (Int64 held)))) in
       let told = once_tells events.Once answered.Once laws.adding plan place worker moment (adds (atomic_number plan.objects other) delta) (λ sum. replies.Once (do_replies.Ran sum)) (λ kept. replies.Once do_replies.Done) sum
-          (replies.Once (do_replies.Ran sum)) (λ kept. replies.Once do_replies.Done) refl (λ kept. refl) ended
-          (sum, places plan (shared_calls plan before other (operations.Atomic (Add (Int64 delta))) (replies.Atomic (atomic_reply (Add (Int64 delta)) (Int64 held)))), refl) o stands below in
+      (replies.Once (do_replies.Ran sum)) (λ kept. replies.Once do_replies.Done) refl (λ kept. refl) ended
+      (sum, places plan (shared_calls plan before other (operations.Atomic (Add (Int64 delta))) (replies.Atomic (atomic_reply (Add (Int64 delta)) (Int64 held)))), refl) o stands below in
       let step = turn_on_both operations.Once worker moment (states.Once o at delta) (states.Atomic (Int64 held)) in (
         subst (λ (l : List Made). Tells plan (left_on_both plan worker before place other operations.Once (states.Once o at delta) (states.Atomic (Int64 held))) (left_on_both plan worker (before + length (shared_in l)) place other operations.Once step.0.0 step.0.1) l step.1)
             (sum_recorded other delta held made.1 stage o) told.0,

@@ -1,8 +1,7 @@
 -- A turn at a wait group, and at a once, spells its stage.
-use Rattle.std.proofs.Common.{◌≡◌, ◌≢◌, ℕ, ◌<◌, ◌&&◌, Bool, true, false, List, [], ◌∷◌, ◌++◌, refl, sym, ap, ◌∙◌, subst}
-use Rattle.std.specs.Prelude.{Result, Ok, Err, slice_get, unwrap_or, Option, Some, None}
+use Rattle.std.proofs.Common.{◌≡◌, ◌≢◌, ℕ, ◌<◌, Bool, true, false, List, [], ◌∷◌, ◌++◌, refl, sym, ap, ◌∙◌, subst}
+use Rattle.std.specs.Prelude.{Result, Ok, slice_get, unwrap_or, Option, Some, None}
 use Rattle.sync_model.specs.declared.answer.Answer.TheVariants.{Done}
-use Rattle.sync_model.specs.declared.call.Operation.TheVariants as operations
 use Rattle.sync_model.specs.declared.call.Reply.{Reply}
 use Rattle.sync_model.specs.declared.call.Reply.TheVariants as replies
 use Rattle.sync_model.specs.declared.wait_call.WaitGroupCall.{WaitGroupCall}
@@ -33,8 +32,7 @@ use Rattle.protocols.specs.declared.wait_group.GroupStage.{GroupStage}
 use Rattle.protocols.specs.declared.wait_group.GroupStage.TheVariants as group_stage
 use Rattle.protocols.specs.declared.step.Step.{Step}
 use Rattle.protocols.specs.declared.step.Step.TheVariants.{Finished, Waits}
-use Rattle.run_record.specs.OnceKind.{goes_on_once}
-use Rattle.run_record.specs.Parts.{Part, GoesOn, read_as, stages}
+use Rattle.run_record.specs.Parts.{Part, read_as, stages}
 use Rattle.run_record.specs.Record.{number_at}
 use Rattle.run_record.specs.declared.entered.ObjectEvent.{ObjectEvent}
 use Rattle.run_record.specs.declared.entered.ObjectEvent.TheVariants as events
@@ -71,7 +69,7 @@ module _ (law : GroupStands) (plan : Plan) (place worker moment : ℕ) where
   abbrev GroupTells : WaitGroupCall → GroupStage → Bool → group.GroupState → GroupReply → Type 0
   GroupTells call stage w n r =
       Tells plan (read_as (λ done. replies.Returned) (stages events.WaitGroup answered.WaitGroup group_event group_meaning (number_at place) stage)) (group_left (number_at place) call (group_standing.waits_at n worker))
-          (event_made events.WaitGroup answered.WaitGroup group_event group_meaning (number_at place) worker (group_event stage moment) r ∷ []) (answer_by returned (outcome_of (group_meaning stage r)))
+      (event_made events.WaitGroup answered.WaitGroup group_event group_meaning (number_at place) worker (group_event stage moment) r ∷ []) (answer_by returned (outcome_of (group_meaning stage r)))
       × GroupBehind call worker n (answer_by returned (outcome_of (group_meaning stage r)))
 
   abbrev Fits : WaitGroupCall → GroupStage → Bool → Type 0
@@ -123,7 +121,7 @@ module _ (law : GroupStands) (plan : Plan) (place worker moment : ℕ) where
   GroupTurn before call p g =
       let made = make group.next group_event group_meaning worker moment (group_due call p) g in
       Tells plan (group_left (number_at place) call (group_standing.is_in p)) (group_left (number_at place) call (group_standing.waits_at made.0 worker))
-          (recorded plan before (stage_items events.WaitGroup answered.WaitGroup group.next group_event worker moment place (group_due call p) g)) (answer_by returned made.1)
+      (recorded plan before (stage_items events.WaitGroup answered.WaitGroup group.next group_event worker moment place (group_due call p) g)) (answer_by returned made.1)
       × GroupBehind call worker made.0 (answer_by returned made.1)
 
   pub group_tells : (before : ℕ) (call : WaitGroupCall) (p : GroupPlace) (g : group.GroupState) → group.place_of g worker ≡ p → StandsAtGroup call worker g → worker < group.callers_of g → GroupTurn before call p g
@@ -211,9 +209,14 @@ module _ {T : Type 0} (event : OnceEvent T → ObjectEvent) (answer : OnceReply 
   )
   begin_tells n once_reply.Queued is at = (
     λ rest given l.
-        let y = new_left n false true at.0 at.1 rest given l in
-        (made_of once_stage.Begin once_reply.Queued ∷ y.0, y.1, y.2, ap (λ (l : List Made). made_of once_stage.Begin once_reply.Queued ∷ l) y.3,
-          says event answer once_event once_meaning (number_at place) worker once_stage.Begin moment once_reply.Queued (Waits once_stage.Leave) refl y.0 y.2 y.4, y.5),
+        let y = new_left n false true at.0 at.1 rest given l in (
+          made_of once_stage.Begin once_reply.Queued ∷ y.0,
+          y.1,
+          y.2,
+          ap (λ (l : List Made). made_of once_stage.Begin once_reply.Queued ∷ l) y.3,
+          says event answer once_event once_meaning (number_at place) worker once_stage.Begin moment once_reply.Queued (Waits once_stage.Leave) refl y.0 y.2 y.4,
+          y.5,
+        ),
     λ runs. clash (once_standing.runs_at n worker) at.0 runs,
   )
   begin_tells n r is at = no is
@@ -282,5 +285,5 @@ module _ {T : Type 0} (event : OnceEvent T → ObjectEvent) (answer : OnceReply 
       let due = once_due value (once_standing.runs_at o worker) (once.place_of o worker) in
       let made = make once.next once_event once_meaning worker moment due o in
       subst (λ (b : Bool). Tells plan (left (once_standing.runs_at o worker) b) (left (once_standing.runs_at made.0 worker) (once_standing.waits_at made.0 worker)) (before_end ended made.1 ++ due_made event answer place worker moment due o) (answer_by (ran_or ran_reply had) made.1)
-          × OnceBehind worker made.0 (answer_by (ran_or ran_reply had) made.1)) (sym (waits_where o worker))
+      × OnceBehind worker made.0 (answer_by (ran_or ran_reply had) made.1)) (sym (waits_where o worker))
       (once_by (once_standing.runs_at o worker) (once.place_of o worker) o refl refl stands below)

@@ -113,7 +113,7 @@ module _ (plan : Plan) (worker before place : ℕ) where
   left_on (operations.WaitGroup call) (states.WaitGroup g first) = group_left (number_at place) call (group.waits_at g worker)
   left_on operations.OnceFunc (states.OnceFunc o code) =
       once_left (stages events.OnceFunc answered.OnceFunc once_event once_meaning (number_at place)) (returns code) (λ kept. replies.OnceFunc (failure kept)) (λ kept. replies.OnceFunc (failure kept))
-          (once.runs_at o worker) (once.waits_at o worker)
+      (once.runs_at o worker) (once.waits_at o worker)
   left_on operations.OnceValue (states.OnceValue o value) =
       once_left (stages events.OnceValue answered.OnceValue once_event once_meaning (number_at place)) (returns value) replies.OnceValue replies.OnceValue (once.runs_at o worker) (once.waits_at o worker)
   left_on operation o = call_on plan worker before place (kind_of o) operation
@@ -124,7 +124,7 @@ module _ (plan : Plan) (worker before place : ℕ) where
       cond_left (number_at place) (number_at other) call (has_ticket c worker) (mutex_waits (mutex.place_of m worker))
   left_on_both other operations.Once (states.Once o at delta) (states.Atomic number) =
       once_left (stages events.Once answered.Once once_event once_meaning (number_at place)) (adds (atomic_number plan.objects other) delta) (λ sum. replies.Once (do_replies.Ran sum))
-          (λ kept. replies.Once do_replies.Done) (once.runs_at o worker) (once.waits_at o worker)
+      (λ kept. replies.Once do_replies.Done) (once.runs_at o worker) (once.waits_at o worker)
   left_on_both other operation o target = never
 
 module _ (plan : Plan) (worker before : ℕ) (call : Call) where

@@ -31,7 +31,7 @@ pub fn turns_spell_their_calls()
     ensures own { (plan : Plan) (worker before moment : ℕ) (call : Call) (objects : List ObjectState) → IsReady plan.workers worker call objects
         → EachAt (λ place. HasObjectKeysIn (all_keys plan.scripts)) objects → IsOutBut (waits_at (map kind_of objects) call) worker objects → IsWithin worker call objects
         → Tells plan (left_at plan worker before call objects) (left_at plan worker (before + length (shared_in (recorded plan before (items_at call worker moment objects)))) call (turn_at call worker moment objects).0)
-            (recorded plan before (items_at call worker moment objects)) (turn_at call worker moment objects).1
+        (recorded plan before (items_at call worker moment objects)) (turn_at call worker moment objects).1
         × StandsBehind worker call (turn_at call worker moment objects).1 (turn_at call worker moment objects).0 }
     ensures others { (plan : Plan) (worker other before moment : ℕ) (own call : Call) (objects : List ObjectState) → IsReady plan.workers worker own objects → IsReady plan.workers other call objects → worker ≢ other
         → (IsWithin worker own objects → IsWithin worker own (turn_at call other moment objects).0)

@@ -1,4 +1,3 @@
-use Rattle.std.proofs.Common.{refl}
 use Rattle.step_turns.specs.Turns.{turn_at}
 use Rattle.step_spelling.proofs.MachineLaws.{Laws}
 use Rattle.step_spelling.proofs.OthersAt.{all_same, all_idle, call_kept}
