@@ -1,10 +1,7 @@
 -- The lists of a run fall into lines of its outcome.
-use Rattle.std.proofs.Common.{◌≡◌, ℕ, zero, suc, ◌+◌, ◌≤◌, List, [], ◌∷◌, ◌++◌, map, length, get_or, Some, refl, sym, ap, ◌∙◌, subst, arith}
-use Rattle.std.specs.Prelude.{slice_get}
+use Rattle.std.proofs.Common.{◌≡◌, ℕ, zero, suc, ◌+◌, ◌≤◌, List, [], ◌∷◌, ◌++◌, map, length, get_or, refl, sym, ap, ◌∙◌, subst, arith}
 use Rattle.std.specs.List.{range_with_len}
 use Rattle.std.proofs.lemmas.List.{length-map}
-use Rattle.sync_model.specs.declared.call.Call.{Call}
-use Rattle.sync_model.specs.declared.call.Reply.{Reply}
 use Rattle.sync_model.specs.declared.outcome.Outcome.{Outcome}
 use Rattle.sync_model.specs.declared.outcome.Outcome.TheVariants as outcomes
 use Rattle.sync_model.specs.declared.outcome.Report.{Report}
@@ -15,11 +12,10 @@ use Rattle.workload.specs.Plan.{Plan}
 use Rattle.run_record.specs.Explains.{AreLines}
 use Rattle.run_record.specs.Lines.{Line, script_of, items_of, replies_of, IsLineOf}
 use Rattle.run_record.specs.Record.{Record}
-use Rattle.run_record.specs.declared.made.Made.{Made}
 use Rattle.step_turns.specs.Items.{Item}
 use Rattle.step_spelling.specs.Recorded.{recorded_reply}
 use Rattle.step_runner.specs.declared.step.Step.{Step}
-use Rattle.step_runner.specs.Ends.{ends_of, numbered, left_in}
+use Rattle.step_runner.specs.Ends.{numbered}
 use Rattle.step_runner.specs.Outcomes.{rounds, StepsTo}
 use Rattle.step_runner.specs.RunItems.{all_made}
 use Rattle.step_runner.specs.Spelt.{list_of, lists_of, Falls}

@@ -1,7 +1,7 @@
 -- The items of each call of a run spell it.
-use Rattle.std.proofs.Common.{◌≡◌, ◌≢◌, ℕ, zero, suc, ◌+◌, ◌<◌, ◌≤◌, Bool, true, false, eqb, List, [], ◌∷◌, ◌++◌, map, filter, length, get_or, replicate, Option, Some, None, refl, sym, ap, ◌∙◌, subst, append-nil, append_assoc, arith}
+use Rattle.std.proofs.Common.{◌≡◌, ◌≢◌, ℕ, zero, suc, ◌+◌, ◌<◌, Bool, true, false, eqb, List, [], ◌∷◌, ◌++◌, map, filter, length, get_or, replicate, Option, Some, None, refl, sym, ap, ◌∙◌, subst, append-nil, append_assoc, arith}
 use Rattle.std.specs.Prelude.{◌==◌, Ok, Err, slice_get, sum_by, All}
-use Rattle.std.specs.List.{flat_map, range_with_len}
+use Rattle.std.specs.List.{flat_map}
 use Rattle.std.specs.Option.{option_map_or}
 use Rattle.std.proofs.lemmas.Bool.{eqb-true, eqb-false}
 use Rattle.std.proofs.lemmas.List.{length-map, get_or-set_same}
@@ -10,10 +10,6 @@ use Rattle.sync_model.specs.declared.answer.Answer.TheVariants.{Done}
 use Rattle.sync_model.specs.declared.call.Call.{Call}
 use Rattle.sync_model.specs.declared.call.Reply.{Reply}
 use Rattle.sync_model.specs.declared.misuse.Misuse.{Misuse}
-use Rattle.sync_model.specs.declared.outcome.Outcome.{Outcome}
-use Rattle.sync_model.specs.declared.outcome.Outcome.TheVariants as outcomes
-use Rattle.sync_model.specs.declared.outcome.Report.{Report}
-use Rattle.sync_model.specs.Outcome.{left_by}
 use Rattle.protocols.specs.Spelling.{CallAnswer}
 use Rattle.workload.specs.declared.object.ObjectKind.{ObjectKind}
 use Rattle.workload.specs.declared.object.ObjectLine.{ObjectLine}
@@ -23,9 +19,8 @@ use Rattle.workload.specs.Draft.{all_keys, distinct_count}
 use Rattle.workload.specs.Plan.{Plan}
 use Rattle.workload.specs.Puts.{puts_at}
 use Rattle.run_record.specs.Calls.{SpellsCall}
-use Rattle.run_record.specs.Explains.{AreLines}
-use Rattle.run_record.specs.Lines.{SpeltCall, LineEnd, whole, misused, unfinished, Line, script_of, items_of, replies_of, IsHalt, AreSpelt, IsLineOf}
-use Rattle.run_record.specs.Record.{Record, shared_in}
+use Rattle.run_record.specs.Lines.{SpeltCall, whole, misused, unfinished, IsHalt, AreSpelt}
+use Rattle.run_record.specs.Record.{shared_in}
 use Rattle.run_record.specs.declared.made.Made.{Made}
 use Rattle.step_turns.specs.declared.answer.Answer.{Answer}
 use Rattle.step_turns.specs.declared.answer.Answer.TheVariants as answers
@@ -35,7 +30,7 @@ use Rattle.step_turns.specs.MapKeys.{HasObjectKeysIn}
 use Rattle.step_turns.specs.ObjectLeft.{object_left, UsesBy}
 use Rattle.step_turns.specs.Objects.{new_object, kind_of, EachAt}
 use Rattle.step_turns.specs.Ready.{IsReady}
-use Rattle.step_turns.specs.Stands.{IsOutAt, IsOutBut, waits_at, waits_behind}
+use Rattle.step_turns.specs.Stands.{IsOutAt, IsOutBut, waits_at}
 use Rattle.step_turns.specs.Turns.{turn_at}
 use Rattle.step_spelling.specs.Left.{left_at}
 use Rattle.step_spelling.specs.Recorded.{recorded_reply, recorded}
@@ -43,19 +38,17 @@ use Rattle.step_spelling.specs.Tells.{Tells}
 use Rattle.step_spelling.specs.Within.{IsIdle, IsWithin, StandsBehind}
 use Rattle.step_runner.specs.declared.step.Step.{Step}
 use Rattle.step_runner.specs.declared.step.Step.TheVariants as steps
-use Rattle.step_runner.specs.Ends.{ends_of, left_in}
-use Rattle.step_runner.specs.Outcomes.{rounds, StepsTo}
 use Rattle.step_runner.specs.RunItems.{made_by, unless_ended, all_made}
-use Rattle.step_runner.specs.Spelt.{by_worker, list_of, lists_of, Falls}
+use Rattle.step_runner.specs.Spelt.{by_worker, list_of, Falls}
 use Rattle.step_runner.specs.State.{State, start, with_reply, with_moment, IsStateOf}
 use Rattle.step_runner.specs.Turns.{next_call, settled, turn_of, and_then, items_of as after_all, after_items}
-use Rattle.step_runner.proofs.FormLemmas.{TurnStands, Standing, standing_kept, start_stands, own_at, kinds_in}
+use Rattle.step_runner.proofs.FormLemmas.{TurnStands, Standing, own_at, kinds_in}
 use Rattle.step_runner.proofs.MadeLemmas.{event_state}
-use Rattle.step_runner.proofs.RunKeys.{Keys, HasKeys, keys_kept, start_keys}
+use Rattle.step_runner.proofs.RunKeys.{HasKeys}
 use Rattle.step_runner.proofs.RunLemmas.{GoesOn, Kept}
-use Rattle.step_runner.proofs.SpeltLines.{count-append, recorded-append, flat-push, spelt-push, map-push, get-behind, split_first, none_first, list-range, range-get}
+use Rattle.step_runner.proofs.SpeltLines.{count-append, recorded-append, flat-push, spelt-push, map-push, get-behind, split_first, none_first}
 use Rattle.step_runner.proofs.StartLemmas.{each_start}
-use Rattle.step_runner.proofs.TurnLemmas.{TurnsUse, Takes, takes_by, turn_cases, moved, ready, replied_other, turn_before, valid_scripts}
+use Rattle.step_runner.proofs.TurnLemmas.{TurnsUse, Takes, takes_by, turn_cases, moved, ready, replied_other, turn_before}
 
 -- what the laws of turns say
 pub record Spells : Type 0 where

@@ -1,7 +1,6 @@
 -- A writer that was granted the lock tries to go on before it leaves, which changes nothing.
-use Rattle.std.proofs.Common.{◌≡◌, ℕ, Bool, true, false, ◌||◌, List, [], ◌∷◌, ◌++◌, refl, ap, ◌∙◌}
+use Rattle.std.proofs.Common.{◌≡◌, ℕ, Bool, true, false, ◌||◌, List, [], ◌∷◌, ◌++◌, refl, ap}
 use Rattle.std.specs.Prelude.{nat_lt, if◌then◌else◌}
-use Rattle.mutex_core.specs.declared.event.MutexEvent.TheVariants as mutex_event
 use Rattle.rw_core.specs.RwMachine as rw
 use Rattle.rw_core.specs.declared.event.RwEvent.TheVariants as rw_event
 use Rattle.rw_core.specs.declared.place.Place.{Place as RwPlace}
@@ -10,7 +9,7 @@ use Rattle.rw_core.specs.declared.reply.RwReply.{RwReply}
 use Rattle.rw_core.specs.declared.reply.RwReply.TheVariants as rw_reply
 use Rattle.run_record.specs.declared.entered.ObjectEvent.TheVariants as events
 use Rattle.run_record.specs.declared.entered.ObjectReply.TheVariants as answered
-use Rattle.sync_model.specs.Log.{Entry, entry, after, Follows}
+use Rattle.sync_model.specs.Log.{entry}
 use Rattle.step_turns.specs.ComesTo.{FollowsTo}
 use Rattle.step_turns.specs.Items.{Item, entered, tries_first, is_requeued, goes_back, unlocks}
 
