@@ -13,6 +13,7 @@ mod RunRanges
 mod SpeltLines
 mod SpeltOutcome
 mod SpeltRun
+mod SpeltTurns
 mod StartLemmas
 mod TurnLemmas
 pub mod FormLemmas

@@ -18,14 +18,14 @@ use Rattle.step_runner.specs.declared.step.Step.{Step}
 use Rattle.step_runner.specs.Ends.{numbered}
 use Rattle.step_runner.specs.Outcomes.{rounds, StepsTo}
 use Rattle.step_runner.specs.RunItems.{all_made}
-use Rattle.step_runner.specs.Spelt.{list_of, lists_of, Falls}
+use Rattle.step_runner.specs.Spelt.{list_of, lists_of, made_for, Falls}
 use Rattle.step_runner.specs.State.{State, start, IsStateOf}
 use Rattle.step_runner.specs.Turns.{items_of as after_all, after_items}
 use Rattle.step_runner.proofs.FormLemmas.{TurnStands, standing_kept, start_stands}
 use Rattle.step_runner.proofs.RunKeys.{Keys, keys_kept, start_keys}
 use Rattle.step_runner.proofs.RunLemmas.{GoesOn, Kept}
 use Rattle.step_runner.proofs.SpeltLines.{list-range, range-get}
-use Rattle.step_runner.proofs.SpeltRun.{Spells, Run, items_fall, begun}
+use Rattle.step_runner.proofs.SpeltRun.{Spells, Run, items_fall, nothing, begun}
 use Rattle.step_runner.proofs.TurnLemmas.{TurnsUse, valid_scripts}
 
 -- what all laws of turns say
@@ -48,10 +48,10 @@ run_kept laws plan goes =
     }
 
 -- at every moment
-pub run_falls : SpeltLaws → (plan : Plan) → GoesOn plan → IsStateOf plan (start plan) → (list : List Turn) (worker : ℕ) → Falls plan worker (all_made plan list (start plan)) (get_or (after_items plan list (start plan)).replies worker [])
+pub run_falls : SpeltLaws → (plan : Plan) → GoesOn plan → IsStateOf plan (start plan) → (list : List Turn) (worker : ℕ) → Falls plan worker (all_made plan list (start plan)) (λ number. made_for plan worker number list (start plan)) (get_or (after_items plan list (start plan)).replies worker [])
 run_falls laws plan goes of list worker =
     let run : Run plan (start plan) = record { standing = start_stands laws.stands plan of; keys = start_keys laws.keys plan (distinct_count (all_keys plan.scripts)) } in
-    items_fall laws.spells laws.stands laws.uses plan goes (run_kept laws plan goes) list [] (start plan) run (begun laws.spells laws.stands plan of run) worker
+    items_fall laws.spells laws.stands laws.uses plan goes (run_kept laws plan goes) list nothing (start plan) run (begun laws.spells laws.stands plan of run) worker
 
 -- ---- all workers
 
@@ -68,7 +68,7 @@ get_mapped f [] k none = sym none
 get_mapped f (x ∷ xs) zero none = refl
 get_mapped f (x ∷ xs) (suc k) none = get_mapped f xs k none
 
-module _ (plan : Plan) (made : List Item) (s : State) (of : IsStateOf plan s) (falls : (worker : ℕ) → Falls plan worker made (get_or s.replies worker [])) where
+module _ (plan : Plan) (made : List Item) (s : State) (of : IsStateOf plan s) (parts : ℕ → ℕ → List Item) (falls : (worker : ℕ) → Falls plan worker made (parts worker) (get_or s.replies worker [])) where
   abbrev line_of : ℕ → Line
   line_of worker = (falls worker).line
 
@@ -106,7 +106,7 @@ module _ (laws : SpeltLaws) (plan : Plan) (goes : GoesOn plan) (of : IsStateOf p
   lined : (outcome : Outcome) (count : ℕ) (s : State) (step : Step) → after_all plan (plan.schedule ++ rounds count plan.workers) (start plan) ≡ (s, step) → (left_by outcome).replies ≡ numbered plan s.replies → Lined plan outcome count
   lined outcome count s step is replies r lists =
       let turns = plan.schedule ++ rounds count plan.workers in
-      are_lines plan (all_made plan turns (start plan)) (after_items plan turns (start plan)) (kept turns) (run_falls laws plan goes of turns) r outcome lists
+      are_lines plan (all_made plan turns (start plan)) (after_items plan turns (start plan)) (kept turns) (λ worker number. made_for plan worker number turns (start plan)) (run_falls laws plan goes of turns) r outcome lists
       (replies ∙ ap (λ (x : State × Step). numbered plan x.0.replies) (sym is))
 
   pub outcome_lined : (outcome : Outcome) → StepsTo plan outcome → (count : ℕ) × Lined plan outcome count

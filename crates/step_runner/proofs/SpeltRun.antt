@@ -1,6 +1,6 @@
 -- The items of each call of a run spell it.
-use Rattle.std.proofs.Common.{◌≡◌, ◌≢◌, ℕ, zero, suc, ◌+◌, ◌<◌, Bool, true, false, eqb, List, [], ◌∷◌, ◌++◌, map, filter, length, get_or, replicate, Option, Some, None, refl, sym, ap, ◌∙◌, subst, append-nil, append_assoc, arith}
-use Rattle.std.specs.Prelude.{◌==◌, Ok, Err, slice_get, sum_by, All}
+use Rattle.std.proofs.Common.{◌≡◌, ◌≢◌, ℕ, zero, suc, ◌+◌, ◌<◌, Bool, true, false, eqb, List, [], ◌∷◌, ◌++◌, map, filter, length, get_or, replicate, Option, Some, None, refl, sym, ap, ◌∙◌, subst, append-nil, append_assoc, arith, ◌&&◌}
+use Rattle.std.specs.Prelude.{◌==◌, Ok, Err, slice_get, sum_by, All, if◌then◌else◌}
 use Rattle.std.specs.List.{flat_map}
 use Rattle.std.specs.Option.{option_map_or}
 use Rattle.std.proofs.lemmas.Bool.{eqb-true, eqb-false}
@@ -39,7 +39,8 @@ use Rattle.step_spelling.specs.Within.{IsIdle, IsWithin, StandsBehind}
 use Rattle.step_runner.specs.declared.step.Step.{Step}
 use Rattle.step_runner.specs.declared.step.Step.TheVariants as steps
 use Rattle.step_runner.specs.RunItems.{made_by, unless_ended, all_made}
-use Rattle.step_runner.specs.Spelt.{by_worker, list_of, Falls}
+use Rattle.step_runner.specs.CallTurns.{stands_before}
+use Rattle.step_runner.specs.Spelt.{by_worker, list_of, part_by, made_for, Falls}
 use Rattle.step_runner.specs.State.{State, start, with_reply, with_moment, IsStateOf}
 use Rattle.step_runner.specs.Turns.{next_call, settled, turn_of, and_then, items_of as after_all, after_items}
 use Rattle.step_runner.proofs.FormLemmas.{TurnStands, Standing, own_at, kinds_in}
@@ -47,6 +48,7 @@ use Rattle.step_runner.proofs.MadeLemmas.{event_state}
 use Rattle.step_runner.proofs.RunKeys.{HasKeys}
 use Rattle.step_runner.proofs.RunLemmas.{GoesOn, Kept}
 use Rattle.step_runner.proofs.SpeltLines.{count-append, recorded-append, flat-push, spelt-push, map-push, get-behind, split_first, none_first}
+use Rattle.step_runner.proofs.SpeltTurns.{items_in, count_in, ByTurns, same_parts, more_last, more_spelt, part_of_other, part_of_own, part_elsewhere}
 use Rattle.step_runner.proofs.StartLemmas.{each_start}
 use Rattle.step_runner.proofs.TurnLemmas.{TurnsUse, Takes, takes_by, turn_cases, moved, ready, replied_other, turn_before}
 
@@ -72,11 +74,17 @@ pub record Spells : Type 0 where
 
 -- ---- what is so of a worker's items so far
 
-abbrev items_in : List SpeltCall → List Made
-items_in spelt = flat_map (λ (s : SpeltCall). s.items) spelt
+-- the items so far, and those that turns made for each worker's call of each number
+pub record Trace : Type 0 where
+  pub all : List Item
+  pub parts : ℕ → ℕ → List Item
 
-abbrev count_in : List Made → ℕ
-count_in made = length (shared_in made)
+-- with a turn more
+abbrev more : Plan → Trace → ℕ → State → Trace
+more plan made by s = record { all = made.all ++ made_by plan by s; parts = λ worker number. made.parts worker number ++ part_by plan worker number by s }
+
+abbrev FallsAs : Plan → ℕ → Trace → List (Reply (List ℕ)) → Type 0
+FallsAs plan worker made given = Falls plan worker made.all (made.parts worker) given
 
 -- within its next call, if there is one: with whatever items spell what is left, the last ones spell the call. Else it stands nowhere
 abbrev Stands : Plan → ℕ → ℕ → List Made → Option Call → List ObjectState → Type 0
@@ -84,28 +92,34 @@ Stands plan worker before last None objects = (last ≡ []) × EachAt (λ place.
 Stands plan worker before last (Some call) objects =
     IsWithin worker call objects × ((later : List Made) (answer : CallAnswer (Reply ℕ)) → left_at plan worker (before + count_in last) call objects later answer → SpellsCall plan worker before call (last ++ later) answer)
 
-pub record SoFar (plan : Plan) (worker : ℕ) (made : List Item) (s : State) : Type 0 where
+pub record SoFar (plan : Plan) (worker : ℕ) (made : Trace) (s : State) : Type 0 where
   spelt : List SpeltCall
   last : List Made
   rest : List Call
   script : map (λ (x : SpeltCall). x.call) spelt ++ rest ≡ get_or plan.scripts worker []
   replies : map (λ (x : SpeltCall). x.reply) spelt ≡ map (recorded_reply plan) (get_or s.replies worker [])
-  items : items_in spelt ++ last ≡ list_of plan made worker
+  items : items_in spelt ++ last ≡ list_of plan made.all worker
+  turns : ByTurns plan spelt last (made.parts worker)
   are : AreSpelt plan worker 0 spelt
   stands : Stands plan worker (count_in (items_in spelt)) last (next_call plan worker s) s.objects
 
 -- the next call is the first that is left
-next_left : (plan : Plan) (worker : ℕ) (made : List Item) (s : State) (h : SoFar plan worker made s) → next_call plan worker s ≡ slice_get h.rest 0
+next_left : (plan : Plan) (worker : ℕ) (made : Trace) (s : State) (h : SoFar plan worker made s) → next_call plan worker s ≡ slice_get h.rest 0
 next_left plan worker made s h =
     let count : length (get_or s.replies worker []) ≡ length (map (λ (x : SpeltCall). x.call) h.spelt) =
     sym (length-map (get_or s.replies worker []) (recorded_reply plan)) ∙ ap (length {A = Reply ℕ}) (sym h.replies) ∙ length-map h.spelt (λ (x : SpeltCall). x.reply) ∙ sym (length-map h.spelt (λ (x : SpeltCall). x.call)) in
     (λ i. slice_get (sym h.script i) (count i)) ∙ get-behind (map (λ (x : SpeltCall). x.call) h.spelt) h.rest
 
+-- it has as many replies as calls were completed
+count_spelt : (plan : Plan) (worker : ℕ) (made : Trace) (s : State) (h : SoFar plan worker made s) → length (get_or s.replies worker []) ≡ length h.spelt
+count_spelt plan worker made s h =
+    sym (length-map (get_or s.replies worker []) (recorded_reply plan)) ∙ ap (length {A = Reply ℕ}) (sym h.replies) ∙ length-map h.spelt (λ (x : SpeltCall). x.reply)
+
 -- as a line, at this moment
-ends_line : Spells → (plan : Plan) (worker : ℕ) (made : List Item) (s : State) → IsStateOf plan s → SoFar plan worker made s → Falls plan worker made (get_or s.replies worker [])
+ends_line : Spells → (plan : Plan) (worker : ℕ) (made : Trace) (s : State) → IsStateOf plan s → SoFar plan worker made s → FallsAs plan worker made (get_or s.replies worker [])
 ends_line laws plan worker made s of h = by_next (next_call plan worker s) refl
   where
-    by_next : (o : Option Call) → next_call plan worker s ≡ o → Falls plan worker made (get_or s.replies worker [])
+    by_next : (o : Option Call) → next_call plan worker s ≡ o → FallsAs plan worker made (get_or s.replies worker [])
     by_next None none =
         let stands = subst (λ (o : Option Call). Stands plan worker (count_in (items_in h.spelt)) h.last o s.objects) none h.stands in
         record {
@@ -113,6 +127,8 @@ ends_line laws plan worker made s of h = by_next (next_call plan worker s) refl
           script = h.script;
           items = h.items;
           replies = h.replies;
+          turns = h.turns.each;
+          behind = h.turns.current;
           is = record { calls = h.are; ends = (none_first h.rest (sym (next_left plan worker made s h) ∙ none), stands.0) };
         }
     by_next (Some call) some =
@@ -124,6 +140,8 @@ ends_line laws plan worker made s of h = by_next (next_call plan worker s) refl
           script = ap (λ (l : List Call). map (λ (x : SpeltCall). x.call) h.spelt ++ l) (sym split.1) ∙ h.script;
           items = h.items;
           replies = h.replies;
+          turns = h.turns.each;
+          behind = h.turns.current;
           is = record { calls = h.are; ends = (can.0, can.1, stands.1 can.0 can.1 can.2) };
         }
 
@@ -138,10 +156,10 @@ pub record Run (plan : Plan) (s : State) : Type 0 where
   pub keys : HasKeys (all_keys plan.scripts) (distinct_count (all_keys plan.scripts)) s
 
 -- behind a turn: so far, or as a line, where the turn was a misuse
-abbrev Behind : Plan → ℕ → List Item → State × Step → Type 0
+abbrev Behind : Plan → ℕ → Trace → State × Step → Type 0
 Behind plan worker made (t, steps.Still) = SoFar plan worker made t
 Behind plan worker made (t, steps.Made) = SoFar plan worker made t
-Behind plan worker made (t, steps.Misused misuse) = Falls plan worker made (get_or t.replies worker [])
+Behind plan worker made (t, steps.Misused misuse) = FallsAs plan worker made (get_or t.replies worker [])
 
 module _ (laws : Spells) (stand_laws : TurnStands) (uses : TurnsUse) (plan : Plan) (goes : GoesOn plan) (by : ℕ) (s : State) (run : Run plan s) where
   of : IsStateOf plan s
@@ -171,7 +189,7 @@ module _ (laws : Spells) (stand_laws : TurnStands) (uses : TurnsUse) (plan : Pla
 
   -- ---- another worker
 
-  module _ (worker : ℕ) (made : List Item) (apart : worker ≢ by) (h : SoFar plan worker made s) where
+  module _ (worker : ℕ) (made : Trace) (apart : worker ≢ by) (h : SoFar plan worker made s) where
     -- its objects behind the turn
     other_stands : (call : Call) (objects : List ObjectState) (answer : Answer) → Takes plan by s call objects answer → Stands plan worker (count_in (items_in h.spelt)) h.last (next_call plan worker s) objects
     other_stands call objects answer takes = by_next (next_call plan worker s) refl
@@ -187,20 +205,21 @@ module _ (laws : Spells) (stand_laws : TurnStands) (uses : TurnsUse) (plan : Pla
             let kept = laws.others plan worker by (count_in (items_in h.spelt) + count_in h.last) s.moment own call s.objects (ready plan worker s own of some) r apart in
             (kept.0 stands.0, λ later answer l. stands.1 later answer (kept.1 later answer l)))
 
-    other_so_far : (t : State) → get_or t.replies worker [] ≡ get_or s.replies worker [] → Stands plan worker (count_in (items_in h.spelt)) h.last (next_call plan worker s) t.objects → SoFar plan worker (made ++ made_by plan by s) t
+    other_so_far : (t : State) → get_or t.replies worker [] ≡ get_or s.replies worker [] → Stands plan worker (count_in (items_in h.spelt)) h.last (next_call plan worker s) t.objects → SoFar plan worker (more plan made by s) t
     other_so_far t same stands = record {
       spelt = h.spelt;
       last = h.last;
       rest = h.rest;
       script = h.script;
       replies = h.replies ∙ ap (map (recorded_reply plan)) (sym same);
-      items = h.items ∙ sym (other_list made worker apart);
+      items = h.items ∙ sym (other_list made.all worker apart);
+      turns = same_parts plan h.spelt h.last (made.parts worker) ((more plan made by s).parts worker) (λ k. ap (λ (l : List Item). made.parts worker k ++ l) (part_of_other plan worker k by s apart) ∙ append-nil (made.parts worker k)) h.turns;
       are = h.are;
       stands = subst (λ (done : List (Reply (List ℕ))). Stands plan worker (count_in (items_in h.spelt)) h.last (slice_get (get_or plan.scripts worker []) (length done)) t.objects) (sym same) stands;
     }
 
-    other_behind : Behind plan worker (made ++ made_by plan by s) (turn_of plan by s)
-    other_behind = turn_cases (Behind plan worker (made ++ made_by plan by s)) plan by s of (record {
+    other_behind : Behind plan worker (more plan made by s) (turn_of plan by s)
+    other_behind = turn_cases (Behind plan worker (more plan made by s)) plan by s of (record {
       ended = λ none. other_so_far s refl h.stands;
       still = λ call objects takes. other_so_far (moved objects s) refl (other_stands call objects answers.Still takes);
       unfinished = λ call objects takes. other_so_far (moved objects s) refl (other_stands call objects answers.Unfinished takes);
@@ -208,18 +227,18 @@ module _ (laws : Spells) (stand_laws : TurnStands) (uses : TurnsUse) (plan : Pla
       misused = λ call objects misuse takes. misused_line call objects misuse takes;
     })
       where
-        misused_line : (call : Call) (objects : List ObjectState) (misuse : Misuse) → Takes plan by s call objects (answers.Misused misuse) → Falls plan worker (made ++ made_by plan by s) (get_or s.replies worker [])
+        misused_line : (call : Call) (objects : List ObjectState) (misuse : Misuse) → Takes plan by s call objects (answers.Misused misuse) → FallsAs plan worker (more plan made by s) (get_or s.replies worker [])
         misused_line call objects misuse takes =
-            ends_line laws plan worker (made ++ made_by plan by s) (moved objects s) (state_of call objects (answers.Misused misuse) takes) (other_so_far (moved objects s) refl (other_stands call objects (answers.Misused misuse) takes))
+            ends_line laws plan worker (more plan made by s) (moved objects s) (state_of call objects (answers.Misused misuse) takes) (other_so_far (moved objects s) refl (other_stands call objects (answers.Misused misuse) takes))
 
   -- ---- the worker itself
 
-  module _ (made : List Item) (h : SoFar plan by made s) where
+  module _ (made : Trace) (h : SoFar plan by made s) where
     abbrev before : ℕ
     before = count_in (items_in h.spelt)
 
     abbrev so_many : ℕ
-    so_many = count_in (list_of plan made by)
+    so_many = count_in (list_of plan made.all by)
 
     count_is : before + count_in h.last ≡ so_many
     count_is = sym (count-append (items_in h.spelt) h.last) ∙ ap count_in h.items
@@ -236,8 +255,19 @@ module _ (laws : Spells) (stand_laws : TurnStands) (uses : TurnsUse) (plan : Pla
       rest_is : (rest : List Call) × (h.rest ≡ call ∷ rest)
       rest_is = split_first h.rest call (sym (next_left plan by made s h) ∙ some)
 
-      list_is : list_of plan (made ++ made_by plan by s) by ≡ items_in h.spelt ++ (h.last ++ turn_made)
-      list_is = own_list made call some ∙ ap (λ (l : List Made). l ++ turn_made) (sym h.items) ∙ append_assoc (items_in h.spelt) h.last turn_made
+      list_is : list_of plan (made.all ++ made_by plan by s) by ≡ items_in h.spelt ++ (h.last ++ turn_made)
+      list_is = own_list made.all call some ∙ ap (λ (l : List Made). l ++ turn_made) (sym h.items) ∙ append_assoc (items_in h.spelt) h.last turn_made
+
+      -- they are the turn's, before this call
+      own_turns : ByTurns plan h.spelt (h.last ++ turn_made) ((more plan made by s).parts by)
+      own_turns =
+          let turn = items_at call by s.moment s.objects in
+          let is_turn : made_by plan by s ≡ turn = ap (λ (o : Option Call). option_map_or (λ call. items_at call by s.moment s.objects) o []) some in
+          let count = count_spelt plan by made s h in
+          subst (λ (n : ℕ). ByTurns plan h.spelt (h.last ++ recorded plan n turn) ((more plan made by s).parts by)) count_is
+          (more_last plan h.spelt h.last (made.parts by) ((more plan made by s).parts by) turn
+          (ap (λ (l : List Item). made.parts by (length h.spelt) ++ l) (ap (λ (n : ℕ). part_by plan by n by s) (sym count) ∙ part_of_own plan by s ∙ is_turn))
+          (λ k far. ap (λ (l : List Item). made.parts by k ++ l) (part_elsewhere plan by k s (λ same. far (same ∙ count))) ∙ append-nil (made.parts by k)) h.turns)
 
       abbrev Told : List ObjectState × Answer → Type 0
       Told x = Tells plan (left_at plan by so_many call s.objects) (left_at plan by (so_many + count_in turn_made) call x.0) turn_made x.1 × StandsBehind by call x.1 x.0
@@ -251,7 +281,7 @@ module _ (laws : Spells) (stand_laws : TurnStands) (uses : TurnsUse) (plan : Pla
       told objects answer takes = takes_by Told plan by s call objects answer of takes (λ r. laws.own plan by so_many s.moment call s.objects r run.keys.maps out_is own_stands.0)
 
       -- a turn without an event
-      own_still : (objects : List ObjectState) → Takes plan by s call objects answers.Still → SoFar plan by (made ++ made_by plan by s) (moved objects s)
+      own_still : (objects : List ObjectState) → Takes plan by s call objects answers.Still → SoFar plan by (more plan made by s) (moved objects s)
       own_still objects takes =
           let t = told objects answers.Still takes in
           let same : objects ≡ s.objects = takes_by (λ x. UsesBy (sum_by object_left s.objects) (sum_by object_left x.0) (x.0 ≡ s.objects) x.1) plan by s call objects answers.Still of takes (λ r. uses plan.workers by s.moment call s.objects r) in
@@ -262,12 +292,13 @@ module _ (laws : Spells) (stand_laws : TurnStands) (uses : TurnsUse) (plan : Pla
             script = h.script;
             replies = h.replies;
             items = sym (list_is ∙ ap (λ (l : List Made). items_in h.spelt ++ (h.last ++ l)) t.0 ∙ ap (λ (l : List Made). items_in h.spelt ++ l) (append-nil h.last));
+            turns = subst (λ (l : List Made). ByTurns plan h.spelt l ((more plan made by s).parts by)) (ap (λ (l : List Made). h.last ++ l) t.0 ∙ append-nil h.last) own_turns;
             are = h.are;
             stands = subst (λ (os : List ObjectState). Stands plan by before h.last (next_call plan by s) os) (sym same) h.stands;
           }
 
       -- an event after which the call has not returned
-      own_unfinished : (objects : List ObjectState) → Takes plan by s call objects answers.Unfinished → SoFar plan by (made ++ made_by plan by s) (moved objects s)
+      own_unfinished : (objects : List ObjectState) → Takes plan by s call objects answers.Unfinished → SoFar plan by (more plan made by s) (moved objects s)
       own_unfinished objects takes =
           let t = told objects answers.Unfinished takes in
           let count : before + count_in (h.last ++ turn_made) ≡ so_many + count_in turn_made = omega (arith, count-append h.last turn_made, count_is) in
@@ -278,6 +309,7 @@ module _ (laws : Spells) (stand_laws : TurnStands) (uses : TurnsUse) (plan : Pla
             script = h.script;
             replies = h.replies;
             items = sym list_is;
+            turns = own_turns;
             are = h.are;
             stands = subst (λ (o : Option Call). Stands plan by before (h.last ++ turn_made) o objects) (sym some) (
               t.1,
@@ -302,7 +334,7 @@ module _ (laws : Spells) (stand_laws : TurnStands) (uses : TurnsUse) (plan : Pla
           let none : first + 0 ≡ first = omega arith in
           (entered.0, λ later answer l. entered.1 later answer (subst (λ (n : ℕ). left_at plan by n next objects later answer) none l))
 
-      own_completed : (objects : List ObjectState) (reply : Reply (List ℕ)) → Takes plan by s call objects (answers.Completed reply) → SoFar plan by (made ++ made_by plan by s) (with_reply by reply (moved objects s))
+      own_completed : (objects : List ObjectState) (reply : Reply (List ℕ)) → Takes plan by s call objects (answers.Completed reply) → SoFar plan by (more plan made by s) (with_reply by reply (moved objects s))
       own_completed objects reply takes =
           let t = with_reply by reply (moved objects s) in
           let one = one_more reply in
@@ -319,11 +351,12 @@ module _ (laws : Spells) (stand_laws : TurnStands) (uses : TurnsUse) (plan : Pla
             replies = map-push (λ (x : SpeltCall). x.reply) h.spelt one ∙ ap (λ (l : List (Reply ℕ)). l ++ recorded_reply plan reply ∷ []) h.replies
                 ∙ sym (map-push (recorded_reply plan) (get_or s.replies by []) reply) ∙ ap (map (recorded_reply plan)) (sym now);
             items = append-nil (items_in (h.spelt ++ one ∷ [])) ∙ flat-push h.spelt one ∙ sym list_is;
+            turns = more_spelt plan h.spelt one ((more plan made by s).parts by) own_turns;
             are = spelt-push plan by 0 h.spelt one h.are (subst (λ (n : ℕ). SpellsCall plan by n call one.items (Done (Ok one.reply))) none spells);
             stands = completed_stands objects reply takes (next_call plan by t) refl;
           }
 
-      own_misused : (objects : List ObjectState) (misuse : Misuse) → Takes plan by s call objects (answers.Misused misuse) → Falls plan by (made ++ made_by plan by s) (get_or s.replies by [])
+      own_misused : (objects : List ObjectState) (misuse : Misuse) → Takes plan by s call objects (answers.Misused misuse) → FallsAs plan by (more plan made by s) (get_or s.replies by [])
       own_misused objects misuse takes =
           let spells = own_stands.1 turn_made (Done (Err misuse)) (told objects (answers.Misused misuse) takes).0 in
           record {
@@ -331,17 +364,34 @@ module _ (laws : Spells) (stand_laws : TurnStands) (uses : TurnsUse) (plan : Pla
             script = ap (λ (l : List Call). map (λ (x : SpeltCall). x.call) h.spelt ++ l) (sym rest_is.1) ∙ h.script;
             items = sym list_is;
             replies = h.replies;
+            turns = own_turns.each;
+            behind = own_turns.current;
             is = record { calls = h.are; ends = (h.last ++ turn_made, [], sym (append-nil (h.last ++ turn_made)), spells, no_halts misuse) };
           }
 
     -- one whose script has ended makes nothing
-    own_ended : next_call plan by s ≡ None → SoFar plan by (made ++ made_by plan by s) s
+    own_ended : next_call plan by s ≡ None → SoFar plan by (more plan made by s) s
     own_ended none =
         let nothing : made_by plan by s ≡ [] = ap (λ (o : Option Call). option_map_or (λ call. items_at call by s.moment s.objects) o []) none in
-        subst (λ (l : List Item). SoFar plan by l s) (sym (ap (λ (l : List Item). made ++ l) nothing ∙ append-nil made)) h
+        record {
+          spelt = h.spelt;
+          last = h.last;
+          rest = h.rest;
+          script = h.script;
+          replies = h.replies;
+          items = h.items ∙ sym (ap (λ (l : List Item). list_of plan (made.all ++ l) by) nothing ∙ ap (λ (l : List Item). list_of plan l by) (append-nil made.all));
+          turns = same_parts plan h.spelt h.last (made.parts by) ((more plan made by s).parts by)
+              (λ k. ap (λ (l : List Item). made.parts by k ++ l) (no_part k nothing ((by == by) && stands_before by k s)) ∙ append-nil (made.parts by k)) h.turns;
+          are = h.are;
+          stands = h.stands;
+        }
+      where
+        no_part : (k : ℕ) → made_by plan by s ≡ [] → (b : Bool) → (if b then made_by plan by s else []) ≡ []
+        no_part k nothing true = nothing
+        no_part k nothing false = refl
 
-    own_behind : Behind plan by (made ++ made_by plan by s) (turn_of plan by s)
-    own_behind = turn_cases (Behind plan by (made ++ made_by plan by s)) plan by s of (record {
+    own_behind : Behind plan by (more plan made by s) (turn_of plan by s)
+    own_behind = turn_cases (Behind plan by (more plan made by s)) plan by s of (record {
       ended = own_ended;
       still = λ call objects takes. own_still call takes.next objects takes;
       unfinished = λ call objects takes. own_unfinished call takes.next objects takes;
@@ -349,35 +399,65 @@ module _ (laws : Spells) (stand_laws : TurnStands) (uses : TurnsUse) (plan : Pla
       misused = λ call objects misuse takes. own_misused call takes.next objects misuse takes;
     })
 
-  pub turn_behind : (made : List Item) → ((worker : ℕ) → SoFar plan worker made s) → (worker : ℕ) → Behind plan worker (made ++ made_by plan by s) (turn_of plan by s)
+  pub turn_behind : (made : Trace) → ((worker : ℕ) → SoFar plan worker made s) → (worker : ℕ) → Behind plan worker (more plan made by s) (turn_of plan by s)
   turn_behind made all worker = by_worker_is (eqb worker by) refl
     where
-      by_worker_is : (b : Bool) → eqb worker by ≡ b → Behind plan worker (made ++ made_by plan by s) (turn_of plan by s)
-      by_worker_is true is = subst (λ (w : ℕ). Behind plan w (made ++ made_by plan by s) (turn_of plan by s)) (sym (eqb-true worker by is)) (own_behind made (all by))
+      by_worker_is : (b : Bool) → eqb worker by ≡ b → Behind plan worker (more plan made by s) (turn_of plan by s)
+      by_worker_is true is = subst (λ (w : ℕ). Behind plan w (more plan made by s) (turn_of plan by s)) (sym (eqb-true worker by is)) (own_behind made (all by))
       by_worker_is false far = other_behind worker made (eqb-false worker by far) (all worker)
 
 -- ---- turns in order
 
 module _ (laws : Spells) (stand_laws : TurnStands) (uses : TurnsUse) (plan : Plan) (goes : GoesOn plan) (kept : Kept plan (Run plan)) where
-  abbrev After : ℕ → List Item → State → Type 0
-  After worker made t = Falls plan worker made (get_or t.replies worker [])
+  abbrev After : ℕ → Trace → State → Type 0
+  After worker made t = FallsAs plan worker made (get_or t.replies worker [])
 
-  with_clock : (worker moment : ℕ) (made : List Item) (s : State) → SoFar plan worker made s → SoFar plan worker made (with_moment moment s)
-  with_clock worker moment made s h = record { spelt = h.spelt; last = h.last; rest = h.rest; script = h.script; replies = h.replies; items = h.items; are = h.are; stands = h.stands }
+  -- what a turn and what follows it make behind others
+  abbrev behind_all : Trace → ℕ → State → List Turn → State × Step → Trace
+  behind_all made by s rest x = record {
+    all = made.all ++ (made_by plan by s ++ unless_ended x (all_made plan rest));
+    parts = λ worker number. made.parts worker number ++ (part_by plan worker number by s ++ unless_ended x (made_for plan worker number rest));
+  }
 
-  later_fall : (rest : List Turn) (made first : List Item) (x : State × Step) → Run plan x.0 → ((worker : ℕ) → Behind plan worker (made ++ first) x)
-      → ((earlier : List Item) (t : State) → Run plan t → ((worker : ℕ) → SoFar plan worker earlier t) → (worker : ℕ) → After worker (earlier ++ all_made plan rest t) (after_items plan rest t))
-      → (worker : ℕ) → After worker (made ++ (first ++ unless_ended x (all_made plan rest))) (and_then x (after_all plan rest)).0
-  later_fall rest made first (t, steps.Still) run all later worker = subst (λ (l : List Item). After worker l (after_items plan rest t)) (append_assoc made first (all_made plan rest t)) (later (made ++ first) t run all worker)
-  later_fall rest made first (t, steps.Made) run all later worker =
-      subst (λ (u : State). After worker (made ++ (first ++ all_made plan rest t)) u) (sym (event_state (after_all plan rest t)))
-      (subst (λ (l : List Item). After worker l (after_items plan rest t)) (append_assoc made first (all_made plan rest t)) (later (made ++ first) t run all worker))
-  later_fall rest made first (t, steps.Misused misuse) run all later worker = subst (λ (l : List Item). After worker (made ++ l) t) (sym (append-nil first)) (all worker)
+  -- what turns make behind others
+  abbrev joined : Trace → List Turn → State → Trace
+  joined made list s = record { all = made.all ++ all_made plan list s; parts = λ worker number. made.parts worker number ++ made_for plan worker number list s }
 
-  pub items_fall : (list : List Turn) (made : List Item) (s : State) → Run plan s → ((worker : ℕ) → SoFar plan worker made s) → (worker : ℕ) → After worker (made ++ all_made plan list s) (after_items plan list s)
-  items_fall [] made s run all worker = subst (λ (l : List Item). After worker l s) (sym (append-nil made)) (ends_line laws plan worker made s run.standing.of (all worker))
+  with_clock : (worker moment : ℕ) (made : Trace) (s : State) → SoFar plan worker made s → SoFar plan worker made (with_moment moment s)
+  with_clock worker moment made s h = record { spelt = h.spelt; last = h.last; rest = h.rest; script = h.script; replies = h.replies; items = h.items; turns = h.turns; are = h.are; stands = h.stands }
+
+  goes_behind : (made : Trace) (by : ℕ) (s : State) (rest : List Turn) (t : State) → joined (more plan made by s) rest t ≡ behind_all made by s rest (t, steps.Still)
+  goes_behind made by s rest t =
+      λ i.
+      record {
+        all = append_assoc made.all (made_by plan by s) (all_made plan rest t) i;
+        parts = λ worker number. append_assoc (made.parts worker number) (part_by plan worker number by s) (made_for plan worker number rest t) i;
+      }
+
+  ends_behind : (made : Trace) (by : ℕ) (s : State) (rest : List Turn) (t : State) (misuse : Misuse) → more plan made by s ≡ behind_all made by s rest (t, steps.Misused misuse)
+  ends_behind made by s rest t misuse =
+      λ i.
+      record {
+        all = made.all ++ sym (append-nil (made_by plan by s)) i;
+        parts = λ worker number. made.parts worker number ++ sym (append-nil (part_by plan worker number by s)) i;
+      }
+
+  later_fall : (rest : List Turn) (made : Trace) (by : ℕ) (s : State) (x : State × Step) → Run plan x.0 → ((worker : ℕ) → Behind plan worker (more plan made by s) x)
+      → ((earlier : Trace) (t : State) → Run plan t → ((worker : ℕ) → SoFar plan worker earlier t) → (worker : ℕ) → After worker (joined earlier rest t) (after_items plan rest t))
+      → (worker : ℕ) → After worker (behind_all made by s rest x) (and_then x (after_all plan rest)).0
+  later_fall rest made by s (t, steps.Still) run all later worker = subst (λ (m : Trace). After worker m (after_items plan rest t)) (goes_behind made by s rest t) (later (more plan made by s) t run all worker)
+  later_fall rest made by s (t, steps.Made) run all later worker =
+      subst (λ (u : State). After worker (behind_all made by s rest (t, steps.Made)) u) (sym (event_state (after_all plan rest t)))
+      (subst (λ (m : Trace). After worker m (after_items plan rest t)) (goes_behind made by s rest t) (later (more plan made by s) t run all worker))
+  later_fall rest made by s (t, steps.Misused misuse) run all later worker = subst (λ (m : Trace). After worker m t) (ends_behind made by s rest t misuse) (all worker)
+
+  nothing_behind : (made : Trace) (s : State) → made ≡ joined made [] s
+  nothing_behind made s = λ i. record { all = sym (append-nil made.all) i; parts = λ worker number. sym (append-nil (made.parts worker number)) i }
+
+  pub items_fall : (list : List Turn) (made : Trace) (s : State) → Run plan s → ((worker : ℕ) → SoFar plan worker made s) → (worker : ℕ) → After worker (joined made list s) (after_items plan list s)
+  items_fall [] made s run all worker = subst (λ (m : Trace). After worker m s) (nothing_behind made s) (ends_line laws plan worker made s run.standing.of (all worker))
   items_fall (items.Worker by ∷ rest) made s run all worker =
-      later_fall rest made (made_by plan by s) (turn_of plan by s) (kept.turn by s run) (turn_behind laws stand_laws uses plan goes by s run made all) (items_fall rest) worker
+      later_fall rest made by s (turn_of plan by s) (kept.turn by s run) (turn_behind laws stand_laws uses plan goes by s run made all) (items_fall rest) worker
   items_fall (items.Moment moment ∷ rest) made s run all worker =
       items_fall rest made (with_moment moment s) (kept.moment moment s run) (λ w. with_clock w moment made s (all w)) worker
 
@@ -388,7 +468,11 @@ none_replied zero worker = refl
 none_replied (suc n) zero = refl
 none_replied (suc n) (suc worker) = none_replied n worker
 
-pub begun : Spells → TurnStands → (plan : Plan) → IsStateOf plan (start plan) → Run plan (start plan) → (worker : ℕ) → SoFar plan worker [] (start plan)
+-- nothing was made
+abbrev pub nothing : Trace
+nothing = record { all = []; parts = λ worker number. [] }
+
+pub begun : Spells → TurnStands → (plan : Plan) → IsStateOf plan (start plan) → Run plan (start plan) → (worker : ℕ) → SoFar plan worker nothing (start plan)
 begun laws stand_laws plan of run worker = record {
   spelt = [];
   last = [];
@@ -396,6 +480,7 @@ begun laws stand_laws plan of run worker = record {
   script = refl;
   replies = ap (map (recorded_reply plan)) (sym (none_replied plan.workers worker));
   items = refl;
+  turns = record { each = λ k one at. absurd cc; current = refl; later = λ k far. refl };
   are = tt;
   stands = by_next (next_call plan worker (start plan)) refl;
 }

@@ -40,7 +40,7 @@ ghost use Rattle.step_runner.specs.LeftToDo.{left_to_do};
 ghost use Rattle.step_runner.specs.MadeCalls.{made_calls, calls_of};
 ghost use Rattle.step_runner.specs.Outcomes.{rounds, StepsTo};
 ghost use Rattle.step_runner.specs.RunItems.{all_made, IsAnswered, LeadTo};
-ghost use Rattle.step_runner.specs.Spelt.{lists_of, Falls};
+ghost use Rattle.step_runner.specs.Spelt.{lists_of, made_for, Falls};
 ghost use Rattle.step_runner.specs.State.{State, IsStateOf, start, with_moment};
 ghost use Rattle.step_runner.specs.Turns.{next_call, turn_of, items_of, after_items, has_ended};
 ghost use Rattle.step_runner.specs.Forms.{all_have_forms, has_forms};
@@ -187,10 +187,10 @@ pub fn placed_calls_are_answered_by_their_items()
 }
 
 /// At every moment, behind any turns up to the first misuse, a worker's items fall into the calls of its script, in order: each
-/// completed call is spelt by its own items, as a record's are, and its reply is read off them. Behind them stand the first items
-/// of at most one more call, or that call as a misuse. So the lists of any record that has the run's items are lines of the outcome.
+/// completed call is spelt by the items of its own turns, as a record's are, and its reply is read off them. Behind them stand the
+/// first items of at most one more call, or that call as a misuse. So the lists of any record that has the run's items are lines of the outcome.
 pub fn the_items_of_each_call_spell_it()
-    ensures always { (plan : Plan) (items : List Turn) (worker : ℕ) → is_valid plan ≡ true → Falls plan worker (all_made plan items (start plan)) (get_or (after_items plan items (start plan)).replies worker []) }
+    ensures always { (plan : Plan) (items : List Turn) (worker : ℕ) → is_valid plan ≡ true → Falls plan worker (all_made plan items (start plan)) (λ number. made_for plan worker number items (start plan)) (get_or (after_items plan items (start plan)).replies worker []) }
     ensures outcomes { (plan : Plan) (outcome : Outcome) → is_valid plan ≡ true → StepsTo plan outcome
         → (count : ℕ) × ((r : Record) → r.lists ≡ lists_of plan (all_made plan (plan.schedule ++ rounds count plan.workers) (start plan)) → (lines : List Line) × AreLines plan r outcome lines) }
 {
