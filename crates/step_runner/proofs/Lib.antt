@@ -11,6 +11,7 @@ mod RunLemmas
 mod RunLogs
 mod RunRanges
 mod SpeltLines
+mod SpeltMisuse
 mod SpeltOutcome
 mod SpeltRun
 mod SpeltTurns

@@ -2,7 +2,7 @@
 use Rattle.std.proofs.Common.{◌≡◌, ◌≢◌, ℕ, zero, suc, ◌+◌, ◌<◌, Bool, true, false, eqb, List, [], ◌∷◌, ◌++◌, map, filter, length, get_or, replicate, Option, Some, None, refl, sym, ap, ◌∙◌, subst, append-nil, append_assoc, arith, ◌&&◌}
 use Rattle.std.specs.Prelude.{◌==◌, Ok, Err, slice_get, sum_by, All, if◌then◌else◌}
 use Rattle.std.specs.Option.{option_map_or}
-use Rattle.std.proofs.lemmas.Bool.{eqb-true, eqb-false}
+use Rattle.std.proofs.lemmas.Bool.{eq-eqb, eqb-true, eqb-false}
 use Rattle.std.proofs.lemmas.List.{length-map, get_or-set_same}
 use Rattle.std.proofs.lemmas.List.Elements.{filter-append}
 use Rattle.sync_model.specs.declared.answer.Answer.TheVariants.{Done}
@@ -39,7 +39,7 @@ use Rattle.step_runner.specs.declared.step.Step.{Step}
 use Rattle.step_runner.specs.declared.step.Step.TheVariants as steps
 use Rattle.step_runner.specs.RunItems.{made_by, unless_ended, all_made}
 use Rattle.step_runner.specs.CallTurns.{stands_before}
-use Rattle.step_runner.specs.Spelt.{by_worker, list_of, part_by, made_for, Falls}
+use Rattle.step_runner.specs.Spelt.{by_worker, list_of, part_by, made_for, misuse_by, misuse_of, ending_by, Falls}
 use Rattle.step_runner.specs.State.{State, start, with_reply, with_moment, IsStateOf}
 use Rattle.step_runner.specs.Turns.{next_call, settled, turn_of, and_then, items_of as after_all, after_items}
 use Rattle.step_runner.proofs.FormLemmas.{TurnStands, Standing, own_at, kinds_in}
@@ -82,8 +82,8 @@ pub record Trace : Type 0 where
 abbrev more : Plan → Trace → ℕ → State → Trace
 more plan made by s = record { all = made.all ++ made_by plan by s; parts = λ worker number. made.parts worker number ++ part_by plan worker number by s }
 
-abbrev FallsAs : Plan → ℕ → Trace → List (Reply (List ℕ)) → Type 0
-FallsAs plan worker made given = Falls plan worker made.all (made.parts worker) given
+abbrev FallsAs : Plan → ℕ → Trace → List (Reply (List ℕ)) → Option Misuse → Type 0
+FallsAs plan worker made given met = Falls plan worker made.all (made.parts worker) given met
 
 -- within its next call, if there is one: with whatever items spell what is left, the last ones spell the call. Else it stands nowhere
 abbrev Stands : Plan → ℕ → ℕ → List Made → Option Call → List ObjectState → Type 0
@@ -115,10 +115,10 @@ count_spelt plan worker made s h =
     sym (length-map (get_or s.replies worker []) (recorded_reply plan)) ∙ ap (length {A = Reply ℕ}) (sym h.replies) ∙ length-map h.spelt (λ (x : SpeltCall). x.reply)
 
 -- as a line, at this moment
-ends_line : Spells → (plan : Plan) (worker : ℕ) (made : Trace) (s : State) → IsStateOf plan s → SoFar plan worker made s → FallsAs plan worker made (get_or s.replies worker [])
+ends_line : Spells → (plan : Plan) (worker : ℕ) (made : Trace) (s : State) → IsStateOf plan s → SoFar plan worker made s → FallsAs plan worker made (get_or s.replies worker []) None
 ends_line laws plan worker made s of h = by_next (next_call plan worker s) refl
   where
-    by_next : (o : Option Call) → next_call plan worker s ≡ o → FallsAs plan worker made (get_or s.replies worker [])
+    by_next : (o : Option Call) → next_call plan worker s ≡ o → FallsAs plan worker made (get_or s.replies worker []) None
     by_next None none =
         let stands = subst (λ (o : Option Call). Stands plan worker (count_in (items_in h.spelt)) h.last o s.objects) none h.stands in
         record {
@@ -128,6 +128,7 @@ ends_line laws plan worker made s of h = by_next (next_call plan worker s) refl
           replies = h.replies;
           turns = h.turns.each;
           behind = h.turns.current;
+          ends = sym (ap (λ (o : Option Call). ending_by o None) none);
           is = record { calls = h.are; ends = (none_first h.rest (sym (next_left plan worker made s h) ∙ none), stands.0) };
         }
     by_next (Some call) some =
@@ -141,6 +142,7 @@ ends_line laws plan worker made s of h = by_next (next_call plan worker s) refl
           replies = h.replies;
           turns = h.turns.each;
           behind = h.turns.current;
+          ends = sym (ap (λ (o : Option Call). ending_by o None) some);
           is = record { calls = h.are; ends = (can.0, can.1, stands.1 can.0 can.1 can.2) };
         }
 
@@ -155,10 +157,10 @@ pub record Run (plan : Plan) (s : State) : Type 0 where
   pub keys : HasKeys (all_keys plan.scripts) (distinct_count (all_keys plan.scripts)) s
 
 -- behind a turn: so far, or as a line, where the turn was a misuse
-abbrev Behind : Plan → ℕ → Trace → State × Step → Type 0
-Behind plan worker made (t, steps.Still) = SoFar plan worker made t
-Behind plan worker made (t, steps.Made) = SoFar plan worker made t
-Behind plan worker made (t, steps.Misused misuse) = FallsAs plan worker made (get_or t.replies worker [])
+abbrev Behind : Plan → ℕ → ℕ → Trace → State × Step → Type 0
+Behind plan worker by made (t, steps.Still) = SoFar plan worker made t
+Behind plan worker by made (t, steps.Made) = SoFar plan worker made t
+Behind plan worker by made (t, steps.Misused misuse) = FallsAs plan worker made (get_or t.replies worker []) (if by == worker then Some misuse else None)
 
 module _ (laws : Spells) (stand_laws : TurnStands) (uses : TurnsUse) (plan : Plan) (goes : GoesOn plan) (by : ℕ) (s : State) (run : Run plan s) where
   of : IsStateOf plan s
@@ -217,8 +219,8 @@ module _ (laws : Spells) (stand_laws : TurnStands) (uses : TurnsUse) (plan : Pla
       stands = subst (λ (done : List (Reply (List ℕ))). Stands plan worker (count_in (items_in h.spelt)) h.last (slice_get (get_or plan.scripts worker []) (length done)) t.objects) (sym same) stands;
     }
 
-    other_behind : Behind plan worker (more plan made by s) (turn_of plan by s)
-    other_behind = turn_cases (Behind plan worker (more plan made by s)) plan by s of (record {
+    other_behind : Behind plan worker by (more plan made by s) (turn_of plan by s)
+    other_behind = turn_cases (Behind plan worker by (more plan made by s)) plan by s of (record {
       ended = λ none. other_so_far s refl h.stands;
       still = λ call objects takes. other_so_far (moved objects s) refl (other_stands call objects answers.Still takes);
       unfinished = λ call objects takes. other_so_far (moved objects s) refl (other_stands call objects answers.Unfinished takes);
@@ -226,9 +228,15 @@ module _ (laws : Spells) (stand_laws : TurnStands) (uses : TurnsUse) (plan : Pla
       misused = λ call objects misuse takes. misused_line call objects misuse takes;
     })
       where
-        misused_line : (call : Call) (objects : List ObjectState) (misuse : Misuse) → Takes plan by s call objects (answers.Misused misuse) → FallsAs plan worker (more plan made by s) (get_or s.replies worker [])
+        not_by : (b : Bool) → (by == worker) ≡ b → b ≡ false
+        not_by true is = absurd (apart (sym (eqb-true by worker is)))
+        not_by false is = refl
+
+        misused_line : (call : Call) (objects : List ObjectState) (misuse : Misuse) → Takes plan by s call objects (answers.Misused misuse)
+            → FallsAs plan worker (more plan made by s) (get_or s.replies worker []) (if by == worker then Some misuse else None)
         misused_line call objects misuse takes =
-            ends_line laws plan worker (more plan made by s) (moved objects s) (state_of call objects (answers.Misused misuse) takes) (other_so_far (moved objects s) refl (other_stands call objects (answers.Misused misuse) takes))
+            subst (λ (b : Bool). FallsAs plan worker (more plan made by s) (get_or s.replies worker []) (if b then Some misuse else None)) (sym (not_by (by == worker) refl))
+            (ends_line laws plan worker (more plan made by s) (moved objects s) (state_of call objects (answers.Misused misuse) takes) (other_so_far (moved objects s) refl (other_stands call objects (answers.Misused misuse) takes)))
 
   -- ---- the worker itself
 
@@ -355,7 +363,8 @@ module _ (laws : Spells) (stand_laws : TurnStands) (uses : TurnsUse) (plan : Pla
             stands = completed_stands objects reply takes (next_call plan by t) refl;
           }
 
-      own_misused : (objects : List ObjectState) (misuse : Misuse) → Takes plan by s call objects (answers.Misused misuse) → FallsAs plan by (more plan made by s) (get_or s.replies by [])
+      own_misused : (objects : List ObjectState) (misuse : Misuse) → Takes plan by s call objects (answers.Misused misuse)
+          → FallsAs plan by (more plan made by s) (get_or s.replies by []) (Some misuse)
       own_misused objects misuse takes =
           let spells = own_stands.1 turn_made (Done (Err misuse)) (told objects (answers.Misused misuse) takes).0 in
           record {
@@ -365,6 +374,7 @@ module _ (laws : Spells) (stand_laws : TurnStands) (uses : TurnsUse) (plan : Pla
             replies = h.replies;
             turns = own_turns.each;
             behind = own_turns.current;
+            ends = refl;
             is = record { calls = h.are; ends = (h.last ++ turn_made, [], sym (append-nil (h.last ++ turn_made)), spells, no_halts misuse) };
           }
 
@@ -389,27 +399,28 @@ module _ (laws : Spells) (stand_laws : TurnStands) (uses : TurnsUse) (plan : Pla
         no_part k nothing true = nothing
         no_part k nothing false = refl
 
-    own_behind : Behind plan by (more plan made by s) (turn_of plan by s)
-    own_behind = turn_cases (Behind plan by (more plan made by s)) plan by s of (record {
+    own_behind : Behind plan by by (more plan made by s) (turn_of plan by s)
+    own_behind = turn_cases (Behind plan by by (more plan made by s)) plan by s of (record {
       ended = own_ended;
       still = λ call objects takes. own_still call takes.next objects takes;
       unfinished = λ call objects takes. own_unfinished call takes.next objects takes;
       completed = λ call objects reply takes. own_completed call takes.next objects reply takes;
-      misused = λ call objects misuse takes. own_misused call takes.next objects misuse takes;
+      misused = λ call objects misuse takes.
+          subst (λ (b : Bool). FallsAs plan by (more plan made by s) (get_or s.replies by []) (if b then Some misuse else None)) (sym (eq-eqb by by refl)) (own_misused call takes.next objects misuse takes);
     })
 
-  pub turn_behind : (made : Trace) → ((worker : ℕ) → SoFar plan worker made s) → (worker : ℕ) → Behind plan worker (more plan made by s) (turn_of plan by s)
+  pub turn_behind : (made : Trace) → ((worker : ℕ) → SoFar plan worker made s) → (worker : ℕ) → Behind plan worker by (more plan made by s) (turn_of plan by s)
   turn_behind made all worker = by_worker_is (eqb worker by) refl
     where
-      by_worker_is : (b : Bool) → eqb worker by ≡ b → Behind plan worker (more plan made by s) (turn_of plan by s)
-      by_worker_is true is = subst (λ (w : ℕ). Behind plan w (more plan made by s) (turn_of plan by s)) (sym (eqb-true worker by is)) (own_behind made (all by))
+      by_worker_is : (b : Bool) → eqb worker by ≡ b → Behind plan worker by (more plan made by s) (turn_of plan by s)
+      by_worker_is true is = subst (λ (w : ℕ). Behind plan w by (more plan made by s) (turn_of plan by s)) (sym (eqb-true worker by is)) (own_behind made (all by))
       by_worker_is false far = other_behind worker made (eqb-false worker by far) (all worker)
 
 -- ---- turns in order
 
 module _ (laws : Spells) (stand_laws : TurnStands) (uses : TurnsUse) (plan : Plan) (goes : GoesOn plan) (kept : Kept plan (Run plan)) where
-  abbrev After : ℕ → Trace → State → Type 0
-  After worker made t = FallsAs plan worker made (get_or t.replies worker [])
+  abbrev After : ℕ → Trace → State → Option Misuse → Type 0
+  After worker made t met = FallsAs plan worker made (get_or t.replies worker []) met
 
   -- what a turn and what follows it make behind others
   abbrev behind_all : Trace → ℕ → State → List Turn → State × Step → Trace
@@ -441,20 +452,20 @@ module _ (laws : Spells) (stand_laws : TurnStands) (uses : TurnsUse) (plan : Pla
         parts = λ worker number. made.parts worker number ++ sym (append-nil (part_by plan worker number by s)) i;
       }
 
-  later_fall : (rest : List Turn) (made : Trace) (by : ℕ) (s : State) (x : State × Step) → Run plan x.0 → ((worker : ℕ) → Behind plan worker (more plan made by s) x)
-      → ((earlier : Trace) (t : State) → Run plan t → ((worker : ℕ) → SoFar plan worker earlier t) → (worker : ℕ) → After worker (joined earlier rest t) (after_items plan rest t))
-      → (worker : ℕ) → After worker (behind_all made by s rest x) (and_then x (after_all plan rest)).0
-  later_fall rest made by s (t, steps.Still) run all later worker = subst (λ (m : Trace). After worker m (after_items plan rest t)) (goes_behind made by s rest t) (later (more plan made by s) t run all worker)
+  later_fall : (rest : List Turn) (made : Trace) (by : ℕ) (s : State) (x : State × Step) → Run plan x.0 → ((worker : ℕ) → Behind plan worker by (more plan made by s) x)
+      → ((earlier : Trace) (t : State) → Run plan t → ((worker : ℕ) → SoFar plan worker earlier t) → (worker : ℕ) → After worker (joined earlier rest t) (after_items plan rest t) (misuse_of plan worker rest t))
+      → (worker : ℕ) → After worker (behind_all made by s rest x) (and_then x (after_all plan rest)).0 (misuse_by worker by x (misuse_of plan worker rest))
+  later_fall rest made by s (t, steps.Still) run all later worker = subst (λ (m : Trace). After worker m (after_items plan rest t) (misuse_of plan worker rest t)) (goes_behind made by s rest t) (later (more plan made by s) t run all worker)
   later_fall rest made by s (t, steps.Made) run all later worker =
-      subst (λ (u : State). After worker (behind_all made by s rest (t, steps.Made)) u) (sym (event_state (after_all plan rest t)))
-      (subst (λ (m : Trace). After worker m (after_items plan rest t)) (goes_behind made by s rest t) (later (more plan made by s) t run all worker))
-  later_fall rest made by s (t, steps.Misused misuse) run all later worker = subst (λ (m : Trace). After worker m t) (ends_behind made by s rest t misuse) (all worker)
+      subst (λ (u : State). After worker (behind_all made by s rest (t, steps.Made)) u (misuse_of plan worker rest t)) (sym (event_state (after_all plan rest t)))
+      (subst (λ (m : Trace). After worker m (after_items plan rest t) (misuse_of plan worker rest t)) (goes_behind made by s rest t) (later (more plan made by s) t run all worker))
+  later_fall rest made by s (t, steps.Misused misuse) run all later worker = subst (λ (m : Trace). After worker m t (if by == worker then Some misuse else None)) (ends_behind made by s rest t misuse) (all worker)
 
   nothing_behind : (made : Trace) (s : State) → made ≡ joined made [] s
   nothing_behind made s = λ i. record { all = sym (append-nil made.all) i; parts = λ worker number. sym (append-nil (made.parts worker number)) i }
 
-  pub items_fall : (list : List Turn) (made : Trace) (s : State) → Run plan s → ((worker : ℕ) → SoFar plan worker made s) → (worker : ℕ) → After worker (joined made list s) (after_items plan list s)
-  items_fall [] made s run all worker = subst (λ (m : Trace). After worker m s) (nothing_behind made s) (ends_line laws plan worker made s run.standing.of (all worker))
+  pub items_fall : (list : List Turn) (made : Trace) (s : State) → Run plan s → ((worker : ℕ) → SoFar plan worker made s) → (worker : ℕ) → After worker (joined made list s) (after_items plan list s) (misuse_of plan worker list s)
+  items_fall [] made s run all worker = subst (λ (m : Trace). After worker m s None) (nothing_behind made s) (ends_line laws plan worker made s run.standing.of (all worker))
   items_fall (items.Worker by ∷ rest) made s run all worker =
       later_fall rest made by s (turn_of plan by s) (kept.turn by s run) (turn_behind laws stand_laws uses plan goes by s run made all) (items_fall rest) worker
   items_fall (items.Moment moment ∷ rest) made s run all worker =
