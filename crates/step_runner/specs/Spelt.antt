@@ -43,7 +43,7 @@ made_for plan worker number [] s = []
 made_for plan worker number (items.Worker by ∷ rest) s = part_by plan worker number by s ++ unless_ended (turn_of plan by s) (made_for plan worker number rest)
 made_for plan worker number (items.Moment moment ∷ rest) s = made_for plan worker number rest (with_moment moment s)
 
--- the items of so many calls, and how many of them are calls on maps and atomics
+-- how many calls on maps and atomics stand among the items of the first so many calls
 abbrev pub count_before : ℕ → List SpeltCall → ℕ
 count_before number spelt = length (shared_in (flat_map (λ one. one.items) (take number spelt)))
 
