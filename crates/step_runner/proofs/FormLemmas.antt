@@ -96,7 +96,7 @@ all_renamed law rename (script ∷ scripts) (list ∷ lists) = λ i. forms_renam
 
 -- ---- what every state keeps
 
-abbrev kinds_in : Plan → List ObjectKind
+abbrev pub kinds_in : Plan → List ObjectKind
 kinds_in plan = map (λ (line : ObjectLine). line.kind) plan.objects
 
 -- the place at which a worker's call waits, if there is one

@@ -10,6 +10,11 @@ mod RunKeys
 mod RunLemmas
 mod RunLogs
 mod RunRanges
+mod SpeltLines
+mod SpeltMisuse
+mod SpeltOutcome
+mod SpeltRun
+mod SpeltTurns
 mod StartLemmas
 mod TurnLemmas
 pub mod FormLemmas

@@ -107,7 +107,7 @@ turn_keys keys plan most worker s (Some call) is room has =
     let keep = keys.goes_on (all_keys plan.scripts) most worker s.moment call s.objects (next_among plan worker s call is) room has.maps in
     settled_keys (all_keys plan.scripts) most worker x.1 (record s { objects = x.0 }) keep.1 (record { maps = keep.0; few = has.few })
 
-keys_kept : Keys → (plan : Plan) (most : ℕ) → distinct_count (all_keys plan.scripts) ≤ most → Kept plan (HasKeys (all_keys plan.scripts) most)
+pub keys_kept : Keys → (plan : Plan) (most : ℕ) → distinct_count (all_keys plan.scripts) ≤ most → Kept plan (HasKeys (all_keys plan.scripts) most)
 keys_kept keys plan most room = record {
   turn = λ worker s has. turn_keys keys plan most worker s (next_call plan worker s) refl room has;
   moment = λ moment s has. record { maps = has.maps; few = has.few };
@@ -117,7 +117,7 @@ none_yet : (p : Reply (List ℕ) → Bool) (n : ℕ) → list_all (list_all p) (
 none_yet p zero = refl
 none_yet p (suc n) = none_yet p n
 
-start_keys : Keys → (plan : Plan) (most : ℕ) → HasKeys (all_keys plan.scripts) most (start plan)
+pub start_keys : Keys → (plan : Plan) (most : ℕ) → HasKeys (all_keys plan.scripts) most (start plan)
 start_keys keys plan most = record {
   maps = each_start (λ place. HasObjectKeysIn (all_keys plan.scripts)) plan (λ place kind. keys.begins (all_keys plan.scripts) plan.workers (puts_at place plan.scripts) kind);
   few = none_yet (has_pairs_to most) plan.workers;

@@ -6,5 +6,6 @@ pub mod LeftToDo
 pub mod MadeCalls
 pub mod Outcomes
 pub mod RunItems
+pub mod Spelt
 pub mod State
 pub mod Turns

@@ -1,5 +1,5 @@
 //! What every run by schedule keeps.
-ghost use Rattle.std.specs.Prelude.{◌≡◌, ◌↔◌, ◌<◌, ◌≤◌, ℕ, true, List, [], ◌++◌, Some, map, length, take, get_or, slice_get};
+ghost use Rattle.std.specs.Prelude.{◌≡◌, ◌↔◌, ◌<◌, ◌≤◌, ℕ, true, false, List, [], ◌++◌, Some, None, map, length, take, get_or, slice_get};
 ghost use Rattle.std.specs.List.{list_all, list_any};
 ghost use Rattle.std.specs.Str.{bytes_eq};
 ghost use Rattle.std.specs.Ordering.{nat_cmp};
@@ -21,6 +21,9 @@ ghost use Rattle.workload.specs.Draft.{all_keys, distinct_count};
 ghost use Rattle.workload.specs.declared.turn.Turn.{Turn};
 ghost use Rattle.workload.specs.Keys.{keys_in, key_number, key_name};
 ghost use Rattle.workload.specs.Plan.{Plan, is_valid};
+ghost use Rattle.run_record.specs.Explains.{AreLines};
+ghost use Rattle.run_record.specs.Lines.{Line};
+ghost use Rattle.run_record.specs.Record.{Record};
 ghost use Rattle.step_turns.specs.declared.object_state.ObjectState.{ObjectState};
 ghost use Rattle.step_turns.specs.declared.object_state.ObjectState.TheVariants as states;
 ghost use Rattle.step_turns.specs.Completes.{takes_one_turn};
@@ -35,13 +38,17 @@ ghost use Rattle.step_runner.specs.CallTurns.{advances, requeues, wakes, count_t
 ghost use Rattle.step_runner.specs.Ends.{ends_of};
 ghost use Rattle.step_runner.specs.LeftToDo.{left_to_do};
 ghost use Rattle.step_runner.specs.MadeCalls.{made_calls, calls_of};
-ghost use Rattle.step_runner.specs.Outcomes.{rounds, StepsTo};
+ghost use Rattle.step_runner.specs.Outcomes.{rounds, is_misused, StepsTo};
 ghost use Rattle.step_runner.specs.RunItems.{all_made, IsAnswered, LeadTo};
+ghost use Rattle.step_runner.specs.Spelt.{lists_of, made_for, misuse_of, EndAs, Falls};
 ghost use Rattle.step_runner.specs.State.{State, IsStateOf, start, with_moment};
 ghost use Rattle.step_runner.specs.Turns.{next_call, turn_of, items_of, after_items, has_ended};
 ghost use Rattle.step_runner.specs.Forms.{all_have_forms, has_forms};
 ghost use Rattle.step_runner.specs.Computed.{rounds_of, all_rounds, turns};
 
+use step_spelling::laws::{
+    calls_are_entered_whole, items_are_their_workers, turns_spell_their_calls,
+};
 use step_turns::laws::{
     a_placed_call_is_one_item, few_turns_are_left_of_a_call, items_lead_from_turn_to_turn,
     maps_keep_to_the_keys_of_calls, numbers_stay_in_range, pools_have_room,
@@ -178,6 +185,30 @@ pub fn placed_calls_are_answered_by_their_items()
     validity();
     a_placed_call_is_one_item();
 }
+
+/// At every moment, behind any turns up to the first misuse, a worker's items fall into the calls of its script, in order: each
+/// completed call is spelt by the items of its own turns, as a record's are, and its reply is read off them. Behind them stand the
+/// first items of at most one more call, or that call as a misuse: each list ends by the call before which its worker stands, and by the
+/// misuse that it met. So the lists of any record that has the run's items are lines of the outcome.
+pub fn the_items_of_each_call_spell_it()
+    ensures always { (plan : Plan) (items : List Turn) (worker : ℕ) → is_valid plan ≡ true → Falls plan worker (all_made plan items (start plan)) (λ number. made_for plan worker number items (start plan)) (get_or (after_items plan items (start plan)).replies worker []) (misuse_of plan worker items (start plan)) }
+    ensures outcomes { (plan : Plan) (outcome : Outcome) → is_valid plan ≡ true → StepsTo plan outcome
+        → (count : ℕ) × ((r : Record) → r.lists ≡ lists_of plan (all_made plan (plan.schedule ++ rounds count plan.workers) (start plan)) → (lines : List Line) × AreLines plan r outcome lines × EndAs plan outcome (λ worker. misuse_of plan worker (plan.schedule ++ rounds count plan.workers) (start plan)) lines) }
+{
+    validity();
+    turns_use_something_up();
+    workers_stand_in_their_calls();
+    maps_keep_to_the_keys_of_calls();
+    turns_spell_their_calls();
+    calls_are_entered_whole();
+    items_are_their_workers();
+}
+
+/// Where no turn was a misuse, no worker met one; where one was, its worker met it.
+pub fn a_misuse_is_met_by_its_worker()
+    ensures none { (plan : Plan) (items : List Turn) (worker : ℕ) → is_misused (items_of plan items (start plan)).1 ≡ false → misuse_of plan worker items (start plan) ≡ None }
+    ensures one { (plan : Plan) (items : List Turn) (misuse : Misuse) → (items_of plan items (start plan)).1 ≡ steps.Misused misuse → (worker : ℕ) × (misuse_of plan worker items (start plan) ≡ Some misuse) }
+{}
 
 /// At every moment each key that is there in a map is a key of the workload's calls, and its number leads back to it: so
 /// what a `range` shows and what maps hold at the end is named by its own keys.

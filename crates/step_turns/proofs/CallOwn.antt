@@ -103,6 +103,7 @@ use Rattle.step_turns.specs.Turns.{once_made, turn_on, turn_on_both, cond_turn}
 use Rattle.step_turns.proofs.CallOthers.{GroupStands, OnceStands, CondStands, CallStands}
 use Rattle.step_turns.proofs.CompletesLemmas.{pool_completes}
 use Rattle.step_turns.proofs.DueLemmas.{OfDue, both_due, mutex_answer, mutex_answers, rw_answers, GroupAnswer, group_answers, OnceAnswer, once_answers}
+use Rattle.step_turns.proofs.GrantedLemmas.{tries_back}
 use Rattle.step_turns.proofs.OthersStand.{MutexStands, RwStands, no, untold}
 
 -- ---- what a turn takes
@@ -447,8 +448,11 @@ turn_takes laws workers x moment object (operations.Mutex call) (states.Mutex m)
 turn_takes laws workers x moment object (operations.RwMutex call) (states.RwMutex m) below is =
     let due = rw_due call (rw.place_of m x) in
     let Answered : RwMutexStage → Type 0 = λ stage. rw_standing.is_answer (rw_event stage moment) (rw.next m x (rw_event stage moment)).1 ≡ true in
-    rw_due_takes laws.rw_mutexes due x moment object m is.0
-    (both_due (RwAt (rw.place_of m x)) Answered due (rw_at call (rw.place_of m x)) (rw_answers laws.rw_mutexes.answered call m x moment (omega (arith, below, is.1))))
+    let step = turn_on (operations.RwMutex call) x moment (states.RwMutex m) in
+    let made = stage_items events.RwMutex answered.RwMutex rw.next rw_event x moment object due m in
+    subst (λ (back : Bool). TakesBy back (left_at x (states.RwMutex m)) (left_at x step.0) step.1 × TellsOwn back (told_at x (states.RwMutex m)) (told_at x step.0)) (sym (tries_back x moment object (rw.place_of m x) m made refl))
+    (rw_due_takes laws.rw_mutexes due x moment object m is.0
+    (both_due (RwAt (rw.place_of m x)) Answered due (rw_at call (rw.place_of m x)) (rw_answers laws.rw_mutexes.answered call m x moment (omega (arith, below, is.1)))))
 turn_takes laws workers x moment object (operations.WaitGroup call) (states.WaitGroup g first) below is =
     let due = group_due call (group.place_of g x) in
     group_due_takes laws.groups due x moment object first g

@@ -5,6 +5,7 @@ mod CallOwn
 mod AtomicTypes
 mod CompletesLemmas
 mod DueLemmas
+mod GrantedLemmas
 mod ItemLogs
 mod KeyLemmas
 mod MachineLaws

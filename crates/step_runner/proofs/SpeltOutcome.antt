@@ -1,0 +1,125 @@
+-- The lists of a run fall into lines of its outcome.
+use Rattle.std.proofs.Common.{◌≡◌, ℕ, zero, suc, ◌+◌, ◌≤◌, List, [], ◌∷◌, ◌++◌, map, length, get_or, refl, sym, ap, ◌∙◌, subst, arith, Option}
+use Rattle.std.specs.Prelude.{slice_get}
+use Rattle.std.specs.List.{range_with_len}
+use Rattle.std.proofs.lemmas.List.{length-map}
+use Rattle.sync_model.specs.declared.call.Reply.{Reply}
+use Rattle.sync_model.specs.declared.misuse.Misuse.{Misuse}
+use Rattle.sync_model.specs.declared.outcome.Outcome.{Outcome}
+use Rattle.sync_model.specs.declared.outcome.Outcome.TheVariants as outcomes
+use Rattle.sync_model.specs.declared.outcome.Report.{Report}
+use Rattle.sync_model.specs.Outcome.{left_by}
+use Rattle.workload.specs.declared.turn.Turn.{Turn}
+use Rattle.workload.specs.Draft.{all_keys, distinct_count}
+use Rattle.workload.specs.Plan.{Plan}
+use Rattle.run_record.specs.Explains.{AreLines}
+use Rattle.run_record.specs.Lines.{Line, script_of, items_of, replies_of, IsLineOf}
+use Rattle.run_record.specs.Record.{Record}
+use Rattle.step_turns.specs.Items.{Item}
+use Rattle.step_spelling.specs.Recorded.{recorded_reply}
+use Rattle.step_runner.specs.declared.step.Step.{Step}
+use Rattle.step_runner.specs.Ends.{numbered}
+use Rattle.step_runner.specs.Outcomes.{rounds, StepsTo}
+use Rattle.step_runner.specs.RunItems.{all_made}
+use Rattle.step_runner.specs.Spelt.{list_of, lists_of, made_for, misuse_of, ending_by, ending_of, EndAs, Falls}
+use Rattle.step_runner.specs.State.{State, start, IsStateOf}
+use Rattle.step_runner.specs.Turns.{items_of as after_all, after_items}
+use Rattle.step_runner.proofs.FormLemmas.{TurnStands, standing_kept, start_stands}
+use Rattle.step_runner.proofs.RunKeys.{Keys, keys_kept, start_keys}
+use Rattle.step_runner.proofs.RunLemmas.{GoesOn, Kept}
+use Rattle.step_runner.proofs.SpeltLines.{list-range, range-get}
+use Rattle.step_runner.proofs.SpeltRun.{Spells, Run, items_fall, nothing, begun}
+use Rattle.step_runner.proofs.TurnLemmas.{TurnsUse, valid_scripts}
+
+-- what all laws of turns say
+pub record SpeltLaws : Type 0 where
+  pub spells : Spells
+  pub stands : TurnStands
+  pub uses : TurnsUse
+  pub keys : Keys
+
+few : (n : ℕ) → n ≤ n
+few n = omega arith
+
+run_kept : SpeltLaws → (plan : Plan) → GoesOn plan → Kept plan (Run plan)
+run_kept laws plan goes =
+    let standing = standing_kept laws.stands plan goes in
+    let keys = keys_kept laws.keys plan (distinct_count (all_keys plan.scripts)) (few (distinct_count (all_keys plan.scripts))) in
+    record {
+      turn = λ worker s run. record { standing = standing.turn worker s run.standing; keys = keys.turn worker s run.keys };
+      moment = λ moment s run. record { standing = standing.moment moment s run.standing; keys = keys.moment moment s run.keys };
+    }
+
+-- at every moment
+pub run_falls : SpeltLaws → (plan : Plan) → GoesOn plan → IsStateOf plan (start plan) → (list : List Turn) (worker : ℕ) → Falls plan worker (all_made plan list (start plan)) (λ number. made_for plan worker number list (start plan)) (get_or (after_items plan list (start plan)).replies worker []) (misuse_of plan worker list (start plan))
+run_falls laws plan goes of list worker =
+    let run : Run plan (start plan) = record { standing = start_stands laws.stands plan of; keys = start_keys laws.keys plan (distinct_count (all_keys plan.scripts)) } in
+    items_fall laws.spells laws.stands laws.uses plan goes (run_kept laws plan goes) list nothing (start plan) run (begun laws.spells laws.stands plan of run) worker
+
+-- ---- all workers
+
+two_maps : {X Y Z : Type 0} (f : X → Y) (g : Y → Z) (xs : List X) → map g (map f xs) ≡ map (λ x. g (f x)) xs
+two_maps f g [] = refl
+two_maps {Z = Z} f g (x ∷ xs) = ap (λ (l : List Z). g (f x) ∷ l) (two_maps f g xs)
+
+same_map : {X Y : Type 0} (f g : X → Y) → ((x : X) → f x ≡ g x) → (xs : List X) → map f xs ≡ map g xs
+same_map f g same [] = refl
+same_map f g same (x ∷ xs) = λ i. same x i ∷ same_map f g same xs i
+
+get_mapped : {X Y : Type 0} (f : List X → List Y) (xs : List (List X)) (k : ℕ) → f [] ≡ [] → get_or (map f xs) k [] ≡ f (get_or xs k [])
+get_mapped f [] k none = sym none
+get_mapped f (x ∷ xs) zero none = refl
+get_mapped f (x ∷ xs) (suc k) none = get_mapped f xs k none
+
+module _ (plan : Plan) (made : List Item) (s : State) (of : IsStateOf plan s) (parts : ℕ → ℕ → List Item) (met : ℕ → Option Misuse)
+    (falls : (worker : ℕ) → Falls plan worker made (parts worker) (get_or s.replies worker []) (met worker)) where
+  abbrev line_of : ℕ → Line
+  line_of worker = (falls worker).line
+
+  abbrev workers : List ℕ
+  workers = range_with_len 0 plan.workers
+
+  abbrev lines : List Line
+  lines = map line_of workers
+
+  from_zero : (i : ℕ) → 0 + i ≡ i
+  from_zero i = omega arith
+
+  of_lines : {X : Type 0} (f : Line → List X) (xs : List (List X)) → length xs ≡ plan.workers → ((worker : ℕ) → f (line_of worker) ≡ get_or xs worker []) → map f lines ≡ xs
+  of_lines f xs count is =
+      two_maps line_of f workers ∙ ap (λ (n : ℕ). map (λ worker. f (line_of worker)) (range_with_len 0 n)) (sym count)
+      ∙ list-range (λ worker. f (line_of worker)) [] xs 0 (λ i. ap (λ worker. f (line_of worker)) (from_zero i) ∙ is i)
+
+  pub are_lines : (r : Record) (outcome : Outcome) → r.lists ≡ lists_of plan made → (left_by outcome).replies ≡ numbered plan s.replies → (lines : List Line) × AreLines plan r outcome lines × EndAs plan outcome met lines
+  are_lines r outcome lists replies = (
+    lines,
+    record {
+      scripts = of_lines script_of plan.scripts (valid_scripts plan of.valid) (λ worker. (falls worker).script);
+      lists = two_maps line_of items_of workers ∙ same_map (λ worker. items_of (line_of worker)) (list_of plan made) (λ worker. (falls worker).items) workers ∙ sym lists;
+      replies = of_lines replies_of (numbered plan s.replies) (length-map s.replies (map (recorded_reply plan)) ∙ of.workers) (λ worker. (falls worker).replies ∙ sym (get_mapped (map (recorded_reply plan)) s.replies worker refl)) ∙ sym replies;
+      each = λ worker line at. subst (IsLineOf plan worker) (ap line_of (sym (from_zero worker)) ∙ range-get line_of 0 plan.workers worker line at) (falls worker).is;
+    },
+    λ worker line at.
+        let same : (worker : ℕ) → length (get_or (left_by outcome).replies worker []) ≡ length (get_or s.replies worker []) = λ worker.
+        ap (λ (all : List (List (Reply ℕ))). length (get_or all worker [])) replies ∙ ap (length {A = Reply ℕ}) (get_mapped (map (recorded_reply plan)) s.replies worker refl) ∙ length-map (get_or s.replies worker []) (recorded_reply plan) in
+        subst (λ (l : Line). l.ending ≡ ending_of plan worker (get_or (left_by outcome).replies worker []) (met worker)) (ap line_of (sym (from_zero worker)) ∙ range-get line_of 0 plan.workers worker line at)
+        ((falls worker).ends ∙ ap (λ (n : ℕ). ending_by (slice_get (get_or plan.scripts worker []) n) (met worker)) (sym (same worker))),
+  )
+
+-- ---- at the end
+
+abbrev Lined : Plan → Outcome → ℕ → Type 0
+Lined plan outcome count = (r : Record) → r.lists ≡ lists_of plan (all_made plan (plan.schedule ++ rounds count plan.workers) (start plan))
+    → (lines : List Line) × AreLines plan r outcome lines × EndAs plan outcome (λ worker. misuse_of plan worker (plan.schedule ++ rounds count plan.workers) (start plan)) lines
+
+module _ (laws : SpeltLaws) (plan : Plan) (goes : GoesOn plan) (of : IsStateOf plan (start plan)) (kept : (list : List Turn) → IsStateOf plan (after_items plan list (start plan))) where
+  lined : (outcome : Outcome) (count : ℕ) (s : State) (step : Step) → after_all plan (plan.schedule ++ rounds count plan.workers) (start plan) ≡ (s, step) → (left_by outcome).replies ≡ numbered plan s.replies → Lined plan outcome count
+  lined outcome count s step is replies r lists =
+      let turns = plan.schedule ++ rounds count plan.workers in
+      are_lines plan (all_made plan turns (start plan)) (after_items plan turns (start plan)) (kept turns) (λ worker number. made_for plan worker number turns (start plan)) (λ worker. misuse_of plan worker turns (start plan)) (run_falls laws plan goes of turns) r outcome lists
+      (replies ∙ ap (λ (x : State × Step). numbered plan x.0.replies) (sym is))
+
+  pub outcome_lined : (outcome : Outcome) → StepsTo plan outcome → (count : ℕ) × Lined plan outcome count
+  outcome_lined (outcomes.Done report) done = (done.reached.count, lined (outcomes.Done report) done.reached.count done.state done.reached.step done.reached.is (ap (λ (r : Report). r.replies) done.leaves))
+  outcome_lined (outcomes.Misused report misuse) is = (is.count, lined (outcomes.Misused report misuse) is.count is.state _ is.is (ap (λ (r : Report). r.replies) is.leaves))
+  outcome_lined (outcomes.Deadlocked report) is = (is.reached.count, lined (outcomes.Deadlocked report) is.reached.count is.state is.reached.step is.reached.is (ap (λ (r : Report). r.replies) is.leaves))

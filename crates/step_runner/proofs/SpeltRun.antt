@@ -1,0 +1,506 @@
+-- The items of each call of a run spell it.
+use Rattle.std.proofs.Common.{◌≡◌, ◌≢◌, ℕ, zero, suc, ◌+◌, ◌<◌, Bool, true, false, eqb, List, [], ◌∷◌, ◌++◌, map, filter, length, get_or, replicate, Option, Some, None, refl, sym, ap, ◌∙◌, subst, append-nil, append_assoc, arith, ◌&&◌}
+use Rattle.std.specs.Prelude.{◌==◌, Ok, Err, slice_get, sum_by, All, if◌then◌else◌}
+use Rattle.std.specs.Option.{option_map_or}
+use Rattle.std.proofs.lemmas.Bool.{eq-eqb, eqb-true, eqb-false}
+use Rattle.std.proofs.lemmas.List.{length-map, get_or-set_same}
+use Rattle.std.proofs.lemmas.List.Elements.{filter-append}
+use Rattle.sync_model.specs.declared.answer.Answer.TheVariants.{Done}
+use Rattle.sync_model.specs.declared.call.Call.{Call}
+use Rattle.sync_model.specs.declared.call.Reply.{Reply}
+use Rattle.sync_model.specs.declared.misuse.Misuse.{Misuse}
+use Rattle.protocols.specs.Spelling.{CallAnswer}
+use Rattle.workload.specs.declared.object.ObjectKind.{ObjectKind}
+use Rattle.workload.specs.declared.object.ObjectLine.{ObjectLine}
+use Rattle.workload.specs.declared.turn.Turn.{Turn}
+use Rattle.workload.specs.declared.turn.Turn.TheVariants as items
+use Rattle.workload.specs.Draft.{all_keys, distinct_count}
+use Rattle.workload.specs.Plan.{Plan}
+use Rattle.workload.specs.Puts.{puts_at}
+use Rattle.run_record.specs.Calls.{SpellsCall}
+use Rattle.run_record.specs.Lines.{SpeltCall, whole, misused, unfinished, IsHalt, AreSpelt}
+use Rattle.run_record.specs.Record.{shared_in}
+use Rattle.run_record.specs.declared.made.Made.{Made}
+use Rattle.step_turns.specs.declared.answer.Answer.{Answer}
+use Rattle.step_turns.specs.declared.answer.Answer.TheVariants as answers
+use Rattle.step_turns.specs.declared.object_state.ObjectState.{ObjectState}
+use Rattle.step_turns.specs.Items.{Item, items_at}
+use Rattle.step_turns.specs.MapKeys.{HasObjectKeysIn}
+use Rattle.step_turns.specs.ObjectLeft.{object_left, UsesBy}
+use Rattle.step_turns.specs.Objects.{new_object, kind_of, EachAt}
+use Rattle.step_turns.specs.Ready.{IsReady}
+use Rattle.step_turns.specs.Stands.{IsOutAt, IsOutBut, waits_at}
+use Rattle.step_turns.specs.Turns.{turn_at}
+use Rattle.step_spelling.specs.Left.{left_at}
+use Rattle.step_spelling.specs.Recorded.{recorded_reply, recorded}
+use Rattle.step_spelling.specs.Tells.{Tells}
+use Rattle.step_spelling.specs.Within.{IsIdle, IsWithin, StandsBehind}
+use Rattle.step_runner.specs.declared.step.Step.{Step}
+use Rattle.step_runner.specs.declared.step.Step.TheVariants as steps
+use Rattle.step_runner.specs.RunItems.{made_by, unless_ended, all_made}
+use Rattle.step_runner.specs.CallTurns.{stands_before}
+use Rattle.step_runner.specs.Spelt.{by_worker, list_of, part_by, made_for, misuse_by, misuse_of, ending_by, Falls}
+use Rattle.step_runner.specs.State.{State, start, with_reply, with_moment, IsStateOf}
+use Rattle.step_runner.specs.Turns.{next_call, settled, turn_of, and_then, items_of as after_all, after_items}
+use Rattle.step_runner.proofs.FormLemmas.{TurnStands, Standing, own_at, kinds_in}
+use Rattle.step_runner.proofs.MadeLemmas.{event_state}
+use Rattle.step_runner.proofs.RunKeys.{HasKeys}
+use Rattle.step_runner.proofs.RunLemmas.{GoesOn, Kept}
+use Rattle.step_runner.proofs.SpeltLines.{count-append, recorded-append, flat-push, spelt-push, map-push, get-behind, split_first, none_first}
+use Rattle.step_runner.proofs.SpeltTurns.{items_in, count_in, ByTurns, same_parts, more_last, more_spelt, part_of_other, part_of_own, part_elsewhere}
+use Rattle.step_runner.proofs.StartLemmas.{each_start}
+use Rattle.step_runner.proofs.TurnLemmas.{TurnsUse, Takes, takes_by, turn_cases, moved, ready, replied_other, turn_before}
+
+-- what the laws of turns say
+pub record Spells : Type 0 where
+  pub own : (plan : Plan) (worker before moment : ℕ) (call : Call) (objects : List ObjectState) → IsReady plan.workers worker call objects
+      → EachAt (λ place. HasObjectKeysIn (all_keys plan.scripts)) objects → IsOutBut (waits_at (map kind_of objects) call) worker objects → IsWithin worker call objects
+      → Tells plan (left_at plan worker before call objects) (left_at plan worker (before + length (shared_in (recorded plan before (items_at call worker moment objects)))) call (turn_at call worker moment objects).0)
+      (recorded plan before (items_at call worker moment objects)) (turn_at call worker moment objects).1
+      × StandsBehind worker call (turn_at call worker moment objects).1 (turn_at call worker moment objects).0
+  pub others : (plan : Plan) (worker other before moment : ℕ) (own call : Call) (objects : List ObjectState) → IsReady plan.workers worker own objects → IsReady plan.workers other call objects → worker ≢ other
+      → (IsWithin worker own objects → IsWithin worker own (turn_at call other moment objects).0)
+      × ((later : List Made) (answer : CallAnswer (Reply ℕ)) → left_at plan worker before own (turn_at call other moment objects).0 later answer → left_at plan worker before own objects later answer)
+  pub idle : (workers worker other moment : ℕ) (call : Call) (objects : List ObjectState) → IsReady workers other call objects → worker ≢ other
+      → EachAt (λ place. IsIdle worker) objects → EachAt (λ place. IsIdle worker) (turn_at call other moment objects).0
+  pub begins : (worker workers room : ℕ) (kind : ObjectKind) → IsIdle worker (new_object workers room kind)
+  pub enters : (plan : Plan) (worker before : ℕ) (call : Call) (objects : List ObjectState) → IsReady plan.workers worker call objects → map kind_of objects ≡ map (λ (line : ObjectLine). line.kind) plan.objects
+      → EachAt (λ place. IsIdle worker) objects → IsOutBut None worker objects
+      → IsWithin worker call objects × ((items : List Made) (answer : CallAnswer (Reply ℕ)) → left_at plan worker before call objects items answer → SpellsCall plan worker before call items answer)
+  pub goes_on : (plan : Plan) (worker before : ℕ) (call : Call) (objects : List ObjectState) → IsReady plan.workers worker call objects → (later : List Made) × (answer : CallAnswer (Reply ℕ)) × left_at plan worker before call objects later answer
+  pub by_itself : (worker moment : ℕ) (call : Call) (objects : List ObjectState) → filter (λ item. item.caller == worker) (items_at call worker moment objects) ≡ items_at call worker moment objects
+  pub by_no_other : (worker other moment : ℕ) (call : Call) (objects : List ObjectState) → worker ≢ other → filter (λ item. item.caller == other) (items_at call worker moment objects) ≡ []
+
+-- ---- what is so of a worker's items so far
+
+-- the items so far, and those that turns made for each worker's call of each number
+pub record Trace : Type 0 where
+  pub all : List Item
+  pub parts : ℕ → ℕ → List Item
+
+-- with a turn more
+abbrev more : Plan → Trace → ℕ → State → Trace
+more plan made by s = record { all = made.all ++ made_by plan by s; parts = λ worker number. made.parts worker number ++ part_by plan worker number by s }
+
+abbrev FallsAs : Plan → ℕ → Trace → List (Reply (List ℕ)) → Option Misuse → Type 0
+FallsAs plan worker made given met = Falls plan worker made.all (made.parts worker) given met
+
+-- within its next call, if there is one: with whatever items spell what is left, the last ones spell the call. Else it stands nowhere
+abbrev Stands : Plan → ℕ → ℕ → List Made → Option Call → List ObjectState → Type 0
+Stands plan worker before last None objects = (last ≡ []) × EachAt (λ place. IsIdle worker) objects
+Stands plan worker before last (Some call) objects =
+    IsWithin worker call objects × ((later : List Made) (answer : CallAnswer (Reply ℕ)) → left_at plan worker (before + count_in last) call objects later answer → SpellsCall plan worker before call (last ++ later) answer)
+
+pub record SoFar (plan : Plan) (worker : ℕ) (made : Trace) (s : State) : Type 0 where
+  spelt : List SpeltCall
+  last : List Made
+  rest : List Call
+  script : map (λ (x : SpeltCall). x.call) spelt ++ rest ≡ get_or plan.scripts worker []
+  replies : map (λ (x : SpeltCall). x.reply) spelt ≡ map (recorded_reply plan) (get_or s.replies worker [])
+  items : items_in spelt ++ last ≡ list_of plan made.all worker
+  turns : ByTurns plan spelt last (made.parts worker)
+  are : AreSpelt plan worker 0 spelt
+  stands : Stands plan worker (count_in (items_in spelt)) last (next_call plan worker s) s.objects
+
+-- the next call is the first that is left
+next_left : (plan : Plan) (worker : ℕ) (made : Trace) (s : State) (h : SoFar plan worker made s) → next_call plan worker s ≡ slice_get h.rest 0
+next_left plan worker made s h =
+    let count : length (get_or s.replies worker []) ≡ length (map (λ (x : SpeltCall). x.call) h.spelt) =
+    sym (length-map (get_or s.replies worker []) (recorded_reply plan)) ∙ ap (length {A = Reply ℕ}) (sym h.replies) ∙ length-map h.spelt (λ (x : SpeltCall). x.reply) ∙ sym (length-map h.spelt (λ (x : SpeltCall). x.call)) in
+    (λ i. slice_get (sym h.script i) (count i)) ∙ get-behind (map (λ (x : SpeltCall). x.call) h.spelt) h.rest
+
+-- it has as many replies as calls were completed
+count_spelt : (plan : Plan) (worker : ℕ) (made : Trace) (s : State) (h : SoFar plan worker made s) → length (get_or s.replies worker []) ≡ length h.spelt
+count_spelt plan worker made s h =
+    sym (length-map (get_or s.replies worker []) (recorded_reply plan)) ∙ ap (length {A = Reply ℕ}) (sym h.replies) ∙ length-map h.spelt (λ (x : SpeltCall). x.reply)
+
+-- as a line, at this moment
+ends_line : Spells → (plan : Plan) (worker : ℕ) (made : Trace) (s : State) → IsStateOf plan s → SoFar plan worker made s → FallsAs plan worker made (get_or s.replies worker []) None
+ends_line laws plan worker made s of h = by_next (next_call plan worker s) refl
+  where
+    by_next : (o : Option Call) → next_call plan worker s ≡ o → FallsAs plan worker made (get_or s.replies worker []) None
+    by_next None none =
+        let stands = subst (λ (o : Option Call). Stands plan worker (count_in (items_in h.spelt)) h.last o s.objects) none h.stands in
+        record {
+          line = record { spelt = h.spelt; last = h.last; rest = h.rest; ending = whole };
+          script = h.script;
+          items = h.items;
+          replies = h.replies;
+          turns = h.turns.each;
+          behind = h.turns.current;
+          ends = sym (ap (λ (o : Option Call). ending_by o None) none);
+          is = record { calls = h.are; ends = (none_first h.rest (sym (next_left plan worker made s h) ∙ none), stands.0) };
+        }
+    by_next (Some call) some =
+        let stands = subst (λ (o : Option Call). Stands plan worker (count_in (items_in h.spelt)) h.last o s.objects) some h.stands in
+        let split = split_first h.rest call (sym (next_left plan worker made s h) ∙ some) in
+        let can = laws.goes_on plan worker (count_in (items_in h.spelt) + count_in h.last) call s.objects (ready plan worker s call of some) in
+        record {
+          line = record { spelt = h.spelt; last = h.last; rest = call ∷ split.0; ending = unfinished };
+          script = ap (λ (l : List Call). map (λ (x : SpeltCall). x.call) h.spelt ++ l) (sym split.1) ∙ h.script;
+          items = h.items;
+          replies = h.replies;
+          turns = h.turns.each;
+          behind = h.turns.current;
+          ends = sym (ap (λ (o : Option Call). ending_by o None) some);
+          is = record { calls = h.are; ends = (can.0, can.1, stands.1 can.0 can.1 can.2) };
+        }
+
+-- no halts
+no_halts : (misuse : Misuse) → All (IsHalt misuse) []
+no_halts misuse = λ k d below. absurd (omega (arith, below))
+
+-- ---- one turn
+
+pub record Run (plan : Plan) (s : State) : Type 0 where
+  pub standing : Standing plan s
+  pub keys : HasKeys (all_keys plan.scripts) (distinct_count (all_keys plan.scripts)) s
+
+-- behind a turn: so far, or as a line, where the turn was a misuse
+abbrev Behind : Plan → ℕ → ℕ → Trace → State × Step → Type 0
+Behind plan worker by made (t, steps.Still) = SoFar plan worker made t
+Behind plan worker by made (t, steps.Made) = SoFar plan worker made t
+Behind plan worker by made (t, steps.Misused misuse) = FallsAs plan worker made (get_or t.replies worker []) (if by == worker then Some misuse else None)
+
+module _ (laws : Spells) (stand_laws : TurnStands) (uses : TurnsUse) (plan : Plan) (goes : GoesOn plan) (by : ℕ) (s : State) (run : Run plan s) where
+  of : IsStateOf plan s
+  of = run.standing.of
+
+  -- the state behind the turn
+  state_of : (call : Call) (objects : List ObjectState) (answer : Answer) → Takes plan by s call objects answer → IsStateOf plan (settled by answer (moved objects s)).0
+  state_of call objects answer takes = subst (λ (x : State × Step). IsStateOf plan x.0) (turn_before plan by s call objects answer takes.next takes.turn) (goes by s of)
+
+  -- the turn's items are in the list of its worker, and in no other
+  own_list : (made : List Item) (call : Call) → next_call plan by s ≡ Some call
+      → list_of plan (made ++ made_by plan by s) by ≡ list_of plan made by ++ recorded plan (count_in (list_of plan made by)) (items_at call by s.moment s.objects)
+  own_list made call is =
+      let turn = items_at call by s.moment s.objects in
+      let is_turn : made_by plan by s ≡ turn = ap (λ (o : Option Call). option_map_or (λ call. items_at call by s.moment s.objects) o []) is in
+      let own = ap (λ (l : List Item). by_worker by (made ++ l)) is_turn ∙ filter-append (λ (item : Item). item.caller == by) made turn ∙ ap (λ (l : List Item). by_worker by made ++ l) (laws.by_itself by s.moment call s.objects) in
+      let zero_first : 0 + count_in (list_of plan made by) ≡ count_in (list_of plan made by) = omega arith in
+      ap (recorded plan 0) own ∙ recorded-append plan 0 (by_worker by made) turn ∙ ap (λ (n : ℕ). list_of plan made by ++ recorded plan n turn) zero_first
+
+  other_list : (made : List Item) (worker : ℕ) → worker ≢ by → list_of plan (made ++ made_by plan by s) worker ≡ list_of plan made worker
+  other_list made worker apart =
+      ap (recorded plan 0) (filter-append (λ (item : Item). item.caller == worker) made (made_by plan by s) ∙ ap (λ (l : List Item). by_worker worker made ++ l) (none (next_call plan by s)) ∙ append-nil (by_worker worker made))
+    where
+      none : (o : Option Call) → by_worker worker (option_map_or (λ call. items_at call by s.moment s.objects) o []) ≡ []
+      none None = refl
+      none (Some call) = laws.by_no_other by worker s.moment call s.objects (λ same. apart (sym same))
+
+  -- ---- another worker
+
+  module _ (worker : ℕ) (made : Trace) (apart : worker ≢ by) (h : SoFar plan worker made s) where
+    -- its objects behind the turn
+    other_stands : (call : Call) (objects : List ObjectState) (answer : Answer) → Takes plan by s call objects answer → Stands plan worker (count_in (items_in h.spelt)) h.last (next_call plan worker s) objects
+    other_stands call objects answer takes = by_next (next_call plan worker s) refl
+      where
+        by_next : (o : Option Call) → next_call plan worker s ≡ o → Stands plan worker (count_in (items_in h.spelt)) h.last o objects
+        by_next None none =
+            let stands = subst (λ (o : Option Call). Stands plan worker (count_in (items_in h.spelt)) h.last o s.objects) none h.stands in
+            (stands.0, takes_by (λ x. EachAt (λ place. IsIdle worker) x.0) plan by s call objects answer of takes (λ r. laws.idle plan.workers worker by s.moment call s.objects r apart stands.1))
+        by_next (Some own) some =
+            let stands = subst (λ (o : Option Call). Stands plan worker (count_in (items_in h.spelt)) h.last o s.objects) some h.stands in
+            takes_by (λ x. Stands plan worker (count_in (items_in h.spelt)) h.last (Some own) x.0) plan by s call objects answer of takes
+            (λ r.
+            let kept = laws.others plan worker by (count_in (items_in h.spelt) + count_in h.last) s.moment own call s.objects (ready plan worker s own of some) r apart in
+            (kept.0 stands.0, λ later answer l. stands.1 later answer (kept.1 later answer l)))
+
+    other_so_far : (t : State) → get_or t.replies worker [] ≡ get_or s.replies worker [] → Stands plan worker (count_in (items_in h.spelt)) h.last (next_call plan worker s) t.objects → SoFar plan worker (more plan made by s) t
+    other_so_far t same stands = record {
+      spelt = h.spelt;
+      last = h.last;
+      rest = h.rest;
+      script = h.script;
+      replies = h.replies ∙ ap (map (recorded_reply plan)) (sym same);
+      items = h.items ∙ sym (other_list made.all worker apart);
+      turns = same_parts plan h.spelt h.last (made.parts worker) ((more plan made by s).parts worker) (λ k. ap (λ (l : List Item). made.parts worker k ++ l) (part_of_other plan worker k by s apart) ∙ append-nil (made.parts worker k)) h.turns;
+      are = h.are;
+      stands = subst (λ (done : List (Reply (List ℕ))). Stands plan worker (count_in (items_in h.spelt)) h.last (slice_get (get_or plan.scripts worker []) (length done)) t.objects) (sym same) stands;
+    }
+
+    other_behind : Behind plan worker by (more plan made by s) (turn_of plan by s)
+    other_behind = turn_cases (Behind plan worker by (more plan made by s)) plan by s of (record {
+      ended = λ none. other_so_far s refl h.stands;
+      still = λ call objects takes. other_so_far (moved objects s) refl (other_stands call objects answers.Still takes);
+      unfinished = λ call objects takes. other_so_far (moved objects s) refl (other_stands call objects answers.Unfinished takes);
+      completed = λ call objects reply takes. other_so_far (with_reply by reply (moved objects s)) (replied_other by worker reply (moved objects s) apart) (other_stands call objects (answers.Completed reply) takes);
+      misused = λ call objects misuse takes. misused_line call objects misuse takes;
+    })
+      where
+        not_by : (b : Bool) → (by == worker) ≡ b → b ≡ false
+        not_by true is = absurd (apart (sym (eqb-true by worker is)))
+        not_by false is = refl
+
+        misused_line : (call : Call) (objects : List ObjectState) (misuse : Misuse) → Takes plan by s call objects (answers.Misused misuse)
+            → FallsAs plan worker (more plan made by s) (get_or s.replies worker []) (if by == worker then Some misuse else None)
+        misused_line call objects misuse takes =
+            subst (λ (b : Bool). FallsAs plan worker (more plan made by s) (get_or s.replies worker []) (if b then Some misuse else None)) (sym (not_by (by == worker) refl))
+            (ends_line laws plan worker (more plan made by s) (moved objects s) (state_of call objects (answers.Misused misuse) takes) (other_so_far (moved objects s) refl (other_stands call objects (answers.Misused misuse) takes)))
+
+  -- ---- the worker itself
+
+  module _ (made : Trace) (h : SoFar plan by made s) where
+    abbrev before : ℕ
+    before = count_in (items_in h.spelt)
+
+    abbrev so_many : ℕ
+    so_many = count_in (list_of plan made.all by)
+
+    count_is : before + count_in h.last ≡ so_many
+    count_is = sym (count-append (items_in h.spelt) h.last) ∙ ap count_in h.items
+
+    module _ (call : Call) (some : next_call plan by s ≡ Some call) where
+      abbrev turn_made : List Made
+      turn_made = recorded plan so_many (items_at call by s.moment s.objects)
+
+      own_stands : IsWithin by call s.objects × ((later : List Made) (answer : CallAnswer (Reply ℕ)) → left_at plan by so_many call s.objects later answer → SpellsCall plan by before call (h.last ++ later) answer)
+      own_stands =
+          let stands = subst (λ (o : Option Call). Stands plan by before h.last o s.objects) some h.stands in
+          (stands.0, λ later answer l. stands.1 later answer (subst (λ (n : ℕ). left_at plan by n call s.objects later answer) (sym count_is) l))
+
+      rest_is : (rest : List Call) × (h.rest ≡ call ∷ rest)
+      rest_is = split_first h.rest call (sym (next_left plan by made s h) ∙ some)
+
+      list_is : list_of plan (made.all ++ made_by plan by s) by ≡ items_in h.spelt ++ (h.last ++ turn_made)
+      list_is = own_list made.all call some ∙ ap (λ (l : List Made). l ++ turn_made) (sym h.items) ∙ append_assoc (items_in h.spelt) h.last turn_made
+
+      -- they are the turn's, before this call
+      own_turns : ByTurns plan h.spelt (h.last ++ turn_made) ((more plan made by s).parts by)
+      own_turns =
+          let turn = items_at call by s.moment s.objects in
+          let is_turn : made_by plan by s ≡ turn = ap (λ (o : Option Call). option_map_or (λ call. items_at call by s.moment s.objects) o []) some in
+          let count = count_spelt plan by made s h in
+          subst (λ (n : ℕ). ByTurns plan h.spelt (h.last ++ recorded plan n turn) ((more plan made by s).parts by)) count_is
+          (more_last plan h.spelt h.last (made.parts by) ((more plan made by s).parts by) turn
+          (ap (λ (l : List Item). made.parts by (length h.spelt) ++ l) (ap (λ (n : ℕ). part_by plan by n by s) (sym count) ∙ part_of_own plan by s ∙ is_turn))
+          (λ k far. ap (λ (l : List Item). made.parts by k ++ l) (part_elsewhere plan by k s (λ same. far (same ∙ count))) ∙ append-nil (made.parts by k)) h.turns)
+
+      abbrev Told : List ObjectState × Answer → Type 0
+      Told x = Tells plan (left_at plan by so_many call s.objects) (left_at plan by (so_many + count_in turn_made) call x.0) turn_made x.1 × StandsBehind by call x.1 x.0
+
+      out_is : IsOutBut (waits_at (map kind_of s.objects) call) by s.objects
+      out_is =
+          subst (λ (ks : List ObjectKind). IsOutBut (waits_at ks call) by s.objects) (sym of.objects)
+          (subst (λ (o : Option Call). IsOutBut (option_map_or (λ c. waits_at (kinds_in plan) c) o None) by s.objects) some (run.standing.out by))
+
+      told : (objects : List ObjectState) (answer : Answer) → Takes plan by s call objects answer → Told (objects, answer)
+      told objects answer takes = takes_by Told plan by s call objects answer of takes (λ r. laws.own plan by so_many s.moment call s.objects r run.keys.maps out_is own_stands.0)
+
+      -- a turn without an event
+      own_still : (objects : List ObjectState) → Takes plan by s call objects answers.Still → SoFar plan by (more plan made by s) (moved objects s)
+      own_still objects takes =
+          let t = told objects answers.Still takes in
+          let same : objects ≡ s.objects = takes_by (λ x. UsesBy (sum_by object_left s.objects) (sum_by object_left x.0) (x.0 ≡ s.objects) x.1) plan by s call objects answers.Still of takes (λ r. uses plan.workers by s.moment call s.objects r) in
+          record {
+            spelt = h.spelt;
+            last = h.last;
+            rest = h.rest;
+            script = h.script;
+            replies = h.replies;
+            items = sym (list_is ∙ ap (λ (l : List Made). items_in h.spelt ++ (h.last ++ l)) t.0 ∙ ap (λ (l : List Made). items_in h.spelt ++ l) (append-nil h.last));
+            turns = subst (λ (l : List Made). ByTurns plan h.spelt l ((more plan made by s).parts by)) (ap (λ (l : List Made). h.last ++ l) t.0 ∙ append-nil h.last) own_turns;
+            are = h.are;
+            stands = subst (λ (os : List ObjectState). Stands plan by before h.last (next_call plan by s) os) (sym same) h.stands;
+          }
+
+      -- an event after which the call has not returned
+      own_unfinished : (objects : List ObjectState) → Takes plan by s call objects answers.Unfinished → SoFar plan by (more plan made by s) (moved objects s)
+      own_unfinished objects takes =
+          let t = told objects answers.Unfinished takes in
+          let count : before + count_in (h.last ++ turn_made) ≡ so_many + count_in turn_made = omega (arith, count-append h.last turn_made, count_is) in
+          record {
+            spelt = h.spelt;
+            last = h.last ++ turn_made;
+            rest = h.rest;
+            script = h.script;
+            replies = h.replies;
+            items = sym list_is;
+            turns = own_turns;
+            are = h.are;
+            stands = subst (λ (o : Option Call). Stands plan by before (h.last ++ turn_made) o objects) (sym some) (
+              t.1,
+              λ later answer l.
+                  subst (λ (items : List Made). SpellsCall plan by before call items answer) (sym (append_assoc h.last turn_made later))
+                  (own_stands.1 (turn_made ++ later) answer (t.0 later answer (subst (λ (n : ℕ). left_at plan by n call objects later answer) count l))),
+            );
+          }
+
+      -- one that completes the call
+      abbrev one_more : Reply (List ℕ) → SpeltCall
+      one_more reply = record { call = call; items = h.last ++ turn_made; reply = recorded_reply plan reply }
+
+      completed_stands : (objects : List ObjectState) (reply : Reply (List ℕ)) → Takes plan by s call objects (answers.Completed reply) → (o : Option Call) → next_call plan by (with_reply by reply (moved objects s)) ≡ o
+          → Stands plan by (count_in (items_in (h.spelt ++ one_more reply ∷ []))) [] o objects
+      completed_stands objects reply takes None is = (refl, (told objects (answers.Completed reply) takes).1)
+      completed_stands objects reply takes (Some next) is =
+          let t = with_reply by reply (moved objects s) in
+          let valid = state_of call objects (answers.Completed reply) takes in
+          let first = count_in (items_in (h.spelt ++ one_more reply ∷ [])) in
+          let entered = laws.enters plan by first next objects (ready plan by t next valid is) valid.objects (told objects (answers.Completed reply) takes).1 (own_at stand_laws plan by s run.standing call objects (answers.Completed reply) takes) in
+          let none : first + 0 ≡ first = omega arith in
+          (entered.0, λ later answer l. entered.1 later answer (subst (λ (n : ℕ). left_at plan by n next objects later answer) none l))
+
+      own_completed : (objects : List ObjectState) (reply : Reply (List ℕ)) → Takes plan by s call objects (answers.Completed reply) → SoFar plan by (more plan made by s) (with_reply by reply (moved objects s))
+      own_completed objects reply takes =
+          let t = with_reply by reply (moved objects s) in
+          let one = one_more reply in
+          let here : by < length s.replies = omega (arith, takes.below, of.workers) in
+          let now : get_or t.replies by [] ≡ get_or s.replies by [] ++ reply ∷ [] = get_or-set_same s.replies by (get_or s.replies by [] ++ reply ∷ []) [] here in
+          let spells = own_stands.1 turn_made (Done (Ok (recorded_reply plan reply))) (told objects (answers.Completed reply) takes).0 in
+          let none : before ≡ 0 + before = omega arith in
+          record {
+            spelt = h.spelt ++ one ∷ [];
+            last = [];
+            rest = rest_is.0;
+            script = ap (λ (l : List Call). l ++ rest_is.0) (map-push (λ (x : SpeltCall). x.call) h.spelt one) ∙ append_assoc (map (λ (x : SpeltCall). x.call) h.spelt) (call ∷ []) rest_is.0
+                ∙ ap (λ (l : List Call). map (λ (x : SpeltCall). x.call) h.spelt ++ l) (sym rest_is.1) ∙ h.script;
+            replies = map-push (λ (x : SpeltCall). x.reply) h.spelt one ∙ ap (λ (l : List (Reply ℕ)). l ++ recorded_reply plan reply ∷ []) h.replies
+                ∙ sym (map-push (recorded_reply plan) (get_or s.replies by []) reply) ∙ ap (map (recorded_reply plan)) (sym now);
+            items = append-nil (items_in (h.spelt ++ one ∷ [])) ∙ flat-push h.spelt one ∙ sym list_is;
+            turns = more_spelt plan h.spelt one ((more plan made by s).parts by) own_turns;
+            are = spelt-push plan by 0 h.spelt one h.are (subst (λ (n : ℕ). SpellsCall plan by n call one.items (Done (Ok one.reply))) none spells);
+            stands = completed_stands objects reply takes (next_call plan by t) refl;
+          }
+
+      own_misused : (objects : List ObjectState) (misuse : Misuse) → Takes plan by s call objects (answers.Misused misuse)
+          → FallsAs plan by (more plan made by s) (get_or s.replies by []) (Some misuse)
+      own_misused objects misuse takes =
+          let spells = own_stands.1 turn_made (Done (Err misuse)) (told objects (answers.Misused misuse) takes).0 in
+          record {
+            line = record { spelt = h.spelt; last = h.last ++ turn_made; rest = call ∷ rest_is.0; ending = misused misuse };
+            script = ap (λ (l : List Call). map (λ (x : SpeltCall). x.call) h.spelt ++ l) (sym rest_is.1) ∙ h.script;
+            items = sym list_is;
+            replies = h.replies;
+            turns = own_turns.each;
+            behind = own_turns.current;
+            ends = refl;
+            is = record { calls = h.are; ends = (h.last ++ turn_made, [], sym (append-nil (h.last ++ turn_made)), spells, no_halts misuse) };
+          }
+
+    -- one whose script has ended makes nothing
+    own_ended : next_call plan by s ≡ None → SoFar plan by (more plan made by s) s
+    own_ended none =
+        let nothing : made_by plan by s ≡ [] = ap (λ (o : Option Call). option_map_or (λ call. items_at call by s.moment s.objects) o []) none in
+        record {
+          spelt = h.spelt;
+          last = h.last;
+          rest = h.rest;
+          script = h.script;
+          replies = h.replies;
+          items = h.items ∙ sym (ap (λ (l : List Item). list_of plan (made.all ++ l) by) nothing ∙ ap (λ (l : List Item). list_of plan l by) (append-nil made.all));
+          turns = same_parts plan h.spelt h.last (made.parts by) ((more plan made by s).parts by)
+              (λ k. ap (λ (l : List Item). made.parts by k ++ l) (no_part k nothing ((by == by) && stands_before by k s)) ∙ append-nil (made.parts by k)) h.turns;
+          are = h.are;
+          stands = h.stands;
+        }
+      where
+        no_part : (k : ℕ) → made_by plan by s ≡ [] → (b : Bool) → (if b then made_by plan by s else []) ≡ []
+        no_part k nothing true = nothing
+        no_part k nothing false = refl
+
+    own_behind : Behind plan by by (more plan made by s) (turn_of plan by s)
+    own_behind = turn_cases (Behind plan by by (more plan made by s)) plan by s of (record {
+      ended = own_ended;
+      still = λ call objects takes. own_still call takes.next objects takes;
+      unfinished = λ call objects takes. own_unfinished call takes.next objects takes;
+      completed = λ call objects reply takes. own_completed call takes.next objects reply takes;
+      misused = λ call objects misuse takes.
+          subst (λ (b : Bool). FallsAs plan by (more plan made by s) (get_or s.replies by []) (if b then Some misuse else None)) (sym (eq-eqb by by refl)) (own_misused call takes.next objects misuse takes);
+    })
+
+  pub turn_behind : (made : Trace) → ((worker : ℕ) → SoFar plan worker made s) → (worker : ℕ) → Behind plan worker by (more plan made by s) (turn_of plan by s)
+  turn_behind made all worker = by_worker_is (eqb worker by) refl
+    where
+      by_worker_is : (b : Bool) → eqb worker by ≡ b → Behind plan worker by (more plan made by s) (turn_of plan by s)
+      by_worker_is true is = subst (λ (w : ℕ). Behind plan w by (more plan made by s) (turn_of plan by s)) (sym (eqb-true worker by is)) (own_behind made (all by))
+      by_worker_is false far = other_behind worker made (eqb-false worker by far) (all worker)
+
+-- ---- turns in order
+
+module _ (laws : Spells) (stand_laws : TurnStands) (uses : TurnsUse) (plan : Plan) (goes : GoesOn plan) (kept : Kept plan (Run plan)) where
+  abbrev After : ℕ → Trace → State → Option Misuse → Type 0
+  After worker made t met = FallsAs plan worker made (get_or t.replies worker []) met
+
+  -- what a turn and what follows it make behind others
+  abbrev behind_all : Trace → ℕ → State → List Turn → State × Step → Trace
+  behind_all made by s rest x = record {
+    all = made.all ++ (made_by plan by s ++ unless_ended x (all_made plan rest));
+    parts = λ worker number. made.parts worker number ++ (part_by plan worker number by s ++ unless_ended x (made_for plan worker number rest));
+  }
+
+  -- what turns make behind others
+  abbrev joined : Trace → List Turn → State → Trace
+  joined made list s = record { all = made.all ++ all_made plan list s; parts = λ worker number. made.parts worker number ++ made_for plan worker number list s }
+
+  with_clock : (worker moment : ℕ) (made : Trace) (s : State) → SoFar plan worker made s → SoFar plan worker made (with_moment moment s)
+  with_clock worker moment made s h = record { spelt = h.spelt; last = h.last; rest = h.rest; script = h.script; replies = h.replies; items = h.items; turns = h.turns; are = h.are; stands = h.stands }
+
+  goes_behind : (made : Trace) (by : ℕ) (s : State) (rest : List Turn) (t : State) → joined (more plan made by s) rest t ≡ behind_all made by s rest (t, steps.Still)
+  goes_behind made by s rest t =
+      λ i.
+      record {
+        all = append_assoc made.all (made_by plan by s) (all_made plan rest t) i;
+        parts = λ worker number. append_assoc (made.parts worker number) (part_by plan worker number by s) (made_for plan worker number rest t) i;
+      }
+
+  ends_behind : (made : Trace) (by : ℕ) (s : State) (rest : List Turn) (t : State) (misuse : Misuse) → more plan made by s ≡ behind_all made by s rest (t, steps.Misused misuse)
+  ends_behind made by s rest t misuse =
+      λ i.
+      record {
+        all = made.all ++ sym (append-nil (made_by plan by s)) i;
+        parts = λ worker number. made.parts worker number ++ sym (append-nil (part_by plan worker number by s)) i;
+      }
+
+  later_fall : (rest : List Turn) (made : Trace) (by : ℕ) (s : State) (x : State × Step) → Run plan x.0 → ((worker : ℕ) → Behind plan worker by (more plan made by s) x)
+      → ((earlier : Trace) (t : State) → Run plan t → ((worker : ℕ) → SoFar plan worker earlier t) → (worker : ℕ) → After worker (joined earlier rest t) (after_items plan rest t) (misuse_of plan worker rest t))
+      → (worker : ℕ) → After worker (behind_all made by s rest x) (and_then x (after_all plan rest)).0 (misuse_by worker by x (misuse_of plan worker rest))
+  later_fall rest made by s (t, steps.Still) run all later worker = subst (λ (m : Trace). After worker m (after_items plan rest t) (misuse_of plan worker rest t)) (goes_behind made by s rest t) (later (more plan made by s) t run all worker)
+  later_fall rest made by s (t, steps.Made) run all later worker =
+      subst (λ (u : State). After worker (behind_all made by s rest (t, steps.Made)) u (misuse_of plan worker rest t)) (sym (event_state (after_all plan rest t)))
+      (subst (λ (m : Trace). After worker m (after_items plan rest t) (misuse_of plan worker rest t)) (goes_behind made by s rest t) (later (more plan made by s) t run all worker))
+  later_fall rest made by s (t, steps.Misused misuse) run all later worker = subst (λ (m : Trace). After worker m t (if by == worker then Some misuse else None)) (ends_behind made by s rest t misuse) (all worker)
+
+  nothing_behind : (made : Trace) (s : State) → made ≡ joined made [] s
+  nothing_behind made s = λ i. record { all = sym (append-nil made.all) i; parts = λ worker number. sym (append-nil (made.parts worker number)) i }
+
+  pub items_fall : (list : List Turn) (made : Trace) (s : State) → Run plan s → ((worker : ℕ) → SoFar plan worker made s) → (worker : ℕ) → After worker (joined made list s) (after_items plan list s) (misuse_of plan worker list s)
+  items_fall [] made s run all worker = subst (λ (m : Trace). After worker m s None) (nothing_behind made s) (ends_line laws plan worker made s run.standing.of (all worker))
+  items_fall (items.Worker by ∷ rest) made s run all worker =
+      later_fall rest made by s (turn_of plan by s) (kept.turn by s run) (turn_behind laws stand_laws uses plan goes by s run made all) (items_fall rest) worker
+  items_fall (items.Moment moment ∷ rest) made s run all worker =
+      items_fall rest made (with_moment moment s) (kept.moment moment s run) (λ w. with_clock w moment made s (all w)) worker
+
+-- ---- from the start on
+
+none_replied : (n worker : ℕ) → get_or (replicate {A = List (Reply (List ℕ))} n []) worker [] ≡ []
+none_replied zero worker = refl
+none_replied (suc n) zero = refl
+none_replied (suc n) (suc worker) = none_replied n worker
+
+-- nothing was made
+abbrev pub nothing : Trace
+nothing = record { all = []; parts = λ worker number. [] }
+
+pub begun : Spells → TurnStands → (plan : Plan) → IsStateOf plan (start plan) → Run plan (start plan) → (worker : ℕ) → SoFar plan worker nothing (start plan)
+begun laws stand_laws plan of run worker = record {
+  spelt = [];
+  last = [];
+  rest = get_or plan.scripts worker [];
+  script = refl;
+  replies = ap (map (recorded_reply plan)) (sym (none_replied plan.workers worker));
+  items = refl;
+  turns = record { each = λ k one at. absurd cc; current = refl; later = λ k far. refl };
+  are = tt;
+  stands = by_next (next_call plan worker (start plan)) refl;
+}
+  where
+    idle : EachAt (λ place. IsIdle worker) (start plan).objects
+    idle = each_start (λ place. IsIdle worker) plan (λ place kind. laws.begins worker plan.workers (puts_at place plan.scripts) kind)
+
+    by_next : (o : Option Call) → next_call plan worker (start plan) ≡ o → Stands plan worker 0 [] o (start plan).objects
+    by_next None is = (refl, idle)
+    by_next (Some call) is =
+        let entered = laws.enters plan worker 0 call (start plan).objects (ready plan worker (start plan) call of is) of.objects idle
+        (each_start (λ place object. (None ≡ Some place → ⊥) → IsOutAt worker object) plan (λ place kind far. stand_laws.begins worker plan.workers (puts_at place plan.scripts) kind)) in
+        (entered.0, λ later answer l. entered.1 later answer l)

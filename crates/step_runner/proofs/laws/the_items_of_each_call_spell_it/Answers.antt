@@ -1,0 +1,30 @@
+use Rattle.step_runner.proofs.SpeltOutcome.{SpeltLaws, run_falls, outcome_lined}
+use Rattle.step_runner.proofs.laws.the_items_of_each_call_spell_it.Goals as goal
+
+abbrev laws : goal.After-items_are_their_workers → SpeltLaws
+laws c = record {
+  spells = record {
+    own = λ plan worker before moment call objects ready keys out within. c.turns_spell_their_calls.ensures.own plan worker before moment call objects ready keys out within;
+    others = λ plan worker other before moment own call objects ready_own ready apart. c.turns_spell_their_calls.ensures.others plan worker other before moment own call objects ready_own ready apart;
+    idle = λ workers worker other moment call objects ready apart idle. c.turns_spell_their_calls.ensures.idle workers worker other moment call objects ready apart idle;
+    begins = c.calls_are_entered_whole.ensures.begins;
+    enters = λ plan worker before call objects ready kinds idle out. c.calls_are_entered_whole.ensures.enters plan worker before call objects ready kinds idle out;
+    goes_on = λ plan worker before call objects ready. c.calls_are_entered_whole.ensures.goes_on plan worker before call objects ready;
+    by_itself = c.items_are_their_workers.ensures.own;
+    by_no_other = λ worker other moment call objects apart. c.items_are_their_workers.ensures.others worker other moment call objects apart;
+  };
+  stands = record {
+    begins = c.workers_stand_in_their_calls.ensures.begins;
+    forms = c.workers_stand_in_their_calls.ensures.forms;
+    own = c.workers_stand_in_their_calls.ensures.own;
+    others = c.workers_stand_in_their_calls.ensures.others;
+  };
+  uses = c.turns_use_something_up.ensures;
+  keys = record { begins = c.maps_keep_to_the_keys_of_calls.ensures.begins; goes_on = c.maps_keep_to_the_keys_of_calls.ensures.goes_on };
+}
+
+pub returns-clause-always : goal.returns-clause-always
+returns-clause-always c plan items worker valid = run_falls (laws c) plan (c.validity.ensures.goes_on plan) (c.validity.ensures.begins plan valid) items worker
+
+pub returns-clause-outcomes : goal.returns-clause-outcomes
+returns-clause-outcomes c plan outcome valid comes = outcome_lined (laws c) plan (c.validity.ensures.goes_on plan) (c.validity.ensures.begins plan valid) (λ list. c.validity.ensures.always plan list valid) outcome comes

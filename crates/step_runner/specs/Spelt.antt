@@ -1,0 +1,85 @@
+-- How the items of a run fall into the calls of its scripts, in the words of a record.
+use Rattle.std.specs.Prelude.{◌≡◌, ℕ, ◌==◌, ◌&&◌, if◌then◌else◌, List, [], ◌∷◌, ◌++◌, map, filter, take, length, get_or, slice_get, Option, Some, None}
+use Rattle.std.specs.List.{range_with_len, flat_map}
+use Rattle.sync_model.specs.declared.call.Call.{Call}
+use Rattle.sync_model.specs.declared.call.Reply.{Reply}
+use Rattle.sync_model.specs.declared.misuse.Misuse.{Misuse}
+use Rattle.sync_model.specs.declared.outcome.Outcome.{Outcome}
+use Rattle.sync_model.specs.Outcome.{left_by}
+use Rattle.workload.specs.Plan.{Plan}
+use Rattle.workload.specs.declared.turn.Turn.{Turn}
+use Rattle.workload.specs.declared.turn.Turn.TheVariants as items
+use Rattle.run_record.specs.Lines.{SpeltCall, LineEnd, whole, misused, unfinished, Line, script_of, items_of, replies_of, IsLineOf}
+use Rattle.run_record.specs.Record.{shared_in}
+use Rattle.run_record.specs.declared.made.Made.{Made}
+use Rattle.step_turns.specs.Items.{Item}
+use Rattle.step_spelling.specs.Recorded.{recorded_reply, recorded}
+use Rattle.step_runner.specs.declared.step.Step.{Step}
+use Rattle.step_runner.specs.declared.step.Step.TheVariants as steps
+use Rattle.step_runner.specs.CallTurns.{stands_before}
+use Rattle.step_runner.specs.RunItems.{made_by, unless_ended}
+use Rattle.step_runner.specs.State.{State, with_moment}
+use Rattle.step_runner.specs.Turns.{turn_of}
+
+-- what one worker made, in its order
+abbrev pub by_worker : ℕ → List Item → List Item
+by_worker worker made = filter (λ item. item.caller == worker) made
+
+-- its list, as a record has it
+abbrev pub list_of : Plan → List Item → ℕ → List Made
+list_of plan made worker = recorded plan 0 (by_worker worker made)
+
+-- those of all workers
+abbrev pub lists_of : Plan → List Item → List (List Made)
+lists_of plan made = map (list_of plan made) (range_with_len 0 plan.workers)
+
+-- what a turn makes for a worker's call of this number, counted from 0: nothing, where it is another's, or the worker stands before another call
+abbrev pub part_by : Plan → ℕ → ℕ → ℕ → State → List Item
+part_by plan worker number by s = if (by == worker) && stands_before worker number s then made_by plan by s else []
+
+-- what all turns make for that call that a schedule gives from a state on
+abbrev pub made_for : Plan → ℕ → ℕ → List Turn → State → List Item
+made_for plan worker number [] s = []
+made_for plan worker number (items.Worker by ∷ rest) s = part_by plan worker number by s ++ unless_ended (turn_of plan by s) (made_for plan worker number rest)
+made_for plan worker number (items.Moment moment ∷ rest) s = made_for plan worker number rest (with_moment moment s)
+
+-- how many calls on maps and atomics stand among the items of the first so many calls
+abbrev pub count_before : ℕ → List SpeltCall → ℕ
+count_before number spelt = length (shared_in (flat_map (λ one. one.items) (take number spelt)))
+
+-- the misuse that a turn of this worker was, if one was: nothing follows it
+abbrev pub misuse_by : ℕ → ℕ → State × Step → (State → Option Misuse) → Option Misuse
+misuse_by worker by (s, steps.Still) rest = rest s
+misuse_by worker by (s, steps.Made) rest = rest s
+misuse_by worker by (s, steps.Misused misuse) rest = if by == worker then Some misuse else None
+
+abbrev pub misuse_of : Plan → ℕ → List Turn → State → Option Misuse
+misuse_of plan worker [] s = None
+misuse_of plan worker (items.Worker by ∷ rest) s = misuse_by worker by (turn_of plan by s) (misuse_of plan worker rest)
+misuse_of plan worker (items.Moment moment ∷ rest) s = misuse_of plan worker rest (with_moment moment s)
+
+-- how a worker's list ends, by the call before which it stands, if there is one, and by the misuse that it met
+abbrev pub ending_by : Option Call → Option Misuse → LineEnd
+ending_by next (Some misuse) = misused misuse
+ending_by None None = whole
+ending_by (Some call) None = unfinished
+
+-- of a worker with so many replies
+abbrev pub ending_of : {K : Type 0} → Plan → ℕ → List (Reply K) → Option Misuse → LineEnd
+ending_of plan worker given met = ending_by (slice_get (get_or plan.scripts worker []) (length given)) met
+
+-- each line of an outcome ends so, by the worker's replies and the misuse that it met
+abbrev pub EndAs : Plan → Outcome → (ℕ → Option Misuse) → List Line → Type 0
+EndAs plan outcome met lines = (worker : ℕ) (line : Line) → slice_get lines worker ≡ Some line → line.ending ≡ ending_of plan worker (get_or (left_by outcome).replies worker []) (met worker)
+
+-- a worker's items fall into the calls of its script: those that were completed, each spelt by its items, with these replies, and behind them at most one more. The items of
+-- each call are those that its own turns made
+pub record Falls (plan : Plan) (worker : ℕ) (made : List Item) (made_for_call : ℕ → List Item) (given : List (Reply (List ℕ))) (met : Option Misuse) : Type 0 where
+  pub line : Line
+  pub script : script_of line ≡ get_or plan.scripts worker []
+  pub items : items_of line ≡ list_of plan made worker
+  pub replies : replies_of line ≡ map (recorded_reply plan) given
+  pub is : IsLineOf plan worker line
+  pub turns : (number : ℕ) (one : SpeltCall) → slice_get line.spelt number ≡ Some one → one.items ≡ recorded plan (count_before number line.spelt) (made_for_call number)
+  pub behind : line.last ≡ recorded plan (length (shared_in (flat_map (λ one. one.items) line.spelt))) (made_for_call (length line.spelt))
+  pub ends : line.ending ≡ ending_of plan worker given met

@@ -1,0 +1,17 @@
+mod AtObjects
+mod Callers
+mod CondSpelled
+mod Entered
+mod GoesOn
+mod MachineLaws
+mod MutexSpelled
+mod OthersAt
+mod OthersKeep
+mod OwnAt
+mod PlacedSpelled
+mod PoolSpelled
+mod RwSides
+mod RwSpelled
+mod Spelled
+mod TurnOwn
+mod WaitSpelled

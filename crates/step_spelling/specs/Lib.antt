@@ -1,0 +1,4 @@
+pub mod Left
+pub mod Recorded
+pub mod Tells
+pub mod Within
