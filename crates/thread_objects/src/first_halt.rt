@@ -1,0 +1,63 @@
+//! The first halt of an object, once its workers have ended.
+ghost use Rattle.std.specs.Prelude.{◌≡◌, List};
+ghost use Rattle.sync_model.specs.Journal.{halt_of};
+ghost use Rattle.run_record.specs.Record.{ObjectEntry};
+ghost use Rattle.thread_objects.specs.Columns.{AreParts, IsColumnOf, IsJournalAt, passes_in};
+
+use crate::column::AnyColumn;
+use crate::crew::Crew;
+use crate::object::AnyObject;
+use crate::seated::first_of;
+use sync_model::{Misuse, Note};
+
+/// The misuse by which an object of whatever kind was halted first, and `None` exactly where it wasn't halted. It takes the
+/// passes of all workers, and adds no entry. A map and an atomic have no journal.
+pub(crate) fn first_halt<N: Note>(
+    crew: &Crew<N>,
+    object: &AnyObject<N>,
+    column: &mut AnyColumn<N>,
+) -> Option<Misuse>
+    requires column { IsColumnOf N.at crew.now.home.now crew.now.workers crew.now.workers object.now column.old }
+    ensures column { IsColumnOf N.at crew.now.home.now crew.now.workers crew.now.workers object.now column.new }
+    ensures history { (journal : List ObjectEntry) × IsJournalAt object.now journal × (result ≡ halt_of journal) × AreParts journal (passes_in column.old) }
+{
+    match object {
+        AnyObject::Shared => None,
+        AnyObject::Stop(object) => match column {
+            AnyColumn::Stop(passes) => first_of(crew, object, passes),
+            _ => unreachable!(),
+        },
+        AnyObject::Mutex(object) => match column {
+            AnyColumn::Mutex(passes) => first_of(crew, object, passes),
+            _ => unreachable!(),
+        },
+        AnyObject::RwMutex(object) => match column {
+            AnyColumn::RwMutex(passes) => first_of(crew, object, passes),
+            _ => unreachable!(),
+        },
+        AnyObject::Cond(object) => match column {
+            AnyColumn::Cond(passes) => first_of(crew, object, passes),
+            _ => unreachable!(),
+        },
+        AnyObject::WaitGroup(object) => match column {
+            AnyColumn::WaitGroup(passes) => first_of(crew, object, passes),
+            _ => unreachable!(),
+        },
+        AnyObject::Once(object) => match column {
+            AnyColumn::Once(passes) => first_of(crew, object, passes),
+            _ => unreachable!(),
+        },
+        AnyObject::OnceFunc(object) => match column {
+            AnyColumn::OnceFunc(passes) => first_of(crew, object, passes),
+            _ => unreachable!(),
+        },
+        AnyObject::OnceValue(object) => match column {
+            AnyColumn::OnceValue(passes) => first_of(crew, object, passes),
+            _ => unreachable!(),
+        },
+        AnyObject::Pool(object) => match column {
+            AnyColumn::Pool(passes) => first_of(crew, object, passes),
+            _ => unreachable!(),
+        },
+    }
+}
