@@ -56,15 +56,7 @@ module _ {N H : Type 0} where
   stop_first : (objects : List (AnyObject N H)) (object : AnyObject N H) → slice_get objects stop ≡ Some object → IsStop object → halted_from stop objects ≡ stop ∷ halted_from (stop + 1) (drop 1 objects)
   stop_first [] object at is = absurd (none-some object at)
   stop_first (objects.Stop o ∷ all) object at is = refl
-  stop_first (objects.Shared ∷ all) object at is = absurd (subst IsStop (sym (same_Some objects.Shared object at)) is)
-  stop_first (objects.Mutex o ∷ all) object at is = absurd (subst IsStop (sym (same_Some (objects.Mutex o) object at)) is)
-  stop_first (objects.RwMutex o ∷ all) object at is = absurd (subst IsStop (sym (same_Some (objects.RwMutex o) object at)) is)
-  stop_first (objects.Cond o ∷ all) object at is = absurd (subst IsStop (sym (same_Some (objects.Cond o) object at)) is)
-  stop_first (objects.WaitGroup o ∷ all) object at is = absurd (subst IsStop (sym (same_Some (objects.WaitGroup o) object at)) is)
-  stop_first (objects.Once o ∷ all) object at is = absurd (subst IsStop (sym (same_Some (objects.Once o) object at)) is)
-  stop_first (objects.OnceFunc o ∷ all) object at is = absurd (subst IsStop (sym (same_Some (objects.OnceFunc o) object at)) is)
-  stop_first (objects.OnceValue o ∷ all) object at is = absurd (subst IsStop (sym (same_Some (objects.OnceValue o) object at)) is)
-  stop_first (objects.Pool o ∷ all) object at is = absurd (subst IsStop (sym (same_Some (objects.Pool o) object at)) is)
+  stop_first (other ∷ all) object at is = absurd (subst IsStop (sym (same_Some other object at)) is)
 
   -- what is halted of an object, whose number is this
   abbrev pub halted_here : ℕ → AnyObject N H → List ℕ
@@ -136,12 +128,4 @@ module _ {K : Type 0} (owner : K → Option Holding) (front : K → List ℕ) (n
   -- halting an object of whatever kind
   pub halted_any : {N H : Type 0} (object : AnyObject N H) → AreHalted object misuse (front note) old new → Works (halting misuse (halted_here number object)) (at old) (Done (Ok tt)) (at new)
   halted_any objects.Shared halted = leaves_it halted
-  halted_any (objects.Stop o) halted = halts_once halted
-  halted_any (objects.Mutex o) halted = halts_once halted
-  halted_any (objects.RwMutex o) halted = halts_once halted
-  halted_any (objects.Cond o) halted = halts_once halted
-  halted_any (objects.WaitGroup o) halted = halts_once halted
-  halted_any (objects.Once o) halted = halts_once halted
-  halted_any (objects.OnceFunc o) halted = halts_once halted
-  halted_any (objects.OnceValue o) halted = halts_once halted
-  halted_any (objects.Pool o) halted = halts_once halted
+  halted_any object halted = halts_once halted

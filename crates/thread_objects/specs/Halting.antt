@@ -16,12 +16,4 @@ pub record Halts (misuse : Misuse) (front : List ℕ) (old new : List ObjectEntr
 -- maps and atomics can't be halted
 abbrev pub AreHalted : {N H : Type 0} → AnyObject N H → Misuse → List ℕ → List ObjectEntry → List ObjectEntry → Type 0
 AreHalted objects.Shared misuse front old new = new ≡ old
-AreHalted (objects.Stop o) misuse front old new = Halts misuse front old new
-AreHalted (objects.Mutex o) misuse front old new = Halts misuse front old new
-AreHalted (objects.RwMutex o) misuse front old new = Halts misuse front old new
-AreHalted (objects.Cond o) misuse front old new = Halts misuse front old new
-AreHalted (objects.WaitGroup o) misuse front old new = Halts misuse front old new
-AreHalted (objects.Once o) misuse front old new = Halts misuse front old new
-AreHalted (objects.OnceFunc o) misuse front old new = Halts misuse front old new
-AreHalted (objects.OnceValue o) misuse front old new = Halts misuse front old new
-AreHalted (objects.Pool o) misuse front old new = Halts misuse front old new
+AreHalted object misuse front old new = Halts misuse front old new

@@ -4,6 +4,7 @@ ghost use Rattle.sync_model.specs.Journal.{halt_of};
 ghost use Rattle.run_record.specs.Record.{ObjectEntry};
 ghost use Rattle.thread_objects.specs.Columns.{AreParts, IsColumnOf, IsJournalAt, passes_in};
 
+use crate::by_kind::{arms, by_kind};
 use crate::column::AnyColumn;
 use crate::crew::Crew;
 use crate::object::AnyObject;
@@ -21,43 +22,10 @@ pub(crate) fn first_halt<N: Note>(
     ensures column { IsColumnOf N.at crew.now.home.now crew.now.workers crew.now.workers object.now column.new }
     ensures history { (journal : List ObjectEntry) × IsJournalAt object.now journal × (result ≡ halt_of journal) × AreParts journal (passes_in column.old) }
 {
-    match object {
-        AnyObject::Shared => None,
-        AnyObject::Stop(object) => match column {
-            AnyColumn::Stop(passes) => first_of(crew, object, passes),
-            _ => unreachable!(),
-        },
-        AnyObject::Mutex(object) => match column {
-            AnyColumn::Mutex(passes) => first_of(crew, object, passes),
-            _ => unreachable!(),
-        },
-        AnyObject::RwMutex(object) => match column {
-            AnyColumn::RwMutex(passes) => first_of(crew, object, passes),
-            _ => unreachable!(),
-        },
-        AnyObject::Cond(object) => match column {
-            AnyColumn::Cond(passes) => first_of(crew, object, passes),
-            _ => unreachable!(),
-        },
-        AnyObject::WaitGroup(object) => match column {
-            AnyColumn::WaitGroup(passes) => first_of(crew, object, passes),
-            _ => unreachable!(),
-        },
-        AnyObject::Once(object) => match column {
-            AnyColumn::Once(passes) => first_of(crew, object, passes),
-            _ => unreachable!(),
-        },
-        AnyObject::OnceFunc(object) => match column {
-            AnyColumn::OnceFunc(passes) => first_of(crew, object, passes),
-            _ => unreachable!(),
-        },
-        AnyObject::OnceValue(object) => match column {
-            AnyColumn::OnceValue(passes) => first_of(crew, object, passes),
-            _ => unreachable!(),
-        },
-        AnyObject::Pool(object) => match column {
-            AnyColumn::Pool(passes) => first_of(crew, object, passes),
-            _ => unreachable!(),
-        },
-    }
+    by_kind!(
+        object,
+        AnyColumn(column),
+        None,
+        |object, passes| first_of(crew, object, passes)
+    )
 }

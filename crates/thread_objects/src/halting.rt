@@ -6,6 +6,7 @@ ghost use Rattle.thread_objects.specs.Halting.{Halts, AreHalted};
 ghost use Rattle.thread_objects.specs.Passes.{IsSeatAt, own_of, own_as};
 ghost use Rattle.thread_objects.specs.Seats.{IsSeat};
 
+use crate::by_kind::{arms, by_kind};
 use crate::object::AnyObject;
 use crate::pass::AnyPass;
 use crate::worker::Worker;
@@ -46,43 +47,10 @@ pub fn halt_any<N: Note, C: Clock, R: Wait>(
     ensures seat { IsSeatAt N.at worker.now.at.home.now worker.now.workers worker.now.number object.now pass.new }
     ensures halted { AreHalted object.now misuse (N.front note.now) (own_of pass.old) (own_of pass.new) }
 {
-    match object {
-        AnyObject::Shared => {}
-        AnyObject::Stop(object) => match pass {
-            AnyPass::Stop(pass) => halt_one(rt, worker, object, pass, note, misuse),
-            _ => unreachable!(),
-        },
-        AnyObject::Mutex(object) => match pass {
-            AnyPass::Mutex(pass) => halt_one(rt, worker, object, pass, note, misuse),
-            _ => unreachable!(),
-        },
-        AnyObject::RwMutex(object) => match pass {
-            AnyPass::RwMutex(pass) => halt_one(rt, worker, object, pass, note, misuse),
-            _ => unreachable!(),
-        },
-        AnyObject::Cond(object) => match pass {
-            AnyPass::Cond(pass) => halt_one(rt, worker, object, pass, note, misuse),
-            _ => unreachable!(),
-        },
-        AnyObject::WaitGroup(object) => match pass {
-            AnyPass::WaitGroup(pass) => halt_one(rt, worker, object, pass, note, misuse),
-            _ => unreachable!(),
-        },
-        AnyObject::Once(object) => match pass {
-            AnyPass::Once(pass) => halt_one(rt, worker, object, pass, note, misuse),
-            _ => unreachable!(),
-        },
-        AnyObject::OnceFunc(object) => match pass {
-            AnyPass::OnceFunc(pass) => halt_one(rt, worker, object, pass, note, misuse),
-            _ => unreachable!(),
-        },
-        AnyObject::OnceValue(object) => match pass {
-            AnyPass::OnceValue(pass) => halt_one(rt, worker, object, pass, note, misuse),
-            _ => unreachable!(),
-        },
-        AnyObject::Pool(object) => match pass {
-            AnyPass::Pool(pass) => halt_one(rt, worker, object, pass, note, misuse),
-            _ => unreachable!(),
-        },
-    }
+    by_kind!(
+        object,
+        AnyPass(pass),
+        {},
+        |object, pass| halt_one(rt, worker, object, pass, note, misuse)
+    )
 }

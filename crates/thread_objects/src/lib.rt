@@ -2,6 +2,7 @@
 //! declares them, dealt to workers, collected, halted, and their journals told.
 #![tactic(auto)]
 
+mod by_kind;
 mod column;
 mod crew;
 mod dealing;

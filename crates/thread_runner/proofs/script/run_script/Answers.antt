@@ -95,7 +95,7 @@ loop-index-preserved g c =
     (subst (λ (b : Bounded (Reply ℕ)). length b.items ≤ c.loop-index.index + 1) (sym c.push.ensures) count)
     made.calls
     (subst (λ (b : Bounded (Reply ℕ)). Went plan number script (c.loop-index.index + 1) b.items start new) (sym c.push.ensures)
-    (went_on plan number script start c.requires.fresh.calls c.loop-index.index c.index-script-index.result within at before.items now new c.moves.ensures.joined c.loop-index.invariant.went reply works))
+    (went_on plan number script start c.requires.fresh.calls c.loop-index.index c.index-script-index.result within at before.items now new c.moves.ensures.joined c.loop-index.invariant.went c.moves.ensures.shared reply works))
 
 pub returns-clause-line : goal.returns-clause-line
 returns-clause-line g c =
