@@ -1,15 +1,9 @@
 -- Calls of a script, by the kind of their object.
-use Rattle.std.proofs.Common.{◌≡◌, ℕ, List, true, Option, Some, None, slice_get, refl, sym, ap, ◌∙◌, subst}
-use Rattle.std.specs.Prelude.{IfSome}
+use Rattle.std.proofs.Common.{◌≡◌, ℕ, true, sym, ap, ◌∙◌, subst}
 use Rattle.std.proofs.lemmas.Bool.{false≢true}
-use Rattle.std.proofs.lemmas.Option.{same_Some}
-use Rattle.sync_model.specs.declared.atomic_object.AtomicCall.{AtomicCall}
-use Rattle.sync_model.specs.declared.atomic_object.AtomicKind.{AtomicKind}
-use Rattle.sync_model.specs.declared.call.Call.{Call}
 use Rattle.sync_model.specs.declared.call.Operation.{Operation}
 use Rattle.sync_model.specs.declared.call.Operation.TheVariants as operations
 use Rattle.sync_model.specs.declared.call.Reply.{Reply}
-use Rattle.sync_model.specs.declared.map_object.MapCall.{MapCall}
 use Rattle.sync_model.specs.declared.lock_call.MutexCall.{MutexCall}
 use Rattle.sync_model.specs.declared.lock_call.RwMutexCall.{RwMutexCall}
 use Rattle.sync_model.specs.declared.pool_call.PoolCall.{PoolCall}
@@ -19,14 +13,8 @@ use Rattle.protocols.specs.declared.cond.CondStage.TheVariants as stage
 use Rattle.protocols.specs.Spelling.{CallAnswer}
 use Rattle.workload.specs.declared.object.ObjectKind.{ObjectKind}
 use Rattle.workload.specs.declared.object.ObjectKind.TheVariants as kinds
-use Rattle.workload.specs.Plan.{Plan, has_call, is_on}
-use Rattle.workload.specs.declared.object.ObjectLine.{ObjectLine}
-use Rattle.workload.specs.Keys.{keys_in}
-use Rattle.run_record.specs.AtomicKind.{atomic_call}
-use Rattle.run_record.specs.MapKind.{map_call, range_call}
-use Rattle.run_record.specs.Objects.{map_number, atomic_number}
-use Rattle.run_record.specs.Calls.{call_on, call_at, SpellsCall}
-use Rattle.thread_objects.specs.AsDeclared.{IsAt}
+use Rattle.workload.specs.Plan.{Plan, has_call}
+use Rattle.run_record.specs.Calls.{call_on}
 use Rattle.run_record.specs.CondKind.{cond_part}
 use Rattle.run_record.specs.MutexKind.{mutex_call}
 use Rattle.run_record.specs.OnceKind.{func_call, value_call}

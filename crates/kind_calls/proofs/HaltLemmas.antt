@@ -1,11 +1,11 @@
 -- Halting, in the words of the record.
-use Rattle.std.proofs.Common.{◌≡◌, ℕ, ◌+◌, ◌≤◌, Bool, true, false, ◌==◌, cond, List, [], ◌∷◌, ◌++◌, map, length, take, drop, refl, sym, ap, subst, ◌∙◌, arith, Option, Some, slice_get, slice_index, Ok}
+use Rattle.std.proofs.Common.{◌≡◌, ℕ, ◌+◌, ◌≤◌, Bool, true, false, ◌==◌, cond, List, [], ◌∷◌, ◌++◌, length, take, drop, refl, sym, ap, subst, ◌∙◌, arith, Option, Some, slice_get, slice_index, Ok}
 use Rattle.std.specs.List.{AllByRecursion}
 use Rattle.sync_model.specs.declared.answer.Answer.TheVariants.{Done}
 use Rattle.sync_model.specs.Front.{AtLeast}
 use Rattle.sync_model.specs.Note.{Holding, IsCounted}
 use Rattle.sync_model.specs.Shared.{items_of}
-use Rattle.std.proofs.lemmas.List.{map-append, append-nil, take_all, take_more, length-take-le}
+use Rattle.std.proofs.lemmas.List.{append-nil, take_all, take_more, length-take-le}
 use Rattle.std.proofs.lemmas.List.Elements.{All-from_recursion}
 use Rattle.std.proofs.lemmas.Option.{slice_get_within, get_or_from_slice_get, none-some, same_Some}
 use Rattle.sync_model.specs.declared.journal.Deed.TheVariants.{Halt}

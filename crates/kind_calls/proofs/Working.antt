@@ -1,5 +1,5 @@
 -- Parts of calls, and what they add to what their worker has done.
-use Rattle.std.proofs.Common.{◌≡◌, ℕ, ◌+◌, Bool, true, false, ◌==◌, cond, List, [], ◌∷◌, ◌++◌, map, length, refl, sym, ap, ◌∙◌, subst, arith, Option, Some, None, slice_index, Ok, Err}
+use Rattle.std.proofs.Common.{◌≡◌, ℕ, ◌+◌, Bool, true, false, ◌==◌, cond, List, [], ◌∷◌, ◌++◌, map, length, refl, sym, ap, ◌∙◌, subst, arith, append_assoc, Option, Some, None, slice_index, Ok, Err}
 use Rattle.std.proofs.lemmas.Bool.{eqb-true}
 use Rattle.std.proofs.lemmas.List.{map-append, append-nil, length-append}
 use Rattle.std.proofs.lemmas.Option.{none-some, same_Some}
@@ -132,10 +132,6 @@ answers_as {O} part old new told answer is works = subst (λ (a : CallAnswer O).
 -- where the call is the same
 pub part_as : {O G : Type 0} (part_of : G → Part O) (call due : G) (old new : Desk) (answer : CallAnswer O) → call ≡ due → Works (part_of due) old answer new → Works (part_of call) old answer new
 part_as {O} {G} part_of call due old new answer is works = subst (λ (g : G). Works (part_of g) old answer new) (sym is) works
-
-append_assoc : {A : Type 0} (xs ys zs : List A) → (xs ++ ys) ++ zs ≡ xs ++ (ys ++ zs)
-append_assoc [] ys zs = refl
-append_assoc {A} (x ∷ xs) ys zs = ap (λ (l : List A). x ∷ l) (append_assoc xs ys zs)
 
 pub shared_append : (xs ys : List Made) → shared_in (xs ++ ys) ≡ shared_in xs ++ shared_in ys
 shared_append [] ys = refl
