@@ -10,12 +10,6 @@ use Rattle.sync_model.specs.declared.call.Operation.{Operation}
 use Rattle.sync_model.specs.declared.call.Operation.TheVariants as operations
 use Rattle.sync_model.specs.declared.call.Reply.{Reply}
 use Rattle.sync_model.specs.declared.map_object.MapCall.{MapCall}
-use Rattle.sync_model.specs.declared.lock_call.MutexCall.{MutexCall}
-use Rattle.sync_model.specs.declared.lock_call.RwMutexCall.{RwMutexCall}
-use Rattle.sync_model.specs.declared.pool_call.PoolCall.{PoolCall}
-use Rattle.sync_model.specs.declared.wait_call.CondCall.TheVariants as cond_calls
-use Rattle.sync_model.specs.declared.wait_call.WaitGroupCall.{WaitGroupCall}
-use Rattle.protocols.specs.declared.cond.CondStage.TheVariants as stage
 use Rattle.protocols.specs.Spelling.{CallAnswer}
 use Rattle.workload.specs.declared.object.ObjectKind.{ObjectKind}
 use Rattle.workload.specs.declared.object.ObjectKind.TheVariants as kinds
@@ -27,15 +21,6 @@ use Rattle.run_record.specs.MapKind.{map_call, range_call}
 use Rattle.run_record.specs.Objects.{map_number, atomic_number}
 use Rattle.run_record.specs.Calls.{call_on, call_at, SpellsCall}
 use Rattle.thread_objects.specs.AsDeclared.{IsAt}
-use Rattle.run_record.specs.CondKind.{cond_part}
-use Rattle.run_record.specs.MutexKind.{mutex_call}
-use Rattle.run_record.specs.OnceKind.{func_call, value_call}
-use Rattle.run_record.specs.Parts.{read_as}
-use Rattle.run_record.specs.PoolKind.{pool_call}
-use Rattle.run_record.specs.Record.{number_at}
-use Rattle.run_record.specs.RwMutexKind.{rw_mutex_call}
-use Rattle.run_record.specs.WaitGroupKind.{wait_group_call}
-use Rattle.kind_calls.specs.Replies.{returned}
 use Rattle.kind_calls.specs.Working.{Desk, Works}
 
 -- an object that has an atomic's call is an atomic

@@ -1,5 +1,5 @@
 -- What the workers of a run share, and what a call needs of it.
-use Rattle.std.specs.Prelude.{◌≡◌, ℕ, ◌+◌, ◌<◌, ◌≤◌, List, [], length, All, count_by, sum_by, Option, Some, get_or, slice_get, slice_index}
+use Rattle.std.specs.Prelude.{◌≡◌, ℕ, ◌<◌, ◌≤◌, List, [], length, All, count_by, sum_by, Some, get_or, slice_get, slice_index}
 use Rattle.std.specs.List.{flat_map}
 use Rattle.sync_model.specs.declared.atomic_object.AtomicKind.{AtomicKind}
 use Rattle.sync_model.specs.declared.call.Call.{Call}
