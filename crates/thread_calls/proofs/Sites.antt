@@ -11,6 +11,7 @@ use Rattle.sync_model.specs.declared.atomic_object.AtomicKind.{AtomicKind}
 use Rattle.sync_model.specs.declared.atomic_object.AtomicKind.TheVariants.{Int64}
 use Rattle.sync_model.specs.declared.atomic_object.Number.TheVariants as numbers
 use Rattle.sync_model.specs.declared.call.Reply.{Reply}
+use Rattle.sync_model.specs.declared.item.SharedCall.TheVariants as calls
 use Rattle.sync_model.specs.declared.map_object.MapCall.{MapCall}
 use Rattle.sync_model.specs.declared.map_object.MapCall.TheVariants.{Load, Store, LoadOrStore, LoadAndDelete, Delete, Swap, CompareAndSwap, CompareAndDelete, Clear}
 use Rattle.sync_model.specs.Renaming.{renamed_call}
@@ -25,18 +26,14 @@ use Rattle.workload.specs.Plan.{Plan, is_target, refers}
 use Rattle.std.specs.Option.{option_map_or}
 use Rattle.std.proofs.lemmas.Bool.{false≢true, lt-ltb}
 use Rattle.run_record.specs.AtomicKind.{atomic_call}
+use Rattle.run_record.specs.Limits.{IsCallOf, atomic_types}
 use Rattle.run_record.specs.MapKind.{map_call, range_call}
 use Rattle.run_record.specs.OnceKind.{do_call}
 use Rattle.run_record.specs.Objects.{is_map, is_atomic, types_of, map_number, atomic_number}
-use Rattle.run_record.specs.Record.{stop, number_at}
-use Rattle.thread_calls.specs.declared.object.AnyObject.{AnyObject}
-use Rattle.thread_calls.specs.declared.object.AnyObject.TheVariants as those
-use Rattle.thread_calls.specs.AsDeclared.{IsStopOf, IsDeclared, AreDeclared}
-use Rattle.thread_calls.specs.Desks.{IsObjectAt}
-use Rattle.thread_calls.specs.Kinds.{IsStop, IsOfKind}
-use Rattle.thread_calls.specs.Parts.{placed_map}
-use Rattle.thread_calls.specs.Sites.{AreNumbers, AreShared, IsAt, shared_number}
-use Rattle.thread_calls.specs.Working.{Desk, Works}
+use Rattle.thread_objects.specs.AsDeclared.{IsAt}
+use Rattle.kind_calls.specs.Parts.{placed_map}
+use Rattle.thread_calls.specs.Sites.{AreNumbers, AreShared, shared_number}
+use Rattle.kind_calls.specs.Working.{Desk, Works}
 use Rattle.thread_calls.proofs.Numbers.{one_more}
 
 -- the number of a call costs nothing
@@ -119,41 +116,6 @@ mutex_line mutex (Some line) is = (line, refl, mutex_kind mutex line.kind is)
 pub mutex_of : (plan : Plan) (kind : ObjectKind) (mutex : ℕ) → kind ≡ kinds.Cond mutex → refers plan.objects kind ≡ true → IsAt plan mutex kinds.Mutex
 mutex_of plan kind mutex is refer = mutex_line mutex (slice_get plan.objects mutex) (ap (λ (k : ObjectKind). refers plan.objects k) (sym is) ∙ refer)
 
-slice_get_some : {A : Type 0} (xs : List A) (i : ℕ) → i < length xs → (x : A) × (slice_get xs i ≡ Some x)
-slice_get_some [] i within = absurd (omega (arith, within))
-slice_get_some (x ∷ xs) zero within = (x, refl)
-slice_get_some (x ∷ xs) (suc i) within = slice_get_some xs i (omega (arith, within))
-
-module _ {N H : Type 0} (at : H → N → Type 0) (home : H) (plan : Plan) where
-  of_kind : (place : ℕ) (kind : ObjectKind) (object : AnyObject N H) → IsDeclared at home plan place kind object → IsOfKind kind object
-  of_kind place kinds.Map object is = tt
-  of_kind place (kinds.Atomic type) object is = tt
-  of_kind place kinds.Mutex (those.Mutex o) is = tt
-  of_kind place kinds.RwMutex (those.RwMutex o) is = tt
-  of_kind place (kinds.Cond mutex) (those.Cond o) is = tt
-  of_kind place (kinds.WaitGroup start) (those.WaitGroup o) is = tt
-  of_kind place (kinds.Once atomic delta) (those.Once o) is = tt
-  of_kind place (kinds.OnceFunc code) (those.OnceFunc o) is = tt
-  of_kind place (kinds.OnceValue value) (those.OnceValue o) is = tt
-  of_kind place kinds.Pool (those.Pool o) is = tt
-  of_kind place kind object is = absurd is
-
-  stop_of : (object : AnyObject N H) → IsStopOf at home plan.workers object → IsStop object
-  stop_of (those.Stop o) is = tt
-  stop_of object is = absurd is
-
-  -- the first object of a run is Stop
-  pub stop_is_first : (all : List (AnyObject N H)) → AreDeclared at home plan all → IsObjectAt IsStop all stop
-  stop_is_first all declared =
-      let object = slice_get_some all stop (omega (arith, declared.count)) in
-      (object.0, object.1, stop_of object.0 (declared.stops object.0 object.1))
-
-  module _ (all : List (AnyObject N H)) (declared : AreDeclared at home plan all) (place : ℕ) (kind : ObjectKind) (is : IsAt plan place kind) where
-    pub has_room : place + 1 < length all
-    has_room = omega (arith, slice_get_within plan.objects place is.0 is.1, declared.count)
-
-    -- the object at a place is of the kind that was declared there
-    pub declared_at : IsObjectAt (IsOfKind kind) all (number_at place)
-    declared_at =
-        let object = slice_get_some all (number_at place) has_room in
-        (object.0, object.1, subst (λ (k : ObjectKind). IsOfKind k object.0) is.2 (of_kind place is.0.kind object.0 (declared.each place is.0 object.0 is.1 object.1)))
+-- a call that the atomics of these types have, which are the workload's
+pub of_types : (plan : Plan) (types : List AtomicKind) (a : ℕ) (call : AtomicCall) → types ≡ atomic_types plan → IsAtomicCall types a call → IsCallOf plan (calls.Atomic a call)
+of_types plan types a call same has = subst (λ (t : List AtomicKind). IsAtomicCall t a call) same has

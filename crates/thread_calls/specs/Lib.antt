@@ -1,15 +1,1 @@
-pub mod Alone
-pub mod AsDeclared
-pub mod Columns
-pub mod Desks
-pub mod Halting
-pub mod GivenUp
-pub mod Kinds
-pub mod Parts
-pub mod Passes
-pub mod Replies
-pub mod Rows
-pub mod Seats
 pub mod Sites
-pub mod Stop
-pub mod Working

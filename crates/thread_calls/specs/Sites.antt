@@ -1,20 +1,19 @@
 -- What the workers of a run share, and what a call needs of it.
-use Rattle.std.specs.Prelude.{◌≡◌, ℕ, ◌+◌, ◌<◌, ◌≤◌, List, [], length, All, count_by, sum_by, Option, Some, get_or, slice_get, slice_index}
+use Rattle.std.specs.Prelude.{◌≡◌, ℕ, ◌<◌, ◌≤◌, List, [], length, All, count_by, sum_by, Some, get_or, slice_get, slice_index}
 use Rattle.std.specs.List.{flat_map}
 use Rattle.sync_model.specs.declared.atomic_object.AtomicKind.{AtomicKind}
 use Rattle.sync_model.specs.declared.call.Call.{Call}
 use Rattle.sync_model.specs.declared.call.Operation.{Operation}
 use Rattle.sync_model.specs.declared.call.Operation.TheVariants as operations
 use Rattle.sync_model.specs.BoundedSeq.{Bounded}
-use Rattle.sync_model.specs.Note.{Holding}
 use Rattle.sync_model.specs.Shared.{cost_of}
 use Rattle.workload.specs.declared.object.ObjectKind.{ObjectKind}
 use Rattle.workload.specs.declared.object.ObjectKind.TheVariants as kinds
 use Rattle.workload.specs.declared.object.ObjectLine.{ObjectLine}
 use Rattle.workload.specs.Keys.{keys_in}
 use Rattle.workload.specs.Plan.{Plan}
-use Rattle.thread_calls.specs.declared.object.AnyObject.{AnyObject}
-use Rattle.thread_calls.specs.AsDeclared.{AreDeclared}
+use Rattle.thread_objects.specs.declared.object.AnyObject.{AnyObject}
+use Rattle.thread_objects.specs.AsDeclared.{AreDeclared}
 use Rattle.run_record.specs.Objects.{is_map, types_of, map_number, atomic_number}
 
 -- the number of a map among so many maps before it, and of an atomic among so many atomics; an object of another kind has none
@@ -39,10 +38,6 @@ pub record IsSite {N H : Type 0} (at : H → N → Type 0) (home : H) (plan : Pl
   pub declared : AreDeclared at home plan objects
   pub shared : AreShared plan maps types takes
   pub numbered : AreNumbers plan.objects numbers
-
--- the workload declares an object of this kind at the place
-abbrev pub IsAt : Plan → ℕ → ObjectKind → Type 0
-IsAt plan place kind = (line : ObjectLine) × (slice_get plan.objects place ≡ Some line) × (line.kind ≡ kind)
 
 -- the call stands in the worker's script
 abbrev pub IsScripted : Plan → (worker : ℕ) → Call → Type 0
@@ -74,12 +69,3 @@ ranges_in_calls calls = sum_by ranges_in_call calls
 -- the lists that were made for the pairs of `range` calls are empty, and have room for so many keys
 abbrev pub AreRooms : ℕ → List (Bounded (ℕ × ℕ)) → Type 0
 AreRooms keys rooms = All (λ room. (room.items ≡ []) × (keys ≤ room.room)) rooms
-
--- The caller of a note made some calls: the note is still its own, and no more of its spare entries are gone than this.
-pub record Spends {N : Type 0} (own : N → Option Holding) (cost : ℕ) (old new : N) : Type 0 where
-  pub was : Holding
-  pub becomes : Holding
-  pub own_old : own old ≡ Some was
-  pub own_new : own new ≡ Some becomes
-  pub number : becomes.number ≡ was.number
-  pub spare : was.spare ≤ becomes.spare + cost

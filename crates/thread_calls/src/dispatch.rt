@@ -10,21 +10,22 @@ ghost use Rattle.workload.specs.Keys.{keys_in};
 ghost use Rattle.workload.specs.Plan.{has_call, refers};
 ghost use Rattle.run_record.specs.Calls.{SpellsCall, call_on};
 ghost use Rattle.run_record.specs.Limits.{IsCallOf};
-ghost use Rattle.thread_calls.specs.Desks.{AreSeats};
-ghost use Rattle.thread_calls.specs.GivenUp.{GaveUp, MakesOnly};
-ghost use Rattle.thread_calls.specs.Passes.{owns_of};
-ghost use Rattle.thread_calls.specs.Sites.{AreRooms, IsAt, IsScripted, IsSite, Spends, operation_cost, operation_ranges, cost_of_call, ranges_in_call};
-ghost use Rattle.thread_calls.specs.Working.{Works, desk_with};
+ghost use Rattle.thread_objects.specs.Desks.{AreSeats};
+ghost use Rattle.kind_calls.specs.GivenUp.{GaveUp, MakesOnly};
+ghost use Rattle.thread_objects.specs.Passes.{owns_of};
+ghost use Rattle.thread_calls.specs.Sites.{AreRooms, IsScripted, IsSite, operation_cost, operation_ranges, cost_of_call, ranges_in_call};
+ghost use Rattle.thread_objects.specs.AsDeclared.{IsAt};
+ghost use Rattle.kind_calls.specs.Spending.{Spends};
+ghost use Rattle.kind_calls.specs.Working.{Works, desk_with};
 
-use crate::kinds::replies::CallAnswer;
-use crate::object_calls::{object_at, wait_at};
-use crate::pass::AnyPass;
 use crate::placed_calls::{atomic_at, map_at, once_at, range_at};
 use crate::site::Site;
-use crate::worker::Worker;
+use kind_calls::{CallAnswer, object_at, wait_at};
 use std::sync::Wait;
 use sync_model::{BoundedSeq, Call, Caller, CondCall, Operation, Shared};
 use sync_outside::Clock;
+use thread_objects::laws::objects_are_of_their_kinds;
+use thread_objects::{AnyPass, Worker};
 use workload::{ObjectKind, Workload};
 
 // Of which kind the object at a place is.
@@ -80,6 +81,7 @@ fn call_at<S: Shared, C: Clock, R: Wait>(
     ensures works { IfSome result (λ answer. Works (call_on site.now.workload.now worker.now.number (length (items_of (S.Mark.own caller.old.note))) place kind operation.now)
         (desk_with S.Mark.own S.Mark.front (owns_of passes.old) caller.old.note) answer (desk_with S.Mark.own S.Mark.front (owns_of passes.new) caller.new.note)) }
 {
+    objects_are_of_their_kinds::<S::Mark>();
     match operation {
         Operation::Map(call) => Some(map_at(rt, site, caller, place, call)),
         Operation::Atomic(call) => Some(atomic_at(rt, site, caller, place, *call)),

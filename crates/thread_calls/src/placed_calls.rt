@@ -18,24 +18,22 @@ ghost use Rattle.run_record.specs.MapKind.{map_call, range_call};
 ghost use Rattle.run_record.specs.Objects.{map_number, atomic_number};
 ghost use Rattle.run_record.specs.OnceKind.{do_call};
 ghost use Rattle.run_record.specs.Record.{ObjectEntry, number_at};
-ghost use Rattle.thread_calls.specs.Desks.{AreSeats, IsObjectAt};
-ghost use Rattle.thread_calls.specs.GivenUp.{MakesOnly, ShowedTooMany, AnsweredAmiss};
-ghost use Rattle.thread_calls.specs.Kinds.{IsOnce};
-ghost use Rattle.thread_calls.specs.Passes.{owns_of};
-ghost use Rattle.thread_calls.specs.Sites.{IsAt, IsSite, Spends};
-ghost use Rattle.thread_calls.specs.Working.{Works, desk_with};
+ghost use Rattle.thread_objects.specs.Desks.{AreSeats, IsObjectAt};
+ghost use Rattle.kind_calls.specs.GivenUp.{MakesOnly, ShowedTooMany, AnsweredAmiss};
+ghost use Rattle.thread_objects.specs.Kinds.{IsOnce};
+ghost use Rattle.thread_objects.specs.Passes.{owns_of};
+ghost use Rattle.thread_objects.specs.AsDeclared.{IsAt};
+ghost use Rattle.thread_calls.specs.Sites.{IsSite};
+ghost use Rattle.kind_calls.specs.Spending.{Spends};
+ghost use Rattle.kind_calls.specs.Working.{Works, desk_with};
 
-use crate::kinds::do_once::do_at;
-use crate::kinds::range::call_range;
-use crate::kinds::replies::CallAnswer;
 use crate::numbering::numbered;
-use crate::pass::AnyPass;
-use crate::shared_calls::{call_atomic, call_map};
 use crate::site::Site;
-use crate::worker::Worker;
+use kind_calls::{CallAnswer, call_atomic, call_map, call_range, do_at};
 use std::sync::Wait;
 use sync_model::{AtomicCall, BoundedSeq, Caller, MapCall, Name, Shared};
 use sync_outside::Clock;
+use thread_objects::{AnyPass, Worker};
 use workload::laws::keys_are_numbered_by_first_appearance;
 
 /// Makes a call on the map at a place. It may wait for other callers.

@@ -3,9 +3,9 @@ ghost use Rattle.std.specs.Prelude.{◌≡◌, ◌+◌, ◌<◌, ◌≤◌, ◌^
 ghost use Rattle.run_record.specs.Objects.{is_map, is_atomic};
 ghost use Rattle.thread_calls.specs.Sites.{AreNumbers, shared_number};
 
-use crate::object::AnyObject;
 use std::alloc::{AllocError, Global};
 use sync_model::Shared;
+use thread_objects::AnyObject;
 use workload::{ObjectKind, Workload};
 
 /// What all workers of a run share.

@@ -11,8 +11,8 @@ use Rattle.sync_model.specs.Note.{Holding}
 use Rattle.sync_model.specs.Shared.{AreAllCallers}
 use Rattle.workload.specs.Keys.{keys_in}
 use Rattle.workload.specs.Plan.{Plan, is_on, is_turn, refers, is_valid}
-use Rattle.thread_calls.specs.declared.object.AnyObject.{AnyObject}
-use Rattle.thread_calls.specs.declared.pass.AnyPass.{AnyPass}
+use Rattle.thread_objects.specs.declared.object.AnyObject.{AnyObject}
+use Rattle.thread_objects.specs.declared.pass.AnyPass.{AnyPass}
 use Rattle.thread_calls.specs.Sites.{AreRooms, ranges_in_calls}
 use Rattle.thread_runner.specs.AllGone.{HaveGone}
 use Rattle.thread_runner.specs.Dealing.{AreRows}

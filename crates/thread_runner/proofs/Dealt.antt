@@ -5,11 +5,11 @@ use Rattle.std.proofs.lemmas.Bool.{eqb-true, eq-eqb, false≢true, ltb-true, ltb
 use mathlib.Core.List.{reverse-cons}
 use Rattle.std.proofs.lemmas.List.{get_or-reverse, length-reverse, length_push, get_or_push, get_or_append_left, map_push}
 use Rattle.std.proofs.lemmas.Option.{none-some, same_Some, slice_get_within, get_or_from_slice_get, slice_get-get_or}
-use Rattle.thread_calls.specs.declared.column.AnyColumn.{AnyColumn}
-use Rattle.thread_calls.specs.declared.object.AnyObject.{AnyObject}
-use Rattle.thread_calls.specs.declared.pass.AnyPass.{AnyPass}
-use Rattle.thread_calls.specs.Passes.{owns_of}
-use Rattle.thread_calls.specs.Rows.{made_on}
+use Rattle.thread_objects.specs.declared.column.AnyColumn.{AnyColumn}
+use Rattle.thread_objects.specs.declared.object.AnyObject.{AnyObject}
+use Rattle.thread_objects.specs.declared.pass.AnyPass.{AnyPass}
+use Rattle.thread_objects.specs.Passes.{owns_of}
+use Rattle.thread_objects.specs.Rows.{made_on}
 use Rattle.thread_runner.specs.Dealing.{IsRow, AreRows}
 
 module _ {A : Type 0} where

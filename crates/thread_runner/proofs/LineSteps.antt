@@ -11,11 +11,11 @@ use Rattle.sync_model.specs.declared.journal.Deed.TheVariants.{Halt}
 use Rattle.sync_model.specs.declared.misuse.Misuse.{Misuse}
 use Rattle.workload.specs.Plan.{Plan}
 use Rattle.run_record.specs.declared.made.Made.{Made}
-use Rattle.run_record.specs.declared.made.Made.TheVariants.{Shared, Entered}
+use Rattle.run_record.specs.declared.made.Made.TheVariants.{Entered}
 use Rattle.run_record.specs.Calls.{SpellsCall}
 use Rattle.run_record.specs.Lines.{Line, LineEnd, SpeltCall, whole, misused, halted, unfinished, AreSpelt, IsHalt}
 use Rattle.run_record.specs.Record.{ObjectEntry, stop, shared_in}
-use Rattle.thread_calls.specs.Working.{Desk, Moves, Works}
+use Rattle.kind_calls.specs.Working.{Desk, Moves, Works}
 use Rattle.thread_runner.specs.DidLines.{DidLine, Went}
 use Rattle.thread_runner.proofs.ItemLists.{first_is}
 
@@ -23,24 +23,23 @@ use Rattle.thread_runner.proofs.ItemLists.{first_is}
 abbrev pub Joins : Type 0
 Joins = (old between new : Desk) (xs ys : List Made) → Moves old xs between → Moves between ys new → Moves old (xs ++ ys) new
 
+-- the calls on maps and atomics in two lists of items, one after the other
+abbrev pub SharedJoins : Type 0
+SharedJoins = (xs ys : List Made) → shared_in (xs ++ ys) ≡ shared_in xs ++ shared_in ys
+
 abbrev items_in : List SpeltCall → List Made
 items_in spelt = flat_map (λ s. s.items) spelt
-
-shared_append : (xs ys : List Made) → shared_in (xs ++ ys) ≡ shared_in xs ++ shared_in ys
-shared_append [] ys = refl
-shared_append (Shared x ∷ xs) ys = ap (λ (l : List Item). x ∷ l) (shared_append xs ys)
-shared_append (Entered object entry ∷ xs) ys = shared_append xs ys
 
 items_push : (xs : List SpeltCall) (x : SpeltCall) → items_in (xs ++ x ∷ []) ≡ items_in xs ++ x.items
 items_push [] x = append-nil x.items
 items_push (y ∷ xs) x = ap (λ (l : List Made). y.items ++ l) (items_push xs x) ∙ sym (append_assoc y.items (items_in xs) x.items)
 
 module _ (plan : Plan) (worker : ℕ) where
-  spelt_push : (before : ℕ) (xs : List SpeltCall) (x : SpeltCall) → AreSpelt plan worker before xs → SpellsCall plan worker (before + length (shared_in (items_in xs))) x.call x.items (Done (Ok x.reply)) → AreSpelt plan worker before (xs ++ x ∷ [])
-  spelt_push before [] x are spelt = (subst (λ n. SpellsCall plan worker n x.call x.items (Done (Ok x.reply))) (omega arith) spelt, tt)
-  spelt_push before (y ∷ xs) x are spelt =
-      let count : length (shared_in (y.items ++ items_in xs)) ≡ length (shared_in y.items) + length (shared_in (items_in xs)) = ap (λ (l : List Item). length l) (shared_append y.items (items_in xs)) ∙ length-append (shared_in y.items) (shared_in (items_in xs)) in
-      (are.0, spelt_push (before + length (shared_in y.items)) xs x are.1 (subst (λ n. SpellsCall plan worker n x.call x.items (Done (Ok x.reply))) (omega (arith, count)) spelt))
+  spelt_push : SharedJoins → (before : ℕ) (xs : List SpeltCall) (x : SpeltCall) → AreSpelt plan worker before xs → SpellsCall plan worker (before + length (shared_in (items_in xs))) x.call x.items (Done (Ok x.reply)) → AreSpelt plan worker before (xs ++ x ∷ [])
+  spelt_push shared before [] x are spelt = (subst (λ n. SpellsCall plan worker n x.call x.items (Done (Ok x.reply))) (omega arith) spelt, tt)
+  spelt_push shared before (y ∷ xs) x are spelt =
+      let count : length (shared_in (y.items ++ items_in xs)) ≡ length (shared_in y.items) + length (shared_in (items_in xs)) = ap (λ (l : List Item). length l) (shared y.items (items_in xs)) ∙ length-append (shared_in y.items) (shared_in (items_in xs)) in
+      (are.0, spelt_push shared (before + length (shared_in y.items)) xs x are.1 (subst (λ n. SpellsCall plan worker n x.call x.items (Done (Ok x.reply))) (omega (arith, count)) spelt))
 
 drop_from : (j : ℕ) (xs : List Call) (x : Call) → slice_get xs j ≡ Some x → drop j xs ≡ x ∷ drop (suc j) xs
 drop_from j [] x found = absurd (none-some x found)
@@ -103,12 +102,12 @@ module _ (plan : Plan) (worker : ℕ) (script : List Call) (old : Desk) (none : 
     rest = sym (take-append-drop i script) ∙ ap (λ (l : List Call). take i script ++ l) (drop_from i script call at)
 
     -- a call that was answered comes behind the others
-    pub went_on : (reply : Reply ℕ) → Works (SpellsCall plan worker (length now.calls) call) now (Done (Ok reply)) new → Went plan worker script (i + 1) (replies ++ reply ∷ []) old new
-    went_on reply works =
+    pub went_on : SharedJoins → (reply : Reply ℕ) → Works (SpellsCall plan worker (length now.calls) call) now (Done (Ok reply)) new → Went plan worker script (i + 1) (replies ++ reply ∷ []) old new
+    went_on shared reply works =
         let one : SpeltCall = record { call = call; items = works.items; reply = reply } in
         record {
           spelt = went.spelt ++ one ∷ [];
-          are = spelt_push plan worker 0 went.spelt one went.are (subst (λ n. SpellsCall plan worker n call works.items (Done (Ok reply))) (omega arith) (spelt_here works.items (Done (Ok reply)) works.spelt));
+          are = spelt_push plan worker shared 0 went.spelt one went.are (subst (λ n. SpellsCall plan worker n call works.items (Done (Ok reply))) (omega arith) (spelt_here works.items (Done (Ok reply)) works.spelt));
           calls = map_push (λ s. s.call) went.spelt one ∙ ap (λ (l : List Call). l ++ call ∷ []) went.calls ∙ sym (took i script call at);
           answers = map_push (λ s. s.reply) went.spelt one ∙ ap (λ (l : List (Reply ℕ)). l ++ reply ∷ []) went.answers;
           moves = subst (λ (l : List Made). Moves old l new) (sym (items_push went.spelt one)) (all_moves works.items works.moves);

@@ -5,13 +5,13 @@ use Rattle.std.proofs.lemmas.Option.{none-some, same_Some, slice_get_cases, slic
 use Rattle.workload.specs.declared.object.ObjectLine.{ObjectLine}
 use Rattle.workload.specs.Plan.{Plan}
 use Rattle.run_record.specs.Record.{stop, number_at}
-use Rattle.thread_calls.specs.declared.column.AnyColumn.{AnyColumn}
-use Rattle.thread_calls.specs.declared.column.AnyColumn.TheVariants as columns
-use Rattle.thread_calls.specs.declared.object.AnyObject.{AnyObject}
-use Rattle.thread_calls.specs.AsDeclared.{IsStopOf, IsDeclared, AreDeclared}
-use Rattle.thread_calls.specs.Columns.{IsColumnOf, passes_in}
-use Rattle.thread_calls.specs.Passes.{owns_of}
-use Rattle.thread_calls.specs.Rows.{AreColumns, made_on}
+use Rattle.thread_objects.specs.declared.column.AnyColumn.{AnyColumn}
+use Rattle.thread_objects.specs.declared.column.AnyColumn.TheVariants as columns
+use Rattle.thread_objects.specs.declared.object.AnyObject.{AnyObject}
+use Rattle.thread_objects.specs.AsDeclared.{IsStopOf, IsDeclared, AreDeclared}
+use Rattle.thread_objects.specs.Columns.{IsColumnOf, passes_in}
+use Rattle.thread_objects.specs.Passes.{owns_of}
+use Rattle.thread_objects.specs.Rows.{AreColumns, made_on}
 use Rattle.thread_runner.specs.Dealing.{MadeNothingFrom}
 use Rattle.thread_runner.proofs.Dealt.{pushed_at}
 

@@ -4,8 +4,8 @@ use Rattle.sync_model.specs.declared.call.Reply.{Reply}
 use Rattle.sync_model.specs.declared.caller.Caller.{Caller}
 use Rattle.sync_model.specs.Note.{Holding}
 use Rattle.workload.specs.Plan.{Plan}
-use Rattle.thread_calls.specs.declared.object.AnyObject.{AnyObject}
-use Rattle.thread_calls.specs.declared.pass.AnyPass.{AnyPass}
+use Rattle.thread_objects.specs.declared.object.AnyObject.{AnyObject}
+use Rattle.thread_objects.specs.declared.pass.AnyPass.{AnyPass}
 use Rattle.thread_runner.specs.Jobs.{HasGone}
 
 module _ {N H : Type 0} (at : H → N → Type 0) (own : N → Option Holding) (front : N → List ℕ) (home : H) (plan : Plan) (objects : List (AnyObject N H)) (rows : List (List (AnyPass N))) (callers : List (Caller N)) where

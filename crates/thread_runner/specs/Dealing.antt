@@ -2,12 +2,12 @@
 use Rattle.std.specs.Prelude.{◌≡◌, ℕ, ◌≤◌, List, [], length, Option, Some, slice_get}
 use Rattle.sync_model.specs.declared.caller.Caller.{Caller}
 use Rattle.sync_model.specs.Note.{Holding, SameHome}
-use Rattle.thread_calls.specs.declared.column.AnyColumn.{AnyColumn}
-use Rattle.thread_calls.specs.declared.object.AnyObject.{AnyObject}
-use Rattle.thread_calls.specs.declared.pass.AnyPass.{AnyPass}
-use Rattle.thread_calls.specs.Desks.{AreSeats}
-use Rattle.thread_calls.specs.Passes.{owns_of}
-use Rattle.thread_calls.specs.Rows.{made_on}
+use Rattle.thread_objects.specs.declared.column.AnyColumn.{AnyColumn}
+use Rattle.thread_objects.specs.declared.object.AnyObject.{AnyObject}
+use Rattle.thread_objects.specs.declared.pass.AnyPass.{AnyPass}
+use Rattle.thread_objects.specs.Desks.{AreSeats}
+use Rattle.thread_objects.specs.Passes.{owns_of}
+use Rattle.thread_objects.specs.Rows.{made_on}
 
 -- nobody whose number isn't below this one made an entry, by the passes that are in these columns
 abbrev pub MadeNothingFrom : {N : Type 0} → ℕ → List (AnyColumn N) → Type 0

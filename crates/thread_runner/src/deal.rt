@@ -1,15 +1,15 @@
 //! The objects of a run, and dealing their passes to the workers.
 ghost use Rattle.std.specs.Prelude.{◌≡◌, ℕ, ◌<◌, ◌≤◌, IfOk, List, [], length, get_or, map, Some, slice_get};
 ghost use Rattle.sync_model.specs.Note.{SameHome};
-ghost use Rattle.thread_calls.specs.AsDeclared.{AreDeclared};
-ghost use Rattle.thread_calls.specs.Desks.{AreSeats};
-ghost use Rattle.thread_calls.specs.Passes.{owns_of};
-ghost use Rattle.thread_calls.specs.Rows.{AreColumns, made_on};
+ghost use Rattle.thread_objects.specs.AsDeclared.{AreDeclared};
+ghost use Rattle.thread_objects.specs.Desks.{AreSeats};
+ghost use Rattle.thread_objects.specs.Passes.{owns_of};
+ghost use Rattle.thread_objects.specs.Rows.{AreColumns, made_on};
 ghost use Rattle.thread_runner.specs.Dealing.{MadeNothingFrom, AreRows, SameNotes};
 
 use std::alloc::{AllocError, Global};
 use sync_model::{Caller, Note};
-use thread_calls::{
+use thread_objects::{
     AnyColumn, AnyObject, AnyPass, Crew, deal_row, make_object, make_stop, put_row,
 };
 use workload::Workload;

@@ -4,7 +4,7 @@ ghost use Rattle.std.specs.Prelude.{◌≡◌, ◌≤◌, length, map, IfOk, vec
 use crate::job::Gone;
 use std::alloc::{AllocError, Global};
 use sync_model::{BoundedSeq, Caller, Reply, Seq};
-use thread_calls::AnyPass;
+use thread_objects::AnyPass;
 
 /// What the workers leave, in order of number.
 #[derive(Drop)]

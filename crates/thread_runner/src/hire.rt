@@ -8,7 +8,8 @@ use crate::job::Job;
 use std::alloc::{AllocError, Global};
 use sync_model::{BoundedSeq, Call, Caller, Operation, Shared};
 use sync_outside::{At, Clock, Gate};
-use thread_calls::{AnyObject, AnyPass, Site, Worker};
+use thread_calls::Site;
+use thread_objects::{AnyObject, AnyPass, Worker};
 use workload::Workload;
 
 // Room for the pairs of each `range` of a script, which shows at most all keys, so many.

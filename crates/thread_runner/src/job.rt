@@ -5,7 +5,8 @@ use crate::script::run_script;
 use std::sync::Wait;
 use sync_model::{BoundedSeq, Caller, Note, Reply, Seq, Shared};
 use sync_outside::{Clock, Gate, Work};
-use thread_calls::{AnyPass, Site, Worker};
+use thread_calls::Site;
+use thread_objects::{AnyPass, Worker};
 
 /// A worker, with all that its script takes.
 #[derive(Drop)]
@@ -37,8 +38,8 @@ where
 {
     ghost use Rattle.std.specs.Prelude.{◌≡◌};
     ghost use Rattle.run_record.specs.Record.{stop};
-    ghost use Rattle.thread_calls.specs.Desks.{IsObjectAt};
-    ghost use Rattle.thread_calls.specs.Kinds.{IsStop};
+    ghost use Rattle.thread_objects.specs.Desks.{IsObjectAt};
+    ghost use Rattle.thread_objects.specs.Kinds.{IsStop};
     ghost use Rattle.thread_calls.specs.Sites.{IsSite};
     ghost use Rattle.thread_runner.specs.Jobs.{IsReady, HasGone};
 

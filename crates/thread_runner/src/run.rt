@@ -2,8 +2,8 @@
 ghost use Rattle.std.specs.Prelude.{◌≡◌, ◌≤◌, ◌+◌, IfOk, IfErr, OnOk, List, Err, [], true, map, vec_capacity};
 ghost use Rattle.sync_model.specs.Shared.{AreAllCallers};
 ghost use Rattle.sync_outside.specs.Faults.{Rose, RoseBy};
-ghost use Rattle.thread_calls.specs.AsDeclared.{AreDeclared};
-ghost use Rattle.thread_calls.specs.Rows.{AreColumns};
+ghost use Rattle.thread_objects.specs.AsDeclared.{AreDeclared};
+ghost use Rattle.thread_objects.specs.Rows.{AreColumns};
 ghost use Rattle.thread_calls.specs.Sites.{AreShared, IsSite};
 ghost use Rattle.thread_runner.specs.declared.fault.RunFault.TheVariants as faults;
 ghost use Rattle.thread_runner.specs.AllGone.{HaveGone};
@@ -15,6 +15,7 @@ use crate::deal::{collect, deal, make_objects_by};
 use crate::fault::RunFault;
 use crate::gather::Left;
 use crate::hire::hire;
+use kind_calls::laws::a_worker_knows_its_own_calls;
 use run_record::laws::endings::stop_says_how_a_run_ended;
 use run_record::laws::limits::{a_range_shows_no_key_but_the_workloads, an_int64_answers_an_int64};
 use std::alloc::Global;
@@ -23,8 +24,9 @@ use std::thread::Threads;
 use sync_model::laws::shared_steps::one_more_call_keeps_the_law;
 use sync_model::{Caller, Note, Outcome, Report, Seq, Shared};
 use sync_outside::{Clock, Gate, Spawner, Started};
-use thread_calls::laws::{a_worker_knows_its_own_calls, stop_is_the_first_object};
-use thread_calls::{AnyColumn, AnyObject, AnyPass, Crew, journals, numbers_of};
+use thread_calls::numbers_of;
+use thread_objects::laws::stop_is_the_first_object;
+use thread_objects::{AnyColumn, AnyObject, AnyPass, Crew, journals};
 use workload::Workload;
 
 // What a run comes to whose workers have all ended.

@@ -10,19 +10,21 @@ ghost use Rattle.run_record.specs.Calls.{SpellsCall};
 ghost use Rattle.run_record.specs.Limits.{IsCallOf};
 ghost use Rattle.run_record.specs.Lines.{Line, IsHalt};
 ghost use Rattle.run_record.specs.Record.{ObjectEntry, stop};
-ghost use Rattle.thread_calls.specs.Desks.{AreSeats, IsObjectAt};
-ghost use Rattle.thread_calls.specs.GivenUp.{GaveUp};
-ghost use Rattle.thread_calls.specs.Kinds.{IsStop};
-ghost use Rattle.thread_calls.specs.Passes.{owns_of};
+ghost use Rattle.thread_objects.specs.Desks.{AreSeats, IsObjectAt};
+ghost use Rattle.kind_calls.specs.GivenUp.{GaveUp};
+ghost use Rattle.thread_objects.specs.Kinds.{IsStop};
+ghost use Rattle.thread_objects.specs.Passes.{owns_of};
 ghost use Rattle.thread_calls.specs.Sites.{IsSite, AreRooms, cost_of_calls, ranges_in_calls};
-ghost use Rattle.thread_calls.specs.Working.{Desk, Works, Moves, desk_with};
+ghost use Rattle.kind_calls.specs.Working.{Desk, Works, Moves, desk_with};
 ghost use Rattle.thread_runner.specs.DidLines.{DidLine, IsFresh};
 
+use kind_calls::halt_all;
+use kind_calls::laws::moves;
 use std::sync::Wait;
 use sync_model::{Answer, BoundedSeq, Caller, Note, Reply, Shared};
 use sync_outside::{Clock, Gate};
-use thread_calls::laws::moves;
-use thread_calls::{AnyPass, Site, Worker, halt_all, make_call};
+use thread_calls::{Site, make_call};
+use thread_objects::{AnyPass, Worker};
 
 /// Makes the calls of a worker's script in order, with the gate before and behind each. A misuse halts Stop, and then every
 /// object, and ends the worker, as a halt does that it meets. A call that answers nothing ends it too: none does, as is known once

@@ -1,31 +1,31 @@
 use Rattle.std.proofs.lemmas.Option.{IfSome_then}
 use Rattle.workload.specs.declared.object.ObjectKind.TheVariants as kinds
-use Rattle.thread_calls.specs.Passes.{owns_of}
+use Rattle.thread_objects.specs.Passes.{owns_of}
 use Rattle.thread_calls.proofs.ByKind.{on_map, on_atomic, on_range}
 use Rattle.thread_calls.proofs.ScriptCalls.{key_among}
-use Rattle.thread_calls.proofs.Sites.{declared_at, has_room, mutex_of}
+use Rattle.thread_calls.proofs.Sites.{mutex_of}
 use Rattle.std.proofs.Common.{subst}
 use Rattle.workload.specs.declared.object.ObjectKind.{ObjectKind}
-use Rattle.thread_calls.specs.Sites.{IsAt}
+use Rattle.thread_objects.specs.AsDeclared.{IsAt}
 use Rattle.thread_calls.proofs.dispatch.call_at.Goals as goal
 
 pub map_at-requires-clause-key : goal.map_at-requires-clause-key
 map_at-requires-clause-key g c = λ name at. c.requires.keys name (key_among c.args.operation.now c.in-Map.call name c.in-Map.is at)
 
 pub wait_at-requires-clause-cond : goal.wait_at-requires-clause-cond
-wait_at-requires-clause-cond g c = declared_at g.S.Mark.Note.at c.args.worker.now.at.home.now c.args.site.now.workload.now c.args.site.now.objects.now c.requires.site.declared c.args.place (kinds.Cond c.in-Cond.mutex) (subst (λ (k : ObjectKind). IsAt c.args.site.now.workload.now c.args.place k) c.in-Cond.is c.requires.place)
+wait_at-requires-clause-cond g c = c.objects_are_of_their_kinds.ensures.kind c.args.worker.now.at.home.now c.args.site.now.workload.now c.args.site.now.objects.now c.args.place (kinds.Cond c.in-Cond.mutex) c.requires.site.declared (subst (λ (k : ObjectKind). IsAt c.args.site.now.workload.now c.args.place k) c.in-Cond.is c.requires.place)
 
 pub wait_at-requires-clause-mutex : goal.wait_at-requires-clause-mutex
-wait_at-requires-clause-mutex g c = declared_at g.S.Mark.Note.at c.args.worker.now.at.home.now c.args.site.now.workload.now c.args.site.now.objects.now c.requires.site.declared c.in-Cond.mutex kinds.Mutex (mutex_of c.args.site.now.workload.now c.args.kind c.in-Cond.mutex c.in-Cond.is c.requires.reference)
+wait_at-requires-clause-mutex g c = c.objects_are_of_their_kinds.ensures.kind c.args.worker.now.at.home.now c.args.site.now.workload.now c.args.site.now.objects.now c.in-Cond.mutex kinds.Mutex c.requires.site.declared (mutex_of c.args.site.now.workload.now c.args.kind c.in-Cond.mutex c.in-Cond.is c.requires.reference)
 
 pub wait_at-requires-clause-room : goal.wait_at-requires-clause-room
-wait_at-requires-clause-room g c = (has_room g.S.Mark.Note.at c.args.worker.now.at.home.now c.args.site.now.workload.now c.args.site.now.objects.now c.requires.site.declared c.args.place c.args.kind c.requires.place, has_room g.S.Mark.Note.at c.args.worker.now.at.home.now c.args.site.now.workload.now c.args.site.now.objects.now c.requires.site.declared c.in-Cond.mutex kinds.Mutex (mutex_of c.args.site.now.workload.now c.args.kind c.in-Cond.mutex c.in-Cond.is c.requires.reference))
+wait_at-requires-clause-room g c = (c.objects_are_of_their_kinds.ensures.there c.args.worker.now.at.home.now c.args.site.now.workload.now c.args.site.now.objects.now c.args.place c.args.kind c.requires.site.declared c.requires.place, c.objects_are_of_their_kinds.ensures.there c.args.worker.now.at.home.now c.args.site.now.workload.now c.args.site.now.objects.now c.in-Cond.mutex kinds.Mutex c.requires.site.declared (mutex_of c.args.site.now.workload.now c.args.kind c.in-Cond.mutex c.in-Cond.is c.requires.reference))
 
 pub object_at-requires-clause-kind : goal.object_at-requires-clause-kind
-object_at-requires-clause-kind g c = declared_at g.S.Mark.Note.at c.args.worker.now.at.home.now c.args.site.now.workload.now c.args.site.now.objects.now c.requires.site.declared c.args.place c.args.kind c.requires.place
+object_at-requires-clause-kind g c = c.objects_are_of_their_kinds.ensures.kind c.args.worker.now.at.home.now c.args.site.now.workload.now c.args.site.now.objects.now c.args.place c.args.kind c.requires.site.declared c.requires.place
 
 pub object_at-requires-clause-room : goal.object_at-requires-clause-room
-object_at-requires-clause-room g c = has_room g.S.Mark.Note.at c.args.worker.now.at.home.now c.args.site.now.workload.now c.args.site.now.objects.now c.requires.site.declared c.args.place c.args.kind c.requires.place
+object_at-requires-clause-room g c = c.objects_are_of_their_kinds.ensures.there c.args.worker.now.at.home.now c.args.site.now.workload.now c.args.site.now.objects.now c.args.place c.args.kind c.requires.site.declared c.requires.place
 
 pub returns-in-Map-clause-works : goal.returns-in-Map-clause-works
 returns-in-Map-clause-works g c = on_map c.args.site.now.workload.now c.args.worker.now.number _ c.args.place _ _ _ c.args.kind c.args.operation.now c.requires.call c.in-Map.call c.in-Map.is (c.map_at.ensures.works (owns_of c.args.passes.now))
@@ -34,10 +34,10 @@ pub returns-in-Atomic-clause-works : goal.returns-in-Atomic-clause-works
 returns-in-Atomic-clause-works g c = on_atomic c.args.site.now.workload.now c.args.worker.now.number _ c.args.place _ _ _ c.args.kind c.args.operation.now c.requires.call c.in-Atomic.call c.in-Atomic.is (c.atomic_at.ensures.works (owns_of c.args.passes.now))
 
 pub once_at-requires-clause-once : goal.once_at-requires-clause-once
-once_at-requires-clause-once g c = declared_at g.S.Mark.Note.at c.args.worker.now.at.home.now c.args.site.now.workload.now c.args.site.now.objects.now c.requires.site.declared c.args.place (kinds.Once c.in-Once-kind.atomic c.in-Once-kind.delta) (subst (λ (k : ObjectKind). IsAt c.args.site.now.workload.now c.args.place k) c.in-Once-kind.is c.requires.place)
+once_at-requires-clause-once g c = c.objects_are_of_their_kinds.ensures.kind c.args.worker.now.at.home.now c.args.site.now.workload.now c.args.site.now.objects.now c.args.place (kinds.Once c.in-Once-kind.atomic c.in-Once-kind.delta) c.requires.site.declared (subst (λ (k : ObjectKind). IsAt c.args.site.now.workload.now c.args.place k) c.in-Once-kind.is c.requires.place)
 
 pub once_at-requires-clause-room : goal.once_at-requires-clause-room
-once_at-requires-clause-room g c = has_room g.S.Mark.Note.at c.args.worker.now.at.home.now c.args.site.now.workload.now c.args.site.now.objects.now c.requires.site.declared c.args.place c.args.kind c.requires.place
+once_at-requires-clause-room g c = c.objects_are_of_their_kinds.ensures.there c.args.worker.now.at.home.now c.args.site.now.workload.now c.args.site.now.objects.now c.args.place c.args.kind c.requires.site.declared c.requires.place
 
 pub returns-in-Range-clause-works : goal.returns-in-Range-clause-works
 returns-in-Range-clause-works g c = IfSome_then c.range_at.result c.range_at.ensures.works (λ answer works. on_range c.args.site.now.workload.now c.args.worker.now.number _ c.args.place _ _ answer c.args.kind c.args.operation.now c.requires.call c.in-Range.is (works (owns_of c.args.passes.now)))

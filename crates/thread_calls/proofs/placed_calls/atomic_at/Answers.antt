@@ -1,9 +1,6 @@
-use Rattle.run_record.specs.Limits.{IsCallOf}
-use Rattle.thread_calls.specs.Working.{desk_with}
-use Rattle.thread_calls.proofs.OnlyCalls.{of_types, placed_only}
-use Rattle.std.proofs.Common.{[], refl}
+use Rattle.std.proofs.Common.{refl}
 use Rattle.workload.specs.declared.object.ObjectKind.TheVariants as kinds
-use Rattle.thread_calls.proofs.Sites.{number_is, atomic_fits, atomic_as}
+use Rattle.thread_calls.proofs.Sites.{number_is, atomic_fits, atomic_as, of_types}
 use Rattle.thread_calls.proofs.placed_calls.atomic_at.Goals as goal
 
 pub call_atomic-requires-clause-call : goal.call_atomic-requires-clause-call
@@ -19,8 +16,5 @@ returns-clause-works g c = λ owns.
 pub returns-clause-calls : goal.returns-clause-calls
 returns-clause-calls g c =
     let plan = c.args.site.now.workload.now in
-    let own = g.S.Mark.Note.own in
-    let front = g.S.Mark.Note.front in
     let fits = atomic_fits plan c.args.place c.args.site.now.numbers.now c.requires.site.numbered _ _ _ c.requires.site.shared _ c.requires.place.0 c.args.call c.requires.place.1 c.requires.place.2 refl in
-    let works = c.call_atomic.ensures.works (λ object. []) in
-    placed_only (IsCallOf plan) _ _ (desk_with own front (λ object. []) c.args.caller.now.note) (desk_with own front (λ object. []) c.call_atomic.new.caller.note) works.items (of_types plan _ _ _ c.requires.site.shared.all_types fits) works.spelt.1 works.moves
+    c.call_atomic.ensures.calls plan (of_types plan _ _ _ c.requires.site.shared.all_types fits)

@@ -1,7 +1,5 @@
-use Rattle.run_record.specs.Limits.{IsCallOf, IsKeyOf}
-use Rattle.thread_calls.specs.Working.{desk_with}
-use Rattle.thread_calls.proofs.OnlyCalls.{placed_only}
-use Rattle.std.proofs.Common.{ℕ, List, [], refl, sym, ap, ◌∙◌, subst}
+use Rattle.run_record.specs.Limits.{IsKeyOf}
+use Rattle.std.proofs.Common.{ℕ, List, refl, sym, ap, ◌∙◌, subst}
 use Rattle.sync_model.specs.declared.map_object.MapCall.{MapCall}
 use Rattle.sync_model.specs.Renaming.{renamed_call}
 use Rattle.sync_model.specs.Shared.{IsMapCall}
@@ -39,11 +37,8 @@ returns-clause-calls g c =
     let plan = c.args.site.now.workload.now in
     let keys = keys_in plan.scripts in
     let law = c.keys_are_numbered_by_first_appearance.ensures in
-    let own = g.S.Mark.Note.own in
-    let front = g.S.Mark.Note.front in
     let call = c.args.call.now in
     let is = c.numbered-by_number.ensures ∙ ap (λ (names : List (List ℕ)). renamed_call (key_number names) call) c.keys.ensures in
     let fits : IsMapCall (IsKeyOf plan) c.numbered-by_number.result = subst (λ (by_number : MapCall ℕ). IsMapCall (IsKeyOf plan) by_number) (sym is)
     (numbered_fits keys (IsKeyOf plan) (λ key low. low) call c.requires.call (λ name at. number_within keys name (λ number. (law.number plan.scripts name number).0) (law.keys plan.scripts name ∙ c.requires.key name at))) in
-    let works = c.call_map.ensures.works (λ object. []) in
-    placed_only (IsCallOf plan) _ _ (desk_with own front (λ object. []) c.args.caller.now.note) (desk_with own front (λ object. []) c.call_map.new.caller.note) works.items fits.key works.spelt.1 works.moves
+    c.call_map.ensures.calls plan fits.key

@@ -4,10 +4,10 @@ use Rattle.std.proofs.lemmas.Iterator.Adapters.{YieldsList-from_vec}
 use Rattle.std.proofs.lemmas.Iterator.Consumers.{YieldsList-turn}
 use Rattle.std.proofs.lemmas.List.{map_push, length_push, length-map}
 use Rattle.std.proofs.lemmas.Option.{slice_get_read}
-use Rattle.thread_calls.specs.declared.pass.AnyPass.{AnyPass}
-use Rattle.thread_calls.specs.Desks.{AreSeats}
-use Rattle.thread_calls.specs.Passes.{owns_of}
-use Rattle.thread_calls.specs.Rows.{made_on}
+use Rattle.thread_objects.specs.declared.pass.AnyPass.{AnyPass}
+use Rattle.thread_objects.specs.Desks.{AreSeats}
+use Rattle.thread_objects.specs.Passes.{owns_of}
+use Rattle.thread_objects.specs.Rows.{made_on}
 use Rattle.thread_runner.proofs.Dealt.{all_back, mapped_found, others_as_before}
 use Rattle.thread_runner.proofs.deal.collect.Goals as goal
 

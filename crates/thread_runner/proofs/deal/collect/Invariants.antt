@@ -1,7 +1,7 @@
 -- The rows of the first workers are back.
 use Rattle.std.proofs.Common.{◌≡◌, ℕ, ◌<◌, ◌≤◌, [], length, map, get_or}
-use Rattle.thread_calls.specs.Passes.{owns_of}
-use Rattle.thread_calls.specs.Rows.{AreColumns, made_on}
+use Rattle.thread_objects.specs.Passes.{owns_of}
+use Rattle.thread_objects.specs.Rows.{AreColumns, made_on}
 use Rattle.thread_runner.proofs.deal.collect.Given as goal
 
 abbrev pub invariant-loop-row : goal.invariant-loop-row

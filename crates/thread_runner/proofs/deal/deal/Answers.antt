@@ -1,7 +1,7 @@
 use Rattle.std.proofs.Common.{◌≡◌, ℕ, suc, ◌-◌, List, [], map, sym, ap, ◌∙◌, subst, arith, rules}
 use Rattle.std.proofs.lemmas.List.{map_push}
-use Rattle.thread_calls.specs.Passes.{owns_of}
-use Rattle.thread_calls.specs.declared.pass.AnyPass.{AnyPass}
+use Rattle.thread_objects.specs.Passes.{owns_of}
+use Rattle.thread_objects.specs.declared.pass.AnyPass.{AnyPass}
 use Rattle.thread_runner.specs.Dealing.{AreRows}
 use Rattle.thread_runner.proofs.Dealt.{AreLast, one_more, in_order, mapped_reverse, row_has_all, nothing_left}
 use Rattle.thread_runner.proofs.deal.deal.Goals as goal

@@ -1,7 +1,7 @@
 -- The rows of the last workers are dealt.
 use Rattle.std.proofs.Common.{◌≡◌, ℕ, ◌<◌, ◌≤◌, [], map}
 use Rattle.std.specs.Prelude.{vec_capacity}
-use Rattle.thread_calls.specs.Rows.{AreColumns, made_on}
+use Rattle.thread_objects.specs.Rows.{AreColumns, made_on}
 use Rattle.thread_runner.proofs.Dealt.{AreLast}
 use Rattle.thread_runner.proofs.deal.deal.Given as goal
 

@@ -1,6 +1,6 @@
 use Rattle.std.proofs.Common.{◌≡◌, ◌+◌, List, [], ◌∷◌, ◌++◌, length, sym, subst, arith, rules}
-use Rattle.thread_calls.specs.declared.column.AnyColumn.{AnyColumn}
-use Rattle.thread_calls.specs.declared.object.AnyObject.{AnyObject}
+use Rattle.thread_objects.specs.declared.column.AnyColumn.{AnyColumn}
+use Rattle.thread_objects.specs.declared.object.AnyObject.{AnyObject}
 use Rattle.thread_runner.proofs.Made.{AreMade, next_made, all_nothing}
 use Rattle.thread_runner.proofs.deal.make_objects.Goals as goal
 

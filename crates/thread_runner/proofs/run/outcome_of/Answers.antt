@@ -10,8 +10,8 @@ use Rattle.sync_model.specs.Shared.{AreAllCallers, SameCalls, Settled, calls_of}
 use Rattle.sync_model.specs.SharedHistory.{first_contents}
 use Rattle.run_record.specs.Objects.{is_map, contents_of}
 use Rattle.sync_model.specs.Journal.{by}
-use Rattle.thread_calls.specs.Desks.{AreSeats}
-use Rattle.thread_calls.specs.Passes.{owns_of}
+use Rattle.thread_objects.specs.Desks.{AreSeats}
+use Rattle.thread_objects.specs.Passes.{owns_of}
 use Rattle.thread_runner.specs.Runs.{ComesTo, IsExplained}
 use Rattle.thread_runner.proofs.AllReady.{one_script_each}
 use Rattle.thread_runner.proofs.Ended.{seats_of, callers_stay, none_gave_up, all_done}

@@ -8,10 +8,10 @@ use Rattle.sync_model.specs.declared.caller.Caller.{Caller}
 use Rattle.sync_outside.specs.Faults.{RoseBy}
 use Rattle.workload.specs.Plan.{Plan}
 use Rattle.run_record.specs.Record.{stop}
-use Rattle.thread_calls.specs.declared.object.AnyObject.{AnyObject}
-use Rattle.thread_calls.specs.declared.pass.AnyPass.{AnyPass}
-use Rattle.thread_calls.specs.Desks.{IsObjectAt}
-use Rattle.thread_calls.specs.Kinds.{IsStop}
+use Rattle.thread_objects.specs.declared.object.AnyObject.{AnyObject}
+use Rattle.thread_objects.specs.declared.pass.AnyPass.{AnyPass}
+use Rattle.thread_objects.specs.Desks.{IsObjectAt}
+use Rattle.thread_objects.specs.Kinds.{IsStop}
 use Rattle.thread_calls.specs.Sites.{IsSite, ranges_in_calls}
 use Rattle.thread_runner.specs.AllGone.{HaveGone}
 use Rattle.thread_runner.specs.Jobs.{IsReady, HasGone}

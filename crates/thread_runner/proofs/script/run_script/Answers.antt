@@ -10,9 +10,9 @@ use Rattle.sync_model.specs.Shared.{items_of}
 use Rattle.protocols.specs.Spelling.{CallAnswer}
 use Rattle.run_record.specs.Calls.{SpellsCall}
 use Rattle.run_record.specs.Limits.{IsCallOf}
-use Rattle.thread_calls.specs.Passes.{owns_of}
+use Rattle.thread_objects.specs.Passes.{owns_of}
 use Rattle.thread_calls.specs.Sites.{cost_of_call, ranges_in_call}
-use Rattle.thread_calls.specs.Working.{Works, desk_with}
+use Rattle.kind_calls.specs.Working.{Works, desk_with}
 use Rattle.thread_runner.specs.DidLines.{Went}
 use Rattle.thread_runner.proofs.ScriptLoop.{after_call, all_behind, held_behind, of_some, of_none}
 use Rattle.thread_runner.proofs.LineSteps.{begun, went_on, ends_misused, ends_halted, ends_whole}
@@ -95,7 +95,7 @@ loop-index-preserved g c =
     (subst (λ (b : Bounded (Reply ℕ)). length b.items ≤ c.loop-index.index + 1) (sym c.push.ensures) count)
     made.calls
     (subst (λ (b : Bounded (Reply ℕ)). Went plan number script (c.loop-index.index + 1) b.items start new) (sym c.push.ensures)
-    (went_on plan number script start c.requires.fresh.calls c.loop-index.index c.index-script-index.result within at before.items now new c.moves.ensures.joined c.loop-index.invariant.went reply works))
+    (went_on plan number script start c.requires.fresh.calls c.loop-index.index c.index-script-index.result within at before.items now new c.moves.ensures.joined c.loop-index.invariant.went c.moves.ensures.shared reply works))
 
 pub returns-clause-line : goal.returns-clause-line
 returns-clause-line g c =

@@ -1,12 +1,12 @@
 use Rattle.std.proofs.Common.{◌≡◌, ℕ, List, [], ◌++◌, ◌⊎◌, length, get_or, take, drop, sym, ◌∙◌, subst, arith}
 use Rattle.std.proofs.lemmas.List.{take-append-le, take_all}
 use Rattle.sync_model.specs.declared.call.Reply.{Reply}
-use Rattle.thread_calls.specs.declared.pass.AnyPass.{AnyPass}
-use Rattle.thread_calls.specs.Desks.{AreSeats}
+use Rattle.thread_objects.specs.declared.pass.AnyPass.{AnyPass}
+use Rattle.thread_objects.specs.Desks.{AreSeats}
 use Rattle.sync_model.specs.Shared.{items_of}
-use Rattle.thread_calls.specs.GivenUp.{GaveUp}
-use Rattle.thread_calls.specs.Passes.{owns_of}
-use Rattle.thread_calls.specs.Working.{desk_with}
+use Rattle.kind_calls.specs.GivenUp.{GaveUp}
+use Rattle.thread_objects.specs.Passes.{owns_of}
+use Rattle.kind_calls.specs.Working.{desk_with}
 use Rattle.run_record.specs.Lines.{Line}
 use Rattle.thread_runner.specs.DidLines.{DidLine}
 use Rattle.thread_runner.specs.Jobs.{HasGone}

@@ -1,0 +1,23 @@
+use Rattle.std.proofs.Common.{length, Ok, refl, arith}
+use Rattle.std.proofs.lemmas.Option.{slice_get_read}
+use Rattle.sync_model.specs.declared.answer.Answer.TheVariants.{Done}
+use Rattle.kind_calls.specs.Halting.{halting}
+use Rattle.kind_calls.proofs.HaltLemmas.{halted_any, halted_here, halted_it}
+use Rattle.kind_calls.proofs.Slots.{in_slot, seats_kept}
+use Rattle.kind_calls.proofs.halting.halt_at.Goals as goal
+
+pub returns-clause-seats : goal.returns-clause-seats
+returns-clause-seats g c =
+    let all = c.args.objects.now in
+    let here = slice_get_read all (length all) c.args.number c.index-objects-number.result refl c.requires.there c.index-objects-number.is in
+    seats_kept g.N.Note.at c.args.worker.now.at.home.now c.args.worker.now.workers c.args.worker.now.number all c.args.passes.now c.args.number c.index-objects-number.result c.halt_any.new.pass here c.halt_any.ensures.seat c.requires.seats
+
+pub returns-clause-halted : goal.returns-clause-halted
+returns-clause-halted g c = λ object at.
+    let all = c.args.objects.now in
+    let number = c.args.number in
+    let misuse = c.args.misuse in
+    let note = c.args.note.now in
+    let here = slice_get_read all (length all) number c.index-objects-number.result refl c.requires.there c.index-objects-number.is in
+    let done = halted_any g.N.Note.own g.N.Note.front note (g.met.N.Note.counted _ _ c.requires.note) number misuse _ _ c.index-objects-number.result c.halt_any.ensures.halted in
+    halted_it misuse all number _ _ c.index-objects-number.result object here at (in_slot c.args.passes.now number c.index-passes-number.result c.halt_any.new.pass (omega (arith, c.requires.there, c.requires.seats.count)) (halting misuse (halted_here number c.index-objects-number.result)) g.N.Note.own g.N.Note.front note note (Done (Ok tt)) done)

@@ -1,0 +1,179 @@
+//! `do` on a once, whose function adds to an int64.
+ghost use Rattle.std.specs.Prelude.{◌≡◌, ℕ, ℤ, false, List, Ok, IfSome, IfNone};
+ghost use Rattle.sync_model.specs.declared.answer.Answer.TheVariants.{Done};
+ghost use Rattle.sync_model.specs.declared.atomic_object.AtomicCall.TheVariants.{Add};
+ghost use Rattle.sync_model.specs.declared.atomic_object.AtomicReply.TheVariants.{Held};
+ghost use Rattle.sync_model.specs.declared.atomic_object.Number.TheVariants.{Int64};
+ghost use Rattle.sync_model.specs.Note.{SameHome};
+ghost use Rattle.sync_model.specs.Shared.{IsAtomicCall, IsCallerAt, items_of};
+ghost use Rattle.workload.specs.Plan.{Plan};
+ghost use Rattle.protocols.specs.OnceStages.{once_stands, OnceBegins};
+ghost use Rattle.run_record.specs.AtomicKind.{adds};
+ghost use Rattle.run_record.specs.declared.entered.ObjectEvent.TheVariants as event;
+ghost use Rattle.run_record.specs.declared.entered.ObjectReply.TheVariants as reply;
+ghost use Rattle.run_record.specs.Limits.{IsCallOf, atomic_types};
+ghost use Rattle.run_record.specs.OnceKind.{do_call};
+ghost use Rattle.run_record.specs.Record.{ObjectEntry};
+ghost use Rattle.thread_objects.specs.Desks.{AreSeats, IsObjectAt};
+ghost use Rattle.kind_calls.specs.GivenUp.{MakesOnly, AnsweredAmiss};
+ghost use Rattle.thread_objects.specs.Kinds.{IsOnce};
+ghost use Rattle.thread_objects.specs.Passes.{IsSeatAt, own_of, owns_of, own_as};
+ghost use Rattle.thread_objects.specs.Seats.{IsSeat};
+ghost use Rattle.kind_calls.specs.Spending.{Spends};
+ghost use Rattle.kind_calls.specs.Working.{Works, desk_at, desk_with};
+
+use super::once::{begin, end, ended};
+use super::replies::{CallAnswer, ran};
+use protocols::OnceOutcome;
+use ruled_object::{Object, PassOf};
+use std::sync::Wait;
+use sync_model::{Answer, AtomicCall, AtomicReply, Caller, DoReply, Number, Reply, Shared};
+use sync_outside::Clock;
+use thread_objects::{AnyObject, AnyPass, Worker};
+use wait_cores::OnceCore;
+
+// The int64 that a reply holds. `None`, where it holds another number, or none.
+fn int64_in(reply: AtomicReply) -> Option<i64>
+    ensures sum { IfSome result (λ sum. reply ≡ Held (Int64 sum)) }
+    ensures other { IfNone result ((sum : ℤ) → reply ≡ Held (Int64 sum) → ⊥) }
+{
+    match reply {
+        AtomicReply::Held(Number::Int64(sum)) => Some(sum),
+        AtomicReply::Held(Number::Int32(_number)) => None,
+        AtomicReply::Held(Number::Uint32(_number)) => None,
+        AtomicReply::Held(Number::Uint64(_number)) => None,
+        AtomicReply::Held(Number::Bool(_truth)) => None,
+        AtomicReply::Done => None,
+        AtomicReply::Compared(_swapped) => None,
+    }
+}
+
+// Adds to an int64, and answers the sum. It may wait for other callers. `None`, where it is answered by another number.
+fn add<S: Shared, R: Wait>(
+    rt: &R,
+    shared: &S,
+    caller: &mut Caller<S::Mark>,
+    atomic: u32,
+    delta: i64,
+) -> Option<i64>
+    requires caller { IsCallerAt S.Mark.at S.Mark.own (S.home_of shared.now) caller.old }
+    requires call { IsAtomicCall (S.kinds shared.now) atomic (Add (Int64 delta)) }
+    ensures home { SameHome S.Mark.at caller.old.note caller.new.note }
+    ensures spends { Spends S.Mark.own 0 caller.old.note caller.new.note }
+    ensures calls { (plan : Plan) → atomic_types plan ≡ S.kinds shared.now → MakesOnly (IsCallOf plan) (items_of (S.Mark.own caller.old.note)) (items_of (S.Mark.own caller.new.note)) }
+    ensures amiss { IfNone result (AnsweredAmiss (items_of (S.Mark.own caller.new.note))) }
+    ensures works { IfSome result (λ sum. (owns : ℕ → List ObjectEntry)
+        → Works (adds atomic delta) (desk_with S.Mark.own S.Mark.front owns caller.old.note) (Done (Ok sum)) (desk_with S.Mark.own S.Mark.front owns caller.new.note)) }
+{
+    let operand = Number::Int64(delta);
+    int64_in(shared.atomic_call(rt, caller, atomic, AtomicCall::Add { operand }))
+}
+
+// The first call runs the function, which adds to the int64, and later ones find it run. Where the add is answered by no int64 the once is
+// ended all the same, so that nobody waits for it.
+fn do_on<S: Shared, C: Clock, R: Wait>(
+    rt: &R,
+    worker: &Worker<S::Mark, C>,
+    shared: &S,
+    caller: &mut Caller<S::Mark>,
+    once: &Object<OnceCore<i64>, S::Mark>,
+    pass: &mut PassOf<OnceCore<i64>, S::Mark>,
+    atomic: u32,
+    delta: i64,
+) -> Option<CallAnswer>
+    requires seat { IsSeat OnceBegins (false, false) once_stands S.Mark.at worker.now.at.home.now worker.now.workers worker.now.number once.now pass.old }
+    requires caller { IsCallerAt S.Mark.at S.Mark.own (S.home_of shared.now) caller.old }
+    requires note { S.Mark.at worker.now.at.home.now caller.old.note }
+    requires call { IsAtomicCall (S.kinds shared.now) atomic (Add (Int64 delta)) }
+    ensures seat { IsSeat OnceBegins (false, false) once_stands S.Mark.at worker.now.at.home.now worker.now.workers worker.now.number once.now pass.new }
+    ensures home { SameHome S.Mark.at caller.old.note caller.new.note }
+    ensures spends { Spends S.Mark.own 0 caller.old.note caller.new.note }
+    ensures calls { (plan : Plan) → atomic_types plan ≡ S.kinds shared.now → MakesOnly (IsCallOf plan) (items_of (S.Mark.own caller.old.note)) (items_of (S.Mark.own caller.new.note)) }
+    ensures amiss { IfNone result (AnsweredAmiss (items_of (S.Mark.own caller.new.note))) }
+    ensures works { IfSome result (λ answer. (number : ℕ)
+        → Works (do_call number atomic delta) (desk_at S.Mark.own S.Mark.front number (own_as event.Once reply.Once pass.old) caller.old.note) answer (desk_at S.Mark.own S.Mark.front number (own_as event.Once reply.Once pass.new) caller.new.note)) }
+{
+    match begin(rt, worker, once, pass, &mut caller.note) {
+        Answer::Halted(misuse) => Some(Answer::Halted(misuse)),
+        Answer::Done(Err(misuse)) => Some(Answer::Done(Err(misuse))),
+        Answer::Done(Ok(OnceOutcome::Already(_kept))) => {
+            Some(Answer::Done(Ok(Reply::Once(DoReply::Done))))
+        }
+        Answer::Done(Ok(OnceOutcome::Run)) => match add(rt, shared, caller, atomic, delta) {
+            Some(sum) => {
+                let answer = end(rt, worker, once, pass, &mut caller.note, sum);
+                Some(ran(ended(answer, sum)))
+            }
+            None => {
+                end(rt, worker, once, pass, &mut caller.note, 0);
+                None
+            }
+        },
+        Answer::Done(Ok(OnceOutcome::Ended)) => unreachable!(),
+    }
+}
+
+// The same, on an object of whatever kind.
+fn do_any<S: Shared, C: Clock, R: Wait>(
+    rt: &R,
+    worker: &Worker<S::Mark, C>,
+    shared: &S,
+    caller: &mut Caller<S::Mark>,
+    object: &AnyObject<S::Mark>,
+    pass: &mut AnyPass<S::Mark>,
+    atomic: u32,
+    delta: i64,
+) -> Option<CallAnswer>
+    requires kind { IsOnce object.now }
+    requires seat { IsSeatAt S.Mark.at worker.now.at.home.now worker.now.workers worker.now.number object.now pass.old }
+    requires caller { IsCallerAt S.Mark.at S.Mark.own (S.home_of shared.now) caller.old }
+    requires note { S.Mark.at worker.now.at.home.now caller.old.note }
+    requires call { IsAtomicCall (S.kinds shared.now) atomic (Add (Int64 delta)) }
+    ensures seat { IsSeatAt S.Mark.at worker.now.at.home.now worker.now.workers worker.now.number object.now pass.new }
+    ensures home { SameHome S.Mark.at caller.old.note caller.new.note }
+    ensures spends { Spends S.Mark.own 0 caller.old.note caller.new.note }
+    ensures calls { (plan : Plan) → atomic_types plan ≡ S.kinds shared.now → MakesOnly (IsCallOf plan) (items_of (S.Mark.own caller.old.note)) (items_of (S.Mark.own caller.new.note)) }
+    ensures amiss { IfNone result (AnsweredAmiss (items_of (S.Mark.own caller.new.note))) }
+    ensures works { IfSome result (λ answer. (number : ℕ)
+        → Works (do_call number atomic delta) (desk_at S.Mark.own S.Mark.front number (own_of pass.old) caller.old.note) answer (desk_at S.Mark.own S.Mark.front number (own_of pass.new) caller.new.note)) }
+{
+    match object {
+        AnyObject::Once(once) => match pass {
+            AnyPass::Once(pass) => do_on(rt, worker, shared, caller, once, pass, atomic, delta),
+            _ => unreachable!(),
+        },
+        _ => unreachable!(),
+    }
+}
+
+/// `do` on the once with this number, whose function adds an amount to an int64. It may wait for the caller that runs the
+/// function. `None`, where the int64 answers by a number of another type. It never does where every call on an atomic is of the
+/// atomic's type; a single call doesn't know that of the others.
+pub fn do_at<S: Shared, C: Clock, R: Wait>(
+    rt: &R,
+    worker: &Worker<S::Mark, C>,
+    shared: &S,
+    caller: &mut Caller<S::Mark>,
+    objects: &[AnyObject<S::Mark>],
+    passes: &mut [AnyPass<S::Mark>],
+    number: usize,
+    atomic: u32,
+    delta: i64,
+) -> Option<CallAnswer>
+    requires kind { IsObjectAt IsOnce objects.now number }
+    requires seats { AreSeats S.Mark.at worker.now.at.home.now worker.now.workers worker.now.number objects.now passes.old }
+    requires caller { IsCallerAt S.Mark.at S.Mark.own (S.home_of shared.now) caller.old }
+    requires note { S.Mark.at worker.now.at.home.now caller.old.note }
+    requires call { IsAtomicCall (S.kinds shared.now) atomic (Add (Int64 delta)) }
+    ensures seats { AreSeats S.Mark.at worker.now.at.home.now worker.now.workers worker.now.number objects.now passes.new }
+    ensures home { SameHome S.Mark.at caller.old.note caller.new.note }
+    ensures spends { Spends S.Mark.own 0 caller.old.note caller.new.note }
+    ensures calls { (plan : Plan) → atomic_types plan ≡ S.kinds shared.now → MakesOnly (IsCallOf plan) (items_of (S.Mark.own caller.old.note)) (items_of (S.Mark.own caller.new.note)) }
+    ensures amiss { IfNone result (AnsweredAmiss (items_of (S.Mark.own caller.new.note))) }
+    ensures works { IfSome result (λ answer.
+        Works (do_call number atomic delta) (desk_with S.Mark.own S.Mark.front (owns_of passes.old) caller.old.note) answer (desk_with S.Mark.own S.Mark.front (owns_of passes.new) caller.new.note)) }
+{
+    let object = &objects[number];
+    let pass = &mut passes[number];
+    do_any(rt, worker, shared, caller, object, pass, atomic, delta)
+}

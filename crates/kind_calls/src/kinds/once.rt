@@ -1,0 +1,156 @@
+//! The calls of functions made by `OnceFunc` and `OnceValue`.
+ghost use Rattle.std.specs.Prelude.{◌≡◌, ℕ, false, true};
+ghost use Rattle.sync_model.specs.declared.call.Reply.{Reply};
+ghost use Rattle.wait_cores.specs.declared.once.OnceEvent.{OnceEvent};
+ghost use Rattle.wait_cores.specs.declared.once.OnceReply.{OnceReply};
+ghost use Rattle.protocols.specs.declared.once.OnceStage.TheVariants as stage;
+ghost use Rattle.protocols.specs.OnceStages.{once_event, once_meaning, once_stands, once_left, once_gives, OnceBegins};
+ghost use Rattle.ruled_object.specs.Growth.{KeepsNote};
+ghost use Rattle.running.specs.Calls.{IsGiven, left_in};
+ghost use Rattle.run_record.specs.declared.entered.ObjectEvent.{ObjectEvent};
+ghost use Rattle.run_record.specs.declared.entered.ObjectReply.{ObjectReply};
+ghost use Rattle.run_record.specs.OnceKind.{once_part, func_call, value_call};
+ghost use Rattle.run_record.specs.Parts.{returns, stages, with_outcome};
+ghost use Rattle.thread_objects.specs.Kinds.{IsOnceFunc, IsOnceValue};
+ghost use Rattle.thread_objects.specs.Passes.{IsSeatAt, own_of, own_as};
+ghost use Rattle.thread_objects.specs.Seats.{IsSeat, IsStanding};
+ghost use Rattle.kind_calls.specs.Working.{Works, desk_at};
+
+use super::replies::{CallAnswer, func_reply, value_reply};
+use protocols::{OnceOutcome, OnceStage};
+use ruled_object::{Object, PassOf};
+use running::call_within;
+use std::sync::Wait;
+use sync_model::{Answer, Misuse, Note};
+use sync_outside::Clock;
+use thread_objects::{AnyObject, AnyPass, Worker};
+use wait_cores::OnceCore;
+
+// Begins, and tells whether the caller is to run the function. It may wait for the caller that runs it.
+pub(super) fn begin<T: Copy, N: Note, C: Clock, R: Wait>(
+    rt: &R,
+    worker: &Worker<N, C>,
+    once: &Object<OnceCore<T>, N>,
+    pass: &mut PassOf<OnceCore<T>, N>,
+    note: &mut N,
+) -> Answer<Result<OnceOutcome<T>, Misuse>>
+    requires seat { IsSeat OnceBegins (false, false) once_stands N.at worker.now.at.home.now worker.now.workers worker.now.number once.now pass.old }
+    requires note { N.at worker.now.at.home.now note.old }
+    ensures seat { IsStanding OnceBegins (false, false) once_stands N.at worker.now.at.home.now worker.now.workers worker.now.number (left_in (false, false) once_left result) once.now pass.new }
+    ensures note { KeepsNote N.at N.own N.front note.old note.new }
+    ensures gives { IsGiven (once_gives stage.Begin) result }
+    ensures works { (event : OnceEvent T → ObjectEvent) (reply : OnceReply T → ObjectReply) (number : ℕ)
+        → Works (stages event reply once_event once_meaning number stage.Begin) (desk_at N.own N.front number (own_as event reply pass.old) note.old) result (desk_at N.own N.front number (own_as event reply pass.new) note.new) }
+{
+    call_within(once, rt, &worker.at, pass, note, OnceStage::Begin)
+}
+
+// Ends the function, which came to this.
+pub(super) fn end<T: Copy, N: Note, C: Clock, R: Wait>(
+    rt: &R,
+    worker: &Worker<N, C>,
+    once: &Object<OnceCore<T>, N>,
+    pass: &mut PassOf<OnceCore<T>, N>,
+    note: &mut N,
+    value: T,
+) -> Answer<Result<OnceOutcome<T>, Misuse>>
+    requires seat { IsStanding OnceBegins (false, false) once_stands N.at worker.now.at.home.now worker.now.workers worker.now.number (false, true) once.now pass.old }
+    requires note { N.at worker.now.at.home.now note.old }
+    ensures seat { IsSeat OnceBegins (false, false) once_stands N.at worker.now.at.home.now worker.now.workers worker.now.number once.now pass.new }
+    ensures note { KeepsNote N.at N.own N.front note.old note.new }
+    ensures works { (event : OnceEvent T → ObjectEvent) (reply : OnceReply T → ObjectReply) (number : ℕ)
+        → Works (stages event reply once_event once_meaning number (stage.End value)) (desk_at N.own N.front number (own_as event reply pass.old) note.old) result (desk_at N.own N.front number (own_as event reply pass.new) note.new) }
+{
+    call_within(once, rt, &worker.at, pass, note, OnceStage::End(value))
+}
+
+// What a call comes to that ended the function with this.
+pub(super) fn ended<T: Copy>(
+    answer: Answer<Result<OnceOutcome<T>, Misuse>>,
+    value: T,
+) -> Answer<Result<T, Misuse>>
+    ensures { result ≡ with_outcome (λ outcome. value) answer }
+{
+    match answer {
+        Answer::Done(Ok(_outcome)) => Answer::Done(Ok(value)),
+        Answer::Done(Err(misuse)) => Answer::Done(Err(misuse)),
+        Answer::Halted(misuse) => Answer::Halted(misuse),
+    }
+}
+
+// What the function comes to, which gives this value: the first call runs it, and later ones have what it came to.
+fn kept<T: Copy, N: Note, C: Clock, R: Wait>(
+    rt: &R,
+    worker: &Worker<N, C>,
+    once: &Object<OnceCore<T>, N>,
+    pass: &mut PassOf<OnceCore<T>, N>,
+    note: &mut N,
+    value: T,
+) -> Answer<Result<T, Misuse>>
+    requires seat { IsSeat OnceBegins (false, false) once_stands N.at worker.now.at.home.now worker.now.workers worker.now.number once.now pass.old }
+    requires note { N.at worker.now.at.home.now note.old }
+    ensures seat { IsSeat OnceBegins (false, false) once_stands N.at worker.now.at.home.now worker.now.workers worker.now.number once.now pass.new }
+    ensures note { KeepsNote N.at N.own N.front note.old note.new }
+    ensures works { (event : OnceEvent T → ObjectEvent) (reply : OnceReply T → ObjectReply) (number : ℕ) (told : T → Reply ℕ)
+        → Works (once_part (stages event reply once_event once_meaning number) (returns value) told told) (desk_at N.own N.front number (own_as event reply pass.old) note.old) (with_outcome told result) (desk_at N.own N.front number (own_as event reply pass.new) note.new) }
+{
+    match begin(rt, worker, once, pass, note) {
+        Answer::Halted(misuse) => Answer::Halted(misuse),
+        Answer::Done(Err(misuse)) => Answer::Done(Err(misuse)),
+        Answer::Done(Ok(OnceOutcome::Already(kept))) => Answer::Done(Ok(kept)),
+        Answer::Done(Ok(OnceOutcome::Run)) => {
+            ended(end(rt, worker, once, pass, note, value), value)
+        }
+        Answer::Done(Ok(OnceOutcome::Ended)) => unreachable!(),
+    }
+}
+
+/// Calls a function made by `OnceFunc`, which fails with this code, or succeeds where it is 0. It may wait for the caller that runs the function.
+pub(crate) fn call_func<N: Note, C: Clock, R: Wait>(
+    rt: &R,
+    worker: &Worker<N, C>,
+    object: &AnyObject<N>,
+    pass: &mut AnyPass<N>,
+    note: &mut N,
+    value: u32,
+) -> CallAnswer
+    requires kind { IsOnceFunc object.now }
+    requires seat { IsSeatAt N.at worker.now.at.home.now worker.now.workers worker.now.number object.now pass.old }
+    requires note { N.at worker.now.at.home.now note.old }
+    ensures seat { IsSeatAt N.at worker.now.at.home.now worker.now.workers worker.now.number object.now pass.new }
+    ensures note { KeepsNote N.at N.own N.front note.old note.new }
+    ensures works { (number : ℕ) → Works (func_call number value) (desk_at N.own N.front number (own_of pass.old) note.old) result (desk_at N.own N.front number (own_of pass.new) note.new) }
+{
+    match object {
+        AnyObject::OnceFunc(object) => match pass {
+            AnyPass::OnceFunc(pass) => func_reply(kept(rt, worker, object, pass, note, value)),
+            _ => unreachable!(),
+        },
+        _ => unreachable!(),
+    }
+}
+
+/// Calls a function made by `OnceValue`, which gives this value. It may wait for the caller that runs the function.
+pub(crate) fn call_value<N: Note, C: Clock, R: Wait>(
+    rt: &R,
+    worker: &Worker<N, C>,
+    object: &AnyObject<N>,
+    pass: &mut AnyPass<N>,
+    note: &mut N,
+    value: u64,
+) -> CallAnswer
+    requires kind { IsOnceValue object.now }
+    requires seat { IsSeatAt N.at worker.now.at.home.now worker.now.workers worker.now.number object.now pass.old }
+    requires note { N.at worker.now.at.home.now note.old }
+    ensures seat { IsSeatAt N.at worker.now.at.home.now worker.now.workers worker.now.number object.now pass.new }
+    ensures note { KeepsNote N.at N.own N.front note.old note.new }
+    ensures works { (number : ℕ) → Works (value_call number value) (desk_at N.own N.front number (own_of pass.old) note.old) result (desk_at N.own N.front number (own_of pass.new) note.new) }
+{
+    match object {
+        AnyObject::OnceValue(object) => match pass {
+            AnyPass::OnceValue(pass) => value_reply(kept(rt, worker, object, pass, note, value)),
+            _ => unreachable!(),
+        },
+        _ => unreachable!(),
+    }
+}

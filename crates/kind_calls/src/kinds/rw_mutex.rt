@@ -1,0 +1,78 @@
+//! The calls of a reader/writer mutex.
+ghost use Rattle.std.specs.Prelude.{◌≡◌, ℕ, true, false};
+ghost use Rattle.rw_core.specs.RwMachine.{State};
+ghost use Rattle.protocols.specs.RwMutexStages.{rw_allows};
+ghost use Rattle.ruled_object.specs.Growth.{KeepsNote};
+ghost use Rattle.run_record.specs.RwMutexKind.{rw_mutex_stage, rw_mutex_call};
+ghost use Rattle.kind_calls.specs.Parts.{rw_mutex_part};
+ghost use Rattle.thread_objects.specs.Kinds.{IsRwMutex};
+ghost use Rattle.thread_objects.specs.Passes.{IsSeatAt, own_of};
+ghost use Rattle.kind_calls.specs.Working.{Works, desk_at};
+
+use super::replies::{CallAnswer, lock_reply};
+use crate::part::part;
+use protocols::RwMutexStage;
+use std::sync::Wait;
+use sync_model::{Answer, LockReply, Misuse, Note, RwMutexCall};
+use sync_outside::Clock;
+use thread_objects::{AnyObject, AnyPass, Worker};
+
+// The stage that a call begins with.
+fn stage_of(call: RwMutexCall) -> RwMutexStage
+    ensures stage { result ≡ rw_mutex_stage call }
+    ensures allowed { (start : State) → rw_allows start false result ≡ true }
+{
+    match call {
+        RwMutexCall::Lock => RwMutexStage::Lock,
+        RwMutexCall::Unlock => RwMutexStage::Unlock,
+        RwMutexCall::TryLock => RwMutexStage::TryLock,
+        RwMutexCall::RLock => RwMutexStage::RLock,
+        RwMutexCall::RUnlock => RwMutexStage::RUnlock,
+        RwMutexCall::TryRLock => RwMutexStage::TryRLock,
+    }
+}
+
+/// Makes a part of a call on a reader/writer mutex, which may wait.
+pub(crate) fn part_of_rw_mutex<N: Note, C: Clock, R: Wait>(
+    rt: &R,
+    worker: &Worker<N, C>,
+    object: &AnyObject<N>,
+    pass: &mut AnyPass<N>,
+    note: &mut N,
+    stage: RwMutexStage,
+) -> Answer<Result<LockReply, Misuse>>
+    requires kind { IsRwMutex object.now }
+    requires seat { IsSeatAt N.at worker.now.at.home.now worker.now.workers worker.now.number object.now pass.old }
+    requires note { N.at worker.now.at.home.now note.old }
+    requires allowed { (start : State) → rw_allows start false stage ≡ true }
+    ensures seat { IsSeatAt N.at worker.now.at.home.now worker.now.workers worker.now.number object.now pass.new }
+    ensures note { KeepsNote N.at N.own N.front note.old note.new }
+    ensures works { (number : ℕ) → Works (rw_mutex_part number stage) (desk_at N.own N.front number (own_of pass.old) note.old) result (desk_at N.own N.front number (own_of pass.new) note.new) }
+{
+    match object {
+        AnyObject::RwMutex(object) => match pass {
+            AnyPass::RwMutex(pass) => part(rt, worker, object, pass, note, stage),
+            _ => unreachable!(),
+        },
+        _ => unreachable!(),
+    }
+}
+
+/// Makes a call on a reader/writer mutex. It may wait.
+pub(crate) fn call_rw_mutex<N: Note, C: Clock, R: Wait>(
+    rt: &R,
+    worker: &Worker<N, C>,
+    object: &AnyObject<N>,
+    pass: &mut AnyPass<N>,
+    note: &mut N,
+    call: RwMutexCall,
+) -> CallAnswer
+    requires kind { IsRwMutex object.now }
+    requires seat { IsSeatAt N.at worker.now.at.home.now worker.now.workers worker.now.number object.now pass.old }
+    requires note { N.at worker.now.at.home.now note.old }
+    ensures seat { IsSeatAt N.at worker.now.at.home.now worker.now.workers worker.now.number object.now pass.new }
+    ensures note { KeepsNote N.at N.own N.front note.old note.new }
+    ensures works { (number : ℕ) → Works (rw_mutex_call number call) (desk_at N.own N.front number (own_of pass.old) note.old) result (desk_at N.own N.front number (own_of pass.new) note.new) }
+{
+    lock_reply(part_of_rw_mutex(rt, worker, object, pass, note, stage_of(call)))
+}

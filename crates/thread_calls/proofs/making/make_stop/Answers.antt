@@ -1,6 +1,0 @@
-use Rattle.thread_calls.specs.declared.column.AnyColumn.TheVariants as columns
-use Rattle.thread_calls.proofs.NewColumns.{nothing_made}
-use Rattle.thread_calls.proofs.making.make_stop.Goals as goal
-
-pub returns-clause-untouched : goal.returns-clause-untouched
-returns-clause-untouched g c = nothing_made (columns.Stop c.in_ok-object.passes) c.in_ok-object.ensures.untouched

@@ -1,0 +1,47 @@
+-- Objects that are as the workload declares them.
+use Rattle.std.proofs.Common.{ℕ, ◌+◌, ◌<◌, List, length, subst, arith}
+use Rattle.std.proofs.lemmas.Option.{slice_get_within}
+use Rattle.workload.specs.declared.object.ObjectKind.{ObjectKind}
+use Rattle.workload.specs.declared.object.ObjectKind.TheVariants as kinds
+use Rattle.workload.specs.Plan.{Plan}
+use Rattle.run_record.specs.Record.{stop, number_at}
+use Rattle.thread_objects.specs.declared.object.AnyObject.{AnyObject}
+use Rattle.thread_objects.specs.declared.object.AnyObject.TheVariants as those
+use Rattle.thread_objects.specs.AsDeclared.{AreDeclared, IsAt, IsDeclared, IsStopOf}
+use Rattle.thread_objects.specs.Desks.{IsObjectAt}
+use Rattle.thread_objects.specs.Kinds.{IsStop, IsOfKind}
+use Rattle.thread_objects.proofs.ColumnLists.{there_is}
+
+module _ {N H : Type 0} (at : H → N → Type 0) (home : H) (plan : Plan) where
+  of_kind : (place : ℕ) (kind : ObjectKind) (object : AnyObject N H) → IsDeclared at home plan place kind object → IsOfKind kind object
+  of_kind place kinds.Map object is = tt
+  of_kind place (kinds.Atomic type) object is = tt
+  of_kind place kinds.Mutex (those.Mutex o) is = tt
+  of_kind place kinds.RwMutex (those.RwMutex o) is = tt
+  of_kind place (kinds.Cond mutex) (those.Cond o) is = tt
+  of_kind place (kinds.WaitGroup start) (those.WaitGroup o) is = tt
+  of_kind place (kinds.Once atomic delta) (those.Once o) is = tt
+  of_kind place (kinds.OnceFunc code) (those.OnceFunc o) is = tt
+  of_kind place (kinds.OnceValue value) (those.OnceValue o) is = tt
+  of_kind place kinds.Pool (those.Pool o) is = tt
+  of_kind place kind object is = absurd is
+
+  stop_of : (object : AnyObject N H) → IsStopOf at home plan.workers object → IsStop object
+  stop_of (those.Stop o) is = tt
+  stop_of object is = absurd is
+
+  -- the first object of a run is Stop
+  pub stop_is_first : (all : List (AnyObject N H)) → AreDeclared at home plan all → IsObjectAt IsStop all stop
+  stop_is_first all declared =
+      let object = there_is all stop (omega (arith, declared.count)) in
+      (object.0, object.1, stop_of object.0 (declared.stops object.0 object.1))
+
+  module _ (all : List (AnyObject N H)) (declared : AreDeclared at home plan all) (place : ℕ) (kind : ObjectKind) (is : IsAt plan place kind) where
+    pub has_room : place + 1 < length all
+    has_room = omega (arith, slice_get_within plan.objects place is.0 is.1, declared.count)
+
+    -- the object at a place is of the kind that was declared there
+    pub declared_at : IsObjectAt (IsOfKind kind) all (number_at place)
+    declared_at =
+        let object = there_is all (number_at place) has_room in
+        (object.0, object.1, subst (λ (k : ObjectKind). IsOfKind k object.0) is.2 (of_kind place is.0.kind object.0 (declared.each place is.0 object.0 is.1 object.1)))

@@ -1,0 +1,13 @@
+pub mod ColumnLemmas
+pub mod ColumnLists
+pub mod Declared
+pub mod DeclaredJournals
+pub mod GroupStart
+pub mod HaltLemmas
+pub mod Histories
+pub mod KindsFit
+pub mod MadeOn
+pub mod NewColumns
+pub mod RowSteps
+pub mod StopColumns
+pub mod Telling

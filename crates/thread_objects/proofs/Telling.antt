@@ -1,0 +1,103 @@
+-- The journals of the objects so far.
+use Rattle.std.proofs.Common.{◌≡◌, ◌⊎◌, inl, inr, ℕ, ◌+◌, ◌<◌, ◌≤◌, List, [], ◌∷◌, ◌++◌, length, get_or, Option, Some, None, slice_get, refl, sym, ap, ◌∙◌, subst, arith, length-append}
+use Rattle.std.proofs.lemmas.List.{get_or_append_left}
+use Rattle.std.proofs.Math.Seq.{get_or-append_seam}
+use Rattle.std.proofs.lemmas.Option.{slice_get_cases, slice_get_past, slice_get_within}
+use Rattle.sync_model.specs.declared.misuse.Misuse.{Misuse}
+use Rattle.sync_model.specs.Journal.{by, halt_of}
+use Rattle.workload.specs.Plan.{Plan}
+use Rattle.run_record.specs.Record.{ObjectEntry, stop, number_at}
+use Rattle.thread_objects.specs.declared.column.AnyColumn.{AnyColumn}
+use Rattle.thread_objects.specs.declared.column.AnyColumn.TheVariants as columns
+use Rattle.thread_objects.specs.declared.object.AnyObject.{AnyObject}
+use Rattle.thread_objects.specs.AsDeclared.{AreDeclared}
+use Rattle.thread_objects.specs.Columns.{AreParts, IsJournalAt, passes_in}
+use Rattle.thread_objects.specs.Rows.{AreJournals, made_on}
+use Rattle.thread_objects.proofs.ColumnLists.{got, got_none, there_is}
+use Rattle.thread_objects.proofs.DeclaredJournals.{of_declared, of_stop}
+use Rattle.thread_objects.proofs.Histories.{History}
+
+module _ {N H : Type 0} (objects : List (AnyObject N H)) (all : List (AnyColumn N)) where
+  -- the journals of the first objects, by the columns that were there at the start
+  pub record ToldTo (stopped : Option Misuse) (i : ℕ) : Type 0 where
+    pub journals : List (List ObjectEntry)
+    pub count : length journals ≡ i
+    pub stops : stopped ≡ halt_of (get_or journals stop [])
+    pub each : (n : ℕ) (object : AnyObject N H) (column : AnyColumn N) → n < i → slice_get objects n ≡ Some object → slice_get all n ≡ Some column
+        → IsJournalAt object (get_or journals n []) × AreParts (get_or journals n []) (passes_in column)
+
+  abbrev Told : ℕ → List ObjectEntry → Type 0
+  Told n journal = (object : AnyObject N H) (column : AnyColumn N) → slice_get objects n ≡ Some object → slice_get all n ≡ Some column → IsJournalAt object journal × AreParts journal (passes_in column)
+
+  told_by : (n : ℕ) (known : AnyObject N H) (those : AnyColumn N) (journal : List ObjectEntry) → slice_get objects n ≡ Some known → slice_get all n ≡ Some those → IsJournalAt known journal → AreParts journal (passes_in those) → Told n journal
+  told_by n known those journal at_object at_column is parts object column here there =
+      let same_object : object ≡ known = sym (got objects n object object here) ∙ got objects n known object at_object in
+      let same_column : column ≡ those = sym (got all n column column there) ∙ got all n those column at_column in
+      (subst (λ (o : AnyObject N H). IsJournalAt o journal) (sym same_object) is, subst (λ (c : AnyColumn N). AreParts journal (passes_in c)) (sym same_column) parts)
+
+  pub told_first : (result : Option Misuse) (known : AnyObject N H) (those : AnyColumn N) → slice_get objects 0 ≡ Some known → slice_get all 0 ≡ Some those → History result known those → ToldTo result 1
+  told_first result known those at_object at_column history = record {
+    journals = history.0 ∷ [];
+    count = refl;
+    stops = history.2;
+    each = λ n object column before here there. let e : n ≡ 0 = omega (arith, before) in
+        subst (λ (k : ℕ). IsJournalAt object (get_or (history.0 ∷ []) k []) × AreParts (get_or (history.0 ∷ []) k []) (passes_in column)) (sym e)
+        (told_by 0 known those history.0 at_object at_column history.1 history.3 object column (subst (λ (k : ℕ). slice_get objects k ≡ Some object) e here) (subst (λ (k : ℕ). slice_get all k ≡ Some column) e there));
+  }
+
+  module _ (stopped result : Option Misuse) (i : ℕ) (known : AnyObject N H) (those : AnyColumn N) (some : 0 < i) (told : ToldTo stopped i) (at_object : slice_get objects i ≡ Some known) (at_column : slice_get all i ≡ Some those) (history : History result known those) where
+    abbrev more : List (List ObjectEntry)
+    more = told.journals ++ history.0 ∷ []
+
+    stays : (n : ℕ) → n < length told.journals → get_or more n [] ≡ get_or told.journals n []
+    stays n within = get_or_append_left told.journals (history.0 ∷ []) [] n within
+
+    last : get_or more i [] ≡ history.0
+    last = subst (λ (k : ℕ). get_or more k [] ≡ history.0) told.count (get_or-append_seam told.journals history.0 [] [])
+
+    abbrev At : (object : AnyObject N H) (column : AnyColumn N) → List ObjectEntry → Type 0
+    At object column journal = IsJournalAt object journal × AreParts journal (passes_in column)
+
+    by_case : (n : ℕ) (object : AnyObject N H) (column : AnyColumn N) → slice_get objects n ≡ Some object → slice_get all n ≡ Some column
+        → ((x : List ObjectEntry) × (n < length told.journals) × (slice_get told.journals n ≡ Some x) × (get_or told.journals n x ≡ x)) ⊎ ((length told.journals ≤ n) × (slice_get told.journals n ≡ None)) → n < i + 1 → At object column (get_or more n [])
+    by_case n object column here there (inl (x, within, at, is)) before = subst (At object column) (sym (stays n within)) (told.each n object column (omega (arith, within, told.count)) here there)
+    by_case n object column here there (inr (past, none)) before =
+        let e : n ≡ i = omega (arith, past, told.count, before) in
+        subst (λ (k : ℕ). At object column (get_or more k [])) (sym e) (subst (At object column) (sym last)
+        (told_by i known those history.0 at_object at_column history.1 history.3 object column (subst (λ (k : ℕ). slice_get objects k ≡ Some object) e here) (subst (λ (k : ℕ). slice_get all k ≡ Some column) e there)))
+
+    -- and of one more
+    pub told_more : ToldTo stopped (i + 1)
+    told_more = record {
+      journals = more;
+      count = length-append told.journals (history.0 ∷ []) ∙ ap (λ n. n + 1) told.count;
+      stops = told.stops ∙ ap (λ (j : List ObjectEntry). halt_of j) (sym (stays 0 (omega (arith, some, told.count))));
+      each = λ n object column before here there. by_case n object column here there (slice_get_cases told.journals n).1 before;
+    }
+
+  -- the journals of all objects
+  module _ (at : H → N → Type 0) (home : H) (plan : Plan) (stopped : Option Misuse) (declared : AreDeclared at home plan objects) (sized : length all ≡ length objects) (told : ToldTo stopped (length objects)) where
+    pub are_journals : AreJournals plan told.journals
+    are_journals = record {
+      count = told.count ∙ declared.count;
+      stops =
+          let within : stop < length objects = omega (arith, declared.count) in
+          let object = there_is objects stop within in
+          let column = there_is all stop (omega (arith, sized, within)) in
+          of_stop at home plan 0 (get_or told.journals stop []) plan.workers object.0 (declared.stops object.0 object.1) (told.each stop object.0 column.0 within object.1 column.1).0;
+      each = λ place line here.
+          let inside = slice_get_within plan.objects place line here in
+          let within : number_at place < length objects = omega (arith, declared.count, inside) in
+          let object = there_is objects (number_at place) within in
+          let column = there_is all (number_at place) (omega (arith, sized, within)) in
+          of_declared at home plan place (get_or told.journals (number_at place) []) line.kind object.0 (declared.each place line object.0 here object.1) (told.each (number_at place) object.0 column.0 within object.1 column.1).0;
+    }
+
+    pub are_parts : (object worker : ℕ) → made_on all object worker ≡ by worker (get_or told.journals object [])
+    are_parts n worker = by_case (slice_get_cases all n).1 where
+      by_case : ((x : AnyColumn N) × (n < length all) × (slice_get all n ≡ Some x) × (get_or all n x ≡ x)) ⊎ ((length all ≤ n) × (slice_get all n ≡ None)) → made_on all n worker ≡ by worker (get_or told.journals n [])
+      by_case (inl (column, within, some, is)) =
+          let object = there_is objects n (omega (arith, sized, within)) in
+          ap (λ (c : AnyColumn N). made_on (c ∷ []) 0 worker) (got all n column (columns.None 0) some) ∙ (told.each n object.0 column (omega (arith, sized, within)) object.1 some).1 worker
+      by_case (inr (past, none)) =
+          ap (λ (c : AnyColumn N). made_on (c ∷ []) 0 worker) (got_none all n (columns.None 0) none) ∙ sym (ap (λ (j : List ObjectEntry). by worker j) (got_none told.journals n [] (slice_get_past told.journals n (omega (arith, sized, past, told.count)))))

@@ -1,0 +1,9 @@
+pub mod AsDeclared
+pub mod Columns
+pub mod Desks
+pub mod Halting
+pub mod Kinds
+pub mod Passes
+pub mod Rows
+pub mod Seats
+pub mod Stop

@@ -1,0 +1,31 @@
+//! The first halt of an object, once its workers have ended.
+ghost use Rattle.std.specs.Prelude.{◌≡◌, List};
+ghost use Rattle.sync_model.specs.Journal.{halt_of};
+ghost use Rattle.run_record.specs.Record.{ObjectEntry};
+ghost use Rattle.thread_objects.specs.Columns.{AreParts, IsColumnOf, IsJournalAt, passes_in};
+
+use crate::by_kind::{arms, by_kind};
+use crate::column::AnyColumn;
+use crate::crew::Crew;
+use crate::object::AnyObject;
+use crate::seated::first_of;
+use sync_model::{Misuse, Note};
+
+/// The misuse by which an object of whatever kind was halted first, and `None` exactly where it wasn't halted. It takes the
+/// passes of all workers, and adds no entry. A map and an atomic have no journal.
+pub(crate) fn first_halt<N: Note>(
+    crew: &Crew<N>,
+    object: &AnyObject<N>,
+    column: &mut AnyColumn<N>,
+) -> Option<Misuse>
+    requires column { IsColumnOf N.at crew.now.home.now crew.now.workers crew.now.workers object.now column.old }
+    ensures column { IsColumnOf N.at crew.now.home.now crew.now.workers crew.now.workers object.now column.new }
+    ensures history { (journal : List ObjectEntry) × IsJournalAt object.now journal × (result ≡ halt_of journal) × AreParts journal (passes_in column.old) }
+{
+    by_kind!(
+        object,
+        AnyColumn(column),
+        None,
+        |object, passes| first_of(crew, object, passes)
+    )
+}

@@ -1,0 +1,96 @@
+//! The passes of one object, of one kind.
+ghost use Rattle.std.specs.Prelude.{◌≡◌, ℕ, ◌+◌, ◌<◌, ◌≤◌, [], ◌∷◌, ◌++◌, List, map, IsTrue, IfOk, Some, slice_get, vec_capacity};
+ghost use Rattle.sync_model.specs.Journal.{halt_of};
+ghost use Rattle.ruled_object.specs.declared.pass.Pass.{Pass};
+ghost use Rattle.ruled_object.specs.Gathered.{SameOwn};
+ghost use Rattle.ruled_object.specs.Passes.{start_of};
+ghost use Rattle.run_record.specs.declared.entered.ObjectEvent.{ObjectEvent};
+ghost use Rattle.run_record.specs.declared.entered.ObjectReply.{ObjectReply};
+ghost use Rattle.run_record.specs.Journals.{FollowsFrom};
+ghost use Rattle.run_record.specs.Record.{ObjectEntry};
+ghost use Rattle.thread_objects.specs.declared.pass.AnyPass.{AnyPass};
+ghost use Rattle.thread_objects.specs.AsDeclared.{Began};
+ghost use Rattle.thread_objects.specs.Columns.{AreSeated, AreUntouched, AreParts};
+ghost use Rattle.thread_objects.specs.Passes.{own_of, own_as};
+ghost use Rattle.thread_objects.specs.Seats.{IsSeat};
+
+use crate::crew::Crew;
+use protocols::Protocol;
+use ruled_object::{Object, PassOf};
+use std::alloc::{AllocError, Global};
+use sync_model::{Misuse, Note};
+
+/// An object that begins in this state, and a pass of each worker. The workers make one long call each, as passes count calls,
+/// so these are good for none more. No other call takes memory.
+pub(crate) fn begin<P: Protocol, N: Note>(
+    alloc: Global,
+    crew: &Crew<N>,
+    start: P::State,
+    note: N,
+) -> Result<(Object<P, N>, Vec<PassOf<P, N>>), AllocError>
+    requires workers { (0 < crew.now.workers) × (crew.now.workers ≤ 64) }
+    requires home { N.at crew.now.home.now note }
+    requires begun { P.begins crew.now.workers start }
+    ensures object { IfOk result (λ made. Began N.at crew.now.home.now crew.now.workers start made.0) }
+    ensures passes { IfOk result (λ made. AreSeated P.begins P.out P.stands N.at crew.now.home.now crew.now.workers crew.now.workers made.0 made.1.items) }
+    ensures room { IfOk result (λ made. crew.now.workers ≤ vec_capacity made.1) }
+    ensures untouched { IfOk result (λ made. AreUntouched made.1.items) }
+{
+    let (object, passes) = running::new(alloc, crew.workers, 0, start, note)?;
+    Ok((object, passes))
+}
+
+/// Takes the pass of the last worker that has one here.
+pub(crate) fn take_pass<P: Protocol, N: Note>(
+    _crew: &Crew<N>,
+    _worker: u32,
+    _object: &Object<P, N>,
+    passes: &mut Vec<PassOf<P, N>>,
+) -> PassOf<P, N>
+    requires seated { AreSeated P.begins P.out P.stands N.at _crew.now.home.now _crew.now.workers (_worker + 1) _object.now passes.old.items }
+    ensures seat { IsSeat P.begins P.out P.stands N.at _crew.now.home.now _crew.now.workers _worker _object.now result }
+    ensures seated { AreSeated P.begins P.out P.stands N.at _crew.now.home.now _crew.now.workers _worker _object.now passes.new.items }
+    ensures items { passes.old.items ≡ passes.new.items ++ result ∷ [] }
+    ensures last { slice_get passes.old.items _worker ≡ Some result }
+    ensures rest { (worker : ℕ) (pass : Pass P.State N P.Event P.Reply) → slice_get passes.new.items worker ≡ Some pass → slice_get passes.old.items worker ≡ Some pass }
+    ensures room { vec_capacity passes.new ≡ vec_capacity passes.old }
+{
+    passes.take_last()
+}
+
+/// Adds the pass of the next worker, for which there is room.
+pub(crate) fn put_pass<P: Protocol, N: Note>(
+    _crew: &Crew<N>,
+    _worker: u32,
+    _object: &Object<P, N>,
+    passes: &mut Vec<PassOf<P, N>>,
+    pass: PassOf<P, N>,
+)
+    requires worker { _worker < _crew.now.workers }
+    requires room { _crew.now.workers ≤ vec_capacity passes.old }
+    requires seat { IsSeat P.begins P.out P.stands N.at _crew.now.home.now _crew.now.workers _worker _object.now pass }
+    requires seated { AreSeated P.begins P.out P.stands N.at _crew.now.home.now _crew.now.workers _worker _object.now passes.old.items }
+    ensures seated { AreSeated P.begins P.out P.stands N.at _crew.now.home.now _crew.now.workers (_worker + 1) _object.now passes.new.items }
+    ensures items { passes.new.items ≡ passes.old.items ++ pass ∷ [] }
+    ensures room { vec_capacity passes.new ≡ vec_capacity passes.old }
+{
+    passes.push_reserved(pass);
+}
+
+/// The misuse of the first halt, and `None` exactly where there is none. It takes all passes, and adds no entry.
+pub(crate) fn first_of<P: Protocol, N: Note>(
+    _crew: &Crew<N>,
+    object: &Object<P, N>,
+    passes: &mut Vec<PassOf<P, N>>,
+) -> Option<Misuse>
+    requires halts { IsTrue P.HALTS }
+    requires seated { AreSeated P.begins P.out P.stands N.at _crew.now.home.now _crew.now.workers _crew.now.workers object.now passes.old.items }
+    ensures seated { AreSeated P.begins P.out P.stands N.at _crew.now.home.now _crew.now.workers _crew.now.workers object.now passes.new.items }
+    ensures room { vec_capacity passes.new ≡ vec_capacity passes.old }
+    ensures owns { SameOwn passes.old.items passes.new.items }
+    ensures history { (event : P.Event → ObjectEvent) (reply : P.Reply → ObjectReply) (pass_as : Pass P.State N P.Event P.Reply → AnyPass N)
+        → ((pass : Pass P.State N P.Event P.Reply) → own_of (pass_as pass) ≡ own_as event reply pass)
+        → (journal : List ObjectEntry) × FollowsFrom event reply P.next P.frees P.takes (start_of object.now) journal × (result ≡ halt_of journal) × AreParts journal (map pass_as passes.old.items) }
+{
+    running::first_halt(object, passes)
+}
