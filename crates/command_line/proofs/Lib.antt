@@ -1,0 +1,4 @@
+pub mod Found
+pub mod ParseAnswers
+pub mod SeedText
+pub mod Taken
