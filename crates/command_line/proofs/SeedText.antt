@@ -1,5 +1,5 @@
 -- A seed and its decimal text.
-use Rattle.std.proofs.Common.{◌≡◌, ◌∙◌, ℕ, ◌^◌, ◌-◌, ◌<◌, ◌≤◌, zero, suc, Bool, true, false, ◌&&◌, cond, eqb, nat_le, List, [], ◌∷◌, length, get_or, Option, Some, None, refl, sym, ap, subst, arith}
+use Rattle.std.proofs.Common.{◌≡◌, ℕ, ◌^◌, ◌-◌, ◌<◌, zero, suc, Bool, true, false, ◌&&◌, cond, eqb, nat_le, List, [], ◌∷◌, length, get_or, Some, None, refl, ap, subst, arith}
 use Rattle.std.specs.Str.{all_ascii_digits}
 use Rattle.std.specs.Str.Parse.{digits_value}
 use Rattle.std.specs.Fmt.{decimal}

@@ -1,5 +1,5 @@
 -- Lists of words that are taken.
-use Rattle.std.proofs.Common.{◌≡◌, ◌∙◌, ap, ap₂, refl, sym, subst, option_map, arith, true, false, ℕ, zero, suc, Bool, List, [], ◌∷◌, codes, Option, Some, None, cond}
+use Rattle.std.proofs.Common.{◌≡◌, ◌∙◌, ap, ap₂, refl, sym, subst, option_map, arith, true, false, ℕ, suc, Bool, List, [], ◌∷◌, codes, Option, Some, None, cond}
 use Rattle.std.specs.Prelude.{◌==◌, ◌||◌, not, length}
 use Rattle.std.specs.Str.{bytes_eq}
 use Rattle.std.proofs.lemmas.Slice.Eq.{bytes_eq-Decides}
@@ -9,7 +9,7 @@ use Rattle.clap.specs.Kinds.{or_else}
 use Rattle.clap.specs.Words.{Kinds, Row, Rule, Shape, Text, fault_of, subcommand_of}
 use Rattle.clap.specs.Simple.{built_leaf, inherited, marked_built, with_leaf_noted}
 use Rattle.clap.specs.Walk.{Held, Step, Walk, after_step, finished, idle, nothing_held, rows_after, settled, value, walk, walk_from, walked, word_met}
-use Rattle.clap.specs.Faults.{check_fault, defaults_fault, level_fault, settle_fault, step_fault, turn_fault, walk_fault, word_fault}
+use Rattle.clap.specs.Faults.{check_fault, defaults_fault, level_fault, settle_fault, step_fault, walk_fault, word_fault}
 use Rattle.clap.proofs.OnLiterals.{clap_on_literals}
 use Rattle.command_line.specs.declared.definition.Subcommand.{Subcommand}
 use Rattle.command_line.specs.declared.definition.Subcommand.TheVariants.{Step as ByStep, Run, Make}

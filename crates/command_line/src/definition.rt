@@ -41,7 +41,7 @@ fn with_argument<'a>(alloc: Global, name: &'a str) -> Result<Command<'a>, AllocE
     ensures shape { IfOk result (λ made. shape_of made ≡ with_argument name.entry.now) }
     ensures local { IfOk result (λ made. (out-Command made).has_globals ≡ false) }
 {
-    Command::new(alloc, name).arg(Arg::new(alloc, "argument").required(true))
+    Command::new(alloc, name).arg(Arg::new(alloc, ARGUMENT).required(true))
 }
 
 /// The command line: the command `gosync` with a required subcommand, which is `step`, `run` or `make`, each with one required

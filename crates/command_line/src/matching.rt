@@ -5,7 +5,7 @@ ghost use Rattle.clap.specs.declared.error.kind.ErrorKind.TheVariants as kinds;
 ghost use Rattle.command_line.specs.declared.matching.WordsFault.TheVariants as faults;
 ghost use Rattle.command_line.specs.Command.{argument_in, matched};
 
-use crate::definition::{Subcommand, command, subcommand_named};
+use crate::definition::{ARGUMENT, Subcommand, command, subcommand_named};
 use clap::error::ErrorKind;
 use clap::{ArgMatches, Error};
 use std::alloc::{AllocError, Global};
@@ -32,7 +32,7 @@ fn argument_of<'a>(name: &str, matches: &ArgMatches<'a>) -> Option<(Subcommand, 
     ensures { option_map (λ pair. (pair.0, pair.1.now)) result ≡ argument_in (Some (name.now, rows_of (found_of matches.now))) }
 {
     let subcommand = subcommand_named(name)?;
-    let argument = matches.get_str("argument")?;
+    let argument = matches.get_str(ARGUMENT)?;
     Some((subcommand, argument))
 }
 

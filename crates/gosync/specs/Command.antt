@@ -1,28 +1,23 @@
 -- The words of the command.
-use Rattle.std.specs.Prelude.{◌≡◌, ℕ, Bool, false, ◌||◌, not, cond, ◌==◌, List, [], ◌∷◌, length, codes, Option, Some, None}
-use Rattle.std.specs.Option.{option_map}
-use Rattle.std.specs.Str.{bytes_eq}
+use Rattle.std.specs.Prelude.{◌≡◌, ℕ, List, [], Option, Some, None}
+use Rattle.std.specs.Prelude.{option_and_then}
+use Rattle.command_line.specs.Command.{matched}
+use Rattle.command_line.specs.declared.definition.Subcommand.{Subcommand}
+use Rattle.command_line.specs.declared.definition.Subcommand.TheVariants as subcommands
 use Rattle.gosync.specs.declared.words.Mode.{Mode}
-use Rattle.gosync.specs.declared.words.Mode.TheVariants.{Step, Run}
+use Rattle.gosync.specs.declared.words.Mode.TheVariants as modes
 
--- whether a word names a file: `-`, which is standard input, or a word that isn't empty and doesn't begin with `-`
-abbrev pub is_file : List ℕ → Bool
-is_file [] = false
-is_file (byte ∷ bytes) = not (byte == 45) || length bytes == 0
+-- the file that is to be run, and how, where a subcommand with its argument names one
+abbrev pub file_of : Subcommand × List ℕ → Option (Mode × List ℕ)
+file_of (subcommands.Step, file) = Some (modes.Step, file)
+file_of (subcommands.Run, file) = Some (modes.Run, file)
+file_of (subcommands.Make, seed) = None
 
--- the mode that a word names
-abbrev pub mode_of : List ℕ → Option Mode
-mode_of word = cond (bytes_eq word (codes "step")) (Some Step) (cond (bytes_eq word (codes "run")) (Some Run) None)
-
--- what the words ask for: the program's name, a mode and a file
+-- what the words ask for, by the matches of the command: a mode and a file
 abbrev pub asked : List (List ℕ) → Option (Mode × List ℕ)
-asked (program ∷ word ∷ file ∷ []) = cond (is_file file) (option_map (λ mode. (mode, file)) (mode_of word)) None
-asked [] = None
-asked (program ∷ []) = None
-asked (program ∷ word ∷ []) = None
-asked (program ∷ word ∷ file ∷ other ∷ words) = None
+asked words = option_and_then file_of (matched words)
 
--- the file that they name; nothing, where they aren't taken
+-- the file that they name; nothing, where they name none
 abbrev pub file_in : Option (Mode × List ℕ) → List ℕ
 file_in None = []
 file_in (Some words) = words.1

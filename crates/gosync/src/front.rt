@@ -1,5 +1,5 @@
 //! What the program does before any thread is started.
-ghost use Rattle.std.specs.Prelude.{◌≡◌, ◌↔◌, ◌+◌, ◌≤◌, ℕ, List, None, map, string_bytes};
+ghost use Rattle.std.specs.Prelude.{◌≡◌, ◌⊎◌, ◌+◌, ◌≤◌, ℕ, List, None, map, string_bytes};
 ghost use Rattle.sync_outside.specs.Faults.{Rose};
 ghost use Rattle.workload.specs.declared.limits.TheConstants.{MAX_INPUT};
 ghost use Rattle.workload.specs.Plan.{Plan};
@@ -19,9 +19,10 @@ ghost use Rattle.gosync.specs.declared.words.Mode.TheVariants as modes;
 
 use crate::message::say;
 use crate::read::read_workload;
-use crate::status::{Front, Status};
+use crate::status::{Front, Status, Unread};
 use crate::step::step;
 use crate::words::{Mode, asked};
+use command_line::WordsFault;
 use std::alloc::Global;
 use sync_outside::{Sink, Sources};
 
@@ -45,7 +46,8 @@ pub fn front<S: Sources, O: Sink, E: Sink>(
     err: &mut E,
 ) -> Front
     // What the words ask for, and what the bytes of the file come to.
-    ensures usage { (result ≡ fronts.Ended statuses.Usage) ↔ (asked (map string_bytes words.now) ≡ None) }
+    ensures usage { result ≡ fronts.Ended statuses.Usage → asked (map string_bytes words.now) ≡ None }
+    ensures refused { asked (map string_bytes words.now) ≡ None → (result ≡ fronts.Ended statuses.Usage) ⊎ (result ≡ fronts.Ended (statuses.Unread unreads.Memory)) }
     ensures step { (file : List ℕ) → AskFor (map string_bytes words.now) modes.Step file → (status : Status) × (result ≡ fronts.Ended status) × ComesTo StepsTo (S.contents src.old file) (O.contents out.old) (O.contents out.new) status }
     ensures run { (file : List ℕ) → AskFor (map string_bytes words.now) modes.Run file → IsFrontOfRun (S.contents src.old file) result }
     ensures unwritten { ((file : List ℕ) → ¬ AskFor (map string_bytes words.now) modes.Step file) → (O.contents out.new ≡ O.contents out.old) × (O.faults out.new ≡ O.faults out.old) }
@@ -66,17 +68,16 @@ pub fn front<S: Sources, O: Sink, E: Sink>(
     ensures out_faults { O.faults out.old ≤ O.faults out.new }
     ensures err_faults { E.faults err.old ≤ E.faults err.new }
 {
-    let Some((mode, file)) = asked(words) else {
-        return ended(err, "", Status::Usage);
-    };
-    match mode {
-        Mode::Step => {
+    match asked(alloc, words) {
+        Ok((Mode::Step, file)) => {
             let status = step(alloc, file, src, out);
             ended(err, file, status)
         }
-        Mode::Run => match read_workload(alloc, file, src) {
+        Ok((Mode::Run, file)) => match read_workload(alloc, file, src) {
             Ok(workload) => Front::Run(workload),
             Err(why) => ended(err, file, Status::Unread(why)),
         },
+        Err(WordsFault::Refused) => ended(err, "", Status::Usage),
+        Err(WordsFault::Memory) => ended(err, "", Status::Unread(Unread::Memory)),
     }
 }

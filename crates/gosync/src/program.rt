@@ -1,5 +1,5 @@
 //! The program: its words, its file, its outputs and its status.
-ghost use Rattle.std.specs.Prelude.{◌≡◌, ◌↔◌, ◌⊎◌, ◌+◌, ◌≤◌, ℕ, List, None, Some, map, string_bytes};
+ghost use Rattle.std.specs.Prelude.{◌≡◌, ◌⊎◌, ◌+◌, ◌≤◌, ℕ, List, None, Some, map, string_bytes};
 ghost use Rattle.sync_outside.specs.Faults.{Rose};
 ghost use Rattle.sync_model.specs.declared.outcome.Outcome.{Outcome};
 ghost use Rattle.workload.specs.declared.limits.TheConstants.{MAX_INPUT};
@@ -57,7 +57,8 @@ pub fn gosync<
     ensures step { (file : List ℕ) → AskFor (map string_bytes words.now) modes.Step file → ComesTo StepsTo (S.contents src.old file) (O.contents out.old) (O.contents out.new) result }
 
     // What the words ask for.
-    ensures usage { (result ≡ statuses.Usage) ↔ (asked (map string_bytes words.now) ≡ None) }
+    ensures usage { result ≡ statuses.Usage → asked (map string_bytes words.now) ≡ None }
+    ensures refused_words { asked (map string_bytes words.now) ≡ None → (result ≡ statuses.Usage) ⊎ (result ≡ statuses.Unread unreads.Memory) }
     ensures unasked { result ≡ statuses.Usage → O.contents out.new ≡ O.contents out.old }
 
     // A run with threads had a job for each worker, in one start of all; nothing else starts a thread.

@@ -1,7 +1,10 @@
-//! The words of the command.
-ghost use Rattle.std.specs.Prelude.{◌≡◌, map, string_bytes};
-ghost use Rattle.std.specs.Option.{option_map};
-ghost use Rattle.gosync.specs.Command.{is_file, mode_of, asked};
+//! What the words of the command ask for.
+ghost use Rattle.std.specs.Prelude.{◌≡◌, IfOk, IsErrOf, None, Some, map, string_bytes};
+ghost use Rattle.command_line.specs.declared.matching.WordsFault.TheVariants as words_faults;
+ghost use Rattle.gosync.specs.Command.{asked};
+
+use command_line::{Subcommand, WordsFault, matched};
+use std::alloc::Global;
 
 /// How a workload is run.
 #[derive(Clone, Copy, Debug, PartialEq, Eq)]
@@ -12,42 +15,15 @@ pub enum Mode {
     Run,
 }
 
-/// Whether a word names a file: `-`, which is standard input, or a word that isn't empty and doesn't
-/// begin with `-`.
-fn is_file(word: &str) -> bool
-    ensures { result ≡ is_file word.now }
+/// The mode and the file that the words ask for. They are refused where the command doesn't take them.
+pub fn asked<'a>(alloc: Global, words: &'a [String]) -> Result<(Mode, &'a str), WordsFault>
+    ensures asked { IfOk result (λ words_of. asked (map string_bytes words.entry.now) ≡ Some (words_of.0, words_of.1.now)) }
+    ensures refused { IsErrOf result words_faults.Refused → asked (map string_bytes words.entry.now) ≡ None }
 {
-    match word.as_bytes().split_first() {
-        None => false,
-        Some((first, rest)) => *first != b'-' || rest.is_empty(),
-    }
-}
-
-/// The mode that a word names.
-fn mode_of(word: &str) -> Option<Mode>
-    ensures { result ≡ mode_of word.now }
-{
-    if word.as_bytes() == b"step".as_slice() {
-        Some(Mode::Step)
-    } else if word.as_bytes() == b"run".as_slice() {
-        Some(Mode::Run)
-    } else {
-        None
-    }
-}
-
-/// The mode and the file that the words ask for, where they are taken: the program's name, a mode and a file.
-pub fn asked(words: &[String]) -> Option<(Mode, &str)>
-    ensures { option_map (λ words. (words.0, words.1.now)) result ≡ asked (map string_bytes words.now) }
-{
-    let [_, mode, file] = words else {
-        return None;
-    };
-    if !is_file(file.as_str()) {
-        return None;
-    }
-    match mode_of(mode.as_str()) {
-        None => None,
-        Some(mode) => Some((mode, file.as_str())),
+    match matched(alloc, words) {
+        Ok((Subcommand::Step, file)) => Ok((Mode::Step, file)),
+        Ok((Subcommand::Run, file)) => Ok((Mode::Run, file)),
+        Ok((Subcommand::Make, _)) => Err(WordsFault::Refused),
+        Err(fault) => Err(fault),
     }
 }

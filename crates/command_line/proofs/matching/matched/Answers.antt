@@ -1,4 +1,4 @@
-use Rattle.std.proofs.Common.{◌≡◌, ◌∙◌, sym, map, string_bytes, refl}
+use Rattle.std.proofs.Common.{◌≡◌, ◌∙◌, sym, map, string_bytes}
 use Rattle.std.proofs.Common.{ℕ, List, Bor, Err, IsErrOf}
 use Rattle.command_line.specs.declared.definition.Subcommand.{Subcommand}
 use Rattle.command_line.specs.declared.matching.WordsFault.{WordsFault}
