@@ -1,0 +1,10 @@
+//! The workload that a seed gives, as text.
+#![tactic(auto)]
+
+pub mod generating;
+pub mod laws;
+
+pub use generating::generate;
+
+#[cfg(test)]
+mod tests;
