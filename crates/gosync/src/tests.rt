@@ -1,5 +1,6 @@
 ghost use Rattle.std.specs.Prelude.{◌≡◌};
 
+mod make;
 mod run;
 
 use crate::message::say;

@@ -1,0 +1,116 @@
+//! The run of a made workload with a thread for each worker.
+ghost use Rattle.std.specs.Prelude.{◌≡◌, ◌≤◌, ◌+◌, [], IfErr, MatchResult, OnErr, Err, vec_capacity};
+ghost use Rattle.sync_outside.specs.Bytes.{Appends, AppendsFront};
+ghost use Rattle.sync_outside.specs.Faults.{Rose};
+ghost use Rattle.gosync.specs.Front.{IsUnstarted};
+ghost use Rattle.made_run.specs.TotalsOf.{totals_of};
+ghost use Rattle.gosync.specs.Made.{IsMade, IsUnmade, MakesTo};
+ghost use Rattle.gosync.specs.MadeText.{totals_text};
+ghost use Rattle.gosync.specs.Messages.{message_of, WritesOut};
+ghost use Rattle.gosync.specs.declared.status.Fault.TheVariants as faults;
+ghost use Rattle.gosync.specs.declared.status.Status.TheVariants as statuses;
+
+use crate::made::{TOTAL_ROOM, write_totals};
+use crate::message::say_run;
+use crate::status::{Ending, Fault, Status};
+use made_laws::a_generated_run_comes_to_its_summary;
+use made_run::{made_workload, totals_of};
+use std::alloc::Global;
+use std::sync::Wait;
+use std::thread::Threads;
+use sync_model::{Outcome, Report};
+use sync_outside::{Clock, Gate, Sink, Spawner};
+use thread_runner::{RunFault, threaded};
+use workload::Workload;
+
+/// Writes the five lines of what the run of a made workload left behind.
+fn report_made<O: Sink>(
+    workload: &Workload,
+    left: &Report,
+    line: &mut Vec<u8>,
+    out: &mut O,
+) -> Result<(), Fault>
+    requires room { TOTAL_ROOM ≤ vec_capacity line.old }
+    ensures written { MatchResult result
+        (λ _. Appends (O.contents out.old) (O.contents out.new) (totals_text workload.now.workers (totals_of left.now)))
+        (λ fault. (fault ≡ faults.CannotWrite) × AppendsFront (O.contents out.old) (O.contents out.new) (totals_text workload.now.workers (totals_of left.now))) }
+    ensures cannot_write { OnErr result (Rose (O.faults out.old) (O.faults out.new)) }
+    ensures out_faults { O.faults out.old ≤ O.faults out.new }
+{
+    match write_totals(workload.workers(), &totals_of(left), line, out) {
+        Ok(()) => Ok(()),
+        Err(_) => Err(Fault::CannotWrite),
+    }
+}
+
+/// Makes the workload of a seed, makes its calls with a thread for each worker, and writes the five lines. All memory is taken
+/// before the first start, but what a start takes itself. No run of such a workload is misused, so each ends done.
+fn run_made<O: Sink, C: Clock + Sync, P: Spawner, G: Gate + Sync, R: Threads + Wait + Sync>(
+    rt: &R,
+    alloc: Global,
+    seed: u64,
+    out: &mut O,
+    clock: &C,
+    spawner: &mut P,
+    gate: &G,
+) -> Result<(), Fault>
+    ensures made { MatchResult result
+        (λ _. IsMade seed (P.ran spawner.old) (P.ran spawner.new) (O.contents out.old) (O.contents out.new))
+        (IsUnmade seed (P.ran spawner.old) (P.ran spawner.new) (O.contents out.old) (O.contents out.new)) }
+    ensures cannot_write { result ≡ Err faults.CannotWrite → Rose (O.faults out.old) (O.faults out.new) }
+    ensures cannot_start { result ≡ Err faults.CannotStart → Rose (P.faults spawner.old) (P.faults spawner.new) }
+    ensures unstarted { IfErr result (λ fault. ¬ (fault ≡ faults.CannotWrite) → (P.ran spawner.new ≡ P.ran spawner.old) × (P.rounds spawner.new ≡ P.rounds spawner.old)) }
+    ensures rounds { P.rounds spawner.new ≤ P.rounds spawner.old + 1 }
+    ensures out_faults { O.faults out.old ≤ O.faults out.new }
+    ensures start_faults { P.faults spawner.old ≤ P.faults spawner.new }
+{
+    let Ok(()) = a_generated_run_comes_to_its_summary() else {
+        return Err(Fault::Memory);
+    };
+    let Ok(workload) = made_workload(alloc, seed) else {
+        return Err(Fault::Memory);
+    };
+    let Ok(mut line) = Vec::with_capacity(alloc, TOTAL_ROOM) else {
+        return Err(Fault::Memory);
+    };
+    match threaded(rt, alloc, &workload, clock, spawner, gate) {
+        Ok(Outcome::Done(left)) => report_made(&workload, &left, &mut line, out),
+        Ok(Outcome::Misused(..) | Outcome::Deadlocked(_)) => unreachable!(),
+        Err(RunFault::StartRefused) => Err(Fault::CannotStart),
+        Err(RunFault::Memory) => Err(Fault::Memory),
+    }
+}
+
+/// Makes the workload of a seed, runs it, writes the five lines, and says how the program ends.
+pub fn make<
+    O: Sink,
+    E: Sink,
+    C: Clock + Sync,
+    P: Spawner,
+    G: Gate + Sync,
+    R: Threads + Wait + Sync,
+>(
+    rt: &R,
+    alloc: Global,
+    seed: u64,
+    out: &mut O,
+    err: &mut E,
+    clock: &C,
+    spawner: &mut P,
+    gate: &G,
+) -> Status
+    ensures makes { MakesTo seed (P.ran spawner.old) (P.ran spawner.new) (O.contents out.old) (O.contents out.new) result }
+    ensures cannot_write { result ≡ statuses.Failed faults.CannotWrite → Rose (O.faults out.old) (O.faults out.new) }
+    ensures cannot_start { result ≡ statuses.Failed faults.CannotStart → Rose (P.faults spawner.old) (P.faults spawner.new) }
+    ensures unstarted { IsUnstarted result → (P.ran spawner.new ≡ P.ran spawner.old) × (P.rounds spawner.new ≡ P.rounds spawner.old) }
+    ensures says { WritesOut (E.contents err.old) (E.contents err.new) (E.faults err.old) (E.faults err.new) (message_of [] result) }
+    ensures rounds { P.rounds spawner.new ≤ P.rounds spawner.old + 1 }
+    ensures out_faults { O.faults out.old ≤ O.faults out.new }
+    ensures err_faults { E.faults err.old ≤ E.faults err.new }
+    ensures start_faults { P.faults spawner.old ≤ P.faults spawner.new }
+{
+    match run_made(rt, alloc, seed, out, clock, spawner, gate) {
+        Ok(()) => say_run(err, Status::Ended(Ending::Done)),
+        Err(fault) => say_run(err, Status::Failed(fault)),
+    }
+}
