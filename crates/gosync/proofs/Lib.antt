@@ -1,5 +1,8 @@
+pub mod AskedWords
 pub mod CallWords
+pub mod Fronts
 pub mod Lines
+pub mod MadeLines
 pub mod MessageTexts
 pub mod Reading
 pub mod Runs

@@ -13,8 +13,8 @@ lines_of entries = flat_map (λ entry. numbered entry.0.now entry.1) entries
 abbrev pub are_short : List (Bor (List ℕ) × ℕ) → Bool
 are_short entries = list_all (λ entry. nat_le (length entry.0.now) 8) entries
 
--- how many workers there were, and what their run came to
-abbrev pub totals_text : ℕ → Totals → List ℕ
-totals_text workers totals =
-    flat_map (λ line. line) (numbered (codes "workers") workers ∷ numbered (codes "calls") totals.calls ∷ numbered (codes "total") totals.total
+-- what a run came to, in five lines
+abbrev pub totals_text : Totals → List ℕ
+totals_text totals =
+    flat_map (λ line. line) (numbered (codes "workers") totals.workers ∷ numbered (codes "calls") totals.calls ∷ numbered (codes "total") totals.total
     ∷ numbered (codes "keys") totals.keys ∷ numbered (codes "sum") totals.sum ∷ [])

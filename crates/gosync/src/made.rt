@@ -49,21 +49,16 @@ fn write_lines<O: Sink>(
 
 /// Writes the five lines of what a run of a made workload came to, each by one write. It takes no memory: a line is made in the
 /// buffer `line`.
-pub fn write_totals<O: Sink>(
-    workers: u32,
-    totals: &Totals,
-    line: &mut Vec<u8>,
-    out: &mut O,
-) -> Result<(), Failed>
+pub fn write_totals<O: Sink>(totals: &Totals, line: &mut Vec<u8>, out: &mut O) -> Result<(), Failed>
     requires room { TOTAL_ROOM ≤ vec_capacity line.old }
-    ensures ok { OnOk result (Appends (O.contents out.old) (O.contents out.new) (totals_text workers totals.now)) }
-    ensures err { OnErr result (AppendsFront (O.contents out.old) (O.contents out.new) (totals_text workers totals.now)) }
+    ensures ok { OnOk result (Appends (O.contents out.old) (O.contents out.new) (totals_text totals.now)) }
+    ensures err { OnErr result (AppendsFront (O.contents out.old) (O.contents out.new) (totals_text totals.now)) }
     ensures failed { OnErr result (Rose (O.faults out.old) (O.faults out.new)) }
     ensures faults { O.faults out.old ≤ O.faults out.new }
 {
     write_lines(
         &[
-            (b"workers".as_slice(), u128::from(workers)),
+            (b"workers".as_slice(), totals.workers),
             (b"calls".as_slice(), totals.calls),
             (b"total".as_slice(), totals.total),
             (b"keys".as_slice(), totals.keys),

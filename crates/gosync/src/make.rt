@@ -3,6 +3,8 @@ ghost use Rattle.std.specs.Prelude.{◌≡◌, ◌≤◌, ◌+◌, [], IfErr, Ma
 ghost use Rattle.sync_outside.specs.Bytes.{Appends, AppendsFront};
 ghost use Rattle.sync_outside.specs.Faults.{Rose};
 ghost use Rattle.gosync.specs.Front.{IsUnstarted};
+ghost use Rattle.sync_model.specs.declared.outcome.Outcome.TheVariants as outcomes;
+ghost use Rattle.sync_model.specs.declared.outcome.Report.{Report};
 ghost use Rattle.made_run.specs.TotalsOf.{totals_of};
 ghost use Rattle.gosync.specs.Made.{IsMade, IsUnmade, MakesTo};
 ghost use Rattle.gosync.specs.MadeText.{totals_text};
@@ -21,25 +23,31 @@ use std::thread::Threads;
 use sync_model::{Outcome, Report};
 use sync_outside::{Clock, Gate, Sink, Spawner};
 use thread_runner::{RunFault, threaded};
-use workload::Workload;
 
 /// Writes the five lines of what the run of a made workload left behind.
-fn report_made<O: Sink>(
-    workload: &Workload,
-    left: &Report,
-    line: &mut Vec<u8>,
-    out: &mut O,
-) -> Result<(), Fault>
+fn report_made<O: Sink>(left: &Report, line: &mut Vec<u8>, out: &mut O) -> Result<(), Fault>
     requires room { TOTAL_ROOM ≤ vec_capacity line.old }
     ensures written { MatchResult result
-        (λ _. Appends (O.contents out.old) (O.contents out.new) (totals_text workload.now.workers (totals_of left.now)))
-        (λ fault. (fault ≡ faults.CannotWrite) × AppendsFront (O.contents out.old) (O.contents out.new) (totals_text workload.now.workers (totals_of left.now))) }
+        (λ _. Appends (O.contents out.old) (O.contents out.new) (totals_text (totals_of left.now)))
+        (λ fault. (fault ≡ faults.CannotWrite) × AppendsFront (O.contents out.old) (O.contents out.new) (totals_text (totals_of left.now))) }
     ensures cannot_write { OnErr result (Rose (O.faults out.old) (O.faults out.new)) }
     ensures out_faults { O.faults out.old ≤ O.faults out.new }
 {
-    match write_totals(workload.workers(), &totals_of(left), line, out) {
+    match write_totals(&totals_of(left), line, out) {
         Ok(()) => Ok(()),
         Err(_) => Err(Fault::CannotWrite),
+    }
+}
+
+/// What a run left behind that is done.
+fn left_in(outcome: &Outcome) -> &Report
+    requires { (left : Report) × (outcome.now ≡ outcomes.Done left) }
+    ensures { outcome.now ≡ outcomes.Done result.now }
+{
+    match outcome {
+        Outcome::Done(left) => left,
+        Outcome::Misused(..) => unreachable!(),
+        Outcome::Deadlocked(_) => unreachable!(),
     }
 }
 
@@ -74,8 +82,7 @@ fn run_made<O: Sink, C: Clock + Sync, P: Spawner, G: Gate + Sync, R: Threads + W
         return Err(Fault::Memory);
     };
     match threaded(rt, alloc, &workload, clock, spawner, gate) {
-        Ok(Outcome::Done(left)) => report_made(&workload, &left, &mut line, out),
-        Ok(Outcome::Misused(..) | Outcome::Deadlocked(_)) => unreachable!(),
+        Ok(outcome) => report_made(left_in(&outcome), &mut line, out),
         Err(RunFault::StartRefused) => Err(Fault::CannotStart),
         Err(RunFault::Memory) => Err(Fault::Memory),
     }

@@ -1,35 +1,27 @@
--- What a run leaves behind, in sums, and the sums of a seed.
-use Rattle.std.specs.Prelude.{◌≡◌, ℕ, pos, sum_by, length}
-use Rattle.sync_model.specs.declared.atomic_object.Number.{Number as AtomicNumber}
+-- The five lines that tell what a run of a seed's workload left.
+use Rattle.std.specs.Prelude.{ℕ, pos, Bool, true, false, List, ◌++◌, length, sum_by, count_by, codes}
 use Rattle.sync_model.specs.declared.atomic_object.Number.TheVariants.{Int64}
 use Rattle.sync_model.specs.declared.outcome.End.{End}
-use Rattle.sync_model.specs.declared.outcome.End.TheVariants.{Number, Pair}
+use Rattle.sync_model.specs.declared.outcome.End.TheVariants as ends
 use Rattle.sync_model.specs.declared.outcome.Report.{Report}
-use Rattle.workload_generator.specs.Summary.{summary}
+use Rattle.workload_generator.specs.Summary.{numbered}
 
--- the number of an int64, where it isn't below 0; none that is summed here is
-abbrev pub amount_of : AtomicNumber → ℕ
-amount_of (Int64 (pos amount)) = amount
-amount_of number = 0
+-- the number of an end, where it is that of an int64 which isn't below 0
+abbrev pub number_in : End → ℕ
+number_in (ends.Number object (Int64 (pos n))) = n
+number_in end = 0
 
--- what an end tells of an int64
-abbrev pub amount_in : End → ℕ
-amount_in (Number object number) = amount_of number
-amount_in (Pair object key value) = 0
+-- whether an end is a key, and its value
+abbrev pub is_key : End → Bool
+is_key (ends.Pair object key value) = true
+is_key end = false
 
--- one, where an end tells of a key of a map
-abbrev pub key_in : End → ℕ
-key_in (Number object number) = 0
-key_in (Pair object key value) = 1
-
--- the value of that key
 abbrev pub value_in : End → ℕ
-value_in (Number object number) = 0
-value_in (Pair object key value) = value
+value_in (ends.Pair object key value) = value
+value_in end = 0
 
--- the sums of what a run left behind are those of the seed: 16,000 completed calls, what the int64 holds, the keys of the map, and their values
-pub record ComesToSummary (seed : ℕ) (left : Report) : Type 0 where
-  pub calls : sum_by length left.replies ≡ 16000
-  pub total : sum_by amount_in left.ends ≡ (summary seed).total
-  pub keys : sum_by key_in left.ends ≡ (summary seed).keys
-  pub sum : sum_by value_in left.ends ≡ (summary seed).sum
+-- five lines of what a run left: the workers, the completed calls, what the int64 holds, how many keys the map has, and the sum of their values
+abbrev pub five_lines : Report → List ℕ
+five_lines left =
+    numbered (codes "workers") (length left.replies) ++ numbered (codes "calls") (sum_by length left.replies) ++ numbered (codes "total") (sum_by number_in left.ends)
+    ++ numbered (codes "keys") (count_by is_key left.ends) ++ numbered (codes "sum") (sum_by value_in left.ends)

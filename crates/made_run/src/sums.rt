@@ -1,6 +1,6 @@
 //! Sums over what a run left behind.
-ghost use Rattle.std.specs.Prelude.{◌≡◌, length, sum_by};
-ghost use Rattle.made_laws.specs.Comes.{amount_of, amount_in, key_in, value_in};
+ghost use Rattle.std.specs.Prelude.{◌≡◌, length, sum_by, count_by};
+ghost use Rattle.made_laws.specs.Comes.{number_in, is_key, value_in};
 
 use sync_model::{End, Number, Reply, Seq};
 
@@ -15,37 +15,30 @@ pub fn count_of(replies: &[Seq<Reply<u32>>]) -> u128
     count
 }
 
-/// The number of an int64, where it isn't below 0.
-fn amount_of(number: Number) -> u64
-    ensures { result ≡ amount_of number }
+/// The number of an end, where it is that of an int64 which isn't below 0.
+fn number_in(end: &End) -> u64
+    ensures { result ≡ number_in end.now }
 {
-    match number {
-        Number::Int64(amount) => amount.max(0) as u64,
+    match end {
+        End::Number {
+            number: Number::Int64(number),
+            ..
+        } => (*number).max(0) as u64,
         _ => 0,
     }
 }
 
-/// What an end tells of an int64.
-fn amount_in(end: &End) -> u64
-    ensures { result ≡ amount_in end.now }
+/// Whether an end is a key.
+fn is_key(end: &End) -> bool
+    ensures { result ≡ is_key end.now }
 {
     match end {
-        End::Number { number, .. } => amount_of(*number),
-        End::Pair { .. } => 0,
+        End::Number { .. } => false,
+        End::Pair { .. } => true,
     }
 }
 
-/// One, where an end tells of a key of a map.
-fn key_in(end: &End) -> u64
-    ensures { result ≡ key_in end.now }
-{
-    match end {
-        End::Number { .. } => 0,
-        End::Pair { .. } => 1,
-    }
-}
-
-/// The value of that key.
+/// Its value.
 fn value_in(end: &End) -> u64
     ensures { result ≡ value_in end.now }
 {
@@ -55,29 +48,31 @@ fn value_in(end: &End) -> u64
     }
 }
 
-/// What the ends tell of int64s, summed.
+/// The numbers of int64s, summed.
 pub fn total_in(ends: &[End]) -> u128
-    ensures { result ≡ sum_by amount_in ends.now }
+    ensures { result ≡ sum_by number_in ends.now }
 {
     let mut total = 0_u128;
     for end in ends {
-        total += u128::from(amount_in(end));
+        total += u128::from(number_in(end));
     }
     total
 }
 
-/// How many keys they tell of.
+/// How many keys there are.
 pub fn keys_in(ends: &[End]) -> u128
-    ensures { result ≡ sum_by key_in ends.now }
+    ensures { result ≡ count_by is_key ends.now }
 {
     let mut keys = 0_u128;
     for end in ends {
-        keys += u128::from(key_in(end));
+        if is_key(end) {
+            keys += 1;
+        }
     }
     keys
 }
 
-/// The values of these keys, summed.
+/// Their values, summed.
 pub fn values_in(ends: &[End]) -> u128
     ensures { result ≡ sum_by value_in ends.now }
 {

@@ -8,6 +8,8 @@ use sync_model::Report;
 /// What a run of a made workload comes to, in numbers. Each is a sum of numbers of 64 bits, so none wraps.
 #[derive(Clone, Copy, Debug, PartialEq, Eq)]
 pub struct Totals {
+    /// How many workers there were.
+    pub workers: u128,
     /// How many calls were completed.
     pub calls: u128,
     /// What the int64 holds at the end.
@@ -24,6 +26,7 @@ pub fn totals_of(left: &Report) -> Totals
 {
     let ends = left.ends.as_slice();
     Totals {
+        workers: left.replies.len() as u128,
         calls: count_of(left.replies.as_slice()),
         total: total_in(ends),
         keys: keys_in(ends),

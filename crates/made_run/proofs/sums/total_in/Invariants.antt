@@ -1,7 +1,7 @@
 use Rattle.std.proofs.Common.{◌≡◌, ◌*◌, ◌^◌, ◌≤◌, take}
 use Rattle.std.specs.Prelude.{sum_by}
-use Rattle.made_laws.specs.Comes.{amount_in}
+use Rattle.made_laws.specs.Comes.{number_in}
 use Rattle.made_run.proofs.sums.total_in.Given as goal
 
 abbrev pub invariant-loop-end : goal.invariant-loop-end
-invariant-loop-end l = (l.total ≡ sum_by amount_in (take l.end-index l.ends)) × (l.total ≤ l.end-index * 2 ^ 64)
+invariant-loop-end l = (l.total ≡ sum_by number_in (take l.end-index l.ends)) × (l.total ≤ l.end-index * 2 ^ 64)
