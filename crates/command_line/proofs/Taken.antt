@@ -16,7 +16,7 @@ use Rattle.command_line.specs.declared.definition.Subcommand.TheVariants.{Step a
 use Rattle.command_line.specs.Command.{argument_in, gosync_command, is_argument, matched, subcommand_named, unless_faulty, with_argument}
 
 -- a subcommand as it is built
-abbrev leaf : Text → Shape
+abbrev pub leaf : Text → Shape
 leaf name = built_leaf (inherited (with_leaf_noted (marked_built gosync_command.top)) (with_argument name))
 
 -- the word looks like no flag
@@ -52,7 +52,7 @@ walked_faultless name word p =
     ap₂ (λ (k : Kinds) (m : Held × Step). or_else (or_else k (step_fault (leaf name) 1 m.0 m.1)) []) (plain_fault (leaf name) word nothing_held p) (met_plain rules word nothing_held p)
 
 -- the last checks of a level
-abbrev level_end : Shape → Kinds → Walk → Kinds
+abbrev pub level_end : Shape → Kinds → Walk → Kinds
 level_end s kinds end = or_else kinds (or_else [] (or_else (settle_fault s.rules s.args_override_self end.held)
     (or_else (defaults_fault (settled s.rules end.held).rows s.rules) (check_fault s (finished s.rules end.held) false))))
 

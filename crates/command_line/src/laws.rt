@@ -1,7 +1,8 @@
 //! What the command line takes, in a user's words.
-ghost use Rattle.std.specs.Prelude.{◌≡◌, ◌↔◌, ◌<◌, ◌^◌, ℕ, true, List, [], ◌∷◌, Some};
+ghost use Rattle.std.specs.Prelude.{◌≡◌, ◌↔◌, ◌<◌, ◌^◌, ℕ, true, List, [], ◌∷◌, None, Some};
 ghost use Rattle.std.specs.Fmt.{decimal};
-ghost use Rattle.command_line.specs.Command.{is_argument, matched, subcommand_named};
+ghost use Rattle.command_line.specs.Command.{gosync_command, is_argument, matched, subcommand_named};
+ghost use Rattle.clap.specs.Words.{fault_of};
 ghost use Rattle.command_line.specs.Seed.{seed_of};
 ghost use Rattle.command_line.specs.declared.definition.Subcommand.{Subcommand};
 
@@ -20,3 +21,8 @@ pub fn a_seed_is_its_decimal_text()
 {
     numbers();
 }
+
+/// Words of which nothing is matched are those with which the command finds a fault: no other list is refused.
+pub fn the_command_alone_refuses()
+    ensures { (words : List (List ℕ)) → matched words ≡ None → fault_of gosync_command words ≡ [] → ⊥ }
+{}
