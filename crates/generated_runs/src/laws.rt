@@ -41,3 +41,13 @@ pub fn every_run_of_a_seed_comes_to_its_summary()
     keys_tell_their_workers();
     summary_of_a_seed();
 }
+
+/// What `gosync make` rests on: every run of a seed's workload that returns is Done, and the five lines that tell of it are the
+/// summary's.
+pub fn a_run_of_a_seed_tells_its_summary()
+    ensures { (seed : ℕ) (outcome : Outcome) (r : Record) → Explains (generated_plan seed) outcome r
+        → (left : Report) × (outcome ≡ Outcome.Done left) × (five_lines left ≡ summary_text (summary seed)) }
+{
+    no_run_of_a_seed_is_misused();
+    every_run_of_a_seed_comes_to_its_summary();
+}

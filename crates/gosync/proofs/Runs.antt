@@ -75,7 +75,7 @@ pub is_read : (told : Option (List ℕ)) (plan : Plan) → IsFrontOfRun told (fr
 is_read told plan (inl front) = subst (IsRead told) (run_is plan front.0 front.1) front.2
 is_read told plan (inr front) = absurd (no_run plan (statuses.Unread front.0) front.1)
 
-told_so : (bytes read : List ℕ) (told : Option (List ℕ)) → told ≡ Some bytes → AreBytesOf told read → read ≡ bytes
+pub told_so : (bytes read : List ℕ) (told : Option (List ℕ)) → told ≡ Some bytes → AreBytesOf told read → read ≡ bytes
 told_so bytes read None is are = absurd (none_is bytes is)
 told_so bytes read (Some held) is are = are ∙ held_is held bytes is
 

@@ -1,28 +1,26 @@
 -- The words of the command.
-use Rattle.std.specs.Prelude.{◌≡◌, ℕ, Bool, false, ◌||◌, not, cond, ◌==◌, List, [], ◌∷◌, length, codes, Option, Some, None}
-use Rattle.std.specs.Option.{option_map}
-use Rattle.std.specs.Str.{bytes_eq}
+use Rattle.std.specs.Prelude.{◌≡◌, ◌⊎◌, ℕ, List, [], Option, Some, None}
+use Rattle.std.specs.Prelude.{option_and_then}
+use Rattle.command_line.specs.Command.{matched}
+use Rattle.command_line.specs.Seed.{seed_of}
+use Rattle.command_line.specs.declared.definition.Subcommand.{Subcommand}
+use Rattle.command_line.specs.declared.definition.Subcommand.TheVariants as subcommands
+use Rattle.gosync.specs.declared.words.Request.{Request}
+use Rattle.gosync.specs.declared.words.Request.TheVariants as requests
 use Rattle.gosync.specs.declared.words.Mode.{Mode}
-use Rattle.gosync.specs.declared.words.Mode.TheVariants.{Step, Run}
+use Rattle.gosync.specs.declared.words.Mode.TheVariants as modes
 
--- whether a word names a file: `-`, which is standard input, or a word that isn't empty and doesn't begin with `-`
-abbrev pub is_file : List ℕ → Bool
-is_file [] = false
-is_file (byte ∷ bytes) = not (byte == 45) || length bytes == 0
+-- the file that is to be run, and how, where a subcommand with its argument names one
+abbrev pub file_of : Subcommand × List ℕ → Option (Mode × List ℕ)
+file_of (subcommands.Step, file) = Some (modes.Step, file)
+file_of (subcommands.Run, file) = Some (modes.Run, file)
+file_of (subcommands.Make, seed) = None
 
--- the mode that a word names
-abbrev pub mode_of : List ℕ → Option Mode
-mode_of word = cond (bytes_eq word (codes "step")) (Some Step) (cond (bytes_eq word (codes "run")) (Some Run) None)
-
--- what the words ask for: the program's name, a mode and a file
+-- the mode and the file that the words ask for, by the matches of the command
 abbrev pub asked : List (List ℕ) → Option (Mode × List ℕ)
-asked (program ∷ word ∷ file ∷ []) = cond (is_file file) (option_map (λ mode. (mode, file)) (mode_of word)) None
-asked [] = None
-asked (program ∷ []) = None
-asked (program ∷ word ∷ []) = None
-asked (program ∷ word ∷ file ∷ other ∷ words) = None
+asked words = option_and_then file_of (matched words)
 
--- the file that they name; nothing, where they aren't taken
+-- the file that they name; nothing, where they name none
 abbrev pub file_in : Option (Mode × List ℕ) → List ℕ
 file_in None = []
 file_in (Some words) = words.1
@@ -30,3 +28,16 @@ file_in (Some words) = words.1
 -- the words ask to run this file so
 abbrev pub AskFor : List (List ℕ) → Mode → List ℕ → Type 0
 AskFor words mode file = asked words ≡ Some (mode, file)
+
+-- the words ask to make the workload of this seed, and run it
+abbrev pub AskToMake : List (List ℕ) → ℕ → Type 0
+AskToMake words seed = (text : List ℕ) × (matched words ≡ Some (subcommands.Make, text)) × (seed_of text ≡ Some seed)
+
+-- the words ask for this
+abbrev pub Asks : List (List ℕ) → Request → Type 0
+Asks words (requests.File mode file) = AskFor words mode file.now
+Asks words (requests.Make seed) = AskToMake words seed
+
+-- the command refuses the words, or their SEED is no number of 64 bits
+abbrev pub AreRefused : List (List ℕ) → Type 0
+AreRefused words = (matched words ≡ None) ⊎ ((text : List ℕ) × (matched words ≡ Some (subcommands.Make, text)) × (seed_of text ≡ None))

@@ -4,5 +4,7 @@ pub mod Command
 pub mod Front
 pub mod Headline
 pub mod Input
+pub mod Made
+pub mod MadeText
 pub mod Messages
 pub mod ReportText

@@ -1,10 +1,10 @@
 //! What the program does before any thread is started.
-ghost use Rattle.std.specs.Prelude.{◌≡◌, ◌↔◌, ◌+◌, ◌≤◌, ℕ, List, None, map, string_bytes};
+ghost use Rattle.std.specs.Prelude.{◌≡◌, ◌⊎◌, ◌+◌, ◌≤◌, ℕ, List, map, string_bytes};
 ghost use Rattle.sync_outside.specs.Faults.{Rose};
 ghost use Rattle.workload.specs.declared.limits.TheConstants.{MAX_INPUT};
 ghost use Rattle.workload.specs.Plan.{Plan};
 ghost use Rattle.step_runner.specs.Outcomes.{StepsTo};
-ghost use Rattle.gosync.specs.Command.{asked, file_in, AskFor};
+ghost use Rattle.gosync.specs.Command.{asked, file_in, AreRefused, AskFor, AskToMake};
 ghost use Rattle.gosync.specs.ComesTo.{ComesTo};
 ghost use Rattle.gosync.specs.Front.{IsFrontOfRun};
 ghost use Rattle.gosync.specs.Input.{ReadFailed};
@@ -19,9 +19,10 @@ ghost use Rattle.gosync.specs.declared.words.Mode.TheVariants as modes;
 
 use crate::message::say;
 use crate::read::read_workload;
-use crate::status::{Front, Status};
+use crate::status::{Front, Status, Unread};
 use crate::step::step;
-use crate::words::{Mode, asked};
+use crate::words::{Mode, Request, asked};
+use command_line::WordsFault;
 use std::alloc::Global;
 use sync_outside::{Sink, Sources};
 
@@ -36,7 +37,7 @@ fn ended<E: Sink>(err: &mut E, file: &str, status: Status) -> Front
 }
 
 /// Does what the words ask for up to the first start of a thread: all of a run by schedule, and the reading of the file for
-/// a run with threads. It waits for nobody.
+/// a run with threads. A workload that is to be made isn't made yet. It waits for nobody.
 pub fn front<S: Sources, O: Sink, E: Sink>(
     alloc: Global,
     words: &[String],
@@ -45,9 +46,12 @@ pub fn front<S: Sources, O: Sink, E: Sink>(
     err: &mut E,
 ) -> Front
     // What the words ask for, and what the bytes of the file come to.
-    ensures usage { (result ≡ fronts.Ended statuses.Usage) ↔ (asked (map string_bytes words.now) ≡ None) }
+    ensures usage { result ≡ fronts.Ended statuses.Usage → AreRefused (map string_bytes words.now) }
+    ensures refused { AreRefused (map string_bytes words.now) → (result ≡ fronts.Ended statuses.Usage) ⊎ (result ≡ fronts.Ended (statuses.Unread unreads.Memory)) }
     ensures step { (file : List ℕ) → AskFor (map string_bytes words.now) modes.Step file → (status : Status) × (result ≡ fronts.Ended status) × ComesTo StepsTo (S.contents src.old file) (O.contents out.old) (O.contents out.new) status }
     ensures run { (file : List ℕ) → AskFor (map string_bytes words.now) modes.Run file → IsFrontOfRun (S.contents src.old file) result }
+    ensures make { (seed : ℕ) → AskToMake (map string_bytes words.now) seed → (result ≡ fronts.Make seed) ⊎ (result ≡ fronts.Ended (statuses.Unread unreads.Memory)) }
+    ensures made { (seed : ℕ) → result ≡ fronts.Make seed → AskToMake (map string_bytes words.now) seed }
     ensures unwritten { ((file : List ℕ) → ¬ AskFor (map string_bytes words.now) modes.Step file) → (O.contents out.new ≡ O.contents out.old) × (O.faults out.new ≡ O.faults out.old) }
 
     // Whose faults are answered.
@@ -58,6 +62,7 @@ pub fn front<S: Sources, O: Sink, E: Sink>(
     // The one line on the error output.
     ensures says { (status : Status) → result ≡ fronts.Ended status → WritesOut (E.contents err.old) (E.contents err.new) (E.faults err.old) (E.faults err.new) (message_of (file_in (asked (map string_bytes words.now))) status) }
     ensures silent { (plan : Plan) → result ≡ fronts.Run plan → (E.contents err.new ≡ E.contents err.old) × (E.faults err.new ≡ E.faults err.old) }
+    ensures silent_making { (seed : ℕ) → result ≡ fronts.Make seed → (E.contents err.new ≡ E.contents err.old) × (E.faults err.new ≡ E.faults err.old) }
 
     // How many reads there are at most, and that no count falls.
     ensures reads { S.reads src.new ≤ S.reads src.old + (MAX_INPUT + 1) }
@@ -66,17 +71,17 @@ pub fn front<S: Sources, O: Sink, E: Sink>(
     ensures out_faults { O.faults out.old ≤ O.faults out.new }
     ensures err_faults { E.faults err.old ≤ E.faults err.new }
 {
-    let Some((mode, file)) = asked(words) else {
-        return ended(err, "", Status::Usage);
-    };
-    match mode {
-        Mode::Step => {
+    match asked(alloc, words) {
+        Ok(Request::File(Mode::Step, file)) => {
             let status = step(alloc, file, src, out);
             ended(err, file, status)
         }
-        Mode::Run => match read_workload(alloc, file, src) {
+        Ok(Request::File(Mode::Run, file)) => match read_workload(alloc, file, src) {
             Ok(workload) => Front::Run(workload),
             Err(why) => ended(err, file, Status::Unread(why)),
         },
+        Ok(Request::Make(seed)) => Front::Make(seed),
+        Err(WordsFault::Refused) => ended(err, "", Status::Usage),
+        Err(WordsFault::Memory) => ended(err, "", Status::Unread(Unread::Memory)),
     }
 }

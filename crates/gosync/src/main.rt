@@ -8,6 +8,8 @@ mod front;
 mod input;
 mod laws;
 mod line;
+mod made;
+mod make;
 mod message;
 mod program;
 mod read;

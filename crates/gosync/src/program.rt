@@ -1,17 +1,19 @@
 //! The program: its words, its file, its outputs and its status.
-ghost use Rattle.std.specs.Prelude.{◌≡◌, ◌↔◌, ◌⊎◌, ◌+◌, ◌≤◌, ℕ, List, None, Some, map, string_bytes};
+ghost use Rattle.std.specs.Prelude.{◌≡◌, ◌⊎◌, ◌+◌, ◌≤◌, ℕ, List, Some, map, string_bytes};
 ghost use Rattle.sync_outside.specs.Faults.{Rose};
 ghost use Rattle.sync_model.specs.declared.outcome.Outcome.{Outcome};
 ghost use Rattle.workload.specs.declared.limits.TheConstants.{MAX_INPUT};
 ghost use Rattle.workload.specs.Plan.{Plan};
 ghost use Rattle.workload.specs.Reads.{Reads};
 ghost use Rattle.step_runner.specs.Outcomes.{StepsTo};
-ghost use Rattle.gosync.specs.Command.{asked, file_in, AskFor};
+ghost use Rattle.gosync.specs.Command.{asked, file_in, AreRefused, AskFor, AskToMake};
 ghost use Rattle.gosync.specs.ComesTo.{ComesTo};
 ghost use Rattle.gosync.specs.Front.{IsUnstarted};
 ghost use Rattle.gosync.specs.Headline.{Headline, RunsTo, RunsInJobs};
 ghost use Rattle.gosync.specs.Input.{ReadFailed, NoReadFailed, NoWriteFailed};
+ghost use Rattle.gosync.specs.Made.{MakesTo};
 ghost use Rattle.gosync.specs.Messages.{code_of, ending_of, message_of, IsOutOfMemory, WritesOut};
+ghost use Rattle.gosync.specs.declared.status.Ending.TheVariants as endings;
 ghost use Rattle.gosync.specs.declared.status.Status.TheVariants as statuses;
 ghost use Rattle.gosync.specs.declared.status.Unread.TheVariants as unreads;
 ghost use Rattle.gosync.specs.declared.status.Fault.TheVariants as faults;
@@ -19,6 +21,7 @@ ghost use Rattle.gosync.specs.declared.words.Mode.{Mode};
 ghost use Rattle.gosync.specs.declared.words.Mode.TheVariants as modes;
 
 use crate::front::front;
+use crate::make::make;
 use crate::message::say_run;
 use crate::run::run_by_threads;
 use crate::status::{Front, Status};
@@ -56,8 +59,12 @@ pub fn gosync<
     // A run by schedule comes to what that run is defined to come to.
     ensures step { (file : List ℕ) → AskFor (map string_bytes words.now) modes.Step file → ComesTo StepsTo (S.contents src.old file) (O.contents out.old) (O.contents out.new) result }
 
+    // The workload of a seed comes to the five lines of the seed, whatever the interleaving.
+    ensures make { (seed : ℕ) → AskToMake (map string_bytes words.now) seed → MakesTo seed (P.ran spawner.old) (P.ran spawner.new) (O.contents out.old) (O.contents out.new) result }
+
     // What the words ask for.
-    ensures usage { (result ≡ statuses.Usage) ↔ (asked (map string_bytes words.now) ≡ None) }
+    ensures usage { result ≡ statuses.Usage → AreRefused (map string_bytes words.now) }
+    ensures refused_words { AreRefused (map string_bytes words.now) → (result ≡ statuses.Usage) ⊎ (result ≡ statuses.Unread unreads.Memory) }
     ensures unasked { result ≡ statuses.Usage → O.contents out.new ≡ O.contents out.old }
 
     // A run with threads had a job for each worker, in one start of all; nothing else starts a thread.
@@ -68,7 +75,7 @@ pub fn gosync<
     // Whose faults are answered.
     ensures cannot_read { (mode : Mode) (file : List ℕ) → AskFor (map string_bytes words.now) mode file → result ≡ statuses.Unread unreads.CannotRead → ReadFailed (S.open_faults src.old file) (S.open_faults src.new file) (S.read_faults src.old) (S.read_faults src.new) }
     ensures cannot_write { result ≡ statuses.Failed faults.CannotWrite → Rose (O.faults out.old) (O.faults out.new) }
-    ensures cannot_start { result ≡ statuses.Failed faults.CannotStart → Rose (P.faults spawner.old) (P.faults spawner.new) × ((file : List ℕ) × AskFor (map string_bytes words.now) modes.Run file) }
+    ensures cannot_start { result ≡ statuses.Failed faults.CannotStart → Rose (P.faults spawner.old) (P.faults spawner.new) × (((file : List ℕ) × AskFor (map string_bytes words.now) modes.Run file) ⊎ ((seed : ℕ) × AskToMake (map string_bytes words.now) seed)) }
 
     // The one line on the error output, of which there is none where all is done.
     ensures says { WritesOut (E.contents err.old) (E.contents err.new) (E.faults err.old) (E.faults err.new) (message_of (file_in (asked (map string_bytes words.now))) result) }
@@ -85,6 +92,9 @@ pub fn gosync<
     ensures refused { (mode : Mode) (file bytes : List ℕ) → AskFor (map string_bytes words.now) mode file → S.contents src.old file ≡ Some bytes → ((plan : Plan) → ¬ Reads bytes plan)
         → NoReadFailed (S.open_faults src.old file) (S.open_faults src.new file) (S.read_faults src.old) (S.read_faults src.new)
         → (code_of result ≡ 1) ⊎ IsOutOfMemory result }
+
+    ensures makes { (seed : ℕ) → AskToMake (map string_bytes words.now) seed → NoWriteFailed (O.faults out.old) (O.faults out.new) → ¬ Rose (P.faults spawner.old) (P.faults spawner.new)
+        → (result ≡ statuses.Ended endings.Done) ⊎ IsOutOfMemory result }
 
     // How many reads there are at most, and that no count falls.
     ensures reads { S.reads src.new ≤ S.reads src.old + (MAX_INPUT + 1) }
@@ -103,5 +113,6 @@ pub fn gosync<
                 Err(fault) => say_run(err, Status::Failed(fault)),
             }
         }
+        Front::Make(seed) => make(rt, alloc, seed, out, err, clock, spawner, gate),
     }
 }

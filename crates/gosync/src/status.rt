@@ -75,4 +75,6 @@ pub enum Front {
     Ended(Status),
     /// A workload is to be run with a thread for each worker. Nothing is written yet.
     Run(Workload),
+    /// The workload of this seed is to be made and run with a thread for each worker. Nothing is written yet.
+    Make(u64),
 }

@@ -1,5 +1,6 @@
 ghost use Rattle.std.specs.Prelude.{◌≡◌};
 
+mod make;
 mod run;
 
 use crate::message::say;
@@ -452,17 +453,22 @@ fn a_text_that_is_not_read_names_its_first_fault(rt: HostRuntime) -> Result<(), 
     Ok(())
 }
 
-const NOT_TAKEN: [&str; 10] = [
+const NOT_TAKEN: [&str; 15] = [
+    "",
     "gosync",
     "gosync make 007",
     "gosync run",
     "gosync run -x",
     "gosync step",
-    "gosync step ",
     "gosync step -x",
+    "gosync step --help",
+    "gosync step --",
     "gosync step w.txt w.txt",
     "gosync Step w.txt",
+    "gosync -- step w.txt",
     "gosync --help",
+    "gosync --version",
+    "gosync help",
 ];
 
 #[test]
@@ -479,9 +485,12 @@ fn words_that_are_not_taken_get_the_usage_line(rt: HostRuntime) -> Result<(), Fa
     Ok(())
 }
 
-const NOT_THERE: [(&str, &str); 2] = [
+const NOT_THERE: [(&str, &str); 5] = [
     ("gosync step none.txt", "gosync: cannot read none.txt\n"),
     ("gosync step -", "gosync: cannot read -\n"),
+    ("gosync step ", "gosync: cannot read \n"),
+    ("gosync step -- -x", "gosync: cannot read -x\n"),
+    ("gosync run x --", "gosync: cannot read x\n"),
 ];
 
 #[test]

@@ -1,9 +1,12 @@
-//! The words of the command.
-ghost use Rattle.std.specs.Prelude.{◌≡◌, map, string_bytes};
-ghost use Rattle.std.specs.Option.{option_map};
-ghost use Rattle.gosync.specs.Command.{is_file, mode_of, asked};
+//! What the words of the command ask for.
+ghost use Rattle.std.specs.Prelude.{◌≡◌, IfOk, IsErrOf, OnOk, map, string_bytes};
+ghost use Rattle.command_line.specs.declared.matching.WordsFault.TheVariants as words_faults;
+ghost use Rattle.gosync.specs.Command.{Asks, AreRefused};
 
-/// How a workload is run.
+use command_line::{Subcommand, WordsFault, matched, seed_of};
+use std::alloc::Global;
+
+/// How the workload of a file is run.
 #[derive(Clone, Copy, Debug, PartialEq, Eq)]
 pub enum Mode {
     /// By its schedule, on one thread.
@@ -12,42 +15,28 @@ pub enum Mode {
     Run,
 }
 
-/// Whether a word names a file: `-`, which is standard input, or a word that isn't empty and doesn't
-/// begin with `-`.
-fn is_file(word: &str) -> bool
-    ensures { result ≡ is_file word.now }
-{
-    match word.as_bytes().split_first() {
-        None => false,
-        Some((first, rest)) => *first != b'-' || rest.is_empty(),
-    }
+/// What the words ask for.
+#[derive(Clone, Copy, Debug)]
+pub enum Request<'a> {
+    /// To run the workload of this file.
+    File(Mode, &'a str),
+    /// To make the workload of this seed, and run it with a thread for each worker.
+    Make(u64),
 }
 
-/// The mode that a word names.
-fn mode_of(word: &str) -> Option<Mode>
-    ensures { result ≡ mode_of word.now }
+/// What the words ask for. They are refused where the command doesn't take them, or their SEED is no number of 64 bits.
+pub fn asked<'a>(alloc: Global, words: &'a [String]) -> Result<Request<'a>, WordsFault>
+    ensures asks { IfOk result (Asks (map string_bytes words.entry.now)) }
+    ensures taken { OnOk result (¬ AreRefused (map string_bytes words.entry.now)) }
+    ensures refused { IsErrOf result words_faults.Refused → AreRefused (map string_bytes words.entry.now) }
 {
-    if word.as_bytes() == b"step".as_slice() {
-        Some(Mode::Step)
-    } else if word.as_bytes() == b"run".as_slice() {
-        Some(Mode::Run)
-    } else {
-        None
-    }
-}
-
-/// The mode and the file that the words ask for, where they are taken: the program's name, a mode and a file.
-pub fn asked(words: &[String]) -> Option<(Mode, &str)>
-    ensures { option_map (λ words. (words.0, words.1.now)) result ≡ asked (map string_bytes words.now) }
-{
-    let [_, mode, file] = words else {
-        return None;
-    };
-    if !is_file(file.as_str()) {
-        return None;
-    }
-    match mode_of(mode.as_str()) {
-        None => None,
-        Some(mode) => Some((mode, file.as_str())),
+    match matched(alloc, words) {
+        Ok((Subcommand::Step, file)) => Ok(Request::File(Mode::Step, file)),
+        Ok((Subcommand::Run, file)) => Ok(Request::File(Mode::Run, file)),
+        Ok((Subcommand::Make, seed)) => match seed_of(seed) {
+            Some(seed) => Ok(Request::Make(seed)),
+            None => Err(WordsFault::Refused),
+        },
+        Err(fault) => Err(fault),
     }
 }
