@@ -1,5 +1,6 @@
 pub mod Frames
 pub mod Ledgers
+pub mod KeyBounds
 pub mod Lists
 pub mod Moves
 pub mod Numbers

@@ -1,4 +1,5 @@
 pub mod Laws
+pub mod Keys
 pub mod Layout
 pub mod Ledger
 pub mod Shape
