@@ -13,12 +13,7 @@ use sync_model::{AtomicKind, Number, Seq};
 
 impl TableEnds {
     /// A table's words, which stand for atomics of these types and for so many maps, whose keys are hashed with the seed.
-    pub fn new(
-        closed: Closed<(), Global>,
-        kinds: Seq<AtomicKind>,
-        maps: u32,
-        seed: u32,
-    ) -> Self
+    pub fn new(closed: Closed<(), Global>, kinds: Seq<AtomicKind>, maps: u32, seed: u32) -> Self
         requires words { IsFull closed.words × (slots_len closed.slots ≡ 0) }
         requires objects { length kinds + maps ≤ 1000 }
         requires row { IsTableRow kinds (slots_items closed.words) maps seed }

@@ -1,0 +1,21 @@
+-- What a table that has ended contains, by its words.
+use Rattle.std.proofs.Common.{◌≡◌, ℕ, ◌+◌, ◌<◌, ◌^◌, List, map, Option, Some, length, get_or, sym, ap, ◌∙◌, arith}
+use Rattle.std.specs.FinMap.{FinMap, empty, get, from_entries, get-from_entries}
+use Rattle.std.specs.Cmp.{nat_cmp_total}
+use Rattle.std.specs.List.{range_with_len}
+use Rattle.std.specs.Ordering.{nat_cmp}
+use Rattle.std.proofs.lemmas.List.FromFn.{get_or-map-range_with_len}
+use Rattle.sync_model.specs.declared.atomic_object.AtomicKind.{AtomicKind}
+use Rattle.sync_model.specs.SharedHistory.{map_at, value_at}
+use Rattle.trie_nodes.specs.Nodes.{stands_for}
+use Rattle.trie_nodes.specs.Walks.{ArePairsOf}
+use Rattle.table_ends.specs.EndWords.{root_in, pairs_in, map_in, contents_in, IsTableRow}
+
+module _ (kinds : List AtomicKind) (words : List ℕ) (maps m : ℕ) (inside : m < maps) where
+  -- the map of a number
+  pub map_is : map_at (contents_in kinds words maps) m ≡ map_in kinds words m
+  map_is = get_or-map-range_with_len (map_in kinds words) 0 maps m m empty inside (omega arith)
+
+  -- a key has what a lookup finds
+  pub value_is : (seed key : ℕ) → key < 2 ^ 32 → IsTableRow kinds words maps seed → value_at (contents_in kinds words maps) m key ≡ stands_for words seed 0 (root_in kinds words m) key
+  value_is seed key fits row = ap (λ held. get held key) map_is ∙ get-from_entries nat_cmp_total (pairs_in kinds words m) key ∙ (row.pairs m inside).found key fits
