@@ -1,8 +1,9 @@
 -- What a table that has ended contains, by its words.
-use Rattle.std.proofs.Common.{◌≡◌, ℕ, ◌+◌, ◌<◌, ◌^◌, List, map, Option, Some, length, get_or, sym, ap, ◌∙◌, arith}
-use Rattle.std.specs.FinMap.{FinMap, empty, get, from_entries, get-from_entries}
+use Rattle.std.proofs.Common.{◌≡◌, ℕ, ◌+◌, ◌<◌, ◌≤◌, ◌^◌, List, map, Option, Some, length, get_or, sym, ap, ◌∙◌, arith}
+use Rattle.std.specs.FinMap.{FinMap, empty, get, entries, from_entries, get-from_entries}
 use Rattle.std.specs.Cmp.{nat_cmp_total}
 use Rattle.std.specs.List.{range_with_len}
+use Rattle.std.specs.List.Sorted.{IsPermutation, IsNonDecreasingBy}
 use Rattle.std.specs.Ordering.{nat_cmp}
 use Rattle.std.proofs.lemmas.List.FromFn.{get_or-map-range_with_len}
 use Rattle.sync_model.specs.declared.atomic_object.AtomicKind.{AtomicKind}
@@ -10,6 +11,7 @@ use Rattle.sync_model.specs.SharedHistory.{map_at, value_at}
 use Rattle.trie_nodes.specs.Nodes.{stands_for}
 use Rattle.trie_nodes.specs.Walks.{ArePairsOf}
 use Rattle.table_ends.specs.EndWords.{root_in, pairs_in, map_in, contents_in, IsTableRow}
+use Rattle.table_ends.proofs.Sorting.{are_entries, as_many}
 
 module _ (kinds : List AtomicKind) (words : List ℕ) (maps m : ℕ) (inside : m < maps) where
   -- the map of a number
@@ -19,3 +21,10 @@ module _ (kinds : List AtomicKind) (words : List ℕ) (maps m : ℕ) (inside : m
   -- a key has what a lookup finds
   pub value_is : (seed key : ℕ) → key < 2 ^ 32 → IsTableRow kinds words maps seed → value_at (contents_in kinds words maps) m key ≡ stands_for words seed 0 (root_in kinds words m) key
   value_is seed key fits row = ap (λ held. get held key) map_is ∙ get-from_entries nat_cmp_total (pairs_in kinds words m) key ∙ (row.pairs m inside).found key fits
+
+  -- it has as many keys as a walk finds, and a sorted list of what the walk finds has its entries
+  pub count_is : (seed : ℕ) → IsTableRow kinds words maps seed → length (entries (map_at (contents_in kinds words maps) m)) ≡ length (pairs_in kinds words m)
+  count_is seed row = ap (λ held. length (entries held)) map_is ∙ as_many (pairs_in kinds words m) (row.pairs m inside).once
+
+  pub sorted_is : (seed : ℕ) (pairs : List (ℕ × ℕ)) → IsTableRow kinds words maps seed → IsPermutation (pairs_in kinds words m) pairs → IsNonDecreasingBy (λ pair. pair.0) pairs → pairs ≡ entries (map_at (contents_in kinds words maps) m)
+  sorted_is seed pairs row same rise = are_entries (pairs_in kinds words m) pairs (row.pairs m inside).once same rise ∙ sym (ap entries map_is)

@@ -1,3 +1,4 @@
 pub mod Readings
 pub mod SlotPairs
 pub mod Contained
+pub mod Sorting

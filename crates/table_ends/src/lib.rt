@@ -3,7 +3,7 @@
 
 mod contents;
 pub mod ended;
-mod list;
+mod pairs;
 mod walk;
 mod word;
 
