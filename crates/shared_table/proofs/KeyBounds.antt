@@ -22,7 +22,8 @@ use Rattle.shared_table.specs.Laws.{HistoryLaws}
 use Rattle.shared_table.specs.Shape.{start_of}
 use Rattle.shared_table.proofs.Ledgers.{contents_on}
 
-not_tied : (o : Ordering) (q k : ℕ) → nat_cmp q k ≡ o → (q ≡ k → ⊥) → is_eq o ≡ false
+-- keys that differ don't tie
+pub not_tied : (o : Ordering) (q k : ℕ) → nat_cmp q k ≡ o → (q ≡ k → ⊥) → is_eq o ≡ false
 not_tied Less q k e ne = refl
 not_tied Equal q k e ne = absurd (ne (nat_cmp-IsAntisymmetric q k e))
 not_tied Greater q k e ne = refl

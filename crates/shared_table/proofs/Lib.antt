@@ -23,3 +23,4 @@ pub mod Locking
 pub mod Gating
 pub mod Drafting
 pub mod Writes
+pub mod EndRows

@@ -18,3 +18,5 @@ pub mod Counted
 pub mod WordSteps
 pub mod Walking
 pub mod Writing
+pub mod EndsOfHistory
+pub mod EndLaws

@@ -4,6 +4,7 @@
 pub mod begin;
 mod caller_note;
 mod copies;
+mod ends;
 mod laws;
 mod lookup;
 mod new;
