@@ -6,13 +6,14 @@ use Rattle.std.specs.FinMap.{FinMap, empty, get, find, from_entries, get-from_en
 use Rattle.std.specs.List.{enumerate_from, range_with_len}
 use Rattle.std.specs.Ordering.{nat_cmp}
 use Rattle.std.proofs.lemmas.Bool.{eqb-true, cases_lt}
-use Rattle.std.proofs.lemmas.List.{same_lists, length-map, length-replicate}
+use Rattle.std.proofs.lemmas.List.{same_lists, length-map, length-replicate, get_or_default}
 use Rattle.std.proofs.lemmas.List.FromFn.{get_or-map-range_with_len, length-range_with_len, length-enumerate_from}
 use Rattle.std.proofs.lemmas.List.Elements.{All-head, All-tail}
 use Rattle.std.proofs.lemmas.Option.{none-some, same_Some}
 use Rattle.sync_model.specs.declared.atomic_object.AtomicKind.{AtomicKind}
 use Rattle.sync_model.specs.declared.atomic_object.AtomicKind.TheVariants as kinds
 use Rattle.sync_model.specs.declared.atomic_object.Number.{Number}
+use Rattle.sync_model.specs.declared.atomic_object.Number.TheVariants.{Bool as Truth}
 use Rattle.sync_model.specs.declared.item.SharedEntry.{SharedEntry}
 use Rattle.sync_model.specs.SequentialAtomic.{zero_of, kind_of}
 use Rattle.sync_model.specs.SharedHistory.{Contents, map_at, value_at, contents_after, contents_at}
@@ -31,6 +32,7 @@ use Rattle.shared_table.specs.Laws.{HistoryLaws}
 use Rattle.shared_table.specs.Layout.{size_of, IsBegin}
 use Rattle.shared_table.specs.Shape.{Shape, start_of, held_at, till, time, IsBelow, ShowsAt, Fine}
 use Rattle.shared_table.proofs.KeyBounds.{not_tied}
+use Rattle.shared_table.proofs.Lists.{item_there}
 
 -- what a slot shows, it shows of what is the same
 shows_same : (words : List ℕ) (seed level key : ℕ) (below other : ℕ → Type 0) (held same : Option ℕ) (slot : Slot) → ((node : ℕ) → below node → other node) → held ≡ same → Shows words seed below level key held slot → Shows words seed other level key same slot
@@ -50,6 +52,15 @@ there_to (Some place) node is = ap (λ n. Some n) (eqb-true place node is)
 there_from : (o : Option ℕ) (node : ℕ) → o ≡ Some node → IsTrue (is_there o node)
 there_from None node is = absurd (none-some node is)
 there_from (Some place) node is = eq-eqb place node (same_Some place node is)
+
+-- a list by number
+numbered : {A B : Type 0} (f : ℕ × A → B) (xs : List A) (i : ℕ) (x : A) (d : B) → slice_get xs i ≡ Some x → get_or (map f (enumerate_from 0 xs)) i d ≡ f (i, x)
+numbered {A} {B} f xs i x d at = from 0 xs i at ∙ (let e : 0 + i ≡ i = omega arith in ap (λ n. f (n, x)) e)
+  where
+    from : (n : ℕ) (xs : List A) (i : ℕ) → slice_get xs i ≡ Some x → get_or (map f (enumerate_from n xs)) i d ≡ f (n + i, x)
+    from n [] i at = absurd (none-some x at)
+    from n (y ∷ xs) zero at = let e : n ≡ n + zero = omega arith in λ j. f (e j, same_Some y x at j)
+    from n (y ∷ xs) (suc i) at = from (n + 1) xs i at ∙ (let e : n + 1 + i ≡ n + suc i = omega arith in ap (λ m. f (m, x)) e)
 
 -- a key that is too large isn't found
 too_large : (q : ℕ) (pairs : List (ℕ × ℕ)) → All (λ pair. pair.0 < 2 ^ 32) pairs → 2 ^ 32 ≤ q → find nat_cmp q pairs ≡ None
@@ -76,7 +87,7 @@ module _ (k : Begin) (laws : HistoryLaws) (ending : EndLaws) (sh : Shape) (log :
         let node_is = fine.live m (route k.seed level key) node at in
         let shows = (fine.slots node level key node_is.0 fits key_fits node_is.2).shows in
         let at_end : held_at k log (time sh log node) (sh.map_of node) key ≡ value_at (contents_after (start_of k) log) m key =
-            (λ i. held_at k log (till (node_is.3 i) (length log)) (node_is.1 i) key) ∙ ap (λ (contents : Contents). value_at contents m key) (laws.contents_all (start_of k) log (length log) (omega arith)) in
+        (λ i. held_at k log (till (node_is.3 i) (length log)) (node_is.1 i) key) ∙ ap (λ (contents : Contents). value_at contents m key) (laws.contents_all (start_of k) log (length log) (omega arith)) in
         shows_same ws k.seed level key (IsBelow k sh log ws node level key) (λ below. sh.node_at m (route k.seed (suc level) key) ≡ Some below) (held_at k log (time sh log node) (sh.map_of node) key) (value_at (contents_after (start_of k) log) m key) (slot_at ws node (nibble key k.seed level))
         (λ below is. sym (λ i. sh.node_at ((is.1 ∙ node_is.1) i) (is.2 i)) ∙ fine.there below is.0 (is.3 ∙ node_is.3)) at_end shows
 
@@ -98,8 +109,8 @@ module _ (k : Begin) (laws : HistoryLaws) (ending : EndLaws) (sh : Shape) (log :
     looked_up : (key : ℕ) → key < 2 ^ 32 → stands_for ws k.seed 0 root key ≡ held key
     looked_up key fits = ending.stands ws k.seed key (held key) (λ level node. is_there (sh.node_at m (route k.seed level key)) node)
         (λ level node level_fits is.
-            shows_same ws k.seed level key (λ below. sh.node_at m (route k.seed (suc level) key) ≡ Some below) (λ below. IsTrue (is_there (sh.node_at m (route k.seed (suc level) key)) below)) (held key) (held key) (slot_at ws node (nibble key k.seed level))
-            (λ below. there_from (sh.node_at m (route k.seed (suc level) key)) below) refl (reachable level node key level_fits fits (there_to (sh.node_at m (route k.seed level key)) node is)))
+        shows_same ws k.seed level key (λ below. sh.node_at m (route k.seed (suc level) key) ≡ Some below) (λ below. IsTrue (is_there (sh.node_at m (route k.seed (suc level) key)) below)) (held key) (held key) (slot_at ws node (nibble key k.seed level))
+        (λ below. there_from (sh.node_at m (route k.seed (suc level) key)) below) refl (reachable level node key level_fits fits (there_to (sh.node_at m (route k.seed level key)) node is)))
         0 root (omega arith) (there_from (sh.node_at m []) root root_there)
 
     pub map_is : map_in k.kinds ws m ≡ map_at (contents_after (start_of k) log) m
@@ -130,14 +141,17 @@ module _ (k : Begin) (laws : HistoryLaws) (ending : EndLaws) (sh : Shape) (log :
       let many = ending.maps_long (start_of k) log ∙ length-replicate k.maps empty in
       same_lists (map f (range_with_len 0 k.maps)) (contents_after (start_of k) log).maps (long ∙ sym many)
       (λ m d below. let inside : m < k.maps = omega arith in
-          get_or-map-range_with_len f 0 k.maps m m d inside (omega arith) ∙ map_is m inside ∙ get_or-any (contents_after (start_of k) log).maps m empty d (omega arith))
+      get_or-map-range_with_len f 0 k.maps m m d inside (omega arith) ∙ map_is m inside ∙ get_or_default (contents_after (start_of k) log).maps m empty d (omega arith))
 
   numbers_are : map (number_of k.kinds ws) (enumerate_from 0 k.kinds) ≡ (contents_after (start_of k) log).numbers
   numbers_are =
       let f = number_of k.kinds ws in
       let long = length-map (enumerate_from 0 k.kinds) f ∙ length-enumerate_from 0 k.kinds in
       let many = laws.numbers_long (start_of k) log ∙ length-map k.kinds zero_of in
-      same_lists (map f (enumerate_from 0 k.kinds)) (contents_after (start_of k) log).numbers (long ∙ sym many) (λ a d below. ?)
+      same_lists (map f (enumerate_from 0 k.kinds)) (contents_after (start_of k) log).numbers (long ∙ sym many) (λ a d below.
+      let inside : a < length k.kinds = omega arith in
+      let kind = item_there k.kinds a inside in
+      numbered f k.kinds a kind.0 d kind.1 ∙ sym (fine.numbers a kind.0 kind.1).1 ∙ get_or_default (contents_after (start_of k) log).numbers a (Truth false) d (omega arith))
 
   pub contents_are : contents_in k.kinds ws k.maps ≡ contents_after (start_of k) log
   contents_are = λ i. record { maps = maps_are i; numbers = numbers_are i }

@@ -24,3 +24,4 @@ pub mod Gating
 pub mod Drafting
 pub mod Writes
 pub mod EndRows
+pub mod Endings
