@@ -1,15 +1,14 @@
 -- What a table that has ended contains, by its words.
-use Rattle.std.proofs.Common.{◌≡◌, ℕ, ◌+◌, ◌<◌, ◌≤◌, ◌^◌, List, map, Option, Some, length, get_or, sym, ap, ◌∙◌, arith}
-use Rattle.std.specs.FinMap.{FinMap, empty, get, entries, from_entries, get-from_entries}
+use Rattle.std.proofs.Common.{◌≡◌, ℕ, ◌<◌, ◌^◌, List, length, sym, ap, ◌∙◌, arith}
+use Rattle.std.specs.FinMap.{empty, get, entries, get-from_entries}
 use Rattle.std.specs.Cmp.{nat_cmp_total}
 use Rattle.std.specs.List.{range_with_len}
 use Rattle.std.specs.List.Sorted.{IsPermutation, IsNonDecreasingBy}
-use Rattle.std.specs.Ordering.{nat_cmp}
-use Rattle.std.proofs.lemmas.List.FromFn.{get_or-map-range_with_len}
+use Rattle.std.proofs.lemmas.List.FromFn.{get_or-map-range_with_len, length-range_with_len}
+use Rattle.std.proofs.lemmas.List.{length-map}
 use Rattle.sync_model.specs.declared.atomic_object.AtomicKind.{AtomicKind}
 use Rattle.sync_model.specs.SharedHistory.{map_at, value_at}
 use Rattle.trie_nodes.specs.Nodes.{stands_for}
-use Rattle.trie_nodes.specs.Walks.{ArePairsOf}
 use Rattle.table_ends.specs.EndWords.{root_in, pairs_in, map_in, contents_in, IsTableRow}
 use Rattle.table_ends.proofs.Sorting.{are_entries, as_many}
 
@@ -28,3 +27,6 @@ module _ (kinds : List AtomicKind) (words : List ℕ) (maps m : ℕ) (inside : m
 
   pub sorted_is : (seed : ℕ) (pairs : List (ℕ × ℕ)) → IsTableRow kinds words maps seed → IsPermutation (pairs_in kinds words m) pairs → IsNonDecreasingBy (λ pair. pair.0) pairs → pairs ≡ entries (map_at (contents_in kinds words maps) m)
   sorted_is seed pairs row same rise = are_entries (pairs_in kinds words m) pairs (row.pairs m inside).once same rise ∙ sym (ap entries map_is)
+
+pub maps_long : (kinds : List AtomicKind) (words : List ℕ) (maps : ℕ) → length (contents_in kinds words maps).maps ≡ maps
+maps_long kinds words maps = length-map (range_with_len 0 maps) (map_in kinds words) ∙ length-range_with_len 0 maps

@@ -4,6 +4,7 @@
 mod contents;
 pub mod ended;
 mod pairs;
+mod report;
 mod walk;
 mod word;
 

@@ -1,4 +1,4 @@
-use Rattle.std.proofs.Common.{◌≡◌, ◌≢◌, ◌+◌, ◌-◌, ◌≤◌, ℕ, length, refl, sym, ap, ◌∙◌, subst, arith, length-append}
+use Rattle.std.proofs.Common.{◌≡◌, ◌-◌, length, refl, sym, ap, ◌∙◌, arith, length-append}
 use Rattle.trie_nodes.specs.Walks.{slot_pairs, pairs_in_slots, pairs_within}
 use Rattle.trie_nodes.specs.Nodes.{slot_at}
 use Rattle.table_ends.specs.EndContents.{words_of}

@@ -1,4 +1,4 @@
-use Rattle.std.proofs.Common.{◌≡◌, ◌≤◌, ◌^◌, ◌*◌, ◌-◌, length}
+use Rattle.std.proofs.Common.{◌≡◌, ◌-◌, length}
 use Rattle.trie_nodes.specs.Walks.{pairs_in_slots, pairs_within}
 use Rattle.table_ends.specs.EndContents.{words_of}
 use Rattle.table_ends.proofs.ended.TableEnds.+count_below.Given as goal
