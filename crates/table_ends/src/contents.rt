@@ -2,7 +2,7 @@
 ghost use Rattle.std.specs.Prelude.{◌≡◌, ◌+◌, ◌<◌, ◌≤◌, length, slice_get};
 ghost use Rattle.std.specs.Mem.Slots.{slots_items, slots_len, IsFull};
 ghost use Rattle.sync_model.specs.SharedHistory.{value_at};
-ghost use Rattle.table_ends.specs.EndContents.{contents_of, maps_of};
+ghost use Rattle.table_ends.specs.EndContents.{contents_of};
 ghost use Rattle.table_ends.specs.EndWords.{contents_in, IsTableRow};
 
 use crate::ended::TableEnds;
@@ -18,7 +18,6 @@ impl TableEnds {
         requires objects { length kinds + maps ≤ 1000 }
         requires row { IsTableRow kinds (slots_items closed.words) maps seed }
         ensures contents { contents_of result ≡ contents_in kinds (slots_items closed.words) maps }
-        ensures maps { maps_of result ≡ maps }
     {
         TableEnds {
             closed,

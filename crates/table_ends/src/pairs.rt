@@ -3,7 +3,7 @@ ghost use Rattle.std.specs.Prelude.{◌≡◌, ◌<◌, ◌≤◌, length, vec_c
 ghost use Rattle.std.specs.FinMap.{entries};
 ghost use Rattle.std.specs.List.Sorted.{IsNonDecreasingBy, IsPermutation};
 ghost use Rattle.sync_model.specs.SharedHistory.{map_at};
-ghost use Rattle.table_ends.specs.EndContents.{contents_of, maps_of};
+ghost use Rattle.table_ends.specs.EndContents.{contents_of};
 
 use crate::ended::TableEnds;
 use trie_nodes::LEVELS;
@@ -11,7 +11,7 @@ use trie_nodes::LEVELS;
 impl TableEnds {
     /// How many keys a map has.
     pub fn count(&self, map: u32) -> u64
-        requires { map < maps_of self.now }
+        requires { map < length (contents_of self.now).maps }
         ensures { result ≡ length (entries (map_at (contents_of self.now) map)) }
     {
         self.count_below(LEVELS, self.root(map))
@@ -20,7 +20,7 @@ impl TableEnds {
     /// Replaces what a list holds by all keys of a map with their values, each once, from the least key up. The list has room
     /// for them, so it takes no memory.
     pub fn pairs(&self, map: u32, pairs: &mut Vec<(u32, u64)>)
-        requires map { map < maps_of self.now }
+        requires map { map < length (contents_of self.now).maps }
         requires room { length (entries (map_at (contents_of self.now) map)) ≤ vec_capacity pairs.old }
         ensures pairs { pairs.new.items ≡ entries (map_at (contents_of self.now) map) }
         ensures room { vec_capacity pairs.new ≡ vec_capacity pairs.old }

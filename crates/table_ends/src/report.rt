@@ -2,7 +2,7 @@
 ghost use Rattle.std.specs.Prelude.{◌≡◌, ◌+◌, ◌*◌, ◌<◌, ◌≤◌, ◌++◌, length, map, zip, flat_map, vec_len, vec_capacity};
 ghost use Rattle.sync_model.specs.Ends.{number_end};
 ghost use Rattle.sync_model.specs.SharedHistory.{map_at};
-ghost use Rattle.table_ends.specs.EndContents.{contents_of, maps_of};
+ghost use Rattle.table_ends.specs.EndContents.{contents_of};
 ghost use Rattle.table_ends.specs.EndLists.{ends_by, pair_ends_by};
 
 use crate::ended::TableEnds;
@@ -57,7 +57,7 @@ impl TableEnds {
 
     // Adds the keys of a map whose object has this place.
     fn push_map(&self, object: usize, map: u32, order: &[u32], ends: &mut Vec<End>)
-        requires map { map < maps_of self.now }
+        requires map { map < length (contents_of self.now).maps }
         requires room { vec_len ends.old + length order.now ≤ vec_capacity ends.old }
         ensures ends { ends.new.items ≡ ends.old.items ++ pair_ends_by order.now (object, map_at (contents_of self.now) map) }
         ensures count { vec_len ends.new ≤ vec_len ends.old + length order.now }

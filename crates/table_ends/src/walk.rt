@@ -3,7 +3,7 @@ ghost use Rattle.std.specs.Prelude.{◌≡◌, ℕ, ◌+◌, ◌^◌, ◌<◌, �
 ghost use Rattle.sync_model.specs.SharedHistory.{value_at};
 ghost use Rattle.trie_nodes.specs.Nodes.{entry_value, stands_for};
 ghost use Rattle.trie_nodes.specs.Walks.{pairs_within};
-ghost use Rattle.table_ends.specs.EndContents.{contents_of, maps_of, words_of};
+ghost use Rattle.table_ends.specs.EndContents.{contents_of, words_of};
 
 use crate::ended::TableEnds;
 use trie_nodes::laws::nodes::a_node_gives_what_its_slot_gives;
@@ -13,7 +13,7 @@ use trie_nodes::{LEVELS, SLOTS, Slot, nibble};
 impl TableEnds {
     /// The value of a map's key, if it has one.
     pub fn value(&self, map: u32, key: u32) -> Option<u64>
-        requires { map < maps_of self.now }
+        requires { map < length (contents_of self.now).maps }
         ensures { result ≡ value_at (contents_of self.now) map key }
     {
         self.find(self.root(map), key)

@@ -3,11 +3,11 @@ use Rattle.std.specs.Prelude.{All}
 use Rattle.std.specs.List.Sorted.{IsPermutation}
 use Rattle.trie_nodes.specs.Walks.{pairs_within}
 use Rattle.table_ends.specs.EndContents.{words_of}
-use Rattle.table_ends.proofs.Contained.{count_is, sorted_is}
+use Rattle.table_ends.proofs.Contained.{keys_small, count_is, sorted_is}
 use Rattle.table_ends.proofs.ended.TableEnds.pairs.Goals as goal
 
 pub push_below-requires-clause-keys : goal.push_below-requires-clause-keys
-push_below-requires-clause-keys c = subst (λ root. All (λ (pair : ℕ × ℕ). pair.0 < 2 ^ 32) (pairs_within (words_of c.args.self.now) 8 root)) (sym c.root.ensures.is) (c.args.self.now.row.pairs c.args.map c.requires.map).keys
+push_below-requires-clause-keys c = subst (λ root. All (λ (pair : ℕ × ℕ). pair.0 < 2 ^ 32) (pairs_within (words_of c.args.self.now) 8 root)) (sym c.root.ensures.is) (keys_small c.args.self.now.kinds (words_of c.args.self.now) c.args.self.now.maps c.args.map c.requires.map c.args.self.now.seed c.args.self.now.row)
 
 pub push_below-requires-clause-room : goal.push_below-requires-clause-room
 push_below-requires-clause-room c =

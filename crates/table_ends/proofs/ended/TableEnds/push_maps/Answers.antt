@@ -20,6 +20,9 @@ returns-then-map-self-clause-ends c =
     let past : length maps ≤ c.loop-map.map = let long = maps_long ends.kinds (words_of ends) ends.maps in let past = c.if-map-self.true in omega arith in
     c.loop-map.invariant.are ∙ ap (λ l. c.args.ends.now.items ++ flat_map (pair_ends_by c.args.order.now) l) (zip_second c.args.places.now maps c.loop-map.map past)
 
+pub push_map-requires-clause-map : goal.push_map-requires-clause-map
+push_map-requires-clause-map c = let ends = c.args.self.now in let long = maps_long ends.kinds (words_of ends) ends.maps in let before = c.if-map-self.false in omega arith
+
 pub loop-map-preserved : goal.loop-map-preserved
 loop-map-preserved c =
     let ends = c.args.self.now in
