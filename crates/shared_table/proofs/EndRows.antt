@@ -1,8 +1,8 @@
 -- The words of a table contain what its maps and atomics contain after all of the history.
-use Rattle.std.proofs.Common.{◌≡◌, ℕ, zero, suc, ◌+◌, ◌*◌, ◌^◌, ◌<◌, ◌≤◌, ◌==◌, Bool, true, false, cond, eq-eqb, List, [], ◌∷◌, map, replicate, length, get_or, sum, Option, Some, None, slice_get, slice_index, refl, sym, ap, ◌∙◌, subst, arith, inl, inr}
+use Rattle.std.proofs.Common.{◌≡◌, ℕ, zero, suc, ◌+◌, ◌^◌, ◌<◌, ◌≤◌, ◌==◌, Bool, true, false, cond, eq-eqb, List, [], ◌∷◌, map, length, get_or, Option, Some, None, slice_get, slice_index, refl, sym, ap, ◌∙◌, arith, inl, inr}
 use Rattle.std.specs.Prelude.{IsTrue, All}
 use Rattle.std.specs.Cmp.{nat_cmp_total}
-use Rattle.std.specs.FinMap.{FinMap, empty, get, find, from_entries, get-from_entries, same_map, nat_cmp-IsAntisymmetric}
+use Rattle.std.specs.FinMap.{empty, find, get-from_entries, same_map, nat_cmp-IsAntisymmetric}
 use Rattle.std.specs.List.{enumerate_from, range_with_len}
 use Rattle.std.specs.Ordering.{nat_cmp}
 use Rattle.std.proofs.lemmas.Bool.{eqb-true, cases_lt}
@@ -12,25 +12,23 @@ use Rattle.std.proofs.lemmas.List.Elements.{All-head, All-tail}
 use Rattle.std.proofs.lemmas.Option.{none-some, same_Some}
 use Rattle.sync_model.specs.declared.atomic_object.AtomicKind.{AtomicKind}
 use Rattle.sync_model.specs.declared.atomic_object.AtomicKind.TheVariants as kinds
-use Rattle.sync_model.specs.declared.atomic_object.Number.{Number}
 use Rattle.sync_model.specs.declared.atomic_object.Number.TheVariants.{Bool as Truth}
 use Rattle.sync_model.specs.declared.item.SharedEntry.{SharedEntry}
 use Rattle.sync_model.specs.SequentialAtomic.{zero_of, kind_of}
-use Rattle.sync_model.specs.SharedHistory.{Contents, map_at, value_at, contents_after, contents_at}
+use Rattle.sync_model.specs.SharedHistory.{Contents, map_at, value_at, contents_after}
 use Rattle.sync_model.specs.WordLayout.{number_in}
 use Rattle.trie_nodes.specs.declared.slot.Slot.{Slot}
 use Rattle.trie_nodes.specs.declared.slot.Slot.TheVariants.{Empty, Node, Entry}
 use Rattle.trie_nodes.specs.Nodes.{slot_at, stands_for, Shows}
 use Rattle.trie_nodes.specs.Paths.{nibble, route}
-use Rattle.trie_nodes.specs.Slots.{slot_in}
-use Rattle.trie_nodes.specs.Walks.{pairs_within, ShowsMap, ArePairsOf}
+use Rattle.trie_nodes.specs.Walks.{ShowsMap, ArePairsOf}
 use Rattle.table_ends.specs.EndWords.{root_in, pairs_in, map_in, number_of, contents_in, IsTableRow}
 use Rattle.shared_table.specs.declared.begin.Begin.{Begin}
 use Rattle.shared_table.specs.EndLaws.{EndLaws}
 use Rattle.shared_table.specs.Keys.{HasKeysBelow}
 use Rattle.shared_table.specs.Laws.{HistoryLaws}
-use Rattle.shared_table.specs.Layout.{size_of, IsBegin}
-use Rattle.shared_table.specs.Shape.{Shape, start_of, held_at, till, time, IsBelow, ShowsAt, Fine}
+use Rattle.shared_table.specs.Layout.{IsBegin}
+use Rattle.shared_table.specs.Shape.{Shape, start_of, held_at, till, time, IsBelow, Fine}
 use Rattle.shared_table.proofs.KeyBounds.{not_tied}
 use Rattle.shared_table.proofs.Lists.{item_there}
 
