@@ -25,3 +25,4 @@ pub mod Drafting
 pub mod Writes
 pub mod EndRows
 pub mod Endings
+pub mod Sweeping

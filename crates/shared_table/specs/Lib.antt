@@ -20,3 +20,4 @@ pub mod Walking
 pub mod Writing
 pub mod EndsOfHistory
 pub mod EndLaws
+pub mod SweepLaws
