@@ -26,3 +26,5 @@ pub mod Writes
 pub mod EndRows
 pub mod Endings
 pub mod Sweeping
+pub mod Swept
+pub mod CursorSteps

@@ -21,3 +21,4 @@ pub mod Writing
 pub mod EndsOfHistory
 pub mod EndLaws
 pub mod SweepLaws
+pub mod Cursors
