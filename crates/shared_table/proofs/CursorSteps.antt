@@ -44,7 +44,7 @@ but_last_item [] x = refl
 but_last_item (y ∷ []) x = refl
 but_last_item (y ∷ z ∷ front) x = ap (λ l. y ∷ l) (but_last_item (z ∷ front) x)
 
-has_words : (k : Begin) (v : View) (place words : ℕ) → IsBegin k → v.begin ≡ k → place + words ≤ size_of k → 0 < words → HasWords v place words
+pub has_words : (k : Begin) (v : View) (place words : ℕ) → IsBegin k → v.begin ≡ k → place + words ≤ size_of k → 0 < words → HasWords v place words
 has_words k v place words b begin within some_words =
     let objects = b.objects in
     let units = b.units in

@@ -28,3 +28,4 @@ pub mod Endings
 pub mod Sweeping
 pub mod Swept
 pub mod CursorSteps
+pub mod Mounting

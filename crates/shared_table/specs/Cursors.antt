@@ -110,3 +110,14 @@ pub record StandsIn (z : Spot) (node slot : ℕ) : Type 0 where
   pub front : List ℕ
   pub nodes : z.nodes ≡ above ++ node ∷ []
   pub slots : z.slots ≡ front ++ slot ∷ []
+
+-- a caller's seat that took in a cursor's: it has the cursor, and knows what it knew
+abbrev pub mounted : View → View → View
+mounted v w = record v { spot = w.spot }
+
+-- a caller's seat that let its cursor go, and the cursor's own seat, which stands for nobody
+abbrev pub unmounted : View → View
+unmounted v = record v { spot = None }
+
+abbrev pub cursor_seat : View → View
+cursor_seat v = record v { heard = []; owns = [] }
