@@ -1,37 +1,33 @@
 -- The steps of a seat with a cursor.
-use Rattle.std.proofs.Common.{◌≡◌, ℕ, zero, suc, ◌+◌, ◌^◌, ◌<◌, ◌≤◌, true, false, List, [], ◌∷◌, ◌++◌, length, set, Option, Some, None, slice_get, slice_index, inl, inr, refl, sym, ap, ◌∙◌, subst, arith, length-append, append_assoc}
-use Rattle.std.specs.Prelude.{Contains}
+use Rattle.std.proofs.Common.{◌≡◌, ℕ, suc, ◌+◌, ◌<◌, ◌≤◌, List, [], ◌∷◌, ◌++◌, length, set, Option, Some, None, slice_get, slice_index, inl, inr, refl, sym, ap, ◌∙◌, subst, arith, length-append, append_assoc}
 use Rattle.std.proofs.lemmas.List.{append-nil, set-get_or}
-use Rattle.std.proofs.lemmas.Option.{none-some, same_Some, slice_get_within}
+use Rattle.std.proofs.lemmas.Option.{same_Some, slice_get_within}
 use mathlib.Core.Option.{some}
 use lib.ListN.{get_elem?}
 use Rattle.atomic_table.specs.Table.{Me, Act, keeps, Valid, stepped, carried_after, Allows}
 use Rattle.sync_model.specs.declared.item.Item.{Item}
-use Rattle.sync_model.specs.declared.item.SharedCall.{SharedCall}
 use Rattle.sync_model.specs.declared.item.SharedCall.TheVariants as calls
-use Rattle.sync_model.specs.declared.item.SharedReply.{SharedReply}
 use Rattle.sync_model.specs.declared.item.SharedReply.TheVariants as replies
-use Rattle.sync_model.specs.SharedCalls.{Knows, IsStep, IsUnshown, WasSo, MayShow}
+use Rattle.sync_model.specs.SharedCalls.{Knows, IsStep, MayShow}
 use Rattle.trie_nodes.specs.declared.slot.Slot.{Slot}
 use Rattle.trie_nodes.specs.declared.slot.Slot.TheVariants.{Empty, Node, Entry}
 use Rattle.trie_nodes.specs.Layout.{slot_word}
 use Rattle.trie_nodes.specs.Slots.{slot_in}
 use Rattle.shared_table.specs.declared.begin.Begin.{Begin}
 use Rattle.shared_table.specs.declared.view.Leaf.{Leaf}
-use Rattle.shared_table.specs.declared.view.Own.{Own}
 use Rattle.shared_table.specs.declared.view.Spot.{Spot}
 use Rattle.shared_table.specs.declared.view.View.{View}
-use Rattle.shared_table.specs.Cursors.{bump, but_last, at_spot, first_spot, behind, behind_shown, down_in, up_from, IsCursorOf, Sweeps, BeginsCursor, SweepsIn, SweepsSlot, GoesUp, ShowsNone, Sweeping, StandsIn}
+use Rattle.shared_table.specs.Cursors.{bump, but_last, at_spot, behind, behind_shown, down_in, up_from, Sweeps, SweepsIn, SweepsSlot, GoesUp, ShowsNone, Sweeping, StandsIn}
 use Rattle.shared_table.specs.Laws.{HistoryLaws}
-use Rattle.shared_table.specs.Layout.{root_word, size_of, callers_of, IsBegin}
+use Rattle.shared_table.specs.Layout.{size_of, callers_of, IsBegin}
 use Rattle.shared_table.specs.Ledger.{Owned, Fits}
 use Rattle.shared_table.specs.Owed.{IsLeaf, Stands}
 use Rattle.shared_table.specs.Rule.{TableState, Kept}
-use Rattle.shared_table.specs.Shape.{start_of, held_at, time}
+use Rattle.shared_table.specs.Shape.{start_of, time}
 use Rattle.shared_table.specs.SweepLaws.{SweepLaws}
 use Rattle.shared_table.specs.Walking.{HasWords}
 use Rattle.shared_table.proofs.Ledgers.{longer, first}
-use Rattle.shared_table.proofs.Sweeping.{here, till_end, empty_passed, entry_of, own_key, not_shown, own_value, entry_passed, goes_down, goes_up, all_passed, stands_first}
+use Rattle.shared_table.proofs.Sweeping.{here, till_end, empty_passed, entry_of, own_key, not_shown, own_value, entry_passed, goes_down, goes_up, all_passed}
 use Rattle.shared_table.proofs.Swept.{kept_there, view_after, kept_swept, sweeps}
 
 bump_last : (front : List ℕ) (slot : ℕ) → bump (front ++ slot ∷ []) ≡ front ++ suc slot ∷ []

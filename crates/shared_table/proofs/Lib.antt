@@ -29,3 +29,4 @@ pub mod Sweeping
 pub mod Swept
 pub mod CursorSteps
 pub mod Mounting
+pub mod CursorReads

@@ -4,6 +4,7 @@
 pub mod begin;
 mod caller_note;
 mod copies;
+mod cursor_steps;
 mod ends;
 mod laws;
 mod lookup;
