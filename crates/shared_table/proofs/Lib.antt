@@ -1,4 +1,10 @@
 pub mod Frames
+pub mod Units
+pub mod KeyCalls
+pub mod Sites
+pub mod Publishing
+pub mod Published
+pub mod Stores
 pub mod Ledgers
 pub mod Lists
 pub mod Moves

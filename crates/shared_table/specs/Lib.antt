@@ -1,11 +1,14 @@
 pub mod Laws
+pub mod TrieLaws
 pub mod Layout
 pub mod Ledger
 pub mod Shape
+pub mod Units
 pub mod Gates
 pub mod Owed
 pub mod Rule
 pub mod Views
+pub mod KeyCalls
 pub mod Blank
 pub mod Operations
 pub mod Tables
