@@ -6,6 +6,7 @@ pub mod Publishing
 pub mod Published
 pub mod Stores
 pub mod Ledgers
+pub mod KeyBounds
 pub mod Lists
 pub mod Moves
 pub mod Numbers

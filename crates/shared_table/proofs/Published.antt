@@ -1,5 +1,6 @@
 -- The step that publishes a call's change: the call is placed there as an entry, and one unit of its caller's room is used up.
-use Rattle.std.proofs.Common.{◌≡◌, ◌≢◌, ◌⊎◌, ℕ, zero, suc, ◌+◌, ◌-◌, ◌*◌, ◌^◌, ◌<◌, ◌≤◌, true, false, cond, List, [], ◌∷◌, ◌++◌, length, set, Option, Some, None, slice_get, slice_index, refl, sym, ap, ◌∙◌, subst, arith}
+use Rattle.std.proofs.Common.{◌≡◌, ◌≢◌, ◌⊎◌, inl, inr, ℕ, zero, suc, ◌+◌, ◌-◌, ◌*◌, ◌^◌, ◌<◌, ◌≤◌, true, false, cond, List, [], ◌∷◌, ◌++◌, length, set, Option, Some, None, slice_get, slice_index, refl, sym, ap, ◌∙◌, subst, arith}
+use Rattle.std.proofs.lemmas.Bool.{cases_eq}
 use Rattle.std.proofs.lemmas.Option.{none-some, same_Some}
 use mathlib.Core.Option.{some}
 use lib.ListN.{get_elem?}
@@ -20,6 +21,7 @@ use Rattle.shared_table.specs.declared.view.Lock.{Lock}
 use Rattle.shared_table.specs.declared.view.Own.{Own}
 use Rattle.shared_table.specs.declared.view.View.{View}
 use Rattle.shared_table.specs.KeyCalls.{key_reply, is_key_entry, key_after}
+use Rattle.shared_table.specs.Keys.{HasKeysBelow}
 use Rattle.shared_table.specs.Laws.{HistoryLaws}
 use Rattle.trie_nodes.specs.declared.slot.Slot.TheVariants.{Node}
 use Rattle.trie_nodes.specs.Layout.{parent_word, slot_word, unit_words, dead_word}
@@ -237,6 +239,12 @@ module _ (k : Begin) (laws : HistoryLaws) (tries : TrieLaws) (s : TableState) (r
       fits_now : Fits (callers_of k) (with_call r.log v.number item) (with_one r.calls v.number item) r.claim id view_after
       fits_now = let f = fits_after k laws r.log r.calls (callers_of k) r.claim id r.lawful v own owns ready.is fits item may own_after refl in record { seen = f.seen; heard = f.heard; long = f.long; front = f.front; owns = f.owns }
 
+      keys_after : HasKeysBelow (2 ^ 32) (contents_after (start_of k) (with_call r.log v.number item))
+      keys_after n q x at = elim (cases_eq q l.key) [
+        | inl same ↦ subst (λ i. i < 2 ^ 32) (sym same) locks.key
+        | inr other ↦ r.keys n q x (sym (changes.others n q (inr other)) ∙ at)
+      ]
+
       keeps_all : Keeps k s r id v.number words view_after
       keeps_all = record {
         log = with_call r.log v.number item;
@@ -245,6 +253,7 @@ module _ (k : Begin) (laws : HistoryLaws) (tries : TrieLaws) (s : TableState) (r
         mine = owned.claimed;
         lawful = lawful_after k laws r.log r.calls (callers_of k) r.claim id r.lawful v own owns ready.is fits item may;
         none_else = none_after k laws r.log r.calls (callers_of k) r.claim id r.lawful v own owns ready.is fits item may r.none_else;
+        keys = keys_after;
         fine = fine;
         gates = λ n below. publishing.gates_published k r.shape r.log (with_call r.log v.number item) s.words m l.node l.level l.key x own.next nodes (key_after call (value_at (contents_after (start_of k) r.log) m l.key)) laws tries site changes n below (r.gates n below);
         later = later;

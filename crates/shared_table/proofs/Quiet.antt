@@ -95,6 +95,7 @@ module _ (k : Begin) (s : TableState) (r : Kept k s) (id : ℕ) (v : View) (at_m
     begin = r.begin;
     lawful = r.lawful;
     none_else = r.none_else;
+    keys = r.keys;
     fine = r.fine;
     gates = r.gates;
     fits = each_after (λ j u. u.live ≡ true → Fits (callers_of k) r.log r.calls r.claim j u) s.views id (standing v walk leaf) (λ live. fits_there) (λ j u other at. r.fits j u at);
@@ -178,6 +179,7 @@ module _ (k : Begin) (laws : HistoryLaws) (s : TableState) (r : Kept k s) (id : 
     mine = owned.claimed;
     lawful = lawful_after k laws r.log r.calls (callers_of k) r.claim id r.lawful v own owns is fits item may;
     none_else = none_after k laws r.log r.calls (callers_of k) r.claim id r.lawful v own owns is fits item may r.none_else;
+    keys = r.keys;
     fine = r.fine;
     gates = r.gates;
     later = later_same r.shape r.log s.words;

@@ -61,6 +61,7 @@ module _ (k : Begin) (s : TableState) (r : Kept k s) (id : ℕ) (v : View) (at_m
     begin = r.begin;
     lawful = r.lawful;
     none_else = r.none_else;
+    keys = r.keys;
     fine = r.fine;
     gates = r.gates;
     fits = λ j u at live. elim (at_end (set s.views id left) right u j at) [
@@ -214,6 +215,7 @@ joins k laws id v other w live live_it idle next_callers s r at_me apart at_it =
   begin = r.begin;
   lawful = r.lawful;
   none_else = r.none_else;
+  keys = r.keys;
   fine = r.fine;
   gates = r.gates;
   fits = each_after (λ j u. u.live ≡ true → Fits (callers_of k) r.log r.calls claim j u) (set s.views id (joined v w)) other spent (λ alive. absurd (cc))

@@ -39,6 +39,7 @@ module _ (k : Begin) (laws : HistoryLaws) (s : TableState) (r : Kept k s) (id : 
     mine = owned.claimed;
     lawful = r.lawful;
     none_else = r.none_else;
+    keys = r.keys;
     fine = fine;
     gates = gates;
     later = later;

@@ -1,5 +1,6 @@
 pub mod Laws
 pub mod TrieLaws
+pub mod Keys
 pub mod Layout
 pub mod Ledger
 pub mod Shape

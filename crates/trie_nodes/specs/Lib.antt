@@ -4,3 +4,4 @@ pub mod Nodes
 pub mod Paths
 pub mod Plans
 pub mod Slots
+pub mod Walks

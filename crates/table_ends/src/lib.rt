@@ -1,0 +1,10 @@
+//! What the words of a table of maps and atomics contain, when nobody shares the table any more.
+#![tactic(auto)]
+
+mod contents;
+pub mod ended;
+mod list;
+mod walk;
+mod word;
+
+pub use ended::TableEnds;

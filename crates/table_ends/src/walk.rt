@@ -1,0 +1,1 @@
+//! Walks through a map's nodes.
