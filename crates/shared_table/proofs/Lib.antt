@@ -5,6 +5,7 @@ pub mod Sites
 pub mod Publishing
 pub mod Published
 pub mod Stores
+pub mod Chains
 pub mod Ledgers
 pub mod KeyBounds
 pub mod Lists

@@ -216,16 +216,16 @@ module _ (k : Begin) (sh : Shape) (log log' : List SharedEntry) (ws : List ℕ) 
     nodes_on : (q : ℕ) → shape.kind_of q ≡ 1 → IsNode k shape q
     nodes_on q is = elim (units.node_is sh tries k.seed m d key unit nodes q is) [
       | inl old ↦ let n = fine.nodes q old in let lies = n.lies in record {
-          lies = n.lies;
-          within = n.within;
-          words = λ i inside. old_part q (q + i) (omega arith) (n.words i inside);
-          map = subst (λ i. i < k.maps) (sym (old_map q old)) n.map;
-          level = n.level;
-          key = n.key;
-          below = n.below;
-          is_key = n.is_key;
-          path = old_path q old ∙ n.path;
-        }
+        lies = n.lies;
+        within = n.within;
+        words = λ i inside. old_part q (q + i) (omega arith) (n.words i inside);
+        map = subst (λ i. i < k.maps) (sym (old_map q old)) n.map;
+        level = n.level;
+        key = n.key;
+        below = n.below;
+        is_key = n.is_key;
+        path = old_path q old ∙ n.path;
+      }
       | inr link ↦
           let n = link.0 in let below = link.1 in let few = site.few in let lies = site.lies in let within = site.within in let map = (fine.nodes p site.node).map in
           subst (IsNode k shape) (sym link.2) record {
@@ -244,19 +244,19 @@ module _ (k : Begin) (sh : Shape) (log log' : List SharedEntry) (ws : List ℕ) 
     leaves_on : (q : ℕ) → shape.kind_of q ≡ 2 → IsEntry k shape words q
     leaves_on q is = elim (units.leaf_is sh tries k.seed m d key unit nodes q is) [
       | inl old ↦ let l = fine.leaves q old in let lies = l.lies in record {
-          lies = l.lies;
-          within = l.within;
-          key_part = old_part q q (omega arith) l.key_part;
-          value_part = old_part q (q + 1) (omega arith) l.value_part;
-          is_key = subst (λ n. n < 2 ^ 32) (sym (old_key q old)) l.is_key;
-        }
+        lies = l.lies;
+        within = l.within;
+        key_part = old_part q q (omega arith) l.key_part;
+        value_part = old_part q (q + 1) (omega arith) l.value_part;
+        is_key = subst (λ n. n < 2 ^ 32) (sym (old_key q old)) l.is_key;
+      }
       | inr mine_now ↦ let within = site.within in subst (IsEntry k shape words) (sym mine_now) record {
-          lies = site.lies;
-          within = omega arith;
-          key_part = units.entry_part sh tries k.seed m d key unit nodes unit (omega arith) (omega arith);
-          value_part = units.entry_part sh tries k.seed m d key unit nodes (unit + 1) (omega arith) (omega arith);
-          is_key = let e : unit + 0 ≡ unit = omega arith in let at = unit_word 0 (omega arith) in subst (λ n. n < 2 ^ 32) (sym (subst (λ i. slice_index words i ≡ slice_index ws i) e at)) news.is_key;
-        }
+        lies = site.lies;
+        within = omega arith;
+        key_part = units.entry_part sh tries k.seed m d key unit nodes unit (omega arith) (omega arith);
+        value_part = units.entry_part sh tries k.seed m d key unit nodes (unit + 1) (omega arith) (omega arith);
+        is_key = let e : unit + 0 ≡ unit = omega arith in let at = unit_word 0 (omega arith) in subst (λ n. n < 2 ^ 32) (sym (subst (λ i. slice_index words i ≡ slice_index ws i) e at)) news.is_key;
+      }
     ]
 
     live_on : (n : ℕ) (path : List ℕ) (q : ℕ) → shape.node_at n path ≡ Some q → (shape.kind_of q ≡ 1) × (shape.map_of q ≡ n) × (shape.path_of q ≡ path) × (shape.cut_of q ≡ None)
@@ -410,8 +410,8 @@ module _ (k : Begin) (sh : Shape) (log log' : List SharedEntry) (ws : List ℕ) 
       let away : (e i : ℕ) → e ≢ c → sh.area_of i ≡ suc e → unit ≤ i → unit + 2 + 18 * nodes ≤ i = (λ e i other is_area past. let few = site.few in elim (units.tested (nat_le (unit + 2 + 18 * nodes) i)) [
         | inl beyond ↦ leb-true (unit + 2 + 18 * nodes) i beyond
         | inr within ↦ absurd (let below = leb-false (unit + 2 + 18 * nodes) i within in
-          let n : unit + (i - unit) ≡ i = omega arith in
-          let both : suc e ≡ suc c = sym is_area ∙ subst (λ j. sh.area_of j ≡ suc c) n (area (i - unit) (omega arith)) in other (omega arith))
+            let n : unit + (i - unit) ≡ i = omega arith in
+            let both : suc e ≡ suc c = sym is_area ∙ subst (λ j. sh.area_of j ≡ suc c) n (area (i - unit) (omega arith)) in other (omega arith))
       ]) in record {
         held = λ e q other is inside is_held. old_holder q is ∙ is_held;
         words = λ e q i other is inside is_held from to. other_node q i is (theirs e q other is_held) from to;

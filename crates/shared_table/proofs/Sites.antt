@@ -65,8 +65,8 @@ module _ (k : Begin) (sh : Shape) (log : List SharedEntry) (ws : List ℕ) (m p 
       elim (tested (nat_le (unit + 2 + 18 * nodes) i)) [
         | inl beyond ↦ leb-true (unit + 2 + 18 * nodes) i beyond
         | inr within ↦ absurd (let below = leb-false (unit + 2 + 18 * nodes) i within in
-          let n : unit + (i - unit) ≡ i = omega arith in
-          let zero_part : q ≡ 0 = sym part ∙ subst (λ n. sh.part_of n ≡ 0) n (site.unused (i - unit) (omega arith)) in omega arith)
+            let n : unit + (i - unit) ≡ i = omega arith in
+            let zero_part : q ≡ 0 = sym part ∙ subst (λ n. sh.part_of n ≡ 0) n (site.unused (i - unit) (omega arith)) in omega arith)
       ]
 
   pub node_outside : (q i : ℕ) → sh.kind_of q ≡ 1 → q ≤ i → i < q + 18 → unit ≤ i → unit + 2 + 18 * nodes ≤ i

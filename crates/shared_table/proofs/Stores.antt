@@ -33,16 +33,25 @@ use Rattle.shared_table.proofs.Publishing as publishing
 use Rattle.shared_table.proofs.Sites as sites
 use Rattle.shared_table.proofs.Units as units
 
-test_off : (a b : ℕ) → a ≢ b → (a == b) ≡ false
+pub test_off : (a b : ℕ) → a ≢ b → (a == b) ≡ false
 test_off a b ne = units.not_true (a == b) (λ e. ne (eqb-true a b e))
 
-own_value : (ws : List ℕ) (place key : ℕ) → slice_index ws place ≡ key → entry_value ws place key ≡ Some (slice_index ws (place + 1))
+pub own_value : (ws : List ℕ) (place key : ℕ) → slice_index ws place ≡ key → entry_value ws place key ≡ Some (slice_index ws (place + 1))
 own_value ws place key e = ap (λ b. cond b (Some (slice_index ws (place + 1))) None) (eq-eqb (slice_index ws place) key e)
 
-other_value : (ws : List ℕ) (place key : ℕ) → slice_index ws place ≢ key → entry_value ws place key ≡ None
+pub other_value : (ws : List ℕ) (place key : ℕ) → slice_index ws place ≢ key → entry_value ws place key ≡ None
 other_value ws place key ne = ap (λ b. cond b (Some (slice_index ws (place + 1))) None) (test_off (slice_index ws place) key ne)
 
-none_or_some : (o : Option ℕ) → (o ≡ None) ⊎ ((q : ℕ) × (o ≡ Some q))
+place_in : Slot → ℕ
+place_in Empty = 0
+place_in (Node place) = place
+place_in (Entry place) = place
+
+pub entry_place : (a b : ℕ) → Entry a ≡ Entry b → a ≡ b
+unfolding place_in
+entry_place a b e = ap place_in e
+
+pub none_or_some : (o : Option ℕ) → (o ≡ None) ⊎ ((q : ℕ) × (o ≡ Some q))
 none_or_some None = inl refl
 none_or_some (Some q) = inr (q, refl)
 
@@ -60,48 +69,48 @@ module _ (k : Begin) (laws : HistoryLaws) (tries : TrieLaws) (s : TableState) (r
   abbrev pub value : Option ℕ
   value = key_after call (value_at (contents_after (start_of k) r.log) m l.key)
 
-  site : sites.Site k r.shape r.log s.words m l.node l.level l.key own.next nodes
+  pub site : sites.Site k r.shape r.log s.words m l.node l.level l.key own.next nodes
   site = published.site k laws tries s r id v at_me own owns l m word nodes ready
 
-  locks : Locks k r.shape s.words v.number m l
+  pub locks : Locks k r.shape s.words v.number m l
   locks = published.locks k laws tries s r id v at_me own owns l m word nodes ready
 
-  changes : ChangesKey k r.log log m l.key value
+  pub changes : ChangesKey k r.log log m l.key value
   changes = published.changes k laws tries s r id v at_me own owns l m word nodes ready call on is_entry
 
   -- another key of the slot
-  abbrev OnSlot : ℕ → Type 0
+  abbrev pub OnSlot : ℕ → Type 0
   OnSlot other = route k.seed (suc l.level) other ≡ route k.seed (suc l.level) l.key
 
   -- what the slot showed of it
-  was : (other : ℕ) → other < 2 ^ 32 → OnSlot other → ShowsAt k r.shape r.log s.words l.node l.level other word
+  pub was : (other : ℕ) → other < 2 ^ 32 → OnSlot other → ShowsAt k r.shape r.log s.words l.node l.level other word
   was other is_key along =
       let above = tries.above k.seed l.level (suc l.level) other l.key (omega arith) along in
       let slot = tries.same_slot k.seed l.level (suc l.level) other l.key (omega arith) along in
       subst (ShowsAt k r.shape r.log s.words l.node l.level other) (ap (λ n. slice_index s.words (slot_word l.node n)) slot ∙ published.slot_is k laws tries s r id v at_me own owns l m word nodes ready)
       (r.fine.slots l.node l.level other locks.node locks.level is_key (locks.path ∙ sym above))
 
-  was_held : (other : ℕ) → held_at k r.log (time r.shape r.log l.node) (r.shape.map_of l.node) other ≡ value_at (contents_after (start_of k) r.log) m other
+  pub was_held : (other : ℕ) → held_at k r.log (time r.shape r.log l.node) (r.shape.map_of l.node) other ≡ value_at (contents_after (start_of k) r.log) m other
   was_held other = (λ i. held_at k r.log (till (locks.reachable i) (length r.log)) (locks.map i) other) ∙ ap (λ z. value_at z m other) (laws.contents_all (start_of k) r.log (length r.log) (omega arith))
 
   module _ (x : ℕ) where
     -- what a key has now
-    held_now : (q other : ℕ) → shape.cut_of q ≡ None → shape.map_of q ≡ m → held_at k log (time shape log q) (shape.map_of q) other ≡ value_at (contents_after (start_of k) log) m other
+    pub held_now : (q other : ℕ) → shape.cut_of q ≡ None → shape.map_of q ≡ m → held_at k log (time shape log q) (shape.map_of q) other ≡ value_at (contents_after (start_of k) log) m other
     held_now q other live map = (λ i. held_at k log (till (live i) (length log)) (map i) other) ∙ ap (λ z. value_at z m other) (laws.contents_all (start_of k) log (length log) (omega arith))
 
-    cut_now : shape.cut_of l.node ≡ None
+    pub cut_now : shape.cut_of l.node ≡ None
     cut_now = publishing.old_cut k r.shape r.log log s.words m l.node l.level l.key x own.next nodes value laws tries site changes l.node locks.node ∙ locks.reachable
 
-    map_now : shape.map_of l.node ≡ m
+    pub map_now : shape.map_of l.node ≡ m
     map_now = publishing.old_map k r.shape r.log log s.words m l.node l.level l.key x own.next nodes value laws tries site changes l.node locks.node ∙ locks.map
 
-    unit_now : (i : ℕ) → i < unit_words → slice_index (words x) (own.next + i) ≡ slice_index own.draft i
+    pub unit_now : (i : ℕ) → i < unit_words → slice_index (words x) (own.next + i) ≡ slice_index own.draft i
     unit_now i below = publishing.unit_word k r.shape r.log log s.words m l.node l.level l.key x own.next nodes value laws tries site changes i below ∙ published.draft_word k laws tries s r id v at_me own owns l m word nodes ready i below
 
-    first_now : slice_index (words x) own.next ≡ slice_index own.draft 0
+    pub first_now : slice_index (words x) own.next ≡ slice_index own.draft 0
     first_now = let e : own.next + 0 ≡ own.next = omega arith in subst (λ i. slice_index (words x) i ≡ slice_index own.draft 0) e (unit_now 0 (omega arith))
 
-    fine_now : publishing.IsUnit k s.words l.node own.next nodes
+    pub fine_now : publishing.IsUnit k s.words l.node own.next nodes
         → ((other : ℕ) → other < 2 ^ 32 → OnSlot other → ShowsAt k shape log (words x) l.node l.level other x)
         → ((n other : ℕ) → n < nodes → other < 2 ^ 32 → route k.seed (suc l.level + n) other ≡ route k.seed (suc l.level + n) l.key
         → ShowsAt k shape log (words x) (link_at own.next n) (suc l.level + n) other (slice_index (words x) (slot_word (link_at own.next n) (nibble other k.seed (suc l.level + n)))))
@@ -162,11 +171,3 @@ module _ (k : Begin) (laws : HistoryLaws) (tries : TrieLaws) (s : TableState) (r
             entry = λ place e. subst (λ q. shape.kind_of q ≡ 2) (entry_place own.next place (sym slot ∙ e)) (units.entry_kind r.shape tries k.seed m l.level l.key own.next nodes);
             childless = λ leaf live. no_child other is_key along;
           }) (λ n other below. absurd (omega arith))
-        where
-          place_in : Slot → ℕ
-          place_in Empty = 0
-          place_in (Node place) = place
-          place_in (Entry place) = place
-
-          entry_place : (a b : ℕ) → Entry a ≡ Entry b → a ≡ b
-          entry_place a b e = ap place_in e
