@@ -38,15 +38,11 @@ use Rattle.shared_table.specs.Views.{called_view, spend_own, view_state}
 use Rattle.shared_table.proofs.Frames.{Later, Apart, room_on, stands_on}
 use Rattle.shared_table.proofs.KeyCalls.{IsOn, ChangesKey, replies_by, entries_by, changes_key}
 use Rattle.shared_table.proofs.Ledgers.{longer, MayPlace, with_one, adds_one, lawful_after, history_on, grows_on, none_after, fits_after, called, first}
+use Rattle.shared_table.proofs.Lists.{past_end}
 use Rattle.shared_table.proofs.Moves.{Keeps, moves}
 use Rattle.shared_table.proofs.Publishing as publishing
 use Rattle.shared_table.proofs.Sites.{Site}
 use Rattle.shared_table.proofs.Units as units
-
-past_end : (xs : List ℕ) (i : ℕ) → length xs ≤ i → slice_index xs i ≡ 0
-past_end [] i past = refl
-past_end (x ∷ xs) zero past = absurd (omega arith)
-past_end (x ∷ xs) (suc i) past = past_end xs i (omega arith)
 
 -- a caller that holds a node's lock knows the word in the slot for a key, which isn't a node's, and has a unit of room
 pub record IsReady (k : Begin) (v : View) (own : Own) (owns : List Own) (l : Lock) (m word nodes : ℕ) : Type 0 where

@@ -6,6 +6,7 @@ mod caller_note;
 mod copies;
 mod laws;
 mod lookup;
+mod making;
 mod new;
 pub mod note;
 mod operations;
