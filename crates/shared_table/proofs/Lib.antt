@@ -6,6 +6,7 @@ pub mod Publishing
 pub mod Published
 pub mod Stores
 pub mod Chains
+pub mod Makes
 pub mod Ledgers
 pub mod KeyBounds
 pub mod Lists
@@ -29,4 +30,5 @@ pub mod Holding
 pub mod Locking
 pub mod Gating
 pub mod Drafting
+pub mod Held
 pub mod Writes

@@ -23,6 +23,12 @@ module _ {V : Type 0} where
   at_end (x ∷ xs) a b zero e = inl e
   at_end (x ∷ xs) a b (suc j) e = ⊎_elim (λ t. inl t) (λ t. inr (ap suc t.0, t.1)) (at_end xs a b j e)
 
+  -- the view that was put in
+  pub set_here : (views : List V) (i : ℕ) (v w : V) → get_elem? views i ≡ some v → get_elem? (set views i w) i ≡ some w
+  set_here [] i v w e = absurd (some-ne-none v (sym e))
+  set_here (x ∷ xs) zero v w e = refl
+  set_here (x ∷ xs) (suc i) v w e = set_here xs i v w e
+
 module _ {A : Type 0} where
   -- an item of a list with one more is one of the list, or the last
   pub item_on : (xs : List A) (z x : A) (i : ℕ) → slice_get (xs ++ z ∷ []) i ≡ Some x → (slice_get xs i ≡ Some x) ⊎ ((i ≡ length xs) × (x ≡ z))

@@ -77,6 +77,10 @@ module _ (k : Begin) (laws : HistoryLaws) (id : ℕ) (me : Me (Unit {0}) View) (
   abbrev Told : Slot → Type 0
   Told found = (u : View) × (a : Act (Unit {0})) × Valid s.homes me.1 a × Kept k (stepped s (slot_word w.node slot) (slice_index s.words (slot_word w.node slot)) id me.1 u a) × LooksIn call me found (u, carried_after me.1 a)
 
+  -- the same, by the seat's view alone
+  abbrev pub Found : Slot → Type 0
+  Found found = (u : View) × Kept k record { words = s.words; homes = s.homes; views = set s.views id u } × FindsIn call w found me.0 u
+
   -- no word changed
   on_words : (u : View) → Kept k record { words = s.words; homes = s.homes; views = set s.views id u } → Kept k (stepped s (slot_word w.node slot) (slice_index s.words (slot_word w.node slot)) id me.1 u keeps)
   on_words u kept = subst (λ ws. Kept k record { words = ws; homes = s.homes; views = set s.views id u }) (sym (set-get_or s.words (slot_word w.node slot) 0)) kept
@@ -123,10 +127,10 @@ module _ (k : Begin) (laws : HistoryLaws) (id : ℕ) (me : Me (Unit {0}) View) (
     answers k laws s r id me.0 at_me live own owns is w.map call pays (key_reply call held) until from moment (reply_is held e) (quiet held e off) leaf leaves begin,
   )
 
-  by_slot : (found : Slot) → slot_in word ≡ found → Shows s.words k.seed (IsBelow k r.shape r.log s.words w.node w.level w.key) w.level w.key held_now found → ((place : ℕ) → found ≡ Entry place → r.shape.kind_of place ≡ 2) → Told found
+  by_slot : (found : Slot) → slot_in word ≡ found → Shows s.words k.seed (IsBelow k r.shape r.log s.words w.node w.level w.key) w.level w.key held_now found → ((place : ℕ) → found ≡ Entry place → r.shape.kind_of place ≡ 2) → Found found
   by_slot Empty e shows entry =
       let t = settled None me.0.leaf shows (λ l e. absurd (none-some l (sym no_leaf ∙ e))) (is_key_entry call None) refl in
-      (t.0, keeps, tt, on_words t.0 t.1, (refl, told Empty t.0 t.2))
+      (t.0, t.1, t.2)
   by_slot (Node node) e shows entry =
       let v = me.0 in
       let below = shows.1 in
@@ -139,13 +143,11 @@ module _ (k : Begin) (laws : HistoryLaws) (id : ℕ) (me : Me (Unit {0}) View) (
         | inr dead ↦ absurd (let none_there = ap slot_in (r.fine.dead w.node slot at.node dead inside) in let same : Empty ≡ Node node = sym none_there ∙ e in (cc))
       ]) in (
         standing v (Some there) v.leaf,
-        keeps,
-        tt,
-        on_words (standing v (Some there) v.leaf) (kept_standing k s r id v at_me live (Some there) v.leaf
+        kept_standing k s r id v at_me live (Some there) v.leaf
             (λ u e. subst (Walks k r.shape r.log) (same_Some there u e) on_way)
             (λ u e gate. subst (λ (x : Walk). (r.shape.cut_of x.node ≡ None) ⊎ (slice_index s.words x.node ≡ dead_word)) (same_Some there u e) (steady (gate ∙ ap (λ (x : Walk). Inside x.map) (sym (same_Some there u e)))))
-            (λ l e. absurd (none-some l (sym no_leaf ∙ e)))),
-        (refl, told (Node node) (standing v (Some there) v.leaf) (refl, has_words k v node 18 r.begin begin lies.within (omega arith), shows.0)),
+            (λ l e. absurd (none-some l (sym no_leaf ∙ e))),
+        (refl, has_words k v node 18 r.begin begin lies.within (omega arith), shows.0),
       )
   by_slot (Entry place) e shows entry =
       let v = me.0 in
@@ -154,15 +156,18 @@ module _ (k : Begin) (laws : HistoryLaws) (id : ℕ) (me : Me (Unit {0}) View) (
       let l : Leaf = record { place = place; key = slice_index s.words place; value = slice_index s.words (place + 1) } in
       let t = settled (entry_value s.words place w.key) (Some l) shows.1 (λ z e. subst (IsLeaf r.shape s.words) (same_Some l z e) record { entry = kind; key = refl; value = refl }) (is_key_entry call (entry_value s.words place w.key)) refl in
       let along : IsAlong v.begin w l = subst (λ (b : Begin). IsAlong b w l) (sym begin) (lies.is_key, shows.0) in
-      (t.0, keeps, tt, on_words t.0 t.1, (refl, told (Entry place) t.0 (l, refl, along, has_words k v place 2 r.begin begin lies.within (omega arith), t.2)))
+      (t.0, t.1, (l, refl, along, has_words k v place 2 r.begin begin lies.within (omega arith), t.2))
 
-  pub told_in : Told (slot_in (slice_index s.words (slot_word w.node slot)))
-  told_in =
+  pub found_in : Found (slot_in (slice_index s.words (slot_word w.node slot)))
+  found_in =
       let at_slot = r.fine.slots w.node w.level w.key at.node at.level at.key at.path in
       let same : slice_index s.words (slot_word w.node (nibble w.key k.seed w.level)) ≡ word = ap (λ n. slice_index s.words (slot_word w.node n)) (sym slot_is) in
       by_slot (slot_in word) refl
       (subst (λ n. Shows s.words k.seed (IsBelow k r.shape r.log s.words w.node w.level w.key) w.level w.key (held_at k r.log (time r.shape r.log w.node) (r.shape.map_of w.node) w.key) (slot_in n)) same at_slot.shows)
       (subst (λ n. (place : ℕ) → slot_in n ≡ Entry place → r.shape.kind_of place ≡ 2) same at_slot.entry)
+
+  pub told_in : Told (slot_in (slice_index s.words (slot_word w.node slot)))
+  told_in = let t = found_in in (t.0, keeps, tt, on_words t.0 t.1, (refl, told (slot_in word) t.0 t.2))
 
 pub looks_in : (k : Begin) → HistoryLaws → (id : ℕ) (me : Me (Unit {0}) View) (w : Walk) (slot : ℕ) (call : MapCall ℕ) → me.0.live ≡ true → me.0.begin ≡ k → 0 < length me.0.owns → me.0.walk ≡ Some w → me.0.leaf ≡ None → slot ≡ nibble w.key k.seed w.level → slot < 16
     → w.since ≡ length me.0.seen → IsOn w.key call → Affords (cost_of call) me.0.owns → Allows (Kept k) 0 id me (slot_word w.node slot) (λ n. n) (λ found. LooksIn call me (slot_in found))

@@ -21,3 +21,4 @@ pub mod Counted
 pub mod WordSteps
 pub mod Walking
 pub mod Writing
+pub mod Making

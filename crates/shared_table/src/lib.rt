@@ -3,6 +3,7 @@
 
 pub mod begin;
 mod caller_note;
+mod changes;
 mod copies;
 mod laws;
 mod lookup;
