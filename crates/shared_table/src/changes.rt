@@ -7,6 +7,7 @@ ghost use Rattle.shared_table.specs.Making.{IsChange};
 use sync_model::{MapCall, MapReply};
 
 /// What a call does to its key.
+#[derive(Drop)]
 pub(crate) enum Change {
     /// Nothing: the call is no entry of the history.
     Keep,

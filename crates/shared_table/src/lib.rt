@@ -3,6 +3,7 @@
 
 pub mod begin;
 mod caller_note;
+mod chain;
 mod changes;
 mod copies;
 mod laws;
@@ -11,6 +12,7 @@ mod making;
 mod new;
 pub mod note;
 mod operations;
+mod publish;
 pub mod rule;
 mod settling;
 pub mod steps;

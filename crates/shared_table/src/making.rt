@@ -8,8 +8,12 @@ use std::marker::Brand;
 /// The call on a map that a seat makes, for proofs. A call at `Brand` picks it.
 pub(crate) trait Making {
     ghost call: { MapCall ℕ };
+
+    ghost map: { ℕ };
 }
 
 impl Making for Brand {
     ghost call = { Clear };
+
+    ghost map = { 0 };
 }
