@@ -8,6 +8,7 @@ pub mod Stores
 pub mod Chains
 pub mod Makes
 pub mod Poised
+pub mod Sights
 pub mod Ledgers
 pub mod KeyBounds
 pub mod Lists

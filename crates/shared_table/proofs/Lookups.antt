@@ -29,7 +29,7 @@ use Rattle.shared_table.specs.Owed.{Walks, IsLeaf}
 use Rattle.shared_table.specs.Rule.{TableState, Kept}
 use Rattle.shared_table.specs.Shape.{start_of, held_at, till, time, IsBelow}
 use Rattle.shared_table.specs.Views.{MayPay}
-use Rattle.shared_table.specs.Walking.{standing, walk_at, HasWords, Enters, Answers, IsAlong, FindsIn, LooksIn, Affords, ReadsKey, ReadsValue}
+use Rattle.shared_table.specs.Walking.{standing, walk_at, HasWords, Enters, Answers, IsAlong, FindsIn, LooksIn, Affords, ReadsKey, KeepsValue, ReadsValue}
 use Rattle.shared_table.proofs.KeyCalls.{IsOn, replies_by, entries_by}
 use Rattle.shared_table.proofs.Ledgers.{longer}
 use Rattle.shared_table.proofs.Quiet.{kept_standing, view_after, kept_quiet, answers}
@@ -198,4 +198,14 @@ reads_value k id me l live knows = λ s r one at_me bounded.
       subst (λ ws. Kept k record { words = ws; homes = s.homes; views = set s.views id (standing me.0 me.0.walk None) }) (sym (set-get_or s.words (l.place + 1) 0))
           (kept_standing k s r id me.0 at_me live me.0.walk None u.walk u.steady (λ z e. absurd (none-some z e))),
       (refl, refl, λ z e. (u.leaf l knows).value ∙ ap (λ (x : Leaf). x.value) (same_Some l z (sym knows ∙ e))),
+    )
+
+pub keeps_value : (k : Begin) (id : ℕ) (me : Me (Unit {0}) View) (l : Leaf) → me.0.live ≡ true → me.0.leaf ≡ Some l → Allows (Kept k) 0 id me (l.place + 1) (λ n. n) (KeepsValue me)
+keeps_value k id me l live knows = λ s r one at_me bounded.
+    let u = r.suits id me.0 at_me live in (
+      me.0,
+      keeps,
+      tt,
+      subst (λ ws. Kept k record { words = ws; homes = s.homes; views = set s.views id me.0 }) (sym (set-get_or s.words (l.place + 1) 0)) (kept_standing k s r id me.0 at_me live me.0.walk me.0.leaf u.walk u.steady u.leaf),
+      (refl, λ z e. (u.leaf l knows).value ∙ ap (λ (x : Leaf). x.value) (same_Some l z (sym knows ∙ e))),
     )

@@ -25,10 +25,10 @@ use Rattle.shared_table.specs.Operations.{Places}
 use Rattle.shared_table.specs.Rule.{Kept}
 use Rattle.shared_table.specs.Shape.{start_of}
 use Rattle.shared_table.specs.Views.{with_item, called_view, view_state}
-use Rattle.shared_table.specs.Walking.{standing, walk_at, given_by, HasWords, Enters, MayEnter, Answers, FindsIn, LooksIn, Affords, ReadsKey, ReadsValue, IsFree, OnWay, AtEntry}
+use Rattle.shared_table.specs.Walking.{standing, walk_at, given_by, HasWords, Enters, MayEnter, Answers, FindsIn, LooksIn, Affords, ReadsKey, KeepsValue, ReadsValue, IsFree, OnWay, AtEntry}
 use Rattle.shared_table.proofs.Calling.{some_own}
 use Rattle.shared_table.proofs.KeyCalls.{IsOn}
-use Rattle.shared_table.proofs.Lookups.{enters, looks_in, reads_key, reads_value}
+use Rattle.shared_table.proofs.Lookups.{enters, looks_in, reads_key, keeps_value, reads_value}
 
 module _ (table : SharedTable) (id : ℕ) (me : Me (Unit {0}) View) (word : ℕ) where
   abbrev key : Begin
@@ -51,6 +51,10 @@ module _ (table : SharedTable) (id : ℕ) (me : Me (Unit {0}) View) (word : ℕ)
   pub may_read_value : (place : ℕ) → me.0.begin ≡ table.table.shared.key → AtEntry me place → HasWords me.0 place 2 → word ≡ place + 1 → MayRead (ReadsValue me)
   may_read_value place begin at has is = may_read place 2 (ReadsValue me) begin has (omega arith)
       (subst (λ i. Allows (Kept key) 0 id me i (λ n. n) (ReadsValue me)) (ap (λ p. p + 1) at.place_is ∙ sym is) (reads_value key id me at.entry at.live at.is))
+
+  pub may_keep_value : (place : ℕ) → me.0.begin ≡ table.table.shared.key → AtEntry me place → HasWords me.0 place 2 → word ≡ place + 1 → MayRead (KeepsValue me)
+  may_keep_value place begin at has is = may_read place 2 (KeepsValue me) begin has (omega arith)
+      (subst (λ i. Allows (Kept key) 0 id me i (λ n. n) (KeepsValue me)) (ap (λ p. p + 1) at.place_is ∙ sym is) (keeps_value key id me at.entry at.live at.is))
 
   pub may_enter : (m key_of : ℕ) → MayEnter table.table.shared.key me → m < table.table.shared.key.maps → key_of < 2 ^ 32 → word ≡ 1 + length table.begin.kinds + 2 * m → MayRead (Enters m key_of me)
   may_enter m key_of free below is_key is =

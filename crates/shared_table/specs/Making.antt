@@ -12,6 +12,10 @@ use Rattle.sync_model.specs.Shared.{Called, cost_of}
 use Rattle.shared_table.specs.declared.begin.Begin.{Begin}
 use Rattle.shared_table.specs.declared.changes.Change.{Change}
 use Rattle.shared_table.specs.declared.changes.Change.TheVariants.{Keep, Put, Remove}
+use Rattle.shared_table.specs.declared.map_call.Reached.{Reached}
+use Rattle.shared_table.specs.declared.map_call.Sight.{Sight}
+use Rattle.shared_table.specs.declared.map_call.Sight.TheVariants.{Below, Shows}
+use Rattle.shared_table.specs.declared.map_call.Reached.TheVariants.{Answered, Stands}
 use Rattle.shared_table.specs.declared.view.Gate.TheVariants.{Inside}
 use Rattle.shared_table.specs.declared.view.Leaf.{Leaf}
 use Rattle.shared_table.specs.declared.view.Lock.{Lock}
@@ -30,7 +34,7 @@ use Rattle.shared_table.specs.Layout.{size_of}
 use Rattle.shared_table.specs.Shape.{start_of}
 use Rattle.shared_table.specs.Units.{link_at, unit_word}
 use Rattle.shared_table.specs.Views.{with_item, paid, called_view, view_state}
-use Rattle.shared_table.specs.Walking.{given_by, FindsIn}
+use Rattle.shared_table.specs.Walking.{standing, walk_at, given_by, HasWords, Answers, FindsIn}
 use Rattle.shared_table.specs.Writing.{holding, lock_at}
 
 -- what a call does to its key, by what the key has
@@ -183,3 +187,67 @@ pub record Drafted (first me : Me (Unit {0}) View) (n : ℕ) (word : ℕ → ℕ
   pub long : length words ≡ n
   pub each : (i : ℕ) → i < n → slice_index words i ≡ word i
   pub is : me ≡ (record first.0 { owns = with_draft first.0.owns words }, first.1)
+
+-- a caller's room begins here, has a unit, and nothing is drafted in it
+abbrev pub HasUnit : List Own → ℕ → Type 0
+HasUnit all next = (own : Own) × (owns : List Own) × (all ≡ own ∷ owns) × (own.draft ≡ []) × (own.next ≡ next) × (0 < own.spare)
+
+-- a seat holds the lock of a node still, and has made no call
+pub record StillLocked (node : ℕ) (v w : View) : Type 0 where
+  pub walk : Option Walk
+  pub leaf : Option Leaf
+  pub lock : Lock
+  pub node_is : lock.node ≡ node
+  pub living : lock.dead ≡ false
+  pub is : w ≡ record v { walk = walk; leaf = leaf; lock = Some lock }
+
+-- a seat that looked under a lock found that its call is an entry of the history there, and knows what the slot has
+pub record IsPoisedAt (k : Begin) (call : MapCall ℕ) (m key node level next : ℕ) (leaf : Option Leaf) (v w : View) : Type 0 where
+  pub poised : IsPoised k w call m key node level next
+  pub leaf_is : w.leaf ≡ leaf
+  pub lock : Lock
+  pub node_is : lock.node ≡ node
+  pub living : lock.dead ≡ false
+  pub is : w ≡ record v { leaf = leaf; lock = Some lock }
+  pub places : (e : Leaf) → leaf ≡ Some e → HasWords w e.place 2
+
+-- a seat made its call under the lock of a node, which it holds still
+pub record MadeLocked (m : ℕ) (call : MapCall ℕ) (node : ℕ) (reply : MapReply) (v w : View) : Type 0 where
+  pub leaf : Option Leaf
+  pub lock : Lock
+  pub node_is : lock.node ≡ node
+  pub living : lock.dead ≡ false
+  pub makes : Makes m call reply leaf (Some lock) v w
+
+-- what a seat saw under a lock: the slot has become a node; or it has this, and the call is answered, or is an entry of the history
+abbrev pub IsSight : Begin → MapCall ℕ → ℕ → ℕ → ℕ → ℕ → ℕ → Sight → View → View → Type 0
+IsSight k call m key node level next Below v w = StillLocked node v w
+IsSight k call m key node level next (Shows leaf) v w = MatchBool (is_key_entry call (leaf_value leaf key)) (IsPoisedAt k call m key node level next leaf v w) (MadeLocked m call node (key_reply call (leaf_value leaf key)) v w)
+
+-- a writer of a map that holds no lock, and knows no entry
+pub record IsWriting (k : Begin) (me : Me (Unit {0}) View) (m : ℕ) : Type 0 where
+  pub live : me.0.live ≡ true
+  pub begin : me.0.begin ≡ k
+  pub some : 0 < length me.0.owns
+  pub few : length me.0.owns ≤ 1
+  pub gate : me.0.gate ≡ Inside m
+  pub leaf : me.0.leaf ≡ None
+  pub lock : me.0.lock ≡ None
+  pub upper : me.0.upper ≡ None
+
+-- the way down to a key ended: its call was answered, or the seat stands at the node whose slot for the key has no node
+abbrev pub IsReached : MapCall ℕ → ℕ → ℕ → Reached → View → View → Type 0
+IsReached call m key (Answered reply) before after = Answers m call reply None before after
+IsReached call m key (Stands node level) before after = (after ≡ standing before (Some (walk_at m key node level (length before.seen))) None) × HasWords before node 18 × (level < 8)
+
+-- a seat made its call, or stands somewhere and has made none
+abbrev pub MayHaveMade : ℕ → MapCall ℕ → Option MapReply → View → View → Type 0
+MayHaveMade m call None before after = (walk : Option Walk) × (after ≡ standing before walk None)
+MayHaveMade m call (Some reply) before after = Answers m call reply None before after
+
+-- a seat made a call on a map, and has nothing else than before
+pub record Made (m : ℕ) (call : MapCall ℕ) (reply : MapReply) (v w : View) : Type 0 where
+  pub item : Item
+  pub seen : List SharedEntry
+  pub is : w ≡ called_view v (paid (cost_of call) (with_item v.owns item)) seen
+  pub called : Called (start_of v.begin) (calls.Map m call) (replies.Map reply) (cost_of call) (view_state v) (view_state w)

@@ -74,6 +74,10 @@ Affords cost owns = (own : Own) → slice_get owns 0 ≡ Some own → MayPay cos
 abbrev pub ReadsKey : Me (Unit {0}) View → ℕ → Me (Unit {0}) View → Type 0
 ReadsKey before found after = (after ≡ before) × ((l : Leaf) → before.0.leaf ≡ Some l → found ≡ l.key)
 
+-- a seat read the value of the entry, and keeps it
+abbrev pub KeepsValue : Me (Unit {0}) View → ℕ → Me (Unit {0}) View → Type 0
+KeepsValue before found after = (after ≡ before) × ((l : Leaf) → before.0.leaf ≡ Some l → found ≡ l.value)
+
 -- a seat read the value of the entry, and leaves it
 abbrev pub ReadsValue : Me (Unit {0}) View → ℕ → Me (Unit {0}) View → Type 0
 ReadsValue before found after = (after.1 ≡ before.1) × (after.0 ≡ standing before.0 before.0.walk None) × ((l : Leaf) → before.0.leaf ≡ Some l → found ≡ l.value)

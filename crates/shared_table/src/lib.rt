@@ -9,6 +9,7 @@ mod copies;
 mod laws;
 mod lookup;
 mod making;
+mod map_call;
 mod new;
 pub mod note;
 mod operations;

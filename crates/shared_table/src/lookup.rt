@@ -12,14 +12,14 @@ ghost use Rattle.shared_table.specs.Notes.{front_by, own_by, seen_by, IsNoteOf};
 ghost use Rattle.shared_table.specs.Tables.{maps_of, first_of};
 ghost use Rattle.shared_table.specs.Operations.{Places};
 ghost use Rattle.trie_nodes.specs.Slots.{slot_in};
-ghost use Rattle.shared_table.specs.Walking.{standing, walk_at, given_by, HasWords, Enters, MayEnter, FindsIn, LooksIn, Affords, ReadsKey, ReadsValue, IsFree, OnWay, AtEntry};
+ghost use Rattle.shared_table.specs.Walking.{standing, walk_at, given_by, HasWords, Enters, MayEnter, FindsIn, LooksIn, Affords, ReadsKey, KeepsValue, ReadsValue, IsFree, OnWay, AtEntry};
 
 use crate::laws::history_laws;
 use crate::making::Making;
 use crate::note::SharedNote;
 use crate::steps::Steps;
 use crate::table::SharedTable;
-use crate::view::View;
+use crate::view::{Leaf, View};
 use atomic_table::{Play, Seat};
 use std::marker::{Brand, PhantomData};
 use std::sync::ledger::Ledger;
@@ -63,6 +63,13 @@ pub(crate) struct ReadKey;
 
 impl Play<(), View> for ReadKey {
     ghost then = { λ step before found after. ReadsKey before found after };
+}
+
+/// A seat reads the value of an entry, which it keeps in mind.
+pub(crate) struct KeepValue;
+
+impl Play<(), View> for KeepValue {
+    ghost then = { λ step before found after. KeepsValue before found after };
 }
 
 /// A seat reads the value of an entry.
@@ -210,5 +217,21 @@ impl SharedTable {
         } else {
             None
         }
+    }
+
+    // The seat reads the entry that it knows, and keeps it in mind.
+    pub(crate) fn read_leaf(&self, seat: &mut Seat<(), View>, place: u64) -> Leaf
+        requires table { seat.old.table_id ≡ self.now.table.shared.table_id }
+        requires begin { seat.old.me.0.begin ≡ self.now.table.shared.key }
+        requires entry { AtEntry seat.old.me place }
+        requires words { HasWords seat.old.me.0 place 2 }
+        ensures table { seat.new.table_id ≡ seat.old.table_id }
+        ensures same { seat.new.me ≡ seat.old.me }
+        ensures leaf { seat.old.me.0.leaf ≡ Some result }
+    {
+        let shared = &self.table.shared;
+        let key = shared.load::<ReadKey>(seat, key_word(place));
+        let value = shared.load::<KeepValue>(seat, value_word(place));
+        Leaf { place, key, value }
     }
 }
