@@ -235,6 +235,11 @@ pub record IsWriting (k : Begin) (me : Me (Unit {0}) View) (m : ℕ) : Type 0 wh
   pub lock : me.0.lock ≡ None
   pub upper : me.0.upper ≡ None
 
+-- where a walk ends at a node whose slot gives the key this: a call that is no entry of the history is answered
+abbrev pub IsEnd : MapCall ℕ → Option ℕ → ℕ → ℕ → Reached → Type 0
+IsEnd call held node level (Answered reply) = (is_key_entry call held ≡ false) × (reply ≡ key_reply call held)
+IsEnd call held node level (Stands n l) = (is_key_entry call held ≡ true) × (n ≡ node) × (l ≡ level)
+
 -- the way down to a key ended: its call was answered, or the seat stands at the node whose slot for the key has no node
 abbrev pub IsReached : MapCall ℕ → ℕ → ℕ → Reached → View → View → Type 0
 IsReached call m key (Answered reply) before after = Answers m call reply None before after
