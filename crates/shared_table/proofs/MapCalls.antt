@@ -103,3 +103,27 @@ module _ (k : Begin) (first : Me (Unit {0}) View) (m key : ℕ) (writing : IsWri
         let t = facts f.0 f.4 in
         let held_is = gives f.0 t.1 in
         ends held (Some f.0) last below left end is (subst (λ h. Settles call (walk here) h (Some f.0) here after.0) (sym held_is) f.4)
+
+-- a writer that stands somewhere else is one still
+pub writing_on : (k : Begin) (first me : Me (Unit {0}) View) (m : ℕ) (walk : Option Walk) → IsWriting k first m → me ≡ (standing first.0 walk None, first.1) → IsWriting k me m
+writing_on k first me m walk w is = subst (λ z. IsWriting k z m) (sym is) record { live = w.live; begin = w.begin; some = w.some; few = w.few; gate = w.gate; leaf = refl; lock = w.lock; upper = w.upper }
+
+-- and its call is as if it had stood nowhere
+pub answers_on : (m : ℕ) (call : MapCall ℕ) (reply : MapReply) (v u w : View) (walk : Option Walk) → u ≡ standing v walk None → Answers m call reply None u w → Answers m call reply None v w
+answers_on m call reply v u w walk is a = let b = subst (λ z. Answers m call reply None z w) is a in record { item = b.item; seen = b.seen; is = b.is; called = b.called }
+
+-- a call inside the gate, between coming in and going out
+pub made_between : (k : Begin) (m : ℕ) (call : MapCall ℕ) (reply : MapReply) (first : Me (Unit {0}) View) (inside before after : View) → IsFree k first → inside ≡ holding first.0 (Inside m) None None → Answers m call reply None inside before → after ≡ holding before Outside None None → Made m call reply first.0 after
+made_between k m call reply first inside before after free came made went =
+    let a = subst (λ z. Answers m call reply None z before) came made in
+    let idle = free.idle in
+    let v = first.0 in record {
+      item = a.item;
+      seen = a.seen;
+      is = went ∙ ap (λ z. holding z Outside None None) a.is ∙ (λ i. record (called_view v (paid (cost_of call) (with_item v.owns a.item)) a.seen) { walk = sym idle.walk i; leaf = sym idle.leaf i; gate = sym idle.gate i; lock = sym idle.lock i; upper = sym idle.upper i });
+      called = subst (λ z. Called (start_of v.begin) (calls.Map m call) (replies.Map reply) (cost_of call) (view_state v) (view_state z)) (sym went) a.called;
+    }
+
+-- a seat that knows no entry stands where it stands
+pub stands_first : (me : Me (Unit {0}) View) → me.0.leaf ≡ None → me ≡ (standing me.0 me.0.walk None, me.1)
+stands_first me none_known = ap (λ o. (standing me.0 me.0.walk o, me.1)) none_known
