@@ -1,4 +1,15 @@
 pub mod Frames
+pub mod Units
+pub mod KeyCalls
+pub mod Sites
+pub mod Publishing
+pub mod Published
+pub mod Stores
+pub mod Chains
+pub mod Makes
+pub mod Poised
+pub mod Sights
+pub mod MapCalls
 pub mod Ledgers
 pub mod KeyBounds
 pub mod Lists
@@ -22,6 +33,7 @@ pub mod Holding
 pub mod Locking
 pub mod Gating
 pub mod Drafting
+pub mod Held
 pub mod Writes
 pub mod EndRows
 pub mod Endings

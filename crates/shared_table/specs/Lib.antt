@@ -1,12 +1,15 @@
 pub mod Laws
+pub mod TrieLaws
 pub mod Keys
 pub mod Layout
 pub mod Ledger
 pub mod Shape
+pub mod Units
 pub mod Gates
 pub mod Owed
 pub mod Rule
 pub mod Views
+pub mod KeyCalls
 pub mod Blank
 pub mod Operations
 pub mod Tables
@@ -22,3 +25,4 @@ pub mod EndsOfHistory
 pub mod EndLaws
 pub mod SweepLaws
 pub mod Cursors
+pub mod Making

@@ -10,6 +10,7 @@ use Rattle.shared_table.specs.declared.view.View.{View}
 use Rattle.shared_table.specs.declared.view.Walk.{Walk}
 use Rattle.trie_nodes.specs.Layout.{unit_words}
 use Rattle.shared_table.specs.Layout.{size_of}
+use Rattle.shared_table.specs.Walking.{standing}
 
 -- the view of a seat that stands to a gate so, and holds these locks
 abbrev pub holding : View → Gate → Option Lock → Option Lock → View
@@ -45,13 +46,9 @@ pub record Holds (k : Begin) (me : Me (Unit {0}) View) (l : Lock) : Type 0 where
   pub upper : me.0.upper ≡ None
   pub living : l.dead ≡ false
 
--- a seat that holds a lock read a slot of the node
-abbrev pub ReadsHeld : Lock → ℕ → Me (Unit {0}) View → ℕ → Me (Unit {0}) View → Type 0
-ReadsHeld l slot before found after = (after.1 ≡ before.1) × (after.0 ≡ holding before.0 before.0.gate (Some (record l { found = Some (slot, found) })) None)
-
--- a seat gave a lock back
+-- a seat gave a lock back, and stands nowhere
 abbrev pub Unlocks : Me (Unit {0}) View → ℕ → Me (Unit {0}) View → Type 0
-Unlocks before found after = (after.1 ≡ before.1) × (after.0 ≡ holding before.0 before.0.gate None None)
+Unlocks before found after = (after.1 ≡ before.1) × (after.0 ≡ standing (holding before.0 before.0.gate None None) None None)
 
 -- a seat tried to come in as a writer of a map, and is inside where the gate's word was still this
 abbrev pub CameIn : ℕ → Bool → Me (Unit {0}) View → Me (Unit {0}) View → Type 0
