@@ -12,12 +12,13 @@ use Rattle.sync_model.specs.SharedCalls.{Knows, IsStep, MayShow}
 use Rattle.trie_nodes.specs.declared.slot.Slot.{Slot}
 use Rattle.trie_nodes.specs.declared.slot.Slot.TheVariants.{Empty, Node, Entry}
 use Rattle.trie_nodes.specs.Layout.{slot_word}
+use Rattle.trie_nodes.specs.Places.{bump, but_last}
 use Rattle.trie_nodes.specs.Slots.{slot_in}
 use Rattle.shared_table.specs.declared.begin.Begin.{Begin}
 use Rattle.shared_table.specs.declared.view.Leaf.{Leaf}
 use Rattle.shared_table.specs.declared.view.Spot.{Spot}
 use Rattle.shared_table.specs.declared.view.View.{View}
-use Rattle.shared_table.specs.Cursors.{bump, but_last, at_spot, behind, behind_shown, down_in, up_from, Sweeps, SweepsIn, SweepsSlot, GoesUp, ShowsNone, Sweeping, StandsIn}
+use Rattle.shared_table.specs.Cursors.{at_spot, behind, behind_shown, down_in, up_from, Sweeps, SweepsIn, SweepsSlot, GoesUp, ShowsNone, Sweeping, StandsIn}
 use Rattle.shared_table.specs.Laws.{HistoryLaws}
 use Rattle.shared_table.specs.Layout.{size_of, callers_of, IsBegin}
 use Rattle.shared_table.specs.Ledger.{Owned, Fits}

@@ -1,5 +1,5 @@
 -- The cursor of a seat, and what its steps tell.
-use Rattle.std.specs.Prelude.{◌≡◌, ℕ, suc, ◌^◌, ◌<◌, true, List, [], ◌∷◌, ◌++◌, Contains, length, Option, Some, None, slice_get}
+use Rattle.std.specs.Prelude.{◌≡◌, ℕ, ◌^◌, ◌<◌, true, List, [], ◌∷◌, ◌++◌, Contains, length, Option, Some, None, slice_get}
 use Rattle.atomic_table.specs.Table.{Me}
 use Rattle.sync_model.specs.declared.item.Item.{Item}
 use Rattle.sync_model.specs.declared.item.SharedCall.{SharedCall}
@@ -16,21 +16,10 @@ use Rattle.shared_table.specs.declared.view.Spot.{Spot}
 use Rattle.shared_table.specs.declared.view.View.{View}
 use Rattle.trie_nodes.specs.declared.slot.Slot.{Slot}
 use Rattle.trie_nodes.specs.declared.slot.Slot.TheVariants.{Empty, Node, Entry}
+use Rattle.trie_nodes.specs.Places.{bump, but_last}
 use Rattle.shared_table.specs.Shape.{start_of}
 use Rattle.shared_table.specs.Views.{made_by, with_item, called_view, view_state}
 use Rattle.shared_table.specs.Walking.{HasWords}
-
--- the last of these slots, one further
-abbrev pub bump : List ℕ → List ℕ
-bump [] = []
-bump (x ∷ []) = suc x ∷ []
-bump (x ∷ y ∷ xs) = x ∷ bump (y ∷ xs)
-
--- all but the last
-abbrev pub but_last : List ℕ → List ℕ
-but_last [] = []
-but_last (x ∷ []) = []
-but_last (x ∷ y ∷ xs) = x ∷ but_last (y ∷ xs)
 
 -- the view of a seat whose cursor stands here, and that knows this entry
 abbrev pub at_spot : View → Option Spot → Option Leaf → View
