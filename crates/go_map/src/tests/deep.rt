@@ -18,6 +18,7 @@ const NEAR: u32 = 0;
 const FAR: u32 = 268_435_456;
 
 // What loads found, and how many words had been read after each.
+#[derive(Drop)]
 struct Loads {
     near: (Option<u64>, u64),
     far: (Option<u64>, u64),
