@@ -1,5 +1,5 @@
 -- A call that writes a map: what its seat knows under a node's lock, what it may write there, and what the call leaves.
-use Rattle.std.specs.Prelude.{◌≡◌, ◌≢◌, ◌⊎◌, ℕ, suc, ◌+◌, ◌*◌, ◌^◌, ◌<◌, ◌≤◌, true, false, List, [], ◌∷◌, length, Option, Some, None, IsSome, MatchBool, slice_get, slice_index}
+use Rattle.std.specs.Prelude.{◌≡◌, ◌⊎◌, ℕ, suc, ◌+◌, ◌*◌, ◌^◌, ◌<◌, ◌≤◌, true, false, List, [], ◌∷◌, length, Option, Some, None, IsSome, MatchBool, slice_index}
 use Rattle.atomic_table.specs.Table.{Me}
 use Rattle.sync_model.specs.declared.item.Item.{Item}
 use Rattle.sync_model.specs.declared.item.SharedCall.TheVariants as calls
@@ -35,7 +35,7 @@ use Rattle.shared_table.specs.Shape.{start_of}
 use Rattle.shared_table.specs.Units.{link_at, unit_word}
 use Rattle.shared_table.specs.Views.{with_item, paid, called_view, view_state}
 use Rattle.shared_table.specs.Walking.{standing, walk_at, given_by, HasWords, Answers, FindsIn}
-use Rattle.shared_table.specs.Writing.{holding, lock_at}
+use Rattle.shared_table.specs.Writing.{holding, lock_at, HasRoomWithin}
 
 -- what a call does to its key, by what the key has
 abbrev pub IsChange : MapCall ℕ → Option ℕ → Change → Type 0
@@ -152,7 +152,7 @@ pub record FindsHeld (call : MapCall ℕ) (w : Walk) (l : Lock) (slot : ℕ) (fo
   pub is_slot : found ≡ slot_in word
   pub finds : FindsIn call w found before mid
   pub is : after ≡ holding mid mid.gate (Some (found_lock l slot word)) None
-  pub room : (own : Own) → slice_get before.owns 0 ≡ Some own → own.next + unit_words * own.spare ≤ size_of before.begin
+  pub room : HasRoomWithin before
 
 abbrev pub LooksHeld : MapCall ℕ → Me (Unit {0}) View → Slot → Me (Unit {0}) View → Type 0
 LooksHeld call before found after =

@@ -3,16 +3,22 @@
 ghost use Rattle.std.specs.Prelude.{◌≡◌, ℕ, ◌<◌, ◌≤◌, ◌^◌, Some, None, IsSome, MatchBool, MatchOption, length};
 ghost use Rattle.shared_table.specs.declared.view.Gate.TheVariants.{Inside};
 ghost use Rattle.shared_table.specs.declared.view.Walk.{Walk};
-ghost use Rattle.shared_table.specs.Writing.{holding, lock_at, IsWriter};
+ghost use Rattle.shared_table.specs.Writing.{holding, lock_at, IsWriter, HasRoomWithin};
 ghost use Rattle.sync_model.specs.SequentialMap.{map_key};
-ghost use Rattle.sync_model.specs.Shared.{cost_of};
+ghost use Rattle.std.specs.Option.{ForSome};
+ghost use Rattle.sync_model.specs.declared.item.SharedCall.TheVariants as calls;
+ghost use Rattle.sync_model.specs.declared.item.SharedReply.TheVariants as replies;
+ghost use Rattle.sync_model.specs.Note.{SameHome};
+ghost use Rattle.sync_model.specs.Shared.{Called, cost_of, state_of};
+ghost use Rattle.shared_table.specs.Notes.{front_by, own_by, seen_by, IsNoteOf};
 ghost use Rattle.shared_table.specs.Making.{IsEnd, StandsLocked, HasUnit, StillLocked, MadeLocked, IsWriting, IsReached, MayHaveMade, Made, leaf_value, IsSight, IsPoised, Publishes};
 ghost use Rattle.shared_table.specs.KeyCalls.{key_after};
-ghost use Rattle.shared_table.specs.Tables.{maps_of};
+ghost use Rattle.shared_table.specs.Tables.{maps_of, first_of};
 ghost use Rattle.shared_table.specs.Walking.{walk_at, HasWords, Affords, IsFree, OnWay, AtEntry, Answers};
 
 use crate::changes::{Change, reply_of};
 use crate::laws::{history_laws, trie_laws};
+use crate::note::SharedNote;
 use crate::table::SharedTable;
 use crate::view::{Leaf, View};
 use atomic_table::Seat;
@@ -20,7 +26,7 @@ use crossbeam_utils::Backoff;
 use std::sync::Wait;
 use sync_model::{MapCall, MapReply};
 use trie_nodes::layout::{DEAD, lock_word};
-use trie_nodes::{LEVELS, Slot};
+use trie_nodes::{LEVELS, Slot, UNIT_WORDS};
 
 /// Where the way down to a key ended.
 pub(crate) enum Reached {
@@ -62,6 +68,30 @@ fn value_in(leaf: Option<Leaf>, key: u32) -> Option<u64>
 }
 
 impl SharedTable {
+    /// Makes a call on a key of a map that may change it, and uses up one unit of its caller's room, whatever it answers. A call
+    /// that is an entry of the history is placed at its one write, and any other at the slot's read that showed its answer. It
+    /// waits while another caller has the lock of the node where the key belongs, or has closed the map's gate.
+    pub fn change_map<R: Wait>(
+        &self,
+        rt: &R,
+        note: &mut SharedNote,
+        map: u32,
+        key: u32,
+        call: MapCall<u32>,
+    ) -> MapReply
+        requires note { IsNoteOf self.now note.old × IsSome (own_by note.old) }
+        requires map { map < maps_of self.now }
+        requires call { (map_key call ≡ Some key) × (cost_of call ≡ 1) }
+        requires spare { ForSome (own_by note.old) (λ holding. cost_of call ≤ holding.spare) }
+        ensures home { SameHome IsNoteOf note.old note.new }
+        ensures called { Called (first_of self.now) (calls.Map map call) (replies.Map result) (cost_of call) (state_of own_by front_by seen_by note.old) (state_of own_by front_by seen_by note.new) }
+    {
+        let reply = self.make(rt, &mut note.seat, call, map, key, note.number, note.next);
+        note.next += UNIT_WORDS as u64;
+        note.spare -= 1;
+        reply
+    }
+
     // Looks at the key's slot under the lock of the node where the seat stands.
     fn see_held(
         &self,
@@ -189,13 +219,7 @@ impl SharedTable {
     }
 
     // Takes the lock of the node where the seat stands, and waits while another has it. It can't where the node is dead.
-    fn take_lock<R: Wait>(
-        &self,
-        rt: &R,
-        seat: &mut Seat<(), View>,
-        node: u64,
-        caller: u32,
-    ) -> bool
+    fn take_lock<R: Wait>(&self, rt: &R, seat: &mut Seat<(), View>, node: u64, caller: u32) -> bool
         requires table { seat.old.table_id ≡ self.now.table.shared.table_id }
         requires writer { (w : Walk) × (w.node ≡ node) × IsWriter self.now.table.shared.key seat.old.me w }
         requires words { HasWords seat.old.me.0 node 18 }
@@ -295,9 +319,9 @@ impl SharedTable {
             match self.descend(seat, call, map, key) {
                 Reached::Answered(reply) => return reply,
                 Reached::Stands { node, level } => {
-                    if let Some(reply) =
-                        self.make_at(rt, seat, call, map, key, node, level, caller, next)
-                    {
+                    if let Some(reply) = self.make_at(
+                        rt, seat, call, map, key, node, level, caller, next,
+                    ) {
                         return reply;
                     }
                 }
@@ -325,6 +349,7 @@ impl SharedTable {
         requires caller { caller ≡ seat.old.me.0.number }
         ensures table { seat.new.table_id ≡ seat.old.table_id }
         ensures made { (seat.new.me.1 ≡ seat.old.me.1) × Made map call result seat.old.me.0 seat.new.me.0 }
+        ensures room { HasRoomWithin seat.new.me.0 }
     {
         self.come_in(rt, seat, map);
         let reply = self.make_inside(rt, seat, call, map, key, caller, next);
