@@ -68,13 +68,7 @@ impl<'a> Map<'a> {
     }
 
     /// `Store`: sets the value of the key.
-    pub fn store<R: Wait>(
-        &self,
-        rt: &R,
-        caller: &mut Caller<SharedNote>,
-        key: u32,
-        value: u64,
-    )
+    pub fn store<R: Wait>(&self, rt: &R, caller: &mut Caller<SharedNote>, key: u32, value: u64)
         requires caller { IsCallerAt IsNoteOf own_by self.now.table.now caller.old }
         requires spare { HasSpare caller.old.note }
         requires value { value < 2 ^ 63 }
@@ -130,12 +124,7 @@ impl<'a> Map<'a> {
     }
 
     /// `Delete`: removes the key.
-    pub fn delete<R: Wait>(
-        &self,
-        rt: &R,
-        caller: &mut Caller<SharedNote>,
-        key: u32,
-    )
+    pub fn delete<R: Wait>(&self, rt: &R, caller: &mut Caller<SharedNote>, key: u32)
         requires caller { IsCallerAt IsNoteOf own_by self.now.table.now caller.old }
         requires spare { HasSpare caller.old.note }
         ensures called { MakesCall self.now.table.now self.now.number (MapCall.Delete key) MapReply.Done caller.old.note caller.new.note }
