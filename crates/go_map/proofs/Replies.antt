@@ -1,5 +1,5 @@
 -- What a call on a map was answered is what the map of one thread answers: so each call's reply has its form.
-use Rattle.std.proofs.Common.{◌≡◌, ℕ, Bool, true, false, Option, Some, None, refl, sym, ap, ◌∙◌, subst}
+use Rattle.std.proofs.Common.{◌≡◌, ℕ, Bool, true, false, Option, Some, None, ap, subst}
 use Rattle.std.specs.FinMap.{FinMap, get}
 use Rattle.std.specs.Ordering.{nat_cmp}
 use Rattle.sync_model.specs.declared.item.SharedReply.{SharedReply}
