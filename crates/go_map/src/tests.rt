@@ -1,8 +1,14 @@
-//! Loads of a new map, by how many words they read.
+//! Loads of a new map, by how many words they read, and the end of a table.
 ghost use Rattle.std.specs.Prelude.{◌≡◌, ◌<◌};
 ghost use Rattle.sync_model.specs.Shared.{IsCallerAt};
 ghost use Rattle.shared_table.specs.Notes.{own_by, IsNoteOf};
 ghost use Rattle.shared_table.specs.Tables.{maps_of};
+
+mod crew;
+mod deep;
+mod ends;
+mod merged;
+mod threads;
 
 use crate::Map;
 use shared_table::{SharedNote, SharedTable, Steps};

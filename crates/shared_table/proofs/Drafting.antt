@@ -26,11 +26,11 @@ use Rattle.shared_table.proofs.Outside.{with_inside, same, in_node, later_out, a
 use Rattle.shared_table.proofs.Still.{still}
 
 -- the words of a draft with one more
-next_word : (xs : List ℕ) (x : ℕ) → slice_index (xs ++ x ∷ []) (length xs) ≡ x
+pub next_word : (xs : List ℕ) (x : ℕ) → slice_index (xs ++ x ∷ []) (length xs) ≡ x
 next_word [] x = refl
 next_word (y ∷ xs) x = next_word xs x
 
-other_word : (xs : List ℕ) (x i : ℕ) → i ≢ length xs → slice_index (xs ++ x ∷ []) i ≡ slice_index xs i
+pub other_word : (xs : List ℕ) (x i : ℕ) → i ≢ length xs → slice_index (xs ++ x ∷ []) i ≡ slice_index xs i
 other_word [] x zero ne = absurd (ne refl)
 other_word [] x (suc i) ne = refl
 other_word (y ∷ xs) x zero ne = refl

@@ -1,5 +1,5 @@
 -- Views in a list.
-use Rattle.std.proofs.Common.{◌≡◌, ◌≢◌, ℕ, zero, suc, ◌+◌, ◌<◌, List, [], ◌∷◌, ◌++◌, length, set, Some, slice_get, ◌⊎◌, inl, inr, ⊎_elim, refl, sym, ap, subst, arith, length-append}
+use Rattle.std.proofs.Common.{◌≡◌, ◌≢◌, ℕ, zero, suc, ◌+◌, ◌<◌, ◌≤◌, List, [], ◌∷◌, ◌++◌, length, set, Some, slice_get, slice_index, ◌⊎◌, inl, inr, ⊎_elim, refl, sym, ap, subst, arith, length-append}
 use Rattle.std.proofs.lemmas.Option.{none-some, same_Some}
 use mathlib.Core.Option.{some, some-ne-none, some-injective}
 use lib.ListN.{get_elem?}
@@ -23,6 +23,12 @@ module _ {V : Type 0} where
   at_end (x ∷ xs) a b zero e = inl e
   at_end (x ∷ xs) a b (suc j) e = ⊎_elim (λ t. inl t) (λ t. inr (ap suc t.0, t.1)) (at_end xs a b j e)
 
+  -- the view that was put in
+  pub set_here : (views : List V) (i : ℕ) (v w : V) → get_elem? views i ≡ some v → get_elem? (set views i w) i ≡ some w
+  set_here [] i v w e = absurd (some-ne-none v (sym e))
+  set_here (x ∷ xs) zero v w e = refl
+  set_here (x ∷ xs) (suc i) v w e = set_here xs i v w e
+
 module _ {A : Type 0} where
   -- an item of a list with one more is one of the list, or the last
   pub item_on : (xs : List A) (z x : A) (i : ℕ) → slice_get (xs ++ z ∷ []) i ≡ Some x → (slice_get xs i ≡ Some x) ⊎ ((i ≡ length xs) × (x ≡ z))
@@ -38,3 +44,9 @@ module _ {A : Type 0} where
 
   pub one_longer : (xs : List A) (x : A) (n : ℕ) → length xs ≡ n → length (xs ++ x ∷ []) ≡ n + 1
   one_longer xs x n is = omega (arith, length-append xs (x ∷ []))
+
+-- a list of numbers has 0 beyond its end
+pub past_end : (xs : List ℕ) (i : ℕ) → length xs ≤ i → slice_index xs i ≡ 0
+past_end [] i past = refl
+past_end (x ∷ xs) zero past = absurd (omega arith)
+past_end (x ∷ xs) (suc i) past = past_end xs i (omega arith)

@@ -16,14 +16,17 @@ use Rattle.shared_table.specs.declared.view.View.{View}
 use Rattle.shared_table.specs.declared.view.Walk.{Walk}
 use Rattle.shared_table.specs.Laws.{HistoryLaws}
 use Rattle.trie_nodes.specs.Layout.{parent_word, slot_word, dead_word}
+use Rattle.shared_table.specs.Making.{found_lock}
 use Rattle.shared_table.specs.Owed.{Walks, Locks, AtGate, Suits}
 use Rattle.shared_table.specs.Rule.{TableState, Kept}
 use Rattle.shared_table.specs.Shape.{Shape}
-use Rattle.shared_table.specs.Writing.{holding, lock_at, IsWriter, TriedLock, TriesLock, Holds, ReadsHeld, Unlocks}
+use Rattle.shared_table.specs.Layout.{callers_of}
+use Rattle.shared_table.specs.Walking.{standing}
+use Rattle.shared_table.specs.Writing.{holding, lock_at, IsWriter, TriedLock, TriesLock, Holds, Unlocks}
 use Rattle.shared_table.proofs.Frames.{Later}
 use Rattle.shared_table.proofs.Holding.{with_holder, holder_of, here, behind, gates_hold, later_hold, apart_hold, fine_hold, room_hold}
 use Rattle.shared_table.proofs.Quiet.{later_same, apart_same, kept_standing}
-use Rattle.shared_table.proofs.Still.{owned, still, fits_holding, suits_holding}
+use Rattle.shared_table.proofs.Still.{owned, still, fits_holding, suits_holding, suits_nowhere, fits_nowhere}
 
 not_dead : (n : ℕ) → n < 2 ^ 32 → n ≢ dead_word
 not_dead n below e = absurd (omega arith)
@@ -131,18 +134,19 @@ tries_lock k laws id me w writer = by_owns me.0.owns refl
           (refl, refl),
         )
 
--- a seat that holds a lock reads a slot of the node
-pub reads_held : (k : Begin) → HistoryLaws → (id : ℕ) (me : Me (Unit {0}) View) (l : Lock) (slot : ℕ) → Holds k me l → slot < 16 → Allows (Kept k) 0 id me (slot_word l.node slot) (λ n. n) (ReadsHeld l slot me)
-reads_held k laws id me l slot held below = by_owns me.0.owns refl
+-- a seat that holds a lock knows what a slot of the node has
+pub kept_found : (k : Begin) → HistoryLaws → (s : TableState) (r : Kept k s) (id : ℕ) (me : Me (Unit {0}) View) (l : Lock) (slot : ℕ) → Holds k me l → slot < 16 → get_elem? s.views id ≡ some me.0
+    → Kept k record { words = s.words; homes = s.homes; views = set s.views id (holding me.0 me.0.gate (Some (found_lock l slot (slice_index s.words (slot_word l.node slot)))) None) }
+kept_found k laws s r id me l slot held below at_me = by_owns me.0.owns refl
   where
-    by_owns : (owns : List Own) → me.0.owns ≡ owns → Allows (Kept k) 0 id me (slot_word l.node slot) (λ n. n) (ReadsHeld l slot me)
+    by_owns : (owns : List Own) → me.0.owns ≡ owns → Kept k record { words = s.words; homes = s.homes; views = set s.views id (holding me.0 me.0.gate (Some (found_lock l slot (slice_index s.words (slot_word l.node slot)))) None) }
     by_owns [] e = let none_there = ap length e in let stands = held.some in absurd (omega arith)
-    by_owns (own ∷ owns) is = λ s r one at_me bounded.
+    by_owns (own ∷ owns) is =
         let v = me.0 in
         let u = r.suits id v at_me held.live in
         let was = u.lock l held.lock in
         let word = slice_index s.words (slot_word l.node slot) in
-        let lock : Lock = record l { found = Some (slot, word) } in
+        let lock : Lock = found_lock l slot word in
         let locks : Locks k r.shape s.words v.number was.0 lock = record {
           node = was.2.node;
           map = was.2.map;
@@ -156,19 +160,13 @@ reads_held k laws id me l slot held below = by_owns me.0.owns refl
           found = λ at found e. let same = same_Some (slot, word) (at, found) e in (subst (λ n. n < 16) (ap (λ (p : ℕ × ℕ). p.0) same) below, subst (λ (p : ℕ × ℕ). slice_index s.words (slot_word l.node p.0) ≡ p.1) same refl);
           few = was.2.few;
           empty_so_far = was.2.empty_so_far;
-        } in (
-          holding v v.gate (Some lock) None,
-          keeps,
-          tt,
-          subst (λ ws. Kept k record { words = ws; homes = s.homes; views = set s.views id (holding v v.gate (Some lock) None) }) (sym (set-get_or s.words (slot_word l.node slot) 0))
-              (still k laws s r id v at_me held.live own owns is r.shape s.words (holding v v.gate (Some lock) None) (fits_holding k laws s r id v at_me held.live own owns is v.gate (Some lock) None)
-              r.fine r.gates (later_same r.shape r.log s.words) (apart_same k v.number r.shape s.words)
-              (suits_holding k laws s r id v at_me held.live own owns is r.shape s.words v.gate (Some lock) None (later_same r.shape r.log s.words) u.steady u.room u.gate u.only
-              (λ z e. (was.0, was.1, subst (Locks k r.shape s.words v.number was.0) (same_Some lock z e) locks))
-              (λ z e. absurd (none-some z e))
-              u.nobody)),
-          (refl, refl),
-        )
+        } in
+        still k laws s r id v at_me held.live own owns is r.shape s.words (holding v v.gate (Some lock) None) (fits_holding k laws s r id v at_me held.live own owns is v.gate (Some lock) None)
+        r.fine r.gates (later_same r.shape r.log s.words) (apart_same k v.number r.shape s.words)
+        (suits_holding k laws s r id v at_me held.live own owns is r.shape s.words v.gate (Some lock) None (later_same r.shape r.log s.words) u.steady u.room u.gate u.only
+        (λ z e. (was.0, was.1, subst (Locks k r.shape s.words v.number was.0) (same_Some lock z e) locks))
+        (λ z e. absurd (none-some z e))
+        u.nobody)
 
 -- a seat gives back the lock that it holds
 pub unlocks : (k : Begin) → HistoryLaws → (id : ℕ) (me : Me (Unit {0}) View) (l : Lock) → Holds k me l → Allows (Kept k) 0 id me l.node (λ n. 0) (λ found. Unlocks me 0)
@@ -187,21 +185,21 @@ unlocks k laws id me l held = by_owns me.0.owns refl
         let word : slice_index s.words l.node ≡ suc v.number = was.2.word ∙ ap (λ b. cond b dead_word (suc v.number)) held.living in
         let alive : slice_index s.words l.node ≢ dead_word = (λ dead. not_dead (suc v.number) few (sym word ∙ dead)) in
         let later = later_hold k r.shape r.log s.words l.node 0 0 r.fine node holds empty alive in (
-          holding v v.gate None None,
+          standing (holding v v.gate None None) None None,
           keeps,
           tt,
-          still k laws s r id v at_me held.live own owns is (with_holder r.shape l.node 0) (set s.words l.node 0) (holding v v.gate None None) (fits_holding k laws s r id v at_me held.live own owns is v.gate None None)
+          still k laws s r id v at_me held.live own owns is (with_holder r.shape l.node 0) (set s.words l.node 0) (standing (holding v v.gate None None) None None) (fits_nowhere (callers_of k) r.log r.calls r.claim id (holding v v.gate None None) (fits_holding k laws s r id v at_me held.live own owns is v.gate None None))
               (fine_hold k r.shape r.log s.words l.node 0 0 r.fine node holds empty)
               (λ m below. gates_hold k r.shape r.log s.words l.node 0 0 r.fine node holds empty m below (r.gates m below))
               later
               (apart_hold k r.shape r.log s.words l.node 0 0 r.fine node holds empty v.number (λ d other mine. absurd (other (let e : suc v.number ≡ suc d = sym was.2.mine ∙ mine in omega arith))))
-              (suits_holding k laws s r id v at_me held.live own owns is (with_holder r.shape l.node 0) (set s.words l.node 0) v.gate None None later
+              (suits_nowhere k (with_holder r.shape l.node 0) r.log r.calls (set s.words l.node 0) (holding v v.gate None None) (suits_holding k laws s r id v at_me held.live own owns is (with_holder r.shape l.node 0) (set s.words l.node 0) v.gate None None later
               (λ z e gate. elim (u.steady z e gate) [ inl living ↦ inl living | inr d ↦ inr (later.dead z.node (u.walk z e).node d) ])
               (λ i o e. room_hold k r.shape r.log s.words l.node 0 0 r.fine node holds empty (v.number + i) o (u.room i o e))
               (same_gate k r.shape l.node 0 v.number v.gate u.gate)
               u.only
               (λ z e. absurd (none-some z e))
               (λ z e. absurd (none-some z e))
-              u.nobody),
+              u.nobody)),
           (refl, refl),
         )

@@ -52,6 +52,7 @@ module _ (k : Begin) (laws : HistoryLaws) (s : TableState) (r : Kept k s) (id : 
     begin = r.begin;
     lawful = r.lawful;
     none_else = r.none_else;
+    keys = r.keys;
     fine = r.fine;
     gates = r.gates;
     fits = each_after (λ j u. u.live ≡ true → Fits (callers_of k) r.log r.calls r.claim j u) s.views id (record v { seen = r.log }) (λ live. fits_seen) (λ j u other at. r.fits j u at);

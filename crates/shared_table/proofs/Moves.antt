@@ -1,15 +1,17 @@
 -- Any step of a caller keeps the rule, where it keeps each of the three parts.
-use Rattle.std.proofs.Common.{◌≡◌, ◌≢◌, ℕ, ◌+◌, ◌<◌, ◌≤◌, true, List, [], set, Some, slice_get, sym, ap, ◌∙◌}
+use Rattle.std.proofs.Common.{◌≡◌, ◌≢◌, ℕ, ◌+◌, ◌<◌, ◌≤◌, ◌^◌, true, List, [], set, Some, slice_get, sym, ap, ◌∙◌}
 use mathlib.Core.Option.{some}
 use lib.ListN.{get_elem?}
 use Rattle.sync_model.specs.declared.item.SharedEntry.{SharedEntry}
 use Rattle.sync_model.specs.declared.item.Item.{Item}
 use Rattle.sync_model.specs.SharedCalls.{Lawful, Grows}
+use Rattle.sync_model.specs.SharedHistory.{contents_after}
 use Rattle.shared_table.specs.declared.begin.Begin.{Begin}
 use Rattle.shared_table.specs.declared.view.Own.{Own}
 use Rattle.shared_table.specs.declared.view.View.{View}
 use Rattle.shared_table.specs.Gates.{Gated}
 use Rattle.shared_table.specs.Laws.{HistoryLaws}
+use Rattle.shared_table.specs.Keys.{HasKeysBelow}
 use Rattle.shared_table.specs.Layout.{callers_of}
 use Rattle.shared_table.specs.Ledger.{Fits}
 use Rattle.shared_table.specs.Owed.{Suits}
@@ -26,6 +28,7 @@ pub record Keeps (k : Begin) (s : TableState) (r : Kept k s) (id c : ℕ) (words
   pub mine : r.claim c ≡ id
   pub lawful : Lawful (start_of k) log calls
   pub none_else : (d : ℕ) → callers_of k ≤ d → calls d ≡ []
+  pub keys : HasKeysBelow (2 ^ 32) (contents_after (start_of k) log)
   pub fine : Fine k shape log words
   pub gates : (m : ℕ) → m < k.maps → Gated k shape words m
   pub later : Later r.shape shape r.log log s.words words
@@ -49,6 +52,7 @@ moves k laws s r id c words w step = record {
   begin = r.begin;
   lawful = step.lawful;
   none_else = step.none_else;
+  keys = step.keys;
   fine = step.fine;
   gates = step.gates;
   fits = each_after (λ j u. u.live ≡ true → Fits (callers_of k) step.log step.calls r.claim j u) s.views id w (λ live. step.fits)

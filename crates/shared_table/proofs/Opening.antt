@@ -270,6 +270,7 @@ module _ (k : Begin) (begin : IsBegin k) (ws : List ℕ) (is_blank : IsBlank k w
     begin = begin;
     lawful = laws.start (start_of k);
     none_else = λ c past. refl;
+    keys = λ m key value at. let none_there : FinMap nat_cmp ℕ = empty in absurd (none-some value (sym (ap (λ held. get held key) (same_for_all k.maps m none_there) ∙ get-empty nat_cmp key) ∙ at));
     fine = blank_fine;
     gates = blank_gates;
     fits = λ j v at live. let t = only_one j v at in subst (λ (x : ℕ × View). Fits (callers_of k) [] (λ c. []) (λ c. 0) x.0 x.1) (λ i. (sym t.0 i, t.1 i)) blank_fits;

@@ -30,6 +30,7 @@ use Rattle.shared_table.specs.Rule.{TableState, Kept}
 use Rattle.shared_table.specs.Shape.{start_of, IsNumber}
 use Rattle.shared_table.specs.Views.{with_item, called_view, view_state}
 use Rattle.shared_table.proofs.Frames.{suits_on}
+use Rattle.shared_table.proofs.KeyBounds.{keys_on}
 use Rattle.shared_table.proofs.Ledgers.{longer, MayPlace, with_one, adds_one, lawful_after, history_on, grows_on, none_after, fits_after, called, contents_on, first}
 use Rattle.shared_table.proofs.Moves.{Keeps, moves}
 use Rattle.shared_table.proofs.Numbers.{gates_on, apart_on, later_on, fine_on}
@@ -138,6 +139,7 @@ module _ (k : Begin) (laws : HistoryLaws) (s : TableState) (r : Kept k s) (id : 
       mine = owned.claimed;
       lawful = lawful_after k laws r.log r.calls (callers_of k) r.claim id r.lawful v own owns is fits item may;
       none_else = none_after k laws r.log r.calls (callers_of k) r.claim id r.lawful v own owns is fits item may r.none_else;
+      keys = keys_on laws k r.log v.number item refl (λ m key other is. absurd (cc)) r.keys;
       fine = fine_on k laws r.shape r.log (with_call r.log v.number item) s.words a (f found) kind at r.fine history (atomic_after call held) (ap (λ contents. contents.maps) contents_are) (ap (λ contents. contents.numbers) contents_are) after_number;
       gates = λ m inside. gates_on k laws r.shape r.log (with_call r.log v.number item) s.words a (f found) kind at r.fine m inside (r.gates m inside);
       later = later_on k laws r.shape r.log (with_call r.log v.number item) s.words a (f found) kind at r.fine history;

@@ -52,7 +52,7 @@ out_of g m out inside = let e : Outside ≡ Inside m = sym out ∙ inside in abs
 module _ (k : Begin) (s : TableState) (r : Kept k s) (id : ℕ) (v : View) (at_me : get_elem? s.views id ≡ some v) (left right : View) (claim : ℕ → ℕ) (stays : (d j : ℕ) → j ≢ id → r.claim d ≡ j → claim d ≡ j)
     (fits_left : Fits (callers_of k) r.log r.calls claim id left) (fits_right : Fits (callers_of k) r.log r.calls claim (length (set s.views id left)) right)
     (suits_left : Suits k r.shape r.log r.calls s.words left) (suits_right : Suits k r.shape r.log r.calls s.words right) where
-  divided : Kept k record { words = s.words; homes = s.homes; views = set s.views id left ++ right ∷ [] }
+  pub divided : Kept k record { words = s.words; homes = s.homes; views = set s.views id left ++ right ∷ [] }
   divided = record {
     log = r.log;
     calls = r.calls;
@@ -61,6 +61,7 @@ module _ (k : Begin) (s : TableState) (r : Kept k s) (id : ℕ) (v : View) (at_m
     begin = r.begin;
     lawful = r.lawful;
     none_else = r.none_else;
+    keys = r.keys;
     fine = r.fine;
     gates = r.gates;
     fits = λ j u at live. elim (at_end (set s.views id left) right u j at) [
@@ -214,6 +215,7 @@ joins k laws id v other w live live_it idle next_callers s r at_me apart at_it =
   begin = r.begin;
   lawful = r.lawful;
   none_else = r.none_else;
+  keys = r.keys;
   fine = r.fine;
   gates = r.gates;
   fits = each_after (λ j u. u.live ≡ true → Fits (callers_of k) r.log r.calls claim j u) (set s.views id (joined v w)) other spent (λ alive. absurd (cc))

@@ -1,8 +1,11 @@
 -- A step that makes no call: the history stays.
 use Rattle.std.proofs.Common.{◌≡◌, ℕ, ◌+◌, ◌<◌, true, List, [], ◌∷◌, length, set, Option, Some, None, slice_get, slice_index, ◌⊎◌, refl, sym}
 use Rattle.std.proofs.lemmas.List.{append-nil}
+use Rattle.std.proofs.lemmas.Option.{none-some}
 use mathlib.Core.Option.{some}
 use lib.ListN.{get_elem?}
+use Rattle.sync_model.specs.declared.item.Item.{Item}
+use Rattle.sync_model.specs.declared.item.SharedEntry.{SharedEntry}
 use Rattle.shared_table.specs.declared.begin.Begin.{Begin}
 use Rattle.shared_table.specs.declared.view.Gate.{Gate}
 use Rattle.shared_table.specs.declared.view.Gate.TheVariants.{Outside, Inside}
@@ -16,6 +19,7 @@ use Rattle.shared_table.specs.Layout.{callers_of}
 use Rattle.shared_table.specs.Ledger.{Owned, Fits}
 use Rattle.trie_nodes.specs.Layout.{dead_word}
 use Rattle.shared_table.specs.Owed.{HasRoom, Locks, AtGate, Suits}
+use Rattle.shared_table.specs.Walking.{standing}
 use Rattle.shared_table.specs.Writing.{holding}
 use Rattle.shared_table.specs.Rule.{TableState, Kept}
 use Rattle.shared_table.specs.Shape.{Shape, Fine}
@@ -39,6 +43,7 @@ module _ (k : Begin) (laws : HistoryLaws) (s : TableState) (r : Kept k s) (id : 
     mine = owned.claimed;
     lawful = r.lawful;
     none_else = r.none_else;
+    keys = r.keys;
     fine = fine;
     gates = gates;
     later = later;
@@ -75,3 +80,22 @@ module _ (k : Begin) (laws : HistoryLaws) (s : TableState) (r : Kept k s) (id : 
     upper = uppers;
     nobody = nobody;
   }
+
+-- a seat may stand nowhere, and know no entry
+pub suits_nowhere : (k : Begin) (sh : Shape) (log : List SharedEntry) (calls : ℕ → List Item) (ws : List ℕ) (v : View) → Suits k sh log calls ws v → Suits k sh log calls ws (standing v None None)
+suits_nowhere k sh log calls ws v u = record {
+  begin = u.begin;
+  walk = λ w e. absurd (none-some w e);
+  steady = λ w e inside. absurd (none-some w e);
+  leaf = λ l e. absurd (none-some l e);
+  spot = u.spot;
+  room = u.room;
+  gate = u.gate;
+  only = u.only;
+  lock = u.lock;
+  upper = u.upper;
+  nobody = u.nobody;
+}
+
+pub fits_nowhere : (callers : ℕ) (log : List SharedEntry) (calls : ℕ → List Item) (claim : ℕ → ℕ) (seat : ℕ) (v : View) → Fits callers log calls claim seat v → Fits callers log calls claim seat (standing v None None)
+fits_nowhere callers log calls claim seat v f = record { seen = f.seen; heard = f.heard; long = f.long; front = f.front; owns = f.owns }

@@ -10,14 +10,21 @@ use Rattle.shared_table.specs.declared.view.Own.{Own}
 use Rattle.shared_table.specs.declared.view.View.{View}
 use Rattle.shared_table.specs.declared.view.Walk.{Walk}
 use Rattle.shared_table.specs.Laws.{HistoryLaws}
+use Rattle.sync_model.specs.declared.map_object.MapCall.{MapCall}
+use Rattle.sync_model.specs.Shared.{cost_of}
 use Rattle.trie_nodes.specs.Layout.{slot_word}
+use Rattle.trie_nodes.specs.Paths.{nibble}
+use Rattle.trie_nodes.specs.Slots.{slot_in}
 use Rattle.shared_table.specs.Layout.{gate_word, size_of}
+use Rattle.shared_table.specs.Making.{StandsLocked, LooksHeld}
 use Rattle.shared_table.specs.Rule.{Kept}
-use Rattle.shared_table.specs.Walking.{HasWords, IsFree}
-use Rattle.shared_table.specs.Writing.{IsWriter, TriesLock, Holds, ReadsHeld, Unlocks, ComesIn, IsInside, GoesOut, Drafts, HasDraft}
+use Rattle.shared_table.specs.Walking.{HasWords, Affords, IsFree}
+use Rattle.shared_table.specs.Writing.{IsWriter, TriesLock, Holds, Unlocks, ComesIn, IsInside, GoesOut, Drafts, HasDraft}
 use Rattle.shared_table.proofs.Drafting.{drafts}
 use Rattle.shared_table.proofs.Gating.{comes_in, goes_out}
-use Rattle.shared_table.proofs.Locking.{tries_lock, reads_held, unlocks}
+use Rattle.shared_table.proofs.Held.{looks_held}
+use Rattle.shared_table.proofs.KeyCalls.{IsOn}
+use Rattle.shared_table.proofs.Locking.{tries_lock, unlocks}
 
 -- a step that tells more tells less
 allows_then : (holds : State (Unit {0}) View → Type 0) (slots id : ℕ) (me : Me (Unit {0}) View) (i : ℕ) (f : ℕ → ℕ) (p q : ℕ → Me (Unit {0}) View → Type 0) → ((n : ℕ) (after : Me (Unit {0}) View) → p n after → q n after) → Allows holds slots id me i f p → Allows holds slots id me i f q
@@ -63,20 +70,12 @@ module _ (table : SharedTable) (id : ℕ) (me : Me (Unit {0}) View) (word : ℕ)
       (λ n after told z e. subst (λ x. TriesLock x me n after) (same_Some w z (sym writer.2.walk ∙ e)) told)
       (subst (λ y. Allows (Kept key) 0 id me w.node (λ n. either (n == 0) y n) (TriesLock w me)) new_is (tries_lock key laws id me w writer.2)))
 
-  pub may_read_held : (node slot : ℕ) → (l : Lock) × (l.node ≡ node) × Holds table.table.shared.key me l → HasWords me.0 node 18 → slot < 16 → word ≡ slot_word node slot
-      → MayChange (λ n. n) (λ found after. (l : Lock) (slot : ℕ) → me.0.lock ≡ Some l → word ≡ slot_word l.node slot → ReadsHeld l slot me found after)
-  may_read_held node slot lock has below is =
-      let l = lock.0 in
-      let within = words_within node lock.2.begin has in
-      let node_is = lock.1 in
-      may_change (slot_word l.node slot) (λ n. n) (λ found after. (l : Lock) (slot : ℕ) → me.0.lock ≡ Some l → word ≡ slot_word l.node slot → ReadsHeld l slot me found after) (omega arith) (omega arith)
-      (allows_then (Kept key) 0 id me (slot_word l.node slot) (λ n. n) (ReadsHeld l slot me) (λ found after. (l : Lock) (slot : ℕ) → me.0.lock ≡ Some l → word ≡ slot_word l.node slot → ReadsHeld l slot me found after)
-      (λ n after told z other e at.
-      let same = same_Some l z (sym lock.2.lock ∙ e) in
-      let nodes = ap (λ (x : Lock). x.node) same in
-      let slots : slot ≡ other = omega arith in
-      subst (λ (x : Lock × ℕ). ReadsHeld x.0 x.1 me n after) (λ i. (same i, slots i)) told)
-      (reads_held key laws id me l slot lock.2 below))
+  pub may_look_held : (w : Walk) (slot : ℕ) (call : MapCall ℕ) → (up : ℕ) × StandsLocked table.table.shared.key me w up → HasWords me.0 w.node 18 → slot ≡ nibble w.key table.begin.seed w.level → slot < 16 → word ≡ slot_word w.node slot → IsOn w.key call → Affords (cost_of call) me.0.owns
+      → MayChange (λ n. n) (λ found. LooksHeld call me (slot_in found))
+  may_look_held w slot call stands has slot_is below is on affords =
+      let within = words_within w.node stands.1.begin has in
+      may_change (slot_word w.node slot) (λ n. n) (λ found. LooksHeld call me (slot_in found)) (sym is) (omega arith)
+      (looks_held key laws id me w stands.0 slot call stands.1 (slot_is ∙ ap (λ (b : Begin). nibble w.key b.seed w.level) (sym table.same)) below on affords)
 
   pub may_unlock : (node : ℕ) → (l : Lock) × (l.node ≡ node) × Holds table.table.shared.key me l → HasWords me.0 node 18 → word ≡ node → MayChange (λ n. 0) (λ found. Unlocks me 0)
   may_unlock node lock has is = let within = words_within node lock.2.begin has in let node_is = lock.1 in

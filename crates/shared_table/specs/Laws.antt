@@ -23,5 +23,6 @@ pub record HistoryLaws : Type 0 where
   pub contents_same : (start : Contents) (earlier later : List SharedEntry) (n : ℕ) → n ≤ length earlier → contents_at start (earlier ++ later) n ≡ contents_at start earlier n
   pub contents_all : (start : Contents) (history : List SharedEntry) (n : ℕ) → length history ≤ n → contents_at start history n ≡ contents_after start history
   pub contents_both : (start : Contents) (earlier later : List SharedEntry) → contents_after start (earlier ++ later) ≡ contents_after (contents_after start earlier) later
+  pub maps_long : (start : Contents) (history : List SharedEntry) → length (contents_after start history).maps ≡ length start.maps
   pub numbers_long : (start : Contents) (history : List SharedEntry) → length (contents_after start history).numbers ≡ length start.numbers
   pub unchanged : (call : SharedCall) (contents : Contents) → is_entry call contents ≡ false → shared_after call contents ≡ contents

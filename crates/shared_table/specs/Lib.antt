@@ -1,11 +1,15 @@
 pub mod Laws
+pub mod TrieLaws
+pub mod Keys
 pub mod Layout
 pub mod Ledger
 pub mod Shape
+pub mod Units
 pub mod Gates
 pub mod Owed
 pub mod Rule
 pub mod Views
+pub mod KeyCalls
 pub mod Blank
 pub mod Operations
 pub mod Tables
@@ -17,3 +21,8 @@ pub mod Counted
 pub mod WordSteps
 pub mod Walking
 pub mod Writing
+pub mod EndsOfHistory
+pub mod EndLaws
+pub mod SweepLaws
+pub mod Cursors
+pub mod Making

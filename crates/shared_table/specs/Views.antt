@@ -1,5 +1,5 @@
 -- The views of seats.
-use Rattle.std.specs.Prelude.{◌≡◌, ℕ, ◌+◌, ◌*◌, ◌<◌, ◌≤◌, true, false, cond, nat_le, max, List, [], ◌∷◌, ◌++◌, length, replicate, Option, Some, None, slice_get, slice_index, slice_set}
+use Rattle.std.specs.Prelude.{◌≡◌, ℕ, zero, suc, ◌+◌, ◌-◌, ◌*◌, ◌<◌, ◌≤◌, true, false, cond, nat_le, max, List, [], ◌∷◌, ◌++◌, length, replicate, Option, Some, None, slice_get, slice_index, slice_set}
 use Rattle.sync_model.specs.declared.item.SharedEntry.{SharedEntry}
 use Rattle.sync_model.specs.declared.item.Item.{Item}
 use Rattle.sync_model.specs.Journal.{Begins}
@@ -54,6 +54,28 @@ made_by (own ∷ owns) = length own.items
 abbrev pub with_item : List Own → Item → List Own
 with_item [] x = []
 with_item (own ∷ owns) x = record own { items = own.items ++ x ∷ [] } ∷ owns
+
+-- a caller used up one unit of its room
+abbrev pub spend_own : Own → Own
+spend_own own = record own { next = own.next + unit_words; spare = own.spare - 1; draft = [] }
+
+abbrev pub spend : List Own → List Own
+spend [] = []
+spend (own ∷ owns) = spend_own own ∷ owns
+
+-- a call costs a unit of its caller's room, or nothing
+abbrev pub paid_own : ℕ → Own → Own
+paid_own zero own = own
+paid_own (suc cost) own = spend_own own
+
+abbrev pub paid : ℕ → List Own → List Own
+paid zero owns = owns
+paid (suc cost) owns = spend owns
+
+-- it can be paid, and no more than one unit is written
+abbrev pub MayPay : ℕ → Own → Type 0
+MayPay zero own = Unit {0}
+MayPay (suc cost) own = (cost ≡ 0) × (0 < own.spare) × (length own.draft ≤ unit_words)
 
 -- the view after a call of the first caller, who has then seen this
 abbrev pub called_view : View → List Own → List SharedEntry → View

@@ -1,24 +1,25 @@
 -- A seat on its way to a key of a map, and what the words tell it there.
-use Rattle.std.specs.Prelude.{◌≡◌, ℕ, suc, true, ◌+◌, ◌^◌, ◌<◌, ◌≤◌, ◌==◌, cond, List, length, Option, Some, None}
+use Rattle.std.specs.Prelude.{◌≡◌, ℕ, suc, true, ◌+◌, ◌^◌, ◌<◌, ◌≤◌, ◌==◌, cond, List, length, Option, Some, None, MatchBool, slice_get}
 use Rattle.atomic_table.specs.Table.{Me}
 use Rattle.sync_model.specs.declared.item.Item.{Item}
 use Rattle.sync_model.specs.declared.item.SharedCall.TheVariants as calls
 use Rattle.sync_model.specs.declared.item.SharedEntry.{SharedEntry}
 use Rattle.sync_model.specs.declared.item.SharedReply.TheVariants as replies
 use Rattle.sync_model.specs.declared.map_object.MapCall.{MapCall}
-use Rattle.sync_model.specs.declared.map_object.MapCall.TheVariants.{Load}
 use Rattle.sync_model.specs.declared.map_object.MapReply.{MapReply}
-use Rattle.sync_model.specs.declared.map_object.MapReply.TheVariants.{Found}
-use Rattle.sync_model.specs.Shared.{Called}
+use Rattle.sync_model.specs.Shared.{Called, cost_of}
 use Rattle.shared_table.specs.declared.view.Leaf.{Leaf}
+use Rattle.shared_table.specs.declared.view.Own.{Own}
 use Rattle.shared_table.specs.declared.view.View.{View}
 use Rattle.shared_table.specs.declared.view.Walk.{Walk}
 use Rattle.trie_nodes.specs.declared.slot.Slot.{Slot}
 use Rattle.trie_nodes.specs.declared.slot.Slot.TheVariants.{Empty, Node, Entry}
 use Rattle.shared_table.specs.declared.begin.Begin.{Begin}
+use Rattle.trie_nodes.specs.Paths.{route}
+use Rattle.shared_table.specs.KeyCalls.{is_key_entry, key_reply}
 use Rattle.shared_table.specs.Layout.{size_of}
 use Rattle.shared_table.specs.Shape.{start_of}
-use Rattle.shared_table.specs.Views.{with_item, called_view, view_state, IsIdle}
+use Rattle.shared_table.specs.Views.{with_item, paid, MayPay, called_view, view_state, IsIdle}
 
 -- the view of a seat that stands here, and knows this entry
 abbrev pub standing : View → Option Walk → Option Leaf → View
@@ -41,29 +42,49 @@ Enters m key before found after =
 pub record Answers (m : ℕ) (call : MapCall ℕ) (reply : MapReply) (leaf : Option Leaf) (v w : View) : Type 0 where
   pub item : Item
   pub seen : List SharedEntry
-  pub is : w ≡ standing (called_view v (with_item v.owns item) seen) None leaf
-  pub called : Called (start_of v.begin) (calls.Map m call) (replies.Map reply) 0 (view_state v) (view_state w)
+  pub is : w ≡ standing (called_view v (paid (cost_of call) (with_item v.owns item)) seen) None leaf
+  pub called : Called (start_of v.begin) (calls.Map m call) (replies.Map reply) (cost_of call) (view_state v) (view_state w)
 
 -- the value that an entry gives a key
 abbrev pub given_by : Leaf → ℕ → Option ℕ
 given_by l key = cond (l.key == key) (Some l.value) None
 
--- a seat that looks a key up read the key's slot. A node there is the next on the key's path. Else the load is placed, and answered by what the slot shows
-abbrev pub FindsIn : Walk → Slot → View → View → Type 0
-FindsIn w Empty before after = Answers w.map (Load w.key) (Found None) before.leaf before after
-FindsIn w (Node node) before after = (after ≡ standing before (Some (walk_at w.map w.key node (suc w.level) w.since)) before.leaf) × HasWords before node 18 × (suc w.level < 8)
-FindsIn w (Entry place) before after = (l : Leaf) × (l.place ≡ place) × HasWords before place 2 × Answers w.map (Load w.key) (Found (given_by l w.key)) (Some l) before after
+-- a seat found what the key of its way has. A call that is an entry of the history there isn't placed yet, and any other is placed and answered
+abbrev pub Settles : MapCall ℕ → Walk → Option ℕ → Option Leaf → View → View → Type 0
+Settles call w held leaf before after = MatchBool (is_key_entry call held) (after ≡ standing before before.walk leaf) (Answers w.map call (key_reply call held) leaf before after)
 
-abbrev pub LooksIn : Me (Unit {0}) View → Slot → Me (Unit {0}) View → Type 0
-LooksIn before slot after = (after.1 ≡ before.1) × ((w : Walk) → before.0.walk ≡ Some w → FindsIn w slot before.0 after.0)
+-- an entry stands in a slot on the key's path
+abbrev pub IsAlong : Begin → Walk → Leaf → Type 0
+IsAlong k w l = (l.key < 2 ^ 32) × (route k.seed (suc w.level) l.key ≡ route k.seed (suc w.level) w.key)
+
+-- a seat on its way to the key of a call read the key's slot. A node there is the next on the key's path. Else the slot shows what the key has
+abbrev pub FindsIn : MapCall ℕ → Walk → Slot → View → View → Type 0
+FindsIn call w Empty before after = Settles call w None before.leaf before after
+FindsIn call w (Node node) before after = (after ≡ standing before (Some (walk_at w.map w.key node (suc w.level) w.since)) before.leaf) × HasWords before node 18 × (suc w.level < 8)
+FindsIn call w (Entry place) before after = (l : Leaf) × (l.place ≡ place) × IsAlong before.begin w l × HasWords before place 2 × Settles call w (given_by l w.key) (Some l) before after
+
+abbrev pub LooksIn : MapCall ℕ → Me (Unit {0}) View → Slot → Me (Unit {0}) View → Type 0
+LooksIn call before slot after = (after.1 ≡ before.1) × ((w : Walk) → before.0.walk ≡ Some w → FindsIn call w slot before.0 after.0)
+
+-- the first caller of a seat can pay for a call
+abbrev pub Affords : ℕ → List Own → Type 0
+Affords cost owns = (own : Own) → slice_get owns 0 ≡ Some own → MayPay cost own
 
 -- a seat read the key of the entry that it knows
 abbrev pub ReadsKey : Me (Unit {0}) View → ℕ → Me (Unit {0}) View → Type 0
 ReadsKey before found after = (after ≡ before) × ((l : Leaf) → before.0.leaf ≡ Some l → found ≡ l.key)
 
+-- a seat read the value of the entry, and keeps it
+abbrev pub KeepsValue : Me (Unit {0}) View → ℕ → Me (Unit {0}) View → Type 0
+KeepsValue before found after = (after ≡ before) × ((l : Leaf) → before.0.leaf ≡ Some l → found ≡ l.value)
+
 -- a seat read the value of the entry, and leaves it
 abbrev pub ReadsValue : Me (Unit {0}) View → ℕ → Me (Unit {0}) View → Type 0
 ReadsValue before found after = (after.1 ≡ before.1) × (after.0 ≡ standing before.0 before.0.walk None) × ((l : Leaf) → before.0.leaf ≡ Some l → found ≡ l.value)
+
+-- a seat that knows no entry may read a root word
+abbrev pub MayEnter : Begin → Me (Unit {0}) View → Type 0
+MayEnter k me = (me.0.live ≡ true) × (me.0.begin ≡ k) × (me.0.leaf ≡ None)
 
 -- a caller's seat, between two calls
 pub record IsFree (k : Begin) (me : Me (Unit {0}) View) : Type 0 where

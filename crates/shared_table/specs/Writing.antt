@@ -1,5 +1,5 @@
 -- A seat that writes: what it holds, and what its steps tell.
-use Rattle.std.specs.Prelude.{◌≡◌, ℕ, ◌+◌, ◌*◌, ◌<◌, ◌≤◌, ◌==◌, Bool, true, false, List, [], ◌∷◌, ◌++◌, length, Option, Some, None, MatchBool}
+use Rattle.std.specs.Prelude.{◌≡◌, ℕ, ◌+◌, ◌*◌, ◌<◌, ◌≤◌, ◌==◌, Bool, true, false, List, [], ◌∷◌, ◌++◌, length, Option, Some, None, MatchBool, slice_get}
 use Rattle.atomic_table.specs.Table.{Me}
 use Rattle.shared_table.specs.declared.begin.Begin.{Begin}
 use Rattle.shared_table.specs.declared.view.Gate.{Gate}
@@ -10,6 +10,7 @@ use Rattle.shared_table.specs.declared.view.View.{View}
 use Rattle.shared_table.specs.declared.view.Walk.{Walk}
 use Rattle.trie_nodes.specs.Layout.{unit_words}
 use Rattle.shared_table.specs.Layout.{size_of}
+use Rattle.shared_table.specs.Walking.{standing}
 
 -- the view of a seat that stands to a gate so, and holds these locks
 abbrev pub holding : View → Gate → Option Lock → Option Lock → View
@@ -45,13 +46,9 @@ pub record Holds (k : Begin) (me : Me (Unit {0}) View) (l : Lock) : Type 0 where
   pub upper : me.0.upper ≡ None
   pub living : l.dead ≡ false
 
--- a seat that holds a lock read a slot of the node
-abbrev pub ReadsHeld : Lock → ℕ → Me (Unit {0}) View → ℕ → Me (Unit {0}) View → Type 0
-ReadsHeld l slot before found after = (after.1 ≡ before.1) × (after.0 ≡ holding before.0 before.0.gate (Some (record l { found = Some (slot, found) })) None)
-
--- a seat gave a lock back
+-- a seat gave a lock back, and stands nowhere
 abbrev pub Unlocks : Me (Unit {0}) View → ℕ → Me (Unit {0}) View → Type 0
-Unlocks before found after = (after.1 ≡ before.1) × (after.0 ≡ holding before.0 before.0.gate None None)
+Unlocks before found after = (after.1 ≡ before.1) × (after.0 ≡ standing (holding before.0 before.0.gate None None) None None)
 
 -- a seat tried to come in as a writer of a map, and is inside where the gate's word was still this
 abbrev pub CameIn : ℕ → Bool → Me (Unit {0}) View → Me (Unit {0}) View → Type 0
@@ -70,9 +67,13 @@ pub record IsInside (k : Begin) (me : Me (Unit {0}) View) (m : ℕ) : Type 0 whe
   pub lock : me.0.lock ≡ None
   pub upper : me.0.upper ≡ None
 
+-- the room of a seat's first caller lies within the table
+abbrev pub HasRoomWithin : View → Type 0
+HasRoomWithin v = (own : Own) → slice_get v.owns 0 ≡ Some own → own.next + unit_words * own.spare ≤ size_of v.begin
+
 -- a seat went out
 abbrev pub GoesOut : Me (Unit {0}) View → ℕ → Me (Unit {0}) View → Type 0
-GoesOut before found after = (after.1 ≡ before.1) × (after.0 ≡ holding before.0 Outside None None)
+GoesOut before found after = (after.1 ≡ before.1) × (after.0 ≡ holding before.0 Outside None None) × HasRoomWithin before.0
 
 -- one more word in the room of the first caller
 abbrev pub with_word : List Own → ℕ → List Own

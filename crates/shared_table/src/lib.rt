@@ -3,12 +3,19 @@
 
 pub mod begin;
 mod caller_note;
+mod chain;
+mod changes;
 mod copies;
+mod cursor_steps;
+mod ends;
 mod laws;
 mod lookup;
+mod making;
+mod map_call;
 mod new;
 pub mod note;
 mod operations;
+mod publish;
 pub mod rule;
 mod settling;
 pub mod steps;

@@ -1,4 +1,5 @@
-//! What a seat at a shared table knows. It stands in proofs alone: no value of these types is made but `Begin`.
+//! What a seat at a shared table knows. It stands in proofs alone: no value of these types is made but `Begin`
+//! and `Leaf`.
 use crate::begin::Begin;
 use std::collections::LinkedList;
 use sync_model::{Item, SharedEntry};
@@ -26,6 +27,7 @@ pub struct Walk {
 }
 
 /// An entry of the trie whose words a seat knows.
+#[derive(Clone, Copy, Drop)]
 pub struct Leaf {
     pub place: u64,
     pub key: u64,

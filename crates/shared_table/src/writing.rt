@@ -6,17 +6,23 @@ ghost use Rattle.shared_table.specs.declared.view.Lock.{Lock};
 ghost use Rattle.shared_table.specs.declared.view.Own.{Own};
 ghost use Rattle.shared_table.specs.declared.view.Walk.{Walk};
 ghost use Rattle.shared_table.specs.Tables.{maps_of};
-ghost use Rattle.shared_table.specs.Walking.{HasWords, IsFree};
-ghost use Rattle.shared_table.specs.Writing.{holding, lock_at, IsWriter, TriesLock, Holds, ReadsHeld, Unlocks, ComesIn, IsInside, GoesOut, drafted, Drafts, HasDraft};
-ghost use Rattle.trie_nodes.specs.Layout.{slot_word as slot_at};
+ghost use Rattle.shared_table.specs.Walking.{standing, walk_at, HasWords, Affords, IsFree};
+ghost use Rattle.sync_model.specs.SequentialMap.{map_key};
+ghost use Rattle.sync_model.specs.Shared.{cost_of};
+ghost use Rattle.shared_table.specs.Making.{StandsLocked, LooksHeld};
+ghost use Rattle.trie_nodes.specs.Slots.{slot_in};
+ghost use Rattle.shared_table.specs.Writing.{holding, lock_at, IsWriter, TriesLock, Holds, Unlocks, ComesIn, IsInside, GoesOut, HasRoomWithin, drafted, Drafts, HasDraft};
 
 use crate::laws::history_laws;
 use crate::lookup::Way;
+use crate::making::Making;
 use crate::table::SharedTable;
 use crate::view::View;
 use atomic_table::{Play, Seat};
 use std::marker::{Brand, PhantomData};
+use sync_model::MapCall;
 use trie_nodes::layout::{DEAD, FREE, held_word, lock_word, slot_word};
+use trie_nodes::{Slot, nibble};
 
 /// A seat comes in as a writer of a map.
 pub(crate) struct ComeIn<W> {
@@ -41,11 +47,13 @@ impl Play<(), View> for TryLock {
     ghost then = { λ step before found after. (w : Walk) → before.0.walk ≡ Some w → TriesLock w before found after };
 }
 
-/// A seat reads a slot of the node whose lock it holds.
-pub(crate) struct ReadHeld;
+/// A seat looks at its key's slot under the lock of the node where it stands.
+pub(crate) struct LookHeld<C> {
+    marker: PhantomData<C>,
+}
 
-impl Play<(), View> for ReadHeld {
-    ghost then = { λ step before found after. (l : Lock) (slot : ℕ) → before.0.lock ≡ Some l → step.word ≡ slot_at l.node slot → ReadsHeld l slot before found after };
+impl<C: Making> Play<(), View> for LookHeld<C> {
+    ghost then = { λ step before found after. LooksHeld C.call before (slot_in found) after };
 }
 
 /// A seat gives its lock back.
@@ -113,28 +121,57 @@ impl SharedTable {
         found == FREE
     }
 
-    // A slot of the node whose lock the seat holds.
-    pub(crate) fn read_held(&self, seat: &mut Seat<(), View>, node: u64, slot: u32) -> u64
+    // The seat of a call on a key looks at the key's slot under the lock of the node where it stands.
+    pub(crate) fn look_held(
+        &self,
+        seat: &mut Seat<(), View>,
+        call: MapCall<u32>,
+        map: u32,
+        key: u32,
+        node: u64,
+        level: u32,
+    ) -> Slot
         requires table { seat.old.table_id ≡ self.now.table.shared.table_id }
-        requires lock { (l : Lock) × (l.node ≡ node) × Holds self.now.table.shared.key seat.old.me l }
+        requires call { (map_key call ≡ Some key) × Affords (cost_of call) seat.old.me.0.owns }
+        requires stands { (up : ℕ) × StandsLocked self.now.table.shared.key seat.old.me (walk_at map key node level (length seat.old.me.0.seen)) up }
         requires words { HasWords seat.old.me.0 node 18 }
-        requires slot { slot < 16 }
+        requires level { level < 8 }
         ensures table { seat.new.table_id ≡ seat.old.table_id }
-        ensures read { (l : Lock) → seat.old.me.0.lock ≡ Some l → ReadsHeld l slot seat.old.me result seat.new.me }
+        ensures found { LooksHeld call seat.old.me result seat.new.me }
     {
-        history_laws();
-        self.table
-            .shared
-            .load::<ReadHeld>(seat, slot_word(node, slot))
+        self.look_held_as::<Brand>(seat, call, map, key, node, level)
     }
 
-    // Gives the lock of a node back.
+    // The same, with a call that is told by a type.
+    fn look_held_as<C: Making>(
+        &self,
+        seat: &mut Seat<(), View>,
+        _call: MapCall<u32>,
+        map: u32,
+        key: u32,
+        node: u64,
+        level: u32,
+    ) -> Slot
+        requires table { seat.old.table_id ≡ self.now.table.shared.table_id }
+        requires call { (map_key C.call ≡ Some key) × Affords (cost_of C.call) seat.old.me.0.owns }
+        requires stands { (up : ℕ) × StandsLocked self.now.table.shared.key seat.old.me (walk_at map key node level (length seat.old.me.0.seen)) up }
+        requires words { HasWords seat.old.me.0 node 18 }
+        requires level { level < 8 }
+        ensures table { seat.new.table_id ≡ seat.old.table_id }
+        ensures found { LooksHeld C.call seat.old.me result seat.new.me }
+    {
+        history_laws();
+        let word = slot_word(node, nibble(key, self.begin.seed, level));
+        Slot::of_word(self.table.shared.load::<LookHeld<C>>(seat, word))
+    }
+
+    // Gives the lock of a node back. The seat then stands nowhere.
     pub(crate) fn unlock(&self, seat: &mut Seat<(), View>, node: u64)
         requires table { seat.old.table_id ≡ self.now.table.shared.table_id }
         requires lock { (l : Lock) × (l.node ≡ node) × Holds self.now.table.shared.key seat.old.me l }
         requires words { HasWords seat.old.me.0 node 18 }
         ensures table { seat.new.table_id ≡ seat.old.table_id }
-        ensures unlocked { (seat.new.me.1 ≡ seat.old.me.1) × (seat.new.me.0 ≡ holding seat.old.me.0 seat.old.me.0.gate None None) }
+        ensures unlocked { (seat.new.me.1 ≡ seat.old.me.1) × (seat.new.me.0 ≡ standing (holding seat.old.me.0 seat.old.me.0.gate None None) None None) }
     {
         history_laws();
         self.table
@@ -149,6 +186,7 @@ impl SharedTable {
         requires map { map < maps_of self.now }
         ensures table { seat.new.table_id ≡ seat.old.table_id }
         ensures out { (seat.new.me.1 ≡ seat.old.me.1) × (seat.new.me.0 ≡ holding seat.old.me.0 Outside None None) }
+        ensures room { HasRoomWithin seat.old.me.0 }
     {
         history_laws();
         let word = 2 + self.begin.kinds.len() + 2 * map as usize;

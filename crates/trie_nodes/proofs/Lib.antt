@@ -7,3 +7,5 @@ pub mod PathLemmas
 pub mod PlanLemmas
 pub mod SlotLemmas
 pub mod WriteLemmas
+pub mod WalkLemmas
+pub mod PlaceLemmas

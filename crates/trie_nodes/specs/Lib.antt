@@ -4,3 +4,6 @@ pub mod Nodes
 pub mod Paths
 pub mod Plans
 pub mod Slots
+pub mod Walks
+pub mod Places
+pub mod PlaceLists

@@ -4,4 +4,5 @@ pub mod examples;
 pub mod nodes;
 pub mod order;
 pub mod paths;
+pub mod walks;
 pub mod words;

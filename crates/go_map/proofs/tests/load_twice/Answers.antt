@@ -1,6 +1,5 @@
-use Rattle.std.proofs.Common.{◌≡◌, sym, subst}
-use Rattle.sync_model.specs.Shared.{IsCallerAt}
-use Rattle.shared_table.specs.Notes.{own_by, IsNoteOf}
+use Rattle.std.proofs.Common.{sym, subst}
+use Rattle.shared_table.specs.Notes.{IsNoteOf}
 use Rattle.go_map.proofs.Callers.{stays}
 use Rattle.go_map.proofs.tests.load_twice.Goals as goal
 

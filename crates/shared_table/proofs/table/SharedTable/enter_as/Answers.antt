@@ -12,5 +12,5 @@ pub load-requires : goal.load-requires
 load-requires g c =
     let map_is = c.requires.told.0 in
     let len = c.len.ensures in
-    let may = may_enter c.args.self.now c.args.seat.now.id c.args.seat.now.me (1 + c.len.result + 2 * c.args.map) g.W.Way.map g.W.Way.key c.requires.free (subst (λ n. n < c.args.self.now.table.shared.key.maps) (sym map_is) c.requires.map) c.requires.told.1 (omega arith) in
+    let may = may_enter c.args.self.now c.args.seat.now.id c.args.seat.now.me (1 + c.len.result + 2 * c.args.map) g.W.Way.map g.W.Way.key c.requires.may (subst (λ n. n < c.args.self.now.table.shared.key.maps) (sym map_is) c.requires.map) c.requires.told.1 (omega arith) in
     (c.requires.table, may.0, may.1)

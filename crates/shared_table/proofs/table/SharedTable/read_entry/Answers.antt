@@ -4,12 +4,12 @@ use Rattle.shared_table.proofs.Reading.{may_read_key, may_read_value}
 use Rattle.shared_table.proofs.table.SharedTable.read_entry.Goals as goal
 
 pub load-held-requires : goal.load-held-requires
-load-held-requires g c =
+load-held-requires c =
     let may = may_read_key c.args.self.now c.args.seat.now.id c.args.seat.now.me c.key_word.result c.args.place c.requires.begin c.requires.entry c.requires.words c.key_word.ensures in
     (c.requires.table, may.0, may.1)
 
 pub load-value-requires : goal.load-value-requires
-load-value-requires g c =
+load-value-requires c =
     let stays = c.load-held.ensures.2.0 in
     let may = may_read_value c.args.self.now c.load-held.new.seat.id c.load-held.new.seat.me c.value_word.result c.args.place
     (ap (λ m. m.0.begin) stays ∙ c.requires.begin)
