@@ -1,4 +1,6 @@
-//! Loads of a new map, by how many words they read.
+//! Loads of a new map, by how many words they read, and the end of a table.
+mod ends;
+
 ghost use Rattle.std.specs.Prelude.{◌≡◌, ◌<◌};
 ghost use Rattle.sync_model.specs.Shared.{IsCallerAt};
 ghost use Rattle.shared_table.specs.Notes.{own_by, IsNoteOf};

@@ -1,6 +1,6 @@
 -- Calls whose keys are numbers of 32 bits leave maps such keys alone.
-use Rattle.std.proofs.Common.{◌≡◌, ℕ, ◌<◌, ◌^◌, Bool, true, false, cond, eqb, ne_eqb, List, Option, Some, None, get_or, is_some, length, set, length-set, refl, sym, ap, ◌∙◌, subst, arith, inl, inr}
-use Rattle.std.specs.Cmp.{nat_cmp_total, tied_itself}
+use Rattle.std.proofs.Common.{◌≡◌, ℕ, ◌<◌, ◌^◌, Bool, true, false, cond, List, Some, None, get_or, is_some, length, set, length-set, refl, sym, ap, ◌∙◌, subst, arith, inl, inr}
+use Rattle.std.specs.Cmp.{nat_cmp_total}
 use Rattle.std.specs.FinMap.{FinMap, empty, get, insert, remove, get-empty, get-insert, get-remove, nat_cmp-IsAntisymmetric}
 use Rattle.std.specs.Ordering.{nat_cmp, eq_by_cmp, is_eq}
 use Rattle.std.specs.declared.cmp.Ordering.{Ordering}
@@ -15,14 +15,15 @@ use Rattle.sync_model.specs.declared.item.SharedEntry.{SharedEntry}
 use Rattle.sync_model.specs.declared.map_object.MapCall.{MapCall}
 use Rattle.sync_model.specs.declared.map_object.MapCall.TheVariants.{Load, Store, LoadOrStore, LoadAndDelete, Delete, Swap, CompareAndSwap, CompareAndDelete, Clear}
 use Rattle.sync_model.specs.SequentialMap.{is_value, map_key, map_after}
-use Rattle.sync_model.specs.SharedHistory.{Contents, map_at, value_at, contents_after, shared_after, is_entry, with_call}
+use Rattle.sync_model.specs.SharedHistory.{Contents, map_at, contents_after, shared_after, is_entry, with_call}
 use Rattle.shared_table.specs.declared.begin.Begin.{Begin}
 use Rattle.shared_table.specs.Keys.{HasKeysBelow}
 use Rattle.shared_table.specs.Laws.{HistoryLaws}
 use Rattle.shared_table.specs.Shape.{start_of}
 use Rattle.shared_table.proofs.Ledgers.{contents_on}
 
-not_tied : (o : Ordering) (q k : ℕ) → nat_cmp q k ≡ o → (q ≡ k → ⊥) → is_eq o ≡ false
+-- keys that differ don't tie
+pub not_tied : (o : Ordering) (q k : ℕ) → nat_cmp q k ≡ o → (q ≡ k → ⊥) → is_eq o ≡ false
 not_tied Less q k e ne = refl
 not_tied Equal q k e ne = absurd (ne (nat_cmp-IsAntisymmetric q k e))
 not_tied Greater q k e ne = refl

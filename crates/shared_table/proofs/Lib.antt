@@ -34,3 +34,6 @@ pub mod Gating
 pub mod Drafting
 pub mod Held
 pub mod Writes
+pub mod EndRows
+pub mod Endings
+pub mod Sweeping

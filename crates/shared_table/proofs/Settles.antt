@@ -62,6 +62,17 @@ only_own note i few held = by_owns note.seat.me.0.owns few held.0 held.1 held.2
     by_owns (own ∷ []) few h at is = (own, refl, ap (λ (g : Holding). g.number) (same_Some (record { number = note.seat.me.0.number; items = own.items; spare = own.spare }) h at) ∙ is)
     by_owns (own ∷ other ∷ owns) few h at is = absurd (omega arith)
 
+-- the calls of a caller, by its number
+pub calls_at : (list : List (Caller SharedNote)) (c : ℕ) (caller : Caller SharedNote) → slice_get list c ≡ Some caller → calls_of own_by list c ≡ items_of (own_by caller.note)
+calls_at [] c caller at = absurd (none-some caller at)
+calls_at (x ∷ xs) zero caller at = ap (λ (y : Caller SharedNote). items_of (own_by y.note)) (same_Some x caller at)
+calls_at (x ∷ xs) (suc c) caller at = calls_at xs c caller at
+
+pub calls_past : (list : List (Caller SharedNote)) (c : ℕ) → length list ≤ c → calls_of own_by list c ≡ []
+calls_past [] c past = refl
+calls_past (x ∷ xs) zero past = absurd (omega arith)
+calls_past (x ∷ xs) (suc c) past = calls_past xs c (omega arith)
+
 pub same_list : (callers : List (Caller SharedNote)) (other : Caller SharedNote) (note : SharedNote) → note ≡ (get_or callers 0 other).note → set callers 0 (record { note = note }) ≡ callers
 same_list callers other note is = ap (λ (n : SharedNote). set callers 0 (record { note = n })) is ∙ set-get_or callers 0 other
 
@@ -227,16 +238,6 @@ module _ (table : SharedTable) (callers : List (Caller SharedNote)) (all : AreAl
       rises = λ i old new at_old at_new. subst (λ f. AtLeast f (front_by old.note)) (sym (front_is i new at_new)) (g.fronts i old (slice_get_within callers i old at_old) at_old);
       begins = λ i old new at_old at_new. let h = g.heard i old (slice_get_within callers i old at_old) at_old in subst (λ s. Begins s (seen_by old.note)) (sym (seen_is i new at_new)) (looks.heard h.0 (seen_by old.note) h.1);
     }
-
-    calls_at : (list : List (Caller SharedNote)) (c : ℕ) (caller : Caller SharedNote) → slice_get list c ≡ Some caller → calls_of own_by list c ≡ items_of (own_by caller.note)
-    calls_at [] c caller at = absurd (none-some caller at)
-    calls_at (x ∷ xs) zero caller at = ap (λ (y : Caller SharedNote). items_of (own_by y.note)) (same_Some x caller at)
-    calls_at (x ∷ xs) (suc c) caller at = calls_at xs c caller at
-
-    calls_past : (list : List (Caller SharedNote)) (c : ℕ) → length list ≤ c → calls_of own_by list c ≡ []
-    calls_past [] c past = refl
-    calls_past (x ∷ xs) zero past = absurd (omega arith)
-    calls_past (x ∷ xs) (suc c) past = calls_past xs c (omega arith)
 
     calls_are : (c : ℕ) → calls_of own_by news c ≡ looks.calls c
     calls_are c = elim (cases_lt c (length news)) [

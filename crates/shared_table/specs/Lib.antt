@@ -22,3 +22,6 @@ pub mod WordSteps
 pub mod Walking
 pub mod Writing
 pub mod Making
+pub mod EndsOfHistory
+pub mod EndLaws
+pub mod SweepLaws

@@ -6,6 +6,7 @@ mod caller_note;
 mod chain;
 mod changes;
 mod copies;
+mod ends;
 mod laws;
 mod lookup;
 mod making;

@@ -28,10 +28,21 @@ impl SharedTable {
         ensures settled { Settled own_by front_by seen_by (first_of self.now) callers.new }
     {
         history_laws();
-        let mut all = self.seat_like(&mut callers[0].note);
-        self.bring_all(&mut all, callers);
+        let mut all = self.gather(callers);
         self.table.shared.load::<Look>(&mut all, ZERO);
         self.hand_all_back(&mut all, callers);
+    }
+
+    // One seat for all callers, of whom each keeps a copy of its own.
+    pub(crate) fn gather(&self, callers: &mut [Caller<SharedNote>]) -> Seat<(), View>
+        requires { AreAllCallers IsNoteOf own_by self.now callers.old (count_of self.now) }
+        ensures table { result.table_id ≡ self.now.table.shared.table_id }
+        ensures gathered { Gathered self.now callers.old (length callers.old) result.me }
+        ensures callers { AreSameCallers callers.old callers.new }
+    {
+        let mut all = self.seat_like(&mut callers[0].note);
+        self.bring_all(&mut all, callers);
+        all
     }
 
     // A seat that knows what a note's knows, and stands for nobody.

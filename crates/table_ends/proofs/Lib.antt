@@ -1,1 +1,5 @@
 pub mod Readings
+pub mod SlotPairs
+pub mod Contained
+pub mod Sorting
+pub mod Zips

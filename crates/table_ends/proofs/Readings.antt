@@ -1,5 +1,5 @@
 -- What is read of a row of words.
-use Rattle.std.proofs.Common.{◌≡◌, ℕ, zero, suc, ◌+◌, List, [], ◌∷◌, map, Option, Some, None, slice_get, slice_index, refl, sym, ap, ◌∙◌, subst, arith}
+use Rattle.std.proofs.Common.{◌≡◌, ℕ, zero, suc, ◌+◌, ◌<◌, List, [], ◌∷◌, map, length, Some, None, slice_get, slice_index, refl, sym, ap, ◌∙◌, arith}
 use Rattle.std.specs.List.{enumerate_from}
 use Rattle.std.proofs.lemmas.Option.{none-some, same_Some}
 use mathlib.Core.Option.{some, some-ne-none, some-injective}
@@ -27,3 +27,12 @@ module _ {A B : Type 0} (f : ℕ × A → B) where
 
   pub not_numbered : (xs : List A) (i : ℕ) → slice_get xs i ≡ None → slice_get (map f (enumerate_from 0 xs)) i ≡ None
   not_numbered xs i at = none_at 0 xs i at
+
+  pub as_long : (n : ℕ) (xs : List A) → length (map f (enumerate_from n xs)) ≡ length xs
+  as_long n [] = refl
+  as_long n (x ∷ xs) = let rest = as_long (n + 1) xs in omega arith
+
+pub item_at : {A : Type 0} (xs : List A) (i : ℕ) → i < length xs → (x : A) × (slice_get xs i ≡ Some x)
+item_at [] i below = absurd (omega arith)
+item_at (x ∷ xs) zero below = (x, refl)
+item_at (x ∷ xs) (suc i) below = item_at xs i (omega arith)

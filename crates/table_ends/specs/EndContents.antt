@@ -11,7 +11,3 @@ words_of ends = slots_items ends.closed.words
 -- what its maps and atomics contain
 abbrev pub contents_of : TableEnds → Contents
 contents_of ends = contents_in ends.kinds (words_of ends) ends.maps
-
--- how many maps there are
-abbrev pub maps_of : TableEnds → ℕ
-maps_of ends = ends.maps

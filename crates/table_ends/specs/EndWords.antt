@@ -1,5 +1,5 @@
 -- What a row of words contains that is a table's of atomics of these types and of so many maps.
-use Rattle.std.specs.Prelude.{◌≡◌, ℕ, ◌+◌, ◌^◌, ◌<◌, true, List, length, map, Option, Some, slice_get, slice_index}
+use Rattle.std.specs.Prelude.{◌≡◌, ℕ, ◌^◌, ◌<◌, true, List, length, map, Some, slice_get, slice_index}
 use Rattle.std.specs.List.{enumerate_from, range_with_len}
 use Rattle.std.specs.Ordering.{nat_cmp}
 use Rattle.std.specs.FinMap.{FinMap, from_entries}

@@ -1,2 +1,3 @@
 pub mod EndWords
 pub mod EndContents
+pub mod EndLists

@@ -2,7 +2,7 @@
 ghost use Rattle.std.specs.Prelude.{◌≡◌, ◌+◌, ◌<◌, ◌≤◌, length, slice_get};
 ghost use Rattle.std.specs.Mem.Slots.{slots_items, slots_len, IsFull};
 ghost use Rattle.sync_model.specs.SharedHistory.{value_at};
-ghost use Rattle.table_ends.specs.EndContents.{contents_of, maps_of};
+ghost use Rattle.table_ends.specs.EndContents.{contents_of};
 ghost use Rattle.table_ends.specs.EndWords.{contents_in, IsTableRow};
 
 use crate::ended::TableEnds;
@@ -13,17 +13,11 @@ use sync_model::{AtomicKind, Number, Seq};
 
 impl TableEnds {
     /// A table's words, which stand for atomics of these types and for so many maps, whose keys are hashed with the seed.
-    pub fn new(
-        closed: Closed<(), Global>,
-        kinds: Seq<AtomicKind>,
-        maps: u32,
-        seed: u32,
-    ) -> Self
+    pub fn new(closed: Closed<(), Global>, kinds: Seq<AtomicKind>, maps: u32, seed: u32) -> Self
         requires words { IsFull closed.words × (slots_len closed.slots ≡ 0) }
         requires objects { length kinds + maps ≤ 1000 }
         requires row { IsTableRow kinds (slots_items closed.words) maps seed }
         ensures contents { contents_of result ≡ contents_in kinds (slots_items closed.words) maps }
-        ensures maps { maps_of result ≡ maps }
     {
         TableEnds {
             closed,

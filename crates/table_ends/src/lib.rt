@@ -3,7 +3,8 @@
 
 mod contents;
 pub mod ended;
-mod list;
+mod pairs;
+mod report;
 mod walk;
 mod word;
 

@@ -1,8 +1,8 @@
 //! Reading words, roots and slots.
-ghost use Rattle.std.specs.Prelude.{◌≡◌, ◌^◌, ◌<◌, slice_index};
+ghost use Rattle.std.specs.Prelude.{◌≡◌, ◌^◌, ◌<◌, length, slice_index};
 ghost use Rattle.trie_nodes.specs.Nodes.{slot_at};
 ghost use Rattle.trie_nodes.specs.Slots.{place_of_slot};
-ghost use Rattle.table_ends.specs.EndContents.{maps_of, words_of};
+ghost use Rattle.table_ends.specs.EndContents.{contents_of, words_of};
 ghost use Rattle.table_ends.specs.EndWords.{root_in};
 
 use crate::ended::TableEnds;
@@ -23,7 +23,7 @@ impl TableEnds {
 
     // The place of a map's root.
     pub(crate) fn root(&self, map: u32) -> u64
-        requires { map < maps_of self.now }
+        requires { map < length (contents_of self.now).maps }
         ensures is { result ≡ root_in self.now.kinds (words_of self.now) map }
         ensures place { result < 2 ^ 63 }
     {

@@ -1,4 +1,4 @@
-use Rattle.std.proofs.Common.{slice_index, sym, ap, ◌∙◌, subst, true}
+use Rattle.std.proofs.Common.{sym, ap, ◌∙◌, subst, true}
 use Rattle.std.specs.Prelude.{◌≡◌, Some}
 use Rattle.sync_model.specs.WordLayout.{is_word, number_in}
 use Rattle.table_ends.specs.EndContents.{words_of}

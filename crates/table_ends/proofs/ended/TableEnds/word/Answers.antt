@@ -1,4 +1,3 @@
-use Rattle.std.proofs.Common.{slice_index}
 use Rattle.std.specs.Mem.Slots.{slots_items}
 use Rattle.table_ends.proofs.Readings.{word_at}
 use Rattle.table_ends.proofs.ended.TableEnds.word.Goals as goal

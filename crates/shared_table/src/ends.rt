@@ -1,0 +1,63 @@
+//! What the maps and atomics contain when all calls have returned.
+ghost use Rattle.std.specs.Prelude.{◌≡◌, ◌^◌, ◌<◌, List, length, map};
+ghost use Rattle.sync_model.specs.SequentialAtomic.{kind_of};
+ghost use Rattle.sync_model.specs.declared.item.SharedEntry.{SharedEntry};
+ghost use Rattle.sync_model.specs.Shared.{AreAllCallers, calls_of};
+ghost use Rattle.sync_model.specs.SharedCalls.{Lawful};
+ghost use Rattle.sync_model.specs.SharedHistory.{contents_after};
+ghost use Rattle.table_ends.specs.EndContents.{contents_of};
+ghost use Rattle.shared_table.specs.EndLaws.{EndLaws};
+ghost use Rattle.shared_table.specs.EndsOfHistory.{AreEnds};
+ghost use Rattle.shared_table.specs.Keys.{HasKeysBelow};
+ghost use Rattle.shared_table.specs.Notes.{own_by, seen_by, IsNoteOf};
+ghost use Rattle.shared_table.specs.Tables.{count_of, first_of, kinds_of, maps_of};
+
+use crate::begin::Begin;
+use crate::laws::history_laws;
+use crate::note::SharedNote;
+use crate::table::SharedTable;
+use sync_model::Caller;
+use sync_model::laws::shared::the_calls_determine_the_history;
+use sync_model::laws::shared_steps::maps_and_atomics_stay;
+use table_ends::TableEnds;
+use trie_nodes::laws::nodes::nodes_stand_for_what_their_slots_show;
+use trie_nodes::laws::walks::a_walk_finds_each_key_once;
+
+impl SharedTable {
+    /// Ends the maps and atomics, with all their callers in order of number, and gives what they contain after the whole
+    /// history: one that begins with what each caller has seen, and that is lawful with all their calls. It takes no memory,
+    /// and waits for nobody. No other history is lawful with all their calls, so it is the one that `settle` tells. There is a
+    /// map and an atomic of each number, of its type, and all keys that are there are numbers of 32 bits.
+    pub fn ends(self, callers: Vec<Caller<SharedNote>>) -> TableEnds
+        requires { AreAllCallers IsNoteOf own_by self callers.items (count_of self) }
+        ensures ends { AreEnds own_by seen_by (first_of self) callers.items (contents_of result) }
+        ensures after { (history : List SharedEntry) → Lawful (first_of self) history (calls_of own_by callers.items) → contents_of result ≡ contents_after (first_of self) history }
+        ensures maps { length (contents_of result).maps ≡ maps_of self }
+        ensures kinds { map kind_of (contents_of result).numbers ≡ kinds_of self }
+        ensures keys { HasKeysBelow (2 ^ 32) (contents_of result) }
+    {
+        history_laws();
+        end_laws();
+        let mut callers = callers;
+        let all = self.gather(&mut callers);
+        let SharedTable { table, begin } = self;
+        let closed = table.close_with(all);
+        let Begin {
+            kinds,
+            maps,
+            seed,
+            ..
+        } = begin;
+        TableEnds::new(closed, kinds, maps, seed)
+    }
+}
+
+// What the end of a table stands on.
+fn end_laws()
+    ensures { EndLaws }
+{
+    maps_and_atomics_stay();
+    the_calls_determine_the_history();
+    nodes_stand_for_what_their_slots_show();
+    a_walk_finds_each_key_once();
+}
