@@ -22,6 +22,7 @@ pub mod WordSteps
 pub mod Walking
 pub mod Writing
 pub mod Making
+pub mod Clearing
 pub mod EndsOfHistory
 pub mod EndLaws
 pub mod SweepLaws

@@ -5,6 +5,7 @@ pub mod begin;
 mod caller_note;
 mod chain;
 mod changes;
+mod clearing;
 mod copies;
 mod ends;
 mod laws;
