@@ -1,5 +1,5 @@
 -- A writer comes in by a map's gate, and goes out. The gate's word counts it.
-use Rattle.std.proofs.Common.{◌≡◌, ◌≢◌, ℕ, zero, suc, ◌+◌, ◌-◌, ◌%◌, ◌^◌, ◌<◌, ◌==◌, eq-eqb, Bool, true, false, cond, List, [], ◌∷◌, length, set, Some, None, slice_get, slice_index, inl, inr, refl, sym, ap, ◌∙◌, subst, arith, get_or-set_same}
+use Rattle.std.proofs.Common.{◌≡◌, ◌≢◌, ℕ, zero, suc, ◌+◌, ◌-◌, ◌*◌, ◌%◌, ◌^◌, ◌<◌, ◌≤◌, ◌==◌, eq-eqb, Bool, true, false, cond, List, [], ◌∷◌, length, set, Some, None, slice_get, slice_index, inl, inr, refl, sym, ap, ◌∙◌, subst, arith, get_or-set_same}
 use Rattle.std.proofs.lemmas.Bool.{cases_eq, eqb-true, lt-ltb}
 use Rattle.std.proofs.lemmas.List.{set-get_or}
 use Rattle.std.proofs.lemmas.Option.{none-some, slice_get_within}
@@ -14,7 +14,8 @@ use Rattle.shared_table.specs.declared.view.Own.{Own}
 use Rattle.shared_table.specs.declared.view.View.{View}
 use Rattle.shared_table.specs.Gates.{count_below, closed_bit, Gated}
 use Rattle.shared_table.specs.Laws.{HistoryLaws}
-use Rattle.shared_table.specs.Layout.{root_word, gate_word, callers_of}
+use Rattle.trie_nodes.specs.Layout.{unit_words}
+use Rattle.shared_table.specs.Layout.{root_word, gate_word, callers_of, size_of}
 use Rattle.shared_table.specs.Owed.{AtGate}
 use Rattle.shared_table.specs.Rule.{TableState, Kept}
 use Rattle.shared_table.specs.Walking.{IsFree}
@@ -321,4 +322,4 @@ goes_out k laws id me m writer = by_owns me.0.owns refl
   where
     by_owns : (owns : List Own) → me.0.owns ≡ owns → Allows (Kept k) 0 id me (gate_word k m) (λ n. (n + (2 ^ 64 - 1)) % 2 ^ 64) (GoesOut me)
     by_owns [] e = let none_there = ap length e in let stands = writer.some in absurd (omega arith)
-    by_owns (own ∷ owns) is = λ s r one at_me bounded. (holding me.0 Outside None None, keeps, tt, kept_gone k laws s r id me at_me m writer own owns is bounded, (refl, refl))
+    by_owns (own ∷ owns) is = λ s r one at_me bounded. (holding me.0 Outside None None, keeps, tt, kept_gone k laws s r id me at_me m writer own owns is bounded, (refl, refl, λ o at. subst (λ (b : Begin). o.next + unit_words * o.spare ≤ size_of b) (sym writer.begin) ((r.suits id me.0 at_me writer.live).room 0 o at).within))

@@ -9,6 +9,8 @@ pub mod Chains
 pub mod Makes
 pub mod Poised
 pub mod Sights
+pub mod MapCalls
+pub mod Payments
 pub mod Ledgers
 pub mod KeyBounds
 pub mod Lists

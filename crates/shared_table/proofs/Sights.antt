@@ -169,3 +169,33 @@ pub sight_same : (k : Begin) (call : MapCall ℕ) (m key node level next : ℕ) 
     → MatchBool (is_key_entry call (leaf_value leaf key)) (IsPoisedAt k call m key node level next leaf v two) (MadeLocked m call node (key_reply call (leaf_value leaf key)) v two)
 sight_same k call m key node level next leaf v one two same sight =
     subst (λ z. MatchBool (is_key_entry call (leaf_value leaf key)) (IsPoisedAt k call m key node level next leaf v z) (MadeLocked m call node (key_reply call (leaf_value leaf key)) v z)) same sight
+
+-- a seat that published made its call under the lock
+pub made_locked : (k : Begin) (call : MapCall ℕ) (m key node level next : ℕ) (leaf : Option Leaf) (v : View) (w after : Me (Unit {0}) View) → IsPoisedAt k call m key node level next leaf v w.0 → Publishes m call w after → MadeLocked m call node (key_reply call (leaf_value leaf key)) v after.0
+made_locked k call m key node level next leaf v w after p told =
+    let lock = p.lock in
+    let locked : w.0.lock ≡ Some lock = ap (λ (z : View). z.lock) p.is in
+    let same : p.poised.lock ≡ lock = same_Some p.poised.lock lock (sym p.poised.sees.locked ∙ locked) in
+    let key_is : lock.key ≡ key = ap (λ (z : Lock). z.key) (sym same) ∙ p.poised.at.0 in
+    let makes = subst (λ z. Makes m call (key_reply call (leaf_value w.0.leaf lock.key)) None (Some (bare lock)) z after.0) p.is (told.1 lock locked) in
+    let reply_is : key_reply call (leaf_value w.0.leaf lock.key) ≡ key_reply call (leaf_value leaf key) = (λ i. key_reply call (leaf_value (p.leaf_is i) (key_is i))) in record {
+      leaf = None;
+      lock = bare lock;
+      node_is = p.node_is;
+      living = p.living;
+      makes = record {
+        item = makes.item;
+        seen = makes.seen;
+        is = makes.is;
+        called = subst (λ z. Called (start_of v.begin) (calls.Map m call) (replies.Map z) (cost_of call) (view_state v) (view_state after.0)) reply_is makes.called;
+      };
+    }
+
+-- what is seen, where the call is an entry of the history, and where it isn't
+pub sees_entry_there : (k : Begin) (call : MapCall ℕ) (m key node level next : ℕ) (leaf : Option Leaf) (held : Option ℕ) (v w : View) → held ≡ leaf_value leaf key → is_key_entry call held ≡ true
+    → MatchBool (is_key_entry call (leaf_value leaf key)) (IsPoisedAt k call m key node level next leaf v w) (MadeLocked m call node (key_reply call (leaf_value leaf key)) v w) → IsPoisedAt k call m key node level next leaf v w
+sees_entry_there k call m key node level next leaf held v w same entry sight = subst (λ b. MatchBool b (IsPoisedAt k call m key node level next leaf v w) (MadeLocked m call node (key_reply call (leaf_value leaf key)) v w)) (ap (is_key_entry call) (sym same) ∙ entry) sight
+
+pub sees_answer : (k : Begin) (call : MapCall ℕ) (m key node level next : ℕ) (leaf : Option Leaf) (held : Option ℕ) (v w : View) → held ≡ leaf_value leaf key → is_key_entry call held ≡ false
+    → MatchBool (is_key_entry call (leaf_value leaf key)) (IsPoisedAt k call m key node level next leaf v w) (MadeLocked m call node (key_reply call (leaf_value leaf key)) v w) → MadeLocked m call node (key_reply call (leaf_value leaf key)) v w
+sees_answer k call m key node level next leaf held v w same entry sight = subst (λ b. MatchBool b (IsPoisedAt k call m key node level next leaf v w) (MadeLocked m call node (key_reply call (leaf_value leaf key)) v w)) (ap (is_key_entry call) (sym same) ∙ entry) sight

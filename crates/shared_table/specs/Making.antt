@@ -35,7 +35,7 @@ use Rattle.shared_table.specs.Shape.{start_of}
 use Rattle.shared_table.specs.Units.{link_at, unit_word}
 use Rattle.shared_table.specs.Views.{with_item, paid, called_view, view_state}
 use Rattle.shared_table.specs.Walking.{standing, walk_at, given_by, HasWords, Answers, FindsIn}
-use Rattle.shared_table.specs.Writing.{holding, lock_at}
+use Rattle.shared_table.specs.Writing.{holding, lock_at, HasRoomWithin}
 
 -- what a call does to its key, by what the key has
 abbrev pub IsChange : MapCall ℕ → Option ℕ → Change → Type 0
@@ -152,7 +152,7 @@ pub record FindsHeld (call : MapCall ℕ) (w : Walk) (l : Lock) (slot : ℕ) (fo
   pub is_slot : found ≡ slot_in word
   pub finds : FindsIn call w found before mid
   pub is : after ≡ holding mid mid.gate (Some (found_lock l slot word)) None
-  pub room : (own : Own) → slice_get before.owns 0 ≡ Some own → own.next + unit_words * own.spare ≤ size_of before.begin
+  pub room : HasRoomWithin before
 
 abbrev pub LooksHeld : MapCall ℕ → Me (Unit {0}) View → Slot → Me (Unit {0}) View → Type 0
 LooksHeld call before found after =
@@ -234,6 +234,11 @@ pub record IsWriting (k : Begin) (me : Me (Unit {0}) View) (m : ℕ) : Type 0 wh
   pub leaf : me.0.leaf ≡ None
   pub lock : me.0.lock ≡ None
   pub upper : me.0.upper ≡ None
+
+-- where a walk ends at a node whose slot gives the key this: a call that is no entry of the history is answered
+abbrev pub IsEnd : MapCall ℕ → Option ℕ → ℕ → ℕ → Reached → Type 0
+IsEnd call held node level (Answered reply) = (is_key_entry call held ≡ false) × (reply ≡ key_reply call held)
+IsEnd call held node level (Stands n l) = (is_key_entry call held ≡ true) × (n ≡ node) × (l ≡ level)
 
 -- the way down to a key ended: its call was answered, or the seat stands at the node whose slot for the key has no node
 abbrev pub IsReached : MapCall ℕ → ℕ → ℕ → Reached → View → View → Type 0

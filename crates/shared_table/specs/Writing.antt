@@ -1,5 +1,5 @@
 -- A seat that writes: what it holds, and what its steps tell.
-use Rattle.std.specs.Prelude.{◌≡◌, ℕ, ◌+◌, ◌*◌, ◌<◌, ◌≤◌, ◌==◌, Bool, true, false, List, [], ◌∷◌, ◌++◌, length, Option, Some, None, MatchBool}
+use Rattle.std.specs.Prelude.{◌≡◌, ℕ, ◌+◌, ◌*◌, ◌<◌, ◌≤◌, ◌==◌, Bool, true, false, List, [], ◌∷◌, ◌++◌, length, Option, Some, None, MatchBool, slice_get}
 use Rattle.atomic_table.specs.Table.{Me}
 use Rattle.shared_table.specs.declared.begin.Begin.{Begin}
 use Rattle.shared_table.specs.declared.view.Gate.{Gate}
@@ -67,9 +67,13 @@ pub record IsInside (k : Begin) (me : Me (Unit {0}) View) (m : ℕ) : Type 0 whe
   pub lock : me.0.lock ≡ None
   pub upper : me.0.upper ≡ None
 
+-- the room of a seat's first caller lies within the table
+abbrev pub HasRoomWithin : View → Type 0
+HasRoomWithin v = (own : Own) → slice_get v.owns 0 ≡ Some own → own.next + unit_words * own.spare ≤ size_of v.begin
+
 -- a seat went out
 abbrev pub GoesOut : Me (Unit {0}) View → ℕ → Me (Unit {0}) View → Type 0
-GoesOut before found after = (after.1 ≡ before.1) × (after.0 ≡ holding before.0 Outside None None)
+GoesOut before found after = (after.1 ≡ before.1) × (after.0 ≡ holding before.0 Outside None None) × HasRoomWithin before.0
 
 -- one more word in the room of the first caller
 abbrev pub with_word : List Own → ℕ → List Own

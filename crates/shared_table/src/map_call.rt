@@ -1,15 +1,24 @@
 //! A call that writes a map: in by the map's gate, down to the node whose slot for the key has no node, its lock, a second look, one
 //! write, and out again.
-ghost use Rattle.std.specs.Prelude.{◌≡◌, ℕ, ◌<◌, ◌^◌, Some, MatchOption, length};
+ghost use Rattle.std.specs.Prelude.{◌≡◌, ℕ, ◌<◌, ◌≤◌, ◌^◌, Some, None, IsSome, MatchBool, MatchOption, length};
+ghost use Rattle.shared_table.specs.declared.view.Gate.TheVariants.{Inside};
+ghost use Rattle.shared_table.specs.declared.view.Walk.{Walk};
+ghost use Rattle.shared_table.specs.Writing.{holding, lock_at, IsWriter, HasRoomWithin};
 ghost use Rattle.sync_model.specs.SequentialMap.{map_key};
-ghost use Rattle.sync_model.specs.Shared.{cost_of};
-ghost use Rattle.shared_table.specs.Making.{StandsLocked, HasUnit, StillLocked, MadeLocked, IsWriting, IsReached, MayHaveMade, Made, leaf_value, IsSight, IsPoised, Publishes};
+ghost use Rattle.std.specs.Option.{ForSome};
+ghost use Rattle.sync_model.specs.declared.item.SharedCall.TheVariants as calls;
+ghost use Rattle.sync_model.specs.declared.item.SharedReply.TheVariants as replies;
+ghost use Rattle.sync_model.specs.Note.{SameHome};
+ghost use Rattle.sync_model.specs.Shared.{Called, cost_of, state_of};
+ghost use Rattle.shared_table.specs.Notes.{front_by, own_by, seen_by, IsNoteOf};
+ghost use Rattle.shared_table.specs.Making.{IsEnd, StandsLocked, HasUnit, StillLocked, MadeLocked, IsWriting, IsReached, MayHaveMade, Made, leaf_value, IsSight, IsPoised, Publishes};
 ghost use Rattle.shared_table.specs.KeyCalls.{key_after};
-ghost use Rattle.shared_table.specs.Tables.{maps_of};
-ghost use Rattle.shared_table.specs.Walking.{walk_at, HasWords, Affords, IsFree, OnWay, AtEntry};
+ghost use Rattle.shared_table.specs.Tables.{maps_of, first_of};
+ghost use Rattle.shared_table.specs.Walking.{walk_at, HasWords, Affords, IsFree, OnWay, AtEntry, Answers};
 
 use crate::changes::{Change, reply_of};
 use crate::laws::{history_laws, trie_laws};
+use crate::note::SharedNote;
 use crate::table::SharedTable;
 use crate::view::{Leaf, View};
 use atomic_table::Seat;
@@ -17,7 +26,7 @@ use crossbeam_utils::Backoff;
 use std::sync::Wait;
 use sync_model::{MapCall, MapReply};
 use trie_nodes::layout::{DEAD, lock_word};
-use trie_nodes::{LEVELS, Slot};
+use trie_nodes::{LEVELS, Slot, UNIT_WORDS};
 
 /// Where the way down to a key ended.
 pub(crate) enum Reached {
@@ -25,6 +34,19 @@ pub(crate) enum Reached {
     Answered(MapReply),
     /// At the node whose slot for the key has no node.
     Stands { node: u64, level: u32 },
+}
+
+impl Reached {
+    // Where a walk ends at a node whose slot gives the key this.
+    fn at(call: MapCall<u32>, held: Option<u64>, node: u64, level: u32) -> Reached
+        requires { IsSome (map_key call) }
+        ensures { IsEnd call held node level result }
+    {
+        match Change::of(call, held) {
+            Change::Keep => Reached::Answered(reply_of(call, held)),
+            Change::Put(_) | Change::Remove => Reached::Stands { node, level },
+        }
+    }
 }
 
 /// What a seat saw of its key's slot under a lock.
@@ -46,6 +68,30 @@ fn value_in(leaf: Option<Leaf>, key: u32) -> Option<u64>
 }
 
 impl SharedTable {
+    /// Makes a call on a key of a map that may change it, and uses up one unit of its caller's room, whatever it answers. A call
+    /// that is an entry of the history is placed at its one write, and any other at the slot's read that showed its answer. It
+    /// waits while another caller has the lock of the node where the key belongs, or has closed the map's gate.
+    pub fn change_map<R: Wait>(
+        &self,
+        rt: &R,
+        note: &mut SharedNote,
+        map: u32,
+        key: u32,
+        call: MapCall<u32>,
+    ) -> MapReply
+        requires note { IsNoteOf self.now note.old × IsSome (own_by note.old) }
+        requires map { map < maps_of self.now }
+        requires call { (map_key call ≡ Some key) × (cost_of call ≡ 1) }
+        requires spare { ForSome (own_by note.old) (λ holding. cost_of call ≤ holding.spare) }
+        ensures home { SameHome IsNoteOf note.old note.new }
+        ensures called { Called (first_of self.now) (calls.Map map call) (replies.Map result) (cost_of call) (state_of own_by front_by seen_by note.old) (state_of own_by front_by seen_by note.new) }
+    {
+        let reply = self.make(rt, &mut note.seat, call, map, key, note.number, note.next);
+        note.next += UNIT_WORDS as u64;
+        note.spare -= 1;
+        reply
+    }
+
     // Looks at the key's slot under the lock of the node where the seat stands.
     fn see_held(
         &self,
@@ -145,5 +191,169 @@ impl SharedTable {
                 }
             }
         }
+    }
+
+    // Comes in as a writer of the map. It waits while the gate is closed.
+    fn come_in<R: Wait>(&self, rt: &R, seat: &mut Seat<(), View>, map: u32)
+        requires table { seat.old.table_id ≡ self.now.table.shared.table_id }
+        requires free { IsFree self.now.table.shared.key seat.old.me }
+        requires map { map < maps_of self.now }
+        ensures table { seat.new.table_id ≡ seat.old.table_id }
+        ensures inside { (seat.new.me.1 ≡ seat.old.me.1) × (seat.new.me.0 ≡ holding seat.old.me.0 (Inside map) None None) }
+    {
+        let backoff = Backoff::new();
+        for _ in rt.forever() {
+            if self.try_come_in(seat, map) {
+                return;
+            }
+            backoff.snooze();
+        }
+        unreachable!()
+    }
+
+    // Whether a node is dead, so that nobody takes its lock any more.
+    fn is_dead(&self, node: u64) -> bool
+        requires { node < self.now.table.shared.table_id.words }
+    {
+        self.table.shared.peek(lock_word(node)) == DEAD
+    }
+
+    // Takes the lock of the node where the seat stands, and waits while another has it. It can't where the node is dead.
+    fn take_lock<R: Wait>(&self, rt: &R, seat: &mut Seat<(), View>, node: u64, caller: u32) -> bool
+        requires table { seat.old.table_id ≡ self.now.table.shared.table_id }
+        requires writer { (w : Walk) × (w.node ≡ node) × IsWriter self.now.table.shared.key seat.old.me w }
+        requires words { HasWords seat.old.me.0 node 18 }
+        requires caller { caller ≡ seat.old.me.0.number }
+        ensures table { seat.new.table_id ≡ seat.old.table_id }
+        ensures slots { seat.new.me.1 ≡ seat.old.me.1 }
+        ensures lock { (w : Walk) → seat.old.me.0.walk ≡ Some w → MatchBool result ((up : ℕ) × (seat.new.me.0 ≡ holding seat.old.me.0 seat.old.me.0.gate (Some (lock_at w up)) None)) (seat.new.me.0 ≡ seat.old.me.0) }
+    {
+        let backoff = Backoff::new();
+        for _ in rt.forever() {
+            if self.is_dead(node) {
+                return false;
+            }
+            if self.try_lock(seat, node, caller) {
+                return true;
+            }
+            backoff.snooze();
+        }
+        unreachable!()
+    }
+
+    // Makes a call at the node where the seat stands. It can't where the slot has become a node, or the node is dead.
+    fn make_at<R: Wait>(
+        &self,
+        rt: &R,
+        seat: &mut Seat<(), View>,
+        call: MapCall<u32>,
+        map: u32,
+        key: u32,
+        node: u64,
+        level: u32,
+        caller: u32,
+        next: u64,
+    ) -> Option<MapReply>
+        requires table { seat.old.table_id ≡ self.now.table.shared.table_id }
+        requires call { (map_key call ≡ Some key) × (cost_of call ≡ 1) }
+        requires unit { HasUnit seat.old.me.0.owns next }
+        requires writer { IsWriter self.now.table.shared.key seat.old.me (walk_at map key node level (length seat.old.me.0.seen)) × (seat.old.me.0.leaf ≡ None) }
+        requires words { HasWords seat.old.me.0 node 18 }
+        requires level { level < 8 }
+        requires caller { caller ≡ seat.old.me.0.number }
+        ensures table { seat.new.table_id ≡ seat.old.table_id }
+        ensures made { (seat.new.me.1 ≡ seat.old.me.1) × MayHaveMade map call result seat.old.me.0 seat.new.me.0 }
+    {
+        if !self.take_lock(rt, seat, node, caller) {
+            return None;
+        }
+        let reply = self.make_held(seat, call, map, key, node, level, next);
+        self.unlock(seat, node);
+        reply
+    }
+
+    // Goes down from the map's root to the node whose slot for the key has no node. The call may be answered there.
+    fn descend(&self, seat: &mut Seat<(), View>, call: MapCall<u32>, map: u32, key: u32) -> Reached
+        requires table { seat.old.table_id ≡ self.now.table.shared.table_id }
+        requires call { (map_key call ≡ Some key) × Affords (cost_of call) seat.old.me.0.owns }
+        requires writing { IsWriting self.now.table.shared.key seat.old.me map }
+        requires map { map < maps_of self.now }
+        ensures table { seat.new.table_id ≡ seat.old.table_id }
+        ensures reached { (seat.new.me.1 ≡ seat.old.me.1) × IsReached call map key result seat.old.me.0 seat.new.me.0 }
+    {
+        let mut node = self.enter(seat, map, key);
+        for level in 0..LEVELS {
+            match self.look(seat, call, map, key, node, level) {
+                Slot::Empty => return Reached::at(call, None, node, level),
+                Slot::Node(below) => node = below,
+                Slot::Entry(place) => {
+                    let held = self.read_entry(seat, place, key);
+                    return Reached::at(call, held, node, level);
+                }
+            }
+        }
+        unreachable!()
+    }
+
+    // Makes a call inside the map's gate.
+    fn make_inside<R: Wait>(
+        &self,
+        rt: &R,
+        seat: &mut Seat<(), View>,
+        call: MapCall<u32>,
+        map: u32,
+        key: u32,
+        caller: u32,
+        next: u64,
+    ) -> MapReply
+        requires table { seat.old.table_id ≡ self.now.table.shared.table_id }
+        requires call { (map_key call ≡ Some key) × (cost_of call ≡ 1) }
+        requires unit { HasUnit seat.old.me.0.owns next }
+        requires writing { IsWriting self.now.table.shared.key seat.old.me map }
+        requires map { map < maps_of self.now }
+        requires caller { caller ≡ seat.old.me.0.number }
+        ensures table { seat.new.table_id ≡ seat.old.table_id }
+        ensures made { (seat.new.me.1 ≡ seat.old.me.1) × Answers map call result None seat.old.me.0 seat.new.me.0 }
+    {
+        for _ in rt.forever() {
+            match self.descend(seat, call, map, key) {
+                Reached::Answered(reply) => return reply,
+                Reached::Stands { node, level } => {
+                    if let Some(reply) = self.make_at(
+                        rt, seat, call, map, key, node, level, caller, next,
+                    ) {
+                        return reply;
+                    }
+                }
+            }
+        }
+        unreachable!()
+    }
+
+    // Makes a call, by a seat.
+    fn make<R: Wait>(
+        &self,
+        rt: &R,
+        seat: &mut Seat<(), View>,
+        call: MapCall<u32>,
+        map: u32,
+        key: u32,
+        caller: u32,
+        next: u64,
+    ) -> MapReply
+        requires table { seat.old.table_id ≡ self.now.table.shared.table_id }
+        requires call { (map_key call ≡ Some key) × (cost_of call ≡ 1) }
+        requires unit { HasUnit seat.old.me.0.owns next }
+        requires free { IsFree self.now.table.shared.key seat.old.me × (length seat.old.me.0.owns ≤ 1) }
+        requires map { map < maps_of self.now }
+        requires caller { caller ≡ seat.old.me.0.number }
+        ensures table { seat.new.table_id ≡ seat.old.table_id }
+        ensures made { (seat.new.me.1 ≡ seat.old.me.1) × Made map call result seat.old.me.0 seat.new.me.0 }
+        ensures room { HasRoomWithin seat.new.me.0 }
+    {
+        self.come_in(rt, seat, map);
+        let reply = self.make_inside(rt, seat, call, map, key, caller, next);
+        self.go_out(seat, map);
+        reply
     }
 }

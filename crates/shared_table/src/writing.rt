@@ -11,7 +11,7 @@ ghost use Rattle.sync_model.specs.SequentialMap.{map_key};
 ghost use Rattle.sync_model.specs.Shared.{cost_of};
 ghost use Rattle.shared_table.specs.Making.{StandsLocked, LooksHeld};
 ghost use Rattle.trie_nodes.specs.Slots.{slot_in};
-ghost use Rattle.shared_table.specs.Writing.{holding, lock_at, IsWriter, TriesLock, Holds, Unlocks, ComesIn, IsInside, GoesOut, drafted, Drafts, HasDraft};
+ghost use Rattle.shared_table.specs.Writing.{holding, lock_at, IsWriter, TriesLock, Holds, Unlocks, ComesIn, IsInside, GoesOut, HasRoomWithin, drafted, Drafts, HasDraft};
 
 use crate::laws::history_laws;
 use crate::lookup::Way;
@@ -186,6 +186,7 @@ impl SharedTable {
         requires map { map < maps_of self.now }
         ensures table { seat.new.table_id ≡ seat.old.table_id }
         ensures out { (seat.new.me.1 ≡ seat.old.me.1) × (seat.new.me.0 ≡ holding seat.old.me.0 Outside None None) }
+        ensures room { HasRoomWithin seat.old.me.0 }
     {
         history_laws();
         let word = 2 + self.begin.kinds.len() + 2 * map as usize;

@@ -1,0 +1,10 @@
+use Rattle.std.proofs.Common.{◌≡◌, ◌<◌}
+use Rattle.shared_table.proofs.Reading.{IsAt}
+use Rattle.shared_table.proofs.table.SharedTable.descend.Given as goal
+
+abbrev pub invariant-loop-level : goal.invariant-loop-level
+invariant-loop-level l = record {
+  table : l.seat.table_id ≡ l.fn.seat.table_id;
+  at : IsAt l.fn.seat.me l.map l.key l.seat.me l.node l.level;
+  below : l.level < 8;
+}
