@@ -1,5 +1,5 @@
 -- A seat closes a map's gate, sees that no writer is inside, and opens the gate. The gate's word says whether it is closed.
-use Rattle.std.proofs.Common.{◌≡◌, ◌≢◌, ℕ, zero, suc, ◌+◌, ◌^◌, ◌<◌, ◌≤◌, ◌==◌, eq-eqb, Bool, true, false, cond, List, [], ◌∷◌, length, set, None, Some, slice_get, slice_index, inl, inr, refl, sym, ap, ◌∙◌, subst, arith, get_or-set_same}
+use Rattle.std.proofs.Common.{◌≡◌, ◌≢◌, ℕ, zero, suc, ◌+◌, ◌*◌, ◌^◌, ◌<◌, ◌≤◌, ◌==◌, eq-eqb, Bool, true, false, cond, List, [], ◌∷◌, length, set, None, Some, slice_get, slice_index, inl, inr, refl, sym, ap, ◌∙◌, subst, arith, get_or-set_same}
 use Rattle.std.proofs.lemmas.Bool.{cases_eq, cases_lt, eqb-true, lt-ltb}
 use Rattle.std.proofs.lemmas.List.{set-get_or}
 use Rattle.std.proofs.lemmas.Option.{none-some}
@@ -16,7 +16,8 @@ use Rattle.shared_table.specs.declared.view.View.{View}
 use Rattle.shared_table.specs.Clearing.{HasClosed, TriedClose, Closes, SeesAlone, LooksInside}
 use Rattle.shared_table.specs.Gates.{count_below, closed_bit, Gated}
 use Rattle.shared_table.specs.Laws.{HistoryLaws}
-use Rattle.shared_table.specs.Layout.{root_word, gate_word, heads, callers_of}
+use Rattle.trie_nodes.specs.Layout.{unit_words}
+use Rattle.shared_table.specs.Layout.{root_word, gate_word, heads, callers_of, size_of}
 use Rattle.shared_table.specs.Owed.{AtGate}
 use Rattle.shared_table.specs.Rule.{TableState, Kept}
 use Rattle.shared_table.specs.Shape.{Shape, Fine}
@@ -309,5 +310,5 @@ opens k laws id me m has = by_owns me.0.owns refl
                 | inr ne ↦ closer_other r.shape.closed_by m 0 n ne ∙ closed
               ])
               tt,
-          (refl, refl),
+          (refl, refl, λ o at_first. subst (λ (b : Begin). o.next + unit_words * o.spare ≤ size_of b) (sym has.begin) ((r.suits id me.0 at_me has.live).room 0 o at_first).within),
         )
