@@ -1,5 +1,6 @@
 -- Calls on the maps of a shared table.
-use Rattle.std.specs.Prelude.{ℕ}
+use Rattle.std.specs.Prelude.{ℕ, ◌≤◌}
+use Rattle.std.specs.Option.{ForSome}
 use Rattle.sync_model.specs.declared.item.SharedCall.TheVariants as calls
 use Rattle.sync_model.specs.declared.item.SharedReply.TheVariants as replies
 use Rattle.sync_model.specs.declared.map_object.MapCall.{MapCall}
@@ -15,3 +16,7 @@ use Rattle.shared_table.specs.Tables.{first_of}
 abbrev pub MakesCall : SharedTable → ℕ → MapCall ℕ → MapReply → SharedNote → SharedNote → Type 0
 MakesCall table map call reply old new =
     SameHome IsNoteOf old new × Called (first_of table) (calls.Map map call) (replies.Map reply) (cost_of call) (state_of own_by front_by seen_by old) (state_of own_by front_by seen_by new)
+
+-- a note's holder has a unit of room left, which a call that may change a map takes, whatever it answers
+abbrev pub HasSpare : SharedNote → Type 0
+HasSpare note = ForSome (own_by note) (λ holding. 1 ≤ holding.spare)

@@ -2,6 +2,7 @@
 #![tactic(auto)]
 
 pub mod map;
+mod reply;
 
 pub use map::Map;
 

@@ -6,6 +6,11 @@ ghost use Rattle.sync_model.specs.Shared.{IsCallerAt};
 ghost use Rattle.shared_table.specs.Notes.{own_by, IsNoteOf};
 ghost use Rattle.shared_table.specs.Tables.{maps_of};
 
+mod crew;
+mod deep;
+mod merged;
+mod threads;
+
 use crate::Map;
 use shared_table::{SharedNote, SharedTable, Steps};
 use std::alloc::{AllocError, Global};

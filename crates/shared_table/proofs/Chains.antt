@@ -1,7 +1,6 @@
 -- A chain may be published in a slot that has the entry of another key: each of its nodes is in order at the one write.
-use Rattle.std.proofs.Common.{◌≡◌, ◌≢◌, ◌⊎◌, inl, inr, ℕ, zero, suc, ◌+◌, ◌-◌, ◌*◌, ◌/◌, ◌%◌, ◌^◌, ◌<◌, ◌≤◌, ◌==◌, ◌&&◌, Bool, true, false, cond, nat_lt, IsTrue, if◌then◌else◌, List, [], ◌∷◌, ◌++◌, length, set, Option, Some, None, slice_get, slice_index, refl, sym, ap, ◌∙◌, subst, arith, eq-eqb, eqb-true, ltb-true, lt-ltb}
+use Rattle.std.proofs.Common.{◌≡◌, ◌≢◌, ◌⊎◌, inl, inr, ℕ, suc, ◌+◌, ◌-◌, ◌*◌, ◌/◌, ◌%◌, ◌^◌, ◌<◌, ◌==◌, ◌&&◌, Bool, true, cond, nat_lt, IsTrue, List, [], ◌∷◌, ◌++◌, set, Option, Some, None, slice_index, refl, sym, ap, ◌∙◌, subst, arith, eq-eqb, lt-ltb}
 use Rattle.std.proofs.lemmas.Bool.{cases_eq}
-use Rattle.std.proofs.lemmas.Option.{none-some, same_Some}
 use mathlib.Core.Option.{some}
 use lib.ListN.{get_elem?}
 use Rattle.sync_model.specs.declared.item.SharedEntry.{SharedEntry}
@@ -16,14 +15,14 @@ use Rattle.shared_table.specs.Laws.{HistoryLaws}
 use Rattle.trie_nodes.specs.declared.plan.Expansion.{Expansion}
 use Rattle.trie_nodes.specs.declared.slot.Slot.{Slot}
 use Rattle.trie_nodes.specs.declared.slot.Slot.TheVariants.{Empty, Node, Entry}
-use Rattle.trie_nodes.specs.Layout.{parent_word, slot_word, unit_words}
+use Rattle.trie_nodes.specs.Layout.{slot_word}
 use Rattle.trie_nodes.specs.Nodes.{Shows, entry_value}
 use Rattle.trie_nodes.specs.Paths.{nibble, route}
-use Rattle.trie_nodes.specs.Plans.{one_slot, two_slots, place_before, last_slots, IsNewNode, IsChainAt, IsExpansion}
+use Rattle.trie_nodes.specs.Plans.{one_slot, place_before, last_slots, IsNewNode, IsChainAt, IsExpansion}
 use Rattle.trie_nodes.specs.Slots.{word_of_slot, slot_in}
 use Rattle.shared_table.specs.Owed.{Locks}
 use Rattle.shared_table.specs.Rule.{TableState, Kept}
-use Rattle.shared_table.specs.Shape.{Shape, start_of, held_at, till, time, IsBelow, ShowsAt, Fine}
+use Rattle.shared_table.specs.Shape.{Shape, start_of, held_at, time, IsBelow, ShowsAt, Fine}
 use Rattle.shared_table.specs.TrieLaws.{TrieLaws}
 use Rattle.shared_table.specs.Units.{link_at, with_unit, link_slots, link_word, unit_word}
 use Rattle.shared_table.proofs.KeyCalls.{IsOn, ChangesKey}

@@ -1,7 +1,7 @@
 -- A seat looks at its key's slot under a lock: it finds what any look finds, and may rely on it.
-use Rattle.std.proofs.Common.{◌≡◌, ℕ, zero, suc, ◌+◌, ◌*◌, ◌<◌, ◌≤◌, Bool, true, false, MatchBool, List, [], ◌∷◌, ◌++◌, length, set, set-set, Option, Some, None, slice_get, slice_index, refl, sym, ap, ◌∙◌, subst, arith}
+use Rattle.std.proofs.Common.{◌≡◌, ℕ, zero, suc, ◌+◌, ◌*◌, ◌<◌, ◌≤◌, Bool, true, false, MatchBool, List, [], ◌∷◌, length, set, set-set, Option, Some, None, slice_get, slice_index, refl, sym, ap, ◌∙◌, subst, arith}
 use Rattle.std.proofs.lemmas.List.{set-get_or}
-use Rattle.std.proofs.lemmas.Option.{none-some, same_Some}
+use Rattle.std.proofs.lemmas.Option.{same_Some}
 use mathlib.Core.Option.{some}
 use lib.ListN.{get_elem?}
 use Rattle.atomic_table.specs.Table.{Me, keeps, Allows}
@@ -9,7 +9,6 @@ use Rattle.sync_model.specs.declared.item.Item.{Item}
 use Rattle.sync_model.specs.declared.map_object.MapCall.{MapCall}
 use Rattle.sync_model.specs.Shared.{cost_of}
 use Rattle.shared_table.specs.declared.begin.Begin.{Begin}
-use Rattle.shared_table.specs.declared.view.Gate.{Gate}
 use Rattle.shared_table.specs.declared.view.Lock.{Lock}
 use Rattle.shared_table.specs.declared.view.Own.{Own}
 use Rattle.shared_table.specs.declared.view.View.{View}
@@ -30,7 +29,7 @@ use Rattle.shared_table.specs.Walking.{standing, given_by, Answers, FindsIn, Set
 use Rattle.shared_table.specs.Writing.{holding, lock_at, Holds}
 use Rattle.shared_table.proofs.KeyCalls.{IsOn}
 use Rattle.shared_table.proofs.Locking.{kept_found}
-use Rattle.shared_table.proofs.Lists.{each_after, set_here}
+use Rattle.shared_table.proofs.Lists.{set_here}
 use Rattle.shared_table.proofs.Lookups.{found_in}
 
 -- what a look leaves to its seat

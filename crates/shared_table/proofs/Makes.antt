@@ -1,5 +1,5 @@
 -- A seat may publish its call's change, in each of the three ways, whatever the table is.
-use Rattle.std.proofs.Common.{◌≡◌, ◌≢◌, ◌⊎◌, inl, inr, ℕ, zero, suc, ◌+◌, ◌*◌, ◌^◌, ◌<◌, ◌≤◌, ◌==◌, true, cond, List, [], ◌∷◌, ◌++◌, length, set, Option, Some, None, slice_get, slice_index, refl, sym, ap, ◌∙◌, subst, arith}
+use Rattle.std.proofs.Common.{◌≡◌, ◌≢◌, inl, inr, ℕ, ◌+◌, ◌^◌, ◌<◌, ◌≤◌, ◌==◌, true, cond, List, length, set, Option, Some, None, slice_index, refl, sym, ap, ◌∙◌, subst, arith}
 use Rattle.std.proofs.lemmas.Option.{none-some, same_Some}
 use mathlib.Core.Option.{some}
 use lib.ListN.{get_elem?}
@@ -16,13 +16,12 @@ use Rattle.shared_table.specs.declared.view.Own.{Own}
 use Rattle.shared_table.specs.declared.view.View.{View}
 use Rattle.shared_table.specs.KeyCalls.{is_key_entry, key_reply, key_after}
 use Rattle.shared_table.specs.Laws.{HistoryLaws}
-use Rattle.trie_nodes.specs.declared.plan.Expansion.{Expansion}
 use Rattle.trie_nodes.specs.declared.slot.Slot.{Slot}
 use Rattle.trie_nodes.specs.declared.slot.Slot.TheVariants.{Empty, Node, Entry}
 use Rattle.trie_nodes.specs.Layout.{slot_word, unit_words}
 use Rattle.trie_nodes.specs.Nodes.{Shows, entry_value}
 use Rattle.trie_nodes.specs.Paths.{nibble}
-use Rattle.trie_nodes.specs.Slots.{word_of_slot, slot_in}
+use Rattle.trie_nodes.specs.Slots.{slot_in}
 use Rattle.shared_table.specs.Making.{leaf_value, HasLeaf, Sees, Removes, Stores, Expands, Makes, MayPublish, bare, Publishes}
 use Rattle.shared_table.specs.Owed.{Locks}
 use Rattle.shared_table.specs.Rule.{TableState, Kept}

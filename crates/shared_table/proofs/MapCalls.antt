@@ -1,5 +1,5 @@
 -- A writer's way down to its key, and what its call leaves.
-use Rattle.std.proofs.Common.{◌≡◌, ℕ, zero, suc, ◌+◌, ◌<◌, ◌≤◌, Bool, true, false, MatchBool, length, Option, Some, None, refl, sym, ap, ◌∙◌, subst, arith}
+use Rattle.std.proofs.Common.{◌≡◌, ℕ, suc, ◌<◌, Bool, true, false, MatchBool, length, Option, Some, None, refl, sym, ap, ◌∙◌, subst}
 use Rattle.atomic_table.specs.Table.{Me}
 use Rattle.sync_model.specs.declared.item.SharedCall.TheVariants as calls
 use Rattle.sync_model.specs.declared.item.SharedReply.TheVariants as replies
@@ -17,7 +17,7 @@ use Rattle.shared_table.specs.KeyCalls.{is_key_entry, key_reply}
 use Rattle.trie_nodes.specs.declared.slot.Slot.TheVariants.{Empty, Node, Entry}
 use Rattle.shared_table.specs.Making.{IsWriting, IsEnd, IsReached, Made}
 use Rattle.shared_table.specs.Shape.{start_of}
-use Rattle.shared_table.specs.Views.{with_item, paid, called_view, view_state, IsIdle}
+use Rattle.shared_table.specs.Views.{with_item, paid, called_view, view_state}
 use Rattle.shared_table.specs.Walking.{standing, walk_at, given_by, HasWords, Answers, FindsIn, Settles, IsFree, OnWay, AtEntry}
 use Rattle.shared_table.specs.Writing.{holding}
 use Rattle.shared_table.proofs.Reading.{IsAt}

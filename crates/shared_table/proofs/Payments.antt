@@ -1,11 +1,10 @@
 -- A note after a call that used up a unit of its caller's room.
-use Rattle.std.proofs.Common.{◌≡◌, ℕ, zero, suc, ◌+◌, ◌-◌, ◌*◌, ◌^◌, ◌<◌, ◌≤◌, true, List, [], ◌∷◌, ◌++◌, length, Option, Some, None, IsSome, slice_get, slice_index, refl, sym, ap, ◌∙◌, subst, arith}
-use Rattle.std.proofs.lemmas.Option.{none-some, same_Some}
+use Rattle.std.proofs.Common.{◌≡◌, ℕ, zero, suc, ◌+◌, ◌-◌, ◌*◌, ◌^◌, ◌<◌, ◌≤◌, true, List, [], ◌∷◌, ◌++◌, length, Some, IsSome, slice_get, slice_index, refl, sym, ap, ◌∙◌, subst, arith}
+use Rattle.std.proofs.lemmas.Option.{same_Some}
 use Rattle.std.specs.Option.{ForSome}
-use Rattle.sync_model.specs.declared.item.Item.{Item}
 use Rattle.sync_model.specs.declared.map_object.MapCall.{MapCall}
 use Rattle.sync_model.specs.declared.map_object.MapReply.{MapReply}
-use Rattle.sync_model.specs.Note.{Holding, IsCounted}
+use Rattle.sync_model.specs.Note.{IsCounted}
 use Rattle.sync_model.specs.Shared.{cost_of}
 use Rattle.shared_table.specs.declared.begin.Begin.{Begin}
 use Rattle.shared_table.specs.declared.note.SharedNote.{SharedNote}
@@ -16,7 +15,7 @@ use Rattle.trie_nodes.specs.Layout.{unit_words}
 use Rattle.shared_table.specs.Layout.{size_of}
 use Rattle.shared_table.specs.Making.{HasUnit, Made}
 use Rattle.shared_table.specs.Notes.{own_by, IsNoteOf}
-use Rattle.shared_table.specs.Views.{held_in, with_item, paid, spend, called_view, next_in, spare_in, IsIdle}
+use Rattle.shared_table.specs.Views.{held_in, with_item, paid, spend, next_in, spare_in, IsIdle}
 use Rattle.shared_table.specs.Writing.{HasRoomWithin}
 use Rattle.shared_table.proofs.Calling.{some_own}
 

@@ -1,15 +1,12 @@
 -- A table's seat that knows, under a lock, that its call is an entry of the history may draft what it adds, and publish it.
-use Rattle.std.proofs.Common.{◌≡◌, ◌≢◌, ◌⊎◌, inl, inr, ℕ, zero, suc, ◌+◌, ◌*◌, ◌^◌, ◌<◌, ◌≤◌, true, List, [], ◌∷◌, ◌++◌, length, Option, Some, None, slice_get, slice_index, refl, sym, ap, ◌∙◌, subst, arith, length-append}
+use Rattle.std.proofs.Common.{◌≡◌, ◌≢◌, ◌⊎◌, inl, inr, ℕ, zero, suc, ◌+◌, ◌*◌, ◌^◌, ◌<◌, ◌≤◌, List, [], ◌∷◌, ◌++◌, length, Some, None, slice_index, refl, sym, ap, ◌∙◌, subst, arith, length-append}
 use Rattle.std.proofs.lemmas.Bool.{cases_eq}
-use Rattle.std.proofs.lemmas.Option.{none-some, same_Some}
 use Rattle.atomic_table.specs.Table.{Me, Allows}
 use Rattle.sync_model.specs.declared.item.Item.{Item}
 use Rattle.sync_model.specs.declared.item.SharedCall.TheVariants as calls
 use Rattle.sync_model.specs.declared.item.SharedReply.TheVariants as replies
 use Rattle.sync_model.specs.declared.map_object.MapCall.{MapCall}
-use Rattle.sync_model.specs.declared.map_object.MapReply.{MapReply}
-use Rattle.sync_model.specs.Note.{Holding}
-use Rattle.sync_model.specs.Shared.{CallerState, Called, cost_of}
+use Rattle.sync_model.specs.Shared.{Called, cost_of}
 use Rattle.shared_table.specs.declared.begin.Begin.{Begin}
 use Rattle.shared_table.specs.declared.table.SharedTable.{SharedTable}
 use Rattle.shared_table.specs.declared.view.Leaf.{Leaf}
@@ -25,7 +22,7 @@ use Rattle.trie_nodes.specs.Paths.{nibble, route}
 use Rattle.trie_nodes.specs.Plans.{IsExpansion}
 use Rattle.trie_nodes.specs.Slots.{word_of_slot}
 use Rattle.shared_table.specs.Layout.{size_of}
-use Rattle.shared_table.specs.Making.{leaf_value, Sees, HasNoOther, Removes, Stores, Expands, Makes, MayPublish, bare, Publishes, IsLockAt, IsPoised, with_draft, Drafted}
+use Rattle.shared_table.specs.Making.{leaf_value, Sees, HasNoOther, Removes, Stores, Expands, MayPublish, bare, Publishes, IsLockAt, IsPoised, with_draft, Drafted}
 use Rattle.shared_table.specs.Rule.{Kept}
 use Rattle.shared_table.specs.Shape.{start_of}
 use Rattle.shared_table.specs.TrieLaws.{TrieLaws}

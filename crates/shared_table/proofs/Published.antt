@@ -1,12 +1,11 @@
 -- The step that publishes a call's change: the call is placed there as an entry, and one unit of its caller's room is used up.
-use Rattle.std.proofs.Common.{◌≡◌, ◌≢◌, ◌⊎◌, inl, inr, ℕ, zero, suc, ◌+◌, ◌-◌, ◌*◌, ◌^◌, ◌<◌, ◌≤◌, true, false, cond, List, [], ◌∷◌, ◌++◌, length, set, Option, Some, None, slice_get, slice_index, refl, sym, ap, ◌∙◌, subst, arith}
+use Rattle.std.proofs.Common.{◌≡◌, ◌≢◌, inl, inr, ℕ, zero, suc, ◌+◌, ◌*◌, ◌^◌, ◌<◌, ◌≤◌, true, false, cond, List, [], ◌∷◌, ◌++◌, length, set, Option, Some, None, slice_get, slice_index, refl, sym, ap, ◌∙◌, subst, arith}
 use Rattle.std.proofs.lemmas.Bool.{cases_eq}
 use Rattle.std.proofs.lemmas.Option.{none-some, same_Some}
 use mathlib.Core.Option.{some}
 use lib.ListN.{get_elem?}
 use Rattle.sync_model.specs.declared.item.Item.{Item}
 use Rattle.sync_model.specs.declared.item.SharedCall.TheVariants as calls
-use Rattle.sync_model.specs.declared.item.SharedEntry.{SharedEntry}
 use Rattle.sync_model.specs.declared.item.SharedReply.TheVariants as replies
 use Rattle.sync_model.specs.declared.map_object.MapCall.{MapCall}
 use Rattle.sync_model.specs.Journal.{Begins}
@@ -25,15 +24,15 @@ use Rattle.shared_table.specs.Keys.{HasKeysBelow}
 use Rattle.shared_table.specs.Laws.{HistoryLaws}
 use Rattle.trie_nodes.specs.declared.slot.Slot.TheVariants.{Node}
 use Rattle.trie_nodes.specs.Layout.{parent_word, slot_word, unit_words, dead_word}
-use Rattle.trie_nodes.specs.Paths.{nibble, route}
+use Rattle.trie_nodes.specs.Paths.{nibble}
 use Rattle.trie_nodes.specs.Slots.{slot_in}
-use Rattle.shared_table.specs.Layout.{heads, callers_of}
+use Rattle.shared_table.specs.Layout.{callers_of}
 use Rattle.shared_table.specs.Ledger.{Owned, Fits}
 use Rattle.shared_table.specs.Owed.{HasRoom, Locks, AtGate, Suits}
 use Rattle.shared_table.specs.Rule.{TableState, Kept}
-use Rattle.shared_table.specs.Shape.{Shape, start_of, ShowsAt, Fine}
+use Rattle.shared_table.specs.Shape.{Shape, start_of, Fine}
 use Rattle.shared_table.specs.TrieLaws.{TrieLaws}
-use Rattle.shared_table.specs.Units.{link_at, with_unit}
+use Rattle.shared_table.specs.Units.{with_unit}
 use Rattle.shared_table.specs.Views.{called_view, spend_own, view_state}
 use Rattle.shared_table.proofs.Frames.{Later, Apart, room_on, stands_on}
 use Rattle.shared_table.proofs.KeyCalls.{IsOn, ChangesKey, replies_by, entries_by, changes_key}

@@ -1,12 +1,10 @@
 -- One write to a slot of a reachable node publishes what stands in a unit of words: the words mean the same map, but for one key.
-use Rattle.std.proofs.Common.{◌≡◌, ◌≢◌, ◌⊎◌, inl, inr, ℕ, nat_le, leb-true, leb-false, zero, suc, ◌+◌, ◌-◌, ◌*◌, ◌^◌, ◌<◌, ◌≤◌, ◌==◌, false, cond, List, [], ◌∷◌, ◌++◌, length, set, Option, Some, None, slice_get, slice_index, refl, sym, ap, ◌∙◌, subst, arith, length-set, get_or-set_same, get_or-set_other}
+use Rattle.std.proofs.Common.{◌≡◌, ◌≢◌, inl, inr, ℕ, nat_le, leb-true, leb-false, zero, suc, ◌+◌, ◌-◌, ◌*◌, ◌^◌, ◌<◌, ◌≤◌, ◌==◌, false, cond, List, [], ◌∷◌, ◌++◌, length, set, Option, Some, None, slice_index, refl, sym, ap, ◌∙◌, subst, arith, length-set, get_or-set_same, get_or-set_other}
 use Rattle.std.proofs.lemmas.Bool.{cases_eq}
 use Rattle.std.proofs.lemmas.Option.{none-some, same_Some, slice_get_within}
-use Rattle.sync_model.specs.declared.atomic_object.AtomicKind.{AtomicKind}
 use Rattle.sync_model.specs.declared.atomic_object.Number.TheVariants.{Bool as Truth}
 use Rattle.sync_model.specs.declared.item.SharedEntry.{SharedEntry}
-use Rattle.sync_model.specs.Journal.{Begins}
-use Rattle.sync_model.specs.SharedHistory.{number_at, value_at, contents_after}
+use Rattle.sync_model.specs.SharedHistory.{value_at}
 use Rattle.std.specs.Prelude.{slice_index_or}
 use Rattle.shared_table.specs.declared.begin.Begin.{Begin}
 use Rattle.trie_nodes.specs.declared.slot.Slot.{Slot}
@@ -18,7 +16,7 @@ use Rattle.trie_nodes.specs.Plans.{place_before}
 use Rattle.trie_nodes.specs.Slots.{slot_in}
 use Rattle.shared_table.specs.Gates.{Gated}
 use Rattle.shared_table.specs.Laws.{HistoryLaws}
-use Rattle.shared_table.specs.Layout.{root_word, gate_word, heads, size_of}
+use Rattle.shared_table.specs.Layout.{root_word, gate_word, heads}
 use Rattle.shared_table.specs.Shape.{Shape, start_of, held_at, till, time, IsNumber, IsNode, IsEntry, IsBelow, ShowsAt, Fine}
 use Rattle.shared_table.specs.TrieLaws.{TrieLaws}
 use Rattle.shared_table.specs.Units.{link_at, with_unit}
@@ -26,7 +24,7 @@ use Rattle.shared_table.proofs.Frames.{Later, Apart}
 use Rattle.shared_table.proofs.KeyCalls.{ChangesKey}
 use Rattle.shared_table.proofs.Ledgers.{longer}
 use Rattle.shared_table.proofs.Outside.{nibble_below}
-use Rattle.shared_table.proofs.Sites.{Site, is_there, none_below, none_at, above_at, same_level, node_outside, part_outside, key_outside, value_outside}
+use Rattle.shared_table.proofs.Sites.{Site, is_there, none_below, none_at, above_at, same_level, node_outside, part_outside, key_outside}
 use Rattle.shared_table.proofs.Units as units
 
 -- the new words of a unit, before they are shown

@@ -1,11 +1,10 @@
 -- What a seat sees under a lock, and what it leaves there.
-use Rattle.std.proofs.Common.{◌≡◌, ◌≢◌, ℕ, zero, suc, ◌+◌, ◌*◌, ◌^◌, ◌<◌, ◌≤◌, Bool, true, false, MatchBool, List, [], ◌∷◌, length, Option, Some, None, IsSome, slice_get, refl, sym, ap, ◌∙◌, subst, arith}
+use Rattle.std.proofs.Common.{◌≡◌, ℕ, suc, ◌+◌, ◌*◌, ◌^◌, ◌<◌, ◌≤◌, Bool, true, false, MatchBool, List, length, Option, Some, None, slice_get, refl, sym, ap, ◌∙◌, subst, arith}
 use Rattle.std.proofs.lemmas.Option.{none-some, same_Some}
 use Rattle.atomic_table.specs.Table.{Me}
 use Rattle.sync_model.specs.declared.item.SharedCall.TheVariants as calls
 use Rattle.sync_model.specs.declared.item.SharedReply.TheVariants as replies
 use Rattle.sync_model.specs.declared.map_object.MapCall.{MapCall}
-use Rattle.sync_model.specs.declared.map_object.MapReply.{MapReply}
 use Rattle.sync_model.specs.SequentialMap.{map_key}
 use Rattle.sync_model.specs.Shared.{Called, cost_of}
 use Rattle.shared_table.specs.declared.begin.Begin.{Begin}
@@ -21,9 +20,9 @@ use Rattle.trie_nodes.specs.Layout.{unit_words}
 use Rattle.trie_nodes.specs.Paths.{nibble, route}
 use Rattle.trie_nodes.specs.Slots.{slot_in}
 use Rattle.shared_table.specs.Layout.{size_of}
-use Rattle.shared_table.specs.Making.{leaf_value, HasLeaf, found_lock, Sees, Makes, bare, Publishes, StandsLocked, FindsHeld, LooksHeld, IsPoised, HasUnit, StillLocked, IsPoisedAt, MadeLocked}
+use Rattle.shared_table.specs.Making.{leaf_value, HasLeaf, found_lock, Makes, bare, Publishes, StandsLocked, FindsHeld, IsPoised, HasUnit, StillLocked, IsPoisedAt, MadeLocked}
 use Rattle.shared_table.specs.Shape.{start_of}
-use Rattle.shared_table.specs.Views.{with_item, paid, MayPay, called_view, view_state}
+use Rattle.shared_table.specs.Views.{MayPay, view_state}
 use Rattle.shared_table.specs.Walking.{standing, walk_at, given_by, HasWords, Answers, IsAlong, Affords, AtEntry}
 use Rattle.shared_table.specs.Writing.{holding, lock_at}
 

@@ -1,6 +1,6 @@
 -- Where a call writes: a reachable node's slot for the call's key, which has no node, and a unit of words that are part of nothing.
-use Rattle.std.proofs.Common.{◌≡◌, ◌≢◌, inl, inr, ℕ, nat_le, leb-true, leb-false, zero, suc, ◌+◌, ◌-◌, ◌*◌, ◌^◌, ◌<◌, ◌≤◌, List, [], ◌∷◌, ◌++◌, length, set, Some, None, slice_index, refl, sym, ap, ◌∙◌, subst, arith, length-set, get_or-set_same, get_or-set_other}
-use Rattle.std.proofs.lemmas.Option.{none-some, same_Some}
+use Rattle.std.proofs.Common.{◌≡◌, ◌≢◌, inl, inr, ℕ, nat_le, leb-true, leb-false, zero, suc, ◌+◌, ◌-◌, ◌*◌, ◌^◌, ◌<◌, ◌≤◌, List, length, Some, None, slice_index, refl, sym, ap, ◌∙◌, subst, arith}
+use Rattle.std.proofs.lemmas.Option.{none-some}
 use Rattle.sync_model.specs.declared.item.SharedEntry.{SharedEntry}
 use Rattle.shared_table.specs.declared.begin.Begin.{Begin}
 use Rattle.trie_nodes.specs.declared.slot.Slot.TheVariants.{Node}
@@ -10,7 +10,6 @@ use Rattle.trie_nodes.specs.Slots.{slot_in}
 use Rattle.shared_table.specs.Layout.{heads, size_of}
 use Rattle.shared_table.specs.Shape.{Shape, Fine}
 use Rattle.shared_table.specs.TrieLaws.{TrieLaws}
-use Rattle.shared_table.proofs.Outside.{nibble_below}
 use Rattle.shared_table.proofs.Units.{tested}
 
 pub record Site (k : Begin) (sh : Shape) (log : List SharedEntry) (ws : List ℕ) (m p d key unit nodes : ℕ) : Type 0 where

@@ -1,7 +1,6 @@
 -- What may be published in a slot: nothing, where it has no other key; the call's own entry, where it has no other key; and a chain to both entries, where it has the entry of another key.
-use Rattle.std.proofs.Common.{◌≡◌, ◌≢◌, ◌⊎◌, inl, inr, ℕ, zero, suc, ◌+◌, ◌-◌, ◌*◌, ◌/◌, ◌%◌, ◌^◌, ◌<◌, ◌≤◌, ◌==◌, ◌&&◌, Bool, true, false, cond, nat_lt, IsTrue, if◌then◌else◌, List, [], ◌∷◌, ◌++◌, length, set, Option, Some, None, slice_get, slice_index, refl, sym, ap, ◌∙◌, subst, arith, eq-eqb, eqb-true, ltb-true, lt-ltb}
+use Rattle.std.proofs.Common.{◌≡◌, ◌≢◌, ◌⊎◌, inl, inr, ℕ, suc, ◌+◌, ◌^◌, ◌<◌, ◌==◌, true, false, cond, List, length, set, Option, Some, None, slice_index, refl, sym, ap, ◌∙◌, subst, arith, eq-eqb, eqb-true}
 use Rattle.std.proofs.lemmas.Bool.{cases_eq}
-use Rattle.std.proofs.lemmas.Option.{none-some, same_Some}
 use mathlib.Core.Option.{some}
 use lib.ListN.{get_elem?}
 use Rattle.sync_model.specs.declared.item.SharedEntry.{SharedEntry}
@@ -13,21 +12,18 @@ use Rattle.shared_table.specs.declared.view.Own.{Own}
 use Rattle.shared_table.specs.declared.view.View.{View}
 use Rattle.shared_table.specs.KeyCalls.{is_key_entry, key_after}
 use Rattle.shared_table.specs.Laws.{HistoryLaws}
-use Rattle.trie_nodes.specs.declared.plan.Expansion.{Expansion}
 use Rattle.trie_nodes.specs.declared.slot.Slot.{Slot}
 use Rattle.trie_nodes.specs.declared.slot.Slot.TheVariants.{Empty, Node, Entry}
-use Rattle.trie_nodes.specs.Layout.{parent_word, slot_word, unit_words, dead_word}
+use Rattle.trie_nodes.specs.Layout.{slot_word, unit_words}
 use Rattle.trie_nodes.specs.Nodes.{Shows, entry_value}
 use Rattle.trie_nodes.specs.Paths.{nibble, route}
-use Rattle.trie_nodes.specs.Plans.{one_slot, two_slots, place_before, last_slots, IsNewNode, IsChainAt, IsExpansion}
 use Rattle.trie_nodes.specs.Slots.{word_of_slot, slot_in}
 use Rattle.shared_table.specs.Owed.{Locks}
 use Rattle.shared_table.specs.Rule.{TableState, Kept}
 use Rattle.shared_table.specs.Shape.{Shape, start_of, held_at, till, time, IsBelow, ShowsAt, Fine}
 use Rattle.shared_table.specs.TrieLaws.{TrieLaws}
-use Rattle.shared_table.specs.Units.{link_at, with_unit, link_slots, link_word, unit_word}
+use Rattle.shared_table.specs.Units.{link_at, with_unit}
 use Rattle.shared_table.proofs.KeyCalls.{IsOn, ChangesKey}
-use Rattle.shared_table.proofs.Outside.{nibble_below}
 use Rattle.shared_table.proofs.Published as published
 use Rattle.shared_table.proofs.Publishing as publishing
 use Rattle.shared_table.proofs.Sites as sites

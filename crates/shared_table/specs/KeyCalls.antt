@@ -1,5 +1,5 @@
 -- A call on one key of a map, by what the key has: what it answers, whether it is an entry of the history, and what the key has afterwards.
-use Rattle.std.specs.Prelude.{ℕ, Bool, true, false, not, cond, Option, Some, None, is_some}
+use Rattle.std.specs.Prelude.{ℕ, Bool, true, false, cond, Option, Some, None, is_some}
 use Rattle.sync_model.specs.declared.map_object.MapCall.{MapCall}
 use Rattle.sync_model.specs.declared.map_object.MapCall.TheVariants.{Load, Store, LoadOrStore, LoadAndDelete, Delete, Swap, CompareAndSwap, CompareAndDelete, Clear}
 use Rattle.sync_model.specs.declared.map_object.MapReply.{MapReply}

@@ -1,7 +1,7 @@
 -- The laws of paths, slots and chains, together, as the lemmas of this crate take them.
-use Rattle.std.specs.Prelude.{◌≡◌, ◌≢◌, ℕ, suc, ◌+◌, ◌<◌, ◌≤◌, ◌^◌, ◌==◌, Bool, IsTrue, if◌then◌else◌, List, Some, length, slice_index}
+use Rattle.std.specs.Prelude.{◌≡◌, ℕ, suc, ◌+◌, ◌<◌, ◌≤◌, ◌^◌, ◌==◌, Bool, IsTrue, if◌then◌else◌, List, Some, length, slice_index}
 use Rattle.trie_nodes.specs.declared.plan.Expansion.{Expansion}
-use Rattle.trie_nodes.specs.declared.slot.Slot.TheVariants.{Empty, Node, Entry}
+use Rattle.trie_nodes.specs.declared.slot.Slot.TheVariants.{Node, Entry}
 use Rattle.trie_nodes.specs.Layout.{key_word, value_word}
 use Rattle.trie_nodes.specs.Nodes.{slot_at, entry_value, Shows}
 use Rattle.trie_nodes.specs.Paths.{nibble, route}

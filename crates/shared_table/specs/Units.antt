@@ -1,5 +1,5 @@
 -- What a call that writes adds to a map: one unit of its caller's room has the call's entry, and behind it the nodes of a chain, where there is one.
-use Rattle.std.specs.Prelude.{ℕ, zero, suc, ◌+◌, ◌-◌, ◌*◌, ◌/◌, ◌%◌, ◌<◌, ◌≤◌, ◌==◌, ◌&&◌, Bool, cond, nat_lt, nat_le, List, length, Some, None, bytes_eq}
+use Rattle.std.specs.Prelude.{ℕ, zero, suc, ◌+◌, ◌-◌, ◌*◌, ◌/◌, ◌%◌, ◌==◌, ◌&&◌, Bool, cond, nat_lt, nat_le, List, length, Some, None, bytes_eq}
 use Rattle.trie_nodes.specs.declared.plan.Expansion.{Expansion}
 use Rattle.trie_nodes.specs.declared.slot.Slot.TheVariants.{Node}
 use Rattle.trie_nodes.specs.Paths.{nibble, route}

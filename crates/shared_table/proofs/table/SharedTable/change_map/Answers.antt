@@ -1,5 +1,5 @@
-use Rattle.std.proofs.Common.{rules, ◌+◌, ◌<◌, ◌^◌, ◌∙◌, subst, arith}
-use Rattle.shared_table.proofs.Payments.{has_unit, next_after, spare_after, some_spare, next_small, note_after}
+use Rattle.std.proofs.Common.{rules}
+use Rattle.shared_table.proofs.Payments.{has_unit, next_small}
 use Rattle.shared_table.proofs.table.SharedTable.change_map.Goals as goal
 
 pub make-reply-requires-clause-unit : goal.make-reply-requires-clause-unit

@@ -1,5 +1,4 @@
-use Rattle.std.proofs.Common.{refl, ◌∙◌, ◌+◌, ◌*◌, ◌<◌, arith}
-use Rattle.shared_table.specs.Units.{unit_word}
+use Rattle.std.proofs.Common.{refl, ◌∙◌, arith}
 use Rattle.shared_table.proofs.Poised.{may_draft_on, none_drafted, one_drafted}
 use Rattle.shared_table.proofs.table.SharedTable.draft_chain.Goals as goal
 

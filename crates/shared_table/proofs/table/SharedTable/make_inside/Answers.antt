@@ -1,7 +1,5 @@
-use Rattle.std.proofs.Common.{refl, ap, ◌∙◌, subst, arith}
-use Rattle.shared_table.specs.Walking.{standing}
-use Rattle.shared_table.proofs.MapCalls.{writing_on, answers_on, stands_first}
-use Rattle.shared_table.proofs.Sights.{unit_pays}
+use Rattle.std.proofs.Common.{refl}
+use Rattle.shared_table.proofs.MapCalls.{stands_first}
 use Rattle.shared_table.proofs.table.SharedTable.make_inside.Goals as goal
 
 pub loop-init : goal.loop-init

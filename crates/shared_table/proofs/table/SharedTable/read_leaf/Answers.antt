@@ -1,5 +1,4 @@
 use Rattle.std.proofs.Common.{Some, sym, ap, ◌∙◌, subst}
-use Rattle.shared_table.specs.declared.view.Leaf.{Leaf}
 use Rattle.shared_table.specs.Walking.{HasWords, AtEntry}
 use Rattle.shared_table.proofs.Reading.{may_read_key, may_keep_value}
 use Rattle.shared_table.proofs.table.SharedTable.read_leaf.Goals as goal

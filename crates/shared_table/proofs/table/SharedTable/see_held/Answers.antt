@@ -1,4 +1,4 @@
-use Rattle.std.proofs.Common.{Some, length, sym, ap, ◌∙◌, subst}
+use Rattle.std.proofs.Common.{Some, length, sym, ap, ◌∙◌}
 use Rattle.shared_table.specs.Walking.{walk_at}
 use Rattle.shared_table.proofs.Sights.{unit_pays, sees_below, sees_empty, knows_entry, sees_entry, sight_same}
 use Rattle.shared_table.proofs.table.SharedTable.see_held.Goals as goal

@@ -1,7 +1,6 @@
-use Rattle.std.proofs.Common.{rules, ◌^◌, ◌≡◌, ℕ, suc, ◌+◌, ◌<◌, sym, ap, ◌∙◌, subst, arith}
+use Rattle.std.proofs.Common.{rules, ◌^◌, ◌<◌, sym, ap}
 use Rattle.shared_table.specs.declared.begin.Begin.{Begin}
-use Rattle.trie_nodes.specs.Paths.{route}
-use Rattle.shared_table.proofs.Poised.{poised_room, entry_along, chain_fits, chain_may, undrafted}
+use Rattle.shared_table.proofs.Poised.{entry_along, chain_fits, chain_may}
 use Rattle.shared_table.proofs.table.SharedTable.show_chain.Goals as goal
 
 pub overflow_cast-other : goal.overflow_cast-other

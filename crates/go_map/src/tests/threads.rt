@@ -1,0 +1,128 @@
+//! Four callers of one map, each in a thread of its own. Each ends by itself.
+ghost use Rattle.std.specs.Prelude.{◌≡◌, ◌<◌};
+ghost use Rattle.std.specs.Thread.{IsSync};
+ghost use Rattle.sync_model.specs.Shared.{IsCallerAt};
+ghost use Rattle.shared_table.specs.Notes.{own_by, IsNoteOf};
+ghost use Rattle.shared_table.specs.Tables.{maps_of};
+
+use super::crew::{deleted, stored, take};
+use crate::Map;
+use shared_table::{SharedNote, SharedTable, Steps};
+use std::marker::Brand;
+use std::sync::Wait;
+use std::sync::ledger::{Blank, Ledger};
+use std::test::Fail;
+use std::thread::{Threads, join};
+use sync_model::Caller;
+
+const ROUNDS: u32 = 500;
+
+// Stores and deletes one key that all use, and a key of its own, as long as there is room.
+fn work<R: Wait>(
+    rt: &R,
+    table: &SharedTable,
+    mut caller: Caller<SharedNote>,
+    own_key: u32,
+) -> Caller<SharedNote>
+    requires map { 0 < maps_of table.now }
+    requires caller { IsCallerAt IsNoteOf own_by table.now caller }
+    ensures { IsCallerAt IsNoteOf own_by table.now result }
+{
+    let map = Map::at(table, 0);
+    for round in 0..ROUNDS {
+        stored(rt, &map, &mut caller, 3, round);
+        stored(rt, &map, &mut caller, own_key, round);
+        deleted(rt, &map, &mut caller, 3);
+    }
+    caller
+}
+
+// Two callers work, each in a thread of its own.
+fn work_beside<R: Threads + Wait + Sync>(
+    rt: &R,
+    table: &SharedTable,
+    first: Caller<SharedNote>,
+    first_key: u32,
+    second: Caller<SharedNote>,
+    second_key: u32,
+) -> (Caller<SharedNote>, Caller<SharedNote>)
+    requires map { 0 < maps_of table.now }
+    requires first { IsCallerAt IsNoteOf own_by table.now first }
+    requires second { IsCallerAt IsNoteOf own_by table.now second }
+    ensures first { IsCallerAt IsNoteOf own_by table.now result.0 }
+    ensures second { IsCallerAt IsNoteOf own_by table.now result.1 }
+{
+    join(
+        rt,
+        move || -> Caller<SharedNote>
+            requires { IsSync R.row × (0 < maps_of table.now) × IsCallerAt IsNoteOf own_by table.now first }
+            ensures { IsCallerAt IsNoteOf own_by table.entry.now result }
+        { work(rt, table, first, first_key) },
+        move || -> Caller<SharedNote>
+            requires { IsSync R.row × (0 < maps_of table.now) × IsCallerAt IsNoteOf own_by table.now second }
+            ensures { IsCallerAt IsNoteOf own_by table.entry.now result }
+        { work(rt, table, second, second_key) },
+    )
+}
+
+// Four callers work at once, and one of them comes back.
+fn work_four<R: Threads + Wait + Sync>(
+    rt: &R,
+    table: &SharedTable,
+    one: Caller<SharedNote>,
+    two: Caller<SharedNote>,
+    three: Caller<SharedNote>,
+    four: Caller<SharedNote>,
+) -> (
+    (Caller<SharedNote>, Caller<SharedNote>),
+    (Caller<SharedNote>, Caller<SharedNote>),
+)
+    requires map { 0 < maps_of table.now }
+    requires one { IsCallerAt IsNoteOf own_by table.now one }
+    requires two { IsCallerAt IsNoteOf own_by table.now two }
+    requires three { IsCallerAt IsNoteOf own_by table.now three }
+    requires four { IsCallerAt IsNoteOf own_by table.now four }
+    ensures { IsCallerAt IsNoteOf own_by table.now result.0.0 }
+{
+    join(
+        rt,
+        move || -> (Caller<SharedNote>, Caller<SharedNote>)
+            requires { IsSync R.row × (0 < maps_of table.now) × IsCallerAt IsNoteOf own_by table.now one × IsCallerAt IsNoteOf own_by table.now two }
+            ensures { IsCallerAt IsNoteOf own_by table.entry.now result.0 }
+        { work_beside(rt, table, one, 19, two, 35) },
+        move || -> (Caller<SharedNote>, Caller<SharedNote>)
+            requires { IsSync R.row × (0 < maps_of table.now) × IsCallerAt IsNoteOf own_by table.now three × IsCallerAt IsNoteOf own_by table.now four }
+        { work_beside(rt, table, three, 51, four, 67) },
+    )
+}
+
+// What a key has.
+fn loaded<L: Ledger>(
+    table: &SharedTable,
+    caller: &mut Caller<SharedNote>,
+    key: u32,
+    blank: Blank,
+) -> Option<u64>
+    requires map { 0 < maps_of table.now }
+    requires caller { IsCallerAt IsNoteOf own_by table.now caller.old }
+    requires ledger { (blank.name ≡ L.name) × (blank.parts ≡ L.parts) × (0 < L.parts) }
+    ensures { IsCallerAt IsNoteOf own_by table.now caller.new }
+{
+    let mut steps = Steps::<L>::new(blank);
+    Map::at(table, 0).load(caller, key, &mut steps)
+}
+
+#[test]
+fn four_threads_share_a_map_and_a_key(rt: HostRuntime) -> Result<(), Fail> {
+    let (table, mut callers) = SharedTable::new(rt.alloc(), &[], 1, 0, &[1500, 1500, 1500, 1500])?;
+    let four = take(&table, &mut callers).expect(&rt, "caller 3");
+    let three = take(&table, &mut callers).expect(&rt, "caller 2");
+    let two = take(&table, &mut callers).expect(&rt, "caller 1");
+    let one = take(&table, &mut callers).expect(&rt, "caller 0");
+    let ((mut one, _), _) = work_four(&rt, &table, one, two, three, four);
+    assert!(&rt; loaded::<Brand>(&table, &mut one, 3, Blank::new(1)).is_none());
+    for key in [19, 35, 51, 67] {
+        assert!(&rt; loaded::<Brand>(&table, &mut one, key, Blank::new(1)) == Some(499));
+    }
+    Ok(())
+}
