@@ -1,13 +1,13 @@
 //! Loads of a new map, by how many words they read, and the end of a table.
-mod ends;
-
 ghost use Rattle.std.specs.Prelude.{◌≡◌, ◌<◌};
 ghost use Rattle.sync_model.specs.Shared.{IsCallerAt};
 ghost use Rattle.shared_table.specs.Notes.{own_by, IsNoteOf};
 ghost use Rattle.shared_table.specs.Tables.{maps_of};
 
+mod clears;
 mod crew;
 mod deep;
+mod ends;
 mod merged;
 mod threads;
 

@@ -39,12 +39,7 @@ pub(super) fn stored<R: Wait>(
 }
 
 // Deletes, if the caller has room.
-pub(super) fn deleted<R: Wait>(
-    rt: &R,
-    map: &Map,
-    caller: &mut Caller<SharedNote>,
-    key: u32,
-) -> bool
+pub(super) fn deleted<R: Wait>(rt: &R, map: &Map, caller: &mut Caller<SharedNote>, key: u32) -> bool
     requires { IsCallerAt IsNoteOf own_by map.now.table.now caller.old }
     ensures { IsCallerAt IsNoteOf own_by map.now.table.now caller.new }
 {
@@ -52,5 +47,17 @@ pub(super) fn deleted<R: Wait>(
         return false;
     }
     map.delete(rt, caller, key);
+    true
+}
+
+// Clears the map, if the caller has room.
+pub(super) fn cleared<R: Wait>(rt: &R, map: &Map, caller: &mut Caller<SharedNote>) -> bool
+    requires { IsCallerAt IsNoteOf own_by map.now.table.now caller.old }
+    ensures { IsCallerAt IsNoteOf own_by map.now.table.now caller.new }
+{
+    if caller.spare() == 0 {
+        return false;
+    }
+    map.clear(rt, caller);
     true
 }

@@ -57,8 +57,10 @@ fn store_and_load<R: Wait, L: Ledger>(
 fn keys_that_part_at_the_last_nibble_are_read_in_eleven_words(rt: HostRuntime) -> Result<(), Fail> {
     let (table, mut callers) = SharedTable::new(rt.alloc(), &[], 2, 0, &[5])?;
     let mut caller = take(&table, &mut callers).expect(&rt, "a caller");
-    let loads = store_and_load::<_, Brand>(&rt, &table, &mut caller, Blank::new(1))
-        .expect(&rt, "room for five calls");
+    let loads = store_and_load::<_, Brand>(&rt, &table, &mut caller, Blank::new(1)).expect(
+        &rt,
+        "room for five calls",
+    );
     assert!(&rt; loads.near.0 == Some(1) && loads.near.1 == 11);
     assert!(&rt; loads.far.0 == Some(2) && loads.far.1 == 22);
     assert!(&rt; loads.again.0 == Some(9) && loads.again.1 == 33);
