@@ -9,6 +9,7 @@ mod crew;
 mod deep;
 mod ends;
 mod merged;
+mod race;
 mod threads;
 
 use crate::Map;
