@@ -30,3 +30,6 @@ pub use note::SharedNote;
 pub use steps::Steps;
 pub use table::SharedTable;
 pub use word_step::WordStep;
+
+#[cfg(test)]
+mod tests;
