@@ -1,8 +1,8 @@
 -- A call leaves a caller a caller.
-use Rattle.std.proofs.Common.{◌≡◌, ℕ, zero, suc, ◌+◌, List, [], ◌∷◌, ◌++◌, length, Option, Some, IsSome, slice_get, refl, sym, ap, ◌∙◌, subst, arith}
+use Rattle.std.proofs.Common.{◌≡◌, ℕ, zero, suc, ◌+◌, List, [], ◌∷◌, ◌++◌, length, Option, Some, IsSome, All, slice_get, refl, sym, ap, ◌∙◌, subst, arith}
 use Rattle.std.proofs.lemmas.Grind.{common_steps}
 use Rattle.std.proofs.lemmas.List.{length-append}
-use Rattle.std.proofs.lemmas.Option.{none-some, same_Some}
+use Rattle.std.proofs.lemmas.Option.{slice_get-get_or, none-some, same_Some}
 use Rattle.sync_model.specs.declared.caller.Caller.{Caller}
 use Rattle.sync_model.specs.declared.map_object.MapCall.{MapCall}
 use Rattle.sync_model.specs.declared.map_object.MapReply.{MapReply}
@@ -30,6 +30,14 @@ pub last_caller : (table : SharedTable) (spare : List ℕ) (callers rest : List 
 last_caller table spare callers rest caller new is =
     let each = new.all.each (length rest) caller (subst (λ l. slice_get l (length rest) ≡ Some caller) (sym is) (at_last rest caller)) in
     (each.0, some_is (own_by caller.note) each.1.0 each.1.1)
+
+-- the same, by a map of the table
+pub stays_at : (table other : SharedTable) (map : ℕ) (call : MapCall ℕ) (reply : MapReply) (old new : SharedNote) → other ≡ table → IsNoteOf table old → MakesCall other map call reply old new → IsCallerAt IsNoteOf own_by table (record { note = new })
+stays_at table other map call reply old new same is makes = stays table map call reply old new is (subst (λ t. MakesCall t map call reply old new) same makes)
+
+-- all callers of a new table
+pub all_callers : (table : SharedTable) (spare : List ℕ) (callers : List (Caller SharedNote)) → AreNewCallers table spare callers → All (IsCallerAt IsNoteOf own_by table) callers
+all_callers table spare callers new k d below = let each = new.all.each k _ (slice_get-get_or callers k d below) in (each.0, some_is _ each.1.0 each.1.1)
 
 -- the caller of this number
 abbrev IsCallers : SharedTable → ℕ → SharedNote → Type 0

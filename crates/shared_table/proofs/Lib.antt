@@ -43,3 +43,7 @@ pub mod Writes
 pub mod EndRows
 pub mod Endings
 pub mod Sweeping
+pub mod Swept
+pub mod CursorSteps
+pub mod Mounting
+pub mod CursorReads

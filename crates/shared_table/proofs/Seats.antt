@@ -52,7 +52,7 @@ out_of g m out inside = let e : Outside ≡ Inside m = sym out ∙ inside in abs
 module _ (k : Begin) (s : TableState) (r : Kept k s) (id : ℕ) (v : View) (at_me : get_elem? s.views id ≡ some v) (left right : View) (claim : ℕ → ℕ) (stays : (d j : ℕ) → j ≢ id → r.claim d ≡ j → claim d ≡ j)
     (fits_left : Fits (callers_of k) r.log r.calls claim id left) (fits_right : Fits (callers_of k) r.log r.calls claim (length (set s.views id left)) right)
     (suits_left : Suits k r.shape r.log r.calls s.words left) (suits_right : Suits k r.shape r.log r.calls s.words right) where
-  divided : Kept k record { words = s.words; homes = s.homes; views = set s.views id left ++ right ∷ [] }
+  pub divided : Kept k record { words = s.words; homes = s.homes; views = set s.views id left ++ right ∷ [] }
   divided = record {
     log = r.log;
     calls = r.calls;

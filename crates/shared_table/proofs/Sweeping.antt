@@ -1,5 +1,5 @@
 -- A cursor goes on by a slot, down into a node, and up again: what it has passed was shown, or was absent at some moment since its begin.
-use Rattle.std.proofs.Common.{◌≡◌, ◌⊎◌, inl, inr, ℕ, zero, suc, ◌+◌, ◌^◌, ◌<◌, ◌≤◌, ◌==◌, Bool, true, false, cond, ne_eqb, eq-eqb, List, [], ◌∷◌, ◌++◌, length, take, Option, Some, None, get_or, slice_get, slice_index, refl, sym, ap, ◌∙◌, subst, arith, length-append, append_assoc}
+use Rattle.std.proofs.Common.{◌≡◌, ◌⊎◌, inl, inr, ℕ, zero, suc, ◌+◌, ◌^◌, ◌<◌, ◌≤◌, ◌==◌, Bool, cond, ne_eqb, eq-eqb, List, [], ◌∷◌, ◌++◌, length, take, Option, Some, None, get_or, slice_get, slice_index, refl, sym, ap, ◌∙◌, subst, arith, length-append, append_assoc}
 use Rattle.std.specs.Prelude.{Contains}
 use Rattle.std.proofs.Math.Seq.{take-append_seam, get_or-append_seam}
 use Rattle.std.proofs.lemmas.Bool.{cases_lt, cases_eq}
@@ -9,16 +9,14 @@ use Rattle.std.proofs.lemmas.Option.{none-some, same_Some, slice_get_within}
 use Rattle.sync_model.specs.declared.item.Item.{Item}
 use Rattle.sync_model.specs.declared.item.SharedEntry.{SharedEntry}
 use Rattle.sync_model.specs.SharedCalls.{Knows}
-use Rattle.trie_nodes.specs.declared.slot.Slot.{Slot}
 use Rattle.trie_nodes.specs.declared.slot.Slot.TheVariants.{Empty, Node, Entry}
-use Rattle.trie_nodes.specs.Layout.{slot_word}
 use Rattle.trie_nodes.specs.Nodes.{Shows, slot_at}
 use Rattle.trie_nodes.specs.Paths.{nibble, route, Passed}
 use Rattle.shared_table.specs.declared.begin.Begin.{Begin}
 use Rattle.shared_table.specs.declared.view.Spot.{Spot}
 use Rattle.shared_table.specs.Layout.{IsBegin}
 use Rattle.shared_table.specs.Owed.{Stands}
-use Rattle.shared_table.specs.Shape.{Shape, held_at, till, time, IsNode, IsBelow, Fine}
+use Rattle.shared_table.specs.Shape.{Shape, held_at, till, time, IsBelow, Fine}
 use Rattle.shared_table.specs.SweepLaws.{SweepLaws}
 
 module _ {A : Type 0} where

@@ -21,8 +21,9 @@ pub mod Counted
 pub mod WordSteps
 pub mod Walking
 pub mod Writing
-pub mod Making
-pub mod Clearing
 pub mod EndsOfHistory
 pub mod EndLaws
 pub mod SweepLaws
+pub mod Cursors
+pub mod Making
+pub mod Clearing

@@ -7,6 +7,7 @@ mod chain;
 mod changes;
 mod clearing;
 mod copies;
+mod cursor_steps;
 mod ends;
 mod laws;
 mod lookup;

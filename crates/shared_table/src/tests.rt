@@ -15,10 +15,7 @@ use sync_model::{Caller, CallerNote, MapCall};
 use trie_nodes::Slot;
 
 // The last of some callers.
-fn take(
-    table: &SharedTable,
-    callers: &mut Vec<Caller<SharedNote>>,
-) -> Option<Caller<SharedNote>>
+fn take(table: &SharedTable, callers: &mut Vec<Caller<SharedNote>>) -> Option<Caller<SharedNote>>
     requires { All (IsCallerAt IsNoteOf own_by table.now) callers.old.items }
     ensures rest { All (IsCallerAt IsNoteOf own_by table.now) callers.new.items }
     ensures one { IfSome result (IsCallerAt IsNoteOf own_by table.now) }

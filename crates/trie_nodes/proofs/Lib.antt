@@ -8,3 +8,4 @@ pub mod PlanLemmas
 pub mod SlotLemmas
 pub mod WriteLemmas
 pub mod WalkLemmas
+pub mod PlaceLemmas

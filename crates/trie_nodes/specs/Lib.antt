@@ -5,3 +5,5 @@ pub mod Paths
 pub mod Plans
 pub mod Slots
 pub mod Walks
+pub mod Places
+pub mod PlaceLists

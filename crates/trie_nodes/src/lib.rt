@@ -6,13 +6,16 @@ pub mod expand;
 pub mod laws;
 pub mod layout;
 pub mod path;
+pub mod place;
 pub mod plan;
 pub mod prune;
 pub mod slot;
+mod sweep;
 
 pub use expand::expansion;
 pub use layout::{DEAD, FREE, LEVELS, Layout, SLOTS, UNIT_WORDS};
 pub use path::{go_together, nibble};
+pub use place::Place;
 pub use plan::{Expansion, Pruning};
 pub use prune::pruning;
 pub use slot::Slot;

@@ -2,10 +2,12 @@
 ghost use Rattle.std.specs.Prelude.{◌≡◌, ◌<◌, IfSome, All};
 ghost use Rattle.sync_model.specs.Shared.{IsCallerAt};
 ghost use Rattle.shared_table.specs.Notes.{own_by, IsNoteOf};
+ghost use Rattle.shared_table.specs.Tables.{maps_of};
 
 use crate::Map;
-use shared_table::{SharedNote, SharedTable};
+use shared_table::{SharedNote, SharedTable, Steps};
 use std::sync::Wait;
+use std::sync::ledger::Ledger;
 use sync_model::Caller;
 
 // The last of some callers.
@@ -20,44 +22,66 @@ pub(super) fn take(
     callers.pop()
 }
 
-// Stores, if the caller has room.
+// Stores in map 0, if the caller has room.
 pub(super) fn stored<R: Wait>(
     rt: &R,
-    map: &Map,
+    table: &SharedTable,
     caller: &mut Caller<SharedNote>,
     key: u32,
     value: u32,
 ) -> bool
-    requires { IsCallerAt IsNoteOf own_by map.now.table.now caller.old }
-    ensures { IsCallerAt IsNoteOf own_by map.now.table.now caller.new }
+    requires map { 0 < maps_of table.now }
+    requires caller { IsCallerAt IsNoteOf own_by table.now caller.old }
+    ensures { IsCallerAt IsNoteOf own_by table.now caller.new }
 {
     if caller.spare() == 0 {
         return false;
     }
-    map.store(rt, caller, key, value as u64);
+    Map::at(table, 0).store(rt, caller, key, value as u64);
     true
 }
 
-// Deletes, if the caller has room.
-pub(super) fn deleted<R: Wait>(rt: &R, map: &Map, caller: &mut Caller<SharedNote>, key: u32) -> bool
-    requires { IsCallerAt IsNoteOf own_by map.now.table.now caller.old }
-    ensures { IsCallerAt IsNoteOf own_by map.now.table.now caller.new }
+// Deletes in map 0, if the caller has room.
+pub(super) fn deleted<R: Wait>(
+    rt: &R,
+    table: &SharedTable,
+    caller: &mut Caller<SharedNote>,
+    key: u32,
+) -> bool
+    requires map { 0 < maps_of table.now }
+    requires caller { IsCallerAt IsNoteOf own_by table.now caller.old }
+    ensures { IsCallerAt IsNoteOf own_by table.now caller.new }
 {
     if caller.spare() == 0 {
         return false;
     }
-    map.delete(rt, caller, key);
+    Map::at(table, 0).delete(rt, caller, key);
     true
 }
 
-// Clears the map, if the caller has room.
-pub(super) fn cleared<R: Wait>(rt: &R, map: &Map, caller: &mut Caller<SharedNote>) -> bool
-    requires { IsCallerAt IsNoteOf own_by map.now.table.now caller.old }
-    ensures { IsCallerAt IsNoteOf own_by map.now.table.now caller.new }
+// Clears map 0, if the caller has room.
+pub(super) fn cleared<R: Wait>(rt: &R, table: &SharedTable, caller: &mut Caller<SharedNote>) -> bool
+    requires map { 0 < maps_of table.now }
+    requires caller { IsCallerAt IsNoteOf own_by table.now caller.old }
+    ensures { IsCallerAt IsNoteOf own_by table.now caller.new }
 {
     if caller.spare() == 0 {
         return false;
     }
-    map.clear(rt, caller);
+    Map::at(table, 0).clear(rt, caller);
     true
+}
+
+// What a key of map 0 has.
+pub(super) fn loaded<L: Ledger>(
+    table: &SharedTable,
+    caller: &mut Caller<SharedNote>,
+    key: u32,
+    steps: &mut Steps<L>,
+) -> Option<u64>
+    requires map { 0 < maps_of table.now }
+    requires caller { IsCallerAt IsNoteOf own_by table.now caller.old }
+    ensures { IsCallerAt IsNoteOf own_by table.now caller.new }
+{
+    Map::at(table, 0).load(caller, key, steps)
 }

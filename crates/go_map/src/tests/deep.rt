@@ -4,8 +4,7 @@ ghost use Rattle.sync_model.specs.Shared.{IsCallerAt};
 ghost use Rattle.shared_table.specs.Notes.{own_by, IsNoteOf};
 ghost use Rattle.shared_table.specs.Tables.{maps_of};
 
-use super::crew::{deleted, stored, take};
-use crate::Map;
+use super::crew::{deleted, loaded, stored, take};
 use shared_table::{SharedNote, SharedTable, Steps};
 use std::marker::Brand;
 use std::sync::Wait;
@@ -32,30 +31,29 @@ fn store_and_load<R: Wait, L: Ledger>(
     caller: &mut Caller<SharedNote>,
     blank: Blank,
 ) -> Option<Loads>
-    requires map { 1 < maps_of table.now }
+    requires map { 0 < maps_of table.now }
     requires caller { IsCallerAt IsNoteOf own_by table.now caller.old }
     requires ledger { (blank.name ≡ L.name) × (blank.parts ≡ L.parts) × (0 < L.parts) }
 {
     let mut steps = Steps::<L>::new(blank);
-    let map = Map::at(table, 1);
-    if !stored(rt, &map, caller, NEAR, 1) || !stored(rt, &map, caller, FAR, 2) {
+    if !stored(rt, table, caller, NEAR, 1) || !stored(rt, table, caller, FAR, 2) {
         return None;
     }
-    let near = (map.load(caller, NEAR, &mut steps), steps.count());
-    let far = (map.load(caller, FAR, &mut steps), steps.count());
-    if !deleted(rt, &map, caller, NEAR) || !deleted(rt, &map, caller, FAR) {
+    let near = (loaded(table, caller, NEAR, &mut steps), steps.count());
+    let far = (loaded(table, caller, FAR, &mut steps), steps.count());
+    if !deleted(rt, table, caller, NEAR) || !deleted(rt, table, caller, FAR) {
         return None;
     }
-    if !stored(rt, &map, caller, NEAR, 9) {
+    if !stored(rt, table, caller, NEAR, 9) {
         return None;
     }
-    let again = (map.load(caller, NEAR, &mut steps), steps.count());
+    let again = (loaded(table, caller, NEAR, &mut steps), steps.count());
     Some(Loads { near, far, again })
 }
 
 #[test]
 fn keys_that_part_at_the_last_nibble_are_read_in_eleven_words(rt: HostRuntime) -> Result<(), Fail> {
-    let (table, mut callers) = SharedTable::new(rt.alloc(), &[], 2, 0, &[5])?;
+    let (table, mut callers) = SharedTable::new(rt.alloc(), &[], 1, 0, &[5])?;
     let mut caller = take(&table, &mut callers).expect(&rt, "a caller");
     let loads = store_and_load::<_, Brand>(&rt, &table, &mut caller, Blank::new(1)).expect(
         &rt,

@@ -4,8 +4,7 @@ ghost use Rattle.sync_model.specs.Shared.{IsCallerAt};
 ghost use Rattle.shared_table.specs.Notes.{own_by, IsNoteOf};
 ghost use Rattle.shared_table.specs.Tables.{maps_of};
 
-use super::crew::{stored, take};
-use crate::Map;
+use super::crew::{loaded, stored, take};
 use shared_table::{SharedNote, SharedTable, Steps};
 use std::marker::Brand;
 use std::sync::Wait;
@@ -27,13 +26,12 @@ fn store_then_load<R: Wait, L: Ledger>(
     requires ledger { (blank.name ≡ L.name) × (blank.parts ≡ L.parts) × (0 < L.parts) }
 {
     let mut steps = Steps::<L>::new(blank);
-    let map = Map::at(table, 0);
-    if !stored(rt, &map, first, 5, 6) {
+    if !stored(rt, table, first, 5, 6) {
         return None;
     }
     let copy = first.note.copy(table);
     second.note.merge(table, copy);
-    map.load(second, 5, &mut steps)
+    loaded(table, second, 5, &mut steps)
 }
 
 #[test]

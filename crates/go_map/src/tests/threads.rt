@@ -5,8 +5,7 @@ ghost use Rattle.sync_model.specs.Shared.{IsCallerAt};
 ghost use Rattle.shared_table.specs.Notes.{own_by, IsNoteOf};
 ghost use Rattle.shared_table.specs.Tables.{maps_of};
 
-use super::crew::{deleted, stored, take};
-use crate::Map;
+use super::crew::{deleted, loaded, stored, take};
 use shared_table::{SharedNote, SharedTable, Steps};
 use std::marker::Brand;
 use std::sync::Wait;
@@ -28,11 +27,10 @@ fn work<R: Wait>(
     requires caller { IsCallerAt IsNoteOf own_by table.now caller }
     ensures { IsCallerAt IsNoteOf own_by table.now result }
 {
-    let map = Map::at(table, 0);
     for round in 0..ROUNDS {
-        stored(rt, &map, &mut caller, 3, round);
-        stored(rt, &map, &mut caller, own_key, round);
-        deleted(rt, &map, &mut caller, 3);
+        stored(rt, table, &mut caller, 3, round);
+        stored(rt, table, &mut caller, own_key, round);
+        deleted(rt, table, &mut caller, 3);
     }
     caller
 }
@@ -96,20 +94,23 @@ fn work_four<R: Threads + Wait + Sync>(
     )
 }
 
-// What a key has.
-fn loaded<L: Ledger>(
+// What some keys have.
+fn load_each<L: Ledger>(
     table: &SharedTable,
     caller: &mut Caller<SharedNote>,
-    key: u32,
+    keys: [u32; 5],
     blank: Blank,
-) -> Option<u64>
+) -> [Option<u64>; 5]
     requires map { 0 < maps_of table.now }
     requires caller { IsCallerAt IsNoteOf own_by table.now caller.old }
     requires ledger { (blank.name ≡ L.name) × (blank.parts ≡ L.parts) × (0 < L.parts) }
-    ensures { IsCallerAt IsNoteOf own_by table.now caller.new }
 {
     let mut steps = Steps::<L>::new(blank);
-    Map::at(table, 0).load(caller, key, &mut steps)
+    let mut values = [None; 5];
+    for index in 0..5 {
+        values[index] = loaded(table, caller, keys[index], &mut steps);
+    }
+    values
 }
 
 #[test]
@@ -120,9 +121,8 @@ fn four_threads_share_a_map_and_a_key(rt: HostRuntime) -> Result<(), Fail> {
     let two = take(&table, &mut callers).expect(&rt, "caller 1");
     let one = take(&table, &mut callers).expect(&rt, "caller 0");
     let ((mut one, _), _) = work_four(&rt, &table, one, two, three, four);
-    assert!(&rt; loaded::<Brand>(&table, &mut one, 3, Blank::new(1)).is_none());
-    for key in [19, 35, 51, 67] {
-        assert!(&rt; loaded::<Brand>(&table, &mut one, key, Blank::new(1)) == Some(499));
-    }
+    let values = load_each::<Brand>(&table, &mut one, [3, 19, 35, 51, 67], Blank::new(1));
+    let last = Some(499);
+    assert_eq!(rt; values, [None, last, last, last, last]);
     Ok(())
 }

@@ -1,0 +1,12 @@
+use Rattle.std.proofs.Common.{arith}
+use Rattle.trie_nodes.proofs.PlaceLemmas.{goes_down_less, long_take}
+use Rattle.trie_nodes.proofs.place.Place.go_down.Goals as goal
+
+pub returns-clause-less : goal.returns-clause-less
+returns-clause-less c =
+    let p = c.args.self.now in
+    let wide = p.wide.1 in
+    let few = p.few in
+    let long = long_take p.slots p.depth (omega arith) in
+    let deep = c.requires.depth in
+    goes_down_less p.slots p.wide.1 p.depth p.some p.few p.slots_end (omega arith)
