@@ -1,16 +1,15 @@
 -- The step that clears a map: the call is placed there as an entry, and one unit of its caller's room is used up.
-use Rattle.std.proofs.Common.{◌≡◌, ◌≢◌, inl, inr, ℕ, zero, suc, ◌+◌, ◌*◌, ◌^◌, ◌<◌, ◌≤◌, true, false, List, [], ◌∷◌, ◌++◌, length, set, get_or, Some, None, slice_get, slice_index, refl, sym, ap, ◌∙◌, subst, arith, get_or-set_same, get_or-set_other}
+use Rattle.std.proofs.Common.{◌≡◌, inl, inr, ℕ, zero, suc, ◌+◌, ◌^◌, ◌<◌, true, List, [], ◌∷◌, ◌++◌, length, set, Some, slice_get, slice_index, refl, sym, ap, ◌∙◌, subst, arith, get_or-set_same, get_or-set_other}
 use Rattle.std.proofs.lemmas.Bool.{cases_eq}
 use Rattle.std.proofs.lemmas.List.{length-replicate}
 use Rattle.std.proofs.lemmas.Option.{none-some, same_Some}
-use Rattle.std.specs.FinMap.{FinMap, empty, get, get-empty}
+use Rattle.std.specs.FinMap.{empty, get, get-empty}
 use Rattle.std.specs.Ordering.{nat_cmp}
 use mathlib.Core.Option.{some}
 use lib.ListN.{get_elem?}
 use Rattle.atomic_table.specs.Table.{Me, keeps, Allows}
 use Rattle.sync_model.specs.declared.item.Item.{Item}
 use Rattle.sync_model.specs.declared.item.SharedCall.TheVariants as calls
-use Rattle.sync_model.specs.declared.item.SharedEntry.{SharedEntry}
 use Rattle.sync_model.specs.declared.item.SharedReply.TheVariants as replies
 use Rattle.sync_model.specs.declared.map_object.MapCall.TheVariants.{Clear}
 use Rattle.sync_model.specs.declared.map_object.MapReply.TheVariants.{Done}
@@ -19,22 +18,22 @@ use Rattle.sync_model.specs.SharedCalls.{Grows}
 use Rattle.sync_model.specs.SharedHistory.{Contents, value_at, contents_after, with_call}
 use Rattle.sync_model.specs.Shared.{Called}
 use Rattle.shared_table.specs.declared.begin.Begin.{Begin}
-use Rattle.shared_table.specs.declared.view.Gate.TheVariants.{Outside, Inside, Closed}
+use Rattle.shared_table.specs.declared.view.Gate.TheVariants.{Inside, Closed}
 use Rattle.shared_table.specs.declared.view.Own.{Own}
 use Rattle.shared_table.specs.declared.view.View.{View}
 use Rattle.shared_table.specs.Clearing.{HasClosed, Clears}
 use Rattle.shared_table.specs.Keys.{HasKeysBelow}
 use Rattle.shared_table.specs.Laws.{HistoryLaws}
 use Rattle.trie_nodes.specs.Layout.{unit_words}
-use Rattle.shared_table.specs.Layout.{root_word, heads, callers_of}
+use Rattle.shared_table.specs.Layout.{root_word, callers_of}
 use Rattle.shared_table.specs.Ledger.{Owned, Fits}
 use Rattle.shared_table.specs.Making.{HasUnit, Made}
 use Rattle.shared_table.specs.Owed.{HasRoom, AtGate, Suits}
 use Rattle.shared_table.specs.Rule.{TableState, Kept}
-use Rattle.shared_table.specs.Shape.{Shape, start_of, Fine}
+use Rattle.shared_table.specs.Shape.{Shape, start_of}
 use Rattle.shared_table.specs.Views.{called_view, with_item, spend, spend_own, view_state}
 use Rattle.shared_table.proofs.Closing.{at_gate, not_inside}
-use Rattle.shared_table.proofs.Frames.{Later, Apart, room_on, stands_on}
+use Rattle.shared_table.proofs.Frames.{Later, Apart, room_on}
 use Rattle.shared_table.proofs.Ledgers.{longer, MayPlace, with_one, adds_one, lawful_after, history_on, grows_on, none_after, fits_after, called, first, contents_on}
 use Rattle.shared_table.proofs.Lists.{past_end}
 use Rattle.shared_table.proofs.Moves.{Keeps, moves}

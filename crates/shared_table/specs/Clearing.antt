@@ -1,5 +1,5 @@
 -- A seat that clears a map: how it stands to the map's gate, and what its steps tell.
-use Rattle.std.specs.Prelude.{◌≡◌, ℕ, ◌+◌, ◌^◌, ◌<◌, ◌≤◌, ◌==◌, Bool, true, false, length, None, MatchBool}
+use Rattle.std.specs.Prelude.{◌≡◌, ℕ, ◌^◌, ◌<◌, ◌==◌, Bool, true, false, length, None, MatchBool}
 use Rattle.atomic_table.specs.Table.{Me}
 use Rattle.sync_model.specs.declared.map_object.MapCall.TheVariants.{Clear}
 use Rattle.sync_model.specs.declared.map_object.MapReply.TheVariants.{Done}

@@ -1,7 +1,7 @@
-use Rattle.std.proofs.Common.{rules, ◌+◌, ◌<◌, ◌^◌, ◌∙◌, refl, subst, arith}
+use Rattle.std.proofs.Common.{rules, refl}
 use Rattle.sync_model.specs.declared.map_object.MapCall.TheVariants.{Clear}
 use Rattle.sync_model.specs.declared.map_object.MapReply.TheVariants.{Done}
-use Rattle.shared_table.proofs.Payments.{has_unit, next_after, spare_after, some_spare, next_small, note_after}
+use Rattle.shared_table.proofs.Payments.{has_unit, next_small}
 use Rattle.shared_table.proofs.table.SharedTable.clear_map.Goals as goal
 
 pub clear-requires-clause-unit : goal.clear-requires-clause-unit
