@@ -16,7 +16,7 @@ use sync_model::{Caller, MapCall, MapReply};
 /// map of one thread. What a call observes synchronizes before it. No call takes memory.
 ///
 /// Each call but `load` takes one of its caller's spare units, whatever it answers, and may wait while another caller has the
-/// lock of the node where the key belongs. A call that changes the map is placed at its one write.
+/// lock of the node where the key belongs, or clears the map. A call that changes the map is placed at its one write.
 #[derive(Drop)]
 pub struct Map<'a> {
     pub table: &'a SharedTable,
@@ -163,5 +163,16 @@ impl<'a> Map<'a> {
         ensures called { MakesCall self.now.table.now self.now.number (MapCall.CompareAndDelete key old) (MapReply.Compared result) caller.old.note caller.new.note }
     {
         compared_in(self.change(rt, caller, key, MapCall::CompareAndDelete { key, old }))
+    }
+
+    /// `Clear`: the map then has no key. It waits while another caller clears the map, and then until the calls that were
+    /// changing it have ended. Loads go on beside it. A load that began before may still answer what its key had just before
+    /// the clear, and one that begins after it answers as of no earlier than what its caller has seen.
+    pub fn clear<R: Wait>(&self, rt: &R, caller: &mut Caller<SharedNote>)
+        requires caller { IsCallerAt IsNoteOf own_by self.now.table.now caller.old }
+        requires spare { HasSpare caller.old.note }
+        ensures called { MakesCall self.now.table.now self.now.number MapCall.Clear MapReply.Done caller.old.note caller.new.note }
+    {
+        self.table.clear_map(rt, &mut caller.note, self.number);
     }
 }

@@ -4,10 +4,12 @@ ghost use Rattle.sync_model.specs.Shared.{IsCallerAt};
 ghost use Rattle.shared_table.specs.Notes.{own_by, IsNoteOf};
 ghost use Rattle.shared_table.specs.Tables.{maps_of};
 
+mod clears;
 mod crew;
 mod deep;
 mod ends;
 mod merged;
+mod race;
 mod threads;
 
 use crate::Map;

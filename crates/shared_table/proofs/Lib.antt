@@ -33,6 +33,10 @@ pub mod Still
 pub mod Holding
 pub mod Locking
 pub mod Gating
+pub mod Closing
+pub mod NewRoots
+pub mod Cleared
+pub mod Clears
 pub mod Drafting
 pub mod Held
 pub mod Writes

@@ -26,3 +26,4 @@ pub mod EndLaws
 pub mod SweepLaws
 pub mod Cursors
 pub mod Making
+pub mod Clearing

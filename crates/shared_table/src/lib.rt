@@ -5,6 +5,7 @@ pub mod begin;
 mod caller_note;
 mod chain;
 mod changes;
+mod clearing;
 mod copies;
 mod cursor_steps;
 mod ends;
@@ -30,3 +31,6 @@ pub use note::SharedNote;
 pub use steps::Steps;
 pub use table::SharedTable;
 pub use word_step::WordStep;
+
+#[cfg(test)]
+mod tests;

@@ -59,6 +59,19 @@ pub(super) fn deleted<R: Wait>(
     true
 }
 
+// Clears map 0, if the caller has room.
+pub(super) fn cleared<R: Wait>(rt: &R, table: &SharedTable, caller: &mut Caller<SharedNote>) -> bool
+    requires map { 0 < maps_of table.now }
+    requires caller { IsCallerAt IsNoteOf own_by table.now caller.old }
+    ensures { IsCallerAt IsNoteOf own_by table.now caller.new }
+{
+    if caller.spare() == 0 {
+        return false;
+    }
+    Map::at(table, 0).clear(rt, caller);
+    true
+}
+
 // What a key of map 0 has.
 pub(super) fn loaded<L: Ledger>(
     table: &SharedTable,

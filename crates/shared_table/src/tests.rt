@@ -1,0 +1,93 @@
+//! A lookup that began before a clear ends after it: it goes on in the nodes that the clear cut off.
+ghost use Rattle.std.specs.Prelude.{◌≡◌, ◌<◌, IfSome, IsSome, All};
+ghost use Rattle.sync_model.specs.Shared.{IsCallerAt};
+ghost use Rattle.shared_table.specs.Notes.{own_by, IsNoteOf};
+ghost use Rattle.shared_table.specs.Tables.{maps_of};
+ghost use Rattle.shared_table.specs.Walking.{IsFree};
+
+use crate::note::SharedNote;
+use crate::table::SharedTable;
+use crate::view::View;
+use atomic_table::Seat;
+use std::sync::Wait;
+use std::test::Fail;
+use sync_model::{Caller, CallerNote, MapCall};
+use trie_nodes::Slot;
+
+// The last of some callers.
+fn take(table: &SharedTable, callers: &mut Vec<Caller<SharedNote>>) -> Option<Caller<SharedNote>>
+    requires { All (IsCallerAt IsNoteOf own_by table.now) callers.old.items }
+    ensures rest { All (IsCallerAt IsNoteOf own_by table.now) callers.new.items }
+    ensures one { IfSome result (IsCallerAt IsNoteOf own_by table.now) }
+{
+    callers.pop()
+}
+
+// Stores, if the caller has room.
+fn store_one<R: Wait>(
+    rt: &R,
+    table: &SharedTable,
+    note: &mut SharedNote,
+    key: u32,
+    value: u32,
+) -> bool
+    requires map { 0 < maps_of table.now }
+    requires note { IsNoteOf table.now note.old × IsSome (own_by note.old) }
+    ensures { IsNoteOf table.now note.new × IsSome (own_by note.new) }
+{
+    if note.spare() == 0 {
+        return false;
+    }
+    let value = value as u64;
+    table.change_map(rt, note, 0, key, MapCall::Store { key, value });
+    true
+}
+
+// Clears, if the caller has room.
+fn clear_one<R: Wait>(rt: &R, table: &SharedTable, note: &mut SharedNote) -> bool
+    requires map { 0 < maps_of table.now }
+    requires note { IsNoteOf table.now note.old × IsSome (own_by note.old) }
+    ensures { IsNoteOf table.now note.new × IsSome (own_by note.new) }
+{
+    if note.spare() == 0 {
+        return false;
+    }
+    table.clear_map(rt, note, 0);
+    true
+}
+
+// A seat reads the map's root word, and another caller clears the map. Then the seat reads what is left: the key's slot in the
+// root that it found, and the entry there.
+fn look_over_a_clear<R: Wait>(
+    rt: &R,
+    table: &SharedTable,
+    seat: &mut Seat<(), View>,
+    clearer: &mut SharedNote,
+    key: u32,
+) -> Option<u64>
+    requires map { 0 < maps_of table.now }
+    requires seat { (seat.old.table_id ≡ table.now.table.shared.table_id) × IsFree table.now.table.shared.key seat.old.me }
+    requires clearer { IsNoteOf table.now clearer.old × IsSome (own_by clearer.old) }
+{
+    let node = table.enter(seat, 0, key);
+    if !clear_one(rt, table, clearer) {
+        return None;
+    }
+    match table.look(seat, MapCall::Load { key }, 0, key, node, 0) {
+        Slot::Entry(place) => table.read_entry(seat, place, key),
+        _ => None,
+    }
+}
+
+#[test]
+fn a_lookup_that_began_before_a_clear_finds_what_was_there(rt: HostRuntime) -> Result<(), Fail> {
+    let (table, mut callers) = SharedTable::new(rt.alloc(), &[], 1, 0, &[2, 0])?;
+    let reader = take(&table, &mut callers).expect(&rt, "caller 1");
+    let mut clearer = take(&table, &mut callers).expect(&rt, "caller 0");
+    assert!(&rt; store_one(&rt, &table, &mut clearer.note, 5, 6));
+    let SharedNote { mut seat, .. } = reader.note;
+    let found = look_over_a_clear(&rt, &table, &mut seat, &mut clearer.note, 5);
+    assert!(&rt; found == Some(6));
+    assert!(&rt; clearer.spare() == 0);
+    Ok(())
+}
