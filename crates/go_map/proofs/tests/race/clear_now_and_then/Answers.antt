@@ -1,4 +1,4 @@
-use Rattle.go_map.proofs.Callers.{holds, held_on}
+use Rattle.go_map.proofs.Callers.{held_on}
 use Rattle.go_map.proofs.tests.race.clear_now_and_then.Goals as goal
 
 pub returns-then-spare-gt0 : goal.returns-then-spare-gt0

@@ -1,6 +1,5 @@
 use Rattle.sync_model.specs.Shared.{IsHeldBy}
 use Rattle.shared_table.specs.Notes.{own_by, IsNoteOf}
-use Rattle.std.proofs.Common.{◌≡◌}
 use Rattle.go_map.proofs.tests.race.work.Given as goal
 
 abbrev pub invariant-loop-round : goal.invariant-loop-round
