@@ -8,7 +8,7 @@ use Rattle.command_line.specs.Command.{matched}
 use Rattle.command_line.specs.Seed.{seed_of}
 use Rattle.command_line.specs.declared.definition.Subcommand.{Subcommand}
 use Rattle.command_line.specs.declared.definition.Subcommand.TheVariants as subcommands
-use Rattle.gosync.specs.Command.{asked, file_of, AreRefused, AskFor, AskToMake}
+use Rattle.gosync.specs.Command.{file_of, AreRefused, AskFor, AskToMake}
 use Rattle.gosync.specs.ComesTo.{ComesTo}
 use Rattle.gosync.specs.Front.{IsFrontOfRun}
 use Rattle.gosync.specs.Made.{MakesTo}

@@ -17,11 +17,10 @@ use Rattle.gosync.specs.declared.status.Front.{Front}
 use Rattle.gosync.specs.declared.status.Front.TheVariants as fronts
 use Rattle.gosync.specs.declared.status.Status.{Status}
 use Rattle.gosync.specs.declared.status.Status.TheVariants as statuses
-use Rattle.gosync.specs.declared.status.Unread.{Unread}
 use Rattle.gosync.specs.declared.status.Unread.TheVariants as unreads
 use Rattle.gosync.specs.declared.words.Mode.{Mode}
 use Rattle.gosync.specs.declared.words.Mode.TheVariants as modes
-use Rattle.gosync.specs.Command.{asked, file_in, AskFor}
+use Rattle.gosync.specs.Command.{file_in, AskFor}
 use Rattle.gosync.specs.ComesTo.{ComesTo, Ends, Fails, IsRead}
 use Rattle.gosync.specs.Front.{IsFrontOfRun}
 use Rattle.gosync.specs.Headline.{RunsTo, RunsInJobs}

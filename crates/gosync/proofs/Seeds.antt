@@ -1,5 +1,5 @@
 -- What a run of a seed's workload comes to.
-use Rattle.std.proofs.Common.{◌≡◌, ◌∙◌, ℕ, List, [], ◌∷◌, ◌++◌, Option, Result, Ok, Err, MatchResult, sym, ap, subst, refl, append_assoc, append-nil, codes}
+use Rattle.std.proofs.Common.{◌≡◌, ◌∙◌, ℕ, List, [], ◌∷◌, ◌++◌, Option, Result, Ok, Err, MatchResult, sym, ap, subst, append_assoc, append-nil, codes}
 use Rattle.std.specs.List.{flat_map}
 use Rattle.std.specs.Prelude.{count_by, sum_by, length}
 use Rattle.generated_runs.specs.Runs.{five_lines, is_key, number_in, value_in}

@@ -1,5 +1,5 @@
 -- The five lines of a made workload's run.
-use Rattle.std.specs.Prelude.{◌≡◌, ℕ, Bool, nat_le, List, [], ◌∷◌, length, codes}
+use Rattle.std.specs.Prelude.{ℕ, Bool, nat_le, List, [], ◌∷◌, length, codes}
 use Rattle.std.specs.List.{flat_map, list_all}
 use Rattle.std.specs.Borrow.{Bor}
 use Rattle.made_run.specs.declared.totals.Totals.{Totals}

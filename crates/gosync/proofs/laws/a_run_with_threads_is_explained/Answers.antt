@@ -1,7 +1,5 @@
-use Rattle.std.proofs.Common.{◌≡◌, List, ℕ, refl, subst}
-use Rattle.std.proofs.Common.{Option, Some}
-use Rattle.sync_model.specs.declared.outcome.Outcome.{Outcome}
-use Rattle.sync_model.specs.declared.outcome.Outcome.TheVariants as outcomes
+use Rattle.std.proofs.Common.{refl, subst}
+use Rattle.std.proofs.Common.{Some}
 use Rattle.workload.specs.Plan.{Plan}
 use Rattle.gosync.specs.ComesTo.{Ends}
 use Rattle.gosync.specs.Headline.{RunsTo}

@@ -1,5 +1,4 @@
 use Rattle.std.proofs.Common.{subst}
-use Rattle.sync_model.specs.declared.outcome.Outcome.{Outcome}
 use Rattle.gosync.proofs.Seeds.{IsSummed, left_summed, made_so, summed}
 use Rattle.gosync.proofs.make.run_made.Goals as goal
 
