@@ -4,11 +4,11 @@ use Rattle.std.specs.Prelude.{sum_by, ◌+ℤ◌}
 use Rattle.std.specs.List.{flat_map, range_with_len}
 use Rattle.std.proofs.lemmas.Bool.{lt-ltb}
 use Rattle.std.proofs.lemmas.List.Sums.{sum_by-append, sum_by-cons}
-use Rattle.sync_model.specs.declared.atomic_object.AtomicKind.TheVariants as types
-use Rattle.sync_model.specs.declared.atomic_object.Number.{Number}
-use Rattle.sync_model.specs.declared.atomic_object.Number.TheVariants.{Int64}
-use Rattle.sync_model.specs.declared.call.Call.{Call}
-use Rattle.sync_model.specs.SequentialAtomic.{is_of, sum}
+use Rattle.sync_types.specs.declared.atomic_object.AtomicKind.TheVariants as types
+use Rattle.sync_types.specs.declared.atomic_object.Number.{Number}
+use Rattle.sync_types.specs.declared.atomic_object.Number.TheVariants.{Int64}
+use Rattle.sync_types.specs.declared.call.Call.{Call}
+use Rattle.sync_types.specs.SequentialAtomic.{is_of, sum}
 use Rattle.workload.specs.Draft.{call_count}
 use Rattle.run_laws.specs.Adds.{amount_of, amounts_at, after_adds}
 use Rattle.workload_generator.specs.Generated.{in_twos, drawn_for, round, generated_plan}

@@ -5,14 +5,14 @@ use Rattle.std.specs.FinMap.{empty, entries, values, len, len-entries}
 use Rattle.std.specs.List.{flat_map}
 use Rattle.std.proofs.lemmas.List.{append-nil, length-map, length-replicate}
 use Rattle.std.proofs.lemmas.List.Sums.{sum-map, sum_by-cons}
-use Rattle.sync_model.specs.declared.atomic_object.Number.{Number}
-use Rattle.sync_model.specs.declared.atomic_object.Number.TheVariants.{Int64, Bool as Truth}
+use Rattle.sync_types.specs.declared.atomic_object.Number.{Number}
+use Rattle.sync_types.specs.declared.atomic_object.Number.TheVariants.{Int64, Bool as Truth}
 use Rattle.sync_model.specs.declared.item.SharedEntry.{SharedEntry}
-use Rattle.sync_model.specs.declared.outcome.End.{End}
-use Rattle.sync_model.specs.declared.outcome.End.TheVariants as ends
-use Rattle.sync_model.specs.declared.outcome.Report.{Report}
-use Rattle.sync_model.specs.Ends.{ends_of}
-use Rattle.sync_model.specs.SequentialAtomic.{zero_of}
+use Rattle.sync_types.specs.declared.outcome.End.{End}
+use Rattle.sync_types.specs.declared.outcome.End.TheVariants as ends
+use Rattle.sync_types.specs.declared.outcome.Report.{Report}
+use Rattle.sync_types.specs.Ends.{ends_of}
+use Rattle.sync_types.specs.SequentialAtomic.{zero_of}
 use Rattle.sync_model.specs.SharedHistory.{map_at, number_at, contents_after}
 use Rattle.workload.specs.declared.object.ObjectLine.{ObjectLine}
 use Rattle.workload.specs.Keys.{keys_in, key_number}

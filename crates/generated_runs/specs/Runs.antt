@@ -1,10 +1,10 @@
 -- What a run of a seed's workload leaves, and the five lines that tell of it.
 use Rattle.std.specs.Prelude.{ℕ, pos, Bool, true, false, List, ◌∷◌, ◌++◌, map, length, sum_by, count_by, codes}
 use Rattle.std.specs.FinMap.{entries}
-use Rattle.sync_model.specs.declared.atomic_object.Number.TheVariants.{Int64}
-use Rattle.sync_model.specs.declared.outcome.End.{End}
-use Rattle.sync_model.specs.declared.outcome.End.TheVariants as ends
-use Rattle.sync_model.specs.declared.outcome.Report.{Report}
+use Rattle.sync_types.specs.declared.atomic_object.Number.TheVariants.{Int64}
+use Rattle.sync_types.specs.declared.outcome.End.{End}
+use Rattle.sync_types.specs.declared.outcome.End.TheVariants as ends
+use Rattle.sync_types.specs.declared.outcome.Report.{Report}
 use Rattle.workload.specs.Keys.{keys_in, key_number}
 use Rattle.workload_generator.specs.Generated.{generated_plan}
 use Rattle.workload_generator.specs.Summary.{summary, union_of, numbered}

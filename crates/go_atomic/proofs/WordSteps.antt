@@ -8,12 +8,12 @@ use Rattle.std.proofs.lemmas.Bool.{ltb-true, lt-ltb}
 use Rattle.std.proofs.lemmas.Bool.Decides.{Decides-eqb, Decides-int_eq}
 use Rattle.std.proofs.lemmas.Int.{of_z-to_z, to_z-of_z}
 use Rattle.std.proofs.Math.Facts.{Fits-of_z}
-use Rattle.sync_model.specs.declared.atomic_object.AtomicKind.{AtomicKind}
-use Rattle.sync_model.specs.declared.atomic_object.AtomicKind.TheVariants as kinds
-use Rattle.sync_model.specs.declared.atomic_object.Number.{Number}
-use Rattle.sync_model.specs.declared.atomic_object.Number.TheVariants.{Int32, Int64, Uint32, Uint64, Bool as Truth}
-use Rattle.sync_model.specs.SequentialAtomic.{is_signed, has_bits, is_of, is_same, sum, bits_of_both, bits_of_either}
-use Rattle.sync_model.specs.WordLayout.{word_of, is_word, number_in}
+use Rattle.sync_types.specs.declared.atomic_object.AtomicKind.{AtomicKind}
+use Rattle.sync_types.specs.declared.atomic_object.AtomicKind.TheVariants as kinds
+use Rattle.sync_types.specs.declared.atomic_object.Number.{Number}
+use Rattle.sync_types.specs.declared.atomic_object.Number.TheVariants.{Int32, Int64, Uint32, Uint64, Bool as Truth}
+use Rattle.sync_types.specs.SequentialAtomic.{is_signed, has_bits, is_of, is_same, sum, bits_of_both, bits_of_either}
+use Rattle.sync_types.specs.WordLayout.{word_of, is_word, number_in}
 use Rattle.go_atomic.proofs.WordLemmas.{IsBitwise, is_high, high_is, is_high-shl, below, high, is_word-bitwise, and_bitwise, or_bitwise}
 
 fits32 : (z : ℤ) → is_signed (2 ^ 31) z ≡ true → FitsSigned w32 z

@@ -1,9 +1,9 @@
 //! Laws of words and numbers.
 ghost use Rattle.std.specs.Prelude.{◌≡◌, ℕ, ◌+◌, ◌%◌, ◌^◌, ◌==◌, bit_and, bit_or, true};
-ghost use Rattle.sync_model.specs.declared.atomic_object.AtomicKind.{AtomicKind};
-ghost use Rattle.sync_model.specs.declared.atomic_object.Number.{Number};
-ghost use Rattle.sync_model.specs.SequentialAtomic.{has_bits, is_of, is_same, sum, bits_of_both, bits_of_either};
-ghost use Rattle.sync_model.specs.WordLayout.{word_of, is_word, number_in};
+ghost use Rattle.sync_types.specs.declared.atomic_object.AtomicKind.{AtomicKind};
+ghost use Rattle.sync_types.specs.declared.atomic_object.Number.{Number};
+ghost use Rattle.sync_types.specs.SequentialAtomic.{has_bits, is_of, is_same, sum, bits_of_both, bits_of_either};
+ghost use Rattle.sync_types.specs.WordLayout.{word_of, is_word, number_in};
 
 /// Each step on a word is the operation on the word's number: a word that was written is read as its number, one addition
 /// of words adds the numbers and wraps as they do, bits of words are those of the numbers, and two words are equal exactly

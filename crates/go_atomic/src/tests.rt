@@ -1,7 +1,7 @@
 //! Words of numbers at both ends of their types, and sums and bits of them.
 use super::*;
 use std::test::Fail;
-use sync_model::{AtomicKind, Number};
+use sync_types::{AtomicKind, Number};
 
 #[test]
 fn numbers_stand_in_their_words(rt: HostRuntime) -> Result<(), Fail> {

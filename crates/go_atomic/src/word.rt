@@ -1,10 +1,10 @@
 //! Numbers in words of 64 bits. A number of 32 bits stands in the high half of its word, and the low half is 0, so one
 //! addition on the whole word wraps where the number does, and one comparison of words compares numbers.
 ghost use Rattle.std.specs.Prelude.{◌≡◌, true};
-ghost use Rattle.sync_model.specs.SequentialAtomic.{has_bits, is_of, kind_of, atomic_after};
-ghost use Rattle.sync_model.specs.WordLayout.{word_of, is_word, number_in};
+ghost use Rattle.sync_types.specs.SequentialAtomic.{has_bits, is_of, kind_of, atomic_after};
+ghost use Rattle.sync_types.specs.WordLayout.{word_of, is_word, number_in};
 
-use sync_model::{AtomicCall, AtomicKind, Number};
+use sync_types::{AtomicCall, AtomicKind, Number};
 
 /// The word of a number.
 pub fn to_word(number: Number) -> u64

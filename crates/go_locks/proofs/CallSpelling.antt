@@ -1,9 +1,9 @@
 -- What a lock's call answers and gains.
 use Rattle.std.proofs.Common.{◌≡◌, ◌≢◌, Bool, true, false, Ok, Err, refl}
-use Rattle.sync_model.specs.declared.misuse.Misuse.{Misuse}
+use Rattle.sync_types.specs.declared.misuse.Misuse.{Misuse}
 use Rattle.sync_model.specs.declared.answer.Answer.TheVariants.{Done, Halted}
-use Rattle.sync_model.specs.declared.lock_call.LockReply.{LockReply}
-use Rattle.sync_model.specs.declared.lock_call.LockReply.TheVariants as outcome
+use Rattle.sync_types.specs.declared.lock_call.LockReply.{LockReply}
+use Rattle.sync_types.specs.declared.lock_call.LockReply.TheVariants as outcome
 use Rattle.protocols.specs.Spelling.{CallAnswer}
 use Rattle.running.specs.Calls.{has_gained}
 use Rattle.go_locks.specs.MutexAnswers.{lock_answer, try_answer}

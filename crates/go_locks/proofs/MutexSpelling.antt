@@ -1,12 +1,12 @@
 -- The spelling of a mutex's protocol, in the words of this crate.
 use Rattle.std.proofs.Common.{◌≡◌, ℕ, Bool, true, List, [], ◌∷◌, ◌++◌, Result, Ok, Err, refl, sym, subst}
 use Rattle.std.proofs.lemmas.List.{append_assoc}
-use Rattle.sync_model.specs.declared.misuse.Misuse.{Misuse}
+use Rattle.sync_types.specs.declared.misuse.Misuse.{Misuse}
 use Rattle.sync_model.specs.declared.answer.Answer.{Answer}
 use Rattle.sync_model.specs.declared.answer.Answer.TheVariants.{Done, Halted}
 use Rattle.sync_model.specs.declared.journal.Deed.TheVariants.{Event, Refused, Halt}
-use Rattle.sync_model.specs.declared.lock_call.LockReply.{LockReply}
-use Rattle.sync_model.specs.declared.lock_call.LockReply.TheVariants as outcome
+use Rattle.sync_types.specs.declared.lock_call.LockReply.{LockReply}
+use Rattle.sync_types.specs.declared.lock_call.LockReply.TheVariants as outcome
 use Rattle.mutex_core.specs.declared.event.MutexEvent.{MutexEvent}
 use Rattle.mutex_core.specs.declared.event.MutexEvent.TheVariants.{Arrive, Try, Unlock, Woken}
 use Rattle.mutex_core.specs.declared.reply.MutexReply.{MutexReply}

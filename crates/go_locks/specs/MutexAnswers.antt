@@ -1,9 +1,9 @@
 -- What the calls of a running Mutex answer, by what their protocol gives.
 use Rattle.std.specs.Prelude.{Bool, false, Result, Ok, Err}
-use Rattle.sync_model.specs.declared.misuse.Misuse.{Misuse}
+use Rattle.sync_types.specs.declared.misuse.Misuse.{Misuse}
 use Rattle.sync_model.specs.declared.answer.Answer.{Answer}
-use Rattle.sync_model.specs.declared.lock_call.LockReply.{LockReply}
-use Rattle.sync_model.specs.declared.lock_call.LockReply.TheVariants as outcome
+use Rattle.sync_types.specs.declared.lock_call.LockReply.{LockReply}
+use Rattle.sync_types.specs.declared.lock_call.LockReply.TheVariants as outcome
 use Rattle.protocols.specs.Spelling.{CallAnswer}
 use Rattle.running.specs.Calls.{told}
 

@@ -2,7 +2,8 @@
 ghost use Rattle.std.specs.Prelude.{◌≡◌};
 ghost use Rattle.go_locks.specs.MutexAnswers.{lock_answer, try_answer, unlock_answer};
 
-use sync_model::{Answer, LockReply, Misuse};
+use sync_model::Answer;
+use sync_types::{LockReply, Misuse};
 
 // Of a lock.
 pub(crate) fn locked(answer: Answer<Result<LockReply, Misuse>>) -> Answer<()>

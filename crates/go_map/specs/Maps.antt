@@ -3,8 +3,8 @@ use Rattle.std.specs.Prelude.{ℕ, ◌≤◌}
 use Rattle.std.specs.Option.{ForSome}
 use Rattle.sync_model.specs.declared.item.SharedCall.TheVariants as calls
 use Rattle.sync_model.specs.declared.item.SharedReply.TheVariants as replies
-use Rattle.sync_model.specs.declared.map_object.MapCall.{MapCall}
-use Rattle.sync_model.specs.declared.map_object.MapReply.{MapReply}
+use Rattle.sync_types.specs.declared.map_object.MapCall.{MapCall}
+use Rattle.sync_types.specs.declared.map_object.MapReply.{MapReply}
 use Rattle.sync_model.specs.Note.{SameHome}
 use Rattle.sync_model.specs.Shared.{Called, cost_of, state_of}
 use Rattle.shared_table.specs.declared.note.SharedNote.{SharedNote}

@@ -1,6 +1,6 @@
 //! Maps, as `sync.Map` has them.
 ghost use Rattle.std.specs.Prelude.{◌≡◌, ◌+◌, ◌<◌, ◌≤◌, ◌^◌, Some};
-ghost use Rattle.sync_model.specs.SequentialMap.{map_key};
+ghost use Rattle.sync_types.specs.SequentialMap.{map_key};
 ghost use Rattle.sync_model.specs.Shared.{IsCallerAt, cost_of};
 ghost use Rattle.shared_table.specs.Notes.{own_by, IsNoteOf};
 ghost use Rattle.shared_table.specs.Tables.{maps_of};
@@ -10,7 +10,8 @@ use crate::reply::{compared_in, found_in, settled_in};
 use shared_table::{SharedNote, SharedTable, Steps};
 use std::sync::Wait;
 use std::sync::ledger::Ledger;
-use sync_model::{Caller, MapCall, MapReply};
+use sync_model::Caller;
+use sync_types::{MapCall, MapReply};
 
 /// One map of a shared table. Each call has one place in the history that all callers share, and is answered there as by the
 /// map of one thread. What a call observes synchronizes before it. No call takes memory.

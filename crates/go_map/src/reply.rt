@@ -1,7 +1,7 @@
 //! What a call's reply says, for calls whose replies have one form.
 ghost use Rattle.std.specs.Prelude.{◌≡◌, ℕ, Bool, Option};
 
-use sync_model::MapReply;
+use sync_types::MapReply;
 
 // The value that was found.
 pub(crate) fn found_in(reply: MapReply) -> Option<u64>

@@ -1,6 +1,6 @@
 -- What the calls of a pool answer, by what its protocol gives. Such calls give nothing else: `pool_gives` says so.
 use Rattle.std.specs.Prelude.{ℕ, Option, Some, None, Result, Ok, Err}
-use Rattle.sync_model.specs.declared.misuse.Misuse.{Misuse}
+use Rattle.sync_types.specs.declared.misuse.Misuse.{Misuse}
 use Rattle.pool_core.specs.declared.pool_event.PoolPut.{PoolPut}
 use Rattle.pool_core.specs.declared.pool_event.PoolPut.TheVariants as put
 use Rattle.protocols.specs.declared.pool.PoolOutcome.{PoolOutcome}

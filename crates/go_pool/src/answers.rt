@@ -5,7 +5,8 @@ ghost use Rattle.go_pool.specs.PoolAnswers.{look_of, put_of, sweep_of};
 
 use pool_core::PoolPut;
 use protocols::PoolOutcome;
-use sync_model::{Answer, Misuse};
+use sync_model::Answer;
+use sync_types::Misuse;
 
 type Given = Answer<Result<PoolOutcome, Misuse>>;
 

@@ -8,7 +8,8 @@ ghost use Rattle.go_pool.specs.Pools.{Made, Journal, AreAllPasses, IsPassOf, IsW
 
 use crate::pool::{Pool, PoolPass};
 use std::sync::Wait;
-use sync_model::{Misuse, Note};
+use sync_model::Note;
+use sync_types::Misuse;
 
 impl<N: Note> Pool<N> {
     /// Halts the pool by a misuse: from then on each call is answered `Halted` with the first halt's misuse. It is one entry

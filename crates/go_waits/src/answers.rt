@@ -7,7 +7,8 @@ ghost use Rattle.go_waits.specs.Answers.{done_answer, IsBegunBy};
 
 use crate::once_begun::{OnceBegun, Running};
 use protocols::OnceOutcome;
-use sync_model::{Answer, Misuse};
+use sync_model::Answer;
+use sync_types::Misuse;
 
 // Of a call that gives nothing but that it is done.
 pub(crate) fn done<O: Drop>(answer: Answer<Result<O, Misuse>>) -> Answer<()>

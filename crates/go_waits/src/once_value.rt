@@ -1,6 +1,6 @@
 //! Go's `sync.OnceFunc` and `sync.OnceValue`: a function that is called once, whose result each call answers.
 ghost use Rattle.std.specs.Prelude.{◌≡◌, ◌≤◌, ◌<◌, IfOk, List};
-ghost use Rattle.sync_model.specs.declared.misuse.Misuse.{Misuse};
+ghost use Rattle.sync_types.specs.declared.misuse.Misuse.{Misuse};
 ghost use Rattle.sync_model.specs.declared.answer.Answer.TheVariants.{Halted};
 ghost use Rattle.sync_model.specs.declared.journal.Deed.TheVariants.{Halt};
 ghost use Rattle.sync_model.specs.Journal.{halt_of};
@@ -20,7 +20,8 @@ use ruled_object::MAX_CALLS;
 use ruled_object::laws::growth;
 use std::alloc::{AllocError, Global};
 use std::sync::Wait;
-use sync_model::{Answer, MAX_CALLERS, Misuse, Note};
+use sync_model::{Answer, MAX_CALLERS, Note};
+use sync_types::Misuse;
 use sync_outside::{At, Clock};
 use wait_cores::OnceCore;
 

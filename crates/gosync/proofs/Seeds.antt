@@ -6,9 +6,9 @@ use Rattle.generated_runs.specs.Runs.{five_lines, is_key, number_in, value_in}
 use Rattle.made_run.specs.TotalsOf.{totals_of}
 use Rattle.run_record.specs.Explains.{Explains}
 use Rattle.run_record.specs.Record.{Record}
-use Rattle.sync_model.specs.declared.outcome.Outcome.{Outcome}
-use Rattle.sync_model.specs.declared.outcome.Outcome.TheVariants as outcomes
-use Rattle.sync_model.specs.declared.outcome.Report.{Report}
+use Rattle.sync_types.specs.declared.outcome.Outcome.{Outcome}
+use Rattle.sync_types.specs.declared.outcome.Outcome.TheVariants as outcomes
+use Rattle.sync_types.specs.declared.outcome.Report.{Report}
 use Rattle.sync_outside.specs.Bytes.{Appends, AppendsFront}
 use Rattle.sync_outside.specs.Faults.{RoseBy}
 use Rattle.workload.specs.Plan.{Plan}

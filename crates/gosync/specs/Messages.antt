@@ -3,10 +3,10 @@ use Rattle.std.specs.Prelude.{◌≡◌, ℕ, List, [], ◌++◌, ◌⊎◌, Opt
 use Rattle.sync_outside.specs.Bytes.{Appends, AppendsFront}
 use Rattle.sync_outside.specs.Faults.{Rose}
 use Rattle.std.specs.Fmt.{decimal}
-use Rattle.sync_model.specs.Misuse.{text_of}
+use Rattle.sync_types.specs.Misuse.{text_of}
 use Rattle.workload.specs.Reason.{reason_text}
-use Rattle.sync_model.specs.declared.outcome.Outcome.{Outcome}
-use Rattle.sync_model.specs.declared.outcome.Outcome.TheVariants as outcomes
+use Rattle.sync_types.specs.declared.outcome.Outcome.{Outcome}
+use Rattle.sync_types.specs.declared.outcome.Outcome.TheVariants as outcomes
 use Rattle.gosync.specs.declared.status.Status.{Status}
 use Rattle.gosync.specs.declared.status.Status.TheVariants as statuses
 use Rattle.gosync.specs.declared.status.Ending.{Ending}

@@ -2,31 +2,31 @@
 use Rattle.std.specs.Prelude.{ℕ, ◌+◌, Bool, List, [], ◌∷◌, ◌++◌, map, codes, Option, Some, None, slice_get}
 use Rattle.std.specs.List.{flat_map}
 use Rattle.std.specs.Fmt.{decimal, signed_decimal}
-use Rattle.sync_model.specs.declared.call.Call.{Call}
-use Rattle.sync_model.specs.declared.call.Reply.{Reply}
-use Rattle.sync_model.specs.declared.call.Reply.TheVariants as replies
-use Rattle.sync_model.specs.declared.map_object.MapReply.{MapReply}
-use Rattle.sync_model.specs.declared.map_object.MapReply.TheVariants as map_replies
-use Rattle.sync_model.specs.declared.atomic_object.AtomicReply.{AtomicReply}
-use Rattle.sync_model.specs.declared.atomic_object.AtomicReply.TheVariants as atomic_replies
-use Rattle.sync_model.specs.declared.lock_call.LockReply.{LockReply}
-use Rattle.sync_model.specs.declared.lock_call.LockReply.TheVariants as lock_replies
-use Rattle.sync_model.specs.declared.once_call.DoReply.{DoReply}
-use Rattle.sync_model.specs.declared.once_call.DoReply.TheVariants as once_replies
-use Rattle.sync_model.specs.declared.pool_call.PoolCallReply.{PoolCallReply}
-use Rattle.sync_model.specs.declared.pool_call.PoolCallReply.TheVariants as pool_replies
-use Rattle.sync_model.specs.declared.atomic_object.Number.TheVariants as numbers
+use Rattle.sync_types.specs.declared.call.Call.{Call}
+use Rattle.sync_types.specs.declared.call.Reply.{Reply}
+use Rattle.sync_types.specs.declared.call.Reply.TheVariants as replies
+use Rattle.sync_types.specs.declared.map_object.MapReply.{MapReply}
+use Rattle.sync_types.specs.declared.map_object.MapReply.TheVariants as map_replies
+use Rattle.sync_types.specs.declared.atomic_object.AtomicReply.{AtomicReply}
+use Rattle.sync_types.specs.declared.atomic_object.AtomicReply.TheVariants as atomic_replies
+use Rattle.sync_types.specs.declared.lock_call.LockReply.{LockReply}
+use Rattle.sync_types.specs.declared.lock_call.LockReply.TheVariants as lock_replies
+use Rattle.sync_types.specs.declared.once_call.DoReply.{DoReply}
+use Rattle.sync_types.specs.declared.once_call.DoReply.TheVariants as once_replies
+use Rattle.sync_types.specs.declared.pool_call.PoolCallReply.{PoolCallReply}
+use Rattle.sync_types.specs.declared.pool_call.PoolCallReply.TheVariants as pool_replies
+use Rattle.sync_types.specs.declared.atomic_object.Number.TheVariants as numbers
 use Rattle.workload.specs.declared.object.ObjectLine.{ObjectLine}
 use Rattle.workload.specs.Canonical.{behind_spaces, name_of, call_line}
 use Rattle.workload.specs.Keys.{keys_in, key_name}
 use Rattle.workload.specs.Plan.{Plan}
 use Rattle.workload.specs.NumberWords.{number_word}
 use Rattle.workload.specs.Words.{spelled}
-use Rattle.sync_model.specs.declared.outcome.End.{End}
-use Rattle.sync_model.specs.declared.outcome.End.TheVariants.{Number, Pair}
-use Rattle.sync_model.specs.Outcome.{left_by}
-use Rattle.sync_model.specs.declared.outcome.Outcome.{Outcome}
-use Rattle.sync_model.specs.declared.outcome.Outcome.TheVariants as outcomes
+use Rattle.sync_types.specs.declared.outcome.End.{End}
+use Rattle.sync_types.specs.declared.outcome.End.TheVariants.{Number, Pair}
+use Rattle.sync_types.specs.Outcome.{left_by}
+use Rattle.sync_types.specs.declared.outcome.Outcome.{Outcome}
+use Rattle.sync_types.specs.declared.outcome.Outcome.TheVariants as outcomes
 
 -- the words of a call, as a workload's text spells them
 abbrev pub call_words : List ObjectLine → Call → List (List ℕ)

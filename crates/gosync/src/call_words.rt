@@ -8,7 +8,7 @@ ghost use Rattle.gosync.specs.Adding.{Adds, HasRoom};
 ghost use Rattle.gosync.specs.ReportText.{call_words};
 
 use crate::line::{push_atomic_word, push_word};
-use sync_model::{Call, Operation};
+use sync_types::{Call, Operation};
 use workload::ObjectLine;
 use workload::call::verb;
 use workload::object::name_at;

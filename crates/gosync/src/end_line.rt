@@ -3,7 +3,7 @@ ghost use Rattle.std.specs.Prelude.{◌≡◌, ◌≤◌, vec_capacity};
 ghost use Rattle.gosync.specs.ReportText.{end_line};
 
 use crate::line::{LINE_ROOM, push, push_atomic_word, push_word};
-use sync_model::{End, Number};
+use sync_types::{End, Number};
 use workload::Workload;
 use workload::keys::key_name;
 use workload::object::name_at;

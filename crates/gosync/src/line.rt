@@ -6,7 +6,7 @@ ghost use Rattle.gosync.specs.Adding.{Adds, HasRoom};
 ghost use Rattle.gosync.specs.ReportText.{truth_text};
 
 use itoa::Buffer;
-use sync_model::Number;
+use sync_types::Number;
 
 /// The room that the buffer of a line has, in bytes.
 pub const LINE_ROOM: usize = 262_144;

@@ -3,8 +3,8 @@ ghost use Rattle.std.specs.Prelude.{◌≡◌, ◌≤◌, ◌+◌, [], IfErr, Ma
 ghost use Rattle.sync_outside.specs.Bytes.{Appends, AppendsFront};
 ghost use Rattle.sync_outside.specs.Faults.{Rose};
 ghost use Rattle.gosync.specs.Front.{IsUnstarted};
-ghost use Rattle.sync_model.specs.declared.outcome.Outcome.TheVariants as outcomes;
-ghost use Rattle.sync_model.specs.declared.outcome.Report.{Report};
+ghost use Rattle.sync_types.specs.declared.outcome.Outcome.TheVariants as outcomes;
+ghost use Rattle.sync_types.specs.declared.outcome.Report.{Report};
 ghost use Rattle.made_run.specs.TotalsOf.{totals_of};
 ghost use Rattle.gosync.specs.Made.{IsMade, IsUnmade, MakesTo};
 ghost use Rattle.gosync.specs.MadeText.{totals_text};
@@ -20,7 +20,7 @@ use made_run::{made_workload, totals_of};
 use std::alloc::Global;
 use std::sync::Wait;
 use std::thread::Threads;
-use sync_model::{Outcome, Report};
+use sync_types::{Outcome, Report};
 use sync_outside::{Clock, Gate, Sink, Spawner};
 use thread_runner::{RunFault, threaded};
 

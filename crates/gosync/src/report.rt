@@ -4,7 +4,7 @@ ghost use Rattle.std.specs.List.{list_all};
 ghost use Rattle.sync_outside.specs.Bytes.{Appends, AppendsFront};
 ghost use Rattle.sync_outside.specs.Faults.{Rose};
 ghost use Rattle.workload.specs.declared.limits.TheConstants.{MAX_KEYS};
-ghost use Rattle.sync_model.specs.Outcome.{has_pairs_to, shows_to};
+ghost use Rattle.sync_types.specs.Outcome.{has_pairs_to, shows_to};
 ghost use Rattle.gosync.specs.Messages.{ending_of};
 ghost use Rattle.gosync.specs.declared.status.Fault.TheVariants as faults;
 ghost use Rattle.gosync.specs.ReportText.{calls_text, workers_text, ends_text, report_text};
@@ -13,7 +13,7 @@ use crate::completed_line::set_completed_line;
 use crate::end_line::set_end_line;
 use crate::line::LINE_ROOM;
 use crate::status::{Ending, Fault};
-use sync_model::{End, Outcome, Reply, Seq};
+use sync_types::{End, Outcome, Reply, Seq};
 use sync_outside::{Failed, Sink};
 use workload::Workload;
 

@@ -2,7 +2,7 @@
 ghost use Rattle.std.specs.Prelude.{◌≡◌};
 ghost use Rattle.gosync.specs.Messages.{code_of};
 
-use sync_model::Misuse;
+use sync_types::Misuse;
 use workload::{Reason, Workload};
 
 /// How a run of a workload ended.

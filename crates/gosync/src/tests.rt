@@ -10,7 +10,7 @@ use std::alloc::{AllocError, Global};
 use std::sync::Wait;
 use std::test::Fail;
 use std::thread::Threads;
-use sync_model::Misuse;
+use sync_types::Misuse;
 use sync_outside::{
     Gate, MemClock, MemFile, MemSink, MemSources, OpenGate, Spawner, ThreadSpawner,
 };

@@ -1,14 +1,14 @@
 -- Calls of a script, by the kind of their object.
 use Rattle.std.proofs.Common.{◌≡◌, ℕ, true, sym, ap, ◌∙◌, subst}
 use Rattle.std.proofs.lemmas.Bool.{false≢true}
-use Rattle.sync_model.specs.declared.call.Operation.{Operation}
-use Rattle.sync_model.specs.declared.call.Operation.TheVariants as operations
-use Rattle.sync_model.specs.declared.call.Reply.{Reply}
-use Rattle.sync_model.specs.declared.lock_call.MutexCall.{MutexCall}
-use Rattle.sync_model.specs.declared.lock_call.RwMutexCall.{RwMutexCall}
-use Rattle.sync_model.specs.declared.pool_call.PoolCall.{PoolCall}
-use Rattle.sync_model.specs.declared.wait_call.CondCall.TheVariants as cond_calls
-use Rattle.sync_model.specs.declared.wait_call.WaitGroupCall.{WaitGroupCall}
+use Rattle.sync_types.specs.declared.call.Operation.{Operation}
+use Rattle.sync_types.specs.declared.call.Operation.TheVariants as operations
+use Rattle.sync_types.specs.declared.call.Reply.{Reply}
+use Rattle.sync_types.specs.declared.lock_call.MutexCall.{MutexCall}
+use Rattle.sync_types.specs.declared.lock_call.RwMutexCall.{RwMutexCall}
+use Rattle.sync_types.specs.declared.pool_call.PoolCall.{PoolCall}
+use Rattle.sync_types.specs.declared.wait_call.CondCall.TheVariants as cond_calls
+use Rattle.sync_types.specs.declared.wait_call.WaitGroupCall.{WaitGroupCall}
 use Rattle.protocols.specs.declared.cond.CondStage.TheVariants as stage
 use Rattle.protocols.specs.Spelling.{CallAnswer}
 use Rattle.workload.specs.declared.object.ObjectKind.{ObjectKind}

@@ -9,7 +9,7 @@ use Rattle.std.proofs.lemmas.List.{append-nil, take_all, take_more, length-take-
 use Rattle.std.proofs.lemmas.List.Elements.{All-from_recursion}
 use Rattle.std.proofs.lemmas.Option.{slice_get_within, get_or_from_slice_get, none-some, same_Some}
 use Rattle.sync_model.specs.declared.journal.Deed.TheVariants.{Halt}
-use Rattle.sync_model.specs.declared.misuse.Misuse.{Misuse}
+use Rattle.sync_types.specs.declared.misuse.Misuse.{Misuse}
 use Rattle.run_record.specs.declared.made.Made.{Made}
 use Rattle.run_record.specs.declared.made.Made.TheVariants.{Shared, Entered}
 use Rattle.run_record.specs.Lines.{IsHalt}

@@ -1,8 +1,8 @@
 -- Which calls are made on one object that isn't shared. A kind is a line here.
-use Rattle.sync_model.specs.declared.call.Operation.{Operation}
-use Rattle.sync_model.specs.declared.call.Operation.TheVariants as operations
-use Rattle.sync_model.specs.declared.wait_call.CondCall.{CondCall}
-use Rattle.sync_model.specs.declared.wait_call.CondCall.TheVariants as cond_calls
+use Rattle.sync_types.specs.declared.call.Operation.{Operation}
+use Rattle.sync_types.specs.declared.call.Operation.TheVariants as operations
+use Rattle.sync_types.specs.declared.wait_call.CondCall.{CondCall}
+use Rattle.sync_types.specs.declared.wait_call.CondCall.TheVariants as cond_calls
 
 -- a cond's `wait` is on its mutex too
 abbrev pub IsNotifying : CondCall → Type 0

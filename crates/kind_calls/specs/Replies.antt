@@ -1,10 +1,10 @@
 -- What calls of a workload reply.
 use Rattle.std.specs.Prelude.{ℕ, ℤ}
-use Rattle.sync_model.specs.declared.call.Reply.{Reply}
-use Rattle.sync_model.specs.declared.call.Reply.TheVariants as replies
-use Rattle.sync_model.specs.declared.lock_call.LockReply.{LockReply}
-use Rattle.sync_model.specs.declared.once_call.DoReply.TheVariants as do_replies
-use Rattle.sync_model.specs.declared.pool_call.PoolCallReply.TheVariants as pool_replies
+use Rattle.sync_types.specs.declared.call.Reply.{Reply}
+use Rattle.sync_types.specs.declared.call.Reply.TheVariants as replies
+use Rattle.sync_types.specs.declared.lock_call.LockReply.{LockReply}
+use Rattle.sync_types.specs.declared.once_call.DoReply.TheVariants as do_replies
+use Rattle.sync_types.specs.declared.pool_call.PoolCallReply.TheVariants as pool_replies
 use Rattle.protocols.specs.declared.pool.PoolOutcome.{PoolOutcome}
 use Rattle.run_record.specs.OnceKind.{failure}
 

@@ -14,7 +14,8 @@ use crate::kinds::cond::part_of_cond;
 use crate::kinds::mutex::part_of_mutex;
 use protocols::{CondStage, MutexStage};
 use std::sync::Wait;
-use sync_model::{Answer, LockReply, Misuse, Note};
+use sync_model::{Answer, Note};
+use sync_types::{LockReply, Misuse};
 use sync_outside::Clock;
 use thread_objects::{AnyObject, AnyPass, Worker};
 

@@ -9,7 +9,8 @@ ghost use Rattle.kind_calls.specs.Halting.{HaltsAll, halted_from, halting};
 ghost use Rattle.kind_calls.specs.Working.{Works, desk_with};
 
 use std::sync::Wait;
-use sync_model::{Misuse, Note};
+use sync_model::Note;
+use sync_types::Misuse;
 use sync_outside::Clock;
 use thread_objects::{AnyObject, AnyPass, Worker, halt_any};
 

@@ -14,7 +14,8 @@ use protocols::Protocol;
 use ruled_object::{Object, PassOf};
 use running::call_within;
 use std::sync::Wait;
-use sync_model::{Answer, Misuse, Note};
+use sync_model::{Answer, Note};
+use sync_types::Misuse;
 use sync_outside::Clock;
 use thread_objects::Worker;
 

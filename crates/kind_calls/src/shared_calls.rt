@@ -15,7 +15,8 @@ ghost use Rattle.kind_calls.specs.Working.{Works, desk_with};
 
 use crate::kinds::replies::CallAnswer;
 use std::sync::Wait;
-use sync_model::{Answer, AtomicCall, Caller, MapCall, Reply, Shared};
+use sync_model::{Answer, Caller, Shared};
+use sync_types::{AtomicCall, MapCall, Reply};
 
 /// Makes a call on an atomic. It may wait for other callers.
 pub fn call_atomic<S: Shared, R: Wait>(

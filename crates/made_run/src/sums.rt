@@ -2,7 +2,7 @@
 ghost use Rattle.std.specs.Prelude.{◌≡◌, length, sum_by, count_by};
 ghost use Rattle.generated_runs.specs.Runs.{number_in, is_key, value_in};
 
-use sync_model::{End, Number, Reply, Seq};
+use sync_types::{End, Number, Reply, Seq};
 
 /// How many replies there are.
 pub fn count_of(replies: &[Seq<Reply<u32>>]) -> u128

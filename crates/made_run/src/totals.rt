@@ -3,7 +3,7 @@ ghost use Rattle.std.specs.Prelude.{◌≡◌};
 ghost use Rattle.made_run.specs.TotalsOf.{totals_of};
 
 use crate::sums::{count_of, keys_in, total_in, values_in};
-use sync_model::Report;
+use sync_types::Report;
 
 /// What a run of a made workload comes to, in numbers. Each is a sum of numbers of 64 bits, so none wraps.
 #[derive(Clone, Copy, Debug, PartialEq, Eq)]

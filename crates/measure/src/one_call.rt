@@ -1,6 +1,6 @@
 //! `Plain`: one call on a shared map or atomic, in the place of a pair.
 ghost use Rattle.std.specs.Prelude.{◌≡◌, ◌∷◌, []};
-ghost use Rattle.sync_model.specs.declared.atomic_object.AtomicKind.TheVariants.{Int64};
+ghost use Rattle.sync_types.specs.declared.atomic_object.AtomicKind.TheVariants.{Int64};
 ghost use Rattle.sync_model.specs.Shared.{IsCallerAt};
 ghost use Rattle.shared_plain.specs.Marks.{own_by, IsMarkOf};
 ghost use Rattle.shared_plain.specs.Plains.{keys_of, kinds_of, maps_of};
@@ -10,7 +10,8 @@ use shared_plain::{Mark, Plain};
 use std::alloc::{AllocError, Global};
 use std::marker::PhantomData;
 use std::sync::Wait;
-use sync_model::{AtomicCall, AtomicKind, Caller, CallerNote, MapCall, NoNote, Number, Shared};
+use sync_model::{Caller, CallerNote, NoNote, Shared};
+use sync_types::{AtomicCall, AtomicKind, MapCall, Number};
 use sync_outside::Clock;
 
 /// How many entries a caller may store.

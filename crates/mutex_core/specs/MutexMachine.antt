@@ -1,7 +1,7 @@
 -- The mutex with its two modes: what each event does, and what it is answered.
 use Rattle.std.specs.Prelude.{◌≡◌, ℕ, ◌<◌, Bool, true, false, ◌&&◌, ◌||◌, not, ◌==◌, nat_eq, nat_lt, if◌then◌else◌, IsTrue, List, [], ◌∷◌, ◌++◌, map}
 use Rattle.std.specs.List.{list_any, IsDistinct, AllByRecursion}
-use Rattle.sync_model.specs.declared.misuse.Misuse.TheVariants.{UnlockOfUnlockedMutex}
+use Rattle.sync_types.specs.declared.misuse.Misuse.TheVariants.{UnlockOfUnlockedMutex}
 use Rattle.mutex_core.specs.declared.event.MutexEvent.{MutexEvent}
 use Rattle.mutex_core.specs.declared.event.MutexEvent.TheVariants as event
 use Rattle.mutex_core.specs.declared.place.Place.{Place}

@@ -12,7 +12,7 @@ use crate::waiter::{Flight, Waiter};
 use std::alloc::{AllocError, Global};
 use std::collections::VecDeque;
 use std::marker::Model;
-use sync_model::Misuse;
+use sync_types::Misuse;
 
 /// A mutex of some callers, as a value that each event changes. Who has locked it isn't kept, so
 /// another caller may unlock it.

@@ -1,6 +1,6 @@
 //! What a mutex answers. A ticket is the number of the caller that it was given to, since a caller
 //! waits at one place at a time.
-use sync_model::Misuse;
+use sync_types::Misuse;
 
 /// The answer to an arrival.
 #[derive(Clone, Copy, Debug, PartialEq, Eq)]

@@ -1,6 +1,6 @@
 -- The calls of a cond's list of waiters, stage by stage. A cond's `wait` is two of them, with its mutex's `unlock` between and its `lock` behind.
 use Rattle.std.specs.Prelude.{◌≡◌, ℕ, Bool, true, false, Option, None, Result, Ok, Err}
-use Rattle.sync_model.specs.declared.misuse.Misuse.{Misuse}
+use Rattle.sync_types.specs.declared.misuse.Misuse.{Misuse}
 use Rattle.wait_cores.specs.declared.notify.NotifyEvent.{NotifyEvent}
 use Rattle.wait_cores.specs.declared.notify.NotifyEvent.TheVariants as event
 use Rattle.wait_cores.specs.declared.notify.NotifyReply.{NotifyReply}

@@ -1,6 +1,6 @@
 -- The calls of a wait group, stage by stage.
 use Rattle.std.specs.Prelude.{◌≡◌, ℕ, negsuc, Bool, true, false, replicate, Option, None, Result}
-use Rattle.sync_model.specs.declared.misuse.Misuse.{Misuse}
+use Rattle.sync_types.specs.declared.misuse.Misuse.{Misuse}
 use Rattle.wait_cores.specs.declared.group.GroupEvent.{GroupEvent}
 use Rattle.wait_cores.specs.declared.group.GroupEvent.TheVariants as event
 use Rattle.wait_cores.specs.declared.group.GroupReply.{GroupReply}

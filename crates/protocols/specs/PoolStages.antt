@@ -1,6 +1,6 @@
 -- The calls of a pool that are one event each. A pool's `get` is a row of looks, up to the first that takes an item.
 use Rattle.std.specs.Prelude.{◌≡◌, ℕ, nat_lt, Bool, true, false, Option, None, Result, Ok, Err}
-use Rattle.sync_model.specs.declared.misuse.Misuse.{Misuse}
+use Rattle.sync_types.specs.declared.misuse.Misuse.{Misuse}
 use Rattle.pool_core.specs.declared.pool_event.PoolEvent.{PoolEvent}
 use Rattle.pool_core.specs.declared.pool_event.PoolEvent.TheVariants as event
 use Rattle.pool_core.specs.declared.pool_event.PoolReply.{PoolReply}

@@ -1,8 +1,8 @@
 -- The calls of a reader/writer mutex, stage by stage.
 use Rattle.std.specs.Prelude.{◌≡◌, ℕ, Bool, true, false, not, Option, Some, None, Result, Ok, Err}
-use Rattle.sync_model.specs.declared.misuse.Misuse.{Misuse}
-use Rattle.sync_model.specs.declared.lock_call.LockReply.{LockReply}
-use Rattle.sync_model.specs.declared.lock_call.LockReply.TheVariants as outcome
+use Rattle.sync_types.specs.declared.misuse.Misuse.{Misuse}
+use Rattle.sync_types.specs.declared.lock_call.LockReply.{LockReply}
+use Rattle.sync_types.specs.declared.lock_call.LockReply.TheVariants as outcome
 use Rattle.rw_core.specs.declared.event.RwEvent.{RwEvent}
 use Rattle.rw_core.specs.declared.event.RwEvent.TheVariants as event
 use Rattle.rw_core.specs.declared.reply.RwReply.{RwReply}

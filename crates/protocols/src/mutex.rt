@@ -5,7 +5,7 @@ ghost use Rattle.protocols.specs.MutexStages.{mutex_event, mutex_moment, mutex_m
 use crate::protocol::Protocol;
 use crate::step::Step;
 use mutex_core::{Arrival, MutexCore, MutexEvent, MutexReply, Resumption, Unlocking, laws};
-use sync_model::LockReply;
+use sync_types::LockReply;
 
 /// One event of a call on a mutex.
 #[derive(Clone, Copy, Debug, Drop)]

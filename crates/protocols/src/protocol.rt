@@ -1,6 +1,6 @@
 //! What the calls of a kind of object do, said once.
 ghost use Rattle.std.specs.Prelude.{◌≡◌, ◌⊎◌, ℕ, ◌<◌, Bool, true, false, List, Option, Some, None, Result};
-ghost use Rattle.sync_model.specs.declared.misuse.Misuse.{Misuse};
+ghost use Rattle.sync_types.specs.declared.misuse.Misuse.{Misuse};
 ghost use Rattle.sync_model.specs.Log.{Entry, after, Follows};
 ghost use Rattle.protocols.specs.declared.step.Step.{Step};
 ghost use Rattle.protocols.specs.Stands.{stand_from};

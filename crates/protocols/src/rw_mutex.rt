@@ -5,7 +5,7 @@ ghost use Rattle.protocols.specs.RwMutexStages.{arrive_meaning, try_meaning, unl
 use crate::protocol::Protocol;
 use crate::step::Step;
 use rw_core::{Arrival, Resumption, RwCore, RwEvent, RwReply, Unlocking, laws};
-use sync_model::LockReply;
+use sync_types::LockReply;
 
 /// One event of a call on a reader/writer mutex.
 #[derive(Clone, Copy, Debug, Drop)]

@@ -1,5 +1,5 @@
 //! How a call goes on after an answer.
-use sync_model::Misuse;
+use sync_types::Misuse;
 
 /// What the answer to a stage's event means for the call, whose stages are of a type `G` and whose outcomes of a type `O`.
 #[derive(Clone, Copy, Debug, Drop)]

@@ -9,7 +9,8 @@ ghost use Rattle.ruled_object.specs.Steps.{HasCell, IsSameSeat};
 
 use crate::object::Object;
 use crate::turn::{SLOT, SeatOf};
-use sync_model::{Answer, Callers, Machine, Misuse, Note};
+use sync_model::{Answer, Callers, Machine, Note};
+use sync_types::Misuse;
 
 impl<M: Machine, N: Note> Object<M, N> {
     // Makes one event of a caller, or refuses it. Tells its answer, and whom it lets go on.

@@ -16,7 +16,8 @@ use crate::turn::SeatOf;
 use crate::view::View;
 use atomic_table::Seat;
 use std::marker::Brand;
-use sync_model::{Machine, Misuse, Note};
+use sync_model::{Machine, Note};
+use sync_types::Misuse;
 
 /// What the passes know that were brought together. Who has it can hand them back.
 #[derive(Drop)]

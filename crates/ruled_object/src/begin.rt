@@ -9,7 +9,8 @@ ghost use Rattle.ruled_object.specs.Passes.{left_of, own_by, start_of, IsHomeOf,
 use crate::object::Object;
 use crate::pass::PassOf;
 use std::sync::Wait;
-use sync_model::{Answer, Machine, Misuse, Note};
+use sync_model::{Answer, Machine, Note};
+use sync_types::Misuse;
 
 impl<M: Machine, N: Note> Object<M, N> {
     /// Takes one off the calls that are left. It makes no step, and adds nothing to the history.

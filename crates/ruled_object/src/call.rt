@@ -1,6 +1,6 @@
 //! Calls on an object.
 ghost use Rattle.std.specs.Prelude.{◌≡◌, false, IsTrue};
-ghost use Rattle.sync_model.specs.declared.misuse.Misuse.{Misuse};
+ghost use Rattle.sync_types.specs.declared.misuse.Misuse.{Misuse};
 ghost use Rattle.sync_model.specs.declared.answer.Answer.TheVariants.{Halted};
 ghost use Rattle.sync_model.specs.declared.journal.Deed.TheVariants.{Halt};
 ghost use Rattle.sync_model.specs.declared.journal.Entry.{Entry};
@@ -14,7 +14,8 @@ use crate::object::Object;
 use crate::pass::PassOf;
 use std::marker::Brand;
 use std::sync::Wait;
-use sync_model::{Answer, Deed, Machine, Misuse, Note};
+use sync_model::{Answer, Deed, Machine, Note};
+use sync_types::Misuse;
 
 impl<M: Machine, N: Note> Object<M, N> {
     /// Makes one event. It is one entry of the object's one history, placed at the step that gives the turn back: all

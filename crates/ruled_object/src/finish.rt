@@ -10,7 +10,8 @@ use crate::object::Object;
 use crate::pass::PassOf;
 use crate::rule::Silent;
 use std::marker::Brand;
-use sync_model::{Machine, Misuse, Note};
+use sync_model::{Machine, Note};
+use sync_types::Misuse;
 
 impl<M: Machine, N: Note> Object<M, N> {
     /// The misuse of the history's first halt, and `None` exactly where there is none. It takes all passes, so that no

@@ -8,8 +8,8 @@ use Rattle.std.proofs.lemmas.Option.{none-some, same_Some}
 use Rattle.sync_model.specs.declared.item.SharedCall.{SharedCall}
 use Rattle.sync_model.specs.declared.item.SharedCall.TheVariants as calls
 use Rattle.sync_model.specs.declared.item.SharedEntry.{SharedEntry}
-use Rattle.sync_model.specs.SequentialAtomic.{atomic_after}
-use Rattle.sync_model.specs.SequentialMap.{map_after}
+use Rattle.sync_types.specs.SequentialAtomic.{atomic_after}
+use Rattle.sync_types.specs.SequentialMap.{map_after}
 use Rattle.sync_model.specs.SharedHistory.{Contents, map_at, number_at, shared_after, contents_after}
 use Rattle.workload.specs.declared.object.ObjectKind.{ObjectKind}
 use Rattle.workload.specs.declared.object.ObjectLine.{ObjectLine}

@@ -8,10 +8,10 @@ use Rattle.std.specs.Cmp.{IsTotalOrder}
 use Rattle.std.specs.FinMap.{FinMap, get, insert, remove, get-empty, get-insert, get-remove, get_tied}
 use Rattle.std.specs.Ordering.{eq_by_cmp, is_eq}
 use Rattle.std.proofs.lemmas.Bool.{false≢true}
-use Rattle.sync_model.specs.declared.map_object.MapCall.{MapCall}
-use Rattle.sync_model.specs.declared.map_object.MapCall.TheVariants.{Load, Store, LoadOrStore, LoadAndDelete, Delete, Swap, CompareAndSwap, CompareAndDelete, Clear}
-use Rattle.sync_model.specs.Renaming.{renamed_call}
-use Rattle.sync_model.specs.SequentialMap.{is_value, map_after, map_key}
+use Rattle.sync_types.specs.declared.map_object.MapCall.{MapCall}
+use Rattle.sync_types.specs.declared.map_object.MapCall.TheVariants.{Load, Store, LoadOrStore, LoadAndDelete, Delete, Swap, CompareAndSwap, CompareAndDelete, Clear}
+use Rattle.sync_types.specs.Renaming.{renamed_call}
+use Rattle.sync_types.specs.SequentialMap.{is_value, map_after, map_key}
 
 -- what a call leaves at its own key, by what was there
 abbrev pub value_after : {K : Type 0} → MapCall K → Option ℕ → Option ℕ

@@ -13,8 +13,8 @@ use Rattle.sync_model.specs.declared.item.Item.{Item}
 use Rattle.sync_model.specs.declared.item.SharedCall.{SharedCall}
 use Rattle.sync_model.specs.declared.item.SharedCall.TheVariants as calls
 use Rattle.sync_model.specs.declared.item.SharedEntry.{SharedEntry}
-use Rattle.sync_model.specs.declared.map_object.MapCall.{MapCall}
-use Rattle.sync_model.specs.SequentialMap.{map_after, map_key, is_map_entry}
+use Rattle.sync_types.specs.declared.map_object.MapCall.{MapCall}
+use Rattle.sync_types.specs.SequentialMap.{map_after, map_key, is_map_entry}
 use Rattle.sync_model.specs.SharedCalls.{bound}
 use Rattle.sync_model.specs.SharedHistory.{Contents, map_at, value_at, contents_at, is_entry, shared_after, contents_after}
 use Rattle.sync_model.specs.SharedLaws.{is_on_key}

@@ -6,10 +6,10 @@ use Rattle.std.specs.Ordering.{nat_cmp}
 use Rattle.std.specs.Str.{bytes_eq}
 use Rattle.std.specs.Cmp.Lexicographic.{slice_cmp}
 use Rattle.std.specs.FinMap.{FinMap, empty, entries, from_entries}
-use Rattle.sync_model.specs.declared.call.Call.{Call}
-use Rattle.sync_model.specs.declared.call.Operation.{Operation}
-use Rattle.sync_model.specs.declared.call.Operation.TheVariants as operations
-use Rattle.sync_model.specs.SequentialMap.{map_after, map_key}
+use Rattle.sync_types.specs.declared.call.Call.{Call}
+use Rattle.sync_types.specs.declared.call.Operation.{Operation}
+use Rattle.sync_types.specs.declared.call.Operation.TheVariants as operations
+use Rattle.sync_types.specs.SequentialMap.{map_after, map_key}
 use Rattle.workload.specs.Plan.{Plan}
 
 -- a map by the names of its keys

@@ -1,6 +1,6 @@
 //! An int64 that is only added to. Each law is the contract of a function that does nothing.
 ghost use Rattle.std.specs.Prelude.{◌≡◌, ℕ, ℤ, List, Some, slice_get, IsPermutation};
-ghost use Rattle.sync_model.specs.SequentialAtomic.{zero_of};
+ghost use Rattle.sync_types.specs.SequentialAtomic.{zero_of};
 ghost use Rattle.sync_model.specs.SharedHistory.{contents_after, number_at};
 ghost use Rattle.workload.specs.Plan.{Plan};
 ghost use Rattle.run_record.specs.Explains.{Explains};
@@ -9,7 +9,7 @@ ghost use Rattle.run_record.specs.Record.{Record};
 ghost use Rattle.run_laws.specs.Adds.{IsOnlyAddedTo, amounts_at, after_adds};
 
 use sync_model::laws::shared::each_entry_is_a_call;
-use sync_model::{AtomicKind, End, Outcome, Report};
+use sync_types::{AtomicKind, End, Outcome, Report};
 use workload::{ObjectKind, ObjectLine};
 
 /// An int64 that is only added to holds, after a run that is done, what the int64 of one thread holds after all adds of all

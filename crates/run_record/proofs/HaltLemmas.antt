@@ -6,7 +6,7 @@ use Rattle.std.proofs.lemmas.Option.{none-some, slice_get_cases, slice_get_withi
 use Rattle.sync_model.specs.declared.journal.Deed.{Deed}
 use Rattle.sync_model.specs.declared.journal.Deed.TheVariants.{Event, Refused, Halt}
 use Rattle.sync_model.specs.declared.journal.Entry.{Entry}
-use Rattle.sync_model.specs.declared.misuse.Misuse.{Misuse}
+use Rattle.sync_types.specs.declared.misuse.Misuse.{Misuse}
 use Rattle.sync_model.specs.Journal.{halt_next, halt_after, state_next, Right, Follows}
 use Rattle.workload.specs.declared.object.ObjectKind.{ObjectKind}
 use Rattle.workload.specs.declared.object.ObjectKind.TheVariants as kinds

@@ -9,25 +9,25 @@ use Rattle.std.proofs.lemmas.Bool.{and_parts, eqb-true, eqb-false, false≢true,
 use Rattle.std.proofs.lemmas.List.{get_or_past, get_or-replicate, length-replicate, length-map}
 use Rattle.std.proofs.lemmas.Map.Steps.{length-le_from_distinct_below}
 use Rattle.std.proofs.lemmas.Option.{none-some, same_Some, slice_get-map, get_or_from_slice_get, slice_get_within}
-use Rattle.sync_model.specs.declared.atomic_object.AtomicKind.{AtomicKind}
-use Rattle.sync_model.specs.declared.atomic_object.AtomicKind.TheVariants as kinds
-use Rattle.sync_model.specs.declared.atomic_object.AtomicCall.{AtomicCall}
-use Rattle.sync_model.specs.declared.atomic_object.AtomicCall.TheVariants as atomics
-use Rattle.sync_model.specs.declared.atomic_object.AtomicReply.TheVariants.{Held}
-use Rattle.sync_model.specs.declared.atomic_object.Number.{Number}
-use Rattle.sync_model.specs.declared.atomic_object.Number.TheVariants.{Int32, Int64, Uint32, Uint64, Bool as Truth}
+use Rattle.sync_types.specs.declared.atomic_object.AtomicKind.{AtomicKind}
+use Rattle.sync_types.specs.declared.atomic_object.AtomicKind.TheVariants as kinds
+use Rattle.sync_types.specs.declared.atomic_object.AtomicCall.{AtomicCall}
+use Rattle.sync_types.specs.declared.atomic_object.AtomicCall.TheVariants as atomics
+use Rattle.sync_types.specs.declared.atomic_object.AtomicReply.TheVariants.{Held}
+use Rattle.sync_types.specs.declared.atomic_object.Number.{Number}
+use Rattle.sync_types.specs.declared.atomic_object.Number.TheVariants.{Int32, Int64, Uint32, Uint64, Bool as Truth}
 use Rattle.sync_model.specs.declared.item.Item.{Item}
 use Rattle.sync_model.specs.declared.item.SharedCall.{SharedCall}
 use Rattle.sync_model.specs.declared.item.SharedCall.TheVariants.{Map, Begin, Next, Atomic}
 use Rattle.sync_model.specs.declared.item.SharedReply.{SharedReply}
 use Rattle.sync_model.specs.declared.item.SharedReply.TheVariants as replies
 use Rattle.sync_model.specs.declared.item.SharedEntry.{SharedEntry}
-use Rattle.sync_model.specs.declared.map_object.MapCall.{MapCall}
-use Rattle.sync_model.specs.declared.map_object.MapCall.TheVariants as maps
-use Rattle.sync_model.specs.declared.map_object.MapReply.{MapReply}
-use Rattle.sync_model.specs.declared.map_object.MapReply.TheVariants as found
-use Rattle.sync_model.specs.SequentialAtomic.{zero_of, sum, has_bits, is_of, is_atomic_call, atomic_after}
-use Rattle.sync_model.specs.SequentialMap.{map_key, map_reply, map_after}
+use Rattle.sync_types.specs.declared.map_object.MapCall.{MapCall}
+use Rattle.sync_types.specs.declared.map_object.MapCall.TheVariants as maps
+use Rattle.sync_types.specs.declared.map_object.MapReply.{MapReply}
+use Rattle.sync_types.specs.declared.map_object.MapReply.TheVariants as found
+use Rattle.sync_types.specs.SequentialAtomic.{zero_of, sum, has_bits, is_of, is_atomic_call, atomic_after}
+use Rattle.sync_types.specs.SequentialMap.{map_key, map_reply, map_after}
 use Rattle.sync_model.specs.Shared.{IsAtomicCall}
 use Rattle.sync_model.specs.SharedCalls.{Lawful, IsStep}
 use Rattle.sync_model.specs.SharedHistory.{Contents, first_contents, map_at, number_at, value_at, shared_after, contents_after, contents_at, IsReply}

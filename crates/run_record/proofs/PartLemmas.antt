@@ -8,7 +8,7 @@ use Rattle.sync_model.specs.declared.item.SharedReply.{SharedReply}
 use Rattle.sync_model.specs.declared.journal.Deed.{Deed}
 use Rattle.sync_model.specs.declared.journal.Deed.TheVariants.{Event, Refused, Halt}
 use Rattle.sync_model.specs.declared.journal.Entry.{Entry}
-use Rattle.sync_model.specs.declared.misuse.Misuse.{Misuse}
+use Rattle.sync_types.specs.declared.misuse.Misuse.{Misuse}
 use Rattle.protocols.specs.declared.step.Step.{Step}
 use Rattle.protocols.specs.Spelling.{CallAnswer, Spells, IsEvent, IsLast, Ends}
 use Rattle.run_record.specs.declared.entered.ObjectEvent.{ObjectEvent}

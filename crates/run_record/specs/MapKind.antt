@@ -3,15 +3,15 @@ use Rattle.std.specs.Prelude.{◌≡◌, ℕ, List, [], ◌∷◌, ◌++◌, map
 use Rattle.std.specs.Ordering.{nat_cmp}
 use Rattle.std.specs.Cmp.Lexicographic.{slice_cmp}
 use Rattle.sync_model.specs.declared.answer.Answer.TheVariants.{Done}
-use Rattle.sync_model.specs.declared.call.Reply.{Reply}
-use Rattle.sync_model.specs.declared.call.Reply.TheVariants as replies
+use Rattle.sync_types.specs.declared.call.Reply.{Reply}
+use Rattle.sync_types.specs.declared.call.Reply.TheVariants as replies
 use Rattle.sync_model.specs.declared.item.SharedCall.{SharedCall}
 use Rattle.sync_model.specs.declared.item.SharedCall.TheVariants as calls
 use Rattle.sync_model.specs.declared.item.SharedReply.{SharedReply}
 use Rattle.sync_model.specs.declared.item.SharedReply.TheVariants as answers
-use Rattle.sync_model.specs.declared.map_object.MapCall.{MapCall}
-use Rattle.sync_model.specs.declared.map_object.MapReply.{MapReply}
-use Rattle.sync_model.specs.Renaming.{renamed_call}
+use Rattle.sync_types.specs.declared.map_object.MapCall.{MapCall}
+use Rattle.sync_types.specs.declared.map_object.MapReply.{MapReply}
+use Rattle.sync_types.specs.Renaming.{renamed_call}
 use Rattle.workload.specs.Keys.{key_number, key_name}
 use Rattle.run_record.specs.Parts.{Part, Places}
 

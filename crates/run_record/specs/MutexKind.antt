@@ -1,10 +1,10 @@
 -- The calls of a mutex and its journal in a record.
 use Rattle.std.specs.Prelude.{ℕ, List}
-use Rattle.sync_model.specs.declared.call.Reply.{Reply}
-use Rattle.sync_model.specs.declared.call.Reply.TheVariants as replies
-use Rattle.sync_model.specs.declared.lock_call.LockReply.{LockReply}
-use Rattle.sync_model.specs.declared.lock_call.MutexCall.{MutexCall}
-use Rattle.sync_model.specs.declared.lock_call.MutexCall.TheVariants as calls
+use Rattle.sync_types.specs.declared.call.Reply.{Reply}
+use Rattle.sync_types.specs.declared.call.Reply.TheVariants as replies
+use Rattle.sync_types.specs.declared.lock_call.LockReply.{LockReply}
+use Rattle.sync_types.specs.declared.lock_call.MutexCall.{MutexCall}
+use Rattle.sync_types.specs.declared.lock_call.MutexCall.TheVariants as calls
 use Rattle.mutex_core.specs.MutexMachine.{next, start}
 use Rattle.mutex_core.specs.Edges.{acquires, releases}
 use Rattle.protocols.specs.declared.mutex.MutexStage.{MutexStage}

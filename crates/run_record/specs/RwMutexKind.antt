@@ -1,9 +1,9 @@
 -- The calls of a reader/writer mutex and its journal in a record.
 use Rattle.std.specs.Prelude.{ℕ, List}
-use Rattle.sync_model.specs.declared.call.Reply.{Reply}
-use Rattle.sync_model.specs.declared.call.Reply.TheVariants as replies
-use Rattle.sync_model.specs.declared.lock_call.RwMutexCall.{RwMutexCall}
-use Rattle.sync_model.specs.declared.lock_call.RwMutexCall.TheVariants as calls
+use Rattle.sync_types.specs.declared.call.Reply.{Reply}
+use Rattle.sync_types.specs.declared.call.Reply.TheVariants as replies
+use Rattle.sync_types.specs.declared.lock_call.RwMutexCall.{RwMutexCall}
+use Rattle.sync_types.specs.declared.lock_call.RwMutexCall.TheVariants as calls
 use Rattle.rw_core.specs.RwMachine.{next, start}
 use Rattle.rw_core.specs.Edges.{acquires, releases}
 use Rattle.protocols.specs.declared.rw_mutex.RwMutexStage.{RwMutexStage}

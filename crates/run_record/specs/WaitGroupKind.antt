@@ -1,9 +1,9 @@
 -- The calls of a wait group and its journal in a record.
 use Rattle.std.specs.Prelude.{ℕ, List, replicate}
-use Rattle.sync_model.specs.declared.call.Reply.{Reply}
-use Rattle.sync_model.specs.declared.call.Reply.TheVariants as replies
-use Rattle.sync_model.specs.declared.wait_call.WaitGroupCall.{WaitGroupCall}
-use Rattle.sync_model.specs.declared.wait_call.WaitGroupCall.TheVariants as calls
+use Rattle.sync_types.specs.declared.call.Reply.{Reply}
+use Rattle.sync_types.specs.declared.call.Reply.TheVariants as replies
+use Rattle.sync_types.specs.declared.wait_call.WaitGroupCall.{WaitGroupCall}
+use Rattle.sync_types.specs.declared.wait_call.WaitGroupCall.TheVariants as calls
 use Rattle.wait_cores.specs.declared.group.GroupPlace.TheVariants.{Out}
 use Rattle.wait_cores.specs.GroupMachine.{GroupState, next}
 use Rattle.wait_cores.specs.GroupEdges.{group_releases, group_acquires}

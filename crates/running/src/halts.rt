@@ -12,7 +12,8 @@ use protocols::Protocol;
 use ruled_object::laws::standing;
 use ruled_object::{Object, PassOf};
 use std::sync::Wait;
-use sync_model::{Misuse, Note};
+use sync_model::Note;
+use sync_types::Misuse;
 
 /// Halts the object by a misuse, and wakes all who sleep: from then on each event is answered `Halted`. The first halt is
 /// kept. It is one entry of the journal, neither releases nor acquires, leaves its caller where it stood, and takes nothing

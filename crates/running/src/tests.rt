@@ -12,7 +12,8 @@ use std::sync::Wait;
 use std::sync::atomic::{AtomicU64, Ordering};
 use std::test::Fail;
 use std::thread::{Threads, join};
-use sync_model::{Answer, FrontNote, LockReply, Misuse};
+use sync_model::{Answer, FrontNote};
+use sync_types::{LockReply, Misuse};
 use sync_outside::{At, Clock, MemClock, SystemClock};
 
 type Lock = Object<MutexCore, FrontNote>;

@@ -8,7 +8,7 @@ use Rattle.mutex_core.specs.MutexMachine as mutex
 use Rattle.mutex_core.specs.declared.event.MutexEvent.TheVariants as mutex_event
 use Rattle.rw_core.specs.declared.event.RwEvent.TheVariants as event
 use Rattle.rw_core.specs.declared.place.Place.TheVariants.{Admitted}
-use Rattle.sync_model.specs.declared.misuse.Misuse.TheVariants.{UnlockOfUnlockedRwMutex}
+use Rattle.sync_types.specs.declared.misuse.Misuse.TheVariants.{UnlockOfUnlockedRwMutex}
 use Rattle.rw_core.specs.declared.reply.RwReply.{RwReply}
 use Rattle.rw_core.specs.declared.reply.RwReply.TheVariants.{Unlocked, Still}
 use Rattle.rw_core.specs.declared.reply.Unlocking.TheVariants as unlocking

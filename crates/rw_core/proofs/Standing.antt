@@ -5,7 +5,7 @@ use Rattle.std.specs.List.{list_any}
 use Rattle.std.proofs.lemmas.Bool.{false≢true, eqb-true, eq-eqb}
 use borrow.Author.Tests.{ltb-true}
 use Rattle.sync_model.specs.Log.{after, Follows}
-use Rattle.sync_model.specs.declared.misuse.Misuse.TheVariants.{RUnlockOfUnlockedRwMutex, UnlockOfUnlockedRwMutex}
+use Rattle.sync_types.specs.declared.misuse.Misuse.TheVariants.{RUnlockOfUnlockedRwMutex, UnlockOfUnlockedRwMutex}
 use Rattle.mutex_core.specs.MutexMachine as mutex
 use Rattle.mutex_core.specs.declared.event.MutexEvent.TheVariants as mutex_event
 use Rattle.mutex_core.specs.declared.place.Place.{Place as MutexPlace}

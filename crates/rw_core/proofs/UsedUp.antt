@@ -14,7 +14,7 @@ use Rattle.rw_core.specs.declared.event.RwEvent.{RwEvent}
 use Rattle.rw_core.specs.declared.event.RwEvent.TheVariants as event
 use Rattle.rw_core.specs.declared.place.Place.{Place}
 use Rattle.rw_core.specs.declared.place.Place.TheVariants as place
-use Rattle.sync_model.specs.declared.misuse.Misuse.TheVariants.{RUnlockOfUnlockedRwMutex, UnlockOfUnlockedRwMutex}
+use Rattle.sync_types.specs.declared.misuse.Misuse.TheVariants.{RUnlockOfUnlockedRwMutex, UnlockOfUnlockedRwMutex}
 use Rattle.rw_core.specs.declared.reply.RwReply.{RwReply}
 use Rattle.rw_core.specs.declared.reply.RwReply.TheVariants.{Arrived, Tried, Unlocked, Resumed}
 use Rattle.rw_core.specs.declared.reply.Arrival.TheVariants as arrival

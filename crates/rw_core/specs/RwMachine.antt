@@ -1,7 +1,7 @@
 -- The reader/writer lock: what each event does, and what it is answered.
 use Rattle.std.specs.Prelude.{◌≡◌, ℕ, ◌<◌, ◌≤◌, ◌+◌, ◌-◌, ◌^◌, Bool, true, false, ◌&&◌, not, ◌==◌, nat_lt, if◌then◌else◌, IsTrue, IsFalse, List, [], ◌∷◌, ◌++◌, length, filter}
 use Rattle.std.specs.List.{list_any}
-use Rattle.sync_model.specs.declared.misuse.Misuse.TheVariants.{RUnlockOfUnlockedRwMutex, UnlockOfUnlockedRwMutex}
+use Rattle.sync_types.specs.declared.misuse.Misuse.TheVariants.{RUnlockOfUnlockedRwMutex, UnlockOfUnlockedRwMutex}
 use Rattle.mutex_core.specs.MutexMachine as mutex
 use Rattle.mutex_core.specs.declared.event.MutexEvent.TheVariants as mutex_event
 use Rattle.mutex_core.specs.declared.place.Place.{Place as MutexPlace}

@@ -15,7 +15,7 @@ ghost use Rattle.rw_core.specs.declared.place.Place.{Place};
 ghost use Rattle.rw_core.specs.Edges.{Log, acquires, releases, is_acquired, read_acquires, read_releases, write_acquires, write_releases};
 ghost use Rattle.rw_core.specs.declared.reply.Arrival.{Arrival};
 ghost use Rattle.rw_core.specs.declared.reply.Resumption.{Resumption};
-ghost use Rattle.sync_model.specs.declared.misuse.Misuse.{Misuse};
+ghost use Rattle.sync_types.specs.declared.misuse.Misuse.{Misuse};
 
 use crate::rw::RwCore;
 use mutex_core::laws;

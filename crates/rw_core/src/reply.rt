@@ -1,5 +1,5 @@
 //! What a reader/writer lock answers.
-use sync_model::Misuse;
+use sync_types::Misuse;
 
 /// The answer to an arrival.
 #[derive(Clone, Copy, Debug, PartialEq, Eq)]

@@ -13,7 +13,8 @@ use crate::writer::Writer;
 use mutex_core::MutexCore;
 use std::alloc::{AllocError, Global};
 use std::marker::Model;
-use sync_model::{Callers, Misuse};
+use sync_model::Callers;
+use sync_types::Misuse;
 
 /// A reader/writer lock of some callers, as a value that each event changes. Who holds it isn't kept,
 /// so another caller may unlock it.

@@ -1,17 +1,17 @@
 -- A compare-exchange of words is the call's compare and swap.
 use Rattle.std.proofs.Common.{◌≡◌, ℕ, Bool, true, false, ◌&&◌, cond, refl, sym, ap, subst, ◌∙◌}
 use Rattle.std.specs.Prelude.{◌==◌}
-use Rattle.sync_model.specs.declared.atomic_object.AtomicCall.TheVariants.{CompareAndSwap}
-use Rattle.sync_model.specs.declared.atomic_object.AtomicKind.{AtomicKind}
-use Rattle.sync_model.specs.declared.atomic_object.Number.{Number}
-use Rattle.sync_model.specs.declared.atomic_object.AtomicCall.{AtomicCall}
-use Rattle.sync_model.specs.declared.atomic_object.AtomicReply.TheVariants.{Compared}
+use Rattle.sync_types.specs.declared.atomic_object.AtomicCall.TheVariants.{CompareAndSwap}
+use Rattle.sync_types.specs.declared.atomic_object.AtomicKind.{AtomicKind}
+use Rattle.sync_types.specs.declared.atomic_object.Number.{Number}
+use Rattle.sync_types.specs.declared.atomic_object.AtomicCall.{AtomicCall}
+use Rattle.sync_types.specs.declared.atomic_object.AtomicReply.TheVariants.{Compared}
 use Rattle.sync_model.specs.declared.item.SharedCall.TheVariants as calls
 use Rattle.sync_model.specs.declared.item.SharedReply.TheVariants as replies
 use Rattle.sync_model.specs.SharedHistory.{Contents}
 use Rattle.sync_model.specs.Shared.{CallerState, Called}
-use Rattle.sync_model.specs.SequentialAtomic.{is_of, is_same, atomic_reply}
-use Rattle.sync_model.specs.WordLayout.{word_of, is_word, number_in}
+use Rattle.sync_types.specs.SequentialAtomic.{is_of, is_same, atomic_reply}
+use Rattle.sync_types.specs.WordLayout.{word_of, is_word, number_in}
 use Rattle.shared_table.specs.Operations.{IsOperation}
 
 pub both : (a b : Bool) → (a && b) ≡ true → (a ≡ true) × (b ≡ true)

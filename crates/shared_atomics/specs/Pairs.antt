@@ -1,6 +1,6 @@
 -- Tables of two callers, for the tests.
 use Rattle.std.specs.Prelude.{◌≡◌, [], ◌∷◌}
-use Rattle.sync_model.specs.declared.atomic_object.AtomicKind.TheVariants as kinds
+use Rattle.sync_types.specs.declared.atomic_object.AtomicKind.TheVariants as kinds
 use Rattle.sync_model.specs.declared.caller.Caller.{Caller}
 use Rattle.sync_model.specs.Shared.{IsCallerAt}
 use Rattle.shared_table.specs.declared.note.SharedNote.{SharedNote}

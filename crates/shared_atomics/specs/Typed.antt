@@ -1,7 +1,7 @@
 -- Calls on one typed atomic.
 use Rattle.std.specs.Prelude.{ℕ}
-use Rattle.sync_model.specs.declared.atomic_object.AtomicCall.{AtomicCall}
-use Rattle.sync_model.specs.declared.atomic_object.AtomicReply.{AtomicReply}
+use Rattle.sync_types.specs.declared.atomic_object.AtomicCall.{AtomicCall}
+use Rattle.sync_types.specs.declared.atomic_object.AtomicReply.{AtomicReply}
 use Rattle.sync_model.specs.declared.item.SharedCall.TheVariants as calls
 use Rattle.sync_model.specs.declared.item.SharedReply.TheVariants as replies
 use Rattle.sync_model.specs.Note.{SameHome}

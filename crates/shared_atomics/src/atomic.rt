@@ -1,6 +1,6 @@
 //! Typed atomics, as `sync/atomic` has them.
 ghost use Rattle.std.specs.Prelude.{◌≡◌, Bool as Truth, Some, slice_get};
-ghost use Rattle.sync_model.specs.declared.atomic_object.Number.{Number};
+ghost use Rattle.sync_types.specs.declared.atomic_object.Number.{Number};
 ghost use Rattle.sync_model.specs.Shared.{IsCallerAt};
 ghost use Rattle.shared_table.specs.Notes.{own_by, IsNoteOf};
 ghost use Rattle.shared_table.specs.Tables.{kinds_of};
@@ -10,7 +10,8 @@ use crate::call::atomic_call;
 use crate::value::{AtomicBits, AtomicValue};
 use shared_table::{SharedNote, SharedTable};
 use std::marker::PhantomData;
-use sync_model::{AtomicCall, AtomicReply, Caller, Number};
+use sync_model::Caller;
+use sync_types::{AtomicCall, AtomicReply, Number};
 
 /// One atomic of a shared table. Each call is one atomic step on the atomic's word, where the call is placed in the history:
 /// all atomic operations are as in one sequentially consistent order, and what a call observes synchronizes before it. No

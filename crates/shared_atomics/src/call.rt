@@ -1,9 +1,9 @@
 //! A call on an atomic of a shared table.
 ghost use Rattle.std.specs.Prelude.{◌≡◌, true, Some, slice_get};
 ghost use Rattle.sync_model.specs.Note.{SameHome};
-ghost use Rattle.sync_model.specs.declared.atomic_object.Number.{Number};
-ghost use Rattle.sync_model.specs.Replies.{atomic_form};
-ghost use Rattle.sync_model.specs.SequentialAtomic.{is_atomic_call, is_of};
+ghost use Rattle.sync_types.specs.declared.atomic_object.Number.{Number};
+ghost use Rattle.sync_types.specs.Replies.{atomic_form};
+ghost use Rattle.sync_types.specs.SequentialAtomic.{is_atomic_call, is_of};
 ghost use Rattle.sync_model.specs.Shared.{Called, IsCallerAt, state_of};
 ghost use Rattle.shared_table.specs.Notes.{front_by, own_by, seen_by, IsNoteOf};
 ghost use Rattle.shared_table.specs.Tables.{kinds_of, first_of};
@@ -11,7 +11,8 @@ ghost use Rattle.shared_table.specs.Tables.{kinds_of, first_of};
 use go_atomic::laws::steps_on_words;
 use go_atomic::{of_word, to_word};
 use shared_table::{SharedNote, SharedTable, WordStep};
-use sync_model::{AtomicCall, AtomicKind, AtomicReply, Caller, SharedCall, SharedReply};
+use sync_model::{Caller, SharedCall, SharedReply};
+use sync_types::{AtomicCall, AtomicKind, AtomicReply};
 
 /// Makes a call on atomic number `atomic`, which is of this type. It is one atomic step on the atomic's word, where it is
 /// placed; it waits for nobody, can't be refused, and takes no memory.

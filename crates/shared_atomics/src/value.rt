@@ -1,12 +1,12 @@
 //! The types of Go's atomics.
 ghost use Rattle.std.specs.Prelude.{◌≡◌, true};
-ghost use Rattle.sync_model.specs.declared.atomic_object.AtomicKind.{AtomicKind};
-ghost use Rattle.sync_model.specs.declared.atomic_object.AtomicKind.TheVariants as kinds;
-ghost use Rattle.sync_model.specs.declared.atomic_object.Number.{Number};
-ghost use Rattle.sync_model.specs.declared.atomic_object.Number.TheVariants as numbers;
-ghost use Rattle.sync_model.specs.SequentialAtomic.{has_bits, is_of};
+ghost use Rattle.sync_types.specs.declared.atomic_object.AtomicKind.{AtomicKind};
+ghost use Rattle.sync_types.specs.declared.atomic_object.AtomicKind.TheVariants as kinds;
+ghost use Rattle.sync_types.specs.declared.atomic_object.Number.{Number};
+ghost use Rattle.sync_types.specs.declared.atomic_object.Number.TheVariants as numbers;
+ghost use Rattle.sync_types.specs.SequentialAtomic.{has_bits, is_of};
 
-use sync_model::{AtomicKind, Number};
+use sync_types::{AtomicKind, Number};
 
 /// A type of which there are atomics, with the number that each value is.
 pub trait AtomicValue: Copy {

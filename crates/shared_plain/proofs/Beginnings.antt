@@ -4,9 +4,9 @@ use Rattle.std.specs.Prelude.{slice_index}
 use Rattle.std.specs.List.{range_with_len, zip}
 use Rattle.std.proofs.lemmas.List.{length-replicate}
 use Rattle.std.proofs.lemmas.Option.{same_Some}
-use Rattle.sync_model.specs.declared.atomic_object.AtomicKind.{AtomicKind}
-use Rattle.sync_model.specs.declared.atomic_object.AtomicKind.TheVariants as kinds
-use Rattle.sync_model.specs.SequentialAtomic.{kind_of, zero_of}
+use Rattle.sync_types.specs.declared.atomic_object.AtomicKind.{AtomicKind}
+use Rattle.sync_types.specs.declared.atomic_object.AtomicKind.TheVariants as kinds
+use Rattle.sync_types.specs.SequentialAtomic.{kind_of, zero_of}
 use Rattle.sync_model.specs.Journal.{by}
 use Rattle.ruled_object.specs.Notes.{held_by, IsNoteOf}
 use Rattle.ruled_object.specs.Passes.{number_of, seen_by, own_by as entries_of}

@@ -5,7 +5,7 @@ use Rattle.std.specs.Prelude.{IsSome}
 use Rattle.ruled_object.specs.Notes.{held_by}
 use Rattle.shared_plain.specs.declared.mark.Mark.{Mark}
 use Rattle.shared_plain.specs.Marks.{holding, own_by}
-use Rattle.sync_model.specs.declared.misuse.Misuse.{Misuse}
+use Rattle.sync_types.specs.declared.misuse.Misuse.{Misuse}
 use Rattle.sync_model.specs.declared.journal.Deed.TheVariants.{Event as Did}
 use Rattle.sync_model.specs.declared.item.Item.{Item}
 use Rattle.sync_model.specs.Journal.{by, halt_next, halt_after, state_next, state_after, Right, Follows}

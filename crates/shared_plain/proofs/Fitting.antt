@@ -11,17 +11,17 @@ use Rattle.std.proofs.lemmas.List.{length-map, length-replicate}
 use Rattle.std.proofs.lemmas.Option.{get_or_from_slice_get}
 use Rattle.sync_model.specs.declared.journal.Deed.{Deed}
 use Rattle.sync_model.specs.declared.journal.Deed.TheVariants.{Event as Did, Refused, Halt}
-use Rattle.sync_model.specs.declared.atomic_object.AtomicCall.{AtomicCall}
-use Rattle.sync_model.specs.declared.atomic_object.AtomicCall.TheVariants as calls
-use Rattle.sync_model.specs.declared.atomic_object.AtomicKind.{AtomicKind}
-use Rattle.sync_model.specs.declared.atomic_object.AtomicKind.TheVariants as kinds
-use Rattle.sync_model.specs.declared.atomic_object.Number.{Number}
-use Rattle.sync_model.specs.declared.atomic_object.Number.TheVariants.{Int32, Int64, Uint32, Uint64, Bool as Truth}
+use Rattle.sync_types.specs.declared.atomic_object.AtomicCall.{AtomicCall}
+use Rattle.sync_types.specs.declared.atomic_object.AtomicCall.TheVariants as calls
+use Rattle.sync_types.specs.declared.atomic_object.AtomicKind.{AtomicKind}
+use Rattle.sync_types.specs.declared.atomic_object.AtomicKind.TheVariants as kinds
+use Rattle.sync_types.specs.declared.atomic_object.Number.{Number}
+use Rattle.sync_types.specs.declared.atomic_object.Number.TheVariants.{Int32, Int64, Uint32, Uint64, Bool as Truth}
 use Rattle.sync_model.specs.declared.item.SharedReply.TheVariants as replies
-use Rattle.sync_model.specs.declared.map_object.MapCall.{MapCall}
+use Rattle.sync_types.specs.declared.map_object.MapCall.{MapCall}
 use Rattle.sync_model.specs.Journal.{state_next, state_after}
-use Rattle.sync_model.specs.SequentialMap.{map_key, map_reply, is_map_entry}
-use Rattle.sync_model.specs.SequentialAtomic.{kind_of, sum, bits_of_both, bits_of_either, is_same, is_of, has_bits, atomic_reply, is_atomic_entry}
+use Rattle.sync_types.specs.SequentialMap.{map_key, map_reply, is_map_entry}
+use Rattle.sync_types.specs.SequentialAtomic.{kind_of, sum, bits_of_both, bits_of_either, is_same, is_of, has_bits, atomic_reply, is_atomic_entry}
 use Rattle.shared_plain.specs.declared.event.Event.{Event}
 use Rattle.shared_plain.specs.declared.event.Event.TheVariants.{Map, Begin, Next, Atomic}
 use Rattle.shared_plain.specs.declared.event.Answered.{Answered}

@@ -1,13 +1,13 @@
 -- An event that is answered is answered as its call is by the one-thread objects.
 use Rattle.std.proofs.Common.{◌≡◌, ℕ, Bool, true, false, cond, List, slice_get, Option, Some, None, refl, sym, ap, ◌∙◌}
 use Rattle.std.proofs.lemmas.Option.{get_or_from_slice_get}
-use Rattle.sync_model.specs.declared.atomic_object.AtomicCall.{AtomicCall}
-use Rattle.sync_model.specs.declared.atomic_object.Number.{Number}
-use Rattle.sync_model.specs.declared.atomic_object.Number.TheVariants.{Bool as Truth}
+use Rattle.sync_types.specs.declared.atomic_object.AtomicCall.{AtomicCall}
+use Rattle.sync_types.specs.declared.atomic_object.Number.{Number}
+use Rattle.sync_types.specs.declared.atomic_object.Number.TheVariants.{Bool as Truth}
 use Rattle.sync_model.specs.declared.item.SharedReply.TheVariants as replies
-use Rattle.sync_model.specs.declared.map_object.MapCall.{MapCall}
-use Rattle.sync_model.specs.SequentialMap.{map_reply, is_map_entry}
-use Rattle.sync_model.specs.SequentialAtomic.{kind_of, is_atomic_call, atomic_reply, is_atomic_entry}
+use Rattle.sync_types.specs.declared.map_object.MapCall.{MapCall}
+use Rattle.sync_types.specs.SequentialMap.{map_reply, is_map_entry}
+use Rattle.sync_types.specs.SequentialAtomic.{kind_of, is_atomic_call, atomic_reply, is_atomic_entry}
 use Rattle.sync_model.specs.SharedHistory.{map_at, number_at, IsReply, is_entry}
 use Rattle.shared_plain.specs.declared.event.Event.{Event}
 use Rattle.shared_plain.specs.declared.event.Event.TheVariants.{Map, Begin, Next, Atomic}

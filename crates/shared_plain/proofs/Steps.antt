@@ -5,13 +5,13 @@ use Rattle.std.proofs.lemmas.List.{map-set, set-get_or}
 use Rattle.std.specs.Prelude.{nat_lt}
 use Rattle.std.proofs.lemmas.Option.{get_or_from_slice_get, slice_get_within}
 use Rattle.std.specs.FinMap.{empty}
-use Rattle.sync_model.specs.declared.atomic_object.AtomicCall.{AtomicCall}
-use Rattle.sync_model.specs.declared.atomic_object.Number.{Number}
-use Rattle.sync_model.specs.declared.atomic_object.Number.TheVariants.{Bool as Truth}
-use Rattle.sync_model.specs.declared.map_object.MapCall.{MapCall}
-use Rattle.sync_model.specs.declared.map_object.MapCall.TheVariants.{Load, Store, LoadOrStore, LoadAndDelete, Delete, Swap, CompareAndSwap, CompareAndDelete, Clear}
-use Rattle.sync_model.specs.SequentialMap.{map_after}
-use Rattle.sync_model.specs.SequentialAtomic.{kind_of, is_atomic_call, atomic_after}
+use Rattle.sync_types.specs.declared.atomic_object.AtomicCall.{AtomicCall}
+use Rattle.sync_types.specs.declared.atomic_object.Number.{Number}
+use Rattle.sync_types.specs.declared.atomic_object.Number.TheVariants.{Bool as Truth}
+use Rattle.sync_types.specs.declared.map_object.MapCall.{MapCall}
+use Rattle.sync_types.specs.declared.map_object.MapCall.TheVariants.{Load, Store, LoadOrStore, LoadAndDelete, Delete, Swap, CompareAndSwap, CompareAndDelete, Clear}
+use Rattle.sync_types.specs.SequentialMap.{map_after}
+use Rattle.sync_types.specs.SequentialAtomic.{kind_of, is_atomic_call, atomic_after}
 use Rattle.sync_model.specs.SharedHistory.{map_at, number_at, shared_after}
 use Rattle.shared_plain.specs.declared.event.Event.{Event}
 use Rattle.shared_plain.specs.declared.event.Event.TheVariants.{Map, Begin, Next, Atomic}

@@ -5,9 +5,9 @@ use Rattle.std.specs.Ordering.{nat_cmp}
 use Rattle.std.specs.Cmp.Lexicographic.{slice_cmp}
 use Rattle.std.specs.List.Sorted.{IsStrictlySortedBy}
 use Rattle.std.specs.FinMap.{FinMap, entries, from_entries, get}
-use Rattle.sync_model.specs.declared.outcome.End.{End}
-use Rattle.sync_model.specs.declared.outcome.End.TheVariants as ends
-use Rattle.sync_model.specs.Ends.{number_end, ends_of}
+use Rattle.sync_types.specs.declared.outcome.End.{End}
+use Rattle.sync_types.specs.declared.outcome.End.TheVariants as ends
+use Rattle.sync_types.specs.Ends.{number_end, ends_of}
 use Rattle.sync_model.specs.SharedHistory.{Contents, value_at}
 use Rattle.shared_plain.specs.EndsOfHistory.{IsNextPair}
 

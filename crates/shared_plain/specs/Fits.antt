@@ -1,12 +1,12 @@
 -- Which events are answered.
 use Rattle.std.specs.Prelude.{ℕ, ◌^◌, Bool, true, false, ◌&&◌, nat_lt, List, length, map, Option, Some, None, is_some, slice_get}
 use Rattle.std.specs.Option.{option_map_or}
-use Rattle.sync_model.specs.declared.atomic_object.AtomicCall.{AtomicCall}
-use Rattle.sync_model.specs.declared.atomic_object.AtomicKind.{AtomicKind}
-use Rattle.sync_model.specs.declared.map_object.MapCall.{MapCall}
-use Rattle.sync_model.specs.declared.map_object.MapCall.TheVariants as on_map
-use Rattle.sync_model.specs.SequentialMap.{map_key}
-use Rattle.sync_model.specs.SequentialAtomic.{kind_of, is_atomic_call}
+use Rattle.sync_types.specs.declared.atomic_object.AtomicCall.{AtomicCall}
+use Rattle.sync_types.specs.declared.atomic_object.AtomicKind.{AtomicKind}
+use Rattle.sync_types.specs.declared.map_object.MapCall.{MapCall}
+use Rattle.sync_types.specs.declared.map_object.MapCall.TheVariants as on_map
+use Rattle.sync_types.specs.SequentialMap.{map_key}
+use Rattle.sync_types.specs.SequentialAtomic.{kind_of, is_atomic_call}
 use Rattle.shared_plain.specs.declared.event.Event.{Event}
 use Rattle.shared_plain.specs.declared.event.Event.TheVariants.{Map, Begin, Next, Atomic}
 use Rattle.shared_plain.specs.PlainMachine.{Holdings}

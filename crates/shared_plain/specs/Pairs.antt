@@ -1,6 +1,6 @@
 -- Two callers, as the tests have them.
 use Rattle.std.specs.Prelude.{◌≡◌, [], ◌∷◌}
-use Rattle.sync_model.specs.declared.atomic_object.AtomicKind.TheVariants as kinds
+use Rattle.sync_types.specs.declared.atomic_object.AtomicKind.TheVariants as kinds
 use Rattle.sync_model.specs.declared.caller.Caller.{Caller}
 use Rattle.sync_model.specs.Shared.{IsCallerAt}
 use Rattle.shared_plain.specs.declared.mark.Mark.{Mark}

@@ -1,14 +1,14 @@
 -- Maps and atomics for one thread, as a machine: the maps in slots, and the atomics' numbers.
 use Rattle.std.specs.Prelude.{ℕ, false, cond, nat_lt, List, length, map, replicate, Option, Some, None, slice_get, slice_set}
-use Rattle.sync_model.specs.declared.atomic_object.AtomicCall.{AtomicCall}
-use Rattle.sync_model.specs.declared.atomic_object.AtomicKind.{AtomicKind}
-use Rattle.sync_model.specs.declared.atomic_object.Number.{Number}
-use Rattle.sync_model.specs.declared.map_object.MapCall.{MapCall}
+use Rattle.sync_types.specs.declared.atomic_object.AtomicCall.{AtomicCall}
+use Rattle.sync_types.specs.declared.atomic_object.AtomicKind.{AtomicKind}
+use Rattle.sync_types.specs.declared.atomic_object.Number.{Number}
+use Rattle.sync_types.specs.declared.map_object.MapCall.{MapCall}
 use Rattle.sync_model.specs.declared.item.SharedCall.{SharedCall}
 use Rattle.sync_model.specs.declared.item.SharedCall.TheVariants as calls
 use Rattle.sync_model.specs.declared.item.SharedReply.TheVariants as replies
-use Rattle.sync_model.specs.SequentialMap.{map_reply, is_map_entry}
-use Rattle.sync_model.specs.SequentialAtomic.{zero_of, kind_of, is_atomic_call, atomic_reply, atomic_after, is_atomic_entry}
+use Rattle.sync_types.specs.SequentialMap.{map_reply, is_map_entry}
+use Rattle.sync_types.specs.SequentialAtomic.{zero_of, kind_of, is_atomic_call, atomic_reply, atomic_after, is_atomic_entry}
 use Rattle.sync_model.specs.SharedHistory.{Contents}
 use Rattle.shared_plain.specs.declared.event.Event.{Event}
 use Rattle.shared_plain.specs.declared.event.Event.TheVariants.{Map, Begin, Next, Atomic}

@@ -1,7 +1,7 @@
 -- What contracts see of plain maps and atomics.
 use Rattle.std.specs.Prelude.{ℕ, ◌<◌, List, length, map}
-use Rattle.sync_model.specs.declared.atomic_object.AtomicKind.{AtomicKind}
-use Rattle.sync_model.specs.SequentialAtomic.{kind_of}
+use Rattle.sync_types.specs.declared.atomic_object.AtomicKind.{AtomicKind}
+use Rattle.sync_types.specs.SequentialAtomic.{kind_of}
 use Rattle.ruled_object.specs.Passes.{callers_of, start_of}
 use Rattle.shared_plain.specs.declared.plain.Plain.{Plain}
 

@@ -3,11 +3,11 @@ use Rattle.std.specs.Prelude.{ℕ, ◌+◌, Bool, true, false, cond, nat_lt, Lis
 use Rattle.std.specs.Option.{option_map_or}
 use Rattle.std.specs.Ordering.{nat_cmp}
 use Rattle.std.specs.FinMap.{FinMap, empty, insert}
-use Rattle.sync_model.specs.declared.map_object.MapCall.{MapCall}
-use Rattle.sync_model.specs.declared.map_object.MapCall.TheVariants.{Load, Store, LoadOrStore, LoadAndDelete, Delete, Swap, CompareAndSwap, CompareAndDelete, Clear}
-use Rattle.sync_model.specs.declared.map_object.MapReply.{MapReply}
-use Rattle.sync_model.specs.declared.map_object.MapReply.TheVariants.{Done, Found, Compared}
-use Rattle.sync_model.specs.SequentialMap.{is_value, map_key, settled}
+use Rattle.sync_types.specs.declared.map_object.MapCall.{MapCall}
+use Rattle.sync_types.specs.declared.map_object.MapCall.TheVariants.{Load, Store, LoadOrStore, LoadAndDelete, Delete, Swap, CompareAndSwap, CompareAndDelete, Clear}
+use Rattle.sync_types.specs.declared.map_object.MapReply.{MapReply}
+use Rattle.sync_types.specs.declared.map_object.MapReply.TheVariants.{Done, Found, Compared}
+use Rattle.sync_types.specs.SequentialMap.{is_value, map_key, settled}
 
 -- a map with what one slot says of its key
 abbrev pub with_slot : ℕ → Option ℕ → FinMap nat_cmp ℕ → FinMap nat_cmp ℕ

@@ -1,13 +1,13 @@
 //! The list of ends that a report shows.
 ghost use Rattle.std.specs.Prelude.{◌≡◌, ◌+◌, ◌*◌, ◌≤◌, ◌++◌, length, map, zip, flat_map, vec_len, vec_capacity};
-ghost use Rattle.sync_model.specs.Ends.{number_end};
+ghost use Rattle.sync_types.specs.Ends.{number_end};
 ghost use Rattle.shared_plain.specs.EndLists.{ends_by, pair_ends_by};
 ghost use Rattle.shared_plain.specs.PlainMachine.{contents_of};
 ghost use Rattle.shared_plain.specs.Slots.{map_of};
 
 use crate::slots::Slots;
 use crate::state::PlainState;
-use sync_model::{End, Number};
+use sync_types::{End, Number};
 
 impl PlainState {
     /// Adds what a report shows of the atomics and the maps to a list that has room for it: first each atomic's number, and

@@ -1,6 +1,6 @@
 //! What the maps and atomics contain when all calls have returned.
 ghost use Rattle.std.specs.Prelude.{◌≡◌, ◌<◌, ◌≤◌, List, [], IfOk, length, map, slice_get, vec_capacity};
-ghost use Rattle.sync_model.specs.SequentialAtomic.{kind_of};
+ghost use Rattle.sync_types.specs.SequentialAtomic.{kind_of};
 ghost use Rattle.sync_model.specs.SharedHistory.{first_contents};
 ghost use Rattle.sync_model.specs.Shared.{AreAllCallers};
 ghost use Rattle.shared_plain.specs.EndLists.{HasKeysBelow};

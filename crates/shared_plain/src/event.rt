@@ -1,7 +1,8 @@
 //! What callers do to the maps and atomics, and what is answered.
 ghost use Rattle.std.specs.Prelude.{◌≡◌};
 
-use sync_model::{AtomicCall, MapCall, SharedReply};
+use sync_model::SharedReply;
+use sync_types::{AtomicCall, MapCall};
 
 /// A call on a map or an atomic, or a step of a cursor over a map.
 #[derive(Clone, Copy, Debug)]

@@ -6,7 +6,7 @@ ghost use Rattle.std.specs.Cmp.Lexicographic.{slice_cmp};
 ghost use Rattle.std.specs.FinMap.{FinMap, entries, get};
 ghost use Rattle.sync_model.specs.declared.item.SharedReply.TheVariants.{Shown};
 ghost use Rattle.shared_plain.specs.declared.event.Event.TheVariants.{Next};
-ghost use Rattle.sync_model.specs.declared.atomic_object.AtomicKind.{AtomicKind};
+ghost use Rattle.sync_types.specs.declared.atomic_object.AtomicKind.{AtomicKind};
 ghost use Rattle.sync_model.specs.SharedHistory.{Contents, first_contents, map_at, shared_after, value_at, IsReply, is_entry};
 ghost use Rattle.shared_plain.specs.declared.event.Event.{Event};
 ghost use Rattle.shared_plain.specs.declared.event.Answered.{Answered};

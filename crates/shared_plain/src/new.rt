@@ -11,7 +11,8 @@ use crate::state::PlainState;
 use ruled_object::laws::passes_and_copies;
 use ruled_object::{Object, PassOf};
 use std::alloc::{AllocError, Global};
-use sync_model::{AtomicKind, Caller, MAX_CALLERS, NoNote};
+use sync_model::{Caller, MAX_CALLERS, NoNote};
+use sync_types::AtomicKind;
 
 impl Plain {
     /// So many empty maps of the keys below `keys`, an atomic of each of these types, which is 0 or false, and their callers

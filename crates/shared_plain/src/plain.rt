@@ -1,6 +1,6 @@
 //! Plain maps and atomics that callers share.
 ghost use Rattle.std.specs.Prelude.{◌≡◌, length, map};
-ghost use Rattle.sync_model.specs.SequentialAtomic.{kind_of};
+ghost use Rattle.sync_types.specs.SequentialAtomic.{kind_of};
 ghost use Rattle.ruled_object.specs.Passes.{start_of};
 ghost use Rattle.shared_plain.specs.PlainMachine.{first_holdings};
 

@@ -1,11 +1,12 @@
 //! What a call on a map takes, and what is in a reply.
 ghost use Rattle.std.specs.Prelude.{◌≡◌};
-ghost use Rattle.sync_model.specs.declared.atomic_object.AtomicReply.{AtomicReply};
-ghost use Rattle.sync_model.specs.declared.map_object.MapReply.{MapReply};
+ghost use Rattle.sync_types.specs.declared.atomic_object.AtomicReply.{AtomicReply};
+ghost use Rattle.sync_types.specs.declared.map_object.MapReply.{MapReply};
 ghost use Rattle.sync_model.specs.declared.item.SharedReply.TheVariants as replies;
 ghost use Rattle.sync_model.specs.Shared.{cost_of};
 
-use sync_model::{AtomicReply, MapCall, MapReply, SharedReply};
+use sync_model::SharedReply;
+use sync_types::{AtomicReply, MapCall, MapReply};
 
 // How many entries of its spare ones a call on a map takes.
 pub(crate) fn cost_of(call: &MapCall<u32>) -> u32

@@ -19,7 +19,8 @@ use sync_model::laws::shared_steps::{
     fronts_stay_known, histories_go_on, maps_and_atomics_stay, one_more_call_keeps_the_law,
     what_was_so_stays_so,
 };
-use sync_model::{AtomicCall, AtomicReply, Caller, MapCall, MapReply, NoNote, Note, Shared};
+use sync_model::{Caller, NoNote, Note, Shared};
+use sync_types::{AtomicCall, AtomicReply, MapCall, MapReply};
 
 impl Shared for Plain {
     type Mark = Mark;

@@ -1,7 +1,7 @@
 //! One map, with a slot for each of its keys.
 ghost use Rattle.std.specs.Prelude.{◌≡◌, replicate, IfOk, None};
 ghost use Rattle.std.specs.FinMap.{get};
-ghost use Rattle.sync_model.specs.SequentialMap.{settled};
+ghost use Rattle.sync_types.specs.SequentialMap.{settled};
 ghost use Rattle.sync_model.specs.declared.item.SharedReply.TheVariants as replies;
 ghost use Rattle.shared_plain.specs.Slots.{map_of, slot_after, reply_at, is_entry_at, slots_after, next_pair};
 ghost use Rattle.shared_plain.specs.PlainMachine.{map_answer};
@@ -9,7 +9,8 @@ ghost use Rattle.shared_plain.specs.PlainMachine.{map_answer};
 use crate::event::Answered;
 use std::alloc::{AllocError, Global};
 use std::marker::Model;
-use sync_model::{MapCall, MapReply, SharedReply};
+use sync_model::SharedReply;
+use sync_types::{MapCall, MapReply};
 
 /// A map whose keys are the numbers below a limit. Contracts see a list with each key's value, if it has one.
 #[derive(Debug, Drop)]

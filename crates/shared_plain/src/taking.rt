@@ -5,7 +5,7 @@ ghost use Rattle.shared_plain.specs.Fits.{is_taken, is_in_range};
 ghost use Rattle.shared_plain.specs.Plains.{keys_of, Takes};
 
 use crate::plain::Plain;
-use sync_model::MapCall;
+use sync_types::MapCall;
 
 impl Plain {
     /// Whether the maps take a call: its key is below their limit, and its values are at most 2^63 - 1.

@@ -11,8 +11,8 @@ use Rattle.atomic_table.specs.Table.{Me, keeps, Allows}
 use Rattle.sync_model.specs.declared.item.Item.{Item}
 use Rattle.sync_model.specs.declared.item.SharedCall.TheVariants as calls
 use Rattle.sync_model.specs.declared.item.SharedReply.TheVariants as replies
-use Rattle.sync_model.specs.declared.map_object.MapCall.TheVariants.{Clear}
-use Rattle.sync_model.specs.declared.map_object.MapReply.TheVariants.{Done}
+use Rattle.sync_types.specs.declared.map_object.MapCall.TheVariants.{Clear}
+use Rattle.sync_types.specs.declared.map_object.MapReply.TheVariants.{Done}
 use Rattle.sync_model.specs.Journal.{Begins}
 use Rattle.sync_model.specs.SharedCalls.{Grows}
 use Rattle.sync_model.specs.SharedHistory.{Contents, value_at, contents_after, with_call}

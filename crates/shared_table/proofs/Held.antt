@@ -6,7 +6,7 @@ use mathlib.Core.Option.{some}
 use lib.ListN.{get_elem?}
 use Rattle.atomic_table.specs.Table.{Me, keeps, Allows}
 use Rattle.sync_model.specs.declared.item.Item.{Item}
-use Rattle.sync_model.specs.declared.map_object.MapCall.{MapCall}
+use Rattle.sync_types.specs.declared.map_object.MapCall.{MapCall}
 use Rattle.sync_model.specs.Shared.{cost_of}
 use Rattle.shared_table.specs.declared.begin.Begin.{Begin}
 use Rattle.shared_table.specs.declared.view.Lock.{Lock}

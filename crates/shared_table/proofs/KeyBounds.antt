@@ -12,9 +12,9 @@ use Rattle.sync_model.specs.declared.item.Item.{Item}
 use Rattle.sync_model.specs.declared.item.SharedCall.{SharedCall}
 use Rattle.sync_model.specs.declared.item.SharedCall.TheVariants as calls
 use Rattle.sync_model.specs.declared.item.SharedEntry.{SharedEntry}
-use Rattle.sync_model.specs.declared.map_object.MapCall.{MapCall}
-use Rattle.sync_model.specs.declared.map_object.MapCall.TheVariants.{Load, Store, LoadOrStore, LoadAndDelete, Delete, Swap, CompareAndSwap, CompareAndDelete, Clear}
-use Rattle.sync_model.specs.SequentialMap.{is_value, map_key, map_after}
+use Rattle.sync_types.specs.declared.map_object.MapCall.{MapCall}
+use Rattle.sync_types.specs.declared.map_object.MapCall.TheVariants.{Load, Store, LoadOrStore, LoadAndDelete, Delete, Swap, CompareAndSwap, CompareAndDelete, Clear}
+use Rattle.sync_types.specs.SequentialMap.{is_value, map_key, map_after}
 use Rattle.sync_model.specs.SharedHistory.{Contents, map_at, contents_after, shared_after, is_entry, with_call}
 use Rattle.shared_table.specs.declared.begin.Begin.{Begin}
 use Rattle.shared_table.specs.Keys.{HasKeysBelow}

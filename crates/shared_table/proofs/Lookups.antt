@@ -7,7 +7,7 @@ use lib.ListN.{get_elem?}
 use Rattle.atomic_table.specs.Table.{Me, Act, keeps, Valid, stepped, carried_after, Allows}
 use Rattle.sync_model.specs.declared.item.SharedCall.TheVariants as calls
 use Rattle.sync_model.specs.declared.item.SharedReply.TheVariants as replies
-use Rattle.sync_model.specs.declared.map_object.MapCall.{MapCall}
+use Rattle.sync_types.specs.declared.map_object.MapCall.{MapCall}
 use Rattle.sync_model.specs.Shared.{cost_of}
 use Rattle.sync_model.specs.SharedHistory.{map_at, value_at, contents_at, IsReply, is_entry}
 use Rattle.shared_table.specs.declared.begin.Begin.{Begin}

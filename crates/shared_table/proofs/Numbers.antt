@@ -5,12 +5,12 @@ use Rattle.std.proofs.lemmas.List.{length-map}
 use Rattle.std.proofs.lemmas.Option.{same_Some, slice_get_within}
 use Rattle.std.specs.FinMap.{empty, get}
 use Rattle.std.specs.Prelude.{slice_index_or}
-use Rattle.sync_model.specs.declared.atomic_object.AtomicKind.{AtomicKind}
-use Rattle.sync_model.specs.declared.atomic_object.Number.{Number}
-use Rattle.sync_model.specs.declared.atomic_object.Number.TheVariants.{Bool as Truth}
+use Rattle.sync_types.specs.declared.atomic_object.AtomicKind.{AtomicKind}
+use Rattle.sync_types.specs.declared.atomic_object.Number.{Number}
+use Rattle.sync_types.specs.declared.atomic_object.Number.TheVariants.{Bool as Truth}
 use Rattle.sync_model.specs.declared.item.SharedEntry.{SharedEntry}
 use Rattle.sync_model.specs.Journal.{Begins}
-use Rattle.sync_model.specs.SequentialAtomic.{zero_of}
+use Rattle.sync_types.specs.SequentialAtomic.{zero_of}
 use Rattle.sync_model.specs.SharedHistory.{value_at, number_at, contents_after}
 use Rattle.shared_table.specs.declared.begin.Begin.{Begin}
 use Rattle.shared_table.specs.Gates.{Gated}

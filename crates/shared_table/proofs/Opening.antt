@@ -9,11 +9,11 @@ use Rattle.std.specs.Ordering.{nat_cmp}
 use mathlib.Core.Option.{some, some-ne-none, some-injective}
 use lib.ListN.{get_elem?}
 use Rattle.atomic_table.specs.Table.{opening}
-use Rattle.sync_model.specs.declared.atomic_object.AtomicKind.{AtomicKind}
-use Rattle.sync_model.specs.declared.atomic_object.AtomicKind.TheVariants as kinds
-use Rattle.sync_model.specs.declared.atomic_object.Number.{Number}
-use Rattle.sync_model.specs.declared.atomic_object.Number.TheVariants.{Bool as Truth}
-use Rattle.sync_model.specs.SequentialAtomic.{zero_of}
+use Rattle.sync_types.specs.declared.atomic_object.AtomicKind.{AtomicKind}
+use Rattle.sync_types.specs.declared.atomic_object.AtomicKind.TheVariants as kinds
+use Rattle.sync_types.specs.declared.atomic_object.Number.{Number}
+use Rattle.sync_types.specs.declared.atomic_object.Number.TheVariants.{Bool as Truth}
+use Rattle.sync_types.specs.SequentialAtomic.{zero_of}
 use Rattle.trie_nodes.specs.Layout.{unit_words}
 use Rattle.trie_nodes.specs.Paths.{nibble, route}
 use Rattle.shared_table.specs.declared.begin.Begin.{Begin}

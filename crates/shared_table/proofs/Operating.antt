@@ -4,18 +4,18 @@ use Rattle.std.proofs.lemmas.Option.{same_Some}
 use mathlib.Core.Option.{some}
 use lib.ListN.{get_elem?}
 use Rattle.atomic_table.specs.Table.{Me, keeps, Allows}
-use Rattle.sync_model.specs.declared.atomic_object.AtomicCall.{AtomicCall}
-use Rattle.sync_model.specs.declared.atomic_object.AtomicKind.{AtomicKind}
-use Rattle.sync_model.specs.declared.atomic_object.Number.{Number}
+use Rattle.sync_types.specs.declared.atomic_object.AtomicCall.{AtomicCall}
+use Rattle.sync_types.specs.declared.atomic_object.AtomicKind.{AtomicKind}
+use Rattle.sync_types.specs.declared.atomic_object.Number.{Number}
 use Rattle.sync_model.specs.declared.item.Item.{Item}
 use Rattle.sync_model.specs.declared.item.SharedCall.TheVariants.{Atomic}
 use Rattle.sync_model.specs.declared.item.SharedReply.TheVariants as replies
 use Rattle.sync_model.specs.Journal.{Begins}
-use Rattle.sync_model.specs.SequentialAtomic.{atomic_reply, atomic_after, is_atomic_entry}
+use Rattle.sync_types.specs.SequentialAtomic.{atomic_reply, atomic_after, is_atomic_entry}
 use Rattle.sync_model.specs.SharedHistory.{number_at, contents_after, contents_at, with_call}
 use Rattle.sync_model.specs.SharedCalls.{Grows}
 use Rattle.sync_model.specs.Shared.{Called}
-use Rattle.sync_model.specs.WordLayout.{is_word, number_in}
+use Rattle.sync_types.specs.WordLayout.{is_word, number_in}
 use Rattle.shared_table.specs.declared.begin.Begin.{Begin}
 use Rattle.shared_table.specs.declared.view.Own.{Own}
 use Rattle.shared_table.specs.declared.view.Gate.TheVariants.{Inside}

@@ -7,9 +7,9 @@ use lib.ListN.{get_elem?}
 use Rattle.sync_model.specs.declared.item.Item.{Item}
 use Rattle.sync_model.specs.declared.item.SharedCall.TheVariants as calls
 use Rattle.sync_model.specs.declared.item.SharedReply.TheVariants as replies
-use Rattle.sync_model.specs.declared.map_object.MapCall.{MapCall}
+use Rattle.sync_types.specs.declared.map_object.MapCall.{MapCall}
 use Rattle.sync_model.specs.Journal.{Begins}
-use Rattle.sync_model.specs.SequentialMap.{map_reply, is_map_entry}
+use Rattle.sync_types.specs.SequentialMap.{map_reply, is_map_entry}
 use Rattle.sync_model.specs.SharedCalls.{Grows}
 use Rattle.sync_model.specs.SharedHistory.{map_at, value_at, contents_after, contents_at, with_call}
 use Rattle.sync_model.specs.Shared.{Called}

@@ -3,10 +3,10 @@ use Rattle.std.proofs.Common.{◌≡◌, ℕ, suc, ◌+◌, ◌*◌, ◌^◌, �
 use Rattle.atomic_table.specs.Table.{Me, Allows}
 use Rattle.sync_model.specs.declared.item.SharedCall.TheVariants as calls
 use Rattle.sync_model.specs.declared.item.SharedReply.TheVariants as replies
-use Rattle.sync_model.specs.declared.map_object.MapCall.{MapCall}
-use Rattle.sync_model.specs.declared.map_object.MapCall.TheVariants.{Load}
-use Rattle.sync_model.specs.declared.map_object.MapReply.{MapReply}
-use Rattle.sync_model.specs.declared.map_object.MapReply.TheVariants.{Found}
+use Rattle.sync_types.specs.declared.map_object.MapCall.{MapCall}
+use Rattle.sync_types.specs.declared.map_object.MapCall.TheVariants.{Load}
+use Rattle.sync_types.specs.declared.map_object.MapReply.{MapReply}
+use Rattle.sync_types.specs.declared.map_object.MapReply.TheVariants.{Found}
 use Rattle.sync_model.specs.Shared.{Called, cost_of}
 use Rattle.shared_table.specs.declared.begin.Begin.{Begin}
 use Rattle.shared_table.specs.declared.note.SharedNote.{SharedNote}

@@ -1,8 +1,8 @@
 -- A seat that clears a map: how it stands to the map's gate, and what its steps tell.
 use Rattle.std.specs.Prelude.{◌≡◌, ℕ, ◌^◌, ◌<◌, ◌==◌, Bool, true, false, length, None, MatchBool}
 use Rattle.atomic_table.specs.Table.{Me}
-use Rattle.sync_model.specs.declared.map_object.MapCall.TheVariants.{Clear}
-use Rattle.sync_model.specs.declared.map_object.MapReply.TheVariants.{Done}
+use Rattle.sync_types.specs.declared.map_object.MapCall.TheVariants.{Clear}
+use Rattle.sync_types.specs.declared.map_object.MapReply.TheVariants.{Done}
 use Rattle.shared_table.specs.declared.begin.Begin.{Begin}
 use Rattle.shared_table.specs.declared.view.Gate.TheVariants.{Closed}
 use Rattle.shared_table.specs.declared.view.View.{View}

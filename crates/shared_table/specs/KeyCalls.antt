@@ -1,10 +1,10 @@
 -- A call on one key of a map, by what the key has: what it answers, whether it is an entry of the history, and what the key has afterwards.
 use Rattle.std.specs.Prelude.{ℕ, Bool, true, false, cond, Option, Some, None, is_some}
-use Rattle.sync_model.specs.declared.map_object.MapCall.{MapCall}
-use Rattle.sync_model.specs.declared.map_object.MapCall.TheVariants.{Load, Store, LoadOrStore, LoadAndDelete, Delete, Swap, CompareAndSwap, CompareAndDelete, Clear}
-use Rattle.sync_model.specs.declared.map_object.MapReply.{MapReply}
-use Rattle.sync_model.specs.declared.map_object.MapReply.TheVariants.{Done, Found, Compared}
-use Rattle.sync_model.specs.SequentialMap.{is_value, settled}
+use Rattle.sync_types.specs.declared.map_object.MapCall.{MapCall}
+use Rattle.sync_types.specs.declared.map_object.MapCall.TheVariants.{Load, Store, LoadOrStore, LoadAndDelete, Delete, Swap, CompareAndSwap, CompareAndDelete, Clear}
+use Rattle.sync_types.specs.declared.map_object.MapReply.{MapReply}
+use Rattle.sync_types.specs.declared.map_object.MapReply.TheVariants.{Done, Found, Compared}
+use Rattle.sync_types.specs.SequentialMap.{is_value, settled}
 
 abbrev pub key_reply : MapCall ℕ → Option ℕ → MapReply
 key_reply (Load key) held = Found held

@@ -1,16 +1,16 @@
 -- A caller's note: what contracts see of it.
 use Rattle.std.specs.Prelude.{◌≡◌, ℕ, ◌≤◌, true, List, [], Option, Some, length, slice_get, slice_index}
-use Rattle.sync_model.specs.declared.atomic_object.AtomicCall.{AtomicCall}
-use Rattle.sync_model.specs.declared.atomic_object.AtomicKind.{AtomicKind}
+use Rattle.sync_types.specs.declared.atomic_object.AtomicCall.{AtomicCall}
+use Rattle.sync_types.specs.declared.atomic_object.AtomicKind.{AtomicKind}
 use Rattle.sync_model.specs.declared.item.SharedCall.TheVariants.{Atomic}
 use Rattle.sync_model.specs.declared.item.SharedEntry.{SharedEntry}
 use Rattle.sync_model.specs.declared.item.Item.{Item}
 use Rattle.sync_model.specs.declared.item.SharedReply.TheVariants as replies
 use Rattle.sync_model.specs.Note.{Holding, IsCounted}
-use Rattle.sync_model.specs.SequentialAtomic.{atomic_reply}
+use Rattle.sync_types.specs.SequentialAtomic.{atomic_reply}
 use Rattle.sync_model.specs.SharedCalls.{Lawful}
 use Rattle.sync_model.specs.Shared.{Called, state_of}
-use Rattle.sync_model.specs.WordLayout.{is_word, number_in}
+use Rattle.sync_types.specs.WordLayout.{is_word, number_in}
 use Rattle.shared_table.specs.declared.note.SharedNote.{SharedNote}
 use Rattle.shared_table.specs.declared.table.SharedTable.{SharedTable}
 use Rattle.shared_table.specs.declared.view.Own.{Own}

@@ -1,17 +1,17 @@
 -- Operations on the words of atomics.
 use Rattle.std.specs.Prelude.{◌≡◌, ℕ, true, List, Some, slice_get}
 use Rattle.atomic_table.specs.Table.{Me}
-use Rattle.sync_model.specs.declared.atomic_object.AtomicCall.{AtomicCall}
-use Rattle.sync_model.specs.declared.atomic_object.AtomicKind.{AtomicKind}
+use Rattle.sync_types.specs.declared.atomic_object.AtomicCall.{AtomicCall}
+use Rattle.sync_types.specs.declared.atomic_object.AtomicKind.{AtomicKind}
 use Rattle.sync_model.specs.declared.item.Item.{Item}
 use Rattle.sync_model.specs.declared.item.SharedCall.{SharedCall}
 use Rattle.sync_model.specs.declared.item.SharedCall.TheVariants.{Atomic}
 use Rattle.sync_model.specs.declared.item.SharedEntry.{SharedEntry}
 use Rattle.sync_model.specs.declared.item.SharedReply.{SharedReply}
 use Rattle.sync_model.specs.declared.item.SharedReply.TheVariants as replies
-use Rattle.sync_model.specs.SequentialAtomic.{atomic_reply, atomic_after}
+use Rattle.sync_types.specs.SequentialAtomic.{atomic_reply, atomic_after}
 use Rattle.sync_model.specs.Shared.{Called}
-use Rattle.sync_model.specs.WordLayout.{is_word, number_in}
+use Rattle.sync_types.specs.WordLayout.{is_word, number_in}
 use Rattle.shared_table.specs.declared.view.View.{View}
 use Rattle.shared_table.specs.Shape.{start_of}
 use Rattle.shared_table.specs.Views.{with_item, called_view, view_state}

@@ -1,10 +1,10 @@
 -- The second part of the rule: what the words mean. It speaks of words and of the history, and of no seat.
 use Rattle.std.specs.Prelude.{◌≡◌, ◌≢◌, ℕ, suc, ◌+◌, ◌^◌, ◌<◌, ◌≤◌, Bool, true, List, [], length, Option, Some, None, slice_get, slice_index}
-use Rattle.sync_model.specs.declared.atomic_object.AtomicKind.{AtomicKind}
-use Rattle.sync_model.specs.declared.atomic_object.Number.{Number}
+use Rattle.sync_types.specs.declared.atomic_object.AtomicKind.{AtomicKind}
+use Rattle.sync_types.specs.declared.atomic_object.Number.{Number}
 use Rattle.sync_model.specs.declared.item.SharedEntry.{SharedEntry}
 use Rattle.sync_model.specs.SharedHistory.{Contents, first_contents, number_at, value_at, contents_after, contents_at}
-use Rattle.sync_model.specs.WordLayout.{is_word, number_in}
+use Rattle.sync_types.specs.WordLayout.{is_word, number_in}
 use Rattle.shared_table.specs.declared.begin.Begin.{Begin}
 use Rattle.trie_nodes.specs.Layout.{parent_word, slot_word, atomic_word, dead_word}
 use Rattle.shared_table.specs.Layout.{root_word, heads, size_of}

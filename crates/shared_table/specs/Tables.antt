@@ -1,6 +1,6 @@
 -- What contracts see of a shared table.
 use Rattle.std.specs.Prelude.{ℕ, List}
-use Rattle.sync_model.specs.declared.atomic_object.AtomicKind.{AtomicKind}
+use Rattle.sync_types.specs.declared.atomic_object.AtomicKind.{AtomicKind}
 use Rattle.sync_model.specs.SharedHistory.{Contents}
 use Rattle.shared_table.specs.declared.table.SharedTable.{SharedTable}
 use Rattle.shared_table.specs.Layout.{callers_of}

@@ -1,5 +1,5 @@
 //! How a shared table begins.
-use sync_model::{AtomicKind, Seq};
+use sync_types::{AtomicKind, Seq};
 
 /// What a shared table is made of, and stays. Its rule and each view speak of it.
 #[derive(Drop)]

@@ -1,10 +1,10 @@
 //! What a call on a map does to its key.
 ghost use Rattle.std.specs.Prelude.{◌≡◌, IsSome};
-ghost use Rattle.sync_model.specs.SequentialMap.{map_key};
+ghost use Rattle.sync_types.specs.SequentialMap.{map_key};
 ghost use Rattle.shared_table.specs.KeyCalls.{key_reply};
 ghost use Rattle.shared_table.specs.Making.{IsChange};
 
-use sync_model::{MapCall, MapReply};
+use sync_types::{MapCall, MapReply};
 
 /// What a call does to its key.
 #[derive(Drop)]

@@ -5,8 +5,8 @@ ghost use Rattle.std.specs.Prelude.{◌≡◌, ◌<◌, ◌≤◌, true, false, 
 ghost use Rattle.std.specs.Option.{ForSome};
 ghost use Rattle.sync_model.specs.declared.item.SharedCall.TheVariants as calls;
 ghost use Rattle.sync_model.specs.declared.item.SharedReply.TheVariants as replies;
-ghost use Rattle.sync_model.specs.declared.map_object.MapCall.TheVariants.{Clear};
-ghost use Rattle.sync_model.specs.declared.map_object.MapReply.TheVariants.{Done};
+ghost use Rattle.sync_types.specs.declared.map_object.MapCall.TheVariants.{Clear};
+ghost use Rattle.sync_types.specs.declared.map_object.MapReply.TheVariants.{Done};
 ghost use Rattle.sync_model.specs.Note.{SameHome};
 ghost use Rattle.sync_model.specs.Shared.{Called, state_of};
 ghost use Rattle.shared_table.specs.declared.view.Gate.TheVariants.{Outside, Closed};

@@ -1,6 +1,6 @@
 //! What the maps and atomics contain when all calls have returned.
 ghost use Rattle.std.specs.Prelude.{◌≡◌, ◌^◌, ◌<◌, List, length, map};
-ghost use Rattle.sync_model.specs.SequentialAtomic.{kind_of};
+ghost use Rattle.sync_types.specs.SequentialAtomic.{kind_of};
 ghost use Rattle.sync_model.specs.declared.item.SharedEntry.{SharedEntry};
 ghost use Rattle.sync_model.specs.Shared.{AreAllCallers, calls_of};
 ghost use Rattle.sync_model.specs.SharedCalls.{Lawful};

@@ -2,10 +2,10 @@
 ghost use Rattle.std.specs.Prelude.{◌≡◌, ℕ, ◌+◌, ◌<◌, ◌≤◌, ◌^◌, true, [], IsSome, Some, length};
 ghost use Rattle.sync_model.specs.declared.item.SharedCall.TheVariants as calls;
 ghost use Rattle.sync_model.specs.declared.item.SharedReply.TheVariants as replies;
-ghost use Rattle.sync_model.specs.declared.map_object.MapCall.TheVariants.{Load};
-ghost use Rattle.sync_model.specs.declared.map_object.MapReply.TheVariants.{Found};
+ghost use Rattle.sync_types.specs.declared.map_object.MapCall.TheVariants.{Load};
+ghost use Rattle.sync_types.specs.declared.map_object.MapReply.TheVariants.{Found};
 ghost use Rattle.sync_model.specs.Note.{SameHome};
-ghost use Rattle.sync_model.specs.SequentialMap.{map_key};
+ghost use Rattle.sync_types.specs.SequentialMap.{map_key};
 ghost use Rattle.sync_model.specs.Shared.{Called, cost_of, state_of};
 ghost use Rattle.shared_table.specs.declared.view.Leaf.{Leaf};
 ghost use Rattle.shared_table.specs.Notes.{front_by, own_by, seen_by, IsNoteOf};
@@ -23,7 +23,7 @@ use crate::view::{Leaf, View};
 use atomic_table::{Play, Seat};
 use std::marker::{Brand, PhantomData};
 use std::sync::ledger::Ledger;
-use sync_model::MapCall;
+use sync_types::MapCall;
 use trie_nodes::layout::{key_word, slot_word, value_word};
 use trie_nodes::{LEVELS, Slot, nibble};
 

@@ -1,6 +1,6 @@
 //! The call that a seat makes.
-ghost use Rattle.sync_model.specs.declared.map_object.MapCall.{MapCall};
-ghost use Rattle.sync_model.specs.declared.map_object.MapCall.TheVariants.{Clear};
+ghost use Rattle.sync_types.specs.declared.map_object.MapCall.{MapCall};
+ghost use Rattle.sync_types.specs.declared.map_object.MapCall.TheVariants.{Clear};
 ghost use Rattle.std.specs.Prelude.{ℕ};
 
 use std::marker::Brand;

@@ -4,7 +4,7 @@ ghost use Rattle.std.specs.Prelude.{◌≡◌, ℕ, ◌<◌, ◌≤◌, ◌^◌,
 ghost use Rattle.shared_table.specs.declared.view.Gate.TheVariants.{Inside};
 ghost use Rattle.shared_table.specs.declared.view.Walk.{Walk};
 ghost use Rattle.shared_table.specs.Writing.{holding, lock_at, IsWriter, HasRoomWithin};
-ghost use Rattle.sync_model.specs.SequentialMap.{map_key};
+ghost use Rattle.sync_types.specs.SequentialMap.{map_key};
 ghost use Rattle.std.specs.Option.{ForSome};
 ghost use Rattle.sync_model.specs.declared.item.SharedCall.TheVariants as calls;
 ghost use Rattle.sync_model.specs.declared.item.SharedReply.TheVariants as replies;
@@ -24,7 +24,7 @@ use crate::view::{Leaf, View};
 use atomic_table::Seat;
 use crossbeam_utils::Backoff;
 use std::sync::Wait;
-use sync_model::{MapCall, MapReply};
+use sync_types::{MapCall, MapReply};
 use trie_nodes::layout::{DEAD, lock_word};
 use trie_nodes::{LEVELS, Slot, UNIT_WORDS};
 

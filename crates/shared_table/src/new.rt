@@ -14,7 +14,8 @@ use crate::table::SharedTable;
 use crate::view::View;
 use atomic_table::{Seat, Table};
 use std::alloc::{AllocError, Global};
-use sync_model::{AtomicKind, Caller, MAX_CALLERS, Seq};
+use sync_model::{Caller, MAX_CALLERS};
+use sync_types::{AtomicKind, Seq};
 
 /// The most maps and atomics, together, of a table.
 pub const MAX_OBJECTS: u32 = 1_000;

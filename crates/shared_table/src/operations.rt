@@ -11,7 +11,7 @@ use crate::rule::{Operate, Operation};
 use crate::table::SharedTable;
 use crate::word_step::WordStep;
 use std::marker::Brand;
-use sync_model::AtomicCall;
+use sync_types::AtomicCall;
 
 impl SharedTable {
     /// Makes a call on an atomic, as an atomic step on the atomic's word, and tells the word as it was before. The step makes

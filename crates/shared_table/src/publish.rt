@@ -17,7 +17,7 @@ use crate::table::SharedTable;
 use crate::view::{Leaf, View};
 use atomic_table::{Play, Seat};
 use std::marker::{Brand, PhantomData};
-use sync_model::MapCall;
+use sync_types::MapCall;
 use trie_nodes::layout::slot_word;
 use trie_nodes::{Slot, expansion, nibble};
 

@@ -1,7 +1,7 @@
 //! The rule of a shared table, and what each step on it tells.
 ghost use Rattle.std.specs.Prelude.{◌≡◌, ℕ};
-ghost use Rattle.sync_model.specs.declared.atomic_object.AtomicCall.{AtomicCall};
-ghost use Rattle.sync_model.specs.declared.atomic_object.AtomicCall.TheVariants.{Load};
+ghost use Rattle.sync_types.specs.declared.atomic_object.AtomicCall.{AtomicCall};
+ghost use Rattle.sync_types.specs.declared.atomic_object.AtomicCall.TheVariants.{Load};
 ghost use Rattle.shared_table.specs.Operations.{Operates};
 ghost use Rattle.shared_table.specs.Rule.{Kept};
 ghost use Rattle.shared_table.specs.Views.{first_view, copied, dealt, kept, joined, spent, Looks};

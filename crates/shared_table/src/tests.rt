@@ -11,7 +11,8 @@ use crate::view::View;
 use atomic_table::Seat;
 use std::sync::Wait;
 use std::test::Fail;
-use sync_model::{Caller, CallerNote, MapCall};
+use sync_model::{Caller, CallerNote};
+use sync_types::MapCall;
 use trie_nodes::Slot;
 
 // The last of some callers.

@@ -7,7 +7,7 @@ ghost use Rattle.shared_table.specs.declared.view.Own.{Own};
 ghost use Rattle.shared_table.specs.declared.view.Walk.{Walk};
 ghost use Rattle.shared_table.specs.Tables.{maps_of};
 ghost use Rattle.shared_table.specs.Walking.{standing, walk_at, HasWords, Affords, IsFree};
-ghost use Rattle.sync_model.specs.SequentialMap.{map_key};
+ghost use Rattle.sync_types.specs.SequentialMap.{map_key};
 ghost use Rattle.sync_model.specs.Shared.{cost_of};
 ghost use Rattle.shared_table.specs.Making.{StandsLocked, LooksHeld};
 ghost use Rattle.trie_nodes.specs.Slots.{slot_in};
@@ -20,7 +20,7 @@ use crate::table::SharedTable;
 use crate::view::View;
 use atomic_table::{Play, Seat};
 use std::marker::{Brand, PhantomData};
-use sync_model::MapCall;
+use sync_types::MapCall;
 use trie_nodes::layout::{DEAD, FREE, held_word, lock_word, slot_word};
 use trie_nodes::{Slot, nibble};
 

@@ -5,8 +5,8 @@ use Rattle.std.specs.List.{list_all, list_any, flat_map}
 use Rattle.std.specs.Str.{bytes_eq}
 use Rattle.std.specs.Option.{option_map_or}
 use Rattle.std.proofs.lemmas.List.Folds.{list_any-append}
-use Rattle.sync_model.specs.declared.call.Call.{Call}
-use Rattle.sync_model.specs.declared.call.Reply.{Reply}
+use Rattle.sync_types.specs.declared.call.Call.{Call}
+use Rattle.sync_types.specs.declared.call.Reply.{Reply}
 use Rattle.workload.specs.declared.object.ObjectKind.{ObjectKind}
 use Rattle.workload.specs.declared.turn.Turn.{Turn}
 use Rattle.workload.specs.declared.limits.TheConstants.{MAX_KEYS}
@@ -18,13 +18,13 @@ use Rattle.step_turns.specs.declared.answer.Answer.TheVariants as answers
 use Rattle.step_turns.specs.declared.object_state.ObjectState.{ObjectState}
 use Rattle.step_turns.specs.MapKeys.{AreAmong, HasObjectKeysIn}
 use Rattle.step_turns.specs.Objects.{new_object, EachAt}
-use Rattle.sync_model.specs.Outcome.{has_pairs_to, shows_to}
+use Rattle.sync_types.specs.Outcome.{has_pairs_to, shows_to}
 use Rattle.workload.specs.Keys.{keys_in, key_number}
 use Rattle.step_turns.specs.Pairs.{ShowsTo}
 use Rattle.step_turns.specs.Turns.{turn_at}
 use Rattle.step_runner.specs.declared.step.Step.TheVariants as steps
-use Rattle.sync_model.specs.declared.outcome.Ending.{Ending}
-use Rattle.sync_model.specs.declared.outcome.Ending.TheVariants as endings
+use Rattle.sync_types.specs.declared.outcome.Ending.{Ending}
+use Rattle.sync_types.specs.declared.outcome.Ending.TheVariants as endings
 use Rattle.workload.specs.Puts.{puts_at}
 use Rattle.step_runner.specs.State.{State, start}
 use Rattle.step_runner.specs.Ends.{numbered}

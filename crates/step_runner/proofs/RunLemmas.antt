@@ -1,7 +1,7 @@
 -- Turns in order.
 use Rattle.std.proofs.Common.{◌≡◌, ℕ, zero, suc, ◌+◌, ◌<◌, Bool, true, false, List, [], ◌∷◌, ◌++◌, map, refl, sym, ap, ◌∙◌, subst, arith}
 use Rattle.std.specs.Prelude.{if◌then◌else◌}
-use Rattle.sync_model.specs.declared.misuse.Misuse.{Misuse}
+use Rattle.sync_types.specs.declared.misuse.Misuse.{Misuse}
 use Rattle.workload.specs.declared.turn.Turn.{Turn}
 use Rattle.workload.specs.declared.turn.Turn.TheVariants as items
 use Rattle.workload.specs.Plan.{Plan}
@@ -9,8 +9,8 @@ use Rattle.step_runner.specs.declared.step.Step.{Step}
 use Rattle.step_runner.specs.declared.step.Step.TheVariants as steps
 use Rattle.step_runner.specs.LeftToDo.{left_to_do}
 use Rattle.step_runner.specs.Outcomes.{is_misused}
-use Rattle.sync_model.specs.declared.outcome.Ending.{Ending}
-use Rattle.sync_model.specs.declared.outcome.Ending.TheVariants as endings
+use Rattle.sync_types.specs.declared.outcome.Ending.{Ending}
+use Rattle.sync_types.specs.declared.outcome.Ending.TheVariants as endings
 use Rattle.step_runner.specs.State.{State, start, with_moment, IsStateOf}
 use Rattle.step_runner.specs.Turns.{turn_of, item_of, with_event, and_then, items_of, round, has_ended}
 use Rattle.step_runner.specs.Computed.{behind_round, rounds_of, behind_schedule, whole_run}

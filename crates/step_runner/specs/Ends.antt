@@ -3,13 +3,13 @@ use Rattle.std.specs.Prelude.{ℕ, ◌+◌, List, [], ◌∷◌, ◌++◌, map}
 use Rattle.std.specs.Ordering.{nat_cmp}
 use Rattle.std.specs.Cmp.Lexicographic.{slice_cmp}
 use Rattle.std.specs.FinMap.{FinMap}
-use Rattle.sync_model.specs.declared.atomic_object.Number.{Number}
-use Rattle.sync_model.specs.declared.call.Reply.{Reply}
-use Rattle.sync_model.specs.declared.outcome.End.{End}
-use Rattle.sync_model.specs.declared.outcome.Report.{Report}
-use Rattle.sync_model.specs.Ends.{Contents}
-use Rattle.sync_model.specs.Ends as ends
-use Rattle.sync_model.specs.Outcome.{with_keys_renamed}
+use Rattle.sync_types.specs.declared.atomic_object.Number.{Number}
+use Rattle.sync_types.specs.declared.call.Reply.{Reply}
+use Rattle.sync_types.specs.declared.outcome.End.{End}
+use Rattle.sync_types.specs.declared.outcome.Report.{Report}
+use Rattle.sync_types.specs.Ends.{Contents}
+use Rattle.sync_types.specs.Ends as ends
+use Rattle.sync_types.specs.Outcome.{with_keys_renamed}
 use Rattle.workload.specs.Keys.{keys_in, key_number}
 use Rattle.workload.specs.Plan.{Plan}
 use Rattle.step_turns.specs.declared.object_state.ObjectState.{ObjectState}

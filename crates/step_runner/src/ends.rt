@@ -1,14 +1,14 @@
 //! What the objects hold when every script has ended.
 ghost use Rattle.std.specs.Prelude.{◌≡◌, ℕ, ◌++◌, map, IfOk, OnOk};
 ghost use Rattle.std.specs.List.{flat_map};
-ghost use Rattle.sync_model.specs.Ends.{number_end, pair_ends};
+ghost use Rattle.sync_types.specs.Ends.{number_end, pair_ends};
 ghost use Rattle.workload.specs.Keys.{keys_in, key_number};
 ghost use Rattle.step_runner.specs.Ends.{numbers_from, maps_from, ends_of};
 
 use crate::numbering::number_of;
 use std::alloc::{AllocError, Global};
 use step_turns::ObjectState;
-use sync_model::{ByName, End, Seq};
+use sync_types::{ByName, End, Seq};
 use workload::{Keys, Workload};
 
 /// Adds the number of each atomic, in order of declaration.

@@ -5,13 +5,13 @@ ghost use Rattle.std.specs.Str.{bytes_eq};
 ghost use Rattle.std.specs.Ordering.{nat_cmp};
 ghost use Rattle.std.specs.Cmp.Lexicographic.{slice_cmp};
 ghost use Rattle.std.specs.FinMap.{FinMap, contains_key};
-ghost use Rattle.sync_model.specs.declared.atomic_object.Number.{Number};
-ghost use Rattle.sync_model.specs.declared.call.Call.{Call};
-ghost use Rattle.sync_model.specs.declared.call.Operation.TheVariants as operations;
-ghost use Rattle.sync_model.specs.declared.misuse.Misuse.{Misuse};
-ghost use Rattle.sync_model.specs.declared.pool_call.PoolCall.{PoolCall};
-ghost use Rattle.sync_model.specs.SequentialAtomic as atomics;
-ghost use Rattle.sync_model.specs.SequentialAtomic.{is_of};
+ghost use Rattle.sync_types.specs.declared.atomic_object.Number.{Number};
+ghost use Rattle.sync_types.specs.declared.call.Call.{Call};
+ghost use Rattle.sync_types.specs.declared.call.Operation.TheVariants as operations;
+ghost use Rattle.sync_types.specs.declared.misuse.Misuse.{Misuse};
+ghost use Rattle.sync_types.specs.declared.pool_call.PoolCall.{PoolCall};
+ghost use Rattle.sync_types.specs.SequentialAtomic as atomics;
+ghost use Rattle.sync_types.specs.SequentialAtomic.{is_of};
 ghost use Rattle.mutex_core.specs.MutexMachine as mutex;
 ghost use Rattle.rw_core.specs.RwMachine as rw;
 ghost use Rattle.pool_core.specs.PoolMachine as pool;
@@ -29,11 +29,11 @@ ghost use Rattle.step_turns.specs.declared.object_state.ObjectState.TheVariants 
 ghost use Rattle.step_turns.specs.Completes.{takes_one_turn};
 ghost use Rattle.step_turns.specs.PlacedCalls.{is_placed};
 ghost use Rattle.step_turns.specs.Objects.{kind_of, IsMachineOf};
-ghost use Rattle.sync_model.specs.Outcome.{has_pairs_to};
+ghost use Rattle.sync_types.specs.Outcome.{has_pairs_to};
 ghost use Rattle.step_runner.specs.declared.step.Step.TheVariants as steps;
-ghost use Rattle.sync_model.specs.declared.outcome.Report.{Report};
-ghost use Rattle.sync_model.specs.declared.outcome.Outcome.{Outcome};
-ghost use Rattle.sync_model.specs.declared.outcome.Outcome.TheVariants as outcomes;
+ghost use Rattle.sync_types.specs.declared.outcome.Report.{Report};
+ghost use Rattle.sync_types.specs.declared.outcome.Outcome.{Outcome};
+ghost use Rattle.sync_types.specs.declared.outcome.Outcome.TheVariants as outcomes;
 ghost use Rattle.step_runner.specs.CallTurns.{advances, requeues, wakes, count_turns};
 ghost use Rattle.step_runner.specs.Ends.{ends_of};
 ghost use Rattle.step_runner.specs.LeftToDo.{left_to_do};
@@ -55,8 +55,8 @@ use step_turns::laws::{
     some_calls_take_one_turn, turns_keep_kinds_and_machines, turns_use_something_up,
     workers_stand_in_their_calls,
 };
-use sync_model::Name;
-use sync_model::laws::replies as form;
+use sync_types::Name;
+use sync_types::laws::replies as form;
 use workload::laws::keys_are_numbered_by_first_appearance;
 
 /// What is true of the state in which a run begins stays true with each turn, and so at every moment:

@@ -1,6 +1,6 @@
 //! The run of a workload by its schedule.
 ghost use Rattle.std.specs.Prelude.{◌≡◌, true, IfOk};
-ghost use Rattle.sync_model.specs.Outcome.{shows_to};
+ghost use Rattle.sync_types.specs.Outcome.{shows_to};
 ghost use Rattle.workload.specs.declared.limits.TheConstants.{MAX_KEYS};
 ghost use Rattle.workload.specs.Plan.{is_turn};
 ghost use Rattle.step_runner.specs.Forms.{has_forms};
@@ -17,7 +17,7 @@ use crate::step::Step;
 use crate::turn::{next_call, take_turn};
 use std::alloc::{AllocError, Global};
 use step_turns::laws::maps_keep_to_the_keys_of_calls;
-use sync_model::{Ending, Outcome, Report, Seq};
+use sync_types::{Ending, Outcome, Report, Seq};
 use workload::{Turn, Workload};
 
 /// Takes an item of the schedule. A moment sets the clock, which is no event.

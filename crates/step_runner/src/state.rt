@@ -9,7 +9,7 @@ use crate::step::Step;
 use std::alloc::{AllocError, Global};
 use std::marker::Model;
 use step_turns::{Answer, ObjectState};
-use sync_model::{Name, Reply, Seq};
+use sync_types::{Name, Reply, Seq};
 use workload::Workload;
 
 /// The clock's moment, the objects, and for each worker the replies to its calls so far.

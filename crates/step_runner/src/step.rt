@@ -1,5 +1,5 @@
 //! What turns come to.
-use sync_model::Misuse;
+use sync_types::Misuse;
 
 /// What a turn comes to, or several turns in order.
 #[derive(Clone, Copy, Debug, PartialEq, Eq)]

@@ -9,7 +9,7 @@ use crate::state::State;
 use crate::step::Step;
 use std::alloc::{AllocError, Global};
 use step_turns::{Taker, take_turn_at};
-use sync_model::Call;
+use sync_types::Call;
 use workload::Workload;
 
 /// The call before which a worker stands, unless its script has ended.

@@ -3,15 +3,15 @@ use Rattle.std.proofs.Common.{◌≡◌, ◌≢◌, ℕ, ℤ, ◌*◌, Bool, tru
 use Rattle.std.specs.Prelude.{◌==◌, slice_get, Result, Ok, Err}
 use Rattle.std.specs.Option.{option_map_or}
 use Rattle.std.proofs.lemmas.Bool.{eq-eqb, eqb-true}
-use Rattle.sync_model.specs.SequentialAtomic.{atomic_after}
-use Rattle.sync_model.specs.declared.atomic_object.AtomicCall.TheVariants.{Add}
-use Rattle.sync_model.specs.declared.atomic_object.Number.{Number}
-use Rattle.sync_model.specs.declared.atomic_object.Number.TheVariants.{Int64}
-use Rattle.sync_model.specs.declared.call.Call.{Call}
-use Rattle.sync_model.specs.declared.call.Operation.{Operation}
-use Rattle.sync_model.specs.declared.call.Operation.TheVariants as operations
-use Rattle.sync_model.specs.declared.pool_call.PoolCall.{PoolCall}
-use Rattle.sync_model.specs.declared.pool_call.PoolCall.TheVariants as pool_calls
+use Rattle.sync_types.specs.SequentialAtomic.{atomic_after}
+use Rattle.sync_types.specs.declared.atomic_object.AtomicCall.TheVariants.{Add}
+use Rattle.sync_types.specs.declared.atomic_object.Number.{Number}
+use Rattle.sync_types.specs.declared.atomic_object.Number.TheVariants.{Int64}
+use Rattle.sync_types.specs.declared.call.Call.{Call}
+use Rattle.sync_types.specs.declared.call.Operation.{Operation}
+use Rattle.sync_types.specs.declared.call.Operation.TheVariants as operations
+use Rattle.sync_types.specs.declared.pool_call.PoolCall.{PoolCall}
+use Rattle.sync_types.specs.declared.pool_call.PoolCall.TheVariants as pool_calls
 use Rattle.mutex_core.specs.MutexMachine as mutex
 use Rattle.rw_core.specs.RwMachine as rw
 use Rattle.rw_core.specs.declared.place.Place.{Place as RwPlace}

@@ -4,7 +4,7 @@ use Rattle.std.specs.Prelude.{ℤ, IsTrue, IsFalse, length, nat_lt}
 use Rattle.std.specs.List.{list_any}
 use Rattle.std.specs.Str.{bytes_eq}
 use Rattle.std.proofs.lemmas.Bool.{lt-ltb}
-use Rattle.sync_model.specs.declared.call.Call.{Call}
+use Rattle.sync_types.specs.declared.call.Call.{Call}
 use Rattle.mutex_core.specs.MutexMachine as mutex
 use Rattle.mutex_core.specs.Moves as mutex_moves
 use Rattle.mutex_core.specs.Standing as mutex_standing

@@ -2,11 +2,11 @@
 use Rattle.std.proofs.Common.{◌≡◌, ℕ, ◌<◌, Bool, true, List, [], ◌∷◌, refl, ap, ◌∙◌, subst}
 use Rattle.std.specs.Prelude.{if◌then◌else◌, ◌==◌}
 use Rattle.std.proofs.lemmas.Bool.{eq-eqb}
-use Rattle.sync_model.specs.declared.call.Reply.{Reply}
-use Rattle.sync_model.specs.declared.call.Reply.TheVariants as replies
-use Rattle.sync_model.specs.declared.lock_call.LockReply.{LockReply}
-use Rattle.sync_model.specs.declared.lock_call.MutexCall.{MutexCall}
-use Rattle.sync_model.specs.declared.lock_call.MutexCall.TheVariants as mutex_calls
+use Rattle.sync_types.specs.declared.call.Reply.{Reply}
+use Rattle.sync_types.specs.declared.call.Reply.TheVariants as replies
+use Rattle.sync_types.specs.declared.lock_call.LockReply.{LockReply}
+use Rattle.sync_types.specs.declared.lock_call.MutexCall.{MutexCall}
+use Rattle.sync_types.specs.declared.lock_call.MutexCall.TheVariants as mutex_calls
 use Rattle.mutex_core.specs.MutexMachine as mutex
 use Rattle.mutex_core.specs.Moves as mutex_moves
 use Rattle.mutex_core.specs.Standing as mutex_standing

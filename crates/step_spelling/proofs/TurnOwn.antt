@@ -3,19 +3,19 @@ use Rattle.std.proofs.Common.{◌≡◌, ℕ, ◌+◌, ◌<◌, true, false, Lis
 use Rattle.std.specs.Prelude.{ℤ, Ok, Err, Result}
 use Rattle.std.specs.FinMap.{entries}
 use Rattle.std.specs.Int.{w64, int_wrapping_add}
-use Rattle.sync_model.specs.SequentialAtomic.{atomic_reply}
-use Rattle.sync_model.specs.SequentialMap.{map_reply}
+use Rattle.sync_types.specs.SequentialAtomic.{atomic_reply}
+use Rattle.sync_types.specs.SequentialMap.{map_reply}
 use Rattle.sync_model.specs.declared.answer.Answer.TheVariants.{Done}
-use Rattle.sync_model.specs.declared.atomic_object.AtomicCall.TheVariants.{Add}
-use Rattle.sync_model.specs.declared.atomic_object.Number.{Number}
-use Rattle.sync_model.specs.declared.atomic_object.Number.TheVariants.{Int64}
-use Rattle.sync_model.specs.declared.call.Operation.{Operation}
-use Rattle.sync_model.specs.declared.call.Operation.TheVariants as operations
-use Rattle.sync_model.specs.declared.call.Reply.TheVariants as replies
-use Rattle.sync_model.specs.declared.once_call.DoReply.TheVariants as do_replies
-use Rattle.sync_model.specs.declared.wait_call.CondCall.{CondCall}
-use Rattle.sync_model.specs.declared.wait_call.CondCall.TheVariants as cond_calls
-use Rattle.sync_model.specs.declared.wait_call.WaitGroupCall.{WaitGroupCall}
+use Rattle.sync_types.specs.declared.atomic_object.AtomicCall.TheVariants.{Add}
+use Rattle.sync_types.specs.declared.atomic_object.Number.{Number}
+use Rattle.sync_types.specs.declared.atomic_object.Number.TheVariants.{Int64}
+use Rattle.sync_types.specs.declared.call.Operation.{Operation}
+use Rattle.sync_types.specs.declared.call.Operation.TheVariants as operations
+use Rattle.sync_types.specs.declared.call.Reply.TheVariants as replies
+use Rattle.sync_types.specs.declared.once_call.DoReply.TheVariants as do_replies
+use Rattle.sync_types.specs.declared.wait_call.CondCall.{CondCall}
+use Rattle.sync_types.specs.declared.wait_call.CondCall.TheVariants as cond_calls
+use Rattle.sync_types.specs.declared.wait_call.WaitGroupCall.{WaitGroupCall}
 use Rattle.mutex_core.specs.MutexMachine as mutex
 use Rattle.rw_core.specs.RwMachine as rw
 use Rattle.wait_cores.specs.NotifyMachine as notify

@@ -1,12 +1,12 @@
 -- An atomic keeps its type.
 use Rattle.std.proofs.Common.{◌≡◌, Bool, true, false, ◌&&◌, refl}
-use Rattle.sync_model.specs.declared.atomic_object.AtomicKind.{AtomicKind}
-use Rattle.sync_model.specs.declared.atomic_object.AtomicKind.TheVariants as kinds
-use Rattle.sync_model.specs.declared.atomic_object.Number.{Number}
-use Rattle.sync_model.specs.declared.atomic_object.Number.TheVariants.{Int32, Int64, Uint32, Uint64, Bool as Truth}
-use Rattle.sync_model.specs.declared.atomic_object.AtomicCall.{AtomicCall}
-use Rattle.sync_model.specs.declared.atomic_object.AtomicCall.TheVariants.{Load, Store, Swap, Add, And, Or, CompareAndSwap}
-use Rattle.sync_model.specs.SequentialAtomic.{kind_of, zero_of, sum, bits_of_both, bits_of_either, is_same, is_of, is_atomic_call, atomic_after}
+use Rattle.sync_types.specs.declared.atomic_object.AtomicKind.{AtomicKind}
+use Rattle.sync_types.specs.declared.atomic_object.AtomicKind.TheVariants as kinds
+use Rattle.sync_types.specs.declared.atomic_object.Number.{Number}
+use Rattle.sync_types.specs.declared.atomic_object.Number.TheVariants.{Int32, Int64, Uint32, Uint64, Bool as Truth}
+use Rattle.sync_types.specs.declared.atomic_object.AtomicCall.{AtomicCall}
+use Rattle.sync_types.specs.declared.atomic_object.AtomicCall.TheVariants.{Load, Store, Swap, Add, And, Or, CompareAndSwap}
+use Rattle.sync_types.specs.SequentialAtomic.{kind_of, zero_of, sum, bits_of_both, bits_of_either, is_same, is_of, is_atomic_call, atomic_after}
 use Rattle.std.specs.Prelude.{cond}
 
 pub zero_type : (kind : AtomicKind) → kind_of (zero_of kind) ≡ kind

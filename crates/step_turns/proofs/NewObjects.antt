@@ -9,7 +9,7 @@ use Rattle.pool_core.specs.PoolParts.{empty}
 use Rattle.wait_cores.specs.declared.group.GroupEvent.{GroupEvent}
 use Rattle.wait_cores.specs.declared.group.GroupEvent.TheVariants.{Add}
 use Rattle.wait_cores.specs.declared.group.GroupPlace.TheVariants.{Out}
-use Rattle.sync_model.specs.declared.atomic_object.AtomicKind.{AtomicKind}
+use Rattle.sync_types.specs.declared.atomic_object.AtomicKind.{AtomicKind}
 use Rattle.workload.specs.declared.object.ObjectKind.{ObjectKind}
 use Rattle.workload.specs.declared.object.ObjectKind.TheVariants as kinds
 use Rattle.step_turns.specs.Objects.{new_object, kind_of, IsMachineOf}

@@ -1,6 +1,6 @@
 -- That an atomic's number is in the range of its type.
 use Rattle.std.specs.Prelude.{◌≡◌, true}
-use Rattle.sync_model.specs.SequentialAtomic as atomics
+use Rattle.sync_types.specs.SequentialAtomic as atomics
 use Rattle.step_turns.specs.declared.object_state.ObjectState.{ObjectState}
 use Rattle.step_turns.specs.declared.object_state.ObjectState.TheVariants as states
 

@@ -8,8 +8,8 @@ use Rattle.wait_cores.specs.GroupMachine as group
 use Rattle.wait_cores.specs.OnceMachine as once
 use Rattle.pool_core.specs.PoolMachine as pool
 use Rattle.wait_cores.specs.declared.group.GroupEvent.TheVariants.{Add}
-use Rattle.sync_model.specs.SequentialAtomic.{zero_of}
-use Rattle.sync_model.specs.SequentialAtomic as atomics
+use Rattle.sync_types.specs.SequentialAtomic.{zero_of}
+use Rattle.sync_types.specs.SequentialAtomic as atomics
 use Rattle.workload.specs.declared.object.ObjectKind.{ObjectKind}
 use Rattle.workload.specs.declared.object.ObjectKind.TheVariants as kinds
 use Rattle.step_turns.specs.declared.object_state.ObjectState.{ObjectState}

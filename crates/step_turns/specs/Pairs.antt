@@ -1,6 +1,6 @@
 -- How many pairs a `range` shows.
 use Rattle.std.specs.Prelude.{◌≡◌, ℕ, true}
-use Rattle.sync_model.specs.Outcome.{has_pairs_to}
+use Rattle.sync_types.specs.Outcome.{has_pairs_to}
 use Rattle.step_turns.specs.declared.answer.Answer.{Answer}
 use Rattle.step_turns.specs.declared.answer.Answer.TheVariants as answers
 

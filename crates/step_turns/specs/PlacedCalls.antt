@@ -1,9 +1,9 @@
 -- Which calls are one placed call.
 use Rattle.std.specs.Prelude.{◌≡◌, ℕ, Bool, true, false, List, [], ◌∷◌}
-use Rattle.sync_model.specs.declared.call.Call.{Call}
-use Rattle.sync_model.specs.declared.call.Operation.{Operation}
-use Rattle.sync_model.specs.declared.call.Operation.TheVariants as operations
-use Rattle.sync_model.specs.declared.call.Reply.{Reply}
+use Rattle.sync_types.specs.declared.call.Call.{Call}
+use Rattle.sync_types.specs.declared.call.Operation.{Operation}
+use Rattle.sync_types.specs.declared.call.Operation.TheVariants as operations
+use Rattle.sync_types.specs.declared.call.Reply.{Reply}
 use Rattle.step_turns.specs.declared.answer.Answer.{Answer}
 use Rattle.step_turns.specs.declared.answer.Answer.TheVariants.{Completed}
 use Rattle.step_turns.specs.Items.{Item, placed}

@@ -1,7 +1,7 @@
 -- That a reply has the form of its call's replies.
 use Rattle.std.specs.Prelude.{◌≡◌, true}
-use Rattle.sync_model.specs.Replies.{is_reply_to}
-use Rattle.sync_model.specs.declared.call.Operation.{Operation}
+use Rattle.sync_types.specs.Replies.{is_reply_to}
+use Rattle.sync_types.specs.declared.call.Operation.{Operation}
 use Rattle.step_turns.specs.declared.answer.Answer.{Answer}
 use Rattle.step_turns.specs.declared.answer.Answer.TheVariants as answers
 

@@ -1,5 +1,5 @@
 //! What a turn means for a call.
-use sync_model::{Misuse, Name, Reply};
+use sync_types::{Misuse, Name, Reply};
 
 /// What a turn means for the call before which its worker stands.
 #[derive(Debug, Drop)]

@@ -9,7 +9,7 @@ use crate::answer::Answer;
 use mutex_core::Place as MutexPlace;
 use protocols::{CondStage, GroupStage, MutexStage, OnceStage, PoolStage, RwMutexStage};
 use rw_core::Place as RwPlace;
-use sync_model::{CondCall, LockReply, MutexCall, Reply, RwMutexCall, WaitGroupCall};
+use sync_types::{CondCall, LockReply, MutexCall, Reply, RwMutexCall, WaitGroupCall};
 use wait_cores::{GroupPlace, NotifyPlace, OncePlace};
 
 /// Of a call of a mutex: its first stage where the worker is out, and the going on where it was woken or

@@ -2,7 +2,7 @@
 ghost use Rattle.std.specs.Prelude.{◌≡◌, ◌<◌};
 ghost use Rattle.mutex_core.specs.MutexMachine as mutex_machine;
 ghost use Rattle.rw_core.specs.RwMachine as rw_machine;
-ghost use Rattle.sync_model.specs.declared.call.Operation.TheVariants as operations;
+ghost use Rattle.sync_types.specs.declared.call.Operation.TheVariants as operations;
 ghost use Rattle.step_turns.specs.declared.object_state.ObjectState.TheVariants as states;
 ghost use Rattle.step_turns.specs.Turns.{turn_on};
 
@@ -12,7 +12,7 @@ use crate::object_state::ObjectState;
 use crate::stages::{Taker, make};
 use mutex_core::MutexCore;
 use rw_core::RwCore;
-use sync_model::{MutexCall, RwMutexCall};
+use sync_types::{MutexCall, RwMutexCall};
 
 /// Takes a turn before a call of a mutex.
 pub(crate) fn take_mutex_turn(object: &mut ObjectState, call: MutexCall, taker: Taker) -> Answer

@@ -8,7 +8,7 @@ use mutex_core::MutexCore;
 use pool_core::PoolCore;
 use rw_core::RwCore;
 use std::alloc::{AllocError, Global};
-use sync_model::{ByName, Number};
+use sync_types::{ByName, Number};
 use wait_cores::{GroupCore, GroupEvent, NotifyCore, OnceCore};
 use workload::ObjectKind;
 

@@ -2,7 +2,7 @@
 //! `OnceValue`.
 ghost use Rattle.std.specs.Prelude.{◌≡◌, ℕ, ℤ, ◌<◌};
 ghost use Rattle.std.specs.Int.{w64, int_wrapping_add};
-ghost use Rattle.sync_model.specs.declared.call.Operation.TheVariants as operations;
+ghost use Rattle.sync_types.specs.declared.call.Operation.TheVariants as operations;
 ghost use Rattle.wait_cores.specs.OnceMachine as machine;
 ghost use Rattle.wait_cores.specs.OnceStanding.{runs_at};
 ghost use Rattle.step_turns.specs.Due.{failure};
@@ -14,7 +14,7 @@ use crate::due::once_due;
 use crate::object_state::ObjectState;
 use crate::stages::{Taker, make};
 use protocols::OnceOutcome;
-use sync_model::{DoReply, Number, Reply};
+use sync_types::{DoReply, Number, Reply};
 use wait_cores::OnceCore;
 
 /// Whether the worker runs the function.

@@ -1,8 +1,8 @@
 //! The turns of a worker that stands before a call of a map or of an atomic: the whole call.
 ghost use Rattle.std.specs.Prelude.{◌≡◌, true, IfOk};
-ghost use Rattle.sync_model.specs.SequentialAtomic.{is_atomic_call};
-ghost use Rattle.sync_model.specs.declared.atomic_object.AtomicKind.{AtomicKind};
-ghost use Rattle.sync_model.specs.declared.call.Operation.TheVariants as operations;
+ghost use Rattle.sync_types.specs.SequentialAtomic.{is_atomic_call};
+ghost use Rattle.sync_types.specs.declared.atomic_object.AtomicKind.{AtomicKind};
+ghost use Rattle.sync_types.specs.declared.call.Operation.TheVariants as operations;
 ghost use Rattle.workload.specs.declared.object.ObjectKind.TheVariants as kinds;
 ghost use Rattle.step_turns.specs.Objects.{kind_of};
 ghost use Rattle.step_turns.specs.Turns.{turn_on};
@@ -11,7 +11,7 @@ use crate::answer::Answer;
 use crate::object_state::ObjectState;
 use crate::stages::Taker;
 use std::alloc::{AllocError, Global};
-use sync_model::{AtomicCall, MapCall, Name, Reply, atomic_object, map_object};
+use sync_types::{AtomicCall, MapCall, Name, Reply, atomic_object, map_object};
 
 /// Makes a call on a map, which is completed in this turn.
 pub(crate) fn take_map_turn(

@@ -16,7 +16,7 @@ use crate::stages::Taker;
 use crate::wait_turn::{take_cond_turn, take_wait_group_turn};
 use std::alloc::{AllocError, Global};
 use std::mem;
-use sync_model::{Call, Number, Operation};
+use sync_types::{Call, Number, Operation};
 
 /// Takes a turn of a worker that stands before a call of this operation, at the call's object and by its
 /// kind, where that object refers to no other.

@@ -5,18 +5,18 @@ use Rattle.std.proofs.lemmas.Cmp.{nat_cmp_total}
 use Rattle.std.proofs.lemmas.List.{take-append-le, take_all, length-set, set-get_or}
 use Rattle.std.proofs.lemmas.Option.{none-some, same_Some}
 use Rattle.std.proofs.lemmas.Bool.{eqb-true, eq-eqb}
-use Rattle.sync_model.specs.declared.atomic_object.Number.{Number}
-use Rattle.sync_model.specs.declared.atomic_object.Number.TheVariants.{Bool as Truth}
-use Rattle.sync_model.specs.declared.atomic_object.AtomicCall.{AtomicCall}
-use Rattle.sync_model.specs.declared.atomic_object.AtomicCall.TheVariants.{Load, Store, Swap, Add, And, Or, CompareAndSwap}
+use Rattle.sync_types.specs.declared.atomic_object.Number.{Number}
+use Rattle.sync_types.specs.declared.atomic_object.Number.TheVariants.{Bool as Truth}
+use Rattle.sync_types.specs.declared.atomic_object.AtomicCall.{AtomicCall}
+use Rattle.sync_types.specs.declared.atomic_object.AtomicCall.TheVariants.{Load, Store, Swap, Add, And, Or, CompareAndSwap}
 use Rattle.sync_model.specs.declared.item.SharedCall.{SharedCall}
 use Rattle.sync_model.specs.declared.item.SharedCall.TheVariants.{Map, Begin, Next, Atomic}
 use Rattle.sync_model.specs.declared.item.SharedEntry.{SharedEntry}
 use Rattle.sync_model.specs.declared.item.Item.{Item}
-use Rattle.sync_model.specs.SequentialMap.{map_after}
-use Rattle.sync_model.specs.SequentialAtomic.{atomic_after, is_atomic_entry}
+use Rattle.sync_types.specs.SequentialMap.{map_after}
+use Rattle.sync_types.specs.SequentialAtomic.{atomic_after, is_atomic_entry}
 use Rattle.sync_model.specs.SharedHistory.{Contents, map_at, number_at, IsReply, is_entry, shared_after, contents_after, contents_at, IsLegal, entries_from, entries_by, entry_of, marked_in, with_call}
-use Rattle.sync_model.proofs.MapLemmas as on_maps
+use Rattle.sync_types.proofs.MapLemmas as on_maps
 
 module _ {A : Type 0} where
   -- an item of a list's first part is an item of the list

@@ -1,11 +1,6 @@
-pub mod ByNameLemmas
-pub mod MapLemmas
-mod RenamingLemmas
-pub mod AtomicLemmas
 mod CallersLemmas
 mod Logs
 mod Journals
-mod Names
 pub mod Histories
 pub mod SharedSteps
 pub mod SharedReads

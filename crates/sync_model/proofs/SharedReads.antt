@@ -9,26 +9,26 @@ use Rattle.std.proofs.lemmas.List.{get_or-set_same, get_or-set_other, get_or_pas
 use Rattle.std.proofs.lemmas.Option.{slice_get-map, get_or_from_slice_get}
 use Rattle.std.proofs.lemmas.List.Elements.{All-head, All-tail}
 use Rattle.std.proofs.Math.Seq.{take-append_seam}
-use Rattle.sync_model.specs.declared.atomic_object.AtomicKind.{AtomicKind}
-use Rattle.sync_model.specs.declared.atomic_object.Number.{Number}
-use Rattle.sync_model.specs.declared.atomic_object.Number.TheVariants.{Bool as Truth}
-use Rattle.sync_model.specs.declared.map_object.MapCall.{MapCall}
+use Rattle.sync_types.specs.declared.atomic_object.AtomicKind.{AtomicKind}
+use Rattle.sync_types.specs.declared.atomic_object.Number.{Number}
+use Rattle.sync_types.specs.declared.atomic_object.Number.TheVariants.{Bool as Truth}
+use Rattle.sync_types.specs.declared.map_object.MapCall.{MapCall}
 use Rattle.sync_model.specs.declared.item.SharedCall.{SharedCall}
 use Rattle.sync_model.specs.declared.item.SharedCall.TheVariants.{Map, Begin, Next, Atomic}
 use Rattle.sync_model.specs.declared.item.SharedReply.TheVariants as replies
 use Rattle.sync_model.specs.declared.item.SharedEntry.{SharedEntry}
 use Rattle.sync_model.specs.declared.item.Item.{Item}
-use Rattle.sync_model.specs.declared.map_object.MapCall.TheVariants as maps
-use Rattle.sync_model.specs.declared.map_object.MapReply.TheVariants.{Found}
-use Rattle.sync_model.specs.declared.atomic_object.AtomicCall.TheVariants as atomics
-use Rattle.sync_model.specs.declared.atomic_object.AtomicReply.TheVariants.{Held}
-use Rattle.sync_model.specs.MapLaws.{IsKeyOrder}
-use Rattle.sync_model.specs.SequentialMap.{map_key, map_after}
-use Rattle.sync_model.specs.SequentialAtomic.{zero_of, atomic_after}
+use Rattle.sync_types.specs.declared.map_object.MapCall.TheVariants as maps
+use Rattle.sync_types.specs.declared.map_object.MapReply.TheVariants.{Found}
+use Rattle.sync_types.specs.declared.atomic_object.AtomicCall.TheVariants as atomics
+use Rattle.sync_types.specs.declared.atomic_object.AtomicReply.TheVariants.{Held}
+use Rattle.sync_types.specs.MapLaws.{IsKeyOrder}
+use Rattle.sync_types.specs.SequentialMap.{map_key, map_after}
+use Rattle.sync_types.specs.SequentialAtomic.{zero_of, atomic_after}
 use Rattle.sync_model.specs.SharedHistory.{Contents, first_contents, map_at, number_at, value_at, shared_after, contents_after, contents_at, IsReply}
 use Rattle.sync_model.specs.SharedCalls.{Lawful}
 use Rattle.sync_model.specs.SharedLaws.{is_on_key, is_on_atomic, LeaveKey, LeaveAtomic}
-use Rattle.sync_model.proofs.MapLemmas.{get_inserted, get_apart}
+use Rattle.sync_types.proofs.MapLemmas.{get_inserted, get_apart}
 use Rattle.sync_model.proofs.Histories.{maps_long, numbers_long, contents_both}
 
 ordered : IsKeyOrder nat_cmp

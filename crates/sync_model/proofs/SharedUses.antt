@@ -7,9 +7,9 @@ use Rattle.sync_model.specs.declared.item.SharedReply.{SharedReply}
 use Rattle.sync_model.specs.declared.item.SharedReply.TheVariants as replies
 use Rattle.sync_model.specs.declared.item.SharedEntry.{SharedEntry}
 use Rattle.sync_model.specs.declared.item.Item.{Item}
-use Rattle.sync_model.specs.declared.map_object.MapCall.TheVariants.{Load, Store}
-use Rattle.sync_model.specs.declared.map_object.MapReply.{MapReply}
-use Rattle.sync_model.specs.declared.map_object.MapReply.TheVariants.{Found}
+use Rattle.sync_types.specs.declared.map_object.MapCall.TheVariants.{Load, Store}
+use Rattle.sync_types.specs.declared.map_object.MapReply.{MapReply}
+use Rattle.sync_types.specs.declared.map_object.MapReply.TheVariants.{Found}
 use Rattle.sync_model.specs.Note.{Holding}
 use Rattle.sync_model.specs.SharedHistory.{Contents, value_at, shared_after, contents_after, contents_at, entry_of, marked_in}
 use Rattle.sync_model.specs.SharedCalls.{bound}

@@ -1,7 +1,7 @@
 //! What a call on a shared object answers.
 ghost use Rattle.std.specs.Prelude.{◌≡◌};
 
-use crate::misuse::Misuse;
+use sync_types::Misuse;
 
 /// The answer of a call on an object that may have been halted.
 #[derive(Clone, Copy, Debug, PartialEq, Eq)]

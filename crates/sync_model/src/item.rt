@@ -1,7 +1,6 @@
 //! The calls on shared maps and atomics, as their history and a caller's own list have them. Both stand in proofs alone.
-use crate::atomic_object::{AtomicCall, AtomicReply};
-use crate::map_object::{MapCall, MapReply};
 use std::collections::LinkedList;
+use sync_types::{AtomicCall, AtomicReply, MapCall, MapReply};
 
 /// A shared call: a call on a map, whose keys are numbers, a step of a cursor over one, or a call on an atomic.
 #[derive(Clone, Copy, Debug)]

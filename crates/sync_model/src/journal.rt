@@ -1,7 +1,7 @@
 //! The journal of a shared object: what was done on it, in its one order. It stands in proofs alone: no value of
 //! these types but a `Deed` is made.
-use crate::misuse::Misuse;
 use std::collections::LinkedList;
+use sync_types::Misuse;
 
 /// What one entry of a journal did.
 #[derive(Clone, Copy, Debug)]

@@ -1,7 +1,7 @@
 //! Maps and atomics that callers share.
 ghost use Rattle.std.specs.Prelude.{◌≡◌, ◌≢◌, ℕ, ◌<◌, ◌≤◌, List, [], ◌∷◌, ◌++◌, length};
 ghost use Rattle.std.specs.Option.{ForSome};
-ghost use Rattle.sync_model.specs.declared.atomic_object.AtomicKind.{AtomicKind};
+ghost use Rattle.sync_types.specs.declared.atomic_object.AtomicKind.{AtomicKind};
 ghost use Rattle.sync_model.specs.declared.item.SharedEntry.{SharedEntry};
 ghost use Rattle.sync_model.specs.declared.item.SharedCall.TheVariants.{Next};
 ghost use Rattle.sync_model.specs.declared.item.Item.{Item};
@@ -9,12 +9,11 @@ ghost use Rattle.sync_model.specs.Note.{SameHome};
 ghost use Rattle.sync_model.specs.SharedHistory.{first_contents};
 ghost use Rattle.sync_model.specs.Shared.{IsMapCall, IsAtomicCall, cost_of, Called, IsCallerAt, AreAllCallers, state_of, SameCalls, Settled};
 
-use crate::atomic_object::{AtomicCall, AtomicReply};
 use crate::caller::{Caller, CallerNote};
 use crate::item::{SharedCall, SharedReply};
-use crate::map_object::{MapCall, MapReply};
 use crate::note::Note;
 use std::sync::Wait;
+use sync_types::{AtomicCall, AtomicReply, MapCall, MapReply};
 
 /// Maps and typed atomics that callers share. All calls that set one of them are entries of one history, and each call
 /// has a place in it, at which it answers what the objects for one thread answer. So the calls are linearizable, and

@@ -3,9 +3,9 @@ use Rattle.std.specs.Prelude.{ℕ, List, ◌++◌, map, Option, zip, filter_map,
 use Rattle.std.specs.Option.{option_map}
 use Rattle.std.specs.Ordering.{nat_cmp}
 use Rattle.std.specs.FinMap.{FinMap, get}
-use Rattle.sync_model.specs.declared.outcome.End.{End}
-use Rattle.sync_model.specs.declared.outcome.End.TheVariants as ends
-use Rattle.sync_model.specs.Ends.{number_end}
+use Rattle.sync_types.specs.declared.outcome.End.{End}
+use Rattle.sync_types.specs.declared.outcome.End.TheVariants as ends
+use Rattle.sync_types.specs.Ends.{number_end}
 use Rattle.sync_model.specs.SharedHistory.{Contents}
 
 -- the end that a key of a map is, if the map has it; the map's object has this place

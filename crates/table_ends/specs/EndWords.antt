@@ -3,10 +3,10 @@ use Rattle.std.specs.Prelude.{◌≡◌, ℕ, ◌^◌, ◌<◌, true, List, leng
 use Rattle.std.specs.List.{enumerate_from, range_with_len}
 use Rattle.std.specs.Ordering.{nat_cmp}
 use Rattle.std.specs.FinMap.{FinMap, from_entries}
-use Rattle.sync_model.specs.declared.atomic_object.AtomicKind.{AtomicKind}
-use Rattle.sync_model.specs.declared.atomic_object.Number.{Number}
+use Rattle.sync_types.specs.declared.atomic_object.AtomicKind.{AtomicKind}
+use Rattle.sync_types.specs.declared.atomic_object.Number.{Number}
 use Rattle.sync_model.specs.SharedHistory.{Contents}
-use Rattle.sync_model.specs.WordLayout.{is_word, number_in}
+use Rattle.sync_types.specs.WordLayout.{is_word, number_in}
 use Rattle.trie_nodes.specs.Layout.{atomic_word, root_word}
 use Rattle.trie_nodes.specs.Nodes.{stands_for}
 use Rattle.trie_nodes.specs.Walks.{pairs_within, ArePairsOf}

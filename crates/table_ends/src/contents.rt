@@ -9,7 +9,7 @@ use crate::ended::TableEnds;
 use atomic_table::Closed;
 use go_atomic::of_word;
 use std::alloc::Global;
-use sync_model::{AtomicKind, Number, Seq};
+use sync_types::{AtomicKind, Number, Seq};
 
 impl TableEnds {
     /// A table's words, which stand for atomics of these types and for so many maps, whose keys are hashed with the seed.

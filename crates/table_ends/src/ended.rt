@@ -5,7 +5,7 @@ ghost use Rattle.table_ends.specs.EndWords.{IsTableRow};
 
 use atomic_table::Closed;
 use std::alloc::Global;
-use sync_model::{AtomicKind, Seq};
+use sync_types::{AtomicKind, Seq};
 
 /// What the maps and atomics of a table contain when all calls have returned.
 pub struct TableEnds {

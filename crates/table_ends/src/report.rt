@@ -1,12 +1,12 @@
 //! The list of ends that a report shows.
 ghost use Rattle.std.specs.Prelude.{◌≡◌, ◌+◌, ◌*◌, ◌<◌, ◌≤◌, ◌++◌, length, map, zip, flat_map, vec_len, vec_capacity};
-ghost use Rattle.sync_model.specs.Ends.{number_end};
+ghost use Rattle.sync_types.specs.Ends.{number_end};
 ghost use Rattle.sync_model.specs.SharedHistory.{map_at};
 ghost use Rattle.table_ends.specs.EndContents.{contents_of};
 ghost use Rattle.table_ends.specs.EndLists.{ends_by, pair_ends_by};
 
 use crate::ended::TableEnds;
-use sync_model::End;
+use sync_types::End;
 
 impl TableEnds {
     /// Adds what a report shows of the atomics and the maps to a list that has room for it: first each atomic's number, and

@@ -7,15 +7,15 @@ use Rattle.std.proofs.lemmas.Bool.{and_parts, leb-true, false≢true}
 use Rattle.std.proofs.lemmas.List.Folds.{list_any-append}
 use Rattle.std.proofs.lemmas.Option.{slice_get_within, none-some, same_Some}
 use Rattle.std.proofs.lemmas.Slice.Eq.{bytes_eq-Decides}
-use Rattle.sync_model.specs.declared.call.Call.{Call}
-use Rattle.sync_model.specs.declared.call.Operation.{Operation}
-use Rattle.sync_model.specs.declared.call.Operation.TheVariants as operations
-use Rattle.sync_model.specs.declared.map_object.MapCall.{MapCall}
-use Rattle.sync_model.specs.declared.map_object.MapCall.TheVariants.{Load, Store, LoadOrStore, LoadAndDelete, Delete, Swap, CompareAndSwap, CompareAndDelete, Clear}
-use Rattle.sync_model.specs.declared.value.TheConstants.{MAX_VALUE}
-use Rattle.sync_model.specs.Name.{is_name}
-use Rattle.sync_model.specs.Renaming.{renamed_call}
-use Rattle.sync_model.specs.SequentialMap.{map_key}
+use Rattle.sync_types.specs.declared.call.Call.{Call}
+use Rattle.sync_types.specs.declared.call.Operation.{Operation}
+use Rattle.sync_types.specs.declared.call.Operation.TheVariants as operations
+use Rattle.sync_types.specs.declared.map_object.MapCall.{MapCall}
+use Rattle.sync_types.specs.declared.map_object.MapCall.TheVariants.{Load, Store, LoadOrStore, LoadAndDelete, Delete, Swap, CompareAndSwap, CompareAndDelete, Clear}
+use Rattle.sync_types.specs.declared.value.TheConstants.{MAX_VALUE}
+use Rattle.sync_types.specs.Name.{is_name}
+use Rattle.sync_types.specs.Renaming.{renamed_call}
+use Rattle.sync_types.specs.SequentialMap.{map_key}
 use Rattle.sync_model.specs.Shared.{IsMapCall, values_of}
 use Rattle.workload.specs.declared.object.ObjectLine.{ObjectLine}
 use Rattle.workload.specs.CallWords.{map_values}

@@ -1,9 +1,9 @@
 //! Calls on maps, with the numbers of their keys.
 ghost use Rattle.std.specs.Prelude.{◌≡◌};
-ghost use Rattle.sync_model.specs.Renaming.{renamed_call};
+ghost use Rattle.sync_types.specs.Renaming.{renamed_call};
 ghost use Rattle.workload.specs.Keys.{key_number};
 
-use sync_model::{MapCall, Name};
+use sync_types::{MapCall, Name};
 use workload::Keys;
 
 // The number of a key, or 0 for a name that is none.

@@ -5,7 +5,7 @@ use Rattle.std.proofs.lemmas.Option.{slice_get_within, slice_get_cases, slice_ge
 use Rattle.sync_model.specs.declared.journal.Deed.{Deed}
 use Rattle.sync_model.specs.declared.journal.Deed.TheVariants.{Event, Refused, Halt}
 use Rattle.sync_model.specs.declared.journal.Entry.{Entry}
-use Rattle.sync_model.specs.declared.misuse.Misuse.{Misuse}
+use Rattle.sync_types.specs.declared.misuse.Misuse.{Misuse}
 use Rattle.sync_model.specs.Journal.{by, halt_next, halt_after, halt_of, Follows}
 use Rattle.ruled_object.specs.declared.object.Object.{Object}
 use Rattle.ruled_object.specs.declared.pass.Pass.{Pass}

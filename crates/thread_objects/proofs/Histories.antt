@@ -1,6 +1,6 @@
 -- The journal of an object whose kind is known.
 use Rattle.std.proofs.Common.{◌≡◌, List, Option, sym, subst}
-use Rattle.sync_model.specs.declared.misuse.Misuse.{Misuse}
+use Rattle.sync_types.specs.declared.misuse.Misuse.{Misuse}
 use Rattle.sync_model.specs.Journal.{halt_of}
 use Rattle.run_record.specs.Record.{ObjectEntry}
 use Rattle.thread_objects.specs.declared.column.AnyColumn.{AnyColumn}

@@ -5,7 +5,7 @@ use Rattle.std.proofs.lemmas.List.Elements.{All-nil, All-same, All-push}
 use Rattle.std.proofs.lemmas.Option.{slice_get_cases}
 use Rattle.sync_model.specs.declared.journal.Deed.TheVariants.{Halt}
 use Rattle.sync_model.specs.declared.journal.Entry.{Entry}
-use Rattle.sync_model.specs.declared.misuse.Misuse.{Misuse}
+use Rattle.sync_types.specs.declared.misuse.Misuse.{Misuse}
 use Rattle.sync_model.specs.Journal.{by}
 use Rattle.ruled_object.specs.declared.object.Object.{Object}
 use Rattle.ruled_object.specs.declared.pass.Pass.{Pass}

@@ -9,7 +9,8 @@ use crate::column::AnyColumn;
 use crate::crew::Crew;
 use crate::object::AnyObject;
 use crate::seated::first_of;
-use sync_model::{Misuse, Note};
+use sync_model::Note;
+use sync_types::Misuse;
 
 /// The misuse by which an object of whatever kind was halted first, and `None` exactly where it wasn't halted. It takes the
 /// passes of all workers, and adds no entry. A map and an atomic have no journal.

@@ -9,7 +9,8 @@ use crate::column::AnyColumn;
 use crate::crew::Crew;
 use crate::first_halt::first_halt;
 use crate::object::AnyObject;
-use sync_model::{Misuse, Note};
+use sync_model::Note;
+use sync_types::Misuse;
 use workload::Workload;
 
 /// The misuse by which the run was ended: that of the first halt of Stop, and `None` exactly where Stop wasn't halted. It takes

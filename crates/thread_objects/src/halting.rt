@@ -14,7 +14,8 @@ use protocols::Protocol;
 use ruled_object::{Object, PassOf};
 use running::halt;
 use std::sync::Wait;
-use sync_model::{Misuse, Note};
+use sync_model::Note;
+use sync_types::Misuse;
 use sync_outside::Clock;
 
 // Halts an object of one kind.

@@ -18,7 +18,8 @@ use crate::crew::Crew;
 use protocols::Protocol;
 use ruled_object::{Object, PassOf};
 use std::alloc::{AllocError, Global};
-use sync_model::{Misuse, Note};
+use sync_model::Note;
+use sync_types::Misuse;
 
 /// An object that begins in this state, and a pass of each worker. The workers make one long call each, as passes count calls,
 /// so these are good for none more. No other call takes memory.

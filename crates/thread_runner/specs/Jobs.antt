@@ -1,9 +1,9 @@
 -- A worker before its script, and what it leaves behind it.
 use Rattle.std.specs.Prelude.{◌≡◌, ℕ, ◌^◌, ◌<◌, ◌≤◌, ◌⊎◌, List, [], length, get_or, All, Option}
 use Rattle.std.specs.Option.{ForSome}
-use Rattle.sync_model.specs.declared.call.Reply.{Reply}
+use Rattle.sync_types.specs.declared.call.Reply.{Reply}
 use Rattle.sync_model.specs.declared.caller.Caller.{Caller}
-use Rattle.sync_model.specs.BoundedSeq.{Bounded}
+use Rattle.sync_types.specs.BoundedSeq.{Bounded}
 use Rattle.sync_model.specs.Note.{Holding}
 use Rattle.sync_model.specs.Shared.{IsHeldBy, items_of}
 use Rattle.workload.specs.Keys.{keys_in}

@@ -5,7 +5,7 @@ ghost use Rattle.run_record.specs.Objects.{is_map, is_atomic, places_from, types
 ghost use Rattle.thread_calls.specs.Sites.{cost_of_call, cost_of_calls};
 
 use std::alloc::{AllocError, Global};
-use sync_model::{AtomicKind, Call, MapCall, Operation};
+use sync_types::{AtomicKind, Call, MapCall, Operation};
 use workload::{ObjectKind, Workload};
 
 // Whether an object of this kind is a map.

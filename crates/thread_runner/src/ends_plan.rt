@@ -11,7 +11,7 @@ use crate::key_order::key_order;
 use shared_plain::PlainState;
 use shared_plain::laws::ends_are_in_name_order;
 use std::alloc::{AllocError, Global};
-use sync_model::{End, Seq};
+use sync_types::{End, Seq};
 use workload::Workload;
 
 /// What the list of ends takes, which is made before the first start.

@@ -3,7 +3,8 @@ ghost use Rattle.std.specs.Prelude.{◌≡◌, ◌≤◌, length, map, IfOk, vec
 
 use crate::job::Gone;
 use std::alloc::{AllocError, Global};
-use sync_model::{BoundedSeq, Caller, Reply, Seq};
+use sync_model::Caller;
+use sync_types::{BoundedSeq, Reply, Seq};
 use thread_objects::AnyPass;
 
 /// What the workers leave, in order of number.

@@ -6,7 +6,8 @@ ghost use Rattle.thread_calls.specs.Sites.{AreRooms, ranges_in_calls};
 
 use crate::job::Job;
 use std::alloc::{AllocError, Global};
-use sync_model::{BoundedSeq, Call, Caller, Operation, Shared};
+use sync_model::{Caller, Shared};
+use sync_types::{BoundedSeq, Call, Operation};
 use sync_outside::{At, Clock, Gate};
 use thread_calls::Site;
 use thread_objects::{AnyObject, AnyPass, Worker};

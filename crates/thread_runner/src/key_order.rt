@@ -6,7 +6,7 @@ ghost use Rattle.shared_plain.specs.EndLists.{AreInNameOrder};
 
 use shared_plain::laws::numbers_by_name_are_in_name_order;
 use std::alloc::{AllocError, Global};
-use sync_model::{ByName, Name, Seq};
+use sync_types::{ByName, Name, Seq};
 use workload::Workload;
 use workload::laws::keys_are_numbered_by_first_appearance;
 

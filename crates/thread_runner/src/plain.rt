@@ -13,7 +13,8 @@ use crate::ends_plan::EndsPlan;
 use shared_plain::{EndsRoom, Mark, Plain};
 use std::alloc::{AllocError, Global};
 use sync_model::laws::shared::the_calls_determine_the_history;
-use sync_model::{Caller, Outcome, Report};
+use sync_model::Caller;
+use sync_types::{Outcome, Report};
 use workload::Workload;
 use workload::laws::keys_are_numbered_by_first_appearance;
 

@@ -13,7 +13,7 @@ use shared_plain::EndsRoom;
 use std::alloc::Global;
 use std::sync::Wait;
 use std::thread::Threads;
-use sync_model::Outcome;
+use sync_types::Outcome;
 use sync_outside::{Clock, Gate, Spawner};
 use workload::Workload;
 

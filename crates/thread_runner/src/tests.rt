@@ -3,7 +3,7 @@ use std::alloc::{AllocError, Global};
 use std::sync::Wait;
 use std::test::Fail;
 use std::thread::Threads;
-use sync_model::{Outcome, Report};
+use sync_types::{Outcome, Report};
 use sync_outside::{
     Clock, Gate, HoldGate, MemClock, OpenGate, RefuseStart, Spawner, SystemClock, ThreadSpawner,
 };

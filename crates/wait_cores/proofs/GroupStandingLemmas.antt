@@ -8,7 +8,7 @@ use Rattle.wait_cores.specs.declared.group.GroupEvent.{GroupEvent}
 use Rattle.wait_cores.specs.declared.group.GroupEvent.TheVariants.{Add, Wait, Leave}
 use Rattle.wait_cores.specs.declared.group.GroupReply.{GroupReply}
 use Rattle.wait_cores.specs.declared.group.GroupReply.TheVariants.{Done, Queued, Misused, Still}
-use Rattle.sync_model.specs.declared.misuse.Misuse.TheVariants.{WaitGroupReused}
+use Rattle.sync_types.specs.declared.misuse.Misuse.TheVariants.{WaitGroupReused}
 use Rattle.wait_cores.specs.declared.group.GroupPlace.{GroupPlace}
 use Rattle.wait_cores.specs.declared.group.GroupPlace.TheVariants.{Out, Waiting, Released}
 use Rattle.wait_cores.specs.GroupMachine.{GroupState, start, next, is_reused, released, made, added, within, wait_from, leave_from, callers_of, place_of}

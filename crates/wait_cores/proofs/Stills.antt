@@ -2,7 +2,7 @@
 use Rattle.std.proofs.Common.{◌≡◌, ℕ, pos, ◌+ℤ◌, Bool, true, false, cond, ◌&&◌, ◌==◌, Option, Some, None, refl, sym}
 use Rattle.std.specs.Prelude.{nat_lt, if◌then◌else◌, slice_get}
 use Rattle.std.proofs.lemmas.Bool.{false≢true}
-use Rattle.sync_model.specs.declared.misuse.Misuse.TheVariants.{WaitGroupReused}
+use Rattle.sync_types.specs.declared.misuse.Misuse.TheVariants.{WaitGroupReused}
 use Rattle.wait_cores.specs.declared.group.GroupEvent.{GroupEvent}
 use Rattle.wait_cores.specs.declared.group.GroupEvent.TheVariants as group_event
 use Rattle.wait_cores.specs.declared.group.GroupReply.{GroupReply}

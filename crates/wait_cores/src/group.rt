@@ -6,7 +6,8 @@ ghost use Rattle.wait_cores.specs.GroupMachine.{start, next, callers_of, place_o
 
 use std::alloc::{AllocError, Global};
 use std::marker::Model;
-use sync_model::{Callers, Machine, Misuse};
+use sync_model::{Callers, Machine};
+use sync_types::Misuse;
 
 /// The highest counter, 2^31 - 1.
 pub const MAX_COUNTER: u32 = 2147483647;

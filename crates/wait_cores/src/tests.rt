@@ -3,7 +3,8 @@ use crate::group::{GroupCore, GroupEvent, GroupReply};
 use crate::notify::{NotifyCore, NotifyEvent, NotifyReply};
 use crate::once::{OnceCore, OnceEvent, OnceReply};
 use std::test::Fail;
-use sync_model::{Machine, Misuse};
+use sync_model::Machine;
+use sync_types::Misuse;
 
 #[test]
 fn notifies_in_order(rt: HostRuntime) -> Result<(), Fail> {

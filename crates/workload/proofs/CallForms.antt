@@ -5,29 +5,29 @@ use Rattle.std.specs.List.{list_all}
 use Rattle.std.specs.Option.{option_to_list}
 use Rattle.std.specs.Fmt.{decimal}
 use Rattle.std.proofs.lemmas.Bool.{leb-true}
-use Rattle.sync_model.specs.Name.{is_name}
-use Rattle.sync_model.specs.declared.call.Operation.{Operation}
-use Rattle.sync_model.specs.declared.call.Operation.TheVariants as operations
-use Rattle.sync_model.specs.declared.map_object.MapCall.{MapCall}
-use Rattle.sync_model.specs.declared.map_object.MapCall.TheVariants as map_calls
-use Rattle.sync_model.specs.declared.atomic_object.AtomicKind.{AtomicKind}
-use Rattle.sync_model.specs.declared.atomic_object.AtomicKind.TheVariants as types
-use Rattle.sync_model.specs.declared.atomic_object.Number.{Number}
-use Rattle.sync_model.specs.declared.atomic_object.AtomicCall.{AtomicCall}
-use Rattle.sync_model.specs.declared.atomic_object.AtomicCall.TheVariants as atomic_calls
-use Rattle.sync_model.specs.declared.wait_call.CondCall.{CondCall}
-use Rattle.sync_model.specs.declared.wait_call.CondCall.TheVariants as cond_calls
-use Rattle.sync_model.specs.declared.wait_call.WaitGroupCall.{WaitGroupCall}
-use Rattle.sync_model.specs.declared.wait_call.WaitGroupCall.TheVariants as group_calls
-use Rattle.sync_model.specs.declared.pool_call.PoolCall.{PoolCall}
-use Rattle.sync_model.specs.declared.pool_call.PoolCall.TheVariants as pool_calls
-use Rattle.sync_model.specs.declared.lock_call.MutexCall.{MutexCall}
-use Rattle.sync_model.specs.declared.lock_call.MutexCall.TheVariants as mutex_calls
-use Rattle.sync_model.specs.declared.lock_call.RwMutexCall.{RwMutexCall}
-use Rattle.sync_model.specs.declared.lock_call.RwMutexCall.TheVariants as rw_mutex_calls
-use Rattle.sync_model.specs.SequentialMap.{map_key}
-use Rattle.sync_model.specs.SequentialAtomic.{has_bits, is_of, is_atomic_call}
-use Rattle.sync_model.specs.declared.value.TheConstants.{MAX_VALUE}
+use Rattle.sync_types.specs.Name.{is_name}
+use Rattle.sync_types.specs.declared.call.Operation.{Operation}
+use Rattle.sync_types.specs.declared.call.Operation.TheVariants as operations
+use Rattle.sync_types.specs.declared.map_object.MapCall.{MapCall}
+use Rattle.sync_types.specs.declared.map_object.MapCall.TheVariants as map_calls
+use Rattle.sync_types.specs.declared.atomic_object.AtomicKind.{AtomicKind}
+use Rattle.sync_types.specs.declared.atomic_object.AtomicKind.TheVariants as types
+use Rattle.sync_types.specs.declared.atomic_object.Number.{Number}
+use Rattle.sync_types.specs.declared.atomic_object.AtomicCall.{AtomicCall}
+use Rattle.sync_types.specs.declared.atomic_object.AtomicCall.TheVariants as atomic_calls
+use Rattle.sync_types.specs.declared.wait_call.CondCall.{CondCall}
+use Rattle.sync_types.specs.declared.wait_call.CondCall.TheVariants as cond_calls
+use Rattle.sync_types.specs.declared.wait_call.WaitGroupCall.{WaitGroupCall}
+use Rattle.sync_types.specs.declared.wait_call.WaitGroupCall.TheVariants as group_calls
+use Rattle.sync_types.specs.declared.pool_call.PoolCall.{PoolCall}
+use Rattle.sync_types.specs.declared.pool_call.PoolCall.TheVariants as pool_calls
+use Rattle.sync_types.specs.declared.lock_call.MutexCall.{MutexCall}
+use Rattle.sync_types.specs.declared.lock_call.MutexCall.TheVariants as mutex_calls
+use Rattle.sync_types.specs.declared.lock_call.RwMutexCall.{RwMutexCall}
+use Rattle.sync_types.specs.declared.lock_call.RwMutexCall.TheVariants as rw_mutex_calls
+use Rattle.sync_types.specs.SequentialMap.{map_key}
+use Rattle.sync_types.specs.SequentialAtomic.{has_bits, is_of, is_atomic_call}
+use Rattle.sync_types.specs.declared.value.TheConstants.{MAX_VALUE}
 use Rattle.workload.specs.declared.object.ObjectKind.{ObjectKind}
 use Rattle.workload.specs.declared.object.ObjectKind.TheVariants as kinds
 use Rattle.workload.specs.Plan.{word_of, has_call}

@@ -11,9 +11,9 @@ use Rattle.std.proofs.lemmas.Bool.{eq-eqb, lt-ltb, le-leb, ltb-true}
 use Rattle.std.proofs.lemmas.List.{append-nil, length-append, length-map, length-take, length-drop, take-append-drop}
 use Rattle.std.proofs.lemmas.List.Folds.{list_any-append, list_all-append}
 use Rattle.std.proofs.lemmas.Slice.Eq.{bytes_eq-Decides}
-use Rattle.sync_model.specs.Name.{is_name}
-use Rattle.sync_model.specs.declared.call.Call.{Call}
-use Rattle.sync_model.specs.declared.atomic_object.AtomicKind.TheVariants as types
+use Rattle.sync_types.specs.Name.{is_name}
+use Rattle.sync_types.specs.declared.call.Call.{Call}
+use Rattle.sync_types.specs.declared.atomic_object.AtomicKind.TheVariants as types
 use Rattle.workload.specs.declared.limits.TheConstants.{MAX_CALLS, MAX_KEYS, MAX_RANGES, MAX_TURNS}
 use Rattle.workload.specs.declared.object.Declared.{Declared}
 use Rattle.workload.specs.declared.object.ObjectKind.{ObjectKind}

@@ -2,24 +2,24 @@
 use Rattle.std.specs.Prelude.{ℕ, List, [], ◌∷◌, ◌++◌, map}
 use Rattle.std.specs.Option.{option_to_list}
 use Rattle.std.specs.Fmt.{decimal, signed_decimal}
-use Rattle.sync_model.specs.declared.call.Operation.{Operation}
-use Rattle.sync_model.specs.declared.call.Operation.TheVariants as operations
-use Rattle.sync_model.specs.declared.map_object.MapCall.{MapCall}
-use Rattle.sync_model.specs.declared.map_object.MapCall.TheVariants as map_calls
-use Rattle.sync_model.specs.declared.atomic_object.Number.{Number}
-use Rattle.sync_model.specs.declared.atomic_object.AtomicCall.{AtomicCall}
-use Rattle.sync_model.specs.declared.atomic_object.AtomicCall.TheVariants as atomic_calls
-use Rattle.sync_model.specs.declared.lock_call.MutexCall.{MutexCall}
-use Rattle.sync_model.specs.declared.lock_call.MutexCall.TheVariants as mutex_calls
-use Rattle.sync_model.specs.declared.lock_call.RwMutexCall.{RwMutexCall}
-use Rattle.sync_model.specs.declared.lock_call.RwMutexCall.TheVariants as rw_mutex_calls
-use Rattle.sync_model.specs.declared.wait_call.CondCall.{CondCall}
-use Rattle.sync_model.specs.declared.wait_call.CondCall.TheVariants as cond_calls
-use Rattle.sync_model.specs.declared.wait_call.WaitGroupCall.{WaitGroupCall}
-use Rattle.sync_model.specs.declared.wait_call.WaitGroupCall.TheVariants as group_calls
-use Rattle.sync_model.specs.declared.pool_call.PoolCall.{PoolCall}
-use Rattle.sync_model.specs.declared.pool_call.PoolCall.TheVariants as pool_calls
-use Rattle.sync_model.specs.SequentialMap.{map_key}
+use Rattle.sync_types.specs.declared.call.Operation.{Operation}
+use Rattle.sync_types.specs.declared.call.Operation.TheVariants as operations
+use Rattle.sync_types.specs.declared.map_object.MapCall.{MapCall}
+use Rattle.sync_types.specs.declared.map_object.MapCall.TheVariants as map_calls
+use Rattle.sync_types.specs.declared.atomic_object.Number.{Number}
+use Rattle.sync_types.specs.declared.atomic_object.AtomicCall.{AtomicCall}
+use Rattle.sync_types.specs.declared.atomic_object.AtomicCall.TheVariants as atomic_calls
+use Rattle.sync_types.specs.declared.lock_call.MutexCall.{MutexCall}
+use Rattle.sync_types.specs.declared.lock_call.MutexCall.TheVariants as mutex_calls
+use Rattle.sync_types.specs.declared.lock_call.RwMutexCall.{RwMutexCall}
+use Rattle.sync_types.specs.declared.lock_call.RwMutexCall.TheVariants as rw_mutex_calls
+use Rattle.sync_types.specs.declared.wait_call.CondCall.{CondCall}
+use Rattle.sync_types.specs.declared.wait_call.CondCall.TheVariants as cond_calls
+use Rattle.sync_types.specs.declared.wait_call.WaitGroupCall.{WaitGroupCall}
+use Rattle.sync_types.specs.declared.wait_call.WaitGroupCall.TheVariants as group_calls
+use Rattle.sync_types.specs.declared.pool_call.PoolCall.{PoolCall}
+use Rattle.sync_types.specs.declared.pool_call.PoolCall.TheVariants as pool_calls
+use Rattle.sync_types.specs.SequentialMap.{map_key}
 use Rattle.workload.specs.declared.keyword.Verb.{Verb}
 use Rattle.workload.specs.declared.keyword.Verb.TheVariants as verbs
 use Rattle.workload.specs.declared.operands.Numbers.{Numbers}

@@ -3,12 +3,12 @@ use Rattle.std.specs.Prelude.{◌≡◌, ℕ, Bool, true, false, ◌&&◌, ◌+�
 use Rattle.std.specs.List.{flat_map}
 use Rattle.std.specs.Option.{option_map_or}
 use Rattle.std.specs.Str.{bytes_eq}
-use Rattle.sync_model.specs.Name.{is_name}
-use Rattle.sync_model.specs.declared.atomic_object.AtomicKind.{AtomicKind}
-use Rattle.sync_model.specs.declared.atomic_object.AtomicKind.TheVariants as types
-use Rattle.sync_model.specs.SequentialAtomic.{has_bits}
+use Rattle.sync_types.specs.Name.{is_name}
+use Rattle.sync_types.specs.declared.atomic_object.AtomicKind.{AtomicKind}
+use Rattle.sync_types.specs.declared.atomic_object.AtomicKind.TheVariants as types
+use Rattle.sync_types.specs.SequentialAtomic.{has_bits}
 use Rattle.workload.specs.declared.limits.TheConstants.{MAX_AMOUNT, MAX_CALLS, MAX_CODE, MAX_KEYS, MAX_RANGES, MAX_TURNS, MAX_WORKERS}
-use Rattle.sync_model.specs.declared.value.TheConstants.{MAX_VALUE}
+use Rattle.sync_types.specs.declared.value.TheConstants.{MAX_VALUE}
 use Rattle.workload.specs.declared.keyword.Keyword.{Keyword}
 use Rattle.workload.specs.declared.keyword.Keyword.TheVariants as keywords
 use Rattle.workload.specs.declared.keyword.Verb.{Verb}

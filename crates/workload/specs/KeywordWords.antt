@@ -1,7 +1,7 @@
 -- The words that lines begin with: of objects, of calls, and of the others.
 use Rattle.std.specs.Prelude.{ℕ, cond, List, [], ◌∷◌, ◌++◌, map, codes, Option, Some, None}
 use Rattle.std.specs.Str.{bytes_eq}
-use Rattle.sync_model.specs.declared.atomic_object.AtomicKind.TheVariants as types
+use Rattle.sync_types.specs.declared.atomic_object.AtomicKind.TheVariants as types
 use Rattle.workload.specs.declared.keyword.Keyword.{Keyword}
 use Rattle.workload.specs.declared.keyword.Keyword.TheVariants as keywords
 use Rattle.workload.specs.declared.keyword.Verb.{Verb}

@@ -1,7 +1,7 @@
 -- The workloads that have a text.
 use Rattle.std.specs.Prelude.{◌≡◌, ◌<◌, ◌≤◌, Bool, true, ◌&&◌, not, nat_lt, List, [], ◌∷◌, ◌++◌, length, is_some}
 use Rattle.std.specs.List.{list_all}
-use Rattle.sync_model.specs.Name.{is_name}
+use Rattle.sync_types.specs.Name.{is_name}
 use Rattle.workload.specs.declared.limits.TheConstants.{MAX_CALLS, MAX_KEYS, MAX_RANGES, MAX_TURNS, MAX_WORKERS}
 use Rattle.workload.specs.declared.object.ObjectLine.{ObjectLine}
 use Rattle.workload.specs.Plan.{Plan, word_of, refers, is_valid}

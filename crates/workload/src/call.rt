@@ -3,9 +3,7 @@ ghost use Rattle.std.specs.Prelude.{◌≡◌};
 ghost use Rattle.workload.specs.CallWords.{map_verb, atomic_verb, mutex_verb, rw_mutex_verb, cond_verb, group_verb, pool_verb, verb_of};
 
 use crate::keyword::Verb;
-use sync_model::{
-    AtomicCall, CondCall, MapCall, MutexCall, Name, Operation, PoolCall, RwMutexCall, WaitGroupCall,
-};
+use sync_types::{AtomicCall, CondCall, MapCall, MutexCall, Name, Operation, PoolCall, RwMutexCall, WaitGroupCall};
 
 /// Which call of a map it is.
 pub fn map_verb(call: &MapCall<Name>) -> Verb

@@ -2,7 +2,7 @@
 ghost use Rattle.std.specs.Prelude.{◌≡◌, ◌≤◌, ◌<◌, ◌+◌, ◌∷◌, [], true, length, nat_lt, is_some, count_by, replicate, IfOk, OnOk};
 ghost use Rattle.std.specs.Option.{option_copied, option_to_list};
 ghost use Rattle.std.specs.FinMap.{insert};
-ghost use Rattle.sync_model.specs.Name.{is_name};
+ghost use Rattle.sync_types.specs.Name.{is_name};
 ghost use Rattle.workload.specs.declared.limits.TheConstants.{MAX_WORKERS};
 ghost use Rattle.workload.specs.Index.{with_keys};
 ghost use Rattle.workload.specs.Draft.{started, with_line, may_follow, declared, count_of, count_together, limit_of, call_count, key_count, keys_of, is_range, range_count};
@@ -15,7 +15,7 @@ use crate::turn::Turn;
 use crate::workload::Workload;
 use std::alloc::{AllocError, Global};
 use std::marker::Model;
-use sync_model::{ByName, Call, Name, Operation, Seq};
+use sync_types::{ByName, Call, Name, Operation, Seq};
 
 /// The workload that the lines so far say, the worker whose calls follow, and tables of the names
 /// and keys, so that no look-up scans a list.

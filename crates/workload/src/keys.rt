@@ -8,7 +8,7 @@ ghost use Rattle.workload.specs.declared.limits.TheConstants.{MAX_KEYS};
 use crate::draft::call_key;
 use std::alloc::{AllocError, Global};
 use std::marker::Model;
-use sync_model::{ByName, Call, Name, Seq};
+use sync_types::{ByName, Call, Name, Seq};
 
 /// Names, each with a number: its place among them, from 0. No two of them are the same.
 #[derive(Debug, Drop)]

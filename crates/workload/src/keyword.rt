@@ -3,7 +3,7 @@ ghost use Rattle.std.specs.Prelude.{◌≡◌, ◌∷◌, ℕ, List};
 ghost use Rattle.workload.specs.KeywordWords.{verb_word, call_verbs, keyword_word, first_named, keyword_at};
 
 use crate::object::ObjectWord;
-use sync_model::AtomicKind;
+use sync_types::AtomicKind;
 
 /// What a line's first word announces.
 #[derive(Clone, Copy, Debug, PartialEq, Eq)]

@@ -3,15 +3,15 @@ ghost use Rattle.std.specs.Prelude.{◌≡◌, ◌↔◌, ◌⊎◌, ◌<◌, �
 ghost use Rattle.std.specs.List.{list_any, position_from};
 ghost use Rattle.std.specs.Str.{bytes_eq};
 ghost use Rattle.std.specs.Fmt.{decimal};
-ghost use Rattle.sync_model.specs.declared.name.TheConstants.{MAX_NAME};
+ghost use Rattle.sync_types.specs.declared.name.TheConstants.{MAX_NAME};
 ghost use Rattle.workload.specs.Canonical.{canonical, eights};
 ghost use Rattle.workload.specs.CallWords.{verb_of, operands_of};
 ghost use Rattle.workload.specs.Checks.{Check, first_failing, form_of, form_words, keys_among, ranges_in};
 ghost use Rattle.workload.specs.Draft.{all_keys, distinct_count, is_operation, is_range_operation, operation_keys};
 ghost use Rattle.workload.specs.Keys.{keys_in, number_in, key_number, key_name};
 ghost use Rattle.workload.specs.Readable.{IsReadable};
-ghost use Rattle.sync_model.specs.declared.call.Call.{Call};
-ghost use Rattle.sync_model.specs.declared.call.Operation.{Operation};
+ghost use Rattle.sync_types.specs.declared.call.Call.{Call};
+ghost use Rattle.sync_types.specs.declared.call.Operation.{Operation};
 ghost use Rattle.workload.specs.KeywordWords.{keyword_at, keyword_word};
 ghost use Rattle.workload.specs.NumberWords.{is_number, number_of};
 ghost use Rattle.workload.specs.declared.keyword.Keyword.{Keyword};
@@ -25,7 +25,7 @@ use crate::limits::{
     MAX_AMOUNT, MAX_ATOMICS, MAX_CALLS, MAX_CODE, MAX_INPUT, MAX_KEYS, MAX_LINE, MAX_MAPS,
     MAX_OTHERS, MAX_RANGES, MAX_TURNS, MAX_WORKERS,
 };
-use sync_model::MAX_VALUE;
+use sync_types::MAX_VALUE;
 
 /// No two workloads are read from the same bytes.
 pub fn one_reading()

@@ -1,7 +1,7 @@
 //! What one line of a text says.
 use crate::object::ObjectLine;
 use crate::turn::Turn;
-use sync_model::{Call, Name, Seq};
+use sync_types::{Call, Name, Seq};
 
 /// What a line behind the `workers` line says.
 #[derive(Debug, Drop)]

@@ -4,7 +4,7 @@ ghost use Rattle.workload.specs.Canonical.{name_of};
 ghost use Rattle.workload.specs.KeywordWords.{object_word};
 ghost use Rattle.workload.specs.Plan.{word_of};
 
-use sync_model::{AtomicKind, Name};
+use sync_types::{AtomicKind, Name};
 
 /// What an object is, with what its line says of it.
 #[derive(Clone, Copy, Debug, PartialEq, Eq)]

@@ -5,7 +5,7 @@ ghost use Rattle.std.specs.Option.{option_to_list, option_copied};
 ghost use Rattle.workload.specs.NumberWords.{number_word};
 ghost use Rattle.workload.specs.CallWords.{map_values, atomic_numbers, group_operands, pool_operands, operands_of, numbers_in};
 
-use sync_model::{AtomicCall, MapCall, Name, Number, Operation, PoolCall, WaitGroupCall};
+use sync_types::{AtomicCall, MapCall, Name, Number, Operation, PoolCall, WaitGroupCall};
 
 /// The numbers of a call, in order. A value of a map and an item of a pool are of the type `Uint64` here,
 /// and an amount for a wait group is of `Int32`.

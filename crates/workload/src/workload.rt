@@ -10,7 +10,7 @@ use crate::object::ObjectLine;
 use crate::puts::puts_at;
 use crate::turn::Turn;
 use std::marker::Model;
-use sync_model::{Call, Seq};
+use sync_types::{Call, Seq};
 
 /// Workers, objects, a script for each worker and a schedule. Each number in it is in range: a call's
 /// object is there and has the call, and a turn's worker is there. The keys of its calls have numbers.

@@ -4,11 +4,11 @@ use Rattle.std.specs.List.{list_all, flat_map, count_by}
 use Rattle.std.specs.Option.{option_to_list}
 use Rattle.std.proofs.lemmas.Bool.{lt-ltb, le-leb, ltb-true}
 use Rattle.std.proofs.lemmas.List.Folds.{list_all-append}
-use Rattle.sync_model.specs.declared.call.Call.{Call}
-use Rattle.sync_model.specs.declared.map_object.MapCall.TheVariants.{Load, Store, Delete}
-use Rattle.sync_model.specs.declared.value.TheConstants.{MAX_VALUE}
-use Rattle.sync_model.specs.Name.{is_name}
-use Rattle.sync_model.specs.SequentialMap.{map_key}
+use Rattle.sync_types.specs.declared.call.Call.{Call}
+use Rattle.sync_types.specs.declared.map_object.MapCall.TheVariants.{Load, Store, Delete}
+use Rattle.sync_types.specs.declared.value.TheConstants.{MAX_VALUE}
+use Rattle.sync_types.specs.Name.{is_name}
+use Rattle.sync_types.specs.SequentialMap.{map_key}
 use Rattle.workload.specs.Draft.{keys_of, is_call, is_map_call, is_value, is_range}
 use Rattle.workload.specs.Plan.{is_on}
 use Rattle.workload_generator.specs.Generated.{key_of, call_by, round, generated_objects}

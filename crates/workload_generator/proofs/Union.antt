@@ -8,8 +8,8 @@ use Rattle.std.specs.Str.{bytes_eq}
 use Rattle.std.proofs.lemmas.Bool.{cases_lt}
 use Rattle.std.proofs.lemmas.Map.Text.{is_eq-slice_cmp}
 use Rattle.std.proofs.lemmas.Slice.Eq.{bytes_eq-Decides}
-use Rattle.sync_model.specs.declared.map_object.MapCall.TheVariants.{Load, Store, Delete}
-use Rattle.sync_model.specs.SequentialMap.{map_after}
+use Rattle.sync_types.specs.declared.map_object.MapCall.TheVariants.{Load, Store, Delete}
+use Rattle.sync_types.specs.SequentialMap.{map_after}
 use Rattle.workload_generator.specs.Generated.{key_of, round, script_by, drawn_for, in_twos, generated_plan}
 use Rattle.workload_generator.specs.Summary.{NamedMap, after_script, map_of, union_of}
 use Rattle.workload_generator.proofs.Keys.{mark_of, key_marked, marks_apart}

@@ -5,12 +5,12 @@ use Rattle.std.specs.Fmt.{decimal}
 use Rattle.std.specs.Ordering.{nat_cmp}
 use Rattle.std.specs.Cmp.Lexicographic.{slice_cmp}
 use Rattle.std.specs.FinMap.{FinMap, empty, entries, values, len, from_entries}
-use Rattle.sync_model.specs.declared.atomic_object.AtomicCall.TheVariants.{Add}
-use Rattle.sync_model.specs.declared.atomic_object.Number.TheVariants.{Int64}
-use Rattle.sync_model.specs.declared.call.Call.{Call}
-use Rattle.sync_model.specs.declared.call.Operation.{Operation}
-use Rattle.sync_model.specs.declared.call.Operation.TheVariants as operations
-use Rattle.sync_model.specs.SequentialMap.{map_after}
+use Rattle.sync_types.specs.declared.atomic_object.AtomicCall.TheVariants.{Add}
+use Rattle.sync_types.specs.declared.atomic_object.Number.TheVariants.{Int64}
+use Rattle.sync_types.specs.declared.call.Call.{Call}
+use Rattle.sync_types.specs.declared.call.Operation.{Operation}
+use Rattle.sync_types.specs.declared.call.Operation.TheVariants as operations
+use Rattle.sync_types.specs.SequentialMap.{map_after}
 use Rattle.workload.specs.Canonical.{text_line}
 use Rattle.workload_generator.specs.Generated.{generated_plan}
 

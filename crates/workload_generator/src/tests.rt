@@ -2,7 +2,7 @@
 use crate::generate;
 use std::alloc::Global;
 use std::test::Fail;
-use sync_model::{AtomicCall, ByName, Call, Number, Operation, map_object};
+use sync_types::{AtomicCall, ByName, Call, Number, Operation, map_object};
 use workload::Workload;
 use workload_reader::parse;
 

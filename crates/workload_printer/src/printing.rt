@@ -11,7 +11,7 @@ ghost use Rattle.workload.specs.Reads.{Reads};
 ghost use Rattle.workload.specs.Canonical.{text_line, call_line, object_line, reference_name, script_lines, eights, canonical_lines, canonical, behind_spaces, lines_text};
 
 use std::alloc::{AllocError, Global};
-use sync_model::{Call, Number, Operation};
+use sync_types::{Call, Number, Operation};
 use workload::call::verb;
 use workload::keyword::Keyword;
 use workload::laws::{canonical_reads, schedules_go_by_eights};

@@ -5,7 +5,7 @@ use Rattle.std.specs.Prelude.{is_some, nat_lt, nat_le}
 use Rattle.workload.specs.declared.limits.TheConstants.{MAX_TURNS}
 use Rattle.workload.specs.declared.keyword.Keyword.TheVariants as keywords
 use Rattle.workload.specs.declared.reason.Reason.TheVariants.{LimitReached, WrongNumberOfWords}
-use Rattle.sync_model.specs.Name.{is_name}
+use Rattle.sync_types.specs.Name.{is_name}
 use Rattle.workload.specs.declared.fault.LineFault.{LineFault}
 use Rattle.workload.specs.declared.fault.LineFault.TheVariants as faults
 use Rattle.workload.specs.declared.keyword.Verb.{Verb}

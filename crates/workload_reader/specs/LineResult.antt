@@ -1,9 +1,9 @@
 -- What the reading of a line, or of a word of it, answers.
 use Rattle.std.specs.Prelude.{◌≡◌, Bool, ◌++◌, ◌<◌, ◌≤◌, map, ℕ, true, List, ◌∷◌, Option, Some, None, Result, MatchResult}
 use Rattle.std.specs.Option.{option_to_list}
-use Rattle.sync_model.specs.Name.{is_name}
+use Rattle.sync_types.specs.Name.{is_name}
 use Rattle.std.specs.List.{list_all, flat_map}
-use Rattle.sync_model.specs.declared.call.Operation.{Operation}
+use Rattle.sync_types.specs.declared.call.Operation.{Operation}
 use Rattle.workload.specs.declared.fault.LineFault.{LineFault}
 use Rattle.workload.specs.declared.fault.LineFault.TheVariants as faults
 use Rattle.workload.specs.declared.keyword.Keyword.{Keyword}

@@ -1,20 +1,17 @@
 //! The calls that the words of a line spell, by the kind of their object.
 ghost use Rattle.std.specs.Prelude.{◌≡◌, ◌∷◌, [], ◌≤◌, true, map, MatchResult, None};
 ghost use Rattle.std.specs.Fmt.{decimal, signed_decimal};
-ghost use Rattle.sync_model.specs.Name.{is_name};
-ghost use Rattle.sync_model.specs.SequentialAtomic.{has_bits, is_of};
+ghost use Rattle.sync_types.specs.Name.{is_name};
+ghost use Rattle.sync_types.specs.SequentialAtomic.{has_bits, is_of};
 ghost use Rattle.workload.specs.NumberWords.{number_word};
 ghost use Rattle.workload.specs.Plan.{is_amount};
 ghost use Rattle.workload.specs.Checks.{bits_form, first_failing, form_words};
-ghost use Rattle.sync_model.specs.declared.value.TheConstants.{MAX_VALUE};
+ghost use Rattle.sync_types.specs.declared.value.TheConstants.{MAX_VALUE};
 ghost use Rattle.workload_reader.specs.LineResult.{IsFault, IsOperands, IsCall};
 
 use crate::word_reading::{read_amount, read_name, read_none, read_number, read_value};
 use std::alloc::Global;
-use sync_model::{
-    AtomicCall, AtomicKind, CondCall, MAX_VALUE, MapCall, MutexCall, Name, Number, Operation,
-    PoolCall, RwMutexCall, WaitGroupCall,
-};
+use sync_types::{AtomicCall, AtomicKind, CondCall, MAX_VALUE, MapCall, MutexCall, Name, Number, Operation, PoolCall, RwMutexCall, WaitGroupCall};
 use workload::fault::LineFault;
 use workload::keyword::{Operand, Verb};
 use workload::laws::checks_go_in_order;

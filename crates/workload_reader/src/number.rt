@@ -2,12 +2,12 @@
 ghost use Rattle.std.specs.Prelude.{◌≡◌, ◌<◌, ◌^◌, ◌+◌, ◌-◌, ◌*◌, Bool, true, false, ◌≤◌, ◌∷◌, ◌&&◌, ◌||◌, nat_lt, codes, MatchOption, OnSome, IfSome, IfNone};
 ghost use Rattle.std.specs.Fmt.{decimal, signed_decimal};
 ghost use Rattle.std.specs.Str.{all_ascii_digits, bytes_eq};
-ghost use Rattle.sync_model.specs.declared.atomic_object.Number.TheVariants as Number;
-ghost use Rattle.sync_model.specs.SequentialAtomic.{is_signed, is_of};
+ghost use Rattle.sync_types.specs.declared.atomic_object.Number.TheVariants as Number;
+ghost use Rattle.sync_types.specs.SequentialAtomic.{is_signed, is_of};
 ghost use Rattle.workload.specs.NumberWords.{is_number, is_number_to, is_signed_word, is_amount_word, is_number_word, number_word, number_of};
 ghost use Rattle.workload.specs.Plan.{is_amount};
 
-use sync_model::{AtomicKind, Number};
+use sync_types::{AtomicKind, Number};
 use workload::laws::numbers;
 use workload::limits::MAX_AMOUNT;
 

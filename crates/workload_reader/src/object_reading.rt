@@ -1,6 +1,6 @@
 //! What the words of an object's line say behind the object's name.
 ghost use Rattle.std.specs.Prelude.{◌≡◌, [], map, length};
-ghost use Rattle.sync_model.specs.declared.atomic_object.AtomicKind.TheVariants as AtomicKind;
+ghost use Rattle.sync_types.specs.declared.atomic_object.AtomicKind.TheVariants as AtomicKind;
 ghost use Rattle.workload.specs.Plan.{word_of};
 ghost use Rattle.workload.specs.Checks.{parameters_of, is_mutex, is_int64};
 ghost use Rattle.workload_reader.specs.LineResult.{IsReferenceTo, IsKindOf};
@@ -8,7 +8,7 @@ ghost use Rattle.workload.specs.declared.object.ObjectKind.TheVariants as Object
 
 use crate::word_reading::{read_amount, read_name, read_none, read_number_to};
 use std::alloc::Global;
-use sync_model::{AtomicKind, MAX_VALUE, Name};
+use sync_types::{AtomicKind, MAX_VALUE, Name};
 use workload::draft::Draft;
 use workload::fault::LineFault;
 use workload::limits::{MAX_AMOUNT, MAX_CODE};

@@ -11,7 +11,7 @@ use crate::number::{is_number, number};
 use crate::object_reading::{parameter_count, read_kind};
 use crate::word_reading::read_name;
 use std::alloc::Global;
-use sync_model::{Call, MAX_VALUE, Seq};
+use sync_types::{Call, MAX_VALUE, Seq};
 use workload::draft::Draft;
 use workload::fault::LineFault;
 use workload::keyword::{Keyword, Verb, read_keyword};

@@ -2,7 +2,7 @@
 use crate::parse;
 use std::alloc::Global;
 use std::test::Fail;
-use sync_model::AtomicKind;
+use sync_types::AtomicKind;
 use workload::{ObjectKind, ParseFault, Reason, Turn};
 
 // The fault of a text: its line and its reason, or None where it is read.

@@ -1,18 +1,18 @@
 //! The words of a line that stand for one thing.
 ghost use Rattle.std.specs.Prelude.{◌≡◌, ◌∷◌, [], ◌≤◌, true, map, MatchResult, Some, None};
 ghost use Rattle.std.specs.Fmt.{decimal, signed_decimal};
-ghost use Rattle.sync_model.specs.Name.{is_name};
-ghost use Rattle.sync_model.specs.SequentialAtomic.{is_of};
+ghost use Rattle.sync_types.specs.Name.{is_name};
+ghost use Rattle.sync_types.specs.SequentialAtomic.{is_of};
 ghost use Rattle.workload.specs.NumberWords.{is_number_to, is_amount_word, is_number_word, number_word};
 ghost use Rattle.workload.specs.Plan.{is_amount};
 ghost use Rattle.workload.specs.Checks.{operand_check};
 ghost use Rattle.workload_reader.specs.LineResult.{IsFault, IsOperands};
-ghost use Rattle.sync_model.specs.declared.value.TheConstants.{MAX_VALUE};
+ghost use Rattle.sync_types.specs.declared.value.TheConstants.{MAX_VALUE};
 
 use crate::number::{amount, atomic_number, number};
 use std::alloc::Global;
-use sync_model::name::is_name;
-use sync_model::{AtomicKind, MAX_VALUE, Name, Number};
+use sync_types::name::is_name;
+use sync_types::{AtomicKind, MAX_VALUE, Name, Number};
 use workload::fault::LineFault;
 use workload::keyword::Operand;
 use workload::reason::Reason;

@@ -1,6 +1,6 @@
 //! The calls of a running mutex.
 ghost use Rattle.std.specs.Prelude.{◌≡◌, ◌≢◌, ◌<◌, true};
-ghost use Rattle.sync_model.specs.declared.misuse.Misuse.{Misuse};
+ghost use Rattle.sync_types.specs.declared.misuse.Misuse.{Misuse};
 ghost use Rattle.sync_model.specs.declared.answer.Answer.TheVariants.{Done, Halted};
 ghost use Rattle.mutex_core.specs.declared.event.MutexEvent.{MutexEvent};
 ghost use Rattle.mutex_core.specs.Edges.{acquires, releases};
@@ -16,7 +16,8 @@ use crate::answers::{locked, tried, unlocked};
 use protocols::MutexStage;
 use running::call;
 use std::sync::Wait;
-use sync_model::{Answer, Misuse, Note};
+use sync_model::{Answer, Note};
+use sync_types::Misuse;
 use sync_outside::{At, Clock};
 
 impl<N: Note> Mutex<N> {

@@ -13,7 +13,8 @@ ghost use Rattle.go_locks.specs.Mutexes.{MutexJournal, mutex_start, IsPassOfMute
 
 use super::{Mutex, MutexPass};
 use std::sync::Wait;
-use sync_model::{Misuse, Note};
+use sync_model::Note;
+use sync_types::Misuse;
 
 impl<N: Note> Mutex<N> {
     /// Halts the mutex by a misuse: from then on each event of its callers, the waiting ones' too, is answered `Halted`. The

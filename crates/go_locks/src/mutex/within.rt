@@ -1,6 +1,6 @@
 //! `unlock` and `lock` as parts of a longer call, which takes one off the calls that are left: a cond's `wait`.
 ghost use Rattle.std.specs.Prelude.{◌≡◌, ◌<◌, true};
-ghost use Rattle.sync_model.specs.declared.misuse.Misuse.{Misuse};
+ghost use Rattle.sync_types.specs.declared.misuse.Misuse.{Misuse};
 ghost use Rattle.sync_model.specs.declared.answer.Answer.TheVariants.{Halted};
 ghost use Rattle.mutex_core.specs.Edges.{acquires, releases};
 ghost use Rattle.mutex_core.specs.MutexMachine.{next};
@@ -15,7 +15,8 @@ use crate::answers::{locked, unlocked};
 use protocols::MutexStage;
 use running::call_within;
 use std::sync::Wait;
-use sync_model::{Answer, Misuse, Note};
+use sync_model::{Answer, Note};
+use sync_types::Misuse;
 use sync_outside::{At, Clock};
 
 impl<N: Note> Mutex<N> {

@@ -13,7 +13,8 @@ ghost use Rattle.go_locks.specs.RwMutexes.{RwJournal, rw_start, IsPassOfRwMutex,
 
 use super::{RwMutex, RwPass};
 use std::sync::Wait;
-use sync_model::{Misuse, Note};
+use sync_model::Note;
+use sync_types::Misuse;
 
 impl<N: Note> RwMutex<N> {
     /// Halts the lock by a misuse: from then on each event of its callers, the waiting ones' too, is answered `Halted`. The

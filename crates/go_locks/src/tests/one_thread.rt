@@ -10,7 +10,8 @@ use ruled_object::MAX_CALLS;
 use std::alloc::{AllocError, Global};
 use std::sync::Wait;
 use std::test::Fail;
-use sync_model::{Answer, FrontNote, Misuse};
+use sync_model::{Answer, FrontNote};
+use sync_types::Misuse;
 use sync_outside::{At, MemClock};
 
 #[test]

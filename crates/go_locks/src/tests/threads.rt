@@ -12,7 +12,8 @@ use std::sync::Wait;
 use std::sync::atomic::{AtomicU64, Ordering};
 use std::test::Fail;
 use std::thread::{Threads, join};
-use sync_model::{Answer, FrontNote, Misuse};
+use sync_model::{Answer, FrontNote};
+use sync_types::Misuse;
 use sync_outside::{At, Clock, MemClock, SystemClock};
 
 // Reads the number and stores one more. Two callers that do this at once lose one of the two.

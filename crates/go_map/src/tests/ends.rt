@@ -8,7 +8,8 @@ use crate::Map;
 use shared_table::{SharedNote, SharedTable};
 use std::sync::Wait;
 use std::test::Fail;
-use sync_model::{AtomicKind, Caller, End, Number};
+use sync_model::Caller;
+use sync_types::{AtomicKind, End, Number};
 
 // The path of key 268435456 goes with that of key 0 down to the last nibble, and that of key 16 to the first. A walk by slots
 // finds keys 0, 268435456, 16 and 1 in this order.

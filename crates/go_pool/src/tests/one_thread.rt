@@ -2,7 +2,8 @@ use super::setup::{Caller, knows, made};
 use crate::PoolGet;
 use pool_core::PoolPut;
 use std::test::Fail;
-use sync_model::{Answer, Misuse};
+use sync_model::Answer;
+use sync_types::Misuse;
 
 #[test]
 fn one_caller_gets_what_it_put(rt: HostRuntime) -> Result<(), Fail> {

@@ -8,7 +8,8 @@ use crate::pool_get::PoolGet;
 use pool_core::PoolPut;
 use std::alloc::{AllocError, Global};
 use std::sync::Wait;
-use sync_model::{Answer, FrontNote, Misuse};
+use sync_model::{Answer, FrontNote};
+use sync_types::Misuse;
 use sync_outside::{At, Clock};
 
 /// A clock that stands still.

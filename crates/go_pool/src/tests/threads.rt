@@ -7,7 +7,8 @@ use std::alloc::{AllocError, Global};
 use std::sync::Wait;
 use std::test::Fail;
 use std::thread::{Threads, join};
-use sync_model::{Answer, FrontNote, Misuse};
+use sync_model::{Answer, FrontNote};
+use sync_types::Misuse;
 
 // Puts 250 items from a first one on, with a get after each, and gives what the gets took.
 fn put_and_get<R: Wait>(

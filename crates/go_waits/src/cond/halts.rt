@@ -8,7 +8,8 @@ ghost use Rattle.go_waits.specs.Conds.{CondJournal, CondMade, CondHalts, AreAllP
 
 use super::{Cond, CondPass};
 use std::sync::Wait;
-use sync_model::{Misuse, Note};
+use sync_model::Note;
+use sync_types::Misuse;
 
 impl<N: Note> Cond<N> {
     /// Halts the cond by a misuse, and wakes all who wait: from then on each call is answered `Halted` with the first

@@ -1,6 +1,6 @@
 //! A cond's `wait`: calls of the cond and of its mutex, one after the other.
 ghost use Rattle.std.specs.Prelude.{◌≡◌, ◌≢◌, ◌<◌, Err};
-ghost use Rattle.sync_model.specs.declared.misuse.Misuse.{Misuse};
+ghost use Rattle.sync_types.specs.declared.misuse.Misuse.{Misuse};
 ghost use Rattle.sync_model.specs.declared.answer.Answer.TheVariants.{Done};
 ghost use Rattle.ruled_object.specs.Growth.{KeepsNote};
 ghost use Rattle.ruled_object.specs.Passes.{left_of, IsOneLess, IsSpent, SamePass};
@@ -15,7 +15,8 @@ use protocols::CondStage;
 use ruled_object::laws::notes_are_kept;
 use running::{call, call_within};
 use std::sync::Wait;
-use sync_model::{Answer, Misuse, Note};
+use sync_model::{Answer, Note};
+use sync_types::Misuse;
 use sync_outside::{At, Clock};
 
 impl<N: Note> Cond<N> {

@@ -12,7 +12,8 @@ use super::{GroupPass, WaitGroup};
 use protocols::GroupStage;
 use running::call;
 use std::sync::Wait;
-use sync_model::{Answer, Misuse, Note};
+use sync_model::{Answer, Note};
+use sync_types::Misuse;
 use sync_outside::{At, Clock};
 
 impl<N: Note> WaitGroup<N> {

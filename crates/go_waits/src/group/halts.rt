@@ -8,7 +8,8 @@ ghost use Rattle.go_waits.specs.Groups.{GroupJournal, GroupMade, GroupHalts, Are
 
 use super::{GroupPass, WaitGroup};
 use std::sync::Wait;
-use sync_model::{Misuse, Note};
+use sync_model::Note;
+use sync_types::Misuse;
 
 impl<N: Note> WaitGroup<N> {
     /// Halts the group by a misuse, and wakes all who wait: from then on each call is answered `Halted` with the first

@@ -8,7 +8,8 @@ ghost use Rattle.go_waits.specs.Onces.{OnceJournal, OnceMade, OnceHalts, AreAllP
 
 use super::{Once, OncePass};
 use std::sync::Wait;
-use sync_model::{Misuse, Note};
+use sync_model::Note;
+use sync_types::Misuse;
 
 impl<T: Copy, N: Note> Once<T, N> {
     /// Halts the once by a misuse, and wakes all who wait: from then on each call is answered `Halted` with the first

@@ -8,7 +8,8 @@ use super::setup::{HERE, knows};
 use crate::cond::Cond;
 use std::sync::Wait;
 use std::test::Fail;
-use sync_model::{Answer, Misuse};
+use sync_model::Answer;
+use sync_types::Misuse;
 
 // Signals with the mutex locked, by a caller that knows 7 calls, and says what each call was answered.
 fn signal_locked<R: Wait>(

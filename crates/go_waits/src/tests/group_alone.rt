@@ -1,6 +1,7 @@
 use super::setup::{Member, group, knows};
 use std::test::Fail;
-use sync_model::{Answer, Misuse};
+use sync_model::Answer;
+use sync_types::Misuse;
 
 #[test]
 fn a_counter_stays_within_its_range(rt: HostRuntime) -> Result<(), Fail> {

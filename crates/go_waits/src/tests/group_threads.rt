@@ -5,7 +5,8 @@ use std::sync::Wait;
 use std::sync::atomic::{AtomicU64, Ordering};
 use std::test::Fail;
 use std::thread::{Threads, join};
-use sync_model::{Answer, Misuse};
+use sync_model::Answer;
+use sync_types::Misuse;
 
 // Counts itself, and is done; then waits for the others, and says how many were counted.
 fn meet<R: Wait>(rt: &R, counted: &AtomicU64, mut member: Member) -> Option<u64> {

@@ -4,7 +4,8 @@ use crate::once_run::OnceRun;
 use crate::once_value::OnceValue;
 use std::sync::atomic::{AtomicU64, Ordering};
 use std::test::Fail;
-use sync_model::{Answer, Misuse};
+use sync_model::Answer;
+use sync_types::Misuse;
 
 #[test]
 fn a_function_that_fails_is_called_once(rt: HostRuntime) -> Result<(), Fail> {

@@ -7,7 +7,8 @@ use std::alloc::{AllocError, Global};
 use std::sync::Wait;
 use std::sync::atomic::{AtomicU64, Ordering};
 use std::thread;
-use sync_model::{Answer, FrontNote, Misuse};
+use sync_model::{Answer, FrontNote};
+use sync_types::Misuse;
 use sync_outside::{At, Clock};
 
 /// A clock that stands still.

@@ -12,7 +12,8 @@ use super::replies::{CallAnswer, returned};
 use crate::part::part;
 use protocols::CondStage;
 use std::sync::Wait;
-use sync_model::{Answer, Misuse, Note};
+use sync_model::{Answer, Note};
+use sync_types::Misuse;
 use sync_outside::Clock;
 use thread_objects::{AnyObject, AnyPass, Worker};
 

@@ -1,9 +1,9 @@
 //! `do` on a once, whose function adds to an int64.
 ghost use Rattle.std.specs.Prelude.{◌≡◌, ℕ, ℤ, false, List, Ok, IfSome, IfNone};
 ghost use Rattle.sync_model.specs.declared.answer.Answer.TheVariants.{Done};
-ghost use Rattle.sync_model.specs.declared.atomic_object.AtomicCall.TheVariants.{Add};
-ghost use Rattle.sync_model.specs.declared.atomic_object.AtomicReply.TheVariants.{Held};
-ghost use Rattle.sync_model.specs.declared.atomic_object.Number.TheVariants.{Int64};
+ghost use Rattle.sync_types.specs.declared.atomic_object.AtomicCall.TheVariants.{Add};
+ghost use Rattle.sync_types.specs.declared.atomic_object.AtomicReply.TheVariants.{Held};
+ghost use Rattle.sync_types.specs.declared.atomic_object.Number.TheVariants.{Int64};
 ghost use Rattle.sync_model.specs.Note.{SameHome};
 ghost use Rattle.sync_model.specs.Shared.{IsAtomicCall, IsCallerAt, items_of};
 ghost use Rattle.workload.specs.Plan.{Plan};
@@ -27,7 +27,8 @@ use super::replies::{CallAnswer, ran};
 use protocols::OnceOutcome;
 use ruled_object::{Object, PassOf};
 use std::sync::Wait;
-use sync_model::{Answer, AtomicCall, AtomicReply, Caller, DoReply, Number, Reply, Shared};
+use sync_model::{Answer, Caller, Shared};
+use sync_types::{AtomicCall, AtomicReply, DoReply, Number, Reply};
 use sync_outside::Clock;
 use thread_objects::{AnyObject, AnyPass, Worker};
 use wait_cores::OnceCore;

@@ -12,7 +12,8 @@ use super::replies::{CallAnswer, lock_reply};
 use crate::part::part;
 use protocols::MutexStage;
 use std::sync::Wait;
-use sync_model::{Answer, LockReply, Misuse, MutexCall, Note};
+use sync_model::{Answer, Note};
+use sync_types::{LockReply, Misuse, MutexCall};
 use sync_outside::Clock;
 use thread_objects::{AnyObject, AnyPass, Worker};
 

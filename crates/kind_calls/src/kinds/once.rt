@@ -1,6 +1,6 @@
 //! The calls of functions made by `OnceFunc` and `OnceValue`.
 ghost use Rattle.std.specs.Prelude.{◌≡◌, ℕ, false, true};
-ghost use Rattle.sync_model.specs.declared.call.Reply.{Reply};
+ghost use Rattle.sync_types.specs.declared.call.Reply.{Reply};
 ghost use Rattle.wait_cores.specs.declared.once.OnceEvent.{OnceEvent};
 ghost use Rattle.wait_cores.specs.declared.once.OnceReply.{OnceReply};
 ghost use Rattle.protocols.specs.declared.once.OnceStage.TheVariants as stage;
@@ -21,7 +21,8 @@ use protocols::{OnceOutcome, OnceStage};
 use ruled_object::{Object, PassOf};
 use running::call_within;
 use std::sync::Wait;
-use sync_model::{Answer, Misuse, Note};
+use sync_model::{Answer, Note};
+use sync_types::Misuse;
 use sync_outside::Clock;
 use thread_objects::{AnyObject, AnyPass, Worker};
 use wait_cores::OnceCore;

@@ -1,6 +1,6 @@
 //! The calls of a pool.
 ghost use Rattle.std.specs.Prelude.{◌≡◌, ℕ, ◌*◌, ◌<◌, true, Result};
-ghost use Rattle.sync_model.specs.declared.misuse.Misuse.{Misuse};
+ghost use Rattle.sync_types.specs.declared.misuse.Misuse.{Misuse};
 ghost use Rattle.protocols.specs.declared.pool.PoolOutcome.{PoolOutcome};
 ghost use Rattle.pool_core.specs.Looks.{look};
 ghost use Rattle.pool_core.specs.PoolMachine.{PoolState};
@@ -16,7 +16,8 @@ use super::replies::{CallAnswer, pool_done};
 use crate::part::part;
 use protocols::{PoolOutcome, PoolStage};
 use std::sync::Wait;
-use sync_model::{Answer, Misuse, Note, PoolCall, PoolCallReply, Reply};
+use sync_model::{Answer, Note};
+use sync_types::{Misuse, PoolCall, PoolCallReply, Reply};
 use sync_outside::Clock;
 use thread_objects::{AnyObject, AnyPass, Worker};
 

@@ -19,7 +19,8 @@ ghost use Rattle.kind_calls.specs.Working.{Works, desk_with};
 use crate::kinds::replies::CallAnswer;
 use std::cmp::Ordering;
 use std::sync::Wait;
-use sync_model::{Answer, BoundedSeq, Caller, Name, Reply, Seq, Shared};
+use sync_model::{Answer, Caller, Shared};
+use sync_types::{BoundedSeq, Name, Reply, Seq};
 use workload::keys::key_name;
 
 // Sorts pairs by the bytes of their keys, in place.

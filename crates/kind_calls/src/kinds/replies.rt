@@ -5,7 +5,8 @@ ghost use Rattle.run_record.specs.Parts.{with_outcome};
 ghost use Rattle.kind_calls.specs.Replies.{of_lock, relocked, returned, func_told, value_told, pool_done, ran};
 
 use protocols::PoolOutcome;
-use sync_model::{Answer, DoReply, LockReply, Misuse, PoolCallReply, Reply};
+use sync_model::Answer;
+use sync_types::{DoReply, LockReply, Misuse, PoolCallReply, Reply};
 
 /// The answer to a call of a workload.
 pub type CallAnswer = Answer<Result<Reply<u32>, Misuse>>;

@@ -13,7 +13,8 @@ use super::replies::{CallAnswer, lock_reply};
 use crate::part::part;
 use protocols::RwMutexStage;
 use std::sync::Wait;
-use sync_model::{Answer, LockReply, Misuse, Note, RwMutexCall};
+use sync_model::{Answer, Note};
+use sync_types::{LockReply, Misuse, RwMutexCall};
 use sync_outside::Clock;
 use thread_objects::{AnyObject, AnyPass, Worker};
 

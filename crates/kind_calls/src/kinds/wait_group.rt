@@ -13,7 +13,8 @@ use super::replies::{CallAnswer, returned};
 use crate::part::part;
 use protocols::GroupStage;
 use std::sync::Wait;
-use sync_model::{Answer, Misuse, Note, WaitGroupCall};
+use sync_model::{Answer, Note};
+use sync_types::{Misuse, WaitGroupCall};
 use sync_outside::Clock;
 use thread_objects::{AnyObject, AnyPass, Worker};
 

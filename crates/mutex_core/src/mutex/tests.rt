@@ -3,7 +3,8 @@ use super::MutexCore;
 use crate::event::MutexEvent;
 use crate::reply::{Arrival, MutexReply, Resumption, Unlocking};
 use std::test::Fail;
-use sync_model::{Machine, Misuse};
+use sync_model::Machine;
+use sync_types::Misuse;
 
 /// An event of a caller, and what it should be answered.
 type Row = (u32, MutexEvent, MutexReply);

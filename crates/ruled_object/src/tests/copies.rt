@@ -5,7 +5,8 @@ ghost use Rattle.ruled_object.specs.Both.{AreBoth};
 use super::machines::{Counter, Fragile, duo, knows};
 use crate::{Object, PassOf};
 use std::test::Fail;
-use sync_model::{Answer, FrontNote, Machine, Misuse};
+use sync_model::{Answer, FrontNote, Machine};
+use sync_types::Misuse;
 
 // A caller with its pass, and a note of its own.
 #[derive(Drop)]

@@ -1,6 +1,7 @@
 use super::machines::{Counter, Fragile, all_of, both_of, duo, knows};
 use std::test::Fail;
-use sync_model::{Answer, Misuse};
+use sync_model::Answer;
+use sync_types::Misuse;
 
 #[test]
 fn a_counter_answers_each_event_in_order(rt: HostRuntime) -> Result<(), Fail> {

@@ -8,7 +8,8 @@ use crate::{Object, PassOf};
 use std::sync::Wait;
 use std::test::Fail;
 use std::thread::{Threads, join};
-use sync_model::{Answer, FrontNote, Misuse};
+use sync_model::{Answer, FrontNote};
+use sync_types::Misuse;
 
 type Sum = Object<Counter, FrontNote>;
 

@@ -14,7 +14,7 @@ use sync_model::laws::shared::{
     a_call_lies_behind_what_its_caller_knew, a_callers_calls_are_in_order,
     a_load_finds_the_last_store, each_entry_is_a_call,
 };
-use sync_model::map_object::{MapCall, MapReply};
+use sync_types::map_object::{MapCall, MapReply};
 
 /// An edge makes known. Whoever acquires at an object knows from then on what the worker of an earlier releasing event had done:
 /// the fronts of its calls count it, no such call has a lower place, and an entry lies below it.

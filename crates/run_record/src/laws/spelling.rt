@@ -5,10 +5,8 @@ ghost use Rattle.run_record.specs.Calls.{SpellsCall};
 ghost use Rattle.run_record.specs.Objects.{atomic_number};
 
 use crate::made::Made;
-use sync_model::{
-    Answer, AtomicCall, AtomicReply, Call, DoReply, Item, Number, Operation, Reply, SharedCall,
-    SharedReply,
-};
+use sync_model::{Answer, Item, SharedCall, SharedReply};
+use sync_types::{AtomicCall, AtomicReply, Call, DoReply, Number, Operation, Reply};
 use workload::{ObjectKind, ObjectLine};
 
 /// A `do` that ran its once's function added once, between the events that begin and end it, and answers the sum.

@@ -4,7 +4,8 @@ use crate::event::RwEvent;
 use crate::place::Place;
 use crate::reply::{Arrival, Resumption, RwReply, Unlocking};
 use std::test::Fail;
-use sync_model::{Machine, Misuse};
+use sync_model::Machine;
+use sync_types::Misuse;
 
 /// An event of a caller, what it should be answered, and the caller's place after it.
 type Row = (u32, RwEvent, RwReply, Place);

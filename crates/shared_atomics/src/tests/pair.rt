@@ -4,7 +4,8 @@ ghost use Rattle.shared_atomics.specs.Pairs.{ArePair};
 
 use shared_table::{SharedNote, SharedTable};
 use std::alloc::{AllocError, Global};
-use sync_model::{AtomicKind, Caller};
+use sync_model::Caller;
+use sync_types::AtomicKind;
 
 /// The table and its callers.
 #[derive(Drop)]

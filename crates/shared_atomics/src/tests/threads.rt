@@ -1,6 +1,6 @@
 //! Two callers in threads of their own: neither waits.
 ghost use Rattle.std.specs.Prelude.{◌≡◌, Some, slice_get};
-ghost use Rattle.sync_model.specs.declared.atomic_object.AtomicKind.TheVariants as kinds;
+ghost use Rattle.sync_types.specs.declared.atomic_object.AtomicKind.TheVariants as kinds;
 ghost use Rattle.sync_model.specs.Shared.{IsCallerAt};
 ghost use Rattle.shared_table.specs.Notes.{own_by, IsNoteOf};
 ghost use Rattle.shared_table.specs.Tables.{kinds_of};

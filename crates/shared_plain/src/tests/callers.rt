@@ -2,7 +2,7 @@
 use super::pair::{Pair, Who};
 use std::alloc::{AllocError, Global};
 use std::test::Fail;
-use sync_model::{AtomicCall, AtomicReply, MapCall, MapReply, Number};
+use sync_types::{AtomicCall, AtomicReply, MapCall, MapReply, Number};
 
 const FIRST: Who = Who::First;
 

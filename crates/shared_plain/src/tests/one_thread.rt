@@ -2,7 +2,8 @@
 use crate::{Answered, Event, PlainState};
 use std::alloc::{AllocError, Global};
 use std::test::Fail;
-use sync_model::{AtomicCall, AtomicKind, AtomicReply, MapCall, MapReply, Number, SharedReply};
+use sync_model::SharedReply;
+use sync_types::{AtomicCall, AtomicKind, AtomicReply, MapCall, MapReply, Number};
 
 fn on_map(call: MapCall<u32>) -> Event {
     Event::Map { map: 1, call }

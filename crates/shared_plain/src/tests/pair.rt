@@ -1,6 +1,6 @@
 //! Plain maps and atomics for the tests, with two callers.
 ghost use Rattle.std.specs.Prelude.{◌≡◌, ◌<◌, ◌∷◌, [], IfOk, IfSome};
-ghost use Rattle.sync_model.specs.declared.atomic_object.AtomicKind.TheVariants as kinds;
+ghost use Rattle.sync_types.specs.declared.atomic_object.AtomicKind.TheVariants as kinds;
 ghost use Rattle.sync_model.specs.Shared.{IsCallerAt, IsMapCall};
 ghost use Rattle.shared_plain.specs.Marks.{own_by, IsMarkOf};
 ghost use Rattle.shared_plain.specs.Plains.{kinds_of, maps_of, Takes};
@@ -10,9 +10,8 @@ use crate::state::has_call;
 use crate::{Mark, Plain};
 use std::alloc::{AllocError, Global};
 use std::sync::Wait;
-use sync_model::{
-    AtomicCall, AtomicKind, AtomicReply, Caller, CallerNote, MapCall, MapReply, Note, Shared,
-};
+use sync_model::{Caller, CallerNote, Note, Shared};
+use sync_types::{AtomicCall, AtomicKind, AtomicReply, MapCall, MapReply};
 
 /// What two steps of a cursor show.
 pub(super) type TwoSteps = (Option<(u32, u64)>, Option<(u32, u64)>);

@@ -1,7 +1,7 @@
 //! Calls by two threads, and what is there when both have ended.
 ghost use Rattle.std.specs.Prelude.{◌≡◌, ℕ, ◌<◌, ◌∷◌, []};
 ghost use Rattle.std.specs.Thread.{IsSync};
-ghost use Rattle.sync_model.specs.declared.atomic_object.AtomicKind.TheVariants.{Int64};
+ghost use Rattle.sync_types.specs.declared.atomic_object.AtomicKind.TheVariants.{Int64};
 ghost use Rattle.sync_model.specs.Shared.{IsHeldBy};
 ghost use Rattle.shared_plain.specs.Marks.{own_by, IsMarkOf};
 ghost use Rattle.shared_plain.specs.Plains.{keys_of, kinds_of, maps_of};
@@ -10,7 +10,8 @@ use crate::{EndsRoom, Mark, Plain};
 use std::sync::Wait;
 use std::test::Fail;
 use std::thread::{Threads, join};
-use sync_model::{AtomicCall, AtomicKind, Caller, CallerNote, MapCall, Number, Shared};
+use sync_model::{Caller, CallerNote, Shared};
+use sync_types::{AtomicCall, AtomicKind, MapCall, Number};
 
 // Stores under a key of map 0, and adds to atomic 0.
 fn store_and_add<R: Wait>(

@@ -2,7 +2,8 @@
 use super::pair::{Pair, Who};
 use crate::{EndsRoom, Event, Plain, PlainState};
 use std::test::Fail;
-use sync_model::{AtomicCall, AtomicKind, End, MapCall, Number, Shared};
+use sync_model::Shared;
+use sync_types::{AtomicCall, AtomicKind, End, MapCall, Number};
 
 // Keys 1 and 3 are there when the cursor begins. It has shown key 1 when its caller makes another call.
 #[test]

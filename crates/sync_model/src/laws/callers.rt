@@ -7,10 +7,10 @@ ghost use Rattle.sync_model.specs.Shared.{IsCallerAt, state_of};
 ghost use Rattle.sync_model.specs.SharedLaws.{FindsItsStore, StepsOn};
 
 use crate::caller::{Caller, CallerNote};
-use crate::map_object::{MapCall, MapReply};
 use crate::note::Note;
 use crate::shared::Shared;
 use std::sync::Wait;
+use sync_types::{MapCall, MapReply};
 
 /// Stores a value, takes in what another caller told, and loads the key. However much was told, the load lies behind the
 /// store in the history; and it finds the value, where no entry between the two is on the key.

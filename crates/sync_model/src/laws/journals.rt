@@ -6,7 +6,7 @@ ghost use Rattle.sync_model.specs.Log as log;
 
 use crate::journal::{Deed, Entry};
 use crate::machine::Machine;
-use crate::misuse::Misuse;
+use sync_types::Misuse;
 
 /// The events that a machine took, of a journal that follows it, are a log of the machine for one thread: the replies
 /// are the machine's, and they lead to the same state. So what holds of every log holds of an object that is shared.

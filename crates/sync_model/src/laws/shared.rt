@@ -2,17 +2,16 @@
 ghost use Rattle.std.specs.Prelude.{◌≡◌, ◌≢◌, ℕ, ◌+◌, ◌^◌, ◌<◌, ◌≤◌, true, false, List, ◌∷◌, ◌++◌, length, Option, Some, None, slice_get, slice_index, ◌⊎◌};
 ghost use Rattle.std.specs.Ordering.{nat_cmp};
 ghost use Rattle.std.specs.FinMap.{FinMap, get};
-ghost use Rattle.sync_model.specs.SequentialMap.{map_after};
+ghost use Rattle.sync_types.specs.SequentialMap.{map_after};
 ghost use Rattle.sync_model.specs.Front.{AtLeast};
-ghost use Rattle.sync_model.specs.SequentialAtomic.{zero_of};
+ghost use Rattle.sync_types.specs.SequentialAtomic.{zero_of};
 ghost use Rattle.sync_model.specs.SharedHistory.{Contents, first_contents, value_at, contents_at};
 ghost use Rattle.sync_model.specs.SharedCalls.{Knows, IsStep, WasSo, Lawful};
 ghost use Rattle.sync_model.specs.Shared.{values_of, cost_of};
 ghost use Rattle.sync_model.specs.SharedLaws.{LeaveKey, LeaveAtomic};
 
-use crate::atomic_object::{AtomicCall, AtomicKind, AtomicReply, Number};
 use crate::item::{Item, SharedCall, SharedEntry, SharedReply};
-use crate::map_object::{MapCall, MapReply};
+use sync_types::{AtomicCall, AtomicKind, AtomicReply, MapCall, MapReply, Number};
 
 /// A load finds what the last store before its place stored: the last one of this atomic, or of this key, where no entry
 /// between is on it. Where no entry before its place is on it, it finds the zero value of Go's type: no value at a key, 0 or

@@ -9,7 +9,7 @@ ghost use Rattle.wait_cores.specs.GroupStanding.{answers, may_make, waits_at, wa
 ghost use Rattle.wait_cores.specs.GroupLaws.{Log, WasZero, state_after, wait_by, leave_by, additions};
 
 use crate::group::{GroupCore, GroupEvent, GroupPlace, GroupReply};
-use sync_model::Misuse;
+use sync_types::Misuse;
 use sync_model::laws::logs::logs_go_on;
 
 /// A wait returns only after the counter was 0, whatever callers do and whatever the state was: one that returns at once finds

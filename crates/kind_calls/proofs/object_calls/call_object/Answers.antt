@@ -1,6 +1,6 @@
 use Rattle.std.proofs.Common.{ap, ◌∙◌}
-use Rattle.sync_model.specs.declared.call.Operation.TheVariants as operations
-use Rattle.sync_model.specs.declared.wait_call.CondCall.{CondCall}
+use Rattle.sync_types.specs.declared.call.Operation.TheVariants as operations
+use Rattle.sync_types.specs.declared.wait_call.CondCall.{CondCall}
 use Rattle.run_record.specs.Record.{number_at}
 use Rattle.kind_calls.proofs.ByKind.{on_mutex, on_rw_mutex, on_signal, on_broadcast, on_group, on_func, on_value, on_pool}
 use Rattle.kind_calls.proofs.object_calls.call_object.Goals as goal

@@ -3,15 +3,15 @@ use Rattle.std.specs.Prelude.{sum_by, zip}
 use Rattle.std.specs.List.{list_all, flat_map}
 use Rattle.std.specs.Option.{option_map}
 use Rattle.std.proofs.lemmas.Option.{slice_get_within, get_or_from_slice_get, slice_get-get_or, slice_get-map}
-use Rattle.sync_model.specs.declared.atomic_object.AtomicKind.TheVariants as types
-use Rattle.sync_model.specs.declared.atomic_object.Number.TheVariants.{Bool as Truth}
-use Rattle.sync_model.specs.declared.atomic_object.Number.{Number}
-use Rattle.sync_model.specs.declared.call.Call.{Call}
+use Rattle.sync_types.specs.declared.atomic_object.AtomicKind.TheVariants as types
+use Rattle.sync_types.specs.declared.atomic_object.Number.TheVariants.{Bool as Truth}
+use Rattle.sync_types.specs.declared.atomic_object.Number.{Number}
+use Rattle.sync_types.specs.declared.call.Call.{Call}
 use Rattle.sync_model.specs.declared.item.Item.{Item}
 use Rattle.sync_model.specs.declared.item.SharedEntry.{SharedEntry}
-use Rattle.sync_model.specs.declared.outcome.End.{End}
-use Rattle.sync_model.specs.Ends.{number_end}
-use Rattle.sync_model.specs.SequentialAtomic.{zero_of}
+use Rattle.sync_types.specs.declared.outcome.End.{End}
+use Rattle.sync_types.specs.Ends.{number_end}
+use Rattle.sync_types.specs.SequentialAtomic.{zero_of}
 use Rattle.sync_model.specs.SharedHistory.{contents_at, contents_after, entries_from}
 use Rattle.run_record.specs.Lines.{Line, script_of}
 use Rattle.run_record.specs.Objects.{contents_of, is_atomic, places_from, types_of, atomic_number}

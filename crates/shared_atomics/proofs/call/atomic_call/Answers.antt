@@ -1,5 +1,5 @@
 use Rattle.std.proofs.Common.{◌≡◌, true, subst}
-use Rattle.sync_model.specs.SequentialAtomic.{is_atomic_call}
+use Rattle.sync_types.specs.SequentialAtomic.{is_atomic_call}
 use Rattle.shared_atomics.proofs.Steps.{both, exchanges, swapped}
 use Rattle.shared_atomics.proofs.call.atomic_call.Goals as goal
 

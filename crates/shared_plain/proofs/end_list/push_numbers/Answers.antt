@@ -2,7 +2,7 @@ use Rattle.std.proofs.Common.{◌++◌, map, sym, ap, ◌∙◌}
 use Rattle.std.proofs.lemmas.Simd.{map-map}
 use Rattle.std.proofs.lemmas.Iterator.{YieldsList-from_slice, YieldsList-from_zip}
 use Rattle.std.proofs.lemmas.Iterator.Consumers.{YieldsList-end}
-use Rattle.sync_model.specs.Ends.{number_end}
+use Rattle.sync_types.specs.Ends.{number_end}
 use Rattle.shared_plain.proofs.end_list.push_numbers.Goals as goal
 
 pub returns-clause-ends : goal.returns-clause-ends

@@ -1,5 +1,5 @@
 use Rattle.std.proofs.Common.{◌≡◌, ◌+◌, ◌++◌, map, length, vec_len, vec_capacity}
-use Rattle.sync_model.specs.Ends.{number_end}
+use Rattle.sync_types.specs.Ends.{number_end}
 use Rattle.shared_plain.proofs.end_list.push_numbers.Given as goal
 
 abbrev pub invariant-loop-object : goal.invariant-loop-object

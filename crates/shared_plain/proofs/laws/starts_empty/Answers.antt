@@ -1,6 +1,6 @@
 use Rattle.std.proofs.Common.{◌≡◌, ℕ, zero, suc, ◌∷◌, map, replicate, refl}
 use Rattle.std.proofs.Common.{None}
-use Rattle.sync_model.specs.SequentialAtomic.{zero_of}
+use Rattle.sync_types.specs.SequentialAtomic.{zero_of}
 use Rattle.std.specs.FinMap.{empty}
 use Rattle.shared_plain.specs.Slots.{map_of}
 use Rattle.shared_plain.proofs.SlotMaps.{all_none}

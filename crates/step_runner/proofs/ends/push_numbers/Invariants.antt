@@ -1,5 +1,5 @@
 use Rattle.std.proofs.Common.{◌≡◌, ◌++◌, drop, map}
-use Rattle.sync_model.specs.Ends.{number_end}
+use Rattle.sync_types.specs.Ends.{number_end}
 use Rattle.step_runner.specs.Ends.{numbers_from}
 use Rattle.step_runner.proofs.ends.push_numbers.Given as goal
 

@@ -1,6 +1,6 @@
 use Rattle.std.proofs.Common.{◌≡◌, ◌++◌, drop}
 use Rattle.std.specs.List.{flat_map}
-use Rattle.sync_model.specs.Ends.{pair_ends}
+use Rattle.sync_types.specs.Ends.{pair_ends}
 use Rattle.workload.specs.Keys.{key_number}
 use Rattle.step_runner.specs.Ends.{maps_from}
 use Rattle.step_runner.proofs.ends.push_pairs.Given as goal

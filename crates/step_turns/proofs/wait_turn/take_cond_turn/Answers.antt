@@ -1,5 +1,5 @@
 use Rattle.std.proofs.Common.{ap, ◌∙◌}
-use Rattle.sync_model.specs.declared.call.Operation.TheVariants as operations
+use Rattle.sync_types.specs.declared.call.Operation.TheVariants as operations
 use Rattle.step_turns.specs.declared.object_state.ObjectState.{ObjectState}
 use Rattle.step_turns.specs.declared.object_state.ObjectState.TheVariants as states
 use Rattle.step_turns.specs.Turns.{turn_on_both}

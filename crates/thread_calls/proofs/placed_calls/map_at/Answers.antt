@@ -1,7 +1,7 @@
 use Rattle.run_record.specs.Limits.{IsKeyOf}
 use Rattle.std.proofs.Common.{ℕ, List, refl, sym, ap, ◌∙◌, subst}
-use Rattle.sync_model.specs.declared.map_object.MapCall.{MapCall}
-use Rattle.sync_model.specs.Renaming.{renamed_call}
+use Rattle.sync_types.specs.declared.map_object.MapCall.{MapCall}
+use Rattle.sync_types.specs.Renaming.{renamed_call}
 use Rattle.sync_model.specs.Shared.{IsMapCall}
 use Rattle.workload.specs.Keys.{keys_in, key_number}
 use Rattle.workload.specs.declared.object.ObjectKind.TheVariants as kinds

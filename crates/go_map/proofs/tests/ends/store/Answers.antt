@@ -1,5 +1,5 @@
-use Rattle.sync_model.specs.declared.map_object.MapCall.TheVariants.{Store}
-use Rattle.sync_model.specs.declared.map_object.MapReply.TheVariants.{Done}
+use Rattle.sync_types.specs.declared.map_object.MapCall.TheVariants.{Store}
+use Rattle.sync_types.specs.declared.map_object.MapReply.TheVariants.{Done}
 use Rattle.go_map.proofs.AllCallers.{still_held}
 use Rattle.go_map.proofs.tests.ends.store.Goals as goal
 

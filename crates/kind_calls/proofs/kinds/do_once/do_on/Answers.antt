@@ -6,9 +6,9 @@ use Rattle.kind_calls.proofs.OnlyCalls.{IfNone_of, made_on, none_made}
 use Rattle.std.proofs.Common.{◌≡◌, ℕ, ℤ, Option, Ok, subst, sym, ap, ◌∙◌, to_z, of_z, rules}
 use Rattle.std.specs.Int.{w64}
 use Rattle.sync_model.specs.declared.answer.Answer.TheVariants.{Done}
-use Rattle.sync_model.specs.declared.call.Reply.{Reply}
-use Rattle.sync_model.specs.declared.call.Reply.TheVariants as replies
-use Rattle.sync_model.specs.declared.once_call.DoReply.TheVariants as do_replies
+use Rattle.sync_types.specs.declared.call.Reply.{Reply}
+use Rattle.sync_types.specs.declared.call.Reply.TheVariants as replies
+use Rattle.sync_types.specs.declared.once_call.DoReply.TheVariants as do_replies
 use Rattle.protocols.specs.OnceStages.{once_event, once_meaning}
 use Rattle.protocols.specs.Spelling.{CallAnswer}
 use Rattle.run_record.specs.AtomicKind.{adds}

@@ -1,4 +1,4 @@
-use Rattle.sync_model.specs.declared.pool_call.PoolCall.TheVariants.{Put, Get, Sweep}
+use Rattle.sync_types.specs.declared.pool_call.PoolCall.TheVariants.{Put, Get, Sweep}
 use Rattle.run_record.specs.PoolKind.{pool_call}
 use Rattle.kind_calls.proofs.Working.{part_as, reads}
 use Rattle.kind_calls.proofs.kinds.pool.call_pool.Goals as goal

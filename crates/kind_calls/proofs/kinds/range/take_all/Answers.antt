@@ -1,7 +1,7 @@
 use Rattle.std.proofs.Common.{◌≡◌, ℕ, ◌<◌, ◌≤◌, List, [], ◌∷◌, ◌++◌, length, Some, None, Ok, refl, sym, ap, ◌∙◌, subst, arith, rules}
 use Rattle.std.specs.Prelude.{is_some}
 use Rattle.std.proofs.lemmas.List.{length_push}
-use Rattle.sync_model.specs.BoundedSeq.{Bounded}
+use Rattle.sync_types.specs.BoundedSeq.{Bounded}
 use Rattle.sync_model.specs.declared.answer.Answer.TheVariants.{Done}
 use Rattle.sync_model.specs.declared.item.SharedCall.TheVariants.{Next}
 use Rattle.sync_model.specs.declared.item.SharedReply.TheVariants.{Shown}

@@ -3,7 +3,7 @@ use Rattle.std.proofs.lemmas.Bool.{false≢true, cases_lt, eq-eqb}
 use Rattle.std.proofs.Common.{refl, ◌==◌, ◌&&◌}
 use Rattle.sync_model.specs.declared.item.SharedCall.TheVariants.{Map}
 use Rattle.sync_model.specs.declared.item.SharedEntry.{SharedEntry}
-use Rattle.sync_model.specs.declared.map_object.MapCall.TheVariants.{Store}
+use Rattle.sync_types.specs.declared.map_object.MapCall.TheVariants.{Store}
 use Rattle.sync_model.specs.SharedLaws.{is_on_key, LeaveKey}
 use Rattle.run_record.specs.Objects.{contents_of}
 use Rattle.run_record.specs.Record.{calls_of}

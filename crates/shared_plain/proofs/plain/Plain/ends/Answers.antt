@@ -1,5 +1,5 @@
 use Rattle.std.proofs.Common.{map, length, sym, ap, ◌∙◌, subst}
-use Rattle.sync_model.specs.SequentialAtomic.{kind_of}
+use Rattle.sync_types.specs.SequentialAtomic.{kind_of}
 use Rattle.ruled_object.specs.Gathered.{AreAllPasses, IsWhole}
 use Rattle.ruled_object.specs.Passes.{start_of}
 use Rattle.shared_plain.specs.EndLists.{HasKeysBelow}

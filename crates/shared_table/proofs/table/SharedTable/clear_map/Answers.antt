@@ -1,6 +1,6 @@
 use Rattle.std.proofs.Common.{rules, refl}
-use Rattle.sync_model.specs.declared.map_object.MapCall.TheVariants.{Clear}
-use Rattle.sync_model.specs.declared.map_object.MapReply.TheVariants.{Done}
+use Rattle.sync_types.specs.declared.map_object.MapCall.TheVariants.{Clear}
+use Rattle.sync_types.specs.declared.map_object.MapReply.TheVariants.{Done}
 use Rattle.shared_table.proofs.Payments.{has_unit, next_small}
 use Rattle.shared_table.proofs.table.SharedTable.clear_map.Goals as goal
 

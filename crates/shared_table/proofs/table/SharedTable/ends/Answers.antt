@@ -1,7 +1,7 @@
 use Rattle.std.proofs.Common.{◌^◌, ℕ, List, length, map, sym, ap, ◌∙◌, subst}
 use Rattle.std.specs.Mem.Slots.{slots_items}
 use Rattle.sync_model.specs.declared.caller.Caller.{Caller}
-use Rattle.sync_model.specs.SequentialAtomic.{kind_of}
+use Rattle.sync_types.specs.SequentialAtomic.{kind_of}
 use Rattle.sync_model.specs.Shared.{calls_of}
 use Rattle.sync_model.specs.SharedHistory.{Contents, contents_after}
 use Rattle.table_ends.specs.EndWords.{contents_in, IsTableRow}

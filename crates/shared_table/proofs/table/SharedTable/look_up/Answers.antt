@@ -1,7 +1,7 @@
 use Rattle.sync_model.specs.declared.item.SharedCall.TheVariants as calls
 use Rattle.sync_model.specs.declared.item.SharedReply.TheVariants as replies
-use Rattle.sync_model.specs.declared.map_object.MapCall.TheVariants.{Load}
-use Rattle.sync_model.specs.declared.map_object.MapReply.TheVariants.{Found}
+use Rattle.sync_types.specs.declared.map_object.MapCall.TheVariants.{Load}
+use Rattle.sync_types.specs.declared.map_object.MapReply.TheVariants.{Found}
 use Rattle.shared_table.proofs.Calling.{note_on}
 use Rattle.shared_table.proofs.table.SharedTable.look_up.Goals as goal
 

@@ -1,6 +1,6 @@
 use Rattle.std.proofs.Common.{◌≡◌, ℕ, List, length, refl}
 use Rattle.sync_model.specs.declared.item.SharedCall.TheVariants.{Map, Next}
-use Rattle.sync_model.specs.declared.map_object.MapCall.{MapCall}
+use Rattle.sync_types.specs.declared.map_object.MapCall.{MapCall}
 use Rattle.sync_model.specs.declared.item.Item.{Item}
 use Rattle.sync_model.specs.SharedHistory.{first_contents}
 use Rattle.sync_model.proofs.SharedUses.{stands_on, steps_on}

@@ -1,7 +1,7 @@
 use Rattle.std.proofs.Common.{true, false, refl}
 use Rattle.sync_model.specs.declared.item.SharedCall.TheVariants.{Map, Atomic}
-use Rattle.sync_model.specs.declared.map_object.MapCall.TheVariants as maps
-use Rattle.sync_model.specs.declared.atomic_object.AtomicCall.TheVariants as atomics
+use Rattle.sync_types.specs.declared.map_object.MapCall.TheVariants as maps
+use Rattle.sync_types.specs.declared.atomic_object.AtomicCall.TheVariants as atomics
 use Rattle.sync_model.proofs.SharedEntries.{call_of, entry_at, entry_once, entry_by_call}
 use Rattle.sync_model.proofs.laws.shared.each_entry_is_a_call.Goals as goal
 

@@ -1,6 +1,6 @@
 use Rattle.std.proofs.Common.{sym, ap, ◌∙◌, subst, true}
 use Rattle.std.specs.Prelude.{◌≡◌, Some}
-use Rattle.sync_model.specs.WordLayout.{is_word, number_in}
+use Rattle.sync_types.specs.WordLayout.{is_word, number_in}
 use Rattle.table_ends.specs.EndContents.{words_of}
 use Rattle.table_ends.specs.EndWords.{number_of}
 use Rattle.table_ends.proofs.Readings.{numbered, not_numbered}

@@ -1,8 +1,8 @@
 use Rattle.std.proofs.Common.{◌<◌, ◌≤◌, ◌++◌, [], ◌∷◌, ℕ, map, length, get_or, take, sym, ap, ◌∙◌, arith, append_assoc, vec_len, vec_capacity}
 use Rattle.std.specs.Prelude.{zip}
 use Rattle.std.proofs.lemmas.List.{map-append}
-use Rattle.sync_model.specs.declared.atomic_object.Number.{Number}
-use Rattle.sync_model.specs.Ends.{number_end}
+use Rattle.sync_types.specs.declared.atomic_object.Number.{Number}
+use Rattle.sync_types.specs.Ends.{number_end}
 use Rattle.table_ends.specs.EndContents.{contents_of, words_of}
 use Rattle.table_ends.specs.EndWords.{number_of}
 use Rattle.table_ends.proofs.Readings.{as_long, item_at, numbered}

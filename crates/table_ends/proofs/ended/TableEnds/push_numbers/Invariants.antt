@@ -1,6 +1,6 @@
 use Rattle.std.proofs.Common.{◌≡◌, ◌+◌, ◌≤◌, ◌++◌, map, take, vec_len, vec_capacity}
 use Rattle.std.specs.Prelude.{zip}
-use Rattle.sync_model.specs.Ends.{number_end}
+use Rattle.sync_types.specs.Ends.{number_end}
 use Rattle.table_ends.specs.EndContents.{contents_of}
 use Rattle.table_ends.proofs.ended.TableEnds.push_numbers.Given as goal
 

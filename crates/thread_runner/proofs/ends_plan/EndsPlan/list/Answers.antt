@@ -1,5 +1,5 @@
 use Rattle.std.proofs.Common.{◌≡◌, ℕ, List, ◌++◌, ap, ◌∙◌, rules}
-use Rattle.sync_model.specs.declared.outcome.End.{End}
+use Rattle.sync_types.specs.declared.outcome.End.{End}
 use Rattle.workload.specs.Keys.{keys_in, key_number, key_name}
 use Rattle.run_record.specs.Objects.{is_atomic, places_from}
 use Rattle.shared_plain.specs.EndLists.{ends_by, ends_by_name}

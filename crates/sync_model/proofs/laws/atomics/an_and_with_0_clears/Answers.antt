@@ -1,5 +1,0 @@
-use Rattle.sync_model.proofs.AtomicLemmas.{or_zero}
-use Rattle.sync_model.proofs.laws.atomics.an_and_with_0_clears.Goals as goal
-
-pub returns-clause-or : goal.returns-clause-or
-returns-clause-or c = or_zero

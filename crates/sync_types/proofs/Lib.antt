@@ -1,0 +1,5 @@
+pub mod ByNameLemmas
+pub mod MapLemmas
+mod RenamingLemmas
+pub mod AtomicLemmas
+mod Names

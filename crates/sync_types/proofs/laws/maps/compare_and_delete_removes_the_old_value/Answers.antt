@@ -1,0 +1,9 @@
+use Rattle.std.proofs.Common.{ap}
+use Rattle.sync_types.specs.declared.map_object.MapReply.TheVariants.{Compared}
+use Rattle.sync_types.proofs.MapLemmas.{value_there, delete_made}
+use Rattle.sync_types.proofs.laws.maps.compare_and_delete_removes_the_old_value.Goals as goal
+
+pub returns-clause-there : goal.returns-clause-there
+returns-clause-there g c = λ R order m key old finds.
+    let there = value_there m key old finds in
+    (ap Compared there, delete_made order m key old there)

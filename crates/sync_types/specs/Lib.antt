@@ -1,0 +1,12 @@
+pub mod BoundedSeq
+pub mod ByName
+pub mod Ends
+pub mod MapLaws
+pub mod Misuse
+pub mod Name
+pub mod Outcome
+pub mod Renaming
+pub mod Replies
+pub mod SequentialAtomic
+pub mod SequentialMap
+pub mod WordLayout

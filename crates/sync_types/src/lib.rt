@@ -1,0 +1,37 @@
+//! The plain types that every layer speaks of: names, lists, the calls of each kind of object with
+//! their replies, the one-thread objects that say what a call answers, and what a run leaves behind.
+#![tactic(auto)]
+
+pub mod atomic_object;
+pub mod bounded_seq;
+pub mod by_name;
+pub mod call;
+pub mod laws;
+pub mod lock_call;
+pub mod map_object;
+pub mod misuse;
+pub mod name;
+pub mod once_call;
+pub mod outcome;
+pub mod pool_call;
+pub mod seq;
+pub mod value;
+pub mod wait_call;
+
+pub use atomic_object::{AtomicCall, AtomicKind, AtomicReply, Number};
+pub use bounded_seq::BoundedSeq;
+pub use by_name::ByName;
+pub use call::{Call, Operation, Reply};
+pub use lock_call::{LockReply, MutexCall, RwMutexCall};
+pub use map_object::{MapCall, MapReply};
+pub use misuse::Misuse;
+pub use name::Name;
+pub use once_call::DoReply;
+pub use outcome::{End, Ending, Outcome, Report};
+pub use pool_call::{PoolCall, PoolCallReply};
+pub use seq::Seq;
+pub use value::MAX_VALUE;
+pub use wait_call::{CondCall, WaitGroupCall};
+
+#[cfg(test)]
+mod tests;
