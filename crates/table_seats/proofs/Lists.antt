@@ -42,9 +42,6 @@ module _ {A : Type 0} where
   item_there (x ∷ xs) zero below = (x, refl)
   item_there (x ∷ xs) (suc i) below = item_there xs i (omega arith)
 
-  pub one_longer : (xs : List A) (x : A) (n : ℕ) → length xs ≡ n → length (xs ++ x ∷ []) ≡ n + 1
-  one_longer xs x n is = omega (arith, length-append xs (x ∷ []))
-
 -- a list of numbers has 0 beyond its end
 pub past_end : (xs : List ℕ) (i : ℕ) → length xs ≤ i → slice_index xs i ≡ 0
 past_end [] i past = refl
