@@ -21,6 +21,8 @@ pub mod Joining
 pub mod FirstWords
 pub mod Looking
 pub mod Quiet
+pub mod Placing
+pub mod Placed
 pub mod Lookups
 pub mod Reading
 pub mod Outside
