@@ -16,7 +16,7 @@ use Rattle.sync_model.specs.Journal.{Begins}
 use Rattle.sync_types.specs.SequentialMap.{is_value, map_key, map_reply, map_after, is_map_entry}
 use Rattle.sync_model.specs.SharedHistory.{Contents, map_at, value_at, contents_after, is_entry, shared_after, with_call}
 use Rattle.table_seats.specs.declared.begin.Begin.{Begin}
-use Rattle.table_seats.specs.KeyCalls.{key_reply, is_key_entry, key_after}
+use Rattle.sync_types.specs.KeyCalls.{key_reply, is_key_entry, key_after}
 use Rattle.table_seats.specs.Laws.{HistoryLaws}
 use Rattle.table_seats.specs.Shape.{start_of}
 use Rattle.table_seats.proofs.Ledgers.{contents_on}

@@ -18,6 +18,7 @@ pub mod Operating
 pub mod Operated
 pub mod Seats
 pub mod Joining
+pub mod Stepping
 pub mod FirstWords
 pub mod Looking
 pub mod Quiet

@@ -67,9 +67,9 @@ begins_cursor k laws sweep id me m live begin some_owns below = by_owns me.0.own
 pub mounts : (k : Begin) (id : ℕ) (v : View) (other : ℕ) (w : View) → v.live ≡ true → w.live ≡ true → length w.owns ≡ 0 → Joins (Kept k) id v other w (mounted v w) spent
 mounts k id v other w live live_it nobody s r at_me apart at_it = with_views k s r r.claim (set (set s.views id (mounted v w)) other spent)
     (each_after (λ j u. u.live ≡ true → Fits (callers_of k) r.log r.calls r.claim j u) (set s.views id (mounted v w)) other spent (λ alive. absurd (cc))
-      (λ j u not_it at. each_after (λ j u. u.live ≡ true → Fits (callers_of k) r.log r.calls r.claim j u) s.views id (mounted v w) (λ alive. fits_mounted) (λ j u not_me at. r.fits j u at) j u at))
+    (λ j u not_it at. each_after (λ j u. u.live ≡ true → Fits (callers_of k) r.log r.calls r.claim j u) s.views id (mounted v w) (λ alive. fits_mounted) (λ j u not_me at. r.fits j u at) j u at))
     (each_after (λ j u. u.live ≡ true → Suits k r.shape r.log r.calls s.words u) (set s.views id (mounted v w)) other spent (λ alive. absurd (cc))
-      (λ j u not_it at. each_after (λ j u. u.live ≡ true → Suits k r.shape r.log r.calls s.words u) s.views id (mounted v w) (λ alive. suits_mounted) (λ j u not_me at. r.suits j u at) j u at))
+    (λ j u not_it at. each_after (λ j u. u.live ≡ true → Suits k r.shape r.log r.calls s.words u) s.views id (mounted v w) (λ alive. suits_mounted) (λ j u not_me at. r.suits j u at) j u at))
   where
     at_w : get_elem? s.views other ≡ some w
     at_w = sym (set_else s.views id other (mounted v w) apart) ∙ at_it

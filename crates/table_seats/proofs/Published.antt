@@ -19,8 +19,8 @@ use Rattle.table_seats.specs.declared.view.Gate.TheVariants.{Outside, Inside, Cl
 use Rattle.table_seats.specs.declared.view.Lock.{Lock}
 use Rattle.table_seats.specs.declared.view.Own.{Own}
 use Rattle.table_seats.specs.declared.view.View.{View}
-use Rattle.table_seats.specs.KeyCalls.{key_reply, is_key_entry, key_after}
-use Rattle.table_seats.specs.Keys.{HasKeysBelow}
+use Rattle.sync_types.specs.KeyCalls.{key_reply, is_key_entry, key_after}
+use Rattle.sync_model.specs.EndsOfHistory.{HasKeysBelow}
 use Rattle.table_seats.specs.Laws.{HistoryLaws}
 use Rattle.trie_nodes.specs.declared.slot.Slot.TheVariants.{Node}
 use Rattle.trie_nodes.specs.Layout.{parent_word, slot_word, unit_words, dead_word}

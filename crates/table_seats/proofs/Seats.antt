@@ -55,15 +55,15 @@ module _ (k : Begin) (s : TableState) (r : Kept k s) (id : ℕ) (v : View) (at_m
     (suits_left : Suits k r.shape r.log r.calls s.words left) (suits_right : Suits k r.shape r.log r.calls s.words right) where
   pub divided : Kept k record { words = s.words; homes = s.homes; views = set s.views id left ++ right ∷ [] }
   divided = with_views k s r claim (set s.views id left ++ right ∷ [])
-    (λ j u at live. elim (at_end (set s.views id left) right u j at) [
-      | inl old ↦ each_after (λ j u. u.live ≡ true → Fits (callers_of k) r.log r.calls claim j u) s.views id left (λ live. fits_left)
-          (λ j u other at live. fits_claim (callers_of k) r.log r.calls r.claim claim j u (λ d. stays d j other) (r.fits j u at live)) j u old live
-      | inr new ↦ subst (λ (x : ℕ × View). Fits (callers_of k) r.log r.calls claim x.0 x.1) (λ i. (sym new.0 i, new.1 i)) fits_right
-    ])
-    (λ j u at live. elim (at_end (set s.views id left) right u j at) [
-      | inl old ↦ each_after (λ j u. u.live ≡ true → Suits k r.shape r.log r.calls s.words u) s.views id left (λ live. suits_left) (λ j u other at live. r.suits j u at live) j u old live
-      | inr new ↦ subst (Suits k r.shape r.log r.calls s.words) new.1 suits_right
-    ])
+      (λ j u at live. elim (at_end (set s.views id left) right u j at) [
+        | inl old ↦ each_after (λ j u. u.live ≡ true → Fits (callers_of k) r.log r.calls claim j u) s.views id left (λ live. fits_left)
+            (λ j u other at live. fits_claim (callers_of k) r.log r.calls r.claim claim j u (λ d. stays d j other) (r.fits j u at live)) j u old live
+        | inr new ↦ subst (λ (x : ℕ × View). Fits (callers_of k) r.log r.calls claim x.0 x.1) (λ i. (sym new.0 i, new.1 i)) fits_right
+      ])
+      (λ j u at live. elim (at_end (set s.views id left) right u j at) [
+        | inl old ↦ each_after (λ j u. u.live ≡ true → Suits k r.shape r.log r.calls s.words u) s.views id left (λ live. suits_left) (λ j u other at live. r.suits j u at live) j u old live
+        | inr new ↦ subst (Suits k r.shape r.log r.calls s.words) new.1 suits_right
+      ])
 
 -- a seat that stands for nobody, where another stands that is outside of all gates
 module _ (k : Begin) (s : TableState) (r : Kept k s) (id : ℕ) (v : View) (at_me : get_elem? s.views id ≡ some v) (live : v.live ≡ true) where
@@ -201,10 +201,10 @@ module _ {A : Type 0} where
 pub joins : (k : Begin) → HistoryLaws → (id : ℕ) (v : View) (other : ℕ) (w : View) → v.live ≡ true → w.live ≡ true → IsIdle w → (0 < length w.owns → v.number + length v.owns ≡ w.number) → Joins (Kept k) id v other w (joined v w) spent
 joins k laws id v other w live live_it idle next_callers s r at_me apart at_it = with_views k s r claim (set (set s.views id (joined v w)) other spent)
     (each_after (λ j u. u.live ≡ true → Fits (callers_of k) r.log r.calls claim j u) (set s.views id (joined v w)) other spent (λ alive. absurd (cc))
-      (λ j u not_it at. each_after (λ j u. j ≢ other → u.live ≡ true → Fits (callers_of k) r.log r.calls claim j u) s.views id (joined v w) (λ ne alive. fits_joined)
-      (λ j u not_me at ne alive. fits_claim (callers_of k) r.log r.calls r.claim claim j u (λ d is. stays d j is ne) (r.fits j u at alive)) j u at not_it))
+    (λ j u not_it at. each_after (λ j u. j ≢ other → u.live ≡ true → Fits (callers_of k) r.log r.calls claim j u) s.views id (joined v w) (λ ne alive. fits_joined)
+    (λ j u not_me at ne alive. fits_claim (callers_of k) r.log r.calls r.claim claim j u (λ d is. stays d j is ne) (r.fits j u at alive)) j u at not_it))
     (each_after (λ j u. u.live ≡ true → Suits k r.shape r.log r.calls s.words u) (set s.views id (joined v w)) other spent (λ alive. absurd (cc))
-      (λ j u not_it at. each_after (λ j u. u.live ≡ true → Suits k r.shape r.log r.calls s.words u) s.views id (joined v w) (λ alive. suits_joined) (λ j u not_me at. r.suits j u at) j u at))
+    (λ j u not_it at. each_after (λ j u. u.live ≡ true → Suits k r.shape r.log r.calls s.words u) s.views id (joined v w) (λ alive. suits_joined) (λ j u not_me at. r.suits j u at) j u at))
   where
     at_w : get_elem? s.views other ≡ some w
     at_w = sym (set_else s.views id other (joined v w) apart) ∙ at_it
