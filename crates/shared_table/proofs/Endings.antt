@@ -16,7 +16,7 @@ use Rattle.table_seats.specs.Views.{held_in}
 use Rattle.table_seats.proofs.Lists.{item_there}
 use Rattle.shared_table.specs.declared.note.SharedNote.{SharedNote}
 use Rattle.shared_table.specs.declared.table.SharedTable.{SharedTable}
-use Rattle.shared_table.specs.EndsOfHistory.{AreEnds}
+use Rattle.sync_model.specs.EndsOfHistory.{AreEnds}
 use Rattle.shared_table.specs.Notes.{own_by, seen_by, IsNoteOf}
 use Rattle.shared_table.specs.Settling.{Gathered}
 use Rattle.shared_table.specs.Tables.{count_of, first_of}

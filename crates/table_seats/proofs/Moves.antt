@@ -11,7 +11,7 @@ use Rattle.table_seats.specs.declared.view.Own.{Own}
 use Rattle.table_seats.specs.declared.view.View.{View}
 use Rattle.table_seats.specs.Gates.{Gated}
 use Rattle.table_seats.specs.Laws.{HistoryLaws}
-use Rattle.table_seats.specs.Keys.{HasKeysBelow}
+use Rattle.sync_model.specs.EndsOfHistory.{HasKeysBelow}
 use Rattle.table_seats.specs.Layout.{callers_of}
 use Rattle.table_seats.specs.Ledger.{Fits}
 use Rattle.table_seats.specs.Owed.{Suits}
