@@ -18,7 +18,7 @@ mod table_objects;
 
 use crate::fresh::FreshNote;
 use crate::map_and_int::MapAndInt;
-use crate::one_call::{Add, Churn, Load, On, Store};
+use crate::one_call::{Add, Churn, Load, Mix, On, Store};
 use crate::plain_objects::PlainObjects;
 use crate::plan::{Call, Notes, Plan, Reads, What, plan_of};
 use crate::run::measure;
@@ -40,7 +40,8 @@ use sync_outside::{Clock, SystemClock};
 const USAGE: &str = "usage: measure WHAT HOW NOTES CLOCK CALLERS ROUNDS
 Prints how many nanoseconds a pair of calls takes, for each thread.
   WHAT     mutex | read | write | group | once | pool
-           plain-load | plain-store | plain-churn | plain-add, or trie-load | trie-store | trie-churn | word-add
+           plain-load | plain-store | plain-churn | plain-mix | plain-add
+           trie-load | trie-store | trie-churn | trie-mix | word-add
   HOW      one | two-own | four-own | two-shared | four-shared
   NOTES    front | empty
   CLOCK    machine | standing
@@ -59,6 +60,7 @@ fn with_call<S: MapAndInt, C: Clock + Sync, R: Threads + Wait + rt::Clock + Sync
         Call::Load => measure::<On<S, Load>, C, R>(rt, alloc, clock, plan),
         Call::Store => measure::<On<S, Store>, C, R>(rt, alloc, clock, plan),
         Call::Churn => measure::<On<S, Churn>, C, R>(rt, alloc, clock, plan),
+        Call::Mix => measure::<On<S, Mix>, C, R>(rt, alloc, clock, plan),
         Call::Add => measure::<On<S, Add>, C, R>(rt, alloc, clock, plan),
     }
 }

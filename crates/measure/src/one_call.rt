@@ -101,6 +101,30 @@ impl OneCall for Churn {
     }
 }
 
+/// Each tenth call is a store under one of the caller's own 128 keys, and the others are loads of the 512 keys in turn.
+#[derive(Drop)]
+pub struct Mix;
+
+impl OneCall for Mix {
+    fn spare(rounds: u32) -> u32 {
+        rounds
+    }
+
+    fn make<S: MapAndInt, R: Wait>(
+        rt: &R,
+        shared: &S,
+        caller: &mut Caller<S::Mark>,
+        round: u32,
+    ) -> bool {
+        if round % 10 < 9 {
+            return shared.load(rt, caller, round);
+        }
+        let key = own_key(caller.number(), round);
+        shared.store(rt, caller, key);
+        true
+    }
+}
+
 /// An addition of 1 to the int64.
 #[derive(Drop)]
 pub struct Add;

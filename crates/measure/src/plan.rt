@@ -31,6 +31,8 @@ pub enum Call {
     Store,
     /// One store and one delete.
     Churn,
+    /// One call on a map: each tenth is a store, and the others are loads.
+    Mix,
     /// One `add` to an int64.
     Add,
 }
@@ -47,10 +49,12 @@ impl What {
             b"plain-load" => Some(What::Plain(Call::Load)),
             b"plain-store" => Some(What::Plain(Call::Store)),
             b"plain-churn" => Some(What::Plain(Call::Churn)),
+            b"plain-mix" => Some(What::Plain(Call::Mix)),
             b"plain-add" => Some(What::Plain(Call::Add)),
             b"trie-load" => Some(What::Table(Call::Load)),
             b"trie-store" => Some(What::Table(Call::Store)),
             b"trie-churn" => Some(What::Table(Call::Churn)),
+            b"trie-mix" => Some(What::Table(Call::Mix)),
             b"word-add" => Some(What::Table(Call::Add)),
             _ => None,
         }
