@@ -16,20 +16,10 @@ const OWN_KEYS: u32 = 128;
 
 /// A call that is made again and again.
 pub trait OneCall: Send + Sync + Drop {
-    /// How many entries a caller must be able to store for so many rounds.
-    fn spare(rounds: u32) -> u32
-        requires { rounds ≤ 100_000 }
-        ensures { result ≤ 200_000 };
-
     /// Makes it for the round of this number, 0 to 511, and answers whether it did what was expected.
-    fn make<S: MapAndInt, R: Wait>(
-        rt: &R,
-        shared: &S,
-        caller: &mut Caller<S::Mark>,
-        round: u32,
-    ) -> bool
-        requires { S.is_of shared.now caller.old × (round < 512) }
-        ensures { S.is_of shared.now caller.new };
+    fn make<S: MapAndInt, R: Wait>(rt: &R, on: &S, by: &mut Caller<S::Mark>, round: u32) -> bool
+        requires { S.is_of on.now by.old × (round < 512) }
+        ensures { S.is_of on.now by.new };
 }
 
 // The caller's own key for a round.
@@ -44,17 +34,8 @@ fn own_key(number: u32, round: u32) -> u32
 pub struct Load;
 
 impl OneCall for Load {
-    fn spare(_rounds: u32) -> u32 {
-        0
-    }
-
-    fn make<S: MapAndInt, R: Wait>(
-        rt: &R,
-        shared: &S,
-        caller: &mut Caller<S::Mark>,
-        round: u32,
-    ) -> bool {
-        shared.load(rt, caller, round)
+    fn make<S: MapAndInt, R: Wait>(rt: &R, on: &S, by: &mut Caller<S::Mark>, round: u32) -> bool {
+        on.load(rt, by, round)
     }
 }
 
@@ -63,19 +44,8 @@ impl OneCall for Load {
 pub struct Store;
 
 impl OneCall for Store {
-    fn spare(rounds: u32) -> u32 {
-        rounds
-    }
-
-    fn make<S: MapAndInt, R: Wait>(
-        rt: &R,
-        shared: &S,
-        caller: &mut Caller<S::Mark>,
-        round: u32,
-    ) -> bool {
-        let key = own_key(caller.number(), round);
-        shared.store(rt, caller, key);
-        true
+    fn make<S: MapAndInt, R: Wait>(rt: &R, on: &S, by: &mut Caller<S::Mark>, round: u32) -> bool {
+        on.store_if_room(rt, by, own_key(by.number(), round))
     }
 }
 
@@ -84,19 +54,12 @@ impl OneCall for Store {
 pub struct Churn;
 
 impl OneCall for Churn {
-    fn spare(rounds: u32) -> u32 {
-        2 * rounds
-    }
-
-    fn make<S: MapAndInt, R: Wait>(
-        rt: &R,
-        shared: &S,
-        caller: &mut Caller<S::Mark>,
-        round: u32,
-    ) -> bool {
-        let key = own_key(caller.number(), round);
-        shared.store(rt, caller, key);
-        shared.delete(rt, caller, key);
+    fn make<S: MapAndInt, R: Wait>(rt: &R, on: &S, by: &mut Caller<S::Mark>, round: u32) -> bool {
+        let key = own_key(by.number(), round);
+        if !on.store_if_room(rt, by, key) || by.spare() == 0 {
+            return false;
+        }
+        on.delete(rt, by, key);
         true
     }
 }
@@ -106,22 +69,11 @@ impl OneCall for Churn {
 pub struct Mix;
 
 impl OneCall for Mix {
-    fn spare(rounds: u32) -> u32 {
-        rounds
-    }
-
-    fn make<S: MapAndInt, R: Wait>(
-        rt: &R,
-        shared: &S,
-        caller: &mut Caller<S::Mark>,
-        round: u32,
-    ) -> bool {
+    fn make<S: MapAndInt, R: Wait>(rt: &R, on: &S, by: &mut Caller<S::Mark>, round: u32) -> bool {
         if round % 10 < 9 {
-            return shared.load(rt, caller, round);
+            return on.load(rt, by, round);
         }
-        let key = own_key(caller.number(), round);
-        shared.store(rt, caller, key);
-        true
+        on.store_if_room(rt, by, own_key(by.number(), round))
     }
 }
 
@@ -130,17 +82,8 @@ impl OneCall for Mix {
 pub struct Add;
 
 impl OneCall for Add {
-    fn spare(_rounds: u32) -> u32 {
-        0
-    }
-
-    fn make<S: MapAndInt, R: Wait>(
-        rt: &R,
-        shared: &S,
-        caller: &mut Caller<S::Mark>,
-        _round: u32,
-    ) -> bool {
-        shared.add(rt, caller);
+    fn make<S: MapAndInt, R: Wait>(rt: &R, on: &S, by: &mut Caller<S::Mark>, _round: u32) -> bool {
+        on.add(rt, by);
         true
     }
 }
@@ -173,7 +116,8 @@ impl<S: MapAndInt, K: OneCall> Measured for On<S, K> {
     ghost is_of = { λ on caller. S.is_of on.shared caller };
 
     fn new(alloc: Global, plan: Plan) -> Result<(Self, Vec<Caller<S::Mark>>), AllocError> {
-        let (shared, callers) = S::new(alloc, plan.how.callers(), K::spare(plan.rounds) + KEYS)?;
+        let spare = [plan.spare() + KEYS; 4];
+        let (shared, callers) = S::new(alloc, &spare[..plan.how.callers()])?;
         Ok((
             On {
                 shared,
@@ -185,7 +129,7 @@ impl<S: MapAndInt, K: OneCall> Measured for On<S, K> {
 
     fn fill<R: Wait>(&self, rt: &R, caller: &mut Caller<S::Mark>) {
         for key in 0..KEYS {
-            self.shared.store(rt, caller, key);
+            self.shared.store_if_room(rt, caller, key);
         }
     }
 

@@ -9,7 +9,7 @@ use crate::map_and_int::{KEYS, MapAndInt};
 use shared_plain::{Mark, Plain};
 use std::alloc::{AllocError, Global};
 use std::sync::Wait;
-use sync_model::{Caller, CallerNote, Shared};
+use sync_model::{Caller, Shared};
 use sync_types::{AtomicCall, AtomicKind, MapCall, MapReply, Number};
 
 /// A plain map of 512 keys and a plain int64.
@@ -26,19 +26,8 @@ impl MapAndInt for PlainObjects {
 
     ghost is_of = { λ objects caller. IsCallerAt IsMarkOf own_by objects.plain caller };
 
-    fn new(
-        alloc: Global,
-        callers: usize,
-        spare: u32,
-    ) -> Result<(Self, Vec<Caller<Mark>>), AllocError> {
-        let spares = [spare; 4];
-        let (plain, callers) = Plain::new(
-            alloc,
-            &[AtomicKind::Int64],
-            1,
-            KEYS,
-            &spares[..callers],
-        )?;
+    fn new(alloc: Global, spare: &[u32]) -> Result<(Self, Vec<Caller<Mark>>), AllocError> {
+        let (plain, callers) = Plain::new(alloc, &[AtomicKind::Int64], 1, KEYS, spare)?;
         Ok((PlainObjects { plain }, callers))
     }
 
@@ -48,17 +37,11 @@ impl MapAndInt for PlainObjects {
     }
 
     fn store<R: Wait>(&self, rt: &R, caller: &mut Caller<Mark>, key: u32) {
-        if caller.note.spare() == 0 {
-            return;
-        }
         self.plain
             .map_call(rt, caller, 0, MapCall::Store { key, value: 1 });
     }
 
     fn delete<R: Wait>(&self, rt: &R, caller: &mut Caller<Mark>, key: u32) {
-        if caller.note.spare() == 0 {
-            return;
-        }
         self.plain.map_call(rt, caller, 0, MapCall::Delete { key });
     }
 

@@ -146,6 +146,22 @@ pub struct Plan {
     ghost runs: { (0 < rounds) × (rounds ≤ 100_000) },
 }
 
+impl Plan {
+    /// How many stores and deletes each thread makes.
+    pub fn spare(&self) -> u32
+        ensures { result ≤ 200_000 }
+    {
+        match self.what {
+            What::Plain(call) | What::Table(call) => match call {
+                Call::Load | Call::Add => 0,
+                Call::Store | Call::Mix => self.rounds,
+                Call::Churn => 2 * self.rounds,
+            },
+            _ => 0,
+        }
+    }
+}
+
 /// The measurement that the words after the program's name ask for, where they are taken.
 pub fn plan_of(words: &[String]) -> Option<Plan> {
     let [what, how, notes, reads, callers, rounds] = words else {

@@ -13,7 +13,7 @@ use std::alloc::{AllocError, Global};
 use std::marker::Brand;
 use std::sync::Wait;
 use std::sync::ledger::{Blank, Ledger};
-use sync_model::{Caller, CallerNote};
+use sync_model::Caller;
 use sync_types::AtomicKind;
 
 /// What the hash of a key is made with: with 0 its path is its own nibbles.
@@ -48,19 +48,8 @@ impl MapAndInt for TableObjects {
 
     ghost is_of = { λ objects caller. IsCallerAt IsNoteOf own_by objects.table caller };
 
-    fn new(
-        alloc: Global,
-        callers: usize,
-        spare: u32,
-    ) -> Result<(Self, Vec<Caller<SharedNote>>), AllocError> {
-        let spares = [spare; 4];
-        let (table, callers) = SharedTable::new(
-            alloc,
-            &[AtomicKind::Int64],
-            1,
-            SEED,
-            &spares[..callers],
-        )?;
+    fn new(alloc: Global, spare: &[u32]) -> Result<(Self, Vec<Caller<SharedNote>>), AllocError> {
+        let (table, callers) = SharedTable::new(alloc, &[AtomicKind::Int64], 1, SEED, spare)?;
         Ok((TableObjects { table }, callers))
     }
 
@@ -69,16 +58,10 @@ impl MapAndInt for TableObjects {
     }
 
     fn store<R: Wait>(&self, rt: &R, caller: &mut Caller<SharedNote>, key: u32) {
-        if caller.note.spare() == 0 {
-            return;
-        }
         Map::at(&self.table, 0).store(rt, caller, key, 1);
     }
 
     fn delete<R: Wait>(&self, rt: &R, caller: &mut Caller<SharedNote>, key: u32) {
-        if caller.note.spare() == 0 {
-            return;
-        }
         Map::at(&self.table, 0).delete(rt, caller, key);
     }
 
