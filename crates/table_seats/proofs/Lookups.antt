@@ -32,7 +32,8 @@ use Rattle.table_seats.specs.Views.{MayPay}
 use Rattle.table_seats.specs.Walking.{standing, walk_at, HasWords, Enters, Answers, IsAlong, FindsIn, LooksIn, Affords, ReadsKey, KeepsValue, ReadsValue}
 use Rattle.table_seats.proofs.KeyCalls.{IsOn}
 use Rattle.table_seats.proofs.Ledgers.{longer}
-use Rattle.table_seats.proofs.Quiet.{kept_standing, view_after, kept_quiet, answers}
+use Rattle.table_seats.proofs.Placed.{view_after, kept_quiet, answers}
+use Rattle.table_seats.proofs.Quiet.{kept_standing}
 
 -- the words of a table have small numbers
 size_small : (k : Begin) → IsBegin k → size_of k < 2 ^ 32
