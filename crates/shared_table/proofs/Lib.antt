@@ -47,3 +47,8 @@ pub mod Swept
 pub mod CursorSteps
 pub mod Mounting
 pub mod CursorReads
+pub mod Ranges
+pub mod Ranged
+pub mod CursorBegins
+pub mod CursorNexts
+pub mod CursorNotes

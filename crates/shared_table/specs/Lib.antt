@@ -27,3 +27,5 @@ pub mod SweepLaws
 pub mod Cursors
 pub mod Making
 pub mod Clearing
+pub mod Ranging
+pub mod CursorStays

@@ -7,6 +7,7 @@ mod chain;
 mod changes;
 mod clearing;
 mod copies;
+pub mod cursor;
 mod cursor_steps;
 mod ends;
 mod laws;
@@ -26,6 +27,7 @@ pub mod word_step;
 mod writing;
 
 pub use begin::Begin;
+pub use cursor::Cursor;
 pub use new::{MAX_OBJECTS, MAX_UNITS};
 pub use note::SharedNote;
 pub use steps::Steps;
