@@ -6,23 +6,24 @@ use Rattle.sync_model.specs.declared.item.Item.{Item}
 use Rattle.sync_model.specs.declared.item.SharedCall.TheVariants as calls
 use Rattle.sync_model.specs.declared.item.SharedReply.TheVariants as replies
 use Rattle.sync_model.specs.Shared.{items_of}
-use Rattle.shared_table.specs.declared.begin.Begin.{Begin}
+use Rattle.table_seats.specs.declared.begin.Begin.{Begin}
 use Rattle.shared_table.specs.declared.cursor.Cursor.{Cursor}
 use Rattle.shared_table.specs.declared.table.SharedTable.{SharedTable}
-use Rattle.shared_table.specs.declared.view.Own.{Own}
-use Rattle.shared_table.specs.declared.view.Spot.{Spot}
-use Rattle.shared_table.specs.declared.view.View.{View}
+use Rattle.table_seats.specs.declared.view.Own.{Own}
+use Rattle.table_seats.specs.declared.view.Spot.{Spot}
+use Rattle.table_seats.specs.declared.view.View.{View}
 use Rattle.trie_nodes.specs.PlaceLists.{nodes_of, slots_of}
-use Rattle.shared_table.specs.Cursors.{first_spot, Sweeps, BeginsCursor, IsCursorOf, unmounted, cursor_seat}
+use Rattle.table_seats.specs.Cursors.{first_spot, Sweeps, BeginsCursor, IsCursorOf, unmounted, cursor_seat}
 use Rattle.shared_table.specs.Ranging.{RangesOn}
-use Rattle.shared_table.specs.Shape.{start_of}
-use Rattle.shared_table.specs.Views.{held_in, view_state, made_by}
-use Rattle.shared_table.specs.Walking.{HasWords, IsFree}
+use Rattle.table_seats.specs.Shape.{start_of}
+use Rattle.table_seats.specs.Seats.{begin_of, IsSeatOf}
+use Rattle.table_seats.specs.Views.{held_in, view_state, made_by}
+use Rattle.table_seats.specs.Walking.{HasWords, IsFree}
 use Rattle.shared_table.proofs.Ranged.{let_go, looks_then, one_more, at_end, not_yet}
 
 -- a caller's seat has begun a cursor
-module _ (table : SharedTable) (old mid new : Me (Unit {0}) View) (root m : ℕ) (cursor : Cursor) (free : IsFree table.table.shared.key old) (begun : BeginsCursor m old root mid)
-    (new_is : new ≡ (unmounted mid.0, mid.1)) (seat_is : cursor.seat.me ≡ (cursor_seat mid.0, [])) (table_is : cursor.seat.table_id ≡ table.table.shared.table_id) (nodes : nodes_of cursor.place ≡ root ∷ []) (slots : slots_of cursor.place ≡ 0 ∷ []) where
+module _ (table : SharedTable) (old mid new : Me (Unit {0}) View) (root m : ℕ) (cursor : Cursor) (free : IsFree (begin_of table.words) old) (begun : BeginsCursor m old root mid)
+    (new_is : new ≡ (unmounted mid.0, mid.1)) (seat_is : cursor.seat.me ≡ (cursor_seat mid.0, [])) (table_is : IsSeatOf table.words cursor.seat) (nodes : nodes_of cursor.place ≡ root ∷ []) (slots : slots_of cursor.place ≡ 0 ∷ []) where
   abbrev v : View
   v = old.0
 

@@ -5,21 +5,22 @@ use Rattle.atomic_table.specs.declared.shared.Seat.{Seat}
 use Rattle.sync_model.specs.declared.item.SharedCall.TheVariants as calls
 use Rattle.sync_model.specs.declared.item.SharedReply.TheVariants as replies
 use Rattle.sync_model.specs.Shared.{items_of}
-use Rattle.shared_table.specs.declared.begin.Begin.{Begin}
+use Rattle.table_seats.specs.declared.begin.Begin.{Begin}
 use Rattle.shared_table.specs.declared.cursor.Cursor.{Cursor}
 use Rattle.shared_table.specs.declared.table.SharedTable.{SharedTable}
-use Rattle.shared_table.specs.declared.view.Gate.TheVariants.{Outside}
-use Rattle.shared_table.specs.declared.view.Own.{Own}
-use Rattle.shared_table.specs.declared.view.Spot.{Spot}
-use Rattle.shared_table.specs.declared.view.View.{View}
+use Rattle.table_seats.specs.declared.view.Gate.TheVariants.{Outside}
+use Rattle.table_seats.specs.declared.view.Own.{Own}
+use Rattle.table_seats.specs.declared.view.Spot.{Spot}
+use Rattle.table_seats.specs.declared.view.View.{View}
 use Rattle.trie_nodes.specs.declared.place.Place.{Place}
 use Rattle.trie_nodes.specs.PlaceLists.{nodes_of, slots_of}
-use Rattle.shared_table.specs.Cursors.{Sweeps, IsCursorOf, mounted, unmounted, cursor_seat}
-use Rattle.shared_table.specs.Operations.{Places}
+use Rattle.table_seats.specs.Cursors.{Sweeps, IsCursorOf, mounted, unmounted, cursor_seat}
+use Rattle.table_seats.specs.Operations.{Places}
 use Rattle.shared_table.specs.Ranging.{moved, showing, StepsTo, AreWithin, IsRanging, IsCursor, RangesOn}
-use Rattle.shared_table.specs.Shape.{start_of}
-use Rattle.shared_table.specs.Views.{held_in, view_state}
-use Rattle.shared_table.specs.Walking.{HasWords, IsFree}
+use Rattle.table_seats.specs.Shape.{start_of}
+use Rattle.table_seats.specs.Seats.{begin_of, IsSeatOf}
+use Rattle.table_seats.specs.Views.{held_in, view_state}
+use Rattle.table_seats.specs.Walking.{HasWords, IsFree}
 use Rattle.shared_table.proofs.Ranged.{let_go, looks_then, one_more, one_step}
 
 -- its seat took in the cursor's
@@ -27,16 +28,16 @@ pub taken_in : (first mid me : Me (Unit {0}) View) (cursor held : Seat (Unit {0}
 taken_in first mid me cursor held mid_is held_is is = is ∙ (λ i. (mounted (mid_is i).0 (held_is i).me.0, (mid_is i).1))
 
 -- a caller's seat has taken in its cursor's, made a step, and let it go
-module _ (table : SharedTable) (first : Me (Unit {0}) View) (free : IsFree table.table.shared.key first) (cursor : Cursor) (m b : ℕ) (is : IsCursor table cursor m b (items_of (view_state first.0).own)) where
+module _ (table : SharedTable) (first : Me (Unit {0}) View) (free : IsFree (begin_of table.words) first) (cursor : Cursor) (m b : ℕ) (is : IsCursor table cursor m b (items_of (view_state first.0).own)) where
   abbrev v : View
   v = first.0
 
-  pub ranging : (me : Me (Unit {0}) View) → me ≡ (mounted (unmounted first.0) cursor.seat.me.0, first.1) → IsRanging table.table.shared.key me is.spot cursor.place
+  pub ranging : (me : Me (Unit {0}) View) → me ≡ (mounted (unmounted first.0) cursor.seat.me.0, first.1) → IsRanging (begin_of table.words) me is.spot cursor.place
   ranging me me_is = by_owns v.owns refl
     where
-      by_owns : (owns : List Own) → v.owns ≡ owns → IsRanging table.table.shared.key me is.spot cursor.place
+      by_owns : (owns : List Own) → v.owns ≡ owns → IsRanging (begin_of table.words) me is.spot cursor.place
       by_owns [] e = absurd (let none_there = ap length e in let some_there = free.some in omega arith)
-      by_owns (own ∷ owns) e = subst (λ (x : Me (Unit {0}) View). IsRanging table.table.shared.key x is.spot cursor.place) (sym me_is) record {
+      by_owns (own ∷ owns) e = subst (λ (x : Me (Unit {0}) View). IsRanging (begin_of table.words) x is.spot cursor.place) (sym me_is) record {
         cursor = record { live = free.live; begin = free.begin; own = own; owns = owns; is = e; spot = is.is; of = subst (λ l. IsCursorOf (items_of (held_in v.number l)) is.spot) e is.of };
         leaf = free.idle.leaf;
         nodes = is.nodes;
@@ -68,7 +69,7 @@ module _ (table : SharedTable) (first : Me (Unit {0}) View) (free : IsFree table
         (let o = is.of in record { begin = o.begin; at = o.at; call = o.call; front = o.front; steps = o.steps; shown = o.shown })
 
     module _ (new : Me (Unit {0}) View) (after : Cursor) (within : AreWithin me.0 place) (at_place : after.place ≡ place)
-        (new_is : new ≡ (unmounted mid.0, mid.1)) (seat_is : after.seat.me ≡ (cursor_seat mid.0, [])) (table_is : after.seat.table_id ≡ table.table.shared.table_id) where
+        (new_is : new ≡ (unmounted mid.0, mid.1)) (seat_is : after.seat.me ≡ (cursor_seat mid.0, [])) (table_is : IsSeatOf table.words after.seat) where
       pub slots_stay : new.1 ≡ first.1
       slots_stay = ap (λ (x : Me (Unit {0}) View). x.1) new_is ∙ same ∙ ap (λ (x : Me (Unit {0}) View). x.1) me_is
 

@@ -3,18 +3,18 @@ use Rattle.std.proofs.Common.{◌≡◌, ◌≢◌, ℕ, zero, suc, ◌<◌, ◌
 use Rattle.std.proofs.lemmas.Bool.{cases_eq}
 use Rattle.std.proofs.lemmas.Option.{none-some, same_Some}
 use Rattle.atomic_table.specs.Table.{Me}
-use Rattle.shared_table.specs.declared.begin.Begin.{Begin}
+use Rattle.table_seats.specs.declared.begin.Begin.{Begin}
 use Rattle.shared_table.specs.declared.cursor.Move.TheVariants.{On}
-use Rattle.shared_table.specs.declared.view.Spot.{Spot}
-use Rattle.shared_table.specs.declared.view.View.{View}
+use Rattle.table_seats.specs.declared.view.Spot.{Spot}
+use Rattle.table_seats.specs.declared.view.View.{View}
 use Rattle.trie_nodes.specs.declared.place.Place.{Place}
 use Rattle.trie_nodes.specs.declared.slot.Slot.TheVariants.{Node}
 use Rattle.trie_nodes.specs.PlaceLists.{nodes_of, slots_of}
 use Rattle.trie_nodes.specs.Places.{but_last, last_of}
-use Rattle.shared_table.proofs.Lists.{item_on}
-use Rattle.shared_table.specs.Cursors.{at_spot, SweepsIn, StandsIn}
+use Rattle.table_seats.specs.Cursors.{at_spot, SweepsIn, StandsIn}
+use Rattle.shared_table.specs.CursorStays.{old_or_last}
 use Rattle.shared_table.specs.Ranging.{moved, StepsTo, MovesTo, AreWithin, IsRanging}
-use Rattle.shared_table.specs.Walking.{HasWords}
+use Rattle.table_seats.specs.Walking.{HasWords}
 
 -- a list is its front and its last
 apart : (l : List ℕ) → 0 < length l → l ≡ but_last l ++ last_of l ∷ []
@@ -99,9 +99,9 @@ module _ (k : Begin) (me : Me (Unit {0}) View) (z : Spot) (place : Place) (rangi
   words_up after same i node at = ranging.words i node (in_front (nodes_of place) i node (ap (λ l. slice_get l i) (sym same) ∙ at))
 
   pub words_down : (new : Place) (after : View) (below : ℕ) → nodes_of new ≡ nodes_of place ++ below ∷ [] → SweepsIn z (Node below) me.0 after → AreWithin me.0 new
-  words_down new after below nodes swept i node at = elim (item_on (nodes_of place) below node i (ap (λ l. slice_get l i) (sym nodes) ∙ at)) [
+  words_down new after below nodes swept i node at = elim (old_or_last (nodes_of place) below node i (ap (λ l. slice_get l i) (sym nodes) ∙ at)) [
     | inl there ↦ ranging.words i node there
-    | inr last ↦ subst (λ n. HasWords me.0 n 18) (sym last.1) swept.1
+    | inr last ↦ subst (λ n. HasWords me.0 n 18) last.1 swept.1
   ]
 
 -- a seat has moved its cursor to this place, from where it stood

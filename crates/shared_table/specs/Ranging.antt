@@ -7,19 +7,20 @@ use Rattle.sync_model.specs.declared.item.SharedCall.TheVariants as calls
 use Rattle.sync_model.specs.declared.item.SharedReply.{SharedReply}
 use Rattle.sync_model.specs.declared.item.SharedReply.TheVariants as replies
 use Rattle.sync_model.specs.Shared.{items_of}
-use Rattle.shared_table.specs.declared.begin.Begin.{Begin}
+use Rattle.table_seats.specs.declared.begin.Begin.{Begin}
 use Rattle.shared_table.specs.declared.cursor.Cursor.{Cursor}
 use Rattle.shared_table.specs.declared.cursor.Move.{Move}
 use Rattle.shared_table.specs.declared.cursor.Move.TheVariants.{On, Shown}
 use Rattle.shared_table.specs.declared.table.SharedTable.{SharedTable}
-use Rattle.shared_table.specs.declared.view.Spot.{Spot}
-use Rattle.shared_table.specs.declared.view.View.{View}
+use Rattle.table_seats.specs.declared.view.Spot.{Spot}
+use Rattle.table_seats.specs.declared.view.View.{View}
 use Rattle.trie_nodes.specs.declared.place.Place.{Place}
 use Rattle.trie_nodes.specs.PlaceLists.{nodes_of, slots_of}
-use Rattle.shared_table.specs.Cursors.{at_spot, Sweeps, Sweeping, IsCursorOf}
-use Rattle.shared_table.specs.Operations.{Places}
-use Rattle.shared_table.specs.Views.{view_state, Looks}
-use Rattle.shared_table.specs.Walking.{HasWords}
+use Rattle.table_seats.specs.Cursors.{at_spot, Sweeps, Sweeping, IsCursorOf}
+use Rattle.table_seats.specs.Operations.{Places}
+use Rattle.table_seats.specs.Seats.{begin_of, IsSeatOf}
+use Rattle.table_seats.specs.Views.{view_state, Looks}
+use Rattle.table_seats.specs.Walking.{HasWords}
 
 -- where a cursor stands that has come to this place
 abbrev pub moved : Spot → Place → Spot
@@ -57,10 +58,10 @@ HasPassedAll cursor = slots_of cursor.place ≡ 16 ∷ []
 
 -- the cursor walks over map m for a caller who made these calls, of which number b began it
 pub record IsCursor (table : SharedTable) (cursor : Cursor) (m b : ℕ) (items : List Item) : Type 0 where
-  pub table_is : cursor.seat.table_id ≡ table.table.shared.table_id
+  pub table_is : IsSeatOf table.words cursor.seat
   pub empty : cursor.seat.me.1 ≡ []
   pub live : cursor.seat.me.0.live ≡ true
-  pub begin : cursor.seat.me.0.begin ≡ table.table.shared.key
+  pub begin : cursor.seat.me.0.begin ≡ (begin_of table.words)
   pub nobody : length cursor.seat.me.0.owns ≡ 0
   pub spot : Spot
   pub is : cursor.seat.me.0.spot ≡ Some spot

@@ -6,20 +6,21 @@ ghost use Rattle.sync_model.specs.declared.item.SharedCall.TheVariants as calls;
 ghost use Rattle.sync_model.specs.declared.item.SharedReply.TheVariants as replies;
 ghost use Rattle.sync_model.specs.Note.{SameHome};
 ghost use Rattle.sync_model.specs.Shared.{Called, items_of, state_of};
-ghost use Rattle.shared_table.specs.declared.view.Spot.{Spot};
+ghost use Rattle.table_seats.specs.declared.view.Spot.{Spot};
 ghost use Rattle.shared_table.specs.Ranging.{AreWithin, IsRanging, MovesTo, StepsTo, HasPassedAll, IsCursor, RangesOn};
 ghost use Rattle.shared_table.specs.Notes.{front_by, own_by, seen_by, IsNoteOf, IsLawfulFor};
 ghost use Rattle.shared_table.specs.Tables.{maps_of, first_of};
-ghost use Rattle.shared_table.specs.Views.{made_by, view_state};
-ghost use Rattle.shared_table.specs.Walking.{IsFree};
+ghost use Rattle.table_seats.specs.Seats.{begin_of, IsSeatOf};
+ghost use Rattle.table_seats.specs.Views.{made_by, view_state};
+ghost use Rattle.table_seats.specs.Walking.{IsFree};
 ghost use Rattle.trie_nodes.specs.PlaceLists.{slots_of};
 ghost use Rattle.trie_nodes.specs.Places.{last_of, steps_left};
 
 use crate::note::SharedNote;
 use crate::table::SharedTable;
-use crate::view::View;
 use atomic_table::Seat;
 use std::mem;
+use table_seats::View;
 use trie_nodes::{Place, SLOTS, Slot};
 
 /// A walk over the keys of a map. Between two steps it has a seat of its own, which keeps what the walk knows of the nodes where it
@@ -54,15 +55,15 @@ impl SharedTable {
 
     // The same, by a seat.
     fn begin_by(&self, seat: &mut Seat<(), View>, map: u32) -> Cursor
-        requires table { seat.old.table_id ≡ self.now.table.shared.table_id }
-        requires free { IsFree self.now.table.shared.key seat.old.me }
+        requires table { IsSeatOf self.now.words seat.old }
+        requires free { IsFree (begin_of self.now.words) seat.old.me }
         requires map { map < maps_of self.now }
         ensures table { seat.new.table_id ≡ seat.old.table_id }
         ensures begun { (seat.new.me.1 ≡ seat.old.me.1) × RangesOn self.now result map (made_by seat.old.me.0.owns) (calls.Begin map) replies.Begun seat.old.me.0 seat.new.me.0 }
     {
-        let root = self.begin_at(seat, map);
+        let root = self.words.begin_at(seat, map);
         Cursor {
-            seat: self.unmount(seat),
+            seat: self.words.unmount(seat),
             place: Place::first(root),
         }
     }
@@ -87,8 +88,8 @@ impl SharedTable {
 
     // The same, by a seat, which takes in the cursor's for the step.
     fn next_by(&self, seat: &mut Seat<(), View>, cursor: &mut Cursor) -> Option<(u32, u64)>
-        requires table { seat.old.table_id ≡ self.now.table.shared.table_id }
-        requires free { IsFree self.now.table.shared.key seat.old.me }
+        requires table { IsSeatOf self.now.words seat.old }
+        requires free { IsFree (begin_of self.now.words) seat.old.me }
         requires cursor { (map : ℕ) × (begin : ℕ) × IsCursor self.now cursor.old map begin (items_of (view_state seat.old.me.0).own) }
         ensures table { seat.new.table_id ≡ seat.old.table_id }
         ensures slots { seat.new.me.1 ≡ seat.old.me.1 }
@@ -97,17 +98,17 @@ impl SharedTable {
         ensures passed { result ≡ None → HasPassedAll cursor.new }
         ensures ended { HasPassedAll cursor.old → result ≡ None }
     {
-        let copy = self.unmount(seat);
-        self.mount(seat, mem::replace(&mut cursor.seat, copy));
+        let copy = self.words.unmount(seat);
+        self.words.mount(seat, mem::replace(&mut cursor.seat, copy));
         let shown = self.step(seat, &mut cursor.place);
-        cursor.seat = self.unmount(seat);
+        cursor.seat = self.words.unmount(seat);
         shown
     }
 
     // A step of a seat's cursor.
     fn step(&self, seat: &mut Seat<(), View>, place: &mut Place) -> Option<(u32, u64)>
-        requires table { seat.old.table_id ≡ self.now.table.shared.table_id }
-        requires cursor { (z : Spot) × IsRanging self.now.table.shared.key seat.old.me z place.old }
+        requires table { IsSeatOf self.now.words seat.old }
+        requires cursor { (z : Spot) × IsRanging (begin_of self.now.words) seat.old.me z place.old }
         ensures table { seat.new.table_id ≡ seat.old.table_id }
         ensures stepped { (seat.new.me.1 ≡ seat.old.me.1) × ((z : Spot) → seat.old.me.0.spot ≡ Some z → StepsTo z result place.new seat.old.me.0 seat.new.me.0) }
         ensures words { AreWithin seat.old.me.0 place.new }
@@ -123,8 +124,8 @@ impl SharedTable {
 
     // One move of a seat's cursor.
     fn move_on(&self, seat: &mut Seat<(), View>, place: &mut Place) -> Move
-        requires table { seat.old.table_id ≡ self.now.table.shared.table_id }
-        requires cursor { (z : Spot) × IsRanging self.now.table.shared.key seat.old.me z place.old }
+        requires table { IsSeatOf self.now.words seat.old }
+        requires cursor { (z : Spot) × IsRanging (begin_of self.now.words) seat.old.me z place.old }
         ensures table { seat.new.table_id ≡ seat.old.table_id }
         ensures moved { (seat.new.me.1 ≡ seat.old.me.1) × ((z : Spot) → seat.old.me.0.spot ≡ Some z → MovesTo z result place.new seat.old.me.0 seat.new.me.0) }
         ensures words { AreWithin seat.old.me.0 place.new }
@@ -136,18 +137,18 @@ impl SharedTable {
             return self.move_in(seat, place);
         }
         if place.depth() == 1 {
-            self.show_none(seat);
+            self.words.show_none(seat);
             return Move::Shown(None);
         }
-        self.rise(seat);
+        self.words.rise(seat);
         place.go_up();
         Move::On
     }
 
     // A seat's cursor reads the slot where it stands.
     fn move_in(&self, seat: &mut Seat<(), View>, place: &mut Place) -> Move
-        requires table { seat.old.table_id ≡ self.now.table.shared.table_id }
-        requires cursor { (z : Spot) × IsRanging self.now.table.shared.key seat.old.me z place.old }
+        requires table { IsSeatOf self.now.words seat.old }
+        requires cursor { (z : Spot) × IsRanging (begin_of self.now.words) seat.old.me z place.old }
         requires slot { last_of (slots_of place.old) < 16 }
         ensures table { seat.new.table_id ≡ seat.old.table_id }
         ensures moved { (seat.new.me.1 ≡ seat.old.me.1) × ((z : Spot) → seat.old.me.0.spot ≡ Some z → MovesTo z result place.new seat.old.me.0 seat.new.me.0) }
@@ -155,7 +156,7 @@ impl SharedTable {
         ensures less { result ≡ Move.On → steps_left (slots_of place.new) < steps_left (slots_of place.old) }
         ensures some { result ≢ Move.Shown None }
     {
-        match self.sweep(seat, place.node(), place.slot()) {
+        match self.words.sweep(seat, place.node(), place.slot()) {
             Slot::Empty => {
                 place.go_on();
                 Move::On
@@ -166,7 +167,7 @@ impl SharedTable {
             }
             Slot::Entry(entry) => {
                 place.go_on();
-                let (key, value) = self.read_pair(seat, entry);
+                let (key, value) = self.words.read_pair(seat, entry);
                 Move::Shown(Some((key as u32, value)))
             }
         }

@@ -4,7 +4,7 @@ use Rattle.shared_table.proofs.table.SharedTable.bring_all.Given as goal
 
 abbrev pub invariant-loop-caller : goal.invariant-loop-caller
 invariant-loop-caller l = record {
-  table : l.all.table_id ≡ l.self.table.shared.table_id;
+  table : IsSeatOf l.self.words l.all;
   gathered : Gathered l.self l.initial.callers l.caller-index l.all.me;
   same : AreSameCallers l.initial.callers l.callers;
   rest : (i : ℕ) → l.caller-index ≤ i → slice_get l.callers i ≡ slice_get l.initial.callers i;

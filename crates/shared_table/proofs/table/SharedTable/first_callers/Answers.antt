@@ -1,16 +1,16 @@
 use Rattle.std.proofs.Common.{rules, ◌≡◌, ℕ, ◌+◌, ◌*◌, ◌<◌, ◌^◌, [], ⊎_elim, length, drop, sum, get_or, slice_get, slice_index, sym, ap, ◌∙◌, subst, arith}
 use Rattle.std.proofs.lemmas.Option.{none-some}
-use Rattle.shared_table.specs.declared.view.View.{View}
+use Rattle.table_seats.specs.declared.view.View.{View}
 use Rattle.shared_table.specs.Dealing.{left_view, IsNewCaller}
-use Rattle.shared_table.specs.Views.{spare_in, dealt, kept, IsIdle}
+use Rattle.table_seats.specs.Views.{spare_in, dealt, kept, IsIdle}
 use Rattle.shared_table.proofs.FirstCallers.{left_idle, some_left, kept_left, room_left, fits_left, is_new, ghosts_are, all_new}
-use Rattle.shared_table.proofs.Lists.{item_on, one_longer}
+use Rattle.table_seats.proofs.Lists.{item_on, one_longer}
 use Rattle.shared_table.proofs.table.SharedTable.first_callers.Goals as goal
 
 pub loop-number-init : goal.loop-number-init
 loop-number-init c = record {
   table = c.requires.all.0;
-  left = c.requires.all.1 ∙ ap (λ (next : ℕ). (left_view c.args.self.now.begin 0 next, [])) (sym c.room_start-next.ensures);
+  left = c.requires.all.1 ∙ ap (λ (next : ℕ). (left_view (begin_of c.args.self.now.words) 0 next, [])) (sym c.room_start-next.ensures);
   room = let start = c.room_start-next.ensures in omega arith;
   made = search rules;
   count = search rules;
@@ -24,16 +24,16 @@ deal-seat-requires-clause-seat c = c.loop-number.invariant.table
 pub deal-seat-requires-clause-idle : goal.deal-seat-requires-clause-idle
 deal-seat-requires-clause-idle c =
     let left = sym (ap (λ me. me.0) c.loop-number.invariant.left) in
-    (ap (λ me. me.0.live) c.loop-number.invariant.left, subst IsIdle left (left_idle c.args.self.now.begin c.loop-number.number c.loop-number.next))
+    (ap (λ me. me.0.live) c.loop-number.invariant.left, subst IsIdle left (left_idle (begin_of c.args.self.now.words) c.loop-number.number c.loop-number.next))
 
 pub deal-seat-requires-clause-some : goal.deal-seat-requires-clause-some
 deal-seat-requires-clause-some c =
     let inside = subst (λ l. c.loop-number.number < length l) c.as_slice-spares.ensures c.loop-number-test.true in
-    subst (λ (v : View). 0 < length v.owns) (sym (ap (λ me. me.0) c.loop-number.invariant.left)) (some_left c.args.self.now.begin c.loop-number.number c.loop-number.next inside)
+    subst (λ (v : View). 0 < length v.owns) (sym (ap (λ me. me.0) c.loop-number.invariant.left)) (some_left (begin_of c.args.self.now.words) c.loop-number.number c.loop-number.next inside)
 
 pub invariant_of-note : goal.invariant_of-note
 invariant_of-note c =
-    let k = c.args.self.now.begin in
+    let k = (begin_of c.args.self.now.words) in
     let inside = subst (λ l. c.loop-number.number < length l) c.as_slice-spares.ensures c.loop-number-test.true in
     let me = c.deal-seat.ensures.dealt.1 ∙ ap (λ m. (dealt m.0, [])) c.loop-number.invariant.left in
     let are = ghosts_are k c.loop-number.number c.loop-number.next inside c.deal-seat.result.me me in
@@ -49,7 +49,7 @@ push_reserved-requires c =
 
 pub overflow_add-next : goal.overflow_add-next
 overflow_add-next c =
-    let k = c.args.self.now.begin in
+    let k = (begin_of c.args.self.now.words) in
     let inside = subst (λ l. c.loop-number.number < length l) c.as_slice-spares.ensures c.loop-number-test.true in
     let fits = fits_left k c.loop-number.number c.loop-number.next inside c.requires.begin c.loop-number.invariant.room in
     let same : c.loop-number.next + 128 * get_or c.as_slice-spares.result.now c.loop-number.number 0 < 2 ^ 64 = subst (λ l. c.loop-number.next + 128 * get_or l c.loop-number.number 0 < 2 ^ 64) (sym c.as_slice-spares.ensures) fits in
@@ -57,7 +57,7 @@ overflow_add-next c =
 
 pub loop-number-preserved : goal.loop-number-preserved
 loop-number-preserved c =
-    let k = c.args.self.now.begin in
+    let k = (begin_of c.args.self.now.words) in
     let n = c.loop-number.number in
     let next = c.loop-number.next in
     let items = c.loop-number.callers.items in
@@ -84,4 +84,4 @@ returns c =
     let least = c.loop-number.auto.number-end in
     let inside = ap length c.as_slice-spares.ensures in
     let made = c.loop-number.invariant.count in
-    all_new c.args.self.now c.args.self.now.begin c.loop-number.callers.items c.args.self.now.same (omega arith) c.loop-number.invariant.dealt
+    all_new c.args.self.now (begin_of c.args.self.now.words) c.loop-number.callers.items c.args.self.now.same (omega arith) c.loop-number.invariant.dealt

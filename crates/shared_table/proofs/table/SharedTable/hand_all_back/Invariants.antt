@@ -6,7 +6,7 @@ use Rattle.shared_table.proofs.table.SharedTable.hand_all_back.Given as goal
 
 abbrev pub invariant-loop-caller : goal.invariant-loop-caller
 invariant-loop-caller l = record {
-  table : l.all.table_id ≡ l.self.table.shared.table_id;
+  table : IsSeatOf l.self.words l.all;
   left : l.all.me ≡ (after_first l.initial.all.me.0 l.caller-index, []);
   same : AreSameCallers l.initial.callers l.callers;
   back : (i : ℕ) (caller : Caller SharedNote) → i < l.caller-index → slice_get l.callers i ≡ Some caller → IsBack l.self l.initial.all.me.0 i caller.note;

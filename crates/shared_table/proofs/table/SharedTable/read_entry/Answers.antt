@@ -1,6 +1,6 @@
 use Rattle.std.proofs.Common.{sym, ap, ◌∙◌, subst}
-use Rattle.shared_table.specs.Walking.{HasWords, AtEntry}
-use Rattle.shared_table.proofs.Reading.{may_read_key, may_read_value}
+use Rattle.table_seats.specs.Walking.{HasWords, AtEntry}
+use Rattle.shared_table.proofs.Walks.{may_read_key, may_read_value}
 use Rattle.shared_table.proofs.table.SharedTable.read_entry.Goals as goal
 
 pub load-held-requires : goal.load-held-requires
