@@ -7,7 +7,7 @@ use Rattle.sync_model.specs.declared.item.SharedCall.TheVariants as calls
 use Rattle.sync_model.specs.declared.item.SharedReply.TheVariants as replies
 use Rattle.sync_model.specs.Shared.{items_of}
 use Rattle.table_seats.specs.declared.begin.Begin.{Begin}
-use Rattle.shared_table.specs.declared.cursor.Cursor.{Cursor}
+use Rattle.shared_table.specs.declared.cursor.TableCursor.{TableCursor}
 use Rattle.shared_table.specs.declared.table.SharedTable.{SharedTable}
 use Rattle.table_seats.specs.declared.view.Own.{Own}
 use Rattle.table_seats.specs.declared.view.Spot.{Spot}
@@ -22,7 +22,7 @@ use Rattle.table_seats.specs.Walking.{HasWords, IsFree}
 use Rattle.shared_table.proofs.Ranged.{let_go, looks_then, one_more, at_end, not_yet}
 
 -- a caller's seat has begun a cursor
-module _ (table : SharedTable) (old mid new : Me (Unit {0}) View) (root m : ℕ) (cursor : Cursor) (free : IsFree (begin_of table.words) old) (begun : BeginsCursor m old root mid)
+module _ (table : SharedTable) (old mid new : Me (Unit {0}) View) (root m : ℕ) (cursor : TableCursor) (free : IsFree (begin_of table.words) old) (begun : BeginsCursor m old root mid)
     (new_is : new ≡ (unmounted mid.0, mid.1)) (seat_is : cursor.seat.me ≡ (cursor_seat mid.0, [])) (table_is : IsSeatOf table.words cursor.seat) (nodes : nodes_of cursor.place ≡ root ∷ []) (slots : slots_of cursor.place ≡ 0 ∷ []) where
   abbrev v : View
   v = old.0

@@ -6,7 +6,7 @@ use Rattle.sync_model.specs.declared.item.SharedCall.TheVariants as calls
 use Rattle.sync_model.specs.declared.item.SharedReply.TheVariants as replies
 use Rattle.sync_model.specs.Shared.{items_of}
 use Rattle.table_seats.specs.declared.begin.Begin.{Begin}
-use Rattle.shared_table.specs.declared.cursor.Cursor.{Cursor}
+use Rattle.shared_table.specs.declared.cursor.TableCursor.{TableCursor}
 use Rattle.shared_table.specs.declared.table.SharedTable.{SharedTable}
 use Rattle.table_seats.specs.declared.view.Gate.TheVariants.{Outside}
 use Rattle.table_seats.specs.declared.view.Own.{Own}
@@ -28,7 +28,7 @@ pub taken_in : (first mid me : Me (Unit {0}) View) (cursor held : Seat (Unit {0}
 taken_in first mid me cursor held mid_is held_is is = is ∙ (λ i. (mounted (mid_is i).0 (held_is i).me.0, (mid_is i).1))
 
 -- a caller's seat has taken in its cursor's, made a step, and let it go
-module _ (table : SharedTable) (first : Me (Unit {0}) View) (free : IsFree (begin_of table.words) first) (cursor : Cursor) (m b : ℕ) (is : IsCursor table cursor m b (items_of (view_state first.0).own)) where
+module _ (table : SharedTable) (first : Me (Unit {0}) View) (free : IsFree (begin_of table.words) first) (cursor : TableCursor) (m b : ℕ) (is : IsCursor table cursor m b (items_of (view_state first.0).own)) where
   abbrev v : View
   v = first.0
 
@@ -68,7 +68,7 @@ module _ (table : SharedTable) (first : Me (Unit {0}) View) (free : IsFree (begi
     of = one_step (items_of (view_state v).own) sweeps.called.item (moved is.spot place) shown sweeps.called.is_call sweeps.called.is_reply
         (let o = is.of in record { begin = o.begin; at = o.at; call = o.call; front = o.front; steps = o.steps; shown = o.shown })
 
-    module _ (new : Me (Unit {0}) View) (after : Cursor) (within : AreWithin me.0 place) (at_place : after.place ≡ place)
+    module _ (new : Me (Unit {0}) View) (after : TableCursor) (within : AreWithin me.0 place) (at_place : after.place ≡ place)
         (new_is : new ≡ (unmounted mid.0, mid.1)) (seat_is : after.seat.me ≡ (cursor_seat mid.0, [])) (table_is : IsSeatOf table.words after.seat) where
       pub slots_stay : new.1 ≡ first.1
       slots_stay = ap (λ (x : Me (Unit {0}) View). x.1) new_is ∙ same ∙ ap (λ (x : Me (Unit {0}) View). x.1) me_is

@@ -5,7 +5,7 @@ use Rattle.std.proofs.lemmas.Option.{none-some, same_Some}
 use Rattle.sync_model.specs.declared.item.Item.{Item}
 use Rattle.sync_model.specs.declared.item.SharedCall.TheVariants.{Next}
 use Rattle.sync_model.specs.SharedCalls.{IsStep}
-use Rattle.shared_table.specs.declared.cursor.Cursor.{Cursor}
+use Rattle.shared_table.specs.declared.cursor.TableCursor.{TableCursor}
 use Rattle.shared_table.specs.declared.table.SharedTable.{SharedTable}
 use Rattle.shared_table.specs.Ranging.{IsCursor}
 
@@ -28,7 +28,7 @@ still_step items x b i y shown step = record { at = still_at items x y i step.at
 pub old_step : (items : List Item) (x : Item) (b i : ℕ) (y : Item) (shown : Option (ℕ × ℕ)) → IsStep (items ++ x ∷ []) b i y shown → IsStep items b i y shown ⊎ ((i ≡ length items) × (x ≡ y))
 old_step items x b i y shown step = elim (old_or_last items x y i step.at) [ inl there ↦ inl (record { at = there; call = step.call; reply = step.reply }) | inr last ↦ inr last ]
 
-pub stays : (table : SharedTable) (cursor : Cursor) (m b : ℕ) (items : List Item) (item : Item) → item.call ≢ Next b → IsCursor table cursor m b items → IsCursor table cursor m b (items ++ item ∷ [])
+pub stays : (table : SharedTable) (cursor : TableCursor) (m b : ℕ) (items : List Item) (item : Item) → item.call ≢ Next b → IsCursor table cursor m b items → IsCursor table cursor m b (items ++ item ∷ [])
 stays table cursor m b items item other is = record {
   table_is = is.table_is;
   empty = is.empty;

@@ -8,7 +8,7 @@ use Rattle.sync_model.specs.declared.item.SharedReply.{SharedReply}
 use Rattle.sync_model.specs.declared.item.SharedReply.TheVariants as replies
 use Rattle.sync_model.specs.Shared.{items_of}
 use Rattle.table_seats.specs.declared.begin.Begin.{Begin}
-use Rattle.shared_table.specs.declared.cursor.Cursor.{Cursor}
+use Rattle.shared_table.specs.declared.cursor.TableCursor.{TableCursor}
 use Rattle.shared_table.specs.declared.cursor.Move.{Move}
 use Rattle.shared_table.specs.declared.cursor.Move.TheVariants.{On, Shown}
 use Rattle.shared_table.specs.declared.table.SharedTable.{SharedTable}
@@ -53,11 +53,11 @@ pub record IsRanging (k : Begin) (me : Me (Unit {0}) View) (z : Spot) (place : P
   pub words : AreWithin me.0 place
 
 -- the cursor stands behind the last slot of the root that it began at
-abbrev pub HasPassedAll : Cursor → Type 0
+abbrev pub HasPassedAll : TableCursor → Type 0
 HasPassedAll cursor = slots_of cursor.place ≡ 16 ∷ []
 
 -- the cursor walks over map m for a caller who made these calls, of which number b began it
-pub record IsCursor (table : SharedTable) (cursor : Cursor) (m b : ℕ) (items : List Item) : Type 0 where
+pub record IsCursor (table : SharedTable) (cursor : TableCursor) (m b : ℕ) (items : List Item) : Type 0 where
   pub table_is : IsSeatOf table.words cursor.seat
   pub empty : cursor.seat.me.1 ≡ []
   pub live : cursor.seat.me.0.live ≡ true
@@ -73,7 +73,7 @@ pub record IsCursor (table : SharedTable) (cursor : Cursor) (m b : ℕ) (items :
   pub of : IsCursorOf items spot
 
 -- a caller's seat made a call of its cursor, which then walks over map m, and call number b of the caller began it. The seat has then seen the whole history
-pub record RangesOn (table : SharedTable) (cursor : Cursor) (m b : ℕ) (call : SharedCall) (reply : SharedReply) (v w : View) : Type 0 where
+pub record RangesOn (table : SharedTable) (cursor : TableCursor) (m b : ℕ) (call : SharedCall) (reply : SharedReply) (v w : View) : Type 0 where
   pub placed : Places call reply v w
   pub stands : IsCursor table cursor m b (items_of (view_state w).own)
   pub looks : Looks w w

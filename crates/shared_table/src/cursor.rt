@@ -26,7 +26,7 @@ use trie_nodes::{Place, SLOTS, Slot};
 /// A walk over the keys of a map. Between two steps it has a seat of its own, which keeps what the walk knows of the nodes where it
 /// stands: whatever others change, and whatever part of the map is cut off, it goes on there.
 #[derive(Drop)]
-pub struct Cursor {
+pub struct TableCursor {
     pub(crate) seat: Seat<(), View>,
     pub(crate) place: Place,
 }
@@ -42,7 +42,7 @@ pub(crate) enum Move {
 
 impl SharedTable {
     /// Begins a cursor over a map, at the first slot of the map's root.
-    pub fn begin_cursor(&self, note: &mut SharedNote, map: u32) -> Cursor
+    pub fn begin_cursor(&self, note: &mut SharedNote, map: u32) -> TableCursor
         requires note { IsNoteOf self.now note.old × IsSome (own_by note.old) }
         requires map { map < maps_of self.now }
         ensures home { SameHome IsNoteOf note.old note.new }
@@ -54,7 +54,7 @@ impl SharedTable {
     }
 
     // The same, by a seat.
-    fn begin_by(&self, seat: &mut Seat<(), View>, map: u32) -> Cursor
+    fn begin_by(&self, seat: &mut Seat<(), View>, map: u32) -> TableCursor
         requires table { IsSeatOf self.now.words seat.old }
         requires free { IsFree (begin_of self.now.words) seat.old.me }
         requires map { map < maps_of self.now }
@@ -62,7 +62,7 @@ impl SharedTable {
         ensures begun { (seat.new.me.1 ≡ seat.old.me.1) × RangesOn self.now result map (made_by seat.old.me.0.owns) (calls.Begin map) replies.Begun seat.old.me.0 seat.new.me.0 }
     {
         let root = self.words.begin_at(seat, map);
-        Cursor {
+        TableCursor {
             seat: self.words.unmount(seat),
             place: Place::first(root),
         }
@@ -71,7 +71,7 @@ impl SharedTable {
     /// Makes a step of a cursor, which goes on from where it stands: from slot to slot, the low ones first, and down into each node
     /// that it finds before it goes on behind it. It ends at the first entry, which it shows, or where it has passed all slots of the
     /// root that it began at.
-    pub fn next_of_cursor(&self, note: &mut SharedNote, cursor: &mut Cursor) -> Option<(u32, u64)>
+    pub fn next_of_cursor(&self, note: &mut SharedNote, cursor: &mut TableCursor) -> Option<(u32, u64)>
         requires note { IsNoteOf self.now note.old × IsSome (own_by note.old) }
         requires cursor { (map : ℕ) × (begin : ℕ) × ForSome (own_by note.old) (λ holding. IsCursor self.now cursor.old map begin holding.items) }
         ensures home { SameHome IsNoteOf note.old note.new }
@@ -87,7 +87,7 @@ impl SharedTable {
     }
 
     // The same, by a seat, which takes in the cursor's for the step.
-    fn next_by(&self, seat: &mut Seat<(), View>, cursor: &mut Cursor) -> Option<(u32, u64)>
+    fn next_by(&self, seat: &mut Seat<(), View>, cursor: &mut TableCursor) -> Option<(u32, u64)>
         requires table { IsSeatOf self.now.words seat.old }
         requires free { IsFree (begin_of self.now.words) seat.old.me }
         requires cursor { (map : ℕ) × (begin : ℕ) × IsCursor self.now cursor.old map begin (items_of (view_state seat.old.me.0).own) }

@@ -7,6 +7,7 @@ mod clearing;
 mod copies;
 pub mod cursor;
 mod ends;
+mod kinds;
 mod look_up;
 mod map_call;
 mod new;
@@ -16,7 +17,7 @@ mod settling;
 pub mod steps;
 pub mod table;
 
-pub use cursor::Cursor;
+pub use cursor::TableCursor;
 pub use new::{MAX_OBJECTS, MAX_UNITS};
 pub use note::SharedNote;
 pub use steps::Steps;
