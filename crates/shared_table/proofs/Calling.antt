@@ -1,8 +1,6 @@
 -- Operations through a caller's note.
-use Rattle.std.proofs.Common.{◌≡◌, ℕ, zero, suc, ◌+◌, ◌<◌, ◌≤◌, ◌==◌, Bool, true, false, cond, List, [], ◌∷◌, ◌++◌, length, Some, IsSome, slice_get, slice_index, refl, sym, ap, ◌∙◌, subst, arith}
-use Rattle.std.proofs.lemmas.Option.{slice_get_within, none-some, same_Some}
-use prog.Atomic.{either}
-use Rattle.atomic_table.specs.Table.{Allows}
+use Rattle.std.proofs.Common.{◌≡◌, ℕ, zero, suc, ◌<◌, ◌≤◌, true, false, List, [], ◌∷◌, ◌++◌, length, Some, IsSome, slice_get, slice_index, refl, sym, ap, ◌∙◌, subst, arith}
+use Rattle.std.proofs.lemmas.Option.{none-some, same_Some}
 use Rattle.sync_types.specs.declared.atomic_object.AtomicCall.{AtomicCall}
 use Rattle.sync_model.specs.declared.item.Item.{Item}
 use Rattle.sync_model.specs.declared.item.SharedCall.{SharedCall}
@@ -13,19 +11,14 @@ use Rattle.sync_model.specs.Note.{IsCounted, SameHome}
 use Rattle.sync_types.specs.SequentialAtomic.{atomic_reply}
 use Rattle.sync_types.specs.WordLayout.{number_in}
 use Rattle.table_seats.specs.declared.begin.Begin.{Begin}
+use Rattle.table_seats.specs.Seats.{begin_of}
 use Rattle.shared_table.specs.declared.note.SharedNote.{SharedNote}
 use Rattle.shared_table.specs.declared.table.SharedTable.{SharedTable}
 use Rattle.table_seats.specs.declared.view.Own.{Own}
 use Rattle.table_seats.specs.declared.view.View.{View}
-use Rattle.table_seats.specs.Laws.{HistoryLaws}
-use Rattle.shared_table.specs.Notes.{own_by, IsNoteOf, IsOperationOn}
+use Rattle.shared_table.specs.Notes.{IsNoteOf, IsOperationOn}
 use Rattle.table_seats.specs.Operations.{Places, Operates}
-use Rattle.table_seats.specs.Rule.{Kept}
-use Rattle.table_seats.specs.declared.word_step.WordStep.{WordStep}
-use Rattle.table_seats.specs.declared.word_step.WordStep.TheVariants.{CompareExchange}
-use Rattle.table_seats.specs.WordSteps.{word_after}
 use Rattle.table_seats.specs.Views.{held_in, with_item, called_view, IsIdle}
-use Rattle.table_seats.proofs.Operating.{operates}
 
 pub some_own : (n : ℕ) (owns : List Own) → IsSome (held_in n owns) → 0 < length owns
 some_own n [] is = absurd (let e : false ≡ true = is in (cc))
@@ -59,8 +52,8 @@ note_on home old new call reply is table_is empty places =
       counted = subst (λ own. IsCounted own new.seat.me.0.front) (sym places.called.own_new) (ap (slice_index new.seat.me.0.front) places.called.number ∙ places.called.counted);
     }
 
-pub home_on : (table : SharedTable) (old new : SharedNote) (a atomic : ℕ) (call : AtomicCall) (f : ℕ → ℕ) (found : ℕ) → IsNoteOf table old → a ≡ atomic → IsOperationOn table atomic call f
+pub home_on : (table : SharedTable) (old new : SharedNote) (a : ℕ) (call : AtomicCall) (f : ℕ → ℕ) (found : ℕ) → IsNoteOf table old → IsOperationOn table a call f
     → new.seat.table_id ≡ old.seat.table_id → Operates a call old.seat.me found new.seat.me → SameHome IsNoteOf old new
-home_on table old new a atomic call f found is same on table_is told home at_home =
+home_on table old new a call f found is on table_is told home at_home =
     note_on home old new (Atomic a call) (replies.Atomic (atomic_reply call (number_in on.kind found))) at_home table_is told.0
-    (told.1 on.kind (ap (λ (b : Begin). slice_get b.kinds a) is.begin ∙ ap (slice_get (begin_of table.words).kinds) same ∙ on.at)).1
+    (told.1 on.kind (ap (λ (b : Begin). slice_get b.kinds a) is.begin ∙ on.at)).1

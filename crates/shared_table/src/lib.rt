@@ -2,6 +2,7 @@
 #![tactic(auto)]
 
 mod caller_note;
+mod chain;
 mod changes;
 mod clearing;
 mod copies;
@@ -13,6 +14,7 @@ mod map_call;
 mod new;
 pub mod note;
 mod operations;
+mod publish;
 mod settling;
 pub mod steps;
 pub mod table;

@@ -11,9 +11,9 @@ ghost use Rattle.sync_model.specs.declared.item.SharedReply.TheVariants as repli
 ghost use Rattle.sync_model.specs.Note.{SameHome};
 ghost use Rattle.sync_model.specs.Shared.{Called, cost_of, state_of};
 ghost use Rattle.shared_table.specs.Notes.{front_by, own_by, seen_by, IsNoteOf};
-ghost use Rattle.table_seats.specs.Making.{HasUnit, IsPoised, leaf_value, Made, Publishes, StandsLocked};
+ghost use Rattle.table_seats.specs.Making.{HasUnit, leaf_value, Made, Publishes, StandsLocked};
 ghost use Rattle.table_seats.specs.Seats.{begin_of, IsSeatOf};
-ghost use Rattle.shared_table.specs.MapCalls.{IsEnd, IsReached, IsSight, IsWriting, MadeLocked, MayHaveMade, StillLocked};
+ghost use Rattle.shared_table.specs.MapCalls.{IsEnd, IsPoised, IsReached, IsSight, IsWriting, MadeLocked, MayHaveMade, StillLocked};
 ghost use Rattle.table_seats.specs.KeyCalls.{key_after};
 ghost use Rattle.shared_table.specs.Tables.{maps_of, first_of};
 ghost use Rattle.table_seats.specs.Walking.{walk_at, HasWords, Affords, IsFree, OnWay, AtEntry, Answers};
@@ -142,12 +142,12 @@ impl SharedTable {
         ensures published { Publishes map call seat.old.me seat.new.me }
     {
         match leaf {
-            None => self.words.show_entry(seat, call, map, key, node, level, next, value),
+            None => self.show_entry(seat, call, map, key, node, level, next, value),
             Some(entry) => {
                 if entry.key == key as u64 {
-                    self.words.show_entry(seat, call, map, key, node, level, next, value)
+                    self.show_entry(seat, call, map, key, node, level, next, value)
                 } else {
-                    self.words.show_chain(seat, call, map, key, node, level, next, value, &entry)
+                    self.show_chain(seat, call, map, key, node, level, next, value, &entry)
                 }
             }
         }
@@ -181,7 +181,7 @@ impl SharedTable {
                 match Change::of(call, held) {
                     Change::Keep => Some(reply_of(call, held)),
                     Change::Remove => {
-                        self.words.remove(seat, call, map, key, node, level, next);
+                        self.remove(seat, call, map, key, node, level, next);
                         Some(reply_of(call, held))
                     }
                     Change::Put(value) => {

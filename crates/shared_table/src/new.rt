@@ -57,7 +57,7 @@ impl SharedTable {
         requires all { IsSeatOf self.now.words all × (all.me ≡ (first_view (begin_of self.now.words), [])) }
         ensures { IfOk result (λ callers. AreNewCallers self.now (begin_of self.now.words).spares callers.items) }
     {
-        let spares = self.words.begin().spares.as_slice();
+        let spares = self.words.spare_units();
         let mut callers = Vec::with_capacity(alloc, spares.len())?;
         let mut next = self.words.room_start();
         for number in 0..spares.len() {

@@ -7,7 +7,7 @@ pub mod Published
 pub mod Stores
 pub mod Chains
 pub mod Makes
-pub mod Poised
+pub mod Slots
 pub mod Ledgers
 pub mod KeyBounds
 pub mod Lists

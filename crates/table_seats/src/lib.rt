@@ -3,7 +3,6 @@
 #![tactic(auto)]
 
 pub mod begin;
-mod chain;
 mod clearing;
 mod copies;
 mod cursor_steps;

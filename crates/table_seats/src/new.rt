@@ -26,11 +26,18 @@ impl TableWords {
         Ok((TableWords { table, begin }, all))
     }
 
-    /// What the table was made of.
-    pub fn begin(&self) -> &Begin
-        ensures { result.now ≡ begin_of self.now }
+    /// How many units of room each caller has at the start.
+    pub fn spare_units(&self) -> &[u32]
+        ensures { result.now ≡ (begin_of self.now).spares }
     {
-        &self.begin
+        self.begin.spares.as_slice()
+    }
+
+    /// What the hash of a key is made with.
+    pub fn seed(&self) -> u32
+        ensures { result ≡ (begin_of self.now).seed }
+    {
+        self.begin.seed
     }
 
     /// Where the callers' rooms begin.

@@ -201,8 +201,8 @@ impl TableWords {
         self.table.shared.fetch_sub::<GoOut>(seat, word, 1);
     }
 
-    // Writes the next word of the caller's own room, which no slot leads to. So far it holds this many words.
-    pub(crate) fn draft(&self, seat: &mut Seat<(), View>, next: u64, written: u64, new: u64)
+    /// Writes the next word of the caller's own room, which no slot leads to. So far it holds this many words.
+    pub fn draft(&self, seat: &mut Seat<(), View>, next: u64, written: u64, new: u64)
         requires table { IsSeatOf self.now seat.old }
         requires room { (own : Own) × (owns : List Own) × HasDraft (begin_of self.now) seat.old.me own owns next written }
         ensures table { seat.new.table_id ≡ seat.old.table_id }

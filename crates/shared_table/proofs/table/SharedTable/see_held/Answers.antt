@@ -1,5 +1,6 @@
 use Rattle.std.proofs.Common.{Some, length, sym, ap, ◌∙◌}
 use Rattle.table_seats.specs.Walking.{walk_at}
+use Rattle.table_seats.specs.Seats.{begin_of}
 use Rattle.shared_table.proofs.Sights.{unit_pays, sees_below, sees_empty, knows_entry, sees_entry, sight_same}
 use Rattle.shared_table.proofs.table.SharedTable.see_held.Goals as goal
 

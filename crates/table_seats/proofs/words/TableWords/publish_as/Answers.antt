@@ -1,4 +1,4 @@
-use Rattle.table_seats.proofs.Poised.{may_publish}
+use Rattle.table_seats.proofs.Slots.{may_publish}
 use Rattle.table_seats.proofs.words.TableWords.publish_as.Goals as goal
 
 pub store-requires : goal.store-requires

@@ -1,7 +1,7 @@
 use Rattle.std.proofs.Common.{◌≡◌}
-use Rattle.table_seats.specs.Making.{Drafted}
+use Rattle.shared_table.specs.MapCalls.{Drafted}
 use Rattle.table_seats.specs.Units.{unit_word}
-use Rattle.table_seats.proofs.words.TableWords.draft_chain.Given as goal
+use Rattle.shared_table.proofs.table.SharedTable.draft_chain.Given as goal
 
 abbrev pub invariant-loop-index : goal.invariant-loop-index
 invariant-loop-index l = record {
