@@ -5,3 +5,5 @@ pub mod NewCallers
 pub mod Dealing
 pub mod Counted
 pub mod MapCalls
+pub mod Ranging
+pub mod CursorStays
