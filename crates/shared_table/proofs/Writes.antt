@@ -27,7 +27,7 @@ use Rattle.shared_table.proofs.KeyCalls.{IsOn}
 use Rattle.shared_table.proofs.Locking.{tries_lock, unlocks}
 
 -- a step that tells more tells less
-allows_then : (holds : State (Unit {0}) View → Type 0) (slots id : ℕ) (me : Me (Unit {0}) View) (i : ℕ) (f : ℕ → ℕ) (p q : ℕ → Me (Unit {0}) View → Type 0) → ((n : ℕ) (after : Me (Unit {0}) View) → p n after → q n after) → Allows holds slots id me i f p → Allows holds slots id me i f q
+pub allows_then : (holds : State (Unit {0}) View → Type 0) (slots id : ℕ) (me : Me (Unit {0}) View) (i : ℕ) (f : ℕ → ℕ) (p q : ℕ → Me (Unit {0}) View → Type 0) → ((n : ℕ) (after : Me (Unit {0}) View) → p n after → q n after) → Allows holds slots id me i f p → Allows holds slots id me i f q
 allows_then holds slots id me i f p q more allows = λ s kept len at bounded. let t = allows s kept len at bounded in (t.0, t.1, t.2, t.3, more _ _ t.4)
 
 pub gate_fits : (table : SharedTable) (m : ℕ) → m < table.table.shared.key.maps → 2 + length table.begin.kinds + 2 * m < 2 ^ 32
@@ -44,7 +44,7 @@ module _ (table : SharedTable) (id : ℕ) (me : Me (Unit {0}) View) (word : ℕ)
   abbrev pub MayChange : (ℕ → ℕ) → (ℕ → Me (Unit {0}) View → Type 0) → Type 0
   MayChange f then = (word < table.table.shared.table_id.words) × Allows (Kept table.table.shared.key) table.table.shared.table_id.slots id me word f then
 
-  may_change : (at : ℕ) (f : ℕ → ℕ) (then : ℕ → Me (Unit {0}) View → Type 0) → at ≡ word → at < size_of key → Allows (Kept key) 0 id me at f then → MayChange f then
+  pub may_change : (at : ℕ) (f : ℕ → ℕ) (then : ℕ → Me (Unit {0}) View → Type 0) → at ≡ word → at < size_of key → Allows (Kept key) 0 id me at f then → MayChange f then
   may_change at f then is within allows = let sized = table.sized.0 in (omega arith, subst (λ i. Allows (Kept key) table.table.shared.table_id.slots id me i f then) is (subst (λ slots. Allows (Kept key) slots id me at f then) (sym table.sized.1) allows))
 
   gate_is : (m : ℕ) → word ≡ 2 + length table.begin.kinds + 2 * m → gate_word key m ≡ word
@@ -56,7 +56,7 @@ module _ (table : SharedTable) (id : ℕ) (me : Me (Unit {0}) View) (word : ℕ)
   pub may_go_out : (m : ℕ) → IsInside table.table.shared.key me m → m < table.table.shared.key.maps → word ≡ 2 + length table.begin.kinds + 2 * m → MayChange (λ n. (n + (2 ^ 64 - 1)) % 2 ^ 64) (GoesOut me)
   may_go_out m writer below is = may_change (gate_word key m) (λ n. (n + (2 ^ 64 - 1)) % 2 ^ 64) (GoesOut me) (gate_is m is) (omega arith) (goes_out key laws id me m writer)
 
-  words_within : (place : ℕ) → me.0.begin ≡ key → HasWords me.0 place 18 → place + 18 ≤ size_of key
+  pub words_within : (place : ℕ) → me.0.begin ≡ key → HasWords me.0 place 18 → place + 18 ≤ size_of key
   words_within place begin has = subst (λ (k : Begin). place + 18 ≤ size_of k) begin has.0
 
   pub may_try_lock : (node new : ℕ) → (w : Walk) × (w.node ≡ node) × IsWriter table.table.shared.key me w → HasWords me.0 node 18 → word ≡ node → new ≡ me.0.number + 1

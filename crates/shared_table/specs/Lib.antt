@@ -27,3 +27,4 @@ pub mod SweepLaws
 pub mod Cursors
 pub mod Making
 pub mod Clearing
+pub mod Pruning
