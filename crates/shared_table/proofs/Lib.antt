@@ -53,3 +53,4 @@ pub mod Cutting
 pub mod UpperLocks
 pub mod Cuts
 pub mod Prunes
+pub mod Prunings

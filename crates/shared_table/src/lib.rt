@@ -16,6 +16,7 @@ mod map_call;
 mod new;
 pub mod note;
 mod operations;
+mod prune;
 mod pruning;
 mod publish;
 pub mod rule;

@@ -1,0 +1,110 @@
+//! Pruning: a node below the root that was left empty is cut off, and then its parent in the same way, where that is empty now.
+ghost use Rattle.std.specs.Prelude.{◌≡◌, ◌<◌, true, Some};
+ghost use Rattle.shared_table.specs.declared.view.Lock.{Lock};
+ghost use Rattle.shared_table.specs.Pruning.{TriedUpper, LooksAtSlots, HoldsAt, ComesTo, PrunesAt};
+ghost use Rattle.shared_table.specs.Walking.{HasWords};
+ghost use Rattle.shared_table.specs.Writing.{Holds};
+
+use crate::table::SharedTable;
+use crate::view::View;
+use atomic_table::Seat;
+use crossbeam_utils::Backoff;
+use std::sync::Wait;
+use trie_nodes::layout::SLOTS;
+use trie_nodes::pruning;
+
+impl SharedTable {
+    // The words of the node whose lock the seat holds, as far as they say whether it is empty: its parent's place, and its slots up
+    // to the first that isn't empty.
+    fn look_at_slots(&self, seat: &mut Seat<(), View>, node: u64) -> [u64; 18]
+        requires table { seat.old.table_id ≡ self.now.table.shared.table_id }
+        requires lock { (l : Lock) × (l.node ≡ node) × (l.empty ≡ 0) × Holds self.now.table.shared.key seat.old.me l }
+        requires words { HasWords seat.old.me.0 node 18 }
+        ensures table { seat.new.table_id ≡ seat.old.table_id }
+        ensures looked { (l : Lock) → seat.old.me.0.lock ≡ Some l → LooksAtSlots l result seat.old.me seat.new.me }
+    {
+        let mut words = [0; 18];
+        words[1] = self.read_parent(seat, node);
+        for slot in 0..SLOTS {
+            let word = self.look_at_slot(seat, node, slot);
+            words[2 + slot as usize] = word;
+            if word != 0 {
+                return words;
+            }
+        }
+        words
+    }
+
+    // Takes the lock of the parent of the node whose lock the seat holds, and waits while another has it.
+    fn take_upper<R: Wait>(&self, rt: &R, seat: &mut Seat<(), View>, parent: u64, caller: u32)
+        requires table { seat.old.table_id ≡ self.now.table.shared.table_id }
+        requires lock { (l : Lock) × (l.up ≡ parent) × (0 < l.level) × Holds self.now.table.shared.key seat.old.me l }
+        requires words { HasWords seat.old.me.0 parent 18 }
+        requires caller { caller ≡ seat.old.me.0.number }
+        ensures table { seat.new.table_id ≡ seat.old.table_id }
+        ensures taken { (l : Lock) → seat.old.me.0.lock ≡ Some l → TriedUpper l true seat.old.me seat.new.me }
+    {
+        let backoff = Backoff::new();
+        for _ in rt.forever() {
+            if self.try_upper(seat, parent, caller) {
+                return;
+            }
+            backoff.snooze();
+        }
+        unreachable!()
+    }
+
+    // Cuts off the node whose lock the seat holds, where it is empty. The seat then holds the lock of its parent, whose place this gives.
+    fn prune_at<R: Wait>(
+        &self,
+        rt: &R,
+        seat: &mut Seat<(), View>,
+        key: u32,
+        node: u64,
+        level: u32,
+        caller: u32,
+    ) -> Option<u64>
+        requires table { seat.old.table_id ≡ self.now.table.shared.table_id }
+        requires holds { HoldsAt self.now.table.shared.key seat.old.me key node level }
+        requires below { 0 < level }
+        requires level { level < 8 }
+        requires caller { caller ≡ seat.old.me.0.number }
+        ensures table { seat.new.table_id ≡ seat.old.table_id }
+        ensures pruned { PrunesAt self.now.table.shared.key key node level result seat.old.me seat.new.me }
+    {
+        let words = self.look_at_slots(seat, node);
+        let plan = pruning(&words, key, self.begin.seed, level)?;
+        self.take_upper(rt, seat, plan.parent, caller);
+        self.mark(seat, node);
+        self.cut_off(seat, plan.parent, plan.slot);
+        Some(plan.parent)
+    }
+
+    // Cuts off the node whose lock the seat holds, where it is empty and no root, then its parent in the same way, and so on. The seat
+    // then holds the lock of the node that it came to, whose place this gives.
+    pub(crate) fn prune<R: Wait>(
+        &self,
+        rt: &R,
+        seat: &mut Seat<(), View>,
+        key: u32,
+        node: u64,
+        level: u32,
+        caller: u32,
+    ) -> u64
+        requires table { seat.old.table_id ≡ self.now.table.shared.table_id }
+        requires holds { HoldsAt self.now.table.shared.key seat.old.me key node level }
+        requires level { level < 8 }
+        requires caller { caller ≡ seat.old.me.0.number }
+        ensures table { seat.new.table_id ≡ seat.old.table_id }
+        ensures pruned { ComesTo result seat.old.me seat.new.me }
+    {
+        let mut node = node;
+        for up in 0..level {
+            match self.prune_at(rt, seat, key, node, level - up, caller) {
+                None => return node,
+                Some(parent) => node = parent,
+            }
+        }
+        node
+    }
+}
