@@ -2,14 +2,15 @@
 use Rattle.std.proofs.Common.{◌≡◌, ◌≢◌, ℕ, suc, ◌+◌, ◌-◌, ◌<◌, ◌==◌, true, false, eq-eqb, ne_eqb, List, length, set, Option, Some, None, slice_index, refl, sym, ap, ◌∙◌, subst, arith, length-set, get_or-set_same, get_or-set_other}
 use Rattle.std.proofs.lemmas.Option.{same_Some}
 use Rattle.atomic_table.specs.Table.{Me}
-use Rattle.shared_table.specs.declared.begin.Begin.{Begin}
-use Rattle.shared_table.specs.declared.view.Lock.{Lock}
-use Rattle.shared_table.specs.declared.view.View.{View}
-use Rattle.shared_table.specs.Pruning.{knowing, marked, upper_lock, SeesSlot, LooksAtSlot, ReadsParent, LooksAtSlots, TriedUpper, HoldsAt, HoldsBoth, Marks, CutsOff, ComesTo}
+use Rattle.table_seats.specs.declared.begin.Begin.{Begin}
+use Rattle.table_seats.specs.declared.view.Lock.{Lock}
+use Rattle.table_seats.specs.declared.view.View.{View}
+use Rattle.table_seats.specs.Pruning.{marked, upper_lock, SeesSlot, LooksAtSlot, ReadsParent, TriedUpper, HoldsBoth, Marks, CutsOff}
+use Rattle.shared_table.specs.Pruning.{knowing, LooksAtSlots, HoldsAt, ComesTo}
 use Rattle.trie_nodes.specs.Paths.{nibble}
 use Rattle.trie_nodes.specs.Plans.{HasOnlyEmptySlots}
-use Rattle.shared_table.specs.Walking.{HasWords}
-use Rattle.shared_table.specs.Writing.{holding, Holds}
+use Rattle.table_seats.specs.Walking.{HasWords}
+use Rattle.table_seats.specs.Writing.{holding, Holds}
 
 -- a seat has looked at so many slots of the node whose lock it holds, all of them empty, and has these words of the node
 pub record LooksOn (first me : Me (Unit {0}) View) (words : List ℕ) (slot : ℕ) : Type 0 where

@@ -1,15 +1,17 @@
 //! Pruning: a node below the root that was left empty is cut off, and then its parent in the same way, where that is empty now.
 ghost use Rattle.std.specs.Prelude.{◌≡◌, ◌<◌, true, Some};
-ghost use Rattle.shared_table.specs.declared.view.Lock.{Lock};
-ghost use Rattle.shared_table.specs.Pruning.{TriedUpper, LooksAtSlots, HoldsAt, ComesTo, PrunesAt};
-ghost use Rattle.shared_table.specs.Walking.{HasWords};
-ghost use Rattle.shared_table.specs.Writing.{Holds};
+ghost use Rattle.table_seats.specs.declared.view.Lock.{Lock};
+ghost use Rattle.shared_table.specs.Pruning.{LooksAtSlots, HoldsAt, ComesTo, PrunesAt};
+ghost use Rattle.table_seats.specs.Pruning.{TriedUpper};
+ghost use Rattle.table_seats.specs.Seats.{begin_of, IsSeatOf};
+ghost use Rattle.table_seats.specs.Walking.{HasWords};
+ghost use Rattle.table_seats.specs.Writing.{Holds};
 
 use crate::table::SharedTable;
-use crate::view::View;
 use atomic_table::Seat;
 use crossbeam_utils::Backoff;
 use std::sync::Wait;
+use table_seats::View;
 use trie_nodes::layout::SLOTS;
 use trie_nodes::pruning;
 
@@ -17,16 +19,16 @@ impl SharedTable {
     // The words of the node whose lock the seat holds, as far as they say whether it is empty: its parent's place, and its slots up
     // to the first that isn't empty.
     fn look_at_slots(&self, seat: &mut Seat<(), View>, node: u64) -> [u64; 18]
-        requires table { seat.old.table_id ≡ self.now.table.shared.table_id }
-        requires lock { (l : Lock) × (l.node ≡ node) × (l.empty ≡ 0) × Holds self.now.table.shared.key seat.old.me l }
+        requires table { IsSeatOf self.now.words seat.old }
+        requires lock { (l : Lock) × (l.node ≡ node) × (l.empty ≡ 0) × Holds (begin_of self.now.words) seat.old.me l }
         requires words { HasWords seat.old.me.0 node 18 }
         ensures table { seat.new.table_id ≡ seat.old.table_id }
         ensures looked { (l : Lock) → seat.old.me.0.lock ≡ Some l → LooksAtSlots l result seat.old.me seat.new.me }
     {
         let mut words = [0; 18];
-        words[1] = self.read_parent(seat, node);
+        words[1] = self.words.read_parent(seat, node);
         for slot in 0..SLOTS {
-            let word = self.look_at_slot(seat, node, slot);
+            let word = self.words.look_at_slot(seat, node, slot);
             words[2 + slot as usize] = word;
             if word != 0 {
                 return words;
@@ -37,8 +39,8 @@ impl SharedTable {
 
     // Takes the lock of the parent of the node whose lock the seat holds, and waits while another has it.
     fn take_upper<R: Wait>(&self, rt: &R, seat: &mut Seat<(), View>, parent: u64, caller: u32)
-        requires table { seat.old.table_id ≡ self.now.table.shared.table_id }
-        requires lock { (l : Lock) × (l.up ≡ parent) × (0 < l.level) × Holds self.now.table.shared.key seat.old.me l }
+        requires table { IsSeatOf self.now.words seat.old }
+        requires lock { (l : Lock) × (l.up ≡ parent) × (0 < l.level) × Holds (begin_of self.now.words) seat.old.me l }
         requires words { HasWords seat.old.me.0 parent 18 }
         requires caller { caller ≡ seat.old.me.0.number }
         ensures table { seat.new.table_id ≡ seat.old.table_id }
@@ -46,7 +48,7 @@ impl SharedTable {
     {
         let backoff = Backoff::new();
         for _ in rt.forever() {
-            if self.try_upper(seat, parent, caller) {
+            if self.words.try_upper(seat, parent, caller) {
                 return;
             }
             backoff.snooze();
@@ -64,19 +66,19 @@ impl SharedTable {
         level: u32,
         caller: u32,
     ) -> Option<u64>
-        requires table { seat.old.table_id ≡ self.now.table.shared.table_id }
-        requires holds { HoldsAt self.now.table.shared.key seat.old.me key node level }
+        requires table { IsSeatOf self.now.words seat.old }
+        requires holds { HoldsAt (begin_of self.now.words) seat.old.me key node level }
         requires below { 0 < level }
         requires level { level < 8 }
         requires caller { caller ≡ seat.old.me.0.number }
         ensures table { seat.new.table_id ≡ seat.old.table_id }
-        ensures pruned { PrunesAt self.now.table.shared.key key node level result seat.old.me seat.new.me }
+        ensures pruned { PrunesAt (begin_of self.now.words) key node level result seat.old.me seat.new.me }
     {
         let words = self.look_at_slots(seat, node);
-        let plan = pruning(&words, key, self.begin.seed, level)?;
+        let plan = pruning(&words, key, self.words.seed(), level)?;
         self.take_upper(rt, seat, plan.parent, caller);
-        self.mark(seat, node);
-        self.cut_off(seat, plan.parent, plan.slot);
+        self.words.mark(seat, node);
+        self.words.cut_off(seat, plan.parent, plan.slot);
         Some(plan.parent)
     }
 
@@ -91,8 +93,8 @@ impl SharedTable {
         level: u32,
         caller: u32,
     ) -> u64
-        requires table { seat.old.table_id ≡ self.now.table.shared.table_id }
-        requires holds { HoldsAt self.now.table.shared.key seat.old.me key node level }
+        requires table { IsSeatOf self.now.words seat.old }
+        requires holds { HoldsAt (begin_of self.now.words) seat.old.me key node level }
         requires level { level < 8 }
         requires caller { caller ≡ seat.old.me.0.number }
         ensures table { seat.new.table_id ≡ seat.old.table_id }

@@ -6,8 +6,8 @@ use Rattle.shared_table.proofs.table.SharedTable.prune.Goals as goal
 pub loop-up-init : goal.loop-up-init
 loop-up-init g c = record {
   table = refl;
-  comes = comes_first c.args.self.now.table.shared.key c.args.seat.now.me c.args.key c.args.node c.args.level c.requires.holds;
-  holds = let level : c.args.level ≡ c.args.level - 0 = omega arith in subst (HoldsAt c.args.self.now.table.shared.key c.args.seat.now.me c.args.key c.args.node) level c.requires.holds;
+  comes = comes_first c.args.self.now.words.table.shared.key c.args.seat.now.me c.args.key c.args.node c.args.level c.requires.holds;
+  holds = let level : c.args.level ≡ c.args.level - 0 = omega arith in subst (HoldsAt c.args.self.now.words.table.shared.key c.args.seat.now.me c.args.key c.args.node) level c.requires.holds;
 }
 
 pub prune_at-requires-clause-caller : goal.prune_at-requires-clause-caller
