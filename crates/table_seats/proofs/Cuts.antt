@@ -22,9 +22,9 @@ use Rattle.table_seats.specs.TrieLaws.{TrieLaws}
 use Rattle.table_seats.specs.Writing.{holding}
 use Rattle.table_seats.proofs.Cutting.{with_cut, Stub, fine_cut, gates_cut, later_cut, steady_cut, apart_cut, room_cut, cut_off, lock_same, parent_same}
 use Rattle.table_seats.proofs.Frames.{Later}
-use Rattle.table_seats.proofs.LockWords.{same_map}
+use Rattle.table_seats.proofs.LockWords.{by_first, same_map}
 use Rattle.table_seats.proofs.Still.{still, fits_holding, suits_holding}
-use Rattle.table_seats.proofs.UpperLocks.{by_first, above_other}
+use Rattle.table_seats.proofs.UpperLocks.{above_other}
 
 same_gate : (k : Begin) (sh : Shape) (child now c : ℕ) (gate : Gate) → AtGate k sh c gate → AtGate k (with_cut sh child now) c gate
 same_gate k sh child now c Outside at = at

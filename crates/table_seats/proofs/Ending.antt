@@ -21,7 +21,7 @@ module _ (k : Begin) (laws : HistoryLaws) (ending : EndLaws) (s : TableState) (r
 
   pub ends_at : (id : ℕ) (v : View) → get_elem? s.views id ≡ some v → v.live ≡ true → v.begin ≡ k → EndsAt v (contents_in k.kinds s.words k.maps)
   ends_at id v at_v live begin = (
-      record v { seen = r.log },
-      looked k s r id v at_v live begin,
-      contents_are k laws ending r.shape r.log s.words r.begin r.fine r.keys ∙ ap (λ b. contents_after (start_of b) r.log) (sym begin),
+    record v { seen = r.log },
+    looked k s r id v at_v live begin,
+    contents_are k laws ending r.shape r.log s.words r.begin r.fine r.keys ∙ ap (λ b. contents_after (start_of b) r.log) (sym begin),
   )

@@ -1,8 +1,10 @@
 -- A writer changes the lock word of a node that nobody else holds: it takes the lock, marks the node dead, or gives the lock back.
-use Rattle.std.proofs.Common.{◌≡◌, ◌≢◌, ℕ, suc, ◌+◌, ◌^◌, ◌<◌, ◌≤◌, true, false, List, ◌∷◌, set, Option, Some, None, slice_index, inl, inr, refl, sym, ap, ◌∙◌, arith}
-use Rattle.std.proofs.lemmas.Option.{none-some}
+use Rattle.std.proofs.Common.{◌≡◌, ◌≢◌, ℕ, suc, ◌+◌, ◌^◌, ◌<◌, ◌≤◌, true, false, List, [], ◌∷◌, length, set, Option, Some, None, slice_index, inl, inr, refl, sym, ap, ◌∙◌, subst, arith}
+use Rattle.std.proofs.lemmas.List.{set-get_or}
+use Rattle.std.proofs.lemmas.Option.{none-some, same_Some}
 use mathlib.Core.Option.{some}
 use lib.ListN.{get_elem?}
+use Rattle.atomic_table.specs.Table.{Me}
 use Rattle.table_seats.specs.declared.begin.Begin.{Begin}
 use Rattle.table_seats.specs.declared.view.Gate.{Gate}
 use Rattle.table_seats.specs.declared.view.Gate.TheVariants.{Outside, Inside, Closed}
@@ -20,6 +22,7 @@ use Rattle.table_seats.specs.Shape.{Shape}
 use Rattle.table_seats.specs.Writing.{holding}
 use Rattle.table_seats.proofs.Frames.{Later}
 use Rattle.table_seats.proofs.Holding.{with_holder, holder_of, other_holder, here, behind, other_node, gates_hold, later_hold, apart_hold, fine_hold, room_hold}
+use Rattle.table_seats.proofs.Quiet.{later_same, apart_same, kept_standing}
 use Rattle.table_seats.proofs.Still.{owned, still, fits_holding, suits_holding}
 
 pub not_dead : (n : ℕ) → n < 2 ^ 32 → n ≢ dead_word
@@ -112,20 +115,20 @@ module _ (k : Begin) (laws : HistoryLaws) (s : TableState) (r : Kept k s) (id : 
 
   -- the lock is free, and the seat takes it
   module _ (m node key level : ℕ) (at : IsReachable k r.shape m node key level) (free : slice_index s.words node ≡ 0) where
-    pub not_dead_yet : slice_index s.words node ≢ dead_word
+    not_dead_yet : slice_index s.words node ≢ dead_word
     not_dead_yet dead = absurd (let e : 0 ≡ dead_word = sym free ∙ dead in omega arith)
 
-    pub nobody_holds : (d : ℕ) → d ≢ v.number → r.shape.held_by node ≢ suc d
+    nobody_holds : (d : ℕ) → d ≢ v.number → r.shape.held_by node ≢ suc d
     nobody_holds d other held = absurd (let e : 0 ≡ suc d = sym (r.fine.held node at.node not_dead_yet ∙ free) ∙ held in omega arith)
 
-    pub held_word_is : suc v.number ≢ dead_word → suc v.number ≡ suc v.number
+    held_word_is : suc v.number ≢ dead_word → suc v.number ≡ suc v.number
     held_word_is alive = refl
 
-    pub no_corpse : suc v.number ≡ dead_word → (i : ℕ) → i < 16 → slice_index s.words (slot_word node i) ≡ 0
+    no_corpse : suc v.number ≡ dead_word → (i : ℕ) → i < 16 → slice_index s.words (slot_word node i) ≡ 0
     no_corpse dead i below = absurd (not_dead (suc v.number) few dead)
 
-    pub locks_taken : Locks k (with_holder r.shape node (suc v.number)) (set s.words node (suc v.number)) v.number m (fresh_lock node (slice_index s.words (parent_word node)) key level)
-    locks_taken = record {
+    locks_there : Locks k (with_holder r.shape node (suc v.number)) (set s.words node (suc v.number)) v.number m (fresh_lock node (slice_index s.words (parent_word node)) key level)
+    locks_there = record {
       node = at.node;
       map = at.map;
       key = at.is_key;
@@ -139,6 +142,46 @@ module _ (k : Begin) (laws : HistoryLaws) (s : TableState) (r : Kept k s) (id : 
       few = omega arith;
       empty_so_far = λ slot below. absurd (omega arith);
     }
+
+    abbrev pub Holds : Option Lock → Type 0
+    Holds lock = (z : Lock) → lock ≡ Some z → (n : ℕ) × (v.gate ≡ Inside n) × Locks k (with_holder r.shape node (suc v.number)) (set s.words node (suc v.number)) v.number n z
+
+    -- it holds this lock, of which nothing was read
+    pub holds_taken : v.gate ≡ Inside m → Holds (Some (fresh_lock node (slice_index s.words (parent_word node)) key level))
+    holds_taken inside z e = (m, inside, subst (Locks k (with_holder r.shape node (suc v.number)) (set s.words node (suc v.number)) v.number m) (same_Some (fresh_lock node (slice_index s.words (parent_word node)) key level) z e) locks_there)
+
+    -- and the lock of another node still
+    pub holds_beside : (n : ℕ) (l : Lock) → v.gate ≡ Inside n → l.node ≢ node → Locks k r.shape s.words v.number n l → Holds (Some l)
+    holds_beside n l inside ne was z e = (
+      n,
+      inside,
+      subst (Locks k (with_holder r.shape node (suc v.number)) (set s.words node (suc v.number)) v.number n) (same_Some l z e)
+          (locks_off node (suc v.number) (suc v.number) at.node held_word_is no_corpse not_dead_yet nobody_holds n l ne was),
+    )
+
+    pub kept_taken : (lock upper : Option Lock) → Holds lock → Holds upper → Kept k record { words = set s.words node (suc v.number); homes = s.homes; views = set s.views id (holding v v.gate lock upper) }
+    kept_taken = kept_held node (suc v.number) (suc v.number) at.node held_word_is no_corpse not_dead_yet nobody_holds
+
+  -- the seat knows more of the node whose lock it holds, and nothing changes
+  pub kept_knowing : (z : Lock) → ((y : Lock) → Some z ≡ Some y → (m : ℕ) × (v.gate ≡ Inside m) × Locks k r.shape s.words v.number m y) → Kept k record { words = s.words; homes = s.homes; views = set s.views id (holding v v.gate (Some z) None) }
+  kept_knowing z locks = let u = r.suits id v at_me live in
+      still k laws s r id v at_me live own owns is r.shape s.words (holding v v.gate (Some z) None) (fits_holding k laws s r id v at_me live own owns is v.gate (Some z) None)
+      r.fine r.gates (later_same r.shape r.log s.words) (apart_same k v.number r.shape s.words)
+      (suits_holding k laws s r id v at_me live own owns is r.shape s.words v.gate (Some z) None (later_same r.shape r.log s.words) u.steady u.room u.gate u.only
+      locks (λ y e. absurd (none-some y e)) u.nobody)
+
+  -- nothing changes at all
+  pub kept_idle : (word : ℕ) → Kept k record { words = set s.words word (slice_index s.words word); homes = s.homes; views = set s.views id v }
+  kept_idle word = let u = r.suits id v at_me live in
+      subst (λ ws. Kept k record { words = ws; homes = s.homes; views = set s.views id v }) (sym (set-get_or s.words word 0)) (kept_standing k s r id v at_me live v.walk v.leaf u.walk u.steady u.leaf)
+
+-- a seat that stands for a caller has a first one
+pub by_first : (me : Me (Unit {0}) View) (P : Type 0) → 0 < length me.0.owns → ((own : Own) (owns : List Own) → me.0.owns ≡ own ∷ owns → P) → P
+by_first me P stands each = by_owns me.0.owns refl
+  where
+    by_owns : (owns : List Own) → me.0.owns ≡ owns → P
+    by_owns [] e = let none_there = ap length e in absurd (omega arith)
+    by_owns (own ∷ owns) is = each own owns is
 
 -- the map of a seat's gate is one
 pub same_map : (m n : ℕ) → Inside m ≡ Inside n → m ≡ n

@@ -2,7 +2,7 @@
 use Rattle.std.proofs.Common.{◌≡◌, ◌≢◌, ℕ, suc, ◌-◌, ◌<◌, ◌==◌, Bool, true, false, cond, List, [], ◌∷◌, length, set, Some, None, slice_index, inl, inr, refl, sym, ap, ◌∙◌, subst, arith, ◌++◌, length-append}
 use Rattle.std.proofs.lemmas.Bool.{cases_eq, eqb-true}
 use Rattle.std.proofs.lemmas.List.{set-get_or}
-use Rattle.std.proofs.lemmas.Option.{none-some, same_Some}
+use Rattle.std.proofs.lemmas.Option.{same_Some}
 use mathlib.Core.Option.{some}
 use lib.ListN.{get_elem?}
 use prog.Atomic.{either}
@@ -21,35 +21,12 @@ use Rattle.table_seats.specs.Rule.{TableState, Kept}
 use Rattle.table_seats.specs.Walking.{HasWords}
 use Rattle.table_seats.specs.Writing.{holding, Holds}
 use Rattle.table_seats.proofs.Lookups.{has_words}
-use Rattle.table_seats.proofs.LockWords.{IsReachable, not_dead, few, locks_off, after_lock, lock_word_is, kept_held, not_dead_yet, nobody_holds, held_word_is, no_corpse, locks_taken}
+use Rattle.table_seats.proofs.LockWords.{IsReachable, not_dead, few, locks_off, after_lock, lock_word_is, kept_held, holds_taken, holds_beside, kept_taken, kept_knowing, kept_idle, by_first}
 use Rattle.table_seats.proofs.Holding.{with_holder, holder_of}
-use Rattle.table_seats.proofs.Quiet.{later_same, apart_same, kept_standing}
-use Rattle.table_seats.proofs.Still.{still, fits_holding, suits_holding}
-
--- a seat with a lock stands for a caller
-pub by_first : (me : Me (Unit {0}) View) (P : Type 0) → 0 < length me.0.owns → ((own : Own) (owns : List Own) → me.0.owns ≡ own ∷ owns → P) → P
-by_first me P stands each = by_owns me.0.owns refl
-  where
-    by_owns : (owns : List Own) → me.0.owns ≡ owns → P
-    by_owns [] e = let none_there = ap length e in absurd (omega arith)
-    by_owns (own ∷ owns) is = each own owns is
 
 module _ (k : Begin) (laws : HistoryLaws) (s : TableState) (r : Kept k s) (id : ℕ) (v : View) (at_me : get_elem? s.views id ≡ some v) (live : v.live ≡ true) (own : Own) (owns : List Own) (is : v.owns ≡ own ∷ owns) where
   suits : Suits k r.shape r.log r.calls s.words v
   suits = r.suits id v at_me live
-
-  -- nothing changes
-  pub kept_idle : (word : ℕ) → Kept k record { words = set s.words word (slice_index s.words word); homes = s.homes; views = set s.views id v }
-  kept_idle word = subst (λ ws. Kept k record { words = ws; homes = s.homes; views = set s.views id v }) (sym (set-get_or s.words word 0))
-      (kept_standing k s r id v at_me live v.walk v.leaf suits.walk suits.steady suits.leaf)
-
-  -- the seat knows more of its lock's node
-  pub kept_knowing : (z : Lock) → v.upper ≡ None → ((y : Lock) → Some z ≡ Some y → (m : ℕ) × (v.gate ≡ Inside m) × Locks k r.shape s.words v.number m y) → Kept k record { words = s.words; homes = s.homes; views = set s.views id (holding v v.gate (Some z) None) }
-  kept_knowing z alone locks =
-      still k laws s r id v at_me live own owns is r.shape s.words (holding v v.gate (Some z) None) (fits_holding k laws s r id v at_me live own owns is v.gate (Some z) None)
-      r.fine r.gates (later_same r.shape r.log s.words) (apart_same k v.number r.shape s.words)
-      (suits_holding k laws s r id v at_me live own owns is r.shape s.words v.gate (Some z) None (later_same r.shape r.log s.words) suits.steady suits.room suits.gate suits.only
-      locks (λ y e. absurd (none-some y e)) suits.nobody)
 
   -- the parent of a node below the root
   module _ (m : ℕ) (l : Lock) (was : Locks k r.shape s.words v.number m l) (deep : 0 < l.level) where
@@ -92,24 +69,9 @@ module _ (k : Begin) (laws : HistoryLaws) (s : TableState) (r : Kept k s) (id : 
     up_of = slice_index s.words (parent_word l.up)
 
     pub kept_both : Kept k record { words = set s.words l.up (suc v.number); homes = s.homes; views = set s.views id (holding v v.gate (Some l) (Some (upper_lock l (slice_index s.words (parent_word l.up))))) }
-    kept_both =
-        let lives = not_dead_yet k laws s r id v at_me live own owns is was.0 l.up l.key (l.level - 1) at free in
-        let nobody = nobody_holds k laws s r id v at_me live own owns is was.0 l.up l.key (l.level - 1) at free in
-        let word = held_word_is k laws s r id v at_me live own owns is was.0 l.up l.key (l.level - 1) at free in
-        let corpse = no_corpse k laws s r id v at_me live own owns is was.0 l.up l.key (l.level - 1) at free in
-        kept_held k laws s r id v at_me live own owns is l.up (suc v.number) (suc v.number) at.node word corpse lives nobody (Some l) (Some (upper_lock l up_of))
-        (λ z e. (
-          was.0,
-          was.1,
-          subst (Locks k (with_holder r.shape l.up (suc v.number)) (set s.words l.up (suc v.number)) v.number was.0) (same_Some l z e)
-              (locks_off k laws s r id v at_me live own owns is l.up (suc v.number) (suc v.number) at.node word corpse lives nobody was.0 l (above_other was.0 l was.2 deep) was.2),
-        ))
-        (λ z e. (
-          was.0,
-          was.1,
-          subst (Locks k (with_holder r.shape l.up (suc v.number)) (set s.words l.up (suc v.number)) v.number was.0) (same_Some (upper_lock l up_of) z e)
-              (locks_taken k laws s r id v at_me live own owns is was.0 l.up l.key (l.level - 1) at free),
-        ))
+    kept_both = kept_taken k laws s r id v at_me live own owns is was.0 l.up l.key (l.level - 1) at free (Some l) (Some (upper_lock l up_of))
+        (holds_beside k laws s r id v at_me live own owns is was.0 l.up l.key (l.level - 1) at free was.0 l was.1 (above_other was.0 l was.2 deep) was.2)
+        (holds_taken k laws s r id v at_me live own owns is was.0 l.up l.key (l.level - 1) at free was.1)
 
   -- it marks a node dead whose slots are all empty
   module _ (l u : Lock) (locked : v.lock ≡ Some l) (upper : v.upper ≡ Some u) (empty : l.empty ≡ 16) (living : l.dead ≡ false) (other : u.node ≢ l.node) where
@@ -187,7 +149,7 @@ looks_at_slot k laws id me l held below = by_first me (Allows (Kept k) 0 id me (
           keeps,
           tt,
           subst (λ ws. Kept k record { words = ws; homes = s.homes; views = set s.views id (holding me.0 me.0.gate (Some (with_empty l)) None) }) (sym (set-get_or s.words (slot_word l.node l.empty) 0))
-              (kept_knowing k laws s r id me.0 at_me held.live own owns is (with_empty l) held.upper
+              (kept_knowing k laws s r id me.0 at_me held.live own owns is (with_empty l)
               (λ z e. (was.0, was.1, subst (Locks k r.shape s.words me.0.number was.0) (same_Some (with_empty l) z e) locks))),
           (refl, refl),
         )

@@ -10,9 +10,9 @@ ghost use Rattle.table_seats.specs.Views.{spent};
 ghost use Rattle.table_seats.specs.Walking.{HasWords};
 ghost use Rattle.trie_nodes.specs.Slots.{slot_in};
 
+use crate::copies::ZERO;
 use crate::laws::history_laws;
 use crate::lookup::Way;
-use crate::copies::ZERO;
 use crate::view::View;
 use crate::words::TableWords;
 use atomic_table::{Join, Play, Seat, Split};

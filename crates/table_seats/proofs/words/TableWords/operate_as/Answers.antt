@@ -19,5 +19,5 @@ fetch_or-requires g c = let may = may_step c.args.self.now c.args.seat.now.id c.
 pub compare_exchange-requires : goal.compare_exchange-requires
 compare_exchange-requires g c =
     let may = may_exchange c.args.self.now c.args.seat.now.id c.args.seat.now.me g.O.Operation.atomic c.args.atomic g.O.Operation.call c.in-CompareExchange.old c.in-CompareExchange.new
-        (may_step c.args.self.now c.args.seat.now.id c.args.seat.now.me g.O.Operation.atomic c.args.atomic g.O.Operation.call c.args.step _ c.history_laws.ensures c.requires.free c.requires.told c.requires.operation c.in-CompareExchange.is) in
+    (may_step c.args.self.now c.args.seat.now.id c.args.seat.now.me g.O.Operation.atomic c.args.atomic g.O.Operation.call c.args.step _ c.history_laws.ensures c.requires.free c.requires.told c.requires.operation c.in-CompareExchange.is) in
     (c.requires.table, may.0, may.1)
