@@ -1,8 +1,6 @@
 -- Operations through a caller's note.
-use Rattle.std.proofs.Common.{◌≡◌, ℕ, zero, suc, ◌+◌, ◌<◌, ◌≤◌, ◌==◌, Bool, true, false, cond, List, [], ◌∷◌, ◌++◌, length, Some, IsSome, slice_get, slice_index, refl, sym, ap, ◌∙◌, subst, arith}
-use Rattle.std.proofs.lemmas.Option.{slice_get_within, none-some, same_Some}
-use prog.Atomic.{either}
-use Rattle.atomic_table.specs.Table.{Allows}
+use Rattle.std.proofs.Common.{◌≡◌, ℕ, zero, suc, ◌<◌, ◌≤◌, true, false, List, [], ◌∷◌, ◌++◌, length, Some, IsSome, slice_get, slice_index, refl, sym, ap, ◌∙◌, subst, arith}
+use Rattle.std.proofs.lemmas.Option.{none-some, same_Some}
 use Rattle.sync_types.specs.declared.atomic_object.AtomicCall.{AtomicCall}
 use Rattle.sync_model.specs.declared.item.Item.{Item}
 use Rattle.sync_model.specs.declared.item.SharedCall.{SharedCall}
@@ -18,15 +16,9 @@ use Rattle.shared_table.specs.declared.note.SharedNote.{SharedNote}
 use Rattle.shared_table.specs.declared.table.SharedTable.{SharedTable}
 use Rattle.table_seats.specs.declared.view.Own.{Own}
 use Rattle.table_seats.specs.declared.view.View.{View}
-use Rattle.table_seats.specs.Laws.{HistoryLaws}
-use Rattle.shared_table.specs.Notes.{own_by, IsNoteOf, IsOperationOn}
+use Rattle.shared_table.specs.Notes.{IsNoteOf, IsOperationOn}
 use Rattle.table_seats.specs.Operations.{Places, Operates}
-use Rattle.table_seats.specs.Rule.{Kept}
-use Rattle.table_seats.specs.declared.word_step.WordStep.{WordStep}
-use Rattle.table_seats.specs.declared.word_step.WordStep.TheVariants.{CompareExchange}
-use Rattle.table_seats.specs.WordSteps.{word_after}
 use Rattle.table_seats.specs.Views.{held_in, with_item, called_view, IsIdle}
-use Rattle.table_seats.proofs.Operating.{operates}
 
 pub some_own : (n : ℕ) (owns : List Own) → IsSome (held_in n owns) → 0 < length owns
 some_own n [] is = absurd (let e : false ≡ true = is in (cc))

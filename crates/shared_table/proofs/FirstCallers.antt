@@ -1,9 +1,9 @@
 -- The callers of a new table are dealt out.
-use Rattle.std.proofs.Common.{◌≡◌, ℕ, zero, suc, ◌+◌, ◌*◌, ◌^◌, ◌<◌, ◌≤◌, true, List, [], ◌∷◌, length, drop, sum, Some, slice_get, slice_index, refl, sym, ap, ◌∙◌, subst, arith}
+use Rattle.std.proofs.Common.{◌≡◌, ℕ, zero, suc, ◌+◌, ◌*◌, ◌^◌, ◌<◌, ◌≤◌, List, [], ◌∷◌, length, drop, sum, Some, slice_get, slice_index, refl, sym, ap, ◌∙◌, subst, arith}
 use Rattle.std.proofs.lemmas.List.{drop_more}
 use Rattle.std.proofs.lemmas.List.Sums.{sum_by-cons}
 use Rattle.std.proofs.lemmas.Option.{none-some, same_Some}
-use Rattle.atomic_table.specs.Table.{Me, Splits}
+use Rattle.atomic_table.specs.Table.{Me}
 use Rattle.sync_model.specs.declared.caller.Caller.{Caller}
 use Rattle.sync_model.specs.Note.{IsCounted}
 use Rattle.trie_nodes.specs.Layout.{unit_words}
@@ -16,7 +16,6 @@ use Rattle.table_seats.specs.declared.view.View.{View}
 use Rattle.shared_table.specs.Dealing.{left_view, IsNewCaller}
 use Rattle.table_seats.specs.Layout.{callers_of, size_of, IsBegin}
 use Rattle.shared_table.specs.NewCallers.{AreNewCallers}
-use Rattle.table_seats.specs.Rule.{Kept}
 use Rattle.table_seats.specs.Views.{held_in, next_in, spare_in, new_owns, first_view, dealt, kept, others_of, first_of, IsIdle}
 use Rattle.table_seats.proofs.Opening.{same_for_all}
 

@@ -1,8 +1,8 @@
 -- Notes are copied and merged.
-use Rattle.std.proofs.Common.{◌≡◌, ℕ, ◌+◌, ◌<◌, ◌≤◌, true, List, [], ◌∷◌, ◌++◌, length, Some, None, slice_get, slice_index, refl, sym, ap, ◌∙◌, subst, arith}
+use Rattle.std.proofs.Common.{◌≡◌, ℕ, ◌+◌, ◌≤◌, true, List, [], ◌∷◌, ◌++◌, length, Some, None, slice_get, slice_index, refl, sym, ap, ◌∙◌, subst, arith}
 use Rattle.std.proofs.lemmas.List.{append-nil}
 use Rattle.std.proofs.lemmas.Option.{none-some, same_Some}
-use Rattle.atomic_table.specs.Table.{Me, Allows, Splits, Joins}
+use Rattle.atomic_table.specs.Table.{Me}
 use Rattle.sync_model.specs.Front.{AtLeast}
 use Rattle.sync_model.specs.Journal.{Begins}
 use Rattle.sync_model.specs.Note.{Holding, IsCounted}
@@ -13,13 +13,11 @@ use Rattle.shared_table.specs.declared.note.SharedNote.{SharedNote}
 use Rattle.shared_table.specs.declared.table.SharedTable.{SharedTable}
 use Rattle.table_seats.specs.declared.view.Own.{Own}
 use Rattle.table_seats.specs.declared.view.View.{View}
-use Rattle.table_seats.specs.Laws.{HistoryLaws}
 use Rattle.table_seats.specs.Layout.{callers_of}
 use Rattle.shared_table.specs.Notes.{own_by, IsNoteOf, IsLawfulFor}
-use Rattle.table_seats.specs.Rule.{Kept}
 use Rattle.table_seats.specs.Shape.{start_of}
 use Rattle.shared_table.specs.Tables.{first_of}
-use Rattle.table_seats.specs.Views.{held_in, copied, most, joined, spent, IsIdle, Looks}
+use Rattle.table_seats.specs.Views.{held_in, most, joined, IsIdle, Looks}
 
 pub nobody : (n : ℕ) (owns : List Own) → held_in n owns ≡ None → owns ≡ []
 nobody n [] e = refl

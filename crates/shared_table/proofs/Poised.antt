@@ -25,7 +25,6 @@ use Rattle.shared_table.specs.MapCalls.{IsPoised, with_draft, Drafted}
 use Rattle.table_seats.specs.Shape.{start_of}
 use Rattle.table_seats.specs.Units.{link_at, unit_word}
 use Rattle.table_seats.specs.Views.{held_in, with_item, paid, spend, called_view, view_state}
-use Rattle.table_seats.specs.Walking.{HasWords}
 use Rattle.table_seats.specs.Writing.{with_word, drafted, HasDraft}
 use Rattle.table_seats.proofs.Drafting.{next_word, other_word}
 

@@ -1,5 +1,5 @@
 -- A call that writes a map: what it does to its key, what its seat saw under a node's lock, where its way down ended, and what it leaves.
-use Rattle.std.specs.Prelude.{◌≡◌, ℕ, ◌+◌, ◌<◌, ◌≤◌, true, false, List, [], ◌∷◌, slice_index, length, Option, Some, None, IsSome, MatchBool}
+use Rattle.std.specs.Prelude.{◌≡◌, ℕ, ◌<◌, ◌≤◌, true, false, List, [], ◌∷◌, slice_index, length, Option, Some, None, IsSome, MatchBool}
 use Rattle.atomic_table.specs.Table.{Me}
 use Rattle.sync_types.specs.declared.map_object.MapCall.{MapCall}
 use Rattle.sync_types.specs.declared.map_object.MapReply.{MapReply}

@@ -61,7 +61,10 @@ impl SharedTable {
         let mut node = self.words.enter(seat, map, key);
         for level in 0..LEVELS {
             steps.tick();
-            match self.words.look(seat, MapCall::Load { key }, map, key, node, level) {
+            match self
+                .words
+                .look(seat, MapCall::Load { key }, map, key, node, level)
+            {
                 Slot::Empty => return None,
                 Slot::Node(below) => node = below,
                 Slot::Entry(place) => {

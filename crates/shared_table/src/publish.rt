@@ -39,7 +39,8 @@ impl SharedTable {
         ensures table { seat.new.table_id ≡ seat.old.table_id }
         ensures published { Publishes map call seat.old.me seat.new.me }
     {
-        self.words.publish(seat, call, map, key, node, level, Slot::Empty.to_word());
+        self.words
+            .publish(seat, call, map, key, node, level, Slot::Empty.to_word());
     }
 
     // Shows a new entry in the slot of a key that is empty, or has the key's own entry.

@@ -75,7 +75,10 @@ fn look_over_a_clear<R: Wait>(
     if !clear_one(rt, table, clearer) {
         return None;
     }
-    match table.words.look(seat, MapCall::Load { key }, 0, key, node, 0) {
+    match table
+        .words
+        .look(seat, MapCall::Load { key }, 0, key, node, 0)
+    {
         Slot::Entry(place) => table.read_entry(seat, place, key),
         _ => None,
     }

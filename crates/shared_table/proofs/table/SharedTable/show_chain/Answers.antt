@@ -12,5 +12,5 @@ expansion-requires-clause-level c =
 
 pub publish-requires-clause-may : goal.publish-requires-clause-may
 publish-requires-clause-may c =
-    chain_may (begin_of c.args.self.now.words) c.args.seat.now.me c.draft_chain.new.seat.me c.args.call c.args.map c.args.key c.args.node c.args.level c.args.next c.args.value c.requires.poised c.expansion.result c.args.other.now c.seed.result c.to_word.result
-    c.seed.ensures c.draft_chain.ensures.drafted c.requires.after c.requires.other.0 c.expansion.ensures.plan c.to_word.ensures
+    chain_may (begin_of c.args.self.now.words) c.args.seat.now.me c.draft_chain.new.seat.me c.args.call c.args.map c.args.key c.args.node c.args.level c.args.next c.args.value c.requires.poised c.expansion.result c.args.other.now c.seed-seed.result c.to_word.result
+    c.seed-seed.ensures c.draft_chain.ensures.drafted c.requires.after c.requires.other.0 c.expansion.ensures.plan c.to_word.ensures
