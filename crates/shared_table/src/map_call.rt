@@ -172,7 +172,7 @@ impl SharedTable {
         requires level { level < 8 }
         ensures table { seat.new.table_id ≡ seat.old.table_id }
         ensures slots { seat.new.me.1 ≡ seat.old.me.1 }
-        ensures made { MatchOption result (StillLocked node seat.old.me.0 seat.new.me.0) (λ reply. MadeLocked map call node reply seat.old.me.0 seat.new.me.0) }
+        ensures made { MatchOption result (StillLocked node seat.old.me.0 seat.new.me.0) (λ reply. MadeLocked map call key node level reply seat.old.me.0 seat.new.me.0) }
     {
         match self.see_held(seat, call, map, key, node, level, next) {
             Sight::Below => None,
@@ -260,9 +260,12 @@ impl SharedTable {
         if !self.take_lock(rt, seat, node, caller) {
             return None;
         }
-        let reply = self.make_held(seat, call, map, key, node, level, next);
-        self.words.unlock(seat, node);
-        reply
+        let made = self.make_held(seat, call, map, key, node, level, next);
+        match made {
+            Some(_) => self.leave(rt, seat, call, key, node, level, caller),
+            None => self.words.unlock(seat, node),
+        }
+        made
     }
 
     // Goes down from the map's root to the node whose slot for the key has no node. The call may be answered there.

@@ -1,16 +1,19 @@
 //! Pruning: a node below the root that was left empty is cut off, and then its parent in the same way, where that is empty now.
-ghost use Rattle.std.specs.Prelude.{◌≡◌, ◌<◌, true, Some};
+ghost use Rattle.std.specs.Prelude.{◌≡◌, ◌<◌, true, Some, None, IsSome};
 ghost use Rattle.table_seats.specs.declared.view.Lock.{Lock};
 ghost use Rattle.shared_table.specs.Pruning.{LooksAtSlots, HoldsAt, ComesTo, PrunesAt};
+ghost use Rattle.sync_types.specs.SequentialMap.{map_key};
 ghost use Rattle.table_seats.specs.Pruning.{TriedUpper};
 ghost use Rattle.table_seats.specs.Seats.{begin_of, IsSeatOf};
-ghost use Rattle.table_seats.specs.Walking.{HasWords};
-ghost use Rattle.table_seats.specs.Writing.{Holds};
+ghost use Rattle.table_seats.specs.Walking.{standing, HasWords};
+ghost use Rattle.table_seats.specs.Writing.{holding, Holds};
 
+use crate::changes::may_remove;
 use crate::table::SharedTable;
 use atomic_table::Seat;
 use crossbeam_utils::Backoff;
 use std::sync::Wait;
+use sync_types::MapCall;
 use table_seats::View;
 use trie_nodes::layout::SLOTS;
 use trie_nodes::pruning;
@@ -108,5 +111,33 @@ impl SharedTable {
             }
         }
         node
+    }
+
+    // Gives back the lock of the node under which the seat's caller made a call. Where the call may have left the node empty, it is
+    // pruned before.
+    pub(crate) fn leave<R: Wait>(
+        &self,
+        rt: &R,
+        seat: &mut Seat<(), View>,
+        call: MapCall<u32>,
+        key: u32,
+        node: u64,
+        level: u32,
+        caller: u32,
+    )
+        requires table { IsSeatOf self.now.words seat.old }
+        requires call { IsSome (map_key call) }
+        requires holds { HoldsAt (begin_of self.now.words) seat.old.me key node level }
+        requires level { level < 8 }
+        requires caller { caller ≡ seat.old.me.0.number }
+        ensures table { seat.new.table_id ≡ seat.old.table_id }
+        ensures left { (seat.new.me.1 ≡ seat.old.me.1) × (seat.new.me.0 ≡ standing (holding seat.old.me.0 seat.old.me.0.gate None None) None None) }
+    {
+        let held = if may_remove(call) {
+            self.prune(rt, seat, key, node, level, caller)
+        } else {
+            node
+        };
+        self.words.unlock(seat, held);
     }
 }
