@@ -10,6 +10,7 @@ mod deep;
 mod ends;
 mod merged;
 mod race;
+mod shrinking;
 mod threads;
 
 use crate::Map;

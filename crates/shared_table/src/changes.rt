@@ -86,9 +86,8 @@ pub(crate) fn may_remove(call: MapCall<u32>) -> bool
     ensures { IsFalse result → (held : Option ℕ) → is_key_entry call held ≡ true → IsSome (key_after call held) }
 {
     match call {
-        MapCall::LoadAndDelete { .. }
-        | MapCall::Delete { .. }
-        | MapCall::CompareAndDelete { .. } => true,
+        MapCall::LoadAndDelete { .. } | MapCall::Delete { .. } | MapCall::CompareAndDelete { .. } =>
+            true,
         _ => false,
     }
 }
