@@ -1,7 +1,7 @@
 //! What a call on a map does to its key.
 ghost use Rattle.std.specs.Prelude.{◌≡◌, ℕ, true, Option, IsSome, IsFalse};
 ghost use Rattle.sync_types.specs.SequentialMap.{map_key};
-ghost use Rattle.table_seats.specs.KeyCalls.{is_key_entry, key_reply, key_after};
+ghost use Rattle.sync_types.specs.KeyCalls.{is_key_entry, key_reply, key_after};
 ghost use Rattle.shared_table.specs.MapCalls.{IsChange};
 
 use sync_types::{MapCall, MapReply};
