@@ -10,7 +10,6 @@ mod deep;
 mod ends;
 mod merged;
 mod race;
-mod shrinking;
 mod threads;
 
 use crate::Map;
