@@ -1,6 +1,6 @@
 //! How a shared table begins.
 ghost use Rattle.std.specs.Prelude.{◌≡◌, length};
-ghost use Rattle.table_seats.specs.Layout.{IsBegin};
+ghost use Rattle.table_rule.specs.Layout.{IsBegin};
 
 use sync_types::{AtomicKind, Seq};
 use trie_nodes::Layout;
@@ -20,7 +20,7 @@ pub struct Begin {
 
 impl Begin {
     /// Where the words of the table stand.
-    pub(crate) fn layout(&self) -> Layout
+    pub fn layout(&self) -> Layout
         requires { IsBegin self.now }
         ensures atomics { result.atomics ≡ length self.now.kinds }
         ensures maps { result.maps ≡ self.now.maps }
