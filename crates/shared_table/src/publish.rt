@@ -37,7 +37,7 @@ impl SharedTable {
         requires words { HasWords seat.old.me.0 node 18 }
         requires level { level < 8 }
         ensures table { seat.new.table_id ≡ seat.old.table_id }
-        ensures published { Publishes map call seat.old.me seat.new.me }
+        ensures published { Publishes map call 2 seat.old.me seat.new.me }
     {
         self.words
             .publish(seat, call, map, key, node, level, Slot::Empty.to_word());
@@ -62,7 +62,7 @@ impl SharedTable {
         requires words { HasWords seat.old.me.0 node 18 }
         requires level { level < 8 }
         ensures table { seat.new.table_id ≡ seat.old.table_id }
-        ensures published { Publishes map call seat.old.me seat.new.me }
+        ensures published { Publishes map call 2 seat.old.me seat.new.me }
     {
         self.words.draft(seat, next, 0, key as u64);
         self.words.draft(seat, next, 1, value);
@@ -84,12 +84,12 @@ impl SharedTable {
         ensures table { seat.new.table_id ≡ seat.old.table_id }
         ensures drafted { Drafted seat.old.me seat.new.me (2 + 18 * chain.now.plan.nodes) (unit_word chain.now.seed chain.now.key chain.now.value chain.now.level chain.now.above chain.now.held chain.now.unit chain.now.plan) }
     {
-        for index in 0..2 + 18 * chain.plan.nodes as u64 {
+        for index in 0..chain.words() {
             self.words.draft(seat, chain.unit, index, chain.word(index));
         }
     }
 
-    // Shows a chain to two entries in the slot of a key that has the entry of another.
+    // Shows a chain to two entries in the slot of a key that has the entry of another. Tells how many words of the room it used.
     pub(crate) fn show_chain(
         &self,
         seat: &mut Seat<(), View>,
@@ -101,7 +101,7 @@ impl SharedTable {
         next: u64,
         value: u64,
         other: &Leaf,
-    )
+    ) -> u64
         requires table { IsSeatOf self.now.words seat.old }
         requires poised { IsPoised (begin_of self.now.words) seat.old.me.0 call map key node level next }
         requires after { key_after call (leaf_value seat.old.me.0.leaf key) ≡ Some value }
@@ -109,7 +109,7 @@ impl SharedTable {
         requires words { HasWords seat.old.me.0 node 18 × HasWords seat.old.me.0 other.now.place 2 }
         requires level { level < 8 }
         ensures table { seat.new.table_id ≡ seat.old.table_id }
-        ensures published { Publishes map call seat.old.me seat.new.me }
+        ensures published { Publishes map call result seat.old.me seat.new.me }
     {
         the_paths_of_different_keys_part();
         let seed = self.words.seed();
@@ -133,5 +133,6 @@ impl SharedTable {
             level,
             Slot::Node(next + 2).to_word(),
         );
+        chain.words()
     }
 }
