@@ -24,7 +24,6 @@ use Rattle.table_rule.specs.declared.view.View.{View}
 use Rattle.table_seats.specs.Clearing.{HasClosed, Clears}
 use Rattle.sync_model.specs.EndsOfHistory.{HasKeysBelow}
 use Rattle.table_seats.specs.Laws.{HistoryLaws}
-use Rattle.trie_nodes.specs.Layout.{unit_words}
 use Rattle.table_rule.specs.Layout.{root_word, callers_of}
 use Rattle.table_rule.specs.Ledger.{Owned, Fits}
 use Rattle.table_seats.specs.Making.{HasUnit, Made}

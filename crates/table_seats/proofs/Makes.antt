@@ -18,7 +18,7 @@ use Rattle.sync_types.specs.KeyCalls.{is_key_entry, key_reply, key_after}
 use Rattle.table_seats.specs.Laws.{HistoryLaws}
 use Rattle.trie_nodes.specs.declared.slot.Slot.{Slot}
 use Rattle.trie_nodes.specs.declared.slot.Slot.TheVariants.{Empty, Node, Entry}
-use Rattle.trie_nodes.specs.Layout.{slot_word, unit_words}
+use Rattle.trie_nodes.specs.Layout.{slot_word}
 use Rattle.trie_nodes.specs.Nodes.{Shows, entry_value}
 use Rattle.trie_nodes.specs.Paths.{nibble}
 use Rattle.trie_nodes.specs.Slots.{slot_in}
@@ -148,7 +148,8 @@ module _ (k : Begin) (laws : HistoryLaws) (tries : TrieLaws) (s : TableState) (r
   by_stores : Stores may.own v.leaf l call x → Then
   by_stores w =
       let two : length may.own.draft ≡ 2 = ap length w.draft in
-      let short : length may.own.draft ≤ unit_words = omega arith in
+      let short : length may.own.draft ≤ 2 + 18 * 0 = omega arith in
+      let used_is = used in
       let first : slice_index may.own.draft 0 ≡ l.key = ap (λ d. slice_index d 0) w.draft in
       done 0 few_none short (stores.stores k laws tries s r id v at_me may.own may.owns l m sees.word 0 (ready 0 few_none short) call may.on (is_entry 0 few_none short) x
       (λ place is. let e = entry_words 0 few_none short place is in e.3 ∙ w.free e.0 e.1) refl (subst (λ n. n < 2 ^ 32) (sym first) (locks 0 few_none short).key) w.value w.is (ap (key_after call) (held_is 0 few_none short) ∙ w.after) first (ap (λ d. slice_index d 1) w.draft)) (omega arith)

@@ -16,7 +16,7 @@ use Rattle.table_rule.specs.declared.view.View.{View}
 use Rattle.table_rule.specs.declared.view.Spot.{Spot}
 use Rattle.table_rule.specs.declared.view.Walk.{Walk}
 use Rattle.table_seats.specs.Laws.{HistoryLaws}
-use Rattle.trie_nodes.specs.Layout.{dead_word, unit_words}
+use Rattle.trie_nodes.specs.Layout.{dead_word}
 use Rattle.table_rule.specs.Layout.{callers_of}
 use Rattle.table_rule.specs.Ledger.{Owned, Fits}
 use Rattle.table_rule.specs.Owed.{Walks, IsLeaf, HasRoom, Stands, Suits}
@@ -25,7 +25,6 @@ use Rattle.table_rule.specs.Shape.{Shape, start_of}
 use Rattle.table_rule.specs.Views.{called_view, paid, paid_own, MayPay, view_state, Looks}
 use Rattle.table_seats.proofs.Frames.{suits_on, stands_on}
 use Rattle.table_seats.proofs.Ledgers.{MayPlace, with_one, adds_one, lawful_after, grows_on, none_after, fits_after, called, first}
-use Rattle.table_seats.proofs.Lists.{past_end}
 use Rattle.table_seats.proofs.Looking.{looks_so}
 use Rattle.table_seats.proofs.Moves.{Keeps, moves}
 use Rattle.table_seats.proofs.Quiet.{later_same, apart_same}
