@@ -59,6 +59,7 @@ pub(crate) enum Sight {
 }
 
 /// A call that was made.
+#[derive(Drop)]
 pub(crate) struct Paid {
     pub(crate) reply: MapReply,
     /// How many words of its caller's room it used: the two of an entry, or those of a chain. Where it only read, none.
@@ -265,7 +266,7 @@ impl SharedTable {
         requires level { level < 8 }
         requires caller { caller ≡ seat.old.me.0.number }
         ensures table { seat.new.table_id ≡ seat.old.table_id }
-        ensures made { (seat.new.me.1 ≡ seat.old.me.1) × MayHaveMade map call result.reply result.words seat.old.me.0 seat.new.me.0 }
+        ensures made { (seat.new.me.1 ≡ seat.old.me.1) × MayHaveMade map call result seat.old.me.0 seat.new.me.0 }
     {
         if !self.take_lock(rt, seat, node, caller) {
             return None;
