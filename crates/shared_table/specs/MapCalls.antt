@@ -16,6 +16,7 @@ use Rattle.trie_nodes.specs.declared.slot.Slot.{Slot}
 use Rattle.sync_types.specs.KeyCalls.{is_key_entry, key_reply, key_after}
 use Rattle.table_seats.specs.Making.{leaf_value, IsLockAt, Makes, Sees}
 use Rattle.table_seats.specs.Walking.{standing, walk_at, HasWords, Answers}
+use Rattle.table_writes.specs.Drafts.{IsPoised}
 use Rattle.shared_table.specs.declared.changes.Change.{Change}
 use Rattle.shared_table.specs.declared.changes.Change.TheVariants.{Keep, Put, Remove}
 use Rattle.shared_table.specs.declared.map_call.Reached.{Reached}
@@ -28,32 +29,6 @@ abbrev pub IsChange : MapCall ℕ → Option ℕ → Change → Type 0
 IsChange call held Keep = is_key_entry call held ≡ false
 IsChange call held (Put value) = (is_key_entry call held ≡ true) × (key_after call held ≡ Some value)
 IsChange call held Remove = (is_key_entry call held ≡ true) × (key_after call held ≡ None) × IsSome held
-
--- a seat that has drafted nothing knows, under the lock of a node, that its call is an entry of the history
-pub record IsPoised (k : Begin) (v : View) (call : MapCall ℕ) (m key node level next : ℕ) : Type 0 where
-  pub own : Own
-  pub owns : List Own
-  pub lock : Lock
-  pub found : Slot
-  pub at : IsLockAt lock key node level
-  pub sees : Sees k v own owns lock m found
-  pub draft : own.draft ≡ []
-  pub next_is : own.next ≡ next
-  pub on : map_key call ≡ Some key
-  pub costs : cost_of call ≡ 1
-  pub is_entry : is_key_entry call (leaf_value v.leaf key) ≡ true
-
--- the first caller's room holds this
-abbrev pub with_draft : List Own → List ℕ → List Own
-with_draft [] words = []
-with_draft (own ∷ owns) words = record own { draft = words } ∷ owns
-
--- a seat drafted so many words, which are these
-pub record Drafted (first me : Me (Unit {0}) View) (n : ℕ) (word : ℕ → ℕ) : Type 0 where
-  pub words : List ℕ
-  pub long : length words ≡ n
-  pub each : (i : ℕ) → i < n → slice_index words i ≡ word i
-  pub is : me ≡ (record first.0 { owns = with_draft first.0.owns words }, first.1)
 
 -- a seat holds the lock of a node still, and has made no call
 pub record StillLocked (node : ℕ) (v w : View) : Type 0 where
