@@ -1,20 +1,16 @@
 -- A call that writes a map: what it does to its key, what its seat saw under a node's lock, where its way down ended, and what it leaves.
-use Rattle.std.specs.Prelude.{◌≡◌, ℕ, ◌<◌, ◌≤◌, true, false, List, [], ◌∷◌, slice_index, length, Option, Some, None, IsSome, MatchBool}
+use Rattle.std.specs.Prelude.{◌≡◌, ℕ, ◌<◌, ◌≤◌, true, false, length, Option, Some, None, IsSome, MatchBool}
 use Rattle.atomic_table.specs.Table.{Me}
 use Rattle.sync_types.specs.declared.map_object.MapCall.{MapCall}
 use Rattle.sync_types.specs.declared.map_object.MapReply.{MapReply}
-use Rattle.sync_types.specs.SequentialMap.{map_key}
-use Rattle.sync_model.specs.Shared.{cost_of}
 use Rattle.table_seats.specs.declared.begin.Begin.{Begin}
 use Rattle.table_seats.specs.declared.view.Gate.TheVariants.{Inside}
 use Rattle.table_seats.specs.declared.view.Leaf.{Leaf}
 use Rattle.table_seats.specs.declared.view.Lock.{Lock}
-use Rattle.table_seats.specs.declared.view.Own.{Own}
 use Rattle.table_seats.specs.declared.view.View.{View}
 use Rattle.table_seats.specs.declared.view.Walk.{Walk}
-use Rattle.trie_nodes.specs.declared.slot.Slot.{Slot}
 use Rattle.sync_types.specs.KeyCalls.{is_key_entry, key_reply, key_after}
-use Rattle.table_seats.specs.Making.{leaf_value, IsLockAt, Makes, Sees}
+use Rattle.table_seats.specs.Making.{leaf_value, IsLockAt, Makes}
 use Rattle.table_seats.specs.Walking.{standing, walk_at, HasWords, Answers}
 use Rattle.table_writes.specs.Drafts.{IsPoised}
 use Rattle.shared_table.specs.declared.changes.Change.{Change}

@@ -1,5 +1,5 @@
 -- What a call that changes a map drafts before it shows it.
-use Rattle.std.specs.Prelude.{◌≡◌, ℕ, ◌<◌, true, List, [], ◌∷◌, slice_index, length, Option, Some}
+use Rattle.std.specs.Prelude.{◌≡◌, ℕ, ◌<◌, true, List, [], ◌∷◌, slice_index, length, Some}
 use Rattle.atomic_table.specs.Table.{Me}
 use Rattle.sync_types.specs.declared.map_object.MapCall.{MapCall}
 use Rattle.sync_types.specs.SequentialMap.{map_key}
