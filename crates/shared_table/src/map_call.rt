@@ -13,7 +13,8 @@ ghost use Rattle.sync_model.specs.Shared.{Called, cost_of, state_of};
 ghost use Rattle.shared_table.specs.Notes.{front_by, own_by, seen_by, IsNoteOf};
 ghost use Rattle.table_seats.specs.Making.{HasUnit, leaf_value, Made, Publishes, StandsLocked};
 ghost use Rattle.table_seats.specs.Seats.{begin_of, IsSeatOf};
-ghost use Rattle.shared_table.specs.MapCalls.{IsEnd, IsPoised, IsReached, IsSight, IsWriting, MadeLocked, MayHaveMade, StillLocked};
+ghost use Rattle.table_writes.specs.Drafts.{IsPoised};
+ghost use Rattle.shared_table.specs.MapCalls.{IsEnd, IsReached, IsSight, IsWriting, MadeLocked, MayHaveMade, StillLocked};
 ghost use Rattle.sync_types.specs.KeyCalls.{key_after};
 ghost use Rattle.shared_table.specs.Tables.{maps_of, first_of};
 ghost use Rattle.table_seats.specs.Walking.{walk_at, HasWords, Affords, IsFree, OnWay, AtEntry, Answers};
@@ -26,6 +27,7 @@ use crossbeam_utils::Backoff;
 use std::sync::Wait;
 use sync_types::{MapCall, MapReply};
 use table_seats::{Leaf, View};
+use table_writes::{remove, show_chain, show_entry};
 use trie_nodes::layout::ENTRY_WORDS;
 use trie_nodes::{LEVELS, Slot};
 
@@ -151,11 +153,20 @@ impl SharedTable {
         ensures published { Publishes map call result seat.old.me seat.new.me }
     {
         match leaf {
-            Some(entry) if entry.key != key as u64 => {
-                self.show_chain(seat, call, map, key, node, level, next, value, &entry)
-            }
+            Some(entry) if entry.key != key as u64 => show_chain(
+                &self.words,
+                seat,
+                call,
+                map,
+                key,
+                node,
+                level,
+                next,
+                value,
+                &entry,
+            ),
             _ => {
-                self.show_entry(seat, call, map, key, node, level, next, value);
+                show_entry(&self.words, seat, call, map, key, node, level, next, value);
                 ENTRY_WORDS as u64
             }
         }
@@ -189,7 +200,7 @@ impl SharedTable {
                 let words = match Change::of(call, held) {
                     Change::Keep => 0,
                     Change::Remove => {
-                        self.remove(seat, call, map, key, node, level, next);
+                        remove(&self.words, seat, call, map, key, node, level, next);
                         ENTRY_WORDS as u64
                     }
                     Change::Put(value) => {
