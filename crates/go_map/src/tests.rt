@@ -10,6 +10,9 @@ mod deep;
 mod ends;
 mod merged;
 mod race;
+mod ranges;
+mod shared;
+mod shrinking;
 mod threads;
 
 use crate::Map;

@@ -84,4 +84,5 @@ module _ (k : Begin) (laws : HistoryLaws) (s : TableState) (r : Kept k s) (id : 
     seen = r.log;
     is = ap (λ l. at_spot (called_view v (with_item l item) r.log) spot leaf) (sym is);
     called = placing.is_called k laws s r id v at_me live own owns is call reply (length r.log) may 0 tt v.walk (r.suits id v at_me live).walk (r.suits id v at_me live).steady leaf leaves spot stands begin;
+    looks = placing.looks_then k laws s r id v at_me live own owns is call reply (length r.log) may 0 tt v.walk (r.suits id v at_me live).walk (r.suits id v at_me live).steady leaf leaves spot stands begin;
   }
