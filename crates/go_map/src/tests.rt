@@ -12,7 +12,6 @@ mod merged;
 mod race;
 mod ranges;
 mod shared;
-mod shrinking;
 mod threads;
 
 use crate::Map;

@@ -6,18 +6,18 @@ use Rattle.sync_model.specs.declared.item.Item.{Item}
 use Rattle.sync_model.specs.declared.item.SharedCall.TheVariants as calls
 use Rattle.sync_model.specs.declared.item.SharedReply.TheVariants as replies
 use Rattle.sync_model.specs.Shared.{items_of}
-use Rattle.table_seats.specs.declared.begin.Begin.{Begin}
+use Rattle.table_rule.specs.declared.begin.Begin.{Begin}
 use Rattle.shared_table.specs.declared.cursor.TableCursor.{TableCursor}
 use Rattle.shared_table.specs.declared.table.SharedTable.{SharedTable}
-use Rattle.table_seats.specs.declared.view.Own.{Own}
-use Rattle.table_seats.specs.declared.view.Spot.{Spot}
-use Rattle.table_seats.specs.declared.view.View.{View}
+use Rattle.table_rule.specs.declared.view.Own.{Own}
+use Rattle.table_rule.specs.declared.view.Spot.{Spot}
+use Rattle.table_rule.specs.declared.view.View.{View}
 use Rattle.trie_nodes.specs.PlaceLists.{nodes_of, slots_of}
 use Rattle.table_seats.specs.Cursors.{first_spot, Sweeps, BeginsCursor, IsCursorOf, unmounted, cursor_seat}
 use Rattle.shared_table.specs.Ranging.{RangesOn}
-use Rattle.table_seats.specs.Shape.{start_of}
+use Rattle.table_rule.specs.Shape.{start_of}
 use Rattle.table_seats.specs.Seats.{begin_of, IsSeatOf}
-use Rattle.table_seats.specs.Views.{held_in, view_state, made_by}
+use Rattle.table_rule.specs.Views.{held_in, view_state, made_by}
 use Rattle.table_seats.specs.Walking.{HasWords, IsFree}
 use Rattle.shared_table.proofs.Ranged.{let_go, looks_then, one_more, at_end, not_yet}
 

@@ -5,21 +5,21 @@ use Rattle.atomic_table.specs.declared.shared.Seat.{Seat}
 use Rattle.sync_model.specs.declared.item.SharedCall.TheVariants as calls
 use Rattle.sync_model.specs.declared.item.SharedReply.TheVariants as replies
 use Rattle.sync_model.specs.Shared.{items_of}
-use Rattle.table_seats.specs.declared.begin.Begin.{Begin}
+use Rattle.table_rule.specs.declared.begin.Begin.{Begin}
 use Rattle.shared_table.specs.declared.cursor.TableCursor.{TableCursor}
 use Rattle.shared_table.specs.declared.table.SharedTable.{SharedTable}
-use Rattle.table_seats.specs.declared.view.Gate.TheVariants.{Outside}
-use Rattle.table_seats.specs.declared.view.Own.{Own}
-use Rattle.table_seats.specs.declared.view.Spot.{Spot}
-use Rattle.table_seats.specs.declared.view.View.{View}
+use Rattle.table_rule.specs.declared.view.Gate.TheVariants.{Outside}
+use Rattle.table_rule.specs.declared.view.Own.{Own}
+use Rattle.table_rule.specs.declared.view.Spot.{Spot}
+use Rattle.table_rule.specs.declared.view.View.{View}
 use Rattle.trie_nodes.specs.declared.place.Place.{Place}
 use Rattle.trie_nodes.specs.PlaceLists.{nodes_of, slots_of}
 use Rattle.table_seats.specs.Cursors.{Sweeps, IsCursorOf, mounted, unmounted, cursor_seat}
 use Rattle.table_seats.specs.Operations.{Places}
 use Rattle.shared_table.specs.Ranging.{moved, showing, StepsTo, AreWithin, IsRanging, IsCursor, RangesOn}
-use Rattle.table_seats.specs.Shape.{start_of}
+use Rattle.table_rule.specs.Shape.{start_of}
 use Rattle.table_seats.specs.Seats.{begin_of, IsSeatOf}
-use Rattle.table_seats.specs.Views.{held_in, view_state}
+use Rattle.table_rule.specs.Views.{held_in, view_state}
 use Rattle.table_seats.specs.Walking.{HasWords, IsFree}
 use Rattle.shared_table.proofs.Ranged.{let_go, looks_then, one_more, one_step}
 

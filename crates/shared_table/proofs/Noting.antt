@@ -9,18 +9,18 @@ use Rattle.sync_model.specs.Journal.{Begins}
 use Rattle.sync_model.specs.Note.{Holding, IsCounted}
 use Rattle.sync_model.specs.Shared.{IsCallerAt}
 use Rattle.sync_model.specs.SharedCalls.{Lawful}
-use Rattle.table_seats.specs.declared.begin.Begin.{Begin}
+use Rattle.table_rule.specs.declared.begin.Begin.{Begin}
 use Rattle.table_seats.specs.Seats.{begin_of}
 use Rattle.shared_table.specs.declared.note.SharedNote.{SharedNote}
 use Rattle.shared_table.specs.declared.table.SharedTable.{SharedTable}
-use Rattle.table_seats.specs.declared.view.Own.{Own}
-use Rattle.table_seats.specs.declared.view.View.{View}
-use Rattle.table_seats.specs.Layout.{callers_of}
+use Rattle.table_rule.specs.declared.view.Own.{Own}
+use Rattle.table_rule.specs.declared.view.View.{View}
+use Rattle.table_rule.specs.Layout.{callers_of}
 use Rattle.shared_table.specs.NewCallers.{AreNewCallers}
 use Rattle.shared_table.specs.Notes.{own_by, IsNoteOf, IsLawfulFor}
-use Rattle.table_seats.specs.Shape.{start_of}
+use Rattle.table_rule.specs.Shape.{start_of}
 use Rattle.shared_table.specs.Tables.{first_of}
-use Rattle.table_seats.specs.Views.{held_in, most, joined, IsIdle, Looks}
+use Rattle.table_rule.specs.Views.{held_in, most, joined, IsIdle, Looks}
 
 pub nobody : (n : ℕ) (owns : List Own) → held_in n owns ≡ None → owns ≡ []
 nobody n [] e = refl

@@ -2,9 +2,9 @@
 use Rattle.std.proofs.Common.{◌≡◌, ◌≢◌, ℕ, suc, ◌+◌, ◌-◌, ◌<◌, ◌==◌, true, false, eq-eqb, ne_eqb, List, length, set, Option, Some, None, slice_index, refl, sym, ap, ◌∙◌, subst, arith, length-set, get_or-set_same, get_or-set_other}
 use Rattle.std.proofs.lemmas.Option.{same_Some}
 use Rattle.atomic_table.specs.Table.{Me}
-use Rattle.table_seats.specs.declared.begin.Begin.{Begin}
-use Rattle.table_seats.specs.declared.view.Lock.{Lock}
-use Rattle.table_seats.specs.declared.view.View.{View}
+use Rattle.table_rule.specs.declared.begin.Begin.{Begin}
+use Rattle.table_rule.specs.declared.view.Lock.{Lock}
+use Rattle.table_rule.specs.declared.view.View.{View}
 use Rattle.table_seats.specs.Pruning.{marked, upper_lock, SeesSlot, LooksAtSlot, ReadsParent, TriedUpper, HoldsBoth, Marks, CutsOff}
 use Rattle.shared_table.specs.Pruning.{knowing, LooksAtSlots, HoldsAt, ComesTo}
 use Rattle.trie_nodes.specs.Paths.{nibble}

@@ -11,14 +11,14 @@ use Rattle.sync_model.specs.declared.item.SharedReply.{SharedReply}
 use Rattle.sync_model.specs.declared.item.SharedReply.TheVariants as replies
 use Rattle.sync_model.specs.Shared.{CallerState, Called, items_of}
 use Rattle.sync_model.specs.SharedHistory.{Contents}
-use Rattle.table_seats.specs.declared.view.Own.{Own}
-use Rattle.table_seats.specs.declared.view.Spot.{Spot}
-use Rattle.table_seats.specs.declared.view.View.{View}
+use Rattle.table_rule.specs.declared.view.Own.{Own}
+use Rattle.table_rule.specs.declared.view.Spot.{Spot}
+use Rattle.table_rule.specs.declared.view.View.{View}
 use Rattle.table_seats.specs.Cursors.{Sweeps, IsCursorOf, unmounted}
 use Rattle.shared_table.specs.CursorStays.{old_step, still_at, still_step}
 use Rattle.table_seats.specs.Operations.{Places}
 use Rattle.shared_table.specs.Ranging.{showing}
-use Rattle.table_seats.specs.Views.{held_in, called_view, with_item, view_state, Looks}
+use Rattle.table_rule.specs.Views.{held_in, called_view, with_item, view_state, Looks}
 
 -- a caller's seat let its cursor go when its call was placed: it is as after any other call
 pub let_go : (call : SharedCall) (reply : SharedReply) (v w : View) (before after : Option Spot) → v.spot ≡ None → v.leaf ≡ None → Sweeps call reply after None (record v { spot = before }) w → Places call reply v (unmounted w)

@@ -3,10 +3,10 @@ use Rattle.std.proofs.Common.{◌≡◌, ◌≢◌, ℕ, zero, suc, ◌<◌, ◌
 use Rattle.std.proofs.lemmas.Bool.{cases_eq}
 use Rattle.std.proofs.lemmas.Option.{none-some, same_Some}
 use Rattle.atomic_table.specs.Table.{Me}
-use Rattle.table_seats.specs.declared.begin.Begin.{Begin}
+use Rattle.table_rule.specs.declared.begin.Begin.{Begin}
 use Rattle.shared_table.specs.declared.cursor.Move.TheVariants.{On}
-use Rattle.table_seats.specs.declared.view.Spot.{Spot}
-use Rattle.table_seats.specs.declared.view.View.{View}
+use Rattle.table_rule.specs.declared.view.Spot.{Spot}
+use Rattle.table_rule.specs.declared.view.View.{View}
 use Rattle.trie_nodes.specs.declared.place.Place.{Place}
 use Rattle.trie_nodes.specs.declared.slot.Slot.TheVariants.{Node}
 use Rattle.trie_nodes.specs.PlaceLists.{nodes_of, slots_of}

@@ -7,24 +7,24 @@ use Rattle.sync_model.specs.declared.item.SharedReply.TheVariants as replies
 use Rattle.sync_types.specs.declared.map_object.MapCall.{MapCall}
 use Rattle.sync_types.specs.SequentialMap.{map_key}
 use Rattle.sync_model.specs.Shared.{Called, cost_of}
-use Rattle.table_seats.specs.declared.begin.Begin.{Begin}
-use Rattle.table_seats.specs.declared.view.Leaf.{Leaf}
-use Rattle.table_seats.specs.declared.view.Lock.{Lock}
-use Rattle.table_seats.specs.declared.view.Own.{Own}
-use Rattle.table_seats.specs.declared.view.View.{View}
-use Rattle.table_seats.specs.declared.view.Walk.{Walk}
+use Rattle.table_rule.specs.declared.begin.Begin.{Begin}
+use Rattle.table_rule.specs.declared.view.Leaf.{Leaf}
+use Rattle.table_rule.specs.declared.view.Lock.{Lock}
+use Rattle.table_rule.specs.declared.view.Own.{Own}
+use Rattle.table_rule.specs.declared.view.View.{View}
+use Rattle.table_rule.specs.declared.view.Walk.{Walk}
 use Rattle.sync_types.specs.KeyCalls.{is_key_entry, key_reply}
 use Rattle.trie_nodes.specs.declared.slot.Slot.{Slot}
 use Rattle.trie_nodes.specs.declared.slot.Slot.TheVariants.{Empty, Node, Entry}
 use Rattle.trie_nodes.specs.Layout.{unit_words}
 use Rattle.trie_nodes.specs.Paths.{nibble, route}
 use Rattle.trie_nodes.specs.Slots.{slot_in}
-use Rattle.table_seats.specs.Layout.{size_of}
+use Rattle.table_rule.specs.Layout.{size_of}
 use Rattle.table_seats.specs.Making.{leaf_value, HasLeaf, found_lock, Makes, bare, Publishes, StandsLocked, FindsHeld, HasUnit}
 use Rattle.shared_table.specs.MapCalls.{IsPoised}
 use Rattle.shared_table.specs.MapCalls.{StillLocked, IsPoisedAt, MadeLocked}
-use Rattle.table_seats.specs.Shape.{start_of}
-use Rattle.table_seats.specs.Views.{MayPay, view_state}
+use Rattle.table_rule.specs.Shape.{start_of}
+use Rattle.table_rule.specs.Views.{MayPay, view_state}
 use Rattle.table_seats.specs.Walking.{standing, walk_at, given_by, HasWords, Answers, IsAlong, Affords, AtEntry}
 use Rattle.table_seats.specs.Writing.{holding, lock_at}
 

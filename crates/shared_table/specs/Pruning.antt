@@ -1,9 +1,9 @@
 -- A seat that prunes: what it knows of a node whose slots it looked at, and where it comes to.
 use Rattle.std.specs.Prelude.{◌≡◌, ℕ, ◌-◌, ◌<◌, false, List, Option, Some, None, slice_index}
 use Rattle.atomic_table.specs.Table.{Me}
-use Rattle.table_seats.specs.declared.begin.Begin.{Begin}
-use Rattle.table_seats.specs.declared.view.Lock.{Lock}
-use Rattle.table_seats.specs.declared.view.View.{View}
+use Rattle.table_rule.specs.declared.begin.Begin.{Begin}
+use Rattle.table_rule.specs.declared.view.Lock.{Lock}
+use Rattle.table_rule.specs.declared.view.View.{View}
 use Rattle.trie_nodes.specs.Plans.{HasOnlyEmptySlots}
 use Rattle.table_seats.specs.Making.{IsLockAt}
 use Rattle.table_seats.specs.Walking.{HasWords}

@@ -7,19 +7,19 @@ use Rattle.sync_model.specs.declared.item.SharedCall.TheVariants as calls
 use Rattle.sync_model.specs.declared.item.SharedReply.{SharedReply}
 use Rattle.sync_model.specs.declared.item.SharedReply.TheVariants as replies
 use Rattle.sync_model.specs.Shared.{items_of}
-use Rattle.table_seats.specs.declared.begin.Begin.{Begin}
+use Rattle.table_rule.specs.declared.begin.Begin.{Begin}
 use Rattle.shared_table.specs.declared.cursor.TableCursor.{TableCursor}
 use Rattle.shared_table.specs.declared.cursor.Move.{Move}
 use Rattle.shared_table.specs.declared.cursor.Move.TheVariants.{On, Shown}
 use Rattle.shared_table.specs.declared.table.SharedTable.{SharedTable}
-use Rattle.table_seats.specs.declared.view.Spot.{Spot}
-use Rattle.table_seats.specs.declared.view.View.{View}
+use Rattle.table_rule.specs.declared.view.Spot.{Spot}
+use Rattle.table_rule.specs.declared.view.View.{View}
 use Rattle.trie_nodes.specs.declared.place.Place.{Place}
 use Rattle.trie_nodes.specs.PlaceLists.{nodes_of, slots_of}
 use Rattle.table_seats.specs.Cursors.{at_spot, Sweeps, Sweeping, IsCursorOf}
 use Rattle.table_seats.specs.Operations.{Places}
 use Rattle.table_seats.specs.Seats.{begin_of, IsSeatOf}
-use Rattle.table_seats.specs.Views.{view_state, Looks}
+use Rattle.table_rule.specs.Views.{view_state, Looks}
 use Rattle.table_seats.specs.Walking.{HasWords}
 
 -- where a cursor stands that has come to this place

@@ -1,8 +1,8 @@
 //! A call that writes a map: in by the map's gate, down to the node whose slot for the key has no node, its lock, a second look, one
 //! write, and out again.
 ghost use Rattle.std.specs.Prelude.{◌≡◌, ℕ, ◌<◌, ◌≤◌, ◌^◌, Some, None, IsSome, MatchBool, MatchOption, length};
-ghost use Rattle.table_seats.specs.declared.view.Gate.TheVariants.{Inside};
-ghost use Rattle.table_seats.specs.declared.view.Walk.{Walk};
+ghost use Rattle.table_rule.specs.declared.view.Gate.TheVariants.{Inside};
+ghost use Rattle.table_rule.specs.declared.view.Walk.{Walk};
 ghost use Rattle.table_seats.specs.Writing.{holding, lock_at, IsWriter, HasRoomWithin};
 ghost use Rattle.sync_types.specs.SequentialMap.{map_key};
 ghost use Rattle.std.specs.Option.{ForSome};

@@ -1,6 +1,6 @@
 //! Pruning: a node below the root that was left empty is cut off, and then its parent in the same way, where that is empty now.
 ghost use Rattle.std.specs.Prelude.{◌≡◌, ◌<◌, true, Some, None, IsSome};
-ghost use Rattle.table_seats.specs.declared.view.Lock.{Lock};
+ghost use Rattle.table_rule.specs.declared.view.Lock.{Lock};
 ghost use Rattle.shared_table.specs.Pruning.{LooksAtSlots, HoldsAt, ComesTo, PrunesAt};
 ghost use Rattle.sync_types.specs.SequentialMap.{map_key};
 ghost use Rattle.table_seats.specs.Pruning.{TriedUpper};

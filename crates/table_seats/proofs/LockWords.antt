@@ -5,20 +5,20 @@ use Rattle.std.proofs.lemmas.Option.{none-some, same_Some}
 use mathlib.Core.Option.{some}
 use lib.ListN.{get_elem?}
 use Rattle.atomic_table.specs.Table.{Me}
-use Rattle.table_seats.specs.declared.begin.Begin.{Begin}
-use Rattle.table_seats.specs.declared.view.Gate.{Gate}
-use Rattle.table_seats.specs.declared.view.Gate.TheVariants.{Outside, Inside, Closed}
-use Rattle.table_seats.specs.declared.view.Lock.{Lock}
-use Rattle.table_seats.specs.declared.view.Own.{Own}
-use Rattle.table_seats.specs.declared.view.View.{View}
+use Rattle.table_rule.specs.declared.begin.Begin.{Begin}
+use Rattle.table_rule.specs.declared.view.Gate.{Gate}
+use Rattle.table_rule.specs.declared.view.Gate.TheVariants.{Outside, Inside, Closed}
+use Rattle.table_rule.specs.declared.view.Lock.{Lock}
+use Rattle.table_rule.specs.declared.view.Own.{Own}
+use Rattle.table_rule.specs.declared.view.View.{View}
 use Rattle.table_seats.specs.Laws.{HistoryLaws}
 use Rattle.trie_nodes.specs.Layout.{parent_word, slot_word, dead_word}
 use Rattle.trie_nodes.specs.Paths.{route}
-use Rattle.table_seats.specs.Layout.{callers_of}
-use Rattle.table_seats.specs.Ledger.{Fits}
-use Rattle.table_seats.specs.Owed.{Locks, AtGate, Suits}
-use Rattle.table_seats.specs.Rule.{TableState, Kept}
-use Rattle.table_seats.specs.Shape.{Shape}
+use Rattle.table_rule.specs.Layout.{callers_of}
+use Rattle.table_rule.specs.Ledger.{Fits}
+use Rattle.table_rule.specs.Owed.{Locks, AtGate, Suits}
+use Rattle.table_rule.specs.Rule.{TableState, Kept}
+use Rattle.table_rule.specs.Shape.{Shape}
 use Rattle.table_seats.specs.Writing.{holding}
 use Rattle.table_seats.proofs.Frames.{Later}
 use Rattle.table_seats.proofs.Holding.{with_holder, holder_of, other_holder, here, behind, other_node, gates_hold, later_hold, apart_hold, fine_hold, room_hold}

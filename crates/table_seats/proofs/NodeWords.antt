@@ -1,9 +1,9 @@
 -- One word of a node changes: which words stay.
 use Rattle.std.proofs.Common.{◌≡◌, ◌≢◌, ℕ, ◌+◌, ◌-◌, ◌<◌, ◌≤◌, List, set, slice_index, sym, ap, ◌∙◌, subst, arith, get_or-set_same, get_or-set_other}
 use Rattle.sync_model.specs.declared.item.SharedEntry.{SharedEntry}
-use Rattle.table_seats.specs.declared.begin.Begin.{Begin}
-use Rattle.table_seats.specs.Layout.{heads}
-use Rattle.table_seats.specs.Shape.{Shape, Fine}
+use Rattle.table_rule.specs.declared.begin.Begin.{Begin}
+use Rattle.table_rule.specs.Layout.{heads}
+use Rattle.table_rule.specs.Shape.{Shape, Fine}
 
 module _ (k : Begin) (sh : Shape) (log : List SharedEntry) (ws : List ℕ) (p j x : ℕ) (fine : Fine k sh log ws) (is_node : sh.kind_of p ≡ 1) (from : p ≤ j) (to : j < p + 18) where
   part_of_node : (q i : ℕ) → sh.kind_of q ≡ 1 → q ≤ i → i < q + 18 → sh.part_of i ≡ q

@@ -8,21 +8,21 @@ use Rattle.sync_model.specs.declared.item.SharedCall.{SharedCall}
 use Rattle.sync_model.specs.declared.item.SharedReply.{SharedReply}
 use Rattle.sync_model.specs.SharedCalls.{Grows}
 use Rattle.sync_model.specs.Shared.{Called}
-use Rattle.table_seats.specs.declared.begin.Begin.{Begin}
-use Rattle.table_seats.specs.declared.view.Gate.TheVariants.{Inside}
-use Rattle.table_seats.specs.declared.view.Leaf.{Leaf}
-use Rattle.table_seats.specs.declared.view.Own.{Own}
-use Rattle.table_seats.specs.declared.view.View.{View}
-use Rattle.table_seats.specs.declared.view.Spot.{Spot}
-use Rattle.table_seats.specs.declared.view.Walk.{Walk}
+use Rattle.table_rule.specs.declared.begin.Begin.{Begin}
+use Rattle.table_rule.specs.declared.view.Gate.TheVariants.{Inside}
+use Rattle.table_rule.specs.declared.view.Leaf.{Leaf}
+use Rattle.table_rule.specs.declared.view.Own.{Own}
+use Rattle.table_rule.specs.declared.view.View.{View}
+use Rattle.table_rule.specs.declared.view.Spot.{Spot}
+use Rattle.table_rule.specs.declared.view.Walk.{Walk}
 use Rattle.table_seats.specs.Laws.{HistoryLaws}
 use Rattle.trie_nodes.specs.Layout.{dead_word, unit_words}
-use Rattle.table_seats.specs.Layout.{callers_of}
-use Rattle.table_seats.specs.Ledger.{Owned, Fits}
-use Rattle.table_seats.specs.Owed.{Walks, IsLeaf, HasRoom, Stands, Suits}
-use Rattle.table_seats.specs.Rule.{TableState, Kept}
-use Rattle.table_seats.specs.Shape.{Shape, start_of}
-use Rattle.table_seats.specs.Views.{called_view, paid, paid_own, MayPay, view_state, Looks}
+use Rattle.table_rule.specs.Layout.{callers_of}
+use Rattle.table_rule.specs.Ledger.{Owned, Fits}
+use Rattle.table_rule.specs.Owed.{Walks, IsLeaf, HasRoom, Stands, Suits}
+use Rattle.table_rule.specs.Rule.{TableState, Kept}
+use Rattle.table_rule.specs.Shape.{Shape, start_of}
+use Rattle.table_rule.specs.Views.{called_view, paid, paid_own, MayPay, view_state, Looks}
 use Rattle.table_seats.proofs.Frames.{suits_on, stands_on}
 use Rattle.table_seats.proofs.Ledgers.{MayPlace, with_one, adds_one, lawful_after, grows_on, none_after, fits_after, called, first}
 use Rattle.table_seats.proofs.Lists.{past_end}

@@ -6,7 +6,7 @@ use Rattle.sync_types.specs.declared.atomic_object.Number.TheVariants.{Bool as T
 use Rattle.sync_model.specs.declared.item.SharedEntry.{SharedEntry}
 use Rattle.sync_model.specs.SharedHistory.{value_at}
 use Rattle.std.specs.Prelude.{slice_index_or}
-use Rattle.table_seats.specs.declared.begin.Begin.{Begin}
+use Rattle.table_rule.specs.declared.begin.Begin.{Begin}
 use Rattle.trie_nodes.specs.declared.slot.Slot.{Slot}
 use Rattle.trie_nodes.specs.declared.slot.Slot.TheVariants.{Empty, Node, Entry}
 use Rattle.trie_nodes.specs.Layout.{atomic_word, parent_word, slot_word, unit_words, dead_word}
@@ -14,10 +14,10 @@ use Rattle.trie_nodes.specs.Nodes.{Shows, entry_value}
 use Rattle.trie_nodes.specs.Paths.{nibble, route}
 use Rattle.trie_nodes.specs.Plans.{place_before}
 use Rattle.trie_nodes.specs.Slots.{slot_in}
-use Rattle.table_seats.specs.Gates.{Gated}
+use Rattle.table_rule.specs.Gates.{Gated}
 use Rattle.table_seats.specs.Laws.{HistoryLaws}
-use Rattle.table_seats.specs.Layout.{root_word, gate_word, heads}
-use Rattle.table_seats.specs.Shape.{Shape, start_of, held_at, till, time, IsNumber, IsNode, IsEntry, IsBelow, ShowsAt, Fine}
+use Rattle.table_rule.specs.Layout.{root_word, gate_word, heads}
+use Rattle.table_rule.specs.Shape.{Shape, start_of, held_at, till, time, IsNumber, IsNode, IsEntry, IsBelow, ShowsAt, Fine}
 use Rattle.table_seats.specs.TrieLaws.{TrieLaws}
 use Rattle.table_seats.specs.Units.{link_at, with_unit}
 use Rattle.table_seats.proofs.Frames.{Later, Apart}

@@ -7,17 +7,17 @@ use mathlib.Core.Option.{some}
 use lib.ListN.{get_elem?}
 use prog.Atomic.{either}
 use Rattle.atomic_table.specs.Table.{Me, Act, keeps, Valid, stepped, carried_after, Allows}
-use Rattle.table_seats.specs.declared.begin.Begin.{Begin}
-use Rattle.table_seats.specs.declared.view.Gate.TheVariants.{Inside}
-use Rattle.table_seats.specs.declared.view.Lock.{Lock}
-use Rattle.table_seats.specs.declared.view.Own.{Own}
-use Rattle.table_seats.specs.declared.view.View.{View}
+use Rattle.table_rule.specs.declared.begin.Begin.{Begin}
+use Rattle.table_rule.specs.declared.view.Gate.TheVariants.{Inside}
+use Rattle.table_rule.specs.declared.view.Lock.{Lock}
+use Rattle.table_rule.specs.declared.view.Own.{Own}
+use Rattle.table_rule.specs.declared.view.View.{View}
 use Rattle.table_seats.specs.Laws.{HistoryLaws}
 use Rattle.trie_nodes.specs.Layout.{parent_word, slot_word, dead_word}
 use Rattle.trie_nodes.specs.Paths.{nibble, route}
-use Rattle.table_seats.specs.Owed.{Locks, Suits}
+use Rattle.table_rule.specs.Owed.{Locks, Suits}
 use Rattle.table_seats.specs.Pruning.{with_empty, upper_lock, marked, SeesSlot, TriedUpper, HoldsBoth}
-use Rattle.table_seats.specs.Rule.{TableState, Kept}
+use Rattle.table_rule.specs.Rule.{TableState, Kept}
 use Rattle.table_seats.specs.Walking.{HasWords}
 use Rattle.table_seats.specs.Writing.{holding, Holds}
 use Rattle.table_seats.proofs.Lookups.{has_words}

@@ -3,21 +3,21 @@ use Rattle.std.proofs.Common.{◌≡◌, ℕ, suc, ◌+◌, ◌-◌, ◌%◌, �
 use Rattle.std.proofs.lemmas.Option.{same_Some}
 use prog.Atomic.{either}
 use Rattle.atomic_table.specs.Table.{Me, State, Allows}
-use Rattle.table_seats.specs.declared.begin.Begin.{Begin}
+use Rattle.table_rule.specs.declared.begin.Begin.{Begin}
 use Rattle.table_seats.specs.declared.words.TableWords.{TableWords}
-use Rattle.table_seats.specs.declared.view.Lock.{Lock}
-use Rattle.table_seats.specs.declared.view.Own.{Own}
-use Rattle.table_seats.specs.declared.view.View.{View}
-use Rattle.table_seats.specs.declared.view.Walk.{Walk}
+use Rattle.table_rule.specs.declared.view.Lock.{Lock}
+use Rattle.table_rule.specs.declared.view.Own.{Own}
+use Rattle.table_rule.specs.declared.view.View.{View}
+use Rattle.table_rule.specs.declared.view.Walk.{Walk}
 use Rattle.table_seats.specs.Laws.{HistoryLaws}
 use Rattle.sync_types.specs.declared.map_object.MapCall.{MapCall}
 use Rattle.sync_model.specs.Shared.{cost_of}
 use Rattle.trie_nodes.specs.Layout.{slot_word}
 use Rattle.trie_nodes.specs.Paths.{nibble}
 use Rattle.trie_nodes.specs.Slots.{slot_in}
-use Rattle.table_seats.specs.Layout.{gate_word, size_of}
+use Rattle.table_rule.specs.Layout.{gate_word, size_of}
 use Rattle.table_seats.specs.Making.{StandsLocked, LooksHeld}
-use Rattle.table_seats.specs.Rule.{Kept}
+use Rattle.table_rule.specs.Rule.{Kept}
 use Rattle.table_seats.specs.Walking.{HasWords, Affords, IsFree}
 use Rattle.table_seats.specs.Writing.{IsWriter, TriesLock, Holds, Unlocks, ComesIn, IsInside, GoesOut, Drafts, HasDraft}
 use Rattle.table_seats.proofs.Drafting.{drafts}

@@ -1,9 +1,9 @@
 -- A seat that cuts off an empty node: it has looked at all slots under the node's lock, takes the lock of the node's parent too, marks the node dead, and empties the parent's slot.
 use Rattle.std.specs.Prelude.{◌≡◌, ℕ, suc, ◌-◌, ◌<◌, ◌==◌, Bool, true, false, length, Some, None, MatchBool}
 use Rattle.atomic_table.specs.Table.{Me}
-use Rattle.table_seats.specs.declared.begin.Begin.{Begin}
-use Rattle.table_seats.specs.declared.view.Lock.{Lock}
-use Rattle.table_seats.specs.declared.view.View.{View}
+use Rattle.table_rule.specs.declared.begin.Begin.{Begin}
+use Rattle.table_rule.specs.declared.view.Lock.{Lock}
+use Rattle.table_rule.specs.declared.view.View.{View}
 use Rattle.table_seats.specs.Making.{bare}
 use Rattle.table_seats.specs.Walking.{HasWords}
 use Rattle.table_seats.specs.Writing.{holding}

@@ -2,7 +2,6 @@
 //! is the matter of the layer above.
 #![tactic(auto)]
 
-pub mod begin;
 mod clearing;
 mod copies;
 mod cursor_steps;
@@ -17,12 +16,8 @@ mod operations;
 mod pruning;
 mod publish;
 pub mod rule;
-pub mod view;
-pub mod word_step;
 pub mod words;
 mod writing;
 
-pub use begin::Begin;
-pub use view::{Leaf, View};
-pub use word_step::WordStep;
+pub use table_rule::{Begin, Leaf, View, WordStep};
 pub use words::TableWords;

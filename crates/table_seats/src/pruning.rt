@@ -1,7 +1,7 @@
 //! The steps that cut off an empty node. A seat that holds the node's lock looks at all its slots, takes the lock of the node's
 //! parent, marks the node dead, and empties the parent's slot. The parent's lock is the one that it holds then.
 ghost use Rattle.std.specs.Prelude.{◌≡◌, ◌<◌, true, false, Some};
-ghost use Rattle.table_seats.specs.declared.view.Lock.{Lock};
+ghost use Rattle.table_rule.specs.declared.view.Lock.{Lock};
 ghost use Rattle.table_seats.specs.Pruning.{LooksAtSlot, ReadsParent, TriedUpper, TriesUpper, HoldsBoth, Marks, CutsOff};
 ghost use Rattle.table_seats.specs.Seats.{begin_of, IsSeatOf};
 ghost use Rattle.table_seats.specs.Walking.{HasWords};
@@ -9,7 +9,7 @@ ghost use Rattle.table_seats.specs.Writing.{Holds};
 ghost use Rattle.trie_nodes.specs.Paths.{nibble};
 
 use crate::laws::{history_laws, trie_laws};
-use crate::view::View;
+use table_rule::view::View;
 use crate::words::TableWords;
 use atomic_table::{Play, Seat};
 use trie_nodes::Slot;

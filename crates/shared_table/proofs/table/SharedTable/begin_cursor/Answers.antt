@@ -1,7 +1,7 @@
 use Rattle.std.proofs.Common.{ap, ◌∙◌}
 use Rattle.sync_model.specs.declared.item.SharedCall.TheVariants as calls
 use Rattle.sync_model.specs.declared.item.SharedReply.TheVariants as replies
-use Rattle.table_seats.specs.declared.view.View.{View}
+use Rattle.table_rule.specs.declared.view.View.{View}
 use Rattle.shared_table.proofs.Calling.{note_on}
 use Rattle.shared_table.proofs.Noting.{lawful_for}
 use Rattle.shared_table.proofs.table.SharedTable.begin_cursor.Goals as goal

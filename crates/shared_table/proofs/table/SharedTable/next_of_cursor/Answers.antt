@@ -1,10 +1,10 @@
 use Rattle.std.proofs.Common.{rules, ap, ◌∙◌}
 use Rattle.sync_model.specs.declared.item.SharedCall.TheVariants as calls
 use Rattle.sync_model.specs.declared.item.SharedReply.TheVariants as replies
-use Rattle.table_seats.specs.declared.view.View.{View}
+use Rattle.table_rule.specs.declared.view.View.{View}
 use Rattle.shared_table.specs.Notes.{own_by}
 use Rattle.shared_table.specs.Ranging.{IsCursor}
-use Rattle.table_seats.specs.Views.{view_state}
+use Rattle.table_rule.specs.Views.{view_state}
 use Rattle.shared_table.proofs.Calling.{note_on}
 use Rattle.shared_table.proofs.CursorNotes.{of_holder, holder_of}
 use Rattle.shared_table.proofs.Noting.{lawful_for}

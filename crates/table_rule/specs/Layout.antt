@@ -1,7 +1,7 @@
 -- The words of a shared table, by what it is made of.
 use Rattle.std.specs.Prelude.{ℕ, ◌+◌, ◌*◌, ◌<◌, ◌≤◌, ◌^◌, sum, length}
 use Rattle.trie_nodes.specs.Layout as layout
-use Rattle.table_seats.specs.declared.begin.Begin.{Begin}
+use Rattle.table_rule.specs.declared.begin.Begin.{Begin}
 
 module _ (k : Begin) where
   -- the root word of a map, and the word of its gate

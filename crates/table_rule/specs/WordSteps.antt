@@ -1,7 +1,7 @@
 -- What an atomic step makes of a word.
 use Rattle.std.specs.Prelude.{ℕ, ◌+◌, ◌%◌, ◌^◌, ◌==◌, cond, bit_and, bit_or}
-use Rattle.table_seats.specs.declared.word_step.WordStep.{WordStep}
-use Rattle.table_seats.specs.declared.word_step.WordStep.TheVariants.{Load, Swap, Add, And, Or, CompareExchange}
+use Rattle.table_rule.specs.declared.word_step.WordStep.{WordStep}
+use Rattle.table_rule.specs.declared.word_step.WordStep.TheVariants.{Load, Swap, Add, And, Or, CompareExchange}
 
 abbrev pub word_after : WordStep → ℕ → ℕ
 word_after Load word = word

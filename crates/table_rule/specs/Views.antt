@@ -6,13 +6,13 @@ use Rattle.sync_model.specs.Journal.{Begins}
 use Rattle.sync_model.specs.Note.{Holding}
 use Rattle.sync_model.specs.SharedCalls.{Lawful}
 use Rattle.sync_model.specs.Shared.{CallerState}
-use Rattle.table_seats.specs.declared.begin.Begin.{Begin}
-use Rattle.table_seats.specs.declared.view.Own.{Own}
-use Rattle.table_seats.specs.declared.view.Gate.TheVariants.{Outside}
-use Rattle.table_seats.specs.declared.view.View.{View}
+use Rattle.table_rule.specs.declared.begin.Begin.{Begin}
+use Rattle.table_rule.specs.declared.view.Own.{Own}
+use Rattle.table_rule.specs.declared.view.Gate.TheVariants.{Outside}
+use Rattle.table_rule.specs.declared.view.View.{View}
 use Rattle.trie_nodes.specs.Layout.{unit_words}
-use Rattle.table_seats.specs.Layout.{first_room, callers_of}
-use Rattle.table_seats.specs.Shape.{start_of}
+use Rattle.table_rule.specs.Layout.{first_room, callers_of}
+use Rattle.table_rule.specs.Shape.{start_of}
 
 -- callers that made no call, each with its room behind the one before
 abbrev pub new_owns : ℕ → List ℕ → List Own

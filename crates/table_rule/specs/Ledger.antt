@@ -5,8 +5,8 @@ use Rattle.sync_model.specs.declared.item.Item.{Item}
 use Rattle.sync_model.specs.Front.{AtLeast}
 use Rattle.sync_model.specs.Journal.{Begins}
 use Rattle.sync_model.specs.SharedCalls.{Knows}
-use Rattle.table_seats.specs.declared.view.Own.{Own}
-use Rattle.table_seats.specs.declared.view.View.{View}
+use Rattle.table_rule.specs.declared.view.Own.{Own}
+use Rattle.table_rule.specs.declared.view.View.{View}
 
 -- the seat stands for the caller: it has all calls of the caller, and its front counts them, and forgets nothing that the caller knew
 pub record Owned (callers : ℕ) (calls : ℕ → List Item) (claim : ℕ → ℕ) (seat : ℕ) (front : List ℕ) (caller : ℕ) (own : Own) : Type 0 where

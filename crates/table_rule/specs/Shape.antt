@@ -5,9 +5,9 @@ use Rattle.sync_types.specs.declared.atomic_object.Number.{Number}
 use Rattle.sync_model.specs.declared.item.SharedEntry.{SharedEntry}
 use Rattle.sync_model.specs.SharedHistory.{Contents, first_contents, number_at, value_at, contents_after, contents_at}
 use Rattle.sync_types.specs.WordLayout.{is_word, number_in}
-use Rattle.table_seats.specs.declared.begin.Begin.{Begin}
+use Rattle.table_rule.specs.declared.begin.Begin.{Begin}
 use Rattle.trie_nodes.specs.Layout.{parent_word, slot_word, atomic_word, dead_word}
-use Rattle.table_seats.specs.Layout.{root_word, heads, size_of}
+use Rattle.table_rule.specs.Layout.{root_word, heads, size_of}
 use Rattle.trie_nodes.specs.declared.slot.Slot.TheVariants.{Node, Entry}
 use Rattle.trie_nodes.specs.Nodes.{Shows}
 use Rattle.trie_nodes.specs.Slots.{slot_in}

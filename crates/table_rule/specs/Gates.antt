@@ -1,8 +1,8 @@
 -- The gate of a map's writers. Whoever closed it waits until no writer is inside, and may then replace the map's root.
 use Rattle.std.specs.Prelude.{◌≡◌, ℕ, zero, suc, ◌+◌, ◌^◌, ◌<◌, Bool, true, cond, nat_lt, List, slice_index}
-use Rattle.table_seats.specs.declared.begin.Begin.{Begin}
-use Rattle.table_seats.specs.Layout.{gate_word, callers_of}
-use Rattle.table_seats.specs.Shape.{Shape}
+use Rattle.table_rule.specs.declared.begin.Begin.{Begin}
+use Rattle.table_rule.specs.Layout.{gate_word, callers_of}
+use Rattle.table_rule.specs.Shape.{Shape}
 
 -- how many numbers below n pass the test
 abbrev pub count_below : (ℕ → Bool) → ℕ → ℕ
