@@ -10,9 +10,9 @@ use Rattle.sync_model.specs.Note.{Holding}
 use Rattle.sync_model.specs.Shared.{IsCallerAt}
 use Rattle.shared_table.specs.declared.note.SharedNote.{SharedNote}
 use Rattle.shared_table.specs.declared.table.SharedTable.{SharedTable}
-use Rattle.shared_table.specs.CursorStays as still
+use Rattle.table_cursors.specs.CursorStays as still
 use Rattle.shared_table.specs.Notes.{own_by, IsNoteOf}
-use Rattle.shared_table.specs.Ranging.{IsCursor}
+use Rattle.table_cursors.specs.Ranging.{IsCursor}
 use Rattle.go_map.specs.declared.cursor.Cursor.{Cursor}
 use Rattle.go_map.specs.Maps.{MakesCall}
 use Rattle.go_map.specs.Ranges.{MakesStep, StandsFor}
@@ -37,9 +37,9 @@ walks_on table other cursor m call reply old new same walking makes =
     let called = makes.1 in
     let begin = walking.1.0 in
     let differs : called.item.call ≢ calls.Next begin = λ e. differ begin (sym called.is_call ∙ e) in
-    let after = still.stays table cursor.walk 0 begin called.was.items called.item differs (walking.1.1 called.was called.own_old) in
-    let more = subst (IsCursor table cursor.walk 0 begin) (sym called.items) after in
-    (stays_at table other m call reply old new same walking.0.0 makes, (begin, λ holding own. subst (λ (h : Holding). IsCursor table cursor.walk 0 begin h.items) (same_Some called.becomes holding (sym called.own_new ∙ own)) more))
+    let after = still.stays table.words cursor.walk 0 begin called.was.items called.item differs (walking.1.1 called.was called.own_old) in
+    let more = subst (IsCursor table.words cursor.walk 0 begin) (sym called.items) after in
+    (stays_at table other m call reply old new same walking.0.0 makes, (begin, λ holding own. subst (λ (h : Holding). IsCursor table.words cursor.walk 0 begin h.items) (same_Some called.becomes holding (sym called.own_new ∙ own)) more))
   where
     differ : (b : ℕ) → calls.Map m call ≡ calls.Next b → ⊥
     differ b e = absurd (cc)

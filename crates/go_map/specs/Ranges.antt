@@ -11,7 +11,7 @@ use Rattle.sync_model.specs.SharedCalls.{KeepsRange}
 use Rattle.shared_table.specs.declared.note.SharedNote.{SharedNote}
 use Rattle.shared_table.specs.declared.table.SharedTable.{SharedTable}
 use Rattle.shared_table.specs.Notes.{front_by, own_by, seen_by, IsNoteOf, IsLawfulFor}
-use Rattle.shared_table.specs.Ranging.{IsCursor}
+use Rattle.table_cursors.specs.Ranging.{IsCursor}
 use Rattle.shared_table.specs.Tables.{first_of}
 use Rattle.go_map.specs.declared.cursor.Cursor.{Cursor}
 
@@ -25,7 +25,7 @@ calls_by note = length (items_of (own_by note))
 
 -- the walk goes over this map for the note's holder, whose call of this number began it
 abbrev pub StandsFor : SharedTable → Cursor → ℕ → ℕ → SharedNote → Type 0
-StandsFor table cursor map begin note = ForSome (own_by note) (λ holding. IsCursor table cursor.walk map begin holding.items)
+StandsFor table cursor map begin note = ForSome (own_by note) (λ holding. IsCursor table.words cursor.walk map begin holding.items)
 
 -- The Range law of the walk over map m that call number b of the note's holder began: no two of its steps showed one key; what a step showed was so at some moment after all that the holder knew at the begin, and at the step or before; and where a step showed none, each key that wasn't shown was absent at such a moment. It is said of the history that the holder has seen, which is lawful with some lists of the callers' calls, the holder's own among them
 pub record KeepsRangeLaw (table : SharedTable) (m b : ℕ) (note : SharedNote) : Type 0 where

@@ -3,9 +3,9 @@ use Rattle.std.specs.Prelude.{◌≢◌, ℕ, ◌^◌, ◌<◌, List, [], ◌∷
 use Rattle.sync_types.specs.declared.atomic_object.AtomicKind.{AtomicKind}
 use Rattle.sync_model.specs.declared.item.Item.{Item}
 use Rattle.sync_model.specs.declared.item.SharedCall.TheVariants.{Next}
-use Rattle.shared_table.specs.declared.cursor.TableCursor.{TableCursor}
-use Rattle.shared_table.specs.CursorStays as still
-use Rattle.shared_table.specs.Ranging.{IsCursor}
+use Rattle.table_cursors.specs.declared.cursor.TableCursor.{TableCursor}
+use Rattle.table_cursors.specs.CursorStays as still
+use Rattle.table_cursors.specs.Ranging.{IsCursor}
 use Rattle.shared_table.specs.Tables.{kinds_of, maps_of, count_of}
 use Rattle.go_map.specs.declared.trie.Trie.{Trie}
 
@@ -27,7 +27,7 @@ Takes trie key = key < 2 ^ 32
 
 -- the walk goes over this map for a caller who made these calls, of which the one with this number began it
 abbrev pub Stands : Trie → TableCursor → ℕ → ℕ → List Item → Type 0
-Stands trie cursor map begin items = IsCursor trie.0 cursor map begin items
+Stands trie cursor map begin items = IsCursor trie.0.words cursor map begin items
 
 pub stays : (trie : Trie) (cursor : TableCursor) (map begin : ℕ) (items : List Item) (item : Item) → item.call ≢ Next begin → Stands trie cursor map begin items → Stands trie cursor map begin (items ++ item ∷ [])
-stays trie cursor map begin items item other stands = still.stays trie.0 cursor map begin items item other stands
+stays trie cursor map begin items item other stands = still.stays trie.0.words cursor map begin items item other stands

@@ -1,4 +1,3 @@
-pub mod Poised
 pub mod Sights
 pub mod Walks
 pub mod MapCalls
@@ -8,9 +7,5 @@ pub mod FirstCallers
 pub mod Noting
 pub mod Settles
 pub mod Endings
-pub mod Ranges
-pub mod Ranged
-pub mod CursorBegins
-pub mod CursorNexts
 pub mod CursorNotes
 pub mod Prunings

@@ -5,6 +5,4 @@ pub mod NewCallers
 pub mod Dealing
 pub mod Counted
 pub mod MapCalls
-pub mod Ranging
-pub mod CursorStays
 pub mod Pruning

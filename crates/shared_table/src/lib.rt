@@ -2,11 +2,10 @@
 #![tactic(auto)]
 
 mod caller_note;
-mod chain;
 mod changes;
 mod clearing;
 mod copies;
-pub mod cursor;
+mod cursors;
 mod ends;
 mod kinds;
 mod look_up;
@@ -15,16 +14,15 @@ mod new;
 pub mod note;
 mod operations;
 mod prune;
-mod publish;
 mod settling;
 pub mod steps;
 pub mod table;
 
-pub use cursor::TableCursor;
 pub use new::{MAX_OBJECTS, MAX_UNITS};
 pub use note::SharedNote;
 pub use steps::Steps;
 pub use table::SharedTable;
+pub use table_cursors::TableCursor;
 pub use table_seats::{Begin, WordStep};
 
 #[cfg(test)]

@@ -13,7 +13,8 @@ ghost use Rattle.sync_model.specs.Shared.{Called, cost_of, state_of};
 ghost use Rattle.shared_table.specs.Notes.{front_by, own_by, seen_by, IsNoteOf};
 ghost use Rattle.table_seats.specs.Making.{HasUnit, leaf_value, Made, Publishes, StandsLocked};
 ghost use Rattle.table_seats.specs.Seats.{begin_of, IsSeatOf};
-ghost use Rattle.shared_table.specs.MapCalls.{IsEnd, IsPoised, IsReached, IsSight, IsWriting, MadeLocked, MayHaveMade, StillLocked};
+ghost use Rattle.table_writes.specs.Drafts.{IsPoised};
+ghost use Rattle.shared_table.specs.MapCalls.{IsEnd, IsReached, IsSight, IsWriting, MadeLocked, MayHaveMade, StillLocked};
 ghost use Rattle.sync_types.specs.KeyCalls.{key_after};
 ghost use Rattle.shared_table.specs.Tables.{maps_of, first_of};
 ghost use Rattle.table_seats.specs.Walking.{walk_at, HasWords, Affords, IsFree, OnWay, AtEntry, Answers};
@@ -26,6 +27,7 @@ use crossbeam_utils::Backoff;
 use std::sync::Wait;
 use sync_types::{MapCall, MapReply};
 use table_seats::{Leaf, View};
+use table_writes::{remove, show_chain, show_entry};
 use trie_nodes::{LEVELS, Slot, UNIT_WORDS};
 
 /// Where the way down to a key ended.
@@ -142,12 +144,23 @@ impl SharedTable {
         ensures published { Publishes map call seat.old.me seat.new.me }
     {
         match leaf {
-            None => self.show_entry(seat, call, map, key, node, level, next, value),
+            None => show_entry(&self.words, seat, call, map, key, node, level, next, value),
             Some(entry) => {
                 if entry.key == key as u64 {
-                    self.show_entry(seat, call, map, key, node, level, next, value)
+                    show_entry(&self.words, seat, call, map, key, node, level, next, value)
                 } else {
-                    self.show_chain(seat, call, map, key, node, level, next, value, &entry)
+                    show_chain(
+                        &self.words,
+                        seat,
+                        call,
+                        map,
+                        key,
+                        node,
+                        level,
+                        next,
+                        value,
+                        &entry,
+                    )
                 }
             }
         }
@@ -181,7 +194,7 @@ impl SharedTable {
                 match Change::of(call, held) {
                     Change::Keep => Some(reply_of(call, held)),
                     Change::Remove => {
-                        self.remove(seat, call, map, key, node, level, next);
+                        remove(&self.words, seat, call, map, key, node, level, next);
                         Some(reply_of(call, held))
                     }
                     Change::Put(value) => {

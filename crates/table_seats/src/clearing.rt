@@ -10,10 +10,10 @@ ghost use Rattle.table_seats.specs.Writing.{holding, GoesOut, HasRoomWithin};
 
 use crate::laws::history_laws;
 use crate::lookup::Way;
-use table_rule::view::View;
 use crate::words::TableWords;
 use atomic_table::{Play, Seat};
 use std::marker::{Brand, PhantomData};
+use table_rule::view::View;
 
 // The word of a gate that is closed, where no writer is inside.
 const CLOSED: u64 = 1 << 32;

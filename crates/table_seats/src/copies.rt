@@ -7,9 +7,9 @@ ghost use Rattle.table_rule.specs.Views.{copied, dealt, joined, kept, IsIdle, Lo
 
 use crate::laws::history_laws;
 use crate::rule::{Copied, Deal, Gather, Look};
-use table_rule::view::View;
 use crate::words::TableWords;
 use atomic_table::Seat;
+use table_rule::view::View;
 
 // The word that a look reads: it is always 0.
 pub(crate) const ZERO: usize = 0;

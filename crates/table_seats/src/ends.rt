@@ -6,13 +6,13 @@ ghost use Rattle.table_seats.specs.EndLaws.{EndLaws};
 ghost use Rattle.sync_model.specs.EndsOfHistory.{HasKeysBelow};
 ghost use Rattle.table_seats.specs.Seats.{begin_of, EndsAt, IsSeatOf};
 
-use table_rule::begin::Begin;
 use crate::laws::history_laws;
-use table_rule::view::View;
 use crate::words::TableWords;
 use atomic_table::Seat;
 use sync_model::laws::shared_steps::maps_and_atomics_stay;
 use table_ends::TableEnds;
+use table_rule::begin::Begin;
+use table_rule::view::View;
 use trie_nodes::laws::nodes::nodes_stand_for_what_their_slots_show;
 use trie_nodes::laws::walks::a_walk_finds_each_key_once;
 

@@ -10,11 +10,11 @@ ghost use Rattle.table_seats.specs.Walking.{standing, walk_at, HasWords, Enters,
 
 use crate::laws::history_laws;
 use crate::making::Making;
-use table_rule::view::{Leaf, View};
 use crate::words::TableWords;
 use atomic_table::{Play, Seat};
 use std::marker::{Brand, PhantomData};
 use sync_types::MapCall;
+use table_rule::view::{Leaf, View};
 use trie_nodes::layout::{key_word, slot_word, value_word};
 use trie_nodes::{Slot, nibble};
 

@@ -5,12 +5,12 @@ ghost use Rattle.table_rule.specs.Layout.{first_room, IsBegin};
 ghost use Rattle.table_seats.specs.Seats.{begin_of, IsSeatOf};
 ghost use Rattle.table_rule.specs.Views.{first_view};
 
-use table_rule::begin::Begin;
 use crate::laws::history_laws;
-use table_rule::view::View;
 use crate::words::TableWords;
 use atomic_table::{Seat, Table};
 use std::alloc::{AllocError, Global};
+use table_rule::begin::Begin;
+use table_rule::view::View;
 
 impl TableWords {
     /// The words of empty maps and of atomics that are 0 or false, and one seat for all callers. While they are made they stand

@@ -9,9 +9,9 @@ ghost use Rattle.table_seats.specs.Writing.{Holds};
 ghost use Rattle.trie_nodes.specs.Paths.{nibble};
 
 use crate::laws::{history_laws, trie_laws};
-use table_rule::view::View;
 use crate::words::TableWords;
 use atomic_table::{Play, Seat};
+use table_rule::view::View;
 use trie_nodes::Slot;
 use trie_nodes::layout::{DEAD, FREE, held_word, lock_word, parent_word, slot_word};
 

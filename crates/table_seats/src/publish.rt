@@ -7,11 +7,11 @@ ghost use Rattle.table_seats.specs.Walking.{HasWords};
 
 use crate::laws::{history_laws, trie_laws};
 use crate::making::Making;
-use table_rule::view::View;
 use crate::words::TableWords;
 use atomic_table::{Play, Seat};
 use std::marker::{Brand, PhantomData};
 use sync_types::MapCall;
+use table_rule::view::View;
 use trie_nodes::layout::slot_word;
 use trie_nodes::nibble;
 

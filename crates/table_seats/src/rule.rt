@@ -6,10 +6,10 @@ ghost use Rattle.table_seats.specs.Operations.{Operates};
 ghost use Rattle.table_rule.specs.Rule.{Kept};
 ghost use Rattle.table_rule.specs.Views.{first_view, copied, dealt, kept, joined, spent, Looks};
 
-use table_rule::begin::Begin;
-use table_rule::view::View;
 use atomic_table::{Join, Play, Split, TableRule};
 use std::marker::{Brand, PhantomData};
+use table_rule::begin::Begin;
+use table_rule::view::View;
 
 /// The rule of shared tables.
 pub struct SharedRule;

@@ -2,11 +2,11 @@
 ghost use Rattle.std.specs.Prelude.{◌≡◌};
 ghost use Rattle.table_rule.specs.Layout.{size_of, IsBegin};
 
-use table_rule::begin::Begin;
 use crate::rule::SharedRule;
-use table_rule::view::View;
 use atomic_table::Table;
 use std::alloc::Global;
+use table_rule::begin::Begin;
+use table_rule::view::View;
 
 /// The words of maps and typed atomics. They change in single atomic steps, which seats make under one rule.
 #[derive(Drop)]

@@ -17,11 +17,11 @@ ghost use Rattle.table_seats.specs.Writing.{holding, lock_at, IsWriter, TriesLoc
 use crate::laws::history_laws;
 use crate::lookup::Way;
 use crate::making::Making;
-use table_rule::view::View;
 use crate::words::TableWords;
 use atomic_table::{Play, Seat};
 use std::marker::{Brand, PhantomData};
 use sync_types::MapCall;
+use table_rule::view::View;
 use trie_nodes::layout::{DEAD, FREE, held_word, lock_word, slot_word};
 use trie_nodes::{Slot, nibble};
 

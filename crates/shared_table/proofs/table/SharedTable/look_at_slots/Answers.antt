@@ -18,13 +18,13 @@ look_at_slot-word-requires-clause-words c =
 pub returns-then-word-ne0-clause-looked : goal.returns-then-word-ne0-clause-looked
 returns-then-word-ne0-clause-looked c =
     looks_full c.args.self.now.words.table.shared.key c.args.seat.now.me c.args.node c.requires.lock c.loop-slot.words c.loop-slot.seat.me c.loop-slot.slot c.loop-slot.invariant.on
-    c.look_at_slot-word.result c.look_at_slot-word.new.seat.me c.look_at_slot-word.ensures.looked c.loop-slot-test.true c.if-word-ne0.true
+    c.look_at_slot-word.result c.look_at_slot-word.new.seat.me c.look_at_slot-word.ensures.looked (let below = c.loop-slot-test.true in omega arith) c.if-word-ne0.true
 
 pub loop-slot-preserved : goal.loop-slot-preserved
 loop-slot-preserved c = record {
   table = c.look_at_slot-word.ensures.table ∙ c.loop-slot.invariant.table;
   on = looks_next c.args.self.now.words.table.shared.key c.args.seat.now.me c.args.node c.requires.lock c.loop-slot.words c.loop-slot.seat.me c.loop-slot.slot c.loop-slot.invariant.on
-      c.look_at_slot-word.result c.look_at_slot-word.new.seat.me c.look_at_slot-word.ensures.looked c.loop-slot-test.true c.if-word-ne0.false;
+      c.look_at_slot-word.result c.look_at_slot-word.new.seat.me c.look_at_slot-word.ensures.looked (let below = c.loop-slot-test.true in omega arith) c.if-word-ne0.false;
 }
 
 pub returns-clause-looked : goal.returns-clause-looked
