@@ -6,3 +6,5 @@ pub mod Dealing
 pub mod Counted
 pub mod EndsOfHistory
 pub mod MapCalls
+pub mod Ranging
+pub mod CursorStays

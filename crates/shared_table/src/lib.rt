@@ -6,7 +6,9 @@ mod chain;
 mod changes;
 mod clearing;
 mod copies;
+pub mod cursor;
 mod ends;
+mod kinds;
 mod look_up;
 mod map_call;
 mod new;
@@ -17,6 +19,7 @@ mod settling;
 pub mod steps;
 pub mod table;
 
+pub use cursor::TableCursor;
 pub use new::{MAX_OBJECTS, MAX_UNITS};
 pub use note::SharedNote;
 pub use steps::Steps;

@@ -28,6 +28,7 @@ use Rattle.table_seats.specs.Views.{called_view, with_item, view_state}
 use Rattle.table_seats.proofs.Frames.{suits_on, stands_on}
 use Rattle.table_seats.proofs.Ledgers.{MayPlace, with_one, adds_one, lawful_after, grows_on, none_after, fits_after, called, first}
 use Rattle.table_seats.proofs.Lists.{each_after}
+use Rattle.table_seats.proofs.Looking.{looks_so}
 use Rattle.table_seats.proofs.Moves.{Keeps, moves}
 use Rattle.table_seats.proofs.Quiet.{later_same, apart_same}
 
@@ -161,10 +162,12 @@ module _ (k : Begin) (laws : HistoryLaws) (s : TableState) (r : Kept k s) (id : 
   kept_swept = moves k laws s r id v.number s.words view_after keeps_swept
 
   pub sweeps : v.begin ≡ k → Sweeps call reply spot leaf v view_after
+  unfolding keeps_swept
   sweeps begin = record {
     item = item;
     seen = r.log;
     is = ap (λ l. at_spot (called_view v (with_item l item) r.log) spot leaf) (sym is);
     called = subst (λ b. Called (start_of b) call reply 0 (view_state v) (view_state view_after)) (sym begin)
         (called k laws r.log r.calls (callers_of k) r.claim id r.lawful v own owns is fits item may own_after refl 0 (omega arith));
+    looks = looks_so k r.log (with_one r.calls v.number item) r.claim id view_after keeps_swept.lawful keeps_swept.none_else fits_now begin;
   }

@@ -7,6 +7,7 @@ mod clearing;
 mod copies;
 mod cursor_steps;
 mod ends;
+mod kinds;
 mod laws;
 mod lookup;
 mod making;
