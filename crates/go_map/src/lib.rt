@@ -2,6 +2,7 @@
 #![tactic(auto)]
 
 pub mod cursor;
+pub mod laws;
 pub mod map;
 mod reply;
 pub mod trie;

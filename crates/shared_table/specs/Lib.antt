@@ -4,7 +4,6 @@ pub mod Settling
 pub mod NewCallers
 pub mod Dealing
 pub mod Counted
-pub mod EndsOfHistory
 pub mod MapCalls
 pub mod Ranging
 pub mod CursorStays

@@ -11,6 +11,7 @@ mod kinds;
 mod laws;
 mod lookup;
 mod making;
+mod map_words;
 mod new;
 mod operations;
 mod publish;
