@@ -8,7 +8,7 @@ use Rattle.sync_model.specs.Shared.{items_of}
 use Rattle.workload.specs.Keys.{keys_in, key_number, key_name}
 use Rattle.workload.specs.Plan.{Plan}
 use Rattle.run_record.specs.Objects.{is_map, is_atomic, places_from}
-use Rattle.shared_plain.specs.EndLists.{AreInNameOrder}
+use Rattle.sync_model.specs.EndsByName.{AreInNameOrder}
 use Rattle.thread_calls.specs.Sites.{cost_of_calls}
 
 module _ {N : Type 0} (own : N → Option Holding) where

@@ -13,8 +13,8 @@ ghost use Rattle.thread_runner.specs.Runs.{ComesTo};
 
 use crate::ends_plan::EndsPlan;
 use run_record::laws::limits::maps_end_with_the_workloads_keys;
-use shared_plain::laws::ends_are_in_name_order;
 use std::alloc::{AllocError, Global};
+use sync_model::laws::ends::ends_are_in_name_order;
 use sync_model::{Caller, Shared};
 use sync_types::{End, Outcome, Report, Seq};
 use workload::Workload;

@@ -14,8 +14,8 @@ use std::alloc::Global;
 use std::sync::Wait;
 use std::thread::Threads;
 use sync_model::Note;
-use sync_types::Outcome;
 use sync_outside::{Clock, Gate, Spawner};
+use sync_types::Outcome;
 use workload::Workload;
 
 /// The run over these maps and atomics, whatever they are.

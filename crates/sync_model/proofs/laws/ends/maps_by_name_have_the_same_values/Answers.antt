@@ -1,5 +1,5 @@
-use Rattle.shared_plain.proofs.EndNames.{value_of_name, no_other_name}
-use Rattle.shared_plain.proofs.laws.maps_by_name_have_the_same_values.Goals as goal
+use Rattle.sync_model.proofs.EndNames.{value_of_name, no_other_name}
+use Rattle.sync_model.proofs.laws.ends.maps_by_name_have_the_same_values.Goals as goal
 
 pub returns-clause-value : goal.returns-clause-value
 returns-clause-value c name number m are key is = value_of_name name number m are key is

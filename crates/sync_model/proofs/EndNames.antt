@@ -8,7 +8,7 @@ use native.Mathlib.Decide.{ℕ_discrete}
 use Rattle.std.specs.declared.cmp.Ordering.{Ordering}
 use Rattle.std.specs.declared.cmp.Ordering.TheVariants.{Less, Equal, Greater}
 use Rattle.std.specs.Ordering.{nat_cmp, is_eq, is_lt, eq_by_cmp, ordering_reverse}
-use Rattle.std.specs.Cmp.{tied_itself}
+use Rattle.std.specs.Cmp.{tied_itself, unsigned_tied}
 use Rattle.std.specs.Cmp.Lexicographic.{slice_cmp, nat_list_cmp_total}
 use Rattle.std.specs.List.Sorted.{IsStrictlySortedBy}
 use Rattle.std.proofs.lemmas.List.Elements.{All-contains, All-from_recursion, recursion_from_All}
@@ -20,9 +20,11 @@ use Rattle.sync_types.specs.declared.outcome.End.TheVariants as ends
 use Rattle.sync_types.specs.Ends.{number_end, pair_ends}
 use Rattle.sync_model.specs.SharedHistory.{Contents}
 use Rattle.sync_model.specs.EndsOfHistory.{pair_ends_by, ends_by}
-use Rattle.shared_plain.specs.EndLists.{HasKeysAmong, AreInNameOrder, by_name, ends_by_name}
-use Rattle.shared_plain.proofs.EndWalks.{both}
-use Rattle.shared_plain.proofs.SlotMaps.{tie}
+use Rattle.sync_model.specs.EndsByName.{HasKeysAmong, AreInNameOrder, by_name, ends_by_name}
+
+both : (a b : Bool) → T a → T b → T (a && b)
+both true b p q = q
+both false b p q = p
 
 abbrev by_bytes : List ℕ → List ℕ → Ordering
 by_bytes = slice_cmp nat_cmp
@@ -45,10 +47,10 @@ some_none x e = (cc)
 -- what a test on keys finds where the key is the first one, and where it isn't
 module _ (k j v : ℕ) (es : List (ℕ × ℕ)) where
   found_here : k ≡ j → find nat_cmp k ((j, v) ∷ es) ≡ Some v
-  found_here is = ap (λ (b : Bool). cond b (Some v) (find nat_cmp k es)) (tie k j ∙ eq-eqb k j is)
+  found_here is = ap (λ (b : Bool). cond b (Some v) (find nat_cmp k es)) (unsigned_tied k j ∙ eq-eqb k j is)
 
   found_later : k ≢ j → find nat_cmp k ((j, v) ∷ es) ≡ find nat_cmp k es
-  found_later ne = ap (λ (b : Bool). cond b (Some v) (find nat_cmp k es)) (tie k j ∙ ne_eqb k j ne)
+  found_later ne = ap (λ (b : Bool). cond b (Some v) (find nat_cmp k es)) (unsigned_tied k j ∙ ne_eqb k j ne)
 
 module _ (m : FinMap nat_cmp ℕ) (k : ℕ) where
   absent : (order : List ℕ) → get m k ≡ None → find nat_cmp k (pairs_by order m) ≡ None
