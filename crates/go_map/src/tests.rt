@@ -12,6 +12,7 @@ mod merged;
 mod race;
 mod ranges;
 mod shared;
+mod shrinking;
 mod threads;
 
 use crate::Map;

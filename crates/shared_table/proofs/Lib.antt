@@ -13,3 +13,4 @@ pub mod Ranged
 pub mod CursorBegins
 pub mod CursorNexts
 pub mod CursorNotes
+pub mod Prunings

@@ -7,3 +7,4 @@ pub mod Counted
 pub mod MapCalls
 pub mod Ranging
 pub mod CursorStays
+pub mod Pruning

@@ -14,6 +14,7 @@ mod map_call;
 mod new;
 pub mod note;
 mod operations;
+mod prune;
 mod publish;
 mod settling;
 pub mod steps;

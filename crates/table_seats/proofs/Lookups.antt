@@ -39,7 +39,7 @@ use Rattle.table_seats.proofs.Quiet.{kept_standing}
 size_small : (k : Begin) → IsBegin k → size_of k < 2 ^ 32
 size_small k b = let objects = b.objects in let units = b.units in omega arith
 
-has_words : (k : Begin) (v : View) (place words : ℕ) → IsBegin k → v.begin ≡ k → place + words ≤ size_of k → 0 < words → HasWords v place words
+pub has_words : (k : Begin) (v : View) (place words : ℕ) → IsBegin k → v.begin ≡ k → place + words ≤ size_of k → 0 < words → HasWords v place words
 has_words k v place words b begin within some_words = let small = size_small k b in (subst (λ (z : Begin). place + words ≤ size_of z) (sym begin) within, omega arith)
 
 -- a seat reads a root word

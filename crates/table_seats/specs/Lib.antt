@@ -19,3 +19,4 @@ pub mod Writing
 pub mod Cursors
 pub mod Making
 pub mod Clearing
+pub mod Pruning

@@ -14,6 +14,7 @@ mod making;
 mod map_words;
 mod new;
 mod operations;
+mod pruning;
 mod publish;
 pub mod rule;
 pub mod view;
