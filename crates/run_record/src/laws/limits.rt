@@ -11,9 +11,9 @@ ghost use Rattle.run_record.specs.Objects.{contents_of};
 ghost use Rattle.run_record.specs.Record.{Record};
 
 use sync_model::item::{Item, SharedCall, SharedEntry, SharedReply};
+use sync_model::laws::shared::{a_range_shows_each_key_once_and_misses_none, each_entry_is_a_call};
 use sync_types::laws::atomics::calls_keep_the_type;
 use sync_types::laws::maps::{calls_leave_other_keys, only_a_clear_has_no_key};
-use sync_model::laws::shared::{a_range_shows_each_key_once_and_misses_none, each_entry_is_a_call};
 use sync_types::{AtomicCall, AtomicReply, Number, Outcome};
 use workload::laws::keys_are_numbered_by_first_appearance;
 
