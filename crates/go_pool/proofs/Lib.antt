@@ -1,4 +1,5 @@
-pub mod Drops
-pub mod Finding
-pub mod Looked
+pub mod Looking
+pub mod PoolGrowth
 pub mod PoolSpelling
+pub mod Seats
+pub mod TableSteps
