@@ -1,3 +1,5 @@
+pub mod Drops
+pub mod Finding
 pub mod Looking
 pub mod PoolGrowth
 pub mod PoolSpelling

@@ -206,3 +206,16 @@ last_halt es fs one two = ap halt_before (map-append (λ (q : Placed). q.placed)
 
 pub last_meets : (es fs : List Placed) (misuse : Misuse) → halt_before (all_of fs) ≡ Some misuse → halt_before (all_of (es ++ fs)) ≡ Some misuse
 last_meets es fs misuse two = ap halt_before (map-append (λ (q : Placed). q.placed) es fs) ∙ then_halted (all_of es) (all_of fs) misuse two
+
+-- ---- a call of the pool takes one off first
+
+module _ {N H A : Type 0} (pool : Pool N H) (spells : Deeds → Answer A → Type 0) (old spent new : PoolPass N) (from to : List ℕ) (answer : Answer A) where
+  pub did_as : spent.number ≡ old.number → spent.parts ≡ old.parts → Did pool spells spent from answer new to → Did pool spells old from answer new to
+  did_as number parts did = record {
+    deeds = did.deeds;
+    entries = did.entries;
+    grows = grows_as pool old spent new did.entries from to number parts did.grows;
+    done = subst (λ (n : ℕ). AreDoneAt (parts_of pool) n did.deeds (deeds_at did.entries)) number did.done;
+    spelt = did.spelt;
+    halted = did.halted;
+  }
