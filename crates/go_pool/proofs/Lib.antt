@@ -4,4 +4,5 @@ pub mod Looking
 pub mod PoolGrowth
 pub mod PoolSpelling
 pub mod Seats
+pub mod Sweeping
 pub mod TableSteps

@@ -15,10 +15,10 @@ use Rattle.ruled_object.specs.Growth.{halt_before}
 use Rattle.ruled_object.specs.Growth as growth
 use Rattle.go_pool.specs.declared.pass.PoolPass.{PoolPass}
 use Rattle.go_pool.specs.declared.pool.Pool.{Pool}
-use Rattle.go_pool.specs.declared.pool_get.PoolGet.TheVariants.{Item}
+use Rattle.go_pool.specs.declared.pool_get.PoolGet.TheVariants.{Item, New}
 use Rattle.go_pool.specs.Calls.{Gets, Looks, nothing_in}
 use Rattle.go_pool.specs.Pools.{Deeds, Placed, deeds_at, all_of, AreDoneAt, parts_of, number_of, Did, Grows}
-use Rattle.go_pool.proofs.PoolGrowth.{grows_both, done-append, last_halt, last_meets}
+use Rattle.go_pool.proofs.PoolGrowth.{grows_both, grows_none, grows_as, done-append, last_halt, last_meets}
 use Rattle.std.proofs.Math.Nat.{mod-eq_of_lt}
 use Rattle.std.proofs.lemmas.List.{map-append}
 
@@ -83,3 +83,18 @@ module _ {N H : Type 0} where
       spelt = (number, below, refl);
       halted = last_meets before.es did.entries misuse did.halted;
     }
+
+  -- no look yet
+  pub looked_none : (pool : Pool N H) (old spent : PoolPass N) (front : List ℕ) → spent.number ≡ old.number → spent.parts ≡ old.parts → Looked pool old front 0 spent front
+  looked_none pool old spent front number parts = record { es = []; grows = grows_as pool old spent spent [] front front number parts (grows_none pool spent front); done = refl; free = refl; front = refl }
+
+  -- all looks found nothing
+  pub looks_end : (pool : Pool N H) (old new : PoolPass N) (from to : List ℕ) (number : ℕ) → number ≡ 2 * parts_of pool → Looked pool old from number new to → Did pool (Gets (parts_of pool) (number_of old) pool.fresh) old from (Done (New pool.fresh)) new to
+  looks_end pool old new from to number all looked = record {
+    deeds = nothing_in (parts_of pool) (number_of old) (2 * parts_of pool);
+    entries = looked.es;
+    grows = looked.grows;
+    done = subst (λ (k : ℕ). AreDoneAt (parts_of pool) (number_of old) (nothing_in (parts_of pool) (number_of old) k) (deeds_at looked.es)) all looked.done;
+    spelt = (refl, refl);
+    halted = looked.free;
+  }
