@@ -1,6 +1,8 @@
 pub mod Drops
 pub mod Finding
+pub mod FirstHalts
 pub mod Looking
+pub mod Making
 pub mod PoolGrowth
 pub mod PoolSpelling
 pub mod Seats

@@ -1,5 +1,5 @@
 //! Halting a pool.
-ghost use Rattle.std.specs.Prelude.{◌≡◌, ◌<◌};
+ghost use Rattle.std.specs.Prelude.{◌≡◌, ◌<◌, ◌==◌, cond};
 ghost use Rattle.sync_model.specs.declared.journal.Deed.TheVariants.{Halt};
 ghost use Rattle.sync_model.specs.Journal.{halt_of as first_in};
 ghost use Rattle.protocols.specs.PoolStages.{pool_stands};
@@ -75,12 +75,17 @@ impl<N: Note> Pool<N> {
         let mut first = None;
         for part in 0..self.parts.len() {
             let halted = first_of(&self.parts[part], &mut columns[part].parts);
-            if part == 0 {
-                first = halted;
-            }
+            first = of_part_0(part, halted, first);
         }
         first
     }
+}
+
+// What was found at part 0, once that was looked at.
+fn of_part_0(part: usize, halted: Option<Misuse>, first: Option<Misuse>) -> Option<Misuse>
+    ensures { result ≡ cond (part == 0) halted first }
+{
+    if part == 0 { halted } else { first }
 }
 
 // The misuse of the first halt of one part.

@@ -44,5 +44,6 @@ returns-clause-pass g c =
     let at_o = read_at pool.parts.items pool.callers c.args.part o pool.are.count c.requires.part c.index-object.ensures in
     let at_p = read_at pass.parts.items pool.callers c.args.part p (c.requires.pass.seats.count ∙ pool.are.count) c.requires.part c.index_mut-seat.ensures.value in
     let seats = seats_set pool.parts.items pass.number c.args.part pass.parts.items o p q c.requires.pass.seats at_o at_p c.halt.ensures.pass.0 c.halt.ensures.pass.1.0 in
-    let entry = returns-clause-entry g c in
-    (pass_set pool pass _ c.args.part q c.requires.pass refl refl seats (lawful_added p q entry.entry entry.adds c.halt.ensures.pass.1.0), (refl, refl))
+    let e = c.halt.ensures.entry in
+    let adds = subst (λ (s : PartState ℕ). object.Adds part_next true pool_releases pool_acquires s p e.0 q) (pool.are.begun c.args.part o at_o) e.1 in
+    (pass_set pool pass _ c.args.part q c.requires.pass refl refl seats (lawful_added p q e.0 adds c.halt.ensures.pass.1.0), (refl, refl))
