@@ -1,5 +1,5 @@
 -- Halting all parts, and what all passes tell of the first halt.
-use Rattle.std.proofs.Common.{◌≡◌, ◌≢◌, inl, inr, ℕ, suc, ◌+◌, ◌<◌, ◌≤◌, ◌==◌, Bool, true, false, cond, List, [], ◌∷◌, ◌++◌, length, get_or, set, Option, Some, None, refl, sym, ap, ◌∙◌, subst, arith, length-set}
+use Rattle.std.proofs.Common.{◌≡◌, ◌≢◌, inl, inr, ℕ, suc, ◌+◌, ◌<◌, ◌≤◌, ◌==◌, true, false, cond, List, [], ◌∷◌, ◌++◌, length, get_or, set, Option, Some, None, refl, sym, ap, ◌∙◌, subst, arith, length-set}
 use Rattle.std.specs.List.{slice_get}
 use Rattle.std.specs.Option.{option_and_then}
 use Rattle.std.proofs.lemmas.Bool.{cases_eq}
@@ -7,7 +7,6 @@ use Rattle.std.proofs.lemmas.Bool.Decides.{nat_tests}
 use Rattle.std.proofs.lemmas.List.{length-append, get_or_append_left, get_or-append-add}
 use Rattle.std.proofs.lemmas.Option.{slice_get_within}
 use Rattle.sync_types.specs.declared.misuse.Misuse.{Misuse}
-use Rattle.sync_model.specs.declared.journal.Deed.{Deed}
 use Rattle.sync_model.specs.declared.journal.Deed.TheVariants.{Halt}
 use Rattle.sync_model.specs.Journal.{by, Follows}
 use Rattle.sync_model.specs.Journal as journals
@@ -25,10 +24,10 @@ use Rattle.go_pool.specs.declared.pass.PoolPass.{PoolPass}
 use Rattle.go_pool.specs.declared.pool.Pool.{Pool}
 use Rattle.go_pool.specs.Halting.{HaltsAt, AreColumnsOf, AreToldOf, AreTold, AreColumns, IsTold}
 use Rattle.go_pool.specs.Parts.{Made, PartPass, PartJournal, pass_at, cell}
-use Rattle.go_pool.specs.Pools.{Journal, journal_at, halt_of, number_of, parts_of, room_of, IsPassOf, AreAllPasses, SamePasses, IsWhole, IsSeen, Adds}
+use Rattle.go_pool.specs.Pools.{Journal, journal_at, halt_of, number_of, parts_of, room_of, AreAllPasses, SamePasses, IsWhole, IsSeen, Adds}
 use Rattle.go_pool.specs.Tables.{IsSquare, KeepsRows}
 use Rattle.go_pool.proofs.Seats.{same_found}
-use Rattle.go_pool.proofs.TableSteps.{cond_false, there, get_set, get_other, set_found, set_rows, rows_then, square_kept}
+use Rattle.go_pool.proofs.TableSteps.{cond_false, there, get_other, set_found, set_rows, rows_then}
 
 -- ---- halting
 
@@ -124,9 +123,9 @@ module _ {M N H : Type 0} where
     told = record {
       each = λ other one before after below at_one at_before at_after. elim (cases_eq other part) [
         | inl same ↦ told_here other one before after same
-              (same_found objects part o one at_o (ap (slice_get objects) (sym same) ∙ at_one))
-              (same_found old part row before (sym (so.rest part (omega arith)) ∙ at_row) (ap (slice_get old) (sym same) ∙ at_before))
-              (set_found columns part new_row after (ap (slice_get (set columns part new_row)) (sym same) ∙ at_after))
+            (same_found objects part o one at_o (ap (slice_get objects) (sym same) ∙ at_one))
+            (same_found old part row before (sym (so.rest part (omega arith)) ∙ at_row) (ap (slice_get old) (sym same) ∙ at_before))
+            (set_found columns part new_row after (ap (slice_get (set columns part new_row)) (sym same) ∙ at_after))
         | inr apart ↦
             let earlier : other < length so.journal = (let c = so.count in let l = length-append so.journal (last ∷ []) in omega arith) in
             subst (λ (j : PartJournal). IsTold one j before.parts.items after.parts.items) (sym (get_or_append_left so.journal (last ∷ []) [] other earlier))

@@ -12,7 +12,6 @@ use Rattle.pool_core.specs.declared.pool_event.PoolReply.TheVariants as reply
 use Rattle.pool_core.specs.Looks.{look}
 use Rattle.pool_core.specs.PartLaws.{about}
 use Rattle.ruled_object.specs.Growth.{halt_before}
-use Rattle.ruled_object.specs.Growth as growth
 use Rattle.go_pool.specs.declared.pass.PoolPass.{PoolPass}
 use Rattle.go_pool.specs.declared.pool.Pool.{Pool}
 use Rattle.go_pool.specs.declared.pool_get.PoolGet.TheVariants.{Item, New}

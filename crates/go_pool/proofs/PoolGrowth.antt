@@ -1,5 +1,5 @@
 -- What the calls of a pool add to the journals of its parts.
-use Rattle.std.proofs.Common.{◌≡◌, ◌≢◌, inl, inr, ℕ, ◌+◌, ◌<◌, ◌==◌, Bool, true, false, cond, List, [], ◌∷◌, ◌++◌, map, length, set, slice_index, Option, Some, None, refl, sym, ap, ◌∙◌, subst, append_assoc, append-nil, arith}
+use Rattle.std.proofs.Common.{◌≡◌, ◌≢◌, inl, inr, ℕ, ◌==◌, Bool, true, false, cond, List, [], ◌∷◌, ◌++◌, map, Option, Some, None, refl, sym, ap, ◌∙◌, subst, append_assoc, append-nil, arith}
 use Rattle.std.specs.List.{AllByRecursion, slice_get, range_with_len}
 use Rattle.std.specs.Option.{option_map_or}
 use Rattle.std.proofs.lemmas.Bool.{cases_eq}
@@ -15,7 +15,7 @@ use Rattle.sync_model.specs.Journal.{Rising}
 use Rattle.pool_core.specs.declared.pool_event.PoolEvent.{PoolEvent}
 use Rattle.pool_core.specs.declared.pool_event.PoolReply.{PoolReply}
 use Rattle.pool_core.specs.PartLaws.{about}
-use Rattle.pool_core.specs.PartMachine.{PartState, part_start, part_next}
+use Rattle.pool_core.specs.PartMachine.{part_start, part_next}
 use Rattle.ruled_object.specs.Growth as growth
 use Rattle.ruled_object.specs.Growth.{Leads, IsRight, entries_of, deeds_of, halt_before, MeetsHalt}
 use Rattle.ruled_object.specs.Passes as object
@@ -24,7 +24,7 @@ use Rattle.go_pool.specs.declared.pool.Pool.{Pool}
 use Rattle.go_pool.specs.AtParts.{DidAt}
 use Rattle.go_pool.specs.Calls.{Single}
 use Rattle.go_pool.specs.Parts.{Made, PartPass, PartJournal, own_of}
-use Rattle.go_pool.specs.Pools.{Deeds, PartDeeds, Placed, deeds_at, in_part, all_of, parts_at, IsDoneAt, AreDoneAt, number_of, seen_of, parts_of, room_of, Grows, Did}
+use Rattle.go_pool.specs.Pools.{Deeds, PartDeeds, Placed, deeds_at, in_part, all_of, AreDoneAt, number_of, seen_of, parts_of, room_of, Grows, Did}
 use Rattle.go_pool.proofs.TableSteps.{get_set, get_other, cond_true, cond_false}
 
 -- ---- entries of one part

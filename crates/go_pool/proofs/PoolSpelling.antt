@@ -1,5 +1,5 @@
 -- The spelling of a pool's protocol, in the words of this crate.
-use Rattle.std.proofs.Common.{◌≡◌, ◌≢◌, ℕ, ◌<◌, Bool, true, false, List, [], ◌∷◌, Result, Ok, Err, refl, sym, ap, subst, ◌∙◌}
+use Rattle.std.proofs.Common.{◌≡◌, ◌≢◌, ℕ, Bool, true, false, List, [], ◌∷◌, Result, Ok, Err, refl, sym, subst, ◌∙◌}
 use Rattle.sync_types.specs.declared.misuse.Misuse.{Misuse}
 use Rattle.sync_model.specs.declared.answer.Answer.{Answer}
 use Rattle.sync_model.specs.declared.answer.Answer.TheVariants.{Done, Halted}
@@ -18,7 +18,6 @@ use Rattle.protocols.specs.declared.pool.PoolStage.TheVariants as stage
 use Rattle.protocols.specs.PoolStages.{pool_event, pool_moment, look_meaning, pool_meaning, pool_gains}
 use Rattle.protocols.specs.Spelling.{CallAnswer, Rest, Spells, AreTimely}
 use Rattle.running.specs.Calls.{told, retold, IsGiven, has_gained}
-use Rattle.running.specs.Calls as running
 use Rattle.go_pool.specs.declared.pass.PoolPass.{PoolPass}
 use Rattle.go_pool.specs.declared.pool.Pool.{Pool}
 use Rattle.go_pool.specs.AtParts.{DidAt}

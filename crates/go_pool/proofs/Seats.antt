@@ -1,5 +1,5 @@
 -- A caller's passes to the parts, of which one was used.
-use Rattle.std.proofs.Common.{◌≡◌, ◌≢◌, inl, inr, ℕ, ◌<◌, true, List, length, set, Option, Some, None, refl, sym, ap, ◌∙◌, subst, arith, length-set}
+use Rattle.std.proofs.Common.{◌≡◌, inl, inr, ℕ, ◌<◌, true, List, length, set, Some, sym, ap, ◌∙◌, subst, arith, length-set}
 use Rattle.std.specs.List.{slice_get, slice_index_or}
 use Rattle.std.proofs.lemmas.Bool.{cases_eq}
 use Rattle.std.proofs.lemmas.Option.{slice_get_read, slice_get_within}
@@ -50,7 +50,7 @@ module _ {N H : Type 0} where
     seats = subst (λ (l : List (PartPass N)). AreSeatsOf pool.parts.items new.number l) (sym items) (subst (λ (n : ℕ). AreSeatsOf pool.parts.items n (set old.parts.items part q)) (sym number) seats);
     lawful = λ other p at_p. elim (cases_eq other part) [
       | inl same ↦ subst (λ (z : PartPass N). growth.IsLawful part_next true pool_releases pool_acquires (part_start (room_of pool)) z)
-            (sym (set_found old.parts.items part q p (ap (slice_get (set old.parts.items part q)) (sym same) ∙ (ap (λ (l : List (PartPass N)). slice_get l other) (sym items) ∙ at_p)))) lawful
+          (sym (set_found old.parts.items part q p (ap (slice_get (set old.parts.items part q)) (sym same) ∙ (ap (λ (l : List (PartPass N)). slice_get l other) (sym items) ∙ at_p)))) lawful
       | inr apart ↦ is.lawful other p (sym (get_other old.parts.items part other q apart) ∙ (ap (λ (l : List (PartPass N)). slice_get l other) (sym items) ∙ at_p))
     ];
   }

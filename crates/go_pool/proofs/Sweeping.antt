@@ -1,5 +1,5 @@
 -- How the events of a sweep add up, part by part.
-use Rattle.std.proofs.Common.{◌≡◌, ℕ, ◌+◌, ◌<◌, ◌≤◌, [], ◌∷◌, ◌++◌, List, map, take, length, get_or, Some, None, refl, sym, ap, ◌∙◌, subst, append-nil, arith}
+use Rattle.std.proofs.Common.{◌≡◌, ℕ, ◌+◌, ◌<◌, [], ◌∷◌, ◌++◌, List, map, take, Some, None, refl, sym, ap, ◌∙◌, append-nil, arith}
 use Rattle.std.specs.List.{range_with_len, slice_get}
 use Rattle.std.proofs.lemmas.List.{map-append, map_more, take-map}
 use Rattle.std.proofs.lemmas.List.FromFn.{length-range_with_len, get_or-range_with_len, take-map-range_with_len}
@@ -12,14 +12,14 @@ use Rattle.pool_core.specs.declared.pool_event.PoolEvent.{PoolEvent}
 use Rattle.pool_core.specs.declared.pool_event.PoolEvent.TheVariants.{Sweep}
 use Rattle.pool_core.specs.declared.pool_event.PoolReply.{PoolReply}
 use Rattle.pool_core.specs.declared.pool_event.PoolReply.TheVariants.{Swept}
-use Rattle.ruled_object.specs.Growth.{halt_before, deeds_of}
+use Rattle.ruled_object.specs.Growth.{halt_before}
 use Rattle.ruled_object.specs.Passes as object
 use Rattle.go_pool.specs.declared.pass.PoolPass.{PoolPass}
 use Rattle.go_pool.specs.declared.pool.Pool.{Pool}
 use Rattle.go_pool.specs.AtParts.{DidAt}
 use Rattle.go_pool.specs.Calls.{Single, Sweeps}
 use Rattle.go_pool.specs.Parts.{PartPass}
-use Rattle.go_pool.specs.Pools.{Deeds, PartDeeds, Placed, deeds_at, all_of, parts_of, number_of, Did, Grows}
+use Rattle.go_pool.specs.Pools.{PartDeeds, Placed, deeds_at, all_of, parts_of, number_of, Did, Grows}
 use Rattle.go_pool.proofs.PoolGrowth.{at, deeds_here, entries_at, grows_at, halted_at, grows_both, grows_none, grows_as, last_halt, last_meets}
 
 -- a part that was swept
@@ -72,9 +72,9 @@ module _ {N H : Type 0} where
     swept_refused misuse did =
         let fs = entries_at pool number mid new between to (Halted misuse) numbers did in
         let done : deeds_at (before.es ++ fs) ≡ map swept_at (take number (range_with_len 0 (parts_of pool))) ++ (number, Refused Sweep misuse) ∷ [] =
-            map-append (λ (q : Placed). (q.part, q.placed.entry.deed)) before.es fs
-            ∙ (ap (λ (l : PartDeeds). l ++ deeds_at fs) before.done
-            ∙ ap (λ (l : PartDeeds). map swept_at (take number (range_with_len 0 (parts_of pool))) ++ l) (deeds_here number did.did.entries ∙ ap (map (λ (d : Deed (PoolEvent ℕ) (PoolReply ℕ)). (number, d))) did.did.spelt)) in record {
+        map-append (λ (q : Placed). (q.part, q.placed.entry.deed)) before.es fs
+        ∙ (ap (λ (l : PartDeeds). l ++ deeds_at fs) before.done
+        ∙ ap (λ (l : PartDeeds). map swept_at (take number (range_with_len 0 (parts_of pool))) ++ l) (deeds_here number did.did.entries ∙ ap (map (λ (d : Deed (PoolEvent ℕ) (PoolReply ℕ)). (number, d))) did.did.spelt)) in record {
           deeds = Refused Sweep misuse ∷ [];
           entries = before.es ++ fs;
           grows = grows_both pool old mid new before.es fs from between to before.grows (grows_at pool number mid new between to (Halted misuse) numbers did);

@@ -1,7 +1,6 @@
 -- Rows and columns that change places.
-use Rattle.std.proofs.Common.{◌≡◌, ◌≢◌, ◌⊎◌, inl, inr, ℕ, zero, suc, ◌+◌, ◌-◌, ◌<◌, ◌≤◌, ◌==◌, Bool, true, false, cond, List, [], ◌∷◌, ◌++◌, length, get_or, set, Option, Some, None, refl, sym, ap, ◌∙◌, subst, arith, length-set}
-use Rattle.std.specs.Prelude.{nat_lt, ◌&&◌, ◌||◌}
-use Rattle.std.specs.List.{slice_get, slice_set}
+use Rattle.std.proofs.Common.{◌≡◌, ◌≢◌, ◌⊎◌, inl, inr, ℕ, zero, suc, ◌+◌, ◌<◌, ◌≤◌, Bool, true, false, cond, List, [], ◌∷◌, ◌++◌, length, get_or, set, Option, Some, None, refl, sym, ap, ◌∙◌, subst, arith, length-set}
+use Rattle.std.specs.List.{slice_get}
 use Rattle.std.specs.Option.{option_and_then}
 use Rattle.std.proofs.lemmas.Bool.{cases_eq, cases_lt}
 use Rattle.std.proofs.lemmas.Bool.Decides.{nat_tests}
@@ -113,8 +112,8 @@ module _ {N : Type 0} where
     count = length-set ps at new;
     each = λ i one other was now. elim (cases_eq i at) [
       | inl same ↦ kept one other
-            (set_found ps at new other (ap (slice_get (set ps at new)) (sym same) ∙ now))
-            (let found : Some one ≡ Some old = sym was ∙ (ap (slice_get ps) same ∙ is) in cc)
+          (set_found ps at new other (ap (slice_get (set ps at new)) (sym same) ∙ now))
+          (let found : Some one ≡ Some old = sym was ∙ (ap (slice_get ps) same ∙ is) in cc)
       | inr apart ↦ let found : Some other ≡ Some one = sym now ∙ (get_other ps at i new apart ∙ was) in unchanged one other (cc)
     ];
   } where

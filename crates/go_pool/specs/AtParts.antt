@@ -1,5 +1,5 @@
 -- What a call of one part did, within a call of the pool.
-use Rattle.std.specs.Prelude.{◌≡◌, ℕ, true, List, Some, slice_get, set}
+use Rattle.std.specs.Prelude.{◌≡◌, ℕ, true, List, Some, set}
 use Rattle.sync_model.specs.declared.answer.Answer.{Answer}
 use Rattle.pool_core.specs.PartMachine.{part_start, part_next}
 use Rattle.running.specs.Calls as running

@@ -14,7 +14,7 @@ use Rattle.running.specs.Between.{AreAllBetween}
 use Rattle.go_pool.specs.declared.pass.PoolPass.{PoolPass}
 use Rattle.go_pool.specs.declared.pool.Pool.{Pool}
 use Rattle.go_pool.specs.Parts.{Made, PartPass, PartJournal, pass_at}
-use Rattle.go_pool.specs.Pools.{Journal, journal_at, number_of, parts_of, room_of}
+use Rattle.go_pool.specs.Pools.{Journal, journal_at, parts_of, room_of}
 
 module _ {N H : Type 0} where
   -- one entry more in the journal of a part, which halts it by this misuse, of a caller who knows this

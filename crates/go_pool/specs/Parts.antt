@@ -1,5 +1,5 @@
 -- What a pool is made of: an object for each part, and in each caller's pass a pass to each of these.
-use Rattle.std.specs.Prelude.{◌≡◌, ℕ, ◌<◌, List, [], length, Option, Some, slice_get}
+use Rattle.std.specs.Prelude.{◌≡◌, ℕ, List, [], length, Option, Some, slice_get}
 use Rattle.std.specs.Option.{option_and_then, option_map_or}
 use Rattle.sync_model.specs.declared.journal.Entry.{Entry}
 use Rattle.pool_core.specs.declared.pool_event.PoolEvent.{PoolEvent}

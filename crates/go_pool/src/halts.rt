@@ -89,10 +89,7 @@ fn of_part_0(part: usize, halted: Option<Misuse>, first: Option<Misuse>) -> Opti
 }
 
 // The misuse of the first halt of one part.
-fn first_of<N: Note>(
-    part: &Object<PartCore, N>,
-    passes: &mut Vec<PartPass<N>>,
-) -> Option<Misuse>
+fn first_of<N: Note>(part: &Object<PartCore, N>, passes: &mut Vec<PartPass<N>>) -> Option<Misuse>
     requires { AreAllBetween tt pool_stands part.now passes.old.items }
     ensures between { AreAllBetween tt pool_stands part.now passes.new.items }
     ensures told { (journal : PartJournal) × (result ≡ first_in journal) × IsTold part.now journal passes.old.items passes.new.items }

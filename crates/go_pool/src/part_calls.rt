@@ -13,8 +13,8 @@ use protocols::{PoolOutcome, PoolStage};
 use running::call_within;
 use std::sync::Wait;
 use sync_model::{Answer, Note};
-use sync_types::Misuse;
 use sync_outside::{At, Clock};
+use sync_types::Misuse;
 
 impl<N: Note> Pool<N> {
     // Makes the event of a stage at a part. It takes nothing off the calls that are left.

@@ -10,12 +10,11 @@ ghost use Rattle.go_pool.specs.Parts.{AreParts};
 
 use crate::columns::transpose;
 use crate::pass::PartPass;
+pub use crate::pass::PoolPass;
 use pool_core::PartCore;
 use ruled_object::{MAX_CALLS, Object};
 use std::alloc::{AllocError, Global};
 use sync_model::{MAX_CALLERS, Note};
-
-pub use crate::pass::PoolPass;
 
 /// A pool of numbers that callers share. Each part is an object of its own, so that callers at different parts don't wait for
 /// each other.

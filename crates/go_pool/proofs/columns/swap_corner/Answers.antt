@@ -1,9 +1,7 @@
-use Rattle.std.proofs.Common.{◌≡◌, ℕ, ◌+◌, ◌<◌, ◌++◌, cond, length, Some, refl, sym, ap, ◌∙◌, arith, rules}
+use Rattle.std.proofs.Common.{◌≡◌, ◌+◌, ◌<◌, ◌++◌, length, Some, refl, sym, ap, ◌∙◌, arith, rules}
 use Rattle.std.specs.List.{slice_get, slice_index_or}
 use Rattle.std.proofs.lemmas.List.{length-append}
 use Rattle.std.proofs.lemmas.Option.{slice_get-get_or}
-use Rattle.go_pool.specs.Parts.{cell}
-use Rattle.go_pool.specs.Tables.{KeepsRows, is_corner}
 use Rattle.go_pool.proofs.TableSteps.{corner_swapped, seam_get, front_get}
 use Rattle.go_pool.proofs.columns.swap_corner.Goals as goal
 

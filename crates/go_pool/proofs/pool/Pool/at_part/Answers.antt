@@ -1,12 +1,10 @@
-use Rattle.std.proofs.Common.{◌≡◌, ℕ, true, Some, refl, sym, ap, ◌∙◌, subst, rules}
-use Rattle.std.specs.List.{slice_get}
+use Rattle.std.proofs.Common.{ℕ, true, refl, ◌∙◌, subst}
 use Rattle.pool_core.specs.Edges.{pool_releases, pool_acquires}
 use Rattle.pool_core.specs.PartMachine.{PartState, part_next}
 use Rattle.protocols.specs.PoolStages.{pool_event, pool_meaning, pool_moment}
 use Rattle.protocols.specs.Spelling.{Spells, AreTimely}
 use Rattle.ruled_object.specs.Growth.{IsLawful}
 use Rattle.running.specs.Calls as running
-use Rattle.go_pool.specs.Pools.{Deeds}
 use Rattle.go_pool.proofs.Seats.{read_at, seats_set, pass_set}
 use Rattle.go_pool.proofs.pool.Pool.at_part.Goals as goal
 

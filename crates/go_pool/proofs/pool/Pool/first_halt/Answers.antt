@@ -11,17 +11,20 @@ transpose-requires-2 g c = record { square = square_kept c.transpose.new.passes 
 pub returns-clause-passes : goal.returns-clause-passes
 returns-clause-passes g c =
     let j = c.first_halts-halted.ensures.journal in
-    let pool = c.args.self.now in
-    (all_back pool c.args.passes.now c.transpose.new.passes c.first_halts-halted.new.columns c.transpose-2.new.passes j.0 c.requires c.transpose.ensures.rows c.transpose.ensures.cells c.first_halts-halted.ensures.columns.0 c.first_halts-halted.ensures.columns.1 j.2 c.transpose-2.ensures.rows c.transpose-2.ensures.cells,
-     same_passes pool c.args.passes.now c.transpose.new.passes c.first_halts-halted.new.columns c.transpose-2.new.passes j.0 c.requires c.transpose.ensures.rows c.transpose.ensures.cells c.first_halts-halted.ensures.columns.0 c.first_halts-halted.ensures.columns.1 j.2 c.transpose-2.ensures.rows c.transpose-2.ensures.cells)
+    let pool = c.args.self.now in (
+      all_back pool c.args.passes.now c.transpose.new.passes c.first_halts-halted.new.columns c.transpose-2.new.passes j.0 c.requires c.transpose.ensures.rows c.transpose.ensures.cells c.first_halts-halted.ensures.columns.0 c.first_halts-halted.ensures.columns.1 j.2 c.transpose-2.ensures.rows c.transpose-2.ensures.cells,
+      same_passes pool c.args.passes.now c.transpose.new.passes c.first_halts-halted.new.columns c.transpose-2.new.passes j.0 c.requires c.transpose.ensures.rows c.transpose.ensures.cells c.first_halts-halted.ensures.columns.0 c.first_halts-halted.ensures.columns.1 j.2 c.transpose-2.ensures.rows c.transpose-2.ensures.cells,
+    )
 
 pub returns-clause-one_journal : goal.returns-clause-one_journal
 returns-clause-one_journal g c =
     let j = c.first_halts-halted.ensures.journal in
-    let pool = c.args.self.now in
-    (j.0, j.1,
-     whole pool c.args.passes.now c.transpose.new.passes c.first_halts-halted.new.columns c.transpose-2.new.passes j.0 c.requires c.transpose.ensures.rows c.transpose.ensures.cells c.first_halts-halted.ensures.columns.0 c.first_halts-halted.ensures.columns.1 j.2 c.transpose-2.ensures.rows c.transpose-2.ensures.cells,
-     seen pool c.args.passes.now c.transpose.new.passes c.first_halts-halted.new.columns c.transpose-2.new.passes j.0 c.requires c.transpose.ensures.rows c.transpose.ensures.cells c.first_halts-halted.ensures.columns.0 c.first_halts-halted.ensures.columns.1 j.2 c.transpose-2.ensures.rows c.transpose-2.ensures.cells)
+    let pool = c.args.self.now in (
+      j.0,
+      j.1,
+      whole pool c.args.passes.now c.transpose.new.passes c.first_halts-halted.new.columns c.transpose-2.new.passes j.0 c.requires c.transpose.ensures.rows c.transpose.ensures.cells c.first_halts-halted.ensures.columns.0 c.first_halts-halted.ensures.columns.1 j.2 c.transpose-2.ensures.rows c.transpose-2.ensures.cells,
+      seen pool c.args.passes.now c.transpose.new.passes c.first_halts-halted.new.columns c.transpose-2.new.passes j.0 c.requires c.transpose.ensures.rows c.transpose.ensures.cells c.first_halts-halted.ensures.columns.0 c.first_halts-halted.ensures.columns.1 j.2 c.transpose-2.ensures.rows c.transpose-2.ensures.cells,
+    )
 
 pub returns-clause-history : goal.returns-clause-history
 returns-clause-history g c =

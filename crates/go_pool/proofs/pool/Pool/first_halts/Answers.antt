@@ -1,4 +1,4 @@
-use Rattle.std.proofs.Common.{◌≡◌, ℕ, ◌<◌, Some, length, refl, sym, ◌∙◌, subst, arith, rules}
+use Rattle.std.proofs.Common.{◌≡◌, ◌<◌, Some, length, refl, ◌∙◌, subst, arith, rules}
 use Rattle.std.specs.List.{slice_get, slice_index_or}
 use Rattle.protocols.specs.PoolStages.{pool_stands}
 use Rattle.running.specs.Between.{AreAllBetween}

@@ -1,5 +1,4 @@
-use Rattle.std.proofs.Common.{◌≡◌, ℕ, ◌*◌, refl, sym, ap, ◌∙◌, subst, arith, rules}
-use Rattle.sync_model.specs.declared.answer.Answer.TheVariants.{Done}
+use Rattle.std.proofs.Common.{◌≡◌, ◌*◌, refl, ◌∙◌, arith, rules}
 use Rattle.go_pool.specs.Pools.{fresh_of}
 use Rattle.go_pool.proofs.Drops.{come_from}
 use Rattle.go_pool.proofs.Looking.{looked_none, looks_on, looks_up, looks_refused, looks_end}

@@ -1,4 +1,4 @@
-use Rattle.std.proofs.Common.{◌≡◌, ℕ, length, refl, ◌∙◌, arith}
+use Rattle.std.proofs.Common.{◌≡◌, length, refl, ◌∙◌, arith}
 use Rattle.go_pool.proofs.FirstHalts.{halt_by, none_halted, halted_on, all_halted}
 use Rattle.go_pool.proofs.Seats.{seat_numbers}
 use Rattle.go_pool.proofs.pool.Pool.halt.Goals as goal

@@ -1,9 +1,7 @@
-use Rattle.std.proofs.Common.{◌≡◌, ℕ, true, Some, length, refl, sym, ap, ◌∙◌, subst, rules}
-use Rattle.std.specs.List.{slice_get}
+use Rattle.std.proofs.Common.{ℕ, true, refl, ◌∙◌, subst}
 use Rattle.pool_core.specs.Edges.{pool_releases, pool_acquires}
 use Rattle.pool_core.specs.PartMachine.{PartState, part_next}
 use Rattle.ruled_object.specs.Passes as object
-use Rattle.go_pool.specs.Parts.{Made, PartPass}
 use Rattle.go_pool.proofs.Seats.{read_at, seats_set, pass_set, lawful_added}
 use Rattle.go_pool.proofs.pool.Pool.halt_part.Goals as goal
 

@@ -1,4 +1,4 @@
-use Rattle.std.proofs.Common.{◌≡◌, ◌∙◌, ℕ, Some, sym, ap, rules}
+use Rattle.std.proofs.Common.{◌≡◌, ◌∙◌, ℕ, Some, sym, ap}
 use Rattle.pool_core.specs.PartLaws.{about}
 use Rattle.protocols.specs.PoolStages.{pool_event}
 use Rattle.pool_core.specs.Looks.{look}

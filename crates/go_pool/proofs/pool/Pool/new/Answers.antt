@@ -1,7 +1,7 @@
 use Rattle.std.proofs.Common.{◌≡◌, ℕ, ◌+◌, [], ◌∷◌, ◌++◌, refl, sym, ◌∙◌, subst, arith}
 use Rattle.go_pool.specs.Pools.{AreNew}
 use Rattle.go_pool.specs.Tables.{IsSquare}
-use Rattle.go_pool.proofs.Making.{MadeSo, none_made, made_on, made_square, made_parts, made_homes, new_passes, written}
+use Rattle.go_pool.proofs.Making.{MadeSo, none_made, made_on, made_square, new_passes, written}
 use Rattle.go_pool.proofs.pool.Pool.new.Goals as goal
 
 pub loop-number-init : goal.loop-number-init

@@ -1,4 +1,3 @@
-use Rattle.std.proofs.Common.{◌≡◌}
 use Rattle.sync_model.specs.Note.{SameHome}
 use Rattle.go_pool.proofs.Making.{MadeSo}
 use Rattle.go_pool.proofs.pool.Pool.new.Given as goal

@@ -1,4 +1,4 @@
-use Rattle.std.proofs.Common.{◌≡◌, ℕ, Some, refl, sym, ap, ◌∙◌}
+use Rattle.std.proofs.Common.{◌≡◌, Some, refl, sym, ap, ◌∙◌}
 use Rattle.pool_core.specs.declared.pool_event.PoolEvent.TheVariants.{Put}
 use Rattle.pool_core.specs.PartLaws.{about}
 use Rattle.pool_core.specs.PoolParts.{reply_of_put}

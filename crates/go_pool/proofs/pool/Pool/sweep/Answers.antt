@@ -1,4 +1,4 @@
-use Rattle.std.proofs.Common.{◌≡◌, ℕ, refl, sym, ap, ◌∙◌, arith, rules}
+use Rattle.std.proofs.Common.{◌≡◌, refl, sym, ◌∙◌, arith, rules}
 use Rattle.pool_core.specs.declared.pool_event.PoolEvent.TheVariants.{Sweep}
 use Rattle.pool_core.specs.declared.pool_event.PoolReply.TheVariants.{Swept}
 use Rattle.protocols.specs.declared.pool.PoolStage.TheVariants as stage
