@@ -1,5 +1,7 @@
 //! Pools for the tests, and their callers.
 ghost use Rattle.std.specs.Prelude.{◌<◌, ◌≤◌, IfOk};
+ghost use Rattle.std.proofs.Props.{props};
+ghost use Rattle.go_pool.specs.PassProps.{follows_prop};
 ghost use Rattle.go_pool.specs.Pools.{ArePasses, IsPassOf};
 
 use crate::pool::{Pool, PoolPass};
@@ -58,7 +60,7 @@ pub(super) struct Caller<'a> {
     pool: &'a Pool<FrontNote>,
     pass: PoolPass<FrontNote>,
     note: FrontNote,
-    ghost is: { IsPassOf pool.now pass },
+    ghost is: { IsPassOf pool.now pass } by { Prim.hlevel (follows_prop, props) },
 }
 
 impl<'a> Caller<'a> {
