@@ -188,45 +188,36 @@ module _ {N H : Type 0} (pool : Pool N H) where
     pub same_passes : SamePasses passes back
     same_passes = record { count = rows_all.count; each = λ i before after was now. let kept = rows_all.each i before after was now in (kept.0, kept.1) }
 
-    -- a part's passes before, and those after
-    column : (part : ℕ) → part < parts_of pool → (before : PoolPass N) × (after : PoolPass N) × (slice_get columns part ≡ Some before) × (slice_get told part ≡ Some after)
+    -- a part's passes before, and those after, which tell all that was done on it
+    column : (part : ℕ) → part < parts_of pool
+        → (before : PoolPass N) × (after : PoolPass N) × (slice_get columns part ≡ Some before) × (slice_get told part ≡ Some after) × (length before.parts.items ≡ length passes) × (length after.parts.items ≡ length before.parts.items)
+        × gathered.IsWhole part_next true pool_releases pool_acquires (part_start (room_of pool)) (journal_at part journal) before.parts.items × gathered.IsSeen part_next true pool_releases pool_acquires (part_start (room_of pool)) (journal_at part journal) after.parts.items
     column part below =
         let one = there columns part (let c = rows.count in let a = all.count in omega arith) in
         let two = there told part (let c = rows.count in let t = rows_told.count in let a = all.count in omega arith) in
-        (one.0, two.0, one.1, two.1)
+        let o = there pool.parts.items part (let a = pool.are.count in omega arith) in
+        let old = there passes part (let a = all.count in omega arith) in
+        let tell = tells.1.each part o.0 one.0 two.0 (let a = tells.0 in omega arith) o.1 one.1 two.1 in (
+          one.0,
+          two.0,
+          one.1,
+          two.1,
+          (rows.each part old.0 one.0 old.1 one.1).2 ∙ square_all passes all part old.0 old.1,
+          tell.count,
+          subst (λ (s : PartState ℕ). gathered.IsWhole part_next true pool_releases pool_acquires s (journal_at part journal) one.0.parts.items) (pool.are.begun part o.0 o.1) tell.whole,
+          subst (λ (s : PartState ℕ). gathered.IsSeen part_next true pool_releases pool_acquires s (journal_at part journal) two.0.parts.items) (pool.are.begun part o.0 o.1) tell.seen,
+        )
 
     pub whole : IsWhole pool journal passes
     whole = record {
       count = tells.0;
-      each = λ part below.
-          let c = column part below in
-          let o = there pool.parts.items part (let a = pool.are.count in omega arith) in
-          let old = there passes part (let a = all.count in omega arith) in
-          let tell = tells.1.each part o.0 c.0 c.1 (let a = tells.0 in omega arith) o.1 c.2 c.3 in (
-            c.0.parts.items,
-            record {
-              count = (rows.each part old.0 c.0 old.1 c.2).2 ∙ ((all.each part old.0 old.1).0.seats.count ∙ (pool.are.count ∙ sym all.count));
-              each = λ caller. sym (cell_of columns part caller c.0 c.2) ∙ turned part caller;
-            },
-            subst (λ (s : PartState ℕ). gathered.IsWhole part_next true pool_releases pool_acquires s (journal_at part journal) c.0.parts.items) (pool.are.begun part o.0 o.1) tell.whole,
-          );
+      each = λ part below. let c = column part below in (c.0.parts.items, record { count = c.4; each = λ caller. sym (cell_of columns part caller c.0 c.2) ∙ turned part caller }, c.6);
     }
 
     pub seen : IsSeen pool journal back
     seen = record {
       count = tells.0;
-      each = λ part below.
-          let c = column part below in
-          let o = there pool.parts.items part (let a = pool.are.count in omega arith) in
-          let old = there passes part (let a = all.count in omega arith) in
-          let tell = tells.1.each part o.0 c.0 c.1 (let a = tells.0 in omega arith) o.1 c.2 c.3 in (
-            c.1.parts.items,
-            record {
-              count = tell.count ∙ ((rows.each part old.0 c.0 old.1 c.2).2 ∙ ((all.each part old.0 old.1).0.seats.count ∙ (pool.are.count ∙ (sym all.count ∙ sym rows_all.count))));
-              each = λ caller. sym (cell_of told part caller c.1 c.3) ∙ sym (turned_back caller part);
-            },
-            subst (λ (s : PartState ℕ). gathered.IsSeen part_next true pool_releases pool_acquires s (journal_at part journal) c.1.parts.items) (pool.are.begun part o.0 o.1) tell.seen,
-          );
+      each = λ part below. let c = column part below in (c.1.parts.items, record { count = c.5 ∙ (c.4 ∙ sym rows_all.count); each = λ caller. sym (cell_of told part caller c.1 c.3) ∙ sym (turned_back caller part) }, c.7);
     }
 
     pub all_back : AreAllPasses pool back

@@ -5,6 +5,7 @@ use Rattle.std.proofs.lemmas.Bool.{cases_eq}
 use Rattle.std.proofs.lemmas.Option.{slice_get_read, slice_get_within}
 use Rattle.pool_core.specs.declared.pool_event.PoolEvent.{PoolEvent}
 use Rattle.pool_core.specs.declared.pool_event.PoolReply.{PoolReply}
+use Rattle.pool_core.specs.declared.part_core.PartCore.{PartCore}
 use Rattle.pool_core.specs.Edges.{pool_releases, pool_acquires}
 use Rattle.pool_core.specs.PartMachine.{PartState, part_start, part_next}
 use Rattle.ruled_object.specs.declared.object.Object.{Object}
@@ -54,6 +55,11 @@ module _ {N H : Type 0} where
       | inr apart ↦ is.lawful other p (sym (get_other old.parts.items part other q apart) ∙ (ap (λ (l : List (PartPass N)). slice_get l other) (sym items) ∙ at_p))
     ];
   }
+
+-- the pass to one part was used, by its caller
+pub pass_used : {N H : Type 0} (pool : Pool N H) (old new : PoolPass N) (part : ℕ) (o : Object PartCore N (PartState ℕ) (PoolEvent ℕ) (PoolReply ℕ) H) (p q : PartPass N) → IsPassOf pool old → slice_get pool.parts.items part ≡ Some o → slice_get old.parts.items part ≡ Some p → new.number ≡ old.number → new.parts.items ≡ set old.parts.items part q
+    → object.IsPassOf o q → object.number_of q ≡ object.number_of p → growth.IsLawful part_next true pool_releases pool_acquires (part_start (room_of pool)) q → IsPassOf pool new
+pass_used pool old new part o p q is at_o at_p number items of same lawful = pass_set pool old new part q is number items (seats_set pool.parts.items old.number part old.parts.items o p q is.seats at_o at_p of same) lawful
 
 -- what one entry more shows is lawful
 pub lawful_added : {N : Type 0} {start : PartState ℕ} (p q : PartPass N) (e : Made) → object.Adds part_next true pool_releases pool_acquires start p e q → object.number_of q ≡ object.number_of p → growth.IsLawful part_next true pool_releases pool_acquires start q

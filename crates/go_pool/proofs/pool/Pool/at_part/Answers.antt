@@ -5,7 +5,7 @@ use Rattle.protocols.specs.PoolStages.{pool_event, pool_meaning, pool_moment}
 use Rattle.protocols.specs.Spelling.{Spells, AreTimely}
 use Rattle.ruled_object.specs.Growth.{IsLawful}
 use Rattle.running.specs.Calls as running
-use Rattle.go_pool.proofs.Seats.{read_at, seats_set, pass_set}
+use Rattle.go_pool.proofs.Seats.{read_at, pass_used}
 use Rattle.go_pool.proofs.pool.Pool.at_part.Goals as goal
 
 pub call_within-requires-clause-begun : goal.call_within-requires-clause-begun
@@ -29,15 +29,11 @@ call_within-requires-clause-home g c =
 pub returns-clause-pass : goal.returns-clause-pass
 returns-clause-pass g c =
     let pool = c.args.self.now in
-    let pass = c.args.pass.now in
     let o = c.index-object.result.now in
-    let p = c.index_mut-seat.result.now in
-    let q = c.call_within.new.pass in
     let at_o = read_at pool.parts.items pool.callers c.args.part o pool.are.count c.requires.part c.index-object.ensures in
-    let at_p = read_at pass.parts.items pool.callers c.args.part p (c.requires.pass.seats.count ∙ pool.are.count) c.requires.part c.index_mut-seat.ensures.value in
-    let seats = seats_set pool.parts.items pass.number c.args.part pass.parts.items o p q c.requires.pass.seats at_o at_p c.call_within.ensures.pass.0 c.call_within.ensures.pass.1.0 in
-    let lawful = subst (λ (s : PartState ℕ). IsLawful part_next true pool_releases pool_acquires s q) (pool.are.begun c.args.part o at_o) c.call_within.ensures.journal in
-    (pass_set pool pass _ c.args.part q c.requires.pass refl refl seats lawful, (refl, refl))
+    let at_p = read_at c.args.pass.now.parts.items pool.callers c.args.part c.index_mut-seat.result.now (c.requires.pass.seats.count ∙ pool.are.count) c.requires.part c.index_mut-seat.ensures.value in
+    let lawful = subst (λ (s : PartState ℕ). IsLawful part_next true pool_releases pool_acquires s c.call_within.new.pass) (pool.are.begun c.args.part o at_o) c.call_within.ensures.journal in
+    (pass_used pool c.args.pass.now _ c.args.part o c.index_mut-seat.result.now c.call_within.new.pass c.requires.pass at_o at_p refl refl c.call_within.ensures.pass.0 c.call_within.ensures.pass.1.0 lawful, (refl, refl))
 
 pub returns-clause-events : goal.returns-clause-events
 returns-clause-events g c =
