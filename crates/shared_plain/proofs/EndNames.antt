@@ -19,7 +19,8 @@ use Rattle.sync_types.specs.declared.outcome.End.{End}
 use Rattle.sync_types.specs.declared.outcome.End.TheVariants as ends
 use Rattle.sync_types.specs.Ends.{number_end, pair_ends}
 use Rattle.sync_model.specs.SharedHistory.{Contents}
-use Rattle.shared_plain.specs.EndLists.{pair_ends_by, ends_by, HasKeysAmong, AreInNameOrder, by_name, ends_by_name}
+use Rattle.sync_model.specs.EndsOfHistory.{pair_ends_by, ends_by}
+use Rattle.shared_plain.specs.EndLists.{HasKeysAmong, AreInNameOrder, by_name, ends_by_name}
 use Rattle.shared_plain.proofs.EndWalks.{both}
 use Rattle.shared_plain.proofs.SlotMaps.{tie}
 

@@ -1,36 +1,22 @@
--- What a report shows of the maps and atomics when all calls have returned, as a list.
-use Rattle.std.specs.Prelude.{◌≡◌, ℕ, ◌+◌, ◌<◌, List, [], ◌∷◌, ◌++◌, map, Option, Some, None, All, Contains, zip, filter_map, flat_map}
-use Rattle.std.specs.Option.{option_map}
+-- Walks over a map from its least key up, and the ends that a report shows, by the names of the keys.
+use Rattle.std.specs.Prelude.{◌≡◌, ℕ, ◌+◌, ◌<◌, ◌≤◌, List, [], ◌∷◌, map, Option, Some, None, All, Contains, zip}
 use Rattle.std.specs.Ordering.{nat_cmp}
 use Rattle.std.specs.Cmp.Lexicographic.{slice_cmp}
 use Rattle.std.specs.List.Sorted.{IsStrictlySortedBy}
-use Rattle.std.specs.FinMap.{FinMap, entries, from_entries, get}
+use Rattle.std.specs.FinMap.{FinMap, entries, from_entries}
 use Rattle.sync_types.specs.declared.outcome.End.{End}
-use Rattle.sync_types.specs.declared.outcome.End.TheVariants as ends
-use Rattle.sync_types.specs.Ends.{number_end, ends_of}
+use Rattle.sync_types.specs.Ends.{ends_of}
 use Rattle.sync_model.specs.SharedHistory.{Contents, value_at}
-use Rattle.shared_plain.specs.EndsOfHistory.{IsNextPair}
+
+-- the least key of a map that is there and is at least this one, with its value
+abbrev pub IsNextPair : Contents → ℕ → ℕ → Option (ℕ × ℕ) → Type 0
+IsNextPair contents m from (Some (key, value)) = (from ≤ key) × (value_at contents m key ≡ Some value) × ((other : ℕ) → from ≤ other → other < key → value_at contents m other ≡ None)
+IsNextPair contents m from None = (key : ℕ) → from ≤ key → value_at contents m key ≡ None
 
 -- a walk over a map from a key on: each of these pairs is the least behind the one before, and there is no other behind the last
 abbrev pub IsWalk : Contents → ℕ → ℕ → List (ℕ × ℕ) → Type 0
 IsWalk contents m from [] = IsNextPair contents m from None
 IsWalk contents m from (pair ∷ pairs) = IsNextPair contents m from (Some pair) × IsWalk contents m (pair.0 + 1) pairs
-
--- the end that a key of a map is, if the map has it; the map's object has this place
-abbrev pub pair_end : ℕ → FinMap nat_cmp ℕ → ℕ → Option End
-pair_end place m key = option_map (λ value. ends.Pair place key value) (get m key)
-
--- those of these keys that a map has, in this order
-abbrev pub pair_ends_by : List ℕ → ℕ × FinMap nat_cmp ℕ → List End
-pair_ends_by order held = filter_map (pair_end held.0 held.1) order
-
--- first the atomics, whose objects have these places, and then the maps, whose objects have those, each by the same order of the keys
-abbrev pub ends_by : List ℕ → List ℕ → List ℕ → Contents → List End
-ends_by order atomics maps contents = map number_end (zip atomics contents.numbers) ++ flat_map (pair_ends_by order) (zip maps contents.maps)
-
--- each key that a map has is below this number
-abbrev pub HasKeysBelow : ℕ → Contents → Type 0
-HasKeysBelow keys contents = (m key value : ℕ) → value_at contents m key ≡ Some value → key < keys
 
 -- each key that a map has is one of these
 abbrev pub HasKeysAmong : List ℕ → Contents → Type 0

@@ -1,7 +1,6 @@
 pub mod Counting
 pub mod CursorsStand
 pub mod EndLists
-pub mod EndsOfHistory
 pub mod Fits
 pub mod Marks
 pub mod NewCallers

@@ -1,7 +1,7 @@
 //! The list of ends that a report shows.
 ghost use Rattle.std.specs.Prelude.{◌≡◌, ◌+◌, ◌*◌, ◌≤◌, ◌++◌, length, map, zip, flat_map, vec_len, vec_capacity};
 ghost use Rattle.sync_types.specs.Ends.{number_end};
-ghost use Rattle.shared_plain.specs.EndLists.{ends_by, pair_ends_by};
+ghost use Rattle.sync_model.specs.EndsOfHistory.{ends_by, pair_ends_by};
 ghost use Rattle.shared_plain.specs.PlainMachine.{contents_of};
 ghost use Rattle.shared_plain.specs.Slots.{map_of};
 

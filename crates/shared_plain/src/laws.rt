@@ -10,7 +10,8 @@ ghost use Rattle.sync_types.specs.declared.atomic_object.AtomicKind.{AtomicKind}
 ghost use Rattle.sync_model.specs.SharedHistory.{Contents, first_contents, map_at, shared_after, value_at, IsReply, is_entry};
 ghost use Rattle.shared_plain.specs.declared.event.Event.{Event};
 ghost use Rattle.shared_plain.specs.declared.event.Answered.{Answered};
-ghost use Rattle.shared_plain.specs.EndLists.{by_name, ends_by, ends_by_name, AreInNameOrder, HasKeysAmong, IsWalk};
+ghost use Rattle.sync_model.specs.EndsOfHistory.{ends_by};
+ghost use Rattle.shared_plain.specs.EndLists.{by_name, ends_by_name, AreInNameOrder, HasKeysAmong, IsWalk};
 ghost use Rattle.shared_plain.specs.PlainMachine.{Holdings, first_holdings, contents_of, call_of, next};
 
 /// At the start the maps are empty and the atomics are 0, or false.

@@ -13,14 +13,13 @@ use Rattle.table_seats.specs.Layout.{callers_of}
 use Rattle.table_seats.specs.Seats.{EndsAt}
 use Rattle.table_seats.specs.Shape.{start_of}
 use Rattle.table_seats.specs.Views.{held_in}
-use Rattle.table_seats.proofs.Lists.{item_there}
 use Rattle.shared_table.specs.declared.note.SharedNote.{SharedNote}
 use Rattle.shared_table.specs.declared.table.SharedTable.{SharedTable}
-use Rattle.shared_table.specs.EndsOfHistory.{AreEnds}
+use Rattle.sync_model.specs.EndsOfHistory.{AreEnds}
 use Rattle.shared_table.specs.Notes.{own_by, seen_by, IsNoteOf}
 use Rattle.shared_table.specs.Settling.{Gathered}
 use Rattle.shared_table.specs.Tables.{count_of, first_of}
-use Rattle.shared_table.proofs.Settles.{calls_at, calls_past, CountAlone}
+use Rattle.shared_table.proofs.Settles.{item_there, calls_at, calls_past, CountAlone}
 
 module _ (table : SharedTable) (callers : List (Caller SharedNote)) (all : AreAllCallers IsNoteOf own_by table callers (count_of table)) (me : Me (Unit {0}) View) (g : Gathered table callers (length callers) me) (ends : Contents) (at : EndsAt me.0 ends) where
   -- the history has the calls of exactly these callers

@@ -1,6 +1,8 @@
 -- A table's seat that knows, under a lock, that its call is an entry of the history may draft what it adds, and publish it.
 use Rattle.std.proofs.Common.{◌≡◌, ◌≢◌, ◌⊎◌, inl, inr, ℕ, zero, suc, ◌+◌, ◌*◌, ◌^◌, ◌<◌, ◌≤◌, List, [], ◌∷◌, ◌++◌, length, Some, None, slice_index, refl, sym, ap, ◌∙◌, subst, arith, length-append}
+use Rattle.std.proofs.Math.Seq.{get_or-append_seam}
 use Rattle.std.proofs.lemmas.Bool.{cases_eq}
+use Rattle.std.proofs.lemmas.List.{get_or_append_left}
 use Rattle.atomic_table.specs.Table.{Me}
 use Rattle.sync_model.specs.declared.item.Item.{Item}
 use Rattle.sync_model.specs.declared.item.SharedCall.TheVariants as calls
@@ -12,7 +14,7 @@ use Rattle.table_seats.specs.declared.view.Leaf.{Leaf}
 use Rattle.table_seats.specs.declared.view.Lock.{Lock}
 use Rattle.table_seats.specs.declared.view.Own.{Own}
 use Rattle.table_seats.specs.declared.view.View.{View}
-use Rattle.table_seats.specs.KeyCalls.{is_key_entry, key_reply, key_after}
+use Rattle.sync_types.specs.KeyCalls.{is_key_entry, key_reply, key_after}
 use Rattle.trie_nodes.specs.declared.plan.Expansion.{Expansion}
 use Rattle.trie_nodes.specs.declared.slot.Slot.TheVariants.{Node, Entry}
 use Rattle.trie_nodes.specs.Layout.{unit_words}
@@ -26,7 +28,6 @@ use Rattle.table_seats.specs.Shape.{start_of}
 use Rattle.table_seats.specs.Units.{link_at, unit_word}
 use Rattle.table_seats.specs.Views.{held_in, with_item, paid, spend, called_view, view_state}
 use Rattle.table_seats.specs.Writing.{with_word, drafted, HasDraft}
-use Rattle.table_seats.proofs.Drafting.{next_word, other_word}
 
 -- the slot may become empty
 pub may_remove : (k : Begin) (v : View) (call : MapCall ℕ) (m key node level next x : ℕ) → (p : IsPoised k v call m key node level next) → key_after call (leaf_value v.leaf key) ≡ None → HasNoOther v.leaf key → x ≡ 0
@@ -73,8 +74,8 @@ one_drafted first me after n x word d same is x_is =
       words = d.words ++ x ∷ [];
       long = length-append d.words (x ∷ []) ∙ omega arith;
       each = λ i below. elim (cases_eq i n) [
-        | inl last ↦ ap (slice_index (d.words ++ x ∷ [])) (last ∙ sym long) ∙ next_word d.words x ∙ x_is ∙ ap word (sym last)
-        | inr earlier ↦ other_word d.words x i (λ e. earlier (e ∙ long)) ∙ d.each i (omega arith)
+        | inl last ↦ ap (slice_index (d.words ++ x ∷ [])) (last ∙ sym long) ∙ get_or-append_seam d.words x [] 0 ∙ x_is ∙ ap word (sym last)
+        | inr earlier ↦ get_or_append_left d.words (x ∷ []) 0 i (omega arith) ∙ d.each i (omega arith)
       ];
       is = (λ i. (is i, same i)) ∙ ap (λ (m : Me (Unit {0}) View). (drafted m.0 x, m.1)) d.is ∙ ap (λ o. (record first.0 { owns = o }, first.1)) (one_word_more first.0.owns d.words x);
     }

@@ -13,7 +13,7 @@ use Rattle.table_seats.specs.declared.view.Lock.{Lock}
 use Rattle.table_seats.specs.declared.view.Own.{Own}
 use Rattle.table_seats.specs.declared.view.View.{View}
 use Rattle.table_seats.specs.declared.view.Walk.{Walk}
-use Rattle.table_seats.specs.KeyCalls.{is_key_entry, key_reply}
+use Rattle.sync_types.specs.KeyCalls.{is_key_entry, key_reply}
 use Rattle.trie_nodes.specs.declared.slot.Slot.{Slot}
 use Rattle.trie_nodes.specs.declared.slot.Slot.TheVariants.{Empty, Node, Entry}
 use Rattle.trie_nodes.specs.Layout.{unit_words}

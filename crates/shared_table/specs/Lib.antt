@@ -4,5 +4,4 @@ pub mod Settling
 pub mod NewCallers
 pub mod Dealing
 pub mod Counted
-pub mod EndsOfHistory
 pub mod MapCalls

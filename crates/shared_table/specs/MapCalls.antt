@@ -13,7 +13,7 @@ use Rattle.table_seats.specs.declared.view.Own.{Own}
 use Rattle.table_seats.specs.declared.view.View.{View}
 use Rattle.table_seats.specs.declared.view.Walk.{Walk}
 use Rattle.trie_nodes.specs.declared.slot.Slot.{Slot}
-use Rattle.table_seats.specs.KeyCalls.{is_key_entry, key_reply, key_after}
+use Rattle.sync_types.specs.KeyCalls.{is_key_entry, key_reply, key_after}
 use Rattle.table_seats.specs.Making.{leaf_value, IsLockAt, Makes, Sees}
 use Rattle.table_seats.specs.Walking.{standing, walk_at, HasWords, Answers}
 use Rattle.shared_table.specs.declared.changes.Change.{Change}

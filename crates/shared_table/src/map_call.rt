@@ -14,7 +14,7 @@ ghost use Rattle.shared_table.specs.Notes.{front_by, own_by, seen_by, IsNoteOf};
 ghost use Rattle.table_seats.specs.Making.{HasUnit, leaf_value, Made, Publishes, StandsLocked};
 ghost use Rattle.table_seats.specs.Seats.{begin_of, IsSeatOf};
 ghost use Rattle.shared_table.specs.MapCalls.{IsEnd, IsPoised, IsReached, IsSight, IsWriting, MadeLocked, MayHaveMade, StillLocked};
-ghost use Rattle.table_seats.specs.KeyCalls.{key_after};
+ghost use Rattle.sync_types.specs.KeyCalls.{key_after};
 ghost use Rattle.shared_table.specs.Tables.{maps_of, first_of};
 ghost use Rattle.table_seats.specs.Walking.{walk_at, HasWords, Affords, IsFree, OnWay, AtEntry, Answers};
 

@@ -2,7 +2,7 @@
 //! node's lock, then shows it.
 ghost use Rattle.std.specs.Prelude.{◌≡◌, ◌≢◌, ℕ, ◌+◌, ◌*◌, ◌<◌, List, Some, None};
 ghost use Rattle.table_seats.specs.declared.view.Own.{Own};
-ghost use Rattle.table_seats.specs.KeyCalls.{key_after};
+ghost use Rattle.sync_types.specs.KeyCalls.{key_after};
 ghost use Rattle.table_seats.specs.Making.{leaf_value, HasNoOther, Publishes};
 ghost use Rattle.table_seats.specs.Seats.{begin_of, IsSeatOf};
 ghost use Rattle.table_seats.specs.Units.{unit_word};

@@ -22,7 +22,7 @@ use Rattle.table_seats.specs.declared.view.Gate.TheVariants.{Inside, Closed}
 use Rattle.table_seats.specs.declared.view.Own.{Own}
 use Rattle.table_seats.specs.declared.view.View.{View}
 use Rattle.table_seats.specs.Clearing.{HasClosed, Clears}
-use Rattle.table_seats.specs.Keys.{HasKeysBelow}
+use Rattle.sync_model.specs.EndsOfHistory.{HasKeysBelow}
 use Rattle.table_seats.specs.Laws.{HistoryLaws}
 use Rattle.trie_nodes.specs.Layout.{unit_words}
 use Rattle.table_seats.specs.Layout.{root_word, callers_of}

@@ -25,7 +25,7 @@ use Rattle.trie_nodes.specs.Walks.{ShowsMap, ArePairsOf}
 use Rattle.table_ends.specs.EndWords.{root_in, pairs_in, map_in, number_of, contents_in, IsTableRow}
 use Rattle.table_seats.specs.declared.begin.Begin.{Begin}
 use Rattle.table_seats.specs.EndLaws.{EndLaws}
-use Rattle.table_seats.specs.Keys.{HasKeysBelow}
+use Rattle.sync_model.specs.EndsOfHistory.{HasKeysBelow}
 use Rattle.table_seats.specs.Laws.{HistoryLaws}
 use Rattle.table_seats.specs.Layout.{IsBegin}
 use Rattle.table_seats.specs.Shape.{Shape, start_of, held_at, till, time, IsBelow, Fine}

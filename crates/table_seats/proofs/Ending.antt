@@ -7,7 +7,7 @@ use Rattle.table_ends.specs.EndWords.{contents_in}
 use Rattle.table_seats.specs.declared.begin.Begin.{Begin}
 use Rattle.table_seats.specs.declared.view.View.{View}
 use Rattle.table_seats.specs.EndLaws.{EndLaws}
-use Rattle.table_seats.specs.Keys.{HasKeysBelow}
+use Rattle.sync_model.specs.EndsOfHistory.{HasKeysBelow}
 use Rattle.table_seats.specs.Laws.{HistoryLaws}
 use Rattle.table_seats.specs.Rule.{TableState, Kept}
 use Rattle.table_seats.specs.Seats.{EndsAt}

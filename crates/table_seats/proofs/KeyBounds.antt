@@ -17,7 +17,7 @@ use Rattle.sync_types.specs.declared.map_object.MapCall.TheVariants.{Load, Store
 use Rattle.sync_types.specs.SequentialMap.{is_value, map_key, map_after}
 use Rattle.sync_model.specs.SharedHistory.{Contents, map_at, contents_after, shared_after, is_entry, with_call}
 use Rattle.table_seats.specs.declared.begin.Begin.{Begin}
-use Rattle.table_seats.specs.Keys.{HasKeysBelow}
+use Rattle.sync_model.specs.EndsOfHistory.{HasKeysBelow}
 use Rattle.table_seats.specs.Laws.{HistoryLaws}
 use Rattle.table_seats.specs.Shape.{start_of}
 use Rattle.table_seats.proofs.Ledgers.{contents_on}

@@ -18,9 +18,12 @@ pub mod Operating
 pub mod Operated
 pub mod Seats
 pub mod Joining
+pub mod Stepping
 pub mod FirstWords
 pub mod Looking
 pub mod Quiet
+pub mod Placing
+pub mod Placed
 pub mod Lookups
 pub mod Reading
 pub mod Outside

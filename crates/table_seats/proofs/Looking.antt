@@ -15,7 +15,7 @@ use Rattle.table_seats.specs.Rule.{TableState, Kept}
 use Rattle.table_seats.specs.Shape.{start_of}
 use Rattle.table_seats.specs.Views.{Looks}
 use Rattle.table_seats.proofs.Ledgers.{longer}
-use Rattle.table_seats.proofs.Lists.{each_after}
+use Rattle.table_seats.proofs.Moves.{with_view}
 
 -- the seat has seen all of the history
 module _ (k : Begin) (laws : HistoryLaws) (s : TableState) (r : Kept k s) (id : ℕ) (v : View) (at_me : get_elem? s.views id ≡ some v) (live : v.live ≡ true) where
@@ -44,20 +44,7 @@ module _ (k : Begin) (laws : HistoryLaws) (s : TableState) (r : Kept k s) (id : 
   }
 
   pub kept_seen : Kept k record { words = s.words; homes = s.homes; views = set s.views id (record v { seen = r.log }) }
-  kept_seen = record {
-    log = r.log;
-    calls = r.calls;
-    claim = r.claim;
-    shape = r.shape;
-    begin = r.begin;
-    lawful = r.lawful;
-    none_else = r.none_else;
-    keys = r.keys;
-    fine = r.fine;
-    gates = r.gates;
-    fits = each_after (λ j u. u.live ≡ true → Fits (callers_of k) r.log r.calls r.claim j u) s.views id (record v { seen = r.log }) (λ live. fits_seen) (λ j u other at. r.fits j u at);
-    suits = each_after (λ j u. u.live ≡ true → Suits k r.shape r.log r.calls s.words u) s.views id (record v { seen = r.log }) (λ live. suits_seen) (λ j u other at. r.suits j u at);
-  }
+  kept_seen = with_view k s r id (record v { seen = r.log }) fits_seen suits_seen
 
 -- what it then knows
 pub looked : (k : Begin) (s : TableState) (r : Kept k s) (id : ℕ) (v : View) → get_elem? s.views id ≡ some v → v.live ≡ true → v.begin ≡ k → Looks v (record v { seen = r.log })

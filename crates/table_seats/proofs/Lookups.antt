@@ -16,7 +16,7 @@ use Rattle.table_seats.specs.declared.view.Leaf.{Leaf}
 use Rattle.table_seats.specs.declared.view.Own.{Own}
 use Rattle.table_seats.specs.declared.view.View.{View}
 use Rattle.table_seats.specs.declared.view.Walk.{Walk}
-use Rattle.table_seats.specs.KeyCalls.{is_key_entry, key_reply}
+use Rattle.sync_types.specs.KeyCalls.{is_key_entry, key_reply}
 use Rattle.table_seats.specs.Laws.{HistoryLaws}
 use Rattle.trie_nodes.specs.declared.slot.Slot.{Slot}
 use Rattle.trie_nodes.specs.declared.slot.Slot.TheVariants.{Empty, Node, Entry}
@@ -30,9 +30,10 @@ use Rattle.table_seats.specs.Rule.{TableState, Kept}
 use Rattle.table_seats.specs.Shape.{start_of, held_at, till, time, IsBelow}
 use Rattle.table_seats.specs.Views.{MayPay}
 use Rattle.table_seats.specs.Walking.{standing, walk_at, HasWords, Enters, Answers, IsAlong, FindsIn, LooksIn, Affords, ReadsKey, KeepsValue, ReadsValue}
-use Rattle.table_seats.proofs.KeyCalls.{IsOn, replies_by, entries_by}
+use Rattle.table_seats.proofs.KeyCalls.{IsOn}
 use Rattle.table_seats.proofs.Ledgers.{longer}
-use Rattle.table_seats.proofs.Quiet.{kept_standing, view_after, kept_quiet, answers}
+use Rattle.table_seats.proofs.Placed.{view_after, kept_quiet, answers}
+use Rattle.table_seats.proofs.Quiet.{kept_standing}
 
 -- the words of a table have small numbers
 size_small : (k : Begin) → IsBegin k → size_of k < 2 ^ 32
@@ -109,10 +110,10 @@ module _ (k : Begin) (laws : HistoryLaws) (id : ℕ) (me : Me (Unit {0}) View) (
 
   -- a call is answered by what its key has
   reply_is : (held : Option ℕ) → held_now ≡ held → IsReply (calls.Map w.map call) (replies.Map (key_reply call held)) (contents_at (start_of k) r.log (time r.shape r.log w.node))
-  reply_is held e = ap (λ x. replies.Map x) (ap (key_reply call) (sym (is_held held e)) ∙ sym (replies_by call w.key (map_at (contents_at (start_of k) r.log until) w.map) on))
+  reply_is held e = ap (λ x. replies.Map x) (ap (key_reply call) (sym (is_held held e)) ∙ sym (laws.keys.replies call w.key (map_at (contents_at (start_of k) r.log until) w.map) on))
 
   quiet : (held : Option ℕ) → held_now ≡ held → is_key_entry call held ≡ false → false ≡ is_entry (calls.Map w.map call) (contents_at (start_of k) r.log (time r.shape r.log w.node))
-  quiet held e off = sym off ∙ ap (is_key_entry call) (sym (is_held held e)) ∙ sym (entries_by call w.key (map_at (contents_at (start_of k) r.log until) w.map) on)
+  quiet held e off = sym off ∙ ap (is_key_entry call) (sym (is_held held e)) ∙ sym (laws.keys.entries call w.key (map_at (contents_at (start_of k) r.log until) w.map) on)
 
   -- the call isn't placed yet, or is answered
   abbrev Ends : Option ℕ → Option Leaf → Bool → View → Type 0

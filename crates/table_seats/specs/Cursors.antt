@@ -18,7 +18,7 @@ use Rattle.trie_nodes.specs.declared.slot.Slot.{Slot}
 use Rattle.trie_nodes.specs.declared.slot.Slot.TheVariants.{Empty, Node, Entry}
 use Rattle.trie_nodes.specs.Places.{bump, but_last}
 use Rattle.table_seats.specs.Shape.{start_of}
-use Rattle.table_seats.specs.Views.{made_by, with_item, called_view, view_state}
+use Rattle.table_seats.specs.Views.{made_by, copied, with_item, called_view, view_state}
 use Rattle.table_seats.specs.Walking.{HasWords}
 
 -- the view of a seat whose cursor stands here, and that knows this entry
@@ -109,4 +109,4 @@ abbrev pub unmounted : View → View
 unmounted v = record v { spot = None }
 
 abbrev pub cursor_seat : View → View
-cursor_seat v = record v { heard = []; owns = [] }
+cursor_seat = copied

@@ -2,7 +2,6 @@ pub mod Laws
 pub mod TrieLaws
 pub mod EndLaws
 pub mod SweepLaws
-pub mod Keys
 pub mod Layout
 pub mod Ledger
 pub mod Shape
@@ -12,7 +11,6 @@ pub mod Owed
 pub mod Rule
 pub mod Views
 pub mod Seats
-pub mod KeyCalls
 pub mod Blank
 pub mod Operations
 pub mod WordSteps

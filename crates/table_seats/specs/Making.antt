@@ -23,7 +23,7 @@ use Rattle.trie_nodes.specs.Layout.{unit_words}
 use Rattle.trie_nodes.specs.Paths.{nibble, route}
 use Rattle.trie_nodes.specs.Plans.{IsExpansion}
 use Rattle.trie_nodes.specs.Slots.{word_of_slot, slot_in}
-use Rattle.table_seats.specs.KeyCalls.{is_key_entry, key_reply, key_after}
+use Rattle.sync_types.specs.KeyCalls.{is_key_entry, key_reply, key_after}
 use Rattle.table_seats.specs.Layout.{size_of}
 use Rattle.table_seats.specs.Shape.{start_of}
 use Rattle.table_seats.specs.Units.{link_at, unit_word}

@@ -9,7 +9,7 @@ use Rattle.sync_model.specs.SharedCalls.{Lawful}
 use Rattle.sync_model.specs.SharedHistory.{contents_after}
 use Rattle.table_seats.specs.declared.begin.Begin.{Begin}
 use Rattle.table_seats.specs.declared.view.View.{View}
-use Rattle.table_seats.specs.Keys.{HasKeysBelow}
+use Rattle.sync_model.specs.EndsOfHistory.{HasKeysBelow}
 use Rattle.table_seats.specs.Layout.{callers_of, IsBegin}
 use Rattle.table_seats.specs.Ledger.{Fits}
 use Rattle.table_seats.specs.Shape.{Shape, start_of, Fine}

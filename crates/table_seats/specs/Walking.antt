@@ -16,7 +16,7 @@ use Rattle.trie_nodes.specs.declared.slot.Slot.{Slot}
 use Rattle.trie_nodes.specs.declared.slot.Slot.TheVariants.{Empty, Node, Entry}
 use Rattle.table_seats.specs.declared.begin.Begin.{Begin}
 use Rattle.trie_nodes.specs.Paths.{route}
-use Rattle.table_seats.specs.KeyCalls.{is_key_entry, key_reply}
+use Rattle.sync_types.specs.KeyCalls.{is_key_entry, key_reply}
 use Rattle.table_seats.specs.Layout.{size_of}
 use Rattle.table_seats.specs.Shape.{start_of}
 use Rattle.table_seats.specs.Views.{with_item, paid, MayPay, called_view, view_state, IsIdle}

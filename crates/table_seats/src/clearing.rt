@@ -76,7 +76,7 @@ impl TableWords {
         ensures closed { MatchBool result (seat.new.me.0 ≡ holding seat.old.me.0 (Closed map false) None None) (seat.new.me.0 ≡ seat.old.me.0) }
     {
         history_laws();
-        let word = 2 + self.begin.kinds.len() + 2 * map as usize;
+        let word = self.gate_word(map);
         let shared = &self.table.shared;
         let writers = shared.peek(word);
         if writers >= CLOSED {
@@ -108,7 +108,7 @@ impl TableWords {
         ensures alone { MatchBool result (seat.new.me.0 ≡ holding seat.old.me.0 (Closed map true) None None) (seat.new.me.0 ≡ seat.old.me.0) }
     {
         history_laws();
-        let word = 2 + self.begin.kinds.len() + 2 * map as usize;
+        let word = self.gate_word(map);
         self.table.shared.load::<LookInside<W>>(seat, word) == CLOSED
     }
 
@@ -135,7 +135,7 @@ impl TableWords {
         ensures cleared { Clears map seat.old.me seat.new.me }
     {
         history_laws();
-        let word = 1 + self.begin.kinds.len() + 2 * map as usize;
+        let word = self.root_word(map);
         self.table.shared.store::<WriteRoot<W>>(seat, word, next);
     }
 
@@ -149,7 +149,7 @@ impl TableWords {
         ensures room { HasRoomWithin seat.old.me.0 }
     {
         history_laws();
-        let word = 2 + self.begin.kinds.len() + 2 * map as usize;
+        let word = self.gate_word(map);
         self.table.shared.store::<Open>(seat, word, 0);
     }
 }

@@ -93,7 +93,7 @@ impl TableWords {
     {
         history_laws();
         sweep_laws();
-        let word = 1 + self.begin.kinds.len() + 2 * map as usize;
+        let word = self.root_word(map);
         self.table.shared.load::<BeginCursor<W>>(seat, word)
     }
 

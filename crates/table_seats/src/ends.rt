@@ -3,7 +3,7 @@ ghost use Rattle.std.specs.Prelude.{◌≡◌, ◌^◌, ◌<◌, true, length, m
 ghost use Rattle.sync_types.specs.SequentialAtomic.{kind_of};
 ghost use Rattle.table_ends.specs.EndContents.{contents_of};
 ghost use Rattle.table_seats.specs.EndLaws.{EndLaws};
-ghost use Rattle.table_seats.specs.Keys.{HasKeysBelow};
+ghost use Rattle.sync_model.specs.EndsOfHistory.{HasKeysBelow};
 ghost use Rattle.table_seats.specs.Seats.{begin_of, EndsAt, IsSeatOf};
 
 use crate::begin::Begin;

@@ -10,6 +10,7 @@ mod ends;
 mod laws;
 mod lookup;
 mod making;
+mod map_words;
 mod new;
 mod operations;
 mod publish;

@@ -95,7 +95,7 @@ impl TableWords {
         ensures inside { MatchBool result (seat.new.me.0 ≡ holding seat.old.me.0 (Inside map) None None) (seat.new.me.0 ≡ seat.old.me.0) }
     {
         history_laws();
-        let word = 2 + self.begin.kinds.len() + 2 * map as usize;
+        let word = self.gate_word(map);
         let shared = &self.table.shared;
         let writers = shared.peek(word);
         if writers >= DEAD {
@@ -197,7 +197,7 @@ impl TableWords {
         ensures room { HasRoomWithin seat.old.me.0 }
     {
         history_laws();
-        let word = 2 + self.begin.kinds.len() + 2 * map as usize;
+        let word = self.gate_word(map);
         self.table.shared.fetch_sub::<GoOut>(seat, word, 1);
     }
 

@@ -2,7 +2,7 @@
 ghost use Rattle.std.specs.Prelude.{◌≡◌, ◌+◌, ◌*◌, ◌≤◌, [], length, vec_capacity, IfOk};
 ghost use Rattle.workload.specs.Keys.{keys_in};
 ghost use Rattle.run_record.specs.Objects.{ends_in};
-ghost use Rattle.shared_plain.specs.EndLists.{HasKeysBelow};
+ghost use Rattle.sync_model.specs.EndsOfHistory.{HasKeysBelow};
 ghost use Rattle.shared_plain.specs.PlainMachine.{contents_of};
 ghost use Rattle.thread_runner.specs.EndsPlans.{IsEndsPlan};
 
