@@ -1,5 +1,5 @@
 -- Slots are the finite map whose keys are the slots' numbers.
-use Rattle.std.proofs.Common.{◌≡◌, ◌≢◌, ℕ, zero, suc, ◌+◌, ◌<◌, Bool, true, false, cond, eqb, eq-eqb, ne_eqb, List, [], ◌∷◌, length, get_or, set, replicate, slice_get, Option, Some, None, is_some, refl, sym, ap, ◌∙◌, subst, arith, get_or-set_same, get_or-set_other}
+use Rattle.std.proofs.Common.{◌≡◌, ℕ, zero, suc, ◌+◌, ◌<◌, Bool, true, false, cond, eqb, eq-eqb, ne_eqb, List, [], ◌∷◌, length, get_or, set, replicate, slice_get, Option, Some, None, is_some, refl, sym, ap, ◌∙◌, arith, get_or-set_same, get_or-set_other}
 use Rattle.std.proofs.lemmas.Option.{slice_get-get_or, slice_get_within, get_or_from_slice_get}
 use Rattle.std.specs.Option.{option_map_or}
 use Rattle.std.specs.Prelude.{nat_lt}
@@ -7,10 +7,8 @@ use Rattle.std.proofs.lemmas.Bool.{ltb-true, lt-ltb}
 use Rattle.std.proofs.lemmas.List.{set-get_or}
 use mathlib.Core.Logic.{dite}
 use native.Mathlib.Decide.{ℕ_discrete}
-use Rattle.std.specs.declared.cmp.Ordering.{Ordering}
-use Rattle.std.specs.declared.cmp.Ordering.TheVariants.{Less, Equal, Greater}
-use Rattle.std.specs.Ordering.{nat_cmp, eq_by_cmp, is_eq}
-use Rattle.std.specs.Cmp.{tied_itself, nat_cmp_total}
+use Rattle.std.specs.Ordering.{nat_cmp}
+use Rattle.std.specs.Cmp.{nat_cmp_total, unsigned_tied}
 use Rattle.std.specs.FinMap.{FinMap, empty, get, insert, remove, get-empty, get-insert, get-remove, same_map, nat_cmp-IsAntisymmetric}
 use Rattle.sync_types.specs.declared.map_object.MapCall.{MapCall}
 use Rattle.sync_types.specs.declared.map_object.MapCall.TheVariants.{Load, Store, LoadOrStore, LoadAndDelete, Delete, Swap, CompareAndSwap, CompareAndDelete, Clear}
@@ -25,22 +23,11 @@ use Rattle.shared_plain.specs.Slots.{map_from, map_of, keyed_after, slots_at, sl
 use Rattle.shared_plain.specs.declared.event.Answered.{Answered}
 use Rattle.shared_plain.specs.PlainMachine.{map_answer}
 
-apart : (r : Ordering) (q k : ℕ) → nat_cmp q k ≡ r → q ≢ k → is_eq r ≡ false
-apart Less q k e ne = refl
-apart Equal q k e ne = absurd (ne (nat_cmp-IsAntisymmetric q k e))
-apart Greater q k e ne = refl
-
--- keys tie where they are equal
-pub tie : (q k : ℕ) → eq_by_cmp nat_cmp q k ≡ eqb q k
-tie q k = dite (ℕ_discrete q k)
-    (λ is. subst (λ (j : ℕ). eq_by_cmp nat_cmp q j ≡ true) is (ap is_eq (tied_itself nat_cmp_total q)) ∙ sym (eq-eqb q k is))
-    (λ ne. apart (nat_cmp q k) q k refl ne ∙ sym (ne_eqb q k ne))
-
 inserted : (m : FinMap nat_cmp ℕ) (k v q : ℕ) → get (insert m k v) q ≡ cond (eqb q k) (Some v) (get m q)
-inserted m k v q = get-insert nat_cmp_total m k v q ∙ ap (λ (b : Bool). cond b (Some v) (get m q)) (tie q k)
+inserted m k v q = get-insert nat_cmp_total m k v q ∙ ap (λ (b : Bool). cond b (Some v) (get m q)) (unsigned_tied q k)
 
 removed : (m : FinMap nat_cmp ℕ) (k q : ℕ) → get (remove m k) q ≡ cond (eqb q k) None (get m q)
-removed m k q = get-remove nat_cmp_total m k q ∙ ap (λ (b : Bool). cond b None (get m q)) (tie q k)
+removed m k q = get-remove nat_cmp_total m k q ∙ ap (λ (b : Bool). cond b None (get m q)) (unsigned_tied q k)
 
 -- no key below the first has a value
 below_first : (n : ℕ) (slots : List (Option ℕ)) (q : ℕ) → q < n → get (map_from n slots) q ≡ None

@@ -1,7 +1,6 @@
 //! One map, with a slot for each of its keys.
 ghost use Rattle.std.specs.Prelude.{◌≡◌, replicate, IfOk, None};
 ghost use Rattle.std.specs.FinMap.{get};
-ghost use Rattle.sync_types.specs.SequentialMap.{settled};
 ghost use Rattle.sync_model.specs.declared.item.SharedReply.TheVariants as replies;
 ghost use Rattle.sync_types.specs.KeyCalls.{key_reply, is_key_entry, key_after};
 ghost use Rattle.shared_plain.specs.Slots.{map_of, slots_after, next_pair};
@@ -12,6 +11,7 @@ use std::alloc::{AllocError, Global};
 use std::marker::Model;
 use sync_model::SharedReply;
 use sync_types::laws::maps::its_key_decides_a_call;
+use sync_types::map_object::settled;
 use sync_types::{MapCall, MapReply};
 
 /// A map whose keys are the numbers below a limit. Contracts see a list with each key's value, if it has one.
@@ -135,21 +135,5 @@ fn apply_at(slot: &mut Option<u64>, call: MapCall<u32>) -> Answered
     Answered {
         reply: SharedReply::Map(reply),
         entry,
-    }
-}
-
-// What `LoadOrStore` answers of a key where this was the value before.
-fn settled(before: Option<u64>, value: u64) -> MapReply
-    ensures { result ≡ settled before value }
-{
-    match before {
-        None => MapReply::Settled {
-            value,
-            loaded: false,
-        },
-        Some(value) => MapReply::Settled {
-            value,
-            loaded: true,
-        },
     }
 }

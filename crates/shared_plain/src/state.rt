@@ -2,7 +2,7 @@
 ghost use Rattle.std.specs.Prelude.{◌≡◌, ℕ, ◌<◌, false, length, map, replicate, slice_get, IfOk, None};
 ghost use Rattle.sync_types.specs.declared.atomic_object.Number.{Number};
 ghost use Rattle.sync_types.specs.SequentialAtomic.{zero_of, is_of, has_bits, is_atomic_call, is_atomic_entry, atomic_reply};
-ghost use Rattle.shared_plain.specs.EndLists.{IsNextPair};
+ghost use Rattle.shared_plain.specs.MapWalks.{IsNextPair};
 ghost use Rattle.shared_plain.specs.PlainMachine.{contents_of, first_holdings, next, atomic_answer, number_after};
 
 use crate::event::{Answered, Event};

@@ -8,11 +8,11 @@ use Rattle.sync_model.specs.declared.caller.Caller.{Caller}
 use Rattle.sync_model.specs.Shared.{items_of, AreAllCallers, calls_of}
 use Rattle.sync_model.specs.SharedCalls.{Lawful}
 use Rattle.sync_model.specs.SharedHistory.{Contents, contents_after}
-use Rattle.table_seats.specs.declared.view.View.{View}
-use Rattle.table_seats.specs.Layout.{callers_of}
+use Rattle.table_rule.specs.declared.view.View.{View}
+use Rattle.table_rule.specs.Layout.{callers_of}
 use Rattle.table_seats.specs.Seats.{EndsAt}
-use Rattle.table_seats.specs.Shape.{start_of}
-use Rattle.table_seats.specs.Views.{held_in}
+use Rattle.table_rule.specs.Shape.{start_of}
+use Rattle.table_rule.specs.Views.{held_in}
 use Rattle.shared_table.specs.declared.note.SharedNote.{SharedNote}
 use Rattle.shared_table.specs.declared.table.SharedTable.{SharedTable}
 use Rattle.sync_model.specs.EndsOfHistory.{AreEnds}

@@ -9,16 +9,16 @@ use Rattle.atomic_table.specs.Table.{Me}
 use Rattle.sync_model.specs.declared.caller.Caller.{Caller}
 use Rattle.sync_model.specs.Note.{IsCounted}
 use Rattle.trie_nodes.specs.Layout.{unit_words}
-use Rattle.table_seats.specs.declared.begin.Begin.{Begin}
+use Rattle.table_rule.specs.declared.begin.Begin.{Begin}
 use Rattle.table_seats.specs.Seats.{IsSeatOf, begin_of}
 use Rattle.shared_table.specs.declared.note.SharedNote.{SharedNote}
 use Rattle.shared_table.specs.declared.table.SharedTable.{SharedTable}
-use Rattle.table_seats.specs.declared.view.Own.{Own}
-use Rattle.table_seats.specs.declared.view.View.{View}
+use Rattle.table_rule.specs.declared.view.Own.{Own}
+use Rattle.table_rule.specs.declared.view.View.{View}
 use Rattle.shared_table.specs.Dealing.{left_view, IsNewCaller}
-use Rattle.table_seats.specs.Layout.{callers_of, size_of, IsBegin}
+use Rattle.table_rule.specs.Layout.{callers_of, size_of, IsBegin}
 use Rattle.shared_table.specs.NewCallers.{AreNewCallers}
-use Rattle.table_seats.specs.Views.{held_in, next_in, spare_in, new_owns, first_view, dealt, kept, others_of, first_of, IsIdle}
+use Rattle.table_rule.specs.Views.{held_in, next_in, spare_in, new_owns, first_view, dealt, kept, others_of, first_of, IsIdle}
 
 -- a list of zeros has 0 at each place, and beyond its end
 none_known : (n c : ℕ) → slice_index (replicate n 0) c ≡ 0

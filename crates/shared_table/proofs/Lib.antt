@@ -8,3 +8,9 @@ pub mod FirstCallers
 pub mod Noting
 pub mod Settles
 pub mod Endings
+pub mod Ranges
+pub mod Ranged
+pub mod CursorBegins
+pub mod CursorNexts
+pub mod CursorNotes
+pub mod Prunings

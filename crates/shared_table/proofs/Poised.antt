@@ -9,11 +9,11 @@ use Rattle.sync_model.specs.declared.item.SharedCall.TheVariants as calls
 use Rattle.sync_model.specs.declared.item.SharedReply.TheVariants as replies
 use Rattle.sync_types.specs.declared.map_object.MapCall.{MapCall}
 use Rattle.sync_model.specs.Shared.{Called, cost_of}
-use Rattle.table_seats.specs.declared.begin.Begin.{Begin}
-use Rattle.table_seats.specs.declared.view.Leaf.{Leaf}
-use Rattle.table_seats.specs.declared.view.Lock.{Lock}
-use Rattle.table_seats.specs.declared.view.Own.{Own}
-use Rattle.table_seats.specs.declared.view.View.{View}
+use Rattle.table_rule.specs.declared.begin.Begin.{Begin}
+use Rattle.table_rule.specs.declared.view.Leaf.{Leaf}
+use Rattle.table_rule.specs.declared.view.Lock.{Lock}
+use Rattle.table_rule.specs.declared.view.Own.{Own}
+use Rattle.table_rule.specs.declared.view.View.{View}
 use Rattle.sync_types.specs.KeyCalls.{is_key_entry, key_reply, key_after}
 use Rattle.trie_nodes.specs.declared.plan.Expansion.{Expansion}
 use Rattle.trie_nodes.specs.declared.slot.Slot.TheVariants.{Node, Entry}
@@ -21,12 +21,12 @@ use Rattle.trie_nodes.specs.Layout.{unit_words}
 use Rattle.trie_nodes.specs.Paths.{route}
 use Rattle.trie_nodes.specs.Plans.{IsExpansion}
 use Rattle.trie_nodes.specs.Slots.{word_of_slot}
-use Rattle.table_seats.specs.Layout.{size_of}
+use Rattle.table_rule.specs.Layout.{size_of}
 use Rattle.table_seats.specs.Making.{leaf_value, Sees, HasNoOther, Removes, Stores, Expands, MayPublish, bare, Publishes, IsLockAt}
 use Rattle.shared_table.specs.MapCalls.{IsPoised, with_draft, Drafted}
-use Rattle.table_seats.specs.Shape.{start_of}
+use Rattle.table_rule.specs.Shape.{start_of}
 use Rattle.table_seats.specs.Units.{link_at, unit_word}
-use Rattle.table_seats.specs.Views.{held_in, with_item, paid, spend, called_view, view_state}
+use Rattle.table_rule.specs.Views.{held_in, with_item, paid, spend, called_view, view_state}
 use Rattle.table_seats.specs.Writing.{with_word, drafted, HasDraft}
 
 -- the slot may become empty

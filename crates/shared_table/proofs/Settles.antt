@@ -16,15 +16,15 @@ use Rattle.sync_model.specs.SharedHistory.{Contents}
 use Rattle.table_seats.specs.Seats.{IsSeatOf}
 use Rattle.shared_table.specs.declared.note.SharedNote.{SharedNote}
 use Rattle.shared_table.specs.declared.table.SharedTable.{SharedTable}
-use Rattle.table_seats.specs.declared.view.Own.{Own}
-use Rattle.table_seats.specs.declared.view.View.{View}
-use Rattle.table_seats.specs.Layout.{callers_of}
+use Rattle.table_rule.specs.declared.view.Own.{Own}
+use Rattle.table_rule.specs.declared.view.View.{View}
+use Rattle.table_rule.specs.Layout.{callers_of}
 use Rattle.shared_table.specs.Notes.{front_by, own_by, seen_by, IsNoteOf}
 use Rattle.shared_table.specs.Settling.{IsSameCaller, AreSameCallers, Gathered, after_first, MayTake, IsBack}
-use Rattle.table_seats.specs.Shape.{start_of}
+use Rattle.table_rule.specs.Shape.{start_of}
 use Rattle.shared_table.specs.Tables.{count_of, first_of}
-use Rattle.table_seats.specs.Views.{held_in, next_in, spare_in, copied, dealt, joined, most, IsIdle, Looks}
-use Rattle.table_seats.specs.Views as views
+use Rattle.table_rule.specs.Views.{held_in, next_in, spare_in, copied, dealt, joined, most, IsIdle, Looks}
+use Rattle.table_rule.specs.Views as views
 
 module _ {A : Type 0} where
   pub item_there : (xs : List A) (i : ℕ) → i < length xs → (x : A) × (slice_get xs i ≡ Some x)

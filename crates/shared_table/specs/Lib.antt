@@ -5,3 +5,6 @@ pub mod NewCallers
 pub mod Dealing
 pub mod Counted
 pub mod MapCalls
+pub mod Ranging
+pub mod CursorStays
+pub mod Pruning

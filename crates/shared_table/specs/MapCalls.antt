@@ -5,13 +5,13 @@ use Rattle.sync_types.specs.declared.map_object.MapCall.{MapCall}
 use Rattle.sync_types.specs.declared.map_object.MapReply.{MapReply}
 use Rattle.sync_types.specs.SequentialMap.{map_key}
 use Rattle.sync_model.specs.Shared.{cost_of}
-use Rattle.table_seats.specs.declared.begin.Begin.{Begin}
-use Rattle.table_seats.specs.declared.view.Gate.TheVariants.{Inside}
-use Rattle.table_seats.specs.declared.view.Leaf.{Leaf}
-use Rattle.table_seats.specs.declared.view.Lock.{Lock}
-use Rattle.table_seats.specs.declared.view.Own.{Own}
-use Rattle.table_seats.specs.declared.view.View.{View}
-use Rattle.table_seats.specs.declared.view.Walk.{Walk}
+use Rattle.table_rule.specs.declared.begin.Begin.{Begin}
+use Rattle.table_rule.specs.declared.view.Gate.TheVariants.{Inside}
+use Rattle.table_rule.specs.declared.view.Leaf.{Leaf}
+use Rattle.table_rule.specs.declared.view.Lock.{Lock}
+use Rattle.table_rule.specs.declared.view.Own.{Own}
+use Rattle.table_rule.specs.declared.view.View.{View}
+use Rattle.table_rule.specs.declared.view.Walk.{Walk}
 use Rattle.trie_nodes.specs.declared.slot.Slot.{Slot}
 use Rattle.sync_types.specs.KeyCalls.{is_key_entry, key_reply, key_after}
 use Rattle.table_seats.specs.Making.{leaf_value, IsLockAt, Makes, Sees}
@@ -75,17 +75,18 @@ pub record IsPoisedAt (k : Begin) (call : MapCall ℕ) (m key node level next : 
   pub places : (e : Leaf) → leaf ≡ Some e → HasWords w e.place 2
 
 -- a seat made its call under the lock of a node, which it holds still
-pub record MadeLocked (m : ℕ) (call : MapCall ℕ) (node : ℕ) (reply : MapReply) (v w : View) : Type 0 where
+pub record MadeLocked (m : ℕ) (call : MapCall ℕ) (key node level : ℕ) (reply : MapReply) (v w : View) : Type 0 where
   pub leaf : Option Leaf
   pub lock : Lock
-  pub node_is : lock.node ≡ node
+  pub at : IsLockAt lock key node level
+  pub fresh : lock.empty ≡ 0
   pub living : lock.dead ≡ false
   pub makes : Makes m call reply leaf (Some lock) v w
 
 -- what a seat saw under a lock: the slot has become a node; or it has this, and the call is answered, or is an entry of the history
 abbrev pub IsSight : Begin → MapCall ℕ → ℕ → ℕ → ℕ → ℕ → ℕ → Sight → View → View → Type 0
 IsSight k call m key node level next Below v w = StillLocked node v w
-IsSight k call m key node level next (Shows leaf) v w = MatchBool (is_key_entry call (leaf_value leaf key)) (IsPoisedAt k call m key node level next leaf v w) (MadeLocked m call node (key_reply call (leaf_value leaf key)) v w)
+IsSight k call m key node level next (Shows leaf) v w = MatchBool (is_key_entry call (leaf_value leaf key)) (IsPoisedAt k call m key node level next leaf v w) (MadeLocked m call key node level (key_reply call (leaf_value leaf key)) v w)
 
 -- a writer of a map that holds no lock, and knows no entry
 pub record IsWriting (k : Begin) (me : Me (Unit {0}) View) (m : ℕ) : Type 0 where

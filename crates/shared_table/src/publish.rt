@@ -1,7 +1,7 @@
 //! What a call that changes a map adds. It is drafted in its caller's room, where nobody sees it. One write to a slot, under its
 //! node's lock, then shows it.
 ghost use Rattle.std.specs.Prelude.{◌≡◌, ◌≢◌, ℕ, ◌+◌, ◌*◌, ◌<◌, List, Some, None};
-ghost use Rattle.table_seats.specs.declared.view.Own.{Own};
+ghost use Rattle.table_rule.specs.declared.view.Own.{Own};
 ghost use Rattle.sync_types.specs.KeyCalls.{key_after};
 ghost use Rattle.table_seats.specs.Making.{leaf_value, HasNoOther, Publishes};
 ghost use Rattle.table_seats.specs.Seats.{begin_of, IsSeatOf};

@@ -2,12 +2,12 @@
 use Rattle.std.proofs.Common.{◌≡◌, ℕ, ◌+◌, ◌^◌, ◌<◌, ◌==◌, true, false, sym, subst, arith}
 use prog.Atomic.{either}
 use Rattle.atomic_table.specs.Table.{Me}
-use Rattle.table_seats.specs.declared.begin.Begin.{Begin}
+use Rattle.table_rule.specs.declared.begin.Begin.{Begin}
 use Rattle.table_seats.specs.declared.words.TableWords.{TableWords}
-use Rattle.table_seats.specs.declared.view.View.{View}
+use Rattle.table_rule.specs.declared.view.View.{View}
 use Rattle.table_seats.specs.Clearing.{HasClosed, Closes, LooksInside, Clears as ClearsMap}
 use Rattle.table_seats.specs.Laws.{HistoryLaws}
-use Rattle.table_seats.specs.Layout.{root_word, gate_word}
+use Rattle.table_rule.specs.Layout.{root_word, gate_word}
 use Rattle.table_seats.specs.Making.{HasUnit}
 use Rattle.table_seats.specs.Walking.{IsFree}
 use Rattle.table_seats.specs.Writing.{GoesOut}

@@ -1,16 +1,16 @@
 -- A table's own seats may make the steps of a cursor.
 use Rattle.std.proofs.Common.{◌≡◌, ℕ, ◌+◌, ◌<◌, ◌≤◌, true, List, [], ◌∷◌, ◌++◌, length, sym, subst, arith}
 use Rattle.atomic_table.specs.Table.{Me, Allows}
-use Rattle.table_seats.specs.declared.begin.Begin.{Begin}
+use Rattle.table_rule.specs.declared.begin.Begin.{Begin}
 use Rattle.table_seats.specs.declared.words.TableWords.{TableWords}
-use Rattle.table_seats.specs.declared.view.Spot.{Spot}
-use Rattle.table_seats.specs.declared.view.View.{View}
+use Rattle.table_rule.specs.declared.view.Spot.{Spot}
+use Rattle.table_rule.specs.declared.view.View.{View}
 use Rattle.trie_nodes.specs.Layout.{slot_word}
 use Rattle.trie_nodes.specs.Slots.{slot_in}
 use Rattle.table_seats.specs.Cursors.{BeginsCursor, SweepsSlot, GoesUp, ShowsNone, Sweeping, StandsIn}
 use Rattle.table_seats.specs.Laws.{HistoryLaws}
-use Rattle.table_seats.specs.Layout.{root_word, size_of}
-use Rattle.table_seats.specs.Rule.{Kept}
+use Rattle.table_rule.specs.Layout.{root_word, size_of}
+use Rattle.table_rule.specs.Rule.{Kept}
 use Rattle.table_seats.specs.SweepLaws.{SweepLaws}
 use Rattle.table_seats.specs.Walking.{HasWords}
 use Rattle.table_seats.proofs.CursorSteps.{sweeps_slot, moves_up, shows_none}

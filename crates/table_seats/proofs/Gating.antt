@@ -7,17 +7,17 @@ use mathlib.Core.Option.{some}
 use lib.ListN.{get_elem?}
 use prog.Atomic.{either}
 use Rattle.atomic_table.specs.Table.{Me, Act, keeps, Valid, stepped, carried_after, Allows}
-use Rattle.table_seats.specs.declared.begin.Begin.{Begin}
-use Rattle.table_seats.specs.declared.view.Gate.{Gate}
-use Rattle.table_seats.specs.declared.view.Gate.TheVariants.{Outside, Inside, Closed}
-use Rattle.table_seats.specs.declared.view.Own.{Own}
-use Rattle.table_seats.specs.declared.view.View.{View}
-use Rattle.table_seats.specs.Gates.{count_below, closed_bit, Gated}
+use Rattle.table_rule.specs.declared.begin.Begin.{Begin}
+use Rattle.table_rule.specs.declared.view.Gate.{Gate}
+use Rattle.table_rule.specs.declared.view.Gate.TheVariants.{Outside, Inside, Closed}
+use Rattle.table_rule.specs.declared.view.Own.{Own}
+use Rattle.table_rule.specs.declared.view.View.{View}
+use Rattle.table_rule.specs.Gates.{count_below, closed_bit, Gated}
 use Rattle.table_seats.specs.Laws.{HistoryLaws}
 use Rattle.trie_nodes.specs.Layout.{unit_words}
-use Rattle.table_seats.specs.Layout.{root_word, gate_word, callers_of, size_of}
-use Rattle.table_seats.specs.Owed.{AtGate}
-use Rattle.table_seats.specs.Rule.{TableState, Kept}
+use Rattle.table_rule.specs.Layout.{root_word, gate_word, callers_of, size_of}
+use Rattle.table_rule.specs.Owed.{AtGate}
+use Rattle.table_rule.specs.Rule.{TableState, Kept}
 use Rattle.table_seats.specs.Walking.{IsFree}
 use Rattle.table_seats.specs.Writing.{holding, ComesIn, IsInside, GoesOut}
 use Rattle.table_seats.proofs.Frames.{Later}

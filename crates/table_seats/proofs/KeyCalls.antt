@@ -11,10 +11,10 @@ use Rattle.sync_types.specs.declared.map_object.MapCall.{MapCall}
 use Rattle.sync_model.specs.Journal.{Begins}
 use Rattle.sync_types.specs.SequentialMap.{map_key, map_after}
 use Rattle.sync_model.specs.SharedHistory.{Contents, map_at, value_at, contents_after, is_entry, shared_after, with_call}
-use Rattle.table_seats.specs.declared.begin.Begin.{Begin}
+use Rattle.table_rule.specs.declared.begin.Begin.{Begin}
 use Rattle.sync_types.specs.KeyCalls.{key_after}
 use Rattle.table_seats.specs.Laws.{HistoryLaws}
-use Rattle.table_seats.specs.Shape.{start_of}
+use Rattle.table_rule.specs.Shape.{start_of}
 use Rattle.table_seats.proofs.Ledgers.{contents_on}
 
 -- a call on this key

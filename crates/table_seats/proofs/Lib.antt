@@ -45,3 +45,9 @@ pub mod Swept
 pub mod CursorSteps
 pub mod Mounting
 pub mod CursorReads
+pub mod NodeWords
+pub mod LockWords
+pub mod Cutting
+pub mod UpperLocks
+pub mod Cuts
+pub mod Prunes

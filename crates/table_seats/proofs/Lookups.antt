@@ -10,12 +10,12 @@ use Rattle.sync_model.specs.declared.item.SharedReply.TheVariants as replies
 use Rattle.sync_types.specs.declared.map_object.MapCall.{MapCall}
 use Rattle.sync_model.specs.Shared.{cost_of}
 use Rattle.sync_model.specs.SharedHistory.{map_at, value_at, contents_at, IsReply, is_entry}
-use Rattle.table_seats.specs.declared.begin.Begin.{Begin}
-use Rattle.table_seats.specs.declared.view.Gate.TheVariants.{Inside}
-use Rattle.table_seats.specs.declared.view.Leaf.{Leaf}
-use Rattle.table_seats.specs.declared.view.Own.{Own}
-use Rattle.table_seats.specs.declared.view.View.{View}
-use Rattle.table_seats.specs.declared.view.Walk.{Walk}
+use Rattle.table_rule.specs.declared.begin.Begin.{Begin}
+use Rattle.table_rule.specs.declared.view.Gate.TheVariants.{Inside}
+use Rattle.table_rule.specs.declared.view.Leaf.{Leaf}
+use Rattle.table_rule.specs.declared.view.Own.{Own}
+use Rattle.table_rule.specs.declared.view.View.{View}
+use Rattle.table_rule.specs.declared.view.Walk.{Walk}
 use Rattle.sync_types.specs.KeyCalls.{is_key_entry, key_reply}
 use Rattle.table_seats.specs.Laws.{HistoryLaws}
 use Rattle.trie_nodes.specs.declared.slot.Slot.{Slot}
@@ -24,11 +24,11 @@ use Rattle.trie_nodes.specs.Layout.{slot_word, dead_word}
 use Rattle.trie_nodes.specs.Nodes.{Shows, entry_value}
 use Rattle.trie_nodes.specs.Paths.{nibble}
 use Rattle.trie_nodes.specs.Slots.{slot_in}
-use Rattle.table_seats.specs.Layout.{root_word, size_of, IsBegin}
-use Rattle.table_seats.specs.Owed.{Walks, IsLeaf}
-use Rattle.table_seats.specs.Rule.{TableState, Kept}
-use Rattle.table_seats.specs.Shape.{start_of, held_at, till, time, IsBelow}
-use Rattle.table_seats.specs.Views.{MayPay}
+use Rattle.table_rule.specs.Layout.{root_word, size_of, IsBegin}
+use Rattle.table_rule.specs.Owed.{Walks, IsLeaf}
+use Rattle.table_rule.specs.Rule.{TableState, Kept}
+use Rattle.table_rule.specs.Shape.{start_of, held_at, till, time, IsBelow}
+use Rattle.table_rule.specs.Views.{MayPay}
 use Rattle.table_seats.specs.Walking.{standing, walk_at, HasWords, Enters, Answers, IsAlong, FindsIn, LooksIn, Affords, ReadsKey, KeepsValue, ReadsValue}
 use Rattle.table_seats.proofs.KeyCalls.{IsOn}
 use Rattle.table_seats.proofs.Ledgers.{longer}
@@ -39,7 +39,7 @@ use Rattle.table_seats.proofs.Quiet.{kept_standing}
 size_small : (k : Begin) → IsBegin k → size_of k < 2 ^ 32
 size_small k b = let objects = b.objects in let units = b.units in omega arith
 
-has_words : (k : Begin) (v : View) (place words : ℕ) → IsBegin k → v.begin ≡ k → place + words ≤ size_of k → 0 < words → HasWords v place words
+pub has_words : (k : Begin) (v : View) (place words : ℕ) → IsBegin k → v.begin ≡ k → place + words ≤ size_of k → 0 < words → HasWords v place words
 has_words k v place words b begin within some_words = let small = size_small k b in (subst (λ (z : Begin). place + words ≤ size_of z) (sym begin) within, omega arith)
 
 -- a seat reads a root word

@@ -8,19 +8,19 @@ use Rattle.atomic_table.proofs.Lists.{set_else}
 use Rattle.atomic_table.specs.Table.{Me, keeps, Allows, Splits, Joins}
 use Rattle.sync_model.specs.declared.item.SharedCall.TheVariants as calls
 use Rattle.sync_model.specs.declared.item.SharedReply.TheVariants as replies
-use Rattle.table_seats.specs.declared.begin.Begin.{Begin}
-use Rattle.table_seats.specs.declared.view.Gate.TheVariants.{Outside}
-use Rattle.table_seats.specs.declared.view.Own.{Own}
-use Rattle.table_seats.specs.declared.view.Spot.{Spot}
-use Rattle.table_seats.specs.declared.view.View.{View}
+use Rattle.table_rule.specs.declared.begin.Begin.{Begin}
+use Rattle.table_rule.specs.declared.view.Gate.TheVariants.{Outside}
+use Rattle.table_rule.specs.declared.view.Own.{Own}
+use Rattle.table_rule.specs.declared.view.Spot.{Spot}
+use Rattle.table_rule.specs.declared.view.View.{View}
 use Rattle.table_seats.specs.Cursors.{first_spot, Sweeps, BeginsCursor, mounted, unmounted, cursor_seat}
 use Rattle.table_seats.specs.Laws.{HistoryLaws}
-use Rattle.table_seats.specs.Layout.{root_word, callers_of}
-use Rattle.table_seats.specs.Ledger.{Fits}
-use Rattle.table_seats.specs.Owed.{Stands, Suits}
-use Rattle.table_seats.specs.Rule.{Kept}
+use Rattle.table_rule.specs.Layout.{root_word, callers_of}
+use Rattle.table_rule.specs.Ledger.{Fits}
+use Rattle.table_rule.specs.Owed.{Stands, Suits}
+use Rattle.table_rule.specs.Rule.{Kept}
 use Rattle.table_seats.specs.SweepLaws.{SweepLaws}
-use Rattle.table_seats.specs.Views.{made_by, spent}
+use Rattle.table_rule.specs.Views.{made_by, spent}
 use Rattle.table_seats.proofs.CursorSteps.{has_words}
 use Rattle.table_seats.proofs.Ledgers.{longer}
 use Rattle.table_seats.proofs.Lists.{each_after}

@@ -6,17 +6,17 @@ use Rattle.sync_model.specs.declared.item.SharedEntry.{SharedEntry}
 use Rattle.sync_model.specs.declared.item.Item.{Item}
 use Rattle.sync_model.specs.SharedCalls.{Lawful, Grows}
 use Rattle.sync_model.specs.SharedHistory.{contents_after}
-use Rattle.table_seats.specs.declared.begin.Begin.{Begin}
-use Rattle.table_seats.specs.declared.view.Own.{Own}
-use Rattle.table_seats.specs.declared.view.View.{View}
-use Rattle.table_seats.specs.Gates.{Gated}
+use Rattle.table_rule.specs.declared.begin.Begin.{Begin}
+use Rattle.table_rule.specs.declared.view.Own.{Own}
+use Rattle.table_rule.specs.declared.view.View.{View}
+use Rattle.table_rule.specs.Gates.{Gated}
 use Rattle.table_seats.specs.Laws.{HistoryLaws}
 use Rattle.sync_model.specs.EndsOfHistory.{HasKeysBelow}
-use Rattle.table_seats.specs.Layout.{callers_of}
-use Rattle.table_seats.specs.Ledger.{Fits}
-use Rattle.table_seats.specs.Owed.{Suits}
-use Rattle.table_seats.specs.Rule.{TableState, Kept}
-use Rattle.table_seats.specs.Shape.{Shape, start_of, Fine}
+use Rattle.table_rule.specs.Layout.{callers_of}
+use Rattle.table_rule.specs.Ledger.{Fits}
+use Rattle.table_rule.specs.Owed.{Suits}
+use Rattle.table_rule.specs.Rule.{TableState, Kept}
+use Rattle.table_rule.specs.Shape.{Shape, start_of, Fine}
 use Rattle.table_seats.proofs.Frames.{Later, Apart, suits_on, fits_on}
 use Rattle.table_seats.proofs.Lists.{each_after}
 

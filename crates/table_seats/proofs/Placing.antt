@@ -8,24 +8,25 @@ use Rattle.sync_model.specs.declared.item.SharedCall.{SharedCall}
 use Rattle.sync_model.specs.declared.item.SharedReply.{SharedReply}
 use Rattle.sync_model.specs.SharedCalls.{Grows}
 use Rattle.sync_model.specs.Shared.{Called}
-use Rattle.table_seats.specs.declared.begin.Begin.{Begin}
-use Rattle.table_seats.specs.declared.view.Gate.TheVariants.{Inside}
-use Rattle.table_seats.specs.declared.view.Leaf.{Leaf}
-use Rattle.table_seats.specs.declared.view.Own.{Own}
-use Rattle.table_seats.specs.declared.view.View.{View}
-use Rattle.table_seats.specs.declared.view.Spot.{Spot}
-use Rattle.table_seats.specs.declared.view.Walk.{Walk}
+use Rattle.table_rule.specs.declared.begin.Begin.{Begin}
+use Rattle.table_rule.specs.declared.view.Gate.TheVariants.{Inside}
+use Rattle.table_rule.specs.declared.view.Leaf.{Leaf}
+use Rattle.table_rule.specs.declared.view.Own.{Own}
+use Rattle.table_rule.specs.declared.view.View.{View}
+use Rattle.table_rule.specs.declared.view.Spot.{Spot}
+use Rattle.table_rule.specs.declared.view.Walk.{Walk}
 use Rattle.table_seats.specs.Laws.{HistoryLaws}
 use Rattle.trie_nodes.specs.Layout.{dead_word, unit_words}
-use Rattle.table_seats.specs.Layout.{callers_of}
-use Rattle.table_seats.specs.Ledger.{Owned, Fits}
-use Rattle.table_seats.specs.Owed.{Walks, IsLeaf, HasRoom, Stands, Suits}
-use Rattle.table_seats.specs.Rule.{TableState, Kept}
-use Rattle.table_seats.specs.Shape.{Shape, start_of}
-use Rattle.table_seats.specs.Views.{called_view, paid, paid_own, MayPay, view_state}
+use Rattle.table_rule.specs.Layout.{callers_of}
+use Rattle.table_rule.specs.Ledger.{Owned, Fits}
+use Rattle.table_rule.specs.Owed.{Walks, IsLeaf, HasRoom, Stands, Suits}
+use Rattle.table_rule.specs.Rule.{TableState, Kept}
+use Rattle.table_rule.specs.Shape.{Shape, start_of}
+use Rattle.table_rule.specs.Views.{called_view, paid, paid_own, MayPay, view_state, Looks}
 use Rattle.table_seats.proofs.Frames.{suits_on, stands_on}
 use Rattle.table_seats.proofs.Ledgers.{MayPlace, with_one, adds_one, lawful_after, grows_on, none_after, fits_after, called, first}
 use Rattle.table_seats.proofs.Lists.{past_end}
+use Rattle.table_seats.proofs.Looking.{looks_so}
 use Rattle.table_seats.proofs.Moves.{Keeps, moves}
 use Rattle.table_seats.proofs.Quiet.{later_same, apart_same}
 
@@ -142,3 +143,8 @@ module _ (k : Begin) (laws : HistoryLaws) (s : TableState) (r : Kept k s) (id : 
   pub is_called : v.begin ≡ k → Called (start_of v.begin) call reply cost (view_state v) (view_state view_after)
   is_called begin = subst (λ b. Called (start_of b) call reply cost (view_state v) (view_state view_after)) (sym begin)
       (called k laws r.log r.calls (callers_of k) r.claim id r.lawful v own owns is fits item may own_after (paid_items cost (record own { items = own.items ++ item ∷ [] })) cost (paid_spare cost (record own { items = own.items ++ item ∷ [] }) (pays_on cost pays)))
+
+  -- the seat has then seen the whole history
+  pub looks_then : v.begin ≡ k → Looks view_after view_after
+  looks_then begin = looks_so k r.log (with_one r.calls v.number item) r.claim id view_after (lawful_after k laws r.log r.calls (callers_of k) r.claim id r.lawful v own owns is fits item may)
+      (none_after k laws r.log r.calls (callers_of k) r.claim id r.lawful v own owns is fits item may r.none_else) fits_now begin

@@ -5,17 +5,17 @@ use Rattle.std.proofs.lemmas.Option.{none-some}
 use mathlib.Core.Option.{some}
 use lib.ListN.{get_elem?}
 use Rattle.sync_model.specs.declared.item.SharedEntry.{SharedEntry}
-use Rattle.table_seats.specs.declared.begin.Begin.{Begin}
-use Rattle.table_seats.specs.declared.view.Gate.TheVariants.{Inside}
-use Rattle.table_seats.specs.declared.view.Leaf.{Leaf}
-use Rattle.table_seats.specs.declared.view.View.{View}
-use Rattle.table_seats.specs.declared.view.Walk.{Walk}
+use Rattle.table_rule.specs.declared.begin.Begin.{Begin}
+use Rattle.table_rule.specs.declared.view.Gate.TheVariants.{Inside}
+use Rattle.table_rule.specs.declared.view.Leaf.{Leaf}
+use Rattle.table_rule.specs.declared.view.View.{View}
+use Rattle.table_rule.specs.declared.view.Walk.{Walk}
 use Rattle.trie_nodes.specs.Layout.{dead_word}
-use Rattle.table_seats.specs.Layout.{callers_of}
-use Rattle.table_seats.specs.Ledger.{Fits}
-use Rattle.table_seats.specs.Owed.{Walks, IsLeaf, Suits}
-use Rattle.table_seats.specs.Rule.{TableState, Kept}
-use Rattle.table_seats.specs.Shape.{Shape}
+use Rattle.table_rule.specs.Layout.{callers_of}
+use Rattle.table_rule.specs.Ledger.{Fits}
+use Rattle.table_rule.specs.Owed.{Walks, IsLeaf, Suits}
+use Rattle.table_rule.specs.Rule.{TableState, Kept}
+use Rattle.table_rule.specs.Shape.{Shape}
 use Rattle.table_seats.specs.Walking.{standing}
 use Rattle.table_seats.proofs.Frames.{Later, Apart}
 use Rattle.table_seats.proofs.Moves.{with_view}

@@ -12,17 +12,17 @@ use Rattle.sync_model.specs.declared.item.Item.{Item}
 use Rattle.sync_model.specs.Front.{AtLeast}
 use Rattle.sync_model.specs.Journal.{Begins}
 use Rattle.sync_model.specs.SharedCalls.{Knows}
-use Rattle.table_seats.specs.declared.begin.Begin.{Begin}
-use Rattle.table_seats.specs.declared.view.Own.{Own}
-use Rattle.table_seats.specs.declared.view.Gate.{Gate}
-use Rattle.table_seats.specs.declared.view.Gate.TheVariants.{Outside, Inside}
-use Rattle.table_seats.specs.declared.view.View.{View}
+use Rattle.table_rule.specs.declared.begin.Begin.{Begin}
+use Rattle.table_rule.specs.declared.view.Own.{Own}
+use Rattle.table_rule.specs.declared.view.Gate.{Gate}
+use Rattle.table_rule.specs.declared.view.Gate.TheVariants.{Outside, Inside}
+use Rattle.table_rule.specs.declared.view.View.{View}
 use Rattle.table_seats.specs.Laws.{HistoryLaws}
-use Rattle.table_seats.specs.Layout.{callers_of}
-use Rattle.table_seats.specs.Ledger.{Owned, Fits}
-use Rattle.table_seats.specs.Owed.{HasRoom, AtGate, Suits}
-use Rattle.table_seats.specs.Rule.{TableState, Kept}
-use Rattle.table_seats.specs.Views.{IsIdle, first_of, others_of, copied, dealt, kept, most, longest, joined, spent}
+use Rattle.table_rule.specs.Layout.{callers_of}
+use Rattle.table_rule.specs.Ledger.{Owned, Fits}
+use Rattle.table_rule.specs.Owed.{HasRoom, AtGate, Suits}
+use Rattle.table_rule.specs.Rule.{TableState, Kept}
+use Rattle.table_rule.specs.Views.{IsIdle, first_of, others_of, copied, dealt, kept, most, longest, joined, spent}
 use Rattle.table_seats.proofs.Lists.{each_after, at_end, item_there}
 use Rattle.table_seats.proofs.Moves.{with_views}
 

@@ -1,11 +1,11 @@
 -- A table's own seats step on a word of it.
 use Rattle.std.proofs.Common.{◌≡◌, ℕ, ◌+◌, ◌*◌, ◌^◌, ◌<◌, length, sym, ap, subst, arith}
 use Rattle.atomic_table.specs.Table.{Me, Allows}
-use Rattle.table_seats.specs.declared.begin.Begin.{Begin}
-use Rattle.table_seats.specs.declared.view.View.{View}
+use Rattle.table_rule.specs.declared.begin.Begin.{Begin}
+use Rattle.table_rule.specs.declared.view.View.{View}
 use Rattle.table_seats.specs.declared.words.TableWords.{TableWords}
-use Rattle.table_seats.specs.Layout.{gate_word, size_of}
-use Rattle.table_seats.specs.Rule.{Kept}
+use Rattle.table_rule.specs.Layout.{gate_word, size_of}
+use Rattle.table_rule.specs.Rule.{Kept}
 
 -- a word of the table, which the seat may change so
 abbrev pub May : (table : TableWords) (id : ℕ) (me : Me (Unit {0}) View) → ℕ → (ℕ → ℕ) → (ℕ → Me (Unit {0}) View → Type 0) → Type 0

@@ -9,19 +9,19 @@ use Rattle.sync_model.specs.declared.item.SharedReply.{SharedReply}
 use Rattle.sync_model.specs.declared.item.SharedReply.TheVariants as replies
 use Rattle.sync_model.specs.SharedCalls.{MayShow}
 use Rattle.sync_model.specs.SharedHistory.{contents_at, IsReply, is_entry}
-use Rattle.table_seats.specs.declared.begin.Begin.{Begin}
-use Rattle.table_seats.specs.declared.view.Leaf.{Leaf}
-use Rattle.table_seats.specs.declared.view.Own.{Own}
-use Rattle.table_seats.specs.declared.view.Spot.{Spot}
-use Rattle.table_seats.specs.declared.view.View.{View}
+use Rattle.table_rule.specs.declared.begin.Begin.{Begin}
+use Rattle.table_rule.specs.declared.view.Leaf.{Leaf}
+use Rattle.table_rule.specs.declared.view.Own.{Own}
+use Rattle.table_rule.specs.declared.view.Spot.{Spot}
+use Rattle.table_rule.specs.declared.view.View.{View}
 use Rattle.table_seats.specs.Cursors.{at_spot, Sweeps}
 use Rattle.table_seats.specs.Laws.{HistoryLaws}
-use Rattle.table_seats.specs.Layout.{callers_of}
-use Rattle.table_seats.specs.Ledger.{Fits}
-use Rattle.table_seats.specs.Owed.{IsLeaf, Stands, Suits}
-use Rattle.table_seats.specs.Rule.{TableState, Kept}
-use Rattle.table_seats.specs.Shape.{start_of}
-use Rattle.table_seats.specs.Views.{called_view, with_item}
+use Rattle.table_rule.specs.Layout.{callers_of}
+use Rattle.table_rule.specs.Ledger.{Fits}
+use Rattle.table_rule.specs.Owed.{IsLeaf, Stands, Suits}
+use Rattle.table_rule.specs.Rule.{TableState, Kept}
+use Rattle.table_rule.specs.Shape.{start_of}
+use Rattle.table_rule.specs.Views.{called_view, with_item}
 use Rattle.table_seats.proofs.Ledgers.{MayPlace}
 use Rattle.table_seats.proofs.Moves.{with_view}
 use Rattle.table_seats.proofs.Placing.{placed_item}
@@ -84,4 +84,5 @@ module _ (k : Begin) (laws : HistoryLaws) (s : TableState) (r : Kept k s) (id : 
     seen = r.log;
     is = ap (λ l. at_spot (called_view v (with_item l item) r.log) spot leaf) (sym is);
     called = placing.is_called k laws s r id v at_me live own owns is call reply (length r.log) may 0 tt v.walk (r.suits id v at_me live).walk (r.suits id v at_me live).steady leaf leaves spot stands begin;
+    looks = placing.looks_then k laws s r id v at_me live own owns is call reply (length r.log) may 0 tt v.walk (r.suits id v at_me live).walk (r.suits id v at_me live).steady leaf leaves spot stands begin;
   }

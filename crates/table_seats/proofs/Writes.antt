@@ -3,21 +3,21 @@ use Rattle.std.proofs.Common.{◌≡◌, ℕ, suc, ◌+◌, ◌-◌, ◌%◌, �
 use Rattle.std.proofs.lemmas.Option.{same_Some}
 use prog.Atomic.{either}
 use Rattle.atomic_table.specs.Table.{Me, State, Allows}
-use Rattle.table_seats.specs.declared.begin.Begin.{Begin}
+use Rattle.table_rule.specs.declared.begin.Begin.{Begin}
 use Rattle.table_seats.specs.declared.words.TableWords.{TableWords}
-use Rattle.table_seats.specs.declared.view.Lock.{Lock}
-use Rattle.table_seats.specs.declared.view.Own.{Own}
-use Rattle.table_seats.specs.declared.view.View.{View}
-use Rattle.table_seats.specs.declared.view.Walk.{Walk}
+use Rattle.table_rule.specs.declared.view.Lock.{Lock}
+use Rattle.table_rule.specs.declared.view.Own.{Own}
+use Rattle.table_rule.specs.declared.view.View.{View}
+use Rattle.table_rule.specs.declared.view.Walk.{Walk}
 use Rattle.table_seats.specs.Laws.{HistoryLaws}
 use Rattle.sync_types.specs.declared.map_object.MapCall.{MapCall}
 use Rattle.sync_model.specs.Shared.{cost_of}
 use Rattle.trie_nodes.specs.Layout.{slot_word}
 use Rattle.trie_nodes.specs.Paths.{nibble}
 use Rattle.trie_nodes.specs.Slots.{slot_in}
-use Rattle.table_seats.specs.Layout.{gate_word, size_of}
+use Rattle.table_rule.specs.Layout.{gate_word, size_of}
 use Rattle.table_seats.specs.Making.{StandsLocked, LooksHeld}
-use Rattle.table_seats.specs.Rule.{Kept}
+use Rattle.table_rule.specs.Rule.{Kept}
 use Rattle.table_seats.specs.Walking.{HasWords, Affords, IsFree}
 use Rattle.table_seats.specs.Writing.{IsWriter, TriesLock, Holds, Unlocks, ComesIn, IsInside, GoesOut, Drafts, HasDraft}
 use Rattle.table_seats.proofs.Drafting.{drafts}
@@ -28,7 +28,7 @@ use Rattle.table_seats.proofs.Locking.{tries_lock, unlocks}
 use Rattle.table_seats.proofs.Stepping.{May, may}
 
 -- a step that tells more tells less
-allows_then : (holds : State (Unit {0}) View → Type 0) (slots id : ℕ) (me : Me (Unit {0}) View) (i : ℕ) (f : ℕ → ℕ) (p q : ℕ → Me (Unit {0}) View → Type 0) → ((n : ℕ) (after : Me (Unit {0}) View) → p n after → q n after) → Allows holds slots id me i f p → Allows holds slots id me i f q
+pub allows_then : (holds : State (Unit {0}) View → Type 0) (slots id : ℕ) (me : Me (Unit {0}) View) (i : ℕ) (f : ℕ → ℕ) (p q : ℕ → Me (Unit {0}) View → Type 0) → ((n : ℕ) (after : Me (Unit {0}) View) → p n after → q n after) → Allows holds slots id me i f p → Allows holds slots id me i f q
 allows_then holds slots id me i f p q more allows = λ s kept len at bounded. let t = allows s kept len at bounded in (t.0, t.1, t.2, t.3, more _ _ t.4)
 
 module _ (table : TableWords) (id : ℕ) (me : Me (Unit {0}) View) (word : ℕ) (laws : HistoryLaws) where
@@ -45,7 +45,7 @@ module _ (table : TableWords) (id : ℕ) (me : Me (Unit {0}) View) (word : ℕ) 
   pub may_go_out : (m : ℕ) → IsInside table.table.shared.key me m → m < table.table.shared.key.maps → word ≡ gate_word table.table.shared.key m → MayChange (λ n. (n + (2 ^ 64 - 1)) % 2 ^ 64) (GoesOut me)
   may_go_out m writer below is = may table id me word (gate_word key m) (λ n. (n + (2 ^ 64 - 1)) % 2 ^ 64) (GoesOut me) (sym is) (omega arith) (goes_out key laws id me m writer)
 
-  words_within : (place : ℕ) → me.0.begin ≡ key → HasWords me.0 place 18 → place + 18 ≤ size_of key
+  pub words_within : (place : ℕ) → me.0.begin ≡ key → HasWords me.0 place 18 → place + 18 ≤ size_of key
   words_within place begin has = subst (λ (k : Begin). place + 18 ≤ size_of k) begin has.0
 
   pub may_try_lock : (node new : ℕ) → (w : Walk) × (w.node ≡ node) × IsWriter table.table.shared.key me w → HasWords me.0 node 18 → word ≡ node → new ≡ me.0.number + 1

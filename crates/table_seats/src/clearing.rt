@@ -1,7 +1,7 @@
 //! The steps of a seat that clears a map: it closes the gate of the map's writers, looks whether one is inside, writes a new
 //! empty root into the map's root word, and opens the gate. Lookups go on all the while, in the new nodes or in the old ones.
 ghost use Rattle.std.specs.Prelude.{◌≡◌, ◌<◌, true, false, None, MatchBool};
-ghost use Rattle.table_seats.specs.declared.view.Gate.TheVariants.{Outside, Closed};
+ghost use Rattle.table_rule.specs.declared.view.Gate.TheVariants.{Outside, Closed};
 ghost use Rattle.table_seats.specs.Clearing.{HasClosed, Closes, LooksInside, Clears};
 ghost use Rattle.table_seats.specs.Making.{HasUnit};
 ghost use Rattle.table_seats.specs.Seats.{begin_of, IsSeatOf};
@@ -10,7 +10,7 @@ ghost use Rattle.table_seats.specs.Writing.{holding, GoesOut, HasRoomWithin};
 
 use crate::laws::history_laws;
 use crate::lookup::Way;
-use crate::view::View;
+use table_rule::view::View;
 use crate::words::TableWords;
 use atomic_table::{Play, Seat};
 use std::marker::{Brand, PhantomData};

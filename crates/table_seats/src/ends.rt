@@ -6,9 +6,9 @@ ghost use Rattle.table_seats.specs.EndLaws.{EndLaws};
 ghost use Rattle.sync_model.specs.EndsOfHistory.{HasKeysBelow};
 ghost use Rattle.table_seats.specs.Seats.{begin_of, EndsAt, IsSeatOf};
 
-use crate::begin::Begin;
+use table_rule::begin::Begin;
 use crate::laws::history_laws;
-use crate::view::View;
+use table_rule::view::View;
 use crate::words::TableWords;
 use atomic_table::Seat;
 use sync_model::laws::shared_steps::maps_and_atomics_stay;

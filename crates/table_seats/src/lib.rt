@@ -2,25 +2,22 @@
 //! is the matter of the layer above.
 #![tactic(auto)]
 
-pub mod begin;
 mod clearing;
 mod copies;
 mod cursor_steps;
 mod ends;
+mod kinds;
 mod laws;
 mod lookup;
 mod making;
 mod map_words;
 mod new;
 mod operations;
+mod pruning;
 mod publish;
 pub mod rule;
-pub mod view;
-pub mod word_step;
 pub mod words;
 mod writing;
 
-pub use begin::Begin;
-pub use view::{Leaf, View};
-pub use word_step::WordStep;
+pub use table_rule::{Begin, Leaf, View, WordStep};
 pub use words::TableWords;

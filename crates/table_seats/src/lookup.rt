@@ -3,14 +3,14 @@
 ghost use Rattle.std.specs.Prelude.{◌≡◌, ℕ, ◌+◌, ◌<◌, ◌≤◌, ◌^◌, Some, length};
 ghost use Rattle.sync_types.specs.SequentialMap.{map_key};
 ghost use Rattle.sync_model.specs.Shared.{cost_of};
-ghost use Rattle.table_seats.specs.declared.view.Leaf.{Leaf};
+ghost use Rattle.table_rule.specs.declared.view.Leaf.{Leaf};
 ghost use Rattle.table_seats.specs.Seats.{begin_of, IsSeatOf};
 ghost use Rattle.trie_nodes.specs.Slots.{slot_in};
 ghost use Rattle.table_seats.specs.Walking.{standing, walk_at, HasWords, Enters, MayEnter, FindsIn, LooksIn, Affords, ReadsKey, KeepsValue, ReadsValue, OnWay, AtEntry};
 
 use crate::laws::history_laws;
 use crate::making::Making;
-use crate::view::{Leaf, View};
+use table_rule::view::{Leaf, View};
 use crate::words::TableWords;
 use atomic_table::{Play, Seat};
 use std::marker::{Brand, PhantomData};

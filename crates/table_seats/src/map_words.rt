@@ -1,6 +1,6 @@
 //! Which words of a table are its maps'.
 ghost use Rattle.std.specs.Prelude.{◌≡◌, ◌<◌};
-ghost use Rattle.table_seats.specs.Layout.{gate_word, root_word};
+ghost use Rattle.table_rule.specs.Layout.{gate_word, root_word};
 ghost use Rattle.table_seats.specs.Seats.{begin_of};
 
 use crate::words::TableWords;

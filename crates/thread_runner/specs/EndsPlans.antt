@@ -10,7 +10,7 @@ use Rattle.workload.specs.Plan.{Plan}
 use Rattle.run_record.specs.Objects.{is_map, is_atomic, places_from}
 use Rattle.shared_plain.specs.declared.mark.Mark.{Mark}
 use Rattle.shared_plain.specs.declared.plain.Plain.{Plain}
-use Rattle.shared_plain.specs.EndLists.{AreInNameOrder}
+use Rattle.sync_model.specs.EndsByName.{AreInNameOrder}
 use Rattle.shared_plain.specs.Marks.{own_by, IsMarkOf}
 use Rattle.shared_plain.specs.Plains.{count_of, keys_of, kinds_of, maps_of, Takes}
 use Rattle.thread_calls.specs.Sites.{AreShared, cost_of_calls}

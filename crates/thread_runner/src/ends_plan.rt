@@ -9,8 +9,8 @@ ghost use Rattle.thread_runner.specs.EndsPlans.{IsEndsPlan};
 use crate::counts::{Places, places_of};
 use crate::key_order::key_order;
 use shared_plain::PlainState;
-use shared_plain::laws::ends_are_in_name_order;
 use std::alloc::{AllocError, Global};
+use sync_model::laws::ends::ends_are_in_name_order;
 use sync_types::{End, Seq};
 use workload::Workload;
 

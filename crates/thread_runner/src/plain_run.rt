@@ -13,8 +13,8 @@ use shared_plain::EndsRoom;
 use std::alloc::Global;
 use std::sync::Wait;
 use std::thread::Threads;
-use sync_types::Outcome;
 use sync_outside::{Clock, Gate, Spawner};
+use sync_types::Outcome;
 use workload::Workload;
 
 /// Makes the calls of a workload's workers in threads, one for each worker, on maps and atomics that take turns, and answers

@@ -3,10 +3,10 @@ use std::alloc::{AllocError, Global};
 use std::sync::Wait;
 use std::test::Fail;
 use std::thread::Threads;
-use sync_types::{Outcome, Report};
 use sync_outside::{
     Clock, Gate, HoldGate, MemClock, OpenGate, RefuseStart, Spawner, SystemClock, ThreadSpawner,
 };
+use sync_types::{Outcome, Report};
 use workload_reader::parse;
 
 // The replies of each worker, and what the objects hold at the end.

@@ -1,5 +1,5 @@
 use Rattle.std.proofs.Common.{length, ap, arith}
-use Rattle.table_seats.specs.declared.begin.Begin.{Begin}
+use Rattle.table_rule.specs.declared.begin.Begin.{Begin}
 use Rattle.table_seats.proofs.Stepping.{word_fits}
 use Rattle.table_seats.proofs.words.TableWords.root_word.Goals as goal
 

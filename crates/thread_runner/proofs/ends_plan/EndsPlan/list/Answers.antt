@@ -3,7 +3,7 @@ use Rattle.sync_types.specs.declared.outcome.End.{End}
 use Rattle.workload.specs.Keys.{keys_in, key_number, key_name}
 use Rattle.run_record.specs.Objects.{is_atomic, places_from}
 use Rattle.sync_model.specs.EndsOfHistory.{ends_by}
-use Rattle.shared_plain.specs.EndLists.{ends_by_name}
+use Rattle.sync_model.specs.EndsByName.{ends_by_name}
 use Rattle.shared_plain.specs.PlainMachine.{contents_of}
 use Rattle.thread_runner.proofs.ends_plan.EndsPlan.list.Goals as goal
 
