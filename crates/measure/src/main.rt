@@ -45,7 +45,7 @@ Prints how many nanoseconds a pair of calls takes, for each thread.
   HOW      one | two-own | four-own | two-shared | four-shared
   NOTES    front | empty
   CLOCK    machine | standing
-  CALLERS  the callers of each object, whether they call or not: 4 to 64
+  CALLERS  the callers of each object, whether they call or not: 4 to 64. Maps and atomics have one for each thread
   ROUNDS   the pairs of each thread: 1 to 100000";
 
 /// How many tenths of a nanosecond a call on a shared map or atomic takes.

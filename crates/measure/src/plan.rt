@@ -138,7 +138,7 @@ pub struct Plan {
     pub how: How,
     pub notes: Notes,
     pub reads: Reads,
-    /// How many callers each object has, whether they call or not: 4 to 64.
+    /// How many callers each object has, whether they call or not: 4 to 64. Maps and atomics have one for each thread.
     pub callers: u32,
     /// How many pairs each thread makes: 1 to 100,000.
     pub rounds: u32,

@@ -1,5 +1,5 @@
-//! One row of words that holds maps and atomics: its rule, and the atomic steps that a seat makes on it. Which steps make a call
-//! is the matter of the layer above.
+//! One row of words that holds maps and atomics, and the atomic steps that a seat makes on it. Which steps make a call is the
+//! matter of the layers above.
 #![tactic(auto)]
 
 mod clearing;

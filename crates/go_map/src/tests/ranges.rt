@@ -6,7 +6,7 @@ ghost use Rattle.shared_table.specs.Notes.{own_by, IsNoteOf};
 ghost use Rattle.shared_table.specs.Tables.{maps_of};
 ghost use Rattle.go_map.specs.Walking.{IsWalking};
 
-use super::crew::{cleared, loaded, stored, take};
+use super::crew::{cleared, deleted, loaded, stored, take};
 use crate::{Cursor, Map};
 use shared_table::{SharedNote, SharedTable, Steps};
 use std::marker::Brand;
@@ -91,13 +91,33 @@ fn a_walk_does_not_show_what_its_caller_deleted_ahead_of_it(rt: HostRuntime) -> 
     Ok(())
 }
 
-// Two keys are stored whose paths part at the last nibble. A walk shows a pair, and another caller clears the map and stores
-// one of the keys again. Then the walk goes on, and its caller loads the key.
-fn walk_over_a_clear<R: Wait, L: Ledger>(
+// How another caller cuts off what a walk stands in.
+#[derive(Clone, Copy, Drop)]
+enum Cut {
+    Clears,
+    DeletesBoth,
+}
+
+// Cuts off all of map 0 that has its two keys, if the caller has room.
+fn cut_off<R: Wait>(rt: &R, table: &SharedTable, caller: &mut Caller<SharedNote>, cut: Cut) -> bool
+    requires map { 0 < maps_of table.now }
+    requires caller { IsCallerAt IsNoteOf own_by table.now caller.old }
+    ensures { IsCallerAt IsNoteOf own_by table.now caller.new }
+{
+    match cut {
+        Cut::Clears => cleared(rt, table, caller),
+        Cut::DeletesBoth => deleted(rt, table, caller, NEAR) && deleted(rt, table, caller, FAR),
+    }
+}
+
+// Two keys are stored whose paths part at the last nibble. A walk shows a pair, and another caller cuts off where it stands, and
+// stores one of the keys again. Then the walk goes on, and its caller loads the key.
+fn walk_over_a_cut<R: Wait, L: Ledger>(
     rt: &R,
     table: &SharedTable,
     walker: &mut Caller<SharedNote>,
     other: &mut Caller<SharedNote>,
+    cut: Cut,
     blank: Blank,
 ) -> Option<([Option<(u32, u64)>; 3], Option<u64>)>
     requires map { 0 < maps_of table.now }
@@ -110,7 +130,7 @@ fn walk_over_a_clear<R: Wait, L: Ledger>(
     }
     let mut cursor = begun(table, walker);
     let first = shown(table, walker, &mut cursor);
-    if !cleared(rt, table, other) || !stored(rt, table, other, FAR, 9) {
+    if !cut_off(rt, table, other, cut) || !stored(rt, table, other, FAR, 9) {
         return None;
     }
     let second = shown(table, walker, &mut cursor);
@@ -120,18 +140,16 @@ fn walk_over_a_clear<R: Wait, L: Ledger>(
 }
 
 #[test]
-fn a_walk_goes_on_in_what_a_clear_cut_off(rt: HostRuntime) -> Result<(), Fail> {
-    let (table, mut callers) = SharedTable::new(rt.alloc(), &[], 1, 0, &[4, 0])?;
-    let mut walker = take(&table, &mut callers).expect(&rt, "caller 1");
-    let mut other = take(&table, &mut callers).expect(&rt, "caller 0");
-    let (shown, found) = walk_over_a_clear::<_, Brand>(
-        &rt,
-        &table,
-        &mut walker,
-        &mut other,
-        Blank::new(1),
-    ).expect(&rt, "room for four calls");
-    assert!(&rt; shown == [Some((NEAR, 1)), Some((FAR, 2)), None]);
-    assert!(&rt; found == Some(9));
+fn a_walk_goes_on_in_what_was_cut_off(rt: HostRuntime) -> Result<(), Fail> {
+    for (cut, second) in [(Cut::Clears, Some((FAR, 2))), (Cut::DeletesBoth, None)] {
+        let (table, mut callers) = SharedTable::new(rt.alloc(), &[], 1, 0, &[5, 0])?;
+        let mut walker = take(&table, &mut callers).expect(&rt, "caller 1");
+        let mut other = take(&table, &mut callers).expect(&rt, "caller 0");
+        let blank = Blank::new(1);
+        let walked = walk_over_a_cut::<_, Brand>(&rt, &table, &mut walker, &mut other, cut, blank);
+        let (shown, found) = walked.expect(&rt, "room for five calls");
+        assert!(&rt; shown == [Some((NEAR, 1)), second, None]);
+        assert!(&rt; found == Some(9));
+    }
     Ok(())
 }

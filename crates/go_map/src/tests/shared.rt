@@ -14,7 +14,7 @@ use sync_model::laws::callers::load_while_ranging;
 use sync_model::{Caller, Shared};
 use sync_types::{AtomicCall, AtomicKind, AtomicReply, MapCall, Number};
 
-// What one call of each kind answers: a walk over map 0 that begins behind a store, and an addition to atomic 0.
+// What one call of each kind answers: a store in map 0, an addition to atomic 0, and then a walk over the map.
 fn call_each<R: Wait>(
     rt: &R,
     trie: &Trie,
@@ -28,9 +28,9 @@ fn call_each<R: Wait>(
         return None;
     }
     trie.map_call(rt, caller, 0, MapCall::Store { key: 3, value: 4 });
-    let shown = load_while_ranging(trie, rt, caller, 0, 3);
     let operand = Number::Int64(5);
     let sum = trie.atomic_call(rt, caller, 0, AtomicCall::Add { operand });
+    let shown = load_while_ranging(trie, rt, caller, 0, 3);
     Some((shown, sum))
 }
 
