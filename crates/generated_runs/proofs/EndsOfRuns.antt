@@ -18,7 +18,8 @@ use Rattle.workload.specs.declared.object.ObjectLine.{ObjectLine}
 use Rattle.workload.specs.Keys.{keys_in, key_number}
 use Rattle.run_record.specs.Objects.{is_map, is_atomic, types_of, map_number, atomic_number, places_from, contents_of, named, ends_in}
 use Rattle.workload_generator.specs.Generated.{generated_plan}
-use Rattle.workload_generator.specs.Summary.{Summary, summary, summary_of, union_of, NamedMap, numbered, summary_text}
+use Rattle.workload.specs.OwnMaps.{union_of, NamedMap}
+use Rattle.workload_generator.specs.Summary.{Summary, summary, summary_of, numbered, summary_text}
 use Rattle.generated_runs.specs.Runs.{ends_of_seed, number_in, is_key, value_in, five_lines}
 use Rattle.generated_runs.proofs.Rounds.{objects_are}
 
@@ -101,7 +102,7 @@ same_text w c t k a w' c' t' k' a' p q r s e = λ i. text_of (p i) (q i) (r i) (
 pub lines_are : (seed : ℕ) (left : Report) → summary seed ≡ summary_of (generated_plan seed).scripts → length left.replies ≡ 8 → sum_by length left.replies ≡ 16000 → left.ends ≡ ends_of_seed seed → five_lines left ≡ summary_text (summary seed)
 lines_are seed left is workers calls all =
     let number = key_number (keys_in (generated_plan seed).scripts) in
-    let m = union_of (generated_plan seed).scripts in
+    let m = union_of 2 (generated_plan seed).scripts in
     same_text _ _ _ _ _ _ _ _ _ _ workers calls
     (ap (sum_by number_in) all ∙ tells_total number (summary seed).total m)
     (ap (count_by is_key) all ∙ (tells_keys number (summary seed).total m ∙ sym (ap (λ (s : Summary). s.keys) is)))

@@ -1,7 +1,6 @@
 -- The scripts of a seed, round by round: each keeps its lock, adds to its int64, and uses keys of its own.
-use Rattle.std.proofs.Common.{◌≡◌, ◌⊎◌, inl, inr, ℕ, zero, suc, ◌<◌, ◌==◌, ◌/◌, ◌%◌, Bool, true, false, ◌||◌, cond, List, [], ◌∷◌, ◌++◌, map, Option, Some, None, slice_get, refl, sym, ap, ◌∙◌}
+use Rattle.std.proofs.Common.{◌≡◌, ◌⊎◌, inl, inr, ℕ, zero, suc, ◌<◌, ◌==◌, ◌/◌, ◌%◌, Bool, true, false, ◌||◌, cond, List, [], ◌∷◌, map, Option, Some, None, slice_get, refl, sym, ap, ◌∙◌}
 use Rattle.std.specs.Prelude.{◌&&◌, nat_lt, is_some, unwrap_or, codes}
-use Rattle.std.specs.FinMap.{empty, entries, from_entries}
 use Rattle.std.specs.List.{list_all, list_any, flat_map, range_with_len}
 use Rattle.std.specs.Option.{option_map_or, option_to_list}
 use Rattle.std.specs.Str.{bytes_eq}
@@ -13,16 +12,15 @@ use Rattle.sync_types.specs.declared.call.Call.{Call}
 use Rattle.sync_types.specs.declared.call.Operation.{Operation}
 use Rattle.sync_types.specs.declared.call.Operation.TheVariants as operations
 use Rattle.sync_types.specs.declared.map_object.MapCall.TheVariants.{Load, Store, Delete}
-use Rattle.sync_types.specs.SequentialMap.{map_after, map_key}
+use Rattle.sync_types.specs.SequentialMap.{map_key}
 use Rattle.workload.specs.declared.object.ObjectKind.{ObjectKind}
 use Rattle.workload.specs.declared.object.ObjectKind.TheVariants as kinds
 use Rattle.workload.specs.declared.object.ObjectLine.{ObjectLine}
 use Rattle.workload.specs.Draft.{keys_of, operation_keys}
 use Rattle.run_laws.specs.Adds.{is_add, IsOnlyAddedTo}
 use Rattle.run_laws.specs.Locks.{has_plain_objects, keeps_lock, KeepsItsLocks}
-use Rattle.run_laws.specs.Owners.{NamedMap, after_script, map_of, union_of, is_on_name, uses_key, AreApart}
-use Rattle.workload_generator.specs.Generated.{in_twos, key_of, call_by, drawn_for, round, script_by, generated_objects, generated_plan}
-use Rattle.workload_generator.specs.Summary as alone
+use Rattle.run_laws.specs.Owners.{is_on_name, uses_key, AreApart}
+use Rattle.workload_generator.specs.Generated.{in_twos, key_of, drawn_for, round, script_by, generated_objects, generated_plan}
 
 pub objects_are : (seed : ℕ) → (generated_plan seed).objects ≡ generated_objects
 unfolding generated_plan
@@ -137,18 +135,6 @@ apart scripts seed one key worker script at uses other its_script other_at unequ
 
   keys_in_script : (w : ℕ) (s : List Call) → script_of_worker seed w ≡ s → list_any (uses_key 2 key) s ≡ true → list_any (bytes_eq key) (flat_map keys_of (script_of_worker seed w)) ≡ true
   keys_in_script w s is used = used_are_keys key (script_of_worker seed w) (keyed_rounds w (in_twos (drawn_for seed w))) (ap (list_any (uses_key 2 key)) is ∙ used)
-
--- a worker's map, by its calls on the map at place 2, is that by all its calls
-own_rounds : (worker : ℕ) (words : List (ℕ × ℕ)) (m : NamedMap) → after_script 2 m (flat_map (round worker) words) ≡ alone.after_script m (flat_map (round worker) words)
-own_rounds worker [] m = refl
-own_rounds worker (pair ∷ words) m = own_rounds worker words (map_after (call_by worker pair.1) m)
-
-pub unions_are : (seed : ℕ) → union_of 2 (generated_plan seed).scripts ≡ alone.union_of (generated_plan seed).scripts
-unions_are seed = ap (λ (scripts : List (List Call)). union_of 2 scripts) (scripts_are seed) ∙ (ap from_entries (each (range_with_len 0 8)) ∙ ap alone.union_of (sym (scripts_are seed))) where
-  each : (workers : List ℕ) → flat_map (λ script. entries (map_of 2 script)) (map (script_of_worker seed) workers) ≡ flat_map (λ script. entries (alone.map_of script)) (map (script_of_worker seed) workers)
-  each [] = refl
-  each (worker ∷ workers) = ap (λ (m : NamedMap). entries m ++ flat_map (λ script. entries (map_of 2 script)) (map (script_of_worker seed) workers)) (own_rounds worker (in_twos (drawn_for seed worker)) empty)
-      ∙ ap (λ (es : List (List ℕ × ℕ)). entries (alone.map_of (script_of_worker seed worker)) ++ es) (each workers)
 
 -- the int64 and the map
 pub int64_at : (seed : ℕ) → (object : ObjectLine) × (slice_get (generated_plan seed).objects 1 ≡ Some object) × (object.kind ≡ kinds.Atomic types.Int64)

@@ -7,13 +7,14 @@ use Rattle.sync_types.specs.declared.outcome.End.TheVariants as ends
 use Rattle.sync_types.specs.declared.outcome.Report.{Report}
 use Rattle.workload.specs.Keys.{keys_in, key_number}
 use Rattle.workload_generator.specs.Generated.{generated_plan}
-use Rattle.workload_generator.specs.Summary.{summary, union_of, numbered}
+use Rattle.workload.specs.OwnMaps.{union_of}
+use Rattle.workload_generator.specs.Summary.{summary, numbered}
 
 -- what the objects hold at the end: the int64, at place 1, the sum of all amounts, and the map, at place 2, the union of the workers' maps, in the order of the keys
 abbrev pub ends_of_seed : ℕ → List End
 ends_of_seed seed =
     ends.Number 1 (Int64 (pos (summary seed).total))
-    ∷ map (λ entry. ends.Pair 2 (key_number (keys_in (generated_plan seed).scripts) entry.0) entry.1) (entries (union_of (generated_plan seed).scripts))
+    ∷ map (λ entry. ends.Pair 2 (key_number (keys_in (generated_plan seed).scripts) entry.0) entry.1) (entries (union_of 2 (generated_plan seed).scripts))
 
 -- the number of an end, where it is that of an int64 which isn't below 0
 abbrev pub number_in : End → ℕ

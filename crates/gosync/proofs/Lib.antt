@@ -1,5 +1,4 @@
 pub mod AskedWords
-pub mod CallWords
 pub mod Fronts
 pub mod Lines
 pub mod MadeLines

@@ -8,7 +8,8 @@ use Rattle.std.proofs.Common.{inl, inr}
 use Rattle.std.proofs.Math.Dec.{ltb}
 use Rattle.std.proofs.lemmas.Bool.{eqb-true, lt-ltb, ltb-true, cases_lt}
 use Rattle.workload.specs.Plan.{Plan, is_valid}
-use Rattle.gosync.specs.ReportText.{completed_line, calls_text, workers_text}
+use Rattle.report_lines.specs.ReportLines.{completed_line}
+use Rattle.gosync.specs.ReportText.{calls_text, workers_text}
 
 -- no replies are left
 pub workers_none : (plan : Plan) (worker : ℕ) (scripts : List (List Call)) (replies : List (List (Reply ℕ))) → replies ≡ [] → workers_text plan worker scripts replies ≡ []

@@ -1,4 +1,3 @@
-pub mod Adding
 pub mod ComesTo
 pub mod Command
 pub mod Front

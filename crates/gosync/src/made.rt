@@ -5,9 +5,9 @@ ghost use Rattle.sync_outside.specs.Faults.{Rose};
 ghost use Rattle.workload_generator.specs.Summary.{numbered};
 ghost use Rattle.gosync.specs.MadeText.{are_short, lines_of, totals_text};
 
-use crate::line::{push, push_word};
 use itoa::Buffer;
 use made_run::Totals;
+use report_lines::{push, push_word};
 use sync_outside::{Failed, Sink};
 
 /// The room of the buffer of a line, in bytes: a word of at most 8, a space, a number of at most 40, and a line feed.

@@ -1,19 +1,14 @@
 //! Runs written workloads over Go's `sync` and `sync/atomic`.
 #![tactic(auto)]
 
-mod call_words;
-mod completed_line;
-mod end_line;
 mod front;
 mod input;
 mod laws;
-mod line;
 mod made;
 mod make;
 mod message;
 mod program;
 mod read;
-mod reply;
 mod report;
 mod run;
 mod status;
@@ -28,7 +23,8 @@ use crate::status::{Status, Unread};
 use std::env;
 use std::io::ErrorKind;
 use std::process::ExitCode;
-use sync_outside::{OpenGate, SystemClock, SystemSources, ThreadSpawner, WriterSink};
+use sync_outside::{OpenGate, SystemClock, ThreadSpawner};
+use system_io::{SystemSources, WriterSink};
 
 /// The words of the command line. Those that aren't UTF-8 aren't taken.
 fn words_of(rt: &HostRuntime) -> Result<Vec<String>, Status> {

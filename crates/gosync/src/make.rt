@@ -20,8 +20,8 @@ use made_run::{made_workload, totals_of};
 use std::alloc::Global;
 use std::sync::Wait;
 use std::thread::Threads;
-use sync_types::{Outcome, Report};
 use sync_outside::{Clock, Gate, Sink, Spawner};
+use sync_types::{Outcome, Report};
 use thread_runner::{RunFault, threaded};
 
 /// Writes the five lines of what the run of a made workload left behind.

@@ -9,12 +9,10 @@ ghost use Rattle.gosync.specs.Messages.{ending_of};
 ghost use Rattle.gosync.specs.declared.status.Fault.TheVariants as faults;
 ghost use Rattle.gosync.specs.ReportText.{calls_text, workers_text, ends_text, report_text};
 
-use crate::completed_line::set_completed_line;
-use crate::end_line::set_end_line;
-use crate::line::LINE_ROOM;
 use crate::status::{Ending, Fault};
-use sync_types::{End, Outcome, Reply, Seq};
+use report_lines::{LINE_ROOM, set_completed_line, set_end_line};
 use sync_outside::{Failed, Sink};
+use sync_types::{End, Outcome, Reply, Seq};
 use workload::Workload;
 
 /// Writes the completed calls of a worker: as many of its script as there are replies.

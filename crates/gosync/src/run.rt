@@ -5,9 +5,9 @@ ghost use Rattle.gosync.specs.ComesTo.{Ends, Fails};
 ghost use Rattle.gosync.specs.Headline.{RunsInJobs};
 ghost use Rattle.gosync.specs.declared.status.Fault.TheVariants as faults;
 
-use crate::line::LINE_ROOM;
 use crate::report::report_run;
 use crate::status::{Ending, Fault};
+use report_lines::LINE_ROOM;
 use run_record::laws::limits::a_range_shows_no_key_twice;
 use std::alloc::Global;
 use std::sync::Wait;

@@ -9,10 +9,10 @@ ghost use Rattle.gosync.specs.declared.status.Status.TheVariants as statuses;
 ghost use Rattle.gosync.specs.declared.status.Unread.TheVariants as unreads;
 ghost use Rattle.gosync.specs.declared.status.Fault.TheVariants as faults;
 
-use crate::line::LINE_ROOM;
 use crate::read::read_workload;
 use crate::report::report_run;
 use crate::status::{Ending, Fault, Status};
+use report_lines::LINE_ROOM;
 use std::alloc::Global;
 use step_runner::stepped;
 use sync_outside::{Sink, Sources};

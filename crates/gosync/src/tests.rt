@@ -10,10 +10,10 @@ use std::alloc::{AllocError, Global};
 use std::sync::Wait;
 use std::test::Fail;
 use std::thread::Threads;
-use sync_types::Misuse;
 use sync_outside::{
     Gate, MemClock, MemFile, MemSink, MemSources, OpenGate, Spawner, ThreadSpawner,
 };
+use sync_types::Misuse;
 use workload::Reason;
 use workload_printer::print;
 use workload_reader::parse;

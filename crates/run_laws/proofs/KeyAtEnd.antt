@@ -30,7 +30,8 @@ use Rattle.run_record.specs.Lines.{Line, script_of}
 use Rattle.run_record.specs.Objects.{contents_of, is_map, map_number}
 use Rattle.run_record.specs.Record.{Record, calls_of, shared_in}
 use Rattle.run_laws.specs.Locks.{has_plain_objects}
-use Rattle.run_laws.specs.Owners.{map_of, IsOwnedBy}
+use Rattle.workload.specs.OwnMaps.{map_of}
+use Rattle.run_laws.specs.Owners.{IsOwnedBy}
 use Rattle.run_laws.proofs.DoneLines.{calls_in, items_in, script_at, calls_at, calls_past, line_at}
 use Rattle.run_laws.proofs.MapItems.{IsKeyed, script_along, script_off, item_off}
 use Rattle.run_laws.proofs.NamedKeys.{key_of_call}

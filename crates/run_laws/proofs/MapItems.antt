@@ -33,12 +33,14 @@ use Rattle.run_record.specs.Lines.{SpeltCall, AreSpelt}
 use Rattle.run_record.specs.Objects.{is_map, map_number}
 use Rattle.run_record.specs.Record.{shared_in, number_at}
 use Rattle.run_laws.specs.Locks.{has_plain_objects}
-use Rattle.run_laws.specs.Owners.{NamedMap, after_operation, after_script, is_on_name, uses_key}
+use Rattle.workload.specs.OwnMaps.{NamedMap, after_operation, after_script}
+use Rattle.run_laws.specs.Owners.{is_on_name, uses_key}
 use Rattle.run_laws.proofs.AddItems.{no_entries_shared}
 use Rattle.run_laws.proofs.DoneLines.{calls_in, items_in, shared_append, shared_map}
 use Rattle.run_laws.proofs.NamedKeys.{one_number}
 use Rattle.run_laws.proofs.Numbered.{numbers_apart}
-use Rattle.run_laws.proofs.OneKey.{value_after, value_renamed, key_renamed, key_after}
+use Rattle.run_laws.proofs.OneKey.{value_renamed, key_renamed, key_left}
+use Rattle.sync_types.specs.KeyCalls.{key_after}
 use Rattle.run_laws.proofs.PlainCalls.{PlainCall, on_map, on_range, on_atomic, on_mutex, IsOfKind, is_cursors, list_all_at, plain_call}
 use Rattle.run_laws.proofs.Weaving.{shared_key_after, key_along, off_key}
 
@@ -80,12 +82,12 @@ or_false false b is = (refl, is)
 
 -- what an operation leaves at its key
 abbrev pub op_value : Operation → Option ℕ → Option ℕ
-op_value (operations.Map op) was = value_after op was
+op_value (operations.Map op) was = key_after op was
 op_value operation was = was
 
 -- what a call leaves at the key, by name
 pub named_op : (key : List ℕ) (operation : Operation) (m : NamedMap) → get (after_operation operation m) key ≡ cond (is_on_name key operation) (op_value operation (get m key)) (get m key)
-named_op key (operations.Map op) m = key_after nat_list_cmp_total key op m ∙ ap (λ (b : Bool). cond b (value_after op (get m key)) (get m key)) (alike (map_key op)) where
+named_op key (operations.Map op) m = key_left nat_list_cmp_total key op m ∙ ap (λ (b : Bool). cond b (key_after op (get m key)) (get m key)) (alike (map_key op)) where
   alike : (o : Option (List ℕ)) → option_map_or (λ other. eq_by_cmp (slice_cmp nat_cmp) key other) o true ≡ option_map_or (bytes_eq key) o true
   alike (Some other) = is_eq-slice_cmp key other
   alike None = refl
@@ -144,7 +146,7 @@ module _ (plan : Plan) (place : ℕ) (object : ObjectLine) (at : slice_get plan.
   item_call call items was (one_call op x is_a_map asks are is) keyed =
       ap (key_along (map_number plan.objects place) number_of_key was) are
       ∙ (ap (λ (c : SharedCall). shared_key_after (map_number plan.objects place) number_of_key c was) is
-      ∙ (ap (λ (b : Bool). cond b (value_after (renamed_call (key_number (keys_in plan.scripts)) op) was) was) (on_key call op is_a_map asks keyed)
+      ∙ (ap (λ (b : Bool). cond b (key_after (renamed_call (key_number (keys_in plan.scripts)) op) was) was) (on_key call op is_a_map asks keyed)
       ∙ (ap (λ (v : Option ℕ). cond (uses_key place key call) v was) (value_renamed (key_number (keys_in plan.scripts)) op was)
       ∙ ap (λ (o : Operation). cond (uses_key place key call) (op_value o was) was) (sym asks))))
   item_call call items was (no_call none all) keyed = no_change items was all ∙ sym (by_operation call.operation none (call.object == place)) where

@@ -11,22 +11,11 @@ use Rattle.std.proofs.lemmas.Bool.{false≢true}
 use Rattle.sync_types.specs.declared.map_object.MapCall.{MapCall}
 use Rattle.sync_types.specs.declared.map_object.MapCall.TheVariants.{Load, Store, LoadOrStore, LoadAndDelete, Delete, Swap, CompareAndSwap, CompareAndDelete, Clear}
 use Rattle.sync_types.specs.Renaming.{renamed_call}
+use Rattle.sync_types.specs.KeyCalls.{key_after}
 use Rattle.sync_types.specs.SequentialMap.{is_value, map_after, map_key}
 
--- what a call leaves at its own key, by what was there
-abbrev pub value_after : {K : Type 0} → MapCall K → Option ℕ → Option ℕ
-value_after (Load key) was = was
-value_after (Store key value) was = Some value
-value_after (LoadOrStore key value) was = cond (is_some was) was (Some value)
-value_after (LoadAndDelete key) was = None
-value_after (Delete key) was = None
-value_after (Swap key value) was = Some value
-value_after (CompareAndSwap key old new) was = cond (is_value old was) (Some new) was
-value_after (CompareAndDelete key old) was = cond (is_value old was) None was
-value_after Clear was = None
-
--- at whatever name the key has
-pub value_renamed : {K L : Type 0} (rename : K → L) (call : MapCall K) (was : Option ℕ) → value_after (renamed_call rename call) was ≡ value_after call was
+-- what a call leaves at its own key is the same at whatever name the key has
+pub value_renamed : {K L : Type 0} (rename : K → L) (call : MapCall K) (was : Option ℕ) → key_after (renamed_call rename call) was ≡ key_after call was
 value_renamed rename (Load key) was = refl
 value_renamed rename (Store key value) was = refl
 value_renamed rename (LoadOrStore key value) was = refl
@@ -92,14 +81,14 @@ module _ {K : Type 0} {R : K → K → Ordering} (total : IsTotalOrder R) (key :
     either false same = sym (same_both (test (get m other)) (get m key))
 
   -- what a call leaves at the key
-  pub key_after : (call : MapCall K) (m : FinMap R ℕ) → get (map_after call m) key ≡ cond (is_at call) (value_after call (get m key)) (get m key)
-  key_after (Load other) m = same_both (eq_by_cmp R key other) (get m key)
-  key_after (Store other value) m = inserted m other value
-  key_after (LoadOrStore other value) m = chosen (is_some (get m other)) m (insert m other value) ∙ (ap (cond (is_some (get m other)) (get m key)) (inserted m other value)
+  pub key_left : (call : MapCall K) (m : FinMap R ℕ) → get (map_after call m) key ≡ cond (is_at call) (key_after call (get m key)) (get m key)
+  key_left (Load other) m = same_both (eq_by_cmp R key other) (get m key)
+  key_left (Store other value) m = inserted m other value
+  key_left (LoadOrStore other value) m = chosen (is_some (get m other)) m (insert m other value) ∙ (ap (cond (is_some (get m other)) (get m key)) (inserted m other value)
       ∙ (turned (is_some (get m other)) (get m key) _ ∙ (by_key is_none (Some value) m other ∙ ap (λ (v : Option ℕ). cond (eq_by_cmp R key other) v (get m key)) (sym (turned (is_some (get m key)) (get m key) (Some value))))))
-  key_after (LoadAndDelete other) m = removed m other
-  key_after (Delete other) m = removed m other
-  key_after (Swap other value) m = inserted m other value
-  key_after (CompareAndSwap other old new) m = chosen (is_value old (get m other)) (insert m other new) m ∙ (ap (λ (v : Option ℕ). cond (is_value old (get m other)) v (get m key)) (inserted m other new) ∙ by_key (is_value old) (Some new) m other)
-  key_after (CompareAndDelete other old) m = chosen (is_value old (get m other)) (remove m other) m ∙ (ap (λ (v : Option ℕ). cond (is_value old (get m other)) v (get m key)) (removed m other) ∙ by_key (is_value old) None m other)
-  key_after Clear m = get-empty R key
+  key_left (LoadAndDelete other) m = removed m other
+  key_left (Delete other) m = removed m other
+  key_left (Swap other value) m = inserted m other value
+  key_left (CompareAndSwap other old new) m = chosen (is_value old (get m other)) (insert m other new) m ∙ (ap (λ (v : Option ℕ). cond (is_value old (get m other)) v (get m key)) (inserted m other new) ∙ by_key (is_value old) (Some new) m other)
+  key_left (CompareAndDelete other old) m = chosen (is_value old (get m other)) (remove m other) m ∙ (ap (λ (v : Option ℕ). cond (is_value old (get m other)) v (get m key)) (removed m other) ∙ by_key (is_value old) None m other)
+  key_left Clear m = get-empty R key

@@ -35,27 +35,29 @@ use Rattle.run_record.specs.Lines.{SpeltCall, Line, script_of, AreSpelt}
 use Rattle.run_record.specs.Objects.{contents_of, map_number, named}
 use Rattle.run_record.specs.Record.{Record, shared_in}
 use Rattle.run_laws.specs.Locks.{has_plain_objects}
-use Rattle.run_laws.specs.Owners.{NamedMap, after_operation, after_script, map_of, union_of, is_on_name, uses_key, AreApart}
+use Rattle.workload.specs.OwnMaps.{NamedMap, after_operation, after_script, map_of, union_of}
+use Rattle.run_laws.specs.Owners.{is_on_name, uses_key, AreApart}
 use Rattle.run_laws.proofs.DoneLines.{calls_in, items_in, shared_append, script_at, calls_at, line_at}
 use Rattle.run_laws.proofs.EachOf.{Each, each_at, each_both}
 use Rattle.run_laws.proofs.KeyAtEnd.{Facts, scripted, map_there, starts_empty, own_value, no_value}
 use Rattle.run_laws.proofs.MapItems.{MapItems, one_call, no_call, is_no_map, map_items, op_value, named_call}
 use Rattle.run_laws.proofs.NamedFind.{find_none, find_one, entry_found, number_at_key, find_named, find_unnamed}
 use Rattle.run_laws.proofs.NamedKeys.{key_of_call}
-use Rattle.run_laws.proofs.OneKey.{value_after, value_renamed, key_renamed}
+use Rattle.run_laws.proofs.OneKey.{value_renamed, key_renamed}
+use Rattle.sync_types.specs.KeyCalls.{key_after}
 use Rattle.run_laws.proofs.PlainCalls.{plain_call}
 use Rattle.run_laws.proofs.Weaving.{shared_key_after, value_after_call, maps_one}
 
 -- a call that is on another key leaves nothing where nothing was; so does a `clear`
-none_stays : {K : Type 0} (test : K → Bool) (op : MapCall K) → ((name : K) → map_key op ≡ Some name → test name ≡ false) → cond (option_map_or test (map_key op) true) (value_after op None) None ≡ None
-none_stays test (Load name) off = ap (λ (b : Bool). cond b (value_after (Load name) None) None) (off name refl)
-none_stays test (Store name value) off = ap (λ (b : Bool). cond b (value_after (Store name value) None) None) (off name refl)
-none_stays test (LoadOrStore name value) off = ap (λ (b : Bool). cond b (value_after (LoadOrStore name value) None) None) (off name refl)
-none_stays test (LoadAndDelete name) off = ap (λ (b : Bool). cond b (value_after (LoadAndDelete name) None) None) (off name refl)
-none_stays test (Delete name) off = ap (λ (b : Bool). cond b (value_after (Delete name) None) None) (off name refl)
-none_stays test (Swap name value) off = ap (λ (b : Bool). cond b (value_after (Swap name value) None) None) (off name refl)
-none_stays test (CompareAndSwap name old new) off = ap (λ (b : Bool). cond b (value_after (CompareAndSwap name old new) None) None) (off name refl)
-none_stays test (CompareAndDelete name old) off = ap (λ (b : Bool). cond b (value_after (CompareAndDelete name old) None) None) (off name refl)
+none_stays : {K : Type 0} (test : K → Bool) (op : MapCall K) → ((name : K) → map_key op ≡ Some name → test name ≡ false) → cond (option_map_or test (map_key op) true) (key_after op None) None ≡ None
+none_stays test (Load name) off = ap (λ (b : Bool). cond b (key_after (Load name) None) None) (off name refl)
+none_stays test (Store name value) off = ap (λ (b : Bool). cond b (key_after (Store name value) None) None) (off name refl)
+none_stays test (LoadOrStore name value) off = ap (λ (b : Bool). cond b (key_after (LoadOrStore name value) None) None) (off name refl)
+none_stays test (LoadAndDelete name) off = ap (λ (b : Bool). cond b (key_after (LoadAndDelete name) None) None) (off name refl)
+none_stays test (Delete name) off = ap (λ (b : Bool). cond b (key_after (Delete name) None) None) (off name refl)
+none_stays test (Swap name value) off = ap (λ (b : Bool). cond b (key_after (Swap name value) None) None) (off name refl)
+none_stays test (CompareAndSwap name old new) off = ap (λ (b : Bool). cond b (key_after (CompareAndSwap name old new) None) None) (off name refl)
+none_stays test (CompareAndDelete name old) off = ap (λ (b : Bool). cond b (key_after (CompareAndDelete name old) None) None) (off name refl)
 none_stays test Clear off = refl
 
 -- nothing stands at a key, where no call leaves anything there
@@ -149,9 +151,9 @@ module _ (plan : Plan) (r : Record) (left : Report) (explains : Explains plan (D
       another name has = let within = slice_get_within (keys_in plan.scripts) (key_number (keys_in plan.scripts) name) name (number_at_key (keys_in plan.scripts) numbered placed name (among name ∙ known op name asks has)) in
           ne_eqb (key_number (keys_in plan.scripts) name) number (λ e. omega (arith, e, within, past))
 
-      by_number : (b : Bool) → cond (b && option_map_or (λ k. k == number) (map_key (renamed_call (key_number (keys_in plan.scripts)) op)) true) (value_after (renamed_call (key_number (keys_in plan.scripts)) op) None) None ≡ None
+      by_number : (b : Bool) → cond (b && option_map_or (λ k. k == number) (map_key (renamed_call (key_number (keys_in plan.scripts)) op)) true) (key_after (renamed_call (key_number (keys_in plan.scripts)) op) None) None ≡ None
       by_number false = refl
-      by_number true = ap (λ (b : Bool). cond b (value_after (renamed_call (key_number (keys_in plan.scripts)) op) None) None) (key_renamed (key_number (keys_in plan.scripts)) (λ k. k == number) op)
+      by_number true = ap (λ (b : Bool). cond b (key_after (renamed_call (key_number (keys_in plan.scripts)) op) None) None) (key_renamed (key_number (keys_in plan.scripts)) (λ k. k == number) op)
           ∙ (ap (λ (v : Option ℕ). cond (option_map_or (λ name. key_number (keys_in plan.scripts) name == number) (map_key op) true) v None) (value_renamed (key_number (keys_in plan.scripts)) op None)
           ∙ none_stays (λ name. key_number (keys_in plan.scripts) name == number) op another)
 

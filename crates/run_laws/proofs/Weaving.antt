@@ -18,7 +18,8 @@ use Rattle.sync_types.specs.SequentialMap.{map_after, map_key, is_map_entry}
 use Rattle.sync_model.specs.SharedCalls.{bound}
 use Rattle.sync_model.specs.SharedHistory.{Contents, map_at, value_at, contents_at, is_entry, shared_after, contents_after}
 use Rattle.sync_model.specs.SharedLaws.{is_on_key}
-use Rattle.run_laws.proofs.OneKey.{value_after, key_after}
+use Rattle.run_laws.proofs.OneKey.{key_left}
+use Rattle.sync_types.specs.KeyCalls.{key_after}
 
 -- the contents after one more entry
 next_contents : (history : List SharedEntry) (contents : Contents) (n : ℕ) (e : SharedEntry) → slice_get history n ≡ Some e
@@ -36,7 +37,7 @@ turned a b = elim (cases_eq a b) [
 module _ (m key : ℕ) where
   -- what a call leaves at the key of the map
   abbrev pub shared_key_after : SharedCall → Option ℕ → Option ℕ
-  shared_key_after (calls.Map n call) was = cond (is_on_key m key (calls.Map n call)) (value_after call was) was
+  shared_key_after (calls.Map n call) was = cond (is_on_key m key (calls.Map n call)) (key_after call was) was
   shared_key_after (calls.Begin n) was = was
   shared_key_after (calls.Next begin) was = was
   shared_key_after (calls.Atomic a call) was = was
@@ -47,7 +48,7 @@ module _ (m key : ℕ) where
   key_along was (x ∷ xs) = key_along (shared_key_after x.call was) xs
 
   pub off_key : (call : SharedCall) (was : Option ℕ) → is_on_key m key call ≡ false → shared_key_after call was ≡ was
-  off_key (calls.Map n call) was off = ap (λ (b : Bool). cond b (value_after call was) was) off
+  off_key (calls.Map n call) was off = ap (λ (b : Bool). cond b (key_after call was) was) off
   off_key (calls.Begin n) was off = refl
   off_key (calls.Next begin) was off = refl
   off_key (calls.Atomic a call) was off = refl
@@ -57,8 +58,8 @@ module _ (m key : ℕ) where
   alike_test (Some other) = unsigned_tied key other ∙ turned key other
   alike_test None = refl
 
-  own_map : (call : MapCall ℕ) (held : FinMap nat_cmp ℕ) → get (map_after call held) key ≡ cond (option_map_or (λ other. other == key) (map_key call) true) (value_after call (get held key)) (get held key)
-  own_map call held = key_after nat_cmp_total key call held ∙ ap (λ (b : Bool). cond b (value_after call (get held key)) (get held key)) (alike_test (map_key call))
+  own_map : (call : MapCall ℕ) (held : FinMap nat_cmp ℕ) → get (map_after call held) key ≡ cond (option_map_or (λ other. other == key) (map_key call) true) (key_after call (get held key)) (get held key)
+  own_map call held = key_left nat_cmp_total key call held ∙ ap (λ (b : Bool). cond b (key_after call (get held key)) (get held key)) (alike_test (map_key call))
 
   -- the contents of the map at the key, after a call
   pub value_after_call : (call : SharedCall) (contents : Contents) → m < length contents.maps → value_at (shared_after call contents) m key ≡ shared_key_after call (value_at contents m key)
@@ -67,15 +68,15 @@ module _ (m key : ℕ) where
   value_after_call (calls.Atomic a call) contents within = refl
   value_after_call (calls.Map n call) contents within = by_number (cases_Bool (n == m)) where
     by_number : ((n == m) ≡ true) ⊎ ((n == m) ≡ false)
-        → value_at (shared_after (calls.Map n call) contents) m key ≡ cond ((n == m) && option_map_or (λ other. other == key) (map_key call) true) (value_after call (value_at contents m key)) (value_at contents m key)
+        → value_at (shared_after (calls.Map n call) contents) m key ≡ cond ((n == m) && option_map_or (λ other. other == key) (map_key call) true) (key_after call (value_at contents m key)) (value_at contents m key)
     by_number (inl e) =
         let same : n ≡ m = eqb-true n m e in
         let set_here : get_or (slice_set contents.maps n (map_after call (map_at contents n))) m empty ≡ map_after call (map_at contents m) =
         subst (λ q. get_or (slice_set contents.maps n (map_after call (map_at contents n))) q empty ≡ map_after call (map_at contents q)) same (get_or-set_same contents.maps n (map_after call (map_at contents n)) empty (omega (arith, same, within))) in
         ap (λ (held : FinMap nat_cmp ℕ). get held key) set_here ∙ (own_map call (map_at contents m)
-        ∙ ap (λ (b : Bool). cond (b && option_map_or (λ other. other == key) (map_key call) true) (value_after call (value_at contents m key)) (value_at contents m key)) (sym e))
+        ∙ ap (λ (b : Bool). cond (b && option_map_or (λ other. other == key) (map_key call) true) (key_after call (value_at contents m key)) (value_at contents m key)) (sym e))
     by_number (inr e) = ap (λ (held : FinMap nat_cmp ℕ). get held key) (get_or-set_other contents.maps n m (map_after call (map_at contents n)) empty (λ same. eqb-false n m e (sym same)))
-        ∙ ap (λ (b : Bool). cond (b && option_map_or (λ other. other == key) (map_key call) true) (value_after call (value_at contents m key)) (value_at contents m key)) (sym e)
+        ∙ ap (λ (b : Bool). cond (b && option_map_or (λ other. other == key) (map_key call) true) (key_after call (value_at contents m key)) (value_at contents m key)) (sym e)
 
   -- a call that is no entry leaves it
   unentered : ((held : FinMap nat_cmp ℕ) (call : MapCall ℕ) → is_map_entry call held ≡ false → map_after call held ≡ held) → (call : SharedCall) (contents : Contents) → is_entry call contents ≡ false
@@ -84,10 +85,10 @@ module _ (m key : ℕ) where
   unentered only (calls.Next begin) contents none = refl
   unentered only (calls.Atomic a call) contents none = refl
   unentered only (calls.Map n call) contents none = by_number (cases_Bool (n == m)) where
-    by_number : ((n == m) ≡ true) ⊎ ((n == m) ≡ false) → cond ((n == m) && option_map_or (λ other. other == key) (map_key call) true) (value_after call (value_at contents m key)) (value_at contents m key) ≡ value_at contents m key
-    by_number (inl e) = ap (λ (b : Bool). cond (b && option_map_or (λ other. other == key) (map_key call) true) (value_after call (value_at contents m key)) (value_at contents m key)) e
+    by_number : ((n == m) ≡ true) ⊎ ((n == m) ≡ false) → cond ((n == m) && option_map_or (λ other. other == key) (map_key call) true) (key_after call (value_at contents m key)) (value_at contents m key) ≡ value_at contents m key
+    by_number (inl e) = ap (λ (b : Bool). cond (b && option_map_or (λ other. other == key) (map_key call) true) (key_after call (value_at contents m key)) (value_at contents m key)) e
         ∙ (sym (own_map call (map_at contents m)) ∙ ap (λ (held : FinMap nat_cmp ℕ). get held key) (only (map_at contents m) call (subst (λ q. is_map_entry call (map_at contents q) ≡ false) (eqb-true n m e) none)))
-    by_number (inr e) = ap (λ (b : Bool). cond (b && option_map_or (λ other. other == key) (map_key call) true) (value_after call (value_at contents m key)) (value_at contents m key)) e
+    by_number (inr e) = ap (λ (b : Bool). cond (b && option_map_or (λ other. other == key) (map_key call) true) (key_after call (value_at contents m key)) (value_at contents m key)) e
 
   -- the maps stay as many
   pub maps_one : (call : SharedCall) (contents : Contents) → m < length contents.maps → m < length (shared_after call contents).maps

@@ -12,10 +12,11 @@ ghost use Rattle.run_record.specs.Explains.{Explains};
 ghost use Rattle.run_record.specs.Objects.{contents_of, map_number, named};
 ghost use Rattle.run_record.specs.Record.{Record};
 ghost use Rattle.run_laws.specs.Locks.{has_plain_objects};
-ghost use Rattle.run_laws.specs.Owners.{map_of, union_of, AreApart, IsOwnedBy};
+ghost use Rattle.workload.specs.OwnMaps.{map_of, union_of};
+ghost use Rattle.run_laws.specs.Owners.{AreApart, IsOwnedBy};
 
-use sync_types::laws::maps::only_entries_change;
 use sync_model::laws::shared::{a_callers_calls_are_in_order, each_entry_is_a_call};
+use sync_types::laws::maps::only_entries_change;
 use sync_types::{Outcome, Report};
 use workload::laws::keys_are_numbered_by_first_appearance;
 use workload::{ObjectKind, ObjectLine};

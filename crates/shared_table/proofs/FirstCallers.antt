@@ -1,28 +1,23 @@
 -- The callers of a new table are dealt out.
-use Rattle.std.proofs.Common.{◌≡◌, ℕ, zero, suc, ◌+◌, ◌*◌, ◌^◌, ◌<◌, ◌≤◌, true, List, [], ◌∷◌, length, drop, sum, Some, slice_get, slice_index, refl, sym, ap, ◌∙◌, subst, arith}
+use Rattle.std.proofs.Common.{◌≡◌, ℕ, zero, suc, ◌+◌, ◌*◌, ◌^◌, ◌<◌, ◌≤◌, List, [], ◌∷◌, length, drop, sum, Some, slice_get, slice_index, refl, sym, ap, ◌∙◌, subst, arith}
 use Rattle.std.proofs.lemmas.List.{drop_more}
 use Rattle.std.proofs.lemmas.List.Sums.{sum_by-cons}
 use Rattle.std.proofs.lemmas.Option.{none-some, same_Some}
-use Rattle.atomic_table.specs.Table.{Me, Splits}
+use Rattle.atomic_table.specs.Table.{Me}
 use Rattle.sync_model.specs.declared.caller.Caller.{Caller}
 use Rattle.sync_model.specs.Note.{IsCounted}
 use Rattle.trie_nodes.specs.Layout.{unit_words}
-use Rattle.shared_table.specs.declared.begin.Begin.{Begin}
+use Rattle.table_seats.specs.declared.begin.Begin.{Begin}
+use Rattle.table_seats.specs.Seats.{IsSeatOf, begin_of}
 use Rattle.shared_table.specs.declared.note.SharedNote.{SharedNote}
 use Rattle.shared_table.specs.declared.table.SharedTable.{SharedTable}
-use Rattle.shared_table.specs.declared.view.Own.{Own}
-use Rattle.shared_table.specs.declared.view.View.{View}
+use Rattle.table_seats.specs.declared.view.Own.{Own}
+use Rattle.table_seats.specs.declared.view.View.{View}
 use Rattle.shared_table.specs.Dealing.{left_view, IsNewCaller}
-use Rattle.shared_table.specs.Layout.{callers_of, size_of, IsBegin}
+use Rattle.table_seats.specs.Layout.{callers_of, size_of, IsBegin}
 use Rattle.shared_table.specs.NewCallers.{AreNewCallers}
-use Rattle.shared_table.specs.Rule.{Kept}
-use Rattle.shared_table.specs.Views.{held_in, next_in, spare_in, new_owns, first_view, dealt, kept, others_of, first_of, IsIdle}
-use Rattle.shared_table.proofs.Noting.{some_word}
-use Rattle.shared_table.proofs.Opening.{same_for_all}
-use Rattle.shared_table.proofs.Seats.{deals}
-
-pub may_deal : (table : SharedTable) (id : ℕ) (v : View) → v.live ≡ true → IsIdle v → 0 < length v.owns → (0 < table.table.shared.table_id.words) × Splits (Kept table.table.shared.key) id v (kept v) (dealt v)
-may_deal table id v live idle stands = (some_word table, deals table.table.shared.key id v live idle stands)
+use Rattle.table_seats.specs.Views.{held_in, next_in, spare_in, new_owns, first_view, dealt, kept, others_of, first_of, IsIdle}
+use Rattle.table_seats.proofs.Opening.{same_for_all}
 
 pub left_idle : (k : Begin) (n next : ℕ) → IsIdle (left_view k n next)
 left_idle k n next = record { walk = refl; leaf = refl; lock = refl; upper = refl; gate = refl; spot = refl }
@@ -57,7 +52,7 @@ module _ (k : Begin) (n next : ℕ) (inside : n < length k.spares) where
   fits_left begin room = let after = room_left room in let objects = begin.objects in let units = begin.units in omega arith
 
   -- the caller of that seat is new
-  pub is_new : (table : SharedTable) (caller : Caller SharedNote) → table.table.shared.key ≡ k → caller.note.seat.table_id ≡ table.table.shared.table_id → caller.note.seat.me ≡ (dealt (left_view k n next), []) → IsNewCaller table k.spares n caller
+  pub is_new : (table : SharedTable) (caller : Caller SharedNote) → begin_of table.words ≡ k → IsSeatOf table.words caller.note.seat → caller.note.seat.me ≡ (dealt (left_view k n next), []) → IsNewCaller table k.spares n caller
   is_new table caller key table_is me =
       let view : caller.note.seat.me.0 ≡ new_view = ap (λ m. m.0) me ∙ dealt_one in
       let same = sym view in record {
@@ -84,7 +79,7 @@ module _ (k : Begin) (n next : ℕ) (inside : n < length k.spares) where
   ghosts_are me is = let view : me.0 ≡ new_view = ap (λ m. m.0) is ∙ dealt_one in (ap (λ (u : View). u.number) view, ap (λ (u : View). next_in next u.owns) view, ap (λ (u : View). spare_in (slice_index k.spares n) u.owns) view)
 
 -- all callers were dealt
-pub all_new : (table : SharedTable) (k : Begin) (callers : List (Caller SharedNote)) → table.table.shared.key ≡ k → length callers ≡ length k.spares → ((i : ℕ) (caller : Caller SharedNote) → slice_get callers i ≡ Some caller → IsNewCaller table k.spares i caller) → AreNewCallers table k.spares callers
+pub all_new : (table : SharedTable) (k : Begin) (callers : List (Caller SharedNote)) → begin_of table.words ≡ k → length callers ≡ length k.spares → ((i : ℕ) (caller : Caller SharedNote) → slice_get callers i ≡ Some caller → IsNewCaller table k.spares i caller) → AreNewCallers table k.spares callers
 all_new table k callers key count each = record {
   all = record {
     all = count ∙ ap callers_of (sym key);

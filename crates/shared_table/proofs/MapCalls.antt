@@ -6,21 +6,22 @@ use Rattle.sync_model.specs.declared.item.SharedReply.TheVariants as replies
 use Rattle.sync_types.specs.declared.map_object.MapCall.{MapCall}
 use Rattle.sync_types.specs.declared.map_object.MapReply.{MapReply}
 use Rattle.sync_model.specs.Shared.{Called, cost_of}
-use Rattle.shared_table.specs.declared.begin.Begin.{Begin}
+use Rattle.table_seats.specs.declared.begin.Begin.{Begin}
 use Rattle.shared_table.specs.declared.map_call.Reached.{Reached}
 use Rattle.shared_table.specs.declared.map_call.Reached.TheVariants.{Answered, Stands}
-use Rattle.shared_table.specs.declared.view.Gate.TheVariants.{Outside, Inside}
-use Rattle.shared_table.specs.declared.view.Leaf.{Leaf}
-use Rattle.shared_table.specs.declared.view.View.{View}
-use Rattle.shared_table.specs.declared.view.Walk.{Walk}
-use Rattle.shared_table.specs.KeyCalls.{is_key_entry, key_reply}
+use Rattle.table_seats.specs.declared.view.Gate.TheVariants.{Outside, Inside}
+use Rattle.table_seats.specs.declared.view.Leaf.{Leaf}
+use Rattle.table_seats.specs.declared.view.View.{View}
+use Rattle.table_seats.specs.declared.view.Walk.{Walk}
+use Rattle.table_seats.specs.KeyCalls.{is_key_entry, key_reply}
 use Rattle.trie_nodes.specs.declared.slot.Slot.TheVariants.{Empty, Node, Entry}
-use Rattle.shared_table.specs.Making.{IsWriting, IsEnd, IsReached, Made}
-use Rattle.shared_table.specs.Shape.{start_of}
-use Rattle.shared_table.specs.Views.{with_item, paid, called_view, view_state}
-use Rattle.shared_table.specs.Walking.{standing, walk_at, given_by, HasWords, Answers, FindsIn, Settles, IsFree, OnWay, AtEntry}
-use Rattle.shared_table.specs.Writing.{holding}
-use Rattle.shared_table.proofs.Reading.{IsAt}
+use Rattle.table_seats.specs.Making.{Made}
+use Rattle.shared_table.specs.MapCalls.{IsWriting, IsEnd, IsReached}
+use Rattle.table_seats.specs.Shape.{start_of}
+use Rattle.table_seats.specs.Views.{with_item, paid, called_view, view_state}
+use Rattle.table_seats.specs.Walking.{standing, walk_at, given_by, HasWords, Answers, FindsIn, Settles, IsFree, OnWay, AtEntry}
+use Rattle.table_seats.specs.Writing.{holding}
+use Rattle.shared_table.proofs.Walks.{IsAt}
 
 module _ (k : Begin) (first : Me (Unit {0}) View) (m key : ℕ) (writing : IsWriting k first m) where
   pub on_way : (me : Me (Unit {0}) View) (node level : ℕ) → IsAt first m key me node level → OnWay k me (walk_at m key node level (length me.0.seen))

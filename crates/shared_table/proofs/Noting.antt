@@ -1,65 +1,42 @@
 -- Notes are copied and merged.
-use Rattle.std.proofs.Common.{◌≡◌, ℕ, ◌+◌, ◌<◌, ◌≤◌, true, List, [], ◌∷◌, ◌++◌, length, Some, None, slice_get, slice_index, refl, sym, ap, ◌∙◌, subst, arith}
+use Rattle.std.proofs.Common.{◌≡◌, ℕ, ◌+◌, ◌≤◌, true, List, [], ◌∷◌, ◌++◌, length, Some, None, slice_get, slice_index, refl, sym, ap, ◌∙◌, subst, arith}
 use Rattle.std.proofs.lemmas.List.{append-nil}
 use Rattle.std.proofs.lemmas.Option.{none-some, same_Some}
-use Rattle.atomic_table.specs.Table.{Me, Allows, Splits, Joins}
+use Rattle.atomic_table.specs.Table.{Me}
 use Rattle.sync_model.specs.Front.{AtLeast}
 use Rattle.sync_model.specs.Journal.{Begins}
 use Rattle.sync_model.specs.Note.{Holding, IsCounted}
 use Rattle.sync_model.specs.SharedCalls.{Lawful}
-use Rattle.shared_table.specs.declared.begin.Begin.{Begin}
+use Rattle.table_seats.specs.declared.begin.Begin.{Begin}
+use Rattle.table_seats.specs.Seats.{begin_of}
 use Rattle.shared_table.specs.declared.note.SharedNote.{SharedNote}
 use Rattle.shared_table.specs.declared.table.SharedTable.{SharedTable}
-use Rattle.shared_table.specs.declared.view.Own.{Own}
-use Rattle.shared_table.specs.declared.view.View.{View}
-use Rattle.shared_table.specs.Laws.{HistoryLaws}
-use Rattle.shared_table.specs.Layout.{callers_of}
+use Rattle.table_seats.specs.declared.view.Own.{Own}
+use Rattle.table_seats.specs.declared.view.View.{View}
+use Rattle.table_seats.specs.Layout.{callers_of}
 use Rattle.shared_table.specs.Notes.{own_by, IsNoteOf, IsLawfulFor}
-use Rattle.shared_table.specs.Rule.{Kept}
-use Rattle.shared_table.specs.Shape.{start_of}
+use Rattle.table_seats.specs.Shape.{start_of}
 use Rattle.shared_table.specs.Tables.{first_of}
-use Rattle.shared_table.specs.Views.{held_in, copied, most, joined, spent, IsIdle, Looks}
-use Rattle.shared_table.proofs.Looking.{looks}
-use Rattle.shared_table.proofs.Seats.{copies, joins, most_first, most_second}
-
--- there is a word to look at
-pub some_word : (table : SharedTable) → 0 < table.table.shared.table_id.words
-some_word table = let sized = table.sized.0 in omega arith
-
-pub may_copy : (table : SharedTable) (note : SharedNote) → IsNoteOf table note
-    → (note.seat.table_id ≡ table.table.shared.table_id) × (0 < table.table.shared.table_id.words) × Splits (Kept table.table.shared.key) note.seat.id note.seat.me.0 note.seat.me.0 (copied note.seat.me.0)
-may_copy table note is = (is.table_is, some_word table, copies table.table.shared.key note.seat.id note.seat.me.0 is.live is.idle)
+use Rattle.table_seats.specs.Views.{held_in, most, joined, IsIdle, Looks}
 
 pub nobody : (n : ℕ) (owns : List Own) → held_in n owns ≡ None → owns ≡ []
 nobody n [] e = refl
 nobody n (own ∷ owns) e = absurd (cc)
 
-pub may_join : (table : SharedTable) (note other : SharedNote) → HistoryLaws → IsNoteOf table note → IsNoteOf table other → own_by other ≡ None
-    → (note.seat.table_id ≡ table.table.shared.table_id) × (other.seat.table_id ≡ table.table.shared.table_id) × (other.seat.me.1 ≡ []) × (0 < table.table.shared.table_id.words)
-    × Joins (Kept table.table.shared.key) note.seat.id note.seat.me.0 other.seat.id other.seat.me.0 (joined note.seat.me.0 other.seat.me.0) spent
-may_join table note other laws is other_is copy =
-    let none_there = ap length (nobody other.seat.me.0.number other.seat.me.0.owns copy) in
-    (is.table_is, other_is.table_is, other_is.empty, some_word table, joins table.table.shared.key laws note.seat.id note.seat.me.0 other.seat.id other.seat.me.0 is.live other_is.live other_is.idle (λ stands. absurd (omega arith)))
-
--- a seat that counts may look
-pub may_look : (table : SharedTable) (id : ℕ) (me : Me (Unit {0}) View) → HistoryLaws → me.0.live ≡ true → me.0.begin ≡ table.table.shared.key
-    → Allows (Kept table.table.shared.key) table.table.shared.table_id.slots id me 0 (λ n. n) (λ found after. (after.1 ≡ me.1) × Looks me.0 after.0)
-may_look table id me laws live begin = subst (λ slots. Allows (Kept table.table.shared.key) slots id me 0 (λ n. n) (λ found after. (after.1 ≡ me.1) × Looks me.0 after.0)) (sym table.sized.1) (looks table.table.shared.key laws id me 0 live begin)
-
-counted_on : (v w : View) (owns : List Own) → v.owns ≡ owns → w.owns ≡ [] → IsCounted (held_in v.number owns) v.front → (after : View) → Looks (joined v w) after → IsCounted (held_in v.number owns) (most v.front w.front)
-counted_on v w [] e none_there counted after looks = tt
-counted_on v w (own ∷ owns) e none_there counted after looks =
+counted_on : (v w : View) (owns : List Own) → AtLeast (most v.front w.front) v.front → v.owns ≡ owns → w.owns ≡ [] → IsCounted (held_in v.number owns) v.front → (after : View) → Looks (joined v w) after → IsCounted (held_in v.number owns) (most v.front w.front)
+counted_on v w [] knows e none_there counted after looks = tt
+counted_on v w (own ∷ owns) knows e none_there counted after looks =
     let first = looks.owned 0 own (ap (λ l. slice_get l 0) (ap (λ l. l ++ w.owns) e)) in
     let number : v.number + 0 ≡ v.number = omega arith in
     let items = ap length (ap looks.calls (sym number) ∙ first.1) in
     let made = looks.made v.number in
-    let up = most_first v.front w.front v.number in
+    let up = knows v.number in
     omega arith
 
 -- the note is still a note of its home, after it took in a copy and looked
 pub merged : (home : SharedTable) (old other new : SharedNote) (mid : Me (Unit {0}) View) → IsNoteOf home old → own_by other ≡ None → new.seat.table_id ≡ old.seat.table_id → mid ≡ (joined old.seat.me.0 other.seat.me.0, old.seat.me.1)
-    → (new.seat.me.1 ≡ mid.1) × Looks mid.0 new.seat.me.0 → IsNoteOf home new
-merged home old other new mid is copy table_is joins_to looked =
+    → AtLeast mid.0.front old.seat.me.0.front → (new.seat.me.1 ≡ mid.1) × Looks mid.0 new.seat.me.0 → IsNoteOf home new
+merged home old other new mid is copy table_is joins_to knows looked =
     let v = old.seat.me.0 in
     let w = other.seat.me.0 in
     let none_there = nobody w.number w.owns copy in
@@ -70,25 +47,22 @@ merged home old other new mid is copy table_is joins_to looked =
       table_is = table_is ∙ is.table_is;
       empty = looked.0 ∙ ap (λ (m : Me (Unit {0}) View). m.1) joins_to ∙ is.empty;
       live = subst (λ (u : View). u.live ≡ true) same is.live;
-      begin = subst (λ (u : View). u.begin ≡ home.table.shared.key) same is.begin;
+      begin = subst (λ (u : View). u.begin ≡ (begin_of home.words)) same is.begin;
       idle = subst IsIdle same record { walk = idle.walk; leaf = idle.leaf; lock = idle.lock; upper = idle.upper; gate = idle.gate; spot = idle.spot };
       few = subst (λ (u : View). length u.owns ≤ 1) same (subst (λ (l : List Own). length l ≤ 1) owns is.few);
       unwritten = subst (λ (u : View). (i : ℕ) (own : Own) → slice_get u.owns i ≡ Some own → own.draft ≡ []) same
           (subst (λ (l : List Own). (i : ℕ) (own : Own) → slice_get l i ≡ Some own → own.draft ≡ []) owns is.unwritten);
       counted = subst (λ (u : View). IsCounted (held_in u.number u.owns) u.front) same
-          (subst (λ (l : List Own). IsCounted (held_in v.number l) (most v.front w.front)) owns (counted_on v w v.owns refl none_there is.counted new.seat.me.0 looks));
+          (subst (λ (l : List Own). IsCounted (held_in v.number l) (most v.front w.front)) owns (counted_on v w v.owns (subst (λ f. AtLeast f v.front) (ap (λ (m : Me (Unit {0}) View). m.0.front) joins_to) knows) refl none_there is.counted new.seat.me.0 looks));
     }
 
 -- what a note's seat told when it had taken in a copy and looked
 module _ (v w after : View) (looks : Looks (joined v w) after) where
-  pub merged_front : AtLeast after.front v.front × AtLeast after.front w.front
-  merged_front = subst (λ (u : View). AtLeast u.front v.front × AtLeast u.front w.front) (sym looks.is) (most_first v.front w.front, most_second v.front w.front)
-
   pub merged_seen : Begins after.seen v.seen × Begins after.seen w.seen
   merged_seen = subst (λ (u : View). Begins u.seen v.seen × Begins u.seen w.seen) (sym looks.is) (looks.heard 0 v.seen refl, looks.heard 1 w.seen refl)
 
 -- what it tells of the history
-pub lawful_for : (table : SharedTable) (note : SharedNote) (before : View) → before.begin ≡ table.table.shared.key → Looks before note.seat.me.0 → IsLawfulFor table note
+pub lawful_for : (table : SharedTable) (note : SharedNote) (before : View) → before.begin ≡ (begin_of table.words) → Looks before note.seat.me.0 → IsLawfulFor table note
 lawful_for table note before begin looks =
     let same = sym looks.is in record {
       calls = looks.calls;

@@ -6,17 +6,18 @@ use Rattle.sync_types.specs.declared.map_object.MapCall.{MapCall}
 use Rattle.sync_types.specs.declared.map_object.MapReply.{MapReply}
 use Rattle.sync_model.specs.Note.{IsCounted}
 use Rattle.sync_model.specs.Shared.{cost_of}
-use Rattle.shared_table.specs.declared.begin.Begin.{Begin}
+use Rattle.table_seats.specs.declared.begin.Begin.{Begin}
+use Rattle.table_seats.specs.Seats.{begin_of}
 use Rattle.shared_table.specs.declared.note.SharedNote.{SharedNote}
 use Rattle.shared_table.specs.declared.table.SharedTable.{SharedTable}
-use Rattle.shared_table.specs.declared.view.Own.{Own}
-use Rattle.shared_table.specs.declared.view.View.{View}
+use Rattle.table_seats.specs.declared.view.Own.{Own}
+use Rattle.table_seats.specs.declared.view.View.{View}
 use Rattle.trie_nodes.specs.Layout.{unit_words}
-use Rattle.shared_table.specs.Layout.{size_of}
-use Rattle.shared_table.specs.Making.{HasUnit, Made}
+use Rattle.table_seats.specs.Layout.{size_of}
+use Rattle.table_seats.specs.Making.{HasUnit, Made}
 use Rattle.shared_table.specs.Notes.{own_by, IsNoteOf}
-use Rattle.shared_table.specs.Views.{held_in, with_item, paid, spend, next_in, spare_in, IsIdle}
-use Rattle.shared_table.specs.Writing.{HasRoomWithin}
+use Rattle.table_seats.specs.Views.{held_in, with_item, paid, spend, next_in, spare_in, IsIdle}
+use Rattle.table_seats.specs.Writing.{HasRoomWithin}
 use Rattle.shared_table.proofs.Calling.{some_own}
 
 -- a caller that can pay has a unit of room
@@ -48,8 +49,8 @@ module _ (table : SharedTable) (old : SharedNote) (m : ℕ) (call : MapCall ℕ)
   pub next_small : HasRoomWithin w → old.next + 128 < 2 ^ 32
   next_small room =
       let at = room after (ap (λ o. slice_get o 0) owns_after) in
-      let begin : w.begin ≡ table.table.shared.key = ap (λ (z : View). z.begin) made.is ∙ is.begin in
-      let within : unit.0.next + unit_words + unit_words * (unit.0.spare - 1) ≤ size_of table.table.shared.key = subst (λ (b : Begin). unit.0.next + unit_words + unit_words * (unit.0.spare - 1) ≤ size_of b) begin at in
+      let begin : w.begin ≡ (begin_of table.words) = ap (λ (z : View). z.begin) made.is ∙ is.begin in
+      let within : unit.0.next + unit_words + unit_words * (unit.0.spare - 1) ≤ size_of (begin_of table.words) = subst (λ (b : Begin). unit.0.next + unit_words + unit_words * (unit.0.spare - 1) ≤ size_of b) begin at in
       let next = unit.4 in
       let objects = table.made.objects in
       let units = table.made.units in
@@ -66,7 +67,7 @@ module _ (table : SharedTable) (old : SharedNote) (m : ℕ) (call : MapCall ℕ)
         table_is = table_is ∙ at_home.table_is;
         empty = empty ∙ at_home.empty;
         live = subst (λ (u : View). u.live ≡ true) same at_home.live;
-        begin = subst (λ (u : View). u.begin ≡ home.table.shared.key) same at_home.begin;
+        begin = subst (λ (u : View). u.begin ≡ (begin_of home.words)) same at_home.begin;
         idle = subst IsIdle same record { walk = idle.walk; leaf = idle.leaf; lock = idle.lock; upper = idle.upper; gate = idle.gate; spot = idle.spot };
         few = subst (λ o. length o ≤ 1) (sym owns_are) (omega arith);
         unwritten = λ i own at. drafts i own (ap (λ o. slice_get o i) (sym owns_are) ∙ at);

@@ -1,54 +1,32 @@
 -- A table's seat that knows, under a lock, that its call is an entry of the history may draft what it adds, and publish it.
 use Rattle.std.proofs.Common.{◌≡◌, ◌≢◌, ◌⊎◌, inl, inr, ℕ, zero, suc, ◌+◌, ◌*◌, ◌^◌, ◌<◌, ◌≤◌, List, [], ◌∷◌, ◌++◌, length, Some, None, slice_index, refl, sym, ap, ◌∙◌, subst, arith, length-append}
 use Rattle.std.proofs.lemmas.Bool.{cases_eq}
-use Rattle.atomic_table.specs.Table.{Me, Allows}
+use Rattle.atomic_table.specs.Table.{Me}
 use Rattle.sync_model.specs.declared.item.Item.{Item}
 use Rattle.sync_model.specs.declared.item.SharedCall.TheVariants as calls
 use Rattle.sync_model.specs.declared.item.SharedReply.TheVariants as replies
 use Rattle.sync_types.specs.declared.map_object.MapCall.{MapCall}
 use Rattle.sync_model.specs.Shared.{Called, cost_of}
-use Rattle.shared_table.specs.declared.begin.Begin.{Begin}
-use Rattle.shared_table.specs.declared.table.SharedTable.{SharedTable}
-use Rattle.shared_table.specs.declared.view.Leaf.{Leaf}
-use Rattle.shared_table.specs.declared.view.Lock.{Lock}
-use Rattle.shared_table.specs.declared.view.Own.{Own}
-use Rattle.shared_table.specs.declared.view.View.{View}
-use Rattle.shared_table.specs.KeyCalls.{is_key_entry, key_reply, key_after}
-use Rattle.shared_table.specs.Laws.{HistoryLaws}
+use Rattle.table_seats.specs.declared.begin.Begin.{Begin}
+use Rattle.table_seats.specs.declared.view.Leaf.{Leaf}
+use Rattle.table_seats.specs.declared.view.Lock.{Lock}
+use Rattle.table_seats.specs.declared.view.Own.{Own}
+use Rattle.table_seats.specs.declared.view.View.{View}
+use Rattle.table_seats.specs.KeyCalls.{is_key_entry, key_reply, key_after}
 use Rattle.trie_nodes.specs.declared.plan.Expansion.{Expansion}
 use Rattle.trie_nodes.specs.declared.slot.Slot.TheVariants.{Node, Entry}
-use Rattle.trie_nodes.specs.Layout.{slot_word, unit_words}
-use Rattle.trie_nodes.specs.Paths.{nibble, route}
+use Rattle.trie_nodes.specs.Layout.{unit_words}
+use Rattle.trie_nodes.specs.Paths.{route}
 use Rattle.trie_nodes.specs.Plans.{IsExpansion}
 use Rattle.trie_nodes.specs.Slots.{word_of_slot}
-use Rattle.shared_table.specs.Layout.{size_of}
-use Rattle.shared_table.specs.Making.{leaf_value, Sees, HasNoOther, Removes, Stores, Expands, MayPublish, bare, Publishes, IsLockAt, IsPoised, with_draft, Drafted}
-use Rattle.shared_table.specs.Rule.{Kept}
-use Rattle.shared_table.specs.Shape.{start_of}
-use Rattle.shared_table.specs.TrieLaws.{TrieLaws}
-use Rattle.shared_table.specs.Units.{link_at, unit_word}
-use Rattle.shared_table.specs.Views.{held_in, with_item, paid, spend, called_view, view_state}
-use Rattle.shared_table.specs.Walking.{HasWords}
-use Rattle.shared_table.specs.Writing.{with_word, drafted, HasDraft}
-use Rattle.shared_table.proofs.Drafting.{next_word, other_word}
-use Rattle.shared_table.proofs.Makes.{publishes}
-
--- a write of a slot
-pub may_publish : (table : SharedTable) (id : ℕ) (me : Me (Unit {0}) View) (word : ℕ) → HistoryLaws → TrieLaws → (call : MapCall ℕ) (m key node level slot new : ℕ) → (l : Lock) × IsLockAt l key node level × MayPublish table.table.shared.key me.0 call m l new → HasWords me.0 node 18
-    → slot ≡ nibble key table.begin.seed level → slot < 16 → word ≡ slot_word node slot
-    → (word < table.table.shared.table_id.words) × Allows (Kept table.table.shared.key) table.table.shared.table_id.slots id me word (λ n. new) (λ found. Publishes m call me)
-may_publish table id me word laws tries call m key node level slot new may has slot_is below is =
-    let k = table.table.shared.key in
-    let l = may.0 in
-    let at = may.1 in
-    let sized = table.sized.0 in
-    let within : node + 18 ≤ size_of k = subst (λ (b : Begin). node + 18 ≤ size_of b) may.2.sees.begin has.0 in
-    let here : slot_word l.node (nibble l.key k.seed l.level) ≡ word =
-    (λ i. slot_word (at.1 i) (nibble (at.0 i) k.seed (at.2 i))) ∙ ap (slot_word node) (ap (λ (b : Begin). nibble key b.seed level) table.same ∙ sym slot_is) ∙ sym is in (
-      omega arith,
-      subst (λ i. Allows (Kept k) table.table.shared.table_id.slots id me i (λ n. new) (λ found. Publishes m call me)) here
-          (subst (λ slots. Allows (Kept k) slots id me (slot_word l.node (nibble l.key k.seed l.level)) (λ n. new) (λ found. Publishes m call me)) (sym table.sized.1) (publishes k laws tries id me call m l new may.2)),
-    )
+use Rattle.table_seats.specs.Layout.{size_of}
+use Rattle.table_seats.specs.Making.{leaf_value, Sees, HasNoOther, Removes, Stores, Expands, MayPublish, bare, Publishes, IsLockAt}
+use Rattle.shared_table.specs.MapCalls.{IsPoised, with_draft, Drafted}
+use Rattle.table_seats.specs.Shape.{start_of}
+use Rattle.table_seats.specs.Units.{link_at, unit_word}
+use Rattle.table_seats.specs.Views.{held_in, with_item, paid, spend, called_view, view_state}
+use Rattle.table_seats.specs.Writing.{with_word, drafted, HasDraft}
+use Rattle.table_seats.proofs.Drafting.{next_word, other_word}
 
 -- the slot may become empty
 pub may_remove : (k : Begin) (v : View) (call : MapCall ℕ) (m key node level next x : ℕ) → (p : IsPoised k v call m key node level next) → key_after call (leaf_value v.leaf key) ≡ None → HasNoOther v.leaf key → x ≡ 0
@@ -269,10 +247,14 @@ chain_may k me two call m key node level next value p plan other seed x seed_is 
 pub entry_along : (k : Begin) (v : View) (call : MapCall ℕ) (m key node level next : ℕ) (p : IsPoised k v call m key node level next) (other : Leaf) → v.leaf ≡ Some other → (other.key < 2 ^ 32) × (route k.seed (suc level) other.key ≡ route k.seed (suc level) key)
 entry_along k v call m key node level next p other is = let along = p.sees.along other is in (along.0, subst (λ (z : ℕ × ℕ). route k.seed (suc z.0) other.key ≡ route k.seed (suc z.0) z.1) (λ i. (p.at.2 i, p.at.0 i)) along.1)
 
-pub chain_fits : (k : Begin) (v : View) (call : MapCall ℕ) (m key node level next : ℕ) (p : IsPoised k v call m key node level next) (other : Leaf) → TrieLaws → k.seed < 2 ^ 32 → v.leaf ≡ Some other → other.key ≢ key → key < 2 ^ 32 → level < 8 → level + 1 < 8
-chain_fits k v call m key node level next p other tries seed is ne is_key below = elim (cases_eq level 7) [
+-- different keys have different paths
+abbrev pub OneToOne : Type 0
+OneToOne = (seed key other : ℕ) → seed < 2 ^ 32 → key < 2 ^ 32 → other < 2 ^ 32 → route seed 8 key ≡ route seed 8 other → key ≡ other
+
+pub chain_fits : (k : Begin) (v : View) (call : MapCall ℕ) (m key node level next : ℕ) (p : IsPoised k v call m key node level next) (other : Leaf) → OneToOne → k.seed < 2 ^ 32 → v.leaf ≡ Some other → other.key ≢ key → key < 2 ^ 32 → level < 8 → level + 1 < 8
+chain_fits k v call m key node level next p other one_to_one seed is ne is_key below = elim (cases_eq level 7) [
   | inl last ↦ absurd (let along = entry_along k v call m key node level next p other is in
       let deepest : suc level ≡ 8 = omega arith in
-      ne (tries.one_to_one k.seed other.key key seed along.0 is_key (subst (λ n. route k.seed n other.key ≡ route k.seed n key) deepest along.1)))
+      ne (one_to_one k.seed other.key key seed along.0 is_key (subst (λ n. route k.seed n other.key ≡ route k.seed n key) deepest along.1)))
   | inr higher ↦ omega arith
 ]

@@ -5,26 +5,27 @@ use Rattle.std.proofs.lemmas.List.{set-get_or}
 use Rattle.std.proofs.lemmas.Option.{none-some, same_Some, slice_get_within}
 use Rattle.atomic_table.specs.Table.{Me}
 use Rattle.sync_model.specs.declared.caller.Caller.{Caller}
+use Rattle.sync_model.specs.declared.item.Item.{Item}
 use Rattle.sync_model.specs.declared.item.SharedEntry.{SharedEntry}
 use Rattle.sync_model.specs.Front.{AtLeast}
 use Rattle.sync_model.specs.Journal.{Begins}
 use Rattle.sync_model.specs.Note.{Holding, IsCounted}
 use Rattle.sync_model.specs.Shared.{IsHeldBy, items_of, AreAllCallers, calls_of, SameCalls, Settled}
 use Rattle.sync_model.specs.SharedCalls.{Lawful}
+use Rattle.sync_model.specs.SharedHistory.{Contents}
+use Rattle.table_seats.specs.Seats.{IsSeatOf}
 use Rattle.shared_table.specs.declared.note.SharedNote.{SharedNote}
 use Rattle.shared_table.specs.declared.table.SharedTable.{SharedTable}
-use Rattle.shared_table.specs.declared.view.Own.{Own}
-use Rattle.shared_table.specs.declared.view.View.{View}
-use Rattle.shared_table.specs.Laws.{HistoryLaws}
-use Rattle.shared_table.specs.Layout.{callers_of}
+use Rattle.table_seats.specs.declared.view.Own.{Own}
+use Rattle.table_seats.specs.declared.view.View.{View}
+use Rattle.table_seats.specs.Layout.{callers_of}
 use Rattle.shared_table.specs.Notes.{front_by, own_by, seen_by, IsNoteOf}
 use Rattle.shared_table.specs.Settling.{IsSameCaller, AreSameCallers, Gathered, after_first, MayTake, IsBack}
-use Rattle.shared_table.specs.Shape.{start_of}
+use Rattle.table_seats.specs.Shape.{start_of}
 use Rattle.shared_table.specs.Tables.{count_of, first_of}
-use Rattle.shared_table.specs.Views.{held_in, next_in, spare_in, copied, dealt, joined, most, IsIdle, Looks}
-use Rattle.shared_table.specs.Views as views
-use Rattle.shared_table.proofs.Lists.{item_there}
-use Rattle.shared_table.proofs.Seats.{most_first, most_second}
+use Rattle.table_seats.specs.Views.{held_in, next_in, spare_in, copied, dealt, joined, most, IsIdle, Looks}
+use Rattle.table_seats.specs.Views as views
+use Rattle.table_seats.proofs.Lists.{item_there}
 
 module _ {A : Type 0} where
   pub drop_get : (xs : List A) (i : ℕ) (x : A) → slice_get xs i ≡ Some x → drop i xs ≡ x ∷ drop (i + 1) xs
@@ -91,8 +92,8 @@ nothing_gathered table callers note me is number e = subst (Gathered table calle
 
 -- one more caller is in the seat of all
 pub gathered_on : (table : SharedTable) (callers : List (Caller SharedNote)) (n : ℕ) (me me' : Me (Unit {0}) View) (caller : Caller SharedNote) → Gathered table callers n me → slice_get callers n ≡ Some caller → IsNoteOf table caller.note → IsHeldBy n (own_by caller.note)
-    → me' ≡ (joined me.0 caller.note.seat.me.0, me.1) → Gathered table callers (n + 1) me'
-gathered_on table callers n me me' caller g at is held e = subst (Gathered table callers (n + 1)) (sym e) record {
+    → me' ≡ (joined me.0 caller.note.seat.me.0, me.1) → AtLeast me'.0.front me.0.front × AtLeast me'.0.front caller.note.seat.me.0.front → Gathered table callers (n + 1) me'
+gathered_on table callers n me me' caller g at is held e knows = subst (Gathered table callers (n + 1)) (sym e) record {
   empty = g.empty;
   live = g.live;
   begin = g.begin;
@@ -108,11 +109,14 @@ gathered_on table callers n me me' caller g at is held e = subst (Gathered table
     | inr ne ↦ let h = g.heard i other (omega arith) at_i in (2 + h.0, old_heard h.0 (seen_by other.note) h.1)
   ];
   fronts = λ i other below at_i d. elim (cases_eq i n) [
-    | inl e ↦ subst (λ (c : Caller SharedNote). slice_index c.note.seat.me.0.front d ≤ slice_index (most me.0.front caller.note.seat.me.0.front) d) (it_is i other e at_i) (most_second me.0.front caller.note.seat.me.0.front d)
-    | inr ne ↦ let up = most_first me.0.front caller.note.seat.me.0.front d in let was = g.fronts i other (omega arith) at_i d in omega arith
+    | inl e ↦ subst (λ (c : Caller SharedNote). slice_index c.note.seat.me.0.front d ≤ slice_index (most me.0.front caller.note.seat.me.0.front) d) (it_is i other e at_i) (both.1 d)
+    | inr ne ↦ let up = both.0 d in let was = g.fronts i other (omega arith) at_i d in omega arith
   ];
 }
   where
+    both : AtLeast (most me.0.front caller.note.seat.me.0.front) me.0.front × AtLeast (most me.0.front caller.note.seat.me.0.front) caller.note.seat.me.0.front
+    both = subst (λ f. AtLeast f me.0.front × AtLeast f caller.note.seat.me.0.front) (ap (λ (m : Me (Unit {0}) View). m.0.front) e) knows
+
     it_is : (i : ℕ) (other : Caller SharedNote) → i ≡ n → slice_get callers i ≡ Some other → caller ≡ other
     it_is i other e at_i = same_Some caller other (sym at ∙ ap (slice_get callers) (sym e) ∙ at_i)
 
@@ -129,6 +133,10 @@ gathered_on table callers n me me' caller g at is held e = subst (Gathered table
     old_heard : (j : ℕ) (xs : List SharedEntry) → slice_get me.0.heard j ≡ Some xs → slice_get (me.0.seen ∷ caller.note.seat.me.0.seen ∷ (me.0.heard ++ caller.note.seat.me.0.heard)) (2 + j) ≡ Some xs
     old_heard j xs at_j = let e : 2 + j ≡ suc (suc j) = omega arith in
         ap (slice_get (me.0.seen ∷ caller.note.seat.me.0.seen ∷ (me.0.heard ++ caller.note.seat.me.0.heard))) e ∙ get_first me.0.heard caller.note.seat.me.0.heard j xs at_j
+
+-- of a lawful history the lists of calls count alone
+abbrev pub CountAlone : Type 0
+CountAlone = (start : Contents) (history : List SharedEntry) (calls other : ℕ → List Item) → ((c : ℕ) → other c ≡ calls c) → Lawful start history calls → Lawful start history other
 
 -- the seat of all has looked
 module _ (table : SharedTable) (callers : List (Caller SharedNote)) (all : AreAllCallers IsNoteOf own_by table callers (count_of table)) (me : Me (Unit {0}) View) (g : Gathered table callers (length callers) me) (w : View) (looks : Looks me.0 w) where
@@ -165,7 +173,7 @@ module _ (table : SharedTable) (callers : List (Caller SharedNote)) (all : AreAl
       old_number : old.note.seat.me.0.number ≡ i
       view : new.note.seat.me.0 ≡ new_view i own
       empty : new.note.seat.me.1 ≡ []
-      table_is : new.note.seat.table_id ≡ table.table.shared.table_id
+      table_is : IsSeatOf table.words new.note.seat
 
     has : (i : ℕ) (old new : Caller SharedNote) → slice_get callers i ≡ Some old → slice_get news i ≡ Some new → Has i old new
     has i old new at_old at_new =
@@ -247,11 +255,11 @@ module _ (table : SharedTable) (callers : List (Caller SharedNote)) (all : AreAl
       | inr past ↦ calls_past news c (omega arith) ∙ sym (looks.none_else c (subst (λ k. callers_of k ≤ c) (sym g.begin) (let all_there = all.all in omega arith)))
     ]
 
-    pub settled : HistoryLaws → Settled own_by front_by seen_by (first_of table) news
-    settled laws = record {
+    pub settled : CountAlone → Settled own_by front_by seen_by (first_of table) news
+    settled same_law = record {
       history = looks.log;
       all = seen_is;
-      lawful = laws.same_calls (first_of table) looks.log looks.calls (calls_of own_by news) calls_are (subst (λ k. Lawful (start_of k) looks.log looks.calls) g.begin looks.lawful);
+      lawful = same_law (first_of table) looks.log looks.calls (calls_of own_by news) calls_are (subst (λ k. Lawful (start_of k) looks.log looks.calls) g.begin looks.lawful);
       fronts = λ i c new at_new. let made = looks.made c in let same = ap length (calls_are c) in subst (λ f. slice_index f c ≤ length (calls_of own_by news c)) (sym (front_is i new at_new)) (omega arith);
     }
 

@@ -7,24 +7,26 @@ use Rattle.sync_model.specs.declared.item.SharedReply.TheVariants as replies
 use Rattle.sync_types.specs.declared.map_object.MapCall.{MapCall}
 use Rattle.sync_types.specs.SequentialMap.{map_key}
 use Rattle.sync_model.specs.Shared.{Called, cost_of}
-use Rattle.shared_table.specs.declared.begin.Begin.{Begin}
-use Rattle.shared_table.specs.declared.view.Leaf.{Leaf}
-use Rattle.shared_table.specs.declared.view.Lock.{Lock}
-use Rattle.shared_table.specs.declared.view.Own.{Own}
-use Rattle.shared_table.specs.declared.view.View.{View}
-use Rattle.shared_table.specs.declared.view.Walk.{Walk}
-use Rattle.shared_table.specs.KeyCalls.{is_key_entry, key_reply}
+use Rattle.table_seats.specs.declared.begin.Begin.{Begin}
+use Rattle.table_seats.specs.declared.view.Leaf.{Leaf}
+use Rattle.table_seats.specs.declared.view.Lock.{Lock}
+use Rattle.table_seats.specs.declared.view.Own.{Own}
+use Rattle.table_seats.specs.declared.view.View.{View}
+use Rattle.table_seats.specs.declared.view.Walk.{Walk}
+use Rattle.table_seats.specs.KeyCalls.{is_key_entry, key_reply}
 use Rattle.trie_nodes.specs.declared.slot.Slot.{Slot}
 use Rattle.trie_nodes.specs.declared.slot.Slot.TheVariants.{Empty, Node, Entry}
 use Rattle.trie_nodes.specs.Layout.{unit_words}
 use Rattle.trie_nodes.specs.Paths.{nibble, route}
 use Rattle.trie_nodes.specs.Slots.{slot_in}
-use Rattle.shared_table.specs.Layout.{size_of}
-use Rattle.shared_table.specs.Making.{leaf_value, HasLeaf, found_lock, Makes, bare, Publishes, StandsLocked, FindsHeld, IsPoised, HasUnit, StillLocked, IsPoisedAt, MadeLocked}
-use Rattle.shared_table.specs.Shape.{start_of}
-use Rattle.shared_table.specs.Views.{MayPay, view_state}
-use Rattle.shared_table.specs.Walking.{standing, walk_at, given_by, HasWords, Answers, IsAlong, Affords, AtEntry}
-use Rattle.shared_table.specs.Writing.{holding, lock_at}
+use Rattle.table_seats.specs.Layout.{size_of}
+use Rattle.table_seats.specs.Making.{leaf_value, HasLeaf, found_lock, Makes, bare, Publishes, StandsLocked, FindsHeld, HasUnit}
+use Rattle.shared_table.specs.MapCalls.{IsPoised}
+use Rattle.shared_table.specs.MapCalls.{StillLocked, IsPoisedAt, MadeLocked}
+use Rattle.table_seats.specs.Shape.{start_of}
+use Rattle.table_seats.specs.Views.{MayPay, view_state}
+use Rattle.table_seats.specs.Walking.{standing, walk_at, given_by, HasWords, Answers, IsAlong, Affords, AtEntry}
+use Rattle.table_seats.specs.Writing.{holding, lock_at}
 
 -- a caller with a unit of room can pay
 pub unit_pays : (owns : List Own) (next cost : ℕ) → HasUnit owns next → cost ≡ 1 → Affords cost owns

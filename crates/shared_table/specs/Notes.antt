@@ -13,10 +13,11 @@ use Rattle.sync_model.specs.Shared.{Called, state_of}
 use Rattle.sync_types.specs.WordLayout.{is_word, number_in}
 use Rattle.shared_table.specs.declared.note.SharedNote.{SharedNote}
 use Rattle.shared_table.specs.declared.table.SharedTable.{SharedTable}
-use Rattle.shared_table.specs.declared.view.Own.{Own}
-use Rattle.shared_table.specs.Operations.{IsOperation}
+use Rattle.table_seats.specs.declared.view.Own.{Own}
+use Rattle.table_seats.specs.Operations.{IsOperation}
 use Rattle.shared_table.specs.Tables.{kinds_of, count_of, first_of}
-use Rattle.shared_table.specs.Views.{held_in, IsIdle}
+use Rattle.table_seats.specs.Seats.{begin_of, IsSeatOf}
+use Rattle.table_seats.specs.Views.{held_in, IsIdle}
 
 -- for each caller the number of its shared calls that are known
 abbrev pub front_by : SharedNote → List ℕ
@@ -32,10 +33,10 @@ seen_by note = note.seat.me.0.seen
 
 -- It is the note of a caller of this table, or a copy of one, which is nobody's. Between two calls it stands nowhere, holds no lock, and is outside of all gates.
 pub record IsNoteOf (table : SharedTable) (note : SharedNote) : Type 0 where
-  pub table_is : note.seat.table_id ≡ table.table.shared.table_id
+  pub table_is : IsSeatOf table.words note.seat
   pub empty : note.seat.me.1 ≡ []
   pub live : note.seat.me.0.live ≡ true
-  pub begin : note.seat.me.0.begin ≡ table.table.shared.key
+  pub begin : note.seat.me.0.begin ≡ begin_of table.words
   pub idle : IsIdle note.seat.me.0
   pub few : length note.seat.me.0.owns ≤ 1
   pub unwritten : (i : ℕ) (own : Own) → slice_get note.seat.me.0.owns i ≡ Some own → own.draft ≡ []

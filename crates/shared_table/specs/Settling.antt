@@ -5,10 +5,11 @@ use Rattle.sync_model.specs.declared.caller.Caller.{Caller}
 use Rattle.sync_model.specs.Front.{AtLeast}
 use Rattle.shared_table.specs.declared.note.SharedNote.{SharedNote}
 use Rattle.shared_table.specs.declared.table.SharedTable.{SharedTable}
-use Rattle.shared_table.specs.declared.view.Own.{Own}
-use Rattle.shared_table.specs.declared.view.View.{View}
+use Rattle.table_seats.specs.declared.view.Own.{Own}
+use Rattle.table_seats.specs.declared.view.View.{View}
 use Rattle.shared_table.specs.Notes.{front_by, seen_by}
-use Rattle.shared_table.specs.Views.{next_in, spare_in, dealt, IsIdle}
+use Rattle.table_seats.specs.Seats.{begin_of, IsSeatOf}
+use Rattle.table_seats.specs.Views.{next_in, spare_in, dealt, IsIdle}
 
 -- it is the same caller's note, with the same room, whatever its seat knows
 pub record IsSameCaller (old new : SharedNote) : Type 0 where
@@ -24,7 +25,7 @@ pub record AreSameCallers (old new : List (Caller SharedNote)) : Type 0 where
 pub record Gathered (table : SharedTable) (callers : List (Caller SharedNote)) (n : ℕ) (me : Me (Unit {0}) View) : Type 0 where
   pub empty : me.1 ≡ []
   pub live : me.0.live ≡ true
-  pub begin : me.0.begin ≡ table.table.shared.key
+  pub begin : me.0.begin ≡ begin_of table.words
   pub idle : IsIdle me.0
   pub number : me.0.number ≡ 0
   pub count : length me.0.owns ≡ n
@@ -44,5 +45,5 @@ pub record MayTake (all : View) (i : ℕ) (note : SharedNote) : Type 0 where
 
 -- a caller's note has what the seat for all callers had of it
 pub record IsBack (table : SharedTable) (all : View) (i : ℕ) (note : SharedNote) : Type 0 where
-  pub table_is : note.seat.table_id ≡ table.table.shared.table_id
+  pub table_is : IsSeatOf table.words note.seat
   pub me : note.seat.me ≡ (dealt (after_first all i), [])

@@ -1,8 +1,8 @@
 //! What a call on a map does to its key.
 ghost use Rattle.std.specs.Prelude.{◌≡◌, IsSome};
 ghost use Rattle.sync_types.specs.SequentialMap.{map_key};
-ghost use Rattle.shared_table.specs.KeyCalls.{key_reply};
-ghost use Rattle.shared_table.specs.Making.{IsChange};
+ghost use Rattle.table_seats.specs.KeyCalls.{key_reply};
+ghost use Rattle.shared_table.specs.MapCalls.{IsChange};
 
 use sync_types::{MapCall, MapReply};
 

@@ -6,13 +6,8 @@ ghost use Rattle.sync_model.specs.Journal.{Begins};
 ghost use Rattle.sync_model.specs.Note.{SameHome};
 ghost use Rattle.shared_table.specs.Notes.{front_by, own_by, seen_by, IsNoteOf, IsLawfulFor};
 
-use crate::laws::history_laws;
 use crate::note::SharedNote;
-use crate::rule::{Copied, Gather, Look};
 use crate::table::SharedTable;
-
-// The word that a look reads: it is always 0.
-pub(crate) const ZERO: usize = 0;
 
 impl SharedTable {
     /// A copy of a note, which is nobody's: it has the same front, and has seen as much of the history.
@@ -24,7 +19,7 @@ impl SharedTable {
         ensures seen { (seen_by note.new ≡ seen_by note.old) × (seen_by result ≡ seen_by note.old) }
     {
         SharedNote {
-            seat: self.table.shared.split_seat::<Copied>(&mut note.seat),
+            seat: self.words.copy(&mut note.seat),
             number: note.number,
             next: 0,
             spare: 0,
@@ -42,9 +37,8 @@ impl SharedTable {
         ensures seen { Begins (seen_by note.new) (seen_by note.old) × Begins (seen_by note.new) (seen_by other) }
         ensures lawful { IsLawfulFor self.now note.new }
     {
-        history_laws();
         let SharedNote { seat, .. } = other;
-        self.table.shared.join_seat::<Gather>(&mut note.seat, seat);
-        self.table.shared.load::<Look>(&mut note.seat, ZERO);
+        self.words.join(&mut note.seat, seat);
+        self.words.look_at_all(&mut note.seat);
     }
 }

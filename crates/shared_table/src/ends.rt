@@ -6,22 +6,17 @@ ghost use Rattle.sync_model.specs.Shared.{AreAllCallers, calls_of};
 ghost use Rattle.sync_model.specs.SharedCalls.{Lawful};
 ghost use Rattle.sync_model.specs.SharedHistory.{contents_after};
 ghost use Rattle.table_ends.specs.EndContents.{contents_of};
-ghost use Rattle.shared_table.specs.EndLaws.{EndLaws};
 ghost use Rattle.shared_table.specs.EndsOfHistory.{AreEnds};
-ghost use Rattle.shared_table.specs.Keys.{HasKeysBelow};
+ghost use Rattle.table_seats.specs.Keys.{HasKeysBelow};
 ghost use Rattle.shared_table.specs.Notes.{own_by, seen_by, IsNoteOf};
 ghost use Rattle.shared_table.specs.Tables.{count_of, first_of, kinds_of, maps_of};
 
-use crate::begin::Begin;
-use crate::laws::history_laws;
 use crate::note::SharedNote;
 use crate::table::SharedTable;
 use sync_model::Caller;
 use sync_model::laws::shared::the_calls_determine_the_history;
-use sync_model::laws::shared_steps::maps_and_atomics_stay;
+use sync_model::laws::shared_steps::one_more_call_keeps_the_law;
 use table_ends::TableEnds;
-use trie_nodes::laws::nodes::nodes_stand_for_what_their_slots_show;
-use trie_nodes::laws::walks::a_walk_finds_each_key_once;
 
 impl SharedTable {
     /// Ends the maps and atomics, with all their callers in order of number, and gives what they contain after the whole
@@ -36,28 +31,10 @@ impl SharedTable {
         ensures kinds { map kind_of (contents_of result).numbers ≡ kinds_of self }
         ensures keys { HasKeysBelow (2 ^ 32) (contents_of result) }
     {
-        history_laws();
-        end_laws();
+        the_calls_determine_the_history();
+        one_more_call_keeps_the_law();
         let mut callers = callers;
         let all = self.gather(&mut callers);
-        let SharedTable { table, begin } = self;
-        let closed = table.close_with(all);
-        let Begin {
-            kinds,
-            maps,
-            seed,
-            ..
-        } = begin;
-        TableEnds::new(closed, kinds, maps, seed)
+        self.words.ends(all)
     }
-}
-
-// What the end of a table stands on.
-fn end_laws()
-    ensures { EndLaws }
-{
-    maps_and_atomics_stay();
-    the_calls_determine_the_history();
-    nodes_stand_for_what_their_slots_show();
-    a_walk_finds_each_key_once();
 }

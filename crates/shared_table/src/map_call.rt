@@ -1,9 +1,9 @@
 //! A call that writes a map: in by the map's gate, down to the node whose slot for the key has no node, its lock, a second look, one
 //! write, and out again.
 ghost use Rattle.std.specs.Prelude.{◌≡◌, ℕ, ◌<◌, ◌≤◌, ◌^◌, Some, None, IsSome, MatchBool, MatchOption, length};
-ghost use Rattle.shared_table.specs.declared.view.Gate.TheVariants.{Inside};
-ghost use Rattle.shared_table.specs.declared.view.Walk.{Walk};
-ghost use Rattle.shared_table.specs.Writing.{holding, lock_at, IsWriter, HasRoomWithin};
+ghost use Rattle.table_seats.specs.declared.view.Gate.TheVariants.{Inside};
+ghost use Rattle.table_seats.specs.declared.view.Walk.{Walk};
+ghost use Rattle.table_seats.specs.Writing.{holding, lock_at, IsWriter, HasRoomWithin};
 ghost use Rattle.sync_types.specs.SequentialMap.{map_key};
 ghost use Rattle.std.specs.Option.{ForSome};
 ghost use Rattle.sync_model.specs.declared.item.SharedCall.TheVariants as calls;
@@ -11,21 +11,21 @@ ghost use Rattle.sync_model.specs.declared.item.SharedReply.TheVariants as repli
 ghost use Rattle.sync_model.specs.Note.{SameHome};
 ghost use Rattle.sync_model.specs.Shared.{Called, cost_of, state_of};
 ghost use Rattle.shared_table.specs.Notes.{front_by, own_by, seen_by, IsNoteOf};
-ghost use Rattle.shared_table.specs.Making.{IsEnd, StandsLocked, HasUnit, StillLocked, MadeLocked, IsWriting, IsReached, MayHaveMade, Made, leaf_value, IsSight, IsPoised, Publishes};
-ghost use Rattle.shared_table.specs.KeyCalls.{key_after};
+ghost use Rattle.table_seats.specs.Making.{HasUnit, leaf_value, Made, Publishes, StandsLocked};
+ghost use Rattle.table_seats.specs.Seats.{begin_of, IsSeatOf};
+ghost use Rattle.shared_table.specs.MapCalls.{IsEnd, IsPoised, IsReached, IsSight, IsWriting, MadeLocked, MayHaveMade, StillLocked};
+ghost use Rattle.table_seats.specs.KeyCalls.{key_after};
 ghost use Rattle.shared_table.specs.Tables.{maps_of, first_of};
-ghost use Rattle.shared_table.specs.Walking.{walk_at, HasWords, Affords, IsFree, OnWay, AtEntry, Answers};
+ghost use Rattle.table_seats.specs.Walking.{walk_at, HasWords, Affords, IsFree, OnWay, AtEntry, Answers};
 
 use crate::changes::{Change, reply_of};
-use crate::laws::{history_laws, trie_laws};
 use crate::note::SharedNote;
 use crate::table::SharedTable;
-use crate::view::{Leaf, View};
 use atomic_table::Seat;
 use crossbeam_utils::Backoff;
 use std::sync::Wait;
 use sync_types::{MapCall, MapReply};
-use trie_nodes::layout::{DEAD, lock_word};
+use table_seats::{Leaf, View};
 use trie_nodes::{LEVELS, Slot, UNIT_WORDS};
 
 /// Where the way down to a key ended.
@@ -103,19 +103,19 @@ impl SharedTable {
         level: u32,
         _next: u64,
     ) -> Sight
-        requires table { seat.old.table_id ≡ self.now.table.shared.table_id }
+        requires table { IsSeatOf self.now.words seat.old }
         requires call { (map_key call ≡ Some key) × (cost_of call ≡ 1) }
         requires unit { HasUnit seat.old.me.0.owns _next }
-        requires stands { (up : ℕ) × StandsLocked self.now.table.shared.key seat.old.me (walk_at map key node level (length seat.old.me.0.seen)) up }
+        requires stands { (up : ℕ) × StandsLocked (begin_of self.now.words) seat.old.me (walk_at map key node level (length seat.old.me.0.seen)) up }
         requires words { HasWords seat.old.me.0 node 18 }
         requires level { level < 8 }
         ensures table { seat.new.table_id ≡ seat.old.table_id }
-        ensures sight { (seat.new.me.1 ≡ seat.old.me.1) × IsSight self.now.table.shared.key call map key node level _next result seat.old.me.0 seat.new.me.0 }
+        ensures sight { (seat.new.me.1 ≡ seat.old.me.1) × IsSight (begin_of self.now.words) call map key node level _next result seat.old.me.0 seat.new.me.0 }
     {
-        match self.look_held(seat, call, map, key, node, level) {
+        match self.words.look_held(seat, call, map, key, node, level) {
             Slot::Node(_) => Sight::Below,
             Slot::Empty => Sight::Shows(None),
-            Slot::Entry(place) => Sight::Shows(Some(self.read_leaf(seat, place))),
+            Slot::Entry(place) => Sight::Shows(Some(self.words.read_leaf(seat, place))),
         }
     }
 
@@ -132,8 +132,8 @@ impl SharedTable {
         value: u64,
         leaf: Option<Leaf>,
     )
-        requires table { seat.old.table_id ≡ self.now.table.shared.table_id }
-        requires poised { IsPoised self.now.table.shared.key seat.old.me.0 call map key node level next }
+        requires table { IsSeatOf self.now.words seat.old }
+        requires poised { IsPoised (begin_of self.now.words) seat.old.me.0 call map key node level next }
         requires after { key_after call (leaf_value leaf key) ≡ Some value }
         requires leaf { (seat.old.me.0.leaf ≡ leaf) × ((e : Leaf) → leaf ≡ Some e → HasWords seat.old.me.0 e.place 2) }
         requires words { HasWords seat.old.me.0 node 18 }
@@ -164,10 +164,10 @@ impl SharedTable {
         level: u32,
         next: u64,
     ) -> Option<MapReply>
-        requires table { seat.old.table_id ≡ self.now.table.shared.table_id }
+        requires table { IsSeatOf self.now.words seat.old }
         requires call { (map_key call ≡ Some key) × (cost_of call ≡ 1) }
         requires unit { HasUnit seat.old.me.0.owns next }
-        requires stands { (up : ℕ) × StandsLocked self.now.table.shared.key seat.old.me (walk_at map key node level (length seat.old.me.0.seen)) up }
+        requires stands { (up : ℕ) × StandsLocked (begin_of self.now.words) seat.old.me (walk_at map key node level (length seat.old.me.0.seen)) up }
         requires words { HasWords seat.old.me.0 node 18 }
         requires level { level < 8 }
         ensures table { seat.new.table_id ≡ seat.old.table_id }
@@ -195,15 +195,15 @@ impl SharedTable {
 
     // Comes in as a writer of the map. It waits while the gate is closed.
     fn come_in<R: Wait>(&self, rt: &R, seat: &mut Seat<(), View>, map: u32)
-        requires table { seat.old.table_id ≡ self.now.table.shared.table_id }
-        requires free { IsFree self.now.table.shared.key seat.old.me }
+        requires table { IsSeatOf self.now.words seat.old }
+        requires free { IsFree (begin_of self.now.words) seat.old.me }
         requires map { map < maps_of self.now }
         ensures table { seat.new.table_id ≡ seat.old.table_id }
         ensures inside { (seat.new.me.1 ≡ seat.old.me.1) × (seat.new.me.0 ≡ holding seat.old.me.0 (Inside map) None None) }
     {
         let backoff = Backoff::new();
         for _ in rt.forever() {
-            if self.try_come_in(seat, map) {
+            if self.words.try_come_in(seat, map) {
                 return;
             }
             backoff.snooze();
@@ -211,17 +211,10 @@ impl SharedTable {
         unreachable!()
     }
 
-    // Whether a node is dead, so that nobody takes its lock any more.
-    fn is_dead(&self, node: u64) -> bool
-        requires { node < self.now.table.shared.table_id.words }
-    {
-        self.table.shared.peek(lock_word(node)) == DEAD
-    }
-
     // Takes the lock of the node where the seat stands, and waits while another has it. It can't where the node is dead.
     fn take_lock<R: Wait>(&self, rt: &R, seat: &mut Seat<(), View>, node: u64, caller: u32) -> bool
-        requires table { seat.old.table_id ≡ self.now.table.shared.table_id }
-        requires writer { (w : Walk) × (w.node ≡ node) × IsWriter self.now.table.shared.key seat.old.me w }
+        requires table { IsSeatOf self.now.words seat.old }
+        requires writer { (w : Walk) × (w.node ≡ node) × IsWriter (begin_of self.now.words) seat.old.me w }
         requires words { HasWords seat.old.me.0 node 18 }
         requires caller { caller ≡ seat.old.me.0.number }
         ensures table { seat.new.table_id ≡ seat.old.table_id }
@@ -230,10 +223,10 @@ impl SharedTable {
     {
         let backoff = Backoff::new();
         for _ in rt.forever() {
-            if self.is_dead(node) {
+            if self.words.is_dead(node) {
                 return false;
             }
-            if self.try_lock(seat, node, caller) {
+            if self.words.try_lock(seat, node, caller) {
                 return true;
             }
             backoff.snooze();
@@ -254,10 +247,10 @@ impl SharedTable {
         caller: u32,
         next: u64,
     ) -> Option<MapReply>
-        requires table { seat.old.table_id ≡ self.now.table.shared.table_id }
+        requires table { IsSeatOf self.now.words seat.old }
         requires call { (map_key call ≡ Some key) × (cost_of call ≡ 1) }
         requires unit { HasUnit seat.old.me.0.owns next }
-        requires writer { IsWriter self.now.table.shared.key seat.old.me (walk_at map key node level (length seat.old.me.0.seen)) × (seat.old.me.0.leaf ≡ None) }
+        requires writer { IsWriter (begin_of self.now.words) seat.old.me (walk_at map key node level (length seat.old.me.0.seen)) × (seat.old.me.0.leaf ≡ None) }
         requires words { HasWords seat.old.me.0 node 18 }
         requires level { level < 8 }
         requires caller { caller ≡ seat.old.me.0.number }
@@ -268,22 +261,22 @@ impl SharedTable {
             return None;
         }
         let reply = self.make_held(seat, call, map, key, node, level, next);
-        self.unlock(seat, node);
+        self.words.unlock(seat, node);
         reply
     }
 
     // Goes down from the map's root to the node whose slot for the key has no node. The call may be answered there.
     fn descend(&self, seat: &mut Seat<(), View>, call: MapCall<u32>, map: u32, key: u32) -> Reached
-        requires table { seat.old.table_id ≡ self.now.table.shared.table_id }
+        requires table { IsSeatOf self.now.words seat.old }
         requires call { (map_key call ≡ Some key) × Affords (cost_of call) seat.old.me.0.owns }
-        requires writing { IsWriting self.now.table.shared.key seat.old.me map }
+        requires writing { IsWriting (begin_of self.now.words) seat.old.me map }
         requires map { map < maps_of self.now }
         ensures table { seat.new.table_id ≡ seat.old.table_id }
         ensures reached { (seat.new.me.1 ≡ seat.old.me.1) × IsReached call map key result seat.old.me.0 seat.new.me.0 }
     {
-        let mut node = self.enter(seat, map, key);
+        let mut node = self.words.enter(seat, map, key);
         for level in 0..LEVELS {
-            match self.look(seat, call, map, key, node, level) {
+            match self.words.look(seat, call, map, key, node, level) {
                 Slot::Empty => return Reached::at(call, None, node, level),
                 Slot::Node(below) => node = below,
                 Slot::Entry(place) => {
@@ -306,10 +299,10 @@ impl SharedTable {
         caller: u32,
         next: u64,
     ) -> MapReply
-        requires table { seat.old.table_id ≡ self.now.table.shared.table_id }
+        requires table { IsSeatOf self.now.words seat.old }
         requires call { (map_key call ≡ Some key) × (cost_of call ≡ 1) }
         requires unit { HasUnit seat.old.me.0.owns next }
-        requires writing { IsWriting self.now.table.shared.key seat.old.me map }
+        requires writing { IsWriting (begin_of self.now.words) seat.old.me map }
         requires map { map < maps_of self.now }
         requires caller { caller ≡ seat.old.me.0.number }
         ensures table { seat.new.table_id ≡ seat.old.table_id }
@@ -341,10 +334,10 @@ impl SharedTable {
         caller: u32,
         next: u64,
     ) -> MapReply
-        requires table { seat.old.table_id ≡ self.now.table.shared.table_id }
+        requires table { IsSeatOf self.now.words seat.old }
         requires call { (map_key call ≡ Some key) × (cost_of call ≡ 1) }
         requires unit { HasUnit seat.old.me.0.owns next }
-        requires free { IsFree self.now.table.shared.key seat.old.me × (length seat.old.me.0.owns ≤ 1) }
+        requires free { IsFree (begin_of self.now.words) seat.old.me × (length seat.old.me.0.owns ≤ 1) }
         requires map { map < maps_of self.now }
         requires caller { caller ≡ seat.old.me.0.number }
         ensures table { seat.new.table_id ≡ seat.old.table_id }
@@ -353,7 +346,7 @@ impl SharedTable {
     {
         self.come_in(rt, seat, map);
         let reply = self.make_inside(rt, seat, call, map, key, caller, next);
-        self.go_out(seat, map);
+        self.words.go_out(seat, map);
         reply
     }
 }

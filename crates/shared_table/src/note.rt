@@ -1,9 +1,9 @@
 //! The note of a caller of a shared table: a seat at the table, whose view has seen what the caller knows.
 ghost use Rattle.std.specs.Prelude.{◌≡◌};
-ghost use Rattle.shared_table.specs.Views.{spare_in, next_in};
+ghost use Rattle.table_seats.specs.Views.{spare_in, next_in};
 
-use crate::view::View;
 use atomic_table::Seat;
+use table_seats::View;
 
 /// What a caller knows of all shared calls, and the words of the table that it may still use for entries and nodes.
 #[derive(Drop)]

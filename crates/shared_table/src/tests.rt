@@ -3,16 +3,17 @@ ghost use Rattle.std.specs.Prelude.{◌≡◌, ◌<◌, IfSome, IsSome, All};
 ghost use Rattle.sync_model.specs.Shared.{IsCallerAt};
 ghost use Rattle.shared_table.specs.Notes.{own_by, IsNoteOf};
 ghost use Rattle.shared_table.specs.Tables.{maps_of};
-ghost use Rattle.shared_table.specs.Walking.{IsFree};
+ghost use Rattle.table_seats.specs.Seats.{begin_of, IsSeatOf};
+ghost use Rattle.table_seats.specs.Walking.{IsFree};
 
 use crate::note::SharedNote;
 use crate::table::SharedTable;
-use crate::view::View;
 use atomic_table::Seat;
 use std::sync::Wait;
 use std::test::Fail;
 use sync_model::{Caller, CallerNote};
 use sync_types::MapCall;
+use table_seats::View;
 use trie_nodes::Slot;
 
 // The last of some callers.
@@ -67,14 +68,17 @@ fn look_over_a_clear<R: Wait>(
     key: u32,
 ) -> Option<u64>
     requires map { 0 < maps_of table.now }
-    requires seat { (seat.old.table_id ≡ table.now.table.shared.table_id) × IsFree table.now.table.shared.key seat.old.me }
+    requires seat { IsSeatOf table.now.words seat.old × IsFree (begin_of table.now.words) seat.old.me }
     requires clearer { IsNoteOf table.now clearer.old × IsSome (own_by clearer.old) }
 {
-    let node = table.enter(seat, 0, key);
+    let node = table.words.enter(seat, 0, key);
     if !clear_one(rt, table, clearer) {
         return None;
     }
-    match table.look(seat, MapCall::Load { key }, 0, key, node, 0) {
+    match table
+        .words
+        .look(seat, MapCall::Load { key }, 0, key, node, 0)
+    {
         Slot::Entry(place) => table.read_entry(seat, place, key),
         _ => None,
     }

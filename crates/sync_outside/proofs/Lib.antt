@@ -1,2 +1,1 @@
-mod KnownBytesLemmas
 mod Threads

@@ -4,5 +4,4 @@ pub mod Faults
 pub mod Memory
 pub mod Moments
 pub mod Starts
-pub mod System
 pub mod Told

@@ -1,10 +1,11 @@
 //! The outside world as a program meets it: what it reads, what it writes, what time it is, and who starts
-//! its threads. Each trait says when a call may fail; beside it stand a fake and the real thing.
+//! its threads. Each trait says when a call may fail; beside it stands a fake, and the real clock and starting of
+//! threads. The real files and streams are in `system_io`.
 #![tactic(auto)]
 
 pub mod at;
 pub mod clock;
-mod count;
+pub mod count;
 mod failing_calls;
 pub mod fault;
 pub mod gate;
@@ -21,13 +22,12 @@ pub mod spawner;
 pub mod start_counts;
 mod starting;
 pub mod system_clock;
-pub mod system_sources;
 pub mod thread_spawner;
 pub mod work;
-pub mod writer_sink;
 
 pub use at::At;
 pub use clock::Clock;
+pub use count::Count;
 pub use fault::{Failed, OpenFault};
 pub use gate::Gate;
 pub use hold_gate::HoldGate;
@@ -42,10 +42,8 @@ pub use sources::Sources;
 pub use spawner::{Spawner, Started};
 pub use start_counts::StartCounts;
 pub use system_clock::SystemClock;
-pub use system_sources::SystemSources;
 pub use thread_spawner::ThreadSpawner;
 pub use work::Work;
-pub use writer_sink::WriterSink;
 
 #[cfg(test)]
 mod tests;

@@ -1,17 +1,18 @@
 -- What the calls of a map do.
-use Rattle.std.proofs.Common.{◌≡◌, ℕ, Bool, true, false, cond, Option, Some, None, is_some, refl, sym, ap, ◌∙◌}
+use Rattle.std.proofs.Common.{◌≡◌, ℕ, Bool, true, false, cond, Option, Some, None, is_some, refl, sym, ap, subst, ◌∙◌}
 use Rattle.std.specs.Prelude.{◌≢◌}
 use Rattle.std.specs.declared.cmp.Ordering.{Ordering}
 use Rattle.std.specs.declared.cmp.Ordering.TheVariants.{Less, Equal, Greater}
 use Rattle.std.specs.Ordering.{eq_by_cmp, is_eq}
 use Rattle.std.specs.Cmp.{tied_itself}
-use Rattle.std.specs.FinMap.{FinMap, get, insert, remove, get-insert, get-remove, same_map}
+use Rattle.std.specs.FinMap.{FinMap, get, insert, remove, get-empty, get-insert, get-remove, same_map}
 use Rattle.std.proofs.lemmas.Bool.{eq-eqb}
 use Rattle.sync_types.specs.declared.map_object.MapCall.{MapCall}
 use Rattle.sync_types.specs.declared.map_object.MapCall.TheVariants.{Load, Store, LoadOrStore, LoadAndDelete, Delete, Swap, CompareAndSwap, CompareAndDelete, Clear}
 use Rattle.sync_types.specs.declared.map_object.MapReply.TheVariants.{Found, Settled, Compared}
 use Rattle.sync_types.specs.SequentialMap.{is_value, settled, map_reply, map_after, map_key, is_map_entry}
 use Rattle.sync_types.specs.MapLaws.{IsKeyOrder, Finds}
+use Rattle.sync_types.specs.KeyCalls.{key_reply, is_key_entry, key_after}
 
 found_is : (a b : Option ℕ) → Found a ≡ Found b → a ≡ b
 found_is a b e = cc
@@ -130,3 +131,67 @@ module _ {K : Type 0} {R : K → K → Ordering} where
     unchanged m (CompareAndSwap key old new) e = ap (λ b. cond b (insert m key new) m) e
     unchanged m (CompareAndDelete key old) e = ap (λ b. cond b (remove m key) m) e
     unchanged m Clear e = absurd cc
+
+    on_choice : (b : Bool) (m n : FinMap R ℕ) (key : K) (x y : Option ℕ) → get m key ≡ x → get n key ≡ y → get (cond b m n) key ≡ cond b x y
+    on_choice true m n key x y e g = e
+    on_choice false m n key x y e g = g
+
+    -- what a call leaves at its key
+    left_at : (m : FinMap R ℕ) (call : MapCall K) (key : K) → map_key call ≡ Some key → get (map_after call m) key ≡ key_after call (get m key)
+    left_at m (Load at) key on = refl
+    left_at m (Store at value) key on = subst (λ q. get (insert m q value) key ≡ Some value) (sym (some_is at key on)) (get_inserted m key value)
+    left_at m (LoadOrStore at value) key on = subst (λ q. get (cond (is_some (get m q)) m (insert m q value)) key ≡ cond (is_some (get m key)) (get m key) (Some value)) (sym (some_is at key on))
+        (on_choice (is_some (get m key)) m (insert m key value) key (get m key) (Some value) refl (get_inserted m key value))
+    left_at m (LoadAndDelete at) key on = subst (λ q. get (remove m q) key ≡ None) (sym (some_is at key on)) (get_removed m key)
+    left_at m (Delete at) key on = subst (λ q. get (remove m q) key ≡ None) (sym (some_is at key on)) (get_removed m key)
+    left_at m (Swap at value) key on = subst (λ q. get (insert m q value) key ≡ Some value) (sym (some_is at key on)) (get_inserted m key value)
+    left_at m (CompareAndSwap at old new) key on = subst (λ q. get (cond (is_value old (get m q)) (insert m q new) m) key ≡ cond (is_value old (get m key)) (Some new) (get m key)) (sym (some_is at key on))
+        (on_choice (is_value old (get m key)) (insert m key new) m key (Some new) (get m key) (get_inserted m key new) refl)
+    left_at m (CompareAndDelete at old) key on = subst (λ q. get (cond (is_value old (get m q)) (remove m q) m) key ≡ cond (is_value old (get m key)) None (get m key)) (sym (some_is at key on))
+        (on_choice (is_value old (get m key)) (remove m key) m key None (get m key) (get_removed m key) refl)
+    left_at m Clear key on = absurd cc
+
+    pub found_after : (m : FinMap R ℕ) (call : MapCall K) (key : K) (held : Option ℕ) → map_key call ≡ Some key → Finds m key held → Finds (map_after call m) key (key_after call held)
+    found_after m call key held on finds = ap Found (left_at m call key on ∙ ap (key_after call) (found_is (get m key) held finds))
+
+  -- what a call answers, by what its key has
+  answered_at : (m : FinMap R ℕ) (call : MapCall K) (key : K) → map_key call ≡ Some key → map_reply call m ≡ key_reply call (get m key)
+  answered_at m (Load at) key on = subst (λ q. map_reply (Load at) m ≡ key_reply (Load at) (get m q)) (some_is at key on) refl
+  answered_at m (Store at value) key on = refl
+  answered_at m (LoadOrStore at value) key on = subst (λ q. map_reply (LoadOrStore at value) m ≡ key_reply (LoadOrStore at value) (get m q)) (some_is at key on) refl
+  answered_at m (LoadAndDelete at) key on = subst (λ q. map_reply (LoadAndDelete at) m ≡ key_reply (LoadAndDelete at) (get m q)) (some_is at key on) refl
+  answered_at m (Delete at) key on = refl
+  answered_at m (Swap at value) key on = subst (λ q. map_reply (Swap at value) m ≡ key_reply (Swap at value) (get m q)) (some_is at key on) refl
+  answered_at m (CompareAndSwap at old new) key on = subst (λ q. map_reply (CompareAndSwap at old new) m ≡ key_reply (CompareAndSwap at old new) (get m q)) (some_is at key on) refl
+  answered_at m (CompareAndDelete at old) key on = subst (λ q. map_reply (CompareAndDelete at old) m ≡ key_reply (CompareAndDelete at old) (get m q)) (some_is at key on) refl
+  answered_at m Clear key on = absurd cc
+
+  -- whether it is an entry
+  entered_at : (m : FinMap R ℕ) (call : MapCall K) (key : K) → map_key call ≡ Some key → is_map_entry call m ≡ is_key_entry call (get m key)
+  entered_at m (Load at) key on = refl
+  entered_at m (Store at value) key on = refl
+  entered_at m (LoadOrStore at value) key on = subst (λ q. is_map_entry (LoadOrStore at value) m ≡ is_key_entry (LoadOrStore at value) (get m q)) (some_is at key on) refl
+  entered_at m (LoadAndDelete at) key on = subst (λ q. is_map_entry (LoadAndDelete at) m ≡ is_key_entry (LoadAndDelete at) (get m q)) (some_is at key on) refl
+  entered_at m (Delete at) key on = subst (λ q. is_map_entry (Delete at) m ≡ is_key_entry (Delete at) (get m q)) (some_is at key on) refl
+  entered_at m (Swap at value) key on = refl
+  entered_at m (CompareAndSwap at old new) key on = subst (λ q. is_map_entry (CompareAndSwap at old new) m ≡ is_key_entry (CompareAndSwap at old new) (get m q)) (some_is at key on) refl
+  entered_at m (CompareAndDelete at old) key on = subst (λ q. is_map_entry (CompareAndDelete at old) m ≡ is_key_entry (CompareAndDelete at old) (get m q)) (some_is at key on) refl
+  entered_at m Clear key on = absurd cc
+
+  pub reply_at : (m : FinMap R ℕ) (call : MapCall K) (key : K) (held : Option ℕ) → map_key call ≡ Some key → Finds m key held → map_reply call m ≡ key_reply call held
+  reply_at m call key held on finds = answered_at m call key on ∙ ap (key_reply call) (found_is (get m key) held finds)
+
+  pub entry_at : (m : FinMap R ℕ) (call : MapCall K) (key : K) (held : Option ℕ) → map_key call ≡ Some key → Finds m key held → is_map_entry call m ≡ is_key_entry call held
+  entry_at m call key held on finds = entered_at m call key on ∙ ap (is_key_entry call) (found_is (get m key) held finds)
+
+  -- a clear is on every key
+  pub cleared_at : (m : FinMap R ℕ) (call : MapCall K) (key : K) (held : Option ℕ) → map_key call ≡ None → (map_reply call m ≡ key_reply call held) × (is_map_entry call m ≡ is_key_entry call held) × Finds (map_after call m) key (key_after call held)
+  cleared_at m Clear key held none = (refl, refl, ap Found (get-empty R key))
+  cleared_at m (Load at) key held none = absurd cc
+  cleared_at m (Store at value) key held none = absurd cc
+  cleared_at m (LoadOrStore at value) key held none = absurd cc
+  cleared_at m (LoadAndDelete at) key held none = absurd cc
+  cleared_at m (Delete at) key held none = absurd cc
+  cleared_at m (Swap at value) key held none = absurd cc
+  cleared_at m (CompareAndSwap at old new) key held none = absurd cc
+  cleared_at m (CompareAndDelete at old) key held none = absurd cc

@@ -1,6 +1,7 @@
 pub mod BoundedSeq
 pub mod ByName
 pub mod Ends
+pub mod KeyCalls
 pub mod MapLaws
 pub mod Misuse
 pub mod Name

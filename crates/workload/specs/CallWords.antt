@@ -22,8 +22,6 @@ use Rattle.sync_types.specs.declared.pool_call.PoolCall.TheVariants as pool_call
 use Rattle.sync_types.specs.SequentialMap.{map_key}
 use Rattle.workload.specs.declared.keyword.Verb.{Verb}
 use Rattle.workload.specs.declared.keyword.Verb.TheVariants as verbs
-use Rattle.workload.specs.declared.operands.Numbers.{Numbers}
-use Rattle.workload.specs.declared.operands.Numbers.TheVariants.{Empty, One, Two}
 use Rattle.workload.specs.NumberWords.{number_word}
 
 -- which call it is
@@ -109,12 +107,6 @@ atomic_numbers (atomic_calls.Add operand) = operand ∷ []
 atomic_numbers (atomic_calls.And operand) = operand ∷ []
 atomic_numbers (atomic_calls.Or operand) = operand ∷ []
 atomic_numbers (atomic_calls.CompareAndSwap old new) = old ∷ new ∷ []
-
--- the numbers that there are, in order
-abbrev pub numbers_in : Numbers → List Number
-numbers_in Empty = []
-numbers_in (One number) = number ∷ []
-numbers_in (Two old new) = old ∷ new ∷ []
 
 -- the words behind the object's name: the key, and then values
 abbrev pub map_operands : MapCall (List ℕ) → List (List ℕ)

@@ -7,6 +7,7 @@ pub mod Keys
 pub mod KeywordWords
 pub mod Lines
 pub mod NumberWords
+pub mod OwnMaps
 pub mod Plan
 pub mod Puts
 pub mod Readable

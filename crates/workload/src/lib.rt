@@ -2,7 +2,6 @@
 //! is refused, and the canonical text of a workload.
 #![tactic(auto)]
 
-pub mod call;
 pub mod draft;
 pub mod fault;
 pub mod keys;
@@ -11,7 +10,6 @@ pub mod laws;
 pub mod limits;
 pub mod line;
 pub mod object;
-pub mod operands;
 mod puts;
 pub mod reason;
 pub mod turn;

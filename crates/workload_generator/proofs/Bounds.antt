@@ -11,7 +11,8 @@ use Rattle.std.proofs.lemmas.List.FromFn.{length-map-range_with_len}
 use Rattle.std.proofs.lemmas.List.Sums.{sum_by-cons}
 use Rattle.std.proofs.lemmas.Map.Text.{is_eq-slice_cmp}
 use Rattle.workload_generator.specs.Generated.{key_of, script_by, drawn, drawn_for, in_twos, generated_plan}
-use Rattle.workload_generator.specs.Summary.{NamedMap, map_of, summary}
+use Rattle.workload.specs.OwnMaps.{NamedMap, map_of}
+use Rattle.workload_generator.specs.Summary.{summary}
 use Rattle.workload_generator.proofs.Draws.{drawn_twos}
 use Rattle.workload_generator.proofs.Totals.{round_amount, total_is}
 use Rattle.workload_generator.proofs.Union.{entries_of, rounds_keep}
@@ -48,9 +49,9 @@ none_at test f from (suc count) at none low high = elim (cases_lt from at) [
     neither false b h = (refl, h)
 
 -- a worker's map has at most 64 keys
-own_keys : (seed worker : ℕ) → len (map_of (script_by worker (drawn_for seed worker))) ≤ 64
+own_keys : (seed worker : ℕ) → len (map_of 2 (script_by worker (drawn_for seed worker))) ≤ 64
 own_keys seed worker =
-    let few = few_keys (map (key_of worker) (range_with_len 0 64)) (map_of (script_by worker (drawn_for seed worker)))
+    let few = few_keys (map (key_of worker) (range_with_len 0 64)) (map_of 2 (script_by worker (drawn_for seed worker)))
     (λ q none. rounds_keep worker (in_twos (drawn_for seed worker)) empty q (λ number small. none_at (bytes_eq q) (key_of worker) 0 64 number none (omega arith) (omega arith)) ∙ get-empty (slice_cmp nat_cmp) q) in
     omega (arith, few, length-map-range_with_len (key_of worker) 0 64)
 
@@ -76,9 +77,9 @@ sum_at_most count f most from (suc n) each =
 pub keys_few : (seed : ℕ) → (summary seed).keys ≤ 512
 unfolding summary generated_plan
 keys_few seed =
-    let each : (worker : ℕ) → length (entries (map_of (script_by worker (drawn_for seed worker)))) ≤ 64 = λ worker. omega (arith, own_keys seed worker, len-entries (map_of (script_by worker (drawn_for seed worker)))) in
-    let sum = sum_at_most (λ script. length (entries (map_of script))) (λ worker. script_by worker (drawn_for seed worker)) 64 0 8 each in
-    let all = length-flat_map (λ script. entries (map_of script)) (map (λ worker. script_by worker (drawn_for seed worker)) (range_with_len 0 8)) in
+    let each : (worker : ℕ) → length (entries (map_of 2 (script_by worker (drawn_for seed worker)))) ≤ 64 = λ worker. omega (arith, own_keys seed worker, len-entries (map_of 2 (script_by worker (drawn_for seed worker)))) in
+    let sum = sum_at_most (λ script. length (entries (map_of 2 script))) (λ worker. script_by worker (drawn_for seed worker)) 64 0 8 each in
+    let all = length-flat_map (λ script. entries (map_of 2 script)) (map (λ worker. script_by worker (drawn_for seed worker)) (range_with_len 0 8)) in
     omega (arith, len-from_entries (entries_of seed 0 8), all, sum)
 
 amounts_small : (rounds : List (ℕ × ℕ)) → sum_by round_amount rounds ≤ 999 * length rounds

@@ -11,7 +11,7 @@ use Rattle.std.proofs.lemmas.Slice.Eq.{bytes_eq-Decides}
 use Rattle.sync_types.specs.declared.map_object.MapCall.TheVariants.{Load, Store, Delete}
 use Rattle.sync_types.specs.SequentialMap.{map_after}
 use Rattle.workload_generator.specs.Generated.{key_of, round, script_by, drawn_for, in_twos, generated_plan}
-use Rattle.workload_generator.specs.Summary.{NamedMap, after_script, map_of, union_of}
+use Rattle.workload.specs.OwnMaps.{NamedMap, after_script, map_of, union_of}
 use Rattle.workload_generator.proofs.Keys.{mark_of, key_marked, marks_apart}
 use Rattle.workload_generator.proofs.Scripts.{round_key}
 
@@ -29,14 +29,14 @@ not_marked worker number q there apart =
     ] refl
 
 -- a worker's rounds change nothing at a key that is none of the worker's
-pub rounds_keep : (worker : ℕ) (rounds : List (ℕ × ℕ)) (m : NamedMap) (q : List ℕ) → ((number : ℕ) → number < 64 → bytes_eq q (key_of worker number) ≡ false) → get (after_script m (flat_map (round worker) rounds)) q ≡ get m q
+pub rounds_keep : (worker : ℕ) (rounds : List (ℕ × ℕ)) (m : NamedMap) (q : List ℕ) → ((number : ℕ) → number < 64 → bytes_eq q (key_of worker number) ≡ false) → get (after_script 2 m (flat_map (round worker) rounds)) q ≡ get m q
 rounds_keep worker [] m q apart = refl
 rounds_keep worker (words ∷ rounds) m q apart =
     rounds_keep worker rounds _ q apart ∙ other_key (nat_lt (words.1 % 4) 2) (words.1 % 4 == 2) (round_key worker words) q (words.1 / 256) m (apart (words.1 / 4 % 64) (omega arith))
 
 -- the map of a worker
 abbrev own : ℕ → ℕ → NamedMap
-own seed worker = map_of (script_by worker (drawn_for seed worker))
+own seed worker = map_of 2 (script_by worker (drawn_for seed worker))
 
 not_own : (seed worker : ℕ) (q : List ℕ) → worker < 8 → (take 3 q ≡ mark_of worker → ⊥) → get (own seed worker) q ≡ None
 not_own seed worker q there apart = rounds_keep worker (in_twos (drawn_for seed worker)) empty q (λ number small. not_marked worker number q there apart) ∙ get-empty (slice_cmp nat_cmp) q
@@ -56,7 +56,7 @@ find_before q (x ∷ xs) ys none = ap (λ (later : Option ℕ). cond (eq_by_cmp 
 
 -- the entries of the maps of some workers, one worker behind the other
 abbrev pub entries_of : ℕ → ℕ → ℕ → List (List ℕ × ℕ)
-entries_of seed from count = flat_map (λ script. entries (map_of script)) (map (λ worker. script_by worker (drawn_for seed worker)) (range_with_len from count))
+entries_of seed from count = flat_map (λ script. entries (map_of 2 script)) (map (λ worker. script_by worker (drawn_for seed worker)) (range_with_len from count))
 
 nowhere : (seed from count : ℕ) (q : List ℕ) → ((i : ℕ) → from ≤ i → i < from + count → get (own seed i) q ≡ None) → find (slice_cmp nat_cmp) q (entries_of seed from count) ≡ None
 nowhere seed from zero q none = refl
@@ -77,13 +77,13 @@ in_one seed from (suc count) at q low high others = elim (cases_lt from at) [
       ∙ sym (get-entries (own seed from) q) ∙ ap (λ (i : ℕ). get (own seed i) q) same
 ]
 
-pub union_at : (seed worker : ℕ) (q : List ℕ) → worker < 8 → take 3 q ≡ mark_of worker → get (union_of (generated_plan seed).scripts) q ≡ get (map_of (script_by worker (drawn_for seed worker))) q
+pub union_at : (seed worker : ℕ) (q : List ℕ) → worker < 8 → take 3 q ≡ mark_of worker → get (union_of 2 (generated_plan seed).scripts) q ≡ get (map_of 2 (script_by worker (drawn_for seed worker))) q
 unfolding generated_plan
 union_at seed worker q there marked =
     get-from_entries nat_list_cmp_total (entries_of seed 0 8) q
     ∙ in_one seed 0 8 worker q (omega arith) (omega arith) (λ i below apart. not_own seed i q (omega arith) (λ too. apart (marks_apart i worker (omega arith) there (sym too ∙ marked))))
 
-pub union_without : (seed : ℕ) (q : List ℕ) → ((worker : ℕ) → worker < 8 → take 3 q ≡ mark_of worker → ⊥) → get (union_of (generated_plan seed).scripts) q ≡ None
+pub union_without : (seed : ℕ) (q : List ℕ) → ((worker : ℕ) → worker < 8 → take 3 q ≡ mark_of worker → ⊥) → get (union_of 2 (generated_plan seed).scripts) q ≡ None
 unfolding generated_plan
 union_without seed q apart =
     get-from_entries nat_list_cmp_total (entries_of seed 0 8) q ∙ nowhere seed 0 8 q (λ i low high. not_own seed i q (omega arith) (λ marked. apart i (omega arith) marked))

@@ -1,17 +1,14 @@
 -- What the calls of a seed's workload come to, whatever the order in which the workers make them.
 use Rattle.std.specs.Prelude.{ℕ, pos, List, [], ◌∷◌, ◌++◌, sum, sum_by, codes}
-use Rattle.std.specs.List.{flat_map}
 use Rattle.std.specs.Fmt.{decimal}
-use Rattle.std.specs.Ordering.{nat_cmp}
-use Rattle.std.specs.Cmp.Lexicographic.{slice_cmp}
-use Rattle.std.specs.FinMap.{FinMap, empty, entries, values, len, from_entries}
+use Rattle.std.specs.FinMap.{values, len}
 use Rattle.sync_types.specs.declared.atomic_object.AtomicCall.TheVariants.{Add}
 use Rattle.sync_types.specs.declared.atomic_object.Number.TheVariants.{Int64}
 use Rattle.sync_types.specs.declared.call.Call.{Call}
 use Rattle.sync_types.specs.declared.call.Operation.{Operation}
 use Rattle.sync_types.specs.declared.call.Operation.TheVariants as operations
-use Rattle.sync_types.specs.SequentialMap.{map_after}
 use Rattle.workload.specs.Canonical.{text_line}
+use Rattle.workload.specs.OwnMaps.{union_of}
 use Rattle.workload_generator.specs.Generated.{generated_plan}
 
 pub record Summary : Type 0 where
@@ -19,39 +16,17 @@ pub record Summary : Type 0 where
   pub keys : ℕ  -- how many keys the map has at the end
   pub sum : ℕ  -- the sum of their values
 
--- a map by the names of its keys
-abbrev pub NamedMap : Type 0
-NamedMap = FinMap (slice_cmp nat_cmp) ℕ
-
 -- what an operation adds to an int64; an amount below 0 is none that is generated
 abbrev pub amount_of : Operation → ℕ
 amount_of (operations.Atomic (Add (Int64 (pos amount)))) = amount
 amount_of operation = 0
 
--- a map of one thread, after an operation on it
-abbrev pub after_operation : Operation → NamedMap → NamedMap
-after_operation (operations.Map call) m = map_after call m
-after_operation operation m = m
-
--- and after the calls of a script on it
-abbrev pub after_script : NamedMap → List Call → NamedMap
-after_script m [] = m
-after_script m (call ∷ calls) = after_script (after_operation call.operation m) calls
-
--- the map that a worker alone makes of an empty one
-abbrev pub map_of : List Call → NamedMap
-map_of script = after_script empty script
-
--- the union of the workers' maps
-abbrev pub union_of : List (List Call) → NamedMap
-union_of scripts = from_entries (flat_map (λ script. entries (map_of script)) scripts)
-
--- the sum of all amounts, and the keys and the values of the union
+-- the sum of all amounts, and the keys and the values of the union of the workers' maps, each of its own calls on `t`
 abbrev pub summary_of : List (List Call) → Summary
 summary_of scripts = record {
   total = sum_by (λ script. sum_by (λ call. amount_of call.operation) script) scripts;
-  keys = len (union_of scripts);
-  sum = sum (values (union_of scripts));
+  keys = len (union_of 2 scripts);
+  sum = sum (values (union_of 2 scripts));
 }
 
 unfoldable pub summary : ℕ → Summary

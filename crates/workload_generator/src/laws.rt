@@ -11,7 +11,8 @@ ghost use Rattle.workload.specs.Draft.{keys_of, call_count};
 ghost use Rattle.workload.specs.Readable.{IsReadable};
 ghost use Rattle.workload_generator.specs.Generated.{generator_of, drawn, drawn_for, in_twos, script_by, generated_objects, generated_plan, generated_text};
 ghost use Rattle.workload_generator.specs.Written.{written_text};
-ghost use Rattle.workload_generator.specs.Summary.{Summary, summary, summary_of, summary_text, map_of, union_of};
+ghost use Rattle.workload.specs.OwnMaps.{map_of, union_of};
+ghost use Rattle.workload_generator.specs.Summary.{Summary, summary, summary_of, summary_text};
 
 /// The text of a seed is the canonical text of its workload, which is these lines.
 pub fn text_is_canonical()
@@ -56,8 +57,8 @@ pub fn summary_of_a_seed()
     ensures summary { (seed : ℕ) → summary seed ≡ summary_of (generated_plan seed).scripts }
     ensures total { (seed : ℕ) → (summary seed).total ≡ sum_by (λ words. words.0 % 1000) (in_twos (drawn seed)) }
     ensures total_small { (seed : ℕ) → (summary seed).total ≤ 3996000 }
-    ensures own { (seed worker : ℕ) (key : List ℕ) → worker < 8 → take 3 key ≡ codes "k" ++ decimal worker ++ codes "_" → get (union_of (generated_plan seed).scripts) key ≡ get (map_of (script_by worker (drawn_for seed worker))) key }
-    ensures others { (seed : ℕ) (key : List ℕ) → ((worker : ℕ) → worker < 8 → take 3 key ≢ codes "k" ++ decimal worker ++ codes "_") → get (union_of (generated_plan seed).scripts) key ≡ None }
+    ensures own { (seed worker : ℕ) (key : List ℕ) → worker < 8 → take 3 key ≡ codes "k" ++ decimal worker ++ codes "_" → get (union_of 2 (generated_plan seed).scripts) key ≡ get (map_of 2 (script_by worker (drawn_for seed worker))) key }
+    ensures others { (seed : ℕ) (key : List ℕ) → ((worker : ℕ) → worker < 8 → take 3 key ≢ codes "k" ++ decimal worker ++ codes "_") → get (union_of 2 (generated_plan seed).scripts) key ≡ None }
     ensures keys_few { (seed : ℕ) → (summary seed).keys ≤ 512 }
 {}
 

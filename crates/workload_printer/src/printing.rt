@@ -4,20 +4,20 @@ ghost use Rattle.std.specs.Fmt.{decimal, signed_decimal};
 ghost use Rattle.std.specs.Option.{option_to_list};
 ghost use Rattle.workload.specs.KeywordWords.{keyword_word};
 ghost use Rattle.workload.specs.NumberWords.{number_word};
-ghost use Rattle.workload.specs.CallWords.{numbers_in, operands_of};
+ghost use Rattle.workload.specs.CallWords.{operands_of};
 ghost use Rattle.workload.specs.Words.{turn_word, kind_parameters, spelled};
 ghost use Rattle.workload.specs.declared.line.Line.TheVariants as Line;
 ghost use Rattle.workload.specs.Reads.{Reads};
 ghost use Rattle.workload.specs.Canonical.{text_line, call_line, object_line, reference_name, script_lines, eights, canonical_lines, canonical, behind_spaces, lines_text};
+ghost use Rattle.workload_words.specs.Numbers.{numbers_in};
 
 use std::alloc::{AllocError, Global};
 use sync_types::{Call, Number, Operation};
-use workload::call::verb;
 use workload::keyword::Keyword;
 use workload::laws::{canonical_reads, schedules_go_by_eights};
 use workload::object::name_at;
-use workload::operands::{Numbers, operands_of};
 use workload::{ObjectKind, ObjectLine, Turn, Workload};
+use workload_words::{Numbers, operands_of, verb};
 
 /// Writes the word that a line begins with.
 fn put_keyword(text: &mut Vec<u8>, keyword: Keyword) -> Result<(), AllocError>

@@ -4,6 +4,7 @@ ghost use Rattle.std.specs.declared.cmp.Ordering.{Ordering};
 ghost use Rattle.std.specs.FinMap.{FinMap};
 ghost use Rattle.sync_types.specs.SequentialMap.{map_reply, map_after, map_key, is_map_entry};
 ghost use Rattle.sync_types.specs.MapLaws.{IsKeyOrder, Finds};
+ghost use Rattle.sync_types.specs.KeyCalls.{key_reply, is_key_entry, key_after};
 
 use crate::map_object::{MapCall, MapReply};
 
@@ -40,6 +41,19 @@ pub fn calls_leave_other_keys<K>()
     ensures { (R : K → K → Ordering) → IsKeyOrder R → (m : FinMap R ℕ) (call : MapCall K) (key other : K)
         → map_key call ≡ Some key → other ≢ key
         → map_reply (MapCall.Load other) (map_after call m) ≡ map_reply (MapCall.Load other) m }
+{}
+
+/// What a load of its key would have found decides all that a call does there: what it answers, whether it is an entry of
+/// the shared history, and what a load finds afterwards. A clear has no key, and is on every one.
+pub fn its_key_decides_a_call<K>()
+    ensures reply { (R : K → K → Ordering) (m : FinMap R ℕ) (call : MapCall K) (key : K) (held : Option ℕ)
+        → map_key call ≡ Some key → Finds m key held → map_reply call m ≡ key_reply call held }
+    ensures entry { (R : K → K → Ordering) (m : FinMap R ℕ) (call : MapCall K) (key : K) (held : Option ℕ)
+        → map_key call ≡ Some key → Finds m key held → is_map_entry call m ≡ is_key_entry call held }
+    ensures after { (R : K → K → Ordering) → IsKeyOrder R → (m : FinMap R ℕ) (call : MapCall K) (key : K) (held : Option ℕ)
+        → map_key call ≡ Some key → Finds m key held → Finds (map_after call m) key (key_after call held) }
+    ensures clear { (R : K → K → Ordering) (m : FinMap R ℕ) (call : MapCall K) (key : K) (held : Option ℕ)
+        → map_key call ≡ None → (map_reply call m ≡ key_reply call held) × (is_map_entry call m ≡ is_key_entry call held) × Finds (map_after call m) key (key_after call held) }
 {}
 
 /// A call that is no entry of the shared history changes nothing.

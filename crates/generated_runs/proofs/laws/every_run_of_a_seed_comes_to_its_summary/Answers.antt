@@ -11,10 +11,11 @@ use Rattle.workload.specs.Draft.{call_count}
 use Rattle.workload.specs.Keys.{keys_in}
 use Rattle.run_record.specs.Objects.{contents_of, named}
 use Rattle.workload_generator.specs.Generated.{generated_plan}
-use Rattle.workload_generator.specs.Summary.{Summary, summary, union_of}
+use Rattle.workload.specs.OwnMaps.{union_of}
+use Rattle.workload_generator.specs.Summary.{Summary, summary}
 use Rattle.generated_runs.proofs.Amounts.{total_after}
 use Rattle.generated_runs.proofs.EndsOfRuns.{first_number, first_map, ends_are, lines_are}
-use Rattle.generated_runs.proofs.Rounds.{script_of_worker, scripts_are, only_adds, plain, apart, unions_are, int64_at, map_is_at}
+use Rattle.generated_runs.proofs.Rounds.{script_of_worker, scripts_are, only_adds, plain, apart, int64_at, map_is_at}
 use Rattle.generated_runs.proofs.laws.every_run_of_a_seed_comes_to_its_summary.Goals as goal
 
 workers_are : (seed : ℕ) (replies : List (List (Reply ℕ))) → map length replies ≡ map length (generated_plan seed).scripts → length replies ≡ 8
@@ -38,10 +39,10 @@ returns-clause-ends c seed left r explains =
     let the_map = map_is_at seed in
     let held = c.an_int64_holds_the_sum_of_all_adds.ensures.holds plan 1 int64.0 left r (only_adds seed) int64.1 int64.2 explains in
     let unions = c.a_map_is_the_union_of_its_workers_maps.ensures plan 2 the_map.0 left r (plain seed) the_map.1 the_map.2 (apart c.workload_of_a_seed.ensures.scripts seed (c.keys_tell_their_workers.ensures.apart seed)) explains in
-    explains.agrees.1 ∙ ends_are seed r.history (Int64 (pos (summary seed).total)) (union_of plan.scripts)
+    explains.agrees.1 ∙ ends_are seed r.history (Int64 (pos (summary seed).total)) (union_of 2 plan.scripts)
     (c.calls_leave_as_many_maps_and_atomics.ensures.maps (contents_of plan) r.history) (c.calls_leave_as_many_maps_and_atomics.ensures.numbers (contents_of plan) r.history)
     (ap (λ n. number_at contents n) (sym (first_number seed)) ∙ (held ∙ (total_after c.sums_in_range_are_exact.ensures.int64 seed (c.workload_of_a_seed.ensures.calls seed) ∙ ap (λ (s : Summary). Int64 (pos s.total)) (sym (c.summary_of_a_seed.ensures.summary seed)))))
-    (ap (λ n. named (keys_in plan.scripts) (map_at contents n)) (sym (first_map seed)) ∙ (unions ∙ unions_are seed))
+    (ap (λ n. named (keys_in plan.scripts) (map_at contents n)) (sym (first_map seed)) ∙ unions)
 
 pub returns-clause-lines : goal.returns-clause-lines
 returns-clause-lines c seed left r explains =

@@ -4,7 +4,8 @@ use Rattle.sync_types.specs.declared.atomic_object.Number.TheVariants.{Int32}
 use Rattle.sync_types.specs.declared.outcome.End.{End}
 use Rattle.sync_types.specs.declared.outcome.End.TheVariants.{Number}
 use Rattle.sync_outside.specs.Bytes.{Appends, AppendsFront}
-use Rattle.gosync.specs.ReportText.{end_line, ends_text}
+use Rattle.report_lines.specs.ReportLines.{end_line}
+use Rattle.gosync.specs.ReportText.{ends_text}
 use Rattle.gosync.proofs.Lines.{drop_item}
 use Rattle.gosync.proofs.Writing.{goes_on, goes_cut, on_err}
 use Rattle.gosync.proofs.report.write_ends.Goals as goal

@@ -50,7 +50,7 @@ loop-caller-preserved c =
     let is = c.requires.callers.each i before at_i in
     record {
       table = c.bring.ensures.all.0 ∙ c.loop-caller.invariant.table;
-      gathered = gathered_on c.args.self.now first i c.loop-caller.all.me c.bring.new.all.me before c.loop-caller.invariant.gathered at_i is.0 is.1 c.bring.ensures.all.1;
+      gathered = gathered_on c.args.self.now first i c.loop-caller.all.me c.bring.new.all.me before c.loop-caller.invariant.gathered at_i is.0 is.1 c.bring.ensures.all.1 c.bring.ensures.knows;
       same = callers_on first callers i before after at_i c.bring.ensures.note c.loop-caller.invariant.same;
       rest = λ k past. set_other callers i k after (λ e. omega arith) ∙ c.loop-caller.invariant.rest k (omega arith);
     }

@@ -1,4 +1,5 @@
 use Rattle.std.proofs.Common.{refl, ◌∙◌, arith}
+use Rattle.table_seats.specs.Seats.{begin_of}
 use Rattle.shared_table.proofs.Poised.{may_draft_on, none_drafted, one_drafted}
 use Rattle.shared_table.proofs.table.SharedTable.draft_chain.Goals as goal
 
@@ -9,10 +10,10 @@ draft-requires-clause-room c =
     let within = chain.within in
     let below_root = chain.below_root in
     let test = c.loop-index-test.true in
-    may_draft_on c.args.self.now.table.shared.key c.args.seat.now.me c.loop-index.seat.me has.0 has.1 chain.unit c.loop-index.index _ has.2 c.loop-index.invariant.drafted (omega arith)
+    may_draft_on (begin_of c.args.self.now.words) c.args.seat.now.me c.loop-index.seat.me has.0 has.1 chain.unit c.loop-index.index _ has.2 c.loop-index.invariant.drafted (omega arith)
 
 pub loop-index-init : goal.loop-index-init
-loop-index-init c = record { table = refl; drafted = let has = c.requires.room in none_drafted c.args.self.now.table.shared.key c.args.seat.now.me _ has.0 has.1 c.args.chain.now.unit has.2 }
+loop-index-init c = record { table = refl; drafted = let has = c.requires.room in none_drafted (begin_of c.args.self.now.words) c.args.seat.now.me _ has.0 has.1 c.args.chain.now.unit has.2 }
 
 pub loop-index-preserved : goal.loop-index-preserved
 loop-index-preserved c = record {

@@ -1,6 +1,6 @@
 use Rattle.std.proofs.Common.{◌≡◌}
-use Rattle.shared_table.specs.Making.{Drafted}
-use Rattle.shared_table.specs.Units.{unit_word}
+use Rattle.shared_table.specs.MapCalls.{Drafted}
+use Rattle.table_seats.specs.Units.{unit_word}
 use Rattle.shared_table.proofs.table.SharedTable.draft_chain.Given as goal
 
 abbrev pub invariant-loop-index : goal.invariant-loop-index

@@ -7,7 +7,7 @@ use Rattle.shared_table.proofs.table.SharedTable.gather.Goals as goal
 pub seat_like-all-requires : goal.seat_like-all-requires
 seat_like-all-requires c =
     let callers = c.args.callers.now in
-    let some_caller = c.args.self.now.some in
+    let some_caller = c.args.self.now.made.some in
     let count = c.requires.all in
     let below : 0 < length callers = omega arith in
     (c.requires.each 0 _ (slice_get-get_or callers 0 c.index-callers-0.result below)).0
@@ -15,7 +15,7 @@ seat_like-all-requires c =
 pub bring_all-requires-clause-all : goal.bring_all-requires-clause-all
 bring_all-requires-clause-all c =
     let callers = c.args.callers.now in
-    let some_caller = c.args.self.now.some in
+    let some_caller = c.args.self.now.made.some in
     let count = c.requires.all in
     let below : 0 < length callers = omega arith in
     let first = get_or callers 0 c.index-callers-0.result in

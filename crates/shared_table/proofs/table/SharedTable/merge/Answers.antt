@@ -1,28 +1,18 @@
-use Rattle.std.proofs.Common.{ap, ◌∙◌, subst}
-use Rattle.shared_table.specs.Views.{Looks}
-use Rattle.shared_table.proofs.Noting.{some_word, may_join, may_look, merged, merged_front, merged_seen, lawful_for}
+use Rattle.std.proofs.Common.{sym, ap, ◌∙◌, subst}
+use Rattle.sync_model.specs.Front.{AtLeast}
+use Rattle.table_seats.specs.declared.view.View.{View}
+use Rattle.table_seats.specs.Views.{Looks}
+use Rattle.shared_table.proofs.Noting.{merged, merged_seen, lawful_for}
 use Rattle.shared_table.proofs.table.SharedTable.merge.Goals as goal
 
-pub join_seat-requires : goal.join_seat-requires
-join_seat-requires c = may_join c.args.self.now c.args.note.now c.args.other c.history_laws.ensures c.requires.note c.requires.other.0 c.requires.other.1
-
-pub load-requires : goal.load-requires
-load-requires c =
-    let is = c.requires.note in
-    let me = c.join_seat.ensures.2 in (
-      c.join_seat.ensures.0 ∙ is.table_is,
-      some_word c.args.self.now,
-      may_look c.args.self.now c.join_seat.new.seat.id c.join_seat.new.seat.me c.history_laws.ensures (ap (λ m. m.0.live) me ∙ is.live) (ap (λ m. m.0.begin) me ∙ is.begin),
-    )
-
 pub returns-clause-home : goal.returns-clause-home
-returns-clause-home c home is = merged home c.args.note.now c.args.other _ c.join_seat.new.seat.me is c.requires.other.1 (c.load.ensures.0 ∙ c.join_seat.ensures.0) c.join_seat.ensures.2 c.load.ensures.2
+returns-clause-home c home is = merged home c.args.note.now c.args.other _ c.join.new.seat.me is c.requires.other.1 (c.look_at_all.ensures.table ∙ c.join.ensures.joined.0) c.join.ensures.joined.1 c.join.ensures.knows.0 c.look_at_all.ensures.looks
 
 pub returns-clause-front : goal.returns-clause-front
-returns-clause-front c = merged_front c.args.note.now.seat.me.0 c.args.other.seat.me.0 c.load.new.seat.me.0 (subst (λ m. Looks m.0 c.load.new.seat.me.0) c.join_seat.ensures.2 c.load.ensures.2.1)
+returns-clause-front c = subst (λ (u : View). AtLeast u.front c.args.note.now.seat.me.0.front × AtLeast u.front c.args.other.seat.me.0.front) (sym c.look_at_all.ensures.looks.1.is) c.join.ensures.knows
 
 pub returns-clause-seen : goal.returns-clause-seen
-returns-clause-seen c = merged_seen c.args.note.now.seat.me.0 c.args.other.seat.me.0 c.load.new.seat.me.0 (subst (λ m. Looks m.0 c.load.new.seat.me.0) c.join_seat.ensures.2 c.load.ensures.2.1)
+returns-clause-seen c = merged_seen c.args.note.now.seat.me.0 c.args.other.seat.me.0 c.look_at_all.new.seat.me.0 (subst (λ m. Looks m.0 c.look_at_all.new.seat.me.0) c.join.ensures.joined.1 c.look_at_all.ensures.looks.1)
 
 pub returns-clause-lawful : goal.returns-clause-lawful
-returns-clause-lawful c = lawful_for c.args.self.now _ c.join_seat.new.seat.me.0 (ap (λ m. m.0.begin) c.join_seat.ensures.2 ∙ c.requires.note.begin) c.load.ensures.2.1
+returns-clause-lawful c = lawful_for c.args.self.now _ c.join.new.seat.me.0 (ap (λ m. m.0.begin) c.join.ensures.joined.1 ∙ c.requires.note.begin) c.look_at_all.ensures.looks.1

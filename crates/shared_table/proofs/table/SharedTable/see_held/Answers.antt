@@ -1,5 +1,6 @@
 use Rattle.std.proofs.Common.{Some, length, sym, ap, ◌∙◌}
-use Rattle.shared_table.specs.Walking.{walk_at}
+use Rattle.table_seats.specs.Walking.{walk_at}
+use Rattle.table_seats.specs.Seats.{begin_of}
 use Rattle.shared_table.proofs.Sights.{unit_pays, sees_below, sees_empty, knows_entry, sees_entry, sight_same}
 use Rattle.shared_table.proofs.table.SharedTable.see_held.Goals as goal
 
@@ -7,24 +8,24 @@ pub look_held-requires-clause-call : goal.look_held-requires-clause-call
 look_held-requires-clause-call c = (c.requires.call.0, unit_pays c.args.seat.now.me.0.owns c.args._next _ c.requires.unit c.requires.call.1)
 
 pub read_leaf-requires-clause-begin : goal.read_leaf-requires-clause-begin
-read_leaf-requires-clause-begin c = (knows_entry c.args.self.now.table.shared.key c.args.seat.now.me c.look_held.new.seat.me c.args.call c.args.map c.args.key c.args.node c.args.level c.args._next (length c.args.seat.now.me.0.seen) c.requires.stands.0 c.requires.call.0 c.requires.call.1 c.requires.unit c.requires.stands.1 c.in-Entry.place (c.in-Entry.ensures.found.1 (walk_at c.args.map c.args.key c.args.node c.args.level (length c.args.seat.now.me.0.seen)) c.requires.stands.0 c.requires.stands.1.walk c.requires.stands.1.locked)).2
+read_leaf-requires-clause-begin c = (knows_entry (begin_of c.args.self.now.words) c.args.seat.now.me c.look_held.new.seat.me c.args.call c.args.map c.args.key c.args.node c.args.level c.args._next (length c.args.seat.now.me.0.seen) c.requires.stands.0 c.requires.call.0 c.requires.call.1 c.requires.unit c.requires.stands.1 c.in-Entry.place (c.in-Entry.ensures.found.1 (walk_at c.args.map c.args.key c.args.node c.args.level (length c.args.seat.now.me.0.seen)) c.requires.stands.0 c.requires.stands.1.walk c.requires.stands.1.locked)).2
 
 pub read_leaf-requires-clause-entry : goal.read_leaf-requires-clause-entry
-read_leaf-requires-clause-entry c = (knows_entry c.args.self.now.table.shared.key c.args.seat.now.me c.look_held.new.seat.me c.args.call c.args.map c.args.key c.args.node c.args.level c.args._next (length c.args.seat.now.me.0.seen) c.requires.stands.0 c.requires.call.0 c.requires.call.1 c.requires.unit c.requires.stands.1 c.in-Entry.place (c.in-Entry.ensures.found.1 (walk_at c.args.map c.args.key c.args.node c.args.level (length c.args.seat.now.me.0.seen)) c.requires.stands.0 c.requires.stands.1.walk c.requires.stands.1.locked)).0
+read_leaf-requires-clause-entry c = (knows_entry (begin_of c.args.self.now.words) c.args.seat.now.me c.look_held.new.seat.me c.args.call c.args.map c.args.key c.args.node c.args.level c.args._next (length c.args.seat.now.me.0.seen) c.requires.stands.0 c.requires.call.0 c.requires.call.1 c.requires.unit c.requires.stands.1 c.in-Entry.place (c.in-Entry.ensures.found.1 (walk_at c.args.map c.args.key c.args.node c.args.level (length c.args.seat.now.me.0.seen)) c.requires.stands.0 c.requires.stands.1.walk c.requires.stands.1.locked)).0
 
 pub read_leaf-requires-clause-words : goal.read_leaf-requires-clause-words
-read_leaf-requires-clause-words c = (knows_entry c.args.self.now.table.shared.key c.args.seat.now.me c.look_held.new.seat.me c.args.call c.args.map c.args.key c.args.node c.args.level c.args._next (length c.args.seat.now.me.0.seen) c.requires.stands.0 c.requires.call.0 c.requires.call.1 c.requires.unit c.requires.stands.1 c.in-Entry.place (c.in-Entry.ensures.found.1 (walk_at c.args.map c.args.key c.args.node c.args.level (length c.args.seat.now.me.0.seen)) c.requires.stands.0 c.requires.stands.1.walk c.requires.stands.1.locked)).1
+read_leaf-requires-clause-words c = (knows_entry (begin_of c.args.self.now.words) c.args.seat.now.me c.look_held.new.seat.me c.args.call c.args.map c.args.key c.args.node c.args.level c.args._next (length c.args.seat.now.me.0.seen) c.requires.stands.0 c.requires.call.0 c.requires.call.1 c.requires.unit c.requires.stands.1 c.in-Entry.place (c.in-Entry.ensures.found.1 (walk_at c.args.map c.args.key c.args.node c.args.level (length c.args.seat.now.me.0.seen)) c.requires.stands.0 c.requires.stands.1.walk c.requires.stands.1.locked)).1
 
 pub returns-in-Node-clause-sight : goal.returns-in-Node-clause-sight
-returns-in-Node-clause-sight c = (c.in-Node.ensures.found.0, sees_below c.args.self.now.table.shared.key c.args.seat.now.me c.look_held.new.seat.me c.args.call c.args.map c.args.key c.args.node c.args.level c.args._next (length c.args.seat.now.me.0.seen) c.requires.stands.0 c.requires.call.0 c.requires.call.1 c.requires.unit c.requires.stands.1 c.in-Node.field-0 (c.in-Node.ensures.found.1 (walk_at c.args.map c.args.key c.args.node c.args.level (length c.args.seat.now.me.0.seen)) c.requires.stands.0 c.requires.stands.1.walk c.requires.stands.1.locked))
+returns-in-Node-clause-sight c = (c.in-Node.ensures.found.0, sees_below (begin_of c.args.self.now.words) c.args.seat.now.me c.look_held.new.seat.me c.args.call c.args.map c.args.key c.args.node c.args.level c.args._next (length c.args.seat.now.me.0.seen) c.requires.stands.0 c.requires.call.0 c.requires.call.1 c.requires.unit c.requires.stands.1 c.in-Node.field-0 (c.in-Node.ensures.found.1 (walk_at c.args.map c.args.key c.args.node c.args.level (length c.args.seat.now.me.0.seen)) c.requires.stands.0 c.requires.stands.1.walk c.requires.stands.1.locked))
 
 pub returns-in-Empty-clause-sight : goal.returns-in-Empty-clause-sight
-returns-in-Empty-clause-sight c = (c.in-Empty.ensures.found.0, sees_empty c.args.self.now.table.shared.key c.args.seat.now.me c.look_held.new.seat.me c.args.call c.args.map c.args.key c.args.node c.args.level c.args._next (length c.args.seat.now.me.0.seen) c.requires.stands.0 c.requires.call.0 c.requires.call.1 c.requires.unit c.requires.stands.1 (c.in-Empty.ensures.found.1 (walk_at c.args.map c.args.key c.args.node c.args.level (length c.args.seat.now.me.0.seen)) c.requires.stands.0 c.requires.stands.1.walk c.requires.stands.1.locked))
+returns-in-Empty-clause-sight c = (c.in-Empty.ensures.found.0, sees_empty (begin_of c.args.self.now.words) c.args.seat.now.me c.look_held.new.seat.me c.args.call c.args.map c.args.key c.args.node c.args.level c.args._next (length c.args.seat.now.me.0.seen) c.requires.stands.0 c.requires.call.0 c.requires.call.1 c.requires.unit c.requires.stands.1 (c.in-Empty.ensures.found.1 (walk_at c.args.map c.args.key c.args.node c.args.level (length c.args.seat.now.me.0.seen)) c.requires.stands.0 c.requires.stands.1.walk c.requires.stands.1.locked))
 
 pub returns-in-Entry-clause-sight : goal.returns-in-Entry-clause-sight
 returns-in-Entry-clause-sight c =
     let same = c.read_leaf.ensures.same in (
       ap (λ m. m.1) same ∙ c.in-Entry.ensures.found.0,
-      sight_same c.args.self.now.table.shared.key c.args.call c.args.map c.args.key c.args.node c.args.level c.args._next (Some c.read_leaf.result) c.args.seat.now.me.0 c.look_held.new.seat.me.0 c.read_leaf.new.seat.me.0 (sym (ap (λ m. m.0) same))
-          (sees_entry c.args.self.now.table.shared.key c.args.seat.now.me c.look_held.new.seat.me c.args.call c.args.map c.args.key c.args.node c.args.level c.args._next (length c.args.seat.now.me.0.seen) c.requires.stands.0 c.requires.call.0 c.requires.call.1 c.requires.unit c.requires.stands.1 c.in-Entry.place c.read_leaf.result (c.in-Entry.ensures.found.1 (walk_at c.args.map c.args.key c.args.node c.args.level (length c.args.seat.now.me.0.seen)) c.requires.stands.0 c.requires.stands.1.walk c.requires.stands.1.locked) c.read_leaf.ensures.leaf),
+      sight_same (begin_of c.args.self.now.words) c.args.call c.args.map c.args.key c.args.node c.args.level c.args._next (Some c.read_leaf.result) c.args.seat.now.me.0 c.look_held.new.seat.me.0 c.read_leaf.new.seat.me.0 (sym (ap (λ m. m.0) same))
+          (sees_entry (begin_of c.args.self.now.words) c.args.seat.now.me c.look_held.new.seat.me c.args.call c.args.map c.args.key c.args.node c.args.level c.args._next (length c.args.seat.now.me.0.seen) c.requires.stands.0 c.requires.call.0 c.requires.call.1 c.requires.unit c.requires.stands.1 c.in-Entry.place c.read_leaf.result (c.in-Entry.ensures.found.1 (walk_at c.args.map c.args.key c.args.node c.args.level (length c.args.seat.now.me.0.seen)) c.requires.stands.0 c.requires.stands.1.walk c.requires.stands.1.locked) c.read_leaf.ensures.leaf),
     )

@@ -1,29 +1,23 @@
 use Rattle.std.proofs.Common.{◌∙◌}
-use Rattle.shared_table.proofs.Noting.{some_word, may_look}
 use Rattle.shared_table.proofs.Settles.{may_take, all_back, same_calls, settled}
 use Rattle.shared_table.proofs.table.SharedTable.settle.Goals as goal
-
-pub load-requires : goal.load-requires
-load-requires c =
-    let g = c.gather-all.ensures.gathered in
-    (c.gather-all.ensures.table, some_word c.args.self.now, may_look c.args.self.now c.gather-all.result.id c.gather-all.result.me c.history_laws.ensures g.live g.begin)
 
 pub hand_all_back-requires-clause-each : goal.hand_all_back-requires-clause-each
 hand_all_back-requires-clause-each c =
     let g = c.gather-all.ensures in
-    may_take c.args.self.now c.args.callers.now c.requires c.gather-all.result.me g.gathered c.load.new.seat.me.0 c.load.ensures.2.1 c.gather-all.new.callers g.callers
+    may_take c.args.self.now c.args.callers.now c.requires c.gather-all.result.me g.gathered c.look_at_all.new.seat.me.0 c.look_at_all.ensures.looks.1 c.gather-all.new.callers g.callers
 
 pub returns-clause-callers : goal.returns-clause-callers
 returns-clause-callers c =
     let g = c.gather-all.ensures in
-    all_back c.args.self.now c.args.callers.now c.requires c.gather-all.result.me g.gathered c.load.new.seat.me.0 c.load.ensures.2.1 c.hand_all_back.new.callers (c.hand_all_back.ensures.callers.count ∙ g.callers.count) c.hand_all_back.ensures.back
+    all_back c.args.self.now c.args.callers.now c.requires c.gather-all.result.me g.gathered c.look_at_all.new.seat.me.0 c.look_at_all.ensures.looks.1 c.hand_all_back.new.callers (c.hand_all_back.ensures.callers.count ∙ g.callers.count) c.hand_all_back.ensures.back
 
 pub returns-clause-same : goal.returns-clause-same
 returns-clause-same c =
     let g = c.gather-all.ensures in
-    same_calls c.args.self.now c.args.callers.now c.requires c.gather-all.result.me g.gathered c.load.new.seat.me.0 c.load.ensures.2.1 c.hand_all_back.new.callers (c.hand_all_back.ensures.callers.count ∙ g.callers.count) c.hand_all_back.ensures.back
+    same_calls c.args.self.now c.args.callers.now c.requires c.gather-all.result.me g.gathered c.look_at_all.new.seat.me.0 c.look_at_all.ensures.looks.1 c.hand_all_back.new.callers (c.hand_all_back.ensures.callers.count ∙ g.callers.count) c.hand_all_back.ensures.back
 
 pub returns-clause-settled : goal.returns-clause-settled
 returns-clause-settled c =
     let g = c.gather-all.ensures in
-    settled c.args.self.now c.args.callers.now c.requires c.gather-all.result.me g.gathered c.load.new.seat.me.0 c.load.ensures.2.1 c.hand_all_back.new.callers (c.hand_all_back.ensures.callers.count ∙ g.callers.count) c.hand_all_back.ensures.back c.history_laws.ensures
+    settled c.args.self.now c.args.callers.now c.requires c.gather-all.result.me g.gathered c.look_at_all.new.seat.me.0 c.look_at_all.ensures.looks.1 c.hand_all_back.new.callers (c.hand_all_back.ensures.callers.count ∙ g.callers.count) c.hand_all_back.ensures.back c.one_more_call_keeps_the_law.ensures.same

@@ -1,41 +1,42 @@
 use Rattle.std.proofs.Common.{refl, ◌∙◌, subst, arith}
-use Rattle.shared_table.proofs.Reading.{IsAt, on_way, words_there, goes_on, finds_none, at_entry, finds}
+use Rattle.table_seats.specs.Seats.{begin_of}
+use Rattle.shared_table.proofs.Walks.{IsAt, on_way, words_there, goes_on, finds_none, at_entry, finds}
 use Rattle.shared_table.proofs.table.SharedTable.walk.Goals as goal
 
 pub look-requires-clause-way : goal.look-requires-clause-way
 look-requires-clause-way g c =
-    on_way c.args.self.now.table.shared.key c.args.seat.now.me c.requires.free c.args.map c.args.key c.loop-level.seat.me c.loop-level.node c.loop-level.level c.loop-level.invariant.at
+    on_way (begin_of c.args.self.now.words) c.args.seat.now.me c.requires.free c.args.map c.args.key c.loop-level.seat.me c.loop-level.node c.loop-level.level c.loop-level.invariant.at
 
 pub look-requires-clause-call : goal.look-requires-clause-call
 look-requires-clause-call g c = (refl, λ own at. tt)
 
 pub look-requires-clause-words : goal.look-requires-clause-words
 look-requires-clause-words g c =
-    words_there c.args.self.now.table.shared.key c.args.seat.now.me c.requires.free c.args.map c.args.key c.loop-level.seat.me c.loop-level.node c.loop-level.level c.loop-level.invariant.at
+    words_there (begin_of c.args.self.now.words) c.args.seat.now.me c.requires.free c.args.map c.args.key c.loop-level.seat.me c.loop-level.node c.loop-level.level c.loop-level.invariant.at
 
 pub returns-in-Empty-clause-called : goal.returns-in-Empty-clause-called
 returns-in-Empty-clause-called g c =
-    finds_none c.args.self.now.table.shared.key c.args.seat.now.me c.requires.free c.args.map c.args.key c.loop-level.seat.me c.look.new.seat.me c.loop-level.node c.loop-level.level c.loop-level.invariant.at
+    finds_none (begin_of c.args.self.now.words) c.args.seat.now.me c.requires.free c.args.map c.args.key c.loop-level.seat.me c.look.new.seat.me c.loop-level.node c.loop-level.level c.loop-level.invariant.at
     c.in-Empty.ensures.found.0 c.in-Empty.ensures.found.1
 
 pub read_entry-requires-clause-begin : goal.read_entry-requires-clause-begin
 read_entry-requires-clause-begin g c =
-    (at_entry c.args.self.now.table.shared.key c.args.seat.now.me c.requires.free c.args.map c.args.key c.loop-level.seat.me c.look.new.seat.me c.loop-level.node c.loop-level.level c.loop-level.invariant.at
+    (at_entry (begin_of c.args.self.now.words) c.args.seat.now.me c.requires.free c.args.map c.args.key c.loop-level.seat.me c.look.new.seat.me c.loop-level.node c.loop-level.level c.loop-level.invariant.at
     c.in-Entry.ensures.found.0 c.in-Entry.place c.in-Entry.ensures.found.1).2
 
 pub read_entry-requires-clause-entry : goal.read_entry-requires-clause-entry
 read_entry-requires-clause-entry g c =
-    (at_entry c.args.self.now.table.shared.key c.args.seat.now.me c.requires.free c.args.map c.args.key c.loop-level.seat.me c.look.new.seat.me c.loop-level.node c.loop-level.level c.loop-level.invariant.at
+    (at_entry (begin_of c.args.self.now.words) c.args.seat.now.me c.requires.free c.args.map c.args.key c.loop-level.seat.me c.look.new.seat.me c.loop-level.node c.loop-level.level c.loop-level.invariant.at
     c.in-Entry.ensures.found.0 c.in-Entry.place c.in-Entry.ensures.found.1).0
 
 pub returns-in-Entry-clause-called : goal.returns-in-Entry-clause-called
 returns-in-Entry-clause-called g c =
-    finds c.args.self.now.table.shared.key c.args.seat.now.me c.requires.free c.args.map c.args.key c.loop-level.seat.me c.look.new.seat.me c.loop-level.node c.loop-level.level c.loop-level.invariant.at
+    finds (begin_of c.args.self.now.words) c.args.seat.now.me c.requires.free c.args.map c.args.key c.loop-level.seat.me c.look.new.seat.me c.loop-level.node c.loop-level.level c.loop-level.invariant.at
     c.in-Entry.ensures.found.0 c.in-Entry.place c.read_entry.result c.read_entry.new.seat.me c.in-Entry.ensures.found.1 c.read_entry.ensures.left c.read_entry.ensures.value
 
 pub loop-level-preserved : goal.loop-level-preserved
 loop-level-preserved g c =
-    let one = goes_on c.args.self.now.table.shared.key c.args.seat.now.me c.requires.free c.args.map c.args.key c.loop-level.seat.me c.look.new.seat.me c.loop-level.node c.loop-level.level c.loop-level.invariant.at
+    let one = goes_on (begin_of c.args.self.now.words) c.args.seat.now.me c.requires.free c.args.map c.args.key c.loop-level.seat.me c.look.new.seat.me c.loop-level.node c.loop-level.level c.loop-level.invariant.at
     c.in-Node.ensures.found.0 c.in-Node.below c.in-Node.ensures.found.1 in
     let more = c.tick-in-loop-level.ensures in
     let cost = c.loop-level.invariant.cost in

@@ -1,5 +1,5 @@
 use Rattle.std.proofs.Common.{◌≡◌, ◌+◌, ◌<◌}
-use Rattle.shared_table.proofs.Reading.{IsAt}
+use Rattle.shared_table.proofs.Walks.{IsAt}
 use Rattle.shared_table.proofs.table.SharedTable.walk.Given as goal
 
 abbrev pub invariant-loop-level : goal.invariant-loop-level

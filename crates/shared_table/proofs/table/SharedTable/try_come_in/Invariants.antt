@@ -1,4 +1,0 @@
-use Rattle.shared_table.proofs.table.SharedTable.try_come_in.Given as goal
-
-abbrev pub ghosts-come_in_as : goal.ghosts-come_in_as
-ghosts-come_in_as a = record { map = a.map; key = 0 }

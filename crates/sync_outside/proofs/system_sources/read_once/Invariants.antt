@@ -1,6 +1,0 @@
--- no byte was taken yet
-use Rattle.std.specs.Io.KnownBytes.{Keeps}
-use Rattle.sync_outside.proofs.system_sources.read_once.Given as goal
-
-abbrev pub invariant-loop : goal.invariant-loop
-invariant-loop g l = Keeps (g.I.Read.remaining l.initial.input) (g.I.Read.remaining l.input)

@@ -1,6 +1,0 @@
--- no byte was taken yet
-use Rattle.std.specs.Io.KnownBytes.{Keeps}
-use Rattle.sync_outside.proofs.writer_sink.write_once.Given as goal
-
-abbrev pub invariant-loop : goal.invariant-loop
-invariant-loop g l = Keeps (g.W.Write.contents l.initial.writer) (g.W.Write.contents l.writer)

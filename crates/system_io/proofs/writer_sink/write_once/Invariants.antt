@@ -1,0 +1,6 @@
+-- no byte was taken yet
+use Rattle.std.specs.Io.KnownBytes.{Keeps}
+use Rattle.system_io.proofs.writer_sink.write_once.Given as goal
+
+abbrev pub invariant-loop : goal.invariant-loop
+invariant-loop g l = Keeps (g.W.Write.contents l.initial.writer) (g.W.Write.contents l.writer)

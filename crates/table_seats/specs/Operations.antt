@@ -1,0 +1,35 @@
+-- Operations on the words of atomics.
+use Rattle.std.specs.Prelude.{◌≡◌, ℕ, true, List, Some, slice_get}
+use Rattle.atomic_table.specs.Table.{Me}
+use Rattle.sync_types.specs.declared.atomic_object.AtomicCall.{AtomicCall}
+use Rattle.sync_types.specs.declared.atomic_object.AtomicKind.{AtomicKind}
+use Rattle.sync_model.specs.declared.item.Item.{Item}
+use Rattle.sync_model.specs.declared.item.SharedCall.{SharedCall}
+use Rattle.sync_model.specs.declared.item.SharedCall.TheVariants.{Atomic}
+use Rattle.sync_model.specs.declared.item.SharedEntry.{SharedEntry}
+use Rattle.sync_model.specs.declared.item.SharedReply.{SharedReply}
+use Rattle.sync_model.specs.declared.item.SharedReply.TheVariants as replies
+use Rattle.sync_types.specs.SequentialAtomic.{atomic_reply, atomic_after}
+use Rattle.sync_model.specs.Shared.{Called}
+use Rattle.sync_types.specs.WordLayout.{is_word, number_in}
+use Rattle.table_seats.specs.declared.view.View.{View}
+use Rattle.table_seats.specs.Shape.{start_of}
+use Rattle.table_seats.specs.Views.{with_item, called_view, view_state}
+
+-- what an operation makes of a word is what the call makes of the number that the word stands for
+pub record IsOperation (kind : AtomicKind) (call : AtomicCall) (f : ℕ → ℕ) : Type 0 where
+  pub keeps : (word : ℕ) → is_word kind word ≡ true → is_word kind (f word) ≡ true
+  pub leads : (word : ℕ) → is_word kind word ≡ true → number_in kind (f word) ≡ atomic_after call (number_in kind word)
+
+-- a seat's step placed a call of its first caller, who has its room as before
+pub record Places (call : SharedCall) (reply : SharedReply) (v w : View) : Type 0 where
+  pub item : Item
+  pub seen : List SharedEntry
+  pub is : w ≡ called_view v (with_item v.owns item) seen
+  pub called : Called (start_of v.begin) call reply 0 (view_state v) (view_state w)
+
+-- the step is a call on an atomic, which found this word
+abbrev pub Operates : ℕ → AtomicCall → Me (Unit {0}) View → ℕ → Me (Unit {0}) View → Type 0
+Operates a call before found after =
+    (after.1 ≡ before.1) × ((kind : AtomicKind) → slice_get before.0.begin.kinds a ≡ Some kind
+    → (is_word kind found ≡ true) × Places (Atomic a call) (replies.Atomic (atomic_reply call (number_in kind found))) before.0 after.0)

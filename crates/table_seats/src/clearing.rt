@@ -1,0 +1,155 @@
+//! The steps of a seat that clears a map: it closes the gate of the map's writers, looks whether one is inside, writes a new
+//! empty root into the map's root word, and opens the gate. Lookups go on all the while, in the new nodes or in the old ones.
+ghost use Rattle.std.specs.Prelude.{◌≡◌, ◌<◌, true, false, None, MatchBool};
+ghost use Rattle.table_seats.specs.declared.view.Gate.TheVariants.{Outside, Closed};
+ghost use Rattle.table_seats.specs.Clearing.{HasClosed, Closes, LooksInside, Clears};
+ghost use Rattle.table_seats.specs.Making.{HasUnit};
+ghost use Rattle.table_seats.specs.Seats.{begin_of, IsSeatOf};
+ghost use Rattle.table_seats.specs.Walking.{IsFree};
+ghost use Rattle.table_seats.specs.Writing.{holding, GoesOut, HasRoomWithin};
+
+use crate::laws::history_laws;
+use crate::lookup::Way;
+use crate::view::View;
+use crate::words::TableWords;
+use atomic_table::{Play, Seat};
+use std::marker::{Brand, PhantomData};
+
+// The word of a gate that is closed, where no writer is inside.
+const CLOSED: u64 = 1 << 32;
+
+/// A seat closes the gate of a map.
+pub(crate) struct Close<W> {
+    marker: PhantomData<W>,
+}
+
+impl<W: Way> Play<(), View> for Close<W> {
+    ghost then = { λ step before found after. Closes W.map step.first before found after };
+}
+
+/// A seat looks whether a writer is inside the gate that it has closed.
+pub(crate) struct LookInside<W> {
+    marker: PhantomData<W>,
+}
+
+impl<W: Way> Play<(), View> for LookInside<W> {
+    ghost then = { λ step before found after. LooksInside W.map before found after };
+}
+
+/// A seat writes a new empty root. This step places the call of the seat's first caller.
+pub(crate) struct WriteRoot<W> {
+    marker: PhantomData<W>,
+}
+
+impl<W: Way> Play<(), View> for WriteRoot<W> {
+    ghost then = { λ step before found after. Clears W.map before after };
+}
+
+/// A seat opens the gate that it has closed, and is outside.
+pub(crate) struct Open;
+
+impl Play<(), View> for Open {
+    ghost then = { λ step before found after. GoesOut before found after };
+}
+
+impl TableWords {
+    /// Tries to close the map's gate. It doesn't where another has closed it, or passed it just then.
+    pub fn try_close(&self, seat: &mut Seat<(), View>, map: u32) -> bool
+        requires table { IsSeatOf self.now seat.old }
+        requires free { IsFree (begin_of self.now) seat.old.me }
+        requires map { map < (begin_of self.now).maps }
+        ensures table { seat.new.table_id ≡ seat.old.table_id }
+        ensures slots { seat.new.me.1 ≡ seat.old.me.1 }
+        ensures closed { MatchBool result (seat.new.me.0 ≡ holding seat.old.me.0 (Closed map false) None None) (seat.new.me.0 ≡ seat.old.me.0) }
+    {
+        self.close_as::<Brand>(seat, map)
+    }
+
+    // The same, at a map that is told by a type.
+    fn close_as<W: Way>(&self, seat: &mut Seat<(), View>, map: u32) -> bool
+        requires table { IsSeatOf self.now seat.old }
+        requires free { IsFree (begin_of self.now) seat.old.me }
+        requires map { map < (begin_of self.now).maps }
+        requires told { W.map ≡ map }
+        ensures table { seat.new.table_id ≡ seat.old.table_id }
+        ensures slots { seat.new.me.1 ≡ seat.old.me.1 }
+        ensures closed { MatchBool result (seat.new.me.0 ≡ holding seat.old.me.0 (Closed map false) None None) (seat.new.me.0 ≡ seat.old.me.0) }
+    {
+        history_laws();
+        let word = 2 + self.begin.kinds.len() + 2 * map as usize;
+        let shared = &self.table.shared;
+        let writers = shared.peek(word);
+        if writers >= CLOSED {
+            return false;
+        }
+        shared.compare_exchange::<Close<W>>(seat, word, writers, writers + CLOSED) == writers
+    }
+
+    /// Whether no writer is inside the gate that the seat has closed.
+    pub fn look_inside(&self, seat: &mut Seat<(), View>, map: u32) -> bool
+        requires table { IsSeatOf self.now seat.old }
+        requires closed { HasClosed (begin_of self.now) seat.old.me map false }
+        requires map { map < (begin_of self.now).maps }
+        ensures table { seat.new.table_id ≡ seat.old.table_id }
+        ensures slots { seat.new.me.1 ≡ seat.old.me.1 }
+        ensures alone { MatchBool result (seat.new.me.0 ≡ holding seat.old.me.0 (Closed map true) None None) (seat.new.me.0 ≡ seat.old.me.0) }
+    {
+        self.look_inside_as::<Brand>(seat, map)
+    }
+
+    // The same, at a map that is told by a type.
+    fn look_inside_as<W: Way>(&self, seat: &mut Seat<(), View>, map: u32) -> bool
+        requires table { IsSeatOf self.now seat.old }
+        requires closed { HasClosed (begin_of self.now) seat.old.me map false }
+        requires map { map < (begin_of self.now).maps }
+        requires told { W.map ≡ map }
+        ensures table { seat.new.table_id ≡ seat.old.table_id }
+        ensures slots { seat.new.me.1 ≡ seat.old.me.1 }
+        ensures alone { MatchBool result (seat.new.me.0 ≡ holding seat.old.me.0 (Closed map true) None None) (seat.new.me.0 ≡ seat.old.me.0) }
+    {
+        history_laws();
+        let word = 2 + self.begin.kinds.len() + 2 * map as usize;
+        self.table.shared.load::<LookInside<W>>(seat, word) == CLOSED
+    }
+
+    /// Writes a new empty root of the map, in the caller's own room, where nothing is drafted.
+    pub fn replace_root(&self, seat: &mut Seat<(), View>, map: u32, next: u64)
+        requires table { IsSeatOf self.now seat.old }
+        requires closed { HasClosed (begin_of self.now) seat.old.me map true }
+        requires unit { HasUnit seat.old.me.0.owns next }
+        requires map { map < (begin_of self.now).maps }
+        ensures table { seat.new.table_id ≡ seat.old.table_id }
+        ensures cleared { Clears map seat.old.me seat.new.me }
+    {
+        self.replace_root_as::<Brand>(seat, map, next)
+    }
+
+    // The same, at a map that is told by a type.
+    fn replace_root_as<W: Way>(&self, seat: &mut Seat<(), View>, map: u32, next: u64)
+        requires table { IsSeatOf self.now seat.old }
+        requires closed { HasClosed (begin_of self.now) seat.old.me map true }
+        requires unit { HasUnit seat.old.me.0.owns next }
+        requires map { map < (begin_of self.now).maps }
+        requires told { W.map ≡ map }
+        ensures table { seat.new.table_id ≡ seat.old.table_id }
+        ensures cleared { Clears map seat.old.me seat.new.me }
+    {
+        history_laws();
+        let word = 1 + self.begin.kinds.len() + 2 * map as usize;
+        self.table.shared.store::<WriteRoot<W>>(seat, word, next);
+    }
+
+    /// Opens the gate that the seat has closed, where no writer is inside.
+    pub fn open(&self, seat: &mut Seat<(), View>, map: u32)
+        requires table { IsSeatOf self.now seat.old }
+        requires closed { HasClosed (begin_of self.now) seat.old.me map true }
+        requires map { map < (begin_of self.now).maps }
+        ensures table { seat.new.table_id ≡ seat.old.table_id }
+        ensures opened { (seat.new.me.1 ≡ seat.old.me.1) × (seat.new.me.0 ≡ holding seat.old.me.0 Outside None None) }
+        ensures room { HasRoomWithin seat.old.me.0 }
+    {
+        history_laws();
+        let word = 2 + self.begin.kinds.len() + 2 * map as usize;
+        self.table.shared.store::<Open>(seat, word, 0);
+    }
+}

@@ -1,0 +1,35 @@
+//! Laws of shared histories and of tries that the proofs here stand on.
+ghost use Rattle.table_seats.specs.Laws.{HistoryLaws};
+ghost use Rattle.table_seats.specs.TrieLaws.{TrieLaws};
+
+use sync_model::laws::shared_steps::{
+    a_lawful_call_is_as_promised, fronts_stay_known, histories_go_on, maps_and_atomics_stay,
+    one_more_call_keeps_the_law,
+};
+use trie_nodes::laws::chains::each_node_of_a_chain_shows_what_the_map_has;
+use trie_nodes::laws::paths::{
+    a_path_has_a_slot_of_each_level, paths_that_part_stay_apart, the_paths_of_different_keys_part,
+};
+use trie_nodes::laws::words::a_word_is_that_of_one_slot;
+
+// How a lawful history goes on.
+pub(crate) fn history_laws()
+    ensures { HistoryLaws }
+{
+    one_more_call_keeps_the_law();
+    a_lawful_call_is_as_promised();
+    fronts_stay_known();
+    histories_go_on();
+    maps_and_atomics_stay();
+}
+
+// Paths, slots and chains.
+pub(crate) fn trie_laws()
+    ensures { TrieLaws }
+{
+    a_path_has_a_slot_of_each_level();
+    the_paths_of_different_keys_part();
+    paths_that_part_stay_apart();
+    a_word_is_that_of_one_slot();
+    each_node_of_a_chain_shows_what_the_map_has();
+}

@@ -1,0 +1,173 @@
+//! The reads of a seat on its way to a key: a map's root word, then a slot in each node on the key's path, and the words of an
+//! entry. None of them waits.
+ghost use Rattle.std.specs.Prelude.{◌≡◌, ℕ, ◌+◌, ◌<◌, ◌≤◌, ◌^◌, Some, length};
+ghost use Rattle.sync_types.specs.SequentialMap.{map_key};
+ghost use Rattle.sync_model.specs.Shared.{cost_of};
+ghost use Rattle.table_seats.specs.declared.view.Leaf.{Leaf};
+ghost use Rattle.table_seats.specs.Seats.{begin_of, IsSeatOf};
+ghost use Rattle.trie_nodes.specs.Slots.{slot_in};
+ghost use Rattle.table_seats.specs.Walking.{standing, walk_at, HasWords, Enters, MayEnter, FindsIn, LooksIn, Affords, ReadsKey, KeepsValue, ReadsValue, OnWay, AtEntry};
+
+use crate::laws::history_laws;
+use crate::making::Making;
+use crate::view::{Leaf, View};
+use crate::words::TableWords;
+use atomic_table::{Play, Seat};
+use std::marker::{Brand, PhantomData};
+use sync_types::MapCall;
+use trie_nodes::layout::{key_word, slot_word, value_word};
+use trie_nodes::{Slot, nibble};
+
+/// The map and the key of a walk, for proofs. A call at `Brand` picks them.
+pub(crate) trait Way {
+    ghost map: { ℕ };
+
+    ghost key: { ℕ };
+}
+
+impl Way for Brand {
+    ghost map = { 0 };
+
+    ghost key = { 0 };
+}
+
+/// A seat reads the root word of a map.
+pub(crate) struct Enter<W> {
+    marker: PhantomData<W>,
+}
+
+impl<W: Way> Play<(), View> for Enter<W> {
+    ghost then = { λ step before found after. Enters W.map W.key before found after };
+}
+
+/// A seat reads a slot, and its call is placed there, where it is no entry of the history.
+pub(crate) struct LookIn<C> {
+    marker: PhantomData<C>,
+}
+
+impl<C: Making> Play<(), View> for LookIn<C> {
+    ghost then = { λ step before found after. LooksIn C.call before (slot_in found) after };
+}
+
+/// A seat reads the key of an entry.
+pub(crate) struct ReadKey;
+
+impl Play<(), View> for ReadKey {
+    ghost then = { λ step before found after. ReadsKey before found after };
+}
+
+/// A seat reads the value of an entry, which it keeps in mind.
+pub(crate) struct KeepValue;
+
+impl Play<(), View> for KeepValue {
+    ghost then = { λ step before found after. KeepsValue before found after };
+}
+
+/// A seat reads the value of an entry.
+pub(crate) struct ReadValue;
+
+impl Play<(), View> for ReadValue {
+    ghost then = { λ step before found after. ReadsValue before found after };
+}
+
+impl TableWords {
+    /// The seat comes to the map's root.
+    pub fn enter(&self, seat: &mut Seat<(), View>, map: u32, key: u32) -> u64
+        requires table { IsSeatOf self.now seat.old }
+        requires may { MayEnter (begin_of self.now) seat.old.me }
+        requires map { map < (begin_of self.now).maps }
+        ensures table { seat.new.table_id ≡ seat.old.table_id }
+        ensures entered { Enters map key seat.old.me result seat.new.me }
+    {
+        self.enter_as::<Brand>(seat, map, key)
+    }
+
+    // The same, on a way that is told by a type.
+    fn enter_as<W: Way>(&self, seat: &mut Seat<(), View>, map: u32, _key: u32) -> u64
+        requires table { IsSeatOf self.now seat.old }
+        requires may { MayEnter (begin_of self.now) seat.old.me }
+        requires map { map < (begin_of self.now).maps }
+        requires told { (W.map ≡ map) × (W.key < 2 ^ 32) }
+        ensures table { seat.new.table_id ≡ seat.old.table_id }
+        ensures entered { Enters map W.key seat.old.me result seat.new.me }
+    {
+        let word = 1 + self.begin.kinds.len() + 2 * map as usize;
+        self.table.shared.load::<Enter<W>>(seat, word)
+    }
+
+    /// The seat of a call on a key reads the key's slot in the node where it stands.
+    pub fn look(
+        &self,
+        seat: &mut Seat<(), View>,
+        call: MapCall<u32>,
+        map: u32,
+        key: u32,
+        node: u64,
+        level: u32,
+    ) -> Slot
+        requires table { IsSeatOf self.now seat.old }
+        requires call { (map_key call ≡ Some key) × Affords (cost_of call) seat.old.me.0.owns }
+        requires way { OnWay (begin_of self.now) seat.old.me (walk_at map key node level (length seat.old.me.0.seen)) }
+        requires words { HasWords seat.old.me.0 node 18 }
+        requires level { level < 8 }
+        ensures table { seat.new.table_id ≡ seat.old.table_id }
+        ensures found { (seat.new.me.1 ≡ seat.old.me.1) × FindsIn call (walk_at map key node level (length seat.old.me.0.seen)) result seat.old.me.0 seat.new.me.0 }
+    {
+        self.look_as::<Brand>(seat, call, map, key, node, level)
+    }
+
+    // The same, with a call that is told by a type.
+    fn look_as<C: Making>(
+        &self,
+        seat: &mut Seat<(), View>,
+        _call: MapCall<u32>,
+        map: u32,
+        key: u32,
+        node: u64,
+        level: u32,
+    ) -> Slot
+        requires table { IsSeatOf self.now seat.old }
+        requires call { (map_key C.call ≡ Some key) × Affords (cost_of C.call) seat.old.me.0.owns }
+        requires way { OnWay (begin_of self.now) seat.old.me (walk_at map key node level (length seat.old.me.0.seen)) }
+        requires words { HasWords seat.old.me.0 node 18 }
+        requires level { level < 8 }
+        ensures table { seat.new.table_id ≡ seat.old.table_id }
+        ensures found { (seat.new.me.1 ≡ seat.old.me.1) × FindsIn C.call (walk_at map key node level (length seat.old.me.0.seen)) result seat.old.me.0 seat.new.me.0 }
+    {
+        history_laws();
+        let word = slot_word(node, nibble(key, self.begin.seed, level));
+        Slot::of_word(self.table.shared.load::<LookIn<C>>(seat, word))
+    }
+
+    /// The seat reads the entry that it knows, its key and its value, and leaves it.
+    pub fn read_pair(&self, seat: &mut Seat<(), View>, place: u64) -> (u64, u64)
+        requires table { IsSeatOf self.now seat.old }
+        requires begin { seat.old.me.0.begin ≡ begin_of self.now }
+        requires entry { AtEntry seat.old.me place }
+        requires words { HasWords seat.old.me.0 place 2 }
+        ensures table { seat.new.table_id ≡ seat.old.table_id }
+        ensures left { (seat.new.me.1 ≡ seat.old.me.1) × (seat.new.me.0 ≡ standing seat.old.me.0 seat.old.me.0.walk None) }
+        ensures pair { (l : Leaf) → seat.old.me.0.leaf ≡ Some l → (result.0 ≡ l.key) × (result.1 ≡ l.value) }
+    {
+        let shared = &self.table.shared;
+        let key = shared.load::<ReadKey>(seat, key_word(place));
+        let value = shared.load::<ReadValue>(seat, value_word(place));
+        (key, value)
+    }
+
+    /// The seat reads the entry that it knows, and keeps it in mind.
+    pub fn read_leaf(&self, seat: &mut Seat<(), View>, place: u64) -> Leaf
+        requires table { IsSeatOf self.now seat.old }
+        requires begin { seat.old.me.0.begin ≡ begin_of self.now }
+        requires entry { AtEntry seat.old.me place }
+        requires words { HasWords seat.old.me.0 place 2 }
+        ensures table { seat.new.table_id ≡ seat.old.table_id }
+        ensures same { seat.new.me ≡ seat.old.me }
+        ensures leaf { seat.old.me.0.leaf ≡ Some result }
+    {
+        let shared = &self.table.shared;
+        let key = shared.load::<ReadKey>(seat, key_word(place));
+        let value = shared.load::<KeepValue>(seat, value_word(place));
+        Leaf { place, key, value }
+    }
+}

@@ -1,0 +1,215 @@
+//! The steps of a call that writes a map, up to the write: coming in by the map's gate, taking the lock of a node, reading a
+//! slot under it, writing a word of the own room, giving the lock back, and going out.
+ghost use Rattle.std.specs.Prelude.{◌≡◌, ℕ, ◌+◌, ◌<◌, ◌≤◌, true, List, Some, None, MatchBool, length};
+ghost use Rattle.table_seats.specs.declared.view.Gate.TheVariants.{Outside, Inside};
+ghost use Rattle.table_seats.specs.declared.view.Lock.{Lock};
+ghost use Rattle.table_seats.specs.declared.view.Own.{Own};
+ghost use Rattle.table_seats.specs.declared.view.Walk.{Walk};
+ghost use Rattle.table_seats.specs.Layout.{size_of};
+ghost use Rattle.table_seats.specs.Seats.{begin_of, IsSeatOf};
+ghost use Rattle.table_seats.specs.Walking.{standing, walk_at, HasWords, Affords, IsFree};
+ghost use Rattle.sync_types.specs.SequentialMap.{map_key};
+ghost use Rattle.sync_model.specs.Shared.{cost_of};
+ghost use Rattle.table_seats.specs.Making.{StandsLocked, LooksHeld};
+ghost use Rattle.trie_nodes.specs.Slots.{slot_in};
+ghost use Rattle.table_seats.specs.Writing.{holding, lock_at, IsWriter, TriesLock, Holds, Unlocks, ComesIn, IsInside, GoesOut, HasRoomWithin, drafted, Drafts, HasDraft};
+
+use crate::laws::history_laws;
+use crate::lookup::Way;
+use crate::making::Making;
+use crate::view::View;
+use crate::words::TableWords;
+use atomic_table::{Play, Seat};
+use std::marker::{Brand, PhantomData};
+use sync_types::MapCall;
+use trie_nodes::layout::{DEAD, FREE, held_word, lock_word, slot_word};
+use trie_nodes::{Slot, nibble};
+
+/// A seat comes in as a writer of a map.
+pub(crate) struct ComeIn<W> {
+    marker: PhantomData<W>,
+}
+
+impl<W: Way> Play<(), View> for ComeIn<W> {
+    ghost then = { λ step before found after. ComesIn W.map step.first before found after };
+}
+
+/// A seat goes out.
+pub(crate) struct GoOut;
+
+impl Play<(), View> for GoOut {
+    ghost then = { λ step before found after. GoesOut before found after };
+}
+
+/// A seat tries the lock of the node where it stands.
+pub(crate) struct TryLock;
+
+impl Play<(), View> for TryLock {
+    ghost then = { λ step before found after. (w : Walk) → before.0.walk ≡ Some w → TriesLock w before found after };
+}
+
+/// A seat looks at its key's slot under the lock of the node where it stands.
+pub(crate) struct LookHeld<C> {
+    marker: PhantomData<C>,
+}
+
+impl<C: Making> Play<(), View> for LookHeld<C> {
+    ghost then = { λ step before found after. LooksHeld C.call before (slot_in found) after };
+}
+
+/// A seat gives its lock back.
+pub(crate) struct Unlock;
+
+impl Play<(), View> for Unlock {
+    ghost then = { λ step before found after. Unlocks before found after };
+}
+
+/// A seat writes the next word of its own room.
+pub(crate) struct Draft;
+
+impl Play<(), View> for Draft {
+    ghost then = { λ step before found after. Drafts step.first before found after };
+}
+
+impl TableWords {
+    /// Tries to come in as a writer of the map. It doesn't where the gate is closed, or where another passed it just then.
+    pub fn try_come_in(&self, seat: &mut Seat<(), View>, map: u32) -> bool
+        requires table { IsSeatOf self.now seat.old }
+        requires free { IsFree (begin_of self.now) seat.old.me }
+        requires map { map < (begin_of self.now).maps }
+        ensures table { seat.new.table_id ≡ seat.old.table_id }
+        ensures slots { seat.new.me.1 ≡ seat.old.me.1 }
+        ensures inside { MatchBool result (seat.new.me.0 ≡ holding seat.old.me.0 (Inside map) None None) (seat.new.me.0 ≡ seat.old.me.0) }
+    {
+        self.come_in_as::<Brand>(seat, map)
+    }
+
+    // The same, at a map that is told by a type.
+    fn come_in_as<W: Way>(&self, seat: &mut Seat<(), View>, map: u32) -> bool
+        requires table { IsSeatOf self.now seat.old }
+        requires free { IsFree (begin_of self.now) seat.old.me }
+        requires map { map < (begin_of self.now).maps }
+        requires told { W.map ≡ map }
+        ensures table { seat.new.table_id ≡ seat.old.table_id }
+        ensures slots { seat.new.me.1 ≡ seat.old.me.1 }
+        ensures inside { MatchBool result (seat.new.me.0 ≡ holding seat.old.me.0 (Inside map) None None) (seat.new.me.0 ≡ seat.old.me.0) }
+    {
+        history_laws();
+        let word = 2 + self.begin.kinds.len() + 2 * map as usize;
+        let shared = &self.table.shared;
+        let writers = shared.peek(word);
+        if writers >= DEAD {
+            return false;
+        }
+        shared.compare_exchange::<ComeIn<W>>(seat, word, writers, writers + 1) == writers
+    }
+
+    /// Whether a node is dead, so that nobody takes its lock any more.
+    pub fn is_dead(&self, node: u64) -> bool
+        requires { node < size_of (begin_of self.now) }
+    {
+        self.table.shared.peek(lock_word(node)) == DEAD
+    }
+
+    /// Tries the lock of the node where the seat stands, for the seat's caller.
+    pub fn try_lock(&self, seat: &mut Seat<(), View>, node: u64, caller: u32) -> bool
+        requires table { IsSeatOf self.now seat.old }
+        requires writer { (w : Walk) × (w.node ≡ node) × IsWriter (begin_of self.now) seat.old.me w }
+        requires words { HasWords seat.old.me.0 node 18 }
+        requires caller { caller ≡ seat.old.me.0.number }
+        ensures table { seat.new.table_id ≡ seat.old.table_id }
+        ensures slots { seat.new.me.1 ≡ seat.old.me.1 }
+        ensures lock { (w : Walk) → seat.old.me.0.walk ≡ Some w → MatchBool result ((up : ℕ) × (seat.new.me.0 ≡ holding seat.old.me.0 seat.old.me.0.gate (Some (lock_at w up)) None)) (seat.new.me.0 ≡ seat.old.me.0) }
+    {
+        history_laws();
+        let found = self
+            .table
+            .shared
+            .compare_exchange::<TryLock>(seat, lock_word(node), FREE, held_word(caller));
+        found == FREE
+    }
+
+    /// The seat of a call on a key looks at the key's slot under the lock of the node where it stands.
+    pub fn look_held(
+        &self,
+        seat: &mut Seat<(), View>,
+        call: MapCall<u32>,
+        map: u32,
+        key: u32,
+        node: u64,
+        level: u32,
+    ) -> Slot
+        requires table { IsSeatOf self.now seat.old }
+        requires call { (map_key call ≡ Some key) × Affords (cost_of call) seat.old.me.0.owns }
+        requires stands { (up : ℕ) × StandsLocked (begin_of self.now) seat.old.me (walk_at map key node level (length seat.old.me.0.seen)) up }
+        requires words { HasWords seat.old.me.0 node 18 }
+        requires level { level < 8 }
+        ensures table { seat.new.table_id ≡ seat.old.table_id }
+        ensures found { LooksHeld call seat.old.me result seat.new.me }
+    {
+        self.look_held_as::<Brand>(seat, call, map, key, node, level)
+    }
+
+    // The same, with a call that is told by a type.
+    fn look_held_as<C: Making>(
+        &self,
+        seat: &mut Seat<(), View>,
+        _call: MapCall<u32>,
+        map: u32,
+        key: u32,
+        node: u64,
+        level: u32,
+    ) -> Slot
+        requires table { IsSeatOf self.now seat.old }
+        requires call { (map_key C.call ≡ Some key) × Affords (cost_of C.call) seat.old.me.0.owns }
+        requires stands { (up : ℕ) × StandsLocked (begin_of self.now) seat.old.me (walk_at map key node level (length seat.old.me.0.seen)) up }
+        requires words { HasWords seat.old.me.0 node 18 }
+        requires level { level < 8 }
+        ensures table { seat.new.table_id ≡ seat.old.table_id }
+        ensures found { LooksHeld C.call seat.old.me result seat.new.me }
+    {
+        history_laws();
+        let word = slot_word(node, nibble(key, self.begin.seed, level));
+        Slot::of_word(self.table.shared.load::<LookHeld<C>>(seat, word))
+    }
+
+    /// Gives the lock of a node back. The seat then stands nowhere.
+    pub fn unlock(&self, seat: &mut Seat<(), View>, node: u64)
+        requires table { IsSeatOf self.now seat.old }
+        requires lock { (l : Lock) × (l.node ≡ node) × Holds (begin_of self.now) seat.old.me l }
+        requires words { HasWords seat.old.me.0 node 18 }
+        ensures table { seat.new.table_id ≡ seat.old.table_id }
+        ensures unlocked { (seat.new.me.1 ≡ seat.old.me.1) × (seat.new.me.0 ≡ standing (holding seat.old.me.0 seat.old.me.0.gate None None) None None) }
+    {
+        history_laws();
+        self.table
+            .shared
+            .store::<Unlock>(seat, lock_word(node), FREE);
+    }
+
+    /// Goes out of the map's gate.
+    pub fn go_out(&self, seat: &mut Seat<(), View>, map: u32)
+        requires table { IsSeatOf self.now seat.old }
+        requires inside { IsInside (begin_of self.now) seat.old.me map }
+        requires map { map < (begin_of self.now).maps }
+        ensures table { seat.new.table_id ≡ seat.old.table_id }
+        ensures out { (seat.new.me.1 ≡ seat.old.me.1) × (seat.new.me.0 ≡ holding seat.old.me.0 Outside None None) }
+        ensures room { HasRoomWithin seat.old.me.0 }
+    {
+        history_laws();
+        let word = 2 + self.begin.kinds.len() + 2 * map as usize;
+        self.table.shared.fetch_sub::<GoOut>(seat, word, 1);
+    }
+
+    /// Writes the next word of the caller's own room, which no slot leads to. So far it holds this many words.
+    pub fn draft(&self, seat: &mut Seat<(), View>, next: u64, written: u64, new: u64)
+        requires table { IsSeatOf self.now seat.old }
+        requires room { (own : Own) × (owns : List Own) × HasDraft (begin_of self.now) seat.old.me own owns next written }
+        ensures table { seat.new.table_id ≡ seat.old.table_id }
+        ensures written { (seat.new.me.1 ≡ seat.old.me.1) × (seat.new.me.0 ≡ drafted seat.old.me.0 new) }
+    {
+        history_laws();
+        let word = (next + written) as usize;
+        self.table.shared.store::<Draft>(seat, word, new);
+    }
+}

@@ -1,0 +1,93 @@
+//! What the line of a call says behind its object's name: a key, and up to two numbers.
+ghost use Rattle.std.specs.Prelude.{◌≡◌, ◌++◌, map};
+ghost use Rattle.std.specs.Fmt.{decimal};
+ghost use Rattle.std.specs.Option.{option_to_list, option_copied};
+ghost use Rattle.workload.specs.NumberWords.{number_word};
+ghost use Rattle.workload.specs.CallWords.{map_values, atomic_numbers, group_operands, pool_operands, operands_of};
+ghost use Rattle.workload_words.specs.Numbers.{numbers_in};
+
+use sync_types::{AtomicCall, MapCall, Name, Number, Operation, PoolCall, WaitGroupCall};
+
+/// The numbers of a call, in order. A value of a map and an item of a pool are of the type `Uint64` here,
+/// and an amount for a wait group is of `Int32`.
+#[derive(Clone, Copy, Debug)]
+pub enum Numbers {
+    /// The call has no number.
+    Empty,
+    /// It has one.
+    One(Number),
+    /// It compares with an old one, and sets a new one.
+    Two(Number, Number),
+}
+
+/// The values of a call of a map.
+fn map_numbers(call: &MapCall<Name>) -> Numbers
+    ensures { map number_word (numbers_in result) ≡ map decimal (map_values call.now) }
+{
+    match call {
+        MapCall::Store { value, .. }
+        | MapCall::LoadOrStore { value, .. }
+        | MapCall::Swap { value, .. } => Numbers::One(Number::Uint64(*value)),
+        MapCall::CompareAndDelete { old, .. } => Numbers::One(Number::Uint64(*old)),
+        MapCall::CompareAndSwap { old, new, .. } => {
+            Numbers::Two(Number::Uint64(*old), Number::Uint64(*new))
+        }
+        MapCall::Load { .. }
+        | MapCall::LoadAndDelete { .. }
+        | MapCall::Delete { .. }
+        | MapCall::Clear => Numbers::Empty,
+    }
+}
+
+/// The numbers of a call of an atomic.
+fn atomic_numbers(call: AtomicCall) -> Numbers
+    ensures { numbers_in result ≡ atomic_numbers call }
+{
+    match call {
+        AtomicCall::Load => Numbers::Empty,
+        AtomicCall::Store { value } | AtomicCall::Swap { value } => Numbers::One(value),
+        AtomicCall::Add { operand } | AtomicCall::And { operand } | AtomicCall::Or { operand } => {
+            Numbers::One(operand)
+        }
+        AtomicCall::CompareAndSwap { old, new } => Numbers::Two(old, new),
+    }
+}
+
+/// The amount of a call of a wait group.
+fn group_numbers(call: WaitGroupCall) -> Numbers
+    ensures { map number_word (numbers_in result) ≡ group_operands call }
+{
+    match call {
+        WaitGroupCall::Add(delta) => Numbers::One(Number::Int32(delta)),
+        WaitGroupCall::Done | WaitGroupCall::Wait => Numbers::Empty,
+    }
+}
+
+/// The item of a call of a pool.
+fn pool_numbers(call: PoolCall) -> Numbers
+    ensures { map number_word (numbers_in result) ≡ pool_operands call }
+{
+    match call {
+        PoolCall::Put(item) => Numbers::One(Number::Uint64(item)),
+        PoolCall::Get | PoolCall::Sweep => Numbers::Empty,
+    }
+}
+
+/// The operands of an operation: the key, and then the numbers.
+pub fn operands_of(operation: &Operation) -> (Option<&Name>, Numbers)
+    ensures { option_to_list (option_copied result.0) ++ map number_word (numbers_in result.1) ≡ operands_of operation.now }
+{
+    match operation {
+        Operation::Map(call) => (call.key(), map_numbers(call)),
+        Operation::Atomic(call) => (None, atomic_numbers(*call)),
+        Operation::WaitGroup(call) => (None, group_numbers(*call)),
+        Operation::Pool(call) => (None, pool_numbers(*call)),
+        Operation::Range
+        | Operation::Mutex(_)
+        | Operation::RwMutex(_)
+        | Operation::Cond(_)
+        | Operation::Once
+        | Operation::OnceFunc
+        | Operation::OnceValue => (None, Numbers::Empty),
+    }
+}
