@@ -7,7 +7,6 @@ import (
 	"os"
 	"strconv"
 	"sync"
-	"sync/atomic"
 	"time"
 )
 
@@ -125,37 +124,6 @@ func main() {
 			for i := 0; i < rounds; i++ {
 				p.Put(item)
 				item = p.Get()
-			}
-		}
-	})
-	full := func() *sync.Map {
-		m := apart[sync.Map]()
-		for key := uint32(0); key < 512; key++ {
-			m.Store(key, uint64(1))
-		}
-		return m
-	}
-	each("load", rounds, func() caller {
-		m := full()
-		return func(rounds int) {
-			for i := 0; i < rounds; i++ {
-				m.Load(uint32(7))
-			}
-		}
-	})
-	each("store", rounds, func() caller {
-		m := full()
-		return func(rounds int) {
-			for i := 0; i < rounds; i++ {
-				m.Store(uint32(7), uint64(1))
-			}
-		}
-	})
-	each("add", rounds, func() caller {
-		a := apart[int64]()
-		return func(rounds int) {
-			for i := 0; i < rounds; i++ {
-				atomic.AddInt64(a, 1)
 			}
 		}
 	})

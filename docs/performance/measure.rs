@@ -1,8 +1,6 @@
 // Measures a pair of calls of Rust's std: nanoseconds a pair, for each thread.
 // rustc -O measure.rs && ./measure ROUNDS
-use std::collections::HashMap;
 use std::hint::black_box;
-use std::sync::atomic::{AtomicI64, Ordering};
 use std::sync::{Arc, Barrier, Condvar, Mutex, Once, RwLock};
 use std::thread;
 use std::time::Instant;
@@ -78,16 +76,5 @@ fn main() {
     each("pool", rounds, || Mutex::new(Vec::<u64>::with_capacity(64)), |p| {
         p.lock().unwrap().push(7);
         black_box(p.lock().unwrap().pop());
-    });
-    // std has no map that threads share: one under a mutex.
-    let full = || Mutex::new((0..512).map(|key| (key, 1)).collect::<HashMap<u32, u64>>());
-    each("load", rounds, full, |m| {
-        black_box(m.lock().unwrap().get(&7).copied());
-    });
-    each("store", rounds, full, |m| {
-        m.lock().unwrap().insert(7, 1);
-    });
-    each("add", rounds, || AtomicI64::new(0), |a| {
-        black_box(a.fetch_add(1, Ordering::SeqCst));
     });
 }

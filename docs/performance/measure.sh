@@ -9,7 +9,7 @@ set -euo pipefail
 TURNS=6
 ROUNDS=100000         # pairs of each thread here
 NATIVE_ROUNDS=1000000 # and in Go and Rust, whose pairs are shorter
-OBJECTS='mutex read write group once pool load store add'
+OBJECTS='mutex read write group once pool'
 CALLERS='one two-own four-own two-shared four-shared'
 # notes, clock and callers of each column
 COLUMNS=('front machine 4' 'front standing 4' 'empty machine 4' 'empty standing 4' 'front machine 64' 'empty standing 64')

@@ -1,2 +1,4 @@
 pub mod Callers
 pub mod AllCallers
+pub mod RangeLaw
+pub mod Walkers

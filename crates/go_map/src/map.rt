@@ -17,7 +17,7 @@ use sync_types::{MapCall, MapReply};
 /// map of one thread. What a call observes synchronizes before it. No call takes memory.
 ///
 /// Each call but `load` takes one of its caller's spare units, whatever it answers, and may wait while another caller has the
-/// lock of the node where the key belongs, or clears the map. A call that changes the map is placed at its one write.
+/// lock of the node where the key belongs, or of a node above one that the call empties, or clears the map. A call that changes the map is placed at its one write.
 #[derive(Drop)]
 pub struct Map<'a> {
     pub table: &'a SharedTable,

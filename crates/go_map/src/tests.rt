@@ -10,6 +10,8 @@ mod deep;
 mod ends;
 mod merged;
 mod race;
+mod ranges;
+mod shared;
 mod threads;
 
 use crate::Map;

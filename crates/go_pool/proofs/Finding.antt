@@ -2,13 +2,12 @@
 use Rattle.std.proofs.Common.{◌≡◌, ℕ, zero, suc, ◌==◌, ◌-◌, Bool, true, false, cond, List, [], ◌∷◌, length, Option, Some, None, refl, sym, ◌∙◌, subst, arith}
 use Rattle.std.specs.Prelude.{nat_lt}
 use Rattle.std.specs.List.{Contains, slice_get}
-use Rattle.std.specs.Option.{option_map}
 use Rattle.pool_core.specs.declared.pool_event.PoolEvent.{PoolEvent}
 use Rattle.pool_core.specs.declared.pool_event.PoolEvent.TheVariants.{Put, LookOwn, LookOther, LookVictim, Sweep}
 use Rattle.pool_core.specs.declared.pool_event.PoolReply.{PoolReply}
-use Rattle.pool_core.specs.declared.pool_event.PoolReply.TheVariants.{Kept, Dropped, Item, Still}
+use Rattle.pool_core.specs.declared.pool_event.PoolReply.TheVariants.{Kept, Dropped, Item}
 use Rattle.pool_core.specs.PoolParts.{PoolPart, put_in, put_beside, take_own, take_tail, take_victim, head_of, tail_of, private_or}
-use Rattle.pool_core.specs.PoolMachine.{PoolState, next, made, callers_of, with_primary, with_victims}
+use Rattle.pool_core.specs.PartMachine.{PartState, part_next}
 use Rattle.go_pool.specs.Items.{items_of, takeable}
 
 at_head : (x item : ℕ) (xs : List ℕ) → Item x ≡ Item item → Contains (x ∷ xs) item
@@ -28,26 +27,22 @@ tail_item part item (Some x) here is = at_place part.shared (length part.shared 
 tail_item part item None here is = cc
 
 private_item : (part : PoolPart ℕ) (other : PoolPart ℕ → PoolPart ℕ × PoolReply ℕ) (item : ℕ) → ((other part).1 ≡ Item item → Contains part.shared item) → (private : Option ℕ) → part.private ≡ private → (private_or private other part).1 ≡ Item item
-    → Contains (items_of true (Some part)) item
-private_item part other item rest (Some x) here is = subst (λ (o : Option ℕ). Contains (items_of true (Some record part { private = o })) item) (sym here) (at_head x item part.shared is)
-private_item part other item rest None here is = subst (λ (o : Option ℕ). Contains (items_of true (Some record part { private = o })) item) (sym here) (rest is)
+    → Contains (items_of true part) item
+private_item part other item rest (Some x) here is = subst (λ (o : Option ℕ). Contains (items_of true (record part { private = o })) item) (sym here) (at_head x item part.shared is)
+private_item part other item rest None here is = subst (λ (o : Option ℕ). Contains (items_of true (record part { private = o })) item) (sym here) (rest is)
 
-own_item : (state : PoolState ℕ) (caller item : ℕ) (o : Option (PoolPart ℕ)) → (with_primary (option_map take_own o) state caller).1 ≡ Item item → Contains (items_of true o) item
-own_item state caller item (Some part) is = private_item part (λ p. head_of p.shared p) item (head_item part part.shared item) part.private refl is
-own_item state caller item None is = cc
+own_item : (part : PoolPart ℕ) (item : ℕ) → (take_own part).1 ≡ Item item → Contains (items_of true part) item
+own_item part item is = private_item part (λ p. head_of p.shared p) item (head_item part part.shared item) part.private refl is
 
-other_item : (state : PoolState ℕ) (at item : ℕ) (o : Option (PoolPart ℕ)) → (with_primary (option_map take_tail o) state at).1 ≡ Item item → Contains (items_of false o) item
-other_item state at item (Some part) is = tail_item part item (slice_get part.shared (length part.shared - 1)) refl is
-other_item state at item None is = cc
+other_item : (part : PoolPart ℕ) (item : ℕ) → (take_tail part).1 ≡ Item item → Contains (items_of false part) item
+other_item part item is = tail_item part item (slice_get part.shared (length part.shared - 1)) refl is
 
-victim_item : (state : PoolState ℕ) (at item : ℕ) (own : Bool) (o : Option (PoolPart ℕ)) → (with_victims (option_map (cond own take_victim take_tail) o) state at).1 ≡ Item item → Contains (items_of own o) item
-victim_item state at item true (Some part) is = private_item part take_tail item (tail_item part item (slice_get part.shared (length part.shared - 1)) refl) part.private refl is
-victim_item state at item false (Some part) is = tail_item part item (slice_get part.shared (length part.shared - 1)) refl is
-victim_item state at item own None is = cc
+victim_item : (part : PoolPart ℕ) (item : ℕ) (own : Bool) → ((cond {A = PoolPart ℕ → PoolPart ℕ × PoolReply ℕ} own take_victim take_tail) part).1 ≡ Item item → Contains (items_of own part) item
+victim_item part item true is = private_item part take_tail item (other_item part item) part.private refl is
+victim_item part item false is = other_item part item is
 
-no_put : (state : PoolState ℕ) (caller item x : ℕ) (o : Option (PoolPart ℕ)) → (with_primary (option_map (λ own. put_in own x) o) state caller).1 ≡ Item item → ⊥
-no_put state caller item x None is = cc
-no_put state caller item x (Some part) is = by_private part.private is where
+no_put : (part : PoolPart ℕ) (item x : ℕ) → (put_in part x).1 ≡ Item item → ⊥
+no_put part item x is = by_private part.private is where
   by_room : (room : Bool) → (cond {A = PoolPart ℕ × PoolReply ℕ} room (record part { shared = x ∷ part.shared }, Kept) (part, Dropped x)).1 ≡ Item item → ⊥
   by_room true same = cc
   by_room false same = cc
@@ -56,15 +51,9 @@ no_put state caller item x (Some part) is = by_private part.private is where
   by_private None same = cc
   by_private (Some held) same = by_room (nat_lt (length part.shared) part.room) same
 
-made_item : (state : PoolState ℕ) (caller : ℕ) (event : PoolEvent ℕ) (item : ℕ) → (made state caller event).1 ≡ Item item → Contains (takeable state caller event) item
-made_item state caller (Put x) item is = absurd (no_put state caller item x (slice_get state.primary caller) is)
-made_item state caller LookOwn item is = own_item state caller item (slice_get state.primary caller) is
-made_item state caller (LookOther part) item is = other_item state part item (slice_get state.primary part) is
-made_item state caller (LookVictim part) item is = victim_item state part item (part == caller) (slice_get state.victims part) is
-made_item state caller Sweep item is = cc
-
-pub takes_item : (state : PoolState ℕ) (caller : ℕ) (event : PoolEvent ℕ) (item : ℕ) → (next state caller event).1 ≡ Item item → Contains (takeable state caller event) item
-takes_item state caller event item is = by_caller (nat_lt caller (callers_of state)) is where
-  by_caller : (below : Bool) → (cond {A = PoolState ℕ × PoolReply ℕ} below (made state caller event) (state, Still)).1 ≡ Item item → Contains (takeable state caller event) item
-  by_caller true same = made_item state caller event item same
-  by_caller false same = cc
+pub takes_item : (state : PartState ℕ) (caller : ℕ) (event : PoolEvent ℕ) (item : ℕ) → (part_next state caller event).1 ≡ Item item → Contains (takeable state caller event) item
+takes_item state caller (Put x) item is = absurd (no_put state.primary item x is)
+takes_item state caller LookOwn item is = own_item state.primary item is
+takes_item state caller (LookOther part) item is = other_item state.primary item is
+takes_item state caller (LookVictim part) item is = victim_item state.victims item (part == caller) is
+takes_item state caller Sweep item is = cc

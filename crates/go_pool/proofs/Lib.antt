@@ -1,4 +1,10 @@
 pub mod Drops
 pub mod Finding
-pub mod Looked
+pub mod FirstHalts
+pub mod Looking
+pub mod Making
+pub mod PoolGrowth
 pub mod PoolSpelling
+pub mod Seats
+pub mod Sweeping
+pub mod TableSteps

@@ -1,7 +1,5 @@
 -- The spelling of a pool's protocol, in the words of this crate.
-use Rattle.std.proofs.Common.{◌≡◌, ◌≢◌, ℕ, ◌<◌, Bool, true, false, List, [], ◌∷◌, Result, Ok, Err, refl, sym, ap, subst, ◌∙◌}
-use Rattle.std.proofs.lemmas.Bool.{lt-ltb}
-use Rattle.std.proofs.lemmas.List.{length-replicate}
+use Rattle.std.proofs.Common.{◌≡◌, ◌≢◌, ℕ, Bool, true, false, List, [], ◌∷◌, Result, Ok, Err, refl, sym, subst, ◌∙◌}
 use Rattle.sync_types.specs.declared.misuse.Misuse.{Misuse}
 use Rattle.sync_model.specs.declared.answer.Answer.{Answer}
 use Rattle.sync_model.specs.declared.answer.Answer.TheVariants.{Done, Halted}
@@ -9,8 +7,7 @@ use Rattle.sync_model.specs.declared.journal.Deed.TheVariants.{Event, Refused, H
 use Rattle.pool_core.specs.declared.pool_event.PoolEvent.{PoolEvent}
 use Rattle.pool_core.specs.declared.pool_event.PoolReply.{PoolReply}
 use Rattle.pool_core.specs.declared.pool_event.PoolReply.TheVariants as reply
-use Rattle.pool_core.specs.PoolLaws.{NamesPart}
-use Rattle.pool_core.specs.PoolMachine.{PoolState, start, next, callers_of as callers_in}
+use Rattle.pool_core.specs.PartMachine.{part_start, part_next}
 use Rattle.pool_core.specs.PoolParts.{reply_of_put, reply_of_look}
 use Rattle.protocols.specs.declared.step.Step.{Step}
 use Rattle.protocols.specs.declared.step.Step.TheVariants.{Finished, Misused, Waits, Next, Never}
@@ -18,16 +15,16 @@ use Rattle.protocols.specs.declared.pool.PoolOutcome.{PoolOutcome}
 use Rattle.protocols.specs.declared.pool.PoolOutcome.TheVariants.{Kept, Dropped, Item, Nothing, Swept}
 use Rattle.protocols.specs.declared.pool.PoolStage.{PoolStage}
 use Rattle.protocols.specs.declared.pool.PoolStage.TheVariants as stage
-use Rattle.protocols.specs.PoolStages.{pool_event, pool_moment, look_meaning, pool_meaning, pool_allows, pool_gains, PoolBegins}
+use Rattle.protocols.specs.PoolStages.{pool_event, pool_moment, look_meaning, pool_meaning, pool_gains}
 use Rattle.protocols.specs.Spelling.{CallAnswer, Rest, Spells, AreTimely}
-use Rattle.ruled_object.specs.Passes.{callers_of, start_of}
 use Rattle.running.specs.Calls.{told, retold, IsGiven, has_gained}
-use Rattle.running.specs.Calls as running
+use Rattle.go_pool.specs.declared.pass.PoolPass.{PoolPass}
 use Rattle.go_pool.specs.declared.pool.Pool.{Pool}
+use Rattle.go_pool.specs.AtParts.{DidAt}
 use Rattle.go_pool.specs.Calls.{Single}
 use Rattle.go_pool.specs.Items.{IsLook}
 use Rattle.go_pool.specs.PoolAnswers.{put_of, look_of, sweep_of}
-use Rattle.go_pool.specs.Pools.{Deeds, PoolPass, Did}
+use Rattle.go_pool.specs.Pools.{Deeds, room_of}
 
 only_event : (e made : PoolEvent ℕ) (r given : PoolReply ℕ) (rest : Deeds) → e ≡ made → r ≡ given → rest ≡ [] → Event e r ∷ rest ≡ Event made given ∷ []
 only_event e made r given rest of is empty = cc
@@ -88,12 +85,6 @@ look_ended (stage.LookOther part) is r = looked r
 look_ended (stage.LookVictim part) is r = looked r
 look_ended _ is r = absurd is
 
--- a look at a part that is there is allowed
-pub may_look : (callers room : ℕ) (g : PoolStage) → NamesPart callers (pool_event g 0) → pool_allows (start callers room) tt g ≡ true
-may_look callers room (stage.LookOther part) names = lt-ltb part (callers_in (start {X = ℕ} callers room)) (subst (λ (n : ℕ). part < n) (sym (length-replicate callers _)) names)
-may_look callers room (stage.LookVictim part) names = lt-ltb part (callers_in (start {X = ℕ} callers room)) (subst (λ (n : ℕ). part < n) (sym (length-replicate callers _)) names)
-may_look callers room _ names = refl
-
 -- only a call that took an item gains
 pub gains_nothing : (g : PoolStage) (answer : CallAnswer PoolOutcome) → ((item : ℕ) → answer ≢ Done (Ok (Item item))) → has_gained (pool_gains g) answer ≡ false
 gains_nothing g (Done (Ok Kept)) none = refl
@@ -108,14 +99,15 @@ gains_nothing g (Halted m) none = refl
 pub gives_none : (gives : Result PoolOutcome Misuse → Bool) → ((item : ℕ) → gives (Ok (Item item)) ≡ false) → (answer : CallAnswer PoolOutcome) → IsGiven gives answer → (item : ℕ) → answer ≢ Done (Ok (Item item))
 gives_none gives never answer given item is = let may = subst (λ (a : CallAnswer PoolOutcome). IsGiven gives a) is given in let no = never item in (cc)
 
--- what a call of one event did, by what its protocol's call did
-pub did_single : {N H : Type 0} (pool : Pool N H) (shows : ℕ → Type 0) {old new : PoolPass N} {from to : List ℕ} {A : Type 0} (g : PoolStage) (made : PoolEvent ℕ) (reply : A → PoolReply ℕ) (words : Result PoolOutcome Misuse → A) → pool_event g 0 ≡ made → ((r : PoolReply ℕ) → Ended reply words r (pool_meaning g r))
-    → {answer : CallAnswer PoolOutcome} {result : Answer A} → result ≡ told words answer → running.Did next true (start_of pool.object) (λ ds a. Spells pool_event pool_meaning g ds a) (λ ds. AreTimely pool_moment shows ds) old from answer new to → Did pool (λ ds a. Single made reply ds a) old from result new to
-did_single pool shows {old} {new} {from} {to} g made reply words is ended {answer} {result} told_so did =
-    let spells : Deeds → CallAnswer PoolOutcome → Type 0 = λ ds a. Spells pool_event pool_meaning g ds a in
-    subst (λ (s : PoolState ℕ). running.Did next true s (λ ds a. Single made reply ds a) (λ ds. Unit {0}) old from result new to) pool.begun
-    (retold next true (start_of pool.object) spells (λ ds. AreTimely pool_moment shows ds) (λ ds a. Single made reply ds a) (λ ds. Unit {0}) words old new from to answer result (single_by reply words made g is ended answer) (λ ds timely. tt) told_so did)
-
--- a pool began as its protocol says
-pub begins : {N H : Type 0} (pool : Pool N H) → PoolBegins (callers_of pool.object) (start_of pool.object)
-begins pool = (pool.room, pool.begun ∙ ap (λ (n : ℕ). start n pool.room) (sym pool.count))
+-- what a call of one event did at a part, by what its protocol's call did
+pub single_at : {N H : Type 0} (pool : Pool N H) (part : ℕ) (shows : ℕ → Type 0) {old new : PoolPass N} {from to : List ℕ} {A : Type 0} (g : PoolStage) (made : PoolEvent ℕ) (reply : A → PoolReply ℕ) (words : Result PoolOutcome Misuse → A) → pool_event g 0 ≡ made → ((r : PoolReply ℕ) → Ended reply words r (pool_meaning g r))
+    → {answer : CallAnswer PoolOutcome} {result : Answer A} → result ≡ told words answer → DidAt pool part (λ ds a. Spells pool_event pool_meaning g ds a) (λ ds. AreTimely pool_moment shows ds) old from answer new to → DidAt pool part (λ ds a. Single made reply ds a) (λ ds. Unit {0}) old from result new to
+single_at pool part shows {old} {new} {from} {to} g made reply words is ended {answer} {result} told_so did =
+    let spells : Deeds → CallAnswer PoolOutcome → Type 0 = λ ds a. Spells pool_event pool_meaning g ds a in record {
+      before = did.before;
+      after = did.after;
+      was = did.was;
+      set_is = did.set_is;
+      number = did.number;
+      did = retold part_next true (part_start (room_of pool)) spells (λ ds. AreTimely pool_moment shows ds) (λ ds a. Single made reply ds a) (λ ds. Unit {0}) words did.before did.after from to answer result (single_by reply words made g is ended answer) (λ ds timely. tt) told_so did.did;
+    }

@@ -1,5 +1,5 @@
 -- Which items a part holds, and which of them a caller may take.
-use Rattle.std.specs.Prelude.{◌≡◌, ℕ, ◌==◌, Bool, true, false, if◌then◌else◌, List, [], ◌∷◌, ◌++◌, Option, Some, None, slice_get}
+use Rattle.std.specs.Prelude.{◌≡◌, ℕ, ◌==◌, Bool, true, false, if◌then◌else◌, List, [], ◌∷◌, ◌++◌}
 use Rattle.std.specs.Option.{option_to_list}
 use Rattle.sync_model.specs.declared.answer.Answer.{Answer}
 use Rattle.sync_model.specs.declared.answer.Answer.TheVariants.{Done, Halted}
@@ -9,17 +9,19 @@ use Rattle.pool_core.specs.declared.pool_event.PoolEvent.TheVariants.{Put, LookO
 use Rattle.pool_core.specs.declared.pool_event.PoolPut.{PoolPut}
 use Rattle.pool_core.specs.declared.pool_event.PoolPut.TheVariants.{Kept, Dropped}
 use Rattle.pool_core.specs.PoolLaws.{is_full, ComeFrom}
-use Rattle.pool_core.specs.PoolMachine.{PoolState}
+use Rattle.pool_core.specs.PartMachine.{PartState}
 use Rattle.pool_core.specs.PoolParts.{PoolPart}
+use Rattle.go_pool.specs.declared.pass.PoolPass.{PoolPass}
 use Rattle.go_pool.specs.declared.pool.Pool.{Pool}
-use Rattle.go_pool.specs.Pools.{Made, Journal, PoolPass, held_after, seen_of, number_of, room_of}
+use Rattle.go_pool.specs.Parts.{PartJournal}
+use Rattle.go_pool.specs.Pools.{Made, held_after, seen_of, number_of, room_of}
 
 -- what a put found: the last entry that the caller has seen of its part's journal is the put's, and before that the part held this
 pub record Found {N H : Type 0} (pool : Pool N H) (pass : PoolPass N) (own : PoolPart ℕ) : Type 0 where
-  pub before : Journal
+  pub before : PartJournal
   pub entry : Made
   pub seen : seen_of (number_of pass) pass ≡ before ++ entry ∷ []
-  pub held : slice_get (held_after pool before).primary (number_of pass) ≡ Some own
+  pub held : (held_after pool before).primary ≡ own
 
 -- a put is dropped exactly where its caller's part is full: it holds a private item and as many shared ones as it has room for
 abbrev pub DropsWhereFull : {N H : Type 0} → Pool N H → PoolPass N → ℕ → Answer PoolPut → Type 0
@@ -28,15 +30,14 @@ DropsWhereFull pool pass item (Done (Dropped other)) = (own : PoolPart ℕ) × F
 DropsWhereFull pool pass item (Halted misuse) = Unit {0}
 
 -- the private item of a part with its shared ones, or the shared ones alone
-abbrev pub items_of : Bool → Option (PoolPart ℕ) → List ℕ
-items_of private (Some part) = if private then option_to_list part.private ++ part.shared else part.shared
-items_of private None = []
+abbrev pub items_of : Bool → PoolPart ℕ → List ℕ
+items_of private part = if private then option_to_list part.private ++ part.shared else part.shared
 
--- the items that a caller may take by a look
-abbrev pub takeable : PoolState ℕ → ℕ → PoolEvent ℕ → List ℕ
-takeable state caller LookOwn = items_of true (slice_get state.primary caller)
-takeable state caller (LookOther part) = items_of false (slice_get state.primary part)
-takeable state caller (LookVictim part) = items_of (part == caller) (slice_get state.victims part)
+-- the items that a caller may take by a look at a part
+abbrev pub takeable : PartState ℕ → ℕ → PoolEvent ℕ → List ℕ
+takeable state caller LookOwn = items_of true state.primary
+takeable state caller (LookOther part) = items_of false state.primary
+takeable state caller (LookVictim part) = items_of (part == caller) state.victims
 takeable state caller (Put item) = []
 takeable state caller Sweep = []
 

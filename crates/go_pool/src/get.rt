@@ -2,22 +2,20 @@
 ghost use Rattle.std.specs.Prelude.{◌≡◌, ◌≢◌, ℕ, ◌<◌, ◌*◌, Some};
 ghost use Rattle.sync_model.specs.declared.answer.Answer.TheVariants.{Done};
 ghost use Rattle.pool_core.specs.Looks.{look};
-ghost use Rattle.pool_core.specs.PoolLaws.{NamesPart};
+ghost use Rattle.pool_core.specs.PartLaws.{about};
 ghost use Rattle.protocols.specs.PoolStages.{pool_event};
 ghost use Rattle.ruled_object.specs.Growth.{KeepsNote};
-ghost use Rattle.ruled_object.specs.Passes.{IsOneLess, SamePass};
 ghost use Rattle.go_pool.specs.Calls.{Gets, Looks};
 ghost use Rattle.go_pool.specs.Items.{ComesFromPuts, IsLook};
-ghost use Rattle.go_pool.specs.Pools.{parts_of, fresh_of, left_of, number_of, IsHomeOf, IsPassOf, IsLawful, Did};
+ghost use Rattle.go_pool.specs.Pools.{parts_of, fresh_of, left_of, number_of, IsHomeOf, IsPassOf, IsLawful, IsOneLess, SamePass, Did};
 
 use crate::answers::looked;
 use crate::pool::{Pool, PoolPass};
 use crate::pool_get::PoolGet;
-use pool_core::PoolCore;
-use pool_core::laws::gives_each_once;
+use pool_core::PartCore;
+use pool_core::part_laws::a_part_gives_each_once;
 use protocols::PoolStage;
-use ruled_object::laws::growth;
-use running::call_within;
+use ruled_object::laws::notes_are_kept;
 use std::sync::Wait;
 use sync_model::laws::journals::journal_is_log;
 use sync_model::{Answer, Note};
@@ -43,10 +41,10 @@ impl<N: Note> Pool<N> {
         ensures no_edge { ((item : ℕ) → result ≢ Done (PoolGet.Item item)) → N.front note.new ≡ N.front note.old }
         ensures journal { IsLawful self.now pass.new }
     {
-        growth::<PoolCore, N>();
-        journal_is_log::<PoolCore>();
-        gives_each_once();
-        self.object.spend(pass);
+        journal_is_log::<PartCore>();
+        a_part_gives_each_once();
+        notes_are_kept::<N>();
+        pass.left -= 1;
         for number in 0..2 * self.callers {
             match self.look(rt, at, pass, note, number) {
                 Answer::Done(None) => {}
@@ -76,7 +74,18 @@ impl<N: Note> Pool<N> {
         ensures journal { IsLawful self.now pass.new }
     {
         let stage = self.look_stage(pass.number(), number);
-        looked(call_within(&self.object, rt, at, pass, note, stage))
+        let part = self.look_part(pass.number(), number);
+        looked(self.at_part(rt, at, pass, note, part, stage))
+    }
+
+    // At which part the look of this number is.
+    fn look_part(&self, caller: u32, number: u32) -> u32
+        requires caller { caller < parts_of self.now }
+        requires number { number < 2 * parts_of self.now }
+        ensures part { result < parts_of self.now }
+        ensures about { about caller (look (parts_of self.now) caller number) ≡ Some result }
+    {
+        (caller + number) % self.callers
     }
 
     // Which look has this number.
@@ -84,13 +93,12 @@ impl<N: Note> Pool<N> {
         requires caller { caller < parts_of self.now }
         requires number { number < 2 * parts_of self.now }
         ensures event { pool_event result 0 ≡ look (parts_of self.now) caller number }
-        ensures part { NamesPart (parts_of self.now) (pool_event result 0) }
         ensures look { IsLook (pool_event result 0) }
     {
         if number == 0 {
             return PoolStage::LookOwn;
         }
-        let part = (caller + number) % self.callers;
+        let part = self.look_part(caller, number);
         if number < self.callers {
             PoolStage::LookOther(part)
         } else {

@@ -1,28 +1,38 @@
 //! Halting a pool.
-ghost use Rattle.std.specs.Prelude.{◌≡◌};
+ghost use Rattle.std.specs.Prelude.{◌≡◌, ◌<◌, ◌==◌, cond};
 ghost use Rattle.sync_model.specs.declared.journal.Deed.TheVariants.{Halt};
-ghost use Rattle.sync_model.specs.Journal.{halt_of};
-ghost use Rattle.ruled_object.specs.Gathered.{SamePasses};
-ghost use Rattle.ruled_object.specs.Passes.{SamePass};
-ghost use Rattle.go_pool.specs.Pools.{Made, Journal, AreAllPasses, IsPassOf, IsWhole, IsSeen, Adds};
+ghost use Rattle.sync_model.specs.Journal.{halt_of as first_in};
+ghost use Rattle.protocols.specs.PoolStages.{pool_stands};
+ghost use Rattle.running.specs.Between.{AreAllBetween};
+ghost use Rattle.go_pool.specs.Halting.{HaltsAt, AreColumns, AreTold, IsTold};
+ghost use Rattle.go_pool.specs.Parts.{PartJournal};
+ghost use Rattle.go_pool.specs.Pools.{Made, Journal, AreAllPasses, IsPassOf, IsWhole, IsSeen, Adds, SamePass, SamePasses, halt_of, parts_of};
+ghost use Rattle.go_pool.specs.Tables.{KeepsRows};
 
+use crate::columns::transpose;
+use crate::pass::PartPass;
 use crate::pool::{Pool, PoolPass};
+use pool_core::PartCore;
+use ruled_object::Object;
 use std::sync::Wait;
 use sync_model::Note;
 use sync_types::Misuse;
 
 impl<N: Note> Pool<N> {
-    /// Halts the pool by a misuse: from then on each call is answered `Halted` with the first halt's misuse. It is one entry
-    /// of the journal, neither releases nor acquires, and takes nothing off the calls that are left.
+    /// Halts the pool by a misuse, part by part from 0 up: from then on each call is answered `Halted` with the misuse of the
+    /// first halt of the part where it stands. It is one entry of each part's journal, neither releases nor acquires, and takes nothing off
+    /// the calls that are left.
     pub fn halt<R: Wait>(&self, rt: &R, pass: &mut PoolPass<N>, note: &N, misuse: Misuse)
         requires pass { IsPassOf self.now pass.old }
         ensures pass { IsPassOf self.now pass.new × SamePass pass.old pass.new }
         ensures entry { (e : Made) × Adds self.now pass.old e pass.new × (e.deed ≡ Halt misuse) × (e.front ≡ N.front note.now) }
     {
-        running::halt(&self.object, rt, pass, note, misuse);
+        for part in 0..self.callers {
+            self.halt_part(rt, pass, note, misuse, part);
+        }
     }
 
-    /// The misuse of the first halt, and `None` exactly where there was none. It takes all passes, so that no call is under
+    /// The misuse of the first halt, which is that of part 0, and `None` exactly where there was none. It takes all passes, so that no call is under
     /// way. Afterwards each pass has seen all that was done on the pool.
     pub fn first_halt(&self, passes: &mut [PoolPass<N>]) -> Option<Misuse>
         requires { AreAllPasses self.now passes.old }
@@ -31,6 +41,58 @@ impl<N: Note> Pool<N> {
         ensures seen { (journal : Journal) × IsSeen self.now journal passes.new }
         ensures one_journal { (journal : Journal) × (result ≡ halt_of journal) × IsWhole self.now journal passes.old × IsSeen self.now journal passes.new }
     {
-        self.object.first_halt(passes)
+        transpose(passes);
+        let halted = self.first_halts(passes);
+        transpose(passes);
+        halted
     }
+
+    // Halts one part.
+    fn halt_part<R: Wait>(
+        &self,
+        rt: &R,
+        pass: &mut PoolPass<N>,
+        note: &N,
+        misuse: Misuse,
+        part: u32,
+    )
+        requires part { part < parts_of self.now }
+        requires pass { IsPassOf self.now pass.old }
+        ensures pass { IsPassOf self.now pass.new × SamePass pass.old pass.new }
+        ensures entry { HaltsAt self.now part misuse (N.front note.now) pass.old pass.new }
+    {
+        let object = &self.parts[part as usize];
+        let seat = &mut pass.parts[part as usize];
+        running::halt(object, rt, seat, note, misuse);
+    }
+
+    // The misuse of the first halt of part 0, where each row has all passes to a part.
+    fn first_halts(&self, columns: &mut [PoolPass<N>]) -> Option<Misuse>
+        requires columns { AreColumns self.now columns.old }
+        ensures columns { AreColumns self.now columns.new × KeepsRows columns.old columns.new }
+        ensures journal { (journal : Journal) × (result ≡ halt_of journal) × AreTold self.now journal columns.old columns.new }
+    {
+        let mut first = None;
+        for part in 0..self.parts.len() {
+            let halted = first_of(&self.parts[part], &mut columns[part].parts);
+            first = of_part_0(part, halted, first);
+        }
+        first
+    }
+}
+
+// What was found at part 0, once that was looked at.
+fn of_part_0(part: usize, halted: Option<Misuse>, first: Option<Misuse>) -> Option<Misuse>
+    ensures { result ≡ cond (part == 0) halted first }
+{
+    if part == 0 { halted } else { first }
+}
+
+// The misuse of the first halt of one part.
+fn first_of<N: Note>(part: &Object<PartCore, N>, passes: &mut Vec<PartPass<N>>) -> Option<Misuse>
+    requires { AreAllBetween tt pool_stands part.now passes.old.items }
+    ensures between { AreAllBetween tt pool_stands part.now passes.new.items }
+    ensures told { (journal : PartJournal) × (result ≡ first_in journal) × IsTold part.now journal passes.old.items passes.new.items }
+{
+    running::first_halt(part, passes)
 }

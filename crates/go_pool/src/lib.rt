@@ -2,9 +2,12 @@
 #![tactic(auto)]
 
 mod answers;
+mod columns;
 mod get;
 mod halts;
 pub mod laws;
+mod part_calls;
+pub mod pass;
 pub mod pool;
 pub mod pool_get;
 mod put_and_sweep;

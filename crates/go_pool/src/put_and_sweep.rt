@@ -1,17 +1,16 @@
-//! The calls of a pool that are one event: putting an item, and removing what lies there.
+//! Putting an item into a pool, and removing what lies there.
 ghost use Rattle.std.specs.Prelude.{◌≡◌, ◌<◌};
 ghost use Rattle.ruled_object.specs.Growth.{KeepsNote};
-ghost use Rattle.ruled_object.specs.Passes.{IsOneLess};
 ghost use Rattle.go_pool.specs.Calls.{Puts, Sweeps};
 ghost use Rattle.go_pool.specs.Items.{DropsWhereFull};
-ghost use Rattle.go_pool.specs.Pools.{left_of, IsHomeOf, IsPassOf, IsLawful, Did};
+ghost use Rattle.go_pool.specs.Pools.{left_of, IsHomeOf, IsPassOf, IsLawful, IsOneLess, Did};
 
 use crate::answers::{kept_or_dropped, swept};
 use crate::pool::{Pool, PoolPass};
-use pool_core::laws::drops_where_full;
-use pool_core::{PoolCore, PoolPut};
+use pool_core::part_laws::a_part_drops_where_full;
+use pool_core::{PartCore, PoolPut};
 use protocols::PoolStage;
-use running::call;
+use ruled_object::laws::notes_are_kept;
 use std::sync::Wait;
 use sync_model::laws::journals::journal_is_log;
 use sync_model::{Answer, Note};
@@ -37,13 +36,15 @@ impl<N: Note> Pool<N> {
         ensures no_edge { N.front note.new ≡ N.front note.old }
         ensures journal { IsLawful self.now pass.new }
     {
-        journal_is_log::<PoolCore>();
-        drops_where_full();
-        kept_or_dropped(call(&self.object, rt, at, pass, note, PoolStage::Put(item)))
+        journal_is_log::<PartCore>();
+        a_part_drops_where_full();
+        pass.left -= 1;
+        let own = pass.number();
+        kept_or_dropped(self.at_part(rt, at, pass, note, own, PoolStage::Put(item)))
     }
 
-    /// Removes the victims, and makes the items of the parts the victims: an item is removed by the second sweep after its
-    /// put.
+    /// Removes the victims, and makes the items of the parts the victims, part by part from 0 up: an item is removed by the
+    /// second sweep after its put.
     pub fn sweep<C: Clock, R: Wait>(
         &self,
         rt: &R,
@@ -59,6 +60,14 @@ impl<N: Note> Pool<N> {
         ensures no_edge { N.front note.new ≡ N.front note.old }
         ensures journal { IsLawful self.now pass.new }
     {
-        swept(call(&self.object, rt, at, pass, note, PoolStage::Sweep))
+        notes_are_kept::<N>();
+        pass.left -= 1;
+        for part in 0..self.callers {
+            match swept(self.at_part(rt, at, pass, note, part, PoolStage::Sweep)) {
+                Answer::Done(()) => {}
+                Answer::Halted(misuse) => return Answer::Halted(misuse),
+            }
+        }
+        Answer::Done(())
     }
 }

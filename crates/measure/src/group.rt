@@ -1,8 +1,9 @@
 //! `WaitGroup`: an add of 1 and a done.
 ghost use Rattle.go_waits.specs.Groups.{IsPassOf};
 
-use crate::fresh_note::FreshNote;
+use crate::fresh::FreshNote;
 use crate::measured::Measured;
+use crate::plan::Plan;
 use go_waits::{GroupPass, WaitGroup};
 use ruled_object::MAX_CALLS;
 use std::alloc::{AllocError, Global};
@@ -12,12 +13,12 @@ use sync_outside::{At, Clock};
 impl<N: FreshNote> Measured for WaitGroup<N> {
     type Pass = GroupPass<N>;
 
-    type Note = N;
+    type Kept = N;
 
     ghost is_of = { λ group pass. IsPassOf group pass };
 
-    fn new(alloc: Global, callers: u32) -> Result<(Self, Vec<GroupPass<N>>), AllocError> {
-        let (group, passes) = WaitGroup::new(alloc, callers, MAX_CALLS, 0, N::fresh())?;
+    fn new(alloc: Global, plan: Plan) -> Result<(Self, Vec<GroupPass<N>>), AllocError> {
+        let (group, passes) = WaitGroup::new(alloc, plan.callers, MAX_CALLS, 0, N::fresh())?;
         Ok((group, passes))
     }
 

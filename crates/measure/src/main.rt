@@ -1,24 +1,30 @@
 //! Measures what a pair of calls on each running type costs.
 #![tactic(auto)]
 
-mod fresh_note;
+mod fresh;
 mod group;
+mod map_and_int;
 mod measured;
 mod mutex;
 mod once;
 mod one_call;
+mod plain_objects;
 mod plan;
 mod pool;
 mod run;
 mod rw_mutex;
 mod standing_clock;
+mod table_objects;
 
-use crate::fresh_note::FreshNote;
-use crate::one_call::{Add, Load, On, Store};
-use crate::plan::{Notes, Plan, Reads, What, plan_of};
+use crate::fresh::FreshNote;
+use crate::map_and_int::MapAndInt;
+use crate::one_call::{Add, Churn, Load, Mix, On, Store};
+use crate::plain_objects::PlainObjects;
+use crate::plan::{Call, Notes, Plan, Reads, What, plan_of};
 use crate::run::measure;
 use crate::rw_mutex::{Reading, Writing};
 use crate::standing_clock::StandingClock;
+use crate::table_objects::TableObjects;
 use go_locks::Mutex;
 use go_pool::Pool;
 use go_waits::{Once, WaitGroup};
@@ -33,12 +39,31 @@ use sync_outside::{Clock, SystemClock};
 /// What is printed where the words aren't taken.
 const USAGE: &str = "usage: measure WHAT HOW NOTES CLOCK CALLERS ROUNDS
 Prints how many nanoseconds a pair of calls takes, for each thread.
-  WHAT     mutex | read | write | group | once | pool | load | store | add
+  WHAT     mutex | read | write | group | once | pool
+           plain-load | plain-store | plain-churn | plain-mix | plain-add
+           trie-load | trie-store | trie-churn | trie-mix | word-add
   HOW      one | two-own | four-own | two-shared | four-shared
   NOTES    front | empty
   CLOCK    machine | standing
-  CALLERS  the callers of each object, whether they call or not: 4 to 64
-  ROUNDS   the pairs of each thread: 1 to 500000";
+  CALLERS  the callers of each object, whether they call or not: 4 to 64. Maps and atomics have one for each thread
+  ROUNDS   the pairs of each thread: 1 to 100000";
+
+/// How many tenths of a nanosecond a call on a shared map or atomic takes.
+fn with_call<S: MapAndInt, C: Clock + Sync, R: Threads + Wait + rt::Clock + Sync>(
+    rt: &R,
+    alloc: Global,
+    clock: &C,
+    plan: Plan,
+    call: Call,
+) -> Result<u64, AllocError> {
+    match call {
+        Call::Load => measure::<On<S, Load>, C, R>(rt, alloc, clock, plan),
+        Call::Store => measure::<On<S, Store>, C, R>(rt, alloc, clock, plan),
+        Call::Churn => measure::<On<S, Churn>, C, R>(rt, alloc, clock, plan),
+        Call::Mix => measure::<On<S, Mix>, C, R>(rt, alloc, clock, plan),
+        Call::Add => measure::<On<S, Add>, C, R>(rt, alloc, clock, plan),
+    }
+}
 
 /// How many tenths of a nanosecond a pair takes, with notes of this type.
 fn with_notes<N: FreshNote, C: Clock + Sync, R: Threads + Wait + rt::Clock + Sync>(
@@ -54,9 +79,8 @@ fn with_notes<N: FreshNote, C: Clock + Sync, R: Threads + Wait + rt::Clock + Syn
         What::Group => measure::<WaitGroup<N>, C, R>(rt, alloc, clock, plan),
         What::Once => measure::<Once<(), N>, C, R>(rt, alloc, clock, plan),
         What::Pool => measure::<Pool<N>, C, R>(rt, alloc, clock, plan),
-        What::Load => measure::<On<Load>, C, R>(rt, alloc, clock, plan),
-        What::Store => measure::<On<Store>, C, R>(rt, alloc, clock, plan),
-        What::Add => measure::<On<Add>, C, R>(rt, alloc, clock, plan),
+        What::Plain(call) => with_call::<PlainObjects, C, R>(rt, alloc, clock, plan, call),
+        What::Table(call) => with_call::<TableObjects, C, R>(rt, alloc, clock, plan, call),
     }
 }
 

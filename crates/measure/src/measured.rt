@@ -1,7 +1,8 @@
 //! What is measured: a pair of calls on an object.
-ghost use Rattle.std.specs.Prelude.{◌<◌, ◌≤◌, All, IfOk};
+ghost use Rattle.std.specs.Prelude.{All, IfOk};
 
-use crate::fresh_note::FreshNote;
+use crate::fresh::Fresh;
+use crate::plan::Plan;
 use std::alloc::{AllocError, Global};
 use std::sync::Wait;
 use sync_outside::Clock;
@@ -11,16 +12,21 @@ pub trait Measured: Sized + Sync + Drop {
     /// The pass of a caller.
     type Pass: Send + Drop;
 
-    /// What a caller knows.
-    type Note: FreshNote;
+    /// What a caller keeps from one pair to the next.
+    type Kept: Fresh + Send + Drop;
 
     // It is a pass to this object, between two calls.
     ghost is_of: { Self → Self.Pass → Type 0 };
 
-    /// An object for so many callers, and their passes, each good for 1,000,000 calls.
-    fn new(alloc: Global, callers: u32) -> Result<(Self, Vec<Self::Pass>), AllocError>
-        requires { (0 < callers) × (callers ≤ 64) }
+    /// An object for a measurement, and the passes of its callers, each good for all pairs.
+    fn new(alloc: Global, plan: Plan) -> Result<(Self, Vec<Self::Pass>), AllocError>
         ensures { IfOk result (λ made. All (is_of made.0) made.1.items) };
+
+    /// Gives the object what it is to have before the first pair.
+    fn fill<R: Wait>(&self, _rt: &R, _pass: &mut Self::Pass)
+        requires { is_of self.now _pass.old }
+        ensures { is_of self.now _pass.new }
+    {}
 
     /// Makes the pair of calls. A pass with no two calls left makes none.
     fn pair<C: Clock, R: Wait>(
@@ -28,7 +34,7 @@ pub trait Measured: Sized + Sync + Drop {
         rt: &R,
         clock: &C,
         pass: &mut Self::Pass,
-        note: &mut Self::Note,
+        kept: &mut Self::Kept,
     )
         requires { is_of self.now pass.old }
         ensures { is_of self.now pass.new };

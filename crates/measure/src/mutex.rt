@@ -1,8 +1,9 @@
 //! `Mutex`: a lock and an unlock.
 ghost use Rattle.go_locks.specs.Mutexes.{IsPassOfMutex};
 
-use crate::fresh_note::FreshNote;
+use crate::fresh::FreshNote;
 use crate::measured::Measured;
+use crate::plan::Plan;
 use go_locks::{Mutex, MutexPass};
 use ruled_object::MAX_CALLS;
 use std::alloc::{AllocError, Global};
@@ -12,12 +13,12 @@ use sync_outside::{At, Clock};
 impl<N: FreshNote> Measured for Mutex<N> {
     type Pass = MutexPass<N>;
 
-    type Note = N;
+    type Kept = N;
 
     ghost is_of = { λ mutex pass. IsPassOfMutex mutex pass };
 
-    fn new(alloc: Global, callers: u32) -> Result<(Self, Vec<MutexPass<N>>), AllocError> {
-        let (mutex, passes) = Mutex::new(alloc, callers, MAX_CALLS, N::fresh())?;
+    fn new(alloc: Global, plan: Plan) -> Result<(Self, Vec<MutexPass<N>>), AllocError> {
+        let (mutex, passes) = Mutex::new(alloc, plan.callers, MAX_CALLS, N::fresh())?;
         Ok((mutex, passes))
     }
 

@@ -1,8 +1,9 @@
 //! `Once`: one `do_once`, in the place of a pair. The first of all runs the function, and each later one finds it run.
 ghost use Rattle.go_waits.specs.Onces.{IsPassOf};
 
-use crate::fresh_note::FreshNote;
+use crate::fresh::FreshNote;
 use crate::measured::Measured;
+use crate::plan::Plan;
 use go_waits::{Once, OncePass};
 use ruled_object::MAX_CALLS;
 use std::alloc::{AllocError, Global};
@@ -12,12 +13,12 @@ use sync_outside::{At, Clock};
 impl<N: FreshNote> Measured for Once<(), N> {
     type Pass = OncePass<(), N>;
 
-    type Note = N;
+    type Kept = N;
 
     ghost is_of = { λ once pass. IsPassOf once pass };
 
-    fn new(alloc: Global, callers: u32) -> Result<(Self, Vec<OncePass<(), N>>), AllocError> {
-        let (once, passes) = Once::new(alloc, callers, MAX_CALLS, N::fresh())?;
+    fn new(alloc: Global, plan: Plan) -> Result<(Self, Vec<OncePass<(), N>>), AllocError> {
+        let (once, passes) = Once::new(alloc, plan.callers, MAX_CALLS, N::fresh())?;
         Ok((once, passes))
     }
 

@@ -1,112 +1,147 @@
-//! `Plain`: one call on a shared map or atomic, in the place of a pair.
-ghost use Rattle.std.specs.Prelude.{◌≡◌, ◌∷◌, []};
-ghost use Rattle.sync_types.specs.declared.atomic_object.AtomicKind.TheVariants.{Int64};
-ghost use Rattle.sync_model.specs.Shared.{IsCallerAt};
-ghost use Rattle.shared_plain.specs.Marks.{own_by, IsMarkOf};
-ghost use Rattle.shared_plain.specs.Plains.{keys_of, kinds_of, maps_of};
+//! Calls on maps and atomics that callers share, in the place of a pair.
+ghost use Rattle.std.specs.Prelude.{◌<◌, ◌≤◌};
 
+use crate::fresh::Fresh;
+use crate::map_and_int::{KEYS, MapAndInt};
 use crate::measured::Measured;
-use shared_plain::{Mark, Plain};
+use crate::plan::Plan;
 use std::alloc::{AllocError, Global};
 use std::marker::PhantomData;
 use std::sync::Wait;
-use sync_model::{Caller, CallerNote, NoNote, Shared};
-use sync_types::{AtomicCall, AtomicKind, MapCall, Number};
+use sync_model::Caller;
 use sync_outside::Clock;
 
-/// How many entries a caller may store.
-const SPARE: u32 = 500_000;
-
-/// How many keys the map takes, from 0.
-const KEYS: u32 = 512;
+/// How many keys are each caller's own.
+const OWN_KEYS: u32 = 128;
 
 /// A call that is made again and again.
 pub trait OneCall: Send + Sync + Drop {
-    /// Makes it on the map or the int64.
-    fn make<R: Wait>(rt: &R, plain: &Plain, caller: &mut Caller<Mark>)
-        requires plain { (maps_of plain.now ≡ 1) × (keys_of plain.now ≡ 512) × (kinds_of plain.now ≡ Int64 ∷ []) }
-        requires caller { IsCallerAt IsMarkOf own_by plain.now caller.old }
-        ensures { IsCallerAt IsMarkOf own_by plain.now caller.new };
+    /// Makes it for the round of this number, 0 to 511, and answers whether it did what was expected.
+    fn make<S: MapAndInt, R: Wait>(rt: &R, on: &S, by: &mut Caller<S::Mark>, round: u32) -> bool
+        requires { S.is_of on.now by.old × (round < 512) }
+        ensures { S.is_of on.now by.new };
 }
 
-/// A load of one of the keys.
+// The caller's own key for a round.
+fn own_key(number: u32, round: u32) -> u32
+    ensures { result < 512 }
+{
+    OWN_KEYS * (number % 4) + round % OWN_KEYS
+}
+
+/// A load of each of the 512 keys in turn.
 #[derive(Drop)]
 pub struct Load;
 
 impl OneCall for Load {
-    fn make<R: Wait>(rt: &R, plain: &Plain, caller: &mut Caller<Mark>) {
-        plain.map_call(rt, caller, 0, MapCall::Load { key: 7 });
+    fn make<S: MapAndInt, R: Wait>(rt: &R, on: &S, by: &mut Caller<S::Mark>, round: u32) -> bool {
+        on.load(rt, by, round)
     }
 }
 
-/// A store of one of the keys, while its caller has an entry to spare.
+/// A store under each of the caller's own 128 keys in turn.
 #[derive(Drop)]
 pub struct Store;
 
 impl OneCall for Store {
-    fn make<R: Wait>(rt: &R, plain: &Plain, caller: &mut Caller<Mark>) {
-        if caller.note.spare() == 0 {
-            return;
-        }
-        plain.map_call(rt, caller, 0, MapCall::Store { key: 7, value: 1 });
+    fn make<S: MapAndInt, R: Wait>(rt: &R, on: &S, by: &mut Caller<S::Mark>, round: u32) -> bool {
+        on.store_if_room(rt, by, own_key(by.number(), round))
     }
 }
 
-/// An `add` of 1 to the int64.
+/// A store under each of the caller's own 128 keys in turn, and its deletion.
+#[derive(Drop)]
+pub struct Churn;
+
+impl OneCall for Churn {
+    fn make<S: MapAndInt, R: Wait>(rt: &R, on: &S, by: &mut Caller<S::Mark>, round: u32) -> bool {
+        let key = own_key(by.number(), round);
+        if !on.store_if_room(rt, by, key) || by.spare() == 0 {
+            return false;
+        }
+        on.delete(rt, by, key);
+        true
+    }
+}
+
+/// Each tenth call is a store under one of the caller's own 128 keys, and the others are loads of the 512 keys in turn.
+#[derive(Drop)]
+pub struct Mix;
+
+impl OneCall for Mix {
+    fn make<S: MapAndInt, R: Wait>(rt: &R, on: &S, by: &mut Caller<S::Mark>, round: u32) -> bool {
+        if round % 10 < 9 {
+            return on.load(rt, by, round);
+        }
+        on.store_if_room(rt, by, own_key(by.number(), round))
+    }
+}
+
+/// An addition of 1 to the int64.
 #[derive(Drop)]
 pub struct Add;
 
 impl OneCall for Add {
-    fn make<R: Wait>(rt: &R, plain: &Plain, caller: &mut Caller<Mark>) {
-        let one = AtomicCall::Add {
-            operand: Number::Int64(1),
-        };
-        plain.atomic_call(rt, caller, 0, one);
+    fn make<S: MapAndInt, R: Wait>(rt: &R, on: &S, by: &mut Caller<S::Mark>, _round: u32) -> bool {
+        on.add(rt, by);
+        true
     }
 }
 
-/// A map of 512 keys and an int64, on which all callers make one and the same call.
+/// The round of a caller, 0 to 511 and then 0 again.
 #[derive(Drop)]
-pub struct On<K: OneCall> {
-    plain: Plain,
-    of: PhantomData<K>,
-    ghost maps: { maps_of plain ≡ 1 },
-    ghost keys: { keys_of plain ≡ 512 },
-    ghost kinds: { kinds_of plain ≡ Int64 ∷ [] },
+pub struct Round {
+    number: u32,
+    ghost below: { number < 512 },
 }
 
-impl<K: OneCall> Measured for On<K> {
-    type Pass = Caller<Mark>;
+impl Fresh for Round {
+    fn fresh() -> Self {
+        Round { number: 0 }
+    }
+}
 
-    type Note = NoNote;
+/// A map with 512 keys and an int64, on which all callers make one and the same call.
+#[derive(Drop)]
+pub struct On<S: MapAndInt, K: OneCall> {
+    shared: S,
+    of: PhantomData<K>,
+}
 
-    ghost is_of = { λ on caller. IsCallerAt IsMarkOf own_by on.plain caller };
+impl<S: MapAndInt, K: OneCall> Measured for On<S, K> {
+    type Pass = Caller<S::Mark>;
 
-    fn new(alloc: Global, callers: u32) -> Result<(Self, Vec<Caller<Mark>>), AllocError> {
-        let spare = [SPARE; 64];
-        let (plain, callers) = Plain::new(
-            alloc,
-            &[AtomicKind::Int64],
-            1,
-            KEYS,
-            &spare[..callers as usize],
-        )?;
+    type Kept = Round;
+
+    ghost is_of = { λ on caller. S.is_of on.shared caller };
+
+    fn new(alloc: Global, plan: Plan) -> Result<(Self, Vec<Caller<S::Mark>>), AllocError> {
+        let spare = [plan.spare() + KEYS; 4];
+        let (shared, callers) = S::new(alloc, &spare[..plan.how.callers()])?;
         Ok((
             On {
-                plain,
+                shared,
                 of: PhantomData,
             },
             callers,
         ))
     }
 
+    fn fill<R: Wait>(&self, rt: &R, caller: &mut Caller<S::Mark>) {
+        for key in 0..KEYS {
+            self.shared.store_if_room(rt, caller, key);
+        }
+    }
+
     fn pair<C: Clock, R: Wait>(
         &self,
         rt: &R,
         _clock: &C,
-        caller: &mut Caller<Mark>,
-        _note: &mut NoNote,
+        caller: &mut Caller<S::Mark>,
+        round: &mut Round,
     ) {
-        K::make(rt, &self.plain, caller);
+        if K::make(rt, &self.shared, caller, round.number) {
+            round.number = (round.number + 1) % KEYS;
+        }
     }
 }

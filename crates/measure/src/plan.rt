@@ -16,11 +16,24 @@ pub enum What {
     Once,
     /// A pool's `put` and `get`.
     Pool,
-    /// One load of a shared map.
+    /// A call on a map or an int64 that take turns.
+    Plain(Call),
+    /// A call on a map or an int64 on words.
+    Table(Call),
+}
+
+/// The call on a shared map or atomic.
+#[derive(Clone, Copy, Debug, PartialEq, Eq)]
+pub enum Call {
+    /// One load of a map.
     Load,
-    /// One store to a shared map.
+    /// One store to a map.
     Store,
-    /// One `add` to a shared atomic.
+    /// One store and one delete.
+    Churn,
+    /// One call on a map: each tenth is a store, and the others are loads.
+    Mix,
+    /// One `add` to an int64.
     Add,
 }
 
@@ -33,9 +46,16 @@ impl What {
             b"group" => Some(What::Group),
             b"once" => Some(What::Once),
             b"pool" => Some(What::Pool),
-            b"load" => Some(What::Load),
-            b"store" => Some(What::Store),
-            b"add" => Some(What::Add),
+            b"plain-load" => Some(What::Plain(Call::Load)),
+            b"plain-store" => Some(What::Plain(Call::Store)),
+            b"plain-churn" => Some(What::Plain(Call::Churn)),
+            b"plain-mix" => Some(What::Plain(Call::Mix)),
+            b"plain-add" => Some(What::Plain(Call::Add)),
+            b"trie-load" => Some(What::Table(Call::Load)),
+            b"trie-store" => Some(What::Table(Call::Store)),
+            b"trie-churn" => Some(What::Table(Call::Churn)),
+            b"trie-mix" => Some(What::Table(Call::Mix)),
+            b"word-add" => Some(What::Table(Call::Add)),
             _ => None,
         }
     }
@@ -59,6 +79,16 @@ impl How {
             b"two-shared" => Some(How::Shared(2)),
             b"four-shared" => Some(How::Shared(4)),
             _ => None,
+        }
+    }
+
+    /// How many threads call on one object, and at most 4.
+    pub fn callers(self) -> usize
+        ensures { (0 < result) × (result ≤ 4) }
+    {
+        match self {
+            How::Own(_) => 1,
+            How::Shared(threads) => threads.clamp(1, 4),
         }
     }
 }
@@ -108,12 +138,28 @@ pub struct Plan {
     pub how: How,
     pub notes: Notes,
     pub reads: Reads,
-    /// How many callers each object has, whether they call or not: 4 to 64.
+    /// How many callers each object has, whether they call or not: 4 to 64. Maps and atomics have one for each thread.
     pub callers: u32,
-    /// How many pairs each thread makes: 1 to 500,000.
+    /// How many pairs each thread makes: 1 to 100,000.
     pub rounds: u32,
     ghost sized: { (4 ≤ callers) × (callers ≤ 64) },
-    ghost runs: { 0 < rounds },
+    ghost runs: { (0 < rounds) × (rounds ≤ 100_000) },
+}
+
+impl Plan {
+    /// How many stores and deletes each thread makes.
+    pub fn spare(&self) -> u32
+        ensures { result ≤ 200_000 }
+    {
+        match self.what {
+            What::Plain(call) | What::Table(call) => match call {
+                Call::Load | Call::Add => 0,
+                Call::Store | Call::Mix => self.rounds,
+                Call::Churn => 2 * self.rounds,
+            },
+            _ => 0,
+        }
+    }
 }
 
 /// The measurement that the words after the program's name ask for, where they are taken.
@@ -127,7 +173,7 @@ pub fn plan_of(words: &[String]) -> Option<Plan> {
     let reads = Reads::of(reads.as_str())?;
     let callers: u32 = callers.parse().ok()?;
     let rounds: u32 = rounds.parse().ok()?;
-    if callers < 4 || 64 < callers || rounds == 0 || 500_000 < rounds {
+    if callers < 4 || 64 < callers || rounds == 0 || 100_000 < rounds {
         return None;
     }
     Some(Plan {

@@ -1,8 +1,9 @@
 //! `Pool`: a put and a get.
 ghost use Rattle.go_pool.specs.Pools.{IsPassOf};
 
-use crate::fresh_note::FreshNote;
+use crate::fresh::FreshNote;
 use crate::measured::Measured;
+use crate::plan::Plan;
 use go_pool::{Pool, PoolPass};
 use ruled_object::MAX_CALLS;
 use std::alloc::{AllocError, Global};
@@ -15,12 +16,12 @@ const ROOM: u32 = 8;
 impl<N: FreshNote> Measured for Pool<N> {
     type Pass = PoolPass<N>;
 
-    type Note = N;
+    type Kept = N;
 
     ghost is_of = { λ pool pass. IsPassOf pool pass };
 
-    fn new(alloc: Global, callers: u32) -> Result<(Self, Vec<PoolPass<N>>), AllocError> {
-        let (pool, passes) = Pool::new(alloc, &(), callers, ROOM, 0, MAX_CALLS, N::fresh())?;
+    fn new(alloc: Global, plan: Plan) -> Result<(Self, Vec<PoolPass<N>>), AllocError> {
+        let (pool, passes) = Pool::new(alloc, &(), plan.callers, ROOM, 0, MAX_CALLS, N::fresh())?;
         Ok((pool, passes))
     }
 

@@ -1,7 +1,7 @@
 //! Callers that make their pairs, each in a thread of its own.
 ghost use Rattle.std.specs.Thread.{IsSync};
 
-use crate::fresh_note::FreshNote;
+use crate::fresh::Fresh;
 use crate::measured::Measured;
 use crate::plan::{How, Plan};
 use std::alloc::{AllocError, Global};
@@ -20,10 +20,10 @@ fn time_of<M: Measured, C: Clock, R: Wait + rt::Clock>(
 ) -> u64
     requires { M.is_of object.now pass }
 {
-    let mut note = M::Note::fresh();
+    let mut kept = M::Kept::fresh();
     let start = SystemClock::new(rt);
     for round in 0..rounds {
-        object.pair(rt, clock, &mut pass, &mut note);
+        object.pair(rt, clock, &mut pass, &mut kept);
     }
     start.now()
 }
@@ -36,8 +36,12 @@ fn shared<M: Measured, C: Clock + Sync, R: Threads + Wait + rt::Clock + Sync>(
     plan: Plan,
     threads: usize,
 ) -> Result<u64, AllocError> {
-    let (object, mut passes) = M::new(alloc, plan.callers)?;
+    let (object, mut passes) = M::new(alloc, plan)?;
     passes.truncate(threads);
+    if let Some(mut pass) = passes.pop() {
+        object.fill(rt, &mut pass);
+        passes.push_reserved(pass);
+    }
     let times = map_vec(
         rt,
         passes,

@@ -2,8 +2,9 @@
 ghost use Rattle.std.specs.Prelude.{All, IfOk};
 ghost use Rattle.go_locks.specs.RwMutexes.{IsPassOfRwMutex};
 
-use crate::fresh_note::FreshNote;
+use crate::fresh::FreshNote;
 use crate::measured::Measured;
+use crate::plan::Plan;
 use go_locks::{RwMutex, RwPass};
 use ruled_object::MAX_CALLS;
 use std::alloc::{AllocError, Global};
@@ -20,12 +21,12 @@ pub struct Reading<N: Note> {
 impl<N: FreshNote> Measured for Reading<N> {
     type Pass = RwPass<N>;
 
-    type Note = N;
+    type Kept = N;
 
     ghost is_of = { λ reading pass. IsPassOfRwMutex reading.lock pass };
 
-    fn new(alloc: Global, callers: u32) -> Result<(Self, Vec<RwPass<N>>), AllocError> {
-        let (lock, passes) = RwMutex::new(alloc, callers, MAX_CALLS, N::fresh())?;
+    fn new(alloc: Global, plan: Plan) -> Result<(Self, Vec<RwPass<N>>), AllocError> {
+        let (lock, passes) = RwMutex::new(alloc, plan.callers, MAX_CALLS, N::fresh())?;
         Ok((Reading { lock }, passes))
     }
 
@@ -48,12 +49,12 @@ pub struct Writing<N: Note> {
 impl<N: FreshNote> Measured for Writing<N> {
     type Pass = RwPass<N>;
 
-    type Note = N;
+    type Kept = N;
 
     ghost is_of = { λ writing pass. IsPassOfRwMutex writing.lock pass };
 
-    fn new(alloc: Global, callers: u32) -> Result<(Self, Vec<RwPass<N>>), AllocError> {
-        let (lock, passes) = RwMutex::new(alloc, callers, MAX_CALLS, N::fresh())?;
+    fn new(alloc: Global, plan: Plan) -> Result<(Self, Vec<RwPass<N>>), AllocError> {
+        let (lock, passes) = RwMutex::new(alloc, plan.callers, MAX_CALLS, N::fresh())?;
         Ok((Writing { lock }, passes))
     }
 

@@ -7,3 +7,5 @@ pub mod PoolParts
 pub mod PoolStill
 pub mod LooksLemmas
 pub mod EdgeLemmas
+pub mod PartLogs
+pub mod PartOfPool

@@ -18,14 +18,14 @@ module _ {X : Type 0} where
   part_there (part ∷ parts) zero h = (part, refl)
   part_there (part ∷ parts) (suc i) h = part_there parts i (omega arith)
 
-  put_answer : (private : Option X) (part : PoolPart X) (item : X) → answers_put (put_beside private part item).1 ≡ true
+  pub put_answer : (private : Option X) (part : PoolPart X) (item : X) → answers_put (put_beside private part item).1 ≡ true
   put_answer None part item = refl
   put_answer (Some held) part item = by_test (nat_lt (length part.shared) part.room) where
     by_test : (b : Bool) → answers_put (cond {A = PoolPart X × PoolReply X} b (record part { shared = item ∷ part.shared }, Kept) (part, Dropped item)).1 ≡ true
     by_test true = refl
     by_test false = refl
 
-  head_answer : (shared : List X) (part : PoolPart X) → answers_look (head_of shared part).1 ≡ true
+  pub head_answer : (shared : List X) (part : PoolPart X) → answers_look (head_of shared part).1 ≡ true
   head_answer [] part = refl
   head_answer (item ∷ rest) part = refl
 
@@ -33,10 +33,10 @@ module _ {X : Type 0} where
   tail_answer (Some item) part = refl
   tail_answer None part = refl
 
-  take_tail_answer : (part : PoolPart X) → answers_look (take_tail part).1 ≡ true
+  pub take_tail_answer : (part : PoolPart X) → answers_look (take_tail part).1 ≡ true
   take_tail_answer part = tail_answer (slice_get part.shared (length part.shared - 1)) part
 
-  private_answer : (private : Option X) (other : PoolPart X → PoolPart X × PoolReply X) (part : PoolPart X) → answers_look (other part).1 ≡ true → answers_look (private_or private other part).1 ≡ true
+  pub private_answer : (private : Option X) (other : PoolPart X → PoolPart X × PoolReply X) (part : PoolPart X) → answers_look (other part).1 ≡ true → answers_look (private_or private other part).1 ≡ true
   private_answer (Some item) other part is = refl
   private_answer None other part is = is
 
@@ -50,7 +50,7 @@ module _ {X : Type 0} where
   victims_answer test change s at (Some found) part is each = each found
   victims_answer test change s at None part is each = cc
 
-  victim_answer : (b : Bool) (p : PoolPart X) → answers_look ((cond {A = PoolPart X → PoolPart X × PoolReply X} b take_victim take_tail) p).1 ≡ true
+  pub victim_answer : (b : Bool) (p : PoolPart X) → answers_look ((cond {A = PoolPart X → PoolPart X × PoolReply X} b take_victim take_tail) p).1 ≡ true
   victim_answer true p = private_answer p.private take_tail p (take_tail_answer p)
   victim_answer false p = take_tail_answer p
 

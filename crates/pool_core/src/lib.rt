@@ -4,9 +4,12 @@
 
 pub mod laws;
 mod part;
+pub mod part_core;
+pub mod part_laws;
 pub mod pool;
 pub mod pool_event;
 
+pub use part_core::PartCore;
 pub use pool::PoolCore;
 pub use pool_event::{PoolEvent, PoolPut, PoolReply};
 

@@ -24,6 +24,7 @@ use Rattle.wait_cores.specs.NotifyLaws as cond_laws
 use Rattle.pool_core.specs.declared.pool_event.PoolEvent.{PoolEvent}
 use Rattle.pool_core.specs.declared.pool_event.PoolReply.{PoolReply}
 use Rattle.pool_core.specs.declared.pool_event.PoolReply.TheVariants as pooled
+use Rattle.pool_core.specs.PartMachine.{PartState, part_next}
 use Rattle.pool_core.specs.PoolMachine as pools
 use Rattle.pool_core.specs.PoolLaws as pool_laws
 use Rattle.protocols.specs.declared.cond.CondStage.{CondStage}
@@ -191,3 +192,8 @@ pub pool_expected : ((callers room : ℕ) (log : List (Entry (PoolEvent ℕ) (Po
 pool_expected answers callers caller now start log stage (room, begins) below =
     subst (λ (z : pools.PoolState ℕ). pool_allows z tt stage ≡ true → IsExpected (pool_meaning stage (pools.next (after pools.next z log) caller (pool_event stage now)).1)) (sym begins)
     (λ may. pool_answered stage now (pools.next (pool_laws.state_after callers room log) caller (pool_event stage now)).1 (answers callers room log caller (pool_event stage now) below (names_part callers room stage now may)))
+
+-- a part's, which answers every event
+pub part_expected : ((state : PartState ℕ) (caller : ℕ) (event : PoolEvent ℕ) → pool_laws.answers event (part_next state caller event).1 ≡ true)
+    → (state : PartState ℕ) (caller now : ℕ) (stage : PoolStage) → IsExpected (pool_meaning stage (part_next state caller (pool_event stage now)).1)
+part_expected answers state caller now stage = pool_answered stage now (part_next state caller (pool_event stage now)).1 (answers state caller (pool_event stage now))

@@ -5,6 +5,7 @@ use Rattle.pool_core.specs.declared.pool_event.PoolEvent.{PoolEvent}
 use Rattle.pool_core.specs.declared.pool_event.PoolEvent.TheVariants as event
 use Rattle.pool_core.specs.declared.pool_event.PoolReply.{PoolReply}
 use Rattle.pool_core.specs.declared.pool_event.PoolReply.TheVariants as reply
+use Rattle.pool_core.specs.PartMachine.{PartState, part_start}
 use Rattle.pool_core.specs.PoolMachine.{PoolState, start, callers_of}
 use Rattle.protocols.specs.declared.step.Step.{Step}
 use Rattle.protocols.specs.declared.step.Step.TheVariants.{Finished, Never}
@@ -109,6 +110,10 @@ pool_gains stage Swept = false
 -- it begins without items, with room for so many in each part
 abbrev pub PoolBegins : ℕ → PoolState ℕ → Type 0
 PoolBegins callers state = (room : ℕ) × (state ≡ start callers room)
+
+-- the same of one part: any caller may look at it
+abbrev pub PartBegins : ℕ → PartState ℕ → Type 0
+PartBegins callers state = (room : ℕ) × (state ≡ part_start room)
 
 -- no event carries a moment
 abbrev pub pool_moment : PoolEvent ℕ → Option ℕ

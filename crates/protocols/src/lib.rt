@@ -7,6 +7,7 @@ pub mod laws;
 pub mod mutex;
 pub mod once;
 pub mod pool;
+pub mod pool_part;
 pub mod protocol;
 pub mod rw_mutex;
 pub mod step;

@@ -1,8 +1,9 @@
 mod AskLemmas
 mod CallLemmas
+mod CallParts
 mod EdgeLemmas
-mod FewLemmas
 mod ExampleLemmas
+mod FewLemmas
 mod HaltLemmas
 mod Having
 mod Lifts

@@ -144,7 +144,7 @@ module _ (plan : Plan) (zero_is : (kind : AtomicKind) → is_of kind (zero_of ki
         (s.0, reply ∙ ap (λ number. replies.Atomic (Held number)) s.1)
 
 -- maps have no key but the workload's
-abbrev HaveKeys : Plan → Contents → Type 0
+abbrev pub HaveKeys : Plan → Contents → Type 0
 HaveKeys plan contents = (m key value : ℕ) → value_at contents m key ≡ Some value → IsKeyOf plan key
 
 module _ (plan : Plan) (leaves : (m : FinMap nat_cmp ℕ) (call : MapCall ℕ) (key other : ℕ) → map_key call ≡ Some key → other ≢ key → map_reply (maps.Load other) (map_after call m) ≡ map_reply (maps.Load other) m)
@@ -175,7 +175,7 @@ module _ (plan : Plan) (leaves : (m : FinMap nat_cmp ℕ) (call : MapCall ℕ) (
 
   module _ (history : List SharedEntry) (calls : ℕ → List Item) (all : (c : ℕ) → All (λ x. KnowsKey plan x.call) (calls c))
       (is_call : (n : ℕ) (entry : SharedEntry) → slice_get history n ≡ Some entry → (j : ℕ) × (x : Item) × (slice_get (calls entry.caller) j ≡ Some x) × (x.entry ≡ true) × (x.place ≡ n) × (x.call ≡ entry.call) × (x.reply ≡ entry.reply)) where
-    keys_at : (n : ℕ) → HaveKeys plan (contents_at (contents_of plan) history n)
+    pub keys_at : (n : ℕ) → HaveKeys plan (contents_at (contents_of plan) history n)
     keys_at n = within_at (KnowsKey plan) (HaveKeys plan) keys_stay (contents_of plan) history calls all (λ m key value there. absurd (none-some value (sym (none_first (count_by (λ object. is_map object.kind) plan.objects) (atomic_types plan) m key) ∙ there))) is_call n
 
     -- the keys that one cursor shows are the workload's

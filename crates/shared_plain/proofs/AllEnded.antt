@@ -13,7 +13,7 @@ use Rattle.shared_plain.specs.declared.event.Event.{Event}
 use Rattle.shared_plain.specs.declared.event.Answered.{Answered}
 use Rattle.shared_plain.specs.declared.mark.Mark.{Mark}
 use Rattle.shared_plain.specs.declared.plain.Plain.{Plain}
-use Rattle.shared_plain.specs.EndsOfHistory.{AreEnds}
+use Rattle.sync_model.specs.EndsOfHistory.{AreEnds}
 use Rattle.shared_plain.specs.Marks.{holding, own_by, seen_of, IsMarkOf}
 use Rattle.shared_plain.specs.PlainHistory.{Step, history_of, items_by}
 use Rattle.shared_plain.specs.PlainMachine.{contents_of, next}

@@ -5,7 +5,7 @@ use Rattle.std.specs.FinMap.{get}
 use Rattle.sync_model.specs.declared.item.SharedReply.TheVariants.{Shown}
 use Rattle.sync_model.specs.SharedHistory.{value_at}
 use Rattle.shared_plain.specs.declared.event.Answered.{Answered}
-use Rattle.shared_plain.specs.EndsOfHistory.{IsNextPair}
+use Rattle.shared_plain.specs.MapWalks.{IsNextPair}
 use Rattle.shared_plain.specs.Slots.{pair_from, next_pair}
 use Rattle.shared_plain.specs.PlainMachine.{Holdings, contents_of, cursor_next}
 use Rattle.shared_plain.proofs.SlotMaps.{answer, get-map_of}

@@ -5,12 +5,11 @@ use Rattle.std.proofs.lemmas.Bool.{cases_lt}
 use mathlib.Core.Logic.{dite, inl, inr}
 use native.Mathlib.Decide.{ℕ_discrete}
 use Rattle.std.specs.Ordering.{nat_cmp, is_lt}
-use Rattle.std.specs.Cmp.{nat_cmp_total}
+use Rattle.std.specs.Cmp.{nat_cmp_total, unsigned_tied}
 use Rattle.std.specs.FinMap.{entries, from_sorted, entries-from_sorted, get-from_sorted, find, is_sorted, same_map, nat_cmp-IsAntisymmetric}
 use Rattle.std.specs.FinMap.Entries.{below_all}
 use Rattle.sync_model.specs.SharedHistory.{Contents, map_at, value_at}
-use Rattle.shared_plain.specs.EndLists.{IsWalk}
-use Rattle.shared_plain.proofs.SlotMaps.{tie}
+use Rattle.shared_plain.specs.MapWalks.{IsWalk}
 
 pub both : (a b : Bool) → T a → T b → T (a && b)
 both true b p q = q
@@ -25,14 +24,14 @@ module _ (contents : Contents) (m : ℕ) where
   unshown from q [] walk below = refl
   unshown from q (pair ∷ pairs) walk below =
       let least = walk.0.0 in
-      ap (λ (b : Bool). cond b (Some pair.1) (find nat_cmp q pairs)) (tie q pair.0 ∙ ne_eqb q pair.0 (λ is. omega arith)) ∙ unshown (pair.0 + 1) q pairs walk.1 (omega arith)
+      ap (λ (b : Bool). cond b (Some pair.1) (find nat_cmp q pairs)) (unsigned_tied q pair.0 ∙ ne_eqb q pair.0 (λ is. omega arith)) ∙ unshown (pair.0 + 1) q pairs walk.1 (omega arith)
 
   -- it shows what the map has from its first key on
   shown : (from q : ℕ) (pairs : List (ℕ × ℕ)) → IsWalk contents m from pairs → from ≤ q → find nat_cmp q pairs ≡ value_at contents m q
   shown from q [] walk least = sym (walk q least)
   shown from q (pair ∷ pairs) walk least = dite (ℕ_discrete q pair.0)
-      (λ is. ap (λ (b : Bool). cond b (Some pair.1) (find nat_cmp q pairs)) (tie q pair.0 ∙ eq-eqb q pair.0 is) ∙ (sym walk.0.1 ∙ ap (value_at contents m) (sym is)))
-      (λ ne. ap (λ (b : Bool). cond b (Some pair.1) (find nat_cmp q pairs)) (tie q pair.0 ∙ ne_eqb q pair.0 ne) ∙ by_side ne (shown (pair.0 + 1) q pairs walk.1))
+      (λ is. ap (λ (b : Bool). cond b (Some pair.1) (find nat_cmp q pairs)) (unsigned_tied q pair.0 ∙ eq-eqb q pair.0 is) ∙ (sym walk.0.1 ∙ ap (value_at contents m) (sym is)))
+      (λ ne. ap (λ (b : Bool). cond b (Some pair.1) (find nat_cmp q pairs)) (unsigned_tied q pair.0 ∙ ne_eqb q pair.0 ne) ∙ by_side ne (shown (pair.0 + 1) q pairs walk.1))
     where
       by_side : q ≢ pair.0 → (pair.0 + 1 ≤ q → find nat_cmp q pairs ≡ value_at contents m q) → find nat_cmp q pairs ≡ value_at contents m q
       by_side ne behind = elim (cases_lt q pair.0) [

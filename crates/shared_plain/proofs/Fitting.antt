@@ -25,11 +25,12 @@ use Rattle.sync_types.specs.SequentialAtomic.{kind_of, sum, bits_of_both, bits_o
 use Rattle.shared_plain.specs.declared.event.Event.{Event}
 use Rattle.shared_plain.specs.declared.event.Event.TheVariants.{Map, Begin, Next, Atomic}
 use Rattle.shared_plain.specs.declared.event.Answered.{Answered}
-use Rattle.shared_plain.specs.EndLists.{HasKeysBelow}
+use Rattle.sync_model.specs.EndsOfHistory.{HasKeysBelow}
 use Rattle.shared_plain.specs.Fits.{has_room, has_kind, fits_in, fits}
 use Rattle.shared_plain.specs.PlainHistory.{Step}
 use Rattle.shared_plain.specs.PlainMachine.{Holdings, contents_of, first_holdings, map_next, cursor_next, atomic_next, number_after, next}
-use Rattle.shared_plain.specs.Slots.{map_of, slot_after, keyed_after, slots_at, slots_after, next_pair}
+use Rattle.sync_types.specs.KeyCalls.{key_after}
+use Rattle.shared_plain.specs.Slots.{map_of, keyed_after, slots_at, slots_after, next_pair}
 use Rattle.shared_plain.proofs.Cursors.{cursor_within}
 use Rattle.shared_plain.proofs.Replies.{replied}
 use Rattle.shared_plain.proofs.SlotMaps.{answer, get-map_of}
@@ -85,7 +86,7 @@ same_kind (calls.CompareAndSwap old new) held = one_of (is_of (kind_of held) old
 -- a map's slots stay as many
 keyed_length : (call : MapCall ℕ) (key : ℕ) (found : Option (Option ℕ)) (slots : List (Option ℕ)) → length (keyed_after call key found slots) ≡ length slots
 keyed_length call key None slots = refl
-keyed_length call key (Some held) slots = length-set slots key (slot_after call held)
+keyed_length call key (Some held) slots = length-set slots key (key_after call held)
 
 same_length : (call : MapCall ℕ) (key : Option ℕ) (slots : List (Option ℕ)) → length (slots_at call key slots) ≡ length slots
 same_length call None slots = length-replicate (length slots) None

@@ -4,7 +4,6 @@ pub mod Beginnings
 pub mod Begun
 pub mod Calling
 pub mod Cursors
-pub mod EndNames
 pub mod EndWalks
 pub mod Explained
 pub mod FirstCallers

@@ -1,5 +1,5 @@
 -- Slots are the finite map whose keys are the slots' numbers.
-use Rattle.std.proofs.Common.{◌≡◌, ◌≢◌, ℕ, zero, suc, ◌+◌, ◌<◌, Bool, true, false, cond, eqb, eq-eqb, ne_eqb, List, [], ◌∷◌, length, get_or, set, replicate, slice_get, Option, Some, None, is_some, refl, sym, ap, ◌∙◌, subst, arith, get_or-set_same, get_or-set_other}
+use Rattle.std.proofs.Common.{◌≡◌, ℕ, zero, suc, ◌+◌, ◌<◌, Bool, true, false, cond, eqb, eq-eqb, ne_eqb, List, [], ◌∷◌, length, get_or, set, replicate, slice_get, Option, Some, None, is_some, refl, sym, ap, ◌∙◌, arith, get_or-set_same, get_or-set_other}
 use Rattle.std.proofs.lemmas.Option.{slice_get-get_or, slice_get_within, get_or_from_slice_get}
 use Rattle.std.specs.Option.{option_map_or}
 use Rattle.std.specs.Prelude.{nat_lt}
@@ -7,38 +7,27 @@ use Rattle.std.proofs.lemmas.Bool.{ltb-true, lt-ltb}
 use Rattle.std.proofs.lemmas.List.{set-get_or}
 use mathlib.Core.Logic.{dite}
 use native.Mathlib.Decide.{ℕ_discrete}
-use Rattle.std.specs.declared.cmp.Ordering.{Ordering}
-use Rattle.std.specs.declared.cmp.Ordering.TheVariants.{Less, Equal, Greater}
-use Rattle.std.specs.Ordering.{nat_cmp, eq_by_cmp, is_eq}
-use Rattle.std.specs.Cmp.{tied_itself, nat_cmp_total}
+use Rattle.std.specs.Ordering.{nat_cmp}
+use Rattle.std.specs.Cmp.{nat_cmp_total, unsigned_tied}
 use Rattle.std.specs.FinMap.{FinMap, empty, get, insert, remove, get-empty, get-insert, get-remove, same_map, nat_cmp-IsAntisymmetric}
 use Rattle.sync_types.specs.declared.map_object.MapCall.{MapCall}
 use Rattle.sync_types.specs.declared.map_object.MapCall.TheVariants.{Load, Store, LoadOrStore, LoadAndDelete, Delete, Swap, CompareAndSwap, CompareAndDelete, Clear}
 use Rattle.sync_model.specs.declared.item.SharedReply.{SharedReply}
 use Rattle.sync_model.specs.declared.item.SharedReply.TheVariants.{Map}
 use Rattle.sync_types.specs.declared.map_object.MapReply.{MapReply}
-use Rattle.sync_types.specs.declared.map_object.MapReply.TheVariants.{Found, Compared}
-use Rattle.sync_types.specs.SequentialMap.{is_value, settled, map_key, map_reply, map_after, is_map_entry}
-use Rattle.shared_plain.specs.Slots.{map_from, map_of, slot_after, reply_at, is_entry_at, keyed_after, slots_at, slots_after, has_slot}
+use Rattle.sync_types.specs.declared.map_object.MapReply.TheVariants.{Found}
+use Rattle.sync_types.specs.SequentialMap.{is_value, map_key, map_reply, map_after, is_map_entry}
+use Rattle.sync_types.specs.KeyCalls.{key_reply, is_key_entry, key_after}
+use Rattle.sync_types.specs.MapLaws.{Finds}
+use Rattle.shared_plain.specs.Slots.{map_from, map_of, keyed_after, slots_at, slots_after, has_slot}
 use Rattle.shared_plain.specs.declared.event.Answered.{Answered}
 use Rattle.shared_plain.specs.PlainMachine.{map_answer}
 
-apart : (r : Ordering) (q k : ℕ) → nat_cmp q k ≡ r → q ≢ k → is_eq r ≡ false
-apart Less q k e ne = refl
-apart Equal q k e ne = absurd (ne (nat_cmp-IsAntisymmetric q k e))
-apart Greater q k e ne = refl
-
--- keys tie where they are equal
-pub tie : (q k : ℕ) → eq_by_cmp nat_cmp q k ≡ eqb q k
-tie q k = dite (ℕ_discrete q k)
-    (λ is. subst (λ (j : ℕ). eq_by_cmp nat_cmp q j ≡ true) is (ap is_eq (tied_itself nat_cmp_total q)) ∙ sym (eq-eqb q k is))
-    (λ ne. apart (nat_cmp q k) q k refl ne ∙ sym (ne_eqb q k ne))
-
 inserted : (m : FinMap nat_cmp ℕ) (k v q : ℕ) → get (insert m k v) q ≡ cond (eqb q k) (Some v) (get m q)
-inserted m k v q = get-insert nat_cmp_total m k v q ∙ ap (λ (b : Bool). cond b (Some v) (get m q)) (tie q k)
+inserted m k v q = get-insert nat_cmp_total m k v q ∙ ap (λ (b : Bool). cond b (Some v) (get m q)) (unsigned_tied q k)
 
 removed : (m : FinMap nat_cmp ℕ) (k q : ℕ) → get (remove m k) q ≡ cond (eqb q k) None (get m q)
-removed m k q = get-remove nat_cmp_total m k q ∙ ap (λ (b : Bool). cond b None (get m q)) (tie q k)
+removed m k q = get-remove nat_cmp_total m k q ∙ ap (λ (b : Bool). cond b None (get m q)) (unsigned_tied q k)
 
 -- no key below the first has a value
 below_first : (n : ℕ) (slots : List (Option ℕ)) (q : ℕ) → q < n → get (map_from n slots) q ≡ None
@@ -101,14 +90,10 @@ none_read (suc n) (suc q) = none_read n q ∙ (get-empty nat_cmp q ∙ sym (get-
 pub all_none : (n : ℕ) → map_of (replicate n None) ≡ empty
 all_none n = is_map (replicate n None) empty (none_read n)
 
--- the slot of a call's key
-abbrev pub slot_of : MapCall ℕ → List (Option ℕ) → Option ℕ
-slot_of call slots = option_map_or (λ (key : ℕ). get_or slots key None) (map_key call) None
-
 below_of : (k : ℕ) (slots : List (Option ℕ)) → nat_lt k (length slots) ≡ true → k < length slots
 below_of k slots has = ltb-true k (length slots) has
 
-keyed_is : (call : MapCall ℕ) (k : ℕ) (slots : List (Option ℕ)) → k < length slots → keyed_after call k (slice_get slots k) slots ≡ set slots k (slot_after call (get_or slots k None))
+keyed_is : (call : MapCall ℕ) (k : ℕ) (slots : List (Option ℕ)) → k < length slots → keyed_after call k (slice_get slots k) slots ≡ set slots k (key_after call (get_or slots k None))
 keyed_is call k slots below = ap (λ (found : Option (Option ℕ)). keyed_after call k found slots) (slice_get-get_or slots k None below)
 
 -- a call on slots does to their map what a call does
@@ -131,29 +116,6 @@ after_call (CompareAndDelete k old) slots has =
     ∙ ap (λ (held : Option ℕ). cond (is_value old held) (remove (map_of slots) k) (map_of slots)) (sym (get-map_of slots k)))
 after_call Clear slots has = all_none (length slots)
 
--- a call on slots is answered as a call on their map
-pub same_reply : (call : MapCall ℕ) (slots : List (Option ℕ)) → reply_at call (slot_of call slots) ≡ map_reply call (map_of slots)
-same_reply (Load k) slots = ap Found (sym (get-map_of slots k))
-same_reply (Store k v) slots = refl
-same_reply (LoadOrStore k v) slots = ap (λ (held : Option ℕ). settled held v) (sym (get-map_of slots k))
-same_reply (LoadAndDelete k) slots = ap Found (sym (get-map_of slots k))
-same_reply (Delete k) slots = refl
-same_reply (Swap k v) slots = ap Found (sym (get-map_of slots k))
-same_reply (CompareAndSwap k old v) slots = ap (λ (held : Option ℕ). Compared (is_value old held)) (sym (get-map_of slots k))
-same_reply (CompareAndDelete k old) slots = ap (λ (held : Option ℕ). Compared (is_value old held)) (sym (get-map_of slots k))
-same_reply Clear slots = refl
-
-pub same_entry : (call : MapCall ℕ) (slots : List (Option ℕ)) → is_entry_at call (slot_of call slots) ≡ is_map_entry call (map_of slots)
-same_entry (Load k) slots = refl
-same_entry (Store k v) slots = refl
-same_entry (LoadOrStore k v) slots = ap (λ (held : Option ℕ). cond (is_some held) false true) (sym (get-map_of slots k))
-same_entry (LoadAndDelete k) slots = ap is_some (sym (get-map_of slots k))
-same_entry (Delete k) slots = ap is_some (sym (get-map_of slots k))
-same_entry (Swap k v) slots = refl
-same_entry (CompareAndSwap k old v) slots = ap (is_value old) (sym (get-map_of slots k))
-same_entry (CompareAndDelete k old) slots = ap (is_value old) (sym (get-map_of slots k))
-same_entry Clear slots = refl
-
 abbrev pub answer : SharedReply → Bool → Answered
 answer reply entry = record { reply = reply; entry = entry }
 
@@ -161,17 +123,19 @@ module _ (call : MapCall ℕ) (key : ℕ) (slots : List (Option ℕ)) (held : Op
   found_slot : has_slot call slots ≡ true
   found_slot = ap (λ (k : Option ℕ). option_map_or (λ (j : ℕ). nat_lt j (length slots)) k true) is ∙ lt-ltb key (length slots) (slice_get_within slots key held at_key)
 
-  held_there : slot_of call slots ≡ held
-  held_there = ap (λ (k : Option ℕ). option_map_or (λ (j : ℕ). get_or slots j None) k None) is ∙ get_or_from_slice_get slots key held None at_key
+  -- a load finds what the slot has
+  pub found_there : Finds (map_of slots) key held
+  found_there = ap Found (get-map_of slots key ∙ get_or_from_slice_get slots key held None at_key)
 
   -- what the key's slot answers is what the map does
-  pub keyed_answer : (answered : Answered) → answered.reply ≡ Map (reply_at call held) → answered.entry ≡ is_entry_at call held → Some answered ≡ map_answer call slots
-  keyed_answer answered reply entry =
-      let r : answered.reply ≡ Map (map_reply call (map_of slots)) = reply ∙ (ap (λ (h : Option ℕ). Map (reply_at call h)) (sym held_there) ∙ ap (λ (x : MapReply). Map x) (same_reply call slots)) in
-      let e : answered.entry ≡ is_map_entry call (map_of slots) = entry ∙ (ap (is_entry_at call) (sym held_there) ∙ same_entry call slots) in
+  pub keyed_answer : (answered : Answered) → answered.reply ≡ Map (key_reply call held) → answered.entry ≡ is_key_entry call held
+      → map_reply call (map_of slots) ≡ key_reply call held → is_map_entry call (map_of slots) ≡ is_key_entry call held → Some answered ≡ map_answer call slots
+  keyed_answer answered reply entry replies enters =
+      let r : answered.reply ≡ Map (map_reply call (map_of slots)) = reply ∙ ap (λ (x : MapReply). Map x) (sym replies) in
+      let e : answered.entry ≡ is_map_entry call (map_of slots) = entry ∙ sym enters in
       let whole : Some answered ≡ Some (answer (Map (map_reply call (map_of slots))) (is_map_entry call (map_of slots))) = λ i. Some (answer (r i) (e i)) in
       whole ∙ sym (ap (λ (b : Bool). cond b (Some (answer (Map (map_reply call (map_of slots))) (is_map_entry call (map_of slots)))) None) found_slot)
 
   -- and what it leaves there is what the call leaves
-  pub keyed_slots : set slots key (slot_after call held) ≡ slots_after call slots
+  pub keyed_slots : set slots key (key_after call held) ≡ slots_after call slots
   keyed_slots = sym (ap (λ (k : Option ℕ). slots_at call k slots) is ∙ ap (λ (found : Option (Option ℕ)). keyed_after call key found slots) at_key)

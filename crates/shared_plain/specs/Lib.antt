@@ -1,8 +1,7 @@
 pub mod Counting
 pub mod CursorsStand
-pub mod EndLists
-pub mod EndsOfHistory
 pub mod Fits
+pub mod MapWalks
 pub mod Marks
 pub mod NewCallers
 pub mod Pairs

@@ -1,13 +1,11 @@
 -- One map as slots: slot number k has the value of key k, if it has one.
-use Rattle.std.specs.Prelude.{ℕ, ◌+◌, Bool, true, false, cond, nat_lt, List, [], ◌∷◌, length, replicate, drop, Option, Some, None, is_some, slice_get, slice_set}
+use Rattle.std.specs.Prelude.{ℕ, ◌+◌, Bool, true, nat_lt, List, [], ◌∷◌, length, replicate, drop, Option, Some, None, slice_get, slice_set}
 use Rattle.std.specs.Option.{option_map_or}
 use Rattle.std.specs.Ordering.{nat_cmp}
 use Rattle.std.specs.FinMap.{FinMap, empty, insert}
 use Rattle.sync_types.specs.declared.map_object.MapCall.{MapCall}
-use Rattle.sync_types.specs.declared.map_object.MapCall.TheVariants.{Load, Store, LoadOrStore, LoadAndDelete, Delete, Swap, CompareAndSwap, CompareAndDelete, Clear}
-use Rattle.sync_types.specs.declared.map_object.MapReply.{MapReply}
-use Rattle.sync_types.specs.declared.map_object.MapReply.TheVariants.{Done, Found, Compared}
-use Rattle.sync_types.specs.SequentialMap.{is_value, map_key, settled}
+use Rattle.sync_types.specs.KeyCalls.{key_after}
+use Rattle.sync_types.specs.SequentialMap.{map_key}
 
 -- a map with what one slot says of its key
 abbrev pub with_slot : ℕ → Option ℕ → FinMap nat_cmp ℕ → FinMap nat_cmp ℕ
@@ -23,46 +21,10 @@ map_from key (slot ∷ slots) = with_slot key slot (map_from (key + 1) slots)
 abbrev pub map_of : List (Option ℕ) → FinMap nat_cmp ℕ
 map_of slots = map_from 0 slots
 
--- what a call on a key leaves in the key's slot
-abbrev pub slot_after : MapCall ℕ → Option ℕ → Option ℕ
-slot_after (Load key) held = held
-slot_after (Store key value) held = Some value
-slot_after (LoadOrStore key value) held = cond (is_some held) held (Some value)
-slot_after (LoadAndDelete key) held = None
-slot_after (Delete key) held = None
-slot_after (Swap key value) held = Some value
-slot_after (CompareAndSwap key old new) held = cond (is_value old held) (Some new) held
-slot_after (CompareAndDelete key old) held = cond (is_value old held) None held
-slot_after Clear held = None
-
--- what a call on a key answers, by the key's slot
-abbrev pub reply_at : MapCall ℕ → Option ℕ → MapReply
-reply_at (Load key) held = Found held
-reply_at (Store key value) held = Done
-reply_at (LoadOrStore key value) held = settled held value
-reply_at (LoadAndDelete key) held = Found held
-reply_at (Delete key) held = Done
-reply_at (Swap key value) held = Found held
-reply_at (CompareAndSwap key old new) held = Compared (is_value old held)
-reply_at (CompareAndDelete key old) held = Compared (is_value old held)
-reply_at Clear held = Done
-
--- whether a call on a key is an entry of the shared history, by the key's slot
-abbrev pub is_entry_at : MapCall ℕ → Option ℕ → Bool
-is_entry_at (Load key) held = false
-is_entry_at (Store key value) held = true
-is_entry_at (LoadOrStore key value) held = cond (is_some held) false true
-is_entry_at (LoadAndDelete key) held = is_some held
-is_entry_at (Delete key) held = is_some held
-is_entry_at (Swap key value) held = true
-is_entry_at (CompareAndSwap key old new) held = is_value old held
-is_entry_at (CompareAndDelete key old) held = is_value old held
-is_entry_at Clear held = true
-
 -- the slots after a call on this key
 abbrev pub keyed_after : MapCall ℕ → ℕ → Option (Option ℕ) → List (Option ℕ) → List (Option ℕ)
 keyed_after call key None slots = slots
-keyed_after call key (Some held) slots = slice_set slots key (slot_after call held)
+keyed_after call key (Some held) slots = slice_set slots key (key_after call held)
 
 -- the slots after a call on its key, or on all
 abbrev pub slots_at : MapCall ℕ → Option ℕ → List (Option ℕ) → List (Option ℕ)

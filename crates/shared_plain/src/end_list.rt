@@ -1,7 +1,7 @@
 //! The list of ends that a report shows.
 ghost use Rattle.std.specs.Prelude.{◌≡◌, ◌+◌, ◌*◌, ◌≤◌, ◌++◌, length, map, zip, flat_map, vec_len, vec_capacity};
 ghost use Rattle.sync_types.specs.Ends.{number_end};
-ghost use Rattle.shared_plain.specs.EndLists.{ends_by, pair_ends_by};
+ghost use Rattle.sync_model.specs.EndsOfHistory.{ends_by, pair_ends_by};
 ghost use Rattle.shared_plain.specs.PlainMachine.{contents_of};
 ghost use Rattle.shared_plain.specs.Slots.{map_of};
 
@@ -15,7 +15,7 @@ impl PlainState {
     /// the places of their objects in the workload. It takes no memory.
     ///
     /// Where the order has all keys in byte order of their names, this is what a report shows
-    /// (`laws::ends_are_in_name_order`).
+    /// (`sync_model::laws::ends::ends_are_in_name_order`).
     pub fn push_ends(&self, atomics: &[usize], maps: &[usize], order: &[u32], ends: &mut Vec<End>)
         requires room { vec_len ends.old + length atomics.now + length maps.now * length order.now ≤ vec_capacity ends.old }
         ensures ends { ends.new.items ≡ ends.old.items ++ ends_by order.now atomics.now maps.now (contents_of self.now) }

@@ -3,8 +3,7 @@ ghost use Rattle.std.specs.Prelude.{◌≡◌, ◌<◌, ◌≤◌, List, [], IfO
 ghost use Rattle.sync_types.specs.SequentialAtomic.{kind_of};
 ghost use Rattle.sync_model.specs.SharedHistory.{first_contents};
 ghost use Rattle.sync_model.specs.Shared.{AreAllCallers};
-ghost use Rattle.shared_plain.specs.EndLists.{HasKeysBelow};
-ghost use Rattle.shared_plain.specs.EndsOfHistory.{AreEnds};
+ghost use Rattle.sync_model.specs.EndsOfHistory.{HasKeysBelow, AreEnds};
 ghost use Rattle.shared_plain.specs.Marks.{own_by, seen_of, IsMarkOf};
 ghost use Rattle.shared_plain.specs.PlainMachine.{contents_of};
 ghost use Rattle.shared_plain.specs.Plains.{count_of, keys_of, kinds_of, maps_of};

@@ -1,15 +1,17 @@
 //! One map, with a slot for each of its keys.
 ghost use Rattle.std.specs.Prelude.{◌≡◌, replicate, IfOk, None};
 ghost use Rattle.std.specs.FinMap.{get};
-ghost use Rattle.sync_types.specs.SequentialMap.{settled};
 ghost use Rattle.sync_model.specs.declared.item.SharedReply.TheVariants as replies;
-ghost use Rattle.shared_plain.specs.Slots.{map_of, slot_after, reply_at, is_entry_at, slots_after, next_pair};
+ghost use Rattle.sync_types.specs.KeyCalls.{key_reply, is_key_entry, key_after};
+ghost use Rattle.shared_plain.specs.Slots.{map_of, slots_after, next_pair};
 ghost use Rattle.shared_plain.specs.PlainMachine.{map_answer};
 
 use crate::event::Answered;
 use std::alloc::{AllocError, Global};
 use std::marker::Model;
 use sync_model::SharedReply;
+use sync_types::laws::maps::its_key_decides_a_call;
+use sync_types::map_object::settled;
 use sync_types::{MapCall, MapReply};
 
 /// A map whose keys are the numbers below a limit. Contracts see a list with each key's value, if it has one.
@@ -43,6 +45,7 @@ impl Slots {
         ensures answer { result ≡ map_answer call self.old }
         ensures after { self.new ≡ slots_after call self.old }
     {
+        its_key_decides_a_call::<u32>();
         let Some(key) = call.key() else {
             self.clear();
             return Some(Answered {
@@ -83,9 +86,9 @@ impl Slots {
 
 // Makes a call on a key, whose slot this is.
 fn apply_at(slot: &mut Option<u64>, call: MapCall<u32>) -> Answered
-    ensures reply { result.reply ≡ replies.Map (reply_at call slot.old) }
-    ensures entry { result.entry ≡ is_entry_at call slot.old }
-    ensures after { slot.new ≡ slot_after call slot.old }
+    ensures reply { result.reply ≡ replies.Map (key_reply call slot.old) }
+    ensures entry { result.entry ≡ is_key_entry call slot.old }
+    ensures after { slot.new ≡ key_after call slot.old }
 {
     let held = *slot;
     let (reply, entry) = match call {
@@ -132,21 +135,5 @@ fn apply_at(slot: &mut Option<u64>, call: MapCall<u32>) -> Answered
     Answered {
         reply: SharedReply::Map(reply),
         entry,
-    }
-}
-
-// What `LoadOrStore` answers of a key where this was the value before.
-fn settled(before: Option<u64>, value: u64) -> MapReply
-    ensures { result ≡ settled before value }
-{
-    match before {
-        None => MapReply::Settled {
-            value,
-            loaded: false,
-        },
-        Some(value) => MapReply::Settled {
-            value,
-            loaded: true,
-        },
     }
 }

@@ -2,15 +2,15 @@
 ghost use Rattle.std.specs.Prelude.{◌≡◌, ℕ, ◌<◌, false, length, map, replicate, slice_get, IfOk, None};
 ghost use Rattle.sync_types.specs.declared.atomic_object.Number.{Number};
 ghost use Rattle.sync_types.specs.SequentialAtomic.{zero_of, is_of, has_bits, is_atomic_call, is_atomic_entry, atomic_reply};
-ghost use Rattle.shared_plain.specs.EndsOfHistory.{IsNextPair};
+ghost use Rattle.shared_plain.specs.MapWalks.{IsNextPair};
 ghost use Rattle.shared_plain.specs.PlainMachine.{contents_of, first_holdings, next, atomic_answer, number_after};
 
 use crate::event::{Answered, Event};
 use crate::slots::Slots;
 use std::alloc::{AllocError, Global};
 use std::marker::Model;
-use sync_types::atomic_object::apply;
 use sync_model::SharedReply;
+use sync_types::atomic_object::apply;
 use sync_types::{AtomicCall, AtomicKind, AtomicReply, Number};
 
 /// So many maps, and an atomic of each of some types.

@@ -10,15 +10,15 @@ use Rattle.sync_model.specs.declared.item.SharedReply.TheVariants as replies
 use Rattle.sync_model.specs.Note.{IsCounted, SameHome}
 use Rattle.sync_types.specs.SequentialAtomic.{atomic_reply}
 use Rattle.sync_types.specs.WordLayout.{number_in}
-use Rattle.table_seats.specs.declared.begin.Begin.{Begin}
+use Rattle.table_rule.specs.declared.begin.Begin.{Begin}
 use Rattle.table_seats.specs.Seats.{begin_of}
 use Rattle.shared_table.specs.declared.note.SharedNote.{SharedNote}
 use Rattle.shared_table.specs.declared.table.SharedTable.{SharedTable}
-use Rattle.table_seats.specs.declared.view.Own.{Own}
-use Rattle.table_seats.specs.declared.view.View.{View}
+use Rattle.table_rule.specs.declared.view.Own.{Own}
+use Rattle.table_rule.specs.declared.view.View.{View}
 use Rattle.shared_table.specs.Notes.{IsNoteOf, IsOperationOn}
 use Rattle.table_seats.specs.Operations.{Places, Operates}
-use Rattle.table_seats.specs.Views.{held_in, with_item, called_view, IsIdle}
+use Rattle.table_rule.specs.Views.{held_in, with_item, called_view, IsIdle}
 
 pub some_own : (n : ℕ) (owns : List Own) → IsSome (held_in n owns) → 0 < length owns
 some_own n [] is = absurd (let e : false ≡ true = is in (cc))

@@ -8,19 +8,18 @@ use Rattle.sync_model.specs.declared.caller.Caller.{Caller}
 use Rattle.sync_model.specs.Shared.{items_of, AreAllCallers, calls_of}
 use Rattle.sync_model.specs.SharedCalls.{Lawful}
 use Rattle.sync_model.specs.SharedHistory.{Contents, contents_after}
-use Rattle.table_seats.specs.declared.view.View.{View}
-use Rattle.table_seats.specs.Layout.{callers_of}
+use Rattle.table_rule.specs.declared.view.View.{View}
+use Rattle.table_rule.specs.Layout.{callers_of}
 use Rattle.table_seats.specs.Seats.{EndsAt}
-use Rattle.table_seats.specs.Shape.{start_of}
-use Rattle.table_seats.specs.Views.{held_in}
-use Rattle.table_seats.proofs.Lists.{item_there}
+use Rattle.table_rule.specs.Shape.{start_of}
+use Rattle.table_rule.specs.Views.{held_in}
 use Rattle.shared_table.specs.declared.note.SharedNote.{SharedNote}
 use Rattle.shared_table.specs.declared.table.SharedTable.{SharedTable}
-use Rattle.shared_table.specs.EndsOfHistory.{AreEnds}
+use Rattle.sync_model.specs.EndsOfHistory.{AreEnds}
 use Rattle.shared_table.specs.Notes.{own_by, seen_by, IsNoteOf}
 use Rattle.shared_table.specs.Settling.{Gathered}
 use Rattle.shared_table.specs.Tables.{count_of, first_of}
-use Rattle.shared_table.proofs.Settles.{calls_at, calls_past, CountAlone}
+use Rattle.shared_table.proofs.Settles.{item_there, calls_at, calls_past, CountAlone}
 
 module _ (table : SharedTable) (callers : List (Caller SharedNote)) (all : AreAllCallers IsNoteOf own_by table callers (count_of table)) (me : Me (Unit {0}) View) (g : Gathered table callers (length callers) me) (ends : Contents) (at : EndsAt me.0 ends) where
   -- the history has the calls of exactly these callers

@@ -1,23 +1,46 @@
 -- The callers of a new table are dealt out.
-use Rattle.std.proofs.Common.{◌≡◌, ℕ, zero, suc, ◌+◌, ◌*◌, ◌^◌, ◌<◌, ◌≤◌, List, [], ◌∷◌, length, drop, sum, Some, slice_get, slice_index, refl, sym, ap, ◌∙◌, subst, arith}
-use Rattle.std.proofs.lemmas.List.{drop_more}
+use Rattle.std.proofs.Common.{◌≡◌, ℕ, zero, suc, ◌+◌, ◌*◌, ◌^◌, ◌<◌, ◌≤◌, List, [], ◌∷◌, length, drop, sum, Some, slice_get, slice_index, refl, sym, ap, ◌∙◌, subst, arith, ◌++◌, ◌⊎◌, inl, inr, get_or, replicate, length-append}
+use Rattle.std.proofs.Math.Seq.{get_or-append_seam}
+use Rattle.std.proofs.lemmas.Bool.{cases_lt}
+use Rattle.std.proofs.lemmas.List.{drop_more, get_or-replicate, get_or_append_left, get_or_past, length-replicate}
 use Rattle.std.proofs.lemmas.List.Sums.{sum_by-cons}
-use Rattle.std.proofs.lemmas.Option.{none-some, same_Some}
+use Rattle.std.proofs.lemmas.Option.{none-some, same_Some, get_or_from_slice_get, slice_get-get_or, slice_get_within}
 use Rattle.atomic_table.specs.Table.{Me}
 use Rattle.sync_model.specs.declared.caller.Caller.{Caller}
 use Rattle.sync_model.specs.Note.{IsCounted}
 use Rattle.trie_nodes.specs.Layout.{unit_words}
-use Rattle.table_seats.specs.declared.begin.Begin.{Begin}
+use Rattle.table_rule.specs.declared.begin.Begin.{Begin}
 use Rattle.table_seats.specs.Seats.{IsSeatOf, begin_of}
 use Rattle.shared_table.specs.declared.note.SharedNote.{SharedNote}
 use Rattle.shared_table.specs.declared.table.SharedTable.{SharedTable}
-use Rattle.table_seats.specs.declared.view.Own.{Own}
-use Rattle.table_seats.specs.declared.view.View.{View}
+use Rattle.table_rule.specs.declared.view.Own.{Own}
+use Rattle.table_rule.specs.declared.view.View.{View}
 use Rattle.shared_table.specs.Dealing.{left_view, IsNewCaller}
-use Rattle.table_seats.specs.Layout.{callers_of, size_of, IsBegin}
+use Rattle.table_rule.specs.Layout.{callers_of, size_of, IsBegin}
 use Rattle.shared_table.specs.NewCallers.{AreNewCallers}
-use Rattle.table_seats.specs.Views.{held_in, next_in, spare_in, new_owns, first_view, dealt, kept, others_of, first_of, IsIdle}
-use Rattle.table_seats.proofs.Opening.{same_for_all}
+use Rattle.table_rule.specs.Views.{held_in, next_in, spare_in, new_owns, first_view, dealt, kept, others_of, first_of, IsIdle}
+
+-- a list of zeros has 0 at each place, and beyond its end
+none_known : (n c : ℕ) → slice_index (replicate n 0) c ≡ 0
+none_known n c = elim (cases_lt c n) [
+  | inl below ↦ get_or-replicate n c 0 0 below
+  | inr past ↦ get_or_past (replicate n 0) c 0 (omega (arith, length-replicate {A = ℕ} n 0))
+]
+
+-- an item of a list with one more is one of the list, or the last
+pub item_on : {A : Type 0} (xs : List A) (z x : A) (i : ℕ) → slice_get (xs ++ z ∷ []) i ≡ Some x → (slice_get xs i ≡ Some x) ⊎ ((i ≡ length xs) × (x ≡ z))
+item_on xs z x i at =
+    let is : get_or (xs ++ z ∷ []) i x ≡ x = get_or_from_slice_get (xs ++ z ∷ []) i x x at in
+    elim (cases_lt i (length xs)) [
+      | inl below ↦ inl (slice_get-get_or xs i x below ∙ ap (λ y. Some y) (sym (get_or_append_left xs (z ∷ []) x i below) ∙ is))
+      | inr past ↦
+          let within = slice_get_within (xs ++ z ∷ []) i x at in
+          let last : i ≡ length xs = omega (arith, length-append xs (z ∷ [])) in
+          inr (last, sym is ∙ ap (λ n. get_or (xs ++ z ∷ []) n x) last ∙ get_or-append_seam xs z [] x)
+    ]
+
+pub one_longer : {A : Type 0} (xs : List A) (x : A) (n : ℕ) → length xs ≡ n → length (xs ++ x ∷ []) ≡ n + 1
+one_longer xs x n is = omega (arith, length-append xs (x ∷ []))
 
 pub left_idle : (k : Begin) (n next : ℕ) → IsIdle (left_view k n next)
 left_idle k n next = record { walk = refl; leaf = refl; lock = refl; upper = refl; gate = refl; spot = refl }
@@ -64,11 +87,11 @@ module _ (k : Begin) (n next : ℕ) (inside : n < length k.spares) where
           idle = subst IsIdle same record { walk = refl; leaf = refl; lock = refl; upper = refl; gate = refl; spot = refl };
           few = subst (λ (u : View). length u.owns ≤ 1) same (omega arith);
           unwritten = subst (λ (u : View). (i : ℕ) (own : Own) → slice_get u.owns i ≡ Some own → own.draft ≡ []) same unwritten;
-          counted = subst (λ (u : View). IsCounted (held_in u.number u.owns) u.front) same (same_for_all (callers_of k) n 0);
+          counted = subst (λ (u : View). IsCounted (held_in u.number u.owns) u.front) same (none_known (callers_of k) n);
         };
         own = ap (λ (u : View). held_in u.number u.owns) view;
         seen = ap (λ (u : View). u.seen) view;
-        knows = λ c. ap (λ (u : View). slice_index u.front c) view ∙ same_for_all (callers_of k) c 0;
+        knows = λ c. ap (λ (u : View). slice_index u.front c) view ∙ none_known (callers_of k) c;
       }
     where
       unwritten : (i : ℕ) (own : Own) → slice_get (new_one ∷ []) i ≡ Some own → own.draft ≡ []

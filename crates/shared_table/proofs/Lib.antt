@@ -1,4 +1,3 @@
-pub mod Poised
 pub mod Sights
 pub mod Walks
 pub mod MapCalls
@@ -8,3 +7,5 @@ pub mod FirstCallers
 pub mod Noting
 pub mod Settles
 pub mod Endings
+pub mod CursorNotes
+pub mod Prunings

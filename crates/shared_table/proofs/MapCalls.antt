@@ -6,19 +6,19 @@ use Rattle.sync_model.specs.declared.item.SharedReply.TheVariants as replies
 use Rattle.sync_types.specs.declared.map_object.MapCall.{MapCall}
 use Rattle.sync_types.specs.declared.map_object.MapReply.{MapReply}
 use Rattle.sync_model.specs.Shared.{Called, cost_of}
-use Rattle.table_seats.specs.declared.begin.Begin.{Begin}
+use Rattle.table_rule.specs.declared.begin.Begin.{Begin}
 use Rattle.shared_table.specs.declared.map_call.Reached.{Reached}
 use Rattle.shared_table.specs.declared.map_call.Reached.TheVariants.{Answered, Stands}
-use Rattle.table_seats.specs.declared.view.Gate.TheVariants.{Outside, Inside}
-use Rattle.table_seats.specs.declared.view.Leaf.{Leaf}
-use Rattle.table_seats.specs.declared.view.View.{View}
-use Rattle.table_seats.specs.declared.view.Walk.{Walk}
-use Rattle.table_seats.specs.KeyCalls.{is_key_entry, key_reply}
+use Rattle.table_rule.specs.declared.view.Gate.TheVariants.{Outside, Inside}
+use Rattle.table_rule.specs.declared.view.Leaf.{Leaf}
+use Rattle.table_rule.specs.declared.view.View.{View}
+use Rattle.table_rule.specs.declared.view.Walk.{Walk}
+use Rattle.sync_types.specs.KeyCalls.{is_key_entry, key_reply}
 use Rattle.trie_nodes.specs.declared.slot.Slot.TheVariants.{Empty, Node, Entry}
 use Rattle.table_seats.specs.Making.{Made}
 use Rattle.shared_table.specs.MapCalls.{IsWriting, IsEnd, IsReached}
-use Rattle.table_seats.specs.Shape.{start_of}
-use Rattle.table_seats.specs.Views.{with_item, paid, called_view, view_state}
+use Rattle.table_rule.specs.Shape.{start_of}
+use Rattle.table_rule.specs.Views.{with_item, paid, called_view, view_state}
 use Rattle.table_seats.specs.Walking.{standing, walk_at, given_by, HasWords, Answers, FindsIn, Settles, IsFree, OnWay, AtEntry}
 use Rattle.table_seats.specs.Writing.{holding}
 use Rattle.shared_table.proofs.Walks.{IsAt}

@@ -1,23 +1,26 @@
 -- Notes are copied and merged.
-use Rattle.std.proofs.Common.{◌≡◌, ℕ, ◌+◌, ◌≤◌, true, List, [], ◌∷◌, ◌++◌, length, Some, None, slice_get, slice_index, refl, sym, ap, ◌∙◌, subst, arith}
+use Rattle.std.proofs.Common.{◌≡◌, ℕ, ◌+◌, ◌≤◌, true, List, [], ◌∷◌, ◌++◌, length, Some, None, IsSome, All, slice_get, slice_index, refl, sym, ap, ◌∙◌, subst, arith}
 use Rattle.std.proofs.lemmas.List.{append-nil}
-use Rattle.std.proofs.lemmas.Option.{none-some, same_Some}
+use Rattle.std.proofs.lemmas.Option.{none-some, same_Some, slice_get-get_or}
 use Rattle.atomic_table.specs.Table.{Me}
+use Rattle.sync_model.specs.declared.caller.Caller.{Caller}
 use Rattle.sync_model.specs.Front.{AtLeast}
 use Rattle.sync_model.specs.Journal.{Begins}
 use Rattle.sync_model.specs.Note.{Holding, IsCounted}
+use Rattle.sync_model.specs.Shared.{IsCallerAt}
 use Rattle.sync_model.specs.SharedCalls.{Lawful}
-use Rattle.table_seats.specs.declared.begin.Begin.{Begin}
+use Rattle.table_rule.specs.declared.begin.Begin.{Begin}
 use Rattle.table_seats.specs.Seats.{begin_of}
 use Rattle.shared_table.specs.declared.note.SharedNote.{SharedNote}
 use Rattle.shared_table.specs.declared.table.SharedTable.{SharedTable}
-use Rattle.table_seats.specs.declared.view.Own.{Own}
-use Rattle.table_seats.specs.declared.view.View.{View}
-use Rattle.table_seats.specs.Layout.{callers_of}
+use Rattle.table_rule.specs.declared.view.Own.{Own}
+use Rattle.table_rule.specs.declared.view.View.{View}
+use Rattle.table_rule.specs.Layout.{callers_of}
+use Rattle.shared_table.specs.NewCallers.{AreNewCallers}
 use Rattle.shared_table.specs.Notes.{own_by, IsNoteOf, IsLawfulFor}
-use Rattle.table_seats.specs.Shape.{start_of}
+use Rattle.table_rule.specs.Shape.{start_of}
 use Rattle.shared_table.specs.Tables.{first_of}
-use Rattle.table_seats.specs.Views.{held_in, most, joined, IsIdle, Looks}
+use Rattle.table_rule.specs.Views.{held_in, most, joined, IsIdle, Looks}
 
 pub nobody : (n : ℕ) (owns : List Own) → held_in n owns ≡ None → owns ≡ []
 nobody n [] e = refl
@@ -78,3 +81,7 @@ lawful_for table note before begin looks =
         let first = looks.owned 0 own (ap (λ l. slice_get l 0) is) in
         let number : before.number ≡ before.number + 0 = omega arith in
         subst (λ (h : Holding). looks.calls h.number ≡ h.items) (same_Some (record { number = before.number; items = own.items; spare = own.spare }) holding held) (ap looks.calls number ∙ first.1)
+
+-- all callers of a new table
+pub all_callers : (table : SharedTable) (spare : List ℕ) (callers : List (Caller SharedNote)) → AreNewCallers table spare callers → All (IsCallerAt IsNoteOf own_by table) callers
+all_callers table spare callers new k d below = let each = new.all.each k _ (slice_get-get_or callers k d below) in (each.0, subst (λ o. IsSome o) (sym each.1.1) refl)

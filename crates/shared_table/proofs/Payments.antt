@@ -6,17 +6,17 @@ use Rattle.sync_types.specs.declared.map_object.MapCall.{MapCall}
 use Rattle.sync_types.specs.declared.map_object.MapReply.{MapReply}
 use Rattle.sync_model.specs.Note.{IsCounted}
 use Rattle.sync_model.specs.Shared.{cost_of}
-use Rattle.table_seats.specs.declared.begin.Begin.{Begin}
+use Rattle.table_rule.specs.declared.begin.Begin.{Begin}
 use Rattle.table_seats.specs.Seats.{begin_of}
 use Rattle.shared_table.specs.declared.note.SharedNote.{SharedNote}
 use Rattle.shared_table.specs.declared.table.SharedTable.{SharedTable}
-use Rattle.table_seats.specs.declared.view.Own.{Own}
-use Rattle.table_seats.specs.declared.view.View.{View}
+use Rattle.table_rule.specs.declared.view.Own.{Own}
+use Rattle.table_rule.specs.declared.view.View.{View}
 use Rattle.trie_nodes.specs.Layout.{unit_words}
-use Rattle.table_seats.specs.Layout.{size_of}
+use Rattle.table_rule.specs.Layout.{size_of}
 use Rattle.table_seats.specs.Making.{HasUnit, Made}
 use Rattle.shared_table.specs.Notes.{own_by, IsNoteOf}
-use Rattle.table_seats.specs.Views.{held_in, with_item, paid, spend, next_in, spare_in, IsIdle}
+use Rattle.table_rule.specs.Views.{held_in, with_item, paid, spend, next_in, spare_in, IsIdle}
 use Rattle.table_seats.specs.Writing.{HasRoomWithin}
 use Rattle.shared_table.proofs.Calling.{some_own}
 

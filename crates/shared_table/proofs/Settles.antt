@@ -2,7 +2,7 @@
 use Rattle.std.proofs.Common.{◌≡◌, ◌≢◌, ℕ, zero, suc, ◌+◌, ◌<◌, ◌≤◌, List, [], ◌∷◌, ◌++◌, length, drop, set, get_or, Some, slice_get, slice_index, inl, inr, refl, sym, ap, ◌∙◌, subst, arith, length-append, length-set}
 use Rattle.std.proofs.lemmas.Bool.{cases_eq, cases_lt}
 use Rattle.std.proofs.lemmas.List.{set-get_or}
-use Rattle.std.proofs.lemmas.Option.{none-some, same_Some, slice_get_within}
+use Rattle.std.proofs.lemmas.Option.{none-some, same_Some, slice_get_cases, slice_get_within}
 use Rattle.atomic_table.specs.Table.{Me}
 use Rattle.sync_model.specs.declared.caller.Caller.{Caller}
 use Rattle.sync_model.specs.declared.item.Item.{Item}
@@ -16,18 +16,20 @@ use Rattle.sync_model.specs.SharedHistory.{Contents}
 use Rattle.table_seats.specs.Seats.{IsSeatOf}
 use Rattle.shared_table.specs.declared.note.SharedNote.{SharedNote}
 use Rattle.shared_table.specs.declared.table.SharedTable.{SharedTable}
-use Rattle.table_seats.specs.declared.view.Own.{Own}
-use Rattle.table_seats.specs.declared.view.View.{View}
-use Rattle.table_seats.specs.Layout.{callers_of}
+use Rattle.table_rule.specs.declared.view.Own.{Own}
+use Rattle.table_rule.specs.declared.view.View.{View}
+use Rattle.table_rule.specs.Layout.{callers_of}
 use Rattle.shared_table.specs.Notes.{front_by, own_by, seen_by, IsNoteOf}
 use Rattle.shared_table.specs.Settling.{IsSameCaller, AreSameCallers, Gathered, after_first, MayTake, IsBack}
-use Rattle.table_seats.specs.Shape.{start_of}
+use Rattle.table_rule.specs.Shape.{start_of}
 use Rattle.shared_table.specs.Tables.{count_of, first_of}
-use Rattle.table_seats.specs.Views.{held_in, next_in, spare_in, copied, dealt, joined, most, IsIdle, Looks}
-use Rattle.table_seats.specs.Views as views
-use Rattle.table_seats.proofs.Lists.{item_there}
+use Rattle.table_rule.specs.Views.{held_in, next_in, spare_in, copied, dealt, joined, most, IsIdle, Looks}
+use Rattle.table_rule.specs.Views as views
 
 module _ {A : Type 0} where
+  pub item_there : (xs : List A) (i : ℕ) → i < length xs → (x : A) × (slice_get xs i ≡ Some x)
+  item_there xs i below = elim (slice_get_cases xs i).1 [ inl there ↦ (there.0, there.2) | inr past ↦ absurd (let none_there = past.0 in omega arith) ]
+
   pub drop_get : (xs : List A) (i : ℕ) (x : A) → slice_get xs i ≡ Some x → drop i xs ≡ x ∷ drop (i + 1) xs
   drop_get [] i x at = absurd (none-some x at)
   drop_get (y ∷ xs) zero x at = ap (λ z. z ∷ xs) (same_Some y x at)

@@ -7,24 +7,24 @@ use Rattle.sync_model.specs.declared.item.SharedReply.TheVariants as replies
 use Rattle.sync_types.specs.declared.map_object.MapCall.{MapCall}
 use Rattle.sync_types.specs.SequentialMap.{map_key}
 use Rattle.sync_model.specs.Shared.{Called, cost_of}
-use Rattle.table_seats.specs.declared.begin.Begin.{Begin}
-use Rattle.table_seats.specs.declared.view.Leaf.{Leaf}
-use Rattle.table_seats.specs.declared.view.Lock.{Lock}
-use Rattle.table_seats.specs.declared.view.Own.{Own}
-use Rattle.table_seats.specs.declared.view.View.{View}
-use Rattle.table_seats.specs.declared.view.Walk.{Walk}
-use Rattle.table_seats.specs.KeyCalls.{is_key_entry, key_reply}
+use Rattle.table_rule.specs.declared.begin.Begin.{Begin}
+use Rattle.table_rule.specs.declared.view.Leaf.{Leaf}
+use Rattle.table_rule.specs.declared.view.Lock.{Lock}
+use Rattle.table_rule.specs.declared.view.Own.{Own}
+use Rattle.table_rule.specs.declared.view.View.{View}
+use Rattle.table_rule.specs.declared.view.Walk.{Walk}
+use Rattle.sync_types.specs.KeyCalls.{is_key_entry, key_reply}
 use Rattle.trie_nodes.specs.declared.slot.Slot.{Slot}
 use Rattle.trie_nodes.specs.declared.slot.Slot.TheVariants.{Empty, Node, Entry}
 use Rattle.trie_nodes.specs.Layout.{unit_words}
 use Rattle.trie_nodes.specs.Paths.{nibble, route}
 use Rattle.trie_nodes.specs.Slots.{slot_in}
-use Rattle.table_seats.specs.Layout.{size_of}
+use Rattle.table_rule.specs.Layout.{size_of}
 use Rattle.table_seats.specs.Making.{leaf_value, HasLeaf, found_lock, Makes, bare, Publishes, StandsLocked, FindsHeld, HasUnit}
-use Rattle.shared_table.specs.MapCalls.{IsPoised}
+use Rattle.table_writes.specs.Drafts.{IsPoised}
 use Rattle.shared_table.specs.MapCalls.{StillLocked, IsPoisedAt, MadeLocked}
-use Rattle.table_seats.specs.Shape.{start_of}
-use Rattle.table_seats.specs.Views.{MayPay, view_state}
+use Rattle.table_rule.specs.Shape.{start_of}
+use Rattle.table_rule.specs.Views.{MayPay, view_state}
 use Rattle.table_seats.specs.Walking.{standing, walk_at, given_by, HasWords, Answers, IsAlong, Affords, AtEntry}
 use Rattle.table_seats.specs.Writing.{holding, lock_at}
 
@@ -101,11 +101,12 @@ module _ (k : Begin) (me after : Me (Unit {0}) View) (call : MapCall ℕ) (m key
           places = λ l l_is. subst (λ (z : View). HasWords z l.place 2) (sym whole) (places l l_is);
         }
 
-    made : Answers m call (key_reply call (leaf_value leaf key)) leaf me.0 mid → MadeLocked m call node (key_reply call (leaf_value leaf key)) me.0 after.0
+    made : Answers m call (key_reply call (leaf_value leaf key)) leaf me.0 mid → MadeLocked m call key node level (key_reply call (leaf_value leaf key)) me.0 after.0
     made a = record {
       leaf = leaf;
       lock = lock word;
-      node_is = refl;
+      at = (refl, refl, refl);
+      fresh = refl;
       living = refl;
       makes = record {
         item = a.item;
@@ -116,11 +117,11 @@ module _ (k : Begin) (me after : Me (Unit {0}) View) (call : MapCall ℕ) (m key
     }
 
     pub sees_leaf : MatchBool (is_key_entry call (leaf_value leaf key)) (mid ≡ standing me.0 me.0.walk leaf) (Answers m call (key_reply call (leaf_value leaf key)) leaf me.0 mid)
-        → MatchBool (is_key_entry call (leaf_value leaf key)) (IsPoisedAt k call m key node level next leaf me.0 after.0) (MadeLocked m call node (key_reply call (leaf_value leaf key)) me.0 after.0)
+        → MatchBool (is_key_entry call (leaf_value leaf key)) (IsPoisedAt k call m key node level next leaf me.0 after.0) (MadeLocked m call key node level (key_reply call (leaf_value leaf key)) me.0 after.0)
     sees_leaf = by_entry (is_key_entry call (leaf_value leaf key)) refl
       where
         by_entry : (b : Bool) → is_key_entry call (leaf_value leaf key) ≡ b → MatchBool b (mid ≡ standing me.0 me.0.walk leaf) (Answers m call (key_reply call (leaf_value leaf key)) leaf me.0 mid)
-            → MatchBool b (IsPoisedAt k call m key node level next leaf me.0 after.0) (MadeLocked m call node (key_reply call (leaf_value leaf key)) me.0 after.0)
+            → MatchBool b (IsPoisedAt k call m key node level next leaf me.0 after.0) (MadeLocked m call key node level (key_reply call (leaf_value leaf key)) me.0 after.0)
         by_entry true e t = poised t e
         by_entry false e t = made t
 
@@ -128,7 +129,7 @@ module _ (k : Begin) (me after : Me (Unit {0}) View) (call : MapCall ℕ) (m key
   Finds found = FindsHeld call (walk_at m key node level since) (lock_at (walk_at m key node level since) up) (nibble key me.0.begin.seed level) found me.0 after.0
 
   abbrev pub Sight : Option Leaf → Type 0
-  Sight leaf = MatchBool (is_key_entry call (leaf_value leaf key)) (IsPoisedAt k call m key node level next leaf me.0 after.0) (MadeLocked m call node (key_reply call (leaf_value leaf key)) me.0 after.0)
+  Sight leaf = MatchBool (is_key_entry call (leaf_value leaf key)) (IsPoisedAt k call m key node level next leaf me.0 after.0) (MadeLocked m call key node level (key_reply call (leaf_value leaf key)) me.0 after.0)
 
   pub sees_empty : Finds Empty → Sight None
   sees_empty f = sees_leaf Empty None f.mid f.word f.is f.is_slot f.room refl (λ e is. absurd (none-some e is)) (λ e is. absurd (none-some e is))
@@ -166,13 +167,13 @@ module _ (k : Begin) (me after : Me (Unit {0}) View) (call : MapCall ℕ) (m key
 
 -- a seat that did nothing sees the same
 pub sight_same : (k : Begin) (call : MapCall ℕ) (m key node level next : ℕ) (leaf : Option Leaf) (v one two : View) → one ≡ two
-    → MatchBool (is_key_entry call (leaf_value leaf key)) (IsPoisedAt k call m key node level next leaf v one) (MadeLocked m call node (key_reply call (leaf_value leaf key)) v one)
-    → MatchBool (is_key_entry call (leaf_value leaf key)) (IsPoisedAt k call m key node level next leaf v two) (MadeLocked m call node (key_reply call (leaf_value leaf key)) v two)
+    → MatchBool (is_key_entry call (leaf_value leaf key)) (IsPoisedAt k call m key node level next leaf v one) (MadeLocked m call key node level (key_reply call (leaf_value leaf key)) v one)
+    → MatchBool (is_key_entry call (leaf_value leaf key)) (IsPoisedAt k call m key node level next leaf v two) (MadeLocked m call key node level (key_reply call (leaf_value leaf key)) v two)
 sight_same k call m key node level next leaf v one two same sight =
-    subst (λ z. MatchBool (is_key_entry call (leaf_value leaf key)) (IsPoisedAt k call m key node level next leaf v z) (MadeLocked m call node (key_reply call (leaf_value leaf key)) v z)) same sight
+    subst (λ z. MatchBool (is_key_entry call (leaf_value leaf key)) (IsPoisedAt k call m key node level next leaf v z) (MadeLocked m call key node level (key_reply call (leaf_value leaf key)) v z)) same sight
 
 -- a seat that published made its call under the lock
-pub made_locked : (k : Begin) (call : MapCall ℕ) (m key node level next : ℕ) (leaf : Option Leaf) (v : View) (w after : Me (Unit {0}) View) → IsPoisedAt k call m key node level next leaf v w.0 → Publishes m call w after → MadeLocked m call node (key_reply call (leaf_value leaf key)) v after.0
+pub made_locked : (k : Begin) (call : MapCall ℕ) (m key node level next : ℕ) (leaf : Option Leaf) (v : View) (w after : Me (Unit {0}) View) → IsPoisedAt k call m key node level next leaf v w.0 → Publishes m call w after → MadeLocked m call key node level (key_reply call (leaf_value leaf key)) v after.0
 made_locked k call m key node level next leaf v w after p told =
     let lock = p.lock in
     let locked : w.0.lock ≡ Some lock = ap (λ (z : View). z.lock) p.is in
@@ -182,7 +183,8 @@ made_locked k call m key node level next leaf v w after p told =
     let reply_is : key_reply call (leaf_value w.0.leaf lock.key) ≡ key_reply call (leaf_value leaf key) = (λ i. key_reply call (leaf_value (p.leaf_is i) (key_is i))) in record {
       leaf = None;
       lock = bare lock;
-      node_is = p.node_is;
+      at = (key_is, p.node_is, ap (λ (z : Lock). z.level) (sym same) ∙ p.poised.at.2);
+      fresh = refl;
       living = p.living;
       makes = record {
         item = makes.item;
@@ -194,9 +196,9 @@ made_locked k call m key node level next leaf v w after p told =
 
 -- what is seen, where the call is an entry of the history, and where it isn't
 pub sees_entry_there : (k : Begin) (call : MapCall ℕ) (m key node level next : ℕ) (leaf : Option Leaf) (held : Option ℕ) (v w : View) → held ≡ leaf_value leaf key → is_key_entry call held ≡ true
-    → MatchBool (is_key_entry call (leaf_value leaf key)) (IsPoisedAt k call m key node level next leaf v w) (MadeLocked m call node (key_reply call (leaf_value leaf key)) v w) → IsPoisedAt k call m key node level next leaf v w
-sees_entry_there k call m key node level next leaf held v w same entry sight = subst (λ b. MatchBool b (IsPoisedAt k call m key node level next leaf v w) (MadeLocked m call node (key_reply call (leaf_value leaf key)) v w)) (ap (is_key_entry call) (sym same) ∙ entry) sight
+    → MatchBool (is_key_entry call (leaf_value leaf key)) (IsPoisedAt k call m key node level next leaf v w) (MadeLocked m call key node level (key_reply call (leaf_value leaf key)) v w) → IsPoisedAt k call m key node level next leaf v w
+sees_entry_there k call m key node level next leaf held v w same entry sight = subst (λ b. MatchBool b (IsPoisedAt k call m key node level next leaf v w) (MadeLocked m call key node level (key_reply call (leaf_value leaf key)) v w)) (ap (is_key_entry call) (sym same) ∙ entry) sight
 
 pub sees_answer : (k : Begin) (call : MapCall ℕ) (m key node level next : ℕ) (leaf : Option Leaf) (held : Option ℕ) (v w : View) → held ≡ leaf_value leaf key → is_key_entry call held ≡ false
-    → MatchBool (is_key_entry call (leaf_value leaf key)) (IsPoisedAt k call m key node level next leaf v w) (MadeLocked m call node (key_reply call (leaf_value leaf key)) v w) → MadeLocked m call node (key_reply call (leaf_value leaf key)) v w
-sees_answer k call m key node level next leaf held v w same entry sight = subst (λ b. MatchBool b (IsPoisedAt k call m key node level next leaf v w) (MadeLocked m call node (key_reply call (leaf_value leaf key)) v w)) (ap (is_key_entry call) (sym same) ∙ entry) sight
+    → MatchBool (is_key_entry call (leaf_value leaf key)) (IsPoisedAt k call m key node level next leaf v w) (MadeLocked m call key node level (key_reply call (leaf_value leaf key)) v w) → MadeLocked m call key node level (key_reply call (leaf_value leaf key)) v w
+sees_answer k call m key node level next leaf held v w same entry sight = subst (λ b. MatchBool b (IsPoisedAt k call m key node level next leaf v w) (MadeLocked m call key node level (key_reply call (leaf_value leaf key)) v w)) (ap (is_key_entry call) (sym same) ∙ entry) sight

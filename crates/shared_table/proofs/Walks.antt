@@ -7,16 +7,16 @@ use Rattle.sync_types.specs.declared.map_object.MapCall.TheVariants.{Load}
 use Rattle.sync_types.specs.declared.map_object.MapReply.{MapReply}
 use Rattle.sync_types.specs.declared.map_object.MapReply.TheVariants.{Found}
 use Rattle.sync_model.specs.Shared.{Called}
-use Rattle.table_seats.specs.declared.begin.Begin.{Begin}
+use Rattle.table_rule.specs.declared.begin.Begin.{Begin}
 use Rattle.shared_table.specs.declared.table.SharedTable.{SharedTable}
 use Rattle.shared_table.specs.declared.note.SharedNote.{SharedNote}
-use Rattle.table_seats.specs.declared.view.Leaf.{Leaf}
-use Rattle.table_seats.specs.declared.view.View.{View}
-use Rattle.table_seats.specs.declared.view.Walk.{Walk}
+use Rattle.table_rule.specs.declared.view.Leaf.{Leaf}
+use Rattle.table_rule.specs.declared.view.View.{View}
+use Rattle.table_rule.specs.declared.view.Walk.{Walk}
 use Rattle.trie_nodes.specs.declared.slot.Slot.TheVariants.{Empty, Node, Entry}
 use Rattle.table_seats.specs.Operations.{Places}
-use Rattle.table_seats.specs.Shape.{start_of}
-use Rattle.table_seats.specs.Views.{with_item, called_view, view_state}
+use Rattle.table_rule.specs.Shape.{start_of}
+use Rattle.table_rule.specs.Views.{with_item, called_view, view_state}
 use Rattle.table_seats.specs.Walking.{standing, walk_at, given_by, HasWords, Answers, FindsIn, IsFree, OnWay, AtEntry}
 use Rattle.shared_table.specs.Notes.{own_by, IsNoteOf}
 use Rattle.table_seats.specs.Seats.{begin_of}

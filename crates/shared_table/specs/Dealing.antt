@@ -1,12 +1,12 @@
 -- The callers of a new table are dealt out, one after the other.
 use Rattle.std.specs.Prelude.{◌≡◌, ℕ, List, [], drop, Some, slice_index}
 use Rattle.sync_model.specs.declared.caller.Caller.{Caller}
-use Rattle.table_seats.specs.declared.begin.Begin.{Begin}
+use Rattle.table_rule.specs.declared.begin.Begin.{Begin}
 use Rattle.shared_table.specs.declared.note.SharedNote.{SharedNote}
 use Rattle.shared_table.specs.declared.table.SharedTable.{SharedTable}
-use Rattle.table_seats.specs.declared.view.View.{View}
+use Rattle.table_rule.specs.declared.view.View.{View}
 use Rattle.shared_table.specs.Notes.{front_by, own_by, seen_by, IsNoteOf}
-use Rattle.table_seats.specs.Views.{new_owns, first_view}
+use Rattle.table_rule.specs.Views.{new_owns, first_view}
 
 -- the first seat, when it has let the first n callers go: the next one's room begins here
 abbrev pub left_view : Begin → ℕ → ℕ → View

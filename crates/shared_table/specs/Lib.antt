@@ -4,5 +4,5 @@ pub mod Settling
 pub mod NewCallers
 pub mod Dealing
 pub mod Counted
-pub mod EndsOfHistory
 pub mod MapCalls
+pub mod Pruning

@@ -1,21 +1,18 @@
 -- A call that writes a map: what it does to its key, what its seat saw under a node's lock, where its way down ended, and what it leaves.
-use Rattle.std.specs.Prelude.{◌≡◌, ℕ, ◌<◌, ◌≤◌, true, false, List, [], ◌∷◌, slice_index, length, Option, Some, None, IsSome, MatchBool}
+use Rattle.std.specs.Prelude.{◌≡◌, ℕ, ◌<◌, ◌≤◌, true, false, length, Option, Some, None, IsSome, MatchBool}
 use Rattle.atomic_table.specs.Table.{Me}
 use Rattle.sync_types.specs.declared.map_object.MapCall.{MapCall}
 use Rattle.sync_types.specs.declared.map_object.MapReply.{MapReply}
-use Rattle.sync_types.specs.SequentialMap.{map_key}
-use Rattle.sync_model.specs.Shared.{cost_of}
-use Rattle.table_seats.specs.declared.begin.Begin.{Begin}
-use Rattle.table_seats.specs.declared.view.Gate.TheVariants.{Inside}
-use Rattle.table_seats.specs.declared.view.Leaf.{Leaf}
-use Rattle.table_seats.specs.declared.view.Lock.{Lock}
-use Rattle.table_seats.specs.declared.view.Own.{Own}
-use Rattle.table_seats.specs.declared.view.View.{View}
-use Rattle.table_seats.specs.declared.view.Walk.{Walk}
-use Rattle.trie_nodes.specs.declared.slot.Slot.{Slot}
-use Rattle.table_seats.specs.KeyCalls.{is_key_entry, key_reply, key_after}
-use Rattle.table_seats.specs.Making.{leaf_value, IsLockAt, Makes, Sees}
+use Rattle.table_rule.specs.declared.begin.Begin.{Begin}
+use Rattle.table_rule.specs.declared.view.Gate.TheVariants.{Inside}
+use Rattle.table_rule.specs.declared.view.Leaf.{Leaf}
+use Rattle.table_rule.specs.declared.view.Lock.{Lock}
+use Rattle.table_rule.specs.declared.view.View.{View}
+use Rattle.table_rule.specs.declared.view.Walk.{Walk}
+use Rattle.sync_types.specs.KeyCalls.{is_key_entry, key_reply, key_after}
+use Rattle.table_seats.specs.Making.{leaf_value, IsLockAt, Makes}
 use Rattle.table_seats.specs.Walking.{standing, walk_at, HasWords, Answers}
+use Rattle.table_writes.specs.Drafts.{IsPoised}
 use Rattle.shared_table.specs.declared.changes.Change.{Change}
 use Rattle.shared_table.specs.declared.changes.Change.TheVariants.{Keep, Put, Remove}
 use Rattle.shared_table.specs.declared.map_call.Reached.{Reached}
@@ -28,32 +25,6 @@ abbrev pub IsChange : MapCall ℕ → Option ℕ → Change → Type 0
 IsChange call held Keep = is_key_entry call held ≡ false
 IsChange call held (Put value) = (is_key_entry call held ≡ true) × (key_after call held ≡ Some value)
 IsChange call held Remove = (is_key_entry call held ≡ true) × (key_after call held ≡ None) × IsSome held
-
--- a seat that has drafted nothing knows, under the lock of a node, that its call is an entry of the history
-pub record IsPoised (k : Begin) (v : View) (call : MapCall ℕ) (m key node level next : ℕ) : Type 0 where
-  pub own : Own
-  pub owns : List Own
-  pub lock : Lock
-  pub found : Slot
-  pub at : IsLockAt lock key node level
-  pub sees : Sees k v own owns lock m found
-  pub draft : own.draft ≡ []
-  pub next_is : own.next ≡ next
-  pub on : map_key call ≡ Some key
-  pub costs : cost_of call ≡ 1
-  pub is_entry : is_key_entry call (leaf_value v.leaf key) ≡ true
-
--- the first caller's room holds this
-abbrev pub with_draft : List Own → List ℕ → List Own
-with_draft [] words = []
-with_draft (own ∷ owns) words = record own { draft = words } ∷ owns
-
--- a seat drafted so many words, which are these
-pub record Drafted (first me : Me (Unit {0}) View) (n : ℕ) (word : ℕ → ℕ) : Type 0 where
-  pub words : List ℕ
-  pub long : length words ≡ n
-  pub each : (i : ℕ) → i < n → slice_index words i ≡ word i
-  pub is : me ≡ (record first.0 { owns = with_draft first.0.owns words }, first.1)
 
 -- a seat holds the lock of a node still, and has made no call
 pub record StillLocked (node : ℕ) (v w : View) : Type 0 where
@@ -75,17 +46,18 @@ pub record IsPoisedAt (k : Begin) (call : MapCall ℕ) (m key node level next : 
   pub places : (e : Leaf) → leaf ≡ Some e → HasWords w e.place 2
 
 -- a seat made its call under the lock of a node, which it holds still
-pub record MadeLocked (m : ℕ) (call : MapCall ℕ) (node : ℕ) (reply : MapReply) (v w : View) : Type 0 where
+pub record MadeLocked (m : ℕ) (call : MapCall ℕ) (key node level : ℕ) (reply : MapReply) (v w : View) : Type 0 where
   pub leaf : Option Leaf
   pub lock : Lock
-  pub node_is : lock.node ≡ node
+  pub at : IsLockAt lock key node level
+  pub fresh : lock.empty ≡ 0
   pub living : lock.dead ≡ false
   pub makes : Makes m call reply leaf (Some lock) v w
 
 -- what a seat saw under a lock: the slot has become a node; or it has this, and the call is answered, or is an entry of the history
 abbrev pub IsSight : Begin → MapCall ℕ → ℕ → ℕ → ℕ → ℕ → ℕ → Sight → View → View → Type 0
 IsSight k call m key node level next Below v w = StillLocked node v w
-IsSight k call m key node level next (Shows leaf) v w = MatchBool (is_key_entry call (leaf_value leaf key)) (IsPoisedAt k call m key node level next leaf v w) (MadeLocked m call node (key_reply call (leaf_value leaf key)) v w)
+IsSight k call m key node level next (Shows leaf) v w = MatchBool (is_key_entry call (leaf_value leaf key)) (IsPoisedAt k call m key node level next leaf v w) (MadeLocked m call key node level (key_reply call (leaf_value leaf key)) v w)
 
 -- a writer of a map that holds no lock, and knows no entry
 pub record IsWriting (k : Begin) (me : Me (Unit {0}) View) (m : ℕ) : Type 0 where

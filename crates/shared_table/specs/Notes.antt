@@ -13,11 +13,11 @@ use Rattle.sync_model.specs.Shared.{Called, state_of}
 use Rattle.sync_types.specs.WordLayout.{is_word, number_in}
 use Rattle.shared_table.specs.declared.note.SharedNote.{SharedNote}
 use Rattle.shared_table.specs.declared.table.SharedTable.{SharedTable}
-use Rattle.table_seats.specs.declared.view.Own.{Own}
+use Rattle.table_rule.specs.declared.view.Own.{Own}
 use Rattle.table_seats.specs.Operations.{IsOperation}
 use Rattle.shared_table.specs.Tables.{kinds_of, count_of, first_of}
 use Rattle.table_seats.specs.Seats.{begin_of, IsSeatOf}
-use Rattle.table_seats.specs.Views.{held_in, IsIdle}
+use Rattle.table_rule.specs.Views.{held_in, IsIdle}
 
 -- for each caller the number of its shared calls that are known
 abbrev pub front_by : SharedNote → List ℕ

@@ -5,11 +5,11 @@ use Rattle.sync_model.specs.declared.caller.Caller.{Caller}
 use Rattle.sync_model.specs.Front.{AtLeast}
 use Rattle.shared_table.specs.declared.note.SharedNote.{SharedNote}
 use Rattle.shared_table.specs.declared.table.SharedTable.{SharedTable}
-use Rattle.table_seats.specs.declared.view.Own.{Own}
-use Rattle.table_seats.specs.declared.view.View.{View}
+use Rattle.table_rule.specs.declared.view.Own.{Own}
+use Rattle.table_rule.specs.declared.view.View.{View}
 use Rattle.shared_table.specs.Notes.{front_by, seen_by}
 use Rattle.table_seats.specs.Seats.{begin_of, IsSeatOf}
-use Rattle.table_seats.specs.Views.{next_in, spare_in, dealt, IsIdle}
+use Rattle.table_rule.specs.Views.{next_in, spare_in, dealt, IsIdle}
 
 -- it is the same caller's note, with the same room, whatever its seat knows
 pub record IsSameCaller (old new : SharedNote) : Type 0 where

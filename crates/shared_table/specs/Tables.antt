@@ -3,9 +3,9 @@ use Rattle.std.specs.Prelude.{ℕ, List}
 use Rattle.sync_types.specs.declared.atomic_object.AtomicKind.{AtomicKind}
 use Rattle.sync_model.specs.SharedHistory.{Contents}
 use Rattle.shared_table.specs.declared.table.SharedTable.{SharedTable}
-use Rattle.table_seats.specs.Layout.{callers_of}
+use Rattle.table_rule.specs.Layout.{callers_of}
 use Rattle.table_seats.specs.Seats.{begin_of}
-use Rattle.table_seats.specs.Shape.{start_of}
+use Rattle.table_rule.specs.Shape.{start_of}
 
 -- the types of the atomics, by number
 abbrev pub kinds_of : SharedTable → List AtomicKind

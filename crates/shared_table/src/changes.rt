@@ -1,7 +1,7 @@
 //! What a call on a map does to its key.
-ghost use Rattle.std.specs.Prelude.{◌≡◌, IsSome};
+ghost use Rattle.std.specs.Prelude.{◌≡◌, ℕ, true, Option, IsSome, IsFalse};
 ghost use Rattle.sync_types.specs.SequentialMap.{map_key};
-ghost use Rattle.table_seats.specs.KeyCalls.{key_reply};
+ghost use Rattle.sync_types.specs.KeyCalls.{is_key_entry, key_reply, key_after};
 ghost use Rattle.shared_table.specs.MapCalls.{IsChange};
 
 use sync_types::{MapCall, MapReply};
@@ -77,5 +77,17 @@ pub(crate) fn reply_of(call: MapCall<u32>, held: Option<u64>) -> MapReply
             MapReply::Compared(held == Some(old))
         }
         MapCall::Clear => unreachable!(),
+    }
+}
+
+/// Whether a call may leave its key without a value.
+pub(crate) fn may_remove(call: MapCall<u32>) -> bool
+    requires { IsSome (map_key call) }
+    ensures { IsFalse result → (held : Option ℕ) → is_key_entry call held ≡ true → IsSome (key_after call held) }
+{
+    match call {
+        MapCall::LoadAndDelete { .. } | MapCall::Delete { .. } | MapCall::CompareAndDelete { .. } =>
+            true,
+        _ => false,
     }
 }

@@ -9,7 +9,7 @@ ghost use Rattle.sync_types.specs.declared.map_object.MapCall.TheVariants.{Clear
 ghost use Rattle.sync_types.specs.declared.map_object.MapReply.TheVariants.{Done};
 ghost use Rattle.sync_model.specs.Note.{SameHome};
 ghost use Rattle.sync_model.specs.Shared.{Called, state_of};
-ghost use Rattle.table_seats.specs.declared.view.Gate.TheVariants.{Closed};
+ghost use Rattle.table_rule.specs.declared.view.Gate.TheVariants.{Closed};
 ghost use Rattle.table_seats.specs.Clearing.{HasClosed};
 ghost use Rattle.table_seats.specs.Making.{HasUnit, Made};
 ghost use Rattle.table_seats.specs.Seats.{begin_of, IsSeatOf};

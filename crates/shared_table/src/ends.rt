@@ -6,8 +6,7 @@ ghost use Rattle.sync_model.specs.Shared.{AreAllCallers, calls_of};
 ghost use Rattle.sync_model.specs.SharedCalls.{Lawful};
 ghost use Rattle.sync_model.specs.SharedHistory.{contents_after};
 ghost use Rattle.table_ends.specs.EndContents.{contents_of};
-ghost use Rattle.shared_table.specs.EndsOfHistory.{AreEnds};
-ghost use Rattle.table_seats.specs.Keys.{HasKeysBelow};
+ghost use Rattle.sync_model.specs.EndsOfHistory.{AreEnds, HasKeysBelow};
 ghost use Rattle.shared_table.specs.Notes.{own_by, seen_by, IsNoteOf};
 ghost use Rattle.shared_table.specs.Tables.{count_of, first_of, kinds_of, maps_of};
 

@@ -2,17 +2,18 @@
 #![tactic(auto)]
 
 mod caller_note;
-mod chain;
 mod changes;
 mod clearing;
 mod copies;
+mod cursors;
 mod ends;
+mod kinds;
 mod look_up;
 mod map_call;
 mod new;
 pub mod note;
 mod operations;
-mod publish;
+mod prune;
 mod settling;
 pub mod steps;
 pub mod table;
@@ -21,6 +22,7 @@ pub use new::{MAX_OBJECTS, MAX_UNITS};
 pub use note::SharedNote;
 pub use steps::Steps;
 pub use table::SharedTable;
+pub use table_cursors::TableCursor;
 pub use table_seats::{Begin, WordStep};
 
 #[cfg(test)]

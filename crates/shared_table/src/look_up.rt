@@ -6,7 +6,7 @@ ghost use Rattle.sync_types.specs.declared.map_object.MapCall.TheVariants.{Load}
 ghost use Rattle.sync_types.specs.declared.map_object.MapReply.TheVariants.{Found};
 ghost use Rattle.sync_model.specs.Note.{SameHome};
 ghost use Rattle.sync_model.specs.Shared.{Called, state_of};
-ghost use Rattle.table_seats.specs.declared.view.Leaf.{Leaf};
+ghost use Rattle.table_rule.specs.declared.view.Leaf.{Leaf};
 ghost use Rattle.table_seats.specs.Operations.{Places};
 ghost use Rattle.table_seats.specs.Seats.{begin_of, IsSeatOf};
 ghost use Rattle.table_seats.specs.Walking.{standing, given_by, HasWords, IsFree, AtEntry};

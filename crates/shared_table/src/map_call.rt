@@ -1,8 +1,8 @@
 //! A call that writes a map: in by the map's gate, down to the node whose slot for the key has no node, its lock, a second look, one
 //! write, and out again.
 ghost use Rattle.std.specs.Prelude.{◌≡◌, ℕ, ◌<◌, ◌≤◌, ◌^◌, Some, None, IsSome, MatchBool, MatchOption, length};
-ghost use Rattle.table_seats.specs.declared.view.Gate.TheVariants.{Inside};
-ghost use Rattle.table_seats.specs.declared.view.Walk.{Walk};
+ghost use Rattle.table_rule.specs.declared.view.Gate.TheVariants.{Inside};
+ghost use Rattle.table_rule.specs.declared.view.Walk.{Walk};
 ghost use Rattle.table_seats.specs.Writing.{holding, lock_at, IsWriter, HasRoomWithin};
 ghost use Rattle.sync_types.specs.SequentialMap.{map_key};
 ghost use Rattle.std.specs.Option.{ForSome};
@@ -13,8 +13,9 @@ ghost use Rattle.sync_model.specs.Shared.{Called, cost_of, state_of};
 ghost use Rattle.shared_table.specs.Notes.{front_by, own_by, seen_by, IsNoteOf};
 ghost use Rattle.table_seats.specs.Making.{HasUnit, leaf_value, Made, Publishes, StandsLocked};
 ghost use Rattle.table_seats.specs.Seats.{begin_of, IsSeatOf};
-ghost use Rattle.shared_table.specs.MapCalls.{IsEnd, IsPoised, IsReached, IsSight, IsWriting, MadeLocked, MayHaveMade, StillLocked};
-ghost use Rattle.table_seats.specs.KeyCalls.{key_after};
+ghost use Rattle.table_writes.specs.Drafts.{IsPoised};
+ghost use Rattle.shared_table.specs.MapCalls.{IsEnd, IsReached, IsSight, IsWriting, MadeLocked, MayHaveMade, StillLocked};
+ghost use Rattle.sync_types.specs.KeyCalls.{key_after};
 ghost use Rattle.shared_table.specs.Tables.{maps_of, first_of};
 ghost use Rattle.table_seats.specs.Walking.{walk_at, HasWords, Affords, IsFree, OnWay, AtEntry, Answers};
 
@@ -26,6 +27,7 @@ use crossbeam_utils::Backoff;
 use std::sync::Wait;
 use sync_types::{MapCall, MapReply};
 use table_seats::{Leaf, View};
+use table_writes::{remove, show_chain, show_entry};
 use trie_nodes::{LEVELS, Slot, UNIT_WORDS};
 
 /// Where the way down to a key ended.
@@ -142,12 +144,23 @@ impl SharedTable {
         ensures published { Publishes map call seat.old.me seat.new.me }
     {
         match leaf {
-            None => self.show_entry(seat, call, map, key, node, level, next, value),
+            None => show_entry(&self.words, seat, call, map, key, node, level, next, value),
             Some(entry) => {
                 if entry.key == key as u64 {
-                    self.show_entry(seat, call, map, key, node, level, next, value)
+                    show_entry(&self.words, seat, call, map, key, node, level, next, value)
                 } else {
-                    self.show_chain(seat, call, map, key, node, level, next, value, &entry)
+                    show_chain(
+                        &self.words,
+                        seat,
+                        call,
+                        map,
+                        key,
+                        node,
+                        level,
+                        next,
+                        value,
+                        &entry,
+                    )
                 }
             }
         }
@@ -172,7 +185,7 @@ impl SharedTable {
         requires level { level < 8 }
         ensures table { seat.new.table_id ≡ seat.old.table_id }
         ensures slots { seat.new.me.1 ≡ seat.old.me.1 }
-        ensures made { MatchOption result (StillLocked node seat.old.me.0 seat.new.me.0) (λ reply. MadeLocked map call node reply seat.old.me.0 seat.new.me.0) }
+        ensures made { MatchOption result (StillLocked node seat.old.me.0 seat.new.me.0) (λ reply. MadeLocked map call key node level reply seat.old.me.0 seat.new.me.0) }
     {
         match self.see_held(seat, call, map, key, node, level, next) {
             Sight::Below => None,
@@ -181,7 +194,7 @@ impl SharedTable {
                 match Change::of(call, held) {
                     Change::Keep => Some(reply_of(call, held)),
                     Change::Remove => {
-                        self.remove(seat, call, map, key, node, level, next);
+                        remove(&self.words, seat, call, map, key, node, level, next);
                         Some(reply_of(call, held))
                     }
                     Change::Put(value) => {
@@ -194,7 +207,7 @@ impl SharedTable {
     }
 
     // Comes in as a writer of the map. It waits while the gate is closed.
-    fn come_in<R: Wait>(&self, rt: &R, seat: &mut Seat<(), View>, map: u32)
+    pub(crate) fn come_in<R: Wait>(&self, rt: &R, seat: &mut Seat<(), View>, map: u32)
         requires table { IsSeatOf self.now.words seat.old }
         requires free { IsFree (begin_of self.now.words) seat.old.me }
         requires map { map < maps_of self.now }
@@ -235,7 +248,7 @@ impl SharedTable {
     }
 
     // Makes a call at the node where the seat stands. It can't where the slot has become a node, or the node is dead.
-    fn make_at<R: Wait>(
+    pub(crate) fn make_at<R: Wait>(
         &self,
         rt: &R,
         seat: &mut Seat<(), View>,
@@ -260,13 +273,22 @@ impl SharedTable {
         if !self.take_lock(rt, seat, node, caller) {
             return None;
         }
-        let reply = self.make_held(seat, call, map, key, node, level, next);
-        self.words.unlock(seat, node);
-        reply
+        let made = self.make_held(seat, call, map, key, node, level, next);
+        match made {
+            Some(_) => self.leave(rt, seat, call, key, node, level, caller),
+            None => self.words.unlock(seat, node),
+        }
+        made
     }
 
     // Goes down from the map's root to the node whose slot for the key has no node. The call may be answered there.
-    fn descend(&self, seat: &mut Seat<(), View>, call: MapCall<u32>, map: u32, key: u32) -> Reached
+    pub(crate) fn descend(
+        &self,
+        seat: &mut Seat<(), View>,
+        call: MapCall<u32>,
+        map: u32,
+        key: u32,
+    ) -> Reached
         requires table { IsSeatOf self.now.words seat.old }
         requires call { (map_key call ≡ Some key) × Affords (cost_of call) seat.old.me.0.owns }
         requires writing { IsWriting (begin_of self.now.words) seat.old.me map }
@@ -289,7 +311,7 @@ impl SharedTable {
     }
 
     // Makes a call inside the map's gate.
-    fn make_inside<R: Wait>(
+    pub(crate) fn make_inside<R: Wait>(
         &self,
         rt: &R,
         seat: &mut Seat<(), View>,
@@ -308,6 +330,7 @@ impl SharedTable {
         ensures table { seat.new.table_id ≡ seat.old.table_id }
         ensures made { (seat.new.me.1 ≡ seat.old.me.1) × Answers map call result None seat.old.me.0 seat.new.me.0 }
     {
+        let backoff = Backoff::new();
         for _ in rt.forever() {
             match self.descend(seat, call, map, key) {
                 Reached::Answered(reply) => return reply,
@@ -319,6 +342,7 @@ impl SharedTable {
                     }
                 }
             }
+            backoff.snooze();
         }
         unreachable!()
     }

@@ -3,7 +3,7 @@ ghost use Rattle.std.specs.Prelude.{◌≡◌, ◌+◌, ◌^◌, ◌<◌, ◌≤
 ghost use Rattle.table_seats.specs.Seats.{begin_of, IsSeatOf};
 ghost use Rattle.shared_table.specs.NewCallers.{AreNewCallers};
 ghost use Rattle.shared_table.specs.Tables.{kinds_of, maps_of, count_of, seed_of};
-ghost use Rattle.table_seats.specs.Views.{first_view};
+ghost use Rattle.table_rule.specs.Views.{first_view};
 
 use crate::note::SharedNote;
 use crate::table::SharedTable;

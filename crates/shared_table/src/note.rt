@@ -1,6 +1,6 @@
 //! The note of a caller of a shared table: a seat at the table, whose view has seen what the caller knows.
 ghost use Rattle.std.specs.Prelude.{◌≡◌};
-ghost use Rattle.table_seats.specs.Views.{spare_in, next_in};
+ghost use Rattle.table_rule.specs.Views.{spare_in, next_in};
 
 use atomic_table::Seat;
 use table_seats::View;

@@ -3,7 +3,7 @@
 ghost use Rattle.std.specs.Prelude.{◌≡◌, IsSome};
 ghost use Rattle.sync_model.specs.Note.{SameHome};
 ghost use Rattle.shared_table.specs.Notes.{own_by, IsNoteOf, IsOperationOn, Operated};
-ghost use Rattle.table_seats.specs.WordSteps.{word_after};
+ghost use Rattle.table_rule.specs.WordSteps.{word_after};
 
 use crate::note::SharedNote;
 use crate::table::SharedTable;

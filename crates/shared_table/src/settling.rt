@@ -8,7 +8,7 @@ ghost use Rattle.shared_table.specs.Notes.{front_by, own_by, seen_by, IsNoteOf};
 ghost use Rattle.shared_table.specs.Settling.{IsSameCaller, AreSameCallers, Gathered, MayTake, IsBack};
 ghost use Rattle.shared_table.specs.Tables.{count_of, first_of};
 ghost use Rattle.table_seats.specs.Seats.{IsSeatOf};
-ghost use Rattle.table_seats.specs.Views.{copied, dealt, joined, kept, next_in, spare_in, IsIdle};
+ghost use Rattle.table_rule.specs.Views.{copied, dealt, joined, kept, next_in, spare_in, IsIdle};
 
 use crate::note::SharedNote;
 use crate::table::SharedTable;

@@ -1,5 +1,5 @@
 //! Maps and atomics in one row of words.
-ghost use Rattle.table_seats.specs.Layout.{IsBegin};
+ghost use Rattle.table_rule.specs.Layout.{IsBegin};
 ghost use Rattle.table_seats.specs.Seats.{begin_of};
 
 use table_seats::TableWords;

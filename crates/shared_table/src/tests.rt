@@ -6,6 +6,8 @@ ghost use Rattle.shared_table.specs.Tables.{maps_of};
 ghost use Rattle.table_seats.specs.Seats.{begin_of, IsSeatOf};
 ghost use Rattle.table_seats.specs.Walking.{IsFree};
 
+mod prunes;
+
 use crate::note::SharedNote;
 use crate::table::SharedTable;
 use atomic_table::Seat;

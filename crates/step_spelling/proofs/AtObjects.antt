@@ -48,15 +48,7 @@ each_but P objects place old next there each is k o at = by_place (eqb k place) 
 
 no_self : (kind : ObjectKind) → is_target kind kind ≡ true → ⊥
 no_self kinds.Map is = cc
-no_self (kinds.Atomic kind) is = cc
-no_self kinds.Mutex is = cc
-no_self kinds.RwMutex is = cc
-no_self (kinds.Cond place) is = cc
-no_self (kinds.WaitGroup first) is = cc
-no_self (kinds.Once place delta) is = cc
-no_self (kinds.OnceFunc code) is = cc
-no_self (kinds.OnceValue value) is = cc
-no_self kinds.Pool is = cc
+no_self kind is = cc
 
 pub apart : (objects : List ObjectState) (place other : ℕ) (object target : ObjectState) → slice_get objects place ≡ Some object → slice_get objects other ≡ Some target → is_target (kind_of object) (kind_of target) ≡ true → other ≢ place
 apart objects place other object target at there is same =

@@ -49,7 +49,8 @@ use Rattle.step_turns.specs.Stages.{outcome_of, make, answer_by}
 use Rattle.step_spelling.specs.Left.{mutex_waits, cond_left}
 use Rattle.step_spelling.specs.Recorded.{recorded}
 use Rattle.step_spelling.specs.Tells.{Tells}
-use Rattle.step_spelling.proofs.MachineLaws.{MutexStands, CondStands, no, may}
+use Rattle.step_turns.specs.MachinesStand.{MutexStands, CondStands}
+use Rattle.step_spelling.proofs.MachineLaws.{no, may}
 use Rattle.step_spelling.proofs.MutexSpelled.{mutex_made}
 use Rattle.step_spelling.proofs.Spelled.{event_made, says}
 

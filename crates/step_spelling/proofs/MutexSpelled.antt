@@ -36,7 +36,8 @@ use Rattle.step_turns.specs.Stages.{outcome_of, make, answer_by}
 use Rattle.step_spelling.specs.Left.{mutex_waits, mutex_left}
 use Rattle.step_spelling.specs.Recorded.{recorded_reply, recorded}
 use Rattle.step_spelling.specs.Tells.{Tells}
-use Rattle.step_spelling.proofs.MachineLaws.{MutexStands, no, may}
+use Rattle.step_turns.specs.MachinesStand.{MutexStands}
+use Rattle.step_spelling.proofs.MachineLaws.{no, may}
 use Rattle.step_spelling.proofs.Spelled.{event_made, Continues, stage_tells}
 
 module _ (law : MutexStands) (plan : Plan) (place worker moment : ℕ) where

@@ -55,7 +55,8 @@ use Rattle.step_turns.specs.Stages.{make}
 use Rattle.step_turns.specs.Turns.{once_made, turn_on, turn_on_both}
 use Rattle.step_spelling.specs.Left.{mutex_waits, rw_waits, mutex_left, rw_left, group_left, cond_left, once_left, left_on, left_on_both}
 use Rattle.step_spelling.specs.Within.{IsIdle, StandsAtRw, StandsAtOnce, StandsOn, StandsOnBoth}
-use Rattle.step_spelling.proofs.MachineLaws.{MutexStands, OnceStands, Laws, no}
+use Rattle.step_turns.specs.MachinesStand.{MutexStands, OnceStands}
+use Rattle.step_spelling.proofs.MachineLaws.{Laws, no}
 use Rattle.step_spelling.proofs.RwSides.{reads_after, writes_after, ApartFor}
 use Rattle.step_spelling.proofs.TurnOwn.{Pair}
 
@@ -163,7 +164,7 @@ module _ (laws : Laws) (x by moment : ℕ) (apart : x ≢ by) where
 
   sides : (m : rw.State) (e : RwEvent) → rw.IsValid m → (call : RwMutexCall) → StandsAtRw call x m → StandsAtRw call x (rw.next m by e).0
   sides m e valid rw_calls.Lock stands = reads_after x by e m (λ is. apart) stands
-  sides m e valid rw_calls.RLock stands = writes_after laws.mutexes x by e m (reads_apart e) valid.inner stands
+  sides m e valid rw_calls.RLock stands = writes_after laws.machines.mutexes x by e m (reads_apart e) valid.inner stands
   sides m e valid rw_calls.Unlock stands = tt
   sides m e valid rw_calls.TryLock stands = tt
   sides m e valid rw_calls.RUnlock stands = tt
@@ -176,7 +177,7 @@ module _ (laws : Laws) (x by moment : ℕ) (apart : x ≢ by) where
       (λ e. (law.others_run o x by e apart, law.others_wait o x by e apart))
 
   mutex_made_same : (due : Option MutexStage) (m : mutex.State) → mutex.IsValid m → mutex_waits (mutex.place_of (make mutex.next mutex_event mutex_meaning by moment due m).0 x) ≡ mutex_waits (mutex.place_of m x)
-  mutex_made_same due m valid = made_kept mutex.next mutex_event mutex_meaning by moment (λ n. mutex_waits (mutex.place_of n x) ≡ mutex_waits (mutex.place_of m x)) due m refl (λ e. mutex_same laws.mutexes m x by e valid apart)
+  mutex_made_same due m valid = made_kept mutex.next mutex_event mutex_meaning by moment (λ n. mutex_waits (mutex.place_of n x) ≡ mutex_waits (mutex.place_of m x)) due m refl (λ e. mutex_same laws.machines.mutexes m x by e valid apart)
 
   pub turn_same : (workers : ℕ) (operation : Operation) (o : ObjectState) → IsMachineOf workers o → Same x o (turn_on operation by moment o).0
   turn_same workers (operations.Map call) (states.Map m) is = tt
@@ -185,22 +186,22 @@ module _ (laws : Laws) (x by moment : ℕ) (apart : x ≢ by) where
   turn_same workers (operations.Mutex call) (states.Mutex m) is = mutex_made_same (mutex_due call (mutex.place_of m by)) m is.0
   turn_same workers (operations.RwMutex call) (states.RwMutex m) is =
       made_kept rw.next rw_stages.rw_event rw_stages.rw_meaning by moment (λ n. (rw_waits (rw.place_of n x) ≡ rw_waits (rw.place_of m x)) × ((call : RwMutexCall) → StandsAtRw call x m → StandsAtRw call x n)) (rw_due call (rw.place_of m by)) m
-      (refl, λ call stands. stands) (λ e. (rw_same e (rw.place_of m x) (rw.place_of (rw.next m by e).0 x) (laws.rw_mutexes.others m x by e is.0 apart), sides m e is.0))
+      (refl, λ call stands. stands) (λ e. (rw_same e (rw.place_of m x) (rw.place_of (rw.next m by e).0 x) (laws.machines.rw_mutexes.others m x by e is.0 apart), sides m e is.0))
   turn_same workers (operations.WaitGroup call) (states.WaitGroup g first) is =
-      (made_kept group.next group_event group_meaning by moment (λ n. group_standing.waits_at n x ≡ group_standing.waits_at g x) (group_due call (group.place_of g by)) g refl (λ e. laws.groups.others g x by e apart), refl)
-  turn_same workers operations.OnceFunc (states.OnceFunc o code) is = (once_same laws.giving code o, refl)
-  turn_same workers operations.OnceValue (states.OnceValue o value) is = (once_same laws.giving value o, refl)
+      (made_kept group.next group_event group_meaning by moment (λ n. group_standing.waits_at n x ≡ group_standing.waits_at g x) (group_due call (group.place_of g by)) g refl (λ e. laws.machines.groups.others g x by e apart), refl)
+  turn_same workers operations.OnceFunc (states.OnceFunc o code) is = (once_same laws.machines.giving code o, refl)
+  turn_same workers operations.OnceValue (states.OnceValue o value) is = (once_same laws.machines.giving value o, refl)
   turn_same workers (operations.Pool call) (states.Pool p) is = tt
   turn_same workers operation o is = same_self x o
 
   sum_same : (o : once.OnceState ℤ) (place : ℕ) (delta : ℤ) (number : Number) → let new = (turn_on_both operations.Once by moment (states.Once o place delta) (states.Atomic number)).0 in Same x (states.Once o place delta) new.0 × Same x (states.Atomic number) new.1
-  sum_same o place delta (Int64 held) = ((once_same laws.adding _ o, (refl, refl)), tt)
+  sum_same o place delta (Int64 held) = ((once_same laws.machines.adding _ o, (refl, refl)), tt)
   sum_same o place delta number = (same_self x (states.Once o place delta), tt)
 
   pub both_same : (workers : ℕ) (operation : Operation) (o target : ObjectState) → IsMachineOf workers target → let new = (turn_on_both operation by moment o target).0 in Same x o new.0 × Same x target new.1
   both_same workers (operations.Cond call) (states.Cond c place) (states.Mutex m) is =
       let due = cond_due call (mutex.place_of m by) (notify.place_of c by) in
-      ((made_kept notify.next cond_event cond_meaning by moment (λ n. has_ticket n x ≡ has_ticket c x) due.0 c refl (λ e. laws.conds.others c x by e apart), refl), mutex_made_same due.1 m is.0)
+      ((made_kept notify.next cond_event cond_meaning by moment (λ n. has_ticket n x ≡ has_ticket c x) due.0 c refl (λ e. laws.machines.conds.others c x by e apart), refl), mutex_made_same due.1 m is.0)
   both_same workers operations.Once (states.Once o place delta) (states.Atomic number) is = sum_same o place delta number
   both_same workers operation o target is = (same_self x o, same_self x target)
 

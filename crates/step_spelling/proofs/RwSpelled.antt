@@ -40,7 +40,8 @@ use Rattle.step_spelling.specs.Left.{rw_waits, rw_later, rw_left}
 use Rattle.step_spelling.specs.Recorded.{recorded}
 use Rattle.step_spelling.specs.Tells.{Tells}
 use Rattle.step_spelling.specs.Within.{StandsAtRw}
-use Rattle.step_spelling.proofs.MachineLaws.{MutexStands, RwStands, no, may}
+use Rattle.step_turns.specs.MachinesStand.{MutexStands, RwStands}
+use Rattle.step_spelling.proofs.MachineLaws.{no, may}
 use Rattle.step_spelling.proofs.RwSides.{reads_after, writes_after, WriterPlace, ReaderPlace, no_reader, no_writer}
 use Rattle.step_spelling.proofs.Spelled.{event_made, Continues, says, stage_tells}
 

@@ -170,7 +170,7 @@ module _ (laws : Laws) (plan : Plan) (worker before place moment : ℕ) where
   func_own o code stands below =
       let stage = due.once_due code (once_standing.runs_at o worker) (once.place_of o worker) in
       let made = once_made worker moment code o in
-      let told = once_tells events.OnceFunc answered.OnceFunc laws.giving plan place worker moment (returns code) (λ kept. replies.OnceFunc (failure kept)) (λ kept. replies.OnceFunc (failure kept)) code
+      let told = once_tells events.OnceFunc answered.OnceFunc laws.machines.giving plan place worker moment (returns code) (λ kept. replies.OnceFunc (failure kept)) (λ kept. replies.OnceFunc (failure kept)) code
       (replies.OnceFunc (due.failure code)) (λ kept. replies.OnceFunc (due.failure kept)) refl (λ kept. refl) [] (refl, refl) o stands below in
       let step = turn_on operations.OnceFunc worker moment (states.OnceFunc o code) in (
         subst (λ (l : List Made). Tells plan (left_on plan worker before place operations.OnceFunc (states.OnceFunc o code)) (left_on plan worker (before + length (shared_in l)) place operations.OnceFunc step.0) l step.1)
@@ -182,7 +182,7 @@ module _ (laws : Laws) (plan : Plan) (worker before place moment : ℕ) where
   value_own o value stands below =
       let stage = due.once_due value (once_standing.runs_at o worker) (once.place_of o worker) in
       let made = once_made worker moment value o in
-      let told = once_tells events.OnceValue answered.OnceValue laws.giving plan place worker moment (returns value) replies.OnceValue replies.OnceValue value
+      let told = once_tells events.OnceValue answered.OnceValue laws.machines.giving plan place worker moment (returns value) replies.OnceValue replies.OnceValue value
       (replies.OnceValue value) replies.OnceValue refl (λ kept. refl) [] (refl, refl) o stands below in
       let step = turn_on operations.OnceValue worker moment (states.OnceValue o value) in (
         subst (λ (l : List Made). Tells plan (left_on plan worker before place operations.OnceValue (states.OnceValue o value)) (left_on plan worker (before + length (shared_in l)) place operations.OnceValue step.0) l step.1)
@@ -205,16 +205,16 @@ module _ (laws : Laws) (plan : Plan) (worker before place moment : ℕ) where
       ((atomic_reply call number, places plan (shared_calls plan before place (operations.Atomic call) (replies.Atomic (atomic_reply call number))), refl), tt)
   turn_own (operations.Mutex call) (states.Mutex m) has alone below is keys out stands =
       let step = turn_on (operations.Mutex call) worker moment (states.Mutex m) in
-      (mutex_tells laws.mutexes plan place worker moment before call (mutex.place_of m worker) m refl (omega (arith, below, is.1)) is.0, behind (operations.Mutex call) worker step.1 step.0 tt tt)
+      (mutex_tells laws.machines.mutexes plan place worker moment before call (mutex.place_of m worker) m refl (omega (arith, below, is.1)) is.0, behind (operations.Mutex call) worker step.1 step.0 tt tt)
   turn_own (operations.RwMutex call) (states.RwMutex m) has alone below is keys out stands =
       let step = turn_on (operations.RwMutex call) worker moment (states.RwMutex m) in
       let fits = stands_fit call worker m stands out in (
-        rw_tells laws.rw_mutexes plan place worker moment before call (rw.place_of m worker) m refl fits (omega (arith, below, is.1)) is.0,
-        behind (operations.RwMutex call) worker step.1 step.0 (stands_on laws.mutexes call worker moment (rw.place_of m worker) m fits is.0 stands) tt,
+        rw_tells laws.machines.rw_mutexes plan place worker moment before call (rw.place_of m worker) m refl fits (omega (arith, below, is.1)) is.0,
+        behind (operations.RwMutex call) worker step.1 step.0 (stands_on laws.machines.mutexes call worker moment (rw.place_of m worker) m fits is.0 stands) tt,
       )
   turn_own (operations.WaitGroup call) (states.WaitGroup g first) has alone below is keys out stands =
       let step = turn_on (operations.WaitGroup call) worker moment (states.WaitGroup g first) in
-      let told = group_tells laws.groups plan place worker moment before call (group.place_of g worker) g refl stands (omega (arith, below, is)) in
+      let told = group_tells laws.machines.groups plan place worker moment before call (group.place_of g worker) g refl stands (omega (arith, below, is)) in
       (told.0, group_behind call worker first _ step.1 told.1)
   turn_own operations.OnceFunc (states.OnceFunc o code) has alone below is keys out stands = func_own o code stands (omega (arith, below, is))
   turn_own operations.OnceValue (states.OnceValue o value) has alone below is keys out stands = value_own o value stands (omega (arith, below, is))
@@ -256,7 +256,7 @@ module _ (laws : Laws) (plan : Plan) (worker before place moment : ℕ) where
       let stage = due.once_due sum (once_standing.runs_at o worker) (once.place_of o worker) in
       let made = once_made worker moment sum o in
       let ended = map (made_shared plan) (shared_calls plan before other (operations.Atomic (Add (Int64 delta))) (replies.Atomic (atomic_reply (Add (Int64 delta)) (Int64 held)))) in
-      let told = once_tells events.Once answered.Once laws.adding plan place worker moment (adds (atomic_number plan.objects other) delta) (λ sum. replies.Once (do_replies.Ran sum)) (λ kept. replies.Once do_replies.Done) sum
+      let told = once_tells events.Once answered.Once laws.machines.adding plan place worker moment (adds (atomic_number plan.objects other) delta) (λ sum. replies.Once (do_replies.Ran sum)) (λ kept. replies.Once do_replies.Done) sum
       (replies.Once (do_replies.Ran sum)) (λ kept. replies.Once do_replies.Done) refl (λ kept. refl) ended
       (sum, places plan (shared_calls plan before other (operations.Atomic (Add (Int64 delta))) (replies.Atomic (atomic_reply (Add (Int64 delta)) (Int64 held)))), refl) o stands below in
       let step = turn_on_both operations.Once worker moment (states.Once o at delta) (states.Atomic (Int64 held)) in (
@@ -268,7 +268,7 @@ module _ (laws : Laws) (plan : Plan) (worker before place moment : ℕ) where
   pub both_own : (other : ℕ) (operation : Operation) (o target : ObjectState) → has_call (kind_of o) operation ≡ true → is_target (kind_of o) (kind_of target) ≡ true → worker < plan.workers → IsMachineOf plan.workers o
       → IsMachineOf plan.workers target → (may_wait operation ≡ false → IsOutAt worker target) → StandsOnBoth operation worker o target → BothTurn other operation o target
   both_own other (operations.Cond call) (states.Cond c at) (states.Mutex m) has target below is there out stands =
-      let told = cond_tells laws.mutexes laws.conds plan place other worker moment before call c m (cond_stands call worker at c m stands) (omega (arith, below, is)) (omega (arith, below, there.1)) there.0 in
+      let told = cond_tells laws.machines.mutexes laws.machines.conds plan place other worker moment before call c m (cond_stands call worker at c m stands) (omega (arith, below, is)) (omega (arith, below, there.1)) there.0 in
       (told.0, (cond_behind call worker at _ _ _ told.1, tt))
   both_own other operations.Once (states.Once o at delta) (states.Atomic (Int64 held)) has target below is there out stands = sum_own other at delta held o stands (omega (arith, below, is))
   both_own other operation o target has is_one below is there out stands = absurd (only_pairs o operation target has is_one)

@@ -49,7 +49,8 @@ use Rattle.step_spelling.specs.Left.{group_left, once_left}
 use Rattle.step_spelling.specs.Recorded.{recorded_reply, recorded}
 use Rattle.step_spelling.specs.Tells.{Tells}
 use Rattle.step_spelling.specs.Within.{IsOutOfOnce, StandsAtGroup, StandsAtOnce}
-use Rattle.step_spelling.proofs.MachineLaws.{GroupStands, OnceStands, no, may}
+use Rattle.step_turns.specs.MachinesStand.{GroupStands, OnceStands}
+use Rattle.step_spelling.proofs.MachineLaws.{no, may}
 use Rattle.step_spelling.proofs.Spelled.{event_made, Continues, says, stage_tells}
 
 -- ---- a wait group
@@ -114,8 +115,8 @@ module _ (law : GroupStands) (plan : Plan) (place worker moment : ℕ) where
   group_made call stage g fits below needed =
       let e = group_event stage moment in
       let n = group.next g worker e in
-      group_by call stage (group_standing.waits_at g worker) n.0 n.1 fits (law.answers g worker e below)
-      (law.made g worker e (may worker (group.callers_of g) (group_standing.is_needed e (group.place_of g worker)) below needed)) (law.own g worker e)
+      group_by call stage (group_standing.waits_at g worker) n.0 n.1 fits (law.uses.answers g worker e below)
+      (law.uses.made g worker e (may worker (group.callers_of g) (group_standing.is_needed e (group.place_of g worker)) below needed)) (law.own g worker e)
 
   abbrev GroupTurn : ℕ → WaitGroupCall → GroupPlace → group.GroupState → Type 0
   GroupTurn before call p g =
@@ -255,7 +256,7 @@ module _ {T : Type 0} (event : OnceEvent T → ObjectEvent) (answer : OnceReply 
   is_answered stage o runs w is waits below =
       let r = (once.next o worker (once_event stage moment)).1 in
       subst (λ (b : Bool). once_standing.answers w b (once_event stage moment) r ≡ true) is
-      (subst (λ (b : Bool). once_standing.answers b (once_standing.runs_at o worker) (once_event stage moment) r ≡ true) waits (law.answers o worker (once_event stage moment) below))
+      (subst (λ (b : Bool). once_standing.answers b (once_standing.runs_at o worker) (once_event stage moment) r ≡ true) waits (law.uses.answers o worker (once_event stage moment) below))
 
   once_by : (runs : Bool) (p : OncePlace) (o : once.OnceState T) → once_standing.runs_at o worker ≡ runs → once.place_of o worker ≡ p → StandsAtOnce worker o → worker < once.callers_of o → OnceTurn runs p o
   once_by true once_place.Out o is at stands below =
@@ -273,7 +274,7 @@ module _ {T : Type 0} (event : OnceEvent T → ObjectEvent) (answer : OnceReply 
       let e = once_event once_stage.Leave moment in
       let n = once.next o worker e in
       leave_tells n.0 n.1 (is_answered once_stage.Leave o false true is waits below)
-      (law.made o worker e (may worker (once.callers_of o) (once_standing.is_needed e (once.place_of o worker) (once_standing.runs_at o worker)) below (ap (λ (p : OncePlace). once_standing.is_needed e p (once_standing.runs_at o worker)) at)))
+      (law.uses.made o worker e (may worker (once.callers_of o) (once_standing.is_needed e (once.place_of o worker) (once_standing.runs_at o worker)) below (ap (λ (p : OncePlace). once_standing.is_needed e p (once_standing.runs_at o worker)) at)))
       (moved once_stage.Leave o false true is waits)
 
   pub once_tells : (o : once.OnceState T) → StandsAtOnce worker o → worker < once.callers_of o

@@ -22,7 +22,7 @@ ghost use Rattle.step_spelling.specs.Recorded.{recorded};
 ghost use Rattle.step_spelling.specs.Tells.{Tells};
 ghost use Rattle.step_spelling.specs.Within.{IsIdle, IsWithin, StandsBehind};
 
-use step_turns::laws::turns_keep_kinds_and_machines;
+use step_turns::laws::{machines_tell_where_callers_stand, turns_keep_kinds_and_machines};
 use workload::laws::keys_are_numbered_by_first_appearance;
 
 /// The items of a worker's turn spell what was left of its call, up to what is left behind the turn. So a turn that completes the
@@ -40,19 +40,7 @@ pub fn turns_spell_their_calls()
         → EachAt (λ place. IsIdle worker) objects → EachAt (λ place. IsIdle worker) (turn_at call other moment objects).0 }
 {
     turns_keep_kinds_and_machines();
-    mutex_core::laws::moves();
-    mutex_core::laws::standing();
-    rw_core::laws::moves();
-    rw_core::laws::standing();
-    rw_core::laws::still();
-    wait_cores::laws::notify::knows_where_it_stands();
-    wait_cores::laws::notify::still();
-    wait_cores::laws::group::knows_where_it_stands();
-    wait_cores::laws::group::still();
-    wait_cores::laws::once::knows_where_it_stands::<i64>();
-    wait_cores::laws::once::still::<i64>();
-    wait_cores::laws::once::knows_where_it_stands::<u64>();
-    wait_cores::laws::once::still::<u64>();
+    machines_tell_where_callers_stand();
     pool_core::laws::keeps_its_parts();
     keys_are_numbered_by_first_appearance();
 }

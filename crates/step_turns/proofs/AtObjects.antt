@@ -18,15 +18,7 @@ use Rattle.step_turns.proofs.Writes.{get_other, set_past}
 
 no_self : (kind : ObjectKind) → is_target kind kind ≡ true → ⊥
 no_self kinds.Map is = cc
-no_self (kinds.Atomic kind) is = cc
-no_self kinds.Mutex is = cc
-no_self kinds.RwMutex is = cc
-no_self (kinds.Cond place) is = cc
-no_self (kinds.WaitGroup first) is = cc
-no_self (kinds.Once place delta) is = cc
-no_self (kinds.OnceFunc code) is = cc
-no_self (kinds.OnceValue value) is = cc
-no_self kinds.Pool is = cc
+no_self kind is = cc
 
 -- the object and the one to which it refers are two
 pub apart : (objects : List ObjectState) (place other : ℕ) (object target : ObjectState) → slice_get objects place ≡ Some object → slice_get objects other ≡ Some target

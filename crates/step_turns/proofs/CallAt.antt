@@ -26,7 +26,8 @@ use Rattle.step_turns.specs.Ready.{IsReady}
 use Rattle.step_turns.specs.Stands.{IsOutAt}
 use Rattle.step_turns.specs.Turns.{turn_on, turn_on_both, with_object, with_both, turn_at}
 use Rattle.step_turns.proofs.AtObjects.{Alone, Referring, at_ready}
-use Rattle.step_turns.proofs.CallOthers.{CallStands, Eases, same_eases, turn_eases, both_ease}
+use Rattle.step_turns.specs.MachinesStand.{MachinesStand}
+use Rattle.step_turns.proofs.CallOthers.{Eases, same_eases, turn_eases, both_ease}
 use Rattle.step_turns.proofs.CallOwn.{turn_takes, both_take, few}
 use Rattle.step_turns.proofs.OthersStand.{no}
 use Rattle.step_turns.proofs.Writes.{get_other}
@@ -77,7 +78,7 @@ tells_as : (back a b old new : Bool) → old ≡ a → new ≡ b → TellsOwn ba
 tells_as true a b old new before after tells = (before ∙ tells.0, after ∙ tells.1)
 tells_as false a b old new before after tells = λ told. before ∙ tells (sym after ∙ told)
 
-alone_takes : CallStands → (workers x : ℕ) (call : Call) (moment : ℕ) (objects : List ObjectState) (object : ObjectState) → Alone workers x call objects object
+alone_takes : MachinesStand → (workers x : ℕ) (call : Call) (moment : ℕ) (objects : List ObjectState) (object : ObjectState) → Alone workers x call objects object
     → AtTakes call x objects None (goes_back (items_on call.operation x moment call.object object)) (with_object call.object objects (turn_on call.operation x moment object))
 alone_takes laws workers x call moment objects object st =
     let step = turn_on call.operation x moment object in
@@ -88,7 +89,7 @@ alone_takes laws workers x call moment objects object st =
       tells_as back (told_at x object) (told_at x step.0) _ _ (ap (told_of x) st.at) (ap (told_of x) after) takes.1,
     )
 
-referring_takes : CallStands → (workers x : ℕ) (call : Call) (moment : ℕ) (objects : List ObjectState) (object : ObjectState) (other : ℕ) (target : ObjectState) → Referring workers x call objects object other target
+referring_takes : MachinesStand → (workers x : ℕ) (call : Call) (moment : ℕ) (objects : List ObjectState) (object : ObjectState) (other : ℕ) (target : ObjectState) → Referring workers x call objects object other target
     → AtTakes call x objects (Some other) (goes_back (items_on_both call.operation x moment call.object other object target)) (with_both call.object other objects (turn_on_both call.operation x moment object target))
 referring_takes laws workers x call moment objects object other target st =
     let step = turn_on_both call.operation x moment object target in
@@ -100,7 +101,7 @@ referring_takes laws workers x call moment objects object other target st =
       tells_as back (told_at x target) (told_at x step.0.1) _ _ (ap (told_of x) st.there) (ap (told_of x) there) takes.1,
     )
 
-pub at_takes : CallStands → (workers x : ℕ) (call : Call) (moment : ℕ) (objects : List ObjectState) → IsReady workers x call objects
+pub at_takes : MachinesStand → (workers x : ℕ) (call : Call) (moment : ℕ) (objects : List ObjectState) → IsReady workers x call objects
     → AtTakes call x objects (refers_to (map kind_of objects) call) (goes_back (items_at call x moment objects)) (turn_at call x moment objects)
 at_takes laws workers x call moment objects r = at_ready (AtTakes call x objects (refers_to (map kind_of objects) call) (goes_back (items_at call x moment objects))) workers x call moment objects r
     (λ st.
@@ -158,7 +159,7 @@ module _ (x : ℕ) (made : List Item) where
   ease_told (Some a) None eases untold told = absurd eases
   ease_told (Some a) (Some b) eases untold told = eases.1 untold told
 
-pub at_eases : CallStands → (workers x by : ℕ) (call : Call) (moment : ℕ) (objects : List ObjectState) → IsReady workers by call objects → x ≢ by
+pub at_eases : MachinesStand → (workers x by : ℕ) (call : Call) (moment : ℕ) (objects : List ObjectState) → IsReady workers by call objects → x ≢ by
     → (k : ℕ) → EasesAt x (items_at call by moment objects) (slice_get objects k) (slice_get (turn_at call by moment objects).0 k)
 at_eases laws workers x by call moment objects r apart = at_ready (λ y. (k : ℕ) → EasesAt x (items_at call by moment objects) (slice_get objects k) (slice_get y.0 k)) workers by call moment objects r
     (λ st.
@@ -180,14 +181,14 @@ left_eases x made objects after eases None = omega arith
 left_eases x made objects after eases (Some k) = ease_left x made (slice_get objects k) (slice_get after k) (eases k)
 
 -- of any call of the worker
-pub others_take : CallStands → (workers x by moment : ℕ) (own call : Call) (objects : List ObjectState) → IsReady workers by call objects → x ≢ by
+pub others_take : MachinesStand → (workers x by moment : ℕ) (own call : Call) (objects : List ObjectState) → IsReady workers by call objects → x ≢ by
     → turns_left (map kind_of objects) own x (turn_at call by moment objects).0 ≤ turns_left (map kind_of objects) own x objects
 others_take laws workers x by moment own call objects r apart =
     let after = (turn_at call by moment objects).0 in
     let left = left_eases x (items_at call by moment objects) objects after (at_eases laws workers x by call moment objects r apart) in
     omega (arith, left (Some own.object), left (refers_to (map kind_of objects) own))
 
-pub others_tell : CallStands → (workers x by moment : ℕ) (own call : Call) (objects : List ObjectState) → IsReady workers by call objects → x ≢ by
+pub others_tell : MachinesStand → (workers x by moment : ℕ) (own call : Call) (objects : List ObjectState) → IsReady workers by call objects → x ≢ by
     → is_told (map kind_of objects) own x objects ≡ false → is_told (map kind_of objects) own x (turn_at call by moment objects).0 ≡ true → unlocks (items_at call by moment objects) ≡ true
 others_tell laws workers x by moment own call objects r apart =
     let k = unwrap_or (refers_to (map kind_of objects) own) own.object in

@@ -1,6 +1,6 @@
 -- Another's turn takes nothing from what is left of a worker's call, and only an unlock tells it to go on.
-use Rattle.std.proofs.Common.{◌≡◌, ◌≢◌, ℕ, ◌<◌, ◌≤◌, inl, inr, Bool, true, false, List, [], ◌++◌, Option, Some, None, refl, sym, ap, ◌∙◌, arith}
-use Rattle.std.specs.Prelude.{ℤ, ◌||◌, IsTrue, if◌then◌else◌}
+use Rattle.std.proofs.Common.{◌≡◌, ◌≢◌, ℕ, ◌≤◌, inl, inr, Bool, true, false, List, [], ◌++◌, Option, Some, None, refl, sym, ap, ◌∙◌, arith}
+use Rattle.std.specs.Prelude.{ℤ, ◌||◌, if◌then◌else◌}
 use Rattle.std.specs.Int.{w64, int_wrapping_add}
 use Rattle.sync_types.specs.declared.atomic_object.Number.{Number}
 use Rattle.sync_types.specs.declared.atomic_object.Number.TheVariants.{Int64}
@@ -22,15 +22,11 @@ use Rattle.rw_core.specs.declared.place.Place.{Place as RwPlace}
 use Rattle.rw_core.specs.declared.place.Place.TheVariants as rw_place
 use Rattle.rw_core.specs.declared.reply.RwReply.{RwReply}
 use Rattle.wait_cores.specs.NotifyMachine as notify
-use Rattle.wait_cores.specs.NotifyLaws as notify_laws
 use Rattle.wait_cores.specs.NotifyStanding as notify_standing
 use Rattle.wait_cores.specs.GroupMachine as group
 use Rattle.wait_cores.specs.GroupStanding as group_standing
 use Rattle.wait_cores.specs.OnceMachine as once
 use Rattle.wait_cores.specs.OnceStanding as once_standing
-use Rattle.wait_cores.specs.declared.notify.NotifyEvent.{NotifyEvent}
-use Rattle.wait_cores.specs.declared.group.GroupEvent.{GroupEvent}
-use Rattle.wait_cores.specs.declared.once.OnceEvent.{OnceEvent}
 use Rattle.protocols.specs.CondStages.{cond_event, cond_meaning}
 use Rattle.protocols.specs.GroupStages.{group_event, group_meaning}
 use Rattle.protocols.specs.MutexStages as mutex_stages
@@ -50,36 +46,9 @@ use Rattle.step_turns.specs.Objects.{IsMachineOf}
 use Rattle.step_turns.specs.Stages.{make}
 use Rattle.step_turns.specs.Turns.{once_made, turn_on, turn_on_both}
 use Rattle.step_turns.proofs.GrantedLemmas.{tries_unlock}
-use Rattle.step_turns.proofs.MachineLaws.{GroupUses, OnceUses}
 use Rattle.step_turns.proofs.Makes.{make_moves}
-use Rattle.step_turns.proofs.OthersStand.{MutexStands, RwStands, no}
-
--- ---- what the laws of the machines say
-
-pub record GroupStands : Type 0 where
-  pub own : (g : group.GroupState) (x : ℕ) (e : GroupEvent) → group_standing.waits_at (group.next g x e).0 x ≡ group_standing.waits_after (group_standing.waits_at g x) e (group.next g x e).1
-  pub others : (g : group.GroupState) (x by : ℕ) (e : GroupEvent) → x ≢ by → group_standing.waits_at (group.next g by e).0 x ≡ group_standing.waits_at g x
-  pub uses : GroupUses
-
-pub record OnceStands (T : Type 0) : Type 0 where
-  pub own_wait : (o : once.OnceState T) (x : ℕ) (e : OnceEvent T) → once_standing.waits_at (once.next o x e).0 x ≡ once_standing.waits_after (once_standing.waits_at o x) (once.next o x e).1
-  pub own_run : (o : once.OnceState T) (x : ℕ) (e : OnceEvent T) → once_standing.runs_at (once.next o x e).0 x ≡ once_standing.runs_after (once_standing.runs_at o x) (once.next o x e).1
-  pub others_wait : (o : once.OnceState T) (x by : ℕ) (e : OnceEvent T) → x ≢ by → once_standing.waits_at (once.next o by e).0 x ≡ once_standing.waits_at o x
-  pub others_run : (o : once.OnceState T) (x by : ℕ) (e : OnceEvent T) → x ≢ by → once_standing.runs_at (once.next o by e).0 x ≡ once_standing.runs_at o x
-  pub uses : OnceUses T
-
-pub record CondStands : Type 0 where
-  pub own : (c : notify.NotifyState) (x : ℕ) (e : NotifyEvent) → notify_standing.has_ticket (notify.next c x e).0 x ≡ notify_standing.has_after (notify_standing.has_ticket c x) e (notify.next c x e).1
-  pub others : (c : notify.NotifyState) (x by : ℕ) (e : NotifyEvent) → x ≢ by → notify_standing.has_ticket (notify.next c by e).0 x ≡ notify_standing.has_ticket c x
-  pub answers : (c : notify.NotifyState) (x : ℕ) (e : NotifyEvent) → x < notify.callers_of c → IsTrue (notify_laws.answers e (notify.next c x e).1)
-
-pub record CallStands : Type 0 where
-  pub mutexes : MutexStands
-  pub rw_mutexes : RwStands
-  pub conds : CondStands
-  pub groups : GroupStands
-  pub adding : OnceStands ℤ
-  pub giving : OnceStands ℕ
+use Rattle.step_turns.specs.MachinesStand.{MutexStands, RwStands, OnceStands, MachinesStand}
+use Rattle.step_turns.proofs.OthersStand.{no}
 
 -- ---- at one object
 
@@ -184,7 +153,7 @@ once_same {T = T} law x by moment value o apart =
     make_moves once.next once_event once_meaning by moment (λ (n : once.OnceState T). once_left n x ≡ once_left o x) (once_due value (once_standing.runs_at o by) (once.place_of o by)) o refl
     (λ e. λ i. if law.others_wait o x by e apart i || law.others_run o x by e apart i then 0 else 1)
 
-pub turn_eases : CallStands → (workers x by moment object : ℕ) (operation : Operation) (o : ObjectState) → IsMachineOf workers o → x ≢ by → Eases x o (turn_on operation by moment o).0 (items_on operation by moment object o)
+pub turn_eases : MachinesStand → (workers x by moment object : ℕ) (operation : Operation) (o : ObjectState) → IsMachineOf workers o → x ≢ by → Eases x o (turn_on operation by moment o).0 (items_on operation by moment object o)
 turn_eases laws workers x by moment object (operations.Map call) (states.Map m) is apart = (omega arith, λ was told. no told)
 turn_eases laws workers x by moment object operations.Range (states.Map m) is apart = (omega arith, λ was told. no told)
 turn_eases laws workers x by moment object (operations.Atomic call) (states.Atomic number) is apart = (omega arith, λ was told. no told)
@@ -222,7 +191,7 @@ sum_eases law x by moment object other o place delta (Int64 held) apart =
     ((omega (arith, once_same law x by moment (int_wrapping_add w64 held delta) o apart), λ was told. no told), (omega arith, λ was told. no told))
 sum_eases law x by moment object other o place delta number apart = ((omega arith, λ untold told. no (sym untold ∙ told)), (omega arith, λ untold told. no (sym untold ∙ told)))
 
-pub both_ease : CallStands → (workers x by moment object other : ℕ) (operation : Operation) (o target : ObjectState) → IsMachineOf workers target → x ≢ by
+pub both_ease : MachinesStand → (workers x by moment object other : ℕ) (operation : Operation) (o target : ObjectState) → IsMachineOf workers target → x ≢ by
     → BothEase x o target (turn_on_both operation by moment o target).0 (items_on_both operation by moment object other o target)
 both_ease laws workers x by moment object other (operations.Cond call) (states.Cond c place) (states.Mutex m) is apart =
     let due = cond_due call (mutex.place_of m by) (notify.place_of c by) in

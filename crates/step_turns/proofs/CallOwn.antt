@@ -100,11 +100,11 @@ use Rattle.step_turns.specs.Objects.{IsMachineOf}
 use Rattle.step_turns.specs.PoolTurn.{looked, pool_step}
 use Rattle.step_turns.specs.Stages.{outcome_of, make, answer_by}
 use Rattle.step_turns.specs.Turns.{once_made, turn_on, turn_on_both, cond_turn}
-use Rattle.step_turns.proofs.CallOthers.{GroupStands, OnceStands, CondStands, CallStands}
+use Rattle.step_turns.specs.MachinesStand.{MutexStands, RwStands, CondStands, GroupStands, OnceStands, MachinesStand}
 use Rattle.step_turns.proofs.CompletesLemmas.{pool_completes}
 use Rattle.step_turns.proofs.DueLemmas.{OfDue, both_due, mutex_answer, mutex_answers, rw_answers, GroupAnswer, group_answers, OnceAnswer, once_answers}
 use Rattle.step_turns.proofs.GrantedLemmas.{tries_back}
-use Rattle.step_turns.proofs.OthersStand.{MutexStands, RwStands, no, untold}
+use Rattle.step_turns.proofs.OthersStand.{no, untold}
 
 -- ---- what a turn takes
 
@@ -436,7 +436,7 @@ pool_forward x moment object pool_calls.Get p = look_forward x moment object _ p
 forward : (x : ℕ) (o : ObjectState) (step : ObjectState × Answer) (made : List Item) → goes_back made ≡ false → told_at x step.0 ≡ false → TakesBy false (left_at x o) (left_at x step.0) step.1 → Takes x o step made
 forward x o step made on untold takes = subst (λ (back : Bool). TakesBy back (left_at x o) (left_at x step.0) step.1 × TellsOwn back (told_at x o) (told_at x step.0)) (sym on) (takes, untold_now (told_at x o) (told_at x step.0) untold)
 
-pub turn_takes : CallStands → (workers x moment object : ℕ) (operation : Operation) (o : ObjectState) → x < workers → IsMachineOf workers o → Takes x o (turn_on operation x moment o) (items_on operation x moment object o)
+pub turn_takes : MachinesStand → (workers x moment object : ℕ) (operation : Operation) (o : ObjectState) → x < workers → IsMachineOf workers o → Takes x o (turn_on operation x moment o) (items_on operation x moment object o)
 turn_takes laws workers x moment object (operations.Map call) (states.Map m) below is = (tt, λ told. told)
 turn_takes laws workers x moment object operations.Range (states.Map m) below is = (tt, λ told. told)
 turn_takes laws workers x moment object (operations.Atomic call) (states.Atomic number) below is = (tt, λ told. told)
@@ -576,7 +576,7 @@ wait_takes law conds mutex_place.Handed at_cond x moment object other place c m 
     resume_again x moment (left_at x (states.Cond c place)) (mutex.place_of m x) (mutex.place_of (mutex.next m x e).0 x) (mutex.next m x e).1 (ap mutex_told at)
     (mutex_answer law.answered mutex_stage.Resume mutex_place.Handed m x moment at below refl) (law.moved m x x e valid)
 
-cond_takes : CallStands → (call : CondCall) (x moment object other place : ℕ) (c : notify.NotifyState) (m : mutex.State) → x < m.callers → x < notify.callers_of c → mutex.IsValid m
+cond_takes : MachinesStand → (call : CondCall) (x moment object other place : ℕ) (c : notify.NotifyState) (m : mutex.State) → x < m.callers → x < notify.callers_of c → mutex.IsValid m
     → CondTakes call (mutex.place_of m x) (notify.place_of c x) x moment object other place c m
 cond_takes laws cond_calls.Wait x moment object other place c m below below_c valid = wait_takes laws.mutexes laws.conds (mutex.place_of m x) (notify.place_of c x) x moment object other place c m refl refl below below_c valid
 cond_takes laws cond_calls.Signal x moment object other place c m below below_c valid = (tt, λ told. told)
@@ -606,7 +606,7 @@ sum_takes law x moment object other o place delta (Int64 held) below =
     (beside_none (once_left o x) (once_left (once_made x moment sum o).0 x) step.1 (once_own_takes law (replies.Once (do_replies.Ran sum)) (λ kept. replies.Once do_replies.Done) sum x moment o below), λ told. told)
 sum_takes law x moment object other o place delta number below = (tt, λ told. told)
 
-pub both_take : CallStands → (workers x moment object other : ℕ) (operation : Operation) (o target : ObjectState) → x < workers → IsMachineOf workers o → IsMachineOf workers target
+pub both_take : MachinesStand → (workers x moment object other : ℕ) (operation : Operation) (o target : ObjectState) → x < workers → IsMachineOf workers o → IsMachineOf workers target
     → BothTake x o target (turn_on_both operation x moment o target) (items_on_both operation x moment object other o target)
 both_take laws workers x moment object other (operations.Cond call) (states.Cond c place) (states.Mutex m) below is is_there = cond_takes laws call x moment object other place c m (omega (arith, below, is_there.1)) (omega (arith, below, is)) is_there.0
 both_take laws workers x moment object other operations.Once (states.Once o place delta) (states.Atomic number) below is is_there = sum_takes laws.adding x moment object other o place delta number (omega (arith, below, is))

@@ -36,7 +36,7 @@ use Rattle.protocols.specs.declared.mutex.MutexStage.{MutexStage}
 use Rattle.protocols.specs.declared.once.OnceStage.{OnceStage}
 use Rattle.protocols.specs.declared.wait_group.GroupStage.{GroupStage}
 use Rattle.step_turns.specs.Due.{mutex_due, rw_due, group_due, once_due}
-use Rattle.step_turns.proofs.MachineLaws.{GroupUses, OnceUses}
+use Rattle.step_turns.specs.MachinesStand.{GroupUses, OnceUses}
 
 -- what is so of the stage that is due, if one is
 abbrev pub OfDue : {G : Type 0} → (G → Type 0) → Option G → Type 0

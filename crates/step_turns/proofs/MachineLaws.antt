@@ -1,5 +1,5 @@
 -- What the laws of the machines say that the objects of a run are.
-use Rattle.std.proofs.Common.{◌≡◌, ℕ, ◌+◌, ◌<◌, ◌≤◌, ◌≢◌}
+use Rattle.std.proofs.Common.{◌≡◌, ℕ, ◌+◌, ◌<◌, ◌≤◌}
 use Rattle.std.specs.Prelude.{ℤ, IsTrue, length}
 use Rattle.mutex_core.specs.MutexMachine as mutex
 use Rattle.mutex_core.specs.EventsLeft as mutex_left
@@ -10,20 +10,15 @@ use Rattle.rw_core.specs.EventsLeft as rw_left
 use Rattle.rw_core.specs.declared.event.RwEvent.{RwEvent}
 use Rattle.rw_core.specs.Standing as rw_standing
 use Rattle.wait_cores.specs.NotifyEventsLeft.{notify_left, notify_used, notify_given}
-use Rattle.wait_cores.specs.GroupEventsLeft.{group_left, group_used, group_given}
-use Rattle.wait_cores.specs.OnceEventsLeft.{once_left, once_used, once_given}
-use Rattle.wait_cores.specs.GroupStanding as group_standing
-use Rattle.wait_cores.specs.OnceStanding as once_standing
 use Rattle.wait_cores.specs.NotifyMachine as notify
 use Rattle.wait_cores.specs.GroupMachine as group
 use Rattle.wait_cores.specs.OnceMachine as once
 use Rattle.pool_core.specs.PoolMachine as pool
 use Rattle.wait_cores.specs.declared.notify.NotifyEvent.{NotifyEvent}
 use Rattle.wait_cores.specs.declared.group.GroupEvent.{GroupEvent}
-use Rattle.wait_cores.specs.declared.group.GroupReply.TheVariants as group_reply
 use Rattle.wait_cores.specs.declared.once.OnceEvent.{OnceEvent}
-use Rattle.wait_cores.specs.declared.once.OnceReply.TheVariants as once_reply
 use Rattle.pool_core.specs.declared.pool_event.PoolEvent.{PoolEvent}
+use Rattle.step_turns.specs.MachinesStand.{GroupUses, OnceUses}
 
 -- ---- their states stay valid, and their callers the same
 
@@ -63,16 +58,6 @@ pub record RwUses : Type 0 where
 abbrev pub NotifyUses : Type 0
 NotifyUses = (s : notify.NotifyState) (c : ℕ) (e : NotifyEvent) → c < notify.callers_of s
     → notify_left (notify.next s c e).0 + notify_used (notify.place_of s c) e ≤ notify_left s + notify_given e
-
-pub record GroupUses : Type 0 where
-  pub answers : (g : group.GroupState) (c : ℕ) (e : GroupEvent) → c < group.callers_of g → IsTrue (group_standing.answers (group_standing.waits_at g c) e (group.next g c e).1)
-  pub made : (g : group.GroupState) (c : ℕ) (e : GroupEvent) → IsTrue (group_standing.may_make g c e) → (group.next g c e).1 ≢ group_reply.Still
-  pub used : (g : group.GroupState) (c : ℕ) (e : GroupEvent) → group_left (group.next g c e).0 + group_used (group.next g c e).1 ≤ group_left g + group_given e (group.next g c e).1
-
-pub record OnceUses (T : Type 0) : Type 0 where
-  pub answers : (o : once.OnceState T) (c : ℕ) (e : OnceEvent T) → c < once.callers_of o → IsTrue (once_standing.answers (once_standing.waits_at o c) (once_standing.runs_at o c) e (once.next o c e).1)
-  pub made : (o : once.OnceState T) (c : ℕ) (e : OnceEvent T) → IsTrue (once_standing.may_make o c e) → (once.next o c e).1 ≢ once_reply.Still
-  pub used : (o : once.OnceState T) (c : ℕ) (e : OnceEvent T) → once_left (once.next o c e).0 + once_used (once.next o c e).1 ≤ once_left o + once_given (once.next o c e).1
 
 pub record Uses : Type 0 where
   pub mutexes : MutexUses

@@ -80,7 +80,8 @@ use Rattle.step_turns.specs.Turns.{once_made, number_after, cond_turn, turn_on, 
 use Rattle.step_turns.proofs.AtObjects.{at_ready}
 use Rattle.step_turns.proofs.CompletesLemmas.{pool_completes}
 use Rattle.step_turns.proofs.DueLemmas.{OfDue, each_due, OnceAnswer, mutex_answer, mutex_answers, rw_answers, group_answers, once_answers}
-use Rattle.step_turns.proofs.MachineLaws.{MutexUses, RwUses, OnceUses, Uses}
+use Rattle.step_turns.specs.MachinesStand.{OnceUses}
+use Rattle.step_turns.proofs.MachineLaws.{MutexUses, RwUses, Uses}
 use Rattle.step_turns.proofs.Makes.{make_by}
 use Rattle.step_turns.proofs.OthersStand.{no}
 use Rattle.step_turns.proofs.Writes.{set_back, get_other}

@@ -1,6 +1,6 @@
 -- What the laws of the machines say of where callers stand; and another's turn leaves a worker out.
 use Rattle.std.proofs.Common.{◌≡◌, ◌≢◌, ℕ, Bool, true, false, List, Option, refl, sym, ◌∙◌, subst}
-use Rattle.std.specs.Prelude.{ℤ, IsTrue, IsFalse}
+use Rattle.std.specs.Prelude.{ℤ}
 use Rattle.std.specs.FinMap.{FinMap}
 use Rattle.std.specs.Ordering.{nat_cmp}
 use Rattle.std.specs.Cmp.Lexicographic.{slice_cmp}
@@ -15,13 +15,10 @@ use Rattle.sync_types.specs.declared.call.Operation.TheVariants as operations
 use Rattle.sync_types.specs.declared.map_object.MapCall.{MapCall}
 use Rattle.mutex_core.specs.MutexMachine as mutex
 use Rattle.mutex_core.specs.Moves as mutex_moves
-use Rattle.mutex_core.specs.Standing as mutex_standing
 use Rattle.mutex_core.specs.declared.event.MutexEvent.{MutexEvent}
-use Rattle.mutex_core.specs.declared.event.MutexEvent.TheVariants as mutex_event
 use Rattle.mutex_core.specs.declared.place.Place.TheVariants as mutex_place
 use Rattle.rw_core.specs.RwMachine as rw
 use Rattle.rw_core.specs.Moves as rw_moves
-use Rattle.rw_core.specs.Standing as rw_standing
 use Rattle.rw_core.specs.declared.event.RwEvent.{RwEvent}
 use Rattle.rw_core.specs.declared.event.RwEvent.TheVariants as rw_event
 use Rattle.rw_core.specs.declared.place.Place.{Place as RwPlace}
@@ -38,20 +35,10 @@ use Rattle.step_turns.specs.Objects.{IsMachineOf}
 use Rattle.step_turns.specs.Stages.{make}
 use Rattle.step_turns.specs.Stands.{IsOutAt}
 use Rattle.step_turns.specs.Turns.{turn_on, turn_on_both}
+use Rattle.step_turns.specs.MachinesStand.{MutexStands, RwStands}
 use Rattle.step_turns.proofs.Makes.{make_moves}
 
 -- ---- what the laws of the machines say
-
-pub record MutexStands : Type 0 where
-  pub moved : (m : mutex.State) (x by : ℕ) (e : MutexEvent) → mutex.IsValid m → mutex.place_of (mutex.next m by e).0 x ≡ mutex_moves.place_after x by (mutex.place_of m x) (mutex.next m by e).1
-  pub told : (m : mutex.State) (x by : ℕ) (e : MutexEvent) → mutex.IsValid m → IsTrue (mutex_moves.tells x (mutex.next m by e).1) → (e ≡ mutex_event.Unlock) × (mutex.place_of m x ≡ mutex_place.Waiting)
-  pub unmoved : (m : mutex.State) (x by : ℕ) (e : MutexEvent) → mutex.IsValid m → x ≢ by → IsFalse (mutex_moves.tells x (mutex.next m by e).1) → mutex.place_of (mutex.next m by e).0 x ≡ mutex.place_of m x
-  pub answered : (m : mutex.State) (c : ℕ) (e : MutexEvent) → IsTrue (mutex.may_make m c e) → IsTrue (mutex_standing.is_answer e (mutex.next m c e).1)
-
-pub record RwStands : Type 0 where
-  pub others : (m : rw.State) (x by : ℕ) (e : RwEvent) → rw.IsValid m → x ≢ by → rw_moves.MovesOther e (rw.place_of m x) (rw.place_of (rw.next m by e).0 x)
-  pub own : (m : rw.State) (c : ℕ) (e : RwEvent) → rw.IsValid m → rw_moves.MovesOwn (rw.next m c e).1 (rw.place_of m c) (rw.place_of (rw.next m c e).0 c)
-  pub answered : (m : rw.State) (c : ℕ) (e : RwEvent) → IsTrue (rw.may_make m c e) → IsTrue (rw_standing.is_answer e (rw.next m c e).1)
 
 pub record Forms : Type 0 where
   pub map : (call : MapCall (List ℕ)) (m : FinMap (slice_cmp nat_cmp) ℕ) → map_form call (map_reply call m) ≡ true

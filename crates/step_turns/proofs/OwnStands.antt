@@ -72,7 +72,8 @@ use Rattle.step_turns.specs.Stands.{may_wait, IsOutAt}
 use Rattle.step_turns.specs.Turns.{turned, once_made, cond_turn, turn_on, turn_on_both}
 use Rattle.step_turns.proofs.DueLemmas.{OfDue, both_due, mutex_answer, mutex_answers, rw_answers}
 use Rattle.step_turns.proofs.Makes.{make_by, step_answer, make_answer, found_answer}
-use Rattle.step_turns.proofs.OthersStand.{MutexStands, RwStands, Stands, no, untold}
+use Rattle.step_turns.specs.MachinesStand.{MutexStands, RwStands}
+use Rattle.step_turns.proofs.OthersStand.{Stands, no, untold}
 
 -- ---- a worker's own turn
 

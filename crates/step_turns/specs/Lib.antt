@@ -4,6 +4,7 @@ pub mod ComesTo
 pub mod Completes
 pub mod Due
 pub mod Items
+pub mod MachinesStand
 pub mod MapKeys
 pub mod ObjectLeft
 pub mod Objects

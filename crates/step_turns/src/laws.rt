@@ -6,6 +6,7 @@ ghost use Rattle.pool_core.specs.declared.pool_event.PoolEvent.{PoolEvent};
 ghost use Rattle.pool_core.specs.declared.pool_event.PoolReply.{PoolReply};
 ghost use Rattle.workload.specs.declared.object.ObjectKind.{ObjectKind};
 ghost use Rattle.workload.specs.Draft.{keys_of, distinct_count};
+ghost use Rattle.step_turns.specs.MachinesStand.{MachinesStand};
 ghost use Rattle.step_turns.specs.declared.object_state.ObjectState.{ObjectState};
 ghost use Rattle.step_turns.specs.declared.object_state.ObjectState.TheVariants as states;
 ghost use Rattle.step_turns.specs.AtomicRange.{IsInRange};
@@ -45,18 +46,19 @@ pub fn turns_keep_kinds_and_machines()
     pool_core::laws::keeps_its_parts();
 }
 
-/// A turn without an event changes no object. One that completes its call raises what is left to do at the
-/// objects by less than 4, and one after which the call has not returned lowers it. Of a misuse nothing is
-/// said.
-pub fn turns_use_something_up()
-    ensures { (workers worker moment : ℕ) (call : Call) (objects : List ObjectState) → IsReady workers worker call objects
-        → UsesBy (sum_by object_left objects) (sum_by object_left (turn_at call worker moment objects).0) ((turn_at call worker moment objects).0 ≡ objects) (turn_at call worker moment objects).1 }
+/// What the laws of the machines say of where callers stand, what they are answered, and what the events of wait groups and
+/// onces use up: `MachinesStand` has them together.
+pub fn machines_tell_where_callers_stand()
+    ensures { MachinesStand }
 {
+    mutex_core::laws::moves();
     mutex_core::laws::standing();
-    mutex_core::laws::events_are_used_up();
+    rw_core::laws::moves();
     rw_core::laws::standing();
-    rw_core::laws::events_are_used_up();
-    wait_cores::laws::notify::events_are_used_up();
+    rw_core::laws::still();
+    wait_cores::laws::notify::answers_its_callers();
+    wait_cores::laws::notify::knows_where_it_stands();
+    wait_cores::laws::notify::still();
     wait_cores::laws::group::knows_where_it_stands();
     wait_cores::laws::group::still();
     wait_cores::laws::group::events_are_used_up();
@@ -66,6 +68,19 @@ pub fn turns_use_something_up()
     wait_cores::laws::once::knows_where_it_stands::<u64>();
     wait_cores::laws::once::still::<u64>();
     wait_cores::laws::once::events_are_used_up::<u64>();
+}
+
+/// A turn without an event changes no object. One that completes its call raises what is left to do at the
+/// objects by less than 4, and one after which the call has not returned lowers it. Of a misuse nothing is
+/// said.
+pub fn turns_use_something_up()
+    ensures { (workers worker moment : ℕ) (call : Call) (objects : List ObjectState) → IsReady workers worker call objects
+        → UsesBy (sum_by object_left objects) (sum_by object_left (turn_at call worker moment objects).0) ((turn_at call worker moment objects).0 ≡ objects) (turn_at call worker moment objects).1 }
+{
+    machines_tell_where_callers_stand();
+    mutex_core::laws::events_are_used_up();
+    rw_core::laws::events_are_used_up();
+    wait_cores::laws::notify::events_are_used_up();
 }
 
 /// A turn on a map, an atomic or a pool that has the call completes it.
@@ -85,10 +100,7 @@ pub fn workers_stand_in_their_calls()
     ensures forms { (workers worker moment : ℕ) (call : Call) (objects : List ObjectState) → IsReady workers worker call objects → IsOutBut (waits_at (map kind_of objects) call) worker objects
         → HasForm call.operation (turn_at call worker moment objects).1 }
 {
-    mutex_core::laws::moves();
-    mutex_core::laws::standing();
-    rw_core::laws::moves();
-    rw_core::laws::standing();
+    machines_tell_where_callers_stand();
     replies_have_their_form::<Name, u32>();
 }
 
@@ -134,21 +146,7 @@ pub fn few_turns_are_left_of_a_call()
         → is_told (map kind_of objects) own worker objects ≡ false → is_told (map kind_of objects) own worker (turn_at call other moment objects).0 ≡ true → unlocks (items_at call other moment objects) ≡ true }
     ensures untold { (worker : ℕ) (object : ObjectState) → IsOutAt worker object → told_at worker object ≡ false }
 {
-    mutex_core::laws::moves();
-    mutex_core::laws::standing();
-    rw_core::laws::moves();
-    rw_core::laws::standing();
-    wait_cores::laws::notify::answers_its_callers();
-    wait_cores::laws::notify::knows_where_it_stands();
-    wait_cores::laws::group::knows_where_it_stands();
-    wait_cores::laws::group::still();
-    wait_cores::laws::group::events_are_used_up();
-    wait_cores::laws::once::knows_where_it_stands::<i64>();
-    wait_cores::laws::once::still::<i64>();
-    wait_cores::laws::once::events_are_used_up::<i64>();
-    wait_cores::laws::once::knows_where_it_stands::<u64>();
-    wait_cores::laws::once::still::<u64>();
-    wait_cores::laws::once::events_are_used_up::<u64>();
+    machines_tell_where_callers_stand();
 }
 
 /// The items that a turn makes on an object lead from what it was to what it is behind the turn: a machine follows them, and a

@@ -10,3 +10,4 @@ pub mod SharedCallers
 pub mod SharedEntries
 pub mod SharedUses
 pub mod MapValues
+mod EndNames

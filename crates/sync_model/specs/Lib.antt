@@ -1,4 +1,5 @@
 pub mod Callers
+pub mod EndsByName
 pub mod EndsOfHistory
 pub mod Front
 pub mod Journal

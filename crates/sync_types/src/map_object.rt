@@ -63,7 +63,7 @@ pub enum MapReply {
 }
 
 /// What `LoadOrStore` answers of a key where this was the value before.
-fn settled(before: Option<u64>, value: u64) -> MapReply
+pub fn settled(before: Option<u64>, value: u64) -> MapReply
     ensures { result ≡ settled before value }
 {
     match before {

@@ -1,3 +1,2 @@
 pub mod EndWords
 pub mod EndContents
-pub mod EndLists

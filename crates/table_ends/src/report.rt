@@ -3,7 +3,7 @@ ghost use Rattle.std.specs.Prelude.{◌≡◌, ◌+◌, ◌*◌, ◌<◌, ◌≤
 ghost use Rattle.sync_types.specs.Ends.{number_end};
 ghost use Rattle.sync_model.specs.SharedHistory.{map_at};
 ghost use Rattle.table_ends.specs.EndContents.{contents_of};
-ghost use Rattle.table_ends.specs.EndLists.{ends_by, pair_ends_by};
+ghost use Rattle.sync_model.specs.EndsOfHistory.{ends_by, pair_ends_by};
 
 use crate::ended::TableEnds;
 use sync_types::End;

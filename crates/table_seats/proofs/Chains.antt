@@ -6,11 +6,11 @@ use lib.ListN.{get_elem?}
 use Rattle.sync_model.specs.declared.item.SharedEntry.{SharedEntry}
 use Rattle.sync_types.specs.declared.map_object.MapCall.{MapCall}
 use Rattle.sync_model.specs.SharedHistory.{value_at, contents_after}
-use Rattle.table_seats.specs.declared.begin.Begin.{Begin}
-use Rattle.table_seats.specs.declared.view.Lock.{Lock}
-use Rattle.table_seats.specs.declared.view.Own.{Own}
-use Rattle.table_seats.specs.declared.view.View.{View}
-use Rattle.table_seats.specs.KeyCalls.{is_key_entry, key_after}
+use Rattle.table_rule.specs.declared.begin.Begin.{Begin}
+use Rattle.table_rule.specs.declared.view.Lock.{Lock}
+use Rattle.table_rule.specs.declared.view.Own.{Own}
+use Rattle.table_rule.specs.declared.view.View.{View}
+use Rattle.sync_types.specs.KeyCalls.{is_key_entry, key_after}
 use Rattle.table_seats.specs.Laws.{HistoryLaws}
 use Rattle.trie_nodes.specs.declared.plan.Expansion.{Expansion}
 use Rattle.trie_nodes.specs.declared.slot.Slot.{Slot}
@@ -20,9 +20,9 @@ use Rattle.trie_nodes.specs.Nodes.{Shows, entry_value}
 use Rattle.trie_nodes.specs.Paths.{nibble, route}
 use Rattle.trie_nodes.specs.Plans.{one_slot, place_before, last_slots, IsNewNode, IsChainAt, IsExpansion}
 use Rattle.trie_nodes.specs.Slots.{word_of_slot, slot_in}
-use Rattle.table_seats.specs.Owed.{Locks}
-use Rattle.table_seats.specs.Rule.{TableState, Kept}
-use Rattle.table_seats.specs.Shape.{Shape, start_of, held_at, time, IsBelow, ShowsAt, Fine}
+use Rattle.table_rule.specs.Owed.{Locks}
+use Rattle.table_rule.specs.Rule.{TableState, Kept}
+use Rattle.table_rule.specs.Shape.{Shape, start_of, held_at, time, IsBelow, ShowsAt, Fine}
 use Rattle.table_seats.specs.TrieLaws.{TrieLaws}
 use Rattle.table_seats.specs.Units.{link_at, with_unit, link_slots, link_word, unit_word}
 use Rattle.table_seats.proofs.KeyCalls.{IsOn, ChangesKey}

@@ -17,21 +17,21 @@ use Rattle.sync_model.specs.Journal.{Begins}
 use Rattle.sync_model.specs.SharedCalls.{Grows}
 use Rattle.sync_model.specs.SharedHistory.{Contents, value_at, contents_after, with_call}
 use Rattle.sync_model.specs.Shared.{Called}
-use Rattle.table_seats.specs.declared.begin.Begin.{Begin}
-use Rattle.table_seats.specs.declared.view.Gate.TheVariants.{Inside, Closed}
-use Rattle.table_seats.specs.declared.view.Own.{Own}
-use Rattle.table_seats.specs.declared.view.View.{View}
+use Rattle.table_rule.specs.declared.begin.Begin.{Begin}
+use Rattle.table_rule.specs.declared.view.Gate.TheVariants.{Inside, Closed}
+use Rattle.table_rule.specs.declared.view.Own.{Own}
+use Rattle.table_rule.specs.declared.view.View.{View}
 use Rattle.table_seats.specs.Clearing.{HasClosed, Clears}
-use Rattle.table_seats.specs.Keys.{HasKeysBelow}
+use Rattle.sync_model.specs.EndsOfHistory.{HasKeysBelow}
 use Rattle.table_seats.specs.Laws.{HistoryLaws}
 use Rattle.trie_nodes.specs.Layout.{unit_words}
-use Rattle.table_seats.specs.Layout.{root_word, callers_of}
-use Rattle.table_seats.specs.Ledger.{Owned, Fits}
+use Rattle.table_rule.specs.Layout.{root_word, callers_of}
+use Rattle.table_rule.specs.Ledger.{Owned, Fits}
 use Rattle.table_seats.specs.Making.{HasUnit, Made}
-use Rattle.table_seats.specs.Owed.{HasRoom, AtGate, Suits}
-use Rattle.table_seats.specs.Rule.{TableState, Kept}
-use Rattle.table_seats.specs.Shape.{Shape, start_of}
-use Rattle.table_seats.specs.Views.{called_view, with_item, spend, spend_own, view_state}
+use Rattle.table_rule.specs.Owed.{HasRoom, AtGate, Suits}
+use Rattle.table_rule.specs.Rule.{TableState, Kept}
+use Rattle.table_rule.specs.Shape.{Shape, start_of}
+use Rattle.table_rule.specs.Views.{called_view, with_item, spend, spend_own, view_state}
 use Rattle.table_seats.proofs.Closing.{at_gate, not_inside}
 use Rattle.table_seats.proofs.Frames.{Later, Apart, room_on}
 use Rattle.table_seats.proofs.Ledgers.{longer, MayPlace, with_one, adds_one, lawful_after, history_on, grows_on, none_after, fits_after, called, first, contents_on}

@@ -1,6 +1,6 @@
 -- A seat closes a map's gate, sees that no writer is inside, and opens the gate. The gate's word says whether it is closed.
 use Rattle.std.proofs.Common.{◌≡◌, ◌≢◌, ℕ, zero, suc, ◌+◌, ◌*◌, ◌^◌, ◌<◌, ◌≤◌, ◌==◌, eq-eqb, Bool, true, false, cond, List, [], ◌∷◌, length, set, None, Some, slice_get, slice_index, inl, inr, refl, sym, ap, ◌∙◌, subst, arith, get_or-set_same}
-use Rattle.std.proofs.lemmas.Bool.{cases_eq, eqb-true, lt-ltb}
+use Rattle.std.proofs.lemmas.Bool.{cases_eq, eqb-true}
 use Rattle.std.proofs.lemmas.List.{set-get_or}
 use Rattle.std.proofs.lemmas.Option.{none-some}
 use mathlib.Core.Option.{some}
@@ -8,23 +8,23 @@ use lib.ListN.{get_elem?}
 use prog.Atomic.{either}
 use Rattle.atomic_table.specs.Table.{Me, Act, keeps, Valid, stepped, carried_after, Allows}
 use Rattle.sync_model.specs.declared.item.SharedEntry.{SharedEntry}
-use Rattle.table_seats.specs.declared.begin.Begin.{Begin}
-use Rattle.table_seats.specs.declared.view.Gate.{Gate}
-use Rattle.table_seats.specs.declared.view.Gate.TheVariants.{Outside, Inside, Closed}
-use Rattle.table_seats.specs.declared.view.Own.{Own}
-use Rattle.table_seats.specs.declared.view.View.{View}
-use Rattle.table_seats.specs.Clearing.{HasClosed, TriedClose, Closes, SeesAlone, LooksInside}
-use Rattle.table_seats.specs.Gates.{count_below, closed_bit, Gated}
+use Rattle.table_rule.specs.declared.begin.Begin.{Begin}
+use Rattle.table_rule.specs.declared.view.Gate.{Gate}
+use Rattle.table_rule.specs.declared.view.Gate.TheVariants.{Outside, Inside, Closed}
+use Rattle.table_rule.specs.declared.view.Own.{Own}
+use Rattle.table_rule.specs.declared.view.View.{View}
+use Rattle.table_seats.specs.Clearing.{HasClosed, Closes, SeesAlone, LooksInside}
+use Rattle.table_rule.specs.Gates.{count_below, closed_bit, Gated}
 use Rattle.table_seats.specs.Laws.{HistoryLaws}
 use Rattle.trie_nodes.specs.Layout.{unit_words}
-use Rattle.table_seats.specs.Layout.{root_word, gate_word, heads, callers_of, size_of}
-use Rattle.table_seats.specs.Owed.{AtGate}
-use Rattle.table_seats.specs.Rule.{TableState, Kept}
-use Rattle.table_seats.specs.Shape.{Shape, Fine}
+use Rattle.table_rule.specs.Layout.{root_word, gate_word, heads, callers_of, size_of}
+use Rattle.table_rule.specs.Owed.{AtGate}
+use Rattle.table_rule.specs.Rule.{TableState, Kept}
+use Rattle.table_rule.specs.Shape.{Shape, Fine}
 use Rattle.table_seats.specs.Walking.{IsFree}
 use Rattle.table_seats.specs.Writing.{holding, GoesOut}
 use Rattle.table_seats.proofs.Frames.{Later, Apart}
-use Rattle.table_seats.proofs.Gating.{free, behind, no_root, no_gate, gate_within}
+use Rattle.table_seats.proofs.Gating.{free, behind, no_root, no_gate, gate_within, closed_large, open_at, tries}
 use Rattle.table_seats.proofs.Outside.{same, later_out, apart_out, fine_out}
 use Rattle.table_seats.proofs.Quiet.{later_same, apart_same, kept_standing}
 use Rattle.table_seats.proofs.Still.{still, fits_holding, suits_holding}
@@ -114,9 +114,6 @@ count_none : (f : ℕ → Bool) (n : ℕ) → ((c : ℕ) → f c ≡ false) → 
 count_none f zero none_in = refl
 count_none f (suc n) none_in = ap (λ b. cond b (suc (count_below f n)) (count_below f n)) (none_in n) ∙ count_none f n none_in
 
-closed_large : (closer : ℕ) → 0 < closer → closed_bit closer ≡ 2 ^ 32
-closed_large closer stands = ap (λ b. cond b (2 ^ 32) 0) (lt-ltb 0 closer stands)
-
 -- a seat none of whose callers is a writer closes a gate, or opens it
 module _ (k : Begin) (laws : HistoryLaws) (s : TableState) (r : Kept k s) (id : ℕ) (v : View) (at_me : get_elem? s.views id ≡ some v) (live : v.live ≡ true) (own : Own) (owns : List Own) (is : v.owns ≡ own ∷ owns)
     (nowhere : v.walk ≡ None) (out : (n i : ℕ) (o : Own) → slice_get v.owns i ≡ Some o → r.shape.inside n (v.number + i) ≡ true → ⊥) (m : ℕ) (below : m < k.maps) (who x : ℕ) (gate : Gate) where
@@ -172,14 +169,7 @@ module _ (k : Begin) (laws : HistoryLaws) (s : TableState) (r : Kept k s) (id : 
 module _ (k : Begin) (laws : HistoryLaws) (s : TableState) (r : Kept k s) (id : ℕ) (me : Me (Unit {0}) View) (at_me : get_elem? s.views id ≡ some me.0) (outside : IsFree k me) (own : Own) (owns : List Own) (is : me.0.owns ≡ own ∷ owns)
     (m : ℕ) (below : m < k.maps) (old : ℕ) (found : slice_index s.words (gate_word k m) ≡ old) (small : old < 2 ^ 32) where
   open_now : r.shape.closed_by m ≡ 0
-  open_now = by_closer (r.shape.closed_by m) refl
-    where
-      by_closer : (closer : ℕ) → r.shape.closed_by m ≡ closer → closer ≡ 0
-      by_closer zero e = refl
-      by_closer (suc d) e =
-          let word = (r.gates m below).word in
-          let bit : closed_bit (r.shape.closed_by m) ≡ 2 ^ 32 = closed_large (r.shape.closed_by m) (omega arith) in
-          absurd (omega arith)
+  open_now = open_at k s r m below (let e = found in omega arith)
 
   out : (n i : ℕ) (o : Own) → slice_get me.0.owns i ≡ Some o → r.shape.inside n (me.0.number + i) ≡ true → ⊥
   out n i o at is_in = let gate = (r.suits id me.0 at_me outside.live).only n i o at is_in in let same_gate : Outside ≡ Inside n = sym outside.idle.gate ∙ gate in (cc)
@@ -200,30 +190,7 @@ module _ (k : Begin) (laws : HistoryLaws) (s : TableState) (r : Kept k s) (id : 
       (below, closer_here r.shape.closed_by m (suc me.0.number), λ e. absurd (let f : false ≡ true = e in (cc)))
 
 pub closes : (k : Begin) → HistoryLaws → (id : ℕ) (me : Me (Unit {0}) View) (m old : ℕ) → IsFree k me → m < k.maps → old < 2 ^ 32 → Allows (Kept k) 0 id me (gate_word k m) (λ n. either (n == old) (old + 2 ^ 32) n) (Closes m old me)
-closes k laws id me m old outside below small = by_owns me.0.owns refl
-  where
-    by_owns : (owns : List Own) → me.0.owns ≡ owns → Allows (Kept k) 0 id me (gate_word k m) (λ n. either (n == old) (old + 2 ^ 32) n) (Closes m old me)
-    by_owns [] e = let none_there = ap length e in let stands = outside.some in absurd (omega arith)
-    by_owns (own ∷ owns) is = λ s r one at_me bounded. by_found s r at_me (slice_index s.words (gate_word k m) == old) refl
-      where
-        Told : TableState → Bool → Type 0
-        Told s b = (u : View) × (a : Act (Unit {0})) × Valid s.homes me.1 a × Kept k (stepped s (gate_word k m) (either b (old + 2 ^ 32) (slice_index s.words (gate_word k m))) id me.1 u a) × TriedClose m b me (u, carried_after me.1 a)
-
-        by_found : (s : TableState) (r : Kept k s) → get_elem? s.views id ≡ some me.0 → (b : Bool) → (slice_index s.words (gate_word k m) == old) ≡ b → Told s b
-        by_found s r at_me true e = (
-          holding me.0 (Closed m false) None None,
-          keeps,
-          tt,
-          kept_closed k laws s r id me at_me outside own owns is m below old (eqb-true (slice_index s.words (gate_word k m)) old e) small,
-          (refl, refl),
-        )
-        by_found s r at_me false e = let u = r.suits id me.0 at_me outside.live in (
-          me.0,
-          keeps,
-          tt,
-          subst (λ ws. Kept k record { words = ws; homes = s.homes; views = set s.views id me.0 }) (sym (set-get_or s.words (gate_word k m) 0)) (kept_standing k s r id me.0 at_me outside.live me.0.walk me.0.leaf u.walk u.steady u.leaf),
-          (refl, refl),
-        )
+closes k laws id me m old outside below small = tries k id me m old (old + 2 ^ 32) (holding me.0 (Closed m false) None None) outside (λ own owns is s r at_me found. kept_closed k laws s r id me at_me outside own owns is m below old found small)
 
 -- a seat that has closed the gate
 module _ (k : Begin) (laws : HistoryLaws) (s : TableState) (r : Kept k s) (id : ℕ) (me : Me (Unit {0}) View) (at_me : get_elem? s.views id ≡ some me.0) (own : Own) (owns : List Own) (is : me.0.owns ≡ own ∷ owns)

@@ -1,16 +1,16 @@
 -- A table's own seats may make the steps of a cursor.
-use Rattle.std.proofs.Common.{◌≡◌, ℕ, ◌+◌, ◌*◌, ◌<◌, ◌≤◌, true, List, [], ◌∷◌, ◌++◌, length, sym, ap, subst, arith}
+use Rattle.std.proofs.Common.{◌≡◌, ℕ, ◌+◌, ◌<◌, ◌≤◌, true, List, [], ◌∷◌, ◌++◌, length, sym, subst, arith}
 use Rattle.atomic_table.specs.Table.{Me, Allows}
-use Rattle.table_seats.specs.declared.begin.Begin.{Begin}
+use Rattle.table_rule.specs.declared.begin.Begin.{Begin}
 use Rattle.table_seats.specs.declared.words.TableWords.{TableWords}
-use Rattle.table_seats.specs.declared.view.Spot.{Spot}
-use Rattle.table_seats.specs.declared.view.View.{View}
+use Rattle.table_rule.specs.declared.view.Spot.{Spot}
+use Rattle.table_rule.specs.declared.view.View.{View}
 use Rattle.trie_nodes.specs.Layout.{slot_word}
 use Rattle.trie_nodes.specs.Slots.{slot_in}
 use Rattle.table_seats.specs.Cursors.{BeginsCursor, SweepsSlot, GoesUp, ShowsNone, Sweeping, StandsIn}
 use Rattle.table_seats.specs.Laws.{HistoryLaws}
-use Rattle.table_seats.specs.Layout.{root_word, size_of}
-use Rattle.table_seats.specs.Rule.{Kept}
+use Rattle.table_rule.specs.Layout.{root_word, size_of}
+use Rattle.table_rule.specs.Rule.{Kept}
 use Rattle.table_seats.specs.SweepLaws.{SweepLaws}
 use Rattle.table_seats.specs.Walking.{HasWords}
 use Rattle.table_seats.proofs.CursorSteps.{sweeps_slot, moves_up, shows_none}
@@ -38,8 +38,7 @@ module _ (table : TableWords) (laws : HistoryLaws) (sweep : SweepLaws) (id : ℕ
   pub may_show_none : (z : Spot) → Sweeping table.table.shared.key me z → z.slots ≡ 16 ∷ [] → May 0 (ShowsNone me)
   may_show_none z with_cursor ended = may 0 (ShowsNone me) (omega arith) (shows_none key laws sweep id me z 0 with_cursor ended)
 
-  pub may_begin : (m told word : ℕ) → me.0.live ≡ true → me.0.begin ≡ table.table.shared.key → 0 < length me.0.owns → m < table.table.shared.key.maps → told ≡ m → word ≡ 1 + length table.begin.kinds + 2 * m → May word (BeginsCursor told me)
+  pub may_begin : (m told word : ℕ) → me.0.live ≡ true → me.0.begin ≡ table.table.shared.key → 0 < length me.0.owns → m < table.table.shared.key.maps → told ≡ m → word ≡ root_word table.table.shared.key m → May word (BeginsCursor told me)
   may_begin m told word live begin some_owns below same is =
-      let kinds = ap (λ (b : Begin). length b.kinds) table.same in
-      let here : root_word key m ≡ word = omega arith in
+      let here = sym is in
       may word (BeginsCursor told me) (omega arith) (subst (λ (x : ℕ × ℕ). Allows (Kept key) 0 id me x.0 (λ n. n) (BeginsCursor x.1 me)) (λ i. (here i, sym same i)) (begins_cursor key laws sweep id me m live begin some_owns below))

@@ -23,12 +23,12 @@ use Rattle.trie_nodes.specs.Nodes.{slot_at, stands_for, Shows}
 use Rattle.trie_nodes.specs.Paths.{nibble, route}
 use Rattle.trie_nodes.specs.Walks.{ShowsMap, ArePairsOf}
 use Rattle.table_ends.specs.EndWords.{root_in, pairs_in, map_in, number_of, contents_in, IsTableRow}
-use Rattle.table_seats.specs.declared.begin.Begin.{Begin}
+use Rattle.table_rule.specs.declared.begin.Begin.{Begin}
 use Rattle.table_seats.specs.EndLaws.{EndLaws}
-use Rattle.table_seats.specs.Keys.{HasKeysBelow}
+use Rattle.sync_model.specs.EndsOfHistory.{HasKeysBelow}
 use Rattle.table_seats.specs.Laws.{HistoryLaws}
-use Rattle.table_seats.specs.Layout.{IsBegin}
-use Rattle.table_seats.specs.Shape.{Shape, start_of, held_at, till, time, IsBelow, Fine}
+use Rattle.table_rule.specs.Layout.{IsBegin}
+use Rattle.table_rule.specs.Shape.{Shape, start_of, held_at, till, time, IsBelow, Fine}
 use Rattle.table_seats.proofs.KeyBounds.{not_tied}
 use Rattle.table_seats.proofs.Lists.{item_there}
 

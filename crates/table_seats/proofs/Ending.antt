@@ -4,14 +4,14 @@ use mathlib.Core.Option.{some}
 use lib.ListN.{get_elem?}
 use Rattle.sync_model.specs.SharedHistory.{contents_after}
 use Rattle.table_ends.specs.EndWords.{contents_in}
-use Rattle.table_seats.specs.declared.begin.Begin.{Begin}
-use Rattle.table_seats.specs.declared.view.View.{View}
+use Rattle.table_rule.specs.declared.begin.Begin.{Begin}
+use Rattle.table_rule.specs.declared.view.View.{View}
 use Rattle.table_seats.specs.EndLaws.{EndLaws}
-use Rattle.table_seats.specs.Keys.{HasKeysBelow}
+use Rattle.sync_model.specs.EndsOfHistory.{HasKeysBelow}
 use Rattle.table_seats.specs.Laws.{HistoryLaws}
-use Rattle.table_seats.specs.Rule.{TableState, Kept}
+use Rattle.table_rule.specs.Rule.{TableState, Kept}
 use Rattle.table_seats.specs.Seats.{EndsAt}
-use Rattle.table_seats.specs.Shape.{start_of}
+use Rattle.table_rule.specs.Shape.{start_of}
 use Rattle.table_seats.proofs.EndRows.{contents_are}
 use Rattle.table_seats.proofs.Looking.{looked}
 

@@ -2,9 +2,9 @@
 use Rattle.std.proofs.Common.{◌≡◌, ◌≢◌, ℕ, ◌+◌, ◌<◌, List, length, replicate, set, slice_index, inl, inr, sym, ap, ◌∙◌, subst, arith, length-set, get_or-set_same, get_or-set_other}
 use Rattle.std.proofs.lemmas.Bool.{cases_eq}
 use Rattle.std.proofs.lemmas.List.{length-replicate}
-use Rattle.table_seats.specs.declared.begin.Begin.{Begin}
+use Rattle.table_rule.specs.declared.begin.Begin.{Begin}
 use Rattle.table_seats.specs.Blank.{IsBlank}
-use Rattle.table_seats.specs.Layout.{root_word, first_root, size_of}
+use Rattle.table_rule.specs.Layout.{root_word, first_root, size_of}
 use Rattle.table_seats.proofs.Opening.{same_for_all}
 
 -- the root words of the first n maps are written

@@ -6,21 +6,21 @@ use Rattle.sync_model.specs.declared.item.Item.{Item}
 use Rattle.sync_model.specs.Journal.{Begins}
 use Rattle.sync_model.specs.SharedHistory.{value_at}
 use Rattle.sync_model.specs.SharedCalls.{Grows}
-use Rattle.table_seats.specs.declared.begin.Begin.{Begin}
-use Rattle.table_seats.specs.declared.view.Own.{Own}
-use Rattle.table_seats.specs.declared.view.Walk.{Walk}
-use Rattle.table_seats.specs.declared.view.Leaf.{Leaf}
-use Rattle.table_seats.specs.declared.view.Lock.{Lock}
-use Rattle.table_seats.specs.declared.view.Spot.{Spot}
-use Rattle.table_seats.specs.declared.view.Gate.{Gate}
-use Rattle.table_seats.specs.declared.view.Gate.TheVariants.{Outside, Inside, Closed}
-use Rattle.table_seats.specs.declared.view.View.{View}
+use Rattle.table_rule.specs.declared.begin.Begin.{Begin}
+use Rattle.table_rule.specs.declared.view.Own.{Own}
+use Rattle.table_rule.specs.declared.view.Walk.{Walk}
+use Rattle.table_rule.specs.declared.view.Leaf.{Leaf}
+use Rattle.table_rule.specs.declared.view.Lock.{Lock}
+use Rattle.table_rule.specs.declared.view.Spot.{Spot}
+use Rattle.table_rule.specs.declared.view.Gate.{Gate}
+use Rattle.table_rule.specs.declared.view.Gate.TheVariants.{Outside, Inside, Closed}
+use Rattle.table_rule.specs.declared.view.View.{View}
 use Rattle.table_seats.specs.Laws.{HistoryLaws}
 use Rattle.trie_nodes.specs.Layout.{parent_word, slot_word, dead_word}
-use Rattle.table_seats.specs.Layout.{heads}
-use Rattle.table_seats.specs.Ledger.{Fits}
-use Rattle.table_seats.specs.Owed.{Walks, IsLeaf, Locks, HasRoom, Stands, AtGate, Suits}
-use Rattle.table_seats.specs.Shape.{Shape, start_of, held_at, till, time}
+use Rattle.table_rule.specs.Layout.{heads}
+use Rattle.table_rule.specs.Ledger.{Fits}
+use Rattle.table_rule.specs.Owed.{Walks, IsLeaf, Locks, HasRoom, Stands, AtGate, Suits}
+use Rattle.table_rule.specs.Shape.{Shape, start_of, held_at, till, time}
 
 -- The history and the shape go on: nodes and entries stay what they are, a node that was cut off stays so, and one that is cut off now is cut off no earlier than now.
 pub record Later (sh new : Shape) (log log' : List SharedEntry) (ws ws' : List ℕ) : Type 0 where

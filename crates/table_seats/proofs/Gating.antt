@@ -1,5 +1,5 @@
 -- A writer comes in by a map's gate, and goes out. The gate's word counts it.
-use Rattle.std.proofs.Common.{◌≡◌, ◌≢◌, ℕ, zero, suc, ◌+◌, ◌-◌, ◌*◌, ◌%◌, ◌^◌, ◌<◌, ◌≤◌, ◌==◌, eq-eqb, Bool, true, false, cond, List, [], ◌∷◌, length, set, Some, None, slice_get, slice_index, inl, inr, refl, sym, ap, ◌∙◌, subst, arith, get_or-set_same}
+use Rattle.std.proofs.Common.{◌≡◌, ◌≢◌, ℕ, zero, suc, ◌+◌, ◌-◌, ◌*◌, ◌%◌, ◌^◌, ◌<◌, ◌≤◌, ◌==◌, eq-eqb, Bool, true, false, cond, List, [], ◌∷◌, length, set, Some, None, slice_get, slice_index, inl, inr, refl, sym, ap, ◌∙◌, subst, arith, get_or-set_same, MatchBool}
 use Rattle.std.proofs.lemmas.Bool.{cases_eq, eqb-true, lt-ltb}
 use Rattle.std.proofs.lemmas.List.{set-get_or}
 use Rattle.std.proofs.lemmas.Option.{none-some, slice_get_within}
@@ -7,19 +7,19 @@ use mathlib.Core.Option.{some}
 use lib.ListN.{get_elem?}
 use prog.Atomic.{either}
 use Rattle.atomic_table.specs.Table.{Me, Act, keeps, Valid, stepped, carried_after, Allows}
-use Rattle.table_seats.specs.declared.begin.Begin.{Begin}
-use Rattle.table_seats.specs.declared.view.Gate.{Gate}
-use Rattle.table_seats.specs.declared.view.Gate.TheVariants.{Outside, Inside, Closed}
-use Rattle.table_seats.specs.declared.view.Own.{Own}
-use Rattle.table_seats.specs.declared.view.View.{View}
-use Rattle.table_seats.specs.Gates.{count_below, closed_bit, Gated}
+use Rattle.table_rule.specs.declared.begin.Begin.{Begin}
+use Rattle.table_rule.specs.declared.view.Gate.{Gate}
+use Rattle.table_rule.specs.declared.view.Gate.TheVariants.{Outside, Inside, Closed}
+use Rattle.table_rule.specs.declared.view.Own.{Own}
+use Rattle.table_rule.specs.declared.view.View.{View}
+use Rattle.table_rule.specs.Gates.{count_below, closed_bit, Gated}
 use Rattle.table_seats.specs.Laws.{HistoryLaws}
 use Rattle.trie_nodes.specs.Layout.{unit_words}
-use Rattle.table_seats.specs.Layout.{root_word, gate_word, callers_of, size_of}
-use Rattle.table_seats.specs.Owed.{AtGate}
-use Rattle.table_seats.specs.Rule.{TableState, Kept}
+use Rattle.table_rule.specs.Layout.{root_word, gate_word, callers_of, size_of}
+use Rattle.table_rule.specs.Owed.{AtGate}
+use Rattle.table_rule.specs.Rule.{TableState, Kept}
 use Rattle.table_seats.specs.Walking.{IsFree}
-use Rattle.table_seats.specs.Writing.{holding, CameIn, ComesIn, IsInside, GoesOut}
+use Rattle.table_seats.specs.Writing.{holding, ComesIn, IsInside, GoesOut}
 use Rattle.table_seats.proofs.Frames.{Later}
 use Rattle.table_seats.proofs.Outside.{with_inside, same, later_out, apart_out, fine_out}
 use Rattle.table_seats.proofs.Quiet.{kept_standing}
@@ -73,7 +73,7 @@ count_more f g c (suc n) others below was now = elim (cases_eq n c) [
     by_test false true e more = absurd (cc)
 
 -- the word of a gate that is closed is large
-closed_large : (closer : ℕ) → 0 < closer → closed_bit closer ≡ 2 ^ 32
+pub closed_large : (closer : ℕ) → 0 < closer → closed_bit closer ≡ 2 ^ 32
 closed_large closer stands = ap (λ b. cond b (2 ^ 32) 0) (lt-ltb 0 closer stands)
 
 -- a gate's word is part of nothing, and in no room
@@ -92,6 +92,40 @@ module _ (k : Begin) (s : TableState) (r : Kept k s) (m : ℕ) (below : m < k.ma
 
   pub gate_within : gate_word k m < length s.words
   gate_within = let wide = r.fine.wide in omega arith
+
+  -- a gate that isn't closed by its word is closed by nobody
+  pub open_at : slice_index s.words (gate_word k m) < 2 ^ 32 → r.shape.closed_by m ≡ 0
+  open_at small = by_closer (r.shape.closed_by m) refl
+    where
+      by_closer : (closer : ℕ) → r.shape.closed_by m ≡ closer → closer ≡ 0
+      by_closer zero e = refl
+      by_closer (suc d) e =
+          let word = (r.gates m below).word in
+          let bit : closed_bit (r.shape.closed_by m) ≡ 2 ^ 32 = closed_large (r.shape.closed_by m) (omega arith) in
+          absurd (omega arith)
+
+-- a seat outside tries to change a gate's word, and does where the word is still as it saw it
+pub tries : (k : Begin) (id : ℕ) (me : Me (Unit {0}) View) (m old new : ℕ) (then : View) → IsFree k me
+    → ((own : Own) (owns : List Own) → me.0.owns ≡ own ∷ owns → (s : TableState) (r : Kept k s) → get_elem? s.views id ≡ some me.0 → slice_index s.words (gate_word k m) ≡ old → Kept k record { words = set s.words (gate_word k m) new; homes = s.homes; views = set s.views id then })
+    → Allows (Kept k) 0 id me (gate_word k m) (λ n. either (n == old) new n) (λ found after. (after.1 ≡ me.1) × MatchBool (found == old) (after.0 ≡ then) (after.0 ≡ me.0))
+tries k id me m old new then outside changed = by_owns me.0.owns refl
+  where
+    by_owns : (owns : List Own) → me.0.owns ≡ owns → Allows (Kept k) 0 id me (gate_word k m) (λ n. either (n == old) new n) (λ found after. (after.1 ≡ me.1) × MatchBool (found == old) (after.0 ≡ then) (after.0 ≡ me.0))
+    by_owns [] e = let none_there = ap length e in let stands = outside.some in absurd (omega arith)
+    by_owns (own ∷ owns) is = λ s r one at_me bounded. by_found s r at_me (slice_index s.words (gate_word k m) == old) refl
+      where
+        Told : TableState → Bool → Type 0
+        Told s b = (u : View) × (a : Act (Unit {0})) × Valid s.homes me.1 a × Kept k (stepped s (gate_word k m) (either b new (slice_index s.words (gate_word k m))) id me.1 u a) × ((carried_after me.1 a ≡ me.1) × MatchBool b (u ≡ then) (u ≡ me.0))
+
+        by_found : (s : TableState) (r : Kept k s) → get_elem? s.views id ≡ some me.0 → (b : Bool) → (slice_index s.words (gate_word k m) == old) ≡ b → Told s b
+        by_found s r at_me true e = (then, keeps, tt, changed own owns is s r at_me (eqb-true (slice_index s.words (gate_word k m)) old e), (refl, refl))
+        by_found s r at_me false e = let u = r.suits id me.0 at_me outside.live in (
+          me.0,
+          keeps,
+          tt,
+          subst (λ ws. Kept k record { words = ws; homes = s.homes; views = set s.views id me.0 }) (sym (set-get_or s.words (gate_word k m) 0)) (kept_standing k s r id me.0 at_me outside.live me.0.walk me.0.leaf u.walk u.steady u.leaf),
+          (refl, refl),
+        )
 
 -- a seat outside comes in
 module _ (k : Begin) (laws : HistoryLaws) (s : TableState) (r : Kept k s) (id : ℕ) (me : Me (Unit {0}) View) (at_me : get_elem? s.views id ≡ some me.0) (outside : IsFree k me) (own : Own) (owns : List Own) (is : me.0.owns ≡ own ∷ owns)
@@ -119,14 +153,7 @@ module _ (k : Begin) (laws : HistoryLaws) (s : TableState) (r : Kept k s) (id : 
       by_test false e = refl
 
   open_now : r.shape.closed_by m ≡ 0
-  open_now = by_closer (r.shape.closed_by m) refl
-    where
-      by_closer : (closer : ℕ) → r.shape.closed_by m ≡ closer → closer ≡ 0
-      by_closer zero e = refl
-      by_closer (suc d) e =
-          let word = (r.gates m below).word in
-          let bit : closed_bit (r.shape.closed_by m) ≡ 2 ^ 32 = closed_large (r.shape.closed_by m) (omega arith) in
-          absurd (omega arith)
+  open_now = open_at k s r m below (let e = found in omega arith)
 
   counted : count_below (writers r.shape.inside m me.0.number true m) (callers_of k) ≡ suc (count_below (r.shape.inside m) (callers_of k))
   counted = count_more (r.shape.inside m) (writers r.shape.inside m me.0.number true m) me.0.number (callers_of k) (writer_other r.shape.inside m me.0.number true m) few (was_out m) (writer_here r.shape.inside m me.0.number true)
@@ -187,30 +214,7 @@ module _ (k : Begin) (laws : HistoryLaws) (s : TableState) (r : Kept k s) (id : 
       (λ e. absurd (let stands = outside.some in omega arith)))
 
 pub comes_in : (k : Begin) → HistoryLaws → (id : ℕ) (me : Me (Unit {0}) View) (m old : ℕ) → IsFree k me → m < k.maps → old < 2 ^ 32 → Allows (Kept k) 0 id me (gate_word k m) (λ n. either (n == old) (old + 1) n) (ComesIn m old me)
-comes_in k laws id me m old outside below small = by_owns me.0.owns refl
-  where
-    by_owns : (owns : List Own) → me.0.owns ≡ owns → Allows (Kept k) 0 id me (gate_word k m) (λ n. either (n == old) (old + 1) n) (ComesIn m old me)
-    by_owns [] e = let none_there = ap length e in let stands = outside.some in absurd (omega arith)
-    by_owns (own ∷ owns) is = λ s r one at_me bounded. by_found s r at_me (slice_index s.words (gate_word k m) == old) refl
-      where
-        Told : TableState → Bool → Type 0
-        Told s b = (u : View) × (a : Act (Unit {0})) × Valid s.homes me.1 a × Kept k (stepped s (gate_word k m) (either b (old + 1) (slice_index s.words (gate_word k m))) id me.1 u a) × CameIn m b me (u, carried_after me.1 a)
-
-        by_found : (s : TableState) (r : Kept k s) → get_elem? s.views id ≡ some me.0 → (b : Bool) → (slice_index s.words (gate_word k m) == old) ≡ b → Told s b
-        by_found s r at_me true e = (
-          holding me.0 (Inside m) None None,
-          keeps,
-          tt,
-          kept_inside k laws s r id me at_me outside own owns is m below old (eqb-true (slice_index s.words (gate_word k m)) old e) small,
-          (refl, refl),
-        )
-        by_found s r at_me false e = let u = r.suits id me.0 at_me outside.live in (
-          me.0,
-          keeps,
-          tt,
-          subst (λ ws. Kept k record { words = ws; homes = s.homes; views = set s.views id me.0 }) (sym (set-get_or s.words (gate_word k m) 0)) (kept_standing k s r id me.0 at_me outside.live me.0.walk me.0.leaf u.walk u.steady u.leaf),
-          (refl, refl),
-        )
+comes_in k laws id me m old outside below small = tries k id me m old (old + 1) (holding me.0 (Inside m) None None) outside (λ own owns is s r at_me found. kept_inside k laws s r id me at_me outside own owns is m below old found small)
 
 abbrev map_of_gate : Gate → ℕ
 map_of_gate Outside = 0

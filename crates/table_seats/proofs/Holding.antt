@@ -1,23 +1,24 @@
 -- The lock word of a node changes: another holds it, or nobody.
-use Rattle.std.proofs.Common.{◌≡◌, ◌≢◌, ℕ, suc, ◌+◌, ◌-◌, ◌^◌, ◌<◌, ◌≤◌, ◌==◌, eq-eqb, Bool, true, false, cond, List, [], set, Some, None, slice_index, inl, inr, refl, sym, ap, ◌∙◌, subst, arith, length-set, get_or-set_same, get_or-set_other}
+use Rattle.std.proofs.Common.{◌≡◌, ◌≢◌, ℕ, suc, ◌+◌, ◌-◌, ◌^◌, ◌<◌, ◌≤◌, ◌==◌, eq-eqb, Bool, true, false, cond, List, [], set, Some, None, slice_index, inl, inr, refl, sym, ap, ◌∙◌, subst, arith, length-set}
 use Rattle.std.proofs.lemmas.Bool.{cases_eq, eqb-true}
 use Rattle.std.proofs.lemmas.List.{append-nil}
 use Rattle.std.proofs.lemmas.Option.{none-some, slice_get_within}
 use Rattle.sync_model.specs.declared.item.SharedEntry.{SharedEntry}
 use Rattle.sync_model.specs.SharedHistory.{number_at, contents_after}
-use Rattle.table_seats.specs.declared.begin.Begin.{Begin}
+use Rattle.table_rule.specs.declared.begin.Begin.{Begin}
 use Rattle.trie_nodes.specs.declared.slot.Slot.{Slot}
 use Rattle.trie_nodes.specs.declared.slot.Slot.TheVariants.{Empty, Node, Entry}
 use Rattle.trie_nodes.specs.Layout.{atomic_word, parent_word, slot_word, dead_word}
 use Rattle.trie_nodes.specs.Nodes.{Shows}
 use Rattle.trie_nodes.specs.Paths.{nibble, route}
 use Rattle.trie_nodes.specs.Slots.{slot_in}
-use Rattle.table_seats.specs.declared.view.Own.{Own}
-use Rattle.table_seats.specs.Gates.{Gated}
-use Rattle.table_seats.specs.Layout.{root_word, gate_word, heads}
-use Rattle.table_seats.specs.Owed.{HasRoom}
-use Rattle.table_seats.specs.Shape.{Shape, start_of, held_at, time, IsNumber, IsBelow, ShowsAt, Fine}
+use Rattle.table_rule.specs.declared.view.Own.{Own}
+use Rattle.table_rule.specs.Gates.{Gated}
+use Rattle.table_rule.specs.Layout.{root_word, gate_word, heads}
+use Rattle.table_rule.specs.Owed.{HasRoom}
+use Rattle.table_rule.specs.Shape.{Shape, start_of, held_at, time, IsNumber, IsBelow, ShowsAt, Fine}
 use Rattle.table_seats.proofs.Frames.{Later, Apart}
+use Rattle.table_seats.proofs.NodeWords as words
 use Rattle.table_seats.proofs.Outside.{nibble_below}
 
 -- the same shape, with another holder of a node's lock
@@ -36,39 +37,37 @@ other_holder sh node holder p ne = by_test (p == node) refl
 
 module _ (k : Begin) (sh : Shape) (log : List SharedEntry) (ws : List ℕ) (node x holder : ℕ) (fine : Fine k sh log ws) (is_node : sh.kind_of node ≡ 1) (holds : x ≢ dead_word → holder ≡ x)
     (empty : x ≡ dead_word → (i : ℕ) → i < 16 → slice_index ws (slot_word node i) ≡ 0) where
-  part_of_node : (p i : ℕ) → sh.kind_of p ≡ 1 → p ≤ i → i < p + 18 → sh.part_of i ≡ p
-  part_of_node p i is from to = let at : p + (i - p) ≡ i = omega arith in subst (λ n. sh.part_of n ≡ p) at ((fine.nodes p is).words (i - p) (omega arith))
+  from : node ≤ node
+  from = omega arith
 
-  mine : sh.part_of node ≡ node
-  mine = part_of_node node node is_node (omega arith) (omega arith)
+  to : node < node + 18
+  to = omega arith
 
-  pub same : (i : ℕ) → i ≢ node → slice_index (set ws node x) i ≡ slice_index ws i
-  same i ne = get_or-set_other ws node i x 0 ne
+  same : (i : ℕ) → i ≢ node → slice_index (set ws node x) i ≡ slice_index ws i
+  same = words.same k sh log ws node node x fine is_node from to
 
   pub here : slice_index (set ws node x) node ≡ x
-  here = let wide = fine.wide in let within = (fine.nodes node is_node).within in get_or-set_same ws node x 0 (omega arith)
+  here = words.here k sh log ws node node x fine is_node from to
 
-  -- a word of another part
-  pub elsewhere : (i : ℕ) → sh.part_of i ≢ node → slice_index (set ws node x) i ≡ slice_index ws i
-  elsewhere i ne = same i (λ e. ne (ap sh.part_of e ∙ mine))
+  pub unused : (i : ℕ) → sh.part_of i ≡ 0 → slice_index (set ws node x) i ≡ slice_index ws i
+  unused = words.unused k sh log ws node node x fine is_node from to
 
   -- a word of a node behind its lock
   pub behind : (p i : ℕ) → sh.kind_of p ≡ 1 → p < i → i < p + 18 → slice_index (set ws node x) i ≡ slice_index ws i
-  behind p i is from to = same i (λ e. let part = part_of_node p i is (omega arith) to in let there : p ≡ node = sym part ∙ ap sh.part_of e ∙ mine in absurd (omega arith))
+  behind p i is past within = let at : p + (i - p) ≡ i = omega arith in
+      subst (λ n. slice_index (set ws node x) n ≡ slice_index ws n) at (words.word_off k sh log ws node node x fine is_node from to p (i - p) is (omega arith) (λ e. absurd (omega arith)))
 
   pub other_node : (p i : ℕ) → sh.kind_of p ≡ 1 → p ≢ node → p ≤ i → i < p + 18 → slice_index (set ws node x) i ≡ slice_index ws i
-  other_node p i is ne from to = elsewhere i (λ e. ne (sym (part_of_node p i is from to) ∙ e))
+  other_node = words.other_node k sh log ws node node x fine is_node from to
 
-  pub at_key : (p : ℕ) → sh.kind_of p ≡ 2 → slice_index (set ws node x) p ≡ slice_index ws p
-  at_key p is = same p (λ e. absurd (let two = sym is ∙ ap sh.kind_of e ∙ is_node in omega arith))
+  at_key : (p : ℕ) → sh.kind_of p ≡ 2 → slice_index (set ws node x) p ≡ slice_index ws p
+  at_key = words.at_key k sh log ws node node x fine is_node from to
 
-  pub at_value : (p : ℕ) → sh.kind_of p ≡ 2 → slice_index (set ws node x) (p + 1) ≡ slice_index ws (p + 1)
-  at_value p is = same (p + 1) (λ e.
-      let there : p ≡ node = sym (fine.leaves p is).value_part ∙ ap sh.part_of e ∙ mine in
-      absurd (let two = sym is ∙ ap sh.kind_of there ∙ is_node in omega arith))
+  at_value : (p : ℕ) → sh.kind_of p ≡ 2 → slice_index (set ws node x) (p + 1) ≡ slice_index ws (p + 1)
+  at_value = words.at_value k sh log ws node node x fine is_node from to
 
-  pub head : (i : ℕ) → i < heads k → slice_index (set ws node x) i ≡ slice_index ws i
-  head i below = let lies = (fine.nodes node is_node).lies in same i (λ e. absurd (omega arith))
+  head : (i : ℕ) → i < heads k → slice_index (set ws node x) i ≡ slice_index ws i
+  head = words.head k sh log ws node node x fine is_node from to
 
   pub gates_hold : (m : ℕ) → m < k.maps → Gated k sh ws m → Gated k (with_holder sh node holder) (set ws node x) m
   gates_hold m below g = record { word = head (gate_word k m) (omega arith) ∙ g.word; callers = g.callers }
@@ -97,7 +96,7 @@ module _ (k : Begin) (sh : Shape) (log : List SharedEntry) (ws : List ℕ) (node
         steady = λ d p other is inside live. inl live;
         area = λ d i other mine. mine;
         unused = λ d i other lies mine none_there. none_there;
-        room = λ d i other lies at none_there. elsewhere i (λ e. let none_here : node ≡ 0 = sym e ∙ none_there in let lies_there = (fine.nodes node is_node).lies in absurd (omega arith));
+        room = λ d i other lies at none_there. unused i none_there;
         inside = λ d m other. refl;
         closed = λ d m other closed. closed;
         alone = λ d m other closed alone. alone;
@@ -157,5 +156,5 @@ module _ (k : Begin) (sh : Shape) (log : List SharedEntry) (ws : List ℕ) (node
     within = h.within;
     mine = h.mine;
     unused = h.unused;
-    words = λ n below. elsewhere (own.next + n) (λ part. let none_there : node ≡ 0 = sym part ∙ h.unused n below in let lies = (fine.nodes node is_node).lies in absurd (omega arith)) ∙ h.words n below;
+    words = λ n below. unused (own.next + n) (h.unused n below) ∙ h.words n below;
   }

@@ -1,11 +1,11 @@
 -- A table's own seats may be copied, dealt out and joined, and may look at the whole history.
 use Rattle.std.proofs.Common.{◌≡◌, ℕ, ◌<◌, true, length, sym, subst, arith}
 use Rattle.atomic_table.specs.Table.{Me, Allows, Splits}
-use Rattle.table_seats.specs.declared.view.View.{View}
+use Rattle.table_rule.specs.declared.view.View.{View}
 use Rattle.table_seats.specs.declared.words.TableWords.{TableWords}
 use Rattle.table_seats.specs.Laws.{HistoryLaws}
-use Rattle.table_seats.specs.Rule.{Kept}
-use Rattle.table_seats.specs.Views.{copied, dealt, kept, IsIdle, Looks}
+use Rattle.table_rule.specs.Rule.{Kept}
+use Rattle.table_rule.specs.Views.{copied, dealt, kept, IsIdle, Looks}
 use Rattle.table_seats.proofs.Looking.{looks}
 use Rattle.table_seats.proofs.Seats.{copies, deals}
 

@@ -16,10 +16,10 @@ use Rattle.sync_types.specs.declared.map_object.MapCall.{MapCall}
 use Rattle.sync_types.specs.declared.map_object.MapCall.TheVariants.{Load, Store, LoadOrStore, LoadAndDelete, Delete, Swap, CompareAndSwap, CompareAndDelete, Clear}
 use Rattle.sync_types.specs.SequentialMap.{is_value, map_key, map_after}
 use Rattle.sync_model.specs.SharedHistory.{Contents, map_at, contents_after, shared_after, is_entry, with_call}
-use Rattle.table_seats.specs.declared.begin.Begin.{Begin}
-use Rattle.table_seats.specs.Keys.{HasKeysBelow}
+use Rattle.table_rule.specs.declared.begin.Begin.{Begin}
+use Rattle.sync_model.specs.EndsOfHistory.{HasKeysBelow}
 use Rattle.table_seats.specs.Laws.{HistoryLaws}
-use Rattle.table_seats.specs.Shape.{start_of}
+use Rattle.table_rule.specs.Shape.{start_of}
 use Rattle.table_seats.proofs.Ledgers.{contents_on}
 
 -- keys that differ don't tie

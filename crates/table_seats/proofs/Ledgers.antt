@@ -13,13 +13,13 @@ use Rattle.sync_model.specs.SharedHistory.{contents_after, contents_at, shared_a
 use Rattle.sync_model.specs.SharedCalls.{bound, Knows, Grows, Lawful, MayCall, MayShow, AddsCall}
 use Rattle.sync_model.specs.Shared.{Called}
 use Rattle.sync_model.specs.SharedLaws.{TakesIn}
-use Rattle.table_seats.specs.declared.begin.Begin.{Begin}
-use Rattle.table_seats.specs.declared.view.Own.{Own}
-use Rattle.table_seats.specs.declared.view.View.{View}
+use Rattle.table_rule.specs.declared.begin.Begin.{Begin}
+use Rattle.table_rule.specs.declared.view.Own.{Own}
+use Rattle.table_rule.specs.declared.view.View.{View}
 use Rattle.table_seats.specs.Laws.{HistoryLaws}
-use Rattle.table_seats.specs.Ledger.{Owned, Fits}
-use Rattle.table_seats.specs.Shape.{start_of}
-use Rattle.table_seats.specs.Views.{held_in, view_state, called_view}
+use Rattle.table_rule.specs.Ledger.{Owned, Fits}
+use Rattle.table_rule.specs.Shape.{start_of}
+use Rattle.table_rule.specs.Views.{held_in, view_state, called_view}
 use Rattle.table_seats.proofs.Lists.{item_on}
 
 -- the lists of all callers after one more call

@@ -18,9 +18,12 @@ pub mod Operating
 pub mod Operated
 pub mod Seats
 pub mod Joining
+pub mod Stepping
 pub mod FirstWords
 pub mod Looking
 pub mod Quiet
+pub mod Placing
+pub mod Placed
 pub mod Lookups
 pub mod Reading
 pub mod Outside
@@ -42,3 +45,9 @@ pub mod Swept
 pub mod CursorSteps
 pub mod Mounting
 pub mod CursorReads
+pub mod NodeWords
+pub mod LockWords
+pub mod Cutting
+pub mod UpperLocks
+pub mod Cuts
+pub mod Prunes

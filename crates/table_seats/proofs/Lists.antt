@@ -1,5 +1,5 @@
 -- Views in a list.
-use Rattle.std.proofs.Common.{◌≡◌, ◌≢◌, ℕ, zero, suc, ◌+◌, ◌<◌, ◌≤◌, List, [], ◌∷◌, ◌++◌, length, set, Some, slice_get, slice_index, ◌⊎◌, inl, inr, ⊎_elim, refl, sym, ap, subst, arith, length-append}
+use Rattle.std.proofs.Common.{◌≡◌, ◌≢◌, ℕ, zero, suc, ◌<◌, ◌≤◌, List, [], ◌∷◌, ◌++◌, length, set, Some, slice_get, slice_index, ◌⊎◌, inl, inr, ⊎_elim, refl, sym, ap, subst, arith}
 use Rattle.std.proofs.lemmas.Option.{none-some, same_Some}
 use mathlib.Core.Option.{some, some-ne-none, some-injective}
 use lib.ListN.{get_elem?}
@@ -41,9 +41,6 @@ module _ {A : Type 0} where
   item_there [] i below = absurd (omega arith)
   item_there (x ∷ xs) zero below = (x, refl)
   item_there (x ∷ xs) (suc i) below = item_there xs i (omega arith)
-
-  pub one_longer : (xs : List A) (x : A) (n : ℕ) → length xs ≡ n → length (xs ++ x ∷ []) ≡ n + 1
-  one_longer xs x n is = omega (arith, length-append xs (x ∷ []))
 
 -- a list of numbers has 0 beyond its end
 pub past_end : (xs : List ℕ) (i : ℕ) → length xs ≤ i → slice_index xs i ≡ 0

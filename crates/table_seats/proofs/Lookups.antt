@@ -10,13 +10,13 @@ use Rattle.sync_model.specs.declared.item.SharedReply.TheVariants as replies
 use Rattle.sync_types.specs.declared.map_object.MapCall.{MapCall}
 use Rattle.sync_model.specs.Shared.{cost_of}
 use Rattle.sync_model.specs.SharedHistory.{map_at, value_at, contents_at, IsReply, is_entry}
-use Rattle.table_seats.specs.declared.begin.Begin.{Begin}
-use Rattle.table_seats.specs.declared.view.Gate.TheVariants.{Inside}
-use Rattle.table_seats.specs.declared.view.Leaf.{Leaf}
-use Rattle.table_seats.specs.declared.view.Own.{Own}
-use Rattle.table_seats.specs.declared.view.View.{View}
-use Rattle.table_seats.specs.declared.view.Walk.{Walk}
-use Rattle.table_seats.specs.KeyCalls.{is_key_entry, key_reply}
+use Rattle.table_rule.specs.declared.begin.Begin.{Begin}
+use Rattle.table_rule.specs.declared.view.Gate.TheVariants.{Inside}
+use Rattle.table_rule.specs.declared.view.Leaf.{Leaf}
+use Rattle.table_rule.specs.declared.view.Own.{Own}
+use Rattle.table_rule.specs.declared.view.View.{View}
+use Rattle.table_rule.specs.declared.view.Walk.{Walk}
+use Rattle.sync_types.specs.KeyCalls.{is_key_entry, key_reply}
 use Rattle.table_seats.specs.Laws.{HistoryLaws}
 use Rattle.trie_nodes.specs.declared.slot.Slot.{Slot}
 use Rattle.trie_nodes.specs.declared.slot.Slot.TheVariants.{Empty, Node, Entry}
@@ -24,21 +24,22 @@ use Rattle.trie_nodes.specs.Layout.{slot_word, dead_word}
 use Rattle.trie_nodes.specs.Nodes.{Shows, entry_value}
 use Rattle.trie_nodes.specs.Paths.{nibble}
 use Rattle.trie_nodes.specs.Slots.{slot_in}
-use Rattle.table_seats.specs.Layout.{root_word, size_of, IsBegin}
-use Rattle.table_seats.specs.Owed.{Walks, IsLeaf}
-use Rattle.table_seats.specs.Rule.{TableState, Kept}
-use Rattle.table_seats.specs.Shape.{start_of, held_at, till, time, IsBelow}
-use Rattle.table_seats.specs.Views.{MayPay}
+use Rattle.table_rule.specs.Layout.{root_word, size_of, IsBegin}
+use Rattle.table_rule.specs.Owed.{Walks, IsLeaf}
+use Rattle.table_rule.specs.Rule.{TableState, Kept}
+use Rattle.table_rule.specs.Shape.{start_of, held_at, till, time, IsBelow}
+use Rattle.table_rule.specs.Views.{MayPay}
 use Rattle.table_seats.specs.Walking.{standing, walk_at, HasWords, Enters, Answers, IsAlong, FindsIn, LooksIn, Affords, ReadsKey, KeepsValue, ReadsValue}
-use Rattle.table_seats.proofs.KeyCalls.{IsOn, replies_by, entries_by}
+use Rattle.table_seats.proofs.KeyCalls.{IsOn}
 use Rattle.table_seats.proofs.Ledgers.{longer}
-use Rattle.table_seats.proofs.Quiet.{kept_standing, view_after, kept_quiet, answers}
+use Rattle.table_seats.proofs.Placed.{view_after, kept_quiet, answers}
+use Rattle.table_seats.proofs.Quiet.{kept_standing}
 
 -- the words of a table have small numbers
 size_small : (k : Begin) → IsBegin k → size_of k < 2 ^ 32
 size_small k b = let objects = b.objects in let units = b.units in omega arith
 
-has_words : (k : Begin) (v : View) (place words : ℕ) → IsBegin k → v.begin ≡ k → place + words ≤ size_of k → 0 < words → HasWords v place words
+pub has_words : (k : Begin) (v : View) (place words : ℕ) → IsBegin k → v.begin ≡ k → place + words ≤ size_of k → 0 < words → HasWords v place words
 has_words k v place words b begin within some_words = let small = size_small k b in (subst (λ (z : Begin). place + words ≤ size_of z) (sym begin) within, omega arith)
 
 -- a seat reads a root word
@@ -109,10 +110,10 @@ module _ (k : Begin) (laws : HistoryLaws) (id : ℕ) (me : Me (Unit {0}) View) (
 
   -- a call is answered by what its key has
   reply_is : (held : Option ℕ) → held_now ≡ held → IsReply (calls.Map w.map call) (replies.Map (key_reply call held)) (contents_at (start_of k) r.log (time r.shape r.log w.node))
-  reply_is held e = ap (λ x. replies.Map x) (ap (key_reply call) (sym (is_held held e)) ∙ sym (replies_by call w.key (map_at (contents_at (start_of k) r.log until) w.map) on))
+  reply_is held e = ap (λ x. replies.Map x) (ap (key_reply call) (sym (is_held held e)) ∙ sym (laws.keys.replies call w.key (map_at (contents_at (start_of k) r.log until) w.map) on))
 
   quiet : (held : Option ℕ) → held_now ≡ held → is_key_entry call held ≡ false → false ≡ is_entry (calls.Map w.map call) (contents_at (start_of k) r.log (time r.shape r.log w.node))
-  quiet held e off = sym off ∙ ap (is_key_entry call) (sym (is_held held e)) ∙ sym (entries_by call w.key (map_at (contents_at (start_of k) r.log until) w.map) on)
+  quiet held e off = sym off ∙ ap (is_key_entry call) (sym (is_held held e)) ∙ sym (laws.keys.entries call w.key (map_at (contents_at (start_of k) r.log until) w.map) on)
 
   -- the call isn't placed yet, or is answered
   abbrev Ends : Option ℕ → Option Leaf → Bool → View → Type 0

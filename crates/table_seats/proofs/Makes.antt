@@ -9,12 +9,12 @@ use Rattle.sync_model.specs.declared.item.SharedReply.TheVariants as replies
 use Rattle.sync_types.specs.declared.map_object.MapCall.{MapCall}
 use Rattle.sync_model.specs.Shared.{Called, cost_of}
 use Rattle.sync_model.specs.SharedHistory.{value_at, contents_after}
-use Rattle.table_seats.specs.declared.begin.Begin.{Begin}
-use Rattle.table_seats.specs.declared.view.Leaf.{Leaf}
-use Rattle.table_seats.specs.declared.view.Lock.{Lock}
-use Rattle.table_seats.specs.declared.view.Own.{Own}
-use Rattle.table_seats.specs.declared.view.View.{View}
-use Rattle.table_seats.specs.KeyCalls.{is_key_entry, key_reply, key_after}
+use Rattle.table_rule.specs.declared.begin.Begin.{Begin}
+use Rattle.table_rule.specs.declared.view.Leaf.{Leaf}
+use Rattle.table_rule.specs.declared.view.Lock.{Lock}
+use Rattle.table_rule.specs.declared.view.Own.{Own}
+use Rattle.table_rule.specs.declared.view.View.{View}
+use Rattle.sync_types.specs.KeyCalls.{is_key_entry, key_reply, key_after}
 use Rattle.table_seats.specs.Laws.{HistoryLaws}
 use Rattle.trie_nodes.specs.declared.slot.Slot.{Slot}
 use Rattle.trie_nodes.specs.declared.slot.Slot.TheVariants.{Empty, Node, Entry}
@@ -23,12 +23,12 @@ use Rattle.trie_nodes.specs.Nodes.{Shows, entry_value}
 use Rattle.trie_nodes.specs.Paths.{nibble}
 use Rattle.trie_nodes.specs.Slots.{slot_in}
 use Rattle.table_seats.specs.Making.{leaf_value, HasLeaf, Sees, Removes, Stores, Expands, Makes, MayPublish, bare, Publishes}
-use Rattle.table_seats.specs.Owed.{Locks}
-use Rattle.table_seats.specs.Rule.{TableState, Kept}
-use Rattle.table_seats.specs.Shape.{start_of, held_at, till, time, IsBelow, ShowsAt, Fine}
+use Rattle.table_rule.specs.Owed.{Locks}
+use Rattle.table_rule.specs.Rule.{TableState, Kept}
+use Rattle.table_rule.specs.Shape.{start_of, held_at, till, time, IsBelow, ShowsAt, Fine}
 use Rattle.table_seats.specs.TrieLaws.{TrieLaws}
 use Rattle.table_seats.specs.Units.{with_unit}
-use Rattle.table_seats.specs.Views.{with_item, paid, spend, called_view, view_state}
+use Rattle.table_rule.specs.Views.{with_item, paid, spend, called_view, view_state}
 use Rattle.table_seats.proofs.Chains as chains
 use Rattle.table_seats.proofs.Published as published
 use Rattle.table_seats.proofs.Stores as stores

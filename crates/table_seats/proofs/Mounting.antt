@@ -8,23 +8,24 @@ use Rattle.atomic_table.proofs.Lists.{set_else}
 use Rattle.atomic_table.specs.Table.{Me, keeps, Allows, Splits, Joins}
 use Rattle.sync_model.specs.declared.item.SharedCall.TheVariants as calls
 use Rattle.sync_model.specs.declared.item.SharedReply.TheVariants as replies
-use Rattle.table_seats.specs.declared.begin.Begin.{Begin}
-use Rattle.table_seats.specs.declared.view.Gate.TheVariants.{Outside}
-use Rattle.table_seats.specs.declared.view.Own.{Own}
-use Rattle.table_seats.specs.declared.view.Spot.{Spot}
-use Rattle.table_seats.specs.declared.view.View.{View}
+use Rattle.table_rule.specs.declared.begin.Begin.{Begin}
+use Rattle.table_rule.specs.declared.view.Gate.TheVariants.{Outside}
+use Rattle.table_rule.specs.declared.view.Own.{Own}
+use Rattle.table_rule.specs.declared.view.Spot.{Spot}
+use Rattle.table_rule.specs.declared.view.View.{View}
 use Rattle.table_seats.specs.Cursors.{first_spot, Sweeps, BeginsCursor, mounted, unmounted, cursor_seat}
 use Rattle.table_seats.specs.Laws.{HistoryLaws}
-use Rattle.table_seats.specs.Layout.{root_word, callers_of}
-use Rattle.table_seats.specs.Ledger.{Fits}
-use Rattle.table_seats.specs.Owed.{Stands, Suits}
-use Rattle.table_seats.specs.Rule.{Kept}
+use Rattle.table_rule.specs.Layout.{root_word, callers_of}
+use Rattle.table_rule.specs.Ledger.{Fits}
+use Rattle.table_rule.specs.Owed.{Stands, Suits}
+use Rattle.table_rule.specs.Rule.{Kept}
 use Rattle.table_seats.specs.SweepLaws.{SweepLaws}
-use Rattle.table_seats.specs.Views.{made_by, spent}
+use Rattle.table_rule.specs.Views.{made_by, spent}
 use Rattle.table_seats.proofs.CursorSteps.{has_words}
 use Rattle.table_seats.proofs.Ledgers.{longer}
 use Rattle.table_seats.proofs.Lists.{each_after}
-use Rattle.table_seats.proofs.Seats.{divided}
+use Rattle.table_seats.proofs.Moves.{with_views}
+use Rattle.table_seats.proofs.Seats.{divided, fits_copied, suits_copied}
 use Rattle.table_seats.proofs.Sweeping.{stands_first}
 use Rattle.table_seats.proofs.Swept.{view_after, kept_swept, sweeps}
 
@@ -64,22 +65,11 @@ begins_cursor k laws sweep id me m live begin some_owns below = by_owns me.0.own
 
 -- a caller's seat takes in its cursor's
 pub mounts : (k : Begin) (id : ℕ) (v : View) (other : ℕ) (w : View) → v.live ≡ true → w.live ≡ true → length w.owns ≡ 0 → Joins (Kept k) id v other w (mounted v w) spent
-mounts k id v other w live live_it nobody s r at_me apart at_it = record {
-  log = r.log;
-  calls = r.calls;
-  claim = r.claim;
-  shape = r.shape;
-  begin = r.begin;
-  lawful = r.lawful;
-  none_else = r.none_else;
-  keys = r.keys;
-  fine = r.fine;
-  gates = r.gates;
-  fits = each_after (λ j u. u.live ≡ true → Fits (callers_of k) r.log r.calls r.claim j u) (set s.views id (mounted v w)) other spent (λ alive. absurd (cc))
-      (λ j u not_it at. each_after (λ j u. u.live ≡ true → Fits (callers_of k) r.log r.calls r.claim j u) s.views id (mounted v w) (λ alive. fits_mounted) (λ j u not_me at. r.fits j u at) j u at);
-  suits = each_after (λ j u. u.live ≡ true → Suits k r.shape r.log r.calls s.words u) (set s.views id (mounted v w)) other spent (λ alive. absurd (cc))
-      (λ j u not_it at. each_after (λ j u. u.live ≡ true → Suits k r.shape r.log r.calls s.words u) s.views id (mounted v w) (λ alive. suits_mounted) (λ j u not_me at. r.suits j u at) j u at);
-}
+mounts k id v other w live live_it nobody s r at_me apart at_it = with_views k s r r.claim (set (set s.views id (mounted v w)) other spent)
+    (each_after (λ j u. u.live ≡ true → Fits (callers_of k) r.log r.calls r.claim j u) (set s.views id (mounted v w)) other spent (λ alive. absurd (cc))
+    (λ j u not_it at. each_after (λ j u. u.live ≡ true → Fits (callers_of k) r.log r.calls r.claim j u) s.views id (mounted v w) (λ alive. fits_mounted) (λ j u not_me at. r.fits j u at) j u at))
+    (each_after (λ j u. u.live ≡ true → Suits k r.shape r.log r.calls s.words u) (set s.views id (mounted v w)) other spent (λ alive. absurd (cc))
+    (λ j u not_it at. each_after (λ j u. u.live ≡ true → Suits k r.shape r.log r.calls s.words u) s.views id (mounted v w) (λ alive. suits_mounted) (λ j u not_me at. r.suits j u at) j u at))
   where
     at_w : get_elem? s.views other ≡ some w
     at_w = sym (set_else s.views id other (mounted v w) apart) ∙ at_it
@@ -109,7 +99,7 @@ unmounts k id v live outside s r at_me =
     let u = r.suits id v at_me live in
     divided k s r id v at_me (unmounted v) (cursor_seat v) r.claim (λ d j other is. is)
     record { seen = f.seen; heard = f.heard; long = f.long; front = f.front; owns = f.owns }
-    record { seen = f.seen; heard = λ i xs at. absurd (none-some xs at); long = f.long; front = f.front; owns = λ i own at. absurd (none-some own at) }
+    (fits_copied k s r id v at_me live (length (set s.views id (unmounted v))))
     record {
       begin = u.begin;
       walk = u.walk;
@@ -123,16 +113,4 @@ unmounts k id v live outside s r at_me =
       upper = u.upper;
       nobody = u.nobody;
     }
-    record {
-      begin = u.begin;
-      walk = u.walk;
-      steady = u.steady;
-      leaf = u.leaf;
-      spot = u.spot;
-      room = λ i own at. absurd (none-some own at);
-      gate = u.gate;
-      only = λ m i own at inside. absurd (none-some own at);
-      lock = u.lock;
-      upper = u.upper;
-      nobody = λ e. outside;
-    }
+    (suits_copied k s r id v at_me live outside)

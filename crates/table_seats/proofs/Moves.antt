@@ -6,17 +6,17 @@ use Rattle.sync_model.specs.declared.item.SharedEntry.{SharedEntry}
 use Rattle.sync_model.specs.declared.item.Item.{Item}
 use Rattle.sync_model.specs.SharedCalls.{Lawful, Grows}
 use Rattle.sync_model.specs.SharedHistory.{contents_after}
-use Rattle.table_seats.specs.declared.begin.Begin.{Begin}
-use Rattle.table_seats.specs.declared.view.Own.{Own}
-use Rattle.table_seats.specs.declared.view.View.{View}
-use Rattle.table_seats.specs.Gates.{Gated}
+use Rattle.table_rule.specs.declared.begin.Begin.{Begin}
+use Rattle.table_rule.specs.declared.view.Own.{Own}
+use Rattle.table_rule.specs.declared.view.View.{View}
+use Rattle.table_rule.specs.Gates.{Gated}
 use Rattle.table_seats.specs.Laws.{HistoryLaws}
-use Rattle.table_seats.specs.Keys.{HasKeysBelow}
-use Rattle.table_seats.specs.Layout.{callers_of}
-use Rattle.table_seats.specs.Ledger.{Fits}
-use Rattle.table_seats.specs.Owed.{Suits}
-use Rattle.table_seats.specs.Rule.{TableState, Kept}
-use Rattle.table_seats.specs.Shape.{Shape, start_of, Fine}
+use Rattle.sync_model.specs.EndsOfHistory.{HasKeysBelow}
+use Rattle.table_rule.specs.Layout.{callers_of}
+use Rattle.table_rule.specs.Ledger.{Fits}
+use Rattle.table_rule.specs.Owed.{Suits}
+use Rattle.table_rule.specs.Rule.{TableState, Kept}
+use Rattle.table_rule.specs.Shape.{Shape, start_of, Fine}
 use Rattle.table_seats.proofs.Frames.{Later, Apart, suits_on, fits_on}
 use Rattle.table_seats.proofs.Lists.{each_after}
 
@@ -61,3 +61,28 @@ moves k laws s r id c words w step = record {
   suits = each_after (λ j u. u.live ≡ true → Suits k step.shape step.log step.calls words u) s.views id w (λ live. step.suits)
       (λ j u other at live. suits_on k r.shape step.shape r.log step.log s.words words step.later laws r.calls step.calls step.grows c step.apart u (away k s r id c step.mine j u other at live) (r.suits j u at live));
 }
+
+-- no word changes, and the history and the shape stay: what is owed to the seats is all that there is to show
+pub with_views : (k : Begin) (s : TableState) (r : Kept k s) (claim : ℕ → ℕ) (views : List View)
+    → ((j : ℕ) (u : View) → get_elem? views j ≡ some u → u.live ≡ true → Fits (callers_of k) r.log r.calls claim j u)
+    → ((j : ℕ) (u : View) → get_elem? views j ≡ some u → u.live ≡ true → Suits k r.shape r.log r.calls s.words u) → Kept k record { words = s.words; homes = s.homes; views = views }
+with_views k s r claim views fits suits = record {
+  log = r.log;
+  calls = r.calls;
+  claim = claim;
+  shape = r.shape;
+  begin = r.begin;
+  lawful = r.lawful;
+  none_else = r.none_else;
+  keys = r.keys;
+  fine = r.fine;
+  gates = r.gates;
+  fits = fits;
+  suits = suits;
+}
+
+-- one seat alone goes elsewhere
+pub with_view : (k : Begin) (s : TableState) (r : Kept k s) (id : ℕ) (w : View) → Fits (callers_of k) r.log r.calls r.claim id w → Suits k r.shape r.log r.calls s.words w → Kept k record { words = s.words; homes = s.homes; views = set s.views id w }
+with_view k s r id w fits suits = with_views k s r r.claim (set s.views id w)
+    (each_after (λ j u. u.live ≡ true → Fits (callers_of k) r.log r.calls r.claim j u) s.views id w (λ live. fits) (λ j u other at. r.fits j u at))
+    (each_after (λ j u. u.live ≡ true → Suits k r.shape r.log r.calls s.words u) s.views id w (λ live. suits) (λ j u other at. r.suits j u at))

@@ -7,17 +7,17 @@ use Rattle.sync_types.specs.declared.atomic_object.Number.TheVariants.{Bool as T
 use Rattle.sync_model.specs.declared.item.SharedEntry.{SharedEntry}
 use Rattle.sync_model.specs.Journal.{Begins}
 use Rattle.sync_model.specs.SharedHistory.{value_at, contents_after}
-use Rattle.table_seats.specs.declared.begin.Begin.{Begin}
+use Rattle.table_rule.specs.declared.begin.Begin.{Begin}
 use Rattle.trie_nodes.specs.declared.slot.Slot.{Slot}
 use Rattle.trie_nodes.specs.declared.slot.Slot.TheVariants.{Empty, Node, Entry}
 use Rattle.trie_nodes.specs.Layout.{atomic_word, parent_word, slot_word, unit_words, dead_word}
 use Rattle.trie_nodes.specs.Nodes.{Shows, entry_value}
 use Rattle.trie_nodes.specs.Paths.{nibble, route}
 use Rattle.trie_nodes.specs.Slots.{slot_in}
-use Rattle.table_seats.specs.Gates.{Gated}
+use Rattle.table_rule.specs.Gates.{Gated}
 use Rattle.table_seats.specs.Laws.{HistoryLaws}
-use Rattle.table_seats.specs.Layout.{root_word, gate_word, heads, size_of}
-use Rattle.table_seats.specs.Shape.{Shape, start_of, held_at, till, time, IsNumber, IsNode, IsEntry, IsBelow, ShowsAt, Fine}
+use Rattle.table_rule.specs.Layout.{root_word, gate_word, heads, size_of}
+use Rattle.table_rule.specs.Shape.{Shape, start_of, held_at, till, time, IsNumber, IsNode, IsEntry, IsBelow, ShowsAt, Fine}
 use Rattle.table_seats.proofs.Frames.{Later, Apart}
 use Rattle.table_seats.proofs.Ledgers.{longer}
 use Rattle.table_seats.proofs.Outside.{nibble_below}

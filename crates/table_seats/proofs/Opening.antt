@@ -16,18 +16,18 @@ use Rattle.sync_types.specs.declared.atomic_object.Number.TheVariants.{Bool as T
 use Rattle.sync_types.specs.SequentialAtomic.{zero_of}
 use Rattle.trie_nodes.specs.Layout.{unit_words}
 use Rattle.trie_nodes.specs.Paths.{nibble, route}
-use Rattle.table_seats.specs.declared.begin.Begin.{Begin}
-use Rattle.table_seats.specs.declared.view.Own.{Own}
-use Rattle.table_seats.specs.declared.view.View.{View}
+use Rattle.table_rule.specs.declared.begin.Begin.{Begin}
+use Rattle.table_rule.specs.declared.view.Own.{Own}
+use Rattle.table_rule.specs.declared.view.View.{View}
 use Rattle.table_seats.specs.Blank.{IsBlank}
-use Rattle.table_seats.specs.Gates.{count_below, Gated}
+use Rattle.table_rule.specs.Gates.{count_below, Gated}
 use Rattle.table_seats.specs.Laws.{HistoryLaws}
-use Rattle.table_seats.specs.Layout.{gate_word, heads, first_root, first_room, callers_of, IsBegin}
-use Rattle.table_seats.specs.Ledger.{Owned, Fits}
-use Rattle.table_seats.specs.Owed.{HasRoom, Suits}
-use Rattle.table_seats.specs.Rule.{Kept}
-use Rattle.table_seats.specs.Shape.{Shape, start_of, IsNumber, IsNode, ShowsAt, Fine}
-use Rattle.table_seats.specs.Views.{new_owns, first_view}
+use Rattle.table_rule.specs.Layout.{gate_word, heads, first_root, first_room, callers_of, IsBegin}
+use Rattle.table_rule.specs.Ledger.{Owned, Fits}
+use Rattle.table_rule.specs.Owed.{HasRoom, Suits}
+use Rattle.table_rule.specs.Rule.{Kept}
+use Rattle.table_rule.specs.Shape.{Shape, start_of, IsNumber, IsNode, ShowsAt, Fine}
+use Rattle.table_rule.specs.Views.{new_owns, first_view}
 
 both : (a b : Bool) → (a && b) ≡ true → (a ≡ true) × (b ≡ true)
 both true b e = (refl, e)

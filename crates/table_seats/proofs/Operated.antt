@@ -5,15 +5,15 @@ use prog.Atomic.{either}
 use Rattle.atomic_table.specs.Table.{Me, Allows}
 use Rattle.sync_types.specs.declared.atomic_object.AtomicCall.{AtomicCall}
 use Rattle.sync_types.specs.declared.atomic_object.AtomicKind.{AtomicKind}
-use Rattle.table_seats.specs.declared.view.View.{View}
+use Rattle.table_rule.specs.declared.view.View.{View}
 use Rattle.table_seats.specs.declared.words.TableWords.{TableWords}
-use Rattle.table_seats.specs.declared.word_step.WordStep.{WordStep}
-use Rattle.table_seats.specs.declared.word_step.WordStep.TheVariants.{CompareExchange}
+use Rattle.table_rule.specs.declared.word_step.WordStep.{WordStep}
+use Rattle.table_rule.specs.declared.word_step.WordStep.TheVariants.{CompareExchange}
 use Rattle.table_seats.specs.Laws.{HistoryLaws}
 use Rattle.table_seats.specs.Operations.{IsOperation, Operates}
-use Rattle.table_seats.specs.Rule.{Kept}
+use Rattle.table_rule.specs.Rule.{Kept}
 use Rattle.table_seats.specs.Walking.{IsFree}
-use Rattle.table_seats.specs.WordSteps.{word_after}
+use Rattle.table_rule.specs.WordSteps.{word_after}
 use Rattle.table_seats.proofs.Operating.{operates}
 
 either_is : (b : Bool) (x y : ℕ) → cond b x y ≡ either b x y

@@ -16,19 +16,19 @@ use Rattle.sync_model.specs.SharedHistory.{number_at, contents_after, contents_a
 use Rattle.sync_model.specs.SharedCalls.{Grows}
 use Rattle.sync_model.specs.Shared.{Called}
 use Rattle.sync_types.specs.WordLayout.{is_word, number_in}
-use Rattle.table_seats.specs.declared.begin.Begin.{Begin}
-use Rattle.table_seats.specs.declared.view.Own.{Own}
-use Rattle.table_seats.specs.declared.view.Gate.TheVariants.{Inside}
-use Rattle.table_seats.specs.declared.view.View.{View}
+use Rattle.table_rule.specs.declared.begin.Begin.{Begin}
+use Rattle.table_rule.specs.declared.view.Own.{Own}
+use Rattle.table_rule.specs.declared.view.Gate.TheVariants.{Inside}
+use Rattle.table_rule.specs.declared.view.View.{View}
 use Rattle.table_seats.specs.Laws.{HistoryLaws}
 use Rattle.trie_nodes.specs.Layout.{atomic_word}
-use Rattle.table_seats.specs.Layout.{callers_of}
-use Rattle.table_seats.specs.Ledger.{Owned, Fits}
+use Rattle.table_rule.specs.Layout.{callers_of}
+use Rattle.table_rule.specs.Ledger.{Owned, Fits}
 use Rattle.table_seats.specs.Operations.{IsOperation, Places, Operates}
-use Rattle.table_seats.specs.Owed.{HasRoom, Suits}
-use Rattle.table_seats.specs.Rule.{TableState, Kept}
-use Rattle.table_seats.specs.Shape.{start_of, IsNumber}
-use Rattle.table_seats.specs.Views.{with_item, called_view, view_state}
+use Rattle.table_rule.specs.Owed.{HasRoom, Suits}
+use Rattle.table_rule.specs.Rule.{TableState, Kept}
+use Rattle.table_rule.specs.Shape.{start_of, IsNumber}
+use Rattle.table_rule.specs.Views.{with_item, called_view, view_state}
 use Rattle.table_seats.proofs.Frames.{suits_on}
 use Rattle.table_seats.proofs.KeyBounds.{keys_on}
 use Rattle.table_seats.proofs.Ledgers.{longer, MayPlace, with_one, adds_one, lawful_after, history_on, grows_on, none_after, fits_after, called, contents_on, first}

@@ -5,15 +5,15 @@ use Rattle.std.proofs.lemmas.List.{append-nil}
 use Rattle.std.proofs.lemmas.Option.{none-some, slice_get_within}
 use Rattle.sync_model.specs.declared.item.SharedEntry.{SharedEntry}
 use Rattle.sync_model.specs.SharedHistory.{number_at, contents_after}
-use Rattle.table_seats.specs.declared.begin.Begin.{Begin}
+use Rattle.table_rule.specs.declared.begin.Begin.{Begin}
 use Rattle.trie_nodes.specs.declared.slot.Slot.{Slot}
 use Rattle.trie_nodes.specs.declared.slot.Slot.TheVariants.{Empty, Node, Entry}
 use Rattle.trie_nodes.specs.Layout.{atomic_word, parent_word, slot_word}
 use Rattle.trie_nodes.specs.Nodes.{Shows}
 use Rattle.trie_nodes.specs.Paths.{nibble, route}
 use Rattle.trie_nodes.specs.Slots.{slot_in}
-use Rattle.table_seats.specs.Layout.{root_word, heads}
-use Rattle.table_seats.specs.Shape.{Shape, start_of, held_at, time, IsNumber, IsBelow, ShowsAt, Fine}
+use Rattle.table_rule.specs.Layout.{root_word, heads}
+use Rattle.table_rule.specs.Shape.{Shape, start_of, held_at, time, IsNumber, IsBelow, ShowsAt, Fine}
 use Rattle.table_seats.proofs.Frames.{Later, Apart}
 
 pub nibble_below : (key seed level : ℕ) → nibble key seed level < 16

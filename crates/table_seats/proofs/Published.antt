@@ -13,29 +13,29 @@ use Rattle.sync_types.specs.SequentialMap.{map_reply, is_map_entry}
 use Rattle.sync_model.specs.SharedCalls.{Grows}
 use Rattle.sync_model.specs.SharedHistory.{map_at, value_at, contents_after, contents_at, with_call}
 use Rattle.sync_model.specs.Shared.{Called}
-use Rattle.table_seats.specs.declared.begin.Begin.{Begin}
-use Rattle.table_seats.specs.declared.view.Gate.{Gate}
-use Rattle.table_seats.specs.declared.view.Gate.TheVariants.{Outside, Inside, Closed}
-use Rattle.table_seats.specs.declared.view.Lock.{Lock}
-use Rattle.table_seats.specs.declared.view.Own.{Own}
-use Rattle.table_seats.specs.declared.view.View.{View}
-use Rattle.table_seats.specs.KeyCalls.{key_reply, is_key_entry, key_after}
-use Rattle.table_seats.specs.Keys.{HasKeysBelow}
+use Rattle.table_rule.specs.declared.begin.Begin.{Begin}
+use Rattle.table_rule.specs.declared.view.Gate.{Gate}
+use Rattle.table_rule.specs.declared.view.Gate.TheVariants.{Outside, Inside, Closed}
+use Rattle.table_rule.specs.declared.view.Lock.{Lock}
+use Rattle.table_rule.specs.declared.view.Own.{Own}
+use Rattle.table_rule.specs.declared.view.View.{View}
+use Rattle.sync_types.specs.KeyCalls.{key_reply, is_key_entry, key_after}
+use Rattle.sync_model.specs.EndsOfHistory.{HasKeysBelow}
 use Rattle.table_seats.specs.Laws.{HistoryLaws}
 use Rattle.trie_nodes.specs.declared.slot.Slot.TheVariants.{Node}
 use Rattle.trie_nodes.specs.Layout.{parent_word, slot_word, unit_words, dead_word}
 use Rattle.trie_nodes.specs.Paths.{nibble}
 use Rattle.trie_nodes.specs.Slots.{slot_in}
-use Rattle.table_seats.specs.Layout.{callers_of}
-use Rattle.table_seats.specs.Ledger.{Owned, Fits}
-use Rattle.table_seats.specs.Owed.{HasRoom, Locks, AtGate, Suits}
-use Rattle.table_seats.specs.Rule.{TableState, Kept}
-use Rattle.table_seats.specs.Shape.{Shape, start_of, Fine}
+use Rattle.table_rule.specs.Layout.{callers_of}
+use Rattle.table_rule.specs.Ledger.{Owned, Fits}
+use Rattle.table_rule.specs.Owed.{HasRoom, Locks, AtGate, Suits}
+use Rattle.table_rule.specs.Rule.{TableState, Kept}
+use Rattle.table_rule.specs.Shape.{Shape, start_of, Fine}
 use Rattle.table_seats.specs.TrieLaws.{TrieLaws}
 use Rattle.table_seats.specs.Units.{with_unit}
-use Rattle.table_seats.specs.Views.{called_view, spend_own, view_state}
+use Rattle.table_rule.specs.Views.{called_view, spend_own, view_state}
 use Rattle.table_seats.proofs.Frames.{Later, Apart, room_on, stands_on}
-use Rattle.table_seats.proofs.KeyCalls.{IsOn, ChangesKey, replies_by, entries_by, changes_key}
+use Rattle.table_seats.proofs.KeyCalls.{IsOn, ChangesKey, changes_key}
 use Rattle.table_seats.proofs.Ledgers.{longer, MayPlace, with_one, adds_one, lawful_after, history_on, grows_on, none_after, fits_after, called, first}
 use Rattle.table_seats.proofs.Lists.{past_end}
 use Rattle.table_seats.proofs.Moves.{Keeps, moves}
@@ -130,8 +130,8 @@ module _ (k : Begin) (laws : HistoryLaws) (tries : TrieLaws) (s : TableState) (r
       to = omega arith;
       last = λ entry. refl;
       front = refl;
-      reply = ap (λ x. replies.Map x) (sym (replies_by call l.key (map_at (contents_after (start_of k) r.log) m) on)) ∙ ap (λ z. replies.Map (map_reply call (map_at z m))) (sym now);
-      entry = sym is_entry ∙ sym (entries_by call l.key (map_at (contents_after (start_of k) r.log) m) on) ∙ ap (λ z. is_map_entry call (map_at z m)) (sym now);
+      reply = ap (λ x. replies.Map x) (sym (laws.keys.replies call l.key (map_at (contents_after (start_of k) r.log) m) on)) ∙ ap (λ z. replies.Map (map_reply call (map_at z m))) (sym now);
+      entry = sym is_entry ∙ sym (laws.keys.entries call l.key (map_at (contents_after (start_of k) r.log) m) on) ∙ ap (λ z. is_map_entry call (map_at z m)) (sym now);
       begun = λ b next. absurd (cc);
       shows = λ b n y shown at begin next reply. absurd (cc);
     }
@@ -140,7 +140,7 @@ module _ (k : Begin) (laws : HistoryLaws) (tries : TrieLaws) (s : TableState) (r
     history = history_on k laws r.log r.calls (callers_of k) r.claim id r.lawful v own owns ready.is fits item may
 
     pub changes : ChangesKey k r.log (with_call r.log v.number item) m l.key (key_after call (value_at (contents_after (start_of k) r.log) m l.key))
-    changes = changes_key k laws r.log v.number item m l.key call refl on below_maps (sym is_entry ∙ sym (entries_by call l.key (map_at (contents_after (start_of k) r.log) m) on)) history
+    changes = changes_key k laws r.log v.number item m l.key call refl on below_maps (sym is_entry ∙ sym (laws.keys.entries call l.key (map_at (contents_after (start_of k) r.log) m) on)) history
 
     abbrev pub own_after : Own
     own_after = spend_own (record own { items = own.items ++ item ∷ [] })

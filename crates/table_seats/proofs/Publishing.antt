@@ -1,12 +1,12 @@
 -- One write to a slot of a reachable node publishes what stands in a unit of words: the words mean the same map, but for one key.
-use Rattle.std.proofs.Common.{◌≡◌, ◌≢◌, inl, inr, ℕ, nat_le, leb-true, leb-false, zero, suc, ◌+◌, ◌-◌, ◌*◌, ◌^◌, ◌<◌, ◌≤◌, ◌==◌, false, cond, List, [], ◌∷◌, ◌++◌, length, set, Option, Some, None, slice_index, refl, sym, ap, ◌∙◌, subst, arith, length-set, get_or-set_same, get_or-set_other}
+use Rattle.std.proofs.Common.{◌≡◌, ◌≢◌, inl, inr, ℕ, nat_le, leb-true, leb-false, zero, suc, ◌+◌, ◌-◌, ◌*◌, ◌^◌, ◌<◌, ◌≤◌, ◌==◌, false, cond, List, [], ◌∷◌, ◌++◌, length, set, Option, Some, None, slice_index, refl, sym, ap, ◌∙◌, subst, arith, length-set}
 use Rattle.std.proofs.lemmas.Bool.{cases_eq}
 use Rattle.std.proofs.lemmas.Option.{none-some, same_Some, slice_get_within}
 use Rattle.sync_types.specs.declared.atomic_object.Number.TheVariants.{Bool as Truth}
 use Rattle.sync_model.specs.declared.item.SharedEntry.{SharedEntry}
 use Rattle.sync_model.specs.SharedHistory.{value_at}
 use Rattle.std.specs.Prelude.{slice_index_or}
-use Rattle.table_seats.specs.declared.begin.Begin.{Begin}
+use Rattle.table_rule.specs.declared.begin.Begin.{Begin}
 use Rattle.trie_nodes.specs.declared.slot.Slot.{Slot}
 use Rattle.trie_nodes.specs.declared.slot.Slot.TheVariants.{Empty, Node, Entry}
 use Rattle.trie_nodes.specs.Layout.{atomic_word, parent_word, slot_word, unit_words, dead_word}
@@ -14,15 +14,16 @@ use Rattle.trie_nodes.specs.Nodes.{Shows, entry_value}
 use Rattle.trie_nodes.specs.Paths.{nibble, route}
 use Rattle.trie_nodes.specs.Plans.{place_before}
 use Rattle.trie_nodes.specs.Slots.{slot_in}
-use Rattle.table_seats.specs.Gates.{Gated}
+use Rattle.table_rule.specs.Gates.{Gated}
 use Rattle.table_seats.specs.Laws.{HistoryLaws}
-use Rattle.table_seats.specs.Layout.{root_word, gate_word, heads}
-use Rattle.table_seats.specs.Shape.{Shape, start_of, held_at, till, time, IsNumber, IsNode, IsEntry, IsBelow, ShowsAt, Fine}
+use Rattle.table_rule.specs.Layout.{root_word, gate_word, heads}
+use Rattle.table_rule.specs.Shape.{Shape, start_of, held_at, till, time, IsNumber, IsNode, IsEntry, IsBelow, ShowsAt, Fine}
 use Rattle.table_seats.specs.TrieLaws.{TrieLaws}
 use Rattle.table_seats.specs.Units.{link_at, with_unit}
 use Rattle.table_seats.proofs.Frames.{Later, Apart}
 use Rattle.table_seats.proofs.KeyCalls.{ChangesKey}
 use Rattle.table_seats.proofs.Ledgers.{longer}
+use Rattle.table_seats.proofs.NodeWords as node_words
 use Rattle.table_seats.proofs.Outside.{nibble_below}
 use Rattle.table_seats.proofs.Sites.{Site, is_there, none_below, none_at, above_at, same_level, node_outside, part_outside, key_outside}
 use Rattle.table_seats.proofs.Units as units
@@ -49,43 +50,38 @@ module _ (k : Begin) (sh : Shape) (log log' : List SharedEntry) (ws : List ℕ) 
   slot_small : nibble key k.seed d < 16
   slot_small = nibble_below key k.seed d
 
-  part_of_node : (q i : ℕ) → sh.kind_of q ≡ 1 → q ≤ i → i < q + 18 → sh.part_of i ≡ q
-  part_of_node q i is from to = let at : q + (i - q) ≡ i = omega arith in subst (λ n. sh.part_of n ≡ q) at ((fine.nodes q is).words (i - q) (omega arith))
+  from : p ≤ slot_word p (nibble key k.seed d)
+  from = omega arith
 
-  mine : sh.part_of here_at ≡ p
-  mine = let small = slot_small in part_of_node p here_at site.node (omega arith) (omega arith)
-
-  some_place : 0 < p
-  some_place = let lies = (fine.nodes p site.node).lies in omega arith
+  to : slot_word p (nibble key k.seed d) < p + 18
+  to = let small = slot_small in omega arith
 
   -- the words
   pub same : (i : ℕ) → i ≢ slot_word p (nibble key k.seed d) → slice_index (set ws (slot_word p (nibble key k.seed d)) x) i ≡ slice_index ws i
-  same i ne = get_or-set_other ws here_at i x 0 ne
+  same = node_words.same k sh log ws p (slot_word p (nibble key k.seed d)) x fine site.node from to
 
   pub here : slice_index (set ws (slot_word p (nibble key k.seed d)) x) (slot_word p (nibble key k.seed d)) ≡ x
-  here = let wide = fine.wide in let small = slot_small in let within = (fine.nodes p site.node).within in get_or-set_same ws here_at x 0 (omega arith)
-
-  pub elsewhere : (i : ℕ) → sh.part_of i ≢ p → slice_index (set ws (slot_word p (nibble key k.seed d)) x) i ≡ slice_index ws i
-  elsewhere i ne = same i (λ e. ne (ap sh.part_of e ∙ mine))
+  here = node_words.here k sh log ws p (slot_word p (nibble key k.seed d)) x fine site.node from to
 
   pub other_node : (q i : ℕ) → sh.kind_of q ≡ 1 → q ≢ p → q ≤ i → i < q + 18 → slice_index (set ws (slot_word p (nibble key k.seed d)) x) i ≡ slice_index ws i
-  other_node q i is ne from to = elsewhere i (λ e. ne (sym (part_of_node q i is from to) ∙ e))
+  other_node = node_words.other_node k sh log ws p (slot_word p (nibble key k.seed d)) x fine site.node from to
 
   -- the lock and the parent of an old node
   pub top_word : (q i : ℕ) → sh.kind_of q ≡ 1 → q ≤ i → i < q + 2 → slice_index (set ws (slot_word p (nibble key k.seed d)) x) i ≡ slice_index ws i
-  top_word q i is from to = same i (λ e. let there : q ≡ p = sym (part_of_node q i is from (omega arith)) ∙ ap sh.part_of e ∙ mine in absurd (omega arith))
+  top_word q i is first last = let at : q + (i - q) ≡ i = omega arith in
+      subst (λ n. slice_index words n ≡ slice_index ws n) at (node_words.word_off k sh log ws p (slot_word p (nibble key k.seed d)) x fine site.node from to q (i - q) is (omega arith) (λ e. absurd (omega arith)))
 
   pub old_key : (q : ℕ) → sh.kind_of q ≡ 2 → slice_index (set ws (slot_word p (nibble key k.seed d)) x) q ≡ slice_index ws q
-  old_key q is = same q (λ e. let there : q ≡ p = sym (fine.leaves q is).key_part ∙ ap sh.part_of e ∙ mine in absurd (let two = sym is ∙ ap sh.kind_of there ∙ site.node in omega arith))
+  old_key = node_words.at_key k sh log ws p (slot_word p (nibble key k.seed d)) x fine site.node from to
 
   pub old_value : (q : ℕ) → sh.kind_of q ≡ 2 → slice_index (set ws (slot_word p (nibble key k.seed d)) x) (q + 1) ≡ slice_index ws (q + 1)
-  old_value q is = same (q + 1) (λ e. let there : q ≡ p = sym (fine.leaves q is).value_part ∙ ap sh.part_of e ∙ mine in absurd (let two = sym is ∙ ap sh.kind_of there ∙ site.node in omega arith))
+  old_value = node_words.at_value k sh log ws p (slot_word p (nibble key k.seed d)) x fine site.node from to
 
   pub head : (i : ℕ) → i < heads k → slice_index (set ws (slot_word p (nibble key k.seed d)) x) i ≡ slice_index ws i
-  head i below = let lies = (fine.nodes p site.node).lies in same i (λ e. absurd (omega arith))
+  head = node_words.head k sh log ws p (slot_word p (nibble key k.seed d)) x fine site.node from to
 
   pub free_word : (i : ℕ) → sh.part_of i ≡ 0 → slice_index (set ws (slot_word p (nibble key k.seed d)) x) i ≡ slice_index ws i
-  free_word i none_there = elsewhere i (λ e. let zero_place : p ≡ 0 = sym e ∙ none_there in let some = some_place in absurd (omega arith))
+  free_word = node_words.unused k sh log ws p (slot_word p (nibble key k.seed d)) x fine site.node from to
 
   pub unit_word : (i : ℕ) → i < unit_words → slice_index (set ws (slot_word p (nibble key k.seed d)) x) (unit + i) ≡ slice_index ws (unit + i)
   unit_word i inside = free_word (unit + i) (site.unused i inside)
@@ -341,7 +337,7 @@ module _ (k : Begin) (sh : Shape) (log log' : List SharedEntry) (ws : List ℕ) 
         of_old old was = elim (cases_eq (slot_word q (nibble other k.seed e)) here_at) [
           | inl written ↦
               let small = nibble_below other k.seed e in
-              let q_is : q ≡ p = sym (part_of_node q (slot_word q (nibble other k.seed e)) old (omega arith) (omega arith)) ∙ ap sh.part_of written ∙ mine in
+              let q_is : q ≡ p = node_words.whose k sh log ws p (slot_word p (nibble key k.seed d)) x fine site.node from to q old (omega arith) (omega arith) in
               let same_path : route k.seed e other ≡ route k.seed d key = sym was ∙ ap sh.path_of q_is ∙ site.path in
               let e_is : e ≡ d = same_level k sh log ws m p d key unit nodes tries site e d other key same_path in
               let slot_is : nibble other k.seed e ≡ nibble key k.seed d = omega arith in

@@ -12,18 +12,19 @@ use Rattle.sync_model.specs.declared.item.Item.{Item}
 use Rattle.sync_model.specs.Front.{AtLeast}
 use Rattle.sync_model.specs.Journal.{Begins}
 use Rattle.sync_model.specs.SharedCalls.{Knows}
-use Rattle.table_seats.specs.declared.begin.Begin.{Begin}
-use Rattle.table_seats.specs.declared.view.Own.{Own}
-use Rattle.table_seats.specs.declared.view.Gate.{Gate}
-use Rattle.table_seats.specs.declared.view.Gate.TheVariants.{Outside, Inside}
-use Rattle.table_seats.specs.declared.view.View.{View}
+use Rattle.table_rule.specs.declared.begin.Begin.{Begin}
+use Rattle.table_rule.specs.declared.view.Own.{Own}
+use Rattle.table_rule.specs.declared.view.Gate.{Gate}
+use Rattle.table_rule.specs.declared.view.Gate.TheVariants.{Outside, Inside}
+use Rattle.table_rule.specs.declared.view.View.{View}
 use Rattle.table_seats.specs.Laws.{HistoryLaws}
-use Rattle.table_seats.specs.Layout.{callers_of}
-use Rattle.table_seats.specs.Ledger.{Owned, Fits}
-use Rattle.table_seats.specs.Owed.{HasRoom, AtGate, Suits}
-use Rattle.table_seats.specs.Rule.{TableState, Kept}
-use Rattle.table_seats.specs.Views.{IsIdle, first_of, others_of, copied, dealt, kept, most, longest, joined, spent}
+use Rattle.table_rule.specs.Layout.{callers_of}
+use Rattle.table_rule.specs.Ledger.{Owned, Fits}
+use Rattle.table_rule.specs.Owed.{HasRoom, AtGate, Suits}
+use Rattle.table_rule.specs.Rule.{TableState, Kept}
+use Rattle.table_rule.specs.Views.{IsIdle, first_of, others_of, copied, dealt, kept, most, longest, joined, spent}
 use Rattle.table_seats.proofs.Lists.{each_after, at_end, item_there}
+use Rattle.table_seats.proofs.Moves.{with_views}
 
 module _ (callers : ℕ) (log : List SharedEntry) (calls : ℕ → List Item) where
   -- other seats' callers stay theirs
@@ -53,49 +54,40 @@ module _ (k : Begin) (s : TableState) (r : Kept k s) (id : ℕ) (v : View) (at_m
     (fits_left : Fits (callers_of k) r.log r.calls claim id left) (fits_right : Fits (callers_of k) r.log r.calls claim (length (set s.views id left)) right)
     (suits_left : Suits k r.shape r.log r.calls s.words left) (suits_right : Suits k r.shape r.log r.calls s.words right) where
   pub divided : Kept k record { words = s.words; homes = s.homes; views = set s.views id left ++ right ∷ [] }
-  divided = record {
-    log = r.log;
-    calls = r.calls;
-    claim = claim;
-    shape = r.shape;
-    begin = r.begin;
-    lawful = r.lawful;
-    none_else = r.none_else;
-    keys = r.keys;
-    fine = r.fine;
-    gates = r.gates;
-    fits = λ j u at live. elim (at_end (set s.views id left) right u j at) [
-      | inl old ↦ each_after (λ j u. u.live ≡ true → Fits (callers_of k) r.log r.calls claim j u) s.views id left (λ live. fits_left)
-          (λ j u other at live. fits_claim (callers_of k) r.log r.calls r.claim claim j u (λ d. stays d j other) (r.fits j u at live)) j u old live
-      | inr new ↦ subst (λ (x : ℕ × View). Fits (callers_of k) r.log r.calls claim x.0 x.1) (λ i. (sym new.0 i, new.1 i)) fits_right
-    ];
-    suits = λ j u at live. elim (at_end (set s.views id left) right u j at) [
-      | inl old ↦ each_after (λ j u. u.live ≡ true → Suits k r.shape r.log r.calls s.words u) s.views id left (λ live. suits_left) (λ j u other at live. r.suits j u at live) j u old live
-      | inr new ↦ subst (Suits k r.shape r.log r.calls s.words) new.1 suits_right
-    ];
+  divided = with_views k s r claim (set s.views id left ++ right ∷ [])
+      (λ j u at live. elim (at_end (set s.views id left) right u j at) [
+        | inl old ↦ each_after (λ j u. u.live ≡ true → Fits (callers_of k) r.log r.calls claim j u) s.views id left (λ live. fits_left)
+            (λ j u other at live. fits_claim (callers_of k) r.log r.calls r.claim claim j u (λ d. stays d j other) (r.fits j u at live)) j u old live
+        | inr new ↦ subst (λ (x : ℕ × View). Fits (callers_of k) r.log r.calls claim x.0 x.1) (λ i. (sym new.0 i, new.1 i)) fits_right
+      ])
+      (λ j u at live. elim (at_end (set s.views id left) right u j at) [
+        | inl old ↦ each_after (λ j u. u.live ≡ true → Suits k r.shape r.log r.calls s.words u) s.views id left (λ live. suits_left) (λ j u other at live. r.suits j u at live) j u old live
+        | inr new ↦ subst (Suits k r.shape r.log r.calls s.words) new.1 suits_right
+      ])
+
+-- a seat that stands for nobody, where another stands that is outside of all gates
+module _ (k : Begin) (s : TableState) (r : Kept k s) (id : ℕ) (v : View) (at_me : get_elem? s.views id ≡ some v) (live : v.live ≡ true) where
+  pub fits_copied : (new : ℕ) → Fits (callers_of k) r.log r.calls r.claim new (copied v)
+  fits_copied new = let f = r.fits id v at_me live in record { seen = f.seen; heard = λ i xs at. absurd (none-some xs at); long = f.long; front = f.front; owns = λ i own at. absurd (none-some own at) }
+
+  pub suits_copied : v.gate ≡ Outside → Suits k r.shape r.log r.calls s.words (copied v)
+  suits_copied outside = let u = r.suits id v at_me live in record {
+    begin = u.begin;
+    walk = u.walk;
+    steady = u.steady;
+    leaf = u.leaf;
+    spot = u.spot;
+    room = λ i own at. absurd (none-some own at);
+    gate = u.gate;
+    only = λ m i own at inside. absurd (none-some own at);
+    lock = u.lock;
+    upper = u.upper;
+    nobody = λ e. outside;
   }
 
 -- a copy of a seat
 pub copies : (k : Begin) (id : ℕ) (v : View) → v.live ≡ true → IsIdle v → Splits (Kept k) id v v (copied v)
-copies k id v live idle s r at_me =
-    let f = r.fits id v at_me live in
-    let u = r.suits id v at_me live in
-    divided k s r id v at_me v (copied v) r.claim (λ d j other is. is) f
-    record { seen = f.seen; heard = λ i xs at. absurd (none-some xs at); long = f.long; front = f.front; owns = λ i own at. absurd (none-some own at) }
-    u
-    record {
-      begin = u.begin;
-      walk = u.walk;
-      steady = u.steady;
-      leaf = u.leaf;
-      spot = u.spot;
-      room = λ i own at. absurd (none-some own at);
-      gate = u.gate;
-      only = λ m i own at inside. absurd (none-some own at);
-      lock = u.lock;
-      upper = u.upper;
-      nobody = λ e. idle.gate;
-    }
+copies k id v live idle s r at_me = divided k s r id v at_me v (copied v) r.claim (λ d j other is. is) (r.fits id v at_me live) (fits_copied k s r id v at_me live (length (set s.views id v))) (r.suits id v at_me live) (suits_copied k s r id v at_me live idle.gate)
 
 -- a new seat for the first caller
 pub deals : (k : Begin) (id : ℕ) (v : View) → v.live ≡ true → IsIdle v → 0 < length v.owns → Splits (Kept k) id v (kept v) (dealt v)
@@ -207,23 +199,12 @@ module _ {A : Type 0} where
 
 -- a seat takes in another, which stands for the next callers
 pub joins : (k : Begin) → HistoryLaws → (id : ℕ) (v : View) (other : ℕ) (w : View) → v.live ≡ true → w.live ≡ true → IsIdle w → (0 < length w.owns → v.number + length v.owns ≡ w.number) → Joins (Kept k) id v other w (joined v w) spent
-joins k laws id v other w live live_it idle next_callers s r at_me apart at_it = record {
-  log = r.log;
-  calls = r.calls;
-  claim = claim;
-  shape = r.shape;
-  begin = r.begin;
-  lawful = r.lawful;
-  none_else = r.none_else;
-  keys = r.keys;
-  fine = r.fine;
-  gates = r.gates;
-  fits = each_after (λ j u. u.live ≡ true → Fits (callers_of k) r.log r.calls claim j u) (set s.views id (joined v w)) other spent (λ alive. absurd (cc))
-      (λ j u not_it at. each_after (λ j u. j ≢ other → u.live ≡ true → Fits (callers_of k) r.log r.calls claim j u) s.views id (joined v w) (λ ne alive. fits_joined)
-      (λ j u not_me at ne alive. fits_claim (callers_of k) r.log r.calls r.claim claim j u (λ d is. stays d j is ne) (r.fits j u at alive)) j u at not_it);
-  suits = each_after (λ j u. u.live ≡ true → Suits k r.shape r.log r.calls s.words u) (set s.views id (joined v w)) other spent (λ alive. absurd (cc))
-      (λ j u not_it at. each_after (λ j u. u.live ≡ true → Suits k r.shape r.log r.calls s.words u) s.views id (joined v w) (λ alive. suits_joined) (λ j u not_me at. r.suits j u at) j u at);
-}
+joins k laws id v other w live live_it idle next_callers s r at_me apart at_it = with_views k s r claim (set (set s.views id (joined v w)) other spent)
+    (each_after (λ j u. u.live ≡ true → Fits (callers_of k) r.log r.calls claim j u) (set s.views id (joined v w)) other spent (λ alive. absurd (cc))
+    (λ j u not_it at. each_after (λ j u. j ≢ other → u.live ≡ true → Fits (callers_of k) r.log r.calls claim j u) s.views id (joined v w) (λ ne alive. fits_joined)
+    (λ j u not_me at ne alive. fits_claim (callers_of k) r.log r.calls r.claim claim j u (λ d is. stays d j is ne) (r.fits j u at alive)) j u at not_it))
+    (each_after (λ j u. u.live ≡ true → Suits k r.shape r.log r.calls s.words u) (set s.views id (joined v w)) other spent (λ alive. absurd (cc))
+    (λ j u not_it at. each_after (λ j u. u.live ≡ true → Suits k r.shape r.log r.calls s.words u) s.views id (joined v w) (λ alive. suits_joined) (λ j u not_me at. r.suits j u at) j u at))
   where
     at_w : get_elem? s.views other ≡ some w
     at_w = sym (set_else s.views id other (joined v w) apart) ∙ at_it

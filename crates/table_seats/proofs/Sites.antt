@@ -2,13 +2,13 @@
 use Rattle.std.proofs.Common.{◌≡◌, ◌≢◌, inl, inr, ℕ, nat_le, leb-true, leb-false, zero, suc, ◌+◌, ◌-◌, ◌*◌, ◌^◌, ◌<◌, ◌≤◌, List, length, Some, None, slice_index, refl, sym, ap, ◌∙◌, subst, arith}
 use Rattle.std.proofs.lemmas.Option.{none-some}
 use Rattle.sync_model.specs.declared.item.SharedEntry.{SharedEntry}
-use Rattle.table_seats.specs.declared.begin.Begin.{Begin}
+use Rattle.table_rule.specs.declared.begin.Begin.{Begin}
 use Rattle.trie_nodes.specs.declared.slot.Slot.TheVariants.{Node}
 use Rattle.trie_nodes.specs.Layout.{parent_word, slot_word, unit_words}
 use Rattle.trie_nodes.specs.Paths.{nibble, route}
 use Rattle.trie_nodes.specs.Slots.{slot_in}
-use Rattle.table_seats.specs.Layout.{heads, size_of}
-use Rattle.table_seats.specs.Shape.{Shape, Fine}
+use Rattle.table_rule.specs.Layout.{heads, size_of}
+use Rattle.table_rule.specs.Shape.{Shape, Fine}
 use Rattle.table_seats.specs.TrieLaws.{TrieLaws}
 use Rattle.table_seats.proofs.Units.{tested}
 

@@ -2,14 +2,14 @@
 use Rattle.std.proofs.Common.{◌≡◌, ℕ, ◌+◌, ◌<◌, ◌≤◌, sym, ap, ◌∙◌, subst, arith}
 use Rattle.atomic_table.specs.Table.{Me, Allows}
 use Rattle.sync_types.specs.declared.map_object.MapCall.{MapCall}
-use Rattle.table_seats.specs.declared.begin.Begin.{Begin}
-use Rattle.table_seats.specs.declared.view.Lock.{Lock}
-use Rattle.table_seats.specs.declared.view.View.{View}
+use Rattle.table_rule.specs.declared.begin.Begin.{Begin}
+use Rattle.table_rule.specs.declared.view.Lock.{Lock}
+use Rattle.table_rule.specs.declared.view.View.{View}
 use Rattle.table_seats.specs.declared.words.TableWords.{TableWords}
 use Rattle.table_seats.specs.Laws.{HistoryLaws}
-use Rattle.table_seats.specs.Layout.{size_of}
+use Rattle.table_rule.specs.Layout.{size_of}
 use Rattle.table_seats.specs.Making.{IsLockAt, MayPublish, Publishes}
-use Rattle.table_seats.specs.Rule.{Kept}
+use Rattle.table_rule.specs.Rule.{Kept}
 use Rattle.table_seats.specs.TrieLaws.{TrieLaws}
 use Rattle.table_seats.specs.Walking.{HasWords}
 use Rattle.trie_nodes.specs.Layout.{slot_word}

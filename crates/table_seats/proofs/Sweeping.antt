@@ -12,11 +12,11 @@ use Rattle.sync_model.specs.SharedCalls.{Knows}
 use Rattle.trie_nodes.specs.declared.slot.Slot.TheVariants.{Empty, Node, Entry}
 use Rattle.trie_nodes.specs.Nodes.{Shows, slot_at}
 use Rattle.trie_nodes.specs.Paths.{nibble, route, Passed}
-use Rattle.table_seats.specs.declared.begin.Begin.{Begin}
-use Rattle.table_seats.specs.declared.view.Spot.{Spot}
-use Rattle.table_seats.specs.Layout.{IsBegin}
-use Rattle.table_seats.specs.Owed.{Stands}
-use Rattle.table_seats.specs.Shape.{Shape, held_at, till, time, IsBelow, Fine}
+use Rattle.table_rule.specs.declared.begin.Begin.{Begin}
+use Rattle.table_rule.specs.declared.view.Spot.{Spot}
+use Rattle.table_rule.specs.Layout.{IsBegin}
+use Rattle.table_rule.specs.Owed.{Stands}
+use Rattle.table_rule.specs.Shape.{Shape, held_at, till, time, IsBelow, Fine}
 use Rattle.table_seats.specs.SweepLaws.{SweepLaws}
 
 module _ {A : Type 0} where

@@ -2,7 +2,7 @@
 use Rattle.std.proofs.Common.{◌≡◌, ◌⊎◌, inl, inr, ℕ, suc, ◌+◌, ◌-◌, ◌*◌, ◌<◌, ◌≤◌, ◌==◌, ◌&&◌, Bool, true, false, cond, nat_lt, nat_le, List, length, Some, None, bytes_eq, refl, sym, ap, ◌∙◌, arith, ltb-true, lt-ltb, leb-true, le-leb, eqb-true, eq-eqb}
 use Rattle.std.proofs.lemmas.Slice.Eq.{bytes_eq-Decides}
 use Rattle.trie_nodes.specs.Paths.{route}
-use Rattle.table_seats.specs.Shape.{Shape}
+use Rattle.table_rule.specs.Shape.{Shape}
 use Rattle.table_seats.specs.TrieLaws.{TrieLaws}
 use Rattle.table_seats.specs.Units.{link_at, in_entry, in_links, link_of, is_link, is_link_path, with_unit}
 

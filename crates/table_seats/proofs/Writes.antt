@@ -1,23 +1,23 @@
 -- A table's own seats may make the steps of a call that writes, up to the write.
-use Rattle.std.proofs.Common.{◌≡◌, ℕ, suc, ◌+◌, ◌-◌, ◌*◌, ◌%◌, ◌^◌, ◌<◌, ◌≤◌, ◌==◌, List, length, Some, sym, ap, ◌∙◌, subst, arith}
+use Rattle.std.proofs.Common.{◌≡◌, ℕ, suc, ◌+◌, ◌-◌, ◌%◌, ◌^◌, ◌<◌, ◌≤◌, ◌==◌, List, length, Some, sym, ap, ◌∙◌, subst, arith}
 use Rattle.std.proofs.lemmas.Option.{same_Some}
 use prog.Atomic.{either}
 use Rattle.atomic_table.specs.Table.{Me, State, Allows}
-use Rattle.table_seats.specs.declared.begin.Begin.{Begin}
+use Rattle.table_rule.specs.declared.begin.Begin.{Begin}
 use Rattle.table_seats.specs.declared.words.TableWords.{TableWords}
-use Rattle.table_seats.specs.declared.view.Lock.{Lock}
-use Rattle.table_seats.specs.declared.view.Own.{Own}
-use Rattle.table_seats.specs.declared.view.View.{View}
-use Rattle.table_seats.specs.declared.view.Walk.{Walk}
+use Rattle.table_rule.specs.declared.view.Lock.{Lock}
+use Rattle.table_rule.specs.declared.view.Own.{Own}
+use Rattle.table_rule.specs.declared.view.View.{View}
+use Rattle.table_rule.specs.declared.view.Walk.{Walk}
 use Rattle.table_seats.specs.Laws.{HistoryLaws}
 use Rattle.sync_types.specs.declared.map_object.MapCall.{MapCall}
 use Rattle.sync_model.specs.Shared.{cost_of}
 use Rattle.trie_nodes.specs.Layout.{slot_word}
 use Rattle.trie_nodes.specs.Paths.{nibble}
 use Rattle.trie_nodes.specs.Slots.{slot_in}
-use Rattle.table_seats.specs.Layout.{gate_word, size_of}
+use Rattle.table_rule.specs.Layout.{gate_word, size_of}
 use Rattle.table_seats.specs.Making.{StandsLocked, LooksHeld}
-use Rattle.table_seats.specs.Rule.{Kept}
+use Rattle.table_rule.specs.Rule.{Kept}
 use Rattle.table_seats.specs.Walking.{HasWords, Affords, IsFree}
 use Rattle.table_seats.specs.Writing.{IsWriter, TriesLock, Holds, Unlocks, ComesIn, IsInside, GoesOut, Drafts, HasDraft}
 use Rattle.table_seats.proofs.Drafting.{drafts}
@@ -25,38 +25,27 @@ use Rattle.table_seats.proofs.Gating.{comes_in, goes_out}
 use Rattle.table_seats.proofs.Held.{looks_held}
 use Rattle.table_seats.proofs.KeyCalls.{IsOn}
 use Rattle.table_seats.proofs.Locking.{tries_lock, unlocks}
+use Rattle.table_seats.proofs.Stepping.{May, may}
 
 -- a step that tells more tells less
-allows_then : (holds : State (Unit {0}) View → Type 0) (slots id : ℕ) (me : Me (Unit {0}) View) (i : ℕ) (f : ℕ → ℕ) (p q : ℕ → Me (Unit {0}) View → Type 0) → ((n : ℕ) (after : Me (Unit {0}) View) → p n after → q n after) → Allows holds slots id me i f p → Allows holds slots id me i f q
+pub allows_then : (holds : State (Unit {0}) View → Type 0) (slots id : ℕ) (me : Me (Unit {0}) View) (i : ℕ) (f : ℕ → ℕ) (p q : ℕ → Me (Unit {0}) View → Type 0) → ((n : ℕ) (after : Me (Unit {0}) View) → p n after → q n after) → Allows holds slots id me i f p → Allows holds slots id me i f q
 allows_then holds slots id me i f p q more allows = λ s kept len at bounded. let t = allows s kept len at bounded in (t.0, t.1, t.2, t.3, more _ _ t.4)
-
-pub gate_fits : (table : TableWords) (m : ℕ) → m < table.table.shared.key.maps → 2 + length table.begin.kinds + 2 * m < 2 ^ 32
-gate_fits table m below = let same = ap (λ (b : Begin). length b.kinds) table.same in let objects = table.made.objects in omega arith
-
-pub gate_there : (table : TableWords) (m : ℕ) → m < table.table.shared.key.maps → 2 + length table.begin.kinds + 2 * m < table.table.shared.table_id.words
-gate_there table m below = let same = ap (λ (b : Begin). length b.kinds) table.same in let sized = table.sized.0 in omega arith
 
 module _ (table : TableWords) (id : ℕ) (me : Me (Unit {0}) View) (word : ℕ) (laws : HistoryLaws) where
   abbrev key : Begin
   key = table.table.shared.key
 
-  -- a word of the table, which the seat may change so
+  -- the seat may change the word so
   abbrev pub MayChange : (ℕ → ℕ) → (ℕ → Me (Unit {0}) View → Type 0) → Type 0
-  MayChange f then = (word < table.table.shared.table_id.words) × Allows (Kept table.table.shared.key) table.table.shared.table_id.slots id me word f then
+  MayChange = May table id me word
 
-  may_change : (at : ℕ) (f : ℕ → ℕ) (then : ℕ → Me (Unit {0}) View → Type 0) → at ≡ word → at < size_of key → Allows (Kept key) 0 id me at f then → MayChange f then
-  may_change at f then is within allows = let sized = table.sized.0 in (omega arith, subst (λ i. Allows (Kept key) table.table.shared.table_id.slots id me i f then) is (subst (λ slots. Allows (Kept key) slots id me at f then) (sym table.sized.1) allows))
+  pub may_come_in : (m told old : ℕ) → IsFree table.table.shared.key me → m < table.table.shared.key.maps → old < 2 ^ 32 → told ≡ m → word ≡ gate_word table.table.shared.key m → MayChange (λ n. either (n == old) (old + 1) n) (ComesIn told old me)
+  may_come_in m told old free below small same is = subst (λ n. MayChange (λ n. either (n == old) (old + 1) n) (ComesIn n old me)) (sym same) (may table id me word (gate_word key m) (λ n. either (n == old) (old + 1) n) (ComesIn m old me) (sym is) (omega arith) (comes_in key laws id me m old free below small))
 
-  gate_is : (m : ℕ) → word ≡ 2 + length table.begin.kinds + 2 * m → gate_word key m ≡ word
-  gate_is m is = let same = ap (λ (b : Begin). length b.kinds) table.same in omega arith
+  pub may_go_out : (m : ℕ) → IsInside table.table.shared.key me m → m < table.table.shared.key.maps → word ≡ gate_word table.table.shared.key m → MayChange (λ n. (n + (2 ^ 64 - 1)) % 2 ^ 64) (GoesOut me)
+  may_go_out m writer below is = may table id me word (gate_word key m) (λ n. (n + (2 ^ 64 - 1)) % 2 ^ 64) (GoesOut me) (sym is) (omega arith) (goes_out key laws id me m writer)
 
-  pub may_come_in : (m old : ℕ) → IsFree table.table.shared.key me → m < table.table.shared.key.maps → old < 2 ^ 32 → word ≡ 2 + length table.begin.kinds + 2 * m → MayChange (λ n. either (n == old) (old + 1) n) (ComesIn m old me)
-  may_come_in m old free below small is = may_change (gate_word key m) (λ n. either (n == old) (old + 1) n) (ComesIn m old me) (gate_is m is) (omega arith) (comes_in key laws id me m old free below small)
-
-  pub may_go_out : (m : ℕ) → IsInside table.table.shared.key me m → m < table.table.shared.key.maps → word ≡ 2 + length table.begin.kinds + 2 * m → MayChange (λ n. (n + (2 ^ 64 - 1)) % 2 ^ 64) (GoesOut me)
-  may_go_out m writer below is = may_change (gate_word key m) (λ n. (n + (2 ^ 64 - 1)) % 2 ^ 64) (GoesOut me) (gate_is m is) (omega arith) (goes_out key laws id me m writer)
-
-  words_within : (place : ℕ) → me.0.begin ≡ key → HasWords me.0 place 18 → place + 18 ≤ size_of key
+  pub words_within : (place : ℕ) → me.0.begin ≡ key → HasWords me.0 place 18 → place + 18 ≤ size_of key
   words_within place begin has = subst (λ (k : Begin). place + 18 ≤ size_of k) begin has.0
 
   pub may_try_lock : (node new : ℕ) → (w : Walk) × (w.node ≡ node) × IsWriter table.table.shared.key me w → HasWords me.0 node 18 → word ≡ node → new ≡ me.0.number + 1
@@ -65,7 +54,7 @@ module _ (table : TableWords) (id : ℕ) (me : Me (Unit {0}) View) (word : ℕ) 
       let w = writer.0 in
       let within = words_within node writer.2.begin has in
       let new_is : suc me.0.number ≡ new = omega arith in
-      may_change w.node (λ n. either (n == 0) new n) (λ found after. (w : Walk) → me.0.walk ≡ Some w → TriesLock w me found after) (writer.1 ∙ sym is) (let same = writer.1 in omega arith)
+      may table id me word w.node (λ n. either (n == 0) new n) (λ found after. (w : Walk) → me.0.walk ≡ Some w → TriesLock w me found after) (writer.1 ∙ sym is) (let same = writer.1 in omega arith)
       (allows_then (Kept key) 0 id me w.node (λ n. either (n == 0) new n) (TriesLock w me) (λ found after. (w : Walk) → me.0.walk ≡ Some w → TriesLock w me found after)
       (λ n after told z e. subst (λ x. TriesLock x me n after) (same_Some w z (sym writer.2.walk ∙ e)) told)
       (subst (λ y. Allows (Kept key) 0 id me w.node (λ n. either (n == 0) y n) (TriesLock w me)) new_is (tries_lock key laws id me w writer.2)))
@@ -74,12 +63,12 @@ module _ (table : TableWords) (id : ℕ) (me : Me (Unit {0}) View) (word : ℕ) 
       → MayChange (λ n. n) (λ found. LooksHeld call me (slot_in found))
   may_look_held w slot call stands has slot_is below is on affords =
       let within = words_within w.node stands.1.begin has in
-      may_change (slot_word w.node slot) (λ n. n) (λ found. LooksHeld call me (slot_in found)) (sym is) (omega arith)
+      may table id me word (slot_word w.node slot) (λ n. n) (λ found. LooksHeld call me (slot_in found)) (sym is) (omega arith)
       (looks_held key laws id me w stands.0 slot call stands.1 (slot_is ∙ ap (λ (b : Begin). nibble w.key b.seed w.level) (sym table.same)) below on affords)
 
   pub may_unlock : (node : ℕ) → (l : Lock) × (l.node ≡ node) × Holds table.table.shared.key me l → HasWords me.0 node 18 → word ≡ node → MayChange (λ n. 0) (λ found. Unlocks me 0)
   may_unlock node lock has is = let within = words_within node lock.2.begin has in let node_is = lock.1 in
-      may_change lock.0.node (λ n. 0) (λ found. Unlocks me 0) (lock.1 ∙ sym is) (omega arith) (unlocks key laws id me lock.0 lock.2)
+      may table id me word lock.0.node (λ n. 0) (λ found. Unlocks me 0) (lock.1 ∙ sym is) (omega arith) (unlocks key laws id me lock.0 lock.2)
 
   pub may_draft : (own : Own) (owns : List Own) (next written x : ℕ) → HasDraft table.table.shared.key me own owns next written → word ≡ next + written → MayChange (λ n. x) (λ found. Drafts x me x)
   may_draft own owns next written x has is =
@@ -87,7 +76,7 @@ module _ (table : TableWords) (id : ℕ) (me : Me (Unit {0}) View) (word : ℕ) 
       let written_is = has.written_is in
       let room = has.room in
       let within = has.within in
-      may_change (own.next + length own.draft) (λ n. x) (λ found. Drafts x me x) (omega arith) (omega arith) (drafts key laws id me own owns x has.live has.owns_are (omega arith))
+      may table id me word (own.next + length own.draft) (λ n. x) (λ found. Drafts x me x) (omega arith) (omega arith) (drafts key laws id me own owns x has.live has.owns_are (omega arith))
 
 pub draft_within : (table : TableWords) (me : Me (Unit {0}) View) (own : Own) (owns : List Own) (next written : ℕ) → HasDraft table.table.shared.key me own owns next written → next + written < 2 ^ 32
 draft_within table me own owns next written has = let room = has.room in let within = has.within in let objects = table.made.objects in let units = table.made.units in omega arith

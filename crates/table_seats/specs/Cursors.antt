@@ -9,16 +9,16 @@ use Rattle.sync_model.specs.declared.item.SharedReply.{SharedReply}
 use Rattle.sync_model.specs.declared.item.SharedReply.TheVariants as replies
 use Rattle.sync_model.specs.Shared.{Called}
 use Rattle.sync_model.specs.SharedCalls.{IsStep}
-use Rattle.table_seats.specs.declared.begin.Begin.{Begin}
-use Rattle.table_seats.specs.declared.view.Leaf.{Leaf}
-use Rattle.table_seats.specs.declared.view.Own.{Own}
-use Rattle.table_seats.specs.declared.view.Spot.{Spot}
-use Rattle.table_seats.specs.declared.view.View.{View}
+use Rattle.table_rule.specs.declared.begin.Begin.{Begin}
+use Rattle.table_rule.specs.declared.view.Leaf.{Leaf}
+use Rattle.table_rule.specs.declared.view.Own.{Own}
+use Rattle.table_rule.specs.declared.view.Spot.{Spot}
+use Rattle.table_rule.specs.declared.view.View.{View}
 use Rattle.trie_nodes.specs.declared.slot.Slot.{Slot}
 use Rattle.trie_nodes.specs.declared.slot.Slot.TheVariants.{Empty, Node, Entry}
 use Rattle.trie_nodes.specs.Places.{bump, but_last}
-use Rattle.table_seats.specs.Shape.{start_of}
-use Rattle.table_seats.specs.Views.{made_by, with_item, called_view, view_state}
+use Rattle.table_rule.specs.Shape.{start_of}
+use Rattle.table_rule.specs.Views.{made_by, copied, with_item, called_view, view_state, Looks}
 use Rattle.table_seats.specs.Walking.{HasWords}
 
 -- the view of a seat whose cursor stands here, and that knows this entry
@@ -54,12 +54,13 @@ pub record IsCursorOf (items : List Item) (z : Spot) : Type 0 where
   pub steps : (j : ℕ) (x : Item) (key value : ℕ) → IsStep items z.begin j x (Some (key, value)) → Contains z.shown key
   pub shown : (key : ℕ) → Contains z.shown key → (j : ℕ) × (x : Item) × (value : ℕ) × IsStep items z.begin j x (Some (key, value))
 
--- a seat's step placed a call of a cursor, which is no entry of the history, and left the cursor here, and the seat with this entry
+-- a seat's step placed a call of a cursor, which is no entry of the history, and left the cursor here, and the seat with this entry. The seat has then seen the whole history
 pub record Sweeps (call : SharedCall) (reply : SharedReply) (spot : Option Spot) (leaf : Option Leaf) (v w : View) : Type 0 where
   pub item : Item
   pub seen : List SharedEntry
   pub is : w ≡ at_spot (called_view v (with_item v.owns item) seen) spot leaf
   pub called : Called (start_of v.begin) call reply 0 (view_state v) (view_state w)
+  pub looks : Looks w w
 
 -- a seat read a map's root word, and began a cursor there
 abbrev pub BeginsCursor : ℕ → Me (Unit {0}) View → ℕ → Me (Unit {0}) View → Type 0
@@ -109,4 +110,4 @@ abbrev pub unmounted : View → View
 unmounted v = record v { spot = None }
 
 abbrev pub cursor_seat : View → View
-cursor_seat v = record v { heard = []; owns = [] }
+cursor_seat = copied

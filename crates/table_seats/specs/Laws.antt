@@ -1,5 +1,10 @@
 -- The laws of shared histories, together, as the lemmas of this crate take them.
-use Rattle.std.specs.Prelude.{◌≡◌, ℕ, ◌≤◌, false, List, [], ◌++◌, length}
+use Rattle.std.specs.Prelude.{◌≡◌, ◌≢◌, ℕ, ◌≤◌, false, List, [], ◌++◌, length, Some}
+use Rattle.std.specs.FinMap.{FinMap, get}
+use Rattle.std.specs.Ordering.{nat_cmp}
+use Rattle.sync_types.specs.declared.map_object.MapCall.{MapCall}
+use Rattle.sync_types.specs.KeyCalls.{key_reply, is_key_entry, key_after}
+use Rattle.sync_types.specs.SequentialMap.{map_reply, map_after, map_key, is_map_entry}
 use Rattle.sync_model.specs.declared.item.Item.{Item}
 use Rattle.sync_model.specs.declared.item.SharedCall.{SharedCall}
 use Rattle.sync_model.specs.declared.item.SharedEntry.{SharedEntry}
@@ -9,7 +14,15 @@ use Rattle.sync_model.specs.SharedCalls.{Knows, Grows, Lawful, MayCall, AddsCall
 use Rattle.sync_model.specs.Shared.{CallerState, Called}
 use Rattle.sync_model.specs.SharedLaws.{IsWithinBoth, TakesIn}
 
+-- what a call does at its key, and at another one
+pub record KeyLaws : Type 0 where
+  pub replies : (call : MapCall ℕ) (key : ℕ) (m : FinMap nat_cmp ℕ) → map_key call ≡ Some key → map_reply call m ≡ key_reply call (get m key)
+  pub entries : (call : MapCall ℕ) (key : ℕ) (m : FinMap nat_cmp ℕ) → map_key call ≡ Some key → is_map_entry call m ≡ is_key_entry call (get m key)
+  pub left : (call : MapCall ℕ) (key : ℕ) (m : FinMap nat_cmp ℕ) → map_key call ≡ Some key → get (map_after call m) key ≡ key_after call (get m key)
+  pub others : (call : MapCall ℕ) (key other : ℕ) (m : FinMap nat_cmp ℕ) → map_key call ≡ Some key → other ≢ key → get (map_after call m) other ≡ get m other
+
 pub record HistoryLaws : Type 0 where
+  pub keys : KeyLaws
   pub start : (start : Contents) → Lawful start [] (λ caller. [])
   pub more : (start : Contents) (history : List SharedEntry) (calls new : ℕ → List Item) (c : ℕ) (x : Item)
       → AddsCall calls c x new → Lawful start history calls → MayCall start history calls c x → Lawful start (with_call history c x) new

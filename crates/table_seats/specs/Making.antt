@@ -9,13 +9,13 @@ use Rattle.sync_types.specs.declared.map_object.MapCall.{MapCall}
 use Rattle.sync_types.specs.declared.map_object.MapReply.{MapReply}
 use Rattle.sync_types.specs.SequentialMap.{map_key}
 use Rattle.sync_model.specs.Shared.{Called, cost_of}
-use Rattle.table_seats.specs.declared.begin.Begin.{Begin}
-use Rattle.table_seats.specs.declared.view.Gate.TheVariants.{Inside}
-use Rattle.table_seats.specs.declared.view.Leaf.{Leaf}
-use Rattle.table_seats.specs.declared.view.Lock.{Lock}
-use Rattle.table_seats.specs.declared.view.Own.{Own}
-use Rattle.table_seats.specs.declared.view.View.{View}
-use Rattle.table_seats.specs.declared.view.Walk.{Walk}
+use Rattle.table_rule.specs.declared.begin.Begin.{Begin}
+use Rattle.table_rule.specs.declared.view.Gate.TheVariants.{Inside}
+use Rattle.table_rule.specs.declared.view.Leaf.{Leaf}
+use Rattle.table_rule.specs.declared.view.Lock.{Lock}
+use Rattle.table_rule.specs.declared.view.Own.{Own}
+use Rattle.table_rule.specs.declared.view.View.{View}
+use Rattle.table_rule.specs.declared.view.Walk.{Walk}
 use Rattle.trie_nodes.specs.declared.plan.Expansion.{Expansion}
 use Rattle.trie_nodes.specs.declared.slot.Slot.{Slot}
 use Rattle.trie_nodes.specs.declared.slot.Slot.TheVariants.{Empty, Node, Entry}
@@ -23,11 +23,11 @@ use Rattle.trie_nodes.specs.Layout.{unit_words}
 use Rattle.trie_nodes.specs.Paths.{nibble, route}
 use Rattle.trie_nodes.specs.Plans.{IsExpansion}
 use Rattle.trie_nodes.specs.Slots.{word_of_slot, slot_in}
-use Rattle.table_seats.specs.KeyCalls.{is_key_entry, key_reply, key_after}
-use Rattle.table_seats.specs.Layout.{size_of}
-use Rattle.table_seats.specs.Shape.{start_of}
+use Rattle.sync_types.specs.KeyCalls.{is_key_entry, key_reply, key_after}
+use Rattle.table_rule.specs.Layout.{size_of}
+use Rattle.table_rule.specs.Shape.{start_of}
 use Rattle.table_seats.specs.Units.{link_at, unit_word}
-use Rattle.table_seats.specs.Views.{with_item, paid, called_view, view_state}
+use Rattle.table_rule.specs.Views.{with_item, paid, called_view, view_state}
 use Rattle.table_seats.specs.Walking.{given_by, FindsIn}
 use Rattle.table_seats.specs.Writing.{holding, lock_at, HasRoomWithin}
 

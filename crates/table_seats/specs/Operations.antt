@@ -12,9 +12,9 @@ use Rattle.sync_model.specs.declared.item.SharedReply.TheVariants as replies
 use Rattle.sync_types.specs.SequentialAtomic.{atomic_reply, atomic_after}
 use Rattle.sync_model.specs.Shared.{Called}
 use Rattle.sync_types.specs.WordLayout.{is_word, number_in}
-use Rattle.table_seats.specs.declared.view.View.{View}
-use Rattle.table_seats.specs.Shape.{start_of}
-use Rattle.table_seats.specs.Views.{with_item, called_view, view_state}
+use Rattle.table_rule.specs.declared.view.View.{View}
+use Rattle.table_rule.specs.Shape.{start_of}
+use Rattle.table_rule.specs.Views.{with_item, called_view, view_state}
 
 -- what an operation makes of a word is what the call makes of the number that the word stands for
 pub record IsOperation (kind : AtomicKind) (call : AtomicCall) (f : ℕ → ℕ) : Type 0 where

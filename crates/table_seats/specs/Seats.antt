@@ -2,11 +2,11 @@
 use Rattle.std.specs.Prelude.{◌≡◌}
 use Rattle.atomic_table.specs.declared.shared.Seat.{Seat}
 use Rattle.sync_model.specs.SharedHistory.{Contents, contents_after}
-use Rattle.table_seats.specs.declared.begin.Begin.{Begin}
-use Rattle.table_seats.specs.declared.view.View.{View}
+use Rattle.table_rule.specs.declared.begin.Begin.{Begin}
+use Rattle.table_rule.specs.declared.view.View.{View}
 use Rattle.table_seats.specs.declared.words.TableWords.{TableWords}
-use Rattle.table_seats.specs.Shape.{start_of}
-use Rattle.table_seats.specs.Views.{Looks}
+use Rattle.table_rule.specs.Shape.{start_of}
+use Rattle.table_rule.specs.Views.{Looks}
 
 -- what the table was made of
 abbrev pub begin_of : TableWords → Begin

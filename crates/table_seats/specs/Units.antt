@@ -5,7 +5,7 @@ use Rattle.trie_nodes.specs.declared.slot.Slot.TheVariants.{Node}
 use Rattle.trie_nodes.specs.Paths.{nibble, route}
 use Rattle.trie_nodes.specs.Plans.{one_slot, place_before, last_slots}
 use Rattle.trie_nodes.specs.Slots.{word_of_slot}
-use Rattle.table_seats.specs.Shape.{Shape}
+use Rattle.table_rule.specs.Shape.{Shape}
 
 -- the place of number i of a unit's nodes
 abbrev pub link_at : ℕ → ℕ → ℕ

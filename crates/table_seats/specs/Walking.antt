@@ -8,18 +8,18 @@ use Rattle.sync_model.specs.declared.item.SharedReply.TheVariants as replies
 use Rattle.sync_types.specs.declared.map_object.MapCall.{MapCall}
 use Rattle.sync_types.specs.declared.map_object.MapReply.{MapReply}
 use Rattle.sync_model.specs.Shared.{Called, cost_of}
-use Rattle.table_seats.specs.declared.view.Leaf.{Leaf}
-use Rattle.table_seats.specs.declared.view.Own.{Own}
-use Rattle.table_seats.specs.declared.view.View.{View}
-use Rattle.table_seats.specs.declared.view.Walk.{Walk}
+use Rattle.table_rule.specs.declared.view.Leaf.{Leaf}
+use Rattle.table_rule.specs.declared.view.Own.{Own}
+use Rattle.table_rule.specs.declared.view.View.{View}
+use Rattle.table_rule.specs.declared.view.Walk.{Walk}
 use Rattle.trie_nodes.specs.declared.slot.Slot.{Slot}
 use Rattle.trie_nodes.specs.declared.slot.Slot.TheVariants.{Empty, Node, Entry}
-use Rattle.table_seats.specs.declared.begin.Begin.{Begin}
+use Rattle.table_rule.specs.declared.begin.Begin.{Begin}
 use Rattle.trie_nodes.specs.Paths.{route}
-use Rattle.table_seats.specs.KeyCalls.{is_key_entry, key_reply}
-use Rattle.table_seats.specs.Layout.{size_of}
-use Rattle.table_seats.specs.Shape.{start_of}
-use Rattle.table_seats.specs.Views.{with_item, paid, MayPay, called_view, view_state, IsIdle}
+use Rattle.sync_types.specs.KeyCalls.{is_key_entry, key_reply}
+use Rattle.table_rule.specs.Layout.{size_of}
+use Rattle.table_rule.specs.Shape.{start_of}
+use Rattle.table_rule.specs.Views.{with_item, paid, MayPay, called_view, view_state, IsIdle}
 
 -- the view of a seat that stands here, and knows this entry
 abbrev pub standing : View → Option Walk → Option Leaf → View

@@ -1,7 +1,7 @@
 //! The steps of a seat that clears a map: it closes the gate of the map's writers, looks whether one is inside, writes a new
 //! empty root into the map's root word, and opens the gate. Lookups go on all the while, in the new nodes or in the old ones.
 ghost use Rattle.std.specs.Prelude.{◌≡◌, ◌<◌, true, false, None, MatchBool};
-ghost use Rattle.table_seats.specs.declared.view.Gate.TheVariants.{Outside, Closed};
+ghost use Rattle.table_rule.specs.declared.view.Gate.TheVariants.{Outside, Closed};
 ghost use Rattle.table_seats.specs.Clearing.{HasClosed, Closes, LooksInside, Clears};
 ghost use Rattle.table_seats.specs.Making.{HasUnit};
 ghost use Rattle.table_seats.specs.Seats.{begin_of, IsSeatOf};
@@ -10,10 +10,10 @@ ghost use Rattle.table_seats.specs.Writing.{holding, GoesOut, HasRoomWithin};
 
 use crate::laws::history_laws;
 use crate::lookup::Way;
-use crate::view::View;
 use crate::words::TableWords;
 use atomic_table::{Play, Seat};
 use std::marker::{Brand, PhantomData};
+use table_rule::view::View;
 
 // The word of a gate that is closed, where no writer is inside.
 const CLOSED: u64 = 1 << 32;
@@ -76,7 +76,7 @@ impl TableWords {
         ensures closed { MatchBool result (seat.new.me.0 ≡ holding seat.old.me.0 (Closed map false) None None) (seat.new.me.0 ≡ seat.old.me.0) }
     {
         history_laws();
-        let word = 2 + self.begin.kinds.len() + 2 * map as usize;
+        let word = self.gate_word(map);
         let shared = &self.table.shared;
         let writers = shared.peek(word);
         if writers >= CLOSED {
@@ -108,7 +108,7 @@ impl TableWords {
         ensures alone { MatchBool result (seat.new.me.0 ≡ holding seat.old.me.0 (Closed map true) None None) (seat.new.me.0 ≡ seat.old.me.0) }
     {
         history_laws();
-        let word = 2 + self.begin.kinds.len() + 2 * map as usize;
+        let word = self.gate_word(map);
         self.table.shared.load::<LookInside<W>>(seat, word) == CLOSED
     }
 
@@ -135,7 +135,7 @@ impl TableWords {
         ensures cleared { Clears map seat.old.me seat.new.me }
     {
         history_laws();
-        let word = 1 + self.begin.kinds.len() + 2 * map as usize;
+        let word = self.root_word(map);
         self.table.shared.store::<WriteRoot<W>>(seat, word, next);
     }
 
@@ -149,7 +149,7 @@ impl TableWords {
         ensures room { HasRoomWithin seat.old.me.0 }
     {
         history_laws();
-        let word = 2 + self.begin.kinds.len() + 2 * map as usize;
+        let word = self.gate_word(map);
         self.table.shared.store::<Open>(seat, word, 0);
     }
 }

@@ -3,13 +3,13 @@
 ghost use Rattle.std.specs.Prelude.{◌≡◌, ◌+◌, ◌<◌, true, [], length};
 ghost use Rattle.sync_model.specs.Front.{AtLeast};
 ghost use Rattle.table_seats.specs.Seats.{begin_of, IsSeatOf};
-ghost use Rattle.table_seats.specs.Views.{copied, dealt, joined, kept, IsIdle, Looks};
+ghost use Rattle.table_rule.specs.Views.{copied, dealt, joined, kept, IsIdle, Looks};
 
 use crate::laws::history_laws;
 use crate::rule::{Copied, Deal, Gather, Look};
-use crate::view::View;
 use crate::words::TableWords;
 use atomic_table::Seat;
+use table_rule::view::View;
 
 // The word that a look reads: it is always 0.
 pub(crate) const ZERO: usize = 0;

@@ -1,22 +1,22 @@
 //! The steps of a cursor over a map: it begins at the map's root, reads the slot where it stands, goes up, and at its end shows
 //! none. It has a seat of its own, which the caller's takes in for each step, and lets go behind it.
 ghost use Rattle.std.specs.Prelude.{◌≡◌, ℕ, ◌<◌, true, List, [], ◌∷◌, ◌++◌, length, Some, None};
-ghost use Rattle.table_seats.specs.declared.view.Gate.TheVariants.{Outside};
-ghost use Rattle.table_seats.specs.declared.view.Spot.{Spot};
+ghost use Rattle.table_rule.specs.declared.view.Gate.TheVariants.{Outside};
+ghost use Rattle.table_rule.specs.declared.view.Spot.{Spot};
 ghost use Rattle.table_seats.specs.Cursors.{mounted, unmounted, cursor_seat, BeginsCursor, SweepsSlot, GoesUp, ShowsNone, Sweeping, StandsIn};
 ghost use Rattle.table_seats.specs.SweepLaws.{SweepLaws};
 ghost use Rattle.table_seats.specs.Seats.{begin_of, IsSeatOf};
-ghost use Rattle.table_seats.specs.Views.{spent};
+ghost use Rattle.table_rule.specs.Views.{spent};
 ghost use Rattle.table_seats.specs.Walking.{HasWords};
 ghost use Rattle.trie_nodes.specs.Slots.{slot_in};
 
 use crate::copies::ZERO;
 use crate::laws::history_laws;
 use crate::lookup::Way;
-use crate::view::View;
 use crate::words::TableWords;
 use atomic_table::{Join, Play, Seat, Split};
 use std::marker::{Brand, PhantomData};
+use table_rule::view::View;
 use trie_nodes::Slot;
 use trie_nodes::laws::order::a_walk_passes_each_key_once;
 use trie_nodes::laws::paths::{a_path_has_a_slot_of_each_level, each_slot_has_a_key};
@@ -93,7 +93,7 @@ impl TableWords {
     {
         history_laws();
         sweep_laws();
-        let word = 1 + self.begin.kinds.len() + 2 * map as usize;
+        let word = self.root_word(map);
         self.table.shared.load::<BeginCursor<W>>(seat, word)
     }
 

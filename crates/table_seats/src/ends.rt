@@ -3,16 +3,16 @@ ghost use Rattle.std.specs.Prelude.{◌≡◌, ◌^◌, ◌<◌, true, length, m
 ghost use Rattle.sync_types.specs.SequentialAtomic.{kind_of};
 ghost use Rattle.table_ends.specs.EndContents.{contents_of};
 ghost use Rattle.table_seats.specs.EndLaws.{EndLaws};
-ghost use Rattle.table_seats.specs.Keys.{HasKeysBelow};
+ghost use Rattle.sync_model.specs.EndsOfHistory.{HasKeysBelow};
 ghost use Rattle.table_seats.specs.Seats.{begin_of, EndsAt, IsSeatOf};
 
-use crate::begin::Begin;
 use crate::laws::history_laws;
-use crate::view::View;
 use crate::words::TableWords;
 use atomic_table::Seat;
 use sync_model::laws::shared_steps::maps_and_atomics_stay;
 use table_ends::TableEnds;
+use table_rule::begin::Begin;
+use table_rule::view::View;
 use trie_nodes::laws::nodes::nodes_stand_for_what_their_slots_show;
 use trie_nodes::laws::walks::a_walk_finds_each_key_once;
 

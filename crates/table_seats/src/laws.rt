@@ -1,21 +1,31 @@
 //! Laws of shared histories and of tries that the proofs here stand on.
-ghost use Rattle.table_seats.specs.Laws.{HistoryLaws};
+ghost use Rattle.table_seats.specs.Laws.{HistoryLaws, KeyLaws};
 ghost use Rattle.table_seats.specs.TrieLaws.{TrieLaws};
 
 use sync_model::laws::shared_steps::{
     a_lawful_call_is_as_promised, fronts_stay_known, histories_go_on, maps_and_atomics_stay,
     one_more_call_keeps_the_law,
 };
+use sync_types::laws::maps::{calls_leave_other_keys, its_key_decides_a_call};
 use trie_nodes::laws::chains::each_node_of_a_chain_shows_what_the_map_has;
 use trie_nodes::laws::paths::{
     a_path_has_a_slot_of_each_level, paths_that_part_stay_apart, the_paths_of_different_keys_part,
 };
 use trie_nodes::laws::words::a_word_is_that_of_one_slot;
 
-// How a lawful history goes on.
+// What a call does at its key, and at another one.
+fn key_laws()
+    ensures { KeyLaws }
+{
+    its_key_decides_a_call::<u32>();
+    calls_leave_other_keys::<u32>();
+}
+
+// How a lawful history goes on, and what a call does at a key.
 pub(crate) fn history_laws()
     ensures { HistoryLaws }
 {
+    key_laws();
     one_more_call_keeps_the_law();
     a_lawful_call_is_as_promised();
     fronts_stay_known();

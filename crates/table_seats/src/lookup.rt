@@ -3,18 +3,18 @@
 ghost use Rattle.std.specs.Prelude.{◌≡◌, ℕ, ◌+◌, ◌<◌, ◌≤◌, ◌^◌, Some, length};
 ghost use Rattle.sync_types.specs.SequentialMap.{map_key};
 ghost use Rattle.sync_model.specs.Shared.{cost_of};
-ghost use Rattle.table_seats.specs.declared.view.Leaf.{Leaf};
+ghost use Rattle.table_rule.specs.declared.view.Leaf.{Leaf};
 ghost use Rattle.table_seats.specs.Seats.{begin_of, IsSeatOf};
 ghost use Rattle.trie_nodes.specs.Slots.{slot_in};
 ghost use Rattle.table_seats.specs.Walking.{standing, walk_at, HasWords, Enters, MayEnter, FindsIn, LooksIn, Affords, ReadsKey, KeepsValue, ReadsValue, OnWay, AtEntry};
 
 use crate::laws::history_laws;
 use crate::making::Making;
-use crate::view::{Leaf, View};
 use crate::words::TableWords;
 use atomic_table::{Play, Seat};
 use std::marker::{Brand, PhantomData};
 use sync_types::MapCall;
+use table_rule::view::{Leaf, View};
 use trie_nodes::layout::{key_word, slot_word, value_word};
 use trie_nodes::{Slot, nibble};
 
@@ -91,7 +91,7 @@ impl TableWords {
         ensures table { seat.new.table_id ≡ seat.old.table_id }
         ensures entered { Enters map W.key seat.old.me result seat.new.me }
     {
-        let word = 1 + self.begin.kinds.len() + 2 * map as usize;
+        let word = self.root_word(map);
         self.table.shared.load::<Enter<W>>(seat, word)
     }
 
@@ -139,6 +139,19 @@ impl TableWords {
         Slot::of_word(self.table.shared.load::<LookIn<C>>(seat, word))
     }
 
+    // The seat reads the key of the entry that it knows.
+    fn read_key(&self, seat: &mut Seat<(), View>, place: u64) -> u64
+        requires table { IsSeatOf self.now seat.old }
+        requires begin { seat.old.me.0.begin ≡ begin_of self.now }
+        requires entry { AtEntry seat.old.me place }
+        requires words { HasWords seat.old.me.0 place 2 }
+        ensures table { seat.new.table_id ≡ seat.old.table_id }
+        ensures same { seat.new.me ≡ seat.old.me }
+        ensures key { (l : Leaf) → seat.old.me.0.leaf ≡ Some l → result ≡ l.key }
+    {
+        self.table.shared.load::<ReadKey>(seat, key_word(place))
+    }
+
     /// The seat reads the entry that it knows, its key and its value, and leaves it.
     pub fn read_pair(&self, seat: &mut Seat<(), View>, place: u64) -> (u64, u64)
         requires table { IsSeatOf self.now seat.old }
@@ -149,9 +162,8 @@ impl TableWords {
         ensures left { (seat.new.me.1 ≡ seat.old.me.1) × (seat.new.me.0 ≡ standing seat.old.me.0 seat.old.me.0.walk None) }
         ensures pair { (l : Leaf) → seat.old.me.0.leaf ≡ Some l → (result.0 ≡ l.key) × (result.1 ≡ l.value) }
     {
-        let shared = &self.table.shared;
-        let key = shared.load::<ReadKey>(seat, key_word(place));
-        let value = shared.load::<ReadValue>(seat, value_word(place));
+        let key = self.read_key(seat, place);
+        let value = self.table.shared.load::<ReadValue>(seat, value_word(place));
         (key, value)
     }
 
@@ -165,9 +177,8 @@ impl TableWords {
         ensures same { seat.new.me ≡ seat.old.me }
         ensures leaf { seat.old.me.0.leaf ≡ Some result }
     {
-        let shared = &self.table.shared;
-        let key = shared.load::<ReadKey>(seat, key_word(place));
-        let value = shared.load::<KeepValue>(seat, value_word(place));
+        let key = self.read_key(seat, place);
+        let value = self.table.shared.load::<KeepValue>(seat, value_word(place));
         Leaf { place, key, value }
     }
 }

@@ -1,16 +1,16 @@
 //! New tables.
 ghost use Rattle.std.specs.Prelude.{◌≡◌, ◌+◌, ◌^◌, ◌<◌, ◌≤◌, [], IfOk, sum};
 ghost use Rattle.table_seats.specs.Blank.{IsBlank};
-ghost use Rattle.table_seats.specs.Layout.{first_room, IsBegin};
+ghost use Rattle.table_rule.specs.Layout.{first_room, IsBegin};
 ghost use Rattle.table_seats.specs.Seats.{begin_of, IsSeatOf};
-ghost use Rattle.table_seats.specs.Views.{first_view};
+ghost use Rattle.table_rule.specs.Views.{first_view};
 
-use crate::begin::Begin;
 use crate::laws::history_laws;
-use crate::view::View;
 use crate::words::TableWords;
 use atomic_table::{Seat, Table};
 use std::alloc::{AllocError, Global};
+use table_rule::begin::Begin;
+use table_rule::view::View;
 
 impl TableWords {
     /// The words of empty maps and of atomics that are 0 or false, and one seat for all callers. While they are made they stand

@@ -4,16 +4,16 @@ ghost use Rattle.sync_types.specs.declared.atomic_object.AtomicKind.{AtomicKind}
 ghost use Rattle.table_seats.specs.Operations.{IsOperation, Operates};
 ghost use Rattle.table_seats.specs.Seats.{begin_of, IsSeatOf};
 ghost use Rattle.table_seats.specs.Walking.{IsFree};
-ghost use Rattle.table_seats.specs.WordSteps.{word_after};
+ghost use Rattle.table_rule.specs.WordSteps.{word_after};
 
 use crate::laws::history_laws;
 use crate::rule::{Operate, Operation};
-use crate::view::View;
-use crate::word_step::WordStep;
 use crate::words::TableWords;
 use atomic_table::Seat;
 use std::marker::Brand;
 use sync_types::AtomicCall;
+use table_rule::view::View;
+use table_rule::word_step::WordStep;
 
 impl TableWords {
     /// A seat makes an operation on an atomic's word, in one atomic step, and tells the word as it was before. The step places

@@ -1,17 +1,17 @@
 //! The write of a call that changes a map: one write to a slot, under its node's lock, shows what its caller has drafted.
 ghost use Rattle.std.specs.Prelude.{◌≡◌, ◌<◌};
-ghost use Rattle.table_seats.specs.declared.view.Lock.{Lock};
+ghost use Rattle.table_rule.specs.declared.view.Lock.{Lock};
 ghost use Rattle.table_seats.specs.Making.{IsLockAt, MayPublish, Publishes};
 ghost use Rattle.table_seats.specs.Seats.{begin_of, IsSeatOf};
 ghost use Rattle.table_seats.specs.Walking.{HasWords};
 
 use crate::laws::{history_laws, trie_laws};
 use crate::making::Making;
-use crate::view::View;
 use crate::words::TableWords;
 use atomic_table::{Play, Seat};
 use std::marker::{Brand, PhantomData};
 use sync_types::MapCall;
+use table_rule::view::View;
 use trie_nodes::layout::slot_word;
 use trie_nodes::nibble;
 

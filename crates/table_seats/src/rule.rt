@@ -3,13 +3,13 @@ ghost use Rattle.std.specs.Prelude.{◌≡◌, ℕ};
 ghost use Rattle.sync_types.specs.declared.atomic_object.AtomicCall.{AtomicCall};
 ghost use Rattle.sync_types.specs.declared.atomic_object.AtomicCall.TheVariants.{Load};
 ghost use Rattle.table_seats.specs.Operations.{Operates};
-ghost use Rattle.table_seats.specs.Rule.{Kept};
-ghost use Rattle.table_seats.specs.Views.{first_view, copied, dealt, kept, joined, spent, Looks};
+ghost use Rattle.table_rule.specs.Rule.{Kept};
+ghost use Rattle.table_rule.specs.Views.{first_view, copied, dealt, kept, joined, spent, Looks};
 
-use crate::begin::Begin;
-use crate::view::View;
 use atomic_table::{Join, Play, Split, TableRule};
 use std::marker::{Brand, PhantomData};
+use table_rule::begin::Begin;
+use table_rule::view::View;
 
 /// The rule of shared tables.
 pub struct SharedRule;

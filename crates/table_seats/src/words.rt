@@ -1,12 +1,12 @@
 //! The row of words of a table, which seats change step by step.
 ghost use Rattle.std.specs.Prelude.{◌≡◌};
-ghost use Rattle.table_seats.specs.Layout.{size_of, IsBegin};
+ghost use Rattle.table_rule.specs.Layout.{size_of, IsBegin};
 
-use crate::begin::Begin;
 use crate::rule::SharedRule;
-use crate::view::View;
 use atomic_table::Table;
 use std::alloc::Global;
+use table_rule::begin::Begin;
+use table_rule::view::View;
 
 /// The words of maps and typed atomics. They change in single atomic steps, which seats make under one rule.
 #[derive(Drop)]

@@ -1,11 +1,11 @@
 //! The steps of a call that writes a map, up to the write: coming in by the map's gate, taking the lock of a node, reading a
 //! slot under it, writing a word of the own room, giving the lock back, and going out.
 ghost use Rattle.std.specs.Prelude.{◌≡◌, ℕ, ◌+◌, ◌<◌, ◌≤◌, true, List, Some, None, MatchBool, length};
-ghost use Rattle.table_seats.specs.declared.view.Gate.TheVariants.{Outside, Inside};
-ghost use Rattle.table_seats.specs.declared.view.Lock.{Lock};
-ghost use Rattle.table_seats.specs.declared.view.Own.{Own};
-ghost use Rattle.table_seats.specs.declared.view.Walk.{Walk};
-ghost use Rattle.table_seats.specs.Layout.{size_of};
+ghost use Rattle.table_rule.specs.declared.view.Gate.TheVariants.{Outside, Inside};
+ghost use Rattle.table_rule.specs.declared.view.Lock.{Lock};
+ghost use Rattle.table_rule.specs.declared.view.Own.{Own};
+ghost use Rattle.table_rule.specs.declared.view.Walk.{Walk};
+ghost use Rattle.table_rule.specs.Layout.{size_of};
 ghost use Rattle.table_seats.specs.Seats.{begin_of, IsSeatOf};
 ghost use Rattle.table_seats.specs.Walking.{standing, walk_at, HasWords, Affords, IsFree};
 ghost use Rattle.sync_types.specs.SequentialMap.{map_key};
@@ -17,11 +17,11 @@ ghost use Rattle.table_seats.specs.Writing.{holding, lock_at, IsWriter, TriesLoc
 use crate::laws::history_laws;
 use crate::lookup::Way;
 use crate::making::Making;
-use crate::view::View;
 use crate::words::TableWords;
 use atomic_table::{Play, Seat};
 use std::marker::{Brand, PhantomData};
 use sync_types::MapCall;
+use table_rule::view::View;
 use trie_nodes::layout::{DEAD, FREE, held_word, lock_word, slot_word};
 use trie_nodes::{Slot, nibble};
 
@@ -95,7 +95,7 @@ impl TableWords {
         ensures inside { MatchBool result (seat.new.me.0 ≡ holding seat.old.me.0 (Inside map) None None) (seat.new.me.0 ≡ seat.old.me.0) }
     {
         history_laws();
-        let word = 2 + self.begin.kinds.len() + 2 * map as usize;
+        let word = self.gate_word(map);
         let shared = &self.table.shared;
         let writers = shared.peek(word);
         if writers >= DEAD {
@@ -197,7 +197,7 @@ impl TableWords {
         ensures room { HasRoomWithin seat.old.me.0 }
     {
         history_laws();
-        let word = 2 + self.begin.kinds.len() + 2 * map as usize;
+        let word = self.gate_word(map);
         self.table.shared.fetch_sub::<GoOut>(seat, word, 1);
     }
 

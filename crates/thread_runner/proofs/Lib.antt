@@ -12,3 +12,4 @@ pub mod ScriptLoop
 pub mod Ended
 pub mod SameCallers
 pub mod AllReady
+pub mod Costs

@@ -1,19 +1,15 @@
--- What is made before the start of a run over plain maps and atomics.
+-- What is made before the start of a run.
 use Rattle.std.specs.Prelude.{◌≡◌, ℕ, ◌+◌, ◌*◌, ◌<◌, ◌≤◌, List, [], Contains, Option, Some, length, get_or, slice_get}
 use Rattle.std.specs.Option.{ForSome}
 use Rattle.sync_model.specs.declared.caller.Caller.{Caller}
 use Rattle.sync_types.specs.declared.outcome.End.{End}
 use Rattle.sync_model.specs.Note.{Holding}
-use Rattle.sync_model.specs.Shared.{AreAllCallers, items_of}
+use Rattle.sync_model.specs.Shared.{items_of}
 use Rattle.workload.specs.Keys.{keys_in, key_number, key_name}
 use Rattle.workload.specs.Plan.{Plan}
 use Rattle.run_record.specs.Objects.{is_map, is_atomic, places_from}
-use Rattle.shared_plain.specs.declared.mark.Mark.{Mark}
-use Rattle.shared_plain.specs.declared.plain.Plain.{Plain}
-use Rattle.shared_plain.specs.EndLists.{AreInNameOrder}
-use Rattle.shared_plain.specs.Marks.{own_by, IsMarkOf}
-use Rattle.shared_plain.specs.Plains.{count_of, keys_of, kinds_of, maps_of, Takes}
-use Rattle.thread_calls.specs.Sites.{AreShared, cost_of_calls}
+use Rattle.sync_model.specs.EndsByName.{AreInNameOrder}
+use Rattle.thread_calls.specs.Sites.{cost_of_calls}
 
 module _ {N : Type 0} (own : N → Option Holding) where
   -- no caller has made a call
@@ -32,15 +28,3 @@ pub record IsEndsPlan (plan : Plan) (atomics maps order : List ℕ) (ends : List
   pub all_keys : (key : ℕ) → key < length (keys_in plan.scripts) → Contains order key
   pub none : ends ≡ []
   pub enough : length atomics + length maps * length order ≤ room
-
--- plain maps and atomics are those of the workload, with a caller for each worker
-pub record IsPlainOf (plan : Plan) (plain : Plain) : Type 0 where
-  pub shared : AreShared plan (maps_of plain) (kinds_of plain) (Takes plain)
-  pub count : count_of plain ≡ plan.workers
-  pub keys : keys_of plain ≡ length (keys_in plan.scripts)
-
--- their callers have made no call, and each has spare entries for its worker's script
-pub record AreUnused (plan : Plan) (plain : Plain) (callers : List (Caller Mark)) : Type 0 where
-  pub all : AreAllCallers IsMarkOf own_by plain callers plan.workers
-  pub unused : HaveMadeNone own_by callers
-  pub spare : HaveSpare own_by plan callers

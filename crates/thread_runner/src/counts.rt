@@ -1,4 +1,4 @@
-//! What a workload asks of plain maps and atomics.
+//! What a workload asks of its maps and atomics.
 ghost use Rattle.std.specs.Prelude.{◌≡◌, ℕ, ◌+◌, ◌<◌, ◌≤◌, ◌^◌, ◌++◌, ◌∷◌, [], cond, length, get_or, slice_index, count_by, IfOk, OnOk};
 ghost use Rattle.std.specs.List.{flat_map};
 ghost use Rattle.run_record.specs.Objects.{is_map, is_atomic, places_from, types_of};
@@ -122,7 +122,8 @@ fn call_cost(call: &Call) -> u32
 // How many spare entries a script takes at most.
 fn script_cost(script: &[Call]) -> u32
     requires { length script.now < 2 ^ 32 }
-    ensures { result ≡ cost_of_calls script.now }
+    ensures cost { result ≡ cost_of_calls script.now }
+    ensures small { result ≤ length script.now }
 {
     let mut cost = 0;
     for call in script {
@@ -135,6 +136,7 @@ fn script_cost(script: &[Call]) -> u32
 pub(crate) fn spares(alloc: Global, workload: &Workload) -> Result<Vec<u32>, AllocError>
     ensures count { IfOk result (λ spares. length spares.items ≡ workload.now.workers) }
     ensures each { IfOk result (λ spares. (worker : ℕ) → worker < workload.now.workers → slice_index spares.items worker ≡ cost_of_calls (get_or workload.now.scripts worker [])) }
+    ensures few { IfOk result (λ spares. (worker : ℕ) → worker < workload.now.workers → slice_index spares.items worker ≤ length (get_or workload.now.scripts worker [])) }
 {
     let mut spares = Vec::new(alloc);
     for worker in 0..workload.workers() {

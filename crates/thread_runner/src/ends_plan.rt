@@ -1,17 +1,11 @@
-//! The list of ends that a run over plain maps and atomics is reported with.
-ghost use Rattle.std.specs.Prelude.{◌≡◌, ◌+◌, ◌*◌, ◌≤◌, [], length, vec_capacity, IfOk};
-ghost use Rattle.workload.specs.Keys.{keys_in};
-ghost use Rattle.run_record.specs.Objects.{ends_in};
-ghost use Rattle.shared_plain.specs.EndLists.{HasKeysBelow};
-ghost use Rattle.shared_plain.specs.PlainMachine.{contents_of};
+//! The list of ends that a run is reported with.
+ghost use Rattle.std.specs.Prelude.{◌≡◌, ◌+◌, ◌*◌, ◌≤◌, [], vec_capacity, IfOk};
 ghost use Rattle.thread_runner.specs.EndsPlans.{IsEndsPlan};
 
 use crate::counts::{Places, places_of};
 use crate::key_order::key_order;
-use shared_plain::PlainState;
-use shared_plain::laws::ends_are_in_name_order;
 use std::alloc::{AllocError, Global};
-use sync_types::{End, Seq};
+use sync_types::End;
 use workload::Workload;
 
 /// What the list of ends takes, which is made before the first start.
@@ -36,22 +30,6 @@ impl EndsPlan {
             order,
             ends,
         })
-    }
-
-    /// The list of ends of these maps and atomics. It takes no memory.
-    pub fn list(self, workload: &Workload, state: &PlainState) -> Seq<End>
-        requires made { IsEndsPlan workload.now self.places.atomics.items self.places.maps.items self.order.items self.ends.items (vec_capacity self.ends) }
-        requires keys { HasKeysBelow (length (keys_in workload.now.scripts)) (contents_of state.now) }
-        ensures { result ≡ ends_in workload.now (contents_of state.now) }
-    {
-        ends_are_in_name_order();
-        let EndsPlan {
-            places,
-            order,
-            mut ends,
-        } = self;
-        state.push_ends(&places.atomics, &places.maps, &order, &mut ends);
-        Seq::from_vec(ends)
     }
 }
 

@@ -4,8 +4,8 @@ ghost use Rattle.std.specs.Prelude.{◌≡◌};
 use crate::script::run_script;
 use std::sync::Wait;
 use sync_model::{Caller, Note, Shared};
-use sync_types::{BoundedSeq, Reply, Seq};
 use sync_outside::{Clock, Gate, Work};
+use sync_types::{BoundedSeq, Reply, Seq};
 use thread_calls::Site;
 use thread_objects::{AnyPass, Worker};
 

@@ -2,10 +2,10 @@
 ghost use Rattle.std.specs.Prelude.{◌≡◌, ℕ, List, ◌<◌, ◌≤◌, ◌^◌, Some, Contains, length, map, slice_get, IfOk};
 ghost use Rattle.std.specs.FinMap.{entries, get};
 ghost use Rattle.workload.specs.Keys.{keys_in, key_number, key_name};
-ghost use Rattle.shared_plain.specs.EndLists.{AreInNameOrder};
+ghost use Rattle.sync_model.specs.EndsByName.{AreInNameOrder};
 
-use shared_plain::laws::numbers_by_name_are_in_name_order;
 use std::alloc::{AllocError, Global};
+use sync_model::laws::ends::numbers_by_name_are_in_name_order;
 use sync_types::{ByName, Name, Seq};
 use workload::Workload;
 use workload::laws::keys_are_numbered_by_first_appearance;

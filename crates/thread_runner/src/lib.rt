@@ -9,14 +9,15 @@ mod gather;
 mod hire;
 mod job;
 mod key_order;
-mod plain;
-mod plain_run;
 mod run;
+mod run_maps;
 mod script;
+mod trie_maps;
+mod whole_run;
 
 pub use fault::RunFault;
-pub use plain_run::threaded;
 pub use run::threaded_over;
+pub use whole_run::threaded;
 
 #[cfg(test)]
 mod tests;

@@ -22,8 +22,8 @@ use kind_calls::halt_all;
 use kind_calls::laws::moves;
 use std::sync::Wait;
 use sync_model::{Answer, Caller, Note, Shared};
-use sync_types::{BoundedSeq, Reply};
 use sync_outside::{Clock, Gate};
+use sync_types::{BoundedSeq, Reply};
 use thread_calls::{Site, make_call};
 use thread_objects::{AnyPass, Worker};
 

@@ -1,13 +1,43 @@
+mod plain_maps;
+
+use crate::whole_run::threaded_on;
 use crate::{RunFault, threaded};
+use shared_plain::Plain;
 use std::alloc::{AllocError, Global};
 use std::sync::Wait;
 use std::test::Fail;
 use std::thread::Threads;
-use sync_types::{Outcome, Report};
 use sync_outside::{
     Clock, Gate, HoldGate, MemClock, OpenGate, RefuseStart, Spawner, SystemClock, ThreadSpawner,
 };
+use sync_types::{Outcome, Report};
+use workload::Workload;
 use workload_reader::parse;
+
+// What the maps and atomics of a run are.
+#[derive(Clone, Copy, Debug)]
+enum Over {
+    Tries,
+    Plain,
+}
+
+// What the run of a workload comes to, over maps and atomics of either kind.
+fn run_of<C: Clock + Sync, P: Spawner, G: Gate + Sync, R: Threads + Wait + Sync>(
+    rt: &R,
+    alloc: Global,
+    over: Over,
+    workload: &Workload,
+    clock: &C,
+    spawner: &mut P,
+    gate: &G,
+) -> Result<Outcome, RunFault> {
+    match over {
+        Over::Tries => threaded(rt, alloc, workload, clock, spawner, gate),
+        Over::Plain => {
+            threaded_on::<Plain, C, P, G, R>(rt, alloc, workload, clock, spawner, gate)
+        }
+    }
+}
 
 // The replies of each worker, and what the objects hold at the end.
 fn told(alloc: Global, report: &Report) -> Result<String, AllocError> {
@@ -27,6 +57,7 @@ fn told(alloc: Global, report: &Report) -> Result<String, AllocError> {
 fn told_of<C: Clock + Sync, P: Spawner, G: Gate + Sync, R: Threads + Wait + Sync>(
     rt: &R,
     alloc: Global,
+    over: Over,
     text: &str,
     clock: &C,
     spawner: &mut P,
@@ -35,7 +66,7 @@ fn told_of<C: Clock + Sync, P: Spawner, G: Gate + Sync, R: Threads + Wait + Sync
     let Ok(workload) = parse(alloc, text.as_bytes()) else {
         return String::from_str(alloc, "not read");
     };
-    match threaded(rt, alloc, &workload, clock, spawner, gate) {
+    match run_of(rt, alloc, over, &workload, clock, spawner, gate) {
         Ok(Outcome::Done(report)) => told(alloc, &report),
         Ok(Outcome::Misused(report, misuse)) => {
             let left = told(alloc, &report)?;
@@ -48,7 +79,7 @@ fn told_of<C: Clock + Sync, P: Spawner, G: Gate + Sync, R: Threads + Wait + Sync
     }
 }
 
-// What it comes to in threads of the machine, with this gate.
+// What it comes to in threads of the machine, over tries, with this gate.
 fn told_through<G: Gate + Sync, R: Threads + Wait + Sync>(
     rt: &R,
     alloc: Global,
@@ -57,10 +88,10 @@ fn told_through<G: Gate + Sync, R: Threads + Wait + Sync>(
 ) -> Result<String, AllocError> {
     let clock = MemClock::new(Vec::new(alloc));
     let mut spawner = ThreadSpawner::new();
-    told_of(rt, alloc, text, &clock, &mut spawner, gate)
+    told_of(rt, alloc, Over::Tries, text, &clock, &mut spawner, gate)
 }
 
-// The first of these texts that doesn't come to what stands beside it, and what it comes to.
+// The first of these texts that doesn't come to what stands beside it, over tries or over plain maps, and what it comes to.
 fn first_other<C: Clock + Sync, R: Threads + Wait + Sync>(
     rt: &R,
     alloc: Global,
@@ -68,10 +99,12 @@ fn first_other<C: Clock + Sync, R: Threads + Wait + Sync>(
     table: &[(&'static str, &'static str)],
 ) -> Result<Option<(&'static str, String)>, AllocError> {
     for &(text, want) in table {
-        let mut spawner = ThreadSpawner::new();
-        let got = told_of(rt, alloc, text, clock, &mut spawner, &OpenGate)?;
-        if got.as_str() != want {
-            return Ok(Some((text, got)));
+        for over in [Over::Tries, Over::Plain] {
+            let mut spawner = ThreadSpawner::new();
+            let got = told_of(rt, alloc, over, text, clock, &mut spawner, &OpenGate)?;
+            if got.as_str() != want {
+                return Ok(Some((text, got)));
+            }
         }
     }
     Ok(None)
@@ -336,6 +369,7 @@ fn a_start_that_is_refused_ends_the_run(rt: HostRuntime) -> Result<(), Fail> {
         let got = told_of(
             &rt,
             rt.alloc(),
+            Over::Tries,
             "workers 3\n",
             &clock,
             &mut spawner,
@@ -347,7 +381,15 @@ fn a_start_that_is_refused_ends_the_run(rt: HostRuntime) -> Result<(), Fail> {
         assert_eq!(rt; counted, numbers, "{refused}");
     }
     let mut spawner = RefuseStart::new(2);
-    let got = told_of(&rt, rt.alloc(), EACH_WAITS, &clock, &mut spawner, &OpenGate)?;
+    let got = told_of(
+        &rt,
+        rt.alloc(),
+        Over::Tries,
+        EACH_WAITS,
+        &clock,
+        &mut spawner,
+        &OpenGate,
+    )?;
     assert_eq!(rt; got.as_str(), "refused");
     Ok(())
 }

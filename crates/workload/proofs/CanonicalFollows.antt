@@ -146,7 +146,7 @@ words_counted (o ∷ os) =
     )
 
 -- there are at most 16 maps, 64 atomics, and 32 objects of each other word
-few_objects : (os : List ObjectLine) → may_declare [] os ≡ true → length os ≤ 336
+pub few_objects : (os : List ObjectLine) → may_declare [] os ≡ true → length os ≤ 336
 few_objects os h =
     let few = λ (w : ObjectWord). limits_kept w os [] (omega arith) h in
     omega (

@@ -1,5 +1,5 @@
 //! Laws of the grammar.
-ghost use Rattle.std.specs.Prelude.{◌≡◌, ◌↔◌, ◌⊎◌, ◌<◌, ℕ, ◌-◌, ◌^◌, [], ◌∷◌, ◌++◌, true, List, Some, None, count_by, length, slice_get, take, drop};
+ghost use Rattle.std.specs.Prelude.{◌≡◌, ◌↔◌, ◌⊎◌, ◌<◌, ◌≤◌, ℕ, ◌+◌, ◌-◌, ◌*◌, ◌^◌, [], ◌∷◌, ◌++◌, true, List, Some, None, count_by, length, slice_get, take, drop};
 ghost use Rattle.std.specs.List.{list_any, position_from};
 ghost use Rattle.std.specs.Str.{bytes_eq};
 ghost use Rattle.std.specs.Fmt.{decimal};
@@ -107,4 +107,9 @@ pub fn limits()
     ensures workers { (MAX_WORKERS ≡ 32) × (MAX_CALLS ≡ 20000) × (MAX_RANGES ≡ 64) × (MAX_TURNS ≡ 100000) }
     ensures objects { (MAX_MAPS ≡ 16) × (MAX_ATOMICS ≡ 64) × (MAX_OTHERS ≡ 32) × (MAX_KEYS ≡ 4096) }
     ensures numbers { (MAX_AMOUNT ≡ 10000) × (MAX_CODE ≡ 1000) × (MAX_VALUE ≡ 2 ^ 63 - 1) }
+{}
+
+/// A workload has at most 16 maps, 64 atomics, and 32 objects of each of the eight other words.
+pub fn a_workload_has_few_objects()
+    ensures { (plan : Plan) → IsReadable plan → length plan.objects ≤ MAX_MAPS + (MAX_ATOMICS + 8 * MAX_OTHERS) }
 {}

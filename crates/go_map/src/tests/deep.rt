@@ -24,7 +24,7 @@ struct Loads {
     again: (Option<u64>, u64),
 }
 
-// Both keys are stored and loaded. Then both are deleted, and one is stored and loaded again.
+// Both keys are stored and loaded. Then both are deleted, which leaves no node below the root, and one is stored and loaded again.
 fn store_and_load<R: Wait, L: Ledger>(
     rt: &R,
     table: &SharedTable,
@@ -52,7 +52,9 @@ fn store_and_load<R: Wait, L: Ledger>(
 }
 
 #[test]
-fn keys_that_part_at_the_last_nibble_are_read_in_eleven_words(rt: HostRuntime) -> Result<(), Fail> {
+fn keys_that_part_at_the_last_nibble_are_read_in_eleven_words_until_both_are_deleted(
+    rt: HostRuntime,
+) -> Result<(), Fail> {
     let (table, mut callers) = SharedTable::new(rt.alloc(), &[], 1, 0, &[5])?;
     let mut caller = take(&table, &mut callers).expect(&rt, "a caller");
     let loads = store_and_load::<_, Brand>(&rt, &table, &mut caller, Blank::new(1)).expect(
@@ -61,7 +63,7 @@ fn keys_that_part_at_the_last_nibble_are_read_in_eleven_words(rt: HostRuntime) -
     );
     assert!(&rt; loads.near.0 == Some(1) && loads.near.1 == 11);
     assert!(&rt; loads.far.0 == Some(2) && loads.far.1 == 22);
-    assert!(&rt; loads.again.0 == Some(9) && loads.again.1 == 33);
+    assert!(&rt; loads.again.0 == Some(9) && loads.again.1 == 26);
     assert!(&rt; caller.spare() == 0);
     Ok(())
 }

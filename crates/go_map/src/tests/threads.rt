@@ -1,4 +1,4 @@
-//! Four callers of one map, each in a thread of its own. Each ends by itself.
+//! Callers of one map, each in a thread of its own. Each ends by itself.
 ghost use Rattle.std.specs.Prelude.{◌≡◌, ◌<◌};
 ghost use Rattle.std.specs.Thread.{IsSync};
 ghost use Rattle.sync_model.specs.Shared.{IsCallerAt};
@@ -14,23 +14,33 @@ use std::test::Fail;
 use std::thread::{Threads, join};
 use sync_model::Caller;
 
-const ROUNDS: u32 = 500;
+const ROUNDS: u32 = 1000;
 
-// Stores and deletes one key that all use, and a key of its own, as long as there is room.
+// The paths of these keys part at the last nibble.
+const NEAR: u32 = 0;
+
+const FAR: u32 = 268_435_456;
+
+// The key that a caller stores and deletes, and the key that it stores alone, if there is one.
+type Keys = (u32, Option<u32>);
+
+// Stores one key and deletes it, again and again, and stores another.
 fn work<R: Wait>(
     rt: &R,
     table: &SharedTable,
     mut caller: Caller<SharedNote>,
-    own_key: u32,
+    keys: Keys,
 ) -> Caller<SharedNote>
     requires map { 0 < maps_of table.now }
     requires caller { IsCallerAt IsNoteOf own_by table.now caller }
     ensures { IsCallerAt IsNoteOf own_by table.now result }
 {
     for round in 0..ROUNDS {
-        stored(rt, table, &mut caller, 3, round);
-        stored(rt, table, &mut caller, own_key, round);
-        deleted(rt, table, &mut caller, 3);
+        stored(rt, table, &mut caller, keys.0, round);
+        if let Some(kept) = keys.1 {
+            stored(rt, table, &mut caller, kept, round);
+        }
+        deleted(rt, table, &mut caller, keys.0);
     }
     caller
 }
@@ -40,9 +50,9 @@ fn work_beside<R: Threads + Wait + Sync>(
     rt: &R,
     table: &SharedTable,
     first: Caller<SharedNote>,
-    first_key: u32,
+    first_keys: Keys,
     second: Caller<SharedNote>,
-    second_key: u32,
+    second_keys: Keys,
 ) -> (Caller<SharedNote>, Caller<SharedNote>)
     requires map { 0 < maps_of table.now }
     requires first { IsCallerAt IsNoteOf own_by table.now first }
@@ -55,11 +65,11 @@ fn work_beside<R: Threads + Wait + Sync>(
         move || -> Caller<SharedNote>
             requires { IsSync R.row × (0 < maps_of table.now) × IsCallerAt IsNoteOf own_by table.now first }
             ensures { IsCallerAt IsNoteOf own_by table.entry.now result }
-        { work(rt, table, first, first_key) },
+        { work(rt, table, first, first_keys) },
         move || -> Caller<SharedNote>
             requires { IsSync R.row × (0 < maps_of table.now) × IsCallerAt IsNoteOf own_by table.now second }
             ensures { IsCallerAt IsNoteOf own_by table.entry.now result }
-        { work(rt, table, second, second_key) },
+        { work(rt, table, second, second_keys) },
     )
 }
 
@@ -87,10 +97,10 @@ fn work_four<R: Threads + Wait + Sync>(
         move || -> (Caller<SharedNote>, Caller<SharedNote>)
             requires { IsSync R.row × (0 < maps_of table.now) × IsCallerAt IsNoteOf own_by table.now one × IsCallerAt IsNoteOf own_by table.now two }
             ensures { IsCallerAt IsNoteOf own_by table.entry.now result.0 }
-        { work_beside(rt, table, one, 19, two, 35) },
+        { work_beside(rt, table, one, (3, Some(19)), two, (3, Some(35))) },
         move || -> (Caller<SharedNote>, Caller<SharedNote>)
             requires { IsSync R.row × (0 < maps_of table.now) × IsCallerAt IsNoteOf own_by table.now three × IsCallerAt IsNoteOf own_by table.now four }
-        { work_beside(rt, table, three, 51, four, 67) },
+        { work_beside(rt, table, three, (3, Some(51)), four, (3, Some(67))) },
     )
 }
 
@@ -115,14 +125,47 @@ fn load_each<L: Ledger>(
 
 #[test]
 fn four_threads_share_a_map_and_a_key(rt: HostRuntime) -> Result<(), Fail> {
-    let (table, mut callers) = SharedTable::new(rt.alloc(), &[], 1, 0, &[1500, 1500, 1500, 1500])?;
+    let (table, mut callers) = SharedTable::new(rt.alloc(), &[], 1, 0, &[3000, 3000, 3000, 3000])?;
     let four = take(&table, &mut callers).expect(&rt, "caller 3");
     let three = take(&table, &mut callers).expect(&rt, "caller 2");
     let two = take(&table, &mut callers).expect(&rt, "caller 1");
     let one = take(&table, &mut callers).expect(&rt, "caller 0");
     let ((mut one, _), _) = work_four(&rt, &table, one, two, three, four);
     let values = load_each::<Brand>(&table, &mut one, [3, 19, 35, 51, 67], Blank::new(1));
-    let last = Some(499);
+    let last = Some(999);
     assert_eq!(rt; values, [None, last, last, last, last]);
+    Ok(())
+}
+
+// Loads both keys, and one of them again once it is stored. The number of words that the loads read comes last.
+fn load_and_store<R: Wait, L: Ledger>(
+    rt: &R,
+    table: &SharedTable,
+    caller: &mut Caller<SharedNote>,
+    blank: Blank,
+) -> (Option<u64>, Option<u64>, Option<u64>, u64)
+    requires map { 0 < maps_of table.now }
+    requires caller { IsCallerAt IsNoteOf own_by table.now caller.old }
+    requires ledger { (blank.name ≡ L.name) × (blank.parts ≡ L.parts) × (0 < L.parts) }
+{
+    let mut steps = Steps::<L>::new(blank);
+    let near = loaded(table, caller, NEAR, &mut steps);
+    let far = loaded(table, caller, FAR, &mut steps);
+    stored(rt, table, caller, NEAR, 9);
+    let again = loaded(table, caller, NEAR, &mut steps);
+    (near, far, again, steps.count())
+}
+
+#[test]
+fn two_threads_that_fill_and_empty_one_path_leave_nothing_of_it(
+    rt: HostRuntime,
+) -> Result<(), Fail> {
+    let (table, mut callers) = SharedTable::new(rt.alloc(), &[], 1, 0, &[2001, 2000])?;
+    let far = take(&table, &mut callers).expect(&rt, "caller 1");
+    let near = take(&table, &mut callers).expect(&rt, "caller 0");
+    let (mut near, _) = work_beside(&rt, &table, near, (NEAR, None), far, (FAR, None));
+    let loads = load_and_store::<_, Brand>(&rt, &table, &mut near, Blank::new(1));
+    assert!(&rt; loads.0.is_none() && loads.1.is_none() && loads.2 == Some(9));
+    assert!(&rt; loads.3 == 8);
     Ok(())
 }

@@ -30,6 +30,20 @@ fn one_caller_gets_what_it_put(rt: HostRuntime) -> Result<(), Fail> {
 }
 
 #[test]
+fn the_private_item_of_another_part_isnt_taken(rt: HostRuntime) -> Result<(), Fail> {
+    let (pool, mut passes) = made(rt.alloc(), 2, 1, 0, 2)?;
+    let mut second = Caller::last(&pool, &mut passes, knows(0)).expect(&rt, "a pass");
+    let mut first = Caller::last(&pool, &mut passes, knows(0)).expect(&rt, "a pass");
+    for item in [1, 2] {
+        assert_eq!(rt; first.put(&rt, item), Some(Answer::Done(PoolPut::Kept)));
+    }
+    for answer in [PoolGet::Item(2), PoolGet::New(0)] {
+        assert_eq!(rt; second.get(&rt), Some(Answer::Done(answer)));
+    }
+    Ok(())
+}
+
+#[test]
 fn a_put_synchronizes_before_the_get_of_its_item(rt: HostRuntime) -> Result<(), Fail> {
     let (pool, mut passes) = made(rt.alloc(), 2, 1, 9, 8)?;
     let mut second = Caller::last(&pool, &mut passes, knows(0)).expect(&rt, "a pass");

@@ -1,7 +1,8 @@
 //! Pools for the tests, and their callers.
 ghost use Rattle.std.specs.Prelude.{◌<◌, ◌≤◌, IfOk};
-ghost use Rattle.ruled_object.specs.Passes.{IsPassOf};
-ghost use Rattle.go_pool.specs.Pools.{ArePasses};
+ghost use Rattle.std.proofs.Props.{props};
+ghost use Rattle.go_pool.specs.PassProps.{follows_prop};
+ghost use Rattle.go_pool.specs.Pools.{ArePasses, IsPassOf};
 
 use crate::pool::{Pool, PoolPass};
 use crate::pool_get::PoolGet;
@@ -9,8 +10,8 @@ use pool_core::PoolPut;
 use std::alloc::{AllocError, Global};
 use std::sync::Wait;
 use sync_model::{Answer, FrontNote};
-use sync_types::Misuse;
 use sync_outside::{At, Clock};
+use sync_types::Misuse;
 
 /// A clock that stands still.
 pub(super) struct NoClock;
@@ -36,7 +37,7 @@ pub(super) fn knows(count: u32) -> FrontNote {
     FrontNote::new(counts)
 }
 
-/// A pool, and the passes of its callers.
+/// A pool, and the passes of its callers, which were all looked at once.
 pub(super) fn made(
     alloc: Global,
     callers: u32,
@@ -48,7 +49,8 @@ pub(super) fn made(
     requires calls { calls ≤ 1000000 }
     ensures { IfOk result (λ made. ArePasses made.0 made.1.items) }
 {
-    let (pool, passes) = Pool::new(alloc, &(), callers, room, fresh, calls, knows(0))?;
+    let (pool, mut passes) = Pool::new(alloc, &(), callers, room, fresh, calls, knows(0))?;
+    pool.first_halt(&mut passes);
     Ok((pool, passes))
 }
 
@@ -58,7 +60,7 @@ pub(super) struct Caller<'a> {
     pool: &'a Pool<FrontNote>,
     pass: PoolPass<FrontNote>,
     note: FrontNote,
-    ghost is: { IsPassOf pool.now.object pass },
+    ghost is: { IsPassOf pool.now pass } by { Prim.hlevel (follows_prop, props) },
 }
 
 impl<'a> Caller<'a> {

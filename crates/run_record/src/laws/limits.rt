@@ -1,7 +1,8 @@
 //! What calls on maps and atomics can't come to where all of them are a workload's.
-ghost use Rattle.std.specs.Prelude.{◌≡◌, ℕ, ℤ, ◌≤◌, true, List, length, All, Some, slice_get};
+ghost use Rattle.std.specs.Prelude.{◌≡◌, ℕ, ℤ, ◌<◌, ◌≤◌, true, List, length, All, Some, slice_get};
 ghost use Rattle.sync_types.specs.Outcome.{shows_to};
 ghost use Rattle.sync_model.specs.SharedCalls.{Lawful};
+ghost use Rattle.sync_model.specs.SharedHistory.{contents_after, value_at};
 ghost use Rattle.workload.specs.Keys.{keys_in};
 ghost use Rattle.workload.specs.Plan.{Plan};
 ghost use Rattle.run_record.specs.Explains.{Explains};
@@ -10,9 +11,9 @@ ghost use Rattle.run_record.specs.Objects.{contents_of};
 ghost use Rattle.run_record.specs.Record.{Record};
 
 use sync_model::item::{Item, SharedCall, SharedEntry, SharedReply};
+use sync_model::laws::shared::{a_range_shows_each_key_once_and_misses_none, each_entry_is_a_call};
 use sync_types::laws::atomics::calls_keep_the_type;
 use sync_types::laws::maps::{calls_leave_other_keys, only_a_clear_has_no_key};
-use sync_model::laws::shared::{a_range_shows_each_key_once_and_misses_none, each_entry_is_a_call};
 use sync_types::{AtomicCall, AtomicReply, Number, Outcome};
 use workload::laws::keys_are_numbered_by_first_appearance;
 
@@ -48,5 +49,16 @@ pub fn a_range_shows_no_key_twice()
     only_a_clear_has_no_key::<u32>();
     each_entry_is_a_call();
     a_range_shows_each_key_once_and_misses_none();
+    keys_are_numbered_by_first_appearance();
+}
+
+/// What the maps contain after a run has no key but the workload's.
+pub fn maps_end_with_the_workloads_keys()
+    ensures { (plan : Plan) (r : Record) (outcome : Outcome) (m key value : ℕ) → Explains plan outcome r
+        → value_at (contents_after (contents_of plan) r.history) m key ≡ Some value → key < length (keys_in plan.scripts) }
+{
+    calls_leave_other_keys::<u32>();
+    only_a_clear_has_no_key::<u32>();
+    each_entry_is_a_call();
     keys_are_numbered_by_first_appearance();
 }

@@ -4,7 +4,7 @@ use Rattle.std.specs.List.{flat_map}
 use Rattle.std.proofs.lemmas.Iterator.{YieldsList-from_slice, YieldsList-from_zip}
 use Rattle.std.proofs.lemmas.Iterator.Consumers.{YieldsList-end}
 use Rattle.std.proofs.lemmas.List.Folds.{flat_map-map}
-use Rattle.shared_plain.specs.EndLists.{pair_ends_by}
+use Rattle.sync_model.specs.EndsOfHistory.{pair_ends_by}
 use Rattle.shared_plain.specs.Slots.{map_of}
 use Rattle.shared_plain.proofs.end_list.push_maps.Goals as goal
 

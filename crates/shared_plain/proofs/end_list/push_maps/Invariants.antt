@@ -1,6 +1,6 @@
 use Rattle.std.proofs.Common.{◌≡◌, ◌+◌, ◌*◌, ◌≤◌, ◌++◌, length, vec_len, vec_capacity}
 use Rattle.std.specs.List.{flat_map}
-use Rattle.shared_plain.specs.EndLists.{pair_ends_by}
+use Rattle.sync_model.specs.EndsOfHistory.{pair_ends_by}
 use Rattle.shared_plain.specs.Slots.{map_of}
 use Rattle.shared_plain.proofs.end_list.push_maps.Given as goal
 

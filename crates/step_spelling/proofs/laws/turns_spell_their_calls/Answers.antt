@@ -6,36 +6,7 @@ use Rattle.step_spelling.proofs.laws.turns_spell_their_calls.Goals as goal
 
 abbrev laws : goal.After-keys_are_numbered_by_first_appearance → Laws
 laws c = record {
-  mutexes = record {
-    moved = λ m x by e valid. c.moves.ensures.moved m x by e valid;
-    told = λ m x by e valid told. c.moves.ensures.told m x by e valid told;
-    unmoved = λ m x by e valid apart told. c.moves.ensures.unmoved m x by e valid apart told;
-    answered = c.standing.ensures.answered;
-  };
-  rw_mutexes = record {
-    others = λ m x by e valid apart. c.moves-2.ensures.others m x by e valid apart;
-    own = λ m x e valid. c.moves-2.ensures.own m x e valid;
-    answered = c.standing-2.ensures.answered;
-    unmade = c.still.ensures.unmade;
-  };
-  conds = record { own = c.knows_where_it_stands.ensures.own; others = c.knows_where_it_stands.ensures.others; made = c.still-2.ensures.made };
-  groups = record { own = c.knows_where_it_stands-2.ensures.own; others = c.knows_where_it_stands-2.ensures.others; answers = c.knows_where_it_stands-2.ensures.answers; made = c.still-3.ensures.made };
-  adding = record {
-    own_wait = c.knows_where_it_stands-3.ensures.own_wait;
-    own_run = c.knows_where_it_stands-3.ensures.own_run;
-    others_wait = c.knows_where_it_stands-3.ensures.others_wait;
-    others_run = c.knows_where_it_stands-3.ensures.others_run;
-    answers = c.knows_where_it_stands-3.ensures.answers;
-    made = c.still-4.ensures.made;
-  };
-  giving = record {
-    own_wait = c.knows_where_it_stands-4.ensures.own_wait;
-    own_run = c.knows_where_it_stands-4.ensures.own_run;
-    others_wait = c.knows_where_it_stands-4.ensures.others_wait;
-    others_run = c.knows_where_it_stands-4.ensures.others_run;
-    answers = c.knows_where_it_stands-4.ensures.answers;
-    made = c.still-5.ensures.made;
-  };
+  machines = c.machines_tell_where_callers_stand.ensures;
   pools = λ p x n e primary victims. c.keeps_its_parts.ensures p x n e primary victims;
   keys = c.keys_are_numbered_by_first_appearance.ensures.named;
 }

@@ -2,14 +2,14 @@ use Rattle.step_turns.proofs.MachineLaws.{Uses}
 use Rattle.step_turns.proofs.ObjectUses.{turn_use}
 use Rattle.step_turns.proofs.laws.turns_use_something_up.Goals as goal
 
-abbrev uses : goal.After-events_are_used_up-6 → Uses
+abbrev uses : goal.After-events_are_used_up-3 → Uses
 uses c = record {
-  mutexes = record { answered = c.standing.ensures.answered; used = c.events_are_used_up.ensures };
-  rw_mutexes = record { answered = c.standing-2.ensures.answered; used = c.events_are_used_up-2.ensures };
+  mutexes = record { answered = c.machines_tell_where_callers_stand.ensures.mutexes.answered; used = c.events_are_used_up.ensures };
+  rw_mutexes = record { answered = c.machines_tell_where_callers_stand.ensures.rw_mutexes.answered; used = c.events_are_used_up-2.ensures };
   conds = c.events_are_used_up-3.ensures;
-  groups = record { answers = c.knows_where_it_stands.ensures.answers; made = c.still.ensures.made; used = c.events_are_used_up-4.ensures };
-  adding = record { answers = c.knows_where_it_stands-2.ensures.answers; made = c.still-2.ensures.made; used = c.events_are_used_up-5.ensures };
-  giving = record { answers = c.knows_where_it_stands-3.ensures.answers; made = c.still-3.ensures.made; used = c.events_are_used_up-6.ensures };
+  groups = c.machines_tell_where_callers_stand.ensures.groups.uses;
+  adding = c.machines_tell_where_callers_stand.ensures.adding.uses;
+  giving = c.machines_tell_where_callers_stand.ensures.giving.uses;
 }
 
 pub returns : goal.returns

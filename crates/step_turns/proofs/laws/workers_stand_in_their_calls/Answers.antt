@@ -6,17 +6,8 @@ use Rattle.step_turns.proofs.laws.workers_stand_in_their_calls.Goals as goal
 
 abbrev stands : goal.After-replies_have_their_form → Stands
 stands c = record {
-  mutexes = record {
-    moved = λ m x by e valid. c.moves.ensures.moved m x by e valid;
-    told = λ m x by e valid told. c.moves.ensures.told m x by e valid told;
-    unmoved = λ m x by e valid apart told. c.moves.ensures.unmoved m x by e valid apart told;
-    answered = c.standing.ensures.answered;
-  };
-  rw_mutexes = record {
-    others = λ m x by e valid apart. c.moves-2.ensures.others m x by e valid apart;
-    own = λ m x e valid. c.moves-2.ensures.own m x e valid;
-    answered = c.standing-2.ensures.answered;
-  };
+  mutexes = c.machines_tell_where_callers_stand.ensures.mutexes;
+  rw_mutexes = c.machines_tell_where_callers_stand.ensures.rw_mutexes;
   forms = record {
     map = λ call m. c.replies_have_their_form.ensures.map (slice_cmp nat_cmp) call m;
     atomic = c.replies_have_their_form.ensures.atomic;

@@ -1,5 +1,5 @@
 use Rattle.std.proofs.Common.{rules, ◌≡◌, ◌+◌, ◌*◌, set, replicate, sum, sym, ap, ◌∙◌, subst, arith}
-use Rattle.table_seats.specs.Layout.{size_of}
+use Rattle.table_rule.specs.Layout.{size_of}
 use Rattle.table_seats.proofs.FirstWords.{HasRoots, no_roots, root_on, all_roots}
 use Rattle.table_seats.proofs.new.first_words.Goals as goal
 

@@ -1,5 +1,5 @@
 use Rattle.std.proofs.Common.{◌≡◌, vec_len}
-use Rattle.table_seats.specs.Layout.{size_of}
+use Rattle.table_rule.specs.Layout.{size_of}
 use Rattle.table_seats.proofs.FirstWords.{HasRoots}
 use Rattle.table_seats.proofs.new.first_words.Given as goal
 

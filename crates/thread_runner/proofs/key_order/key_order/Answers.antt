@@ -3,7 +3,7 @@ use Rattle.std.specs.Option.{option_map_or}
 use Rattle.std.proofs.lemmas.Option.{slice_get-get_or, get_or_from_slice_get, same_Some}
 use Rattle.std.proofs.lemmas.Result.{IfOk-weaker}
 use Rattle.workload.specs.Keys.{keys_in, number_in, key_number, key_name}
-use Rattle.shared_plain.specs.EndLists.{AreInNameOrder}
+use Rattle.sync_model.specs.EndsByName.{AreInNameOrder}
 use Rattle.thread_runner.proofs.key_order.key_order.Goals as goal
 
 pub places_by_name-requires-clause-few : goal.places_by_name-requires-clause-few

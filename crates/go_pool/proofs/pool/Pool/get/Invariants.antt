@@ -1,8 +1,6 @@
-use Rattle.std.proofs.Common.{◌<◌}
 use Rattle.ruled_object.specs.Growth.{KeepsNote}
-use Rattle.ruled_object.specs.Passes.{IsOneLess}
-use Rattle.go_pool.specs.Pools.{IsPassOf, IsLawful}
-use Rattle.go_pool.proofs.Looked.{Looked}
+use Rattle.go_pool.specs.Pools.{IsPassOf, IsOneLess}
+use Rattle.go_pool.proofs.Looking.{Looked}
 use Rattle.go_pool.proofs.pool.Pool.get.Given as goal
 
 abbrev pub invariant-loop-number : goal.invariant-loop-number
@@ -11,5 +9,4 @@ invariant-loop-number g l = record {
   less : IsOneLess l.fn.pass l.pass;
   looked : Looked l.self l.fn.pass (g.N.Note.front l.fn.note) l.number l.pass (g.N.Note.front l.note);
   note : KeepsNote g.N.Note.at g.N.Note.own g.N.Note.front l.fn.note l.note;
-  journal : 0 < l.number → IsLawful l.self l.pass;
 }

@@ -2,8 +2,7 @@ use Rattle.std.proofs.Common.{map, length, sym, ap, ◌∙◌, subst}
 use Rattle.sync_types.specs.SequentialAtomic.{kind_of}
 use Rattle.ruled_object.specs.Gathered.{AreAllPasses, IsWhole}
 use Rattle.ruled_object.specs.Passes.{start_of}
-use Rattle.shared_plain.specs.EndLists.{HasKeysBelow}
-use Rattle.shared_plain.specs.EndsOfHistory.{AreEnds}
+use Rattle.sync_model.specs.EndsOfHistory.{HasKeysBelow, AreEnds}
 use Rattle.shared_plain.specs.Marks.{own_by, seen_of}
 use Rattle.shared_plain.specs.PlainMachine.{Holdings, contents_of, next}
 use Rattle.shared_plain.specs.Plains.{kinds_of, maps_of}

@@ -1,6 +1,6 @@
 use Rattle.std.proofs.Common.{◌<◌, length, Some, sym, ap, ◌∙◌, subst}
 use Rattle.std.proofs.lemmas.Option.{slice_get-get_or}
-use Rattle.shared_plain.specs.EndsOfHistory.{IsNextPair}
+use Rattle.shared_plain.specs.MapWalks.{IsNextPair}
 use Rattle.shared_plain.specs.PlainMachine.{Holdings, contents_of}
 use Rattle.shared_plain.proofs.Cursors.{pair_is}
 use Rattle.shared_plain.proofs.state.PlainState.next_pair.Goals as goal

@@ -2,7 +2,7 @@ use Rattle.std.proofs.Common.{◌≡◌, ℕ, ◌+◌, ◌*◌, ◌≤◌, [], S
 use Rattle.trie_nodes.specs.Layout.{unit_words}
 use Rattle.table_seats.specs.Seats.{IsSeatOf, begin_of}
 use Rattle.shared_table.specs.Dealing.{left_view, IsNewCaller}
-use Rattle.table_seats.specs.Layout.{size_of}
+use Rattle.table_rule.specs.Layout.{size_of}
 use Rattle.shared_table.proofs.table.SharedTable.first_callers.Given as goal
 
 abbrev pub invariant-loop-number : goal.invariant-loop-number

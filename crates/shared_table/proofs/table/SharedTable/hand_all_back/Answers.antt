@@ -3,9 +3,9 @@ use Rattle.std.proofs.lemmas.Bool.{cases_eq}
 use Rattle.std.proofs.lemmas.Option.{slice_get-get_or, slice_get_within}
 use Rattle.sync_model.specs.declared.caller.Caller.{Caller}
 use Rattle.shared_table.specs.declared.note.SharedNote.{SharedNote}
-use Rattle.table_seats.specs.declared.view.View.{View}
+use Rattle.table_rule.specs.declared.view.View.{View}
 use Rattle.shared_table.specs.Settling.{IsBack}
-use Rattle.table_seats.specs.Views.{next_in, spare_in, dealt, kept, IsIdle}
+use Rattle.table_rule.specs.Views.{next_in, spare_in, dealt, kept, IsIdle}
 use Rattle.shared_table.proofs.Settles.{callers_on, same_callers, set_same, set_other, some_behind, kept_next}
 use Rattle.shared_table.proofs.table.SharedTable.hand_all_back.Goals as goal
 

@@ -1,7 +1,7 @@
 use Rattle.std.proofs.Common.{sym, ap, ◌∙◌, subst}
 use Rattle.sync_model.specs.Front.{AtLeast}
-use Rattle.table_seats.specs.declared.view.View.{View}
-use Rattle.table_seats.specs.Views.{Looks}
+use Rattle.table_rule.specs.declared.view.View.{View}
+use Rattle.table_rule.specs.Views.{Looks}
 use Rattle.shared_table.proofs.Noting.{merged, merged_seen, lawful_for}
 use Rattle.shared_table.proofs.table.SharedTable.merge.Goals as goal
 

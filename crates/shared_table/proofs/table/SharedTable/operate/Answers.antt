@@ -1,4 +1,4 @@
-use Rattle.table_seats.specs.WordSteps.{word_after}
+use Rattle.table_rule.specs.WordSteps.{word_after}
 use Rattle.shared_table.proofs.Calling.{home_on}
 use Rattle.shared_table.proofs.table.SharedTable.operate.Goals as goal
 

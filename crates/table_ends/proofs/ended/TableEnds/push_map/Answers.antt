@@ -4,7 +4,7 @@ use Rattle.sync_types.specs.declared.outcome.End.{End}
 use Rattle.sync_types.specs.declared.outcome.End.TheVariants as ends
 use Rattle.sync_model.specs.SharedHistory.{map_at}
 use Rattle.table_ends.specs.EndContents.{contents_of}
-use Rattle.table_ends.specs.EndLists.{pair_end, pair_ends_by}
+use Rattle.sync_model.specs.EndsOfHistory.{pair_end, pair_ends_by}
 use Rattle.table_ends.proofs.Zips.{filter_some, filter_none, none_left}
 use Rattle.table_ends.proofs.ended.TableEnds.push_map.Goals as goal
 use Rattle.table_ends.proofs.ended.TableEnds.push_map.Goals.{in-Some, in_default}

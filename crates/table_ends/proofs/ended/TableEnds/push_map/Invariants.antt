@@ -1,7 +1,7 @@
 use Rattle.std.proofs.Common.{◌≡◌, ◌+◌, ◌≤◌, ◌++◌, take, vec_len, vec_capacity}
 use Rattle.sync_model.specs.SharedHistory.{map_at}
 use Rattle.table_ends.specs.EndContents.{contents_of}
-use Rattle.table_ends.specs.EndLists.{pair_ends_by}
+use Rattle.sync_model.specs.EndsOfHistory.{pair_ends_by}
 use Rattle.table_ends.proofs.ended.TableEnds.push_map.Given as goal
 
 abbrev pub invariant-loop-key : goal.invariant-loop-key

@@ -8,7 +8,7 @@ use Rattle.std.proofs.lemmas.List.{append-nil}
 use Rattle.std.proofs.lemmas.Option.{slice_get-get_or}
 use Rattle.sync_model.specs.SharedHistory.{map_at}
 use Rattle.table_ends.specs.EndContents.{contents_of, words_of}
-use Rattle.table_ends.specs.EndLists.{pair_ends_by}
+use Rattle.sync_model.specs.EndsOfHistory.{pair_ends_by}
 use Rattle.table_ends.proofs.Contained.{maps_long}
 use Rattle.table_ends.proofs.Zips.{zip_more, zip_first, zip_second}
 use Rattle.table_ends.proofs.ended.TableEnds.push_maps.Goals as goal

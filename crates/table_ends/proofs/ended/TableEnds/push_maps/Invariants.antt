@@ -2,7 +2,7 @@ use Rattle.std.proofs.Common.{◌≡◌, ◌+◌, ◌*◌, ◌≤◌, ◌++◌, 
 use Rattle.std.specs.Prelude.{zip}
 use Rattle.std.specs.List.{flat_map}
 use Rattle.table_ends.specs.EndContents.{contents_of}
-use Rattle.table_ends.specs.EndLists.{pair_ends_by}
+use Rattle.sync_model.specs.EndsOfHistory.{pair_ends_by}
 use Rattle.table_ends.proofs.ended.TableEnds.push_maps.Given as goal
 
 abbrev pub invariant-loop-map : goal.invariant-loop-map

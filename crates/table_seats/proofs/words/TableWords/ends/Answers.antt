@@ -3,8 +3,8 @@ use Rattle.std.specs.Mem.Slots.{slots_items}
 use Rattle.sync_types.specs.SequentialAtomic.{kind_of}
 use Rattle.sync_model.specs.SharedHistory.{Contents}
 use Rattle.table_ends.specs.EndWords.{contents_in, IsTableRow}
-use Rattle.table_seats.specs.declared.begin.Begin.{Begin}
-use Rattle.table_seats.specs.Keys.{HasKeysBelow}
+use Rattle.table_rule.specs.declared.begin.Begin.{Begin}
+use Rattle.sync_model.specs.EndsOfHistory.{HasKeysBelow}
 use Rattle.table_seats.specs.Seats.{EndsAt}
 use Rattle.table_seats.proofs.EndRows.{row_is, kinds_are, maps_many}
 use Rattle.table_seats.proofs.Ending.{ends_at, keys_below}

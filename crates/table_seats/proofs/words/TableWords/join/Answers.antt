@@ -1,6 +1,6 @@
 use Rattle.std.proofs.Common.{sym, ap, subst}
 use Rattle.sync_model.specs.Front.{AtLeast}
-use Rattle.table_seats.specs.declared.view.View.{View}
+use Rattle.table_rule.specs.declared.view.View.{View}
 use Rattle.table_seats.proofs.Joining.{some_word}
 use Rattle.table_seats.proofs.Seats.{joins, most_first, most_second}
 use Rattle.table_seats.proofs.words.TableWords.join.Goals as goal

@@ -1,7 +1,7 @@
 use Rattle.std.proofs.Common.{[], sym, subst}
 use Rattle.atomic_table.specs.Table.{opening}
-use Rattle.table_seats.specs.Rule.{Kept}
-use Rattle.table_seats.specs.Views.{first_view}
+use Rattle.table_rule.specs.Rule.{Kept}
+use Rattle.table_rule.specs.Views.{first_view}
 use Rattle.table_seats.proofs.Opening.{opens}
 use Rattle.table_seats.proofs.words.TableWords.new.Goals as goal
 

@@ -1,0 +1,7 @@
+use Rattle.go_map.proofs.RangeLaw.{begun_by}
+use Rattle.go_map.proofs.cursor.Cursor.begin.Goals as goal
+
+pub returns-clause-stands : goal.returns-clause-stands
+returns-clause-stands c =
+    let called = c.begin_cursor.ensures.called in
+    begun_by c.args.map.now.table.now c.begin_cursor.result c.args.map.now.number c.args.caller.now.note c.begin_cursor.new.note called.was called.own_old (c.begin_cursor.ensures.stands called.was called.own_old)

@@ -1,0 +1,14 @@
+use Rattle.go_map.proofs.RangeLaw.{keeps_range}
+use Rattle.go_map.proofs.cursor.Cursor.next.Goals as goal
+
+pub returns-clause-called : goal.returns-clause-called
+returns-clause-called c begin stands = (c.next_of_cursor.ensures.home, c.next_of_cursor.ensures.called c.args.map.now.number begin stands)
+
+pub returns-clause-stands : goal.returns-clause-stands
+returns-clause-stands c begin stands = c.next_of_cursor.ensures.stands c.args.map.now.number begin stands
+
+pub returns-clause-range : goal.returns-clause-range
+returns-clause-range c begin stands =
+    let called = c.next_of_cursor.ensures.called c.args.map.now.number begin stands in
+    keeps_range c.args.map.now.table.now c.next_of_cursor.new.cursor c.args.map.now.number begin c.next_of_cursor.new.note called.becomes called.own_new c.next_of_cursor.ensures.lawful
+    (c.next_of_cursor.ensures.stands c.args.map.now.number begin stands)

@@ -1,0 +1,140 @@
+-- What holds of the parts of calls, however they are put together, holds of the calls of a workload.
+use Rattle.std.proofs.Common.{◌≡◌, ℕ, ℤ, List, [], ◌∷◌, Option, Some, None, slice_get, refl}
+use Rattle.sync_types.specs.declared.atomic_object.AtomicCall.{AtomicCall}
+use Rattle.sync_types.specs.declared.call.Call.{Call}
+use Rattle.sync_types.specs.declared.call.Operation.{Operation}
+use Rattle.sync_types.specs.declared.call.Operation.TheVariants as operations
+use Rattle.sync_types.specs.declared.call.Reply.{Reply}
+use Rattle.sync_types.specs.declared.call.Reply.TheVariants as replies
+use Rattle.sync_types.specs.declared.lock_call.LockReply.{LockReply}
+use Rattle.sync_types.specs.declared.map_object.MapCall.{MapCall}
+use Rattle.sync_types.specs.declared.once_call.DoReply.TheVariants as do_replies
+use Rattle.sync_types.specs.declared.pool_call.PoolCall.{PoolCall}
+use Rattle.sync_types.specs.declared.pool_call.PoolCall.TheVariants as pool_calls
+use Rattle.sync_types.specs.declared.pool_call.PoolCallReply.TheVariants as pool_replies
+use Rattle.sync_types.specs.declared.wait_call.CondCall.{CondCall}
+use Rattle.sync_types.specs.declared.wait_call.CondCall.TheVariants as cond_calls
+use Rattle.pool_core.specs.declared.pool_event.PoolEvent.{PoolEvent}
+use Rattle.protocols.specs.GroupStages.{group_event, group_meaning}
+use Rattle.protocols.specs.OnceStages.{once_event, once_meaning}
+use Rattle.protocols.specs.RwMutexStages.{rw_event, rw_meaning}
+use Rattle.protocols.specs.declared.cond.CondStage.{CondStage}
+use Rattle.protocols.specs.declared.cond.CondStage.TheVariants as cond_stage
+use Rattle.protocols.specs.declared.mutex.MutexStage.{MutexStage}
+use Rattle.protocols.specs.declared.mutex.MutexStage.TheVariants as mutex_stages
+use Rattle.protocols.specs.declared.once.OnceOutcome.{OnceOutcome}
+use Rattle.protocols.specs.declared.once.OnceOutcome.TheVariants.{Run, Already, Ended}
+use Rattle.protocols.specs.declared.once.OnceStage.{OnceStage}
+use Rattle.protocols.specs.declared.once.OnceStage.TheVariants as once_stage
+use Rattle.protocols.specs.declared.pool.PoolOutcome.{PoolOutcome}
+use Rattle.protocols.specs.declared.pool.PoolOutcome.TheVariants.{Kept, Dropped, Item, Nothing, Swept}
+use Rattle.protocols.specs.declared.pool.PoolStage.{PoolStage}
+use Rattle.protocols.specs.declared.pool.PoolStage.TheVariants as pool_stage
+use Rattle.protocols.specs.declared.rw_mutex.RwMutexStage.{RwMutexStage}
+use Rattle.protocols.specs.declared.wait_group.GroupStage.{GroupStage}
+use Rattle.workload.specs.declared.object.ObjectKind.{ObjectKind}
+use Rattle.workload.specs.declared.object.ObjectKind.TheVariants as kinds
+use Rattle.workload.specs.declared.object.ObjectLine.{ObjectLine}
+use Rattle.workload.specs.Keys.{keys_in}
+use Rattle.workload.specs.Plan.{Plan}
+use Rattle.run_record.specs.declared.entered.ObjectEvent.TheVariants as event
+use Rattle.run_record.specs.declared.entered.ObjectReply.TheVariants as reply
+use Rattle.run_record.specs.AtomicKind.{adds, atomic_call}
+use Rattle.run_record.specs.Calls.{call_on, call_at, SpellsCall}
+use Rattle.run_record.specs.CondKind.{cond_part, cond_call, wait_part}
+use Rattle.run_record.specs.MapKind.{map_call, range_call}
+use Rattle.run_record.specs.MutexKind.{mutex_part}
+use Rattle.run_record.specs.OnceKind.{goes_on_once, once_part, do_call, func_call, value_call, failure}
+use Rattle.run_record.specs.Parts.{Part, returns, never, and_then, read_as, stages}
+use Rattle.run_record.specs.PoolKind.{pool_part, pool_call, found_by, found_or, looks_of, stage_of}
+
+-- it holds of each part, and goes on from parts to what they are put together to; of calls on maps nothing is said
+pub record HoldsOfParts (Q : (O : Type 0) → Part O → Type 0) : Type 1 where
+  pub returned : (O : Type 0) (outcome : O) → Q O (returns outcome)
+  pub none : (O : Type 0) → Q O never
+  pub behind : (O P : Type 0) (first : Part O) (next : O → Part P) → Q O first → ((outcome : O) → Q P (next outcome)) → Q P (and_then first next)
+  pub read : (O P : Type 0) (f : O → P) (part : Part O) → Q O part → Q P (read_as f part)
+  pub mutex : (object : ℕ) (stage : MutexStage) → Q LockReply (mutex_part object stage)
+  pub rw_mutex : (object : ℕ) (stage : RwMutexStage) → Q LockReply (stages event.RwMutex reply.RwMutex rw_event rw_meaning object stage)
+  pub cond : (object : ℕ) (stage : CondStage) → Q (Unit {0}) (cond_part object stage)
+  pub wait_group : (object : ℕ) (stage : GroupStage) → Q (Unit {0}) (stages event.WaitGroup reply.WaitGroup group_event group_meaning object stage)
+  pub once : (object : ℕ) (stage : OnceStage ℤ) → Q (OnceOutcome ℤ) (stages event.Once reply.Once once_event once_meaning object stage)
+  pub func : (object : ℕ) (stage : OnceStage ℕ) → Q (OnceOutcome ℕ) (stages event.OnceFunc reply.OnceFunc once_event once_meaning object stage)
+  pub value : (object : ℕ) (stage : OnceStage ℕ) → Q (OnceOutcome ℕ) (stages event.OnceValue reply.OnceValue once_event once_meaning object stage)
+  pub pool : (object : ℕ) (stage : PoolStage) → Q PoolOutcome (pool_part object stage)
+  pub added : (a : ℕ) (amount : ℤ) → Q ℤ (adds a amount)
+  pub atomic : (a : ℕ) (call : AtomicCall) → Q (Reply ℕ) (atomic_call a call)
+  pub range : (keys : List (List ℕ)) (m begin : ℕ) → Q (Reply ℕ) (range_call keys m begin)
+
+module _ (Q : (O : Type 0) → Part O → Type 0) (holds : HoldsOfParts Q) where
+  of_wait : (object mutex : ℕ) → Q (Reply ℕ) (wait_part object mutex)
+  of_wait object mutex = holds.behind _ _ _ _ (holds.cond object cond_stage.Ticket) (λ ticket.
+      holds.behind _ _ _ _ (holds.mutex mutex mutex_stages.Unlock) (λ unlocked.
+      holds.behind _ _ _ _ (holds.cond object cond_stage.Leave) (λ left.
+      holds.read _ _ (λ locked. replies.Returned) _ (holds.mutex mutex mutex_stages.Lock))))
+
+  of_cond_call : (object mutex : ℕ) (call : CondCall) → Q (Reply ℕ) (cond_call object mutex call)
+  of_cond_call object mutex cond_calls.Wait = of_wait object mutex
+  of_cond_call object mutex cond_calls.Signal = holds.read _ _ (λ done. replies.Returned) _ (holds.cond object cond_stage.Signal)
+  of_cond_call object mutex cond_calls.Broadcast = holds.read _ _ (λ done. replies.Returned) _ (holds.cond object cond_stage.Broadcast)
+
+  module _ {T : Type 0} (part : OnceStage T → Part (OnceOutcome T)) (function : Part T) (ran returned : T → Reply ℕ) (of_part : (stage : OnceStage T) → Q (OnceOutcome T) (part stage)) (of_function : Q T function) where
+    of_goes_on : (outcome : OnceOutcome T) → Q (Reply ℕ) (goes_on_once part function ran returned outcome)
+    of_goes_on Run = holds.behind _ _ function _ of_function (λ value. holds.read _ _ (λ ended. ran value) _ (of_part (once_stage.End value)))
+    of_goes_on (Already kept) = holds.returned _ (returned kept)
+    of_goes_on Ended = holds.none _
+
+    of_once : Q (Reply ℕ) (once_part part function ran returned)
+    of_once = holds.behind _ _ _ _ (of_part once_stage.Begin) of_goes_on
+
+  of_do : (object a : ℕ) (amount : ℤ) → Q (Reply ℕ) (do_call object a amount)
+  of_do object a amount = of_once (stages event.Once reply.Once once_event once_meaning object) (adds a amount) (λ sum. replies.Once (do_replies.Ran sum)) (λ kept. replies.Once do_replies.Done) (holds.once object) (holds.added a amount)
+
+  of_func : (object code : ℕ) → Q (Reply ℕ) (func_call object code)
+  of_func object code =
+      of_once (stages event.OnceFunc reply.OnceFunc once_event once_meaning object) (returns code) (λ kept. replies.OnceFunc (failure kept)) (λ kept. replies.OnceFunc (failure kept)) (holds.func object) (holds.returned ℕ code)
+
+  of_value : (object value : ℕ) → Q (Reply ℕ) (value_call object value)
+  of_value object value = of_once (stages event.OnceValue reply.OnceValue once_event once_meaning object) (returns value) replies.OnceValue replies.OnceValue (holds.value object) (holds.returned ℕ value)
+
+  of_found : (rest : Part (Reply ℕ)) → Q (Reply ℕ) rest → (outcome : PoolOutcome) → Q (Reply ℕ) (found_or rest outcome)
+  of_found rest later (Item item) = holds.returned _ (replies.Pool (pool_replies.Put item))
+  of_found rest later Nothing = later
+  of_found rest later Kept = holds.none _
+  of_found rest later (Dropped item) = holds.none _
+  of_found rest later Swept = holds.none _
+
+  of_looks : (object : ℕ) (looks : List (PoolEvent ℕ)) → Q (Reply ℕ) (found_by object looks)
+  of_looks object [] = holds.returned _ (replies.Pool pool_replies.New)
+  of_looks object (look ∷ looks) = holds.behind _ _ _ _ (holds.pool object (stage_of look)) (of_found (found_by object looks) (of_looks object looks))
+
+  of_pool_call : (workers worker object : ℕ) (call : PoolCall) → Q (Reply ℕ) (pool_call workers worker object call)
+  of_pool_call workers worker object (pool_calls.Put item) = holds.read _ _ (λ put. replies.Pool pool_replies.Done) _ (holds.pool object (pool_stage.Put item))
+  of_pool_call workers worker object pool_calls.Get = of_looks object (looks_of workers worker)
+  of_pool_call workers worker object pool_calls.Sweep = holds.read _ _ (λ swept. replies.Pool pool_replies.Done) _ (holds.pool object pool_stage.Sweep)
+
+  -- where it holds of the call, if that is one on a map
+  module _ (plan : Plan) (worker before : ℕ) where
+    abbrev OfMap : Operation → Type 0
+    OfMap operation = (m : ℕ) (call : MapCall (List ℕ)) → operation ≡ operations.Map call → Q (Reply ℕ) (map_call (keys_in plan.scripts) m call)
+
+    of_call_on : (place : ℕ) (kind : ObjectKind) (operation : Operation) → OfMap operation → Q (Reply ℕ) (call_on plan worker before place kind operation)
+    of_call_on place kinds.Map (operations.Map call) on_map = on_map _ call refl
+    of_call_on place kinds.Map operations.Range on_map = holds.range _ _ before
+    of_call_on place (kinds.Atomic type) (operations.Atomic call) on_map = holds.atomic _ call
+    of_call_on place kinds.Mutex (operations.Mutex call) on_map = holds.read _ _ replies.Lock _ (holds.mutex _ _)
+    of_call_on place kinds.RwMutex (operations.RwMutex call) on_map = holds.read _ _ replies.Lock _ (holds.rw_mutex _ _)
+    of_call_on place (kinds.Cond mutex) (operations.Cond call) on_map = of_cond_call _ _ call
+    of_call_on place (kinds.WaitGroup start) (operations.WaitGroup call) on_map = holds.read _ _ (λ done. replies.Returned) _ (holds.wait_group _ _)
+    of_call_on place (kinds.Once atomic delta) operations.Once on_map = of_do _ _ delta
+    of_call_on place (kinds.OnceFunc code) operations.OnceFunc on_map = of_func _ code
+    of_call_on place (kinds.OnceValue value) operations.OnceValue on_map = of_value _ value
+    of_call_on place kinds.Pool (operations.Pool call) on_map = of_pool_call _ _ _ call
+    of_call_on place kind operation on_map = holds.none _
+
+    of_call_at : (place : ℕ) (object : Option ObjectLine) (operation : Operation) → OfMap operation → Q (Reply ℕ) (call_at plan worker before place object operation)
+    of_call_at place None operation on_map = holds.none _
+    of_call_at place (Some object) operation on_map = of_call_on place object.kind operation on_map
+
+    pub holds_of_call : (call : Call) → OfMap call.operation → Q (Reply ℕ) (SpellsCall plan worker before call)
+    holds_of_call call on_map = of_call_at call.object (slice_get plan.objects call.object) call.operation on_map

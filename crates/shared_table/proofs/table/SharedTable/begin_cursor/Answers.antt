@@ -1,0 +1,15 @@
+use Rattle.std.proofs.Common.{ap, ◌∙◌}
+use Rattle.sync_model.specs.declared.item.SharedCall.TheVariants as calls
+use Rattle.sync_model.specs.declared.item.SharedReply.TheVariants as replies
+use Rattle.table_rule.specs.declared.view.View.{View}
+use Rattle.shared_table.proofs.Calling.{note_on}
+use Rattle.shared_table.proofs.Noting.{lawful_for}
+use Rattle.shared_table.proofs.table.SharedTable.begin_cursor.Goals as goal
+
+pub returns-clause-home : goal.returns-clause-home
+returns-clause-home c home is = note_on home c.args.note.now _ (calls.Begin c.args.map) replies.Begun is c.begin.ensures.table c.begin.ensures.begun.0 c.begin.ensures.begun.1.placed
+
+pub returns-clause-lawful : goal.returns-clause-lawful
+returns-clause-lawful c =
+    let begun = c.begin.ensures.begun.1 in
+    lawful_for c.args.self.now _ c.begin.new.seat.me.0 (ap (λ (u : View). u.begin) begun.placed.is ∙ c.requires.note.0.begin) begun.looks

@@ -1,0 +1,4 @@
+pub mod Ranges
+pub mod Ranged
+pub mod CursorBegins
+pub mod CursorNexts

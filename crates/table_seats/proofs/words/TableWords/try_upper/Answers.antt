@@ -1,0 +1,8 @@
+use Rattle.std.proofs.Common.{◌+◌, ap, ◌∙◌}
+use Rattle.table_seats.proofs.Prunes.{may_try_upper}
+use Rattle.table_seats.proofs.words.TableWords.try_upper.Goals as goal
+
+pub compare_exchange-found-requires : goal.compare_exchange-found-requires
+compare_exchange-found-requires c =
+    let may = may_try_upper c.args.self.now c.args.seat.now.id c.args.seat.now.me c.lock_word-word.result c.history_laws.ensures c.args.parent c.held_word.result c.requires.lock c.requires.words c.lock_word-word.ensures (c.held_word.ensures ∙ ap (λ n. n + 1) c.requires.caller) in
+    (c.requires.table, may.0, may.1)

@@ -1,0 +1,16 @@
+use Rattle.std.proofs.Common.{rules, ◌^◌, ◌<◌}
+use Rattle.table_seats.specs.Seats.{begin_of}
+use Rattle.table_writes.proofs.Poised.{entry_along, chain_fits, chain_may}
+use Rattle.table_writes.proofs.publish.show_chain.Goals as goal
+
+pub overflow_cast-other : goal.overflow_cast-other
+overflow_cast-other c = let small : c.args.other.now.key < 2 ^ 32 = (entry_along (begin_of c.args.words.now) c.args.seat.now.me.0 c.args.call c.args.map c.args.key c.args.node c.args.level c.args.next c.requires.poised c.args.other.now c.requires.other.0).0 in search rules
+
+pub expansion-requires-clause-level : goal.expansion-requires-clause-level
+expansion-requires-clause-level c =
+    chain_fits (begin_of c.args.words.now) c.args.seat.now.me.0 c.args.call c.args.map c.args.key c.args.node c.args.level c.args.next c.requires.poised c.args.other.now c.the_paths_of_different_keys_part.ensures.one_to_one c.args.words.now.made.seed c.requires.other.0 c.requires.other.1 c.ranges.key.fits c.requires.level
+
+pub publish-requires-clause-may : goal.publish-requires-clause-may
+publish-requires-clause-may c =
+    chain_may (begin_of c.args.words.now) c.args.seat.now.me c.draft_chain.new.seat.me c.args.call c.args.map c.args.key c.args.node c.args.level c.args.next c.args.value c.requires.poised c.expansion.result c.args.other.now c.seed-seed.result c.to_word.result
+    c.seed-seed.ensures c.draft_chain.ensures.drafted c.requires.after c.requires.other.0 c.expansion.ensures.plan c.to_word.ensures
