@@ -45,7 +45,7 @@ module _ (k : Begin) (first : Me (Unit {0}) View) (m key : ℕ) (writing : IsWri
     ends : (held : Option ℕ) (leaf : Option Leaf) (last : View) → level < 8 → last ≡ standing after.0 after.0.walk None → (end : Reached) → IsEnd call held node level end → Settles call (walk here) held leaf here after.0 → IsReached call m key end first.0 last
     ends held leaf last below last_is (Answered reply) end settles = of_answer (is_key_entry call held) end.0 settles
       where
-        of_answer : (b : Bool) → b ≡ false → MatchBool b (after.0 ≡ standing here here.walk leaf) (Answers m call (key_reply call held) leaf here after.0) → Answers m call reply None first.0 last
+        of_answer : (b : Bool) → b ≡ false → MatchBool b (after.0 ≡ standing here here.walk leaf) (Answers m call (key_reply call held) 0 leaf here after.0) → Answers m call reply 0 None first.0 last
         of_answer true e a = absurd (let f : true ≡ false = e in (cc))
         of_answer false e a =
             let whole : last ≡ standing after.0 None None = last_is ∙ ap (λ w. standing after.0 w None) (ap (λ (u : View). u.walk) a.is) in record {
@@ -56,7 +56,7 @@ module _ (k : Begin) (first : Me (Unit {0}) View) (m key : ℕ) (writing : IsWri
             }
     ends held leaf last below last_is (Stands n l) end settles = of_entry (is_key_entry call held) end.0 settles
       where
-        of_entry : (b : Bool) → b ≡ true → MatchBool b (after.0 ≡ standing here here.walk leaf) (Answers m call (key_reply call held) leaf here after.0) → IsReached call m key (Stands n l) first.0 last
+        of_entry : (b : Bool) → b ≡ true → MatchBool b (after.0 ≡ standing here here.walk leaf) (Answers m call (key_reply call held) 0 leaf here after.0) → IsReached call m key (Stands n l) first.0 last
         of_entry false e a = absurd (let f : false ≡ true = e in (cc))
         of_entry true e a = (
           last_is ∙ ap (λ (u : View). standing u u.walk None) a ∙ (λ i. standing first.0 (Some (walk_at m key (sym end.1 i) (sym end.2 i) (length first.0.seen))) None),
@@ -72,7 +72,7 @@ module _ (k : Begin) (first : Me (Unit {0}) View) (m key : ℕ) (writing : IsWri
         no_leaf_after : Settles call (walk here) None first.0.leaf here after.0 → after.0 ≡ standing after.0 after.0.walk None
         no_leaf_after f = by_entry (is_key_entry call None) f
           where
-            by_entry : (b : Bool) → MatchBool b (after.0 ≡ standing here here.walk first.0.leaf) (Answers m call (key_reply call None) first.0.leaf here after.0) → after.0 ≡ standing after.0 after.0.walk None
+            by_entry : (b : Bool) → MatchBool b (after.0 ≡ standing here here.walk first.0.leaf) (Answers m call (key_reply call None) 0 first.0.leaf here after.0) → after.0 ≡ standing after.0 after.0.walk None
             by_entry true e = (λ i. standing after.0 after.0.walk ((ap (λ (u : View). u.leaf) e ∙ writing.leaf) i))
             by_entry false a = (λ i. standing after.0 after.0.walk ((ap (λ (u : View). u.leaf) a.is ∙ writing.leaf) i))
 
@@ -85,7 +85,7 @@ module _ (k : Begin) (first : Me (Unit {0}) View) (m key : ℕ) (writing : IsWri
     facts : (l : Leaf) → Settles call (walk here) (given_by l key) (Some l) here after.0 → (after.0.live ≡ true) × (after.0.leaf ≡ Some l) × (after.0.begin ≡ first.0.begin)
     facts l f = by_entry (is_key_entry call (given_by l key)) f
       where
-        by_entry : (b : Bool) → MatchBool b (after.0 ≡ standing here here.walk (Some l)) (Answers m call (key_reply call (given_by l key)) (Some l) here after.0) → (after.0.live ≡ true) × (after.0.leaf ≡ Some l) × (after.0.begin ≡ first.0.begin)
+        by_entry : (b : Bool) → MatchBool b (after.0 ≡ standing here here.walk (Some l)) (Answers m call (key_reply call (given_by l key)) 0 (Some l) here after.0) → (after.0.live ≡ true) × (after.0.leaf ≡ Some l) × (after.0.begin ≡ first.0.begin)
         by_entry true e = (ap (λ (u : View). u.live) e ∙ writing.live, ap (λ (u : View). u.leaf) e, ap (λ (u : View). u.begin) e)
         by_entry false a = (ap (λ (u : View). u.live) a.is ∙ writing.live, ap (λ (u : View). u.leaf) a.is, ap (λ (u : View). u.begin) a.is)
 
@@ -110,18 +110,18 @@ pub writing_on : (k : Begin) (first me : Me (Unit {0}) View) (m : ℕ) (walk : O
 writing_on k first me m walk w is = subst (λ z. IsWriting k z m) (sym is) record { live = w.live; begin = w.begin; some = w.some; few = w.few; gate = w.gate; leaf = refl; lock = w.lock; upper = w.upper }
 
 -- and its call is as if it had stood nowhere
-pub answers_on : (m : ℕ) (call : MapCall ℕ) (reply : MapReply) (v u w : View) (walk : Option Walk) → u ≡ standing v walk None → Answers m call reply None u w → Answers m call reply None v w
-answers_on m call reply v u w walk is a = let b = subst (λ z. Answers m call reply None z w) is a in record { item = b.item; seen = b.seen; is = b.is; called = b.called }
+pub answers_on : (m : ℕ) (call : MapCall ℕ) (reply : MapReply) (words : ℕ) (v u w : View) (walk : Option Walk) → u ≡ standing v walk None → Answers m call reply words None u w → Answers m call reply words None v w
+answers_on m call reply words v u w walk is a = let b = subst (λ z. Answers m call reply words None z w) is a in record { item = b.item; seen = b.seen; is = b.is; called = b.called }
 
 -- a call inside the gate, between coming in and going out
-pub made_between : (k : Begin) (m : ℕ) (call : MapCall ℕ) (reply : MapReply) (first : Me (Unit {0}) View) (inside before after : View) → IsFree k first → inside ≡ holding first.0 (Inside m) None None → Answers m call reply None inside before → after ≡ holding before Outside None None → Made m call reply first.0 after
-made_between k m call reply first inside before after free came made went =
-    let a = subst (λ z. Answers m call reply None z before) came made in
+pub made_between : (k : Begin) (m : ℕ) (call : MapCall ℕ) (reply : MapReply) (words : ℕ) (first : Me (Unit {0}) View) (inside before after : View) → IsFree k first → inside ≡ holding first.0 (Inside m) None None → Answers m call reply words None inside before → after ≡ holding before Outside None None → Made m call reply words first.0 after
+made_between k m call reply words first inside before after free came made went =
+    let a = subst (λ z. Answers m call reply words None z before) came made in
     let idle = free.idle in
     let v = first.0 in record {
       item = a.item;
       seen = a.seen;
-      is = went ∙ ap (λ z. holding z Outside None None) a.is ∙ (λ i. record (called_view v (paid (cost_of call) (with_item v.owns a.item)) a.seen) { walk = sym idle.walk i; leaf = sym idle.leaf i; gate = sym idle.gate i; lock = sym idle.lock i; upper = sym idle.upper i });
+      is = went ∙ ap (λ z. holding z Outside None None) a.is ∙ (λ i. record (called_view v (paid (cost_of call) words (with_item v.owns a.item)) a.seen) { walk = sym idle.walk i; leaf = sym idle.leaf i; gate = sym idle.gate i; lock = sym idle.lock i; upper = sym idle.upper i });
       called = subst (λ z. Called (start_of v.begin) (calls.Map m call) (replies.Map reply) (cost_of call) (view_state v) (view_state z)) (sym went) a.called;
     }
 

@@ -30,15 +30,15 @@ has_unit note cost owned unwritten one spare = by_owns note.seat.me.0.owns refl
         let enough : cost ≤ own.spare = spare (record { number = note.seat.me.0.number; items = own.items; spare = own.spare }) (ap (held_in note.seat.me.0.number) e) in
         (own, owns, e, unwritten 0 own (ap (λ o. slice_get o 0) e), ap (next_in note.next) (sym e) ∙ note.next_is, omega arith)
 
-module _ (table : SharedTable) (old : SharedNote) (m : ℕ) (call : MapCall ℕ) (reply : MapReply) (w : View) (is : IsNoteOf table old) (costs : cost_of call ≡ 1) (unit : HasUnit old.seat.me.0.owns old.next) (made : Made m call reply old.seat.me.0 w) where
+module _ (table : SharedTable) (old : SharedNote) (m : ℕ) (call : MapCall ℕ) (reply : MapReply) (words : ℕ) (w : View) (is : IsNoteOf table old) (costs : cost_of call ≡ 1) (unit : HasUnit old.seat.me.0.owns old.next) (made : Made m call reply words old.seat.me.0 w) where
   abbrev after : Own
-  after = record unit.0 { items = unit.0.items ++ made.item ∷ []; next = unit.0.next + unit_words; spare = unit.0.spare - 1; draft = [] }
+  after = record unit.0 { items = unit.0.items ++ made.item ∷ []; next = unit.0.next + words; spare = unit.0.spare - 1; draft = [] }
 
   owns_after : w.owns ≡ after ∷ unit.1
-  owns_after = ap (λ (z : View). z.owns) made.is ∙ ap (λ c. paid c (with_item old.seat.me.0.owns made.item)) costs ∙ ap (λ o. spend (with_item o made.item)) unit.2
+  owns_after = ap (λ (z : View). z.owns) made.is ∙ ap (λ c. paid c words (with_item old.seat.me.0.owns made.item)) costs ∙ ap (λ o. spend words (with_item o made.item)) unit.2
 
-  pub next_after : next_in (old.next + 128) w.owns ≡ old.next + 128
-  next_after = ap (next_in (old.next + 128)) owns_after ∙ ap (λ n. n + 128) unit.4
+  pub next_after : next_in (old.next + words) w.owns ≡ old.next + words
+  next_after = ap (next_in (old.next + words)) owns_after ∙ ap (λ n. n + words) unit.4
 
   pub spare_after : spare_in (old.spare - 1) w.owns ≡ old.spare - 1
   spare_after = ap (spare_in (old.spare - 1)) owns_after ∙ ap (λ n. n - 1) (ap (spare_in old.spare) (sym unit.2) ∙ old.spare_is)
@@ -46,11 +46,11 @@ module _ (table : SharedTable) (old : SharedNote) (m : ℕ) (call : MapCall ℕ)
   pub some_spare : 0 < old.spare
   some_spare = let left = unit.5 in let e : unit.0.spare ≡ old.spare = ap (spare_in old.spare) (sym unit.2) ∙ old.spare_is in omega arith
 
-  pub next_small : HasRoomWithin w → old.next + 128 < 2 ^ 32
+  pub next_small : HasRoomWithin w → old.next + words < 2 ^ 32
   next_small room =
       let at = room after (ap (λ o. slice_get o 0) owns_after) in
       let begin : w.begin ≡ (begin_of table.words) = ap (λ (z : View). z.begin) made.is ∙ is.begin in
-      let within : unit.0.next + unit_words + unit_words * (unit.0.spare - 1) ≤ size_of (begin_of table.words) = subst (λ (b : Begin). unit.0.next + unit_words + unit_words * (unit.0.spare - 1) ≤ size_of b) begin at in
+      let within : unit.0.next + words + unit_words * (unit.0.spare - 1) ≤ size_of (begin_of table.words) = subst (λ (b : Begin). unit.0.next + words + unit_words * (unit.0.spare - 1) ≤ size_of b) begin at in
       let next = unit.4 in
       let objects = table.made.objects in
       let units = table.made.units in

@@ -32,7 +32,7 @@ use Rattle.table_seats.specs.Writing.{holding, lock_at}
 pub unit_pays : (owns : List Own) (next cost : ℕ) → HasUnit owns next → cost ≡ 1 → Affords cost owns
 unit_pays owns next cost unit one = subst (λ c. Affords c owns) (sym one) (λ own at.
     let same : unit.0 ≡ own = same_Some unit.0 own (ap (λ o. slice_get o 0) (sym unit.2) ∙ at) in
-    subst (MayPay 1) same (refl, unit.5, let none_drafted = ap length unit.3 in omega arith))
+    subst (MayPay 1) same (refl, unit.5, unit.3))
 
 module _ (k : Begin) (me after : Me (Unit {0}) View) (call : MapCall ℕ) (m key node level next since up : ℕ) (on : map_key call ≡ Some key) (costs : cost_of call ≡ 1) (unit : HasUnit me.0.owns next) (stands : StandsLocked k me (walk_at m key node level since) up) where
   abbrev w : Walk
@@ -101,7 +101,7 @@ module _ (k : Begin) (me after : Me (Unit {0}) View) (call : MapCall ℕ) (m key
           places = λ l l_is. subst (λ (z : View). HasWords z l.place 2) (sym whole) (places l l_is);
         }
 
-    made : Answers m call (key_reply call (leaf_value leaf key)) leaf me.0 mid → MadeLocked m call key node level (key_reply call (leaf_value leaf key)) me.0 after.0
+    made : Answers m call (key_reply call (leaf_value leaf key)) 0 leaf me.0 mid → MadeLocked m call key node level (key_reply call (leaf_value leaf key)) 0 me.0 after.0
     made a = record {
       leaf = leaf;
       lock = lock word;
@@ -116,12 +116,12 @@ module _ (k : Begin) (me after : Me (Unit {0}) View) (call : MapCall ℕ) (m key
       };
     }
 
-    pub sees_leaf : MatchBool (is_key_entry call (leaf_value leaf key)) (mid ≡ standing me.0 me.0.walk leaf) (Answers m call (key_reply call (leaf_value leaf key)) leaf me.0 mid)
-        → MatchBool (is_key_entry call (leaf_value leaf key)) (IsPoisedAt k call m key node level next leaf me.0 after.0) (MadeLocked m call key node level (key_reply call (leaf_value leaf key)) me.0 after.0)
+    pub sees_leaf : MatchBool (is_key_entry call (leaf_value leaf key)) (mid ≡ standing me.0 me.0.walk leaf) (Answers m call (key_reply call (leaf_value leaf key)) 0 leaf me.0 mid)
+        → MatchBool (is_key_entry call (leaf_value leaf key)) (IsPoisedAt k call m key node level next leaf me.0 after.0) (MadeLocked m call key node level (key_reply call (leaf_value leaf key)) 0 me.0 after.0)
     sees_leaf = by_entry (is_key_entry call (leaf_value leaf key)) refl
       where
-        by_entry : (b : Bool) → is_key_entry call (leaf_value leaf key) ≡ b → MatchBool b (mid ≡ standing me.0 me.0.walk leaf) (Answers m call (key_reply call (leaf_value leaf key)) leaf me.0 mid)
-            → MatchBool b (IsPoisedAt k call m key node level next leaf me.0 after.0) (MadeLocked m call key node level (key_reply call (leaf_value leaf key)) me.0 after.0)
+        by_entry : (b : Bool) → is_key_entry call (leaf_value leaf key) ≡ b → MatchBool b (mid ≡ standing me.0 me.0.walk leaf) (Answers m call (key_reply call (leaf_value leaf key)) 0 leaf me.0 mid)
+            → MatchBool b (IsPoisedAt k call m key node level next leaf me.0 after.0) (MadeLocked m call key node level (key_reply call (leaf_value leaf key)) 0 me.0 after.0)
         by_entry true e t = poised t e
         by_entry false e t = made t
 
@@ -129,11 +129,11 @@ module _ (k : Begin) (me after : Me (Unit {0}) View) (call : MapCall ℕ) (m key
   Finds found = FindsHeld call (walk_at m key node level since) (lock_at (walk_at m key node level since) up) (nibble key me.0.begin.seed level) found me.0 after.0
 
   abbrev pub Sight : Option Leaf → Type 0
-  Sight leaf = MatchBool (is_key_entry call (leaf_value leaf key)) (IsPoisedAt k call m key node level next leaf me.0 after.0) (MadeLocked m call key node level (key_reply call (leaf_value leaf key)) me.0 after.0)
+  Sight leaf = MatchBool (is_key_entry call (leaf_value leaf key)) (IsPoisedAt k call m key node level next leaf me.0 after.0) (MadeLocked m call key node level (key_reply call (leaf_value leaf key)) 0 me.0 after.0)
 
   pub sees_empty : Finds Empty → Sight None
   sees_empty f = sees_leaf Empty None f.mid f.word f.is f.is_slot f.room refl (λ e is. absurd (none-some e is)) (λ e is. absurd (none-some e is))
-      (subst (λ o. MatchBool (is_key_entry call None) (f.mid ≡ standing me.0 me.0.walk o) (Answers m call (key_reply call None) o me.0 f.mid)) stands.leaf f.finds)
+      (subst (λ o. MatchBool (is_key_entry call None) (f.mid ≡ standing me.0 me.0.walk o) (Answers m call (key_reply call None) 0 o me.0 f.mid)) stands.leaf f.finds)
 
   -- an entry is there, whose words the seat knows
   pub knows_entry : (place : ℕ) → Finds (Entry place) → AtEntry after place × HasWords after.0 place 2 × (after.0.begin ≡ k)
@@ -145,14 +145,14 @@ module _ (k : Begin) (me after : Me (Unit {0}) View) (call : MapCall ℕ) (m key
         ap (λ (z : View). z.begin) f.is ∙ t.2 ∙ stands.begin,
       )
     where
-      by_entry : (l : Leaf) (place : ℕ) (mid : View) (b : Bool) → MatchBool b (mid ≡ standing me.0 me.0.walk (Some l)) (Answers m call (key_reply call (given_by l key)) (Some l) me.0 mid) → (mid.live ≡ true) × (mid.leaf ≡ Some l) × (mid.begin ≡ me.0.begin)
+      by_entry : (l : Leaf) (place : ℕ) (mid : View) (b : Bool) → MatchBool b (mid ≡ standing me.0 me.0.walk (Some l)) (Answers m call (key_reply call (given_by l key)) 0 (Some l) me.0 mid) → (mid.live ≡ true) × (mid.leaf ≡ Some l) × (mid.begin ≡ me.0.begin)
       by_entry l place mid true e = (ap (λ (z : View). z.live) e ∙ stands.live, ap (λ (z : View). z.leaf) e, ap (λ (z : View). z.begin) e)
       by_entry l place mid false a = (ap (λ (z : View). z.live) a.is ∙ stands.live, ap (λ (z : View). z.leaf) a.is, ap (λ (z : View). z.begin) a.is)
 
   entry_leaf : (place : ℕ) (f : Finds (Entry place)) → after.0.leaf ≡ Some f.finds.0
   entry_leaf place f = ap (λ (z : View). z.leaf) f.is ∙ by_entry (is_key_entry call (given_by f.finds.0 key)) f.finds.4
     where
-      by_entry : (b : Bool) → MatchBool b (f.mid ≡ standing me.0 me.0.walk (Some f.finds.0)) (Answers m call (key_reply call (given_by f.finds.0 key)) (Some f.finds.0) me.0 f.mid) → f.mid.leaf ≡ Some f.finds.0
+      by_entry : (b : Bool) → MatchBool b (f.mid ≡ standing me.0 me.0.walk (Some f.finds.0)) (Answers m call (key_reply call (given_by f.finds.0 key)) 0 (Some f.finds.0) me.0 f.mid) → f.mid.leaf ≡ Some f.finds.0
       by_entry true e = ap (λ (z : View). z.leaf) e
       by_entry false a = ap (λ (z : View). z.leaf) a.is
 
@@ -167,19 +167,19 @@ module _ (k : Begin) (me after : Me (Unit {0}) View) (call : MapCall ℕ) (m key
 
 -- a seat that did nothing sees the same
 pub sight_same : (k : Begin) (call : MapCall ℕ) (m key node level next : ℕ) (leaf : Option Leaf) (v one two : View) → one ≡ two
-    → MatchBool (is_key_entry call (leaf_value leaf key)) (IsPoisedAt k call m key node level next leaf v one) (MadeLocked m call key node level (key_reply call (leaf_value leaf key)) v one)
-    → MatchBool (is_key_entry call (leaf_value leaf key)) (IsPoisedAt k call m key node level next leaf v two) (MadeLocked m call key node level (key_reply call (leaf_value leaf key)) v two)
+    → MatchBool (is_key_entry call (leaf_value leaf key)) (IsPoisedAt k call m key node level next leaf v one) (MadeLocked m call key node level (key_reply call (leaf_value leaf key)) 0 v one)
+    → MatchBool (is_key_entry call (leaf_value leaf key)) (IsPoisedAt k call m key node level next leaf v two) (MadeLocked m call key node level (key_reply call (leaf_value leaf key)) 0 v two)
 sight_same k call m key node level next leaf v one two same sight =
-    subst (λ z. MatchBool (is_key_entry call (leaf_value leaf key)) (IsPoisedAt k call m key node level next leaf v z) (MadeLocked m call key node level (key_reply call (leaf_value leaf key)) v z)) same sight
+    subst (λ z. MatchBool (is_key_entry call (leaf_value leaf key)) (IsPoisedAt k call m key node level next leaf v z) (MadeLocked m call key node level (key_reply call (leaf_value leaf key)) 0 v z)) same sight
 
 -- a seat that published made its call under the lock
-pub made_locked : (k : Begin) (call : MapCall ℕ) (m key node level next : ℕ) (leaf : Option Leaf) (v : View) (w after : Me (Unit {0}) View) → IsPoisedAt k call m key node level next leaf v w.0 → Publishes m call w after → MadeLocked m call key node level (key_reply call (leaf_value leaf key)) v after.0
-made_locked k call m key node level next leaf v w after p told =
+pub made_locked : (k : Begin) (call : MapCall ℕ) (m key node level next words : ℕ) (leaf : Option Leaf) (v : View) (w after : Me (Unit {0}) View) → IsPoisedAt k call m key node level next leaf v w.0 → Publishes m call words w after → MadeLocked m call key node level (key_reply call (leaf_value leaf key)) words v after.0
+made_locked k call m key node level next words leaf v w after p told =
     let lock = p.lock in
     let locked : w.0.lock ≡ Some lock = ap (λ (z : View). z.lock) p.is in
     let same : p.poised.lock ≡ lock = same_Some p.poised.lock lock (sym p.poised.sees.locked ∙ locked) in
     let key_is : lock.key ≡ key = ap (λ (z : Lock). z.key) (sym same) ∙ p.poised.at.0 in
-    let makes = subst (λ z. Makes m call (key_reply call (leaf_value w.0.leaf lock.key)) None (Some (bare lock)) z after.0) p.is (told.1 lock locked) in
+    let makes = subst (λ z. Makes m call (key_reply call (leaf_value w.0.leaf lock.key)) words None (Some (bare lock)) z after.0) p.is (told.1 lock locked) in
     let reply_is : key_reply call (leaf_value w.0.leaf lock.key) ≡ key_reply call (leaf_value leaf key) = (λ i. key_reply call (leaf_value (p.leaf_is i) (key_is i))) in record {
       leaf = None;
       lock = bare lock;
@@ -196,9 +196,9 @@ made_locked k call m key node level next leaf v w after p told =
 
 -- what is seen, where the call is an entry of the history, and where it isn't
 pub sees_entry_there : (k : Begin) (call : MapCall ℕ) (m key node level next : ℕ) (leaf : Option Leaf) (held : Option ℕ) (v w : View) → held ≡ leaf_value leaf key → is_key_entry call held ≡ true
-    → MatchBool (is_key_entry call (leaf_value leaf key)) (IsPoisedAt k call m key node level next leaf v w) (MadeLocked m call key node level (key_reply call (leaf_value leaf key)) v w) → IsPoisedAt k call m key node level next leaf v w
-sees_entry_there k call m key node level next leaf held v w same entry sight = subst (λ b. MatchBool b (IsPoisedAt k call m key node level next leaf v w) (MadeLocked m call key node level (key_reply call (leaf_value leaf key)) v w)) (ap (is_key_entry call) (sym same) ∙ entry) sight
+    → MatchBool (is_key_entry call (leaf_value leaf key)) (IsPoisedAt k call m key node level next leaf v w) (MadeLocked m call key node level (key_reply call (leaf_value leaf key)) 0 v w) → IsPoisedAt k call m key node level next leaf v w
+sees_entry_there k call m key node level next leaf held v w same entry sight = subst (λ b. MatchBool b (IsPoisedAt k call m key node level next leaf v w) (MadeLocked m call key node level (key_reply call (leaf_value leaf key)) 0 v w)) (ap (is_key_entry call) (sym same) ∙ entry) sight
 
 pub sees_answer : (k : Begin) (call : MapCall ℕ) (m key node level next : ℕ) (leaf : Option Leaf) (held : Option ℕ) (v w : View) → held ≡ leaf_value leaf key → is_key_entry call held ≡ false
-    → MatchBool (is_key_entry call (leaf_value leaf key)) (IsPoisedAt k call m key node level next leaf v w) (MadeLocked m call key node level (key_reply call (leaf_value leaf key)) v w) → MadeLocked m call key node level (key_reply call (leaf_value leaf key)) v w
-sees_answer k call m key node level next leaf held v w same entry sight = subst (λ b. MatchBool b (IsPoisedAt k call m key node level next leaf v w) (MadeLocked m call key node level (key_reply call (leaf_value leaf key)) v w)) (ap (is_key_entry call) (sym same) ∙ entry) sight
+    → MatchBool (is_key_entry call (leaf_value leaf key)) (IsPoisedAt k call m key node level next leaf v w) (MadeLocked m call key node level (key_reply call (leaf_value leaf key)) 0 v w) → MadeLocked m call key node level (key_reply call (leaf_value leaf key)) 0 v w
+sees_answer k call m key node level next leaf held v w same entry sight = subst (λ b. MatchBool b (IsPoisedAt k call m key node level next leaf v w) (MadeLocked m call key node level (key_reply call (leaf_value leaf key)) 0 v w)) (ap (is_key_entry call) (sym same) ∙ entry) sight

@@ -41,7 +41,7 @@ module _ (k : Begin) (first : Me (Unit {0}) View) (free : IsFree k first) (m key
   words_there me node level at = subst (λ (u : View). HasWords u node 18) (sym at.view) at.words
 
   -- the call was placed on the way
-  placed : (walk : Option Walk) (leaf : Option Leaf) (reply : MapReply) (mid last : View) → Answers m (Load key) reply leaf (standing first.0 walk first.0.leaf) mid → last ≡ standing mid None None → Places (calls.Map m (Load key)) (replies.Map reply) first.0 last
+  placed : (walk : Option Walk) (leaf : Option Leaf) (reply : MapReply) (mid last : View) → Answers m (Load key) reply 0 leaf (standing first.0 walk first.0.leaf) mid → last ≡ standing mid None None → Places (calls.Map m (Load key)) (replies.Map reply) first.0 last
   placed walk leaf reply mid last a is = record {
     item = a.item;
     seen = a.seen;

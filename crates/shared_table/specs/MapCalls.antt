@@ -15,6 +15,7 @@ use Rattle.table_seats.specs.Walking.{standing, walk_at, HasWords, Answers}
 use Rattle.table_writes.specs.Drafts.{IsPoised}
 use Rattle.shared_table.specs.declared.changes.Change.{Change}
 use Rattle.shared_table.specs.declared.changes.Change.TheVariants.{Keep, Put, Remove}
+use Rattle.shared_table.specs.declared.map_call.Paid.{Paid}
 use Rattle.shared_table.specs.declared.map_call.Reached.{Reached}
 use Rattle.shared_table.specs.declared.map_call.Reached.TheVariants.{Answered, Stands}
 use Rattle.shared_table.specs.declared.map_call.Sight.{Sight}
@@ -45,19 +46,19 @@ pub record IsPoisedAt (k : Begin) (call : MapCall ℕ) (m key node level next : 
   pub is : w ≡ record v { leaf = leaf; lock = Some lock }
   pub places : (e : Leaf) → leaf ≡ Some e → HasWords w e.place 2
 
--- a seat made its call under the lock of a node, which it holds still
-pub record MadeLocked (m : ℕ) (call : MapCall ℕ) (key node level : ℕ) (reply : MapReply) (v w : View) : Type 0 where
+-- a seat made its call under the lock of a node, which it holds still. The call used so many words of its caller's room
+pub record MadeLocked (m : ℕ) (call : MapCall ℕ) (key node level : ℕ) (reply : MapReply) (words : ℕ) (v w : View) : Type 0 where
   pub leaf : Option Leaf
   pub lock : Lock
   pub at : IsLockAt lock key node level
   pub fresh : lock.empty ≡ 0
   pub living : lock.dead ≡ false
-  pub makes : Makes m call reply leaf (Some lock) v w
+  pub makes : Makes m call reply words leaf (Some lock) v w
 
 -- what a seat saw under a lock: the slot has become a node; or it has this, and the call is answered, or is an entry of the history
 abbrev pub IsSight : Begin → MapCall ℕ → ℕ → ℕ → ℕ → ℕ → ℕ → Sight → View → View → Type 0
 IsSight k call m key node level next Below v w = StillLocked node v w
-IsSight k call m key node level next (Shows leaf) v w = MatchBool (is_key_entry call (leaf_value leaf key)) (IsPoisedAt k call m key node level next leaf v w) (MadeLocked m call key node level (key_reply call (leaf_value leaf key)) v w)
+IsSight k call m key node level next (Shows leaf) v w = MatchBool (is_key_entry call (leaf_value leaf key)) (IsPoisedAt k call m key node level next leaf v w) (MadeLocked m call key node level (key_reply call (leaf_value leaf key)) 0 v w)
 
 -- a writer of a map that holds no lock, and knows no entry
 pub record IsWriting (k : Begin) (me : Me (Unit {0}) View) (m : ℕ) : Type 0 where
@@ -77,10 +78,10 @@ IsEnd call held node level (Stands n l) = (is_key_entry call held ≡ true) × (
 
 -- the way down to a key ended: its call was answered, or the seat stands at the node whose slot for the key has no node
 abbrev pub IsReached : MapCall ℕ → ℕ → ℕ → Reached → View → View → Type 0
-IsReached call m key (Answered reply) before after = Answers m call reply None before after
+IsReached call m key (Answered reply) before after = Answers m call reply 0 None before after
 IsReached call m key (Stands node level) before after = (after ≡ standing before (Some (walk_at m key node level (length before.seen))) None) × HasWords before node 18 × (level < 8)
 
 -- a seat made its call, or stands somewhere and has made none
-abbrev pub MayHaveMade : ℕ → MapCall ℕ → Option MapReply → View → View → Type 0
+abbrev pub MayHaveMade : ℕ → MapCall ℕ → Option Paid → View → View → Type 0
 MayHaveMade m call None before after = (walk : Option Walk) × (after ≡ standing before walk None)
-MayHaveMade m call (Some reply) before after = Answers m call reply None before after
+MayHaveMade m call (Some paid) before after = Answers m call paid.reply paid.words None before after

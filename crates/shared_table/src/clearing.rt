@@ -24,7 +24,7 @@ use atomic_table::Seat;
 use crossbeam_utils::Backoff;
 use std::sync::Wait;
 use table_seats::View;
-use trie_nodes::UNIT_WORDS;
+use trie_nodes::layout::NODE_WORDS;
 
 impl SharedTable {
     /// Clears a map, and uses up one unit of its caller's room, whatever the map had. The call is an entry of the history,
@@ -39,7 +39,7 @@ impl SharedTable {
         ensures called { Called (first_of self.now) (calls.Map map Clear) (replies.Map Done) 1 (state_of own_by front_by seen_by note.old) (state_of own_by front_by seen_by note.new) }
     {
         self.clear(rt, &mut note.seat, map, note.next);
-        note.next += UNIT_WORDS as u64;
+        note.next += NODE_WORDS as u64;
         note.spare -= 1;
     }
 
@@ -50,7 +50,7 @@ impl SharedTable {
         requires unit { HasUnit seat.old.me.0.owns next }
         requires map { map < maps_of self.now }
         ensures table { seat.new.table_id ≡ seat.old.table_id }
-        ensures made { (seat.new.me.1 ≡ seat.old.me.1) × Made map Clear Done seat.old.me.0 seat.new.me.0 }
+        ensures made { (seat.new.me.1 ≡ seat.old.me.1) × Made map Clear Done 18 seat.old.me.0 seat.new.me.0 }
         ensures room { HasRoomWithin seat.new.me.0 }
     {
         self.close(rt, seat, map);

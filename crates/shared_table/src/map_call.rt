@@ -28,7 +28,8 @@ use std::sync::Wait;
 use sync_types::{MapCall, MapReply};
 use table_seats::{Leaf, View};
 use table_writes::{remove, show_chain, show_entry};
-use trie_nodes::{LEVELS, Slot, UNIT_WORDS};
+use trie_nodes::layout::ENTRY_WORDS;
+use trie_nodes::{LEVELS, Slot};
 
 /// Where the way down to a key ended.
 pub(crate) enum Reached {
@@ -57,6 +58,14 @@ pub(crate) enum Sight {
     Below,
     /// It is empty, or has this entry.
     Shows(Option<Leaf>),
+}
+
+/// A call that was made.
+#[derive(Drop)]
+pub(crate) struct Paid {
+    pub(crate) reply: MapReply,
+    /// How many words of its caller's room it used: the two of an entry, or those of a chain. Where it only read, none.
+    pub(crate) words: u64,
 }
 
 // The value of a key, by the entry in its slot.
@@ -88,10 +97,10 @@ impl SharedTable {
         ensures home { SameHome IsNoteOf note.old note.new }
         ensures called { Called (first_of self.now) (calls.Map map call) (replies.Map result) (cost_of call) (state_of own_by front_by seen_by note.old) (state_of own_by front_by seen_by note.new) }
     {
-        let reply = self.make(rt, &mut note.seat, call, map, key, note.number, note.next);
-        note.next += UNIT_WORDS as u64;
+        let made = self.make(rt, &mut note.seat, call, map, key, note.number, note.next);
+        note.next += made.words;
         note.spare -= 1;
-        reply
+        made.reply
     }
 
     // Looks at the key's slot under the lock of the node where the seat stands.
@@ -121,7 +130,7 @@ impl SharedTable {
         }
     }
 
-    // Lets the key have a value.
+    // Lets the key have a value. Tells how many words of the room it used.
     fn put(
         &self,
         seat: &mut Seat<(), View>,
@@ -133,7 +142,7 @@ impl SharedTable {
         next: u64,
         value: u64,
         leaf: Option<Leaf>,
-    )
+    ) -> u64
         requires table { IsSeatOf self.now.words seat.old }
         requires poised { IsPoised (begin_of self.now.words) seat.old.me.0 call map key node level next }
         requires after { key_after call (leaf_value leaf key) ≡ Some value }
@@ -141,27 +150,24 @@ impl SharedTable {
         requires words { HasWords seat.old.me.0 node 18 }
         requires level { level < 8 }
         ensures table { seat.new.table_id ≡ seat.old.table_id }
-        ensures published { Publishes map call seat.old.me seat.new.me }
+        ensures published { Publishes map call result seat.old.me seat.new.me }
     {
         match leaf {
-            None => show_entry(&self.words, seat, call, map, key, node, level, next, value),
-            Some(entry) => {
-                if entry.key == key as u64 {
-                    show_entry(&self.words, seat, call, map, key, node, level, next, value)
-                } else {
-                    show_chain(
-                        &self.words,
-                        seat,
-                        call,
-                        map,
-                        key,
-                        node,
-                        level,
-                        next,
-                        value,
-                        &entry,
-                    )
-                }
+            Some(entry) if entry.key != key as u64 => show_chain(
+                &self.words,
+                seat,
+                call,
+                map,
+                key,
+                node,
+                level,
+                next,
+                value,
+                &entry,
+            ),
+            _ => {
+                show_entry(&self.words, seat, call, map, key, node, level, next, value);
+                ENTRY_WORDS as u64
             }
         }
     }
@@ -176,7 +182,7 @@ impl SharedTable {
         node: u64,
         level: u32,
         next: u64,
-    ) -> Option<MapReply>
+    ) -> Option<Paid>
         requires table { IsSeatOf self.now.words seat.old }
         requires call { (map_key call ≡ Some key) × (cost_of call ≡ 1) }
         requires unit { HasUnit seat.old.me.0.owns next }
@@ -185,23 +191,26 @@ impl SharedTable {
         requires level { level < 8 }
         ensures table { seat.new.table_id ≡ seat.old.table_id }
         ensures slots { seat.new.me.1 ≡ seat.old.me.1 }
-        ensures made { MatchOption result (StillLocked node seat.old.me.0 seat.new.me.0) (λ reply. MadeLocked map call key node level reply seat.old.me.0 seat.new.me.0) }
+        ensures made { MatchOption result (StillLocked node seat.old.me.0 seat.new.me.0) (λ made. MadeLocked map call key node level made.reply made.words seat.old.me.0 seat.new.me.0) }
     {
         match self.see_held(seat, call, map, key, node, level, next) {
             Sight::Below => None,
             Sight::Shows(leaf) => {
                 let held = value_in(leaf, key);
-                match Change::of(call, held) {
-                    Change::Keep => Some(reply_of(call, held)),
+                let words = match Change::of(call, held) {
+                    Change::Keep => 0,
                     Change::Remove => {
                         remove(&self.words, seat, call, map, key, node, level, next);
-                        Some(reply_of(call, held))
+                        ENTRY_WORDS as u64
                     }
                     Change::Put(value) => {
-                        self.put(seat, call, map, key, node, level, next, value, leaf);
-                        Some(reply_of(call, held))
+                        self.put(seat, call, map, key, node, level, next, value, leaf)
                     }
-                }
+                };
+                Some(Paid {
+                    reply: reply_of(call, held),
+                    words,
+                })
             }
         }
     }
@@ -259,7 +268,7 @@ impl SharedTable {
         level: u32,
         caller: u32,
         next: u64,
-    ) -> Option<MapReply>
+    ) -> Option<Paid>
         requires table { IsSeatOf self.now.words seat.old }
         requires call { (map_key call ≡ Some key) × (cost_of call ≡ 1) }
         requires unit { HasUnit seat.old.me.0.owns next }
@@ -320,7 +329,7 @@ impl SharedTable {
         key: u32,
         caller: u32,
         next: u64,
-    ) -> MapReply
+    ) -> Paid
         requires table { IsSeatOf self.now.words seat.old }
         requires call { (map_key call ≡ Some key) × (cost_of call ≡ 1) }
         requires unit { HasUnit seat.old.me.0.owns next }
@@ -328,17 +337,17 @@ impl SharedTable {
         requires map { map < maps_of self.now }
         requires caller { caller ≡ seat.old.me.0.number }
         ensures table { seat.new.table_id ≡ seat.old.table_id }
-        ensures made { (seat.new.me.1 ≡ seat.old.me.1) × Answers map call result None seat.old.me.0 seat.new.me.0 }
+        ensures made { (seat.new.me.1 ≡ seat.old.me.1) × Answers map call result.reply result.words None seat.old.me.0 seat.new.me.0 }
     {
         let backoff = Backoff::new();
         for _ in rt.forever() {
             match self.descend(seat, call, map, key) {
-                Reached::Answered(reply) => return reply,
+                Reached::Answered(reply) => return Paid { reply, words: 0 },
                 Reached::Stands { node, level } => {
-                    if let Some(reply) = self.make_at(
+                    if let Some(made) = self.make_at(
                         rt, seat, call, map, key, node, level, caller, next,
                     ) {
-                        return reply;
+                        return made;
                     }
                 }
             }
@@ -357,7 +366,7 @@ impl SharedTable {
         key: u32,
         caller: u32,
         next: u64,
-    ) -> MapReply
+    ) -> Paid
         requires table { IsSeatOf self.now.words seat.old }
         requires call { (map_key call ≡ Some key) × (cost_of call ≡ 1) }
         requires unit { HasUnit seat.old.me.0.owns next }
@@ -365,12 +374,12 @@ impl SharedTable {
         requires map { map < maps_of self.now }
         requires caller { caller ≡ seat.old.me.0.number }
         ensures table { seat.new.table_id ≡ seat.old.table_id }
-        ensures made { (seat.new.me.1 ≡ seat.old.me.1) × Made map call result seat.old.me.0 seat.new.me.0 }
+        ensures made { (seat.new.me.1 ≡ seat.old.me.1) × Made map call result.reply result.words seat.old.me.0 seat.new.me.0 }
         ensures room { HasRoomWithin seat.new.me.0 }
     {
         self.come_in(rt, seat, map);
-        let reply = self.make_inside(rt, seat, call, map, key, caller, next);
+        let made = self.make_inside(rt, seat, call, map, key, caller, next);
         self.words.go_out(seat, map);
-        reply
+        made
     }
 }

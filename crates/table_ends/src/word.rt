@@ -6,8 +6,8 @@ ghost use Rattle.table_ends.specs.EndContents.{contents_of, words_of};
 ghost use Rattle.table_ends.specs.EndWords.{root_in};
 
 use crate::ended::TableEnds;
-use trie_nodes::Slot;
 use trie_nodes::layout::slot_word;
+use trie_nodes::{Layout, Slot};
 
 impl TableEnds {
     // A word, or 0 behind the last.
@@ -27,7 +27,11 @@ impl TableEnds {
         ensures is { result ≡ root_in self.now.kinds (words_of self.now) map }
         ensures place { result < 2 ^ 63 }
     {
-        self.word(1 + self.kinds.len() + 2 * map as usize)
+        let layout = Layout {
+            atomics: self.kinds.len() as u32,
+            maps: self.maps,
+        };
+        self.word(layout.root_word(map))
     }
 
     // What a slot of a node holds.

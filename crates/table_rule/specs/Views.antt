@@ -55,27 +55,27 @@ abbrev pub with_item : List Own → Item → List Own
 with_item [] x = []
 with_item (own ∷ owns) x = record own { items = own.items ++ x ∷ [] } ∷ owns
 
--- a caller used up one unit of its room
-abbrev pub spend_own : Own → Own
-spend_own own = record own { next = own.next + unit_words; spare = own.spare - 1; draft = [] }
+-- a caller used up one unit of its room. It goes on behind the words that it used
+abbrev pub spend_own : ℕ → Own → Own
+spend_own words own = record own { next = own.next + words; spare = own.spare - 1; draft = [] }
 
-abbrev pub spend : List Own → List Own
-spend [] = []
-spend (own ∷ owns) = spend_own own ∷ owns
+abbrev pub spend : ℕ → List Own → List Own
+spend words [] = []
+spend words (own ∷ owns) = spend_own words own ∷ owns
 
--- a call costs a unit of its caller's room, or nothing
-abbrev pub paid_own : ℕ → Own → Own
-paid_own zero own = own
-paid_own (suc cost) own = spend_own own
+-- a call costs a unit of its caller's room, of which it used so many words, or nothing
+abbrev pub paid_own : ℕ → ℕ → Own → Own
+paid_own zero words own = own
+paid_own (suc cost) words own = spend_own words own
 
-abbrev pub paid : ℕ → List Own → List Own
-paid zero owns = owns
-paid (suc cost) owns = spend owns
+abbrev pub paid : ℕ → ℕ → List Own → List Own
+paid zero words owns = owns
+paid (suc cost) words owns = spend words owns
 
--- it can be paid, and no more than one unit is written
+-- it can be paid, and nothing is drafted
 abbrev pub MayPay : ℕ → Own → Type 0
 MayPay zero own = Unit {0}
-MayPay (suc cost) own = (cost ≡ 0) × (0 < own.spare) × (length own.draft ≤ unit_words)
+MayPay (suc cost) own = (cost ≡ 0) × (0 < own.spare) × (own.draft ≡ [])
 
 -- the view after a call of the first caller, who has then seen this
 abbrev pub called_view : View → List Own → List SharedEntry → View

@@ -24,7 +24,6 @@ use Rattle.table_rule.specs.declared.view.View.{View}
 use Rattle.table_seats.specs.Clearing.{HasClosed, Clears}
 use Rattle.sync_model.specs.EndsOfHistory.{HasKeysBelow}
 use Rattle.table_seats.specs.Laws.{HistoryLaws}
-use Rattle.trie_nodes.specs.Layout.{unit_words}
 use Rattle.table_rule.specs.Layout.{root_word, callers_of}
 use Rattle.table_rule.specs.Ledger.{Owned, Fits}
 use Rattle.table_seats.specs.Making.{HasUnit, Made}
@@ -102,7 +101,7 @@ module _ (k : Begin) (laws : HistoryLaws) (s : TableState) (r : Kept k s) (id : 
       }
 
   abbrev pub own_after : Own
-  own_after = spend_own (record own { items = own.items ++ item ∷ [] })
+  own_after = spend_own 18 (record own { items = own.items ++ item ∷ [] })
 
   abbrev pub view_after : View
   view_after = called_view me.0 (own_after ∷ owns) (with_call r.log me.0.number item)
@@ -127,12 +126,12 @@ module _ (k : Begin) (laws : HistoryLaws) (s : TableState) (r : Kept k s) (id : 
       let left = spare in let lies = room.lies in let within = room.within in let none_drafted : length own.draft ≡ 0 = ap length blank in record {
         lies = omega arith;
         within = omega arith;
-        mine = λ i below. let at : own.next + unit_words + i ≡ own.next + (unit_words + i) = omega arith in subst (λ n. r.shape.area_of n ≡ suc me.0.number) (sym at) (room.mine (unit_words + i) (omega arith));
-        unused = λ i below. let at : own.next + unit_words + i ≡ own.next + (unit_words + i) = omega arith in
-            part_out k r.shape r.log (with_call r.log me.0.number item) s.words m own.next laws ground empties (own.next + unit_words + i) (λ from to. omega arith) ∙ subst (λ n. r.shape.part_of n ≡ 0) (sym at) (room.unused (unit_words + i) (omega arith));
-        words = λ i below. let at : own.next + unit_words + i ≡ own.next + (unit_words + i) = omega arith in
-            ap (slice_index words) at ∙ behind_heads k r.shape r.log (with_call r.log me.0.number item) s.words m own.next laws ground empties (own.next + (unit_words + i)) (omega arith)
-            ∙ room.words (unit_words + i) (omega arith) ∙ past_end own.draft (unit_words + i) (omega arith);
+        mine = λ i below. let at : own.next + 18 + i ≡ own.next + (18 + i) = omega arith in subst (λ n. r.shape.area_of n ≡ suc me.0.number) (sym at) (room.mine (18 + i) (omega arith));
+        unused = λ i below. let at : own.next + 18 + i ≡ own.next + (18 + i) = omega arith in
+            part_out k r.shape r.log (with_call r.log me.0.number item) s.words m own.next laws ground empties (own.next + 18 + i) (λ from to. omega arith) ∙ subst (λ n. r.shape.part_of n ≡ 0) (sym at) (room.unused (18 + i) (omega arith));
+        words = λ i below. let at : own.next + 18 + i ≡ own.next + (18 + i) = omega arith in
+            ap (slice_index words) at ∙ behind_heads k r.shape r.log (with_call r.log me.0.number item) s.words m own.next laws ground empties (own.next + (18 + i)) (omega arith)
+            ∙ room.words (18 + i) (omega arith) ∙ past_end own.draft (18 + i) (omega arith);
       }
 
   rooms_after : (i : ℕ) (o : Own) → slice_get (own_after ∷ owns) i ≡ Some o → HasRoom k shape words (me.0.number + i) o
@@ -187,11 +186,11 @@ module _ (k : Begin) (laws : HistoryLaws) (s : TableState) (r : Kept k s) (id : 
   pub kept_cleared : Kept k record { words = set s.words (root_word k m) own.next; homes = s.homes; views = set s.views id view_after }
   kept_cleared = moves k laws s r id me.0.number words view_after keeps_all
 
-  pub is_made : Made m Clear Done me.0 view_after
+  pub is_made : Made m Clear Done 18 me.0 view_after
   is_made = record {
     item = item;
     seen = with_call r.log me.0.number item;
-    is = ap (λ o. called_view me.0 o (with_call r.log me.0.number item)) (ap (λ o. spend (with_item o item)) (sym is));
+    is = ap (λ o. called_view me.0 o (with_call r.log me.0.number item)) (ap (λ o. spend 18 (with_item o item)) (sym is));
     called = subst (λ b. Called (start_of b) (calls.Map m Clear) (replies.Map Done) 1 (view_state me.0) (view_state view_after)) (sym has.begin)
         (called k laws r.log r.calls (callers_of k) r.claim id r.lawful me.0 own owns is fits item may own_after refl 1 (let left = spare in omega arith));
   }

@@ -41,7 +41,7 @@ pub record Leaves (v u : View) : Type 0 where
   pub gate : u.gate ≡ v.gate
   pub some : 0 < length v.owns → 0 < length u.owns
 
-some_paid : (cost : ℕ) (owns : List Own) (x : Item) → 0 < length owns → 0 < length (paid cost (with_item owns x))
+some_paid : (cost : ℕ) (owns : List Own) (x : Item) → 0 < length owns → 0 < length (paid cost 0 (with_item owns x))
 some_paid zero [] x stands = stands
 some_paid zero (own ∷ owns) x stands = stands
 some_paid (suc cost) [] x stands = stands
@@ -50,7 +50,7 @@ some_paid (suc cost) (own ∷ owns) x stands = stands
 settles_leaves : (call : MapCall ℕ) (w : Walk) (held : Option ℕ) (leaf : Option Leaf) (v u : View) → Settles call w held leaf v u → Leaves v u
 settles_leaves call w held leaf v u settles = by_entry (is_key_entry call held) settles
   where
-    by_entry : (b : Bool) → MatchBool b (u ≡ standing v v.walk leaf) (Answers w.map call (key_reply call held) leaf v u) → Leaves v u
+    by_entry : (b : Bool) → MatchBool b (u ≡ standing v v.walk leaf) (Answers w.map call (key_reply call held) 0 leaf v u) → Leaves v u
     by_entry true e = record {
       live = ap (λ (z : View). z.live) e;
       begin = ap (λ (z : View). z.begin) e;

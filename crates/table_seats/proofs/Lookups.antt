@@ -117,7 +117,7 @@ module _ (k : Begin) (laws : HistoryLaws) (id : ℕ) (me : Me (Unit {0}) View) (
 
   -- the call isn't placed yet, or is answered
   abbrev Ends : Option ℕ → Option Leaf → Bool → View → Type 0
-  Ends held leaf b u = MatchBool b (u ≡ standing me.0 me.0.walk leaf) (Answers w.map call (key_reply call held) leaf me.0 u)
+  Ends held leaf b u = MatchBool b (u ≡ standing me.0 me.0.walk leaf) (Answers w.map call (key_reply call held) 0 leaf me.0 u)
 
   settled : (held : Option ℕ) (leaf : Option Leaf) → held_now ≡ held → ((l : Leaf) → leaf ≡ Some l → IsLeaf r.shape s.words l) → (b : Bool) → is_key_entry call held ≡ b
       → (u : View) × Kept k record { words = s.words; homes = s.homes; views = set s.views id u } × Ends held leaf b u

@@ -1,5 +1,5 @@
 -- A seat may publish its call's change, in each of the three ways, whatever the table is.
-use Rattle.std.proofs.Common.{◌≡◌, ◌≢◌, inl, inr, ℕ, ◌+◌, ◌^◌, ◌<◌, ◌≤◌, ◌==◌, true, cond, List, length, set, Option, Some, None, slice_index, refl, sym, ap, ◌∙◌, subst, arith}
+use Rattle.std.proofs.Common.{◌≡◌, ◌≢◌, inl, inr, ℕ, ◌+◌, ◌-◌, ◌*◌, ◌^◌, ◌<◌, ◌≤◌, ◌==◌, true, cond, List, length, set, Option, Some, None, slice_index, refl, sym, ap, ◌∙◌, subst, arith}
 use Rattle.std.proofs.lemmas.Option.{none-some, same_Some}
 use mathlib.Core.Option.{some}
 use lib.ListN.{get_elem?}
@@ -18,11 +18,11 @@ use Rattle.sync_types.specs.KeyCalls.{is_key_entry, key_reply, key_after}
 use Rattle.table_seats.specs.Laws.{HistoryLaws}
 use Rattle.trie_nodes.specs.declared.slot.Slot.{Slot}
 use Rattle.trie_nodes.specs.declared.slot.Slot.TheVariants.{Empty, Node, Entry}
-use Rattle.trie_nodes.specs.Layout.{slot_word, unit_words}
+use Rattle.trie_nodes.specs.Layout.{slot_word}
 use Rattle.trie_nodes.specs.Nodes.{Shows, entry_value}
 use Rattle.trie_nodes.specs.Paths.{nibble}
 use Rattle.trie_nodes.specs.Slots.{slot_in}
-use Rattle.table_seats.specs.Making.{leaf_value, HasLeaf, Sees, Removes, Stores, Expands, Makes, MayPublish, bare, Publishes}
+use Rattle.table_seats.specs.Making.{leaf_value, HasLeaf, Sees, Removes, Stores, Expands, Makes, MayPublish, bare, used_in, Publishes}
 use Rattle.table_rule.specs.Owed.{Locks}
 use Rattle.table_rule.specs.Rule.{TableState, Kept}
 use Rattle.table_rule.specs.Shape.{start_of, held_at, till, time, IsBelow, ShowsAt, Fine}
@@ -34,8 +34,8 @@ use Rattle.table_seats.proofs.Published as published
 use Rattle.table_seats.proofs.Stores as stores
 
 -- the cost of a call that writes
-paid_is : (cost : ℕ) (owns : List Own) → cost ≡ 1 → paid cost owns ≡ spend owns
-paid_is cost owns e = ap (λ c. paid c owns) e
+paid_is : (cost words : ℕ) (owns : List Own) → cost ≡ 1 → paid cost words owns ≡ spend words owns
+paid_is cost words owns e = ap (λ c. paid c words owns) e
 
 -- one more than nothing is not a node
 no_node : (found : Slot) (leaf : Option Leaf) (below : ℕ) → HasLeaf found leaf → found ≢ Node below
@@ -50,7 +50,7 @@ module _ (k : Begin) (laws : HistoryLaws) (tries : TrieLaws) (s : TableState) (r
   level : l.level < 8
   level = ((r.suits id v at_me sees.live).lock l sees.locked).2.level
 
-  ready_for : (nodes : ℕ) → l.level + nodes < 8 → length may.own.draft ≤ unit_words → published.IsReady k v may.own may.owns l m sees.word nodes
+  ready_for : (nodes : ℕ) → l.level + nodes < 8 → length may.own.draft ≤ 2 + 18 * nodes → published.IsReady k v may.own may.owns l m sees.word nodes
   ready_for nodes few short = record {
     live = sees.live;
     is = sees.is;
@@ -67,10 +67,10 @@ module _ (k : Begin) (laws : HistoryLaws) (tries : TrieLaws) (s : TableState) (r
 
   -- the call is made
   abbrev Then : Type 0
-  Then = (w : View) × Kept k record { words = set s.words (slot_word l.node (nibble l.key k.seed l.level)) x; homes = s.homes; views = set s.views id w } × Makes m call (key_reply call (leaf_value v.leaf l.key)) None (Some (bare l)) v w
+  Then = (w : View) × Kept k record { words = set s.words (slot_word l.node (nibble l.key k.seed l.level)) x; homes = s.homes; views = set s.views id w } × Makes m call (key_reply call (leaf_value v.leaf l.key)) (used_in v.owns) None (Some (bare l)) v w
 
   -- what the key has is what the slot shows
-  module _ (nodes : ℕ) (few : l.level + nodes < 8) (short : length may.own.draft ≤ unit_words) where
+  module _ (nodes : ℕ) (few : l.level + nodes < 8) (short : length may.own.draft ≤ 2 + 18 * nodes) where
     ready : published.IsReady k v may.own may.owns l m sees.word nodes
     ready = ready_for nodes few short
 
@@ -116,8 +116,8 @@ module _ (k : Begin) (laws : HistoryLaws) (tries : TrieLaws) (s : TableState) (r
     abbrev view_after : View
     view_after = published.view_after k laws tries s r id v at_me may.own may.owns l m sees.word nodes ready call may.on is_entry
 
-    done : Fine k (with_unit r.shape k.seed m l.level l.key may.own.next nodes) (stores.log k laws tries s r id v at_me may.own may.owns l m sees.word nodes ready call may.on is_entry) (set s.words (slot_word l.node (nibble l.key k.seed l.level)) x) → Then
-    done fine =
+    done : Fine k (with_unit r.shape k.seed m l.level l.key may.own.next nodes) (stores.log k laws tries s r id v at_me may.own may.owns l m sees.word nodes ready call may.on is_entry) (set s.words (slot_word l.node (nibble l.key k.seed l.level)) x) → 2 + 18 * nodes ≡ used_in v.owns → Then
+    done fine used =
         let item = published.item k laws tries s r id v at_me may.own may.owns l m sees.word nodes ready call may.on is_entry in
         let called = published.is_called k laws tries s r id v at_me may.own may.owns l m sees.word nodes ready call may.on is_entry in (
           view_after,
@@ -126,10 +126,13 @@ module _ (k : Begin) (laws : HistoryLaws) (tries : TrieLaws) (s : TableState) (r
             item = item;
             seen = stores.log k laws tries s r id v at_me may.own may.owns l m sees.word nodes ready call may.on is_entry;
             is = ap (λ o. record (called_view v o (stores.log k laws tries s r id v at_me may.own may.owns l m sees.word nodes ready call may.on is_entry)) { walk = None; leaf = None; lock = Some (bare l) })
-                (ap (λ o. spend (with_item o item)) (sym sees.is) ∙ sym (paid_is (cost_of call) (with_item v.owns item) may.costs));
+                (ap (λ o. spend (2 + 18 * nodes) (with_item o item)) (sym sees.is) ∙ ap (λ n. spend n (with_item v.owns item)) used ∙ sym (paid_is (cost_of call) (used_in v.owns) (with_item v.owns item) may.costs));
             called = subst (λ (z : Begin × Option ℕ × ℕ). Called (start_of z.0) (calls.Map m call) (replies.Map (key_reply call z.1)) z.2 (view_state v) (view_state view_after)) (λ i. (sym sees.begin i, held_is i, sym may.costs i)) called;
           },
         )
+
+  used : used_in v.owns ≡ 2 + (length may.own.draft - 2)
+  used = ap used_in sees.is
 
   few_none : l.level + 0 < 8
   few_none = let below = level in omega arith
@@ -137,30 +140,33 @@ module _ (k : Begin) (laws : HistoryLaws) (tries : TrieLaws) (s : TableState) (r
   by_removes : Removes may.own v.leaf l call x → Then
   by_removes w =
       let none_drafted : length may.own.draft ≡ 0 = ap length w.draft in
-      let short : length may.own.draft ≤ unit_words = omega arith in
+      let short : length may.own.draft ≤ 2 + 18 * 0 = omega arith in
+      let used_is = used in
       done 0 few_none short (stores.removes k laws tries s r id v at_me may.own may.owns l m sees.word 0 (ready 0 few_none short) call may.on (is_entry 0 few_none short) x
-      (λ place is. let e = entry_words 0 few_none short place is in e.3 ∙ w.free e.0 e.1) refl (let zero_word = ap (λ d. slice_index d 0) w.draft in omega arith) w.is (ap (key_after call) (held_is 0 few_none short) ∙ w.after))
+      (λ place is. let e = entry_words 0 few_none short place is in e.3 ∙ w.free e.0 e.1) refl (let zero_word = ap (λ d. slice_index d 0) w.draft in omega arith) w.is (ap (key_after call) (held_is 0 few_none short) ∙ w.after)) (omega arith)
 
   by_stores : Stores may.own v.leaf l call x → Then
   by_stores w =
       let two : length may.own.draft ≡ 2 = ap length w.draft in
-      let short : length may.own.draft ≤ unit_words = omega arith in
+      let short : length may.own.draft ≤ 2 + 18 * 0 = omega arith in
+      let used_is = used in
       let first : slice_index may.own.draft 0 ≡ l.key = ap (λ d. slice_index d 0) w.draft in
       done 0 few_none short (stores.stores k laws tries s r id v at_me may.own may.owns l m sees.word 0 (ready 0 few_none short) call may.on (is_entry 0 few_none short) x
-      (λ place is. let e = entry_words 0 few_none short place is in e.3 ∙ w.free e.0 e.1) refl (subst (λ n. n < 2 ^ 32) (sym first) (locks 0 few_none short).key) w.value w.is (ap (key_after call) (held_is 0 few_none short) ∙ w.after) first (ap (λ d. slice_index d 1) w.draft))
+      (λ place is. let e = entry_words 0 few_none short place is in e.3 ∙ w.free e.0 e.1) refl (subst (λ n. n < 2 ^ 32) (sym first) (locks 0 few_none short).key) w.value w.is (ap (key_after call) (held_is 0 few_none short) ∙ w.after) first (ap (λ d. slice_index d 1) w.draft)) (omega arith)
 
   by_expands : Expands k may.own v.leaf l call x → Then
   by_expands w =
       let sized = w.sized in
       let fits = w.planned.within in
       let some_nodes = w.planned.some in
-      let short : length may.own.draft ≤ unit_words = omega arith in
+      let short : length may.own.draft ≤ 2 + 18 * w.plan.nodes = omega arith in
+      let used_is = used in
       let few : l.level + w.plan.nodes < 8 = omega arith in
       let stands = in_slot may.found sees.shows w.other w.other_is in
       let e = entry_words w.plan.nodes few short w.other.place (sym sees.slot_is ∙ stands) in
       let key_is : e.0.key ≡ w.other.key = ap (λ (z : Leaf). z.key) (same_Some e.0 w.other (sym e.1 ∙ w.other_is)) in
       done w.plan.nodes few short (chains.expands k laws tries s r id v at_me may.own may.owns l m sees.word w.plan.nodes (ready w.plan.nodes few short) call may.on (is_entry w.plan.nodes few short) x w.value w.other.place w.other.key w.plan refl
-      (sym sees.slot_is ∙ stands) (e.3 ∙ key_is) w.planned w.is (ap (key_after call) (held_is w.plan.nodes few short) ∙ w.after) w.draft)
+      (sym sees.slot_is ∙ stands) (e.3 ∙ key_is) w.planned w.is (ap (key_after call) (held_is w.plan.nodes few short) ∙ w.after) w.draft) (omega arith)
     where
       in_slot : (f : Slot) → HasLeaf f v.leaf → (e : Leaf) → v.leaf ≡ Some e → f ≡ Entry e.place
       in_slot Empty has e is = absurd (none-some e (sym has ∙ is))
@@ -170,7 +176,7 @@ module _ (k : Begin) (laws : HistoryLaws) (tries : TrieLaws) (s : TableState) (r
   pub published_now : Then
   published_now = elim may.writes [ inl w ↦ by_removes w | inr others ↦ elim others [ inl w ↦ by_stores w | inr w ↦ by_expands w ] ]
 
-pub publishes : (k : Begin) → HistoryLaws → TrieLaws → (id : ℕ) (me : Me (Unit {0}) View) (call : MapCall ℕ) (m : ℕ) (l : Lock) (x : ℕ) → MayPublish k me.0 call m l x → Allows (Kept k) 0 id me (slot_word l.node (nibble l.key k.seed l.level)) (λ n. x) (λ found. Publishes m call me)
+pub publishes : (k : Begin) → HistoryLaws → TrieLaws → (id : ℕ) (me : Me (Unit {0}) View) (call : MapCall ℕ) (m : ℕ) (l : Lock) (x : ℕ) → MayPublish k me.0 call m l x → Allows (Kept k) 0 id me (slot_word l.node (nibble l.key k.seed l.level)) (λ n. x) (λ found. Publishes m call (used_in me.0.owns) me)
 publishes k laws tries id me call m l x may = λ s r one at_me bounded.
     let t = published_now k laws tries s r id me.0 at_me call m l x may in
-    (t.0, keeps, tt, t.1, (refl, λ z e. subst (λ (y : Lock). Makes m call (key_reply call (leaf_value me.0.leaf y.key)) None (Some (bare y)) me.0 t.0) (same_Some l z (sym may.sees.locked ∙ e)) t.2))
+    (t.0, keeps, tt, t.1, (refl, λ z e. subst (λ (y : Lock). Makes m call (key_reply call (leaf_value me.0.leaf y.key)) (used_in me.0.owns) None (Some (bare y)) me.0 t.0) (same_Some l z (sym may.sees.locked ∙ e)) t.2))

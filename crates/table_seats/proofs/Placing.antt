@@ -16,7 +16,7 @@ use Rattle.table_rule.specs.declared.view.View.{View}
 use Rattle.table_rule.specs.declared.view.Spot.{Spot}
 use Rattle.table_rule.specs.declared.view.Walk.{Walk}
 use Rattle.table_seats.specs.Laws.{HistoryLaws}
-use Rattle.trie_nodes.specs.Layout.{dead_word, unit_words}
+use Rattle.trie_nodes.specs.Layout.{dead_word}
 use Rattle.table_rule.specs.Layout.{callers_of}
 use Rattle.table_rule.specs.Ledger.{Owned, Fits}
 use Rattle.table_rule.specs.Owed.{Walks, IsLeaf, HasRoom, Stands, Suits}
@@ -25,33 +25,32 @@ use Rattle.table_rule.specs.Shape.{Shape, start_of}
 use Rattle.table_rule.specs.Views.{called_view, paid, paid_own, MayPay, view_state, Looks}
 use Rattle.table_seats.proofs.Frames.{suits_on, stands_on}
 use Rattle.table_seats.proofs.Ledgers.{MayPlace, with_one, adds_one, lawful_after, grows_on, none_after, fits_after, called, first}
-use Rattle.table_seats.proofs.Lists.{past_end}
 use Rattle.table_seats.proofs.Looking.{looks_so}
 use Rattle.table_seats.proofs.Moves.{Keeps, moves}
 use Rattle.table_seats.proofs.Quiet.{later_same, apart_same}
 
 -- what a call leaves to its caller
-pub paid_first : (cost : ℕ) (own : Own) (owns : List Own) → paid cost (own ∷ owns) ≡ paid_own cost own ∷ owns
+pub paid_first : (cost : ℕ) (own : Own) (owns : List Own) → paid cost 0 (own ∷ owns) ≡ paid_own cost 0 own ∷ owns
 paid_first zero own owns = refl
 paid_first (suc cost) own owns = refl
 
-paid_items : (cost : ℕ) (own : Own) → (paid_own cost own).items ≡ own.items
+paid_items : (cost : ℕ) (own : Own) → (paid_own cost 0 own).items ≡ own.items
 paid_items zero own = refl
 paid_items (suc cost) own = refl
 
-paid_spare : (cost : ℕ) (own : Own) → MayPay cost own → (paid_own cost own).spare + cost ≡ own.spare
+paid_spare : (cost : ℕ) (own : Own) → MayPay cost own → (paid_own cost 0 own).spare + cost ≡ own.spare
 paid_spare zero own pays = omega arith
 paid_spare (suc cost) own pays = let one = pays.0 in let some_left = pays.1 in omega arith
 
-pub paid_room : (k : Begin) (sh : Shape) (ws : List ℕ) (c cost : ℕ) (own : Own) (items : List Item) → MayPay cost own → HasRoom k sh ws c own → HasRoom k sh ws c (paid_own cost (record own { items = items }))
+pub paid_room : (k : Begin) (sh : Shape) (ws : List ℕ) (c cost : ℕ) (own : Own) (items : List Item) → MayPay cost own → HasRoom k sh ws c own → HasRoom k sh ws c (paid_own cost 0 (record own { items = items }))
 paid_room k sh ws c zero own items pays h = record { lies = h.lies; within = h.within; mine = h.mine; unused = h.unused; words = h.words }
 paid_room k sh ws c (suc cost) own items pays h =
-    let some_left = pays.1 in let short = pays.2 in let lies = h.lies in let within = h.within in record {
+    let some_left = pays.1 in let lies = h.lies in let within = h.within in record {
       lies = omega arith;
       within = omega arith;
-      mine = λ i below. let at : own.next + unit_words + i ≡ own.next + (unit_words + i) = omega arith in ap sh.area_of at ∙ h.mine (unit_words + i) (omega arith);
-      unused = λ i below. let at : own.next + unit_words + i ≡ own.next + (unit_words + i) = omega arith in ap sh.part_of at ∙ h.unused (unit_words + i) (omega arith);
-      words = λ i below. let at : own.next + unit_words + i ≡ own.next + (unit_words + i) = omega arith in ap (slice_index ws) at ∙ h.words (unit_words + i) (omega arith) ∙ past_end own.draft (unit_words + i) (omega arith);
+      mine = λ i below. let at : own.next + 0 + i ≡ own.next + i = omega arith in ap sh.area_of at ∙ h.mine i (omega arith);
+      unused = λ i below. let at : own.next + 0 + i ≡ own.next + i = omega arith in ap sh.part_of at ∙ h.unused i (omega arith);
+      words = λ i below. let at : own.next + 0 + i ≡ own.next + i = omega arith in ap (slice_index ws) at ∙ h.words i (omega arith) ∙ ap (λ d. slice_index d i) pays.2;
     }
 
 -- the call as its caller's list has it
@@ -69,7 +68,7 @@ module _ (k : Begin) (laws : HistoryLaws) (s : TableState) (r : Kept k s) (id : 
   item = placed_item call reply place v.front
 
   abbrev own_after : Own
-  own_after = paid_own cost (record own { items = own.items ++ item ∷ [] })
+  own_after = paid_own cost 0 (record own { items = own.items ++ item ∷ [] })
 
   abbrev pub view_after : View
   view_after = record (called_view v (own_after ∷ owns) r.log) { walk = walk; leaf = leaf; spot = spot }

@@ -55,7 +55,7 @@ pub record IsReady (k : Begin) (v : View) (own : Own) (owns : List Own) (l : Loc
   pub leaf : (below : ℕ) → slot_in word ≢ Node below
   pub few : l.level + nodes < 8
   pub spare : 0 < own.spare
-  pub short : length own.draft ≤ unit_words
+  pub short : length own.draft ≤ 2 + 18 * nodes
 
 module _ (k : Begin) (laws : HistoryLaws) (tries : TrieLaws) (s : TableState) (r : Kept k s) (id : ℕ) (v : View) (at_me : get_elem? s.views id ≡ some v) (own : Own) (owns : List Own) (l : Lock) (m word nodes : ℕ) (ready : IsReady k v own owns l m word nodes) where
   fits : Fits (callers_of k) r.log r.calls r.claim id v
@@ -143,7 +143,7 @@ module _ (k : Begin) (laws : HistoryLaws) (tries : TrieLaws) (s : TableState) (r
     changes = changes_key k laws r.log v.number item m l.key call refl on below_maps (sym is_entry ∙ sym (laws.keys.entries call l.key (map_at (contents_after (start_of k) r.log) m) on)) history
 
     abbrev pub own_after : Own
-    own_after = spend_own (record own { items = own.items ++ item ∷ [] })
+    own_after = spend_own (2 + 18 * nodes) (record own { items = own.items ++ item ∷ [] })
 
     abbrev pub lock_after : Lock
     lock_after = record l { found = None; empty = 0 }
@@ -198,13 +198,13 @@ module _ (k : Begin) (laws : HistoryLaws) (tries : TrieLaws) (s : TableState) (r
           let spare = ready.spare in let lies = room.lies in let within = room.within in let short = ready.short in let few = ready.few in record {
             lies = omega arith;
             within = omega arith;
-            mine = λ i below. let at : own.next + unit_words + i ≡ own.next + (unit_words + i) = omega arith in subst (λ n. r.shape.area_of n ≡ suc v.number) (sym at) (room.mine (unit_words + i) (omega arith));
-            unused = λ i below. let at : own.next + unit_words + i ≡ own.next + (unit_words + i) = omega arith in
-                units.part_outside r.shape tries k.seed m l.level l.key own.next nodes (own.next + unit_words + i) (λ past. omega arith) ∙ subst (λ n. r.shape.part_of n ≡ 0) (sym at) (room.unused (unit_words + i) (omega arith));
-            words = λ i below. let at : own.next + unit_words + i ≡ own.next + (unit_words + i) = omega arith in
-                let none_there = room.unused (unit_words + i) (omega arith) in
-                ap (slice_index words) at ∙ publishing.free_word k r.shape r.log (with_call r.log v.number item) s.words m l.node l.level l.key x own.next nodes (key_after call (value_at (contents_after (start_of k) r.log) m l.key)) laws tries site changes (own.next + (unit_words + i)) none_there
-                ∙ room.words (unit_words + i) (omega arith) ∙ past_end own.draft (unit_words + i) (omega arith);
+            mine = λ i below. let at : own.next + (2 + 18 * nodes) + i ≡ own.next + (2 + 18 * nodes + i) = omega arith in subst (λ n. r.shape.area_of n ≡ suc v.number) (sym at) (room.mine (2 + 18 * nodes + i) (omega arith));
+            unused = λ i below. let at : own.next + (2 + 18 * nodes) + i ≡ own.next + (2 + 18 * nodes + i) = omega arith in
+                units.part_outside r.shape tries k.seed m l.level l.key own.next nodes (own.next + (2 + 18 * nodes) + i) (λ past. omega arith) ∙ subst (λ n. r.shape.part_of n ≡ 0) (sym at) (room.unused (2 + 18 * nodes + i) (omega arith));
+            words = λ i below. let at : own.next + (2 + 18 * nodes) + i ≡ own.next + (2 + 18 * nodes + i) = omega arith in
+                let none_there = room.unused (2 + 18 * nodes + i) (omega arith) in
+                ap (slice_index words) at ∙ publishing.free_word k r.shape r.log (with_call r.log v.number item) s.words m l.node l.level l.key x own.next nodes (key_after call (value_at (contents_after (start_of k) r.log) m l.key)) laws tries site changes (own.next + (2 + 18 * nodes + i)) none_there
+                ∙ room.words (2 + 18 * nodes + i) (omega arith) ∙ past_end own.draft (2 + 18 * nodes + i) (omega arith);
           }
 
       rooms_after : (i : ℕ) (o : Own) → slice_get (own_after ∷ owns) i ≡ Some o → HasRoom k shape words (v.number + i) o

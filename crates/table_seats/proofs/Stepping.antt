@@ -1,7 +1,6 @@
 -- A table's own seats step on a word of it.
-use Rattle.std.proofs.Common.{◌≡◌, ℕ, ◌+◌, ◌*◌, ◌^◌, ◌<◌, length, sym, ap, subst, arith}
+use Rattle.std.proofs.Common.{◌≡◌, ℕ, ◌<◌, sym, subst, arith}
 use Rattle.atomic_table.specs.Table.{Me, Allows}
-use Rattle.table_rule.specs.declared.begin.Begin.{Begin}
 use Rattle.table_rule.specs.declared.view.View.{View}
 use Rattle.table_seats.specs.declared.words.TableWords.{TableWords}
 use Rattle.table_rule.specs.Layout.{gate_word, size_of}
@@ -15,9 +14,6 @@ pub may : (table : TableWords) (id : ℕ) (me : Me (Unit {0}) View) (word at : �
 may table id me word at f then is within allows = let sized = table.sized.0 in
     (omega arith, subst (λ i. Allows (Kept table.table.shared.key) table.table.shared.table_id.slots id me i f then) is (subst (λ slots. Allows (Kept table.table.shared.key) slots id me at f then) (sym table.sized.1) allows))
 
--- the words of maps have small numbers, and are there
-pub word_fits : (table : TableWords) (m : ℕ) → m < table.table.shared.key.maps → 2 + length table.begin.kinds + 2 * m < 2 ^ 32
-word_fits table m below = let same = ap (λ (b : Begin). length b.kinds) table.same in let objects = table.made.objects in omega arith
-
+-- the words of maps are there
 pub gate_there : (table : TableWords) (m : ℕ) → m < table.table.shared.key.maps → gate_word table.table.shared.key m < table.table.shared.table_id.words
 gate_there table m below = let sized = table.sized.0 in omega arith

@@ -35,6 +35,6 @@ SeesAlone m alone before after = (after.1 ≡ before.1) × MatchBool alone (afte
 abbrev pub LooksInside : ℕ → Me (Unit {0}) View → ℕ → Me (Unit {0}) View → Type 0
 LooksInside m before found after = SeesAlone m (found == 2 ^ 32) before after
 
--- a seat wrote a new empty root, which placed its call
+-- a seat wrote a new empty root, which placed its call. It used the root's 18 words
 abbrev pub Clears : ℕ → Me (Unit {0}) View → Me (Unit {0}) View → Type 0
-Clears m before after = (after.1 ≡ before.1) × Made m Clear Done before.0 after.0
+Clears m before after = (after.1 ≡ before.1) × Made m Clear Done 18 before.0 after.0

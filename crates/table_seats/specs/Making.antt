@@ -1,5 +1,5 @@
 -- A call that writes a map: what its seat knows under a node's lock, what it may write there, and what the call leaves.
-use Rattle.std.specs.Prelude.{◌≡◌, ◌⊎◌, ℕ, suc, ◌+◌, ◌*◌, ◌^◌, ◌<◌, ◌≤◌, true, false, List, [], ◌∷◌, length, Option, Some, None, slice_index}
+use Rattle.std.specs.Prelude.{◌≡◌, ◌⊎◌, ℕ, suc, ◌+◌, ◌-◌, ◌*◌, ◌^◌, ◌<◌, ◌≤◌, true, false, List, [], ◌∷◌, length, Option, Some, None, slice_index}
 use Rattle.atomic_table.specs.Table.{Me}
 use Rattle.sync_model.specs.declared.item.Item.{Item}
 use Rattle.sync_model.specs.declared.item.SharedCall.TheVariants as calls
@@ -94,11 +94,11 @@ pub record Expands (k : Begin) (own : Own) (leaf : Option Leaf) (l : Lock) (call
   pub sized : length own.draft ≡ 2 + 18 * plan.nodes
   pub draft : (i : ℕ) → i < 2 + 18 * plan.nodes → slice_index own.draft i ≡ unit_word k.seed l.key value (suc l.level) l.node other.place own.next plan i
 
--- a call on a map is placed, at the cost that it has, and left its seat with this entry and this lock
-pub record Makes (m : ℕ) (call : MapCall ℕ) (reply : MapReply) (leaf : Option Leaf) (lock : Option Lock) (v w : View) : Type 0 where
+-- a call on a map is placed, at the cost that it has, used so many words of its caller's room, and left its seat with this entry and this lock
+pub record Makes (m : ℕ) (call : MapCall ℕ) (reply : MapReply) (words : ℕ) (leaf : Option Leaf) (lock : Option Lock) (v w : View) : Type 0 where
   pub item : Item
   pub seen : List SharedEntry
-  pub is : w ≡ record (called_view v (paid (cost_of call) (with_item v.owns item)) seen) { walk = None; leaf = leaf; lock = lock }
+  pub is : w ≡ record (called_view v (paid (cost_of call) words (with_item v.owns item)) seen) { walk = None; leaf = leaf; lock = lock }
   pub called : Called (start_of v.begin) (calls.Map m call) (replies.Map reply) (cost_of call) (view_state v) (view_state w)
 
 -- a seat may publish this word in the slot for the key of its call
@@ -116,10 +116,15 @@ pub record MayPublish (k : Begin) (v : View) (call : MapCall ℕ) (m : ℕ) (l :
 abbrev pub bare : Lock → Lock
 bare l = record l { found = None; empty = 0 }
 
--- a seat wrote a slot, which placed its call: it is an entry of the history there
-abbrev pub Publishes : ℕ → MapCall ℕ → Me (Unit {0}) View → Me (Unit {0}) View → Type 0
-Publishes m call before after =
-    (after.1 ≡ before.1) × ((l : Lock) → before.0.lock ≡ Some l → Makes m call (key_reply call (leaf_value before.0.leaf l.key)) None (Some (bare l)) before.0 after.0)
+-- how many words of its room a caller uses by a write that shows what it drafted: these words, and two at least. A call that removes a key drafts nothing, and leaves two words unused
+abbrev pub used_in : List Own → ℕ
+used_in [] = 0
+used_in (own ∷ owns) = 2 + (length own.draft - 2)
+
+-- a seat wrote a slot, which placed its call: it is an entry of the history there. The call used so many words of its caller's room
+abbrev pub Publishes : ℕ → MapCall ℕ → ℕ → Me (Unit {0}) View → Me (Unit {0}) View → Type 0
+Publishes m call words before after =
+    (after.1 ≡ before.1) × ((l : Lock) → before.0.lock ≡ Some l → Makes m call (key_reply call (leaf_value before.0.leaf l.key)) words None (Some (bare l)) before.0 after.0)
 
 -- a caller's seat holds the lock of the node where it stands, on its way to a key
 pub record StandsLocked (k : Begin) (me : Me (Unit {0}) View) (w : Walk) (up : ℕ) : Type 0 where
@@ -154,9 +159,9 @@ IsLockAt l key node level = (l.key ≡ key) × (l.node ≡ node) × (l.level ≡
 abbrev pub HasUnit : List Own → ℕ → Type 0
 HasUnit all next = (own : Own) × (owns : List Own) × (all ≡ own ∷ owns) × (own.draft ≡ []) × (own.next ≡ next) × (0 < own.spare)
 
--- a seat made a call on a map, and has nothing else than before
-pub record Made (m : ℕ) (call : MapCall ℕ) (reply : MapReply) (v w : View) : Type 0 where
+-- a seat made a call on a map, which used so many words of its caller's room, and has nothing else than before
+pub record Made (m : ℕ) (call : MapCall ℕ) (reply : MapReply) (words : ℕ) (v w : View) : Type 0 where
   pub item : Item
   pub seen : List SharedEntry
-  pub is : w ≡ called_view v (paid (cost_of call) (with_item v.owns item)) seen
+  pub is : w ≡ called_view v (paid (cost_of call) words (with_item v.owns item)) seen
   pub called : Called (start_of v.begin) (calls.Map m call) (replies.Map reply) (cost_of call) (view_state v) (view_state w)

@@ -38,11 +38,11 @@ abbrev pub Enters : ℕ → ℕ → Me (Unit {0}) View → ℕ → Me (Unit {0})
 Enters m key before found after =
     (after.1 ≡ before.1) × (after.0 ≡ standing before.0 (Some (walk_at m key found 0 (length before.0.seen))) before.0.leaf) × HasWords before.0 found 18
 
--- a seat's step placed a call on a map that is no entry of the history, and left the seat with this entry
-pub record Answers (m : ℕ) (call : MapCall ℕ) (reply : MapReply) (leaf : Option Leaf) (v w : View) : Type 0 where
+-- a seat's call on a map is placed, used so many words of its caller's room, and left the seat with this entry
+pub record Answers (m : ℕ) (call : MapCall ℕ) (reply : MapReply) (words : ℕ) (leaf : Option Leaf) (v w : View) : Type 0 where
   pub item : Item
   pub seen : List SharedEntry
-  pub is : w ≡ standing (called_view v (paid (cost_of call) (with_item v.owns item)) seen) None leaf
+  pub is : w ≡ standing (called_view v (paid (cost_of call) words (with_item v.owns item)) seen) None leaf
   pub called : Called (start_of v.begin) (calls.Map m call) (replies.Map reply) (cost_of call) (view_state v) (view_state w)
 
 -- the value that an entry gives a key
@@ -51,7 +51,7 @@ given_by l key = cond (l.key == key) (Some l.value) None
 
 -- a seat found what the key of its way has. A call that is an entry of the history there isn't placed yet, and any other is placed and answered
 abbrev pub Settles : MapCall ℕ → Walk → Option ℕ → Option Leaf → View → View → Type 0
-Settles call w held leaf before after = MatchBool (is_key_entry call held) (after ≡ standing before before.walk leaf) (Answers w.map call (key_reply call held) leaf before after)
+Settles call w held leaf before after = MatchBool (is_key_entry call held) (after ≡ standing before before.walk leaf) (Answers w.map call (key_reply call held) 0 leaf before after)
 
 -- an entry stands in a slot on the key's path
 abbrev pub IsAlong : Begin → Walk → Leaf → Type 0

@@ -11,7 +11,7 @@ impl TableWords {
         requires { map < (begin_of self.now).maps }
         ensures { result ≡ root_word (begin_of self.now) map }
     {
-        1 + self.begin.kinds.len() + 2 * map as usize
+        self.begin.layout().root_word(map)
     }
 
     // The word of the gate of a map's writers.
@@ -19,6 +19,6 @@ impl TableWords {
         requires { map < (begin_of self.now).maps }
         ensures { result ≡ gate_word (begin_of self.now) map }
     {
-        2 + self.begin.kinds.len() + 2 * map as usize
+        self.begin.layout().gate_word(map)
     }
 }

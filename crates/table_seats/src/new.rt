@@ -11,6 +11,7 @@ use atomic_table::{Seat, Table};
 use std::alloc::{AllocError, Global};
 use table_rule::begin::Begin;
 use table_rule::view::View;
+use trie_nodes::UNIT_WORDS;
 
 impl TableWords {
     /// The words of empty maps and of atomics that are 0 or false, and one seat for all callers. While they are made they stand
@@ -44,17 +45,8 @@ impl TableWords {
     pub fn room_start(&self) -> u64
         ensures { result ≡ first_room (begin_of self.now) }
     {
-        room_start(&self.begin)
+        self.begin.layout().first_room() as u64
     }
-}
-
-// Where the callers' rooms begin.
-fn room_start(begin: &Begin) -> u64
-    requires begin { IsBegin begin.now }
-    ensures { result ≡ first_room begin.now }
-{
-    let maps = begin.maps as u64;
-    1 + begin.kinds.len() as u64 + 2 * maps + 18 * maps
 }
 
 // How many units all callers have.
@@ -70,13 +62,11 @@ fn first_words(alloc: Global, begin: &Begin) -> Result<Vec<u64>, AllocError>
     requires begin { IsBegin begin.now }
     ensures { IfOk result (λ words. IsBlank begin.now words.items) }
 {
+    let layout = begin.layout();
     let units = units_of(begin.spares.as_slice());
-    let start = room_start(begin);
-    let mut words = Vec::from_elem(alloc, 0, (start + 128 * units as u64) as usize)?;
-    let atomics = begin.kinds.len();
-    let heads = 1 + atomics + 2 * begin.maps as usize;
+    let mut words = Vec::from_elem(alloc, 0, layout.first_room() + UNIT_WORDS * units as usize)?;
     for map in 0..begin.maps {
-        words[1 + atomics + 2 * map as usize] = (heads + 18 * map as usize) as u64;
+        words[layout.root_word(map)] = layout.first_root(map) as u64;
     }
     Ok(words)
 }

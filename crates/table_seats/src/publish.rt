@@ -1,7 +1,7 @@
 //! The write of a call that changes a map: one write to a slot, under its node's lock, shows what its caller has drafted.
 ghost use Rattle.std.specs.Prelude.{◌≡◌, ◌<◌};
 ghost use Rattle.table_rule.specs.declared.view.Lock.{Lock};
-ghost use Rattle.table_seats.specs.Making.{IsLockAt, MayPublish, Publishes};
+ghost use Rattle.table_seats.specs.Making.{used_in, IsLockAt, MayPublish, Publishes};
 ghost use Rattle.table_seats.specs.Seats.{begin_of, IsSeatOf};
 ghost use Rattle.table_seats.specs.Walking.{HasWords};
 
@@ -21,7 +21,7 @@ pub(crate) struct Publish<C> {
 }
 
 impl<C: Making> Play<(), View> for Publish<C> {
-    ghost then = { λ step before found after. Publishes C.map C.call before after };
+    ghost then = { λ step before found after. Publishes C.map C.call (used_in before.0.owns) before after };
 }
 
 impl TableWords {
@@ -41,7 +41,7 @@ impl TableWords {
         requires words { HasWords seat.old.me.0 node 18 }
         requires level { level < 8 }
         ensures table { seat.new.table_id ≡ seat.old.table_id }
-        ensures published { Publishes map call seat.old.me seat.new.me }
+        ensures published { Publishes map call (used_in seat.old.me.0.owns) seat.old.me seat.new.me }
     {
         self.publish_as::<Brand>(seat, call, map, key, node, level, new)
     }
@@ -62,7 +62,7 @@ impl TableWords {
         requires words { HasWords seat.old.me.0 node 18 }
         requires level { level < 8 }
         ensures table { seat.new.table_id ≡ seat.old.table_id }
-        ensures published { Publishes C.map C.call seat.old.me seat.new.me }
+        ensures published { Publishes C.map C.call (used_in seat.old.me.0.owns) seat.old.me seat.new.me }
     {
         history_laws();
         trie_laws();

@@ -1,5 +1,5 @@
 -- A table's seat that knows, under a lock, that its call is an entry of the history may draft what it adds, and publish it.
-use Rattle.std.proofs.Common.{◌≡◌, ◌≢◌, ◌⊎◌, inl, inr, ℕ, zero, suc, ◌+◌, ◌*◌, ◌^◌, ◌<◌, ◌≤◌, List, [], ◌∷◌, ◌++◌, length, Some, None, slice_index, refl, sym, ap, ◌∙◌, subst, arith, length-append}
+use Rattle.std.proofs.Common.{◌≡◌, ◌≢◌, ◌⊎◌, inl, inr, ℕ, zero, suc, ◌+◌, ◌-◌, ◌*◌, ◌^◌, ◌<◌, ◌≤◌, List, [], ◌∷◌, ◌++◌, length, Some, None, slice_index, refl, sym, ap, ◌∙◌, subst, arith, length-append}
 use Rattle.std.proofs.Math.Seq.{get_or-append_seam}
 use Rattle.std.proofs.lemmas.Bool.{cases_eq}
 use Rattle.std.proofs.lemmas.List.{get_or_append_left}
@@ -22,7 +22,7 @@ use Rattle.trie_nodes.specs.Paths.{route}
 use Rattle.trie_nodes.specs.Plans.{IsExpansion}
 use Rattle.trie_nodes.specs.Slots.{word_of_slot}
 use Rattle.table_rule.specs.Layout.{size_of}
-use Rattle.table_seats.specs.Making.{leaf_value, Sees, HasNoOther, Removes, Stores, Expands, MayPublish, bare, Publishes, IsLockAt}
+use Rattle.table_seats.specs.Making.{used_in, leaf_value, Sees, HasNoOther, Removes, Stores, Expands, MayPublish, bare, Publishes, IsLockAt}
 use Rattle.table_writes.specs.Drafts.{IsPoised, with_draft, Drafted}
 use Rattle.table_rule.specs.Shape.{start_of}
 use Rattle.table_seats.specs.Units.{link_at, unit_word}
@@ -183,23 +183,43 @@ held_undrafted : (number : ℕ) (owns : List Own) (words : List ℕ) → held_in
 held_undrafted number [] words = refl
 held_undrafted number (own ∷ owns) words = refl
 
-spend_undrafted : (owns : List Own) (words : List ℕ) (x : Item) → spend (with_item (with_draft owns words) x) ≡ spend (with_item owns x)
-spend_undrafted [] words x = refl
-spend_undrafted (own ∷ owns) words x = refl
+spend_undrafted : (used : ℕ) (owns : List Own) (words : List ℕ) (x : Item) → spend used (with_item (with_draft owns words) x) ≡ spend used (with_item owns x)
+spend_undrafted used [] words x = refl
+spend_undrafted used (own ∷ owns) words x = refl
 
-pub undrafted : (first me after : Me (Unit {0}) View) (n : ℕ) (word : ℕ → ℕ) (call : MapCall ℕ) (m : ℕ) → cost_of call ≡ 1 → Drafted first me n word → Publishes m call me after → Publishes m call first after
-undrafted first me after n word call m costs d told =
-    let t = subst (λ z. Publishes m call z after) d.is told in
+pub undrafted : (first me after : Me (Unit {0}) View) (n used : ℕ) (word : ℕ → ℕ) (call : MapCall ℕ) (m : ℕ) → cost_of call ≡ 1 → Drafted first me n word → Publishes m call used me after → Publishes m call used first after
+undrafted first me after n used word call m costs d told =
+    let t = subst (λ z. Publishes m call used z after) d.is told in
     let v = first.0 in (
       t.0,
       λ l locks. let makes = t.1 l locks in record {
         item = makes.item;
         seen = makes.seen;
         is = makes.is ∙ ap (λ o. record (called_view v o makes.seen) { walk = None; leaf = None; lock = Some (bare l) })
-            (ap (λ c. paid c (with_item (with_draft v.owns d.words) makes.item)) costs ∙ spend_undrafted v.owns d.words makes.item ∙ sym (ap (λ c. paid c (with_item v.owns makes.item)) costs));
+            (ap (λ c. paid c used (with_item (with_draft v.owns d.words) makes.item)) costs ∙ spend_undrafted used v.owns d.words makes.item ∙ sym (ap (λ c. paid c used (with_item v.owns makes.item)) costs));
         called = subst (λ own. Called (start_of v.begin) (calls.Map m call) (replies.Map (key_reply call (leaf_value v.leaf l.key))) (cost_of call) (record { own = own; front = v.front; seen = v.seen }) (view_state after.0)) (held_undrafted v.number v.owns d.words) makes.called;
       },
     )
+
+-- a write that shows what was drafted uses these words
+used_drafted : (first me : Me (Unit {0}) View) (n : ℕ) (word : ℕ → ℕ) (own : Own) (owns : List Own) → first.0.owns ≡ own ∷ owns → Drafted first me n word → 2 ≤ n → used_in me.0.owns ≡ n
+used_drafted first me n word own owns is d some =
+    let long = d.long in
+    let used : used_in me.0.owns ≡ 2 + (length d.words - 2) = ap (λ (z : Me (Unit {0}) View). used_in z.0.owns) d.is ∙ ap (λ o. used_in (with_draft o d.words)) is in
+    omega arith
+
+pub shown : (k : Begin) (me two : Me (Unit {0}) View) (call : MapCall ℕ) (m key node level next n : ℕ) (word : ℕ → ℕ) (p : IsPoised k me.0 call m key node level next) → Drafted me two n word → 2 ≤ n
+    → (after : Me (Unit {0}) View) → Publishes m call (used_in two.0.owns) two after → Publishes m call n me after
+shown k me two call m key node level next n word p d some after told =
+    undrafted me two after n n word call m p.costs d (subst (λ u. Publishes m call u two after) (used_drafted me two n word p.own p.owns p.sees.is d some) told)
+
+-- a write that shows nothing new uses two words
+pub shown_none : (k : Begin) (me after : Me (Unit {0}) View) (call : MapCall ℕ) (m key node level next : ℕ) → IsPoised k me.0 call m key node level next → Publishes m call (used_in me.0.owns) me after → Publishes m call 2 me after
+shown_none k me after call m key node level next p told =
+    let none_there : length p.own.draft ≡ 0 = ap length p.draft in
+    let used : used_in me.0.owns ≡ 2 + (length p.own.draft - 2) = ap used_in p.sees.is in
+    let two : used_in me.0.owns ≡ 2 = omega arith in
+    subst (λ u. Publishes m call u me after) two told
 
 -- an entry's words
 abbrev pub two_words : ℕ → ℕ → ℕ → ℕ
@@ -230,8 +250,8 @@ module _ (k : Begin) (me one two : Me (Unit {0}) View) (call : MapCall ℕ) (m k
         let d = drafted_two in
         may_show_entry k me two call m key node level next 2 (two_words key value) p d value x (two_of d.words key value d.long (d.each 0 (omega arith)) (d.each 1 (omega arith))) after free is
 
-    pub entry_told : (after : Me (Unit {0}) View) → Publishes m call two after → Publishes m call me after
-    entry_told after told = undrafted me two after 2 (two_words key value) call m p.costs drafted_two told
+    pub entry_told : (after : Me (Unit {0}) View) → Publishes m call (used_in two.0.owns) two after → Publishes m call 2 me after
+    entry_told after told = shown k me two call m key node level next 2 (two_words key value) p drafted_two (omega arith) after told
 
 -- a chain is drafted, and shown
 pub chain_may : (k : Begin) (me two : Me (Unit {0}) View) (call : MapCall ℕ) (m key node level next value : ℕ) (p : IsPoised k me.0 call m key node level next) (plan : Expansion) (other : Leaf) (seed x : ℕ) → seed ≡ k.seed

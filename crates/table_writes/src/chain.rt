@@ -27,6 +27,13 @@ pub(crate) struct Chain {
 }
 
 impl Chain {
+    /// How many words it has: the entry's two, and 18 for each node.
+    pub(crate) fn len(&self) -> u64
+        ensures { result ≡ 2 + 18 * self.now.plan.nodes }
+    {
+        2 + 18 * self.plan.nodes as u64
+    }
+
     /// A word of the unit.
     pub(crate) fn word(&self, index: u64) -> u64
         requires { index < 2 + 18 * self.now.plan.nodes }

@@ -35,7 +35,7 @@ pub fn remove(
     requires words { HasWords seat.old.me.0 node 18 }
     requires level { level < 8 }
     ensures table { seat.new.table_id ≡ seat.old.table_id }
-    ensures published { Publishes map call seat.old.me seat.new.me }
+    ensures published { Publishes map call 2 seat.old.me seat.new.me }
 {
     words.publish(seat, call, map, key, node, level, Slot::Empty.to_word());
 }
@@ -59,7 +59,7 @@ pub fn show_entry(
     requires words { HasWords seat.old.me.0 node 18 }
     requires level { level < 8 }
     ensures table { seat.new.table_id ≡ seat.old.table_id }
-    ensures published { Publishes map call seat.old.me seat.new.me }
+    ensures published { Publishes map call 2 seat.old.me seat.new.me }
 {
     words.draft(seat, next, 0, key as u64);
     words.draft(seat, next, 1, value);
@@ -81,12 +81,12 @@ fn draft_chain(words: &TableWords, seat: &mut Seat<(), View>, chain: &Chain)
     ensures table { seat.new.table_id ≡ seat.old.table_id }
     ensures drafted { Drafted seat.old.me seat.new.me (2 + 18 * chain.now.plan.nodes) (unit_word chain.now.seed chain.now.key chain.now.value chain.now.level chain.now.above chain.now.held chain.now.unit chain.now.plan) }
 {
-    for index in 0..2 + 18 * chain.plan.nodes as u64 {
+    for index in 0..chain.len() {
         words.draft(seat, chain.unit, index, chain.word(index));
     }
 }
 
-/// Shows a chain to two entries in the slot of a key that has the entry of another.
+/// Shows a chain to two entries in the slot of a key that has the entry of another. Tells how many words of the room it used.
 pub fn show_chain(
     words: &TableWords,
     seat: &mut Seat<(), View>,
@@ -98,7 +98,7 @@ pub fn show_chain(
     next: u64,
     value: u64,
     other: &Leaf,
-)
+) -> u64
     requires table { IsSeatOf words.now seat.old }
     requires poised { IsPoised (begin_of words.now) seat.old.me.0 call map key node level next }
     requires after { key_after call (leaf_value seat.old.me.0.leaf key) ≡ Some value }
@@ -106,7 +106,7 @@ pub fn show_chain(
     requires words { HasWords seat.old.me.0 node 18 × HasWords seat.old.me.0 other.now.place 2 }
     requires level { level < 8 }
     ensures table { seat.new.table_id ≡ seat.old.table_id }
-    ensures published { Publishes map call seat.old.me seat.new.me }
+    ensures published { Publishes map call result seat.old.me seat.new.me }
 {
     the_paths_of_different_keys_part();
     let seed = words.seed();
@@ -130,4 +130,5 @@ pub fn show_chain(
         level,
         Slot::Node(next + 2).to_word(),
     );
+    chain.len()
 }

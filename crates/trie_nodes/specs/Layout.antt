@@ -1,4 +1,4 @@
--- Where things stand in the row of words of a shared table. First word 0, which nothing uses, so that no node and no entry has the place 0. Then the atomics, a word each; for each map its root word and its gate word; the nodes that are the maps' first roots; and last the room of the callers, in units. A place is the number of the first word of a node or an entry.
+-- Where things stand in the row of words of a shared table. First word 0, which nothing uses, so that no node and no entry has the place 0. Then the atomics, a word each; for each map its root word and its gate word, with 15 words that nothing uses before and behind each of them, so that no other word shares its cache line; the nodes that are the maps' first roots; and last the room of the callers, in units. A place is the number of the first word of a node or an entry.
 use Rattle.std.specs.Prelude.{ℕ, ◌+◌, ◌*◌, ◌^◌}
 
 -- the word of atomic number a
@@ -7,15 +7,15 @@ atomic_word a = 1 + a
 
 -- the root word of map number m, beside so many atomics: it holds the place of the map's root node
 abbrev pub root_word : ℕ → ℕ → ℕ
-root_word atomics m = 1 + atomics + 2 * m
+root_word atomics m = 1 + atomics + 16 + 32 * m
 
 -- the word of the writers' gate of map number m
 abbrev pub gate_word : ℕ → ℕ → ℕ
-gate_word atomics m = 2 + atomics + 2 * m
+gate_word atomics m = 1 + atomics + 32 + 32 * m
 
 -- the first word behind word 0, the atomics, and the maps' roots and gates: from here on there are nodes and entries alone
 abbrev pub heads : ℕ → ℕ → ℕ
-heads atomics maps = 1 + atomics + 2 * maps
+heads atomics maps = 1 + atomics + 16 + 32 * maps
 
 -- the place of the node that is the first root of map number m
 abbrev pub first_root : ℕ → ℕ → ℕ → ℕ

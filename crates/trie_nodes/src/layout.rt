@@ -17,6 +17,11 @@ pub const ENTRY_WORDS: usize = 2;
 /// How many words one writing call may use: those of an entry and of seven nodes.
 pub const UNIT_WORDS: usize = 128;
 
+/// So many words lie from a map's root word to its gate word, and from its gate word to the next map's root word: 128 bytes, a
+/// cache line and the one that a processor may fetch with it. The words between are nobody's. A writer changes the gate twice,
+/// and so takes its cache line from all others, which read the root word.
+pub const LINE_WORDS: usize = 16;
+
 /// What the lock of a node holds that nobody has locked.
 pub const FREE: u64 = 0;
 
@@ -31,8 +36,8 @@ pub fn held_word(caller: u32) -> u64
 }
 
 /// Where the words of the atomics and the maps stand, and where nodes and entries begin: word 0 is nobody's, then come the
-/// atomics, a word each, then for each map its root word and its gate word, then the nodes that are the maps' first roots, and
-/// last the room of the callers.
+/// atomics, a word each, then for each map its root word and its gate word, each at some distance from all that stands before and
+/// behind it, then the nodes that are the maps' first roots, and last the room of the callers.
 #[derive(Clone, Copy, Debug, Drop, PartialEq, Eq)]
 pub struct Layout {
     /// How many atomics the table has.
@@ -53,21 +58,21 @@ impl Layout {
     pub fn root_word(&self, map: u32) -> usize
         ensures { result ≡ words.root_word self.now.atomics map }
     {
-        1 + self.atomics as usize + 2 * map as usize
+        1 + self.atomics as usize + LINE_WORDS + 2 * LINE_WORDS * map as usize
     }
 
     /// The word of the gate of a map's writers.
     pub fn gate_word(&self, map: u32) -> usize
         ensures { result ≡ words.gate_word self.now.atomics map }
     {
-        2 + self.atomics as usize + 2 * map as usize
+        self.root_word(map) + LINE_WORDS
     }
 
     /// The first word of nodes and entries.
     pub fn heads(&self) -> usize
         ensures { result ≡ words.heads self.now.atomics self.now.maps }
     {
-        1 + self.atomics as usize + 2 * self.maps as usize
+        1 + self.atomics as usize + LINE_WORDS + 2 * LINE_WORDS * self.maps as usize
     }
 
     /// The place of the node that is a map's first root.

@@ -1,5 +1,5 @@
 //! Laws of the words: no two things share one.
-ghost use Rattle.std.specs.Prelude.{◌≡◌, ◌≢◌, ℕ, ◌+◌, ◌*◌, ◌<◌, ◌≤◌, List, slice_index};
+ghost use Rattle.std.specs.Prelude.{◌≡◌, ◌≢◌, ◌⊎◌, ℕ, ◌+◌, ◌*◌, ◌<◌, ◌≤◌, List, slice_index};
 ghost use Rattle.trie_nodes.specs.Layout.{atomic_word, root_word, gate_word, heads, first_root, first_room, unit_words};
 ghost use Rattle.trie_nodes.specs.Slots.{word_of_slot, slot_in};
 
@@ -17,6 +17,16 @@ pub fn heads_are_apart()
     ensures atomic_or_root { (atomics a m : ℕ) → a < atomics → atomic_word a ≢ root_word atomics m }
     ensures atomic_or_gate { (atomics a m : ℕ) → a < atomics → atomic_word a ≢ gate_word atomics m }
     ensures root_or_gate { (atomics m n : ℕ) → root_word atomics m ≢ gate_word atomics n }
+{}
+
+/// No other word shares a cache line with a map's root word or its gate: the root words, the gates, the atomics, and the nodes and
+/// entries stand 16 words, which are 128 bytes, or more from each of them.
+pub fn gates_and_roots_lie_alone()
+    ensures root_and_gate { (atomics m n : ℕ) → (root_word atomics m + 16 ≤ gate_word atomics n) ⊎ (gate_word atomics n + 16 ≤ root_word atomics m) }
+    ensures roots { (atomics m n : ℕ) → m < n → root_word atomics m + 16 ≤ root_word atomics n }
+    ensures gates { (atomics m n : ℕ) → m < n → gate_word atomics m + 16 ≤ gate_word atomics n }
+    ensures atomics { (atomics a m : ℕ) → a < atomics → (atomic_word a + 16 ≤ root_word atomics m) × (atomic_word a + 16 ≤ gate_word atomics m) }
+    ensures nodes { (atomics maps m : ℕ) → m < maps → (root_word atomics m + 16 ≤ heads atomics maps) × (gate_word atomics m + 16 ≤ heads atomics maps) }
 {}
 
 /// The first roots stand behind them, each in 18 words of its own, and the callers' room stands behind the roots. One unit of the

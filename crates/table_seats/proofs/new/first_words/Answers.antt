@@ -1,5 +1,5 @@
-use Rattle.std.proofs.Common.{rules, ◌≡◌, ◌+◌, ◌*◌, set, replicate, sum, sym, ap, ◌∙◌, subst, arith}
-use Rattle.table_rule.specs.Layout.{size_of}
+use Rattle.std.proofs.Common.{rules, ◌≡◌, ◌+◌, ◌*◌, set, replicate, sum, ap, ◌∙◌, subst, arith}
+use Rattle.table_rule.specs.Layout.{root_word, first_root, size_of}
 use Rattle.table_seats.proofs.FirstWords.{HasRoots, no_roots, root_on, all_roots}
 use Rattle.table_seats.proofs.new.first_words.Goals as goal
 
@@ -7,8 +7,10 @@ pub loop-map-init : goal.loop-map-init
 loop-map-init c =
     let k = c.args.begin.now in
     let units = c.units_of-units.ensures ∙ ap sum c.as_slice.ensures in
-    let start = c.room_start-start.ensures in
-    let size : c.room_start-start.result + 128 * c.units_of-units.result ≡ size_of k = omega arith in
+    let atomics = c.layout-layout.ensures.atomics in
+    let maps = c.layout-layout.ensures.maps in
+    let start = c.first_room.ensures in
+    let size : c.first_room.result + 128 * c.units_of-units.result ≡ size_of k = omega arith in
     record {
       wide = c.in_ok-words.ensures.len ∙ size;
       roots = no_roots k c.in_ok-words.words.items (c.in_ok-words.ensures.items_if_clones_equal (λ y e. e) ∙ ap (λ n. replicate n 0) size);
@@ -18,16 +20,22 @@ pub index_mut-requires : goal.index_mut-requires
 index_mut-requires c =
     let wide = c.loop-map.invariant.wide in
     let inside = c.loop-map-test.true in
-    let atomics = c.len-atomics.ensures in
+    let atomics = c.layout-layout.ensures.atomics in
+    let root = c.root_word.ensures in
     omega arith
 
 pub loop-map-preserved : goal.loop-map-preserved
 loop-map-preserved c =
     let k = c.args.begin.now in
+    let n = c.loop-map.map in
+    let atomics = c.layout-layout.ensures.atomics in
+    let maps = c.layout-layout.ensures.maps in
+    let at : root_word k n ≡ c.root_word.result = (let e = c.root_word.ensures in omega arith) in
+    let root : first_root k n ≡ c.first_root.result = (let e = c.first_root.ensures in omega arith) in
     record {
       wide = search rules;
-      roots = subst (λ a. HasRoots k (c.loop-map.map + 1) (set c.loop-map.words.items (1 + a + 2 * c.loop-map.map) ((1 + a + 2 * k.maps) + 18 * c.loop-map.map))) (sym c.len-atomics.ensures)
-          (root_on k c.loop-map.map c.loop-map.words.items c.loop-map.invariant.roots c.loop-map-test.true);
+      roots = subst (λ r. HasRoots k (n + 1) (set c.loop-map.words.items c.root_word.result r)) root
+          (subst (λ i. HasRoots k (n + 1) (set c.loop-map.words.items i (first_root k n))) at (root_on k n c.loop-map.words.items c.loop-map.invariant.roots c.loop-map-test.true));
     }
 
 pub returns : goal.returns

@@ -9,6 +9,6 @@ clear-requires-clause-unit g c = has_unit c.args.note.now 1 c.requires.note.1 c.
 
 pub overflow_add-note : goal.overflow_add-note
 overflow_add-note g c =
-    let small = next_small c.args.self.now c.args.note.now c.args.map Clear Done c.clear.new.seat.me.0 c.requires.note.0 refl
+    let small = next_small c.args.self.now c.args.note.now c.args.map Clear Done 18 c.clear.new.seat.me.0 c.requires.note.0 refl
     (has_unit c.args.note.now 1 c.requires.note.1 c.requires.note.0.unwritten refl c.requires.spare) c.clear.ensures.made.1 c.clear.ensures.room in
     search rules

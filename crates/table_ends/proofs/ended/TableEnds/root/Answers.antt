@@ -1,10 +1,15 @@
-use Rattle.std.proofs.Common.{◌+◌, ◌*◌, ◌<◌, ◌^◌, slice_index, sym, ap, ◌∙◌, subst}
+use Rattle.std.proofs.Common.{◌≡◌, ◌+◌, ◌*◌, ◌<◌, ◌^◌, length, slice_index, sym, ap, ◌∙◌, subst, arith}
+use Rattle.trie_nodes.specs.Layout.{root_word}
 use Rattle.table_ends.specs.EndContents.{words_of}
 use Rattle.table_ends.proofs.Contained.{root_small}
 use Rattle.table_ends.proofs.ended.TableEnds.root.Goals as goal
 
-pub returns-clause-place : goal.returns-clause-place
-returns-clause-place c =
+pub returns : goal.returns
+returns c =
     let ends = c.args.self.now in
-    let is = c.word.ensures ∙ ap (λ atomics. slice_index (words_of ends) (1 + atomics + 2 * c.args.map)) c.len.ensures in
-    subst (λ n. n < 2 ^ 63) (sym is) (root_small ends.kinds (words_of ends) ends.maps c.args.map c.requires ends.seed ends.row)
+    let few = ends.few in
+    let long = c.len.ensures in
+    let word = c.root_word.ensures in
+    let at : c.root_word.result ≡ root_word (length ends.kinds) c.args.map = omega arith in
+    let is = c.word.ensures ∙ ap (slice_index (words_of ends)) at in
+    record { is = is; place = subst (λ n. n < 2 ^ 63) (sym is) (root_small ends.kinds (words_of ends) ends.maps c.args.map c.requires ends.seed ends.row) }
