@@ -21,8 +21,8 @@ use ruled_object::laws::growth;
 use std::alloc::{AllocError, Global};
 use std::sync::Wait;
 use sync_model::{Answer, MAX_CALLERS, Note};
-use sync_types::Misuse;
 use sync_outside::{At, Clock};
+use sync_types::Misuse;
 use wait_cores::OnceCore;
 
 /// A stored function that is called at most once, by the first call, and whose result every call answers. A pair of values

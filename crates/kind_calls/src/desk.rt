@@ -15,8 +15,8 @@ use crate::kinds::mutex::part_of_mutex;
 use protocols::{CondStage, MutexStage};
 use std::sync::Wait;
 use sync_model::{Answer, Note};
-use sync_types::{LockReply, Misuse};
 use sync_outside::Clock;
+use sync_types::{LockReply, Misuse};
 use thread_objects::{AnyObject, AnyPass, Worker};
 
 /// Makes a part of a call on the mutex with this number.

@@ -10,8 +10,8 @@ ghost use Rattle.kind_calls.specs.Working.{Works, desk_with};
 
 use std::sync::Wait;
 use sync_model::Note;
-use sync_types::Misuse;
 use sync_outside::Clock;
+use sync_types::Misuse;
 use thread_objects::{AnyObject, AnyPass, Worker, halt_any};
 
 // Halts the object with this number by a misuse.

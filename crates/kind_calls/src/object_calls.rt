@@ -22,8 +22,8 @@ use crate::kinds::wait_group::call_group;
 use protocols::CondStage;
 use std::sync::Wait;
 use sync_model::Note;
-use sync_types::{CondCall, Operation};
 use sync_outside::Clock;
+use sync_types::{CondCall, Operation};
 use thread_objects::{AnyObject, AnyPass, Worker};
 use workload::ObjectKind;
 

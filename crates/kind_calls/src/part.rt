@@ -15,8 +15,8 @@ use ruled_object::{Object, PassOf};
 use running::call_within;
 use std::sync::Wait;
 use sync_model::{Answer, Note};
-use sync_types::Misuse;
 use sync_outside::Clock;
+use sync_types::Misuse;
 use thread_objects::Worker;
 
 /// Makes a call of a protocol that leaves its caller out of the object, whatever it comes to. The run of a worker is one long

@@ -15,8 +15,8 @@ use ruled_object::laws::{growth, notes_are_kept};
 use ruled_object::{Object, PassOf};
 use std::sync::Wait;
 use sync_model::{Answer, Note};
-use sync_types::Misuse;
 use sync_outside::{At, Clock};
+use sync_types::Misuse;
 
 /// Makes the call whose first stage this is, and takes one off the calls that are left: see `call_within`.
 #[inline(always)]

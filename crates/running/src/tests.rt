@@ -13,8 +13,8 @@ use std::sync::atomic::{AtomicU64, Ordering};
 use std::test::Fail;
 use std::thread::{Threads, join};
 use sync_model::{Answer, FrontNote};
-use sync_types::{LockReply, Misuse};
 use sync_outside::{At, Clock, MemClock, SystemClock};
+use sync_types::{LockReply, Misuse};
 
 type Lock = Object<MutexCore, FrontNote>;
 

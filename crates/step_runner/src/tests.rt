@@ -1,7 +1,10 @@
 use crate::stepped;
 use std::alloc::{AllocError, Global};
 use std::test::Fail;
-use sync_types::{AtomicReply, DoReply, End, LockReply, MapReply, Name, Number, Outcome, PoolCallReply, Reply, Report};
+use sync_types::{
+    AtomicReply, DoReply, End, LockReply, MapReply, Name, Number, Outcome, PoolCallReply, Reply,
+    Report,
+};
 use workload::keys::key_name;
 use workload_reader::parse;
 

@@ -32,8 +32,8 @@ use crate::site::Site;
 use kind_calls::{CallAnswer, call_atomic, call_map, call_range, do_at};
 use std::sync::Wait;
 use sync_model::{Caller, Shared};
-use sync_types::{AtomicCall, BoundedSeq, MapCall, Name};
 use sync_outside::Clock;
+use sync_types::{AtomicCall, BoundedSeq, MapCall, Name};
 use thread_objects::{AnyPass, Worker};
 use workload::laws::keys_are_numbered_by_first_appearance;
 

@@ -15,8 +15,8 @@ use ruled_object::{Object, PassOf};
 use running::halt;
 use std::sync::Wait;
 use sync_model::Note;
-use sync_types::Misuse;
 use sync_outside::Clock;
+use sync_types::Misuse;
 
 // Halts an object of one kind.
 fn halt_one<P: Protocol, N: Note, C: Clock, R: Wait>(

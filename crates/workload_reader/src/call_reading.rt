@@ -11,7 +11,10 @@ ghost use Rattle.workload_reader.specs.LineResult.{IsFault, IsOperands, IsCall};
 
 use crate::word_reading::{read_amount, read_name, read_none, read_number, read_value};
 use std::alloc::Global;
-use sync_types::{AtomicCall, AtomicKind, CondCall, MAX_VALUE, MapCall, MutexCall, Name, Number, Operation, PoolCall, RwMutexCall, WaitGroupCall};
+use sync_types::{
+    AtomicCall, AtomicKind, CondCall, MAX_VALUE, MapCall, MutexCall, Name, Number, Operation,
+    PoolCall, RwMutexCall, WaitGroupCall,
+};
 use workload::fault::LineFault;
 use workload::keyword::{Operand, Verb};
 use workload::laws::checks_go_in_order;

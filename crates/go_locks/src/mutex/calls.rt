@@ -17,8 +17,8 @@ use protocols::MutexStage;
 use running::call;
 use std::sync::Wait;
 use sync_model::{Answer, Note};
-use sync_types::Misuse;
 use sync_outside::{At, Clock};
+use sync_types::Misuse;
 
 impl<N: Note> Mutex<N> {
     /// Go's `Lock`: waits until the caller has the mutex. It answers `Halted` exactly where the mutex was halted before.

@@ -16,8 +16,8 @@ use protocols::MutexStage;
 use running::call_within;
 use std::sync::Wait;
 use sync_model::{Answer, Note};
-use sync_types::Misuse;
 use sync_outside::{At, Clock};
+use sync_types::Misuse;
 
 impl<N: Note> Mutex<N> {
     /// Takes one off the calls that are left, for a longer call. It is no event.

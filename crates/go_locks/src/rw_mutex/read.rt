@@ -17,8 +17,8 @@ use protocols::RwMutexStage;
 use running::call;
 use std::sync::Wait;
 use sync_model::{Answer, Note};
-use sync_types::Misuse;
 use sync_outside::{At, Clock};
+use sync_types::Misuse;
 
 impl<N: Note> RwMutex<N> {
     /// Go's `RLock`: waits until the caller holds the lock, beside other readers. It answers `Halted` exactly where the

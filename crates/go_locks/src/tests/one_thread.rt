@@ -11,8 +11,8 @@ use std::alloc::{AllocError, Global};
 use std::sync::Wait;
 use std::test::Fail;
 use sync_model::{Answer, FrontNote};
-use sync_types::Misuse;
 use sync_outside::{At, MemClock};
+use sync_types::Misuse;
 
 #[test]
 fn two_callers_by_turns_and_a_halt(rt: HostRuntime) -> Result<(), Fail> {

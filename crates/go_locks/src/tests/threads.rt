@@ -13,8 +13,8 @@ use std::sync::atomic::{AtomicU64, Ordering};
 use std::test::Fail;
 use std::thread::{Threads, join};
 use sync_model::{Answer, FrontNote};
-use sync_types::Misuse;
 use sync_outside::{At, Clock, MemClock, SystemClock};
+use sync_types::Misuse;
 
 // Reads the number and stores one more. Two callers that do this at once lose one of the two.
 fn add_one(number: &AtomicU64) {

@@ -16,8 +16,8 @@ use ruled_object::laws::notes_are_kept;
 use running::{call, call_within};
 use std::sync::Wait;
 use sync_model::{Answer, Note};
-use sync_types::Misuse;
 use sync_outside::{At, Clock};
+use sync_types::Misuse;
 
 impl<N: Note> Cond<N> {
     /// Go's `Wait`: takes a ticket, unlocks the mutex, sleeps until the ticket is notified, and locks the mutex again. The

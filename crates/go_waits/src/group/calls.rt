@@ -13,8 +13,8 @@ use protocols::GroupStage;
 use running::call;
 use std::sync::Wait;
 use sync_model::{Answer, Note};
-use sync_types::Misuse;
 use sync_outside::{At, Clock};
+use sync_types::Misuse;
 
 impl<N: Note> WaitGroup<N> {
     /// Go's `Add`: adds to the counter, and releases all who wait where it comes to 0. A counter below 0, or above

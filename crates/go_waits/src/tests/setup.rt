@@ -8,8 +8,8 @@ use std::sync::Wait;
 use std::sync::atomic::{AtomicU64, Ordering};
 use std::thread;
 use sync_model::{Answer, FrontNote};
-use sync_types::Misuse;
 use sync_outside::{At, Clock};
+use sync_types::Misuse;
 
 /// A clock that stands still.
 pub(super) struct NoClock;

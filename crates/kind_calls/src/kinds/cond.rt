@@ -13,8 +13,8 @@ use crate::part::part;
 use protocols::CondStage;
 use std::sync::Wait;
 use sync_model::{Answer, Note};
-use sync_types::Misuse;
 use sync_outside::Clock;
+use sync_types::Misuse;
 use thread_objects::{AnyObject, AnyPass, Worker};
 
 /// Makes a part of a call on a cond, which may wait.

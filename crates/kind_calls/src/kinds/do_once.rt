@@ -28,8 +28,8 @@ use protocols::OnceOutcome;
 use ruled_object::{Object, PassOf};
 use std::sync::Wait;
 use sync_model::{Answer, Caller, Shared};
-use sync_types::{AtomicCall, AtomicReply, DoReply, Number, Reply};
 use sync_outside::Clock;
+use sync_types::{AtomicCall, AtomicReply, DoReply, Number, Reply};
 use thread_objects::{AnyObject, AnyPass, Worker};
 use wait_cores::OnceCore;
 

@@ -13,8 +13,8 @@ use crate::part::part;
 use protocols::MutexStage;
 use std::sync::Wait;
 use sync_model::{Answer, Note};
-use sync_types::{LockReply, Misuse, MutexCall};
 use sync_outside::Clock;
+use sync_types::{LockReply, Misuse, MutexCall};
 use thread_objects::{AnyObject, AnyPass, Worker};
 
 // The stage that a call begins with.

@@ -22,8 +22,8 @@ use ruled_object::{Object, PassOf};
 use running::call_within;
 use std::sync::Wait;
 use sync_model::{Answer, Note};
-use sync_types::Misuse;
 use sync_outside::Clock;
+use sync_types::Misuse;
 use thread_objects::{AnyObject, AnyPass, Worker};
 use wait_cores::OnceCore;
 

@@ -17,8 +17,8 @@ use crate::part::part;
 use protocols::{PoolOutcome, PoolStage};
 use std::sync::Wait;
 use sync_model::{Answer, Note};
-use sync_types::{Misuse, PoolCall, PoolCallReply, Reply};
 use sync_outside::Clock;
+use sync_types::{Misuse, PoolCall, PoolCallReply, Reply};
 use thread_objects::{AnyObject, AnyPass, Worker};
 
 // Which look of a get this is, by a worker of so many. It is at the worker's own part, at the shared items of another, or among

@@ -14,8 +14,8 @@ use crate::part::part;
 use protocols::RwMutexStage;
 use std::sync::Wait;
 use sync_model::{Answer, Note};
-use sync_types::{LockReply, Misuse, RwMutexCall};
 use sync_outside::Clock;
+use sync_types::{LockReply, Misuse, RwMutexCall};
 use thread_objects::{AnyObject, AnyPass, Worker};
 
 // The stage that a call begins with.

@@ -14,8 +14,8 @@ use crate::part::part;
 use protocols::GroupStage;
 use std::sync::Wait;
 use sync_model::{Answer, Note};
-use sync_types::{Misuse, WaitGroupCall};
 use sync_outside::Clock;
+use sync_types::{Misuse, WaitGroupCall};
 use thread_objects::{AnyObject, AnyPass, Worker};
 
 // The stage that a call begins with.

@@ -9,8 +9,8 @@ ghost use Rattle.wait_cores.specs.GroupStanding.{answers, may_make, waits_at, wa
 ghost use Rattle.wait_cores.specs.GroupLaws.{Log, WasZero, state_after, wait_by, leave_by, additions};
 
 use crate::group::{GroupCore, GroupEvent, GroupPlace, GroupReply};
-use sync_types::Misuse;
 use sync_model::laws::logs::logs_go_on;
+use sync_types::Misuse;
 
 /// A wait returns only after the counter was 0, whatever callers do and whatever the state was: one that returns at once finds
 /// it at 0, and for one that queued it was 0 at a moment between that and the return, also where the return is a misuse.
