@@ -1,6 +1,6 @@
 use Rattle.std.proofs.Common.{◌≤◌, drop}
 use Rattle.std.specs.Vec.{vec_capacity}
-use Rattle.gosync.specs.declared.line.TheConstants.{LINE_ROOM}
+use Rattle.report_lines.specs.declared.line.TheConstants.{LINE_ROOM}
 use Rattle.gosync.specs.ReportText.{ends_text}
 use Rattle.gosync.proofs.Writing.{Goes}
 use Rattle.gosync.proofs.report.write_ends.Given as goal
