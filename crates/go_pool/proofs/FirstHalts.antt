@@ -23,7 +23,7 @@ use Rattle.running.specs.Between.{AreAllBetween}
 use Rattle.go_pool.specs.declared.pass.PoolPass.{PoolPass}
 use Rattle.go_pool.specs.declared.pool.Pool.{Pool}
 use Rattle.go_pool.specs.Halting.{HaltsAt, AreColumnsOf, AreToldOf, AreTold, AreColumns, IsTold}
-use Rattle.go_pool.specs.Parts.{Made, PartPass, PartJournal, pass_at, cell}
+use Rattle.go_pool.specs.Parts.{PoolEntry, PartPass, PartJournal, pass_at, cell}
 use Rattle.go_pool.specs.Pools.{Journal, journal_at, halt_of, number_of, parts_of, room_of, AreAllPasses, SamePasses, IsWhole, IsSeen, Adds}
 use Rattle.go_pool.specs.Tables.{IsSquare, KeepsRows}
 use Rattle.go_pool.proofs.Seats.{same_found}
@@ -32,10 +32,10 @@ use Rattle.go_pool.proofs.TableSteps.{cond_false, there, get_other, set_found, s
 -- ---- halting
 
 -- the entry that halts a part of a caller with this number and front
-abbrev pub halt_by : ℕ → Misuse → List ℕ → Made
+abbrev pub halt_by : ℕ → Misuse → List ℕ → PoolEntry
 halt_by caller misuse front = record { caller = caller; deed = Halt misuse; front = front; knew = 0 }
 
-halt_is : (e : Made) (caller knew : ℕ) (misuse : Misuse) (front : List ℕ) → e.caller ≡ caller → e.deed ≡ Halt misuse → e.front ≡ front → e.knew ≡ knew → e ≡ record (halt_by caller misuse front) { knew = knew }
+halt_is : (e : PoolEntry) (caller knew : ℕ) (misuse : Misuse) (front : List ℕ) → e.caller ≡ caller → e.deed ≡ Halt misuse → e.front ≡ front → e.knew ≡ knew → e ≡ record (halt_by caller misuse front) { knew = knew }
 halt_is e caller knew misuse front a b c d = λ i. record { caller = a i; deed = b i; front = c i; knew = d i }
 
 module _ {N H : Type 0} (pool : Pool N H) where
@@ -68,7 +68,7 @@ module _ {N H : Type 0} (pool : Pool N H) where
         let adds = subst (λ (p : PartPass N). object.Adds part_next true pool_releases pool_acquires (part_start (room_of pool)) p halts.entry halts.after) is_before halts.adds in
         let entry = halt_is halts.entry (number_of old) (length (object.seen_by before)) misuse front (adds.caller ∙ numbers before was_here) halts.deed halts.known adds.knew in
         subst (λ (p : PartPass N). object.Adds part_next true pool_releases pool_acquires (part_start (room_of pool)) before (record (halt_by (number_of old) misuse front) { knew = length (object.seen_by before) }) p) (sym is_after)
-        (subst (λ (e : Made). object.Adds part_next true pool_releases pool_acquires (part_start (room_of pool)) before e halts.after) entry adds)
+        (subst (λ (e : PoolEntry). object.Adds part_next true pool_releases pool_acquires (part_start (room_of pool)) before e halts.after) entry adds)
 
   pub all_halted : (misuse : Misuse) (front : List ℕ) (count : ℕ) (old new : PoolPass N) → length old.parts.items ≤ count → HaltedSo misuse front count old new → Adds pool old (halt_by (number_of old) misuse front) new
   all_halted misuse front count old new all so = record { each = λ part before after was now. so.each part before after (let w = slice_get_within old.parts.items part before was in omega arith) was now }

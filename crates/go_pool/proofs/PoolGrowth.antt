@@ -23,7 +23,7 @@ use Rattle.go_pool.specs.declared.pass.PoolPass.{PoolPass}
 use Rattle.go_pool.specs.declared.pool.Pool.{Pool}
 use Rattle.go_pool.specs.AtParts.{DidAt}
 use Rattle.go_pool.specs.Calls.{Single}
-use Rattle.go_pool.specs.Parts.{Made, PartPass, PartJournal, own_of}
+use Rattle.go_pool.specs.Parts.{PoolEntry, PartPass, PartJournal, own_of}
 use Rattle.go_pool.specs.Pools.{Deeds, PartDeeds, Placed, deeds_at, in_part, all_of, AreDoneAt, number_of, seen_of, parts_of, room_of, Grows, Did}
 use Rattle.go_pool.proofs.TableSteps.{get_set, get_other, cond_true, cond_false}
 
@@ -63,11 +63,11 @@ leads-append : (seen mid now : PartJournal) (es fs : List (growth.Placed (PoolEv
 leads-append seen mid now [] fs at_first then_on = subst (λ (z : PartJournal). Leads z fs now) at_first then_on
 leads-append seen mid now (e ∷ es) fs at_first then_on = (at_first.0, at_first.1, leads-append (e.before ++ e.entry ∷ []) mid now es fs at_first.2 then_on)
 
-rising_from : (low from to : List ℕ) (es : List Made) → AtLeast from low → Rising from es to → Rising low es to
+rising_from : (low from to : List ℕ) (es : List PoolEntry) → AtLeast from low → Rising from es to → Rising low es to
 rising_from low from to [] more rising = λ c. let a = more c in let b = rising c in omega arith
 rising_from low from to (e ∷ es) more rising = ((λ c. let a = more c in let b = rising.0 c in omega arith), rising.1)
 
-rising-append : (from between to : List ℕ) (es fs : List Made) → Rising from es between → Rising between fs to → Rising from (es ++ fs) to
+rising-append : (from between to : List ℕ) (es fs : List PoolEntry) → Rising from es between → Rising between fs to → Rising from (es ++ fs) to
 rising-append from between to [] fs at_first then_on = rising_from from between to fs at_first then_on
 rising-append from between to (e ∷ es) fs at_first then_on = (at_first.0, rising-append e.front between to es fs at_first.1 then_on)
 
@@ -95,7 +95,7 @@ module _ {N H : Type 0} (pool : Pool N H) where
         ∙ ap (λ (l : PartJournal). own_of part old ++ l) (sym (ap entries_of (part-append part es fs) ∙ map-append (λ (p : growth.Placed (PoolEvent ℕ) (PoolReply ℕ)). p.entry) (in_part part es) (in_part part fs)))));
     right = subst (AllByRecursion (IsRight part_next true (part_start (room_of pool)) (number_of old))) (sym all)
         (all-append (IsRight part_next true (part_start (room_of pool)) (number_of old)) (all_of es) (all_of fs) one.right (subst (λ (n : ℕ). AllByRecursion (IsRight part_next true (part_start (room_of pool)) n) (all_of fs)) one.number two.right));
-    fronts = subst (λ (l : List Made). Rising from l to) (sym (ap entries_of all ∙ map-append (λ (p : growth.Placed (PoolEvent ℕ) (PoolReply ℕ)). p.entry) (all_of es) (all_of fs)))
+    fronts = subst (λ (l : List PoolEntry). Rising from l to) (sym (ap entries_of all ∙ map-append (λ (p : growth.Placed (PoolEvent ℕ) (PoolReply ℕ)). p.entry) (all_of es) (all_of fs)))
         (rising-append from between to (entries_of (all_of es)) (entries_of (all_of fs)) one.fronts two.fronts);
     number = two.number ∙ one.number;
   } where

@@ -14,7 +14,7 @@ use Rattle.ruled_object.specs.Passes as object
 use Rattle.go_pool.specs.declared.pass.PoolPass.{PoolPass}
 use Rattle.go_pool.specs.declared.pool.Pool.{Pool}
 use Rattle.sync_model.specs.Journal.{by}
-use Rattle.go_pool.specs.Parts.{Made, PartPass, AreSeatsOf}
+use Rattle.go_pool.specs.Parts.{PoolEntry, PartPass, AreSeatsOf}
 use Rattle.go_pool.specs.Pools.{IsPassOf, room_of}
 use Rattle.go_pool.proofs.TableSteps.{there, get_other, set_found}
 
@@ -62,7 +62,7 @@ pub pass_used : {N H : Type 0} (pool : Pool N H) (old new : PoolPass N) (part : 
 pass_used pool old new part o p q is at_o at_p number items of same lawful = pass_set pool old new part q is number items (seats_set pool.parts.items old.number part old.parts.items o p q is.seats at_o at_p of same) lawful
 
 -- what one entry more shows is lawful
-pub lawful_added : {N : Type 0} {start : PartState ℕ} (p q : PartPass N) (e : Made) → object.Adds part_next true pool_releases pool_acquires start p e q → object.number_of q ≡ object.number_of p → growth.IsLawful part_next true pool_releases pool_acquires start q
+pub lawful_added : {N : Type 0} {start : PartState ℕ} (p q : PartPass N) (e : PoolEntry) → object.Adds part_next true pool_releases pool_acquires start p e q → object.number_of q ≡ object.number_of p → growth.IsLawful part_next true pool_releases pool_acquires start q
 lawful_added p q e adds number = record { own = adds.all ∙ ap (λ (n : ℕ). by n (object.seen_by q)) (sym number); follows = adds.follows; edges = adds.edges }
 
 -- a caller's pass to a part has its number

@@ -13,7 +13,7 @@ use Rattle.ruled_object.specs.Passes as object
 use Rattle.running.specs.Between.{AreAllBetween}
 use Rattle.go_pool.specs.declared.pass.PoolPass.{PoolPass}
 use Rattle.go_pool.specs.declared.pool.Pool.{Pool}
-use Rattle.go_pool.specs.Parts.{Made, PartPass, PartJournal, pass_at}
+use Rattle.go_pool.specs.Parts.{PoolEntry, PartPass, PartJournal, pass_at}
 use Rattle.go_pool.specs.Pools.{Journal, journal_at, parts_of, room_of}
 
 module _ {N H : Type 0} where
@@ -21,7 +21,7 @@ module _ {N H : Type 0} where
   pub record HaltsAt (pool : Pool N H) (part : ℕ) (misuse : Misuse) (front : List ℕ) (old new : PoolPass N) : Type 0 where
     pub before : PartPass N
     pub after : PartPass N
-    pub entry : Made
+    pub entry : PoolEntry
     pub was : pass_at part old ≡ Some before
     pub set_is : new.parts.items ≡ set old.parts.items part after
     pub adds : object.Adds part_next true pool_releases pool_acquires (part_start (room_of pool)) before entry after

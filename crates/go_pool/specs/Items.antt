@@ -14,12 +14,12 @@ use Rattle.pool_core.specs.PoolParts.{PoolPart}
 use Rattle.go_pool.specs.declared.pass.PoolPass.{PoolPass}
 use Rattle.go_pool.specs.declared.pool.Pool.{Pool}
 use Rattle.go_pool.specs.Parts.{PartJournal}
-use Rattle.go_pool.specs.Pools.{Made, held_after, seen_of, number_of, room_of}
+use Rattle.go_pool.specs.Pools.{PoolEntry, held_after, seen_of, number_of, room_of}
 
 -- what a put found: the last entry that the caller has seen of its part's journal is the put's, and before that the part held this
 pub record Found {N H : Type 0} (pool : Pool N H) (pass : PoolPass N) (own : PoolPart ℕ) : Type 0 where
   pub before : PartJournal
-  pub entry : Made
+  pub entry : PoolEntry
   pub seen : seen_of (number_of pass) pass ≡ before ++ entry ∷ []
   pub held : (held_after pool before).primary ≡ own
 

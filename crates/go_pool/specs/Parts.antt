@@ -15,12 +15,12 @@ abbrev pub PartPass : Type 0 → Type 0
 PartPass N = Pass (PartState ℕ) N (PoolEvent ℕ) (PoolReply ℕ)
 
 -- an entry of a part's journal
-abbrev pub Made : Type 0
-Made = Entry (PoolEvent ℕ) (PoolReply ℕ)
+abbrev pub PoolEntry : Type 0
+PoolEntry = Entry (PoolEvent ℕ) (PoolReply ℕ)
 
 -- what was done on a part, in its one order
 abbrev pub PartJournal : Type 0
-PartJournal = List Made
+PartJournal = List PoolEntry
 
 module _ {N : Type 0} where
   -- the pass to a part

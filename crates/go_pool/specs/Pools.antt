@@ -22,8 +22,8 @@ use Rattle.go_pool.specs.Parts as parts
 use Rattle.go_pool.specs.Parts.{PartPass, PartJournal, AreOfHome, AreSeatsOf, IsColumn}
 
 -- an entry of a part's journal
-abbrev pub Made : Type 0
-Made = parts.Made
+abbrev pub PoolEntry : Type 0
+PoolEntry = parts.PoolEntry
 
 -- the journals of all parts, in order of part
 abbrev pub Journal : Type 0
@@ -169,7 +169,7 @@ module _ {N H : Type 0} where
     pub halted : growth.MeetsHalt (all_of entries) answer
 
   -- The caller made this one entry more in the journal of each part: in each it knew what it had seen there.
-  pub record Adds (pool : Pool N H) (old : PoolPass N) (e : Made) (new : PoolPass N) : Type 0 where
+  pub record Adds (pool : Pool N H) (old : PoolPass N) (e : PoolEntry) (new : PoolPass N) : Type 0 where
     pub each : (part : ℕ) (before after : PartPass N) → parts.pass_at part old ≡ Some before → parts.pass_at part new ≡ Some after
         → object.Adds part_next true pool_releases pool_acquires (part_start (room_of pool)) before (record e { knew = length (object.seen_by before) }) after
 

@@ -6,7 +6,7 @@ ghost use Rattle.protocols.specs.PoolStages.{pool_stands};
 ghost use Rattle.running.specs.Between.{AreAllBetween};
 ghost use Rattle.go_pool.specs.Halting.{HaltsAt, AreColumns, AreTold, IsTold};
 ghost use Rattle.go_pool.specs.Parts.{PartJournal};
-ghost use Rattle.go_pool.specs.Pools.{Made, Journal, AreAllPasses, IsPassOf, IsWhole, IsSeen, Adds, SamePass, SamePasses, halt_of, parts_of};
+ghost use Rattle.go_pool.specs.Pools.{PoolEntry, Journal, AreAllPasses, IsPassOf, IsWhole, IsSeen, Adds, SamePass, SamePasses, halt_of, parts_of};
 ghost use Rattle.go_pool.specs.Tables.{KeepsRows};
 
 use crate::columns::transpose;
@@ -25,7 +25,7 @@ impl<N: Note> Pool<N> {
     pub fn halt<R: Wait>(&self, rt: &R, pass: &mut PoolPass<N>, note: &N, misuse: Misuse)
         requires pass { IsPassOf self.now pass.old }
         ensures pass { IsPassOf self.now pass.new × SamePass pass.old pass.new }
-        ensures entry { (e : Made) × Adds self.now pass.old e pass.new × (e.deed ≡ Halt misuse) × (e.front ≡ N.front note.now) }
+        ensures entry { (e : PoolEntry) × Adds self.now pass.old e pass.new × (e.deed ≡ Halt misuse) × (e.front ≡ N.front note.now) }
     {
         for part in 0..self.callers {
             self.halt_part(rt, pass, note, misuse, part);

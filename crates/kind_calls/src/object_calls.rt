@@ -4,7 +4,7 @@ ghost use Rattle.ruled_object.specs.Growth.{KeepsNote};
 ghost use Rattle.workload.specs.Plan.{Plan, has_call};
 ghost use Rattle.run_record.specs.Calls.{call_on};
 ghost use Rattle.run_record.specs.CondKind.{wait_part};
-ghost use Rattle.run_record.specs.Record.{number_at};
+ghost use Rattle.run_record.specs.Record.{object_number};
 ghost use Rattle.kind_calls.specs.Alone.{IsAlone};
 ghost use Rattle.thread_objects.specs.Desks.{AreSeats, IsObjectAt};
 ghost use Rattle.thread_objects.specs.Kinds.{IsCond, IsMutex, IsOfKind};
@@ -45,7 +45,7 @@ fn call_object<N: Note, C: Clock, R: Wait>(
     ensures seat { IsSeatAt N.at worker.now.at.home.now worker.now.workers worker.now.number object.now pass.new }
     ensures note { KeepsNote N.at N.own N.front note.old note.new }
     ensures works { (plan : Plan) (before place : ℕ) → plan.workers ≡ worker.now.workers
-        → Works (call_on plan worker.now.number before place kind operation.now) (desk_at N.own N.front (number_at place) (own_of pass.old) note.old) result (desk_at N.own N.front (number_at place) (own_of pass.new) note.new) }
+        → Works (call_on plan worker.now.number before place kind operation.now) (desk_at N.own N.front (object_number place) (own_of pass.old) note.old) result (desk_at N.own N.front (object_number place) (own_of pass.new) note.new) }
 {
     match operation {
         Operation::Mutex(call) => call_mutex(rt, worker, object, pass, note, *call),
@@ -85,7 +85,7 @@ pub fn object_at<N: Note, C: Clock, R: Wait>(
 ) -> CallAnswer
     requires alone { IsAlone operation.now }
     requires call { has_call kind operation.now ≡ true }
-    requires kind { IsObjectAt (IsOfKind kind) objects.now (number_at place) }
+    requires kind { IsObjectAt (IsOfKind kind) objects.now (object_number place) }
     requires room { place + 1 < length objects.now }
     requires seats { AreSeats N.at worker.now.at.home.now worker.now.workers worker.now.number objects.now passes.old }
     requires note { N.at worker.now.at.home.now note.old }
@@ -111,14 +111,14 @@ pub fn wait_at<N: Note, C: Clock, R: Wait>(
     place: usize,
     mutex: usize,
 ) -> CallAnswer
-    requires cond { IsObjectAt IsCond objects.now (number_at place) }
-    requires mutex { IsObjectAt IsMutex objects.now (number_at mutex) }
+    requires cond { IsObjectAt IsCond objects.now (object_number place) }
+    requires mutex { IsObjectAt IsMutex objects.now (object_number mutex) }
     requires room { (place + 1 < length objects.now) × (mutex + 1 < length objects.now) }
     requires seats { AreSeats N.at worker.now.at.home.now worker.now.workers worker.now.number objects.now passes.old }
     requires note { N.at worker.now.at.home.now note.old }
     ensures seats { AreSeats N.at worker.now.at.home.now worker.now.workers worker.now.number objects.now passes.new }
     ensures note { KeepsNote N.at N.own N.front note.old note.new }
-    ensures works { Works (wait_part (number_at place) (number_at mutex)) (desk_with N.own N.front (owns_of passes.old) note.old) result (desk_with N.own N.front (owns_of passes.new) note.new) }
+    ensures works { Works (wait_part (object_number place) (object_number mutex)) (desk_with N.own N.front (owns_of passes.old) note.old) result (desk_with N.own N.front (owns_of passes.new) note.new) }
 {
     let _count = objects.len();
     wait(rt, worker, objects, passes, note, place + 1, mutex + 1)

@@ -12,7 +12,7 @@ use Rattle.pool_core.specs.PoolParts.{PoolPart, empty, take_victim, take_tail, h
 use Rattle.pool_core.specs.PoolMachine.{PoolState, next}
 use Rattle.pool_core.specs.PartMachine.{PartState, part_start, part_next, in_victims}
 use Rattle.pool_core.specs.PartLaws.{IsPartLog, part_after}
-use Rattle.pool_core.specs.PoolLaws.{Made, Log, kept_by, is_sweep, put_at, got_at, ComeFrom, is_full, answers}
+use Rattle.pool_core.specs.PoolLaws.{PoolEntry, Log, kept_by, is_sweep, put_at, got_at, ComeFrom, is_full, answers}
 use Rattle.pool_core.proofs.PoolAnswers.{put_answer, private_answer, head_answer, take_tail_answer, victim_answer}
 use Rattle.pool_core.proofs.PoolOrigins.{gives_each_once}
 use Rattle.pool_core.proofs.PoolRoom.{drops_where_full}
@@ -37,7 +37,7 @@ module _ {X : Type 0} where
   aimed (LookVictim part) = LookVictim 0
   aimed Sweep = Sweep
 
-  abbrev as_made : Made X → Made X
+  abbrev as_made : PoolEntry X → PoolEntry X
   as_made e = entry (seat_of e.caller e.event) (aimed e.event) e.reply
 
   -- a step of the part as one of the pool
@@ -76,7 +76,7 @@ module _ {X : Type 0} where
   kept_as (LookVictim part) caller reply = refl
   kept_as Sweep caller reply = refl
 
-  sweeps_from : (sum : ℕ → Made X → ℕ) → ((n : ℕ) (e : Made X) → sum n (as_made e) ≡ sum n e) → (n : ℕ) (log : Log X) → fold sum n (map as_made log) ≡ fold sum n log
+  sweeps_from : (sum : ℕ → PoolEntry X → ℕ) → ((n : ℕ) (e : PoolEntry X) → sum n (as_made e) ≡ sum n e) → (n : ℕ) (log : Log X) → fold sum n (map as_made log) ≡ fold sum n log
   sweeps_from sum same n [] = refl
   sweeps_from sum same n (e ∷ log) = sweeps_from sum same (sum n (as_made e)) log ∙ ap (λ (m : ℕ). fold sum m log) (same n e)
 

@@ -13,7 +13,7 @@ use Rattle.pool_core.specs.declared.pool_event.PoolReply.TheVariants.{Kept, Drop
 use Rattle.sync_model.specs.Log.{entry, after, Follows}
 use Rattle.pool_core.specs.PoolParts.{PoolPart, empty, emptied, put_in, put_beside, take_own, take_tail, take_victim, head_of, tail_of, private_or}
 use Rattle.pool_core.specs.PoolMachine.{PoolState, start, next, made, with_primary, with_victims, callers_of}
-use Rattle.pool_core.specs.PoolLaws.{Made, Log, kept_in, kept_by, got_in, got_by, is_swept, is_sweep, held_in, held_by, held, one_of, kept_count, got_count, swept_count}
+use Rattle.pool_core.specs.PoolLaws.{PoolEntry, Log, kept_in, kept_by, got_in, got_by, is_swept, is_sweep, held_in, held_by, held, one_of, kept_count, got_count, swept_count}
 
 module _ {X : Type 0} (test : X → Bool) where
   count_cons : (x : X) (xs : List X) → count_by test (x ∷ xs) ≡ one_of test (Some x) + count_by test xs
@@ -71,7 +71,7 @@ module _ {X : Type 0} (test : X → Bool) where
   take_victim_counts event none part = private_counts part.private take_tail part event refl none (take_tail_counts event none part)
 
   -- what an event does to the numbers of the whole pool
-  pub record Counts (s : PoolState X) (e : Made X) (s' : PoolState X) : Type 0 where
+  pub record Counts (s : PoolState X) (e : PoolEntry X) (s' : PoolState X) : Type 0 where
     pub balance : (held test s' + one_of test (got_by e)) + cond (is_sweep e) (held_by test s.victims) 0 ≡ held test s + one_of test (kept_by e)
     pub primary : is_sweep e ≡ false → held_by test s'.primary ≤ held_by test s.primary + one_of test (kept_by e)
     pub swept : is_sweep e ≡ true → (held_by test s'.primary ≡ 0) × (held_by test s'.victims ≡ held_by test s.primary)
@@ -155,7 +155,7 @@ module _ {X : Type 0} (test : X → Bool) where
   next_counts s d event = counts_if (nat_lt d (callers_of s)) s d event
 
   -- each entry of a log that follows the machine
-  pub steps : (s : PoolState X) (e : Made X) → (next s e.caller e.event).1 ≡ e.reply → Counts s e (next s e.caller e.event).0
+  pub steps : (s : PoolState X) (e : PoolEntry X) → (next s e.caller e.event).1 ≡ e.reply → Counts s e (next s e.caller e.event).0
   steps s e h =
       let P : PoolReply X → Type 0 = λ r. Counts s (entry e.caller e.event r) (next s e.caller e.event).0 in
       subst P h (next_counts s e.caller e.event)
@@ -167,7 +167,7 @@ module _ {X : Type 0} (test : X → Bool) where
       let s' : PoolState X = (next s e.caller e.event).0 in
       let rest : held test s' + kept_count test log ≡ got_count test log + held test (after next s' log) + swept_count test s' log = conserved s' log h.1 in
       let here : (held test s' + one_of test (got_by e)) + cond (is_sweep e) (held_by test s.victims) 0 ≡ held test s + one_of test (kept_by e) = (steps s e h.0).balance in
-      rw (sum_by-cons (λ (x : Made X). one_of test (kept_by x)) e log, sum_by-cons (λ (x : Made X). one_of test (got_by x)) e log) (omega arith)
+      rw (sum_by-cons (λ (x : PoolEntry X). one_of test (kept_by x)) e log, sum_by-cons (λ (x : PoolEntry X). one_of test (got_by x)) e log) (omega arith)
 
   none_in_empty : (n room : ℕ) → held_by test (replicate n (empty room)) ≡ 0
   none_in_empty zero room = refl

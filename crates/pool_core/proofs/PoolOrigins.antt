@@ -13,7 +13,7 @@ use Rattle.pool_core.specs.declared.pool_event.PoolReply.{PoolReply}
 use Rattle.pool_core.specs.declared.pool_event.PoolReply.TheVariants.{Kept, Dropped, Item, Nothing, Swept, Still}
 use Rattle.sync_model.specs.Log.{entry, Follows}
 use Rattle.pool_core.specs.PoolMachine.{PoolState, start, next}
-use Rattle.pool_core.specs.PoolLaws.{Made, Log, kept_in, kept_by, got_in, got_by, is_swept, is_sweep, one_of, held_by, held, put_at, got_at, ComeFrom}
+use Rattle.pool_core.specs.PoolLaws.{PoolEntry, Log, kept_in, kept_by, got_in, got_by, is_swept, is_sweep, one_of, held_by, held, put_at, got_at, ComeFrom}
 use Rattle.pool_core.proofs.PoolCounts.{Counts, next_counts, none_at_start}
 use Rattle.pool_core.proofs.PoolMaps.{map_state, map_event, map_reply, map_result, next_maps, start_maps}
 
@@ -31,7 +31,7 @@ abbrev tag : ℕ → ℕ → Tagged
 tag place item = (place, item)
 
 -- the entry's event at a place of the log, in a pool of tagged items
-abbrev tagged_next : PoolState Tagged → ℕ → Made ℕ → PoolState Tagged × PoolReply Tagged
+abbrev tagged_next : PoolState Tagged → ℕ → PoolEntry ℕ → PoolState Tagged × PoolReply Tagged
 tagged_next t place e = next t e.caller (map_event (tag place) e.event)
 
 untagged_event : (place : ℕ) (event : PoolEvent ℕ) → map_event item_of (map_event (tag place) event) ≡ event
@@ -42,12 +42,12 @@ untagged_event place (LookVictim part) = refl
 untagged_event place Sweep = refl
 
 -- without the tags it is the entry's own step
-untagged : (t : PoolState Tagged) (place : ℕ) (e : Made ℕ) → map_result item_of (tagged_next t place e) ≡ next (map_state item_of t) e.caller e.event
+untagged : (t : PoolState Tagged) (place : ℕ) (e : PoolEntry ℕ) → map_result item_of (tagged_next t place e) ≡ next (map_state item_of t) e.caller e.event
 untagged t place e =
     next_maps item_of t e.caller (map_event (tag place) e.event)
     ∙ ap (λ (event : PoolEvent ℕ). next (map_state item_of t) e.caller event) (untagged_event place e.event)
 
-untagged_reply : (t : PoolState Tagged) (place : ℕ) (e : Made ℕ) → (next (map_state item_of t) e.caller e.event).1 ≡ e.reply → map_reply item_of (tagged_next t place e).1 ≡ e.reply
+untagged_reply : (t : PoolState Tagged) (place : ℕ) (e : PoolEntry ℕ) → (next (map_state item_of t) e.caller e.event).1 ≡ e.reply → map_reply item_of (tagged_next t place e).1 ≡ e.reply
 untagged_reply t place e h = ap (λ (r : PoolState ℕ × PoolReply ℕ). r.1) (untagged t place e) ∙ h
 
 kept_tagged : (place : ℕ) (event : PoolEvent ℕ) (reply : PoolReply Tagged)
@@ -109,17 +109,17 @@ sweeps_or_keeps Sweep reply h = refl
 abbrev older : Bool → ℕ × ℕ → ℕ × ℕ
 older swept put = (put.0, put.1 + one_if swept)
 
-older_put : (e : Made ℕ) (log : Log ℕ) (o : Option ℕ)
+older_put : (e : PoolEntry ℕ) (log : Log ℕ) (o : Option ℕ)
     → option_map (λ item. (item, count_by is_sweep (log ++ e ∷ []))) o ≡ option_map (older (is_sweep e)) (option_map (λ item. (item, count_by is_sweep log)) o)
 older_put e log None = refl
-older_put e log (Some item) = ap (λ (n : ℕ). Some (item, n)) (sum_by_push (λ (x : Made ℕ). one_if (is_sweep x)) log e)
+older_put e log (Some item) = ap (λ (n : ℕ). Some (item, n)) (sum_by_push (λ (x : PoolEntry ℕ). one_if (is_sweep x)) log e)
 
-put_before : (log : Log ℕ) (e : Made ℕ) (i : ℕ) → i < length log → put_at (log ++ e ∷ []) i ≡ option_map (older (is_sweep e)) (put_at log i)
+put_before : (log : Log ℕ) (e : PoolEntry ℕ) (i : ℕ) → i < length log → put_at (log ++ e ∷ []) i ≡ option_map (older (is_sweep e)) (put_at log i)
 put_before [] e i h = absurd (omega arith)
 put_before (x ∷ log) e zero h = older_put e log (kept_by x)
 put_before (x ∷ log) e (suc i) h = put_before log e i (omega arith)
 
-put_here : (log : Log ℕ) (e : Made ℕ) (i : ℕ) → i ≡ length log → put_at (log ++ e ∷ []) i ≡ option_map (λ item. (item, 0)) (kept_by e)
+put_here : (log : Log ℕ) (e : PoolEntry ℕ) (i : ℕ) → i ≡ length log → put_at (log ++ e ∷ []) i ≡ option_map (λ item. (item, 0)) (kept_by e)
 put_here [] e zero h = refl
 put_here [] e (suc i) h = absurd (omega arith)
 put_here (x ∷ log) e zero h = absurd (omega arith)
@@ -226,7 +226,7 @@ module _ (test : ℕ → Bool) where
             (omega arith, omega arith))
       ]
 
-  aged_step : (past : Log ℕ) (t : PoolState Tagged) (place i : ℕ) (e : Made ℕ) → place ≡ length past → (next (map_state item_of t) e.caller e.event).1 ≡ e.reply
+  aged_step : (past : Log ℕ) (t : PoolState Tagged) (place i : ℕ) (e : PoolEntry ℕ) → place ≡ length past → (next (map_state item_of t) e.caller e.event).1 ≡ e.reply
       → Aged past t i test → Aged (past ++ e ∷ []) (tagged_next t place e).0 i test
   aged_step past t place i e at h aged =
       let r : PoolReply Tagged = (tagged_next t place e).1 in
@@ -261,11 +261,11 @@ record Goes (past : Log ℕ) (t : PoolState Tagged) (place : ℕ) (log : Log ℕ
   follows : Follows next (map_state item_of t) log
   aged : (i : ℕ) (test : ℕ → Bool) → Aged past t i test
 
-length_push : (log : Log ℕ) (e : Made ℕ) → length (log ++ e ∷ []) ≡ suc (length log)
+length_push : (log : Log ℕ) (e : PoolEntry ℕ) → length (log ++ e ∷ []) ≡ suc (length log)
 length_push [] e = refl
 length_push (x ∷ log) e = ap suc (length_push log e)
 
-goes_on : (past : Log ℕ) (t : PoolState Tagged) (place : ℕ) (e : Made ℕ) (log : Log ℕ) → Goes past t place (e ∷ log)
+goes_on : (past : Log ℕ) (t : PoolState Tagged) (place : ℕ) (e : PoolEntry ℕ) (log : Log ℕ) → Goes past t place (e ∷ log)
     → Goes (past ++ e ∷ []) (tagged_next t place e).0 (suc place) log
 goes_on past t place e log goes = record {
   at = ap suc goes.at ∙ sym (length_push past e);
@@ -279,7 +279,7 @@ tagged_got (Some t) item h = let same : t.1 ≡ item = cc in ap (λ (n : ℕ). S
 tagged_got None item h = cc
 
 -- a look that takes an item takes it from the pool
-takes : (test : ℕ → Bool) (t : PoolState Tagged) (place i item : ℕ) (e : Made ℕ) → got_in (tagged_next t place e).1 ≡ Some (i, item) → test item ≡ true
+takes : (test : ℕ → Bool) (t : PoolState Tagged) (place i item : ℕ) (e : PoolEntry ℕ) → got_in (tagged_next t place e).1 ≡ Some (i, item) → test item ≡ true
     → held (from i test) (tagged_next t place e).0 + 1 ≤ held (from i test) t
 takes test t place i item e got passes =
     let r : PoolReply Tagged = (tagged_next t place e).1 in
@@ -300,13 +300,13 @@ fresh_put item (Some put) h =
 fresh_put item None h = absurd (omega arith)
 
 -- the item that a look takes
-tag_got : (past : Log ℕ) (t : PoolState Tagged) (place : ℕ) (e : Made ℕ) (log : Log ℕ) (item : ℕ) → Goes past t place (e ∷ log) → got_by e ≡ Some item
+tag_got : (past : Log ℕ) (t : PoolState Tagged) (place : ℕ) (e : PoolEntry ℕ) (log : Log ℕ) (item : ℕ) → Goes past t place (e ∷ log) → got_by e ≡ Some item
     → got_in (tagged_next t place e).1 ≡ Some (place_in (got_in (tagged_next t place e).1), item)
 tag_got past t place e log item goes got =
     tagged_got (got_in (tagged_next t place e).1) item
     (got_tagged (tagged_next t place e).1 ∙ ap got_in (untagged_reply t place e goes.follows.0) ∙ got)
 
-earlier_here : (past : Log ℕ) (t : PoolState Tagged) (place : ℕ) (e : Made ℕ) (log : Log ℕ) (item : ℕ) → Goes past t place (e ∷ log) → got_by e ≡ Some item
+earlier_here : (past : Log ℕ) (t : PoolState Tagged) (place : ℕ) (e : PoolEntry ℕ) (log : Log ℕ) (item : ℕ) → Goes past t place (e ∷ log) → got_by e ≡ Some item
     → (sweeps : ℕ) × (put_at past (place_in (got_in (tagged_next t place e).1)) ≡ Some (item, sweeps)) × (sweeps ≤ 1)
 earlier_here past t place e log item goes got =
     let i : ℕ = place_in (got_in (tagged_next t place e).1) in

@@ -10,11 +10,11 @@ use Rattle.sync_model.specs.Log.{Entry, entry, after, Follows}
 use Rattle.pool_core.specs.PoolParts.{PoolPart}
 use Rattle.pool_core.specs.PoolMachine.{PoolState, start, next, callers_of}
 
-abbrev pub Made : Type 0 → Type 0
-Made X = Entry (PoolEvent X) (PoolReply X)
+abbrev pub PoolEntry : Type 0 → Type 0
+PoolEntry X = Entry (PoolEvent X) (PoolReply X)
 
 abbrev pub Log : Type 0 → Type 0
-Log X = List (Made X)
+Log X = List (PoolEntry X)
 
 module _ {X : Type 0} where
   -- the log is one of a pool for so many callers with so much room, from its start on
@@ -26,7 +26,7 @@ module _ {X : Type 0} where
   state_after callers room log = after next (start callers room) log
 
   -- the caller puts an item, and is answered this
-  abbrev pub put_by : ℕ → X → PoolReply X → Made X
+  abbrev pub put_by : ℕ → X → PoolReply X → PoolEntry X
   put_by caller item reply = entry caller (Put item) reply
 
   -- the item that an entry puts, where it is kept
@@ -38,7 +38,7 @@ module _ {X : Type 0} where
   kept_in (Put item) reply = kept_if reply item
   kept_in _ reply = None
 
-  abbrev pub kept_by : Made X → Option X
+  abbrev pub kept_by : PoolEntry X → Option X
   kept_by e = kept_in e.event e.reply
 
   -- the item that an entry's look takes
@@ -46,7 +46,7 @@ module _ {X : Type 0} where
   got_in (Item item) = Some item
   got_in _ = None
 
-  abbrev pub got_by : Made X → Option X
+  abbrev pub got_by : PoolEntry X → Option X
   got_by e = got_in e.reply
 
   -- the entry is a sweep
@@ -54,7 +54,7 @@ module _ {X : Type 0} where
   is_swept Swept = true
   is_swept _ = false
 
-  abbrev pub is_sweep : Made X → Bool
+  abbrev pub is_sweep : PoolEntry X → Bool
   is_sweep e = is_swept e.reply
 
   -- 1 where there is an item and it passes a test

@@ -5,7 +5,7 @@ ghost use Rattle.pool_core.specs.Edges.{pool_releases, pool_acquires};
 ghost use Rattle.pool_core.specs.Looks.{look};
 ghost use Rattle.pool_core.specs.PoolParts.{PoolPart};
 ghost use Rattle.pool_core.specs.PoolMachine.{PoolState, start, next};
-ghost use Rattle.pool_core.specs.PoolLaws.{Made, Log, IsLog, state_after, put_by, held, kept_by, got_by, kept_count, got_count, swept_count, ComeFrom, is_full, private_at, answers, NamesPart, may_make};
+ghost use Rattle.pool_core.specs.PoolLaws.{PoolEntry, Log, IsLog, state_after, put_by, held, kept_by, got_by, kept_count, got_count, swept_count, ComeFrom, is_full, private_at, answers, NamesPart, may_make};
 
 use crate::pool::PoolCore;
 use crate::pool_event::{PoolEvent, PoolReply};
@@ -28,8 +28,8 @@ pub fn gives_each_once()
 /// A put synchronizes before the look that takes its item: a put that is kept releases, and a look that takes an item acquires. An
 /// event that is answered `Still` does neither.
 pub fn synchronizes()
-    ensures put { (e : Made ℕ) (item : ℕ) → kept_by e ≡ Some item → IsTrue (pool_releases e.event e.reply) }
-    ensures taken { (e : Made ℕ) (item : ℕ) → got_by e ≡ Some item → IsTrue (pool_acquires e.event e.reply) }
+    ensures put { (e : PoolEntry ℕ) (item : ℕ) → kept_by e ≡ Some item → IsTrue (pool_releases e.event e.reply) }
+    ensures taken { (e : PoolEntry ℕ) (item : ℕ) → got_by e ≡ Some item → IsTrue (pool_acquires e.event e.reply) }
     ensures unmoved { (event : PoolEvent ℕ)
         → IsFalse (pool_releases event PoolReply.Still) × IsFalse (pool_acquires event PoolReply.Still) }
 {}

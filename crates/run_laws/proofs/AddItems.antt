@@ -32,7 +32,7 @@ use Rattle.workload.specs.Plan.{Plan}
 use Rattle.run_record.specs.declared.made.Made.{Made}
 use Rattle.run_record.specs.Lines.{SpeltCall, AreSpelt}
 use Rattle.run_record.specs.Objects.{is_atomic, atomic_number}
-use Rattle.run_record.specs.Record.{shared_in, number_at as object_at}
+use Rattle.run_record.specs.Record.{shared_in, object_number}
 use Rattle.run_laws.specs.Adds.{amount_of, is_add}
 use Rattle.run_laws.specs.Locks.{has_plain_objects}
 use Rattle.run_laws.proofs.AddedUp.{of_bits, bits_of, add_bits, call_bits}
@@ -222,7 +222,7 @@ module _ (plan : Plan) (place : ℕ) (object : ObjectLine) (at : slice_get plan.
     others : (i : ℕ) (x : Item) → slice_get cursor.made i ≡ Some x → (b : ℕ) (op : AtomicCall) → x.call ≡ calls.Atomic b op → ⊥
     others i x at b op is = false≢true (ap is_cursors (sym is) ∙ list_all_at (λ (y : Item). is_cursors y.call) cursor.made i x cursor.asks at)
   call_alike call items answer (on_atomic type op is_atomic_at asks one) adds = alike_at call (one.item ∷ []) items (ap shared_in one.are) (of_atomic call op one.item asks one.asks (another_number call type is_atomic_at) adds)
-  call_alike call items answer (on_mutex m is_mutex asks (given, (entries, are, spelt), gives)) adds = alike_at call [] items (ap shared_in are ∙ no_entries_shared (object_at call.object) entries)
+  call_alike call items answer (on_mutex m is_mutex asks (given, (entries, are, spelt), gives)) adds = alike_at call [] items (ap shared_in are ∙ no_entries_shared (object_number call.object) entries)
       (of_map call [] (ap amount_of asks) (λ i x at b op is. none-some x at))
 
   module _ (plain : has_plain_objects plan ≡ true) (worker : ℕ) where

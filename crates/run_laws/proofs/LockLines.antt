@@ -38,7 +38,7 @@ use Rattle.run_record.specs.declared.made.Made.TheVariants.{Shared, Entered}
 use Rattle.run_record.specs.Lines.{SpeltCall, LineEnd, whole, misused, halted, unfinished, Line, script_of, items_of, IsHalt, AreSpelt, EndsBy, IsLineOf}
 use Rattle.run_record.specs.MutexKind.{mutex_call, mutex_stage}
 use Rattle.run_record.specs.Parts.{lifted, lifted_deed, with_outcome}
-use Rattle.run_record.specs.Record.{ObjectEntry, number_at, shared_in, entries_in}
+use Rattle.run_record.specs.Record.{ObjectEntry, object_number, shared_in, entries_in}
 use Rattle.run_laws.specs.Locks.{has_plain_objects, is_in_turn, keeps_lock}
 use Rattle.run_laws.proofs.Holders.{IsHolders, OnlyHolder, holds_after}
 use Rattle.run_laws.proofs.PlainCalls.{PlainCall, on_map, on_range, on_atomic, on_mutex, IsOfKind, plain_call}
@@ -194,21 +194,21 @@ keeps_on place held call calls keeps = by_object (call.object == place) keeps wh
 
 module _ (plan : Plan) (plain : has_plain_objects plan ≡ true) (place : ℕ) (mutex : IsOfKind plan place kinds.Mutex) where
   -- another object's call has no entry of the mutex, and comes in no turn on it
-  of_another : (held : Bool) (call : Call) (items : List Made) (answer : CallAnswer (Reply ℕ)) (rest : List ObjectEntry) → is_in_turn held call.operation ≡ false → entries_in (number_at place) items ≡ [] → comes_in_turn place held call ≡ true
-      → Behind answer (next_held place held call) rest → OnlyHolder held (entries_in (number_at place) items ++ rest)
+  of_another : (held : Bool) (call : Call) (items : List Made) (answer : CallAnswer (Reply ℕ)) (rest : List ObjectEntry) → is_in_turn held call.operation ≡ false → entries_in (object_number place) items ≡ [] → comes_in_turn place held call ≡ true
+      → Behind answer (next_held place held call) rest → OnlyHolder held (entries_in (object_number place) items ++ rest)
   of_another held call items answer rest untimely none turn behind = by_object (call.object == place) turn behind where
     only : (answer : CallAnswer (Reply ℕ)) → Behind answer held rest → OnlyHolder held rest
     only (Done (Ok outcome)) behind = behind
     only (Done (Err misuse)) behind = behind held
     only (Halted misuse) behind = behind held
 
-    by_object : (b : Bool) → cond b (is_in_turn held call.operation) true ≡ true → Behind answer (cond b (not held) held) rest → OnlyHolder held (entries_in (number_at place) items ++ rest)
+    by_object : (b : Bool) → cond b (is_in_turn held call.operation) true ≡ true → Behind answer (cond b (not held) held) rest → OnlyHolder held (entries_in (object_number place) items ++ rest)
     by_object true turn behind = no (sym untimely ∙ turn)
     by_object false turn behind = subst (λ (es : List ObjectEntry). OnlyHolder held (es ++ rest)) (sym none) (only answer behind)
 
   -- a call on a mutex
-  of_mutex : (held : Bool) (call : Call) (m : MutexCall) (items : List Made) (answer : CallAnswer (Reply ℕ)) (rest : List ObjectEntry) → call.operation ≡ operations.Mutex m → mutex_call (number_at call.object) m items answer → comes_in_turn place held call ≡ true
-      → Behind answer (next_held place held call) rest → OnlyHolder held (entries_in (number_at place) items ++ rest)
+  of_mutex : (held : Bool) (call : Call) (m : MutexCall) (items : List Made) (answer : CallAnswer (Reply ℕ)) (rest : List ObjectEntry) → call.operation ≡ operations.Mutex m → mutex_call (object_number call.object) m items answer → comes_in_turn place held call ≡ true
+      → Behind answer (next_held place held call) rest → OnlyHolder held (entries_in (object_number place) items ++ rest)
   of_mutex held call m items answer rest asks (given, (entries, is, spelt), gives) turn behind = by_object (call.object == place) refl turn behind where
     of_given : (h : Bool) → Behind answer h rest → Behind given h rest
     of_given h behind = behind_given given h rest (subst (λ (a : CallAnswer (Reply ℕ)). Behind a h rest) gives behind)
@@ -218,28 +218,28 @@ module _ (plan : Plan) (plain : has_plain_objects plan ≡ true) (place : ℕ) (
     only (Done (Err misuse)) behind = behind held
     only (Halted misuse) behind = behind held
 
-    by_object : (b : Bool) → (call.object == place) ≡ b → cond b (is_in_turn held call.operation) true ≡ true → Behind answer (cond b (not held) held) rest → OnlyHolder held (entries_in (number_at place) items ++ rest)
+    by_object : (b : Bool) → (call.object == place) ≡ b → cond b (is_in_turn held call.operation) true ≡ true → Behind answer (cond b (not held) held) rest → OnlyHolder held (entries_in (object_number place) items ++ rest)
     by_object true same turn behind =
-        subst (λ (es : List ObjectEntry). OnlyHolder held (es ++ rest)) (sym (ap (λ (l : List Made). entries_in (number_at place) l) is ∙ entries_here (number_at place) (number_at call.object) entries (eq-eqb (number_at call.object) (number_at place) (ap number_at (eqb-true call.object place same)))))
+        subst (λ (es : List ObjectEntry). OnlyHolder held (es ++ rest)) (sym (ap (λ (l : List Made). entries_in (object_number place) l) is ∙ entries_here (object_number place) (object_number call.object) entries (eq-eqb (object_number call.object) (object_number place) (ap object_number (eqb-true call.object place same)))))
         (by_turn held m entries given rest (subst (λ (o : Operation). is_in_turn held o ≡ true) asks turn) spelt (of_given (not held) behind))
     by_object false apart turn behind =
-        subst (λ (es : List ObjectEntry). OnlyHolder held (es ++ rest)) (sym (ap (λ (l : List Made). entries_in (number_at place) l) is ∙ entries_elsewhere (number_at place) (number_at call.object) entries (ne_eqb (number_at call.object) (number_at place) (λ same. eqb-false call.object place apart (omega (arith, same))))))
+        subst (λ (es : List ObjectEntry). OnlyHolder held (es ++ rest)) (sym (ap (λ (l : List Made). entries_in (object_number place) l) is ∙ entries_elsewhere (object_number place) (object_number call.object) entries (ne_eqb (object_number call.object) (object_number place) (λ same. eqb-false call.object place apart (omega (arith, same))))))
         (only given (of_given held behind))
 
   untimely : (held : Bool) (call : Call) (operation : Operation) → call.operation ≡ operation → ((h : Bool) → is_in_turn h operation ≡ false) → is_in_turn held call.operation ≡ false
   untimely held call operation asks never = ap (is_in_turn held) asks ∙ never held
 
   call_turns : (held : Bool) (call : Call) (items : List Made) (answer : CallAnswer (Reply ℕ)) (rest : List ObjectEntry) → PlainCall plan call items answer → comes_in_turn place held call ≡ true
-      → Behind answer (next_held place held call) rest → OnlyHolder held (entries_in (number_at place) items ++ rest)
-  call_turns held call items answer rest (on_map m kind asks one) turn behind = of_another held call items answer rest (untimely held call (operations.Map m) asks never) (ap (λ (l : List Made). entries_in (number_at place) l) one.are) turn behind where
+      → Behind answer (next_held place held call) rest → OnlyHolder held (entries_in (object_number place) items ++ rest)
+  call_turns held call items answer rest (on_map m kind asks one) turn behind = of_another held call items answer rest (untimely held call (operations.Map m) asks never) (ap (λ (l : List Made). entries_in (object_number place) l) one.are) turn behind where
     never : (h : Bool) → is_in_turn h (operations.Map m) ≡ false
     never true = refl
     never false = refl
-  call_turns held call items answer rest (on_range kind asks cursor) turn behind = of_another held call items answer rest (untimely held call operations.Range asks never) (ap (λ (l : List Made). entries_in (number_at place) l) cursor.are ∙ entries_shared (number_at place) cursor.made) turn behind where
+  call_turns held call items answer rest (on_range kind asks cursor) turn behind = of_another held call items answer rest (untimely held call operations.Range asks never) (ap (λ (l : List Made). entries_in (object_number place) l) cursor.are ∙ entries_shared (object_number place) cursor.made) turn behind where
     never : (h : Bool) → is_in_turn h operations.Range ≡ false
     never true = refl
     never false = refl
-  call_turns held call items answer rest (on_atomic type a kind asks one) turn behind = of_another held call items answer rest (untimely held call (operations.Atomic a) asks never) (ap (λ (l : List Made). entries_in (number_at place) l) one.are) turn behind where
+  call_turns held call items answer rest (on_atomic type a kind asks one) turn behind = of_another held call items answer rest (untimely held call (operations.Atomic a) asks never) (ap (λ (l : List Made). entries_in (object_number place) l) one.are) turn behind where
     never : (h : Bool) → is_in_turn h (operations.Atomic a) ≡ false
     never true = refl
     never false = refl
@@ -248,32 +248,32 @@ module _ (plan : Plan) (plain : has_plain_objects plan ≡ true) (place : ℕ) (
   module _ (worker : ℕ) where
     -- the completed calls, and then the calls that are left
     spelt_turns : (before : ℕ) (spelt : List SpeltCall) (left : List Call) (held : Bool) (rest : List ObjectEntry) → AreSpelt plan worker before spelt → keeps_lock place held (map (λ call. call.call) spelt ++ left) ≡ true
-        → ((h : Bool) → keeps_lock place h left ≡ true → OnlyHolder h rest) → OnlyHolder held (entries_in (number_at place) (flat_map (λ call. call.items) spelt) ++ rest)
+        → ((h : Bool) → keeps_lock place h left ≡ true → OnlyHolder h rest) → OnlyHolder held (entries_in (object_number place) (flat_map (λ call. call.items) spelt) ++ rest)
     spelt_turns before [] left held rest are keeps behind = behind held keeps
     spelt_turns before (call ∷ spelt) left held rest are keeps behind =
         let on = keeps_on place held call.call (map (λ call. call.call) spelt ++ left) keeps in
         let later = flat_map (λ call. call.items) spelt in
         let goes = spelt_turns (before + length (shared_in call.items)) spelt left (next_held place held call.call) rest are.1 on.1 behind in
-        subst (λ (es : List ObjectEntry). OnlyHolder held es) (sym (ap (λ (es : List ObjectEntry). es ++ rest) (entries_append (number_at place) call.items later) ∙ append_assoc (entries_in (number_at place) call.items) (entries_in (number_at place) later) rest))
-        (call_turns held call.call call.items (Done (Ok call.reply)) (entries_in (number_at place) later ++ rest) (plain_call plan plain worker before call.call call.items (Done (Ok call.reply)) are.0) on.0 goes)
+        subst (λ (es : List ObjectEntry). OnlyHolder held es) (sym (ap (λ (es : List ObjectEntry). es ++ rest) (entries_append (object_number place) call.items later) ∙ append_assoc (entries_in (object_number place) call.items) (entries_in (object_number place) later) rest))
+        (call_turns held call.call call.items (Done (Ok call.reply)) (entries_in (object_number place) later ++ rest) (plain_call plan plain worker before call.call call.items (Done (Ok call.reply)) are.0) on.0 goes)
 
     -- the call that was cut short, or none
-    last_turns : (before : ℕ) (ending : LineEnd) (left : List Call) (last : List Made) → EndsBy plan worker before ending left last → (held : Bool) → keeps_lock place held left ≡ true → OnlyHolder held (entries_in (number_at place) last)
-    last_turns before whole left last ends held keeps = subst (λ (l : List Made). OnlyHolder held (entries_in (number_at place) l)) (sym ends.1) tt
+    last_turns : (before : ℕ) (ending : LineEnd) (left : List Call) (last : List Made) → EndsBy plan worker before ending left last → (held : Bool) → keeps_lock place held left ≡ true → OnlyHolder held (entries_in (object_number place) last)
+    last_turns before whole left last ends held keeps = subst (λ (l : List Made). OnlyHolder held (entries_in (object_number place) l)) (sym ends.1) tt
     last_turns before (misused m) [] last ends held keeps = absurd ends
     last_turns before (misused m) (call ∷ left) last (items, halts, is, spelt, all) held keeps =
-        subst (λ (es : List ObjectEntry). OnlyHolder held es) (sym (ap (λ (l : List Made). entries_in (number_at place) l) is ∙ entries_append (number_at place) items halts))
-        (call_turns held call items (Done (Err m)) (entries_in (number_at place) halts) (plain_call plan plain worker before call items (Done (Err m)) spelt) (keeps_on place held call left keeps).0 (halts_only (number_at place) m halts all))
+        subst (λ (es : List ObjectEntry). OnlyHolder held es) (sym (ap (λ (l : List Made). entries_in (object_number place) l) is ∙ entries_append (object_number place) items halts))
+        (call_turns held call items (Done (Err m)) (entries_in (object_number place) halts) (plain_call plan plain worker before call items (Done (Err m)) spelt) (keeps_on place held call left keeps).0 (halts_only (object_number place) m halts all))
     last_turns before (halted m) [] last ends held keeps = absurd ends
     last_turns before (halted m) (call ∷ left) last spelt held keeps =
-        only_first held (entries_in (number_at place) last) [] (call_turns held call last (Halted m) [] (plain_call plan plain worker before call last (Halted m) spelt) (keeps_on place held call left keeps).0 (behind_nothing {O = Reply ℕ} (Halted m) (next_held place held call)))
+        only_first held (entries_in (object_number place) last) [] (call_turns held call last (Halted m) [] (plain_call plan plain worker before call last (Halted m) spelt) (keeps_on place held call left keeps).0 (behind_nothing {O = Reply ℕ} (Halted m) (next_held place held call)))
     last_turns before unfinished [] last ends held keeps = absurd ends
     last_turns before unfinished (call ∷ left) last (later, answer, spelt) held keeps =
-        only_first held (entries_in (number_at place) last) (entries_in (number_at place) later) (subst (λ (es : List ObjectEntry). OnlyHolder held es) (entries_append (number_at place) last later)
-        (only_first held (entries_in (number_at place) (last ++ later)) [] (call_turns held call (last ++ later) answer [] (plain_call plan plain worker before call (last ++ later) answer spelt) (keeps_on place held call left keeps).0 (behind_nothing answer (next_held place held call)))))
+        only_first held (entries_in (object_number place) last) (entries_in (object_number place) later) (subst (λ (es : List ObjectEntry). OnlyHolder held es) (entries_append (object_number place) last later)
+        (only_first held (entries_in (object_number place) (last ++ later)) [] (call_turns held call (last ++ later) answer [] (plain_call plan plain worker before call (last ++ later) answer spelt) (keeps_on place held call left keeps).0 (behind_nothing answer (next_held place held call)))))
 
     -- the whole list
-    pub line_turns : (line : Line) → IsLineOf plan worker line → keeps_lock place false (script_of line) ≡ true → OnlyHolder false (entries_in (number_at place) (items_of line))
+    pub line_turns : (line : Line) → IsLineOf plan worker line → keeps_lock place false (script_of line) ≡ true → OnlyHolder false (entries_in (object_number place) (items_of line))
     line_turns line is keeps =
-        subst (λ (es : List ObjectEntry). OnlyHolder false es) (sym (entries_append (number_at place) (flat_map (λ spelt. spelt.items) line.spelt) line.last))
-        (spelt_turns 0 line.spelt line.rest false (entries_in (number_at place) line.last) is.calls keeps (λ h left. last_turns _ line.ending line.rest line.last is.ends h left))
+        subst (λ (es : List ObjectEntry). OnlyHolder false es) (sym (entries_append (object_number place) (flat_map (λ spelt. spelt.items) line.spelt) line.last))
+        (spelt_turns 0 line.spelt line.rest false (entries_in (object_number place) line.last) is.calls keeps (λ h left. last_turns _ line.ending line.rest line.last is.ends h left))

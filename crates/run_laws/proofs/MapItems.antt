@@ -31,7 +31,7 @@ use Rattle.workload.specs.Plan.{Plan}
 use Rattle.run_record.specs.declared.made.Made.{Made}
 use Rattle.run_record.specs.Lines.{SpeltCall, AreSpelt}
 use Rattle.run_record.specs.Objects.{is_map, map_number}
-use Rattle.run_record.specs.Record.{shared_in, number_at}
+use Rattle.run_record.specs.Record.{shared_in, object_number}
 use Rattle.run_laws.specs.Locks.{has_plain_objects}
 use Rattle.workload.specs.OwnMaps.{NamedMap, after_operation, after_script}
 use Rattle.run_laws.specs.Owners.{is_on_name, uses_key}
@@ -74,7 +74,7 @@ pub map_items : (plan : Plan) (call : Call) (items : List Made) (answer : CallAn
 map_items plan call items answer (on_map op kind asks one) = one_call op one.item kind asks (ap shared_in one.are) one.asks
 map_items plan call items answer (on_range kind asks cursor) = no_call (ap is_map_operation asks) (ap (list_all (λ (x : Item). is_no_map x.call)) (ap shared_in cursor.are ∙ shared_map cursor.made) ∙ cursors_are_none cursor.made cursor.asks)
 map_items plan call items answer (on_atomic type op kind asks one) = no_call (ap is_map_operation asks) (ap (list_all (λ (x : Item). is_no_map x.call)) (ap shared_in one.are) ∙ ap (λ (c : SharedCall). is_no_map c && true) one.asks)
-map_items plan call items answer (on_mutex op kind asks (given, (entries, are, spelt), gives)) = no_call (ap is_map_operation asks) (ap (list_all (λ (x : Item). is_no_map x.call)) (ap shared_in are ∙ no_entries_shared (number_at call.object) entries))
+map_items plan call items answer (on_mutex op kind asks (given, (entries, are, spelt), gives)) = no_call (ap is_map_operation asks) (ap (list_all (λ (x : Item). is_no_map x.call)) (ap shared_in are ∙ no_entries_shared (object_number call.object) entries))
 
 or_false : (a b : Bool) → (a || b) ≡ false → (a ≡ false) × (b ≡ false)
 or_false true b is = absurd (false≢true (sym is))

@@ -38,7 +38,7 @@ use Rattle.run_record.specs.Calls.{IsJournalOf}
 use Rattle.run_record.specs.Explains.{AreLines, IsRecordOf}
 use Rattle.run_record.specs.Lines.{LineEnd, misused, Line, script_of, items_of, EndsBy}
 use Rattle.run_record.specs.Parts.{lifted_deed, with_outcome}
-use Rattle.run_record.specs.Record.{Record, ObjectEntry, number_at, journal_of, list_of, shared_in, entries_in}
+use Rattle.run_record.specs.Record.{Record, ObjectEntry, object_number, journal_of, list_of, shared_in, entries_in}
 use Rattle.run_laws.specs.Locks.{keeps_lock, KeepsItsLocks}
 use Rattle.run_laws.proofs.EachOf.{each_left, each_right}
 use Rattle.run_laws.proofs.Holders.{IsUse, AreUses, OnlyHolder, is_misuse, journal_uses}
@@ -117,16 +117,16 @@ module _ (keeps_valid : (s : State) (c : ℕ) (e : MutexEvent) → IsValid s →
   script_at worker line at = ap (λ (l : List (List Call)). slice_get l worker) (sym are.scripts) ∙ (slice_get-map script_of lines worker ∙ ap (option_map script_of) at)
 
   -- each worker unlocks a mutex only where it holds it
-  turns : (place : ℕ) → IsOfKind plan place kinds.Mutex → (c : ℕ) → OnlyHolder false (by c (journal_of r (number_at place)))
-  turns place mutex c = subst (λ (es : List ObjectEntry). OnlyHolder false es) (lawful.once c (number_at place)) (by_line (slice_get_cases lines c).1) where
-    by_line : ((line : Line) × (c < length lines) × (slice_get lines c ≡ Some line) × (get_or lines c line ≡ line)) ⊎ ((length lines ≤ c) × (slice_get lines c ≡ None)) → OnlyHolder false (entries_in (number_at place) (list_of r c))
-    by_line (inl (line, within, at, is)) = subst (λ (l : List Made). OnlyHolder false (entries_in (number_at place) l)) (sym (list_at c line at))
+  turns : (place : ℕ) → IsOfKind plan place kinds.Mutex → (c : ℕ) → OnlyHolder false (by c (journal_of r (object_number place)))
+  turns place mutex c = subst (λ (es : List ObjectEntry). OnlyHolder false es) (lawful.once c (object_number place)) (by_line (slice_get_cases lines c).1) where
+    by_line : ((line : Line) × (c < length lines) × (slice_get lines c ≡ Some line) × (get_or lines c line ≡ line)) ⊎ ((length lines ≤ c) × (slice_get lines c ≡ None)) → OnlyHolder false (entries_in (object_number place) (list_of r c))
+    by_line (inl (line, within, at, is)) = subst (λ (l : List Made). OnlyHolder false (entries_in (object_number place) l)) (sym (list_at c line at))
         (line_turns plan keeps.plain place mutex c line (are.each c line at) (list_all_at (keeps_lock place false) plan.scripts c (script_of line) (keeps.locks place mutex.0 mutex.1 mutex.2) (script_at c line at)))
-    by_line (inr (past, none)) = subst (λ (l : List Made). OnlyHolder false (entries_in (number_at place) l)) (sym (list_past c none)) tt
+    by_line (inr (past, none)) = subst (λ (l : List Made). OnlyHolder false (entries_in (object_number place) l)) (sym (list_past c none)) tt
 
   -- so no entry of a mutex is a misuse
-  uses : (place : ℕ) → IsOfKind plan place kinds.Mutex → AreUses (journal_of r (number_at place))
-  uses place mutex = journal_uses keeps_valid plan.workers (journal_of r (number_at place)) (starts_valid plan.workers) (subst (λ kind. IsJournalOf plan place kind (journal_of r (number_at place))) mutex.2 (lawful.journals place mutex.0 mutex.1)) (turns place mutex)
+  uses : (place : ℕ) → IsOfKind plan place kinds.Mutex → AreUses (journal_of r (object_number place))
+  uses place mutex = journal_uses keeps_valid plan.workers (journal_of r (object_number place)) (starts_valid plan.workers) (subst (λ kind. IsJournalOf plan place kind (journal_of r (object_number place))) mutex.2 (lawful.journals place mutex.0 mutex.1)) (turns place mutex)
 
   -- and so no call is one
   no_call : (worker : ℕ) (line : Line) → slice_get lines worker ≡ Some line → (call : Call) (items before behind : List Made) (m : Misuse) → list_of r worker ≡ before ++ (items ++ behind) → PlainCall plan call items (Done (Err m)) → ⊥
@@ -134,7 +134,7 @@ module _ (keeps_valid : (s : State) (c : ℕ) (e : MutexEvent) → IsValid s →
   no_call worker line at call items before behind m is (on_range kind asks cursor) = false≢true (sym (ap (is_err {O = Reply ℕ}) cursor.answers))
   no_call worker line at call items before behind m is (on_atomic type op kind asks one) = false≢true (sym (ap (is_err {O = Reply ℕ}) one.answers))
   no_call worker line at call items before behind m is (on_mutex op kind asks (given, (entries, are_items, spelt), gives)) =
-      let object = number_at call.object in
+      let object = object_number call.object in
       let listed : AreUses (entries_in object (before ++ (items ++ behind))) = subst (λ (l : List Made). AreUses (entries_in object l)) is (subst AreUses (sym (lawful.once worker object)) (uses_by worker (journal_of r object) (uses call.object kind))) in
       let behind_them = each_right (λ (x : ObjectEntry). IsUse x.deed) (entries_in object before) (entries_in object (items ++ behind)) (subst AreUses (entries_append object before (items ++ behind)) listed) in
       let own = each_left (λ (x : ObjectEntry). IsUse x.deed) (entries_in object items) (entries_in object behind) (subst AreUses (entries_append object items behind) behind_them) in

@@ -32,7 +32,7 @@ use Rattle.run_record.specs.Calls.{call_on, call_at, SpellsCall}
 use Rattle.run_record.specs.MutexKind.{mutex_call}
 use Rattle.run_record.specs.Objects.{map_number, atomic_number}
 use Rattle.run_record.specs.Parts.{Places}
-use Rattle.run_record.specs.Record.{number_at}
+use Rattle.run_record.specs.Record.{object_number}
 use Rattle.run_laws.specs.Locks.{is_plain, has_plain_objects}
 
 pub list_all_at : {A : Type 0} (p : A → Bool) (xs : List A) (i : ℕ) (x : A) → list_all p xs ≡ true → slice_get xs i ≡ Some x → p x ≡ true
@@ -73,7 +73,7 @@ pub data PlainCall (plan : Plan) (call : Call) (items : List Made) (answer : Cal
   on_range : IsOfKind plan call.object kinds.Map → call.operation ≡ operations.Range → CursorItems items answer → PlainCall plan call items answer
   on_atomic : (type : AtomicKind) (a : AtomicCall) → IsOfKind plan call.object (kinds.Atomic type) → call.operation ≡ operations.Atomic a
       → OneItem (calls.Atomic (atomic_number plan.objects call.object) a) items answer → PlainCall plan call items answer
-  on_mutex : (m : MutexCall) → IsOfKind plan call.object kinds.Mutex → call.operation ≡ operations.Mutex m → mutex_call (number_at call.object) m items answer → PlainCall plan call items answer
+  on_mutex : (m : MutexCall) → IsOfKind plan call.object kinds.Mutex → call.operation ≡ operations.Mutex m → mutex_call (object_number call.object) m items answer → PlainCall plan call items answer
 
 -- what was asked and answered
 abbrev told : Item → SharedCall × SharedReply

@@ -21,7 +21,7 @@ use Rattle.run_record.specs.Example.{plan, example, store_call, load_call, store
 use Rattle.run_record.specs.Explains.{IsRecordOf, AreLines, Explains}
 use Rattle.run_record.specs.Lines.{Line, whole, IsLineOf}
 use Rattle.run_record.specs.Objects.{contents_of}
-use Rattle.run_record.specs.Record.{number_at, journal_of, list_of, calls_of, shared_in, entries_in, front_of}
+use Rattle.run_record.specs.Record.{object_number, journal_of, list_of, calls_of, shared_in, entries_in, front_of}
 
 -- there are two calls on maps and atomics
 two_calls : (P : ℕ → ℕ → Item → Type 0) → P 0 0 store_item → P 0 1 load_item → (c j : ℕ) (x : Item) → slice_get (calls_of example c) j ≡ Some x → P c j x
@@ -106,8 +106,8 @@ shared_lawful = record {
   ranges = λ c b m x at is. absurd (false≢true (two_calls (λ c b x. x.call ≡ shared.Begin m → false ≡ true) (ap is_cursors) (ap is_cursors) c b x at is));
 }
 
-journals : (place : ℕ) (object : ObjectLine) → slice_get plan.objects place ≡ Some object → IsJournalOf plan place object.kind (journal_of example (number_at place))
-journals zero object at = subst (λ (o : ObjectLine). IsJournalOf plan 0 o.kind (journal_of example (number_at 0))) (ap (λ (o : Option ObjectLine). unwrap_or o object) at) refl
+journals : (place : ℕ) (object : ObjectLine) → slice_get plan.objects place ≡ Some object → IsJournalOf plan place object.kind (journal_of example (object_number place))
+journals zero object at = subst (λ (o : ObjectLine). IsJournalOf plan 0 o.kind (journal_of example (object_number 0))) (ap (λ (o : Option ObjectLine). unwrap_or o object) at) refl
 journals (suc place) object at = absurd (none-some object at)
 
 once : (worker object : ℕ) → entries_in object (list_of example worker) ≡ by worker (journal_of example object)

@@ -20,7 +20,7 @@ use Rattle.run_record.specs.Calls.{IsJournalOf}
 use Rattle.run_record.specs.Explains.{IsRecordOf}
 use Rattle.run_record.specs.Journals.{IsStops, FollowsFrom}
 use Rattle.run_record.specs.Parts.{lifted, lifted_deed}
-use Rattle.run_record.specs.Record.{Record, ObjectEntry, stop, number_at, journal_of}
+use Rattle.run_record.specs.Record.{Record, ObjectEntry, stop, object_number, journal_of}
 use Rattle.run_record.proofs.Having.{Has, has_mapped, has_map, place_of}
 use Rattle.run_record.proofs.ListLemmas.{get_past}
 use Rattle.run_record.proofs.PartLemmas.{IsRefusal}
@@ -124,13 +124,13 @@ of_stop m journal stops has = let at = place_of (IsRefusal m) journal has in
     false≢true (ap is_refused (sym halt.1 ∙ at.3.1))
 
 module _ (plan : Plan) (r : Record) (lawful : IsRecordOf plan r) where
-  at_place : (m : Misuse) (place : ℕ) → Has (IsRefusal m) (journal_of r (number_at place)) → Has (IsHaltBy m) (journal_of r (number_at place))
+  at_place : (m : Misuse) (place : ℕ) → Has (IsRefusal m) (journal_of r (object_number place)) → Has (IsHaltBy m) (journal_of r (object_number place))
   at_place m place = by_case (slice_get_cases plan.objects place).1 where
-    by_case : ((object : ObjectLine) × (place < length plan.objects) × (slice_get plan.objects place ≡ Some object) × (get_or plan.objects place object ≡ object)) ⊎ ((length plan.objects ≤ place) × (slice_get plan.objects place ≡ None)) → Has (IsRefusal m) (journal_of r (number_at place)) → Has (IsHaltBy m) (journal_of r (number_at place))
-    by_case (inl (object, within, some, is)) has = of_kind m plan place object.kind (journal_of r (number_at place)) (lawful.journals place object some) has
-    by_case (inr (past, none)) has = absurd (subst (λ (xs : List ObjectEntry). Has (IsRefusal m) xs) (get_past r.journals (number_at place) (omega (arith, past, lawful.objects))) has)
+    by_case : ((object : ObjectLine) × (place < length plan.objects) × (slice_get plan.objects place ≡ Some object) × (get_or plan.objects place object ≡ object)) ⊎ ((length plan.objects ≤ place) × (slice_get plan.objects place ≡ None)) → Has (IsRefusal m) (journal_of r (object_number place)) → Has (IsHaltBy m) (journal_of r (object_number place))
+    by_case (inl (object, within, some, is)) has = of_kind m plan place object.kind (journal_of r (object_number place)) (lawful.journals place object some) has
+    by_case (inr (past, none)) has = absurd (subst (λ (xs : List ObjectEntry). Has (IsRefusal m) xs) (get_past r.journals (object_number place) (omega (arith, past, lawful.objects))) has)
 
   -- whatever the object, whoever is refused comes behind a halt by the same misuse
   pub refusal_has : (m : Misuse) (object : ℕ) → Has (IsRefusal m) (journal_of r object) → Has (IsHaltBy m) (journal_of r object)
   refusal_has m zero has = absurd (of_stop m (journal_of r stop) lawful.stops has)
-  refusal_has m (suc place) has = let e : number_at place ≡ suc place = omega arith in subst (λ n. Has (IsHaltBy m) (journal_of r n)) e (at_place m place (subst (λ n. Has (IsRefusal m) (journal_of r n)) (sym e) has))
+  refusal_has m (suc place) has = let e : object_number place ≡ suc place = omega arith in subst (λ n. Has (IsHaltBy m) (journal_of r n)) e (at_place m place (subst (λ n. Has (IsRefusal m) (journal_of r n)) (sym e) has))

@@ -11,7 +11,7 @@ use Rattle.run_record.specs.declared.entered.ObjectReply.TheVariants as reply
 use Rattle.run_record.specs.Calls.{IsJournalOf}
 use Rattle.run_record.specs.Edges.{frees, takes}
 use Rattle.run_record.specs.Explains.{IsRecordOf}
-use Rattle.run_record.specs.Record.{Record, ObjectEntry, number_at, journal_of}
+use Rattle.run_record.specs.Record.{Record, ObjectEntry, object_number, journal_of}
 use Rattle.run_record.proofs.Lifts.{edges_lifted}
 
 abbrev pub Keeps : List ObjectEntry → Type 0
@@ -38,5 +38,5 @@ of_kind plan place (kinds.OnceValue value) journal is = from is.1 (edges_lifted 
 of_kind plan place kinds.Pool journal is = from is.1 (edges_lifted event.Pool reply.Pool frees takes is.0 is.3)
 
 -- the journal of an object of a known kind
-pub journal_at : (plan : Plan) (r : Record) (place : ℕ) (object : ObjectLine) (kind : ObjectKind) → IsRecordOf plan r → slice_get plan.objects place ≡ Some object → object.kind ≡ kind → IsJournalOf plan place kind (journal_of r (number_at place))
-journal_at plan r place object kind lawful some is = subst (λ (k : ObjectKind). IsJournalOf plan place k (journal_of r (number_at place))) is (lawful.journals place object some)
+pub journal_at : (plan : Plan) (r : Record) (place : ℕ) (object : ObjectLine) (kind : ObjectKind) → IsRecordOf plan r → slice_get plan.objects place ≡ Some object → object.kind ≡ kind → IsJournalOf plan place kind (journal_of r (object_number place))
+journal_at plan r place object kind lawful some is = subst (λ (k : ObjectKind). IsJournalOf plan place k (journal_of r (object_number place))) is (lawful.journals place object some)

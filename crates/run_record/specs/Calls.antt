@@ -18,7 +18,7 @@ use Rattle.run_record.specs.Objects.{map_number, atomic_number}
 use Rattle.run_record.specs.OnceKind.{do_call, func_call, value_call, IsOnceJournal, IsOnceFuncJournal, IsOnceValueJournal}
 use Rattle.run_record.specs.Parts.{Part, never}
 use Rattle.run_record.specs.PoolKind.{pool_call, IsPoolJournal}
-use Rattle.run_record.specs.Record.{ObjectEntry, number_at}
+use Rattle.run_record.specs.Record.{ObjectEntry, object_number}
 use Rattle.run_record.specs.RwMutexKind.{rw_mutex_call, IsRwMutexJournal}
 use Rattle.run_record.specs.WaitGroupKind.{wait_group_call, IsWaitGroupJournal}
 
@@ -27,14 +27,14 @@ abbrev pub call_on : Plan → (worker before place : ℕ) → ObjectKind → Ope
 call_on plan worker before place kinds.Map (operations.Map call) = map_call (keys_in plan.scripts) (map_number plan.objects place) call
 call_on plan worker before place kinds.Map operations.Range = range_call (keys_in plan.scripts) (map_number plan.objects place) before
 call_on plan worker before place (kinds.Atomic type) (operations.Atomic call) = atomic_call (atomic_number plan.objects place) call
-call_on plan worker before place kinds.Mutex (operations.Mutex call) = mutex_call (number_at place) call
-call_on plan worker before place kinds.RwMutex (operations.RwMutex call) = rw_mutex_call (number_at place) call
-call_on plan worker before place (kinds.Cond mutex) (operations.Cond call) = cond_call (number_at place) (number_at mutex) call
-call_on plan worker before place (kinds.WaitGroup start) (operations.WaitGroup call) = wait_group_call (number_at place) call
-call_on plan worker before place (kinds.Once atomic delta) operations.Once = do_call (number_at place) (atomic_number plan.objects atomic) delta
-call_on plan worker before place (kinds.OnceFunc code) operations.OnceFunc = func_call (number_at place) code
-call_on plan worker before place (kinds.OnceValue value) operations.OnceValue = value_call (number_at place) value
-call_on plan worker before place kinds.Pool (operations.Pool call) = pool_call plan.workers worker (number_at place) call
+call_on plan worker before place kinds.Mutex (operations.Mutex call) = mutex_call (object_number place) call
+call_on plan worker before place kinds.RwMutex (operations.RwMutex call) = rw_mutex_call (object_number place) call
+call_on plan worker before place (kinds.Cond mutex) (operations.Cond call) = cond_call (object_number place) (object_number mutex) call
+call_on plan worker before place (kinds.WaitGroup start) (operations.WaitGroup call) = wait_group_call (object_number place) call
+call_on plan worker before place (kinds.Once atomic delta) operations.Once = do_call (object_number place) (atomic_number plan.objects atomic) delta
+call_on plan worker before place (kinds.OnceFunc code) operations.OnceFunc = func_call (object_number place) code
+call_on plan worker before place (kinds.OnceValue value) operations.OnceValue = value_call (object_number place) value
+call_on plan worker before place kinds.Pool (operations.Pool call) = pool_call plan.workers worker (object_number place) call
 call_on plan worker before place kind operation = never
 
 abbrev pub call_at : Plan → (worker before place : ℕ) → Option ObjectLine → Operation → Part (Reply ℕ)

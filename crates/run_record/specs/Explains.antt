@@ -14,7 +14,7 @@ use Rattle.run_record.specs.Calls.{IsJournalOf}
 use Rattle.run_record.specs.Journals.{IsStops}
 use Rattle.run_record.specs.Lines.{Line, LineEnd, whole, misused, halted, unfinished, script_of, items_of, replies_of, IsLineOf}
 use Rattle.run_record.specs.Objects.{contents_of, ends_in}
-use Rattle.run_record.specs.Record.{Record, stop, number_at, journal_of, list_of, shared_in, entries_in, calls_of, front_of}
+use Rattle.run_record.specs.Record.{Record, stop, object_number, journal_of, list_of, shared_in, entries_in, calls_of, front_of}
 
 -- The front law along a worker's list. No worker forgets what it knew, and it knows all its own earlier calls; nobody knows of a call that wasn't made.
 pub record KeepsFronts (r : Record) : Type 0 where
@@ -26,9 +26,9 @@ pub record KeepsFronts (r : Record) : Type 0 where
 pub record IsRecordOf (plan : Plan) (r : Record) : Type 0 where
   -- the history is legal, and the workers' own calls on maps and atomics explain it: the front law and the Range law are among this
   pub shared : Lawful (contents_of plan) r.history (calls_of r)
-  pub objects : length r.journals ≡ number_at (length plan.objects)
+  pub objects : length r.journals ≡ object_number (length plan.objects)
   pub stops : IsStops (journal_of r stop)
-  pub journals : (place : ℕ) (object : ObjectLine) → slice_get plan.objects place ≡ Some object → IsJournalOf plan place object.kind (journal_of r (number_at place))
+  pub journals : (place : ℕ) (object : ObjectLine) → slice_get plan.objects place ≡ Some object → IsJournalOf plan place object.kind (journal_of r (object_number place))
   -- each entry of a journal stands in exactly one list, once, which is that of its caller, in the order of the journal
   pub once : (worker object : ℕ) → entries_in object (list_of r worker) ≡ by worker (journal_of r object)
   pub fronts : KeepsFronts r

@@ -21,8 +21,8 @@ pub record Record : Type 0 where
 abbrev pub stop : ℕ
 stop = 0
 
-abbrev pub number_at : ℕ → ℕ
-number_at place = place + 1
+abbrev pub object_number : ℕ → ℕ
+object_number place = place + 1
 
 -- the journal of an object; none, where there is no object of this number
 abbrev pub journal_of : Record → ℕ → List ObjectEntry

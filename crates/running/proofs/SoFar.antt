@@ -12,7 +12,7 @@ use Rattle.protocols.specs.declared.step.Step.TheVariants.{Finished, Misused, Wa
 use Rattle.protocols.specs.Spelling.{CallAnswer, Rest, IsEventOf, Spells, IsTimely, AreTimely}
 use Rattle.protocols.specs.Steps.{IsAt, KeepsResults, GainsAtItsEnd, LeadsOn}
 use Rattle.running.specs.Calls.{Did, has_gained}
-use Rattle.running.specs.Stages.{meant, Made, StandsOn, acquires_by}
+use Rattle.running.specs.Stages.{meant, MadeStage, StandsOn, acquires_by}
 
 module _ {E R : Type 0} where
   deeds_on : (es : List (Placed E R)) (p : Placed E R) (rest : List (Deed E R)) → deeds_of (es ++ p ∷ []) ++ rest ≡ deeds_of es ++ p.entry.deed ∷ rest
@@ -184,7 +184,7 @@ module _ {S N E R G O : Type 0} (next : S → ℕ → E → S × R) (halts : Boo
 
   -- a stage more
   pub goes_on : (stage : G) (old mid new : Pass S N E R) (from middle to : List ℕ) (due later : G) (step : Step G O) → AddUp N next halts start → ((r : R) → KeepsResults gives due (meaning due r)) → ((r : R) → (acquired : Bool) × GainsAtItsEnd gains due acquired (meaning due r)) → SoFar stage old from due mid middle
-      → Made next halts start event_of moment meaning shows due mid middle (Done step) new to → IsOn step later → to ≡ middle → SoFar stage old from later new to
+      → MadeStage next halts start event_of moment meaning shows due mid middle (Done step) new to → IsOn step later → to ≡ middle → SoFar stage old from later new to
   goes_on stage old mid new from middle to due later step both keeps gained so made is front =
       let answered = reply_of event_of meaning due step made.answer made.means in
       let kept = subst (λ (s : Step G O). KeepsResults gives due s) (sym answered.1) (keeps answered.0) in
@@ -204,7 +204,7 @@ module _ {S N E R G O : Type 0} (next : S → ℕ → E → S × R) (halts : Boo
 
   -- the last stage
   pub ends : (stage : G) (old mid new : Pass S N E R) (from middle to : List ℕ) (due : G) (step : Answer (Step G O)) (answer : CallAnswer O) → AddUp N next halts start → LastTells E R → SoFar stage old from due mid middle
-      → Made next halts start event_of moment meaning shows due mid middle step new to → IsEnd step answer → Did next halts start (λ ds a. Spells event_of meaning stage ds a) (λ ds. AreTimely moment shows ds) old from answer new to
+      → MadeStage next halts start event_of moment meaning shows due mid middle step new to → IsEnd step answer → Did next halts start (λ ds a. Spells event_of meaning stage ds a) (λ ds. AreTimely moment shows ds) old from answer new to
   ends stage old mid new from middle to due step answer both tells so made end = record {
     entries = so.entries ++ made.one ∷ [];
     grows = both old mid new so.entries (made.one ∷ []) from middle to so.grows made.grows;
@@ -216,15 +216,15 @@ module _ {S N E R G O : Type 0} (next : S → ℕ → E → S × R) (halts : Boo
 
   -- the same, by what one stage came to: it goes on, or it ends the call
   pub on_by : (stage : G) (old mid new : Pass S N E R) (from middle to : List ℕ) (due later : G) (came : Answer (Step G O)) (step : Step G O) → AddUp N next halts start → ((r : R) → KeepsResults gives due (meaning due r)) → ((r : R) → (acquired : Bool) × GainsAtItsEnd gains due acquired (meaning due r)) → SoFar stage old from due mid middle
-      → Made next halts start event_of moment meaning shows due mid middle came new to → (acquires_by (gains due) came ≡ false → to ≡ middle) → came ≡ Done step → IsOn step later → SoFar stage old from later new to
+      → MadeStage next halts start event_of moment meaning shows due mid middle came new to → (acquires_by (gains due) came ≡ false → to ≡ middle) → came ≡ Done step → IsOn step later → SoFar stage old from later new to
   on_by stage old mid new from middle to due later came step both keeps gained so made quiet is on =
-      goes_on stage old mid new from middle to due later step both keeps gained so (subst (λ (a : Answer (Step G O)). Made next halts start event_of moment meaning shows due mid middle a new to) is made) on
+      goes_on stage old mid new from middle to due later step both keeps gained so (subst (λ (a : Answer (Step G O)). MadeStage next halts start event_of moment meaning shows due mid middle a new to) is made) on
       (quiet (ap (λ (a : Answer (Step G O)). acquires_by (gains due) a) is ∙ on_quiet (gains due) step later on))
 
   pub ends_at : (stage : G) (old mid new : Pass S N E R) (from middle to : List ℕ) (due : G) (came step : Answer (Step G O)) (answer : CallAnswer O) → AddUp N next halts start → LastTells E R → SoFar stage old from due mid middle
-      → Made next halts start event_of moment meaning shows due mid middle came new to → came ≡ step → IsEnd step answer → Did next halts start (λ ds a. Spells event_of meaning stage ds a) (λ ds. AreTimely moment shows ds) old from answer new to
+      → MadeStage next halts start event_of moment meaning shows due mid middle came new to → came ≡ step → IsEnd step answer → Did next halts start (λ ds a. Spells event_of meaning stage ds a) (λ ds. AreTimely moment shows ds) old from answer new to
   ends_at stage old mid new from middle to due came step answer both tells so made is end =
-      ends stage old mid new from middle to due step answer both tells so (subst (λ (a : Answer (Step G O)). Made next halts start event_of moment meaning shows due mid middle a new to) is made) end
+      ends stage old mid new from middle to due step answer both tells so (subst (λ (a : Answer (Step G O)). MadeStage next halts start event_of moment meaning shows due mid middle a new to) is made) end
 
   -- the rest of a call, from the stage that is due, makes the call whole
   pub joined : (stage : G) (old mid new : Pass S N E R) (from middle to : List ℕ) (due : G) (answer : CallAnswer O) → AddUp N next halts start → SoFar stage old from due mid middle
@@ -240,7 +240,7 @@ module _ {S N E R G O : Type 0} (next : S → ℕ → E → S × R) (halts : Boo
 
   -- The first stage didn't end the call, and the rest was made from a later one: the call is made whole.
   pub went_on : (stage : G) (old mid new : Pass S N E R) (from middle to : List ℕ) (later : G) (came : Answer (Step G O)) (step : Step G O) (answer : CallAnswer O) → AddUp N next halts start → ((r : R) → KeepsResults gives stage (meaning stage r))
-      → ((r : R) → (acquired : Bool) × GainsAtItsEnd gains stage acquired (meaning stage r)) → Grows next halts start old from [] old from → Made next halts start event_of moment meaning shows stage old from came mid middle → (acquires_by (gains stage) came ≡ false → middle ≡ from) → came ≡ Done step → IsOn step later
+      → ((r : R) → (acquired : Bool) × GainsAtItsEnd gains stage acquired (meaning stage r)) → Grows next halts start old from [] old from → MadeStage next halts start event_of moment meaning shows stage old from came mid middle → (acquires_by (gains stage) came ≡ false → middle ≡ from) → came ≡ Done step → IsOn step later
       → Did next halts start (λ ds a. Spells event_of meaning later ds a) (λ ds. AreTimely moment shows ds) mid middle answer new to → (has_gained (gains later) answer ≡ false → to ≡ middle)
       → Did next halts start (λ ds a. Spells event_of meaning stage ds a) (λ ds. AreTimely moment shows ds) old from answer new to × (has_gained (gains stage) answer ≡ false → to ≡ from)
   went_on stage old mid new from middle to later came step answer both keeps gained nothing made quiet is on did rest =

@@ -5,7 +5,7 @@ ghost use Rattle.ruled_object.specs.Passes.{own_by, callers_of, start_of, IsHome
 ghost use Rattle.ruled_object.specs.Standing.{stand_by};
 ghost use Rattle.protocols.specs.Spelling.{IsEventOf};
 ghost use Rattle.protocols.specs.Steps.{IsAt};
-ghost use Rattle.running.specs.Stages.{Made, MayCome, StandsOn, acquires_by};
+ghost use Rattle.running.specs.Stages.{MadeStage, MayCome, StandsOn, acquires_by};
 
 use protocols::{Protocol, Step};
 use ruled_object::laws::standing;
@@ -45,7 +45,7 @@ pub(crate) fn make<P: Protocol, N: Note, C: Clock, R: Wait>(
     requires home { IsHomeOf N.at object.now at.now.home.now × N.at at.now.home.now note.old }
     ensures pass { IsPassOf object.now pass.new × SamePass pass.old pass.new }
     ensures note { KeepsNote N.at N.own N.front note.old note.new }
-    ensures made { Made P.next P.HALTS (start_of object.now) P.event P.moment P.meaning (C.shows at.now.clock.now) stage pass.old (N.front note.old) result pass.new (N.front note.new) }
+    ensures made { MadeStage P.next P.HALTS (start_of object.now) P.event P.moment P.meaning (C.shows at.now.clock.now) stage pass.old (N.front note.old) result pass.new (N.front note.new) }
     ensures expected { MayCome result }
     ensures stands { StandsOn P.out P.left (P.allows (start_of object.now)) (stand_by P.out P.stands (own_by pass.new)) result }
     ensures no_edge { acquires_by (P.gains stage) result ≡ false → N.front note.new ≡ N.front note.old }

@@ -17,7 +17,7 @@ use Rattle.shared_table.specs.declared.table.SharedTable.{SharedTable}
 use Rattle.table_rule.specs.declared.view.Own.{Own}
 use Rattle.table_rule.specs.declared.view.View.{View}
 use Rattle.shared_table.specs.Notes.{IsNoteOf, IsOperationOn}
-use Rattle.table_seats.specs.Operations.{Places, Operates}
+use Rattle.table_seats.specs.Operations.{PlacesCall, Operates}
 use Rattle.table_rule.specs.Views.{held_in, with_item, called_view, IsIdle}
 
 pub some_own : (n : ℕ) (owns : List Own) → IsSome (held_in n owns) → 0 < length owns
@@ -34,7 +34,7 @@ drafts (first ∷ owns) x all zero own at = subst (λ (o : Own). o.draft ≡ [])
 drafts (first ∷ owns) x all (suc i) own at = all (suc i) own at
 
 -- the note is still a note of its home
-pub note_on : (home : SharedTable) (old new : SharedNote) (call : SharedCall) (reply : SharedReply) → IsNoteOf home old → new.seat.table_id ≡ old.seat.table_id → new.seat.me.1 ≡ old.seat.me.1 → Places call reply old.seat.me.0 new.seat.me.0 → IsNoteOf home new
+pub note_on : (home : SharedTable) (old new : SharedNote) (call : SharedCall) (reply : SharedReply) → IsNoteOf home old → new.seat.table_id ≡ old.seat.table_id → new.seat.me.1 ≡ old.seat.me.1 → PlacesCall call reply old.seat.me.0 new.seat.me.0 → IsNoteOf home new
 note_on home old new call reply is table_is empty places =
     let v = old.seat.me.0 in
     let w = called_view v (with_item v.owns places.item) places.seen in

@@ -15,7 +15,7 @@ use Rattle.table_rule.specs.declared.view.View.{View}
 use Rattle.table_rule.specs.declared.view.Walk.{Walk}
 use Rattle.sync_types.specs.KeyCalls.{is_key_entry, key_reply}
 use Rattle.trie_nodes.specs.declared.slot.Slot.TheVariants.{Empty, Node, Entry}
-use Rattle.table_seats.specs.Making.{Made}
+use Rattle.table_seats.specs.Making.{MadeCall}
 use Rattle.shared_table.specs.MapCalls.{IsWriting, IsEnd, IsReached}
 use Rattle.table_rule.specs.Shape.{start_of}
 use Rattle.table_rule.specs.Views.{with_item, paid, called_view, view_state}
@@ -114,7 +114,7 @@ pub answers_on : (m : ℕ) (call : MapCall ℕ) (reply : MapReply) (words : ℕ)
 answers_on m call reply words v u w walk is a = let b = subst (λ z. Answers m call reply words None z w) is a in record { item = b.item; seen = b.seen; is = b.is; called = b.called }
 
 -- a call inside the gate, between coming in and going out
-pub made_between : (k : Begin) (m : ℕ) (call : MapCall ℕ) (reply : MapReply) (words : ℕ) (first : Me (Unit {0}) View) (inside before after : View) → IsFree k first → inside ≡ holding first.0 (Inside m) None None → Answers m call reply words None inside before → after ≡ holding before Outside None None → Made m call reply words first.0 after
+pub made_between : (k : Begin) (m : ℕ) (call : MapCall ℕ) (reply : MapReply) (words : ℕ) (first : Me (Unit {0}) View) (inside before after : View) → IsFree k first → inside ≡ holding first.0 (Inside m) None None → Answers m call reply words None inside before → after ≡ holding before Outside None None → MadeCall m call reply words first.0 after
 made_between k m call reply words first inside before after free came made went =
     let a = subst (λ z. Answers m call reply words None z before) came made in
     let idle = free.idle in

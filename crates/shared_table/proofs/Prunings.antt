@@ -6,7 +6,7 @@ use Rattle.table_rule.specs.declared.begin.Begin.{Begin}
 use Rattle.table_rule.specs.declared.view.Lock.{Lock}
 use Rattle.table_rule.specs.declared.view.View.{View}
 use Rattle.table_seats.specs.Pruning.{marked, upper_lock, SeesSlot, LooksAtSlot, ReadsParent, TriedUpper, HoldsBoth, Marks, CutsOff}
-use Rattle.shared_table.specs.Pruning.{knowing, LooksAtSlots, HoldsAt, ComesTo}
+use Rattle.shared_table.specs.Pruning.{knowing, LooksAtSlots, HoldsAt, NowHolds}
 use Rattle.trie_nodes.specs.Paths.{nibble}
 use Rattle.trie_nodes.specs.Plans.{HasOnlyEmptySlots}
 use Rattle.table_seats.specs.Walking.{HasWords}
@@ -111,7 +111,7 @@ module _ (k : Begin) (first : Me (Unit {0}) View) (key node level : ℕ) (holds 
   pub holds_lock : (z : Lock) × (z.node ≡ node) × (z.empty ≡ 0) × Holds k first z
   holds_lock = (holds.lock, holds.at.1, holds.fresh, holds.holds)
 
-  pub stays_there : (words : List ℕ) (me : Me (Unit {0}) View) → ((z : Lock) → first.0.lock ≡ Some z → LooksAtSlots z words first me) → ComesTo node first me
+  pub stays_there : (words : List ℕ) (me : Me (Unit {0}) View) → ((z : Lock) → first.0.lock ≡ Some z → LooksAtSlots z words first me) → NowHolds node first me
   stays_there words me looked = let t = looked l locked in record { slots = t.slots; lock = knowing l t.empty; node_is = holds.at.1; living = holds.holds.living; is = t.is; words = holds.words }
 
   abbrev pub Looked : Me (Unit {0}) View → Type 0
@@ -196,7 +196,7 @@ module _ (k : Begin) (first : Me (Unit {0}) View) (key node level : ℕ) (holds 
     pub is_cut : (me after : Me (Unit {0}) View) → Marked me → CutsOff me after → Cut after
     is_cut me after (up, is) told = let t = subst (λ m. CutsOff m after) is told in let e = t.1 (upper_lock l up) refl in (up, λ i. (e i, t.0 i))
 
-    pub comes_up : (me : Me (Unit {0}) View) (parent : ℕ) → Cut me → parent ≡ holds.lock.up → HasWords first.0 parent 18 → ComesTo parent first me × HoldsAt k me key parent (level - 1)
+    pub comes_up : (me : Me (Unit {0}) View) (parent : ℕ) → Cut me → parent ≡ holds.lock.up → HasWords first.0 parent 18 → NowHolds parent first me × HoldsAt k me key parent (level - 1)
     comes_up me parent (up, is) parent_is has = let h = holds.holds in (
       record { slots = ap (λ (m : Me (Unit {0}) View). m.1) is; lock = upper_lock l up; node_is = sym parent_is; living = refl; is = ap (λ (m : Me (Unit {0}) View). m.0) is; words = has },
       subst (λ m. HoldsAt k m key parent (level - 1)) (sym is) record {
@@ -209,7 +209,7 @@ module _ (k : Begin) (first : Me (Unit {0}) View) (key node level : ℕ) (holds 
     )
 
 -- a seat that goes on from where it came to
-pub comes_on : (node next : ℕ) (first me after : Me (Unit {0}) View) → ComesTo node first me → ComesTo next me after → ComesTo next first after
+pub comes_on : (node next : ℕ) (first me after : Me (Unit {0}) View) → NowHolds node first me → NowHolds next me after → NowHolds next first after
 comes_on node next first me after one two = record {
   slots = two.slots ∙ one.slots;
   lock = two.lock;
@@ -219,7 +219,7 @@ comes_on node next first me after one two = record {
   words = subst (λ v. HasWords v next 18) one.is two.words;
 }
 
-pub comes_first : (k : Begin) (first : Me (Unit {0}) View) (key node level : ℕ) → HoldsAt k first key node level → ComesTo node first first
+pub comes_first : (k : Begin) (first : Me (Unit {0}) View) (key node level : ℕ) → HoldsAt k first key node level → NowHolds node first first
 comes_first k first key node level holds = record {
   slots = refl;
   lock = holds.lock;

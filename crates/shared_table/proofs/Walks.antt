@@ -14,7 +14,7 @@ use Rattle.table_rule.specs.declared.view.Leaf.{Leaf}
 use Rattle.table_rule.specs.declared.view.View.{View}
 use Rattle.table_rule.specs.declared.view.Walk.{Walk}
 use Rattle.trie_nodes.specs.declared.slot.Slot.TheVariants.{Empty, Node, Entry}
-use Rattle.table_seats.specs.Operations.{Places}
+use Rattle.table_seats.specs.Operations.{PlacesCall}
 use Rattle.table_rule.specs.Shape.{start_of}
 use Rattle.table_rule.specs.Views.{with_item, called_view, view_state}
 use Rattle.table_seats.specs.Walking.{standing, walk_at, given_by, HasWords, Answers, FindsIn, IsFree, OnWay, AtEntry}
@@ -41,7 +41,7 @@ module _ (k : Begin) (first : Me (Unit {0}) View) (free : IsFree k first) (m key
   words_there me node level at = subst (λ (u : View). HasWords u node 18) (sym at.view) at.words
 
   -- the call was placed on the way
-  placed : (walk : Option Walk) (leaf : Option Leaf) (reply : MapReply) (mid last : View) → Answers m (Load key) reply 0 leaf (standing first.0 walk first.0.leaf) mid → last ≡ standing mid None None → Places (calls.Map m (Load key)) (replies.Map reply) first.0 last
+  placed : (walk : Option Walk) (leaf : Option Leaf) (reply : MapReply) (mid last : View) → Answers m (Load key) reply 0 leaf (standing first.0 walk first.0.leaf) mid → last ≡ standing mid None None → PlacesCall (calls.Map m (Load key)) (replies.Map reply) first.0 last
   placed walk leaf reply mid last a is = record {
     item = a.item;
     seen = a.seen;
@@ -59,7 +59,7 @@ module _ (k : Begin) (first : Me (Unit {0}) View) (free : IsFree k first) (m key
     pub goes_on : (below : ℕ) → FindsIn (Load key) (walk_at m key node level (length me.0.seen)) (Node below) me.0 after.0 → IsAt first m key after below (suc level) × (suc level < 8)
     goes_on below found = let f : FindsIn (Load key) (walk here) (Node below) here after.0 = subst (λ (u : View). FindsIn (Load key) (walk u) (Node below) u after.0) at.view found in (record { slots = same ∙ at.slots; view = f.0; words = f.1 }, f.2)
 
-    pub finds_none : FindsIn (Load key) (walk_at m key node level (length me.0.seen)) Empty me.0 after.0 → (after.1 ≡ first.1) × Places (calls.Map m (Load key)) (replies.Map (Found None)) first.0 after.0
+    pub finds_none : FindsIn (Load key) (walk_at m key node level (length me.0.seen)) Empty me.0 after.0 → (after.1 ≡ first.1) × PlacesCall (calls.Map m (Load key)) (replies.Map (Found None)) first.0 after.0
     finds_none found =
         let f : FindsIn (Load key) (walk here) Empty here after.0 = subst (λ (u : View). FindsIn (Load key) (walk u) Empty u after.0) at.view found in
         let whole : after.0 ≡ standing after.0 None None = f.is ∙ (λ i. standing (called_view here (with_item here.owns f.item) f.seen) None (free.idle.leaf i)) ∙ ap (λ u. standing u None None) (sym f.is) in
@@ -78,11 +78,11 @@ module _ (k : Begin) (first : Me (Unit {0}) View) (free : IsFree k first) (m key
         )
 
     pub finds : (place : ℕ) (value : Option ℕ) (last : Me (Unit {0}) View) → Knows place → (last.1 ≡ after.1) × (last.0 ≡ standing after.0 after.0.walk None) → ((l : Leaf) → after.0.leaf ≡ Some l → value ≡ given_by l key)
-        → (last.1 ≡ first.1) × Places (calls.Map m (Load key)) (replies.Map (Found value)) first.0 last.0
+        → (last.1 ≡ first.1) × PlacesCall (calls.Map m (Load key)) (replies.Map (Found value)) first.0 last.0
     finds place value last found left gives =
         let f : FindsIn (Load key) (walk here) (Entry place) here after.0 = subst (λ (u : View). FindsIn (Load key) (walk u) (Entry place) u after.0) at.view found in
         let whole : last.0 ≡ standing after.0 None None = left.1 ∙ ap (λ w. standing after.0 w None) (ap (λ (u : View). u.walk) f.4.is) in
         let is_value = gives f.0 (ap (λ (u : View). u.leaf) f.4.is) in (
           left.0 ∙ same ∙ at.slots,
-          subst (λ o. Places (calls.Map m (Load key)) (replies.Map (Found o)) first.0 last.0) (sym is_value) (placed (Some (walk here)) (Some f.0) (Found (given_by f.0 key)) after.0 last.0 f.4 whole),
+          subst (λ o. PlacesCall (calls.Map m (Load key)) (replies.Map (Found o)) first.0 last.0) (sym is_value) (placed (Some (walk here)) (Some f.0) (Found (given_by f.0 key)) after.0 last.0 f.4 whole),
         )

@@ -31,7 +31,7 @@ pub record HoldsAt (k : Begin) (me : Me (Unit {0}) View) (key node level : ℕ) 
   pub words : HasWords me.0 node 18
 
 -- a seat holds the lock of a node, and else has what it had
-pub record ComesTo (node : ℕ) (before after : Me (Unit {0}) View) : Type 0 where
+pub record NowHolds (node : ℕ) (before after : Me (Unit {0}) View) : Type 0 where
   pub slots : after.1 ≡ before.1
   pub lock : Lock
   pub node_is : lock.node ≡ node
@@ -41,5 +41,5 @@ pub record ComesTo (node : ℕ) (before after : Me (Unit {0}) View) : Type 0 whe
 
 -- a node was cut off, and the seat holds the lock of its parent; or it stays, and the seat holds its lock still
 abbrev pub PrunesAt : Begin → ℕ → ℕ → ℕ → Option ℕ → Me (Unit {0}) View → Me (Unit {0}) View → Type 0
-PrunesAt k key node level None before after = ComesTo node before after
-PrunesAt k key node level (Some parent) before after = ComesTo parent before after × HoldsAt k after key parent (level - 1)
+PrunesAt k key node level None before after = NowHolds node before after
+PrunesAt k key node level (Some parent) before after = NowHolds parent before after × HoldsAt k after key parent (level - 1)

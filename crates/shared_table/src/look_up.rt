@@ -7,7 +7,7 @@ ghost use Rattle.sync_types.specs.declared.map_object.MapReply.TheVariants.{Foun
 ghost use Rattle.sync_model.specs.Note.{SameHome};
 ghost use Rattle.sync_model.specs.Shared.{Called, state_of};
 ghost use Rattle.table_rule.specs.declared.view.Leaf.{Leaf};
-ghost use Rattle.table_seats.specs.Operations.{Places};
+ghost use Rattle.table_seats.specs.Operations.{PlacesCall};
 ghost use Rattle.table_seats.specs.Seats.{begin_of, IsSeatOf};
 ghost use Rattle.table_seats.specs.Walking.{standing, given_by, HasWords, IsFree, AtEntry};
 ghost use Rattle.shared_table.specs.Notes.{front_by, own_by, seen_by, IsNoteOf};
@@ -54,7 +54,7 @@ impl SharedTable {
         requires free { IsFree (begin_of self.now.words) seat.old.me }
         requires map { map < maps_of self.now }
         ensures table { seat.new.table_id ≡ seat.old.table_id }
-        ensures called { (seat.new.me.1 ≡ seat.old.me.1) × Places (calls.Map map (Load key)) (replies.Map (Found result)) seat.old.me.0 seat.new.me.0 }
+        ensures called { (seat.new.me.1 ≡ seat.old.me.1) × PlacesCall (calls.Map map (Load key)) (replies.Map (Found result)) seat.old.me.0 seat.new.me.0 }
         ensures cost { steps.new ≤ steps.old + 11 }
     {
         steps.tick();

@@ -1,7 +1,7 @@
 //! Pruning: a node below the root that was left empty is cut off, and then its parent in the same way, where that is empty now.
 ghost use Rattle.std.specs.Prelude.{◌≡◌, ◌<◌, true, Some, None, IsSome};
 ghost use Rattle.table_rule.specs.declared.view.Lock.{Lock};
-ghost use Rattle.shared_table.specs.Pruning.{LooksAtSlots, HoldsAt, ComesTo, PrunesAt};
+ghost use Rattle.shared_table.specs.Pruning.{LooksAtSlots, HoldsAt, NowHolds, PrunesAt};
 ghost use Rattle.sync_types.specs.SequentialMap.{map_key};
 ghost use Rattle.table_seats.specs.Pruning.{TriedUpper};
 ghost use Rattle.table_seats.specs.Seats.{begin_of, IsSeatOf};
@@ -101,7 +101,7 @@ impl SharedTable {
         requires level { level < 8 }
         requires caller { caller ≡ seat.old.me.0.number }
         ensures table { seat.new.table_id ≡ seat.old.table_id }
-        ensures pruned { ComesTo result seat.old.me seat.new.me }
+        ensures pruned { NowHolds result seat.old.me seat.new.me }
     {
         let mut node = node;
         for up in 0..level {

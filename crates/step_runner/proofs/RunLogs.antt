@@ -13,7 +13,7 @@ use Rattle.workload.specs.Puts.{puts_at}
 use Rattle.step_turns.specs.declared.answer.Answer.{Answer}
 use Rattle.step_turns.specs.declared.answer.Answer.TheVariants as answers
 use Rattle.step_turns.specs.declared.object_state.ObjectState.{ObjectState}
-use Rattle.step_turns.specs.ComesTo.{on_object, ComesTo}
+use Rattle.step_turns.specs.LeadsTo.{on_object, LeadsTo}
 use Rattle.step_turns.specs.Items.{Item, items_at}
 use Rattle.step_turns.specs.Objects.{new_object, kind_of}
 use Rattle.step_turns.specs.Ready.{IsReady}
@@ -32,17 +32,17 @@ use Rattle.step_runner.proofs.TurnLemmas.{Takes, takes_by, turn_cases, kind_ther
 -- what the law of turns says
 pub record Leads : Type 0 where
   pub turn : (workers worker moment place : ℕ) (call : Call) (objects : List ObjectState) (old new : ObjectState) → IsReady workers worker call objects → slice_get objects place ≡ Some old
-      → slice_get (turn_at call worker moment objects).0 place ≡ Some new → ComesTo old (on_object place (items_at call worker moment objects)) new
-  pub nowhere : (object : ObjectState) → ComesTo object [] object
-  pub on : (first middle last : ObjectState) (earlier later : List Item) → ComesTo first earlier middle → ComesTo middle later last → ComesTo first (earlier ++ later) last
+      → slice_get (turn_at call worker moment objects).0 place ≡ Some new → LeadsTo old (on_object place (items_at call worker moment objects)) new
+  pub nowhere : (object : ObjectState) → LeadsTo object [] object
+  pub on : (first middle last : ObjectState) (earlier later : List Item) → LeadsTo first earlier middle → LeadsTo middle later last → LeadsTo first (earlier ++ later) last
 
 module _ (laws : Leads) (plan : Plan) (k : ℕ) where
   -- from what the object is to what it is behind, if it is there
   abbrev Comes : State → List Item → State → Type 0
-  Comes s made t = (old new : ObjectState) → slice_get s.objects k ≡ Some old → slice_get t.objects k ≡ Some new → ComesTo old (on_object k made) new
+  Comes s made t = (old new : ObjectState) → slice_get s.objects k ≡ Some old → slice_get t.objects k ≡ Some new → LeadsTo old (on_object k made) new
 
   stays : (s : State) → Comes s [] s
-  stays s old new at there = let same : old ≡ new = one (sym at ∙ there) in subst (λ (o : ObjectState). ComesTo old [] o) same (laws.nowhere old)
+  stays s old new at there = let same : old ≡ new = one (sym at ∙ there) in subst (λ (o : ObjectState). LeadsTo old [] o) same (laws.nowhere old)
     where
       one : {a b : ObjectState} → Some a ≡ Some b → a ≡ b
       one e = cc
@@ -61,7 +61,7 @@ module _ (laws : Leads) (plan : Plan) (k : ℕ) where
   joined : (s t u : State) (earlier later : List Item) → IsStateOf plan s → IsStateOf plan t → Comes s earlier t → Comes t later u → Comes s (earlier ++ later) u
   joined s t u earlier later of goes first second old new at there =
       let middle = still_there s t old of goes at in
-      subst (λ (made : List Item). ComesTo old made new) (sym (filter-append (λ item. item.object == k) earlier later))
+      subst (λ (made : List Item). LeadsTo old made new) (sym (filter-append (λ item. item.object == k) earlier later))
       (laws.on old middle.0 new (on_object k earlier) (on_object k later) (first old middle.0 at middle.1) (second middle.0 new middle.1 there))
 
   -- one turn
@@ -75,10 +75,10 @@ module _ (laws : Leads) (plan : Plan) (k : ℕ) where
   })
     where
       at_objects : (call : Call) (objects : List ObjectState) (answer : Answer) → Takes plan worker s call objects answer → (old new : ObjectState) → slice_get s.objects k ≡ Some old → slice_get objects k ≡ Some new
-          → ComesTo old (on_object k (made_by plan worker s)) new
+          → LeadsTo old (on_object k (made_by plan worker s)) new
       at_objects call objects answer takes old new at there =
-          subst (λ (o : Option Call). ComesTo old (on_object k (option_map_or (λ call. items_at call worker s.moment s.objects) o [])) new) (sym takes.next)
-          (takes_by (λ y. slice_get y.0 k ≡ Some new → ComesTo old (on_object k (items_at call worker s.moment s.objects)) new) plan worker s call objects answer of takes
+          subst (λ (o : Option Call). LeadsTo old (on_object k (option_map_or (λ call. items_at call worker s.moment s.objects) o [])) new) (sym takes.next)
+          (takes_by (λ y. slice_get y.0 k ≡ Some new → LeadsTo old (on_object k (items_at call worker s.moment s.objects)) new) plan worker s call objects answer of takes
           (λ r there. laws.turn plan.workers worker s.moment k call s.objects old new r at there) there)
 
   -- what follows, unless the turn was a misuse

@@ -9,7 +9,7 @@ use Rattle.workload.specs.declared.turn.Turn.TheVariants as items
 use Rattle.workload.specs.Plan.{Plan}
 use Rattle.workload.specs.Puts.{puts_at}
 use Rattle.step_turns.specs.declared.object_state.ObjectState.{ObjectState}
-use Rattle.step_turns.specs.ComesTo.{on_object, ComesTo}
+use Rattle.step_turns.specs.LeadsTo.{on_object, LeadsTo}
 use Rattle.step_turns.specs.Items.{Item, placed, items_at}
 use Rattle.step_turns.specs.Objects.{new_object}
 use Rattle.step_runner.specs.declared.step.Step.{Step}
@@ -37,7 +37,7 @@ all_made plan (items.Moment moment ∷ rest) s = all_made plan rest (with_moment
 abbrev pub LeadTo : Plan → List Item → List ObjectState → Type 0
 LeadTo plan made objects =
     (place : ℕ) (line : ObjectLine) (object : ObjectState) → slice_get plan.objects place ≡ Some line → slice_get objects place ≡ Some object
-    → ComesTo (new_object plan.workers (puts_at place plan.scripts) line.kind) (on_object place made) object
+    → LeadsTo (new_object plan.workers (puts_at place plan.scripts) line.kind) (on_object place made) object
 
 -- the worker's next turn makes its call whole, in one item whose reply is the call's
 abbrev pub IsAnswered : Plan → ℕ → Call → State → Type 0

@@ -36,7 +36,7 @@ use Rattle.protocols.specs.declared.step.Step.TheVariants as steps
 use Rattle.run_record.specs.CondKind.{cond_part}
 use Rattle.run_record.specs.MutexKind.{mutex_part}
 use Rattle.run_record.specs.Parts.{Part, read_as}
-use Rattle.run_record.specs.Record.{number_at}
+use Rattle.run_record.specs.Record.{object_number}
 use Rattle.run_record.specs.declared.entered.ObjectEvent.TheVariants as events
 use Rattle.run_record.specs.declared.entered.ObjectReply.TheVariants as answered
 use Rattle.run_record.specs.declared.made.Made.{Made}
@@ -97,21 +97,21 @@ CondStandsAt x call c m = has_ticket c x ≡ false
 
 module _ (law : MutexStands) (cond_law : CondStands) (plan : Plan) (place other worker moment : ℕ) where
   abbrev cond_made : CondStage → NotifyReply → Made
-  cond_made stage r = event_made events.Cond answered.Cond cond_event cond_meaning (number_at place) worker (cond_event stage moment) r
+  cond_made stage r = event_made events.Cond answered.Cond cond_event cond_meaning (object_number place) worker (cond_event stage moment) r
 
   abbrev lock_made : MutexStage → MutexReply → Made
-  lock_made stage r = event_made events.Mutex answered.Mutex mutex_event mutex_meaning (number_at other) worker (mutex_event stage moment) r
+  lock_made stage r = event_made events.Mutex answered.Mutex mutex_event mutex_meaning (object_number other) worker (mutex_event stage moment) r
 
   abbrev left : Bool → Bool → Part (Reply ℕ)
-  left has waits = cond_left (number_at place) (number_at other) cond_calls.Wait has waits
+  left has waits = cond_left (object_number place) (object_number other) cond_calls.Wait has waits
 
   -- an event of the cond that gets its answer
-  cond_said : (stage : CondStage) (r : NotifyReply) → r ≢ notify_reply.Still → cond_part (number_at place) stage (cond_made stage r ∷ []) (Done (Ok tt))
+  cond_said : (stage : CondStage) (r : NotifyReply) → r ≢ notify_reply.Still → cond_part (object_number place) stage (cond_made stage r ∷ []) (Done (Ok tt))
   cond_said stage notify_reply.Still made = absurd (made refl)
-  cond_said cond_stage.Ticket notify_reply.Done made = says events.Cond answered.Cond cond_event cond_meaning (number_at place) worker cond_stage.Ticket moment notify_reply.Done (steps.Finished tt) refl
-  cond_said cond_stage.Leave notify_reply.Done made = says events.Cond answered.Cond cond_event cond_meaning (number_at place) worker cond_stage.Leave moment notify_reply.Done (steps.Finished tt) refl
-  cond_said cond_stage.Signal notify_reply.Done made = says events.Cond answered.Cond cond_event cond_meaning (number_at place) worker cond_stage.Signal moment notify_reply.Done (steps.Finished tt) refl
-  cond_said cond_stage.Broadcast notify_reply.Done made = says events.Cond answered.Cond cond_event cond_meaning (number_at place) worker cond_stage.Broadcast moment notify_reply.Done (steps.Finished tt) refl
+  cond_said cond_stage.Ticket notify_reply.Done made = says events.Cond answered.Cond cond_event cond_meaning (object_number place) worker cond_stage.Ticket moment notify_reply.Done (steps.Finished tt) refl
+  cond_said cond_stage.Leave notify_reply.Done made = says events.Cond answered.Cond cond_event cond_meaning (object_number place) worker cond_stage.Leave moment notify_reply.Done (steps.Finished tt) refl
+  cond_said cond_stage.Signal notify_reply.Done made = says events.Cond answered.Cond cond_event cond_meaning (object_number place) worker cond_stage.Signal moment notify_reply.Done (steps.Finished tt) refl
+  cond_said cond_stage.Broadcast notify_reply.Done made = says events.Cond answered.Cond cond_event cond_meaning (object_number place) worker cond_stage.Broadcast moment notify_reply.Done (steps.Finished tt) refl
 
   taken : (has : Bool) (r : NotifyReply) → r ≢ notify_reply.Still → notify_standing.after_taking has r ≡ true
   taken has notify_reply.Done made = refl
@@ -153,8 +153,8 @@ module _ (law : MutexStands) (cond_law : CondStands) (plan : Plan) (place other 
       → Told (left false false) (cond_made cond_stage.Ticket r ∷ lock_made mutex_stage.Unlock s ∷ []) c m (answer_by (waited (Some mutex_stage.Unlock)) (outcome_of (mutex_meaning mutex_stage.Unlock s)))
   begins c m r s made is has out = by_reply s is
     where
-      lock_said : (s : MutexReply) (step : Step MutexStage LockReply) → mutex_meaning mutex_stage.Unlock s ≡ step → (outcome : LockReply) → step ≡ steps.Finished outcome → mutex_part (number_at other) mutex_stage.Unlock (lock_made mutex_stage.Unlock s ∷ []) (Done (Ok outcome))
-      lock_said s step means outcome is = says events.Mutex answered.Mutex mutex_event mutex_meaning (number_at other) worker mutex_stage.Unlock moment s (steps.Finished outcome) (means ∙ is)
+      lock_said : (s : MutexReply) (step : Step MutexStage LockReply) → mutex_meaning mutex_stage.Unlock s ≡ step → (outcome : LockReply) → step ≡ steps.Finished outcome → mutex_part (object_number other) mutex_stage.Unlock (lock_made mutex_stage.Unlock s ∷ []) (Done (Ok outcome))
+      lock_said s step means outcome is = says events.Mutex answered.Mutex mutex_event mutex_meaning (object_number other) worker mutex_stage.Unlock moment s (steps.Finished outcome) (means ∙ is)
 
       goes_on : (s : MutexReply) → mutex_meaning mutex_stage.Unlock s ≡ steps.Finished lock_replies.Done
           → Told (left false false) (cond_made cond_stage.Ticket r ∷ lock_made mutex_stage.Unlock s ∷ []) c m answers.Unfinished
@@ -194,7 +194,7 @@ module _ (law : MutexStands) (cond_law : CondStands) (plan : Plan) (place other 
             [],
             Done (Err misuse),
             refl,
-            says events.Mutex answered.Mutex mutex_event mutex_meaning (number_at other) worker mutex_stage.Unlock moment (mutex_reply.Unlocked (mutex_unlocking.Misuse misuse)) (steps.Misused misuse) refl,
+            says events.Mutex answered.Mutex mutex_event mutex_meaning (object_number other) worker mutex_stage.Unlock moment (mutex_reply.Unlocked (mutex_unlocking.Misuse misuse)) (steps.Misused misuse) refl,
             (refl, refl),
           ),
         ),
@@ -205,7 +205,7 @@ module _ (law : MutexStands) (cond_law : CondStands) (plan : Plan) (place other 
   -- a lock within the wait, where it has no ticket any more
   again : (has : Bool) (stage : MutexStage) (m : mutex.State) (p : MutexPlace) → mutex.place_of m worker ≡ p → worker < m.callers → mutex.IsValid m → mutex.is_needed (mutex_event stage moment) p ≡ true
       → let n = mutex.next m worker (mutex_event stage moment) in
-      Tells plan (read_as (λ locked. replies.Returned) (mutex_part (number_at other) stage)) (left has (mutex_waits (mutex.place_of n.0 worker))) (lock_made stage n.1 ∷ []) (answer_by (λ o. answers.Completed replies.Returned) (outcome_of (mutex_meaning stage n.1)))
+      Tells plan (read_as (λ locked. replies.Returned) (mutex_part (object_number other) stage)) (left has (mutex_waits (mutex.place_of n.0 worker))) (lock_made stage n.1 ∷ []) (answer_by (λ o. answers.Completed replies.Returned) (outcome_of (mutex_meaning stage n.1)))
   again has stage m p at below valid needed =
       mutex_made law plan other worker moment (λ o. replies.Returned) (λ o. replies.Returned) (λ o. refl) (left has) (λ rest given l. l) stage m p at below valid needed
 
@@ -239,7 +239,7 @@ module _ (law : MutexStands) (cond_law : CondStands) (plan : Plan) (place other 
       let n = mutex.next m worker (mutex_event mutex_stage.Lock moment) in
       let a = answer_by (λ o. answers.Completed replies.Returned) (outcome_of (mutex_meaning mutex_stage.Lock n.1)) in
       let gone_now : has_ticket d.0 worker ≡ false = cond_law.own c worker (cond_event cond_stage.Leave moment) ∙ gone (has_ticket c worker) d.1 made in (
-        more_first plan (left true false) (read_as (λ locked. replies.Returned) (mutex_part (number_at other) mutex_stage.Lock)) (left (has_ticket d.0 worker) (mutex_waits (mutex.place_of n.0 worker)))
+        more_first plan (left true false) (read_as (λ locked. replies.Returned) (mutex_part (object_number other) mutex_stage.Lock)) (left (has_ticket d.0 worker) (mutex_waits (mutex.place_of n.0 worker)))
             (cond_made cond_stage.Leave d.1) (lock_made mutex_stage.Lock n.1) a
             (λ rest given l. (cond_made cond_stage.Leave d.1 ∷ [], rest, Done (Ok tt), refl, cond_said cond_stage.Leave d.1 made, l))
             (again (has_ticket d.0 worker) mutex_stage.Lock m mutex_place.Out at within valid refl),
@@ -265,7 +265,7 @@ module _ (law : MutexStands) (cond_law : CondStands) (plan : Plan) (place other 
       → let due = cond_due call (mutex.place_of m worker) (notify.place_of c worker) in
       let at_cond = make notify.next cond_event cond_meaning worker moment due.0 c in
       let at_mutex = make mutex.next mutex_event mutex_meaning worker moment due.1 m in
-      Tells plan (cond_left (number_at place) (number_at other) call (has_ticket c worker) (mutex_waits (mutex.place_of m worker))) (cond_left (number_at place) (number_at other) call (has_ticket at_cond.0 worker) (mutex_waits (mutex.place_of at_mutex.0 worker)))
+      Tells plan (cond_left (object_number place) (object_number other) call (has_ticket c worker) (mutex_waits (mutex.place_of m worker))) (cond_left (object_number place) (object_number other) call (has_ticket at_cond.0 worker) (mutex_waits (mutex.place_of at_mutex.0 worker)))
       (recorded plan before (stage_items events.Cond answered.Cond notify.next cond_event worker moment place due.0 c ++ stage_items events.Mutex answered.Mutex mutex.next mutex_event worker moment other due.1 m))
       (cond_answer call due.1 at_mutex.1)
       × CondBehind call worker at_cond.0 at_mutex.0 (cond_answer call due.1 at_mutex.1)

@@ -29,7 +29,7 @@ use Rattle.run_record.specs.Calls.{call_on, call_at, SpellsCall}
 use Rattle.run_record.specs.Objects.{atomic_number}
 use Rattle.run_record.specs.OnceKind.{failure}
 use Rattle.run_record.specs.Parts.{Part, returns, stages}
-use Rattle.run_record.specs.Record.{number_at}
+use Rattle.run_record.specs.Record.{object_number}
 use Rattle.run_record.specs.declared.entered.ObjectEvent.TheVariants as events
 use Rattle.run_record.specs.declared.entered.ObjectReply.TheVariants as answered
 use Rattle.run_record.specs.declared.made.Made.{Made}
@@ -111,14 +111,14 @@ module _ (plan : Plan) (x before place : ℕ) where
   whole_on (operations.Map call) (states.Map m) has alone idle out = refl
   whole_on operations.Range (states.Map m) has alone idle out = refl
   whole_on (operations.Atomic call) (states.Atomic number) has alone idle out = refl
-  whole_on (operations.Mutex call) (states.Mutex m) has alone idle out = ap (mutex_left (number_at place) call) (ap mutex_waits out)
-  whole_on (operations.RwMutex call) (states.RwMutex m) has alone idle out = ap (rw_left (number_at place) call) (ap rw_waits out)
-  whole_on (operations.WaitGroup group_calls.Wait) (states.WaitGroup g first) has alone idle out = ap (group_left (number_at place) group_calls.Wait) idle
+  whole_on (operations.Mutex call) (states.Mutex m) has alone idle out = ap (mutex_left (object_number place) call) (ap mutex_waits out)
+  whole_on (operations.RwMutex call) (states.RwMutex m) has alone idle out = ap (rw_left (object_number place) call) (ap rw_waits out)
+  whole_on (operations.WaitGroup group_calls.Wait) (states.WaitGroup g first) has alone idle out = ap (group_left (object_number place) group_calls.Wait) idle
   whole_on (operations.WaitGroup call) (states.WaitGroup g first) has alone idle out = refl
   whole_on operations.OnceFunc (states.OnceFunc o code) has alone idle out =
-      λ i. once_left (stages events.OnceFunc answered.OnceFunc once_event once_meaning (number_at place)) (returns code) (λ kept. replies.OnceFunc (failure kept)) (λ kept. replies.OnceFunc (failure kept)) (idle.1 i) (idle.0 i)
+      λ i. once_left (stages events.OnceFunc answered.OnceFunc once_event once_meaning (object_number place)) (returns code) (λ kept. replies.OnceFunc (failure kept)) (λ kept. replies.OnceFunc (failure kept)) (idle.1 i) (idle.0 i)
   whole_on operations.OnceValue (states.OnceValue o value) has alone idle out =
-      λ i. once_left (stages events.OnceValue answered.OnceValue once_event once_meaning (number_at place)) (returns value) replies.OnceValue replies.OnceValue (idle.1 i) (idle.0 i)
+      λ i. once_left (stages events.OnceValue answered.OnceValue once_event once_meaning (object_number place)) (returns value) replies.OnceValue replies.OnceValue (idle.1 i) (idle.0 i)
   whole_on (operations.Pool call) (states.Pool p) has alone idle out = refl
   whole_on (operations.Cond call) o has alone idle out = absurd (cond_refers o call has alone)
   whole_on operations.Once o has alone idle out = absurd (once_refers o has alone)
@@ -129,11 +129,11 @@ module _ (plan : Plan) (x before place : ℕ) where
 
   whole_both : (other : ℕ) (operation : Operation) (o target : ObjectState) → Pair operation o target → reference_of (kind_of o) ≡ Some other → IsIdle x o → IsOutAt x target
       → left_on_both plan x before place other operation o target ≡ call_on plan x before place (kind_of o) operation
-  whole_both other (operations.Cond cond_calls.Wait) (states.Cond c at) (states.Mutex m) pair some idle out = λ i. cond_left (number_at place) (number_at (some_place some i)) cond_calls.Wait (idle i) (mutex_waits (out i))
-  whole_both other (operations.Cond cond_calls.Signal) (states.Cond c at) (states.Mutex m) pair some idle out = λ i. cond_left (number_at place) (number_at (some_place some i)) cond_calls.Signal (idle i) (mutex_waits (out i))
-  whole_both other (operations.Cond cond_calls.Broadcast) (states.Cond c at) (states.Mutex m) pair some idle out = λ i. cond_left (number_at place) (number_at (some_place some i)) cond_calls.Broadcast (idle i) (mutex_waits (out i))
+  whole_both other (operations.Cond cond_calls.Wait) (states.Cond c at) (states.Mutex m) pair some idle out = λ i. cond_left (object_number place) (object_number (some_place some i)) cond_calls.Wait (idle i) (mutex_waits (out i))
+  whole_both other (operations.Cond cond_calls.Signal) (states.Cond c at) (states.Mutex m) pair some idle out = λ i. cond_left (object_number place) (object_number (some_place some i)) cond_calls.Signal (idle i) (mutex_waits (out i))
+  whole_both other (operations.Cond cond_calls.Broadcast) (states.Cond c at) (states.Mutex m) pair some idle out = λ i. cond_left (object_number place) (object_number (some_place some i)) cond_calls.Broadcast (idle i) (mutex_waits (out i))
   whole_both other operations.Once (states.Once o at delta) (states.Atomic (Int64 held)) pair some idle out =
-      λ i. once_left (stages events.Once answered.Once once_event once_meaning (number_at place)) (adds (atomic_number plan.objects (some_place some i)) delta) (λ sum. replies.Once (do_replies.Ran sum)) (λ kept. replies.Once do_replies.Done) (idle.1 i) (idle.0 i)
+      λ i. once_left (stages events.Once answered.Once once_event once_meaning (object_number place)) (adds (atomic_number plan.objects (some_place some i)) delta) (λ sum. replies.Once (do_replies.Ran sum)) (λ kept. replies.Once do_replies.Done) (idle.1 i) (idle.0 i)
   whole_both other operation o target pair some idle out = absurd pair
 
 -- the line of the object at a place

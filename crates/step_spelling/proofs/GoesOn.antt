@@ -52,7 +52,7 @@ use Rattle.run_record.specs.Objects.{map_number, atomic_number}
 use Rattle.run_record.specs.OnceKind.{failure}
 use Rattle.run_record.specs.Parts.{Part, and_then, read_as, returns, stages}
 use Rattle.run_record.specs.PoolKind as record_pool
-use Rattle.run_record.specs.Record.{number_at}
+use Rattle.run_record.specs.Record.{object_number}
 use Rattle.run_record.specs.RwMutexKind.{rw_mutex_stage}
 use Rattle.run_record.specs.WaitGroupKind.{wait_group_stage, wait_group_call}
 use Rattle.run_record.specs.declared.entered.ObjectEvent.{ObjectEvent}
@@ -140,32 +140,32 @@ module _ (plan : Plan) (x before place : ℕ) where
   on_can operations.Range (states.Map m) has alone =
       (_, _, ([], [], places plan (cursor_showing (keys_in plan.scripts) (map_number plan.objects place) before []), (IsPermutation-refl [], λ k d low below. absurd (omega (arith, below))), refl))
   on_can (operations.Atomic call) (states.Atomic number) has alone = (_, _, (atomic_replies.Done, places plan ((calls.Atomic (atomic_number plan.objects place) call, shared.Atomic atomic_replies.Done) ∷ []), refl))
-  on_can (operations.Mutex call) (states.Mutex m) has alone = halted (mutex_left (number_at place) call (mutex_waits (mutex.place_of m x))) (mutex_can (number_at place) call (mutex_waits (mutex.place_of m x)))
-  on_can (operations.RwMutex call) (states.RwMutex m) has alone = halted (rw_left (number_at place) call (rw_waits (rw.place_of m x))) (rw_can (number_at place) call (rw_waits (rw.place_of m x)))
-  on_can (operations.WaitGroup call) (states.WaitGroup g first) has alone = halted (group_left (number_at place) call (group_standing.waits_at g x)) (group_can (number_at place) call (group_standing.waits_at g x))
+  on_can (operations.Mutex call) (states.Mutex m) has alone = halted (mutex_left (object_number place) call (mutex_waits (mutex.place_of m x))) (mutex_can (object_number place) call (mutex_waits (mutex.place_of m x)))
+  on_can (operations.RwMutex call) (states.RwMutex m) has alone = halted (rw_left (object_number place) call (rw_waits (rw.place_of m x))) (rw_can (object_number place) call (rw_waits (rw.place_of m x)))
+  on_can (operations.WaitGroup call) (states.WaitGroup g first) has alone = halted (group_left (object_number place) call (group_standing.waits_at g x)) (group_can (object_number place) call (group_standing.waits_at g x))
   on_can operations.OnceFunc (states.OnceFunc o code) has alone =
       halted (left_on plan x before place operations.OnceFunc (states.OnceFunc o code))
-      (once_can events.OnceFunc answered.OnceFunc (number_at place) (returns code) (λ kept. replies.OnceFunc (failure kept)) (λ kept. replies.OnceFunc (failure kept)) code [] (refl, refl) (once_standing.runs_at o x) (once_standing.waits_at o x))
+      (once_can events.OnceFunc answered.OnceFunc (object_number place) (returns code) (λ kept. replies.OnceFunc (failure kept)) (λ kept. replies.OnceFunc (failure kept)) code [] (refl, refl) (once_standing.runs_at o x) (once_standing.waits_at o x))
   on_can operations.OnceValue (states.OnceValue o value) has alone =
       halted (left_on plan x before place operations.OnceValue (states.OnceValue o value))
-      (once_can events.OnceValue answered.OnceValue (number_at place) (returns value) replies.OnceValue replies.OnceValue value [] (refl, refl) (once_standing.runs_at o x) (once_standing.waits_at o x))
+      (once_can events.OnceValue answered.OnceValue (object_number place) (returns value) replies.OnceValue replies.OnceValue value [] (refl, refl) (once_standing.runs_at o x) (once_standing.waits_at o x))
   on_can (operations.Pool (pool_calls.Put item)) (states.Pool p) has alone =
       halted (left_on plan x before place (operations.Pool (pool_calls.Put item)) (states.Pool p))
-      (read_halts _ (record_pool.pool_part (number_at place) (pool_stage.Put item)) (stage_halts events.Pool answered.Pool pool_event pool_meaning (number_at place) (pool_stage.Put item)))
+      (read_halts _ (record_pool.pool_part (object_number place) (pool_stage.Put item)) (stage_halts events.Pool answered.Pool pool_event pool_meaning (object_number place) (pool_stage.Put item)))
   on_can (operations.Pool pool_calls.Sweep) (states.Pool p) has alone =
       halted (left_on plan x before place (operations.Pool pool_calls.Sweep) (states.Pool p))
-      (read_halts _ (record_pool.pool_part (number_at place) pool_stage.Sweep) (stage_halts events.Pool answered.Pool pool_event pool_meaning (number_at place) pool_stage.Sweep))
-  on_can (operations.Pool pool_calls.Get) (states.Pool p) has alone = found_can (number_at place) (record_pool.looks_of plan.workers x)
+      (read_halts _ (record_pool.pool_part (object_number place) pool_stage.Sweep) (stage_halts events.Pool answered.Pool pool_event pool_meaning (object_number place) pool_stage.Sweep))
+  on_can (operations.Pool pool_calls.Get) (states.Pool p) has alone = found_can (object_number place) (record_pool.looks_of plan.workers x)
   on_can (operations.Cond call) o has alone = absurd (cond_refers o call has alone)
   on_can operations.Once o has alone = absurd (once_refers o has alone)
   on_can operation o has alone = absurd cc
 
   both_can : (other : ℕ) (operation : Operation) (o target : ObjectState) → Pair operation o target → CanBe (left_on_both plan x before place other operation o target)
   both_can other (operations.Cond call) (states.Cond c at) (states.Mutex m) pair =
-      halted (cond_left (number_at place) (number_at other) call (has_ticket c x) (mutex_waits (mutex.place_of m x))) (cond_can (number_at place) (number_at other) call (has_ticket c x) (mutex_waits (mutex.place_of m x)))
+      halted (cond_left (object_number place) (object_number other) call (has_ticket c x) (mutex_waits (mutex.place_of m x))) (cond_can (object_number place) (object_number other) call (has_ticket c x) (mutex_waits (mutex.place_of m x)))
   both_can other operations.Once (states.Once o at delta) (states.Atomic (Int64 held)) pair =
       halted (left_on_both plan x before place other operations.Once (states.Once o at delta) (states.Atomic (Int64 held)))
-      (once_can events.Once answered.Once (number_at place) (adds (atomic_number plan.objects other) delta) (λ sum. replies.Once (do_replies.Ran sum)) (λ kept. replies.Once do_replies.Done) held _
+      (once_can events.Once answered.Once (object_number place) (adds (atomic_number plan.objects other) delta) (λ sum. replies.Once (do_replies.Ran sum)) (λ kept. replies.Once do_replies.Done) held _
       (held, places plan ((calls.Atomic (atomic_number plan.objects other) (Add (Int64 delta)), shared.Atomic (atomic_replies.Held (Int64 held))) ∷ []), refl) (once_standing.runs_at o x) (once_standing.waits_at o x))
   both_can other operation o target pair = absurd pair
 

@@ -43,7 +43,7 @@ use Rattle.run_record.specs.Objects.{atomic_number}
 use Rattle.run_record.specs.CondKind.{cond_call}
 use Rattle.run_record.specs.OnceKind.{do_call, failure}
 use Rattle.run_record.specs.Parts.{returns, stages}
-use Rattle.run_record.specs.Record.{number_at}
+use Rattle.run_record.specs.Record.{object_number}
 use Rattle.run_record.specs.declared.entered.ObjectEvent.TheVariants as events
 use Rattle.run_record.specs.declared.entered.ObjectReply.TheVariants as answered
 use Rattle.workload.specs.Plan.{Plan}
@@ -213,21 +213,21 @@ module _ (plan : Plan) (x before place : ℕ) where
   left_same (states.Map m) (states.Map n) operation same = refl
   left_same (states.Atomic m) (states.Atomic n) (operations.Atomic call) same = refl
   left_same (states.Atomic m) (states.Atomic n) operation same = refl
-  left_same (states.Mutex m) (states.Mutex n) (operations.Mutex call) same = ap (mutex_left (number_at place) call) same
+  left_same (states.Mutex m) (states.Mutex n) (operations.Mutex call) same = ap (mutex_left (object_number place) call) same
   left_same (states.Mutex m) (states.Mutex n) operation same = refl
-  left_same (states.RwMutex m) (states.RwMutex n) (operations.RwMutex call) same = ap (rw_left (number_at place) call) same.0
+  left_same (states.RwMutex m) (states.RwMutex n) (operations.RwMutex call) same = ap (rw_left (object_number place) call) same.0
   left_same (states.RwMutex m) (states.RwMutex n) operation same = refl
-  left_same (states.Cond m at) (states.Cond n other) (operations.Cond call) same = ap (λ (k : ℕ). cond_call (number_at place) (number_at k) call) same.1
+  left_same (states.Cond m at) (states.Cond n other) (operations.Cond call) same = ap (λ (k : ℕ). cond_call (object_number place) (object_number k) call) same.1
   left_same (states.Cond m at) (states.Cond n other) operation same = refl
-  left_same (states.WaitGroup m first) (states.WaitGroup n other) (operations.WaitGroup call) same = ap (group_left (number_at place) call) same.0
+  left_same (states.WaitGroup m first) (states.WaitGroup n other) (operations.WaitGroup call) same = ap (group_left (object_number place) call) same.0
   left_same (states.WaitGroup m first) (states.WaitGroup n other) operation same = refl
-  left_same (states.Once m at delta) (states.Once n other amount) operations.Once same = λ i. do_call (number_at place) (atomic_number plan.objects (same.1.0 i)) (same.1.1 i)
+  left_same (states.Once m at delta) (states.Once n other amount) operations.Once same = λ i. do_call (object_number place) (atomic_number plan.objects (same.1.0 i)) (same.1.1 i)
   left_same (states.Once m at delta) (states.Once n other amount) operation same = refl
   left_same (states.OnceFunc m code) (states.OnceFunc n other) operations.OnceFunc same =
-      λ i. once_left (stages events.OnceFunc answered.OnceFunc once_event once_meaning (number_at place)) (returns (same.1 i)) (λ kept. replies.OnceFunc (failure kept)) (λ kept. replies.OnceFunc (failure kept)) (same.0.0 i) (same.0.1 i)
+      λ i. once_left (stages events.OnceFunc answered.OnceFunc once_event once_meaning (object_number place)) (returns (same.1 i)) (λ kept. replies.OnceFunc (failure kept)) (λ kept. replies.OnceFunc (failure kept)) (same.0.0 i) (same.0.1 i)
   left_same (states.OnceFunc m code) (states.OnceFunc n other) operation same = refl
   left_same (states.OnceValue m value) (states.OnceValue n other) operations.OnceValue same =
-      λ i. once_left (stages events.OnceValue answered.OnceValue once_event once_meaning (number_at place)) (returns (same.1 i)) replies.OnceValue replies.OnceValue (same.0.0 i) (same.0.1 i)
+      λ i. once_left (stages events.OnceValue answered.OnceValue once_event once_meaning (object_number place)) (returns (same.1 i)) replies.OnceValue replies.OnceValue (same.0.0 i) (same.0.1 i)
   left_same (states.OnceValue m value) (states.OnceValue n other) operation same = refl
   left_same (states.Pool m) (states.Pool n) (operations.Pool call) same = refl
   left_same (states.Pool m) (states.Pool n) operation same = refl
@@ -235,11 +235,11 @@ module _ (plan : Plan) (x before place : ℕ) where
 
   pub left_both_same : (other : ℕ) (operation : Operation) (o target n t : ObjectState) → Pair operation o target → Same x o n → Same x target t
       → left_on_both plan x before place other operation n t ≡ left_on_both plan x before place other operation o target
-  left_both_same other (operations.Cond call) (states.Cond c at) (states.Mutex m) (states.Cond d to) (states.Mutex k) pair one two = λ i. cond_left (number_at place) (number_at other) call (one.0 i) (two i)
+  left_both_same other (operations.Cond call) (states.Cond c at) (states.Mutex m) (states.Cond d to) (states.Mutex k) pair one two = λ i. cond_left (object_number place) (object_number other) call (one.0 i) (two i)
   left_both_same other (operations.Cond call) (states.Cond c at) (states.Mutex m) (states.Cond d to) t pair one two = absurd two
   left_both_same other (operations.Cond call) (states.Cond c at) (states.Mutex m) n t pair one two = absurd one
   left_both_same other operations.Once (states.Once o at delta) (states.Atomic (Int64 held)) (states.Once p to amount) (states.Atomic k) pair one two =
-      λ i. once_left (stages events.Once answered.Once once_event once_meaning (number_at place)) (adds (atomic_number plan.objects other) (one.1.1 i)) (λ sum. replies.Once (do_replies.Ran sum)) (λ kept. replies.Once do_replies.Done) (one.0.0 i) (one.0.1 i)
+      λ i. once_left (stages events.Once answered.Once once_event once_meaning (object_number place)) (adds (atomic_number plan.objects other) (one.1.1 i)) (λ sum. replies.Once (do_replies.Ran sum)) (λ kept. replies.Once do_replies.Done) (one.0.0 i) (one.0.1 i)
   left_both_same other operations.Once (states.Once o at delta) (states.Atomic (Int64 held)) (states.Once p to amount) t pair one two = absurd two
   left_both_same other operations.Once (states.Once o at delta) (states.Atomic (Int64 held)) n t pair one two = absurd one
   left_both_same other operation o target n t pair one two = absurd pair

@@ -28,7 +28,7 @@ use Rattle.protocols.specs.Spelling.{CallAnswer}
 use Rattle.run_record.specs.Parts.{Part, and_then}
 use Rattle.run_record.specs.PoolKind as record_pool
 use Rattle.run_record.specs.PoolKind.{pool_part, pool_call}
-use Rattle.run_record.specs.Record.{number_at}
+use Rattle.run_record.specs.Record.{object_number}
 use Rattle.run_record.specs.declared.entered.ObjectEvent.TheVariants as events
 use Rattle.run_record.specs.declared.entered.ObjectReply.TheVariants as answered
 use Rattle.run_record.specs.declared.made.Made.{Made}
@@ -118,10 +118,10 @@ module _ (n x : ℕ) (p : pool.PoolState ℕ) (below : x < n) (primary : length 
 
 module _ (keeps : PoolKeeps) (plan : Plan) (place worker moment n : ℕ) (below : worker < n) where
   abbrev made_of : PoolStage → PoolReply ℕ → Made
-  made_of s r = event_made events.Pool answered.Pool pool_event pool_meaning (number_at place) worker (pool_event s moment) r
+  made_of s r = event_made events.Pool answered.Pool pool_event pool_meaning (object_number place) worker (pool_event s moment) r
 
-  said : (s : PoolStage) (r : PoolReply ℕ) (outcome : PoolOutcome) → pool_meaning s r ≡ Finished outcome → pool_part (number_at place) s (made_of s r ∷ []) (Done (Ok outcome))
-  said s r outcome is = says events.Pool answered.Pool pool_event pool_meaning (number_at place) worker s moment r (Finished outcome) is
+  said : (s : PoolStage) (r : PoolReply ℕ) (outcome : PoolOutcome) → pool_meaning s r ≡ Finished outcome → pool_part (object_number place) s (made_of s r ∷ []) (Done (Ok outcome))
+  said s r outcome is = says events.Pool answered.Pool pool_event pool_meaning (object_number place) worker s moment r (Finished outcome) is
 
   -- the items spell the whole call
   abbrev pub Whole : Part (Reply ℕ) → List Made → Answer → Type 0
@@ -141,14 +141,14 @@ module _ (keeps : PoolKeeps) (plan : Plan) (place worker moment n : ℕ) (below 
   abbrev LookWhole : PoolEvent ℕ → PoolReply ℕ → pool.PoolState ℕ → ℕ → List PoolStage → Part (Reply ℕ) → Type 0
   LookWhole e r q before looks rest =
       let found = item_of (outcome_of (pool_meaning (due.stage_of e) r)) in
-      Whole (and_then (pool_part (number_at place) (record_pool.stage_of e)) (record_pool.found_or rest))
+      Whole (and_then (pool_part (object_number place) (record_pool.stage_of e)) (record_pool.found_or rest))
       (made_of (due.stage_of e) r ∷ recorded plan before (unless_found worker moment place (q, found) (look_items worker moment place looks))) (found_or (q, found) (found_by worker moment looks)).1
 
   abbrev RestWhole : pool.PoolState ℕ → ℕ → List PoolStage → Part (Reply ℕ) → Type 0
   RestWhole q before looks rest = Whole rest (recorded plan before (look_items worker moment place looks q)) (found_by worker moment looks q).1
 
   goes_behind : (s : PoolStage) (r : PoolReply ℕ) (rest : Part (Reply ℕ)) → pool_meaning s r ≡ Finished Nothing → (later : List Made) (given : CallAnswer (Reply ℕ)) → rest later given
-      → and_then (pool_part (number_at place) s) (record_pool.found_or rest) (made_of s r ∷ later) given
+      → and_then (pool_part (object_number place) s) (record_pool.found_or rest) (made_of s r ∷ later) given
   goes_behind s r rest is later given l = (made_of s r ∷ [], later, Done (Ok Nothing), refl, said s r Nothing is, l)
 
   look_whole : (e : PoolEvent ℕ) (r : PoolReply ℕ) (q : pool.PoolState ℕ) (before : ℕ) (looks : List PoolStage) (rest : Part (Reply ℕ)) → IsLook e → answers_look r ≡ true → RestWhole q before looks rest → LookWhole e r q before looks rest
@@ -156,17 +156,17 @@ module _ (keeps : PoolKeeps) (plan : Plan) (place worker moment n : ℕ) (below 
   look_whole pool_events.Sweep r q before looks rest is answers later = absurd is
   look_whole pool_events.LookOwn (reply.Item item) q before looks rest is answers later = (made_of stage.LookOwn (reply.Item item) ∷ [], [], Done (Ok (Taken item)), refl, said stage.LookOwn (reply.Item item) (Taken item) refl, (refl, refl))
   look_whole pool_events.LookOwn reply.Nothing q before looks rest is answers later =
-      whole_on (and_then (pool_part (number_at place) stage.LookOwn) (record_pool.found_or rest)) rest (made_of stage.LookOwn reply.Nothing) _ _ (goes_behind stage.LookOwn reply.Nothing rest refl) later
+      whole_on (and_then (pool_part (object_number place) stage.LookOwn) (record_pool.found_or rest)) rest (made_of stage.LookOwn reply.Nothing) _ _ (goes_behind stage.LookOwn reply.Nothing rest refl) later
   look_whole pool_events.LookOwn r q before looks rest is answers later = no answers
   look_whole (pool_events.LookOther part) (reply.Item item) q before looks rest is answers later =
       (made_of (stage.LookOther part) (reply.Item item) ∷ [], [], Done (Ok (Taken item)), refl, said (stage.LookOther part) (reply.Item item) (Taken item) refl, (refl, refl))
   look_whole (pool_events.LookOther part) reply.Nothing q before looks rest is answers later =
-      whole_on (and_then (pool_part (number_at place) (stage.LookOther part)) (record_pool.found_or rest)) rest (made_of (stage.LookOther part) reply.Nothing) _ _ (goes_behind (stage.LookOther part) reply.Nothing rest refl) later
+      whole_on (and_then (pool_part (object_number place) (stage.LookOther part)) (record_pool.found_or rest)) rest (made_of (stage.LookOther part) reply.Nothing) _ _ (goes_behind (stage.LookOther part) reply.Nothing rest refl) later
   look_whole (pool_events.LookOther part) r q before looks rest is answers later = no answers
   look_whole (pool_events.LookVictim part) (reply.Item item) q before looks rest is answers later =
       (made_of (stage.LookVictim part) (reply.Item item) ∷ [], [], Done (Ok (Taken item)), refl, said (stage.LookVictim part) (reply.Item item) (Taken item) refl, (refl, refl))
   look_whole (pool_events.LookVictim part) reply.Nothing q before looks rest is answers later =
-      whole_on (and_then (pool_part (number_at place) (stage.LookVictim part)) (record_pool.found_or rest)) rest (made_of (stage.LookVictim part) reply.Nothing) _ _ (goes_behind (stage.LookVictim part) reply.Nothing rest refl) later
+      whole_on (and_then (pool_part (object_number place) (stage.LookVictim part)) (record_pool.found_or rest)) rest (made_of (stage.LookVictim part) reply.Nothing) _ _ (goes_behind (stage.LookVictim part) reply.Nothing rest refl) later
   look_whole (pool_events.LookVictim part) r q before looks rest is answers later = no answers
 
   -- each look of a get is at a part that is there
@@ -193,7 +193,7 @@ module _ (keeps : PoolKeeps) (plan : Plan) (place worker moment n : ℕ) (below 
   look_answers pool_events.Sweep r is answers = absurd is
 
   get_whole : (numbers : List ℕ) (p : pool.PoolState ℕ) (before : ℕ) → length p.primary ≡ n → length p.victims ≡ n
-      → RestWhole p before (map (λ number. due.stage_of (look n worker number)) numbers) (record_pool.found_by (number_at place) (map (look n worker) numbers))
+      → RestWhole p before (map (λ number. due.stage_of (look n worker number)) numbers) (record_pool.found_by (object_number place) (map (look n worker) numbers))
   get_whole [] p before primary victims = (refl, refl)
   get_whole (k ∷ numbers) p before primary victims =
       let e = look n worker k in
@@ -201,24 +201,24 @@ module _ (keeps : PoolKeeps) (plan : Plan) (place worker moment n : ℕ) (below 
       let x = pool.next p worker (pool_event (due.stage_of e) moment) in
       let kept = keeps p worker n (pool_event (due.stage_of e) moment) primary victims in
       let is : answers_look x.1 ≡ true = look_answers e x.1 there.0 (subst (λ (d : PoolEvent ℕ). Answers e (pool.next p worker d).1) (sym (is_event e there.0)) (next_answers n worker p below primary victims e there.1)) in
-      look_whole e x.1 x.0 _ (map (λ number. due.stage_of (look n worker number)) numbers) (record_pool.found_by (number_at place) (map (look n worker) numbers)) there.0 is (get_whole numbers x.0 _ kept.0 kept.1)
+      look_whole e x.1 x.0 _ (map (λ number. due.stage_of (look n worker number)) numbers) (record_pool.found_by (object_number place) (map (look n worker) numbers)) there.0 is (get_whole numbers x.0 _ kept.0 kept.1)
 
-  put_whole : (item : ℕ) (r : PoolReply ℕ) → answers_put r ≡ true → Whole (pool_call n worker (number_at place) (pool_calls.Put item)) (made_of (stage.Put item) r ∷ []) (answers.Completed (replies.Pool pool_replies.Done))
+  put_whole : (item : ℕ) (r : PoolReply ℕ) → answers_put r ≡ true → Whole (pool_call n worker (object_number place) (pool_calls.Put item)) (made_of (stage.Put item) r ∷ []) (answers.Completed (replies.Pool pool_replies.Done))
   put_whole item reply.Kept is = (Done (Ok Kept), said (stage.Put item) reply.Kept Kept refl, refl)
   put_whole item (reply.Dropped other) is = (Done (Ok (Dropped other)), said (stage.Put item) (reply.Dropped other) (Dropped other) refl, refl)
   put_whole item r is = no is
 
-  sweep_whole : (r : PoolReply ℕ) → r ≡ reply.Swept → Whole (pool_call n worker (number_at place) pool_calls.Sweep) (made_of stage.Sweep r ∷ []) (answers.Completed (replies.Pool pool_replies.Done))
-  sweep_whole r is = subst (λ (r : PoolReply ℕ). Whole (pool_call n worker (number_at place) pool_calls.Sweep) (made_of stage.Sweep r ∷ []) (answers.Completed (replies.Pool pool_replies.Done))) (sym is) (Done (Ok Swept), said stage.Sweep reply.Swept Swept refl, refl)
+  sweep_whole : (r : PoolReply ℕ) → r ≡ reply.Swept → Whole (pool_call n worker (object_number place) pool_calls.Sweep) (made_of stage.Sweep r ∷ []) (answers.Completed (replies.Pool pool_replies.Done))
+  sweep_whole r is = subst (λ (r : PoolReply ℕ). Whole (pool_call n worker (object_number place) pool_calls.Sweep) (made_of stage.Sweep r ∷ []) (answers.Completed (replies.Pool pool_replies.Done))) (sym is) (Done (Ok Swept), said stage.Sweep reply.Swept Swept refl, refl)
 
   abbrev CallWhole : ℕ → ℕ → PoolCall → pool.PoolState ℕ → Type 0
-  CallWhole before callers call p = Whole (pool_call callers worker (number_at place) call) (recorded plan before (pool_items worker moment place call p)) (pool_step worker moment call p).1
+  CallWhole before callers call p = Whole (pool_call callers worker (object_number place) call) (recorded plan before (pool_items worker moment place call p)) (pool_step worker moment call p).1
 
   pub pool_whole : (before : ℕ) (call : PoolCall) (p : pool.PoolState ℕ) → length p.primary ≡ n → length p.victims ≡ n → CallWhole before n call p
   pool_whole before (pool_calls.Put item) p primary victims = put_whole item (pool.next p worker (pool_events.Put item)).1 (next_answers n worker p below primary victims (pool_events.Put item) tt)
   pool_whole before pool_calls.Sweep p primary victims = sweep_whole (pool.next p worker pool_events.Sweep).1 (next_answers n worker p below primary victims pool_events.Sweep tt)
   pool_whole before pool_calls.Get p primary victims =
-      subst (λ (c : ℕ). RestWhole p before (due.looks_of c worker 0 (2 * c)) (record_pool.found_by (number_at place) (record_pool.looks_of n worker))) (sym primary) (get_whole (range_with_len 0 (2 * n)) p before primary victims)
+      subst (λ (c : ℕ). RestWhole p before (due.looks_of c worker 0 (2 * c)) (record_pool.found_by (object_number place) (record_pool.looks_of n worker))) (sym primary) (get_whole (range_with_len 0 (2 * n)) p before primary victims)
 
   -- whatever is left behind
   pub whole_tells : (old new : Part (Reply ℕ)) (made : List Made) (a : Answer) → Whole old made a → Tells plan old new made a

@@ -27,7 +27,7 @@ use Rattle.protocols.specs.declared.rw_mutex.RwMutexStage.TheVariants as rw_stag
 use Rattle.protocols.specs.declared.step.Step.{Step}
 use Rattle.protocols.specs.declared.step.Step.TheVariants.{Finished, Next}
 use Rattle.run_record.specs.Parts.{Part, read_as, stages}
-use Rattle.run_record.specs.Record.{number_at}
+use Rattle.run_record.specs.Record.{object_number}
 use Rattle.run_record.specs.declared.entered.ObjectEvent.TheVariants as events
 use Rattle.run_record.specs.declared.entered.ObjectReply.TheVariants as answered
 use Rattle.run_record.specs.declared.made.Made.{Made}
@@ -53,13 +53,13 @@ RwFits call p = p ≡ rw_place.Out
 
 module _ (law : RwStands) (plan : Plan) (place worker moment : ℕ) where
   abbrev from : RwMutexStage → Part (Reply ℕ)
-  from stage = read_as replies.Lock (stages events.RwMutex answered.RwMutex rw_event rw_meaning (number_at place) stage)
+  from stage = read_as replies.Lock (stages events.RwMutex answered.RwMutex rw_event rw_meaning (object_number place) stage)
 
   abbrev made_of : RwMutexStage → RwReply → Made
-  made_of stage r = event_made events.RwMutex answered.RwMutex rw_event rw_meaning (number_at place) worker (rw_event stage moment) r
+  made_of stage r = event_made events.RwMutex answered.RwMutex rw_event rw_meaning (object_number place) worker (rw_event stage moment) r
 
   abbrev Goes : RwMutexCall → RwPlace → Step RwMutexStage LockReply → Type 0
-  Goes call q step = Continues events.RwMutex answered.RwMutex rw_event rw_meaning (number_at place) worker plan replies.Lock replies.Lock (λ outcome. refl) (rw_left (number_at place) call (rw_waits q)) step
+  Goes call q step = Continues events.RwMutex answered.RwMutex rw_event rw_meaning (object_number place) worker plan replies.Lock replies.Lock (λ outcome. refl) (rw_left (object_number place) call (rw_waits q)) step
 
   -- one that waits goes on by this stage
   abbrev Later : RwMutexCall → RwMutexStage → Type 0
@@ -68,8 +68,8 @@ module _ (law : RwStands) (plan : Plan) (place worker moment : ℕ) where
   Later call rw_stage.Resume = rw_later call ≡ rw_stage.Resume
   Later call stage = Unit {0}
 
-  queued : (call : RwMutexCall) (stage : RwMutexStage) (q : RwPlace) → rw_later call ≡ stage → rw_waits q ≡ true → (rest : List Made) (given : CallAnswer (Reply ℕ)) → rw_left (number_at place) call (rw_waits q) rest given → from stage rest given
-  queued call stage q is waits rest given l = subst (λ (s : RwMutexStage). from s rest given) is (subst (λ (b : Bool). rw_left (number_at place) call b rest given) waits l)
+  queued : (call : RwMutexCall) (stage : RwMutexStage) (q : RwPlace) → rw_later call ≡ stage → rw_waits q ≡ true → (rest : List Made) (given : CallAnswer (Reply ℕ)) → rw_left (object_number place) call (rw_waits q) rest given → from stage rest given
+  queued call stage q is waits rest given l = subst (λ (s : RwMutexStage). from s rest given) is (subst (λ (b : Bool). rw_left (object_number place) call b rest given) waits l)
 
   goes : (call : RwMutexCall) (stage : RwMutexStage) (p q : RwPlace) (r : RwReply) → Later call stage → rw_standing.is_answer (rw_event stage moment) r ≡ true → rw_moves.MovesOwn r p q → Goes call q (rw_meaning stage r)
   goes call rw_stage.Lock p q (rw_reply.Arrived rw_arrival.Acquired) later is moves = tt
@@ -109,10 +109,10 @@ module _ (law : RwStands) (plan : Plan) (place worker moment : ℕ) where
 
   rw_made : (call : RwMutexCall) (stage : RwMutexStage) (m : rw.State) (p : RwPlace) → rw.place_of m worker ≡ p → worker < m.callers → rw.IsValid m → rw.is_needed (rw_event stage moment) p ≡ true → Later call stage
       → let n = rw.next m worker (rw_event stage moment) in
-      Tells plan (from stage) (rw_left (number_at place) call (rw_waits (rw.place_of n.0 worker))) (made_of stage n.1 ∷ []) (answer_by locked (outcome_of (rw_meaning stage n.1)))
+      Tells plan (from stage) (rw_left (object_number place) call (rw_waits (rw.place_of n.0 worker))) (made_of stage n.1 ∷ []) (answer_by locked (outcome_of (rw_meaning stage n.1)))
   rw_made call stage m p at below valid needed later =
       let n = rw.next m worker (rw_event stage moment) in
-      stage_tells events.RwMutex answered.RwMutex rw_event rw_meaning (number_at place) worker plan replies.Lock replies.Lock (λ outcome. refl) stage moment n.1 (rw_left (number_at place) call (rw_waits (rw.place_of n.0 worker)))
+      stage_tells events.RwMutex answered.RwMutex rw_event rw_meaning (object_number place) worker plan replies.Lock replies.Lock (λ outcome. refl) stage moment n.1 (rw_left (object_number place) call (rw_waits (rw.place_of n.0 worker)))
       (goes call stage (rw.place_of m worker) (rw.place_of n.0 worker) n.1 later (rw_answer stage m p at below needed) (law.own m worker (rw_event stage moment) valid))
 
   -- a writer that was granted the lock tries to go on, and leaves
@@ -120,9 +120,9 @@ module _ (law : RwStands) (plan : Plan) (place worker moment : ℕ) where
       → Tells plan (from rw_stage.Resume) new (made_of rw_stage.Resume r ∷ made_of rw_stage.LeaveWriting s ∷ []) (answer_by locked (outcome_of (rw_meaning rw_stage.LeaveWriting s)))
   granted_tells new r rw_reply.Left still is = (
     Done (Ok lock_replies.Done),
-    says events.RwMutex answered.RwMutex rw_event rw_meaning (number_at place) worker rw_stage.Resume moment r (Next rw_stage.LeaveWriting) (ap (rw_meaning rw_stage.Resume) still)
+    says events.RwMutex answered.RwMutex rw_event rw_meaning (object_number place) worker rw_stage.Resume moment r (Next rw_stage.LeaveWriting) (ap (rw_meaning rw_stage.Resume) still)
         (made_of rw_stage.LeaveWriting rw_reply.Left ∷ []) (Done (Ok lock_replies.Done))
-        (says events.RwMutex answered.RwMutex rw_event rw_meaning (number_at place) worker rw_stage.LeaveWriting moment rw_reply.Left (Finished lock_replies.Done) refl),
+        (says events.RwMutex answered.RwMutex rw_event rw_meaning (object_number place) worker rw_stage.LeaveWriting moment rw_reply.Left (Finished lock_replies.Done) refl),
     refl,
   )
   granted_tells new r s still is = no is
@@ -137,7 +137,7 @@ module _ (law : RwStands) (plan : Plan) (place worker moment : ℕ) where
 
   pub rw_tells : (before : ℕ) (call : RwMutexCall) (p : RwPlace) (m : rw.State) → rw.place_of m worker ≡ p → RwFits call p → worker < m.callers → rw.IsValid m
       → let made = make rw.next rw_event rw_meaning worker moment (rw_due call p) m in
-      Tells plan (rw_left (number_at place) call (rw_waits p)) (rw_left (number_at place) call (rw_waits (rw.place_of made.0 worker)))
+      Tells plan (rw_left (object_number place) call (rw_waits p)) (rw_left (object_number place) call (rw_waits (rw.place_of made.0 worker)))
       (recorded plan before (tries_first worker moment place p m ++ stage_items events.RwMutex answered.RwMutex rw.next rw_event worker moment place (rw_due call p) m)) (answer_by locked made.1)
   rw_tells before rw_calls.Lock rw_place.Out m at fits below valid = rw_made rw_calls.Lock rw_stage.Lock m rw_place.Out at below valid refl refl
   rw_tells before rw_calls.Unlock rw_place.Out m at fits below valid = rw_made rw_calls.Unlock rw_stage.Unlock m rw_place.Out at below valid refl tt
@@ -161,7 +161,7 @@ module _ (law : RwStands) (plan : Plan) (place worker moment : ℕ) where
   rw_tells before rw_calls.TryRLock rw_place.Handed m at fits below valid = absurd cc
   rw_tells before rw_calls.Lock rw_place.Granted m at fits below valid =
       let n = rw.next m worker event.Leave in
-      granted_tells (rw_left (number_at place) rw_calls.Lock (rw_waits (rw.place_of n.0 worker))) (rw.next m worker (event.WriteWoken moment)).1 n.1 (granted_still m at) (rw_answer rw_stage.LeaveWriting m rw_place.Granted at below refl)
+      granted_tells (rw_left (object_number place) rw_calls.Lock (rw_waits (rw.place_of n.0 worker))) (rw.next m worker (event.WriteWoken moment)).1 n.1 (granted_still m at) (rw_answer rw_stage.LeaveWriting m rw_place.Granted at below refl)
   rw_tells before rw_calls.RLock rw_place.Granted m at fits below valid = absurd fits
   rw_tells before rw_calls.Unlock rw_place.Granted m at fits below valid = absurd cc
   rw_tells before rw_calls.TryLock rw_place.Granted m at fits below valid = absurd cc

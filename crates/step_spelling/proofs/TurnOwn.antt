@@ -34,7 +34,7 @@ use Rattle.run_record.specs.Objects.{map_number, atomic_number}
 use Rattle.run_record.specs.OnceKind.{failure}
 use Rattle.run_record.specs.Parts.{returns}
 use Rattle.run_record.specs.PoolKind.{pool_call}
-use Rattle.run_record.specs.Record.{number_at, shared_in}
+use Rattle.run_record.specs.Record.{object_number, shared_in}
 use Rattle.run_record.specs.declared.entered.ObjectEvent.{ObjectEvent}
 use Rattle.run_record.specs.declared.entered.ObjectEvent.TheVariants as events
 use Rattle.run_record.specs.declared.entered.ObjectReply.{ObjectReply}
@@ -220,7 +220,7 @@ module _ (laws : Laws) (plan : Plan) (worker before place moment : ℕ) where
   turn_own operations.OnceValue (states.OnceValue o value) has alone below is keys out stands = value_own o value stands (omega (arith, below, is))
   turn_own (operations.Pool call) (states.Pool p) has alone below is keys out stands =
       let step = turn_on (operations.Pool call) worker moment (states.Pool p) in (
-        whole_tells laws.pools plan place worker moment plan.workers below (pool_call plan.workers worker (number_at place) call) _ _ step.1 (pool_whole laws.pools plan place worker moment plan.workers below before call p is.0 is.1),
+        whole_tells laws.pools plan place worker moment plan.workers below (pool_call plan.workers worker (object_number place) call) _ _ step.1 (pool_whole laws.pools plan place worker moment plan.workers below before call p is.0 is.1),
         behind (operations.Pool call) worker step.1 step.0 tt tt,
       )
   turn_own (operations.Cond call) o has alone below is keys out stands = absurd (cond_refers o call has alone)

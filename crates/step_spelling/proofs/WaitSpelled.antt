@@ -33,7 +33,7 @@ use Rattle.protocols.specs.declared.wait_group.GroupStage.TheVariants as group_s
 use Rattle.protocols.specs.declared.step.Step.{Step}
 use Rattle.protocols.specs.declared.step.Step.TheVariants.{Finished, Waits}
 use Rattle.run_record.specs.Parts.{Part, read_as, stages}
-use Rattle.run_record.specs.Record.{number_at}
+use Rattle.run_record.specs.Record.{object_number}
 use Rattle.run_record.specs.declared.entered.ObjectEvent.{ObjectEvent}
 use Rattle.run_record.specs.declared.entered.ObjectEvent.TheVariants as events
 use Rattle.run_record.specs.declared.entered.ObjectReply.{ObjectReply}
@@ -65,12 +65,12 @@ GroupBehind call x g (answers.Misused misuse) = Unit {0}
 module _ (law : GroupStands) (plan : Plan) (place worker moment : ℕ) where
   abbrev GroupGoes : WaitGroupCall → Bool → Step GroupStage (Unit {0}) → Type 0
   GroupGoes call waits step =
-      Continues events.WaitGroup answered.WaitGroup group_event group_meaning (number_at place) worker plan (λ done. replies.Returned) (λ done. replies.Returned) (λ done. refl) (group_left (number_at place) call waits) step
+      Continues events.WaitGroup answered.WaitGroup group_event group_meaning (object_number place) worker plan (λ done. replies.Returned) (λ done. replies.Returned) (λ done. refl) (group_left (object_number place) call waits) step
 
   abbrev GroupTells : WaitGroupCall → GroupStage → Bool → group.GroupState → GroupReply → Type 0
   GroupTells call stage w n r =
-      Tells plan (read_as (λ done. replies.Returned) (stages events.WaitGroup answered.WaitGroup group_event group_meaning (number_at place) stage)) (group_left (number_at place) call (group_standing.waits_at n worker))
-      (event_made events.WaitGroup answered.WaitGroup group_event group_meaning (number_at place) worker (group_event stage moment) r ∷ []) (answer_by returned (outcome_of (group_meaning stage r)))
+      Tells plan (read_as (λ done. replies.Returned) (stages events.WaitGroup answered.WaitGroup group_event group_meaning (object_number place) stage)) (group_left (object_number place) call (group_standing.waits_at n worker))
+      (event_made events.WaitGroup answered.WaitGroup group_event group_meaning (object_number place) worker (group_event stage moment) r ∷ []) (answer_by returned (outcome_of (group_meaning stage r)))
       × GroupBehind call worker n (answer_by returned (outcome_of (group_meaning stage r)))
 
   abbrev Fits : WaitGroupCall → GroupStage → Bool → Type 0
@@ -80,15 +80,15 @@ module _ (law : GroupStands) (plan : Plan) (place worker moment : ℕ) where
   Fits call group_stage.Leave w = call ≡ group_calls.Wait
 
   group_stage_tells : (call : WaitGroupCall) (stage : GroupStage) (n : group.GroupState) (r : GroupReply) → GroupGoes call (group_standing.waits_at n worker) (group_meaning stage r)
-      → Tells plan (read_as (λ done. replies.Returned) (stages events.WaitGroup answered.WaitGroup group_event group_meaning (number_at place) stage)) (group_left (number_at place) call (group_standing.waits_at n worker))
-      (event_made events.WaitGroup answered.WaitGroup group_event group_meaning (number_at place) worker (group_event stage moment) r ∷ []) (answer_by returned (outcome_of (group_meaning stage r)))
+      → Tells plan (read_as (λ done. replies.Returned) (stages events.WaitGroup answered.WaitGroup group_event group_meaning (object_number place) stage)) (group_left (object_number place) call (group_standing.waits_at n worker))
+      (event_made events.WaitGroup answered.WaitGroup group_event group_meaning (object_number place) worker (group_event stage moment) r ∷ []) (answer_by returned (outcome_of (group_meaning stage r)))
   group_stage_tells call stage n r goes =
-      stage_tells events.WaitGroup answered.WaitGroup group_event group_meaning (number_at place) worker plan (λ done. replies.Returned) (λ done. replies.Returned) (λ done. refl) stage moment r (group_left (number_at place) call (group_standing.waits_at n worker)) goes
+      stage_tells events.WaitGroup answered.WaitGroup group_event group_meaning (object_number place) worker plan (λ done. replies.Returned) (λ done. replies.Returned) (λ done. refl) stage moment r (group_left (object_number place) call (group_standing.waits_at n worker)) goes
 
   -- a wait that was queued leaves later
-  waits_on : (n : group.GroupState) → group_standing.waits_at n worker ≡ true → (rest : List Made) (given : CallAnswer (Reply ℕ)) → group_left (number_at place) group_calls.Wait (group_standing.waits_at n worker) rest given
-      → read_as (λ done. replies.Returned) (stages events.WaitGroup answered.WaitGroup group_event group_meaning (number_at place) group_stage.Leave) rest given
-  waits_on n waits rest given l = subst (λ (b : Bool). group_left (number_at place) group_calls.Wait b rest given) waits l
+  waits_on : (n : group.GroupState) → group_standing.waits_at n worker ≡ true → (rest : List Made) (given : CallAnswer (Reply ℕ)) → group_left (object_number place) group_calls.Wait (group_standing.waits_at n worker) rest given
+      → read_as (λ done. replies.Returned) (stages events.WaitGroup answered.WaitGroup group_event group_meaning (object_number place) group_stage.Leave) rest given
+  waits_on n waits rest given l = subst (λ (b : Bool). group_left (object_number place) group_calls.Wait b rest given) waits l
 
   group_by : (call : WaitGroupCall) (stage : GroupStage) (w : Bool) (n : group.GroupState) (r : GroupReply) → Fits call stage w → group_standing.answers w (group_event stage moment) r ≡ true → r ≢ group_reply.Still
       → group_standing.waits_at n worker ≡ group_standing.waits_after w (group_event stage moment) r → GroupTells call stage w n r
@@ -121,7 +121,7 @@ module _ (law : GroupStands) (plan : Plan) (place worker moment : ℕ) where
   abbrev GroupTurn : ℕ → WaitGroupCall → GroupPlace → group.GroupState → Type 0
   GroupTurn before call p g =
       let made = make group.next group_event group_meaning worker moment (group_due call p) g in
-      Tells plan (group_left (number_at place) call (group_standing.is_in p)) (group_left (number_at place) call (group_standing.waits_at made.0 worker))
+      Tells plan (group_left (object_number place) call (group_standing.is_in p)) (group_left (object_number place) call (group_standing.waits_at made.0 worker))
       (recorded plan before (stage_items events.WaitGroup answered.WaitGroup group.next group_event worker moment place (group_due call p) g)) (answer_by returned made.1)
       × GroupBehind call worker made.0 (answer_by returned made.1)
 
@@ -167,22 +167,22 @@ before_end ended made = []
 -- the event of the stage that is due, in a record
 abbrev pub due_made : {T : Type 0} → (OnceEvent T → ObjectEvent) → (OnceReply T → ObjectReply) → ℕ → ℕ → ℕ → Option (OnceStage T) → once.OnceState T → List Made
 due_made event answer place worker moment None o = []
-due_made event answer place worker moment (Some stage) o = event_made event answer once_event once_meaning (number_at place) worker (once_event stage moment) (once.next o worker (once_event stage moment)).1 ∷ []
+due_made event answer place worker moment (Some stage) o = event_made event answer once_event once_meaning (object_number place) worker (once_event stage moment) (once.next o worker (once_event stage moment)).1 ∷ []
 
 module _ {T : Type 0} (event : OnceEvent T → ObjectEvent) (answer : OnceReply T → ObjectReply) (law : OnceStands T) (plan : Plan) (place worker moment : ℕ) (function : Part T) (ran returned : T → Reply ℕ) (value : T)
     (ran_reply : Reply (List ℕ)) (had : T → Reply (List ℕ)) (reads_ran : recorded_reply plan ran_reply ≡ ran value) (reads_had : (kept : T) → recorded_reply plan (had kept) ≡ returned kept)
     (ended : List Made) (is_run : function ended (Done (Ok value))) where
   abbrev part : OnceStage T → Part (OnceOutcome T)
-  part stage = stages event answer once_event once_meaning (number_at place) stage
+  part stage = stages event answer once_event once_meaning (object_number place) stage
 
   abbrev left : Bool → Bool → Part (Reply ℕ)
   left runs waits = once_left part function ran returned runs waits
 
   abbrev made_of : OnceStage T → OnceReply T → Made
-  made_of stage r = event_made event answer once_event once_meaning (number_at place) worker (once_event stage moment) r
+  made_of stage r = event_made event answer once_event once_meaning (object_number place) worker (once_event stage moment) r
 
   said : (stage : OnceStage T) (r : OnceReply T) (outcome : OnceOutcome T) → once_meaning stage r ≡ Finished outcome → part stage (made_of stage r ∷ []) (Done (Ok outcome))
-  said stage r outcome is = says event answer once_event once_meaning (number_at place) worker stage moment r (Finished outcome) is
+  said stage r outcome is = says event answer once_event once_meaning (object_number place) worker stage moment r (Finished outcome) is
 
   abbrev OnceTells : OnceStage T → Bool → Bool → once.OnceState T → OnceReply T → Type 0
   OnceTells stage runs w n r =
@@ -215,7 +215,7 @@ module _ {T : Type 0} (event : OnceEvent T → ObjectEvent) (answer : OnceReply 
           y.1,
           y.2,
           ap (λ (l : List Made). made_of once_stage.Begin once_reply.Queued ∷ l) y.3,
-          says event answer once_event once_meaning (number_at place) worker once_stage.Begin moment once_reply.Queued (Waits once_stage.Leave) refl y.0 y.2 y.4,
+          says event answer once_event once_meaning (object_number place) worker once_stage.Begin moment once_reply.Queued (Waits once_stage.Leave) refl y.0 y.2 y.4,
           y.5,
         ),
     λ runs. clash (once_standing.runs_at n worker) at.0 runs,

@@ -41,7 +41,7 @@ use Rattle.run_record.specs.MutexKind.{mutex_part, mutex_call}
 use Rattle.run_record.specs.Objects.{atomic_number}
 use Rattle.run_record.specs.OnceKind.{goes_on_once, once_part, failure}
 use Rattle.run_record.specs.Parts.{Part, and_then, never, read_as, returns, stages}
-use Rattle.run_record.specs.Record.{number_at}
+use Rattle.run_record.specs.Record.{object_number}
 use Rattle.run_record.specs.RwMutexKind.{rw_mutex_call}
 use Rattle.run_record.specs.WaitGroupKind.{wait_group_call}
 use Rattle.run_record.specs.declared.entered.ObjectEvent.TheVariants as events
@@ -108,22 +108,22 @@ module _ {T : Type 0} (part : OnceStage T → Part (OnceOutcome T)) (function : 
 module _ (plan : Plan) (worker before place : ℕ) where
   -- at an object that refers to no other
   abbrev pub left_on : Operation → ObjectState → Part (Reply ℕ)
-  left_on (operations.Mutex call) (states.Mutex m) = mutex_left (number_at place) call (mutex_waits (mutex.place_of m worker))
-  left_on (operations.RwMutex call) (states.RwMutex m) = rw_left (number_at place) call (rw_waits (rw.place_of m worker))
-  left_on (operations.WaitGroup call) (states.WaitGroup g first) = group_left (number_at place) call (group.waits_at g worker)
+  left_on (operations.Mutex call) (states.Mutex m) = mutex_left (object_number place) call (mutex_waits (mutex.place_of m worker))
+  left_on (operations.RwMutex call) (states.RwMutex m) = rw_left (object_number place) call (rw_waits (rw.place_of m worker))
+  left_on (operations.WaitGroup call) (states.WaitGroup g first) = group_left (object_number place) call (group.waits_at g worker)
   left_on operations.OnceFunc (states.OnceFunc o code) =
-      once_left (stages events.OnceFunc answered.OnceFunc once_event once_meaning (number_at place)) (returns code) (λ kept. replies.OnceFunc (failure kept)) (λ kept. replies.OnceFunc (failure kept))
+      once_left (stages events.OnceFunc answered.OnceFunc once_event once_meaning (object_number place)) (returns code) (λ kept. replies.OnceFunc (failure kept)) (λ kept. replies.OnceFunc (failure kept))
       (once.runs_at o worker) (once.waits_at o worker)
   left_on operations.OnceValue (states.OnceValue o value) =
-      once_left (stages events.OnceValue answered.OnceValue once_event once_meaning (number_at place)) (returns value) replies.OnceValue replies.OnceValue (once.runs_at o worker) (once.waits_at o worker)
+      once_left (stages events.OnceValue answered.OnceValue once_event once_meaning (object_number place)) (returns value) replies.OnceValue replies.OnceValue (once.runs_at o worker) (once.waits_at o worker)
   left_on operation o = call_on plan worker before place (kind_of o) operation
 
   -- at an object that refers to the one at that place
   abbrev pub left_on_both : ℕ → Operation → ObjectState → ObjectState → Part (Reply ℕ)
   left_on_both other (operations.Cond call) (states.Cond c at) (states.Mutex m) =
-      cond_left (number_at place) (number_at other) call (has_ticket c worker) (mutex_waits (mutex.place_of m worker))
+      cond_left (object_number place) (object_number other) call (has_ticket c worker) (mutex_waits (mutex.place_of m worker))
   left_on_both other operations.Once (states.Once o at delta) (states.Atomic number) =
-      once_left (stages events.Once answered.Once once_event once_meaning (number_at place)) (adds (atomic_number plan.objects other) delta) (λ sum. replies.Once (do_replies.Ran sum))
+      once_left (stages events.Once answered.Once once_event once_meaning (object_number place)) (adds (atomic_number plan.objects other) delta) (λ sum. replies.Once (do_replies.Ran sum))
       (λ kept. replies.Once do_replies.Done) (once.runs_at o worker) (once.waits_at o worker)
   left_on_both other operation o target = never
 

@@ -15,7 +15,7 @@ use Rattle.workload.specs.Keys.{keys_in, key_number}
 use Rattle.workload.specs.Plan.{Plan}
 use Rattle.run_record.specs.MapKind.{cursor_showing}
 use Rattle.run_record.specs.Objects.{map_number, atomic_number}
-use Rattle.run_record.specs.Record.{number_at, shared_in}
+use Rattle.run_record.specs.Record.{object_number, shared_in}
 use Rattle.run_record.specs.declared.made.Made.{Made}
 use Rattle.run_record.specs.declared.made.Made.TheVariants.{Shared, Entered}
 use Rattle.step_turns.specs.Items.{Item, Deed, placed, entered}
@@ -38,7 +38,7 @@ module _ (plan : Plan) where
 
   abbrev pub recorded_deed : ℕ → ℕ → ℕ → Deed → List Made
   recorded_deed before place caller (placed operation reply) = map made_shared (shared_calls before place operation reply)
-  recorded_deed before place caller (entered event answer) = Entered (number_at place) (record { caller = caller; deed = Event event answer; front = []; knew = 0 }) ∷ []
+  recorded_deed before place caller (entered event answer) = Entered (object_number place) (record { caller = caller; deed = Event event answer; front = []; knew = 0 }) ∷ []
 
   abbrev pub recorded_item : ℕ → Item → List Made
   recorded_item before item = recorded_deed before item.object item.caller item.deed

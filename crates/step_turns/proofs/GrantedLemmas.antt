@@ -10,7 +10,7 @@ use Rattle.rw_core.specs.declared.reply.RwReply.TheVariants as rw_reply
 use Rattle.run_record.specs.declared.entered.ObjectEvent.TheVariants as events
 use Rattle.run_record.specs.declared.entered.ObjectReply.TheVariants as answered
 use Rattle.sync_model.specs.Log.{entry}
-use Rattle.step_turns.specs.ComesTo.{FollowsTo}
+use Rattle.step_turns.specs.LeadsTo.{FollowsTo}
 use Rattle.step_turns.specs.Items.{Item, entered, tries_first, is_requeued, goes_back, unlocks}
 
 -- whoever was granted the lock isn't told to go on at the inner mutex

@@ -44,7 +44,7 @@ use Rattle.run_record.specs.declared.entered.ObjectReply.TheVariants as answered
 use Rattle.step_turns.specs.declared.answer.Answer.{Answer}
 use Rattle.step_turns.specs.declared.object_state.ObjectState.{ObjectState}
 use Rattle.step_turns.specs.declared.object_state.ObjectState.TheVariants as states
-use Rattle.step_turns.specs.ComesTo.{on_object, told_in, told_by, FollowsTo, CallsTo, MapGoes, AtomicGoes, ComesTo}
+use Rattle.step_turns.specs.LeadsTo.{on_object, told_in, told_by, FollowsTo, CallsTo, MapGoes, AtomicGoes, LeadsTo}
 use Rattle.step_turns.specs.Due.{mutex_due, rw_due, group_due, cond_due, once_due, looks_of}
 use Rattle.step_turns.specs.Items.{Item, Deed, stage_items, tries_first, once_items, pool_item, unless_found, look_items, pool_items, items_on, add_items, items_on_both, items_at}
 use Rattle.step_turns.specs.PoolTurn.{looked, found_or, found_by, pool_step}
@@ -80,7 +80,7 @@ module _ {S : Type 0} (goes : Operation → S → Reply (List ℕ) → S → Typ
   join_calls first middle last [] two same later = subst (λ (s : S). CallsTo goes s two last) same later
   join_calls first middle last (item ∷ one) two (operation, reply, next, is, went, rest) later = (operation, reply, next, is, went, join_calls next middle last one two rest later)
 
-pub comes_nowhere : (o : ObjectState) → ComesTo o [] o
+pub comes_nowhere : (o : ObjectState) → LeadsTo o [] o
 comes_nowhere (states.Map m) = refl
 comes_nowhere (states.Atomic number) = refl
 comes_nowhere (states.Mutex m) = ([], refl, tt, refl)
@@ -92,7 +92,7 @@ comes_nowhere (states.OnceFunc o code) = ([], refl, tt, refl)
 comes_nowhere (states.OnceValue o value) = ([], refl, tt, refl)
 comes_nowhere (states.Pool p) = ([], refl, tt, refl)
 
-pub comes_on : (a b c : ObjectState) (one two : List Item) → ComesTo a one b → ComesTo b two c → ComesTo a (one ++ two) c
+pub comes_on : (a b c : ObjectState) (one two : List Item) → LeadsTo a one b → LeadsTo b two c → LeadsTo a (one ++ two) c
 comes_on (states.Map l) (states.Map m) (states.Map n) one two first later = join_calls MapGoes l m n one two first later
 comes_on (states.Atomic l) (states.Atomic m) (states.Atomic n) one two first later = join_calls AtomicGoes l m n one two first later
 comes_on (states.Mutex l) (states.Mutex m) (states.Mutex n) one two first later = join_logs events.Mutex answered.Mutex mutex.next l m n one two first later
@@ -159,7 +159,7 @@ module _ (worker moment object : ℕ) where
   pool_comes pool_calls.Get p = looks_come (looks_of (pool.callers_of p) worker 0 (2 * pool.callers_of p)) p
 
 -- at an object that refers to no other
-on_comes : (operation : Operation) (worker moment object : ℕ) (o : ObjectState) → ComesTo o (items_on operation worker moment object o) (turn_on operation worker moment o).0
+on_comes : (operation : Operation) (worker moment object : ℕ) (o : ObjectState) → LeadsTo o (items_on operation worker moment object o) (turn_on operation worker moment o).0
 on_comes (operations.Map call) worker moment object (states.Map m) = (operations.Map call, _, _, refl, (refl, refl), refl)
 on_comes operations.Range worker moment object (states.Map m) = (operations.Range, _, _, refl, (refl, refl), refl)
 on_comes (operations.Atomic call) worker moment object (states.Atomic number) = (operations.Atomic call, _, _, refl, (refl, refl), refl)
@@ -231,15 +231,15 @@ on_at operation worker moment object o = tt
 -- ---- at two objects: what is made is made on one or on the other, and each comes by its own
 
 record Both (object other k : ℕ) (o target : ObjectState) (new : ObjectState × ObjectState) (made : List Item) : Type 0 where
-  first : ComesTo o (on_object object made) new.0
-  second : ComesTo target (on_object other made) new.1
+  first : LeadsTo o (on_object object made) new.0
+  second : LeadsTo target (on_object other made) new.1
   third : k ≢ object → k ≢ other → on_object k made ≡ []
 
 -- items of two objects, one after the other
-two_parts : (object other k : ℕ) (o target n t : ObjectState) (a b : List Item) → other ≢ object → AllAt object a → AllAt other b → ComesTo o a n → ComesTo target b t → Both object other k o target (n, t) (a ++ b)
+two_parts : (object other k : ℕ) (o target n t : ObjectState) (a b : List Item) → other ≢ object → AllAt object a → AllAt other b → LeadsTo o a n → LeadsTo target b t → Both object other k o target (n, t) (a ++ b)
 two_parts object other k o target n t a b apart at there one two = record {
-  first = subst (λ (made : List Item). ComesTo o made n) (sym (filter-append (λ item. item.object == object) a b ∙ ((λ i. here object a at i ++ elsewhere other object b (λ same. apart (sym same)) there i) ∙ append-nil a))) one;
-  second = subst (λ (made : List Item). ComesTo target made t) (sym (filter-append (λ item. item.object == other) a b ∙ (λ i. elsewhere object other a apart at i ++ here other b there i))) two;
+  first = subst (λ (made : List Item). LeadsTo o made n) (sym (filter-append (λ item. item.object == object) a b ∙ ((λ i. here object a at i ++ elsewhere other object b (λ same. apart (sym same)) there i) ∙ append-nil a))) one;
+  second = subst (λ (made : List Item). LeadsTo target made t) (sym (filter-append (λ item. item.object == other) a b ∙ (λ i. elsewhere object other a apart at i ++ here other b there i))) two;
   third = λ ne nf. filter-append (λ item. item.object == k) a b ∙ (λ i. elsewhere object k a ne at i ++ elsewhere other k b nf there i);
 }
 
@@ -253,7 +253,7 @@ add_at worker other delta number (Ok (Already kept)) = tt
 add_at worker other delta number (Err answer) = tt
 
 add_comes : (worker other : ℕ) (delta held : ℤ) (made : Result (OnceOutcome ℤ) Answer)
-    → ComesTo (states.Atomic (Int64 held)) (add_items worker other delta (Int64 held) made) (states.Atomic (number_after made (Int64 (int_wrapping_add w64 held delta)) (Int64 held)))
+    → LeadsTo (states.Atomic (Int64 held)) (add_items worker other delta (Int64 held) made) (states.Atomic (number_after made (Int64 (int_wrapping_add w64 held delta)) (Int64 held)))
 add_comes worker other delta held (Ok Ended) = (operations.Atomic (Add (Int64 delta)), _, _, refl, (refl, refl), refl)
 add_comes worker other delta held (Ok Run) = refl
 add_comes worker other delta held (Ok (Already kept)) = refl
@@ -291,7 +291,7 @@ both_come operation worker moment object other k o target apart = none_made obje
 
 abbrev pub ComesAt : Option ObjectState → List Item → Option ObjectState → Type 0
 ComesAt None made None = Unit {0}
-ComesAt (Some old) made (Some new) = ComesTo old made new
+ComesAt (Some old) made (Some new) = LeadsTo old made new
 ComesAt None made (Some new) = ⊥
 ComesAt (Some old) made None = ⊥
 
@@ -300,9 +300,9 @@ stays None = tt
 stays (Some o) = comes_nowhere o
 
 -- behind a write: at its place, and at any other
-set_comes : (objects : List ObjectState) (place : ℕ) (object next : ObjectState) (made : List Item) → slice_get objects place ≡ Some object → ComesTo object made next → ComesAt (slice_get objects place) made (slice_get (set objects place next) place)
+set_comes : (objects : List ObjectState) (place : ℕ) (object next : ObjectState) (made : List Item) → slice_get objects place ≡ Some object → LeadsTo object made next → ComesAt (slice_get objects place) made (slice_get (set objects place next) place)
 set_comes [] place object next made at comes = absurd cc
-set_comes (first ∷ objects) zero object next made at comes = let same : object ≡ first = cc in subst (λ (o : ObjectState). ComesTo o made next) same comes
+set_comes (first ∷ objects) zero object next made at comes = let same : object ≡ first = cc in subst (λ (o : ObjectState). LeadsTo o made next) same comes
 set_comes (first ∷ objects) (suc place) object next made at comes = set_comes objects place object next made at comes
 
 set_stays : (objects : List ObjectState) (place k : ℕ) (next : ObjectState) → k ≢ place → slice_get (set objects place next) k ≡ slice_get objects k

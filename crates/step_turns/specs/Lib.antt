@@ -1,6 +1,6 @@
 pub mod AtomicRange
 pub mod CallTurns
-pub mod ComesTo
+pub mod LeadsTo
 pub mod Completes
 pub mod Due
 pub mod Items

@@ -42,7 +42,7 @@ kind_of (states.OnceFunc o code) = kinds.OnceFunc code
 kind_of (states.OnceValue o value) = kinds.OnceValue value
 kind_of (states.Pool p) = kinds.Pool
 
--- what a turn needs of an object that is a machine: a mutex's state is valid, and the workers are the callers. ComesTo.antt says by what the
+-- what a turn needs of an object that is a machine: a mutex's state is valid, and the workers are the callers. LeadsTo.antt says by what the
 -- machine comes to the state
 abbrev pub IsMachineOf : ℕ → ObjectState → Type 0
 IsMachineOf workers (states.Map m) = Unit {0}

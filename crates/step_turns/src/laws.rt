@@ -11,7 +11,7 @@ ghost use Rattle.step_turns.specs.declared.object_state.ObjectState.{ObjectState
 ghost use Rattle.step_turns.specs.declared.object_state.ObjectState.TheVariants as states;
 ghost use Rattle.step_turns.specs.AtomicRange.{IsInRange};
 ghost use Rattle.step_turns.specs.CallTurns.{turns_left, TakesBy, told_at, is_told, TellsOwn};
-ghost use Rattle.step_turns.specs.ComesTo.{on_object, ComesTo};
+ghost use Rattle.step_turns.specs.LeadsTo.{on_object, LeadsTo};
 ghost use Rattle.step_turns.specs.Completes.{takes_one_turn, IsCompleted};
 ghost use Rattle.step_turns.specs.Items.{Item, items_at, goes_back, unlocks};
 ghost use Rattle.step_turns.specs.MapKeys.{AreAmong, HasObjectKeysIn};
@@ -154,9 +154,9 @@ pub fn few_turns_are_left_of_a_call()
 /// earlier ones led to.
 pub fn items_lead_from_turn_to_turn()
     ensures turn { (workers worker moment place : ℕ) (call : Call) (objects : List ObjectState) (old new : ObjectState) → IsReady workers worker call objects → slice_get objects place ≡ Some old
-        → slice_get (turn_at call worker moment objects).0 place ≡ Some new → ComesTo old (on_object place (items_at call worker moment objects)) new }
-    ensures nowhere { (object : ObjectState) → ComesTo object [] object }
-    ensures on { (first middle last : ObjectState) (earlier later : List Item) → ComesTo first earlier middle → ComesTo middle later last → ComesTo first (earlier ++ later) last }
+        → slice_get (turn_at call worker moment objects).0 place ≡ Some new → LeadsTo old (on_object place (items_at call worker moment objects)) new }
+    ensures nowhere { (object : ObjectState) → LeadsTo object [] object }
+    ensures on { (first middle last : ObjectState) (earlier later : List Item) → LeadsTo first earlier middle → LeadsTo middle later last → LeadsTo first (earlier ++ later) last }
 {}
 
 /// A turn before a call of a map or an atomic makes the call whole, by one item on the call's object: the call is placed there, and

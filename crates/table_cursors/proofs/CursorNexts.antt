@@ -15,8 +15,8 @@ use Rattle.table_rule.specs.declared.view.View.{View}
 use Rattle.trie_nodes.specs.declared.place.Place.{Place}
 use Rattle.trie_nodes.specs.PlaceLists.{nodes_of, slots_of}
 use Rattle.table_seats.specs.Cursors.{Sweeps, IsCursorOf, mounted, unmounted, cursor_seat}
-use Rattle.table_seats.specs.Operations.{Places}
-use Rattle.table_cursors.specs.Ranging.{moved, showing, StepsTo, AreWithin, IsRanging, IsCursor, RangesOn}
+use Rattle.table_seats.specs.Operations.{PlacesCall}
+use Rattle.table_cursors.specs.Ranging.{moved, showing, ShowsNext, AreWithin, IsRanging, IsCursor, RangesOn}
 use Rattle.table_rule.specs.Shape.{start_of}
 use Rattle.table_seats.specs.Seats.{begin_of, IsSeatOf}
 use Rattle.table_rule.specs.Views.{held_in, view_state}
@@ -46,9 +46,9 @@ module _ (words : TableWords) (first : Me (Unit {0}) View) (free : IsFree (begin
       }
 
   module _ (me mid : Me (Unit {0}) View) (place : Place) (shown : Option (ℕ × ℕ)) (me_is : me ≡ (mounted (unmounted first.0) cursor.seat.me.0, first.1)) (same : mid.1 ≡ me.1)
-      (stepped : (z : Spot) → me.0.spot ≡ Some z → StepsTo z shown place me.0 mid.0) where
+      (stepped : (z : Spot) → me.0.spot ≡ Some z → ShowsNext z shown place me.0 mid.0) where
     sweeps : Sweeps (calls.Next is.spot.begin) (replies.Shown shown) (Some (showing (moved is.spot place) shown)) None (record v { spot = cursor.seat.me.0.spot }) mid.0
-    sweeps = subst (λ (u : View). StepsTo is.spot shown place u mid.0) (ap (λ (x : Me (Unit {0}) View). x.0) me_is) (stepped is.spot (ap (λ (x : Me (Unit {0}) View). x.0.spot) me_is ∙ is.is))
+    sweeps = subst (λ (u : View). ShowsNext is.spot shown place u mid.0) (ap (λ (x : Me (Unit {0}) View). x.0) me_is) (stepped is.spot (ap (λ (x : Me (Unit {0}) View). x.0.spot) me_is ∙ is.is))
 
     -- it is outside of all gates
     pub outside : (mid.0.live ≡ true) × (mid.0.gate ≡ Outside)
@@ -75,7 +75,7 @@ module _ (words : TableWords) (first : Me (Unit {0}) View) (free : IsFree (begin
 
       pub steps : RangesOn words after m b (calls.Next b) (replies.Shown shown) first.0 new.0
       steps = subst (λ (u : View). RangesOn words after m b (calls.Next b) (replies.Shown shown) v u) (sym (ap (λ (x : Me (Unit {0}) View). x.0) new_is)) record {
-        placed = subst (λ n. Places (calls.Next n) (replies.Shown shown) v (unmounted mid.0)) is.is_begin
+        placed = subst (λ n. PlacesCall (calls.Next n) (replies.Shown shown) v (unmounted mid.0)) is.is_begin
             (let_go (calls.Next is.spot.begin) (replies.Shown shown) v mid.0 cursor.seat.me.0.spot (Some (showing (moved is.spot place) shown)) free.idle.spot free.idle.leaf sweeps);
         stands = record {
           table_is = table_is;

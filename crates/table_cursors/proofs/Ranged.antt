@@ -16,12 +16,12 @@ use Rattle.table_rule.specs.declared.view.Spot.{Spot}
 use Rattle.table_rule.specs.declared.view.View.{View}
 use Rattle.table_seats.specs.Cursors.{Sweeps, IsCursorOf, unmounted}
 use Rattle.table_cursors.specs.CursorStays.{old_step, still_at, still_step}
-use Rattle.table_seats.specs.Operations.{Places}
+use Rattle.table_seats.specs.Operations.{PlacesCall}
 use Rattle.table_cursors.specs.Ranging.{showing}
 use Rattle.table_rule.specs.Views.{held_in, called_view, with_item, view_state, Looks}
 
 -- a caller's seat let its cursor go when its call was placed: it is as after any other call
-pub let_go : (call : SharedCall) (reply : SharedReply) (v w : View) (before after : Option Spot) → v.spot ≡ None → v.leaf ≡ None → Sweeps call reply after None (record v { spot = before }) w → Places call reply v (unmounted w)
+pub let_go : (call : SharedCall) (reply : SharedReply) (v w : View) (before after : Option Spot) → v.spot ≡ None → v.leaf ≡ None → Sweeps call reply after None (record v { spot = before }) w → PlacesCall call reply v (unmounted w)
 let_go call reply v w before after nowhere entry s = record {
   item = s.item;
   seen = s.seen;

@@ -13,7 +13,7 @@ use Rattle.trie_nodes.specs.PlaceLists.{nodes_of, slots_of}
 use Rattle.trie_nodes.specs.Places.{but_last, last_of}
 use Rattle.table_seats.specs.Cursors.{at_spot, SweepsIn, StandsIn}
 use Rattle.table_cursors.specs.CursorStays.{old_or_last}
-use Rattle.table_cursors.specs.Ranging.{moved, StepsTo, MovesTo, AreWithin, IsRanging}
+use Rattle.table_cursors.specs.Ranging.{moved, ShowsNext, MovesTo, AreWithin, IsRanging}
 use Rattle.table_seats.specs.Walking.{HasWords}
 
 -- a list is its front and its last
@@ -145,7 +145,7 @@ module _ (k : Begin) (first : Me (Unit {0}) View) (z : Spot) (start : Place) (ra
         ended = λ e. ended (on.ended e);
       }
 
-      pub steps : (shown : Option (ℕ × ℕ)) → ((y : Spot) → me.0.spot ≡ Some y → StepsTo y shown new me.0 after.0) → (y : Spot) → first.0.spot ≡ Some y → StepsTo y shown new first.0 after.0
+      pub steps : (shown : Option (ℕ × ℕ)) → ((y : Spot) → me.0.spot ≡ Some y → ShowsNext y shown new me.0 after.0) → (y : Spot) → first.0.spot ≡ Some y → ShowsNext y shown new first.0 after.0
       steps shown moves y at =
-          let s : StepsTo (moved z place) shown new (at_spot first.0 (Some (moved z place)) first.0.leaf) after.0 = subst (λ u. StepsTo (moved z place) shown new u after.0) here (moves (moved z place) ranging_on.cursor.spot) in
-          subst (λ x. StepsTo x shown new first.0 after.0) (same_Some z y (sym ranging.cursor.spot ∙ at)) record { item = s.item; seen = s.seen; is = s.is; called = s.called; looks = s.looks }
+          let s : ShowsNext (moved z place) shown new (at_spot first.0 (Some (moved z place)) first.0.leaf) after.0 = subst (λ u. ShowsNext (moved z place) shown new u after.0) here (moves (moved z place) ranging_on.cursor.spot) in
+          subst (λ x. ShowsNext x shown new first.0 after.0) (same_Some z y (sym ranging.cursor.spot ∙ at)) record { item = s.item; seen = s.seen; is = s.is; called = s.called; looks = s.looks }

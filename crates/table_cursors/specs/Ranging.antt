@@ -17,7 +17,7 @@ use Rattle.table_rule.specs.declared.view.View.{View}
 use Rattle.trie_nodes.specs.declared.place.Place.{Place}
 use Rattle.trie_nodes.specs.PlaceLists.{nodes_of, slots_of}
 use Rattle.table_seats.specs.Cursors.{at_spot, Sweeps, Sweeping, IsCursorOf}
-use Rattle.table_seats.specs.Operations.{Places}
+use Rattle.table_seats.specs.Operations.{PlacesCall}
 use Rattle.table_seats.specs.Seats.{begin_of, IsSeatOf}
 use Rattle.table_rule.specs.Views.{view_state, Looks}
 use Rattle.table_seats.specs.Walking.{HasWords}
@@ -32,13 +32,13 @@ showing z None = z
 showing z (Some pair) = record z { shown = z.shown ++ pair.0 ∷ [] }
 
 -- a seat's cursor made a step, which showed this, and has come to this place
-abbrev pub StepsTo : Spot → Option (ℕ × ℕ) → Place → View → View → Type 0
-StepsTo z shown place v w = Sweeps (calls.Next z.begin) (replies.Shown shown) (Some (showing (moved z place) shown)) None v w
+abbrev pub ShowsNext : Spot → Option (ℕ × ℕ) → Place → View → View → Type 0
+ShowsNext z shown place v w = Sweeps (calls.Next z.begin) (replies.Shown shown) (Some (showing (moved z place) shown)) None v w
 
 -- a seat's cursor made one move, and has come to this place
 abbrev pub MovesTo : Spot → Move → Place → View → View → Type 0
 MovesTo z On place v w = w ≡ at_spot v (Some (moved z place)) v.leaf
-MovesTo z (Shown shown) place v w = StepsTo z shown place v w
+MovesTo z (Shown shown) place v w = ShowsNext z shown place v w
 
 -- all nodes of this place lie within the table
 abbrev pub AreWithin : View → Place → Type 0
@@ -74,6 +74,6 @@ pub record IsCursor (words : TableWords) (cursor : TableCursor) (m b : ℕ) (ite
 
 -- a caller's seat made a call of its cursor, which then walks over map m, and call number b of the caller began it. The seat has then seen the whole history
 pub record RangesOn (words : TableWords) (cursor : TableCursor) (m b : ℕ) (call : SharedCall) (reply : SharedReply) (v w : View) : Type 0 where
-  pub placed : Places call reply v w
+  pub placed : PlacesCall call reply v w
   pub stands : IsCursor words cursor m b (items_of (view_state w).own)
   pub looks : Looks w w

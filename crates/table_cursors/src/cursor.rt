@@ -8,7 +8,7 @@ ghost use Rattle.table_rule.specs.declared.view.Spot.{Spot};
 ghost use Rattle.table_seats.specs.Seats.{begin_of, IsSeatOf};
 ghost use Rattle.table_rule.specs.Views.{made_by, view_state};
 ghost use Rattle.table_seats.specs.Walking.{IsFree};
-ghost use Rattle.table_cursors.specs.Ranging.{AreWithin, IsRanging, MovesTo, StepsTo, HasPassedAll, IsCursor, RangesOn};
+ghost use Rattle.table_cursors.specs.Ranging.{AreWithin, IsRanging, MovesTo, ShowsNext, HasPassedAll, IsCursor, RangesOn};
 ghost use Rattle.trie_nodes.specs.PlaceLists.{slots_of};
 ghost use Rattle.trie_nodes.specs.Places.{last_of, steps_left};
 
@@ -77,7 +77,7 @@ fn step(words: &TableWords, seat: &mut Seat<(), View>, place: &mut Place) -> Opt
     requires table { IsSeatOf words.now seat.old }
     requires cursor { (z : Spot) × IsRanging (begin_of words.now) seat.old.me z place.old }
     ensures table { seat.new.table_id ≡ seat.old.table_id }
-    ensures stepped { (seat.new.me.1 ≡ seat.old.me.1) × ((z : Spot) → seat.old.me.0.spot ≡ Some z → StepsTo z result place.new seat.old.me.0 seat.new.me.0) }
+    ensures stepped { (seat.new.me.1 ≡ seat.old.me.1) × ((z : Spot) → seat.old.me.0.spot ≡ Some z → ShowsNext z result place.new seat.old.me.0 seat.new.me.0) }
     ensures words { AreWithin seat.old.me.0 place.new }
     ensures passed { result ≡ None → slots_of place.new ≡ 16 ∷ [] }
     ensures ended { slots_of place.old ≡ 16 ∷ [] → result ≡ None }

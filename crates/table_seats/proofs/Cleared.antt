@@ -26,7 +26,7 @@ use Rattle.sync_model.specs.EndsOfHistory.{HasKeysBelow}
 use Rattle.table_seats.specs.Laws.{HistoryLaws}
 use Rattle.table_rule.specs.Layout.{root_word, callers_of}
 use Rattle.table_rule.specs.Ledger.{Owned, Fits}
-use Rattle.table_seats.specs.Making.{HasUnit, Made}
+use Rattle.table_seats.specs.Making.{HasUnit, MadeCall}
 use Rattle.table_rule.specs.Owed.{HasRoom, AtGate, Suits}
 use Rattle.table_rule.specs.Rule.{TableState, Kept}
 use Rattle.table_rule.specs.Shape.{Shape, start_of}
@@ -186,7 +186,7 @@ module _ (k : Begin) (laws : HistoryLaws) (s : TableState) (r : Kept k s) (id : 
   pub kept_cleared : Kept k record { words = set s.words (root_word k m) own.next; homes = s.homes; views = set s.views id view_after }
   kept_cleared = moves k laws s r id me.0.number words view_after keeps_all
 
-  pub is_made : Made m Clear Done 18 me.0 view_after
+  pub is_made : MadeCall m Clear Done 18 me.0 view_after
   is_made = record {
     item = item;
     seen = with_call r.log me.0.number item;

@@ -24,7 +24,7 @@ use Rattle.table_seats.specs.Laws.{HistoryLaws}
 use Rattle.trie_nodes.specs.Layout.{atomic_word}
 use Rattle.table_rule.specs.Layout.{callers_of}
 use Rattle.table_rule.specs.Ledger.{Owned, Fits}
-use Rattle.table_seats.specs.Operations.{IsOperation, Places, Operates}
+use Rattle.table_seats.specs.Operations.{IsOperation, PlacesCall, Operates}
 use Rattle.table_rule.specs.Owed.{HasRoom, Suits}
 use Rattle.table_rule.specs.Rule.{TableState, Kept}
 use Rattle.table_rule.specs.Shape.{start_of, IsNumber}
@@ -178,7 +178,7 @@ operates k laws id me a kind call f live begin stands at operation = by_owns me.
             λ other at_other.
                 let same : kind ≡ other = same_Some kind other (sym at ∙ ap (λ (b : Begin). slice_get b.kinds a) (sym begin) ∙ at_other) in
                 let word = slice_index s.words (atomic_word a) in
-                subst (λ z. (is_word z word ≡ true) × Places (Atomic a call) (replies.Atomic (atomic_reply call (number_in z word))) v w) same (
+                subst (λ z. (is_word z word ≡ true) × PlacesCall (Atomic a call) (replies.Atomic (atomic_reply call (number_in z word))) v w) same (
                   was_word k laws s r id v at_me live own owns is a kind at call f operation,
                   record {
                     item = item k laws s r id v at_me live own owns is a kind at call;

@@ -6,7 +6,7 @@ use Rattle.sync_types.specs.declared.map_object.MapReply.TheVariants.{Done}
 use Rattle.table_rule.specs.declared.begin.Begin.{Begin}
 use Rattle.table_rule.specs.declared.view.Gate.TheVariants.{Closed}
 use Rattle.table_rule.specs.declared.view.View.{View}
-use Rattle.table_seats.specs.Making.{Made}
+use Rattle.table_seats.specs.Making.{MadeCall}
 use Rattle.table_seats.specs.Writing.{holding}
 
 -- a seat has closed the gate of a map; it knows that no writer is inside, or doesn't know. It stands nowhere, and holds no lock
@@ -37,4 +37,4 @@ LooksInside m before found after = SeesAlone m (found == 2 ^ 32) before after
 
 -- a seat wrote a new empty root, which placed its call. It used the root's 18 words
 abbrev pub Clears : ℕ → Me (Unit {0}) View → Me (Unit {0}) View → Type 0
-Clears m before after = (after.1 ≡ before.1) × Made m Clear Done 18 before.0 after.0
+Clears m before after = (after.1 ≡ before.1) × MadeCall m Clear Done 18 before.0 after.0

@@ -160,7 +160,7 @@ abbrev pub HasUnit : List Own → ℕ → Type 0
 HasUnit all next = (own : Own) × (owns : List Own) × (all ≡ own ∷ owns) × (own.draft ≡ []) × (own.next ≡ next) × (0 < own.spare)
 
 -- a seat made a call on a map, which used so many words of its caller's room, and has nothing else than before
-pub record Made (m : ℕ) (call : MapCall ℕ) (reply : MapReply) (words : ℕ) (v w : View) : Type 0 where
+pub record MadeCall (m : ℕ) (call : MapCall ℕ) (reply : MapReply) (words : ℕ) (v w : View) : Type 0 where
   pub item : Item
   pub seen : List SharedEntry
   pub is : w ≡ called_view v (paid (cost_of call) words (with_item v.owns item)) seen

@@ -22,7 +22,7 @@ pub record IsOperation (kind : AtomicKind) (call : AtomicCall) (f : ℕ → ℕ)
   pub leads : (word : ℕ) → is_word kind word ≡ true → number_in kind (f word) ≡ atomic_after call (number_in kind word)
 
 -- a seat's step placed a call of its first caller, who has its room as before
-pub record Places (call : SharedCall) (reply : SharedReply) (v w : View) : Type 0 where
+pub record PlacesCall (call : SharedCall) (reply : SharedReply) (v w : View) : Type 0 where
   pub item : Item
   pub seen : List SharedEntry
   pub is : w ≡ called_view v (with_item v.owns item) seen
@@ -32,4 +32,4 @@ pub record Places (call : SharedCall) (reply : SharedReply) (v w : View) : Type 
 abbrev pub Operates : ℕ → AtomicCall → Me (Unit {0}) View → ℕ → Me (Unit {0}) View → Type 0
 Operates a call before found after =
     (after.1 ≡ before.1) × ((kind : AtomicKind) → slice_get before.0.begin.kinds a ≡ Some kind
-    → (is_word kind found ≡ true) × Places (Atomic a call) (replies.Atomic (atomic_reply call (number_in kind found))) before.0 after.0)
+    → (is_word kind found ≡ true) × PlacesCall (Atomic a call) (replies.Atomic (atomic_reply call (number_in kind found))) before.0 after.0)

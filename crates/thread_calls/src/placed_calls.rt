@@ -17,7 +17,7 @@ ghost use Rattle.run_record.specs.Limits.{IsCallOf};
 ghost use Rattle.run_record.specs.MapKind.{map_call, range_call};
 ghost use Rattle.run_record.specs.Objects.{map_number, atomic_number};
 ghost use Rattle.run_record.specs.OnceKind.{do_call};
-ghost use Rattle.run_record.specs.Record.{ObjectEntry, number_at};
+ghost use Rattle.run_record.specs.Record.{ObjectEntry, object_number};
 ghost use Rattle.thread_objects.specs.Desks.{AreSeats, IsObjectAt};
 ghost use Rattle.kind_calls.specs.GivenUp.{MakesOnly, ShowedTooMany, AnsweredAmiss};
 ghost use Rattle.thread_objects.specs.Kinds.{IsOnce};
@@ -122,7 +122,7 @@ pub(crate) fn once_at<S: Shared, C: Clock, R: Wait>(
 ) -> Option<CallAnswer>
     requires site { IsSite S.Mark.at worker.now.at.home.now site.now.workload.now (S.maps site.now.shared.now) (S.kinds site.now.shared.now) (S.takes site.now.shared.now) site.now.objects.now site.now.numbers.now }
     requires homes { S.home_of site.now.shared.now ≡ worker.now.at.home.now }
-    requires once { IsObjectAt IsOnce site.now.objects.now (number_at place) }
+    requires once { IsObjectAt IsOnce site.now.objects.now (object_number place) }
     requires room { place + 1 < length site.now.objects.now }
     requires atomic { IsAt site.now.workload.now atomic (kinds.Atomic types.Int64) }
     requires caller { IsCallerAt S.Mark.at S.Mark.own worker.now.at.home.now caller.old }
@@ -132,7 +132,7 @@ pub(crate) fn once_at<S: Shared, C: Clock, R: Wait>(
     ensures spends { Spends S.Mark.own 0 caller.old.note caller.new.note }
     ensures calls { MakesOnly (IsCallOf site.now.workload.now) (items_of (S.Mark.own caller.old.note)) (items_of (S.Mark.own caller.new.note)) }
     ensures amiss { IfNone result (AnsweredAmiss (items_of (S.Mark.own caller.new.note))) }
-    ensures works { IfSome result (λ answer. Works (do_call (number_at place) (atomic_number site.now.workload.now.objects atomic) delta)
+    ensures works { IfSome result (λ answer. Works (do_call (object_number place) (atomic_number site.now.workload.now.objects atomic) delta)
         (desk_with S.Mark.own S.Mark.front (owns_of passes.old) caller.old.note) answer (desk_with S.Mark.own S.Mark.front (owns_of passes.new) caller.new.note)) }
 {
     let _count = site.objects.len();

@@ -4,7 +4,7 @@ use Rattle.std.proofs.lemmas.Option.{slice_get_within}
 use Rattle.workload.specs.declared.object.ObjectKind.{ObjectKind}
 use Rattle.workload.specs.declared.object.ObjectKind.TheVariants as kinds
 use Rattle.workload.specs.Plan.{Plan}
-use Rattle.run_record.specs.Record.{stop, number_at}
+use Rattle.run_record.specs.Record.{stop, object_number}
 use Rattle.thread_objects.specs.declared.object.AnyObject.{AnyObject}
 use Rattle.thread_objects.specs.declared.object.AnyObject.TheVariants as those
 use Rattle.thread_objects.specs.AsDeclared.{AreDeclared, IsAt, IsDeclared, IsStopOf}
@@ -41,7 +41,7 @@ module _ {N H : Type 0} (at : H → N → Type 0) (home : H) (plan : Plan) where
     has_room = omega (arith, slice_get_within plan.objects place is.0 is.1, declared.count)
 
     -- the object at a place is of the kind that was declared there
-    pub declared_at : IsObjectAt (IsOfKind kind) all (number_at place)
+    pub declared_at : IsObjectAt (IsOfKind kind) all (object_number place)
     declared_at =
-        let object = there_is all (number_at place) has_room in
+        let object = there_is all (object_number place) has_room in
         (object.0, object.1, subst (λ (k : ObjectKind). IsOfKind k object.0) is.2 (of_kind place is.0.kind object.0 (declared.each place is.0 object.0 is.1 object.1)))

@@ -6,7 +6,7 @@ use Rattle.std.proofs.lemmas.Option.{slice_get_cases, slice_get_past, slice_get_
 use Rattle.sync_types.specs.declared.misuse.Misuse.{Misuse}
 use Rattle.sync_model.specs.Journal.{by, halt_of}
 use Rattle.workload.specs.Plan.{Plan}
-use Rattle.run_record.specs.Record.{ObjectEntry, stop, number_at}
+use Rattle.run_record.specs.Record.{ObjectEntry, stop, object_number}
 use Rattle.thread_objects.specs.declared.column.AnyColumn.{AnyColumn}
 use Rattle.thread_objects.specs.declared.column.AnyColumn.TheVariants as columns
 use Rattle.thread_objects.specs.declared.object.AnyObject.{AnyObject}
@@ -87,10 +87,10 @@ module _ {N H : Type 0} (objects : List (AnyObject N H)) (all : List (AnyColumn 
           of_stop at home plan 0 (get_or told.journals stop []) plan.workers object.0 (declared.stops object.0 object.1) (told.each stop object.0 column.0 within object.1 column.1).0;
       each = λ place line here.
           let inside = slice_get_within plan.objects place line here in
-          let within : number_at place < length objects = omega (arith, declared.count, inside) in
-          let object = there_is objects (number_at place) within in
-          let column = there_is all (number_at place) (omega (arith, sized, within)) in
-          of_declared at home plan place (get_or told.journals (number_at place) []) line.kind object.0 (declared.each place line object.0 here object.1) (told.each (number_at place) object.0 column.0 within object.1 column.1).0;
+          let within : object_number place < length objects = omega (arith, declared.count, inside) in
+          let object = there_is objects (object_number place) within in
+          let column = there_is all (object_number place) (omega (arith, sized, within)) in
+          of_declared at home plan place (get_or told.journals (object_number place) []) line.kind object.0 (declared.each place line object.0 here object.1) (told.each (object_number place) object.0 column.0 within object.1 column.1).0;
     }
 
     pub are_parts : (object worker : ℕ) → made_on all object worker ≡ by worker (get_or told.journals object [])

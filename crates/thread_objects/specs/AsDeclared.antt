@@ -12,7 +12,7 @@ use Rattle.workload.specs.Plan.{Plan}
 use Rattle.workload.specs.Puts.{puts_at}
 use Rattle.ruled_object.specs.declared.object.Object.{Object}
 use Rattle.ruled_object.specs.Passes.{callers_of, start_of, IsHomeOf}
-use Rattle.run_record.specs.Record.{stop, number_at}
+use Rattle.run_record.specs.Record.{stop, object_number}
 use Rattle.run_record.specs.WaitGroupKind.{group_start}
 use Rattle.thread_objects.specs.declared.object.AnyObject.{AnyObject}
 use Rattle.thread_objects.specs.declared.object.AnyObject.TheVariants as objects
@@ -49,6 +49,6 @@ module _ {N H : Type 0} (at : H → N → Type 0) (home : H) where
 
   -- the objects of a run: Stop, and those that the workload declares, in order of declaration
   pub record AreDeclared (plan : Plan) (all : List (AnyObject N H)) : Type 0 where
-    pub count : length all ≡ number_at (length plan.objects)
+    pub count : length all ≡ object_number (length plan.objects)
     pub stops : (object : AnyObject N H) → slice_get all stop ≡ Some object → IsStopOf plan.workers object
-    pub each : (place : ℕ) (line : ObjectLine) (object : AnyObject N H) → slice_get plan.objects place ≡ Some line → slice_get all (number_at place) ≡ Some object → IsDeclared plan place line.kind object
+    pub each : (place : ℕ) (line : ObjectLine) (object : AnyObject N H) → slice_get plan.objects place ≡ Some line → slice_get all (object_number place) ≡ Some object → IsDeclared plan place line.kind object

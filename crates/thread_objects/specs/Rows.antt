@@ -4,7 +4,7 @@ use Rattle.workload.specs.declared.object.ObjectLine.{ObjectLine}
 use Rattle.workload.specs.Plan.{Plan}
 use Rattle.run_record.specs.Calls.{IsJournalOf}
 use Rattle.run_record.specs.Journals.{IsStops}
-use Rattle.run_record.specs.Record.{ObjectEntry, stop, number_at}
+use Rattle.run_record.specs.Record.{ObjectEntry, stop, object_number}
 use Rattle.thread_objects.specs.declared.column.AnyColumn.{AnyColumn}
 use Rattle.thread_objects.specs.declared.column.AnyColumn.TheVariants as columns
 use Rattle.thread_objects.specs.declared.object.AnyObject.{AnyObject}
@@ -24,9 +24,9 @@ made_on all object worker = owns_of (passes_in (get_or all object (columns.None 
 
 -- the journals of a run's objects: one of Stop, and one of each object of the workload, in order of declaration
 pub record AreJournals (plan : Plan) (journals : List (List ObjectEntry)) : Type 0 where
-  pub count : length journals ≡ number_at (length plan.objects)
+  pub count : length journals ≡ object_number (length plan.objects)
   pub stops : IsStops (get_or journals stop [])
-  pub each : (place : ℕ) (object : ObjectLine) → slice_get plan.objects place ≡ Some object → IsJournalOf plan place object.kind (get_or journals (number_at place) [])
+  pub each : (place : ℕ) (object : ObjectLine) → slice_get plan.objects place ≡ Some object → IsJournalOf plan place object.kind (get_or journals (object_number place) [])
 
 -- from each of these columns one pass was taken, the last one: these, in order of the objects. What is left is in those
 abbrev pub AreDealt : {N : Type 0} → List (AnyColumn N) → List (AnyColumn N) → List (AnyPass N) → Type 0

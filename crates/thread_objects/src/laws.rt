@@ -2,7 +2,7 @@
 ghost use Rattle.std.specs.Prelude.{ℕ, ◌+◌, ◌<◌, List, length};
 ghost use Rattle.workload.specs.declared.object.ObjectKind.{ObjectKind};
 ghost use Rattle.workload.specs.Plan.{Plan};
-ghost use Rattle.run_record.specs.Record.{stop, number_at};
+ghost use Rattle.run_record.specs.Record.{stop, object_number};
 ghost use Rattle.thread_objects.specs.AsDeclared.{AreDeclared, IsAt};
 ghost use Rattle.thread_objects.specs.Desks.{IsObjectAt};
 ghost use Rattle.thread_objects.specs.Kinds.{IsOfKind, IsStop};
@@ -17,6 +17,6 @@ pub fn stop_is_the_first_object<N: Note>()
 
 /// Behind Stop stands an object for each place of the workload, of the kind that is declared there.
 pub fn objects_are_of_their_kinds<N: Note>()
-    ensures kind { (home : N.Home) (plan : Plan) (objects : List (AnyObject N N.Home)) (place : ℕ) (kind : ObjectKind) → AreDeclared N.at home plan objects → IsAt plan place kind → IsObjectAt (IsOfKind kind) objects (number_at place) }
+    ensures kind { (home : N.Home) (plan : Plan) (objects : List (AnyObject N N.Home)) (place : ℕ) (kind : ObjectKind) → AreDeclared N.at home plan objects → IsAt plan place kind → IsObjectAt (IsOfKind kind) objects (object_number place) }
     ensures there { (home : N.Home) (plan : Plan) (objects : List (AnyObject N N.Home)) (place : ℕ) (kind : ObjectKind) → AreDeclared N.at home plan objects → IsAt plan place kind → place + 1 < length objects }
 {}

@@ -4,7 +4,7 @@ use Rattle.std.proofs.lemmas.List.{length_push, get_or_past}
 use Rattle.std.proofs.lemmas.Option.{none-some, same_Some, slice_get_cases, slice_get_within, get_or_from_slice_get}
 use Rattle.workload.specs.declared.object.ObjectLine.{ObjectLine}
 use Rattle.workload.specs.Plan.{Plan}
-use Rattle.run_record.specs.Record.{stop, number_at}
+use Rattle.run_record.specs.Record.{stop, object_number}
 use Rattle.thread_objects.specs.declared.column.AnyColumn.{AnyColumn}
 use Rattle.thread_objects.specs.declared.column.AnyColumn.TheVariants as columns
 use Rattle.thread_objects.specs.declared.object.AnyObject.{AnyObject}
@@ -21,7 +21,7 @@ module _ {N H : Type 0} (at : H → N → Type 0) (home : H) (workers : ℕ) (pl
     pub objects_count : length objects ≡ count + 1
     pub columns_count : length all ≡ count + 1
     pub stops : (object : AnyObject N H) → slice_get objects stop ≡ Some object → IsStopOf at home workers object
-    pub declared : (place : ℕ) (line : ObjectLine) (object : AnyObject N H) → slice_get plan.objects place ≡ Some line → slice_get objects (number_at place) ≡ Some object → IsDeclared at home plan place line.kind object
+    pub declared : (place : ℕ) (line : ObjectLine) (object : AnyObject N H) → slice_get plan.objects place ≡ Some line → slice_get objects (object_number place) ≡ Some object → IsDeclared at home plan place line.kind object
     pub columns : (number : ℕ) (object : AnyObject N H) (column : AnyColumn N) → slice_get objects number ≡ Some object → slice_get all number ≡ Some column → IsColumnOf at home workers workers object column
     pub nothing : (number : ℕ) (column : AnyColumn N) (worker : ℕ) → slice_get all number ≡ Some column → owns_of (passes_in column) worker ≡ []
 
@@ -34,8 +34,8 @@ module _ {N H : Type 0} (at : H → N → Type 0) (home : H) (workers : ℕ) (pl
     columns = one;
     nothing = empty;
   } where
-    past : (place : ℕ) (other : AnyObject N H) → slice_get (object ∷ []) (number_at place) ≡ Some other → ⊥
-    past place other found = let within = slice_get_within (object ∷ []) (number_at place) other found in absurd (omega (arith, within))
+    past : (place : ℕ) (other : AnyObject N H) → slice_get (object ∷ []) (object_number place) ≡ Some other → ⊥
+    past place other found = let within = slice_get_within (object ∷ []) (object_number place) other found in absurd (omega (arith, within))
 
     one : (number : ℕ) (o : AnyObject N H) (c : AnyColumn N) → slice_get (object ∷ []) number ≡ Some o → slice_get (column ∷ []) number ≡ Some c → IsColumnOf at home workers workers o c
     one zero o c at_o at_c = subst (λ k. IsColumnOf at home workers workers o k) (same_Some column c at_c) (subst (λ k. IsColumnOf at home workers workers k column) (same_Some object o at_o) seated)
@@ -52,7 +52,7 @@ module _ {N H : Type 0} (at : H → N → Type 0) (home : H) (workers : ℕ) (pl
     objects_count = length_push objects object ∙ ap (λ n. n + 1) made.objects_count;
     columns_count = length_push all column ∙ ap (λ n. n + 1) made.columns_count;
     stops = λ other found. stops_by other (pushed_at objects object other stop found);
-    declared = λ place line other at_line found. declared_by place line other at_line (pushed_at objects object other (number_at place) found);
+    declared = λ place line other at_line found. declared_by place line other at_line (pushed_at objects object other (object_number place) found);
     columns = λ number o c at_o at_c. columns_by number o c (pushed_at objects object o number at_o) (pushed_at all column c number at_c);
     nothing = λ number c worker found. nothing_by number c worker (pushed_at all column c number found);
   } where
@@ -60,7 +60,7 @@ module _ {N H : Type 0} (at : H → N → Type 0) (home : H) (workers : ℕ) (pl
     stops_by other (inl found) = made.stops other found
     stops_by other (inr (behind, same)) = let long = made.objects_count in absurd (omega (arith, behind, long))
 
-    declared_by : (place : ℕ) (line : ObjectLine) (other : AnyObject N H) → slice_get plan.objects place ≡ Some line → (slice_get objects (number_at place) ≡ Some other) ⊎ ((number_at place ≡ length objects) × (object ≡ other)) → IsDeclared at home plan place line.kind other
+    declared_by : (place : ℕ) (line : ObjectLine) (other : AnyObject N H) → slice_get plan.objects place ≡ Some line → (slice_get objects (object_number place) ≡ Some other) ⊎ ((object_number place ≡ length objects) × (object ≡ other)) → IsDeclared at home plan place line.kind other
     declared_by place line other at_line (inl found) = made.declared place line other at_line found
     declared_by place line other at_line (inr (behind, same)) =
         let long = made.objects_count in

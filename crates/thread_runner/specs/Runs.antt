@@ -34,7 +34,7 @@ pub record IsExplained (plan : Plan) (outcome : Outcome) (history : List SharedE
   pub explains : Explains plan (with_ends (ends_after plan history) outcome) run
 
 -- What a run over shared maps and atomics leaves: all their callers, who have seen the whole history, and an outcome without its ends. A record explains it whose history is this one, and whose workers' calls on maps and atomics are the callers' own.
-pub record ComesTo {H N : Type 0} (at : H → N → Type 0) (own : N → Option Holding) (front : N → List ℕ) (seen : N → List SharedEntry) (home : H) (plan : Plan) (outcome : Outcome) (callers : List (Caller N)) : Type 0 where
+pub record HasRun {H N : Type 0} (at : H → N → Type 0) (own : N → Option Holding) (front : N → List ℕ) (seen : N → List SharedEntry) (home : H) (plan : Plan) (outcome : Outcome) (callers : List (Caller N)) : Type 0 where
   pub all : AreAllCallers at own home callers plan.workers
   pub settled : Settled own front seen (contents_of plan) callers
   pub explained : IsExplained plan outcome settled.history (shared.calls_of own callers)

@@ -84,13 +84,13 @@ pub(crate) fn map_count(workload: &Workload) -> u32
 
 /// The places of a workload's objects of two kinds.
 #[derive(Drop)]
-pub(crate) struct Places {
+pub(crate) struct ObjectPlaces {
     pub atomics: Vec<usize>,
     pub maps: Vec<usize>,
 }
 
 /// The places of a workload's atomics, and of its maps.
-pub(crate) fn places_of(alloc: Global, workload: &Workload) -> Result<Places, AllocError>
+pub(crate) fn places_of(alloc: Global, workload: &Workload) -> Result<ObjectPlaces, AllocError>
     ensures atomics { IfOk result (λ places. places.atomics.items ≡ places_from 0 is_atomic workload.now.objects) }
     ensures maps { IfOk result (λ places. places.maps.items ≡ places_from 0 is_map workload.now.objects) }
 {
@@ -102,7 +102,7 @@ pub(crate) fn places_of(alloc: Global, workload: &Workload) -> Result<Places, Al
         push_place(&mut atomics, place, is_atomic(kind))?;
         push_place(&mut maps, place, is_map(kind))?;
     }
-    Ok(Places { atomics, maps })
+    Ok(ObjectPlaces { atomics, maps })
 }
 
 // How many spare entries a call takes at most.

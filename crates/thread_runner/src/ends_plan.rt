@@ -2,7 +2,7 @@
 ghost use Rattle.std.specs.Prelude.{◌≡◌, ◌+◌, ◌*◌, ◌≤◌, [], vec_capacity, IfOk};
 ghost use Rattle.thread_runner.specs.EndsPlans.{IsEndsPlan};
 
-use crate::counts::{Places, places_of};
+use crate::counts::{ObjectPlaces, places_of};
 use crate::key_order::key_order;
 use std::alloc::{AllocError, Global};
 use sync_types::End;
@@ -11,7 +11,7 @@ use workload::Workload;
 /// What the list of ends takes, which is made before the first start.
 #[derive(Drop)]
 pub(crate) struct EndsPlan {
-    pub places: Places,
+    pub places: ObjectPlaces,
     pub order: Vec<u32>,
     /// Room for the list.
     pub ends: Vec<End>,

@@ -9,7 +9,7 @@ ghost use Rattle.thread_runner.specs.declared.fault.RunFault.TheVariants as faul
 ghost use Rattle.thread_runner.specs.AllGone.{HaveGone};
 ghost use Rattle.thread_runner.specs.Dealing.{MadeNothingFrom, AreRows};
 ghost use Rattle.thread_runner.specs.EndsPlans.{HaveMadeNone, HaveSpare};
-ghost use Rattle.thread_runner.specs.Runs.{ComesTo};
+ghost use Rattle.thread_runner.specs.Runs.{HasRun};
 
 use crate::deal::{collect, deal, make_objects_by};
 use crate::fault::RunFault;
@@ -48,7 +48,7 @@ fn outcome_of<S: Shared>(
     requires nothing { MadeNothingFrom workload.now.workers columns.old }
     requires gone { (rows : List (List (AnyPass S.Mark))) × (callers : List (Caller S.Mark)) × AreRows S.Mark.at (S.home_of shared.now) workload.now.workers objects.now rows × AreAllCallers S.Mark.at S.Mark.own (S.home_of shared.now) callers workload.now.workers × HaveMadeNone S.Mark.own callers
         × HaveGone S.Mark.at S.Mark.own S.Mark.front (S.home_of shared.now) workload.now objects.now rows callers (map (λ row. row.items) left.passes.items) left.callers.items left.replies.items }
-    ensures comes { ComesTo S.Mark.at S.Mark.own S.Mark.front S.seen (S.home_of shared.now) workload.now result.0 result.1.items }
+    ensures comes { HasRun S.Mark.at S.Mark.own S.Mark.front S.seen (S.home_of shared.now) workload.now result.0 result.1.items }
 {
     a_range_shows_no_key_but_the_workloads();
     an_int64_answers_an_int64();
@@ -157,7 +157,7 @@ where
     requires callers { AreAllCallers S.Mark.at S.Mark.own (S.home_of shared.now) callers.items workload.now.workers }
     requires unused { HaveMadeNone S.Mark.own callers.items }
     requires spare { HaveSpare S.Mark.own workload.now callers.items }
-    ensures comes { IfOk result (λ done. ComesTo S.Mark.at S.Mark.own S.Mark.front S.seen (S.home_of shared.now) workload.now done.0 done.1.items) }
+    ensures comes { IfOk result (λ done. HasRun S.Mark.at S.Mark.own S.Mark.front S.seen (S.home_of shared.now) workload.now done.0 done.1.items) }
     ensures refused { result ≡ Err faults.StartRefused → Rose (P.faults spawner.old) (P.faults spawner.new) }
     ensures faults { P.faults spawner.old ≤ P.faults spawner.new }
     ensures ran { IfOk result (λ done. RoseBy workload.now.workers (P.ran spawner.old) (P.ran spawner.new)) }
@@ -207,7 +207,7 @@ where
     requires callers { AreAllCallers S.Mark.at S.Mark.own (S.home_of shared.now) callers.items workload.now.workers }
     requires unused { HaveMadeNone S.Mark.own callers.items }
     requires spare { HaveSpare S.Mark.own workload.now callers.items }
-    ensures comes { IfOk result (λ done. ComesTo S.Mark.at S.Mark.own S.Mark.front S.seen (S.home_of shared.now) workload.now done.0 done.1.items) }
+    ensures comes { IfOk result (λ done. HasRun S.Mark.at S.Mark.own S.Mark.front S.seen (S.home_of shared.now) workload.now done.0 done.1.items) }
     ensures refused { result ≡ Err faults.StartRefused → Rose (P.faults spawner.old) (P.faults spawner.new) }
     ensures faults { P.faults spawner.old ≤ P.faults spawner.new }
     ensures ran { IfOk result (λ done. RoseBy workload.now.workers (P.ran spawner.old) (P.ran spawner.new)) }

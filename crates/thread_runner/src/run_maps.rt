@@ -9,7 +9,7 @@ ghost use Rattle.run_record.specs.Explains.{Explains};
 ghost use Rattle.run_record.specs.Record.{Record};
 ghost use Rattle.thread_calls.specs.Sites.{AreShared};
 ghost use Rattle.thread_runner.specs.EndsPlans.{HaveMadeNone, HaveSpare, IsEndsPlan};
-ghost use Rattle.thread_runner.specs.Runs.{ComesTo};
+ghost use Rattle.thread_runner.specs.Runs.{HasRun};
 
 use crate::ends_plan::EndsPlan;
 use run_record::laws::limits::maps_end_with_the_workloads_keys;
@@ -71,7 +71,7 @@ pub(crate) fn finish<M: RunMaps + Drop>(
     requires count { M.count maps ≡ workload.now.workers }
     requires room { M.has_room room workload.now.workers }
     requires plan { IsEndsPlan workload.now plan.places.atomics.items plan.places.maps.items plan.order.items plan.ends.items (vec_capacity plan.ends) }
-    requires comes { ComesTo M.Mark.at M.Mark.own M.Mark.front M.seen (M.home_of maps) workload.now outcome callers.items }
+    requires comes { HasRun M.Mark.at M.Mark.own M.Mark.front M.seen (M.home_of maps) workload.now outcome callers.items }
     ensures { (r : Record) × Explains workload.now result r }
 {
     maps_end_with_the_workloads_keys();

@@ -74,7 +74,7 @@ module _ {A : Type 0} where
 
 -- ---- the cond
 
-abbrev frees : cond_laws.Made → Bool
+abbrev frees : cond_laws.NotifyEntry → Bool
 frees e = notify_releases e.event e.reply
 
 broadcast_frees : (event : NotifyEvent) (reply : NotifyReply) → is_broadcast_of event reply ≡ true → notify_releases event reply ≡ true
@@ -219,11 +219,11 @@ module _ {T : Type 0} where
   returned_acquires event onced.Ended value h = cc
   returned_acquires event onced.Still value h = cc
 
-  pub once-synchronizes : ComesApart (once_machine.next {T = T}) → (callers : ℕ) (before rest : once_laws.Log T) (e : once_laws.Made T) (value : T) → Follows once_machine.next (once_machine.start callers) (before ++ e ∷ rest)
+  pub once-synchronizes : ComesApart (once_machine.next {T = T}) → (callers : ℕ) (before rest : once_laws.Log T) (e : once_laws.OnceEntry T) (value : T) → Follows once_machine.next (once_machine.start callers) (before ++ e ∷ rest)
       → returned_in e.reply ≡ Some value → list_any (λ x. once_releases x.event x.reply) before ≡ true
   once-synchronizes apart callers before rest e value h returned = kept_released before value (returns_what_is_kept apart callers before rest e value h returned)
 
-  pub once-acquires : (e : once_laws.Made T) (value : T) → returned_in e.reply ≡ Some value → once_acquires e.event e.reply ≡ true
+  pub once-acquires : (e : once_laws.OnceEntry T) (value : T) → returned_in e.reply ≡ Some value → once_acquires e.event e.reply ≡ true
   once-acquires e value = returned_acquires e.event e.reply value
 
   pub once-unmoved : (event : OnceEvent T) → (once_releases event onced.Still ≡ false) × (once_acquires event onced.Still ≡ false)

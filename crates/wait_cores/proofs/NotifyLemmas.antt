@@ -13,7 +13,7 @@ use Rattle.wait_cores.specs.declared.notify.NotifyPlace.{NotifyPlace}
 use Rattle.wait_cores.specs.declared.notify.NotifyPlace.TheVariants.{Out, Waiting, Notified}
 use Rattle.sync_model.specs.Log.{entry, after, Follows}
 use Rattle.wait_cores.specs.NotifyMachine.{NotifyState, start, next, made, leave_from, callers_of, place_of, place_with, following}
-use Rattle.wait_cores.specs.NotifyLaws.{Log, Made, is_ticket, is_signal, is_broadcast, is_ticket_of, is_signal_of, is_broadcast_of, pending_of, NotifiesAfter}
+use Rattle.wait_cores.specs.NotifyLaws.{Log, NotifyEntry, is_ticket, is_signal, is_broadcast, is_ticket_of, is_signal_of, is_broadcast_of, pending_of, NotifiesAfter}
 use Rattle.wait_cores.proofs.Places.{get-set_other, get-set_either, get-set_within}
 use Rattle.wait_cores.proofs.LogParts.{ComesApart}
 
@@ -46,7 +46,7 @@ abbrev one_if : Bool → ℕ
 one_if b = cond b 1 0
 
 -- the numbers of one state and the next, with the tickets
-record Stepped (s : NotifyState) (e : Made) (s' : NotifyState) : Type 0 where
+record Stepped (s : NotifyState) (e : NotifyEntry) (s' : NotifyState) : Type 0 where
   fewer : is_broadcast e ≡ false → s'.notified ≤ s.notified + one_if (is_signal e)
   sound : s.notified ≤ s.next_ticket → s.next_ticket ≤ 2 ^ 64 - 1 → s'.notified ≤ s'.next_ticket
   grows : s.next_ticket ≤ 2 ^ 64 - 1 → s.next_ticket ≤ s'.next_ticket
@@ -177,7 +177,7 @@ record IsSound (s : NotifyState) : Type 0 where
   notified : s.notified ≤ s.next_ticket
   capped : s.next_ticket ≤ 2 ^ 64 - 1
 
-sound_step : (s s' : NotifyState) (e : Made) → Stepped s e s' → IsSound s → IsSound s'
+sound_step : (s s' : NotifyState) (e : NotifyEntry) → Stepped s e s' → IsSound s → IsSound s'
 sound_step s s' e step is = record { notified = step.sound is.notified is.capped; capped = let n = step.counts is.capped in omega arith }
 
 sound_after : (s : NotifyState) (log : Log) → Follows next s log → IsSound s → IsSound (after next s log)
@@ -219,7 +219,7 @@ record TookSince (t c : ℕ) (s : NotifyState) : Type 0 where
   upto : t ≤ s.next_ticket
   sound : IsSound s
 
-took_step : (t c : ℕ) (s s' : NotifyState) (e : Made) → Stepped s e s' → TookSince t c s → TookSince t c s'
+took_step : (t c : ℕ) (s s' : NotifyState) (e : NotifyEntry) → Stepped s e s' → TookSince t c s → TookSince t c s'
 took_step t c s s' e step is = record {
   own = λ n h. elim (step.takes c n h) [ inl old ↦ is.own n old | inr new ↦ (let u = is.upto in omega arith) ];
   upto = (let g = step.grows is.sound.capped in let u = is.upto in omega arith);
@@ -292,7 +292,7 @@ record Has (t c : ℕ) (s : NotifyState) : Type 0 where
   given : t < s.next_ticket
   sound : IsSound s
 
-has_step : (t c : ℕ) (s s' : NotifyState) (e : Made) → Stepped s e s' → c ≢ e.caller → Has t c s → Has t c s'
+has_step : (t c : ℕ) (s s' : NotifyState) (e : NotifyEntry) → Stepped s e s' → c ≢ e.caller → Has t c s → Has t c s'
 has_step t c s s' e step other is = record {
   own = step.others c other ∙ is.own;
   given = (let g = step.grows is.sound.capped in let u = is.given in omega arith);

@@ -14,7 +14,7 @@ use Rattle.wait_cores.specs.declared.once.OncePlace.{OncePlace}
 use Rattle.wait_cores.specs.declared.once.OncePlace.TheVariants.{Out, Waiting, Released}
 use Rattle.sync_model.specs.Log.{entry, after, Follows}
 use Rattle.wait_cores.specs.OnceMachine.{OnceState, start, next, made, begin_from, come_to, end_by, leave_with, callers_of, place_of, runner_in, runner_of}
-use Rattle.wait_cores.specs.OnceLaws.{Made, Log, begins, ends, returned_in, kept_in, kept_by}
+use Rattle.wait_cores.specs.OnceLaws.{OnceEntry, Log, begins, ends, returned_in, kept_in, kept_by}
 use Rattle.wait_cores.proofs.LogParts.{ComesApart}
 
 abbrev one_if : Bool → ℕ
@@ -37,7 +37,7 @@ module _ {T : Type 0} where
   kept_at (progress.Running caller) = None
   kept_at (progress.Ended kept) = Some kept
 
-  record Stepped (s : OnceState T) (e : Made T) (s' : OnceState T) : Type 0 where
+  record Stepped (s : OnceState T) (e : OnceEntry T) (s' : OnceState T) : Type 0 where
     begins_less : one_if (begins e) + beginnings_left s'.progress ≤ beginnings_left s.progress
     runs_less : one_if (ends e) + running s'.progress ≤ running s.progress + one_if (begins e)
     keeps : kept_at s'.progress ≡ option_or (kept_at s.progress) (kept_in e.event e.reply)
@@ -128,7 +128,7 @@ module _ {T : Type 0} where
   step_if false s d event = step_still s d event
 
   -- each entry of a log that follows the machine
-  steps : (s : OnceState T) (e : Made T) → (next s e.caller e.event).1 ≡ e.reply → Stepped s e (next s e.caller e.event).0
+  steps : (s : OnceState T) (e : OnceEntry T) → (next s e.caller e.event).1 ≡ e.reply → Stepped s e (next s e.caller e.event).0
   steps s e h =
       let P : OnceReply T → Type 0 = λ r. Stepped s (entry e.caller e.event r) (next s e.caller e.event).0 in
       subst P h (step_if (nat_lt e.caller (callers_of s)) s e.caller e.event)
@@ -172,7 +172,7 @@ module _ {T : Type 0} where
   pub ends_as_begun : (callers : ℕ) (log : Log T) → Follows next (start callers) log → count_by ends log ≤ count_by begins log
   ends_as_begun callers log h = let e : count_by ends log ≤ 0 + count_by begins log = ended (start callers) log h in omega arith
 
-  pub returns_what_is_kept : ComesApart (next {T = T}) → (callers : ℕ) (before rest : Log T) (e : Made T) (value : T) → Follows next (start callers) (before ++ e ∷ rest)
+  pub returns_what_is_kept : ComesApart (next {T = T}) → (callers : ℕ) (before rest : Log T) (e : OnceEntry T) (value : T) → Follows next (start callers) (before ++ e ∷ rest)
       → returned_in e.reply ≡ Some value → kept_by before ≡ Some value
   returns_what_is_kept apart callers before rest e value h returned =
       let s : OnceState T = after next (start callers) before in

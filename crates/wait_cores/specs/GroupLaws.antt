@@ -7,22 +7,22 @@ use Rattle.wait_cores.specs.declared.group.GroupReply.TheVariants.{Done, Queued,
 use Rattle.sync_model.specs.Log.{Entry, entry, after}
 use Rattle.wait_cores.specs.GroupMachine.{GroupState, start, next}
 
-abbrev pub Made : Type 0
-Made = Entry GroupEvent GroupReply
+abbrev pub GroupEntry : Type 0
+GroupEntry = Entry GroupEvent GroupReply
 
 abbrev pub Log : Type 0
-Log = List Made
+Log = List GroupEntry
 
 -- the state after a log of a group for so many callers, from its start on
 abbrev pub state_after : ℕ → Log → GroupState
 state_after callers log = after next (start callers) log
 
 -- the caller comes to wait, and is answered this
-abbrev pub wait_by : ℕ → GroupReply → Made
+abbrev pub wait_by : ℕ → GroupReply → GroupEntry
 wait_by caller reply = entry caller Wait reply
 
 -- the caller returns from a wait that queued, and is answered this
-abbrev pub leave_by : ℕ → GroupReply → Made
+abbrev pub leave_by : ℕ → GroupReply → GroupEntry
 leave_by caller reply = entry caller Leave reply
 
 -- what an addition that is answered this adds to the counter

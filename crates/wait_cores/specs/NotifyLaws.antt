@@ -8,11 +8,11 @@ use Rattle.wait_cores.specs.declared.notify.NotifyReply.TheVariants.{Done, Still
 use Rattle.sync_model.specs.Log.{Entry, entry, after, Follows}
 use Rattle.wait_cores.specs.NotifyMachine.{NotifyState, start, next}
 
-abbrev pub Made : Type 0
-Made = Entry NotifyEvent NotifyReply
+abbrev pub NotifyEntry : Type 0
+NotifyEntry = Entry NotifyEvent NotifyReply
 
 abbrev pub Log : Type 0
-Log = List Made
+Log = List NotifyEntry
 
 -- the log is one of a cond for so many callers, from its start on
 abbrev pub IsLog : ℕ → Log → Type 0
@@ -23,11 +23,11 @@ abbrev pub state_after : ℕ → Log → NotifyState
 state_after callers log = after next (start callers) log
 
 -- the caller takes a ticket
-abbrev pub ticket_by : ℕ → Made
+abbrev pub ticket_by : ℕ → NotifyEntry
 ticket_by caller = entry caller Ticket Done
 
 -- the caller leaves
-abbrev pub leave_by : ℕ → Made
+abbrev pub leave_by : ℕ → NotifyEntry
 leave_by caller = entry caller Leave Done
 
 abbrev pub is_done : NotifyReply → Bool
@@ -39,7 +39,7 @@ abbrev pub is_ticket_of : NotifyEvent → NotifyReply → Bool
 is_ticket_of Ticket reply = is_done reply
 is_ticket_of _ reply = false
 
-abbrev pub is_ticket : Made → Bool
+abbrev pub is_ticket : NotifyEntry → Bool
 is_ticket e = is_ticket_of e.event e.reply
 
 -- the entry signals
@@ -47,7 +47,7 @@ abbrev pub is_signal_of : NotifyEvent → NotifyReply → Bool
 is_signal_of Signal reply = is_done reply
 is_signal_of _ reply = false
 
-abbrev pub is_signal : Made → Bool
+abbrev pub is_signal : NotifyEntry → Bool
 is_signal e = is_signal_of e.event e.reply
 
 -- the entry broadcasts
@@ -55,7 +55,7 @@ abbrev pub is_broadcast_of : NotifyEvent → NotifyReply → Bool
 is_broadcast_of Broadcast reply = is_done reply
 is_broadcast_of _ reply = false
 
-abbrev pub is_broadcast : Made → Bool
+abbrev pub is_broadcast : NotifyEntry → Bool
 is_broadcast e = is_broadcast_of e.event e.reply
 
 -- how many tickets are taken and not notified

@@ -8,11 +8,11 @@ use Rattle.wait_cores.specs.declared.once.OnceReply.TheVariants.{Run, Done, Ende
 use Rattle.sync_model.specs.Log.{Entry, Follows}
 use Rattle.wait_cores.specs.OnceMachine.{start, next}
 
-abbrev pub Made : Type 0 → Type 0
-Made T = Entry (OnceEvent T) (OnceReply T)
+abbrev pub OnceEntry : Type 0 → Type 0
+OnceEntry T = Entry (OnceEvent T) (OnceReply T)
 
 abbrev pub Log : Type 0 → Type 0
-Log T = List (Made T)
+Log T = List (OnceEntry T)
 
 module _ {T : Type 0} where
   -- the log is one of a once for so many callers, from its start on
@@ -24,7 +24,7 @@ module _ {T : Type 0} where
   is_run Run = true
   is_run _ = false
 
-  abbrev pub begins : Made T → Bool
+  abbrev pub begins : OnceEntry T → Bool
   begins e = is_run e.reply
 
   -- the function has ended
@@ -32,7 +32,7 @@ module _ {T : Type 0} where
   is_ended Ended = true
   is_ended _ = false
 
-  abbrev pub ends : Made T → Bool
+  abbrev pub ends : OnceEntry T → Bool
   ends e = is_ended e.reply
 
   -- the value that a call returns with

@@ -80,12 +80,12 @@ signed_of [] = pos 0
 signed_of (byte ∷ bytes) = cond (eqb byte 45) (below_zero (number_of bytes)) (pos (number_of (byte ∷ bytes)))
 
 -- the number of an atomic of this type that a word is
-abbrev pub number_at : AtomicKind → List ℕ → Number
-number_at types.Int32 word = numbers.Int32 (signed_of word)
-number_at types.Int64 word = numbers.Int64 (signed_of word)
-number_at types.Uint32 word = numbers.Uint32 (number_of word)
-number_at types.Uint64 word = numbers.Uint64 (number_of word)
-number_at types.Bool word = numbers.Bool (bytes_eq word (codes "true"))
+abbrev pub number_read : AtomicKind → List ℕ → Number
+number_read types.Int32 word = numbers.Int32 (signed_of word)
+number_read types.Int64 word = numbers.Int64 (signed_of word)
+number_read types.Uint32 word = numbers.Uint32 (number_of word)
+number_read types.Uint64 word = numbers.Uint64 (number_of word)
+number_read types.Bool word = numbers.Bool (bytes_eq word (codes "true"))
 
 no_digit : (byte : ℕ) (bytes : List ℕ) → byte ≡ 45 → is_number (byte ∷ bytes) ≡ true → ⊥
 no_digit byte bytes e number =
@@ -113,7 +113,7 @@ pub narrow : (z : ℤ) → is_signed (2 ^ 31) z ≡ true → is_signed (2 ^ 63) 
 narrow (pos n) h = lt-ltb n (2 ^ 63) (omega (arith, ltb-true n (2 ^ 31) h))
 narrow (negsuc n) h = lt-ltb n (2 ^ 63) (omega (arith, ltb-true n (2 ^ 31) h))
 
-pub number_spelled : (kind : AtomicKind) (x : Number) → is_of kind x ≡ true → number_at kind (number_word x) ≡ x
+pub number_spelled : (kind : AtomicKind) (x : Number) → is_of kind x ≡ true → number_read kind (number_word x) ≡ x
 number_spelled types.Int32 (numbers.Int32 z) h = ap (λ (y : ℤ). numbers.Int32 y) (signed_spelled z (narrow z h))
 number_spelled types.Int64 (numbers.Int64 z) h = ap (λ (y : ℤ). numbers.Int64 y) (signed_spelled z h)
 number_spelled types.Uint32 (numbers.Uint32 n) h = ap (λ (m : ℕ). numbers.Uint32 m) (number_of-decimal n (omega (arith, ltb-true n (2 ^ 32) h)))
@@ -157,7 +157,7 @@ unsigned_said most word fits h =
     (less, decimal-number_of word value.0 (omega arith))
 
 -- a word that is a number of this type
-pub number_said : (kind : AtomicKind) (word : List ℕ) → is_number_word kind word ≡ true → (is_of kind (number_at kind word) ≡ true) × (number_word (number_at kind word) ≡ word)
+pub number_said : (kind : AtomicKind) (word : List ℕ) → is_number_word kind word ≡ true → (is_of kind (number_read kind word) ≡ true) × (number_word (number_read kind word) ≡ word)
 number_said types.Int32 word h = signed_said (2 ^ 31) word (omega arith) (omega arith) h
 number_said types.Int64 word h = signed_said (2 ^ 63) word (omega arith) (omega arith) h
 number_said types.Uint32 word h =
@@ -203,12 +203,12 @@ number_passes kind x h = absurd cc
 -- the call of an atomic of this word with these operands
 abbrev pub atomic_call_at : AtomicKind → Verb → List (List ℕ) → Option AtomicCall
 atomic_call_at kind verbs.Load [] = Some atomic_calls.Load
-atomic_call_at kind verbs.Store (v ∷ []) = Some (atomic_calls.Store (number_at kind v))
-atomic_call_at kind verbs.Swap (v ∷ []) = Some (atomic_calls.Swap (number_at kind v))
-atomic_call_at kind verbs.Add (v ∷ []) = Some (atomic_calls.Add (number_at kind v))
-atomic_call_at kind verbs.And (v ∷ []) = Some (atomic_calls.And (number_at kind v))
-atomic_call_at kind verbs.Or (v ∷ []) = Some (atomic_calls.Or (number_at kind v))
-atomic_call_at kind verbs.CompareAndSwap (v ∷ w ∷ []) = Some (atomic_calls.CompareAndSwap (number_at kind v) (number_at kind w))
+atomic_call_at kind verbs.Store (v ∷ []) = Some (atomic_calls.Store (number_read kind v))
+atomic_call_at kind verbs.Swap (v ∷ []) = Some (atomic_calls.Swap (number_read kind v))
+atomic_call_at kind verbs.Add (v ∷ []) = Some (atomic_calls.Add (number_read kind v))
+atomic_call_at kind verbs.And (v ∷ []) = Some (atomic_calls.And (number_read kind v))
+atomic_call_at kind verbs.Or (v ∷ []) = Some (atomic_calls.Or (number_read kind v))
+atomic_call_at kind verbs.CompareAndSwap (v ∷ w ∷ []) = Some (atomic_calls.CompareAndSwap (number_read kind v) (number_read kind w))
 atomic_call_at kind verb words = None
 
 pub atomic_call_spelled : (kind : AtomicKind) (c : AtomicCall) → is_atomic_call kind c ≡ true → atomic_call_at kind (atomic_verb c) (atomic_operands c) ≡ Some c
@@ -220,7 +220,7 @@ atomic_call_spelled kind (atomic_calls.And v) h = ap (λ (x : Number). Some (ato
 atomic_call_spelled kind (atomic_calls.Or v) h = ap (λ (x : Number). Some (atomic_calls.Or x)) (number_spelled kind v (both (has_bits kind) (is_of kind v) h).1)
 atomic_call_spelled kind (atomic_calls.CompareAndSwap v w) h =
     let numbers = both (is_of kind v) (is_of kind w) h in
-    ap (λ (x : Number). Some (atomic_calls.CompareAndSwap x (number_at kind (number_word w)))) (number_spelled kind v numbers.0) ∙ ap (λ (x : Number). Some (atomic_calls.CompareAndSwap v x)) (number_spelled kind w numbers.1)
+    ap (λ (x : Number). Some (atomic_calls.CompareAndSwap x (number_read kind (number_word w)))) (number_spelled kind v numbers.0) ∙ ap (λ (x : Number). Some (atomic_calls.CompareAndSwap v x)) (number_spelled kind w numbers.1)
 
 -- ---- amounts
 

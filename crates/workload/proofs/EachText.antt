@@ -55,7 +55,7 @@ use Rattle.workload.specs.Checks.{Check, first_failing, form_words, parameter_wo
 use Rattle.workload.specs.Reads.{Continues, IsRead, ReadsOn, Reads, FirstFault, IsRefused}
 use Rattle.workload.proofs.Passing.{both, pair}
 use Rattle.workload.proofs.Keywords.{keyword_from}
-use Rattle.workload.proofs.CallWords.{number_at, number_said, signed_of, amount_said}
+use Rattle.workload.proofs.CallWords.{number_read, number_said, signed_of, amount_said}
 use Rattle.workload.proofs.CallForms.{call_form, ranges_of}
 use Rattle.workload.proofs.FirstFailing.{PassesWith, form_passes}
 use Rattle.workload.proofs.Numbers.{decimal-number_of}
@@ -306,7 +306,7 @@ number_alone_said kind [] h = absurd cc
 number_alone_said kind (w ∷ []) h =
     let all = all_pass (form_words (Some (operands.Number kind ∷ [])) (w ∷ [])) h in
     let said = number_said kind w all.1.0 in
-    (number_at kind w, said.0, ap (λ (x : List ℕ). x ∷ []) (sym said.1))
+    (number_read kind w, said.0, ap (λ (x : List ℕ). x ∷ []) (sym said.1))
 number_alone_said kind (w ∷ other ∷ words) h = absurd (omega (arith, eqb-true (length (w ∷ other ∷ words)) 1 (all_pass (form_words (Some (operands.Number kind ∷ [])) (w ∷ other ∷ words)) h).0))
 
 numbers_said : (kind : AtomicKind) (words : List (List ℕ)) → first_failing (form_words (Some (operands.Number kind ∷ operands.Number kind ∷ [])) words) ≡ None
@@ -317,7 +317,7 @@ numbers_said kind (v ∷ w ∷ []) h =
     let all = all_pass (form_words (Some (operands.Number kind ∷ operands.Number kind ∷ [])) (v ∷ w ∷ [])) h in
     let first = number_said kind v all.1.0 in
     let second = number_said kind w all.1.1.0 in
-    (number_at kind v, number_at kind w, first.0, second.0, ap (λ (x : List ℕ). x ∷ w ∷ []) (sym first.1) ∙ ap (λ (x : List ℕ). number_word (number_at kind v) ∷ x ∷ []) (sym second.1))
+    (number_read kind v, number_read kind w, first.0, second.0, ap (λ (x : List ℕ). x ∷ w ∷ []) (sym first.1) ∙ ap (λ (x : List ℕ). number_word (number_read kind v) ∷ x ∷ []) (sym second.1))
 numbers_said kind (v ∷ w ∷ other ∷ words) h = absurd (omega (arith, eqb-true (length (v ∷ w ∷ other ∷ words)) 2 (all_pass (form_words (Some (operands.Number kind ∷ operands.Number kind ∷ [])) (v ∷ w ∷ other ∷ words)) h).0))
 
 bits_said : (kind : AtomicKind) (words : List (List ℕ)) → first_failing (form_words (bits_form kind) words) ≡ None → (x : Number) × ((has_bits kind && is_of kind x) ≡ true) × (words ≡ number_word x ∷ [])

@@ -8,7 +8,7 @@ ghost use Rattle.pool_core.specs.PoolLaws as pool;
 ghost use Rattle.workload.specs.Plan.{Plan};
 ghost use Rattle.run_record.specs.Explains.{IsRecordOf};
 ghost use Rattle.run_record.specs.Logs.{Shows};
-ghost use Rattle.run_record.specs.Record.{Record, number_at, journal_of};
+ghost use Rattle.run_record.specs.Record.{Record, object_number, journal_of};
 
 use crate::entered::{ObjectEvent, ObjectReply};
 use mutex_core::MutexCore;
@@ -22,7 +22,7 @@ use workload::{ObjectKind, ObjectLine};
 pub fn a_mutex_is_held_by_one()
     ensures { (plan : Plan) (r : Record) (place : ℕ) (object : ObjectLine)
         → IsRecordOf plan r → slice_get plan.objects place ≡ Some object → object.kind ≡ ObjectKind.Mutex
-        → (log : mutex.Log) × Shows ObjectEvent.Mutex ObjectReply.Mutex (journal_of r (number_at place)) log × TakesTurns false log }
+        → (log : mutex.Log) × Shows ObjectEvent.Mutex ObjectReply.Mutex (journal_of r (object_number place)) log × TakesTurns false log }
 {
     journal_is_log::<MutexCore>();
     mutex_core::laws::mutual_exclusion();
@@ -33,13 +33,13 @@ pub fn a_mutex_is_held_by_one()
 pub fn a_function_runs_once()
     ensures once { (plan : Plan) (r : Record) (place atomic : ℕ) (delta : ℤ) (object : ObjectLine)
         → IsRecordOf plan r → slice_get plan.objects place ≡ Some object → object.kind ≡ ObjectKind.Once atomic delta
-        → (log : once.Log ℤ) × Shows ObjectEvent.Once ObjectReply.Once (journal_of r (number_at place)) log × (count_by once.begins log ≤ 1) }
+        → (log : once.Log ℤ) × Shows ObjectEvent.Once ObjectReply.Once (journal_of r (object_number place)) log × (count_by once.begins log ≤ 1) }
     ensures func { (plan : Plan) (r : Record) (place code : ℕ) (object : ObjectLine)
         → IsRecordOf plan r → slice_get plan.objects place ≡ Some object → object.kind ≡ ObjectKind.OnceFunc code
-        → (log : once.Log ℕ) × Shows ObjectEvent.OnceFunc ObjectReply.OnceFunc (journal_of r (number_at place)) log × (count_by once.begins log ≤ 1) }
+        → (log : once.Log ℕ) × Shows ObjectEvent.OnceFunc ObjectReply.OnceFunc (journal_of r (object_number place)) log × (count_by once.begins log ≤ 1) }
     ensures value { (plan : Plan) (r : Record) (place value : ℕ) (object : ObjectLine)
         → IsRecordOf plan r → slice_get plan.objects place ≡ Some object → object.kind ≡ ObjectKind.OnceValue value
-        → (log : once.Log ℕ) × Shows ObjectEvent.OnceValue ObjectReply.OnceValue (journal_of r (number_at place)) log × (count_by once.begins log ≤ 1) }
+        → (log : once.Log ℕ) × Shows ObjectEvent.OnceValue ObjectReply.OnceValue (journal_of r (object_number place)) log × (count_by once.begins log ≤ 1) }
 {
     journal_is_log::<OnceCore<i64>>();
     journal_is_log::<OnceCore<u32>>();
@@ -54,7 +54,7 @@ pub fn a_function_runs_once()
 pub fn each_item_got_was_put()
     ensures { (plan : Plan) (r : Record) (place : ℕ) (object : ObjectLine)
         → IsRecordOf plan r → slice_get plan.objects place ≡ Some object → object.kind ≡ ObjectKind.Pool
-        → (log : pool.Log ℕ) × Shows ObjectEvent.Pool ObjectReply.Pool (journal_of r (number_at place)) log × (origin : ℕ → ℕ) × pool.ComeFrom log origin }
+        → (log : pool.Log ℕ) × Shows ObjectEvent.Pool ObjectReply.Pool (journal_of r (object_number place)) log × (origin : ℕ → ℕ) × pool.ComeFrom log origin }
 {
     journal_is_log::<PoolCore>();
     pool_core::laws::gives_each_once();

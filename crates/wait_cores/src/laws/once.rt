@@ -7,7 +7,7 @@ ghost use Rattle.wait_cores.specs.OnceEdges.{once_releases, once_acquires};
 ghost use Rattle.wait_cores.specs.OnceEventsLeft.{once_left, once_used, once_given};
 ghost use Rattle.wait_cores.specs.OnceMachine.{OnceState, start, next, callers_of};
 ghost use Rattle.wait_cores.specs.OnceStanding.{answers, may_make, waits_at, runs_at, waits_after, runs_after};
-ghost use Rattle.wait_cores.specs.OnceLaws.{Made, Log, IsLog, begins, ends, returned_in, kept_by};
+ghost use Rattle.wait_cores.specs.OnceLaws.{OnceEntry, Log, IsLog, begins, ends, returned_in, kept_by};
 
 use crate::once::OnceCore;
 use sync_model::laws::logs::logs_go_on;
@@ -20,7 +20,7 @@ pub fn runs_once<T: Copy>()
 
 /// Whoever returns, at once or released, does so after the function's end, with the value that it came to.
 pub fn returns_what_is_kept<T: Copy>()
-    ensures { (callers : ℕ) (before rest : Log T) (e : Made T) (value : T)
+    ensures { (callers : ℕ) (before rest : Log T) (e : OnceEntry T) (value : T)
         → IsLog callers (before ++ e ∷ rest) → returned_in e.reply ≡ Some value → kept_by before ≡ Some value }
 {
     logs_go_on::<OnceCore<T>>();
@@ -47,10 +47,10 @@ pub fn knows_where_it_stands<T: Copy>()
 /// The function's end synchronizes before every return: before a return, which acquires, stands an event that releases. An event
 /// that is answered `Still` does neither.
 pub fn synchronizes<T: Copy>()
-    ensures ended { (callers : ℕ) (before rest : Log T) (e : Made T) (value : T)
+    ensures ended { (callers : ℕ) (before rest : Log T) (e : OnceEntry T) (value : T)
         → IsLog callers (before ++ e ∷ rest) → returned_in e.reply ≡ Some value
         → IsTrue (list_any (λ x. once_releases x.event x.reply) before) }
-    ensures returned { (e : Made T) (value : T) → returned_in e.reply ≡ Some value → IsTrue (once_acquires e.event e.reply) }
+    ensures returned { (e : OnceEntry T) (value : T) → returned_in e.reply ≡ Some value → IsTrue (once_acquires e.event e.reply) }
     ensures unmoved { (event : OnceEvent T)
         → IsFalse (once_releases event reply.Still) × IsFalse (once_acquires event reply.Still) }
 {

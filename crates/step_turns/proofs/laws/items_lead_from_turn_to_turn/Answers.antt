@@ -1,7 +1,7 @@
 use Rattle.std.proofs.Common.{Option, Some, subst}
 use Rattle.std.specs.Prelude.{slice_get}
 use Rattle.step_turns.specs.declared.object_state.ObjectState.{ObjectState}
-use Rattle.step_turns.specs.ComesTo.{on_object}
+use Rattle.step_turns.specs.LeadsTo.{on_object}
 use Rattle.step_turns.specs.Items.{items_at}
 use Rattle.step_turns.specs.Turns.{turn_at}
 use Rattle.step_turns.proofs.ItemLogs.{ComesAt, comes_nowhere, comes_on, at_comes}

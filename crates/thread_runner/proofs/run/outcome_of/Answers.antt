@@ -12,7 +12,7 @@ use Rattle.run_record.specs.Objects.{is_map, contents_of}
 use Rattle.sync_model.specs.Journal.{by}
 use Rattle.thread_objects.specs.Desks.{AreSeats}
 use Rattle.thread_objects.specs.Passes.{owns_of}
-use Rattle.thread_runner.specs.Runs.{ComesTo, IsExplained}
+use Rattle.thread_runner.specs.Runs.{HasRun, IsExplained}
 use Rattle.thread_runner.proofs.AllReady.{one_script_each}
 use Rattle.thread_runner.proofs.Ended.{seats_of, callers_stay, none_gave_up, all_done}
 use Rattle.thread_runner.proofs.Explaining.{done, stopped}
@@ -69,7 +69,7 @@ returns g c =
     let knowing : Knowing = record { own = c.a_worker_knows_its_own_calls.ensures.own; rises = c.a_worker_knows_its_own_calls.ensures.rises; ends = c.a_worker_knows_its_own_calls.ensures.ends } in
     let law = c.one_more_call_keeps_the_law.ensures.same in
     let report : Report = record { replies = c.into_seq.result; ends = c.new.result } in
-    let Leaves : Outcome → List (Caller g.row.S-Mark.Denot) → Type 0 = λ outcome list. ComesTo mark.at mark.own mark.front g.S.Shared.seen home plan outcome list in
+    let Leaves : Outcome → List (Caller g.row.S-Mark.Denot) → Type 0 = λ outcome list. HasRun mark.at mark.own mark.front g.S.Shared.seen home plan outcome list in
     let long : c.args.left.callers.len ≡ length new = omega (arith, c.args.left.callers.ok.0, same.count) in
     let list : take c.args.left.callers.len (new ++ drop (length new) c.args.left.callers.items) ≡ new = take-append-le c.args.left.callers.len new (drop (length new) c.args.left.callers.items) (omega (arith, long)) ∙ take_all c.args.left.callers.len new (omega (arith, long)) in
     let leaves : (outcome : Outcome) → IsExplained plan outcome settled.history (calls_of mark.own new) → (left_by outcome).ends ≡ [] → Leaves outcome new =

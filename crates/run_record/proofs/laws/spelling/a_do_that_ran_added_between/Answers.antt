@@ -30,7 +30,7 @@ use Rattle.run_record.specs.Calls.{call_at, call_on}
 use Rattle.run_record.specs.Objects.{atomic_number}
 use Rattle.run_record.specs.OnceKind.{goes_on_once, do_call}
 use Rattle.run_record.specs.Parts.{Part, GoesOn, with_outcome, stages, read_as}
-use Rattle.run_record.specs.Record.{number_at}
+use Rattle.run_record.specs.Record.{object_number}
 use Rattle.run_record.proofs.TwoCalls.{one_place}
 use Rattle.run_record.proofs.laws.spelling.a_do_that_ran_added_between.Goals as goal
 
@@ -88,4 +88,4 @@ returns c plan worker before atomic delta sum object call items some kind once s
     let found = subst (λ (o : Option ObjectLine). call_at plan worker before call.object o call.operation items answer) some spelt in
     let of_kind = subst (λ (k : ObjectKind). call_on plan worker before call.object k call.operation items answer) kind found in
     let is_do = subst (λ (o : Operation). call_on plan worker before call.object (kinds.Once atomic delta) o items answer) once of_kind in
-    of_do (number_at call.object) (atomic_number plan.objects atomic) delta sum items is_do
+    of_do (object_number call.object) (atomic_number plan.objects atomic) delta sum items is_do

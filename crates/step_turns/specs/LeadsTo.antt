@@ -63,15 +63,15 @@ AtomicGoes (operations.Atomic call) number reply next = (reply ≡ replies.Atomi
 AtomicGoes operation number reply next = ⊥
 
 -- the object comes from one state to another by just these items on it
-abbrev pub ComesTo : ObjectState → List Item → ObjectState → Type 0
-ComesTo (states.Map m) made (states.Map n) = CallsTo MapGoes m made n
-ComesTo (states.Atomic m) made (states.Atomic n) = CallsTo AtomicGoes m made n
-ComesTo (states.Mutex m) made (states.Mutex n) = FollowsTo events.Mutex answered.Mutex mutex.next m made n
-ComesTo (states.RwMutex m) made (states.RwMutex n) = FollowsTo events.RwMutex answered.RwMutex rw.next m made n
-ComesTo (states.Cond m place) made (states.Cond n other) = FollowsTo events.Cond answered.Cond notify.next m made n
-ComesTo (states.WaitGroup m first) made (states.WaitGroup n other) = FollowsTo events.WaitGroup answered.WaitGroup group.next m made n
-ComesTo (states.Once m place delta) made (states.Once n other amount) = FollowsTo events.Once answered.Once once.next m made n
-ComesTo (states.OnceFunc m code) made (states.OnceFunc n other) = FollowsTo events.OnceFunc answered.OnceFunc once.next m made n
-ComesTo (states.OnceValue m value) made (states.OnceValue n other) = FollowsTo events.OnceValue answered.OnceValue once.next m made n
-ComesTo (states.Pool m) made (states.Pool n) = FollowsTo events.Pool answered.Pool pool.next m made n
-ComesTo first made last = ⊥
+abbrev pub LeadsTo : ObjectState → List Item → ObjectState → Type 0
+LeadsTo (states.Map m) made (states.Map n) = CallsTo MapGoes m made n
+LeadsTo (states.Atomic m) made (states.Atomic n) = CallsTo AtomicGoes m made n
+LeadsTo (states.Mutex m) made (states.Mutex n) = FollowsTo events.Mutex answered.Mutex mutex.next m made n
+LeadsTo (states.RwMutex m) made (states.RwMutex n) = FollowsTo events.RwMutex answered.RwMutex rw.next m made n
+LeadsTo (states.Cond m place) made (states.Cond n other) = FollowsTo events.Cond answered.Cond notify.next m made n
+LeadsTo (states.WaitGroup m first) made (states.WaitGroup n other) = FollowsTo events.WaitGroup answered.WaitGroup group.next m made n
+LeadsTo (states.Once m place delta) made (states.Once n other amount) = FollowsTo events.Once answered.Once once.next m made n
+LeadsTo (states.OnceFunc m code) made (states.OnceFunc n other) = FollowsTo events.OnceFunc answered.OnceFunc once.next m made n
+LeadsTo (states.OnceValue m value) made (states.OnceValue n other) = FollowsTo events.OnceValue answered.OnceValue once.next m made n
+LeadsTo (states.Pool m) made (states.Pool n) = FollowsTo events.Pool answered.Pool pool.next m made n
+LeadsTo first made last = ⊥
