@@ -9,6 +9,3 @@ pub mod seed;
 pub use definition::{Subcommand, command};
 pub use matching::{WordsFault, matched};
 pub use seed::seed_of;
-
-#[cfg(test)]
-mod tests;

@@ -6,6 +6,3 @@ pub mod laws;
 pub mod word;
 
 pub use word::{and_word, of_word, or_word, sum_word, to_word};
-
-#[cfg(test)]
-mod tests;

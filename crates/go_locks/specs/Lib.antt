@@ -1,6 +1,5 @@
 pub mod Calls
 pub mod Exclusion
-pub mod Fresh
 pub mod MutexAnswers
 pub mod MutexCalls
 pub mod Mutexes

@@ -8,6 +8,3 @@ pub mod rw_mutex;
 
 pub use mutex::{Mutex, MutexPass};
 pub use rw_mutex::{RwMutex, RwPass};
-
-#[cfg(test)]
-mod tests;

@@ -2,6 +2,5 @@ pub mod GroupStart
 pub mod Calling
 pub mod GroupSpelling
 pub mod OnceSpelling
-pub mod FreshPasses
 pub mod OnceRunning
 pub mod CondSpelling

@@ -7,4 +7,3 @@ pub mod Onces
 pub mod OnceCalls
 pub mod OnceRuns
 pub mod OnceValues
-pub mod Fresh

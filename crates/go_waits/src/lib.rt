@@ -18,6 +18,3 @@ pub use once::{Once, OncePass};
 pub use once_begun::{OnceBegun, Running};
 pub use once_run::OnceRun;
 pub use once_value::{OnceFunc, OnceValue};
-
-#[cfg(test)]
-mod tests;

@@ -183,6 +183,3 @@ impl MutexCore {
         self.queue.iter().any(|waiter| caller == waiter.caller)
     }
 }
-
-#[cfg(test)]
-mod tests;

@@ -12,6 +12,3 @@ pub mod pool_event;
 pub use part_core::PartCore;
 pub use pool::PoolCore;
 pub use pool_event::{PoolEvent, PoolPut, PoolReply};
-
-#[cfg(test)]
-mod tests;

@@ -5,5 +5,4 @@ pub mod Growth
 pub mod Holding
 pub mod Journals
 pub mod Looking
-pub mod Pairs
 pub mod Steps

@@ -1,5 +1,4 @@
 pub mod Assembled
-pub mod Both
 pub mod Cells
 pub mod Gathered
 pub mod Growth

@@ -23,6 +23,3 @@ pub use assembly::{Assembly, AssemblyOf};
 pub use new::MAX_CALLS;
 pub use object::Object;
 pub use pass::{Pass, PassOf};
-
-#[cfg(test)]
-mod tests;

@@ -1,17 +1,11 @@
 -- The passes of a new object are between two calls.
-use Rattle.std.proofs.Common.{◌≡◌, ℕ, false, List, ap, Result, Ok, Err, IfOk}
-use Rattle.std.proofs.lemmas.Option.{slice_get-get_or}
+use Rattle.std.proofs.Common.{ℕ, List, ap, Result, Ok, Err, IfOk}
 use Rattle.sync_model.specs.declared.journal.Entry.{Entry}
-use Rattle.mutex_core.specs.declared.event.MutexEvent.{MutexEvent}
-use Rattle.mutex_core.specs.declared.reply.MutexReply.{MutexReply}
-use Rattle.mutex_core.specs.MutexMachine.{State}
 use Rattle.ruled_object.specs.declared.object.Object.{Object}
 use Rattle.ruled_object.specs.declared.pass.Pass.{Pass}
 use Rattle.ruled_object.specs.Gathered.{AreNew}
 use Rattle.ruled_object.specs.Standing.{stand_by}
-use Rattle.protocols.specs.MutexStages.{mutex_stands}
 use Rattle.running.specs.Between.{AreNewBetween}
-use Rattle.running.specs.Fresh.{AreFresh}
 
 pub if_ok : {A F : Type 0} (P Q : A → Type 0) (r : Result A F) → ((a : A) → P a → Q a) → IfOk r P → IfOk r Q
 if_ok P Q (Ok a) then_so is = then_so a is
@@ -28,6 +22,3 @@ module _ {M N S E R H W : Type 0} (out : W) (move : W → E → R → W) where
     seen = new.seen;
     own = new.own;
   }
-
-pub all_fresh : {M N H : Type 0} (lock : Object M N State MutexEvent MutexReply H) (passes : List (Pass State N MutexEvent MutexReply)) → AreNewBetween false mutex_stands lock 1000000 passes → AreFresh lock passes
-all_fresh lock passes new = λ k d below. let at = slice_get-get_or passes k d below in ((new.all.each k _ at).0, new.left k _ at)

@@ -1,4 +1,3 @@
 pub mod Between
 pub mod Calls
-pub mod Fresh
 pub mod Stages

@@ -10,6 +10,3 @@ mod stage;
 pub use begin::new;
 pub use calls::{call, call_within};
 pub use halts::{first_halt, halt};
-
-#[cfg(test)]
-mod tests;

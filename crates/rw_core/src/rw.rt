@@ -267,6 +267,3 @@ fn one_more(readers: u64) -> u64
         readers
     }
 }
-
-#[cfg(test)]
-mod tests;

@@ -12,6 +12,3 @@ pub mod turn;
 
 pub use run::stepped;
 pub use step::Step;
-
-#[cfg(test)]
-mod tests;

@@ -24,6 +24,3 @@ pub use machine::Machine;
 pub use no_note::NoNote;
 pub use note::Note;
 pub use shared::Shared;
-
-#[cfg(test)]
-mod tests;

@@ -44,6 +44,3 @@ pub use start_counts::StartCounts;
 pub use system_clock::SystemClock;
 pub use thread_spawner::ThreadSpawner;
 pub use work::Work;
-
-#[cfg(test)]
-mod tests;

@@ -32,6 +32,3 @@ pub use pool_call::{PoolCall, PoolCallReply};
 pub use seq::Seq;
 pub use value::MAX_VALUE;
 pub use wait_call::{CondCall, WaitGroupCall};
-
-#[cfg(test)]
-mod tests;

@@ -10,6 +10,3 @@ pub mod once;
 pub use group::{GroupCore, GroupEvent, GroupPlace, GroupReply, GroupWait};
 pub use notify::{NotifyCore, NotifyEvent, NotifyPlace, NotifyReply};
 pub use once::{Begun, OnceCore, OnceEvent, OncePlace, OnceProgress, OnceReply};
-
-#[cfg(test)]
-mod tests;

@@ -5,6 +5,3 @@ pub mod generating;
 pub mod laws;
 
 pub use generating::generate;
-
-#[cfg(test)]
-mod tests;

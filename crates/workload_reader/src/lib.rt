@@ -10,6 +10,3 @@ pub mod text;
 pub mod word_reading;
 
 pub use parsing::parse;
-
-#[cfg(test)]
-mod tests;

@@ -1,4 +1,0 @@
-mod fresh;
-mod one_thread;
-mod threads;
-mod wake_ups;

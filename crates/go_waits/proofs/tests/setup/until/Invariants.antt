@@ -1,7 +1,0 @@
-use Rattle.go_waits.proofs.tests.setup.until.Given as goal
-
-abbrev pub invariant-loop : goal.invariant-loop
-invariant-loop g l = record {
-  can : (goal.iterator-loop g).can_next l.iterator';
-  ends : (goal.iterator-loop g).is_finite l.iterator';
-}

@@ -1,0 +1,10 @@
+use Rattle.std.proofs.Common.{◌≡◌, ◌+◌, ◌*◌}
+use Rattle.ruled_object.specs.Passes.{left_of}
+use Rattle.go_locks.specs.Mutexes.{IsPassOfMutex}
+use Rattle.lock_tests.proofs.threads.add_locked.Given as goal
+
+abbrev pub invariant-loop-round : goal.invariant-loop-round
+invariant-loop-round g l = record {
+  is : IsPassOfMutex l.mutex l.pass;
+  left : left_of l.pass + 2 * l.round ≡ 1000000;
+}

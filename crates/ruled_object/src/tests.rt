@@ -1,4 +1,0 @@
-mod copies;
-mod machines;
-mod one_thread;
-mod threads;

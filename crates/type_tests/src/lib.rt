@@ -1,0 +1,10 @@
+//! What the tests show of the plain types, of notes and sets of callers, and of numbers in words: runs of their public
+//! calls. They stand in a crate of their own so that the crates that they try are proved once.
+#![tactic(auto)]
+
+#[cfg(test)]
+mod notes;
+#[cfg(test)]
+mod plain;
+#[cfg(test)]
+mod words;

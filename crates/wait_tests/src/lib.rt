@@ -1,0 +1,24 @@
+//! What the tests show of Cond, WaitGroup and Once for threads, by public calls. They stand in a crate of their own so
+//! that `go_waits` is proved once.
+#![tactic(auto)]
+
+#[cfg(test)]
+mod cond_alone;
+#[cfg(test)]
+mod cond_setup;
+#[cfg(test)]
+mod cond_threads;
+#[cfg(test)]
+mod group_alone;
+#[cfg(test)]
+mod group_threads;
+#[cfg(test)]
+mod once_alone;
+#[cfg(test)]
+mod once_setup;
+#[cfg(test)]
+mod once_threads;
+#[cfg(test)]
+mod setup;
+#[cfg(test)]
+mod wake_ups;
