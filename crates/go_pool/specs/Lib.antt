@@ -3,7 +3,6 @@ pub mod Calls
 pub mod Halting
 pub mod Items
 pub mod Parts
-pub mod PassProps
 pub mod PoolAnswers
 pub mod Pools
 pub mod Tables

@@ -14,6 +14,3 @@ mod put_and_sweep;
 
 pub use pool::{Pool, PoolPass};
 pub use pool_get::PoolGet;
-
-#[cfg(test)]
-mod tests;

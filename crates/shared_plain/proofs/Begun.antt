@@ -94,10 +94,3 @@ stepped_stands plain cursor map begin from shown start old new was becomes had h
             ∙ (ap (λ (b : Bool). cond b (spot_behind shown (spot_of begin was.items)) (spot_of begin was.items)) (eq-eqb begin begin refl) ∙ (ap (spot_behind shown) stands.at.spot ∙ sym is));
       };
     }
-
--- a cursor stands as it stood after a call on a map
-pub beside_stands : (plain : Plain) (cursor : Cursor) (map begin : ℕ) (start : Contents) (call : SharedCall) (reply : SharedReply) (cost : ℕ) (old new : CallerState) → (call ≡ calls.Next begin → ⊥) → Called start call reply cost old new
-    → ((was : Holding) → old.own ≡ Some was → Stands plain cursor map begin was.items) → (becomes : Holding) → new.own ≡ Some becomes → Stands plain cursor map begin becomes.items
-beside_stands plain cursor map begin start call reply cost old new other called stands becomes has =
-    subst (λ l. Stands plain cursor map begin l) (sym (last_made start call reply cost old new called.was becomes called.own_old has called))
-    (stays plain cursor map begin called.was.items called.item (λ e. other (sym called.is_call ∙ e)) (stands called.was called.own_old))

@@ -4,7 +4,6 @@ pub mod Fits
 pub mod MapWalks
 pub mod Marks
 pub mod NewCallers
-pub mod Pairs
 pub mod PlainHistory
 pub mod PlainMachine
 pub mod Plains

@@ -26,6 +26,3 @@ pub use mark::Mark;
 pub use plain::Plain;
 pub use room::EndsRoom;
 pub use state::PlainState;
-
-#[cfg(test)]
-mod tests;

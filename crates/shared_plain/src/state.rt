@@ -123,8 +123,8 @@ fn is_entry(call: AtomicCall, reply: AtomicReply) -> bool
     }
 }
 
-// Whether atomics of a type have a call.
-pub(crate) fn has_call(kind: AtomicKind, call: AtomicCall) -> bool
+/// Whether atomics of a type have a call.
+pub fn has_call(kind: AtomicKind, call: AtomicCall) -> bool
     ensures { result ≡ is_atomic_call kind call }
 {
     match call {

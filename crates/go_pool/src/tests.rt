@@ -1,3 +1,0 @@
-mod one_thread;
-mod setup;
-mod threads;

@@ -1,5 +1,0 @@
-mod callers;
-mod one_thread;
-mod pair;
-mod threads;
-mod walks;
