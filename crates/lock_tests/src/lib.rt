@@ -3,9 +3,13 @@
 #![tactic(auto)]
 
 #[cfg(test)]
-mod fresh;
+mod made;
+#[cfg(test)]
+mod mutex;
 #[cfg(test)]
 mod one_thread;
+#[cfg(test)]
+mod rw_mutex;
 #[cfg(test)]
 mod threads;
 #[cfg(test)]

@@ -1,200 +1,130 @@
-ghost use Rattle.std.specs.Prelude.{◌≡◌, IfOk};
-ghost use Rattle.go_locks.specs.Mutexes.{mutex_callers, AreAllOfMutex};
-ghost use Rattle.go_locks.specs.RwMutexes.{rw_callers, AreAllOfRwMutex};
-
-use super::fresh::{
-    LockPass, Locked, RwLockPass, RwLocked, knows, last, last_rw, mutex, nothing, rw_mutex,
-};
+//! Two callers by turns, halts, and the passes of new locks.
+use crate::made::{Made, knows};
+use crate::{mutex, rw_mutex};
 use go_locks::{Mutex, RwMutex};
 use ruled_object::MAX_CALLS;
-use std::alloc::{AllocError, Global};
-use std::sync::Wait;
 use std::test::Fail;
-use sync_model::{Answer, FrontNote};
-use sync_outside::{At, MemClock};
+use sync_outside::MemClock;
 use sync_types::Misuse;
+
+const OF_UNLOCKED: Misuse = Misuse::UnlockOfUnlockedMutex;
+
+/// Whether caller 0 or caller 1 makes the call, what it comes to, and how many calls of caller 0 caller 1 then knows:
+/// a try that fails makes no edge, and what the unlocker knew, the holder knows.
+const BY_TURNS: [(bool, mutex::Call, Made, u32); 10] = [
+    (true, mutex::Call::Lock, Made::Done, 0),
+    (false, mutex::Call::TryLock, Made::Tried(false), 0),
+    (true, mutex::Call::Unlock, Made::Done, 0),
+    (false, mutex::Call::TryLock, Made::Tried(true), 7),
+    (true, mutex::Call::Unlock, Made::Done, 7),
+    (true, mutex::Call::Unlock, Made::Misused(OF_UNLOCKED), 7),
+    (true, mutex::Call::Halt(OF_UNLOCKED), Made::Done, 7),
+    (false, mutex::Call::Lock, Made::Halted(OF_UNLOCKED), 7),
+    (false, mutex::Call::TryLock, Made::Halted(OF_UNLOCKED), 7),
+    (true, mutex::Call::Unlock, Made::Halted(OF_UNLOCKED), 7),
+];
 
 #[test]
 fn two_callers_by_turns_and_a_halt(rt: HostRuntime) -> Result<(), Fail> {
-    let (mutex, mut passes) = mutex(rt.alloc(), 2)?;
-    let mut one = last(&mutex, &mut passes);
-    let mut zero = last(&mutex, &mut passes);
+    let (lock, mut passes) = mutex::new(rt.alloc(), 2)?;
+    let mut one = mutex::Member::last(&lock, 2, &mut passes, knows(0)).expect(&rt, "a pass");
+    let mut zero = mutex::Member::last(&lock, 2, &mut passes, knows(7)).expect(&rt, "a pass");
     let clock = MemClock::new(Vec::new(rt.alloc()));
-    let at: At<FrontNote, MemClock> = At {
-        home: &(),
-        clock: &clock,
-    };
-    let (mut first, mut second) = (knows(7), nothing());
-
-    assert_eq!(rt;
-        mutex.lock(&rt, &at, &mut zero, &mut first),
-        Answer::Done(())
-    );
-    assert_eq!(rt;
-        mutex.try_lock(&rt, &at, &mut one, &mut second),
-        Answer::Done(false)
-    );
-    // A try that fails makes no edge.
-    assert_eq!(rt; second.count(0), 0);
-    assert_eq!(rt;
-        mutex.unlock(&rt, &at, &mut zero, &mut first),
-        Answer::Done(Ok(()))
-    );
-    assert_eq!(rt; second.count(0), 0);
-    assert_eq!(rt;
-        mutex.try_lock(&rt, &at, &mut one, &mut second),
-        Answer::Done(true)
-    );
-    // What the unlocker knew, the holder knows.
-    assert_eq!(rt; second.count(0), 7);
-    assert_eq!(rt;
-        mutex.unlock(&rt, &at, &mut zero, &mut first),
-        Answer::Done(Ok(()))
-    );
-    let misuse = Misuse::UnlockOfUnlockedMutex;
-    assert_eq!(rt;
-        mutex.unlock(&rt, &at, &mut zero, &mut first),
-        Answer::Done(Err(misuse))
-    );
-    mutex.halt(&rt, &mut zero, &first, misuse);
-    assert_eq!(rt;
-        mutex.lock(&rt, &at, &mut one, &mut second),
-        Answer::Halted(misuse)
-    );
-    assert_eq!(rt; (zero.left(), one.left()), (999_996, 999_997));
+    for &(by_zero, call, made, known) in &BY_TURNS {
+        let caller = if by_zero { &mut zero } else { &mut one };
+        assert_eq!(rt; caller.make(&rt, &clock, call), made, "{call:?}");
+        assert_eq!(rt; one.known(), known, "{call:?}");
+    }
+    assert_eq!(rt; (zero.left(), one.left()), (999_995, 999_996));
     Ok(())
 }
+
+const OF_UNREAD: Misuse = Misuse::RUnlockOfUnlockedRwMutex;
+
+const OF_UNWRITTEN: Misuse = Misuse::UnlockOfUnlockedRwMutex;
+
+/// The same for a reader/writer lock: the writer knows what the readers knew.
+const READERS: [(bool, rw_mutex::Call, Made, u32); 13] = [
+    (true, rw_mutex::Call::RLock, Made::Done, 0),
+    (false, rw_mutex::Call::TryLock, Made::Tried(false), 0),
+    (false, rw_mutex::Call::RLock, Made::Done, 0),
+    (true, rw_mutex::Call::RUnlock, Made::Done, 0),
+    (false, rw_mutex::Call::RUnlock, Made::Done, 0),
+    (true, rw_mutex::Call::RUnlock, Made::Misused(OF_UNREAD), 0),
+    (false, rw_mutex::Call::Lock, Made::Done, 3),
+    (true, rw_mutex::Call::TryRLock, Made::Tried(false), 3),
+    (false, rw_mutex::Call::Unlock, Made::Done, 3),
+    (
+        false,
+        rw_mutex::Call::Unlock,
+        Made::Misused(OF_UNWRITTEN),
+        3,
+    ),
+    (true, rw_mutex::Call::TryRLock, Made::Tried(true), 3),
+    (true, rw_mutex::Call::Halt(OF_UNWRITTEN), Made::Done, 3),
+    (
+        false,
+        rw_mutex::Call::TryLock,
+        Made::Halted(OF_UNWRITTEN),
+        3,
+    ),
+];
 
 #[test]
 fn readers_share_and_keep_a_writer_out(rt: HostRuntime) -> Result<(), Fail> {
-    let (lock, mut passes) = rw_mutex(rt.alloc(), 2)?;
-    let mut one = last_rw(&lock, &mut passes);
-    let mut zero = last_rw(&lock, &mut passes);
+    let (lock, mut passes) = rw_mutex::new(rt.alloc(), 2)?;
+    let mut one = rw_mutex::Member::last(&lock, 2, &mut passes, knows(0)).expect(&rt, "a pass");
+    let mut zero = rw_mutex::Member::last(&lock, 2, &mut passes, knows(3)).expect(&rt, "a pass");
     let clock = MemClock::new(Vec::new(rt.alloc()));
-    let at: At<FrontNote, MemClock> = At {
-        home: &(),
-        clock: &clock,
-    };
-    let (mut first, mut second) = (knows(3), nothing());
-
-    assert_eq!(rt;
-        lock.r_lock(&rt, &at, &mut zero, &mut first),
-        Answer::Done(())
-    );
-    assert_eq!(rt;
-        lock.try_lock(&rt, &at, &mut one, &mut second),
-        Answer::Done(false)
-    );
-    assert_eq!(rt;
-        lock.r_lock(&rt, &at, &mut one, &mut second),
-        Answer::Done(())
-    );
-    assert_eq!(rt;
-        lock.r_unlock(&rt, &at, &mut zero, &mut first),
-        Answer::Done(Ok(()))
-    );
-    assert_eq!(rt;
-        lock.r_unlock(&rt, &at, &mut one, &mut second),
-        Answer::Done(Ok(()))
-    );
-    let misuse = Misuse::RUnlockOfUnlockedRwMutex;
-    assert_eq!(rt;
-        lock.r_unlock(&rt, &at, &mut zero, &mut first),
-        Answer::Done(Err(misuse))
-    );
-    // The writer knows what the readers knew.
-    assert_eq!(rt; second.count(0), 0);
-    assert_eq!(rt;
-        lock.lock(&rt, &at, &mut one, &mut second),
-        Answer::Done(())
-    );
-    assert_eq!(rt; second.count(0), 3);
-    assert_eq!(rt;
-        lock.try_r_lock(&rt, &at, &mut zero, &mut first),
-        Answer::Done(false)
-    );
-    assert_eq!(rt;
-        lock.unlock(&rt, &at, &mut one, &mut second),
-        Answer::Done(Ok(()))
-    );
-    let misuse = Misuse::UnlockOfUnlockedRwMutex;
-    assert_eq!(rt;
-        lock.unlock(&rt, &at, &mut one, &mut second),
-        Answer::Done(Err(misuse))
-    );
-    assert_eq!(rt;
-        lock.try_r_lock(&rt, &at, &mut zero, &mut first),
-        Answer::Done(true)
-    );
-    lock.halt(&rt, &mut zero, &first, misuse);
-    assert_eq!(rt;
-        lock.try_lock(&rt, &at, &mut one, &mut second),
-        Answer::Halted(misuse)
-    );
+    for &(by_zero, call, made, known) in &READERS {
+        let caller = if by_zero { &mut zero } else { &mut one };
+        assert_eq!(rt; caller.make(&rt, &clock, call), made, "{call:?}");
+        assert_eq!(rt; one.known(), known, "{call:?}");
+    }
     Ok(())
 }
 
-// Halts a mutex of one caller twice.
-fn halted_twice<R: Wait>(
-    rt: &R,
-    alloc: Global,
-    mutex: &Locked,
-    mut passes: Vec<LockPass>,
-) -> Result<Vec<LockPass>, AllocError>
-    requires { AreAllOfMutex mutex.now passes.items × (mutex_callers mutex.now ≡ 1) }
-    ensures { IfOk result (λ after. AreAllOfMutex mutex.now after.items) }
-{
-    let mut pass = passes.pop().unwrap();
-    mutex.halt(rt, &mut pass, &nothing(), Misuse::WaitGroupReused);
-    mutex.halt(rt, &mut pass, &nothing(), Misuse::NegativeWaitGroupCounter);
-    Ok(vec![in alloc; pass]?)
-}
+/// Halts, one after the other, and the one that is found.
+const HALTS: [(&[Misuse], Option<Misuse>); 2] = [
+    (&[], None),
+    (&[OF_UNWRITTEN, Misuse::WaitGroupReused], Some(OF_UNWRITTEN)),
+];
 
 #[test]
 fn the_first_halt_is_found(rt: HostRuntime) -> Result<(), Fail> {
-    let (mutex, mut passes) = Mutex::new(rt.alloc(), 1, 0, nothing())?;
-    assert_eq!(rt; mutex.first_halt(&mut passes), None);
-    let mut passes = halted_twice(&rt, rt.alloc(), &mutex, passes)?;
-    assert_eq!(rt;
-        mutex.first_halt(&mut passes),
-        Some(Misuse::WaitGroupReused)
-    );
+    let clock = MemClock::new(Vec::new(rt.alloc()));
+    for &(halts, first) in &HALTS {
+        let (lock, mut passes) = mutex::new(rt.alloc(), 1)?;
+        let mut only = mutex::Member::last(&lock, 1, &mut passes, knows(0)).expect(&rt, "a pass");
+        for &misuse in halts {
+            only.make(&rt, &clock, mutex::Call::Halt(misuse));
+        }
+        assert_eq!(rt; only.first_halt(rt.alloc())?, first);
+    }
     Ok(())
-}
-
-// Halts a reader/writer lock of one caller twice.
-fn rw_halted_twice<R: Wait>(
-    rt: &R,
-    alloc: Global,
-    lock: &RwLocked,
-    mut passes: Vec<RwLockPass>,
-) -> Result<Vec<RwLockPass>, AllocError>
-    requires { AreAllOfRwMutex lock.now passes.items × (rw_callers lock.now ≡ 1) }
-    ensures { IfOk result (λ after. AreAllOfRwMutex lock.now after.items) }
-{
-    let mut pass = passes.pop().unwrap();
-    lock.halt(rt, &mut pass, &nothing(), Misuse::UnlockOfUnlockedRwMutex);
-    lock.halt(rt, &mut pass, &nothing(), Misuse::RUnlockOfUnlockedRwMutex);
-    Ok(vec![in alloc; pass]?)
 }
 
 #[test]
 fn the_first_halt_of_a_reader_writer_lock_is_found(rt: HostRuntime) -> Result<(), Fail> {
-    let (lock, mut passes) = RwMutex::new(rt.alloc(), 1, 0, nothing())?;
-    assert_eq!(rt; lock.first_halt(&mut passes), None);
-    let mut passes = rw_halted_twice(&rt, rt.alloc(), &lock, passes)?;
-    assert_eq!(rt;
-        lock.first_halt(&mut passes),
-        Some(Misuse::UnlockOfUnlockedRwMutex)
-    );
+    let clock = MemClock::new(Vec::new(rt.alloc()));
+    for &(halts, first) in &HALTS {
+        let (lock, mut passes) = rw_mutex::new(rt.alloc(), 1)?;
+        let mut only = rw_mutex::Member::last(&lock, 1, &mut passes, knows(0)).expect(
+            &rt, "a pass",
+        );
+        for &misuse in halts {
+            only.make(&rt, &clock, rw_mutex::Call::Halt(misuse));
+        }
+        assert_eq!(rt; only.first_halt(rt.alloc())?, first);
+    }
     Ok(())
 }
 
 #[test]
 fn a_new_lock_has_a_pass_for_each_caller(rt: HostRuntime) -> Result<(), Fail> {
     for callers in [1, 2, 64] {
-        let (_mutex, passes) = Mutex::new(rt.alloc(), callers, 7, nothing())?;
-        let (_lock, rw_passes) = RwMutex::new(rt.alloc(), callers, MAX_CALLS, nothing())?;
+        let (_mutex, passes) = Mutex::new(rt.alloc(), callers, 7, knows(0))?;
+        let (_lock, rw_passes) = RwMutex::new(rt.alloc(), callers, MAX_CALLS, knows(0))?;
         assert_eq!(rt;
             (passes.len(), rw_passes.len()),
             (callers as usize, callers as usize)
@@ -209,40 +139,25 @@ fn a_new_lock_has_a_pass_for_each_caller(rt: HostRuntime) -> Result<(), Fail> {
     Ok(())
 }
 
+/// The parts of one call, and what each comes to.
+const PARTS: [(mutex::Call, Made); 7] = [
+    (mutex::Call::SpendWithin, Made::Done),
+    (mutex::Call::LockWithin, Made::Done),
+    (mutex::Call::UnlockWithin, Made::Done),
+    (mutex::Call::UnlockWithin, Made::Misused(OF_UNLOCKED)),
+    (mutex::Call::Halt(OF_UNLOCKED), Made::Done),
+    (mutex::Call::LockWithin, Made::Halted(OF_UNLOCKED)),
+    (mutex::Call::UnlockWithin, Made::Halted(OF_UNLOCKED)),
+];
+
 #[test]
 fn parts_of_a_longer_call_take_off_one(rt: HostRuntime) -> Result<(), Fail> {
-    let (mutex, mut passes) = mutex(rt.alloc(), 1)?;
-    let mut pass = last(&mutex, &mut passes);
+    let (lock, mut passes) = mutex::new(rt.alloc(), 1)?;
+    let mut only = mutex::Member::last(&lock, 1, &mut passes, knows(0)).expect(&rt, "a pass");
     let clock = MemClock::new(Vec::new(rt.alloc()));
-    let at: At<FrontNote, MemClock> = At {
-        home: &(),
-        clock: &clock,
-    };
-    let mut note = nothing();
-    let misuse = Misuse::UnlockOfUnlockedMutex;
-
-    mutex.spend_within(&mut pass);
-    assert_eq!(rt;
-        mutex.lock_within(&rt, &at, &mut pass, &mut note),
-        Answer::Done(())
-    );
-    assert_eq!(rt;
-        mutex.unlock_within(&rt, &at, &mut pass, &mut note),
-        Answer::Done(Ok(()))
-    );
-    assert_eq!(rt;
-        mutex.unlock_within(&rt, &at, &mut pass, &mut note),
-        Answer::Done(Err(misuse))
-    );
-    mutex.halt(&rt, &mut pass, &note, misuse);
-    assert_eq!(rt;
-        mutex.lock_within(&rt, &at, &mut pass, &mut note),
-        Answer::Halted(misuse)
-    );
-    assert_eq!(rt;
-        mutex.unlock_within(&rt, &at, &mut pass, &mut note),
-        Answer::Halted(misuse)
-    );
-    assert_eq!(rt; pass.left(), 999_999);
+    for &(call, made) in &PARTS {
+        assert_eq!(rt; only.make(&rt, &clock, call), made, "{call:?}");
+    }
+    assert_eq!(rt; only.left(), 999_999);
     Ok(())
 }

@@ -1,19 +1,13 @@
-ghost use Rattle.std.specs.Prelude.{◌≡◌, ◌≤◌, ◌<◌};
+//! Callers in threads of their own.
 ghost use Rattle.std.specs.Thread.{IsSync};
-ghost use Rattle.ruled_object.specs.Passes.{left_of};
-ghost use Rattle.go_locks.specs.Mutexes.{IsPassOfMutex};
-ghost use Rattle.go_locks.specs.RwMutexes.{IsPassOfRwMutex};
-ghost use Rattle.lock_tests.specs.Fresh.{IsFresh, IsFreshRw};
 
-use super::fresh::{
-    LockPass, Locked, RwLockPass, RwLocked, last, last_rw, mutex, nothing, rw_mutex,
-};
+use crate::made::{Made, knows};
+use crate::{mutex, rw_mutex};
 use std::sync::Wait;
 use std::sync::atomic::{AtomicU64, Ordering};
 use std::test::Fail;
 use std::thread::{Threads, join};
-use sync_model::{Answer, FrontNote};
-use sync_outside::{At, Clock, MemClock, SystemClock};
+use sync_outside::{Clock, MemClock, SystemClock};
 use sync_types::Misuse;
 
 // Reads the number and stores one more. Two callers that do this at once lose one of the two.
@@ -25,56 +19,46 @@ fn add_one(number: &AtomicU64) {
 // Adds one so many times, each time with the mutex held.
 fn add_locked<C: Clock, R: Wait>(
     rt: &R,
-    mutex: &Locked,
     clock: &C,
-    mut pass: LockPass,
+    mut caller: mutex::Member,
     number: &AtomicU64,
     times: u64,
-)
-    requires pass { IsFresh mutex.now pass }
-    requires few { times ≤ 100000 }
-{
-    let at: At<FrontNote, C> = At { home: &(), clock };
-    let mut note = nothing();
-    for round in 0..times {
-        mutex.lock(rt, &at, &mut pass, &mut note);
+) {
+    for _ in 0..times {
+        caller.make(rt, clock, mutex::Call::Lock);
         add_one(number);
-        let _ = mutex.unlock(rt, &at, &mut pass, &mut note);
+        caller.make(rt, clock, mutex::Call::Unlock);
     }
 }
 
 // Two callers add in threads of their own.
 fn add_beside<C: Clock + Sync, R: Threads + Wait + Sync>(
     rt: &R,
-    mutex: &Locked,
     clock: &C,
-    first: LockPass,
-    second: LockPass,
+    first: mutex::Member,
+    second: mutex::Member,
     number: &AtomicU64,
     times: u64,
-)
-    requires passes { IsFresh mutex.now first × IsFresh mutex.now second }
-    requires few { times ≤ 100000 }
-{
+) {
     join(
         rt,
         move || -> ()
-            requires { IsSync R.row × IsSync C.row × IsFresh mutex.now first × (times ≤ 100000) }
-        { add_locked(rt, mutex, clock, first, number, times) },
+            requires { IsSync R.row × IsSync C.row }
+        { add_locked(rt, clock, first, number, times) },
         move || -> ()
-            requires { IsSync R.row × IsSync C.row × IsFresh mutex.now second × (times ≤ 100000) }
-        { add_locked(rt, mutex, clock, second, number, times) },
+            requires { IsSync R.row × IsSync C.row }
+        { add_locked(rt, clock, second, number, times) },
     );
 }
 
 #[test]
 fn each_arrival_reads_the_clock(rt: HostRuntime) -> Result<(), Fail> {
-    let (mutex, mut passes) = mutex(rt.alloc(), 2)?;
-    let one = last(&mutex, &mut passes);
-    let zero = last(&mutex, &mut passes);
+    let (lock, mut passes) = mutex::new(rt.alloc(), 2)?;
+    let one = mutex::Member::last(&lock, 2, &mut passes, knows(0)).expect(&rt, "a pass");
+    let zero = mutex::Member::last(&lock, 2, &mut passes, knows(0)).expect(&rt, "a pass");
     let clock = MemClock::new(Vec::from_slice(rt.alloc(), &[1, 2, 3, 4, 5, 6, 7, 8])?);
     let number = AtomicU64::new(0);
-    add_beside(&rt, &mutex, &clock, zero, one, &number, 2);
+    add_beside(&rt, &clock, zero, one, &number, 2);
     assert_eq!(rt; number.load(Ordering::SeqCst), 4);
     // Four arrivals took four moments, and each going on took one more.
     assert!(rt; clock.now() > 4);
@@ -83,17 +67,17 @@ fn each_arrival_reads_the_clock(rt: HostRuntime) -> Result<(), Fail> {
 
 #[test]
 fn four_threads_lose_no_increment(rt: HostRuntime) -> Result<(), Fail> {
-    let (mutex, mut passes) = mutex(rt.alloc(), 4)?;
-    let three = last(&mutex, &mut passes);
-    let two = last(&mutex, &mut passes);
-    let one = last(&mutex, &mut passes);
-    let zero = last(&mutex, &mut passes);
+    let (lock, mut passes) = mutex::new(rt.alloc(), 4)?;
+    let three = mutex::Member::last(&lock, 4, &mut passes, knows(0)).expect(&rt, "a pass");
+    let two = mutex::Member::last(&lock, 4, &mut passes, knows(0)).expect(&rt, "a pass");
+    let one = mutex::Member::last(&lock, 4, &mut passes, knows(0)).expect(&rt, "a pass");
+    let zero = mutex::Member::last(&lock, 4, &mut passes, knows(0)).expect(&rt, "a pass");
     let clock = SystemClock::new(&rt);
     let number = AtomicU64::new(0);
     join(
         &rt,
-        || add_beside(&rt, &mutex, &clock, zero, one, &number, 10_000),
-        || add_beside(&rt, &mutex, &clock, two, three, &number, 10_000),
+        || add_beside(&rt, &clock, zero, one, &number, 10_000),
+        || add_beside(&rt, &clock, two, three, &number, 10_000),
     );
     assert_eq!(rt; number.load(Ordering::SeqCst), 40_000);
     Ok(())
@@ -110,77 +94,62 @@ struct Numbers {
 // Adds one to both numbers so many times, each time as the lock's writer.
 fn write_both<C: Clock, R: Wait>(
     rt: &R,
-    lock: &RwLocked,
     clock: &C,
-    mut pass: RwLockPass,
+    mut caller: rw_mutex::Member,
     numbers: &Numbers,
     times: u64,
-)
-    requires pass { IsFreshRw lock.now pass }
-    requires few { times ≤ 100000 }
-{
-    let at: At<FrontNote, C> = At { home: &(), clock };
-    let mut note = nothing();
-    for round in 0..times {
-        lock.lock(rt, &at, &mut pass, &mut note);
+) {
+    for _ in 0..times {
+        caller.make(rt, clock, rw_mutex::Call::Lock);
         add_one(&numbers.first);
         add_one(&numbers.second);
-        let _ = lock.unlock(rt, &at, &mut pass, &mut note);
+        caller.make(rt, clock, rw_mutex::Call::Unlock);
     }
 }
 
 // Compares the numbers so many times, each time as one of the lock's readers.
 fn read_both<C: Clock, R: Wait>(
     rt: &R,
-    lock: &RwLocked,
     clock: &C,
-    mut pass: RwLockPass,
+    mut caller: rw_mutex::Member,
     numbers: &Numbers,
     times: u64,
-)
-    requires pass { IsFreshRw lock.now pass }
-    requires few { times ≤ 100000 }
-{
-    let at: At<FrontNote, C> = At { home: &(), clock };
-    let mut note = nothing();
-    for round in 0..times {
-        lock.r_lock(rt, &at, &mut pass, &mut note);
+) {
+    for _ in 0..times {
+        caller.make(rt, clock, rw_mutex::Call::RLock);
         if numbers.first.load(Ordering::SeqCst) != numbers.second.load(Ordering::SeqCst) {
             numbers.torn.fetch_add(1, Ordering::SeqCst);
         }
-        let _ = lock.r_unlock(rt, &at, &mut pass, &mut note);
+        caller.make(rt, clock, rw_mutex::Call::RUnlock);
     }
 }
 
 // A writer and a reader in threads of their own.
 fn write_beside<C: Clock + Sync, R: Threads + Wait + Sync>(
     rt: &R,
-    lock: &RwLocked,
     clock: &C,
-    writer: RwLockPass,
-    reader: RwLockPass,
+    writer: rw_mutex::Member,
+    reader: rw_mutex::Member,
     numbers: &Numbers,
-)
-    requires { IsFreshRw lock.now writer × IsFreshRw lock.now reader }
-{
+) {
     join(
         rt,
         move || -> ()
-            requires { IsSync R.row × IsSync C.row × IsFreshRw lock.now writer }
-        { write_both(rt, lock, clock, writer, numbers, 5_000) },
+            requires { IsSync R.row × IsSync C.row }
+        { write_both(rt, clock, writer, numbers, 5_000) },
         move || -> ()
-            requires { IsSync R.row × IsSync C.row × IsFreshRw lock.now reader }
-        { read_both(rt, lock, clock, reader, numbers, 5_000) },
+            requires { IsSync R.row × IsSync C.row }
+        { read_both(rt, clock, reader, numbers, 5_000) },
     );
 }
 
 #[test]
 fn readers_see_whole_writes(rt: HostRuntime) -> Result<(), Fail> {
-    let (lock, mut passes) = rw_mutex(rt.alloc(), 4)?;
-    let three = last_rw(&lock, &mut passes);
-    let two = last_rw(&lock, &mut passes);
-    let one = last_rw(&lock, &mut passes);
-    let zero = last_rw(&lock, &mut passes);
+    let (lock, mut passes) = rw_mutex::new(rt.alloc(), 4)?;
+    let three = rw_mutex::Member::last(&lock, 4, &mut passes, knows(0)).expect(&rt, "a pass");
+    let two = rw_mutex::Member::last(&lock, 4, &mut passes, knows(0)).expect(&rt, "a pass");
+    let one = rw_mutex::Member::last(&lock, 4, &mut passes, knows(0)).expect(&rt, "a pass");
+    let zero = rw_mutex::Member::last(&lock, 4, &mut passes, knows(0)).expect(&rt, "a pass");
     let clock = SystemClock::new(&rt);
     let numbers = Numbers {
         first: AtomicU64::new(0),
@@ -189,8 +158,8 @@ fn readers_see_whole_writes(rt: HostRuntime) -> Result<(), Fail> {
     };
     join(
         &rt,
-        || write_beside(&rt, &lock, &clock, zero, one, &numbers),
-        || write_beside(&rt, &lock, &clock, two, three, &numbers),
+        || write_beside(&rt, &clock, zero, one, &numbers),
+        || write_beside(&rt, &clock, two, three, &numbers),
     );
     assert_eq!(rt; numbers.first.load(Ordering::SeqCst), 10_000);
     assert_eq!(rt; numbers.second.load(Ordering::SeqCst), 10_000);
@@ -198,76 +167,44 @@ fn readers_see_whole_writes(rt: HostRuntime) -> Result<(), Fail> {
     Ok(())
 }
 
-// Waits for the mutex, and says what it was answered.
-fn locked<R: Wait>(rt: &R, mutex: &Locked, clock: &MemClock, mut pass: LockPass) -> Answer<()>
-    requires { IsFresh mutex.now pass }
-{
-    let at: At<FrontNote, MemClock> = At { home: &(), clock };
-    mutex.lock(rt, &at, &mut pass, &mut nothing())
-}
-
-// Two callers wait in threads of their own.
-fn locked_beside<R: Threads + Wait + Sync>(
+// Two callers make a call each, in threads of their own.
+fn make_beside<R: Threads + Wait + Sync>(
     rt: &R,
-    mutex: &Locked,
     clock: &MemClock,
-    first: LockPass,
-    second: LockPass,
-) -> (Answer<()>, Answer<()>)
-    requires { IsFresh mutex.now first × IsFresh mutex.now second }
-{
+    mut first: mutex::Member,
+    mut second: mutex::Member,
+    call: mutex::Call,
+    other: mutex::Call,
+) -> (Made, Made) {
     join(
         rt,
-        move || -> Answer<()>
-            requires { IsSync R.row × IsFresh mutex.now first }
-        { locked(rt, mutex, clock, first) },
-        move || -> Answer<()>
-            requires { IsSync R.row × IsFresh mutex.now second }
-        { locked(rt, mutex, clock, second) },
+        move || -> Made
+            requires { IsSync R.row }
+        { first.make(rt, clock, call) },
+        move || -> Made
+            requires { IsSync R.row }
+        { second.make(rt, clock, other) },
     )
 }
 
-// A third caller waits, and the holder halts the mutex.
-fn halted_beside<R: Threads + Wait + Sync>(
-    rt: &R,
-    mutex: &Locked,
-    clock: &MemClock,
-    mut holder: LockPass,
-    waiter: LockPass,
-) -> Answer<()>
-    requires { IsPassOfMutex mutex.now holder × IsFresh mutex.now waiter }
-{
-    join(
-        rt,
-        move || -> ()
-            requires { IsSync R.row × IsPassOfMutex mutex.now holder }
-        { mutex.halt(rt, &mut holder, &nothing(), Misuse::WaitGroupReused) },
-        move || -> Answer<()>
-            requires { IsSync R.row × IsFresh mutex.now waiter }
-        { locked(rt, mutex, clock, waiter) },
-    )
-    .1
-}
+const HALT: mutex::Call = mutex::Call::Halt(Misuse::WaitGroupReused);
 
+// Three callers wait, and the holder halts the mutex.
 #[test]
 fn a_halt_ends_the_wait_of_three(rt: HostRuntime) -> Result<(), Fail> {
-    let (mutex, mut passes) = mutex(rt.alloc(), 4)?;
-    let three = last(&mutex, &mut passes);
-    let two = last(&mutex, &mut passes);
-    let one = last(&mutex, &mut passes);
-    let mut zero = last(&mutex, &mut passes);
+    let (lock, mut passes) = mutex::new(rt.alloc(), 4)?;
+    let three = mutex::Member::last(&lock, 4, &mut passes, knows(0)).expect(&rt, "a pass");
+    let two = mutex::Member::last(&lock, 4, &mut passes, knows(0)).expect(&rt, "a pass");
+    let one = mutex::Member::last(&lock, 4, &mut passes, knows(0)).expect(&rt, "a pass");
+    let mut zero = mutex::Member::last(&lock, 4, &mut passes, knows(0)).expect(&rt, "a pass");
     let clock = MemClock::new(Vec::new(rt.alloc()));
-    let at: At<FrontNote, MemClock> = At {
-        home: &(),
-        clock: &clock,
-    };
-    mutex.lock(&rt, &at, &mut zero, &mut nothing());
-    let (both, third) = join(
+    zero.make(&rt, &clock, mutex::Call::Lock);
+    let (both, last) = join(
         &rt,
-        || locked_beside(&rt, &mutex, &clock, one, two),
-        || halted_beside(&rt, &mutex, &clock, zero, three),
+        || make_beside(&rt, &clock, one, two, mutex::Call::Lock, mutex::Call::Lock),
+        || make_beside(&rt, &clock, zero, three, HALT, mutex::Call::Lock),
     );
-    let halted = Answer::Halted(Misuse::WaitGroupReused);
-    assert_eq!(rt; (both.0, both.1, third), (halted, halted, halted));
+    let halted = Made::Halted(Misuse::WaitGroupReused);
+    assert_eq!(rt; (both.0, both.1, last.1), (halted, halted, halted));
     Ok(())
 }

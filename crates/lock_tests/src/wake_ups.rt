@@ -1,20 +1,13 @@
 //! Callers that are asleep, and whom only the one unlock lets go on that concerns them.
-ghost use Rattle.std.specs.Prelude.{◌≡◌, ◌<◌};
 ghost use Rattle.std.specs.Thread.{IsSync};
-ghost use Rattle.ruled_object.specs.Passes.{left_of};
-ghost use Rattle.go_locks.specs.Mutexes.{IsPassOfMutex};
-ghost use Rattle.go_locks.specs.RwMutexes.{IsPassOfRwMutex};
-ghost use Rattle.lock_tests.specs.Fresh.{IsFresh, IsFreshRw};
 
-use super::fresh::{
-    LockPass, Locked, RwLockPass, RwLocked, last, last_rw, mutex, nothing, rw_mutex,
-};
+use crate::made::knows;
+use crate::{mutex, rw_mutex};
 use std::sync::Wait;
 use std::test::Fail;
 use std::thread;
 use std::thread::{Threads, join};
-use sync_model::FrontNote;
-use sync_outside::{At, MemClock};
+use sync_outside::MemClock;
 
 // Gives the others the time to queue and to fall asleep. The tests hold however long that takes.
 fn pause() {
@@ -24,156 +17,124 @@ fn pause() {
 }
 
 // Locks and unlocks.
-fn go_through<R: Wait>(rt: &R, mutex: &Locked, clock: &MemClock, mut pass: LockPass)
-    requires { IsFresh mutex.now pass }
-{
-    let at: At<FrontNote, MemClock> = At { home: &(), clock };
-    let mut note = nothing();
-    mutex.lock(rt, &at, &mut pass, &mut note);
-    let _ = mutex.unlock(rt, &at, &mut pass, &mut note);
+fn go_through<R: Wait>(rt: &R, clock: &MemClock, mut caller: mutex::Member) {
+    caller.make(rt, clock, mutex::Call::Lock);
+    caller.make(rt, clock, mutex::Call::Unlock);
 }
 
 // Two callers go through the mutex in threads of their own.
 fn two_go_through<R: Threads + Wait + Sync>(
     rt: &R,
-    mutex: &Locked,
     clock: &MemClock,
-    first: LockPass,
-    second: LockPass,
-)
-    requires { IsFresh mutex.now first × IsFresh mutex.now second }
-{
+    first: mutex::Member,
+    second: mutex::Member,
+) {
     join(
         rt,
         move || -> ()
-            requires { IsSync R.row × IsFresh mutex.now first }
-        { go_through(rt, mutex, clock, first) },
+            requires { IsSync R.row }
+        { go_through(rt, clock, first) },
         move || -> ()
-            requires { IsSync R.row × IsFresh mutex.now second }
-        { go_through(rt, mutex, clock, second) },
+            requires { IsSync R.row }
+        { go_through(rt, clock, second) },
     );
 }
 
 // The holder unlocks while the others sleep.
-fn give_back<R: Wait>(rt: &R, mutex: &Locked, clock: &MemClock, mut holder: LockPass)
-    requires { IsPassOfMutex mutex.now holder × (0 < left_of holder) }
-{
-    let at: At<FrontNote, MemClock> = At { home: &(), clock };
+fn give_back<R: Wait>(rt: &R, clock: &MemClock, mut holder: mutex::Member) {
     pause();
-    let _ = mutex.unlock(rt, &at, &mut holder, &mut nothing());
+    holder.make(rt, clock, mutex::Call::Unlock);
 }
 
 // The holder's unlock wakes one of the two, and that one's unlock the other.
 #[test]
 fn each_unlock_wakes_the_next_caller(rt: HostRuntime) -> Result<(), Fail> {
-    let (mutex, mut passes) = mutex(rt.alloc(), 3)?;
-    let two = last(&mutex, &mut passes);
-    let one = last(&mutex, &mut passes);
-    let mut zero = last(&mutex, &mut passes);
+    let (lock, mut passes) = mutex::new(rt.alloc(), 3)?;
+    let two = mutex::Member::last(&lock, 3, &mut passes, knows(0)).expect(&rt, "a pass");
+    let one = mutex::Member::last(&lock, 3, &mut passes, knows(0)).expect(&rt, "a pass");
+    let mut zero = mutex::Member::last(&lock, 3, &mut passes, knows(0)).expect(&rt, "a pass");
     let clock = MemClock::new(Vec::new(rt.alloc()));
-    let at: At<FrontNote, MemClock> = At {
-        home: &(),
-        clock: &clock,
-    };
-    mutex.lock(&rt, &at, &mut zero, &mut nothing());
+    zero.make(&rt, &clock, mutex::Call::Lock);
     join(
         &rt,
-        || two_go_through(&rt, &mutex, &clock, one, two),
-        || give_back(&rt, &mutex, &clock, zero),
+        || two_go_through(&rt, &clock, one, two),
+        || give_back(&rt, &clock, zero),
     );
     Ok(())
 }
 
-// Locks and unlocks as a reader.
-fn read_through<R: Wait>(rt: &R, lock: &RwLocked, clock: &MemClock, mut pass: RwLockPass)
-    requires { IsFreshRw lock.now pass }
-{
-    let at: At<FrontNote, MemClock> = At { home: &(), clock };
-    let mut note = nothing();
-    lock.r_lock(rt, &at, &mut pass, &mut note);
+// Two calls, the second after a pause.
+fn make_both<R: Wait>(
+    rt: &R,
+    clock: &MemClock,
+    mut caller: rw_mutex::Member,
+    calls: (rw_mutex::Call, rw_mutex::Call),
+) {
+    caller.make(rt, clock, calls.0);
     pause();
-    let _ = lock.r_unlock(rt, &at, &mut pass, &mut note);
+    caller.make(rt, clock, calls.1);
 }
+
+const READS: (rw_mutex::Call, rw_mutex::Call) = (rw_mutex::Call::RLock, rw_mutex::Call::RUnlock);
 
 // Two readers go through the lock in threads of their own.
 fn two_read_through<R: Threads + Wait + Sync>(
     rt: &R,
-    lock: &RwLocked,
     clock: &MemClock,
-    first: RwLockPass,
-    second: RwLockPass,
-)
-    requires { IsFreshRw lock.now first × IsFreshRw lock.now second }
-{
+    first: rw_mutex::Member,
+    second: rw_mutex::Member,
+) {
     join(
         rt,
         move || -> ()
-            requires { IsSync R.row × IsFreshRw lock.now first }
-        { read_through(rt, lock, clock, first) },
+            requires { IsSync R.row }
+        { make_both(rt, clock, first, READS) },
         move || -> ()
-            requires { IsSync R.row × IsFreshRw lock.now second }
-        { read_through(rt, lock, clock, second) },
+            requires { IsSync R.row }
+        { make_both(rt, clock, second, READS) },
     );
 }
 
-// Locks and unlocks as the writer.
-fn write_through<R: Wait>(rt: &R, lock: &RwLocked, clock: &MemClock, mut pass: RwLockPass)
-    requires { IsFreshRw lock.now pass }
-{
-    let at: At<FrontNote, MemClock> = At { home: &(), clock };
-    let mut note = nothing();
-    lock.lock(rt, &at, &mut pass, &mut note);
-    let _ = lock.unlock(rt, &at, &mut pass, &mut note);
-}
+const WRITES: (rw_mutex::Call, rw_mutex::Call) = (rw_mutex::Call::Lock, rw_mutex::Call::Unlock);
 
 // The holder unlocks while the others sleep.
-fn give_back_rw<R: Wait>(rt: &R, lock: &RwLocked, clock: &MemClock, mut holder: RwLockPass)
-    requires { IsPassOfRwMutex lock.now holder × (0 < left_of holder) }
-{
-    let at: At<FrontNote, MemClock> = At { home: &(), clock };
+fn give_back_rw<R: Wait>(rt: &R, clock: &MemClock, mut holder: rw_mutex::Member) {
     pause();
-    let _ = lock.unlock(rt, &at, &mut holder, &mut nothing());
+    holder.make(rt, clock, rw_mutex::Call::Unlock);
 }
 
 // A writer goes through the lock, and the holder unlocks.
 fn write_after_the_holder<R: Threads + Wait + Sync>(
     rt: &R,
-    lock: &RwLocked,
     clock: &MemClock,
-    writer: RwLockPass,
-    holder: RwLockPass,
-)
-    requires { IsFreshRw lock.now writer × IsPassOfRwMutex lock.now holder × (0 < left_of holder) }
-{
+    writer: rw_mutex::Member,
+    holder: rw_mutex::Member,
+) {
     join(
         rt,
         move || -> ()
-            requires { IsSync R.row × IsFreshRw lock.now writer }
-        { write_through(rt, lock, clock, writer) },
+            requires { IsSync R.row }
+        { make_both(rt, clock, writer, WRITES) },
         move || -> ()
-            requires { IsSync R.row × IsPassOfRwMutex lock.now holder × (0 < left_of holder) }
-        { give_back_rw(rt, lock, clock, holder) },
+            requires { IsSync R.row }
+        { give_back_rw(rt, clock, holder) },
     );
 }
 
 // The holder's unlock wakes both readers and the writer, and the last reader's the writer again.
 #[test]
 fn unlocks_wake_the_readers_and_then_the_writer(rt: HostRuntime) -> Result<(), Fail> {
-    let (lock, mut passes) = rw_mutex(rt.alloc(), 4)?;
-    let three = last_rw(&lock, &mut passes);
-    let two = last_rw(&lock, &mut passes);
-    let one = last_rw(&lock, &mut passes);
-    let mut zero = last_rw(&lock, &mut passes);
+    let (lock, mut passes) = rw_mutex::new(rt.alloc(), 4)?;
+    let three = rw_mutex::Member::last(&lock, 4, &mut passes, knows(0)).expect(&rt, "a pass");
+    let two = rw_mutex::Member::last(&lock, 4, &mut passes, knows(0)).expect(&rt, "a pass");
+    let one = rw_mutex::Member::last(&lock, 4, &mut passes, knows(0)).expect(&rt, "a pass");
+    let mut zero = rw_mutex::Member::last(&lock, 4, &mut passes, knows(0)).expect(&rt, "a pass");
     let clock = MemClock::new(Vec::new(rt.alloc()));
-    let at: At<FrontNote, MemClock> = At {
-        home: &(),
-        clock: &clock,
-    };
-    lock.lock(&rt, &at, &mut zero, &mut nothing());
+    zero.make(&rt, &clock, rw_mutex::Call::Lock);
     join(
         &rt,
-        || two_read_through(&rt, &lock, &clock, one, two),
-        || write_after_the_holder(&rt, &lock, &clock, three, zero),
+        || two_read_through(&rt, &clock, one, two),
+        || write_after_the_holder(&rt, &clock, three, zero),
     );
     Ok(())
 }

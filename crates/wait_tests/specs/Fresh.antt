@@ -1,9 +1,7 @@
 -- Passes that the tests begin with.
 use Rattle.std.specs.Prelude.{◌≡◌, List, All}
 use Rattle.ruled_object.specs.Passes.{left_of}
-use Rattle.go_waits.specs.declared.cond.Cond.{Cond}
 use Rattle.go_waits.specs.declared.once.Once.{Once}
-use Rattle.go_waits.specs.Conds as conds
 use Rattle.go_waits.specs.Onces.{OncePass, IsPassOf}
 
 module _ {T N H : Type 0} where
@@ -13,10 +11,3 @@ module _ {T N H : Type 0} where
 
   abbrev pub AreFresh : Once T N H → List (OncePass T N) → Type 0
   AreFresh once passes = All (IsFresh once) passes
-
-module _ {N H : Type 0} where
-  abbrev pub IsFreshCond : Cond N H → conds.CondPass N → Type 0
-  IsFreshCond cond pass = conds.IsPassOf cond pass × (left_of pass ≡ 1000000)
-
-  abbrev pub AreFreshCond : Cond N H → List (conds.CondPass N) → Type 0
-  AreFreshCond cond passes = All (IsFreshCond cond) passes

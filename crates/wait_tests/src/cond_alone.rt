@@ -1,81 +1,60 @@
-ghost use Rattle.wait_tests.specs.FreshLocks.{IsFresh};
-ghost use Rattle.wait_tests.specs.Fresh.{IsFreshCond};
-
-use super::cond_setup::{
-    LockPass, Locked, Notified, NotifiedPass, cond, last_cond, last_lock, mutex,
-};
-use super::setup::{HERE, knows};
+//! Conds by one thread.
+use super::cond_setup::{Call, Made, Waiter, cond, mutex};
+use super::setup::knows;
 use go_waits::Cond;
-use std::sync::Wait;
 use std::test::Fail;
-use sync_model::Answer;
 use sync_types::Misuse;
 
-// Signals with the mutex locked, by a caller that knows 7 calls, and says what each call was answered.
-fn signal_locked<R: Wait>(
-    rt: &R,
-    mutex: &Locked,
-    cond: &Notified,
-    mut lock: LockPass,
-    mut pass: NotifiedPass,
-) -> (Answer<()>, Answer<()>, Answer<Result<(), Misuse>>)
-    requires { IsFresh mutex.now lock × IsFreshCond cond.now pass }
-{
-    let mut note = knows(7);
-    let locked = mutex.lock(rt, &HERE, &mut lock, &mut note);
-    let signaled = cond.signal(rt, &HERE, &mut pass, &mut note);
-    let unlocked = mutex.unlock(rt, &HERE, &mut lock, &mut note);
-    (locked, signaled, unlocked)
-}
+const OF_UNLOCKED: Misuse = Misuse::UnlockOfUnlockedMutex;
+
+/// Whether the first caller makes the call, and what it comes to. A signal that finds nobody is lost.
+const WITHOUT_THE_MUTEX: [(bool, Call, Made); 4] = [
+    (true, Call::Lock, Made::Done),
+    (true, Call::Signal, Made::Done),
+    (true, Call::Unlock, Made::Done),
+    (false, Call::Wait, Made::Misused(OF_UNLOCKED)),
+];
 
 #[test]
 fn a_wait_without_its_mutex_is_a_misuse(rt: HostRuntime) -> Result<(), Fail> {
     let (mutex, mut locks) = mutex(rt.alloc(), 2)?;
-    let mut second_lock = last_lock(&mutex, &mut locks);
-    let first_lock = last_lock(&mutex, &mut locks);
     let (cond, mut passes) = cond(rt.alloc(), 2)?;
-    let mut second = last_cond(&cond, &mut passes);
-    let first = last_cond(&cond, &mut passes);
-    // A signal that finds nobody is lost.
-    assert_eq!(rt;
-        signal_locked(&rt, &mutex, &cond, first_lock, first),
-        (Answer::Done(()), Answer::Done(()), Answer::Done(Ok(())))
+    let mut second = Waiter::last(&mutex, &cond, &mut locks, &mut passes, knows(0)).expect(
+        &rt, "passes",
     );
-    let mut other = knows(0);
-    let misuse = Misuse::UnlockOfUnlockedMutex;
-    let answer = cond.wait(
-        &rt,
-        &HERE,
-        &mut second,
-        &mut other,
-        &mutex,
-        &mut second_lock,
+    let mut first = Waiter::last(&mutex, &cond, &mut locks, &mut passes, knows(7)).expect(
+        &rt, "passes",
     );
-    assert_eq!(rt; answer, Answer::Done(Err(misuse)));
+    for &(is_first, call, made) in &WITHOUT_THE_MUTEX {
+        let caller = if is_first { &mut first } else { &mut second };
+        assert_eq!(rt; caller.make(&rt, call), made, "{call:?}");
+    }
     // Neither the ticket nor the misuse makes an edge.
-    assert_eq!(rt; other.count(0), 0);
-    assert_eq!(rt; (second.left(), second_lock.left()), (999_999, 999_999));
+    assert_eq!(rt; second.known(), 0);
+    assert_eq!(rt; second.left(), (999_999, 999_999));
     Ok(())
 }
+
+/// Calls on a cond that is halted twice.
+const HALTED: [(Call, Made); 5] = [
+    (Call::HaltCond(OF_UNLOCKED), Made::Done),
+    (Call::HaltCond(Misuse::WaitGroupReused), Made::Done),
+    (Call::Signal, Made::Halted(OF_UNLOCKED)),
+    (Call::Broadcast, Made::Halted(OF_UNLOCKED)),
+    (Call::Wait, Made::Halted(OF_UNLOCKED)),
+];
 
 #[test]
 fn a_halt_ends_the_cond(rt: HostRuntime) -> Result<(), Fail> {
     let (mutex, mut locks) = mutex(rt.alloc(), 1)?;
-    let mut lock = last_lock(&mutex, &mut locks);
     let (cond, mut passes) = cond(rt.alloc(), 1)?;
-    let mut pass = last_cond(&cond, &mut passes);
-    let mut note = knows(0);
-    let misuse = Misuse::UnlockOfUnlockedMutex;
-    let halted = Answer::Halted(misuse);
-    cond.halt(&rt, &mut pass, &note, misuse);
-    cond.halt(&rt, &mut pass, &note, Misuse::WaitGroupReused);
-    assert_eq!(rt; cond.signal(&rt, &HERE, &mut pass, &mut note), halted);
-    assert_eq!(rt; cond.broadcast(&rt, &HERE, &mut pass, &mut note), halted);
-    assert_eq!(rt;
-        cond.wait(&rt, &HERE, &mut pass, &mut note, &mutex, &mut lock),
-        Answer::Halted(misuse)
+    let mut only = Waiter::last(&mutex, &cond, &mut locks, &mut passes, knows(0)).expect(
+        &rt, "passes",
     );
-    assert_eq!(rt; (pass.left(), lock.left()), (999_997, 999_999));
+    for &(call, made) in &HALTED {
+        assert_eq!(rt; only.make(&rt, call), made, "{call:?}");
+    }
+    assert_eq!(rt; only.left(), (999_997, 999_999));
     Ok(())
 }
 

@@ -1,14 +1,16 @@
-//! Conds and their mutexes for the tests, and their passes.
-ghost use Rattle.std.specs.Prelude.{◌≡◌, ◌<◌, ◌≤◌, ◌+◌, IfOk, vec_len};
-ghost use Rattle.wait_tests.specs.FreshLocks.{IsFresh, AreFresh};
-ghost use Rattle.wait_tests.specs.Fresh.{IsFreshCond, AreFreshCond};
+//! Conds and their mutexes for the tests, and their callers.
+ghost use Rattle.std.specs.Prelude.{◌≤◌, IfOk, All};
+ghost use Rattle.go_locks.specs.Mutexes.{IsPassOfMutex};
+ghost use Rattle.go_waits.specs.Conds.{IsPassOf};
 
-use super::setup::knows;
+use super::setup::{HERE, knows};
 use go_locks::{Mutex, MutexPass};
 use go_waits::{Cond, CondPass};
 use ruled_object::MAX_CALLS;
 use std::alloc::{AllocError, Global};
-use sync_model::FrontNote;
+use std::sync::Wait;
+use sync_model::{Answer, FrontNote};
+use sync_types::Misuse;
 
 pub(super) type Locked = Mutex<FrontNote>;
 
@@ -18,36 +20,131 @@ pub(super) type Notified = Cond<FrontNote>;
 
 pub(super) type NotifiedPass = CondPass<FrontNote>;
 
+/// A mutex, and the passes of its callers.
 pub(super) fn mutex(alloc: Global, callers: u32) -> Result<(Locked, Vec<LockPass>), AllocError>
     requires { (1 ≤ callers) × (callers ≤ 64) }
-    ensures { IfOk result (λ made. AreFresh made.0 made.1.items × (vec_len made.1 ≡ callers)) }
+    ensures { IfOk result (λ made. All (IsPassOfMutex made.0) made.1.items) }
 {
     let (mutex, passes) = Mutex::new(alloc, callers, MAX_CALLS, knows(0))?;
     Ok((mutex, passes))
 }
 
-/// The pass to the mutex of the last caller.
-pub(super) fn last_lock(_mutex: &Locked, passes: &mut Vec<LockPass>) -> LockPass
-    requires { AreFresh _mutex.now passes.old.items × (0 < vec_len passes.old) }
-    ensures pass { IsFresh _mutex.now result }
-    ensures rest { AreFresh _mutex.now passes.new.items × (vec_len passes.new + 1 ≡ vec_len passes.old) }
-{
-    passes.pop().unwrap()
-}
-
+/// A cond, and the passes of its callers.
 pub(super) fn cond(alloc: Global, callers: u32) -> Result<(Notified, Vec<NotifiedPass>), AllocError>
     requires { (1 ≤ callers) × (callers ≤ 64) }
-    ensures { IfOk result (λ made. AreFreshCond made.0 made.1.items × (vec_len made.1 ≡ callers)) }
+    ensures { IfOk result (λ made. All (IsPassOf made.0) made.1.items) }
 {
     let (cond, passes) = Cond::new(alloc, callers, MAX_CALLS, knows(0))?;
     Ok((cond, passes))
 }
 
-/// The pass to the cond of the last caller.
-pub(super) fn last_cond(_cond: &Notified, passes: &mut Vec<NotifiedPass>) -> NotifiedPass
-    requires { AreFreshCond _cond.now passes.old.items × (0 < vec_len passes.old) }
-    ensures pass { IsFreshCond _cond.now result }
-    ensures rest { AreFreshCond _cond.now passes.new.items × (vec_len passes.new + 1 ≡ vec_len passes.old) }
-{
-    passes.pop().unwrap()
+/// A call of a caller on its cond or its mutex.
+#[derive(Clone, Copy, Debug)]
+pub(super) enum Call {
+    Lock,
+    Unlock,
+    Wait,
+    Signal,
+    Broadcast,
+    HaltCond(Misuse),
+}
+
+/// What a call came to, whichever it was.
+#[derive(Clone, Copy, Debug, PartialEq, Eq)]
+pub(super) enum Made {
+    Done,
+    Misused(Misuse),
+    Halted(Misuse),
+    NoCallLeft,
+}
+
+// What a call without a misuse came to.
+fn done(answer: Answer<()>) -> Made {
+    match answer {
+        Answer::Done(()) => Made::Done,
+        Answer::Halted(misuse) => Made::Halted(misuse),
+    }
+}
+
+// What a call came to that may be a misuse.
+fn returned(answer: Answer<Result<(), Misuse>>) -> Made {
+    match answer {
+        Answer::Done(Ok(())) => Made::Done,
+        Answer::Done(Err(misuse)) => Made::Misused(misuse),
+        Answer::Halted(misuse) => Made::Halted(misuse),
+    }
+}
+
+/// A caller of a cond and its mutex, with its passes and its note.
+#[derive(Drop)]
+pub(super) struct Waiter<'a> {
+    mutex: &'a Locked,
+    cond: &'a Notified,
+    lock: LockPass,
+    pass: NotifiedPass,
+    note: FrontNote,
+    ghost locks: { IsPassOfMutex mutex.now lock },
+    ghost is: { IsPassOf cond.now pass },
+}
+
+impl<'a> Waiter<'a> {
+    /// The caller of the last of these passes, with this note.
+    pub(super) fn last(
+        mutex: &'a Locked,
+        cond: &'a Notified,
+        locks: &mut Vec<LockPass>,
+        passes: &mut Vec<NotifiedPass>,
+        note: FrontNote,
+    ) -> Option<Self>
+        requires locks { All (IsPassOfMutex mutex.now) locks.old.items }
+        requires passes { All (IsPassOf cond.now) passes.old.items }
+        ensures locks { All (IsPassOfMutex mutex.now) locks.new.items }
+        ensures passes { All (IsPassOf cond.now) passes.new.items }
+    {
+        let lock = locks.pop()?;
+        let pass = passes.pop()?;
+        Some(Waiter {
+            mutex,
+            cond,
+            lock,
+            pass,
+            note,
+        })
+    }
+
+    /// Makes a call, where one is left on both.
+    pub(super) fn make<R: Wait>(&mut self, rt: &R, call: Call) -> Made {
+        if self.lock.left() == 0 || self.pass.left() == 0 {
+            return Made::NoCallLeft;
+        }
+        let Waiter {
+            mutex,
+            cond,
+            lock,
+            pass,
+            note,
+            ..
+        } = self;
+        match call {
+            Call::Lock => done(mutex.lock(rt, &HERE, lock, note)),
+            Call::Unlock => returned(mutex.unlock(rt, &HERE, lock, note)),
+            Call::Wait => returned(cond.wait(rt, &HERE, pass, note, mutex, lock)),
+            Call::Signal => done(cond.signal(rt, &HERE, pass, note)),
+            Call::Broadcast => done(cond.broadcast(rt, &HERE, pass, note)),
+            Call::HaltCond(misuse) => {
+                cond.halt(rt, pass, note, misuse);
+                Made::Done
+            }
+        }
+    }
+
+    /// How many calls of caller 0 are known.
+    pub(super) fn known(&self) -> u32 {
+        self.note.count(0)
+    }
+
+    /// How many calls are left on the cond, and on the mutex.
+    pub(super) fn left(&self) -> (u64, u64) {
+        (self.pass.left(), self.lock.left())
+    }
 }

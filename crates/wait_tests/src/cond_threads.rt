@@ -1,19 +1,18 @@
-ghost use Rattle.std.specs.Prelude.{◌≡◌, ◌<◌, ◌+◌, vec_len};
+//! Conds by callers in threads of their own.
+ghost use Rattle.std.specs.Prelude.{All};
 ghost use Rattle.std.specs.Thread.{IsSync};
 ghost use Rattle.go_locks.specs.Mutexes.{IsPassOfMutex};
-ghost use Rattle.wait_tests.specs.FreshLocks.{IsFresh, AreFresh};
 ghost use Rattle.go_waits.specs.Conds.{IsPassOf};
-ghost use Rattle.wait_tests.specs.Fresh.{IsFreshCond, AreFreshCond};
 
 use super::cond_setup::{
-    LockPass, Locked, Notified, NotifiedPass, cond, last_cond, last_lock, mutex,
+    Call, LockPass, Locked, Made, Notified, NotifiedPass, Waiter, cond, mutex,
 };
 use super::setup::{HERE, knows};
 use std::sync::Wait;
 use std::sync::atomic::{AtomicU64, Ordering};
 use std::test::Fail;
 use std::thread::{Threads, join};
-use sync_model::{Answer, FrontNote};
+use sync_model::FrontNote;
 use sync_types::Misuse;
 
 // How many items the buffer has room for.
@@ -68,24 +67,24 @@ impl<'a> Party<'a> {
         locks: &mut Vec<LockPass>,
         rooms: &mut Vec<NotifiedPass>,
         items: &mut Vec<NotifiedPass>,
-    ) -> Self
-        requires locks { AreFresh buffer.now.mutex locks.old.items × (0 < vec_len locks.old) }
-        requires rooms { AreFreshCond buffer.now.has_room rooms.old.items × (0 < vec_len rooms.old) }
-        requires items { AreFreshCond buffer.now.has_items items.old.items × (0 < vec_len items.old) }
-        ensures locks { AreFresh buffer.now.mutex locks.new.items × (vec_len locks.new + 1 ≡ vec_len locks.old) }
-        ensures rooms { AreFreshCond buffer.now.has_room rooms.new.items × (vec_len rooms.new + 1 ≡ vec_len rooms.old) }
-        ensures items { AreFreshCond buffer.now.has_items items.new.items × (vec_len items.new + 1 ≡ vec_len items.old) }
+    ) -> Option<Self>
+        requires locks { All (IsPassOfMutex buffer.now.mutex) locks.old.items }
+        requires rooms { All (IsPassOf buffer.now.has_room) rooms.old.items }
+        requires items { All (IsPassOf buffer.now.has_items) items.old.items }
+        ensures locks { All (IsPassOfMutex buffer.now.mutex) locks.new.items }
+        ensures rooms { All (IsPassOf buffer.now.has_room) rooms.new.items }
+        ensures items { All (IsPassOf buffer.now.has_items) items.new.items }
     {
-        let lock = last_lock(&buffer.mutex, locks);
-        let room = last_cond(&buffer.has_room, rooms);
-        let item = last_cond(&buffer.has_items, items);
-        Party {
+        let lock = locks.pop()?;
+        let room = rooms.pop()?;
+        let item = items.pop()?;
+        Some(Party {
             buffer,
             lock,
             room,
             items: item,
             note: knows(0),
-        }
+        })
     }
 
     fn lock<R: Wait>(&mut self, rt: &R) -> Option<()> {
@@ -251,10 +250,10 @@ fn two_producers_and_two_consumers_share_a_buffer(rt: HostRuntime) -> Result<(),
         held: AtomicU64::new(0),
         faults: AtomicU64::new(0),
     };
-    let fourth = Party::last(&buffer, &mut locks, &mut rooms, &mut items);
-    let third = Party::last(&buffer, &mut locks, &mut rooms, &mut items);
-    let second = Party::last(&buffer, &mut locks, &mut rooms, &mut items);
-    let first = Party::last(&buffer, &mut locks, &mut rooms, &mut items);
+    let fourth = Party::last(&buffer, &mut locks, &mut rooms, &mut items).expect(&rt, "passes");
+    let third = Party::last(&buffer, &mut locks, &mut rooms, &mut items).expect(&rt, "passes");
+    let second = Party::last(&buffer, &mut locks, &mut rooms, &mut items).expect(&rt, "passes");
+    let first = Party::last(&buffer, &mut locks, &mut rooms, &mut items).expect(&rt, "passes");
     let (one, other) = join(
         &rt,
         || produce_beside(&rt, first, second),
@@ -267,51 +266,38 @@ fn two_producers_and_two_consumers_share_a_buffer(rt: HostRuntime) -> Result<(),
 }
 
 // Waits with the mutex locked, and says what it was answered.
-fn wait_locked<R: Wait>(
-    rt: &R,
-    mutex: &Locked,
-    cond: &Notified,
-    mut lock: LockPass,
-    mut pass: NotifiedPass,
-) -> Answer<Result<(), Misuse>>
-    requires { IsFresh mutex.now lock × IsFreshCond cond.now pass }
-{
-    let mut note = knows(0);
-    mutex.lock(rt, &HERE, &mut lock, &mut note);
-    cond.wait(rt, &HERE, &mut pass, &mut note, mutex, &mut lock)
+fn wait_locked<R: Wait>(rt: &R, mut caller: Waiter) -> Made {
+    caller.make(rt, Call::Lock);
+    caller.make(rt, Call::Wait)
 }
 
 // One caller waits, and another halts the cond.
-fn halted_beside<R: Threads + Wait + Sync>(
-    rt: &R,
-    mutex: &Locked,
-    cond: &Notified,
-    lock: LockPass,
-    waits: NotifiedPass,
-    mut halts: NotifiedPass,
-) -> Answer<Result<(), Misuse>>
-    requires { IsFresh mutex.now lock × IsFreshCond cond.now waits × IsFreshCond cond.now halts }
-{
+fn halted_beside<R: Threads + Wait + Sync>(rt: &R, waits: Waiter, mut halts: Waiter) -> Made {
     join(
         rt,
-        move || -> Answer<Result<(), Misuse>>
-            requires { IsSync R.row × IsFresh mutex.now lock × IsFreshCond cond.now waits }
-        { wait_locked(rt, mutex, cond, lock, waits) },
+        move || -> Made
+            requires { IsSync R.row }
+        { wait_locked(rt, waits) },
         move || -> ()
-            requires { IsSync R.row × IsFreshCond cond.now halts }
-        { cond.halt(rt, &mut halts, &knows(0), Misuse::WaitGroupReused) },
+            requires { IsSync R.row }
+        {
+            halts.make(rt, Call::HaltCond(Misuse::WaitGroupReused));
+        },
     )
     .0
 }
 
 #[test]
 fn a_caller_that_waits_at_a_cond_meets_the_halt(rt: HostRuntime) -> Result<(), Fail> {
-    let (mutex, mut locks) = mutex(rt.alloc(), 1)?;
+    let (mutex, mut locks) = mutex(rt.alloc(), 2)?;
     let (cond, mut passes) = cond(rt.alloc(), 2)?;
-    let lock = last_lock(&mutex, &mut locks);
-    let halts = last_cond(&cond, &mut passes);
-    let waits = last_cond(&cond, &mut passes);
-    let answer = halted_beside(&rt, &mutex, &cond, lock, waits, halts);
-    assert_eq!(rt; answer, Answer::Halted(Misuse::WaitGroupReused));
+    let halts = Waiter::last(&mutex, &cond, &mut locks, &mut passes, knows(0)).expect(
+        &rt, "passes",
+    );
+    let waits = Waiter::last(&mutex, &cond, &mut locks, &mut passes, knows(0)).expect(
+        &rt, "passes",
+    );
+    let made = halted_beside(&rt, waits, halts);
+    assert_eq!(rt; made, Made::Halted(Misuse::WaitGroupReused));
     Ok(())
 }

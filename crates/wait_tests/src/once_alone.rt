@@ -1,4 +1,5 @@
-use super::once_setup::{last, last_stored, once, stored};
+//! Onces and stored functions by one thread.
+use super::once_setup::{Runner, last_stored, once, stored};
 use super::setup::{HERE, knows};
 use go_waits::{OnceRun, OnceValue};
 use std::sync::atomic::{AtomicU64, Ordering};
@@ -44,42 +45,25 @@ fn a_pair_of_values_is_kept(rt: HostRuntime) -> Result<(), Fail> {
 #[test]
 fn the_end_synchronizes_before_the_return_of_each_call(rt: HostRuntime) -> Result<(), Fail> {
     let (once, mut passes) = once(rt.alloc(), 2)?;
-    let mut second = last(&once, &mut passes);
-    let mut first = last(&once, &mut passes);
-    let mut knowing = knows(7);
-    let mut learning = knows(0);
-    let ran = once.do_once(
-        &rt,
-        &HERE,
-        &mut first,
-        &mut knowing,
-        || -> Result<(), u32> { Err(3) },
-    );
-    assert_eq!(rt; ran, Answer::Done(OnceRun::Ran(Err(3))));
-    assert_eq!(rt; learning.count(0), 0);
-    let again = once.do_once(
-        &rt,
-        &HERE,
-        &mut second,
-        &mut learning,
-        || -> Result<(), u32> { Ok(()) },
-    );
-    assert_eq!(rt; again, Answer::Done(OnceRun::Already));
-    assert_eq!(rt; learning.count(0), 7);
+    let mut second = Runner::last(&once, &mut passes, knows(0)).expect(&rt, "a pass");
+    let mut first = Runner::last(&once, &mut passes, knows(7)).expect(&rt, "a pass");
+    let ran = first.run(&rt, || -> Result<(), u32> { Err(3) });
+    assert_eq!(rt; ran, Some(Answer::Done(OnceRun::Ran(Err(3)))));
+    assert_eq!(rt; second.known(), 0);
+    let again = second.run(&rt, || -> Result<(), u32> { Ok(()) });
+    assert_eq!(rt; again, Some(Answer::Done(OnceRun::Already)));
+    assert_eq!(rt; second.known(), 7);
     Ok(())
 }
 
 #[test]
 fn a_halt_ends_the_once(rt: HostRuntime) -> Result<(), Fail> {
     let (once, mut passes) = once(rt.alloc(), 1)?;
-    let mut only = last(&once, &mut passes);
-    let mut note = knows(0);
-    once.halt(&rt, &mut only, &note, Misuse::WaitGroupReused);
-    once.halt(&rt, &mut only, &note, Misuse::NegativeWaitGroupCounter);
-    let answer = once.do_once(&rt, &HERE, &mut only, &mut note, || -> Result<(), u32> {
-        Ok(())
-    });
-    assert_eq!(rt; answer, Answer::Halted(Misuse::WaitGroupReused));
+    let mut only = Runner::last(&once, &mut passes, knows(0)).expect(&rt, "a pass");
+    only.halt(&rt, Misuse::WaitGroupReused);
+    only.halt(&rt, Misuse::NegativeWaitGroupCounter);
+    let answer = only.run(&rt, || -> Result<(), u32> { Ok(()) });
+    assert_eq!(rt; answer, Some(Answer::Halted(Misuse::WaitGroupReused)));
     Ok(())
 }
 

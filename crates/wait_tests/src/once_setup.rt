@@ -1,35 +1,103 @@
-//! Onces for the tests, and their passes.
-ghost use Rattle.std.specs.Prelude.{◌≡◌, ◌<◌, ◌≤◌, ◌+◌, IfOk, vec_len};
+//! Onces for the tests, and their callers.
+ghost use Rattle.std.specs.Prelude.{◌≡◌, ◌<◌, ◌≤◌, ◌+◌, IfOk, All, vec_len};
 ghost use Rattle.wait_tests.specs.Fresh.{IsFresh, AreFresh};
 ghost use Rattle.go_waits.specs.OnceValues.{once_of, function_of};
+ghost use Rattle.go_waits.specs.Onces.{IsPassOf};
 
-use super::setup::knows;
-use go_waits::{Once, OncePass, OnceValue};
+use super::setup::{HERE, knows};
+use go_waits::{Once, OnceBegun, OncePass, OnceRun, OnceValue};
 use ruled_object::MAX_CALLS;
 use std::alloc::{AllocError, Global};
-use sync_model::FrontNote;
+use std::sync::Wait;
+use sync_model::{Answer, FrontNote};
+use sync_types::Misuse;
 
-/// The pass of the last caller.
-pub(super) fn last<T: Copy>(
-    _once: &Once<T, FrontNote>,
-    passes: &mut Vec<OncePass<T, FrontNote>>,
-) -> OncePass<T, FrontNote>
-    requires { AreFresh _once.now passes.old.items × (0 < vec_len passes.old) }
-    ensures pass { IsFresh _once.now result }
-    ensures rest { AreFresh _once.now passes.new.items × (vec_len passes.new + 1 ≡ vec_len passes.old) }
-{
-    passes.pop().unwrap()
-}
+pub(super) type Shared = Once<(), FrontNote>;
 
-pub(super) fn once(
-    alloc: Global,
-    callers: u32,
-) -> Result<(Once<(), FrontNote>, Vec<OncePass<(), FrontNote>>), AllocError>
+pub(super) type SharedPass = OncePass<(), FrontNote>;
+
+/// A once, and the passes of its callers.
+pub(super) fn once(alloc: Global, callers: u32) -> Result<(Shared, Vec<SharedPass>), AllocError>
     requires { (1 ≤ callers) × (callers ≤ 64) }
-    ensures { IfOk result (λ made. AreFresh made.0 made.1.items × (vec_len made.1 ≡ callers)) }
+    ensures { IfOk result (λ made. All (IsPassOf made.0) made.1.items) }
 {
     let (once, passes) = Once::new(alloc, callers, MAX_CALLS, knows(0))?;
     Ok((once, passes))
+}
+
+/// A caller of a once, with its pass and its note.
+#[derive(Drop)]
+pub(super) struct Runner<'a> {
+    once: &'a Shared,
+    pass: SharedPass,
+    note: FrontNote,
+    ghost is: { IsPassOf once.now pass },
+}
+
+impl<'a> Runner<'a> {
+    /// The caller of the last of these passes, with this note.
+    pub(super) fn last(
+        once: &'a Shared,
+        passes: &mut Vec<SharedPass>,
+        note: FrontNote,
+    ) -> Option<Self>
+        requires { All (IsPassOf once.now) passes.old.items }
+        ensures { All (IsPassOf once.now) passes.new.items }
+    {
+        let pass = passes.pop()?;
+        Some(Runner { once, pass, note })
+    }
+
+    /// Comes with a function, where a call is left.
+    pub(super) fn run<R: Wait, F: FnOnce() -> Result<(), u32>>(
+        &mut self,
+        rt: &R,
+        function: F,
+    ) -> Option<Answer<OnceRun<u32>>>
+        requires { F.pre function }
+    {
+        if self.pass.left() == 0 {
+            return None;
+        }
+        Some(
+            self.once
+                .do_once(rt, &HERE, &mut self.pass, &mut self.note, function),
+        )
+    }
+
+    /// Begins to run the function, does what is given in between, and ends it. None where the function isn't this
+    /// caller's to run.
+    pub(super) fn run_around<R: Wait, T, F: FnOnce() -> T>(
+        &mut self,
+        rt: &R,
+        between: F,
+    ) -> Option<(T, Answer<()>)>
+        requires { F.pre between }
+    {
+        if self.pass.left() == 0 {
+            return None;
+        }
+        match self.once.begin(rt, &HERE, &mut self.pass, &mut self.note) {
+            Answer::Done(OnceBegun::Run(running)) => {
+                let found = between();
+                let end = self
+                    .once
+                    .end(running, rt, &HERE, &mut self.pass, &mut self.note, ());
+                Some((found, end))
+            }
+            Answer::Done(OnceBegun::Already(())) => None,
+            Answer::Halted(_) => None,
+        }
+    }
+
+    pub(super) fn halt<R: Wait>(&mut self, rt: &R, misuse: Misuse) {
+        self.once.halt(rt, &mut self.pass, &self.note, misuse);
+    }
+
+    /// How many calls of caller 0 are known.
+    pub(super) fn known(&self) -> u32 {
+        self.note.count(0)
+    }
 }
 
 /// A function that is called once.
