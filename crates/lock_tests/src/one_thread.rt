@@ -31,9 +31,12 @@ fn two_callers_by_turns_and_a_halt(rt: HostRuntime) -> Result<(), Fail> {
     let mut zero = mutex::Member::last(&lock, 2, &mut passes, knows(7)).expect(&rt, "a pass");
     let clock = MemClock::new(Vec::new(rt.alloc()));
     for &(by_zero, call, made, known) in &BY_TURNS {
-        let caller = if by_zero { &mut zero } else { &mut one };
-        assert_eq!(rt; caller.make(&rt, &clock, call), made, "{call:?}");
-        assert_eq!(rt; one.known(), known, "{call:?}");
+        let came_to = if by_zero {
+            zero.make(&rt, &clock, call)
+        } else {
+            one.make(&rt, &clock, call)
+        };
+        assert_eq!(rt; (came_to, one.known()), (made, known), "{call:?}");
     }
     assert_eq!(rt; (zero.left(), one.left()), (999_995, 999_996));
     Ok(())
@@ -77,9 +80,12 @@ fn readers_share_and_keep_a_writer_out(rt: HostRuntime) -> Result<(), Fail> {
     let mut zero = rw_mutex::Member::last(&lock, 2, &mut passes, knows(3)).expect(&rt, "a pass");
     let clock = MemClock::new(Vec::new(rt.alloc()));
     for &(by_zero, call, made, known) in &READERS {
-        let caller = if by_zero { &mut zero } else { &mut one };
-        assert_eq!(rt; caller.make(&rt, &clock, call), made, "{call:?}");
-        assert_eq!(rt; one.known(), known, "{call:?}");
+        let came_to = if by_zero {
+            zero.make(&rt, &clock, call)
+        } else {
+            one.make(&rt, &clock, call)
+        };
+        assert_eq!(rt; (came_to, one.known()), (made, known), "{call:?}");
     }
     Ok(())
 }

@@ -26,8 +26,12 @@ fn a_wait_without_its_mutex_is_a_misuse(rt: HostRuntime) -> Result<(), Fail> {
         &rt, "passes",
     );
     for &(is_first, call, made) in &WITHOUT_THE_MUTEX {
-        let caller = if is_first { &mut first } else { &mut second };
-        assert_eq!(rt; caller.make(&rt, call), made, "{call:?}");
+        let came_to = if is_first {
+            first.make(&rt, call)
+        } else {
+            second.make(&rt, call)
+        };
+        assert_eq!(rt; came_to, made, "{call:?}");
     }
     // Neither the ticket nor the misuse makes an edge.
     assert_eq!(rt; second.known(), 0);
