@@ -4,8 +4,10 @@ mod CallParts
 mod EdgeLemmas
 mod ExampleLemmas
 mod FewLemmas
+mod GroupSums
 mod HaltLemmas
 mod Having
+mod JournalParts
 mod Lifts
 mod Limits
 mod LineLemmas
@@ -15,3 +17,4 @@ mod ObjectJournals
 mod PairLemmas
 mod PartLemmas
 mod TwoCalls
+mod WaitLemmas
