@@ -90,14 +90,11 @@ module _ {E R : Type 0} where
     pub logged_such : (xs : List (Entry E R)) → IsTrue (list_any (λ e. test e.event e.reply) (log_of xs)) → HasSuch test xs
     logged_such [] any = absurd (false≢true any)
     logged_such (x ∷ xs) any = by_deed (λ rest. logged_such xs rest) x.deed refl any where
-      abbrev AnySuch : Type 0
-      AnySuch = IsTrue (list_any (λ e. test e.event e.reply) (log_of xs))
-
-      by_test : (AnySuch → HasSuch test xs) → (e : E) (r : R) (b : Bool) → test e r ≡ b → x.deed ≡ Event e r → (b || list_any (λ e. test e.event e.reply) (log_of xs)) ≡ true → HasSuch test (x ∷ xs)
+      by_test : (IsTrue (list_any (λ e. test e.event e.reply) (log_of xs)) → HasSuch test xs) → (e : E) (r : R) (b : Bool) → test e r ≡ b → x.deed ≡ Event e r → (b || list_any (λ e. test e.event e.reply) (log_of xs)) ≡ true → HasSuch test (x ∷ xs)
       by_test later e r true such is any = record { at = zero; entry = x; is = refl; such = ap (is_such test) is ∙ such }
       by_test later e r false such is any = later_such x xs (later any)
 
-      by_deed : (AnySuch → HasSuch test xs) → (d : Deed E R) → x.deed ≡ d → IsTrue (list_any (λ e. test e.event e.reply) (logged x.caller d (log_of xs))) → HasSuch test (x ∷ xs)
+      by_deed : (IsTrue (list_any (λ e. test e.event e.reply) (log_of xs)) → HasSuch test xs) → (d : Deed E R) → x.deed ≡ d → IsTrue (list_any (λ e. test e.event e.reply) (logged x.caller d (log_of xs))) → HasSuch test (x ∷ xs)
       by_deed later (Event e r) is any = by_test later e r (test e r) refl is any
       by_deed later (Refused e m) is any = later_such x xs (later any)
       by_deed later (Halt m) is any = later_such x xs (later any)

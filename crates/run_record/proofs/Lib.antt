@@ -9,6 +9,7 @@ mod HaltLemmas
 mod Having
 mod JournalParts
 mod Lifts
+mod ListOrder
 mod Limits
 mod LineLemmas
 mod ListLemmas
@@ -17,4 +18,5 @@ mod ObjectJournals
 mod PairLemmas
 mod PartLemmas
 mod TwoCalls
+mod WaitCalls
 mod WaitLemmas

@@ -50,6 +50,15 @@ pub fn an_edge_makes_known()
     a_call_lies_behind_what_its_caller_knew();
 }
 
+/// A worker's list keeps the order of each journal: of two entries of an object, the earlier one in the list of their worker
+/// stands earlier in the object's journal.
+pub fn a_list_keeps_the_order_of_its_journals()
+    ensures { (plan : Plan) (r : Record) (worker object : ℕ) (first second : ObjectEntry) (earlier between later : List Made)
+        → IsRecordOf plan r → list_of r worker ≡ earlier ++ Made.Entered object first ∷ (between ++ Made.Entered object second ∷ later)
+        → (m : ℕ) × (n : ℕ) × (m < n) × (slice_get (journal_of r object) m ≡ Some first) × (slice_get (journal_of r object) n ≡ Some second)
+        × (first.caller ≡ worker) × (second.caller ≡ worker) }
+{}
+
 /// A load finds a store that lies before it, whoever made the two, unless another entry on the key stands between.
 pub fn a_load_finds_a_store_before_it()
     ensures { (plan : Plan) (r : Record) (giver taker i j m key value : ℕ) (store load : Item) (earlier between later : List SharedEntry) (entry : SharedEntry)

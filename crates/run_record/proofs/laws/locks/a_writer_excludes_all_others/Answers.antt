@@ -1,4 +1,4 @@
-use Rattle.std.proofs.Common.{◌∷◌, ◌++◌, refl, subst}
+use Rattle.std.proofs.Common.{refl, subst}
 use Rattle.sync_model.specs.Journal.{log_of}
 use Rattle.sync_model.specs.Log.{Follows}
 use Rattle.rw_core.specs.Edges.{Log}

@@ -1,10 +1,10 @@
-use Rattle.std.proofs.Common.{◌≡◌, ℕ, pos, ◌∷◌, ◌++◌, refl, sym, ap, ◌∙◌, subst}
+use Rattle.std.proofs.Common.{pos, ◌∷◌, ◌++◌, refl, ap, ◌∙◌, subst}
 use Rattle.sync_model.specs.Journal.{is_such, log_of}
 use Rattle.sync_model.specs.Log.{Follows, entry, after}
 use Rattle.wait_cores.specs.declared.group.GroupEvent.TheVariants.{Add}
 use Rattle.wait_cores.specs.declared.group.GroupReply.TheVariants.{Done, Queued}
 use Rattle.wait_cores.specs.GroupLaws.{Log, wait_by, leave_by}
-use Rattle.wait_cores.specs.GroupMachine.{GroupState, next, start}
+use Rattle.wait_cores.specs.GroupMachine.{GroupState, next}
 use Rattle.workload.specs.declared.object.ObjectKind.TheVariants as kinds
 use Rattle.run_record.specs.Edges.{frees, takes}
 use Rattle.run_record.specs.Record.{object_number}
