@@ -11,8 +11,7 @@ pub returns : goal.returns
 returns c plan r place object lawful some is =
     let j = journal_at plan r place object kinds.RwMutex lawful some is in
     let workers = plan.workers in
-    let follows = (c.journal_is_log.ensures (start workers) j.0 j.2).0 in
-    (
+    let follows = (c.journal_is_log.ensures (start workers) j.0 j.2).0 in (
       log_of j.0,
       (j.0, j.1, refl),
       record {

@@ -19,8 +19,7 @@ returns-clause-zero c plan r place declared object lawful some is =
     let j = journal_at plan r place object (kinds.WaitGroup declared) lawful some is in
     let workers = plan.workers in
     let s : GroupState = group_start workers declared in
-    let follows = (c.journal_is_log.ensures s j.0 j.2).0 in
-    (
+    let follows = (c.journal_is_log.ensures s j.0 j.2).0 in (
       log_of j.0,
       (j.0, j.1, refl),
       record {
