@@ -42,29 +42,29 @@ abbrev Own : Type 0
 Own = Entry NotifyEvent NotifyReply
 
 -- a ticket is one event
-ticket_of : (entries : List Own) → Spells cond_event cond_meaning stage.Ticket (map (λ e. e.deed) entries) (Done (Ok tt)) → (e : Own) × (entries ≡ e ∷ []) × (e.deed ≡ Event Ticket notified.Done)
-ticket_of [] spelt = absurd spelt
-ticket_of (e ∷ entries) spelt = by_deed e.deed refl spelt where
+ticket_of : (o : Unit {0}) (entries : List Own) → Spells cond_event cond_meaning stage.Ticket (map (λ e. e.deed) entries) (Done (Ok o)) → (e : Own) × (entries ≡ e ∷ []) × (e.deed ≡ Event Ticket notified.Done)
+ticket_of o [] spelt = absurd spelt
+ticket_of o (e ∷ entries) spelt = by_deed e.deed refl spelt where
   none : (rest : List Own) → map (λ x. x.deed) rest ≡ [] → rest ≡ []
   none [] is = refl
   none (x ∷ rest) is = cc
 
-  by_deed : (d : Deed NotifyEvent NotifyReply) → e.deed ≡ d → Spells cond_event cond_meaning stage.Ticket (d ∷ map (λ x. x.deed) entries) (Done (Ok tt)) → (x : Own) × (e ∷ entries ≡ x ∷ []) × (x.deed ≡ Event Ticket notified.Done)
+  by_deed : (d : Deed NotifyEvent NotifyReply) → e.deed ≡ d → Spells cond_event cond_meaning stage.Ticket (d ∷ map (λ x. x.deed) entries) (Done (Ok o)) → (x : Own) × (e ∷ entries ≡ x ∷ []) × (x.deed ≡ Event Ticket notified.Done)
   by_deed (Event ev notified.Done) is (of, (ends, answer)) = (e, ap (λ (es : List Own). e ∷ es) (none entries ends), is ∙ ap (λ (v : NotifyEvent). Event v notified.Done) of.1)
   by_deed (Event ev notified.Still) is (of, never) = absurd never
   by_deed (Refused ev m) is (of, ends, answer) = absurd (false≢true (sym (ap is_done answer)))
   by_deed (Halt m) is never = absurd never
 
 -- a leaving ends with the event that left
-leaving_of : (entries : List Own) → Spells cond_event cond_meaning stage.Leave (map (λ e. e.deed) entries) (Done (Ok tt)) → (front : List Own) × (e : Own) × (entries ≡ front ++ e ∷ []) × (e.deed ≡ Event Leave notified.Done)
-leaving_of [] spelt = absurd spelt
-leaving_of (e ∷ entries) spelt = by_deed (λ later. leaving_of entries later) e.deed refl spelt where
+leaving_of : (o : Unit {0}) (entries : List Own) → Spells cond_event cond_meaning stage.Leave (map (λ e. e.deed) entries) (Done (Ok o)) → (front : List Own) × (e : Own) × (entries ≡ front ++ e ∷ []) × (e.deed ≡ Event Leave notified.Done)
+leaving_of o [] spelt = absurd spelt
+leaving_of o (e ∷ entries) spelt = by_deed (λ later. leaving_of o entries later) e.deed refl spelt where
   none : (rest : List Own) → map (λ x. x.deed) rest ≡ [] → rest ≡ []
   none [] is = refl
   none (x ∷ rest) is = cc
 
-  by_deed : (Spells cond_event cond_meaning stage.Leave (map (λ x. x.deed) entries) (Done (Ok tt)) → (front : List Own) × (x : Own) × (entries ≡ front ++ x ∷ []) × (x.deed ≡ Event Leave notified.Done))
-      → (d : Deed NotifyEvent NotifyReply) → e.deed ≡ d → Spells cond_event cond_meaning stage.Leave (d ∷ map (λ x. x.deed) entries) (Done (Ok tt)) → (front : List Own) × (x : Own) × (e ∷ entries ≡ front ++ x ∷ []) × (x.deed ≡ Event Leave notified.Done)
+  by_deed : (Spells cond_event cond_meaning stage.Leave (map (λ x. x.deed) entries) (Done (Ok o)) → (front : List Own) × (x : Own) × (entries ≡ front ++ x ∷ []) × (x.deed ≡ Event Leave notified.Done))
+      → (d : Deed NotifyEvent NotifyReply) → e.deed ≡ d → Spells cond_event cond_meaning stage.Leave (d ∷ map (λ x. x.deed) entries) (Done (Ok o)) → (front : List Own) × (x : Own) × (e ∷ entries ≡ front ++ x ∷ []) × (x.deed ≡ Event Leave notified.Done)
   by_deed on (Event ev notified.Done) is (of, (ends, answer)) = ([], e, ap (λ (es : List Own). e ∷ es) (none entries ends), is ∙ ap (λ (v : NotifyEvent). Event v notified.Done) of.1)
   by_deed on (Event ev notified.Still) is (of, rest) = let later = on rest in (e ∷ later.0, later.1, ap (λ (es : List Own). e ∷ es) later.2, later.3)
   by_deed on (Refused ev m) is (of, ends, answer) = absurd (false≢true (sym (ap is_done answer)))
@@ -106,14 +106,14 @@ module _ (object : ℕ) where
   pub waited : (mutex : ℕ) (items : List Made) (answer : Reply ℕ) → wait_part object mutex items (Done (Ok answer)) → Waited items
   waited mutex items answer (first, later, given, is, (tickets, are, spelt), goes) =
       let on = goes_on (λ ticket. and_then (mutex_part mutex mutex_stage.Unlock) (λ unlocked. and_then (cond_part object stage.Leave) (λ left. read_as (λ locked. replies.Returned) (mutex_part mutex mutex_stage.Lock)))) given later answer goes in
-      let ticket = ticket_of tickets (subst (λ (a : CallAnswer (Unit {0})). Spells cond_event cond_meaning stage.Ticket (map (λ e. e.deed) tickets) a) on.1 spelt) in
+      let ticket = ticket_of on.0 tickets (subst (λ (a : CallAnswer (Unit {0})). Spells cond_event cond_meaning stage.Ticket (map (λ e. e.deed) tickets) a) on.1 spelt) in
       behind_ticket ticket.0 (is ∙ ap (λ (es : List Made). es ++ later) (are ∙ ap (map entered) ticket.1)) ticket.2 on.2
     where
       behind_leaving : (t : Own) (unlocking third : List Made) → items ≡ map entered (t ∷ []) ++ (unlocking ++ third) → t.deed ≡ Event Ticket notified.Done
           → and_then (cond_part object stage.Leave) (λ left. read_as (λ locked. replies.Returned) (mutex_part mutex mutex_stage.Lock)) third (Done (Ok answer)) → Waited items
       behind_leaving t unlocking third is is_t (leavings, locking, given, parts, (entries, are, spelt), goes) =
           let on = goes_on (λ left. read_as (λ locked. replies.Returned) (mutex_part mutex mutex_stage.Lock)) given locking answer goes in
-          let leaving = leaving_of entries (subst (λ (a : CallAnswer (Unit {0})). Spells cond_event cond_meaning stage.Leave (map (λ e. e.deed) entries) a) on.1 spelt) in
+          let leaving = leaving_of on.0 entries (subst (λ (a : CallAnswer (Unit {0})). Spells cond_event cond_meaning stage.Leave (map (λ e. e.deed) entries) a) on.1 spelt) in
           let whole : items ≡ map entered (t ∷ []) ++ (unlocking ++ (map entered (leaving.0 ++ leaving.1 ∷ []) ++ locking)) =
           is ∙ ap (λ (es : List Made). map entered (t ∷ []) ++ (unlocking ++ es)) (parts ∙ ap (λ (es : List Made). es ++ locking) (are ∙ ap (map entered) leaving.2)) in
           subst (λ (es : List Made). Waited es) (sym whole) (put_together t leaving.1 leaving.0 unlocking locking is_t leaving.3)
