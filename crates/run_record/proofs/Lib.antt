@@ -4,9 +4,12 @@ mod CallParts
 mod EdgeLemmas
 mod ExampleLemmas
 mod FewLemmas
+mod GroupSums
 mod HaltLemmas
 mod Having
+mod JournalParts
 mod Lifts
+mod ListOrder
 mod Limits
 mod LineLemmas
 mod ListLemmas
@@ -15,3 +18,5 @@ mod ObjectJournals
 mod PairLemmas
 mod PartLemmas
 mod TwoCalls
+mod WaitCalls
+mod WaitLemmas

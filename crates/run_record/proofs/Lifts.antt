@@ -24,6 +24,12 @@ module _ {E R : Type 0} (event : E → ObjectEvent) (reply : R → ObjectReply) 
   lifted_from (y ∷ own) zero x at = (y, refl, ap (λ (o : Option ObjectEntry). unwrap_or o x) at)
   lifted_from (y ∷ own) (suc i) x at = lifted_from own i x at
 
+  -- and each of the kind's is lifted at its place
+  pub lifted_at : (own : List (Entry E R)) (i : ℕ) (y : Entry E R) → slice_get own i ≡ Some y → slice_get (map (lifted event reply) own) i ≡ Some (lifted event reply y)
+  lifted_at [] i y at = absurd (none-some y at)
+  lifted_at (x ∷ own) zero y at = ap (λ (o : Option (Entry E R)). Some (lifted event reply (unwrap_or o y))) at
+  lifted_at (x ∷ own) (suc i) y at = lifted_at own i y at
+
   -- the edge law, in the words of whatever kind
   pub edges_lifted : (frees takes : ObjectEvent → ObjectReply → Bool) (own : List (Entry E R)) → KeepsEdges (λ e r. frees (event e) (reply r)) (λ e r. takes (event e) (reply r)) own → KeepsEdges frees takes (map (lifted event reply) own)
   edges_lifted frees takes own keeps i j x y before at_x at_y is_x is_y =

@@ -3,6 +3,7 @@ pub mod Calls
 pub mod CondKind
 pub mod Edges
 pub mod Example
+pub mod Exclusion
 pub mod Explains
 pub mod Journals
 pub mod Limits
@@ -17,3 +18,4 @@ pub mod PoolKind
 pub mod Record
 pub mod RwMutexKind
 pub mod WaitGroupKind
+pub mod Waits

@@ -3,5 +3,7 @@ pub mod edges;
 pub mod endings;
 pub mod examples;
 pub mod limits;
+pub mod locks;
 pub mod objects;
 pub mod spelling;
+pub mod waits;

@@ -3,12 +3,18 @@ ghost use Rattle.std.specs.Prelude.{◌≡◌, ℕ, ◌<◌, ◌≤◌, true, Li
 ghost use Rattle.sync_model.specs.Journal.{is_such};
 ghost use Rattle.sync_model.specs.SharedLaws.{LeaveKey};
 ghost use Rattle.workload.specs.Plan.{Plan};
+ghost use Rattle.shared_laws.specs.Told.{FindsItOrALater};
+ghost use Rattle.mutex_core.specs.Edges as mutex;
 ghost use Rattle.run_record.specs.Edges.{frees, takes};
 ghost use Rattle.run_record.specs.Explains.{IsRecordOf};
 ghost use Rattle.run_record.specs.Objects.{contents_of};
 ghost use Rattle.run_record.specs.Record.{Record, ObjectEntry, journal_of, list_of, calls_of};
 
+use crate::entered::{ObjectEvent, ObjectReply};
 use crate::made::Made;
+use mutex_core::{MutexEvent, MutexReply};
+use shared_laws::reads::a_load_behind_a_store_finds_it_or_a_later_one;
+use sync_model::Deed;
 use sync_model::item::{Item, SharedCall, SharedEntry, SharedReply};
 use sync_model::laws::shared::{
     a_call_lies_behind_what_its_caller_knew, a_callers_calls_are_in_order,
@@ -43,6 +49,15 @@ pub fn an_edge_makes_known()
 {
     a_call_lies_behind_what_its_caller_knew();
 }
+
+/// A worker's list keeps the order of each journal: of two entries of an object, the earlier one in the list of their worker
+/// stands earlier in the object's journal.
+pub fn a_list_keeps_the_order_of_its_journals()
+    ensures { (plan : Plan) (r : Record) (worker object : ℕ) (first second : ObjectEntry) (earlier between later : List Made)
+        → IsRecordOf plan r → list_of r worker ≡ earlier ++ Made.Entered object first ∷ (between ++ Made.Entered object second ∷ later)
+        → (m : ℕ) × (n : ℕ) × (m < n) × (slice_get (journal_of r object) m ≡ Some first) × (slice_get (journal_of r object) n ≡ Some second)
+        × (first.caller ≡ worker) × (second.caller ≡ worker) }
+{}
 
 /// A load finds a store that lies before it, whoever made the two, unless another entry on the key stands between.
 pub fn a_load_finds_a_store_before_it()
@@ -88,4 +103,31 @@ pub fn behind_an_edge_nothing_older_is_found()
 {
     each_entry_is_a_call();
     a_call_lies_behind_what_its_caller_knew();
+}
+
+/// What was stored before an unlock is found after a later lock of the same mutex, by whichever worker: the load finds the store,
+/// or a later entry on the key. The same is so of every edge: of a call that stands before an event that releases, and of one
+/// behind an event that acquires later.
+pub fn what_was_stored_before_an_unlock_is_found_after_a_later_lock()
+    ensures mutex { (plan : Plan) (r : Record) (giver taker i j k l object m n a key value : ℕ) (store load : Item) (unlock lock : ObjectEntry) (event : MutexEvent) (freed had : MutexReply)
+        → IsRecordOf plan r
+        → slice_get (list_of r giver) i ≡ Some (Made.Shared store) → i < j → slice_get (list_of r giver) j ≡ Some (Made.Entered object unlock)
+        → slice_get (list_of r taker) k ≡ Some (Made.Entered object lock) → k < l → slice_get (list_of r taker) l ≡ Some (Made.Shared load)
+        → m < n → slice_get (journal_of r object) m ≡ Some unlock → slice_get (journal_of r object) n ≡ Some lock
+        → unlock.deed ≡ Deed.Event (ObjectEvent.Mutex MutexEvent.Unlock) (ObjectReply.Mutex freed) → mutex.releases freed ≡ true
+        → lock.deed ≡ Deed.Event (ObjectEvent.Mutex event) (ObjectReply.Mutex had) → mutex.acquires had ≡ true
+        → store.call ≡ SharedCall.Map a (MapCall.Store key value) → load.call ≡ SharedCall.Map a (MapCall.Load key) → a < length (contents_of plan).maps
+        → FindsItOrALater r.history a key store load }
+    ensures edge { (plan : Plan) (r : Record) (giver taker i j k l object m n a key value : ℕ) (store load : Item) (first second : ObjectEntry)
+        → IsRecordOf plan r
+        → slice_get (list_of r giver) i ≡ Some (Made.Shared store) → i < j → slice_get (list_of r giver) j ≡ Some (Made.Entered object first)
+        → slice_get (list_of r taker) k ≡ Some (Made.Entered object second) → k < l → slice_get (list_of r taker) l ≡ Some (Made.Shared load)
+        → m < n → slice_get (journal_of r object) m ≡ Some first → slice_get (journal_of r object) n ≡ Some second
+        → is_such frees first.deed ≡ true → is_such takes second.deed ≡ true
+        → store.call ≡ SharedCall.Map a (MapCall.Store key value) → load.call ≡ SharedCall.Map a (MapCall.Load key) → a < length (contents_of plan).maps
+        → FindsItOrALater r.history a key store load }
+{
+    each_entry_is_a_call();
+    an_edge_makes_known();
+    a_load_behind_a_store_finds_it_or_a_later_one();
 }

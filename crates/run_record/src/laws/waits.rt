@@ -1,0 +1,74 @@
+//! What stands before the return of a wait, by the journals of conds and wait groups.
+ghost use Rattle.std.specs.Prelude.{◌≡◌, ℕ, ◌<◌, ℤ, negsuc, List, ◌∷◌, ◌++◌, Some, Ok, slice_get};
+ghost use Rattle.sync_model.specs.Front.{AtLeast};
+ghost use Rattle.wait_cores.specs.GroupLaws as group;
+ghost use Rattle.wait_cores.specs.NotifyLaws as notify;
+ghost use Rattle.workload.specs.Plan.{Plan};
+ghost use Rattle.run_record.specs.Explains.{IsRecordOf};
+ghost use Rattle.run_record.specs.Logs.{Shows};
+ghost use Rattle.run_record.specs.Calls.{SpellsCall};
+ghost use Rattle.run_record.specs.Record.{Record, ObjectEntry, object_number, journal_of, list_of};
+ghost use Rattle.run_record.specs.Waits.{IsOnCond, IsOnGroup, WasNotified, WaitWasNotified, ReturnsAtZero};
+
+use crate::entered::{ObjectEvent, ObjectReply};
+use crate::laws::edges::a_list_keeps_the_order_of_its_journals;
+use crate::made::Made;
+use sync_model::Answer;
+use sync_model::laws::journals::journal_is_log;
+use sync_model::laws::logs::logs_go_on;
+use sync_types::{Call, CondCall, Operation, Reply};
+use wait_cores::{GroupCore, GroupEvent, GroupReply, NotifyCore, NotifyEvent};
+use workload::{ObjectKind, ObjectLine};
+
+/// Whoever leaves a cond was notified: between its ticket and its leaving, by which its `wait` goes on, somebody signals or
+/// broadcasts, and it knows from then on what that one knew. More exactly, so many signals stand between, or a broadcast, as
+/// the ticket needs, since signals notify in the order of the tickets.
+pub fn whoever_leaves_a_cond_was_notified()
+    ensures notified { (plan : Plan) (r : Record) (place mutex taken left : ℕ) (object : ObjectLine) (ticket leaving : ObjectEntry)
+        → IsRecordOf plan r → slice_get plan.objects place ≡ Some object → object.kind ≡ ObjectKind.Cond mutex
+        → taken < left → slice_get (journal_of r (object_number place)) taken ≡ Some ticket → slice_get (journal_of r (object_number place)) left ≡ Some leaving
+        → IsOnCond NotifyEvent.Ticket ticket → IsOnCond NotifyEvent.Leave leaving → ticket.caller ≡ leaving.caller
+        → WasNotified (journal_of r (object_number place)) taken left leaving }
+    ensures in_turn { (plan : Plan) (r : Record) (place mutex : ℕ) (object : ObjectLine)
+        → IsRecordOf plan r → slice_get plan.objects place ≡ Some object → object.kind ≡ ObjectKind.Cond mutex
+        → (log : notify.Log) × Shows ObjectEvent.Cond ObjectReply.Cond (journal_of r (object_number place)) log
+        × ((earlier between later : notify.Log) (caller : ℕ) → log ≡ earlier ++ notify.ticket_by caller ∷ (between ++ notify.leave_by caller ∷ later)
+        → notify.NotifiesAfter (notify.pending_of (notify.state_after plan.workers earlier)) between) }
+{
+    journal_is_log::<NotifyCore>();
+    wait_cores::laws::notify::synchronizes();
+    wait_cores::laws::notify::leaves_when_notified();
+}
+
+/// A cond's `wait` that returned was notified by a signal or a broadcast behind its ticket, and its worker knows from then on what
+/// that one's worker knew. It is a call of a worker whose items stand in the worker's list.
+pub fn a_wait_that_returned_was_notified()
+    ensures { (plan : Plan) (r : Record) (worker before mutex : ℕ) (object : ObjectLine) (call : Call) (reply : Reply ℕ) (items earlier later : List Made)
+        → IsRecordOf plan r → slice_get plan.objects call.object ≡ Some object → object.kind ≡ ObjectKind.Cond mutex → call.operation ≡ Operation.Cond CondCall.Wait
+        → SpellsCall plan worker before call items (Answer.Done (Ok reply)) → list_of r worker ≡ earlier ++ (items ++ later)
+        → WaitWasNotified (object_number call.object) (journal_of r (object_number call.object)) items }
+{
+    whoever_leaves_a_cond_was_notified();
+    a_list_keeps_the_order_of_its_journals();
+}
+
+/// A wait on a wait group returns only behind additions that brought the counter to 0, and its caller knows from then on what
+/// the caller of each earlier `done`, and of each earlier `add` below 0, knew.
+pub fn a_group_waits_for_zero()
+    ensures zero { (plan : Plan) (r : Record) (place declared : ℕ) (object : ObjectLine)
+        → IsRecordOf plan r → slice_get plan.objects place ≡ Some object → object.kind ≡ ObjectKind.WaitGroup declared
+        → (log : group.Log) × Shows ObjectEvent.WaitGroup ObjectReply.WaitGroup (journal_of r (object_number place)) log × ReturnsAtZero plan.workers declared log }
+    ensures returned { (plan : Plan) (r : Record) (place m n below : ℕ) (added returned : ObjectEntry)
+        → IsRecordOf plan r → m < n → slice_get (journal_of r (object_number place)) m ≡ Some added → slice_get (journal_of r (object_number place)) n ≡ Some returned
+        → IsOnGroup (GroupEvent.Add (negsuc below)) GroupReply.Done added → IsOnGroup GroupEvent.Wait GroupReply.Done returned
+        → AtLeast returned.front added.front }
+    ensures left { (plan : Plan) (r : Record) (place m n below : ℕ) (added leaving : ObjectEntry)
+        → IsRecordOf plan r → m < n → slice_get (journal_of r (object_number place)) m ≡ Some added → slice_get (journal_of r (object_number place)) n ≡ Some leaving
+        → IsOnGroup (GroupEvent.Add (negsuc below)) GroupReply.Done added → IsOnGroup GroupEvent.Leave GroupReply.Done leaving
+        → AtLeast leaving.front added.front }
+{
+    journal_is_log::<GroupCore>();
+    logs_go_on::<GroupCore>();
+    wait_cores::laws::group::waits_for_zero();
+    wait_cores::laws::group::counts_additions();
+}

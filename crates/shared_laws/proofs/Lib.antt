@@ -1,0 +1,2 @@
+mod LastEntry
+mod Tellers
