@@ -1,5 +1,5 @@
 -- What is left before any thread is started, by what the words ask for.
-use Rattle.std.proofs.Common.{◌≡◌, ◌⊎◌, inl, inr, ℕ, List, Option, Some, None, Result, Err, refl, sym, ap, subst}
+use Rattle.std.proofs.Common.{◌≡◌, ◌⊎◌, inl, inr, ℕ, List, Option, Some, None, Result, Err, refl, sym, ap, subst, ◌∙◌}
 use Rattle.std.specs.Prelude.{option_and_then}
 use Rattle.sync_types.specs.declared.outcome.Outcome.{Outcome}
 use Rattle.workload.specs.Plan.{Plan}
@@ -8,14 +8,15 @@ use Rattle.command_line.specs.Command.{matched}
 use Rattle.command_line.specs.Seed.{seed_of}
 use Rattle.command_line.specs.declared.definition.Subcommand.{Subcommand}
 use Rattle.command_line.specs.declared.definition.Subcommand.TheVariants as subcommands
-use Rattle.gosync.specs.Command.{file_of, AreRefused, AskFor, AskToMake}
+use Rattle.gosync.specs.Command.{file_in, file_of, AreRefused, AskFor, AskToMake}
 use Rattle.gosync.specs.ComesTo.{ComesTo}
-use Rattle.gosync.specs.Front.{IsFrontOfRun}
+use Rattle.gosync.specs.Front.{IsFrontOfRun, IsLeftOfAllBytes, IsOfAllBytes}
 use Rattle.gosync.specs.Made.{MakesTo}
 use Rattle.gosync.specs.Messages.{code_of, IsOutOfMemory}
 use Rattle.gosync.specs.declared.status.Ending.{Ending}
 use Rattle.gosync.specs.declared.status.Ending.TheVariants as endings
 use Rattle.gosync.specs.declared.status.Fault.{Fault}
+use Rattle.gosync.specs.declared.status.Front.{Front}
 use Rattle.gosync.specs.declared.status.Front.TheVariants as fronts
 use Rattle.gosync.specs.declared.status.Status.{Status}
 use Rattle.gosync.specs.declared.status.Status.TheVariants as statuses
@@ -23,7 +24,21 @@ use Rattle.gosync.specs.declared.status.Unread.{Unread}
 use Rattle.gosync.specs.declared.status.Unread.TheVariants as unreads
 use Rattle.gosync.specs.declared.words.Mode.{Mode}
 use Rattle.gosync.specs.declared.words.Mode.TheVariants as modes
-use Rattle.gosync.proofs.Runs.{told_so}
+use Rattle.gosync.proofs.Runs.{is_read, told_so}
+
+-- words name one file
+pub same_file : (words : Option (Mode × List ℕ)) (mode other : Mode) (file name : List ℕ) → words ≡ Some (mode, file) → words ≡ Some (other, name) → file ≡ name
+same_file words mode other file name asks names = ap file_in (sym asks ∙ names)
+
+-- what is left of a front that ended
+pub left_of_ended : (Whole : Type 0) (front : Front) (status : Status) → front ≡ fronts.Ended status → (IsOfAllBytes status → Whole) → IsLeftOfAllBytes front → Whole
+left_of_ended Whole front status is whole left = whole (subst (λ (f : Front). IsLeftOfAllBytes f) is left)
+
+-- a workload that is left to be run was read
+pub run_is_read : (told : Option (List ℕ)) (bytes : List ℕ) (plan : Plan) → IsFrontOfRun told (fronts.Run plan) → told ≡ Some bytes → ((p : Plan) → Reads bytes p → ⊥) → ⊥
+run_is_read told bytes plan front is none =
+    let read = is_read told plan front in
+    none plan (subst (λ (b : List ℕ). Reads b plan) (told_so bytes read.0 told is read.1) read.2)
 
 same_status : (x y : Status) → fronts.Ended x ≡ fronts.Ended y → x ≡ y
 same_status x y is = cc
@@ -48,6 +63,9 @@ run_no_ended plan status is = cc
 
 pub ended_no_unread : (ending : Ending) (why : Unread) → statuses.Ended ending ≡ statuses.Unread why → ⊥
 ended_no_unread ending why is = cc
+
+pub failed_no_unread : (fault : Fault) (why : Unread) → statuses.Failed fault ≡ statuses.Unread why → ⊥
+failed_no_unread fault why is = cc
 
 pub ended_no_failed : (ending : Ending) (fault : Fault) → statuses.Ended ending ≡ statuses.Failed fault → ⊥
 ended_no_failed ending fault is = cc

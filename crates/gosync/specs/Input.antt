@@ -16,6 +16,10 @@ IsInput told bytes = IfSome told (λ held. bytes ≡ take (MAX_INPUT + 1) held)
 abbrev pub Takes : Option (List ℕ) → Option (List ℕ) → List ℕ → Type 0
 Takes before after taken = Gives before after taken × (length taken ≤ MAX_INPUT + 1)
 
+-- the file was read to its end, or its first 8,388,609 bytes were taken
+abbrev pub IsWhollyRead : Option (List ℕ) → Option (List ℕ) → Type 0
+IsWhollyRead told left = (bytes : List ℕ) × IsInput told bytes × Takes told left bytes
+
 -- the file can't be read: the count of its failed opens rose, or that of failed reads
 abbrev pub ReadFailed : ℕ → ℕ → ℕ → ℕ → Type 0
 ReadFailed opens opens_now reads reads_now = Rose opens opens_now ⊎ Rose reads reads_now

@@ -6,8 +6,8 @@ ghost use Rattle.workload.specs.Plan.{Plan};
 ghost use Rattle.step_runner.specs.Outcomes.{StepsTo};
 ghost use Rattle.gosync.specs.Command.{asked, file_in, AreRefused, AskFor, AskToMake};
 ghost use Rattle.gosync.specs.ComesTo.{ComesTo};
-ghost use Rattle.gosync.specs.Front.{IsFrontOfRun};
-ghost use Rattle.gosync.specs.Input.{ReadFailed};
+ghost use Rattle.gosync.specs.Front.{IsFrontOfRun, IsLeftOfAllBytes};
+ghost use Rattle.gosync.specs.Input.{IsWhollyRead, ReadFailed};
 ghost use Rattle.gosync.specs.Messages.{message_of, WritesOut};
 ghost use Rattle.gosync.specs.declared.status.Front.TheVariants as fronts;
 ghost use Rattle.gosync.specs.declared.status.Status.{Status};
@@ -53,6 +53,9 @@ pub fn front<S: Sources, O: Sink, E: Sink>(
     ensures make { (seed : ℕ) → AskToMake (map string_bytes words.now) seed → (result ≡ fronts.Make seed) ⊎ (result ≡ fronts.Ended (statuses.Unread unreads.Memory)) }
     ensures made { (seed : ℕ) → result ≡ fronts.Make seed → AskToMake (map string_bytes words.now) seed }
     ensures unwritten { ((file : List ℕ) → ¬ AskFor (map string_bytes words.now) modes.Step file) → (O.contents out.new ≡ O.contents out.old) × (O.faults out.new ≡ O.faults out.old) }
+
+    // What is told of a file is told of all its bytes.
+    ensures whole { (mode : Mode) (file : List ℕ) → AskFor (map string_bytes words.now) mode file → IsLeftOfAllBytes result → IsWhollyRead (S.contents src.old file) (S.remaining src.new) }
 
     // Whose faults are answered.
     ensures cannot_read { (mode : Mode) (file : List ℕ) → AskFor (map string_bytes words.now) mode file → result ≡ fronts.Ended (statuses.Unread unreads.CannotRead) → ReadFailed (S.open_faults src.old file) (S.open_faults src.new file) (S.read_faults src.old) (S.read_faults src.new) }

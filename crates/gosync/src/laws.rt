@@ -1,6 +1,7 @@
-//! What it means that a run by schedule has one outcome, and that one with threads is explained.
-ghost use Rattle.std.specs.Prelude.{◌≡◌, ℕ, List, map, length, Option, Some};
+//! What it means that a run by schedule has one outcome, that one with threads is explained, and that a count rose.
+ghost use Rattle.std.specs.Prelude.{◌≡◌, ◌<◌, ◌≤◌, ◌+◌, ◌-◌, ◌^◌, ℕ, List, map, length, Option, Some};
 ghost use Rattle.sync_outside.specs.Bytes.{Appends, AppendsFront};
+ghost use Rattle.sync_outside.specs.Faults.{Rose, RoseBy};
 ghost use Rattle.workload.specs.Plan.{Plan};
 ghost use Rattle.workload.specs.Reads.{Reads};
 ghost use Rattle.step_runner.specs.Computed.{turns};
@@ -55,3 +56,9 @@ pub fn a_run_with_threads_is_explained()
     a_run_that_is_done_answers_each_call();
     one_reading();
 }
+
+/// A count that rose, by one or by some number, isn't where it was before, nor short of that number more: else it stands at its last value.
+pub fn a_count_that_rose_is_higher()
+    ensures once { (before now : ℕ) → Rose before now → now ≤ before → now ≡ 2 ^ 64 - 1 }
+    ensures by { (number before now : ℕ) → RoseBy number before now → now < before + number → now ≡ 2 ^ 64 - 1 }
+{}

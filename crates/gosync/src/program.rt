@@ -8,9 +8,9 @@ ghost use Rattle.workload.specs.Reads.{Reads};
 ghost use Rattle.step_runner.specs.Outcomes.{StepsTo};
 ghost use Rattle.gosync.specs.Command.{asked, file_in, AreRefused, AskFor, AskToMake};
 ghost use Rattle.gosync.specs.ComesTo.{ComesTo};
-ghost use Rattle.gosync.specs.Front.{IsUnstarted};
+ghost use Rattle.gosync.specs.Front.{IsOfAllBytes, IsUnstarted};
 ghost use Rattle.gosync.specs.Headline.{Headline, RunsTo, RunsInJobs};
-ghost use Rattle.gosync.specs.Input.{ReadFailed, NoReadFailed, NoWriteFailed};
+ghost use Rattle.gosync.specs.Input.{IsWhollyRead, ReadFailed, NoReadFailed, NoWriteFailed};
 ghost use Rattle.gosync.specs.Made.{MakesTo};
 ghost use Rattle.gosync.specs.Messages.{code_of, ending_of, message_of, IsOutOfMemory, WritesOut};
 ghost use Rattle.gosync.specs.declared.status.Ending.TheVariants as endings;
@@ -71,6 +71,9 @@ pub fn gosync<
     ensures jobs { (file : List ℕ) → AskFor (map string_bytes words.now) modes.Run file → ComesTo (RunsInJobs (P.ran spawner.old) (P.ran spawner.new)) (S.contents src.old file) (O.contents out.old) (O.contents out.new) result }
     ensures rounds { P.rounds spawner.new ≤ P.rounds spawner.old + 1 }
     ensures unstarted { IsUnstarted result ⊎ ((file : List ℕ) × AskFor (map string_bytes words.now) modes.Step file) → (P.ran spawner.new ≡ P.ran spawner.old) × (P.rounds spawner.new ≡ P.rounds spawner.old) }
+
+    // What is told of a file is told of all its bytes: it was read to its end, or as far as a text may go and a byte more.
+    ensures whole { (mode : Mode) (file : List ℕ) → AskFor (map string_bytes words.now) mode file → IsOfAllBytes result → IsWhollyRead (S.contents src.old file) (S.remaining src.new) }
 
     // Whose faults are answered.
     ensures cannot_read { (mode : Mode) (file : List ℕ) → AskFor (map string_bytes words.now) mode file → result ≡ statuses.Unread unreads.CannotRead → ReadFailed (S.open_faults src.old file) (S.open_faults src.new file) (S.read_faults src.old) (S.read_faults src.new) }

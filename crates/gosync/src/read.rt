@@ -2,7 +2,8 @@
 ghost use Rattle.std.specs.Prelude.{◌≡◌, ℕ, List, ◌+◌, ◌≤◌, true, IfErr, MatchResult};
 ghost use Rattle.workload.specs.declared.limits.TheConstants.{MAX_INPUT};
 ghost use Rattle.workload.specs.Plan.{is_valid};
-ghost use Rattle.gosync.specs.Input.{ReadFailed};
+ghost use Rattle.gosync.specs.Front.{IsRefusal};
+ghost use Rattle.gosync.specs.Input.{IsWhollyRead, ReadFailed};
 ghost use Rattle.gosync.specs.ComesTo.{IsRead, IsUnread};
 ghost use Rattle.gosync.specs.declared.status.Unread.TheVariants as unreads;
 
@@ -24,6 +25,7 @@ pub fn is_in_range(workload: &Workload)
 /// The workload that a file is read as.
 pub fn read_workload<S: Sources>(alloc: Global, file: &str, src: &mut S) -> Result<Workload, Unread>
     ensures read { MatchResult result (IsRead (S.contents src.old file.now)) (IsUnread (S.contents src.old file.now)) }
+    ensures whole { MatchResult result (λ _. IsWhollyRead (S.contents src.old file.now) (S.remaining src.new)) (λ why. IsRefusal why → IsWhollyRead (S.contents src.old file.now) (S.remaining src.new)) }
     ensures cannot_read { IfErr result (λ why. why ≡ unreads.CannotRead → ReadFailed (S.open_faults src.old file.now) (S.open_faults src.new file.now) (S.read_faults src.old) (S.read_faults src.new)) }
     ensures reads { S.reads src.new ≤ S.reads src.old + (MAX_INPUT + 1) }
     ensures read_faults { S.read_faults src.old ≤ S.read_faults src.new }

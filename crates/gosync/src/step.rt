@@ -3,7 +3,8 @@ ghost use Rattle.std.specs.Prelude.{◌≡◌, ℕ, List, ◌+◌, ◌≤◌, Er
 ghost use Rattle.sync_outside.specs.Faults.{Rose};
 ghost use Rattle.workload.specs.declared.limits.TheConstants.{MAX_INPUT};
 ghost use Rattle.step_runner.specs.Outcomes.{StepsTo};
-ghost use Rattle.gosync.specs.Input.{ReadFailed};
+ghost use Rattle.gosync.specs.Front.{IsOfAllBytes};
+ghost use Rattle.gosync.specs.Input.{IsWhollyRead, ReadFailed};
 ghost use Rattle.gosync.specs.ComesTo.{ComesTo, Ends, Fails};
 ghost use Rattle.gosync.specs.declared.status.Status.TheVariants as statuses;
 ghost use Rattle.gosync.specs.declared.status.Unread.TheVariants as unreads;
@@ -41,6 +42,7 @@ fn run_by_schedule<O: Sink>(
 /// Reads a file, runs its workload by its schedule and writes the report.
 pub fn step<S: Sources, O: Sink>(alloc: Global, file: &str, src: &mut S, out: &mut O) -> Status
     ensures comes_to { ComesTo StepsTo (S.contents src.old file.now) (O.contents out.old) (O.contents out.new) result }
+    ensures whole { IsOfAllBytes result → IsWhollyRead (S.contents src.old file.now) (S.remaining src.new) }
     ensures started { result ≡ statuses.Failed faults.CannotStart → ⊥ }
     ensures cannot_read { result ≡ statuses.Unread unreads.CannotRead → ReadFailed (S.open_faults src.old file.now) (S.open_faults src.new file.now) (S.read_faults src.old) (S.read_faults src.new) }
     ensures cannot_write { result ≡ statuses.Failed faults.CannotWrite → Rose (O.faults out.old) (O.faults out.new) }

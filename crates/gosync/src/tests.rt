@@ -11,7 +11,7 @@ use std::sync::Wait;
 use std::test::Fail;
 use std::thread::Threads;
 use sync_outside::{
-    Gate, MemClock, MemFile, MemSink, MemSources, OpenGate, Spawner, ThreadSpawner,
+    Clock, Gate, MemClock, MemFile, MemSink, MemSources, OpenGate, Spawner, ThreadSpawner,
 };
 use sync_types::Misuse;
 use workload::Reason;
@@ -43,6 +43,9 @@ const STEP: Row = Row {
     message: "",
 };
 
+// The words of a run by schedule and of one with threads.
+const BY_BOTH: [&str; 2] = ["gosync step w.txt", "gosync run w.txt"];
+
 const TWO_CALLS: &str = "workers 1\nmap t\nworker 0\nstore t apple 5\nload t apple\n";
 
 const COND_CALLS: &str =
@@ -66,13 +69,14 @@ fn words_of(alloc: Global, line: &str) -> Result<Vec<String>, AllocError> {
     Ok(words)
 }
 
-/// Runs a row on this text, with room for so many bytes of the report, with this spawner and this gate.
-fn run_through<R: Threads + Wait + Sync, P: Spawner, G: Gate + Sync>(
+/// Runs a row on this text, with room for so many bytes of the report, with this clock, this spawner and this gate.
+fn run_by<R: Threads + Wait + Sync, C: Clock + Sync, P: Spawner, G: Gate + Sync>(
     rt: &R,
     alloc: Global,
     text: &str,
     room: usize,
     row: &Row,
+    clock: &C,
     spawner: &mut P,
     gate: &G,
 ) -> Result<Ran, AllocError> {
@@ -83,11 +87,24 @@ fn run_through<R: Threads + Wait + Sync, P: Spawner, G: Gate + Sync>(
     let mut out = MemSink::new(alloc, room, Vec::from_slice(alloc, row.out)?)?;
     let mut err = MemSink::new(alloc, 1_000, Vec::from_slice(alloc, row.err)?)?;
     let words = words_of(alloc, row.words)?;
-    let clock = MemClock::new(Vec::new(alloc));
     let status = gosync(
-        rt, alloc, &words, &mut src, &mut out, &mut err, &clock, spawner, gate,
+        rt, alloc, &words, &mut src, &mut out, &mut err, clock, spawner, gate,
     );
     Ok(Ran { status, out, err })
+}
+
+/// The same, by a clock that stands at 0.
+fn run_through<R: Threads + Wait + Sync, P: Spawner, G: Gate + Sync>(
+    rt: &R,
+    alloc: Global,
+    text: &str,
+    room: usize,
+    row: &Row,
+    spawner: &mut P,
+    gate: &G,
+) -> Result<Ran, AllocError> {
+    let clock = MemClock::new(Vec::new(alloc));
+    run_by(rt, alloc, text, room, row, &clock, spawner, gate)
 }
 
 /// Runs a row on this text, in threads of the machine, where the row asks for threads.
@@ -427,8 +444,40 @@ fn calls_and_ranges_are_limited(rt: HostRuntime) -> Result<(), Fail> {
     Ok(())
 }
 
-const FAULTS: [(&str, &str); 3] = [
+const FAULTS: [(&str, &str); 18] = [
     ("", "gosync: line 1: no workers line\n"),
+    ("map t\n", "gosync: line 1: no workers line\n"),
+    (
+        "#aaaaaaaaaaaaaaaaaaaaaaaaaaaaaaaaaaaaaaaaaaaaaaaaaaaaaaaaaaaaaaaaaaaaaaaaaaaaaaaaaaaaaaaaaaaaaaaaaaaaaaaaaaaaaaaaaaaaaaaaaaaaaaaaaaaaaaaaaaaaaaaaaaaaaaaaaaaaaaaaaaaaaaaaaaaaaaaaaaaaaaaaaaaaaaaaaaaaaaaa\n",
+        "gosync: line 1: line too long\n",
+    ),
+    ("workers 1\n#\t\n", "gosync: line 2: bad byte\n"),
+    ("workers 1\nchan c\n", "gosync: line 2: unknown word\n"),
+    ("workers 1\nmap 9t\n", "gosync: line 2: bad name\n"),
+    (
+        "workers 1\nmap t\nmutex t\n",
+        "gosync: line 3: name taken\n",
+    ),
+    ("workers 1\nworkers 1\n", "gosync: line 2: name taken\n"),
+    (
+        "workers 1\nworker 0\nload t k\n",
+        "gosync: line 3: unknown name\n",
+    ),
+    (
+        "workers 1\nmutex m\nworker 0\nput m 1\n",
+        "gosync: line 4: wrong kind\n",
+    ),
+    ("workers 0\n", "gosync: line 1: bad number\n"),
+    ("workers 01\n", "gosync: line 1: bad number\n"),
+    (
+        "workers 1\nwaitgroup g 10001\n",
+        "gosync: line 2: bad number\n",
+    ),
+    ("workers 1\nworker 1\n", "gosync: line 2: no such worker\n"),
+    (
+        "workers 1\nmap t\nload t k\n",
+        "gosync: line 3: call outside a worker\n",
+    ),
     (
         "workers 1\nmap t\nworker 0\nstore t app",
         "gosync: line 4: wrong number of words\n",
@@ -442,13 +491,16 @@ const FAULTS: [(&str, &str); 3] = [
 #[test]
 fn a_text_that_is_not_read_names_its_first_fault(rt: HostRuntime) -> Result<(), Fail> {
     for &(text, message) in &FAULTS {
-        let row = Row {
-            text,
-            message,
-            status: 1,
-            ..STEP
-        };
-        assert!(rt; comes_out(&rt, rt.alloc(), &row)?, "{text}");
+        for &words in &BY_BOTH {
+            let row = Row {
+                text,
+                words,
+                message,
+                status: 1,
+                ..STEP
+            };
+            assert!(rt; comes_out(&rt, rt.alloc(), &row)?, "{words}: {text}");
+        }
     }
     Ok(())
 }
@@ -610,6 +662,29 @@ fn each_write_of_the_one_line_fails_in_turn(rt: HostRuntime) -> Result<(), Fail>
             ..STEP
         };
         assert!(rt; comes_out(&rt, rt.alloc(), &row)?, "{words}: {message}");
+    }
+    Ok(())
+}
+
+// Go's text is two writes. The status stays, and so does the report.
+#[test]
+fn a_misuse_is_status_2_though_its_text_is_not_written(rt: HostRuntime) -> Result<(), Fail> {
+    let failing: [(&[u64], &str); 2] = [
+        (&[1], ""),
+        (&[2], "fatal error: sync: unlock of unlocked mutex"),
+    ];
+    for &(err, message) in &failing {
+        for &words in &BY_BOTH {
+            let row = Row {
+                text: "workers 1\nmutex m\nworker 0\nunlock m\n",
+                words,
+                err,
+                status: 2,
+                message,
+                ..STEP
+            };
+            assert!(rt; comes_out(&rt, rt.alloc(), &row)?, "{words}: {message}");
+        }
     }
     Ok(())
 }

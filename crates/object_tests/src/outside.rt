@@ -284,3 +284,50 @@ fn a_gate_holds_one_call_until_the_other_was_answered(rt: HostRuntime) -> Result
     assert!(rt; alone.has_given_up());
     Ok(())
 }
+
+// So many jobs, each of which adds 1 to the shared number.
+fn adding<'a>(
+    alloc: Global,
+    jobs: u32,
+    shared: &'a AtomicU64,
+) -> Result<Vec<Passing<'a, OpenGate>>, AllocError> {
+    let mut all = Vec::new(alloc);
+    for worker in 0..jobs {
+        all.push(Passing {
+            worker,
+            gate: &OpenGate,
+            shared,
+        })?;
+    }
+    Ok(all)
+}
+
+#[test]
+fn any_number_of_jobs_is_done(rt: HostRuntime) -> Result<(), Fail> {
+    for count in [0, 1, 2, 32] {
+        let shared = AtomicU64::new(0);
+        let jobs = adding(rt.alloc(), count, &shared)?;
+        let done = match ThreadSpawner::new().start_all(&rt, rt.alloc(), jobs) {
+            Started::Done(results) => results.len() as u32,
+            Started::Refused(_) | Started::Memory => u32::MAX,
+        };
+        assert_eq!(rt;
+            (done, shared.load(Ordering::SeqCst)),
+            (count, u64::from(count))
+        );
+    }
+    Ok(())
+}
+
+// All other jobs have their threads by then. None of them may have begun.
+#[test]
+fn no_job_works_where_the_last_start_is_refused(rt: HostRuntime) -> Result<(), Fail> {
+    let shared = AtomicU64::new(0);
+    let jobs = adding(rt.alloc(), 32, &shared)?;
+    let back = match RefuseStart::new(32).start_all(&rt, rt.alloc(), jobs) {
+        Started::Refused(back) => back.len(),
+        Started::Done(_) | Started::Memory => 0,
+    };
+    assert_eq!(rt; (back, shared.load(Ordering::SeqCst)), (32, 0));
+    Ok(())
+}

@@ -1,9 +1,9 @@
 //! Workloads that are made.
 use super::{Row, STEP, USAGE, comes_out, is_of, run_on, run_through};
 use std::test::Fail;
-use sync_outside::{HoldGate, ThreadSpawner};
+use sync_outside::{HoldGate, OpenGate, RefuseStart, ThreadSpawner};
 
-const SEVEN: Row = Row {
+pub const SEVEN: Row = Row {
     words: "gosync make 7",
     report: "workers 8\ncalls 16000\ntotal 2007240\nkeys 347\nsum 3001507156\n",
     ..STEP
@@ -85,6 +85,34 @@ fn each_write_of_a_line_fails_in_turn(rt: HostRuntime) -> Result<(), Fail> {
             ..SEVEN
         };
         assert!(rt; comes_out(&rt, rt.alloc(), &row)?, "{report}");
+    }
+    Ok(())
+}
+
+const REFUSED_STARTS: [(usize, u8, &str, &str); 3] = [
+    (1, 3, "", "gosync: cannot start the workers\n"),
+    (8, 3, "", "gosync: cannot start the workers\n"),
+    (9, 0, SEVEN.report, ""),
+];
+
+// There are eight starts, so a ninth isn't refused.
+#[test]
+fn a_refused_start_is_status_3(rt: HostRuntime) -> Result<(), Fail> {
+    for &(refused, status, report, message) in &REFUSED_STARTS {
+        let row = Row {
+            status,
+            report,
+            message,
+            ..SEVEN
+        };
+        let mut spawner = RefuseStart::new(refused);
+        let ran = run_through(&rt, rt.alloc(), "", 1_000, &row, &mut spawner, &OpenGate)?;
+        assert!(rt; is_of(&ran, &row), "{refused}");
+        assert_eq!(rt;
+            spawner.counts().faults(),
+            u64::from(status == 3),
+            "{refused}"
+        );
     }
     Ok(())
 }

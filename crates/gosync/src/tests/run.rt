@@ -1,9 +1,10 @@
 //! Runs with threads.
 ghost use Rattle.std.specs.Prelude.{◌≡◌};
 
-use super::{MISUSES, Row, STEP, TWO_CALLS, comes_out, first_other, is_of, run_through};
+use super::{MISUSES, Row, STEP, TWO_CALLS, comes_out, first_other, is_of, run_by, run_through};
+use std::sync::atomic::{AtomicU64, Ordering};
 use std::test::Fail;
-use sync_outside::{HoldGate, OpenGate, RefuseStart, ThreadSpawner};
+use sync_outside::{Clock, HoldGate, OpenGate, RefuseStart, ThreadSpawner};
 
 const RUN: Row = Row {
     words: "gosync run w.txt",
@@ -92,17 +93,73 @@ fn workers_work_beside_each_other(rt: HostRuntime) -> Result<(), Fail> {
         let ran = run_through(&rt, rt.alloc(), row.text, 1_000, &row, &mut spawner, &gate)?;
         assert!(rt; is_of(&ran, &row), "{held}");
         assert!(rt; !gate.has_given_up(), "{held}");
+        assert_eq!(rt; gate.answered(), 2, "{held}");
     }
     Ok(())
 }
 
+/// A clock that counts how often it is read.
+struct ReadClock {
+    reads: AtomicU64,
+}
+
+impl Clock for ReadClock {
+    ghost shows = { λ _ _. Unit {0} };
+
+    fn now(&self) -> u64 {
+        self.reads.fetch_add(1, Ordering::SeqCst)
+    }
+}
+
+// A lock reads the clock that was handed in, in a run of a file and in one of a seed.
+#[test]
+fn a_run_reads_its_own_clock(rt: HostRuntime) -> Result<(), Fail> {
+    let locked = Row {
+        text: "workers 1\nmutex m\nworker 0\nlock m\nunlock m\n",
+        report: "0.0 lock m -> ok\n0.1 unlock m -> ok\n",
+        ..RUN
+    };
+    let made = Row {
+        words: "gosync make 7",
+        report: super::make::SEVEN.report,
+        ..RUN
+    };
+    for row in &[locked, made] {
+        let clock = ReadClock {
+            reads: AtomicU64::new(0),
+        };
+        let mut spawner = ThreadSpawner::new();
+        let ran = run_by(
+            &rt,
+            rt.alloc(),
+            row.text,
+            1_000,
+            row,
+            &clock,
+            &mut spawner,
+            &OpenGate,
+        )?;
+        assert!(rt; is_of(&ran, row));
+        assert!(rt; clock.reads.load(Ordering::SeqCst) > 0);
+    }
+    Ok(())
+}
+
+const REFUSED_STARTS: [(usize, u8, &str, &str); 3] = [
+    (1, 3, "", "gosync: cannot start the workers\n"),
+    (2, 3, "", "gosync: cannot start the workers\n"),
+    (3, 0, RUNS[4].1, ""),
+];
+
+// There are two starts, so a third isn't refused.
 #[test]
 fn a_refused_start_is_status_3(rt: HostRuntime) -> Result<(), Fail> {
-    for refused in 1..3 {
+    for &(refused, status, report, message) in &REFUSED_STARTS {
         let row = Row {
             text: EACH_WAITS,
-            status: 3,
-            message: "gosync: cannot start the workers\n",
+            status,
+            report,
+            message,
             ..RUN
         };
         let mut spawner = RefuseStart::new(refused);
@@ -116,6 +173,11 @@ fn a_refused_start_is_status_3(rt: HostRuntime) -> Result<(), Fail> {
             &OpenGate,
         )?;
         assert!(rt; is_of(&ran, &row), "{refused}");
+        assert_eq!(rt;
+            spawner.counts().faults(),
+            u64::from(status == 3),
+            "{refused}"
+        );
     }
     Ok(())
 }
@@ -137,5 +199,46 @@ fn a_text_that_is_not_read_is_not_run(rt: HostRuntime) -> Result<(), Fail> {
         ..RUN
     };
     assert!(rt; comes_out(&rt, rt.alloc(), &row)?);
+    Ok(())
+}
+
+const FAULTS: [(&[u64], &[u64], u8, &str, &str); 8] = [
+    (&[1], &[], 3, "", "gosync: cannot read w.txt\n"),
+    (&[2], &[], 3, "", "gosync: cannot read w.txt\n"),
+    (&[3], &[], 3, "", "gosync: cannot read w.txt\n"),
+    (&[4], &[], 0, RUNS[0].1, ""),
+    (&[], &[1], 3, "", "gosync: cannot write the report\n"),
+    (
+        &[],
+        &[2],
+        3,
+        "0.0 store t apple 5 -> ok\n",
+        "gosync: cannot write the report\n",
+    ),
+    (
+        &[],
+        &[3],
+        3,
+        "0.0 store t apple 5 -> ok\n0.1 load t apple -> 5 true\n",
+        "gosync: cannot write the report\n",
+    ),
+    (&[], &[4], 0, RUNS[0].1, ""),
+];
+
+// The source has three calls, an open and two reads, and the output three. A fourth isn't made.
+#[test]
+fn each_call_on_the_source_and_on_the_output_fails_in_turn(rt: HostRuntime) -> Result<(), Fail> {
+    for &(source, out, status, report, message) in &FAULTS {
+        let row = Row {
+            text: TWO_CALLS,
+            source,
+            out,
+            status,
+            report,
+            message,
+            ..RUN
+        };
+        assert!(rt; comes_out(&rt, rt.alloc(), &row)?, "{source:?} {out:?}");
+    }
     Ok(())
 }

@@ -1,4 +1,4 @@
-use Rattle.std.proofs.Common.{map, string_bytes, refl, ap, sym, ◌∙◌, ℕ, List, Option, inl, inr}
+use Rattle.std.proofs.Common.{map, string_bytes, refl, ap, sym, subst, ◌∙◌, ℕ, List, Option, inl, inr}
 use Rattle.step_runner.specs.Outcomes.{StepsTo}
 use Rattle.gosync.specs.declared.status.Front.TheVariants as fronts
 use Rattle.gosync.specs.declared.status.Status.{Status}
@@ -13,7 +13,7 @@ use Rattle.gosync.specs.Headline.{RunsTo, RunsInJobs}
 use Rattle.gosync.specs.Input.{ReadFailed}
 use Rattle.sync_outside.specs.Faults.{Rose}
 use Rattle.gosync.proofs.AskedWords.{no_file, not_both}
-use Rattle.gosync.proofs.Fronts.{asking, asks_run, by_mode, ended_make, ended_makes, ended_no_failed, ended_no_unread, err_of, front_comes, refuses, run_no_ended, run_taken, run_unmade, same_fault}
+use Rattle.gosync.proofs.Fronts.{asking, asks_run, by_mode, ended_make, ended_makes, ended_no_failed, ended_no_unread, err_of, failed_no_unread, front_comes, refuses, run_is_read, run_no_ended, run_taken, run_unmade, same_fault}
 use Rattle.gosync.proofs.Runs.{completes, ended_run, ends_by_record, failed_run, fails_by_record, is_read, no_step, says_run, step_comes}
 use Rattle.gosync.proofs.program.gosync.Goals as goal
 
@@ -140,6 +140,43 @@ returns-in-Ok-clause-runs g c file bytes plan asks is reads no_read no_write no_
     (λ e. ended_no_failed c.in-Ok.ending faults.CannotStart (sym c.say_run.ensures.status ∙ e))
     (λ e. e) (λ e. e) (λ e. e)
 
+pub returns-in-Ok-clause-whole : goal.returns-in-Ok-clause-whole
+returns-in-Ok-clause-whole g c mode file asks all = c.in-Run.ensures.whole mode file asks tt
+
+pub returns-in-Ok-clause-refused : goal.returns-in-Ok-clause-refused
+returns-in-Ok-clause-refused g c mode file bytes asks is none no_read =
+    let plan = c.in-Run.workload in
+    absurd (by_mode (map string_bytes c.args.words.now) file mode asks
+    (λ step. let ended = c.in-Run.ensures.step file step in run_no_ended plan ended.0 ended.1)
+    (λ run. run_is_read (g.S.Sources.contents c.args.src.now file) bytes plan (c.in-Run.ensures.run file run) is none))
+
+pub returns-in-Run-clause-whole : goal.returns-in-Run-clause-whole
+returns-in-Run-clause-whole g c mode file asks all = c.in-Run.ensures.whole mode file asks tt
+
+pub returns-in-Run-clause-refused : goal.returns-in-Run-clause-refused
+returns-in-Run-clause-refused g c mode file bytes asks is none no_read =
+    let plan = c.in-Run.workload in
+    absurd (by_mode (map string_bytes c.args.words.now) file mode asks
+    (λ step. let ended = c.in-Run.ensures.step file step in run_no_ended plan ended.0 ended.1)
+    (λ run. run_is_read (g.S.Sources.contents c.args.src.now file) bytes plan (c.in-Run.ensures.run file run) is none))
+
+pub returns-in-Run-clause-runs : goal.returns-in-Run-clause-runs
+returns-in-Run-clause-runs g c file bytes plan asks is reads no_read no_write no_start =
+    let told = g.S.Sources.contents c.args.src.now file in
+    let old = g.O.Sink.contents c.args.out.now in
+    let mid = g.O.Sink.contents c.front.new.out in
+    let new = g.O.Sink.contents c.run_by_threads.new.out in
+    let silent = c.in-Run.ensures.unwritten (λ other step. no_step (map string_bytes c.args.words.now) file other asks step) in
+    let status = sym c.say_run-in-Err.ensures.status in
+    let comes = failed_run RunsTo told old mid new c.in-Run.workload c.in-Err.fault c.say_run-in-Err.result c.say_run-in-Err.ensures.status (is_read told c.in-Run.workload (c.in-Run.ensures.run file asks)) silent.0
+    (fails_by_record c.in-Run.workload mid new (g.P.Spawner.ran c.args.spawner.now) (g.P.Spawner.ran c.run_by_threads.new.spawner) c.in-Err.fault c.in-Err.ensures.ran) in
+    completes RunsTo old new bytes plan told ⊥ (Rose (g.O.Sink.faults c.args.out.now) (g.O.Sink.faults c.run_by_threads.new.out)) (Rose (g.P.Spawner.faults c.args.spawner.now) (g.P.Spawner.faults c.run_by_threads.new.spawner))
+    c.one_reading.ensures c.say_run-in-Err.result comes is reads
+    (λ e. failed_no_unread c.in-Err.fault unreads.CannotRead (status ∙ e))
+    (λ e. subst (λ (n : ℕ). Rose n (g.O.Sink.faults c.run_by_threads.new.out)) silent.1 (c.in-Err.ensures.cannot_write (ap err_of (same_fault c.in-Err.fault faults.CannotWrite (status ∙ e)))))
+    (λ e. c.in-Err.ensures.cannot_start (ap err_of (same_fault c.in-Err.fault faults.CannotStart (status ∙ e))))
+    (λ e. e) no_write no_start
+
 pub returns-in-Run-clause-make : goal.returns-in-Run-clause-make
 returns-in-Run-clause-make g c seed asks = absurd (run_unmade c.in-Run.workload seed (c.in-Run.ensures.make seed asks))
 
@@ -172,3 +209,6 @@ returns-clause-says g c =
 
 pub returns-clause-cannot_start : goal.returns-clause-cannot_start
 returns-clause-cannot_start g c is = (c.make.ensures.cannot_start is, inr (c.in-Make.seed, c.in-Make.ensures.made c.in-Make.seed refl))
+
+pub returns-clause-whole : goal.returns-clause-whole
+returns-clause-whole g c mode file asks all = absurd (not_both (map string_bytes c.args.words.now) c.in-Make.seed mode file (c.in-Make.ensures.made c.in-Make.seed refl) asks)
