@@ -11,11 +11,13 @@ mod prunes;
 use crate::note::SharedNote;
 use crate::table::SharedTable;
 use atomic_table::Seat;
+use std::marker::Brand;
 use std::sync::Wait;
+use std::sync::ledger::{Blank, Ledger};
 use std::test::Fail;
 use sync_model::{Caller, CallerNote};
 use sync_types::MapCall;
-use table_seats::View;
+use table_seats::{Steps, View};
 use trie_nodes::Slot;
 
 // The last of some callers.
@@ -62,26 +64,29 @@ fn clear_one<R: Wait>(rt: &R, table: &SharedTable, note: &mut SharedNote) -> boo
 
 // A seat reads the map's root word, and another caller clears the map. Then the seat reads what is left: the key's slot in the
 // root that it found, and the entry there.
-fn look_over_a_clear<R: Wait>(
+fn look_over_a_clear<R: Wait, L: Ledger>(
     rt: &R,
     table: &SharedTable,
     seat: &mut Seat<(), View>,
     clearer: &mut SharedNote,
     key: u32,
+    blank: Blank,
 ) -> Option<u64>
     requires map { 0 < maps_of table.now }
+    requires ledger { (blank.name ≡ L.name) × (blank.parts ≡ L.parts) × (0 < L.parts) }
     requires seat { IsSeatOf table.now.words seat.old × IsFree (begin_of table.now.words) seat.old.me }
     requires clearer { IsNoteOf table.now clearer.old × IsSome (own_by clearer.old) }
 {
-    let node = table.words.enter(seat, 0, key);
+    let mut steps = Steps::<L>::new(blank);
+    let node = table.words.enter(seat, 0, key, &mut steps);
     if !clear_one(rt, table, clearer) {
         return None;
     }
     match table
         .words
-        .look(seat, MapCall::Load { key }, 0, key, node, 0)
+        .look(seat, MapCall::Load { key }, 0, key, node, 0, &mut steps)
     {
-        Slot::Entry(place) => table.read_entry(seat, place, key),
+        Slot::Entry(place) => table.read_entry(seat, place, key, &mut steps),
         _ => None,
     }
 }
@@ -93,7 +98,14 @@ fn a_lookup_that_began_before_a_clear_finds_what_was_there(rt: HostRuntime) -> R
     let mut clearer = take(&table, &mut callers).expect(&rt, "caller 0");
     assert!(&rt; store_one(&rt, &table, &mut clearer.note, 5, 6));
     let SharedNote { mut seat, .. } = reader.note;
-    let found = look_over_a_clear(&rt, &table, &mut seat, &mut clearer.note, 5);
+    let found = look_over_a_clear::<_, Brand>(
+        &rt,
+        &table,
+        &mut seat,
+        &mut clearer.note,
+        5,
+        Blank::new(1),
+    );
     assert!(&rt; found == Some(6));
     assert!(&rt; clearer.spare() == 0);
     Ok(())

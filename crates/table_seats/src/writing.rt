@@ -7,7 +7,7 @@ ghost use Rattle.table_rule.specs.declared.view.Own.{Own};
 ghost use Rattle.table_rule.specs.declared.view.Walk.{Walk};
 ghost use Rattle.table_rule.specs.Layout.{size_of};
 ghost use Rattle.table_seats.specs.Seats.{begin_of, IsSeatOf};
-ghost use Rattle.table_seats.specs.Walking.{standing, walk_at, HasWords, Affords, IsFree};
+ghost use Rattle.table_seats.specs.Walking.{standing, walk_at, HasWords, Affords, IsFree, IsUncounted};
 ghost use Rattle.sync_types.specs.SequentialMap.{map_key};
 ghost use Rattle.sync_model.specs.Shared.{cost_of};
 ghost use Rattle.table_seats.specs.Making.{StandsLocked, LooksHeld};
@@ -20,6 +20,7 @@ use crate::making::Making;
 use crate::words::TableWords;
 use atomic_table::{Play, Seat};
 use std::marker::{Brand, PhantomData};
+use std::sync::Wait;
 use sync_types::MapCall;
 use table_rule::view::View;
 use trie_nodes::layout::{DEAD, FREE, held_word, lock_word, slot_word};
@@ -72,8 +73,9 @@ impl Play<(), View> for Draft {
 }
 
 impl TableWords {
-    /// Tries to come in as a writer of the map. It doesn't where the gate is closed, or where another passed it just then.
-    pub fn try_come_in(&self, seat: &mut Seat<(), View>, map: u32) -> bool
+    /// Tries to come in as a writer of the map. It doesn't where the gate is closed, or where another passed it just then. Only a
+    /// call that may wait comes in, so no load does.
+    pub fn try_come_in<R: Wait>(&self, _rt: &R, seat: &mut Seat<(), View>, map: u32) -> bool
         requires table { IsSeatOf self.now seat.old }
         requires free { IsFree (begin_of self.now) seat.old.me }
         requires map { map < (begin_of self.now).maps }
@@ -104,9 +106,10 @@ impl TableWords {
         shared.compare_exchange::<ComeIn<W>>(seat, word, writers, writers + 1) == writers
     }
 
-    /// Whether a node is dead, so that nobody takes its lock any more.
-    pub fn is_dead(&self, node: u64) -> bool
-        requires { node < size_of (begin_of self.now) }
+    /// Whether a node is dead, so that nobody takes its lock any more. A writer looks.
+    pub fn is_dead(&self, _seat: &Seat<(), View>, node: u64) -> bool
+        requires no_load { IsUncounted _seat.now.me.0 }
+        requires node { node < size_of (begin_of self.now) }
     {
         self.table.shared.peek(lock_word(node)) == DEAD
     }
