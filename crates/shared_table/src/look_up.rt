@@ -60,15 +60,10 @@ impl SharedTable {
     {
         let mut node = self.words.enter(seat, map, key, steps);
         for level in 0..LEVELS {
-            match self.words.look(
-                seat,
-                MapCall::Load { key },
-                map,
-                key,
-                node,
-                level,
-                steps,
-            ) {
+            match self
+                .words
+                .look(seat, MapCall::Load { key }, map, key, node, level, steps)
+            {
                 Slot::Empty => return None,
                 Slot::Node(below) => node = below,
                 Slot::Entry(place) => return self.read_entry(seat, place, key, steps),

@@ -326,10 +326,7 @@ impl SharedTable {
     {
         let mut node = self.words.enter_uncounted(seat, map, key);
         for level in 0..LEVELS {
-            match self
-                .words
-                .look_uncounted(seat, call, map, key, node, level)
-            {
+            match self.words.look_uncounted(seat, call, map, key, node, level) {
                 Slot::Empty => return Reached::at(call, None, node, level),
                 Slot::Node(below) => node = below,
                 Slot::Entry(place) => {

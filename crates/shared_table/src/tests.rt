@@ -1,4 +1,5 @@
-//! A lookup that began before a clear ends after it: it goes on in the nodes that the clear cut off.
+//! A lookup that began before a clear ends after it: it goes on in the nodes that the clear cut off. One beside a closed gate waits
+//! for nobody.
 ghost use Rattle.std.specs.Prelude.{◌≡◌, ◌<◌, IfSome, IsSome, All};
 ghost use Rattle.sync_model.specs.Shared.{IsCallerAt};
 ghost use Rattle.shared_table.specs.Notes.{own_by, IsNoteOf};
@@ -89,6 +90,45 @@ fn look_over_a_clear<R: Wait, L: Ledger>(
         Slot::Entry(place) => table.read_entry(seat, place, key, &mut steps),
         _ => None,
     }
+}
+
+// A seat closes the map's gate, and another caller looks a key up.
+fn look_beside_a_closed_gate<R: Wait, L: Ledger>(
+    rt: &R,
+    table: &SharedTable,
+    closer: &mut Seat<(), View>,
+    reader: &mut SharedNote,
+    key: u32,
+    blank: Blank,
+) -> Option<u64>
+    requires map { 0 < maps_of table.now }
+    requires ledger { (blank.name ≡ L.name) × (blank.parts ≡ L.parts) × (0 < L.parts) }
+    requires closer { IsSeatOf table.now.words closer.old × IsFree (begin_of table.now.words) closer.old.me }
+    requires reader { IsNoteOf table.now reader.old × IsSome (own_by reader.old) }
+{
+    if !table.words.try_close(rt, closer, 0) {
+        return None;
+    }
+    table.look_up(reader, 0, key, &mut Steps::<L>::new(blank))
+}
+
+#[test]
+fn a_lookup_waits_for_no_gate(rt: HostRuntime) -> Result<(), Fail> {
+    let (table, mut callers) = SharedTable::new(rt.alloc(), &[], 1, 0, &[1, 0])?;
+    let closer = take(&table, &mut callers).expect(&rt, "caller 1");
+    let mut reader = take(&table, &mut callers).expect(&rt, "caller 0");
+    assert!(&rt; store_one(&rt, &table, &mut reader.note, 5, 6));
+    let SharedNote { mut seat, .. } = closer.note;
+    let found = look_beside_a_closed_gate::<_, Brand>(
+        &rt,
+        &table,
+        &mut seat,
+        &mut reader.note,
+        5,
+        Blank::new(1),
+    );
+    assert!(&rt; found == Some(6));
+    Ok(())
 }
 
 #[test]

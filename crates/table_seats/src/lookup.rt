@@ -89,8 +89,9 @@ impl TableWords {
         ensures entered { Enters map key seat.old.me result seat.new.me }
         ensures counted { steps.new ≡ steps.old + 1 }
     {
+        let root = self.enter_as::<Brand>(seat, map, key);
         steps.tick();
-        self.enter_as::<Brand>(seat, map, key)
+        root
     }
 
     /// The same, where nobody counts.
@@ -138,8 +139,9 @@ impl TableWords {
         ensures found { (seat.new.me.1 ≡ seat.old.me.1) × FindsIn call (walk_at map key node level (length seat.old.me.0.seen)) result seat.old.me.0 seat.new.me.0 }
         ensures counted { steps.new ≡ steps.old + 1 }
     {
+        let found = self.look_as::<Brand>(seat, call, map, key, node, level);
         steps.tick();
-        self.look_as::<Brand>(seat, call, map, key, node, level)
+        found
     }
 
     /// The same, where nobody counts.
