@@ -23,6 +23,7 @@ use Rattle.table_rule.specs.Shape.{Shape}
 use Rattle.table_seats.specs.Writing.{with_word, Drafts}
 use Rattle.table_seats.proofs.Frames.{Later, walks_on, leaf_on, stands_on}
 use Rattle.table_seats.proofs.Outside.{with_inside, same, in_node, later_out, apart_out, fine_out}
+use Rattle.table_seats.proofs.Lists.{past_end}
 use Rattle.table_seats.proofs.Still.{still}
 
 -- the words of a draft with one more
@@ -172,6 +173,10 @@ module _ (k : Begin) (laws : HistoryLaws) (s : TableState) (r : Kept k s) (id : 
           subst (Owned (callers_of k) r.calls r.claim id v.front (v.number + 0)) (same_Some own_after o at) record { below = f.below; claimed = f.claimed; items = f.items; counted = f.counted; knew = f.knew }
       owned_on (suc i) o at = (r.fits id v at_me live).owns (suc i) o (ap (λ l. slice_get l (suc i)) is ∙ at)
 
+  -- the word is 0 so far
+  pub zero_there : slice_index s.words (own.next + length own.draft) ≡ 0
+  zero_there = mine.words (length own.draft) room ∙ past_end own.draft (length own.draft) (omega arith)
+
   pub kept_drafted : Kept k record { words = set s.words (own.next + length own.draft) x; homes = s.homes; views = set s.views id view_after }
   kept_drafted = still k laws s r id v at_me live own owns is (with_inside r.shape r.shape.inside) (set s.words (own.next + length own.draft) x) view_after fits_on
       (fine_out k r.shape r.log s.words (own.next + length own.draft) x r.shape.inside r.fine unused behind no_root)
@@ -191,4 +196,16 @@ drafts k laws id me own owns x live is room = λ s r one at_me bounded. (
   tt,
   kept_drafted k laws s r id me.0 at_me live own owns is x room,
   (refl, ap (λ l. record me.0 { owns = with_word l x }) (sym is)),
+)
+
+-- a caller lets the next word of its room stay 0
+pub drafts_zero : (k : Begin) → HistoryLaws → (id : ℕ) (me : Me (Unit {0}) View) (own : Own) (owns : List Own) → me.0.live ≡ true → me.0.owns ≡ own ∷ owns → length own.draft < unit_words * own.spare
+    → Allows (Kept k) 0 id me (own.next + length own.draft) (λ n. n) (λ found. Drafts 0 me 0)
+drafts_zero k laws id me own owns live is room = λ s r one at_me bounded. (
+  record me.0 { owns = record own { draft = own.draft ++ 0 ∷ [] } ∷ owns },
+  keeps,
+  tt,
+  subst (λ x. Kept k record { words = set s.words (own.next + length own.draft) x; homes = s.homes; views = set s.views id (record me.0 { owns = record own { draft = own.draft ++ 0 ∷ [] } ∷ owns }) })
+      (sym (zero_there k laws s r id me.0 at_me live own owns is 0 room)) (kept_drafted k laws s r id me.0 at_me live own owns is 0 room),
+  (refl, ap (λ l. record me.0 { owns = with_word l 0 }) (sym is)),
 )
