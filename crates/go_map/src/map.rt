@@ -1,5 +1,5 @@
 //! Maps, as `sync.Map` has them.
-ghost use Rattle.std.specs.Prelude.{◌≡◌, ◌+◌, ◌<◌, ◌≤◌, ◌^◌, Some};
+ghost use Rattle.std.specs.Prelude.{◌≡◌, ◌+◌, ◌<◌, ◌≤◌, ◌^◌, Some, None, MatchOption};
 ghost use Rattle.sync_types.specs.SequentialMap.{map_key};
 ghost use Rattle.sync_model.specs.Shared.{IsCallerAt, cost_of};
 ghost use Rattle.shared_table.specs.Notes.{own_by, IsNoteOf};
@@ -34,8 +34,9 @@ impl<'a> Map<'a> {
         Map { table, number }
     }
 
-    /// `Load`: the value of the key, or `None` where it has none. It waits for nobody, can't be refused, and reads at most 11
-    /// words, which `steps` counts. Its place is a moment of the call: no earlier than all that the caller had seen before,
+    /// `Load`: the value of the key, or `None` where it has none. It waits for nobody, can't be refused, and looks at no more than
+    /// 11 words, each of which `steps` counts: at the least the map's root word and a slot, and where it finds a value also the two
+    /// words of the entry. Its place is a moment of the call: no earlier than all that the caller had seen before,
     /// and no later than what it has seen after.
     pub fn load<L: Ledger>(
         &self,
@@ -46,6 +47,7 @@ impl<'a> Map<'a> {
         requires { IsCallerAt IsNoteOf own_by self.now.table.now caller.old }
         ensures called { MakesCall self.now.table.now self.now.number (MapCall.Load key) (MapReply.Found result) caller.old.note caller.new.note }
         ensures cost { steps.new ≤ steps.old + 11 }
+        ensures least { MatchOption result (steps.old + 2 ≤ steps.new) (λ value. steps.old + 4 ≤ steps.new) }
     {
         self.table
             .look_up(&mut caller.note, self.number, key, steps)

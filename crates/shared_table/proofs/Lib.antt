@@ -9,3 +9,4 @@ pub mod Settles
 pub mod Endings
 pub mod CursorNotes
 pub mod Prunings
+pub mod InsideGates

@@ -69,7 +69,7 @@ impl SharedTable {
     {
         let backoff = Backoff::new();
         for _ in rt.forever() {
-            if self.words.try_close(seat, map) {
+            if self.words.try_close(rt, seat, map) {
                 return;
             }
             backoff.snooze();

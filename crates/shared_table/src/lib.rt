@@ -15,15 +15,13 @@ pub mod note;
 mod operations;
 mod prune;
 mod settling;
-pub mod steps;
 pub mod table;
 
 pub use new::{MAX_OBJECTS, MAX_UNITS};
 pub use note::SharedNote;
-pub use steps::Steps;
 pub use table::SharedTable;
 pub use table_cursors::TableCursor;
-pub use table_seats::{Begin, WordStep};
+pub use table_seats::{Begin, Steps, WordStep};
 
 #[cfg(test)]
 mod tests;

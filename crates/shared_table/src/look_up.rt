@@ -1,5 +1,5 @@
 //! Looking a key up: from a map's root word down by the slots of the key's path. It waits for nobody.
-ghost use Rattle.std.specs.Prelude.{◌≡◌, ◌+◌, ◌<◌, ◌≤◌, IsSome};
+ghost use Rattle.std.specs.Prelude.{◌≡◌, ◌+◌, ◌<◌, ◌≤◌, Some, None, IsSome, MatchOption};
 ghost use Rattle.sync_model.specs.declared.item.SharedCall.TheVariants as calls;
 ghost use Rattle.sync_model.specs.declared.item.SharedReply.TheVariants as replies;
 ghost use Rattle.sync_types.specs.declared.map_object.MapCall.TheVariants.{Load};
@@ -14,18 +14,17 @@ ghost use Rattle.shared_table.specs.Notes.{front_by, own_by, seen_by, IsNoteOf};
 ghost use Rattle.shared_table.specs.Tables.{maps_of, first_of};
 
 use crate::note::SharedNote;
-use crate::steps::Steps;
 use crate::table::SharedTable;
 use atomic_table::Seat;
 use std::sync::ledger::Ledger;
 use sync_types::MapCall;
-use table_seats::View;
+use table_seats::{Steps, View};
 use trie_nodes::{LEVELS, Slot};
 
 impl SharedTable {
     /// The value of a map's key, read at one moment since the call began, whatever other callers do. It waits for nobody, and
     /// can't be refused. It reads the map's root word, a slot in each node on the key's path, and the two words of an entry:
-    /// 11 words at most.
+    /// 11 words at most, each of which `steps` counts.
     pub fn look_up<L: Ledger>(
         &self,
         note: &mut SharedNote,
@@ -38,6 +37,7 @@ impl SharedTable {
         ensures home { SameHome IsNoteOf note.old note.new }
         ensures called { Called (first_of self.now) (calls.Map map (Load key)) (replies.Map (Found result)) 0 (state_of own_by front_by seen_by note.old) (state_of own_by front_by seen_by note.new) }
         ensures cost { steps.new ≤ steps.old + 11 }
+        ensures least { MatchOption result (steps.old + 2 ≤ steps.new) (λ value. steps.old + 4 ≤ steps.new) }
     {
         self.walk(&mut note.seat, map, key, steps)
     }
@@ -56,29 +56,30 @@ impl SharedTable {
         ensures table { seat.new.table_id ≡ seat.old.table_id }
         ensures called { (seat.new.me.1 ≡ seat.old.me.1) × PlacesCall (calls.Map map (Load key)) (replies.Map (Found result)) seat.old.me.0 seat.new.me.0 }
         ensures cost { steps.new ≤ steps.old + 11 }
+        ensures least { MatchOption result (steps.old + 2 ≤ steps.new) (λ value. steps.old + 4 ≤ steps.new) }
     {
-        steps.tick();
-        let mut node = self.words.enter(seat, map, key);
+        let mut node = self.words.enter(seat, map, key, steps);
         for level in 0..LEVELS {
-            steps.tick();
             match self
                 .words
-                .look(seat, MapCall::Load { key }, map, key, node, level)
+                .look(seat, MapCall::Load { key }, map, key, node, level, steps)
             {
                 Slot::Empty => return None,
                 Slot::Node(below) => node = below,
-                Slot::Entry(place) => {
-                    steps.tick();
-                    steps.tick();
-                    return self.read_entry(seat, place, key);
-                }
+                Slot::Entry(place) => return self.read_entry(seat, place, key, steps),
             }
         }
         unreachable!()
     }
 
     // The seat reads the entry that it knows.
-    pub(crate) fn read_entry(&self, seat: &mut Seat<(), View>, place: u64, key: u32) -> Option<u64>
+    pub(crate) fn read_entry<L: Ledger>(
+        &self,
+        seat: &mut Seat<(), View>,
+        place: u64,
+        key: u32,
+        steps: &mut Steps<L>,
+    ) -> Option<u64>
         requires table { IsSeatOf self.now.words seat.old }
         requires begin { seat.old.me.0.begin ≡ (begin_of self.now.words) }
         requires entry { AtEntry seat.old.me place }
@@ -86,8 +87,9 @@ impl SharedTable {
         ensures table { seat.new.table_id ≡ seat.old.table_id }
         ensures left { (seat.new.me.1 ≡ seat.old.me.1) × (seat.new.me.0 ≡ standing seat.old.me.0 seat.old.me.0.walk None) }
         ensures value { (l : Leaf) → seat.old.me.0.leaf ≡ Some l → result ≡ given_by l key }
+        ensures counted { steps.new ≡ steps.old + 2 }
     {
-        let (held, value) = self.words.read_pair(seat, place);
+        let (held, value) = self.words.read_pair(seat, place, steps);
         if held == key as u64 {
             Some(value)
         } else {

@@ -17,7 +17,7 @@ ghost use Rattle.table_writes.specs.Drafts.{IsPoised};
 ghost use Rattle.shared_table.specs.MapCalls.{IsEnd, IsReached, IsSight, IsWriting, MadeLocked, MayHaveMade, StillLocked};
 ghost use Rattle.sync_types.specs.KeyCalls.{key_after};
 ghost use Rattle.shared_table.specs.Tables.{maps_of, first_of};
-ghost use Rattle.table_seats.specs.Walking.{walk_at, HasWords, Affords, IsFree, OnWay, AtEntry, Answers};
+ghost use Rattle.table_seats.specs.Walking.{standing, walk_at, given_by, HasWords, Affords, IsFree, OnWay, AtEntry, IsUncounted, Answers};
 
 use crate::changes::{Change, reply_of};
 use crate::note::SharedNote;
@@ -225,7 +225,7 @@ impl SharedTable {
     {
         let backoff = Backoff::new();
         for _ in rt.forever() {
-            if self.words.try_come_in(seat, map) {
+            if self.words.try_come_in(rt, seat, map) {
                 return;
             }
             backoff.snooze();
@@ -245,7 +245,7 @@ impl SharedTable {
     {
         let backoff = Backoff::new();
         for _ in rt.forever() {
-            if self.words.is_dead(node) {
+            if self.words.is_dead(seat, node) {
                 return false;
             }
             if self.words.try_lock(seat, node, caller) {
@@ -290,6 +290,25 @@ impl SharedTable {
         made
     }
 
+    // The seat of a writer inside the gate reads the entry that it knows.
+    fn read_entry_inside(&self, seat: &mut Seat<(), View>, place: u64, key: u32) -> Option<u64>
+        requires table { IsSeatOf self.now.words seat.old }
+        requires begin { seat.old.me.0.begin ≡ (begin_of self.now.words) }
+        requires entry { AtEntry seat.old.me place }
+        requires no_load { IsUncounted seat.old.me.0 }
+        requires words { HasWords seat.old.me.0 place 2 }
+        ensures table { seat.new.table_id ≡ seat.old.table_id }
+        ensures left { (seat.new.me.1 ≡ seat.old.me.1) × (seat.new.me.0 ≡ standing seat.old.me.0 seat.old.me.0.walk None) }
+        ensures value { (l : Leaf) → seat.old.me.0.leaf ≡ Some l → result ≡ given_by l key }
+    {
+        let (held, value) = self.words.read_pair_uncounted(seat, place);
+        if held == key as u64 {
+            Some(value)
+        } else {
+            None
+        }
+    }
+
     // Goes down from the map's root to the node whose slot for the key has no node. The call may be answered there.
     pub(crate) fn descend(
         &self,
@@ -305,13 +324,13 @@ impl SharedTable {
         ensures table { seat.new.table_id ≡ seat.old.table_id }
         ensures reached { (seat.new.me.1 ≡ seat.old.me.1) × IsReached call map key result seat.old.me.0 seat.new.me.0 }
     {
-        let mut node = self.words.enter(seat, map, key);
+        let mut node = self.words.enter_uncounted(seat, map, key);
         for level in 0..LEVELS {
-            match self.words.look(seat, call, map, key, node, level) {
+            match self.words.look_uncounted(seat, call, map, key, node, level) {
                 Slot::Empty => return Reached::at(call, None, node, level),
                 Slot::Node(below) => node = below,
                 Slot::Entry(place) => {
-                    let held = self.read_entry(seat, place, key);
+                    let held = self.read_entry_inside(seat, place, key);
                     return Reached::at(call, held, node, level);
                 }
             }

@@ -134,7 +134,7 @@ fn move_in(words: &TableWords, seat: &mut Seat<(), View>, place: &mut Place) -> 
         }
         Slot::Entry(entry) => {
             place.go_on();
-            let (key, value) = words.read_pair(seat, entry);
+            let (key, value) = words.read_pair_uncounted(seat, entry);
             Move::Shown(Some((key as u32, value)))
         }
     }

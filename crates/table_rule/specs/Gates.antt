@@ -17,3 +17,4 @@ closed_bit closer = cond (nat_lt 0 closer) (2 ^ 32) 0
 pub record Gated (k : Begin) (sh : Shape) (ws : List ℕ) (m : ℕ) : Type 0 where
   pub word : slice_index ws (gate_word k m) ≡ count_below (sh.inside m) (callers_of k) + closed_bit (sh.closed_by m)
   pub callers : (c : ℕ) → sh.inside m c ≡ true → c < callers_of k
+  pub closers : (c : ℕ) → sh.closed_by m ≡ suc c → c < callers_of k

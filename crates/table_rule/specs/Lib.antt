@@ -6,3 +6,4 @@ pub mod Owed
 pub mod Rule
 pub mod Views
 pub mod WordSteps
+pub mod LawWords

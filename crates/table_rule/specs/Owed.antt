@@ -1,5 +1,5 @@
 -- The third part of the rule: what the words owe each seat.
-use Rattle.std.specs.Prelude.{◌≡◌, ◌⊎◌, ℕ, suc, ◌+◌, ◌*◌, ◌^◌, ◌<◌, ◌≤◌, true, false, cond, List, Contains, length, take, Some, None, slice_get, slice_index}
+use Rattle.std.specs.Prelude.{◌≡◌, ◌⊎◌, ℕ, suc, ◌+◌, ◌*◌, ◌^◌, ◌<◌, ◌≤◌, Bool, true, false, cond, List, Contains, length, take, Some, None, slice_get, slice_index}
 use Rattle.sync_model.specs.declared.item.SharedEntry.{SharedEntry}
 use Rattle.sync_model.specs.declared.item.Item.{Item}
 use Rattle.sync_model.specs.SharedCalls.{Knows}
@@ -73,6 +73,10 @@ AtGate k sh caller Outside = Unit {0}
 AtGate k sh caller (Inside m) = (m < k.maps) × (sh.inside m caller ≡ true)
 AtGate k sh caller (Closed m alone) = (m < k.maps) × (sh.closed_by m ≡ suc caller) × (alone ≡ true → (c : ℕ) → sh.inside m c ≡ false)
 
+-- the seat holds the lock of a node
+abbrev pub HoldsLock : View → ℕ → Type 0
+HoldsLock v p = (l : Lock) × ((v.lock ≡ Some l) ⊎ (v.upper ≡ Some l)) × (l.node ≡ p)
+
 -- what a seat holds and where it stands is so
 pub record Suits (k : Begin) (sh : Shape) (log : List SharedEntry) (calls : ℕ → List Item) (ws : List ℕ) (v : View) : Type 0 where
   pub begin : v.begin ≡ k
@@ -85,6 +89,9 @@ pub record Suits (k : Begin) (sh : Shape) (log : List SharedEntry) (calls : ℕ 
   pub gate : AtGate k sh v.number v.gate
   -- a caller that is counted as a writer knows it
   pub only : (m i : ℕ) (own : Own) → slice_get v.owns i ≡ Some own → sh.inside m (v.number + i) ≡ true → v.gate ≡ Inside m
+  -- a caller that holds the lock of a reachable node knows it, and so does one that closed a gate
+  pub holder : (p i : ℕ) (own : Own) → slice_get v.owns i ≡ Some own → sh.cut_of p ≡ None → sh.held_by p ≡ suc (v.number + i) → HoldsLock v p
+  pub closer : (m i : ℕ) (own : Own) → slice_get v.owns i ≡ Some own → sh.closed_by m ≡ suc (v.number + i) → (alone : Bool) × (v.gate ≡ Closed m alone)
   -- only a writer inside holds locks, its first caller's
   pub lock : (l : Lock) → v.lock ≡ Some l → (m : ℕ) × (v.gate ≡ Inside m) × Locks k sh ws v.number m l
   pub upper : (l : Lock) → v.upper ≡ Some l → (m : ℕ) × (v.gate ≡ Inside m) × Locks k sh ws v.number m l

@@ -3,6 +3,7 @@
 #![tactic(auto)]
 
 pub mod begin;
+pub mod laws;
 pub mod view;
 pub mod word_step;
 

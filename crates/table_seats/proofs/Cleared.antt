@@ -1,5 +1,5 @@
 -- The step that clears a map: the call is placed there as an entry, and one unit of its caller's room is used up.
-use Rattle.std.proofs.Common.{◌≡◌, inl, inr, ℕ, zero, suc, ◌+◌, ◌^◌, ◌<◌, true, List, [], ◌∷◌, ◌++◌, length, set, Some, slice_get, slice_index, refl, sym, ap, ◌∙◌, subst, arith, get_or-set_same, get_or-set_other}
+use Rattle.std.proofs.Common.{◌≡◌, inl, inr, ℕ, zero, suc, ◌+◌, ◌^◌, ◌<◌, true, List, [], ◌∷◌, ◌++◌, length, set, Some, slice_get, slice_index, refl, sym, ap, ◌∙◌, subst, arith, get_or-set_same, get_or-set_other, Bool, None}
 use Rattle.std.proofs.lemmas.Bool.{cases_eq}
 use Rattle.std.proofs.lemmas.List.{length-replicate}
 use Rattle.std.proofs.lemmas.Option.{none-some, same_Some}
@@ -27,7 +27,7 @@ use Rattle.table_seats.specs.Laws.{HistoryLaws}
 use Rattle.table_rule.specs.Layout.{root_word, callers_of}
 use Rattle.table_rule.specs.Ledger.{Owned, Fits}
 use Rattle.table_seats.specs.Making.{HasUnit, MadeCall}
-use Rattle.table_rule.specs.Owed.{HasRoom, AtGate, Suits}
+use Rattle.table_rule.specs.Owed.{HasRoom, AtGate, Suits, HoldsLock}
 use Rattle.table_rule.specs.Rule.{TableState, Kept}
 use Rattle.table_rule.specs.Shape.{Shape, start_of}
 use Rattle.table_rule.specs.Views.{called_view, with_item, spend, spend_own, view_state}
@@ -36,7 +36,7 @@ use Rattle.table_seats.proofs.Frames.{Later, Apart, room_on}
 use Rattle.table_seats.proofs.Ledgers.{longer, MayPlace, with_one, adds_one, lawful_after, history_on, grows_on, none_after, fits_after, called, first, contents_on}
 use Rattle.table_seats.proofs.Lists.{past_end}
 use Rattle.table_seats.proofs.Moves.{Keeps, moves}
-use Rattle.table_seats.proofs.NewRoots.{with_root, Ground, EmptiesMap, behind_heads, fine_rooted, gates_rooted, later_rooted, apart_rooted, part_out}
+use Rattle.table_seats.proofs.NewRoots.{with_root, Ground, EmptiesMap, behind_heads, fine_rooted, gates_rooted, later_rooted, apart_rooted, part_out, was_held}
 
 module _ (k : Begin) (laws : HistoryLaws) (s : TableState) (r : Kept k s) (id : ℕ) (me : Me (Unit {0}) View) (at_me : get_elem? s.views id ≡ some me.0) (own : Own) (owns : List Own) (is : me.0.owns ≡ own ∷ owns)
     (m : ℕ) (has : HasClosed k me m true) (spare : 0 < own.spare) (blank : own.draft ≡ []) where
@@ -143,6 +143,20 @@ module _ (k : Begin) (laws : HistoryLaws) (s : TableState) (r : Kept k s) (id : 
   only_after n zero o at inside = absurd (not_inside k laws s r id me at_me own owns is m true has n 0 own first_is inside)
   only_after n (suc i) o at inside = absurd (not_inside k laws s r id me at_me own owns is m true has n (suc i) o (ap (λ o. slice_get o (suc i)) is ∙ at) inside)
 
+  holder_after : (p i : ℕ) (o : Own) → slice_get (own_after ∷ owns) i ≡ Some o → shape.cut_of p ≡ None → shape.held_by p ≡ suc (me.0.number + i) → HoldsLock view_after p
+  holder_after p i o at reach held = let was = was_held k r.shape r.log (with_call r.log me.0.number item) s.words m own.next laws ground empties p (me.0.number + i) reach held in by_place i at was.1
+    where
+      before : (r.shape.cut_of p ≡ None)
+      before = (was_held k r.shape r.log (with_call r.log me.0.number item) s.words m own.next laws ground empties p (me.0.number + i) reach held).0
+
+      by_place : (i : ℕ) → slice_get (own_after ∷ owns) i ≡ Some o → r.shape.held_by p ≡ suc (me.0.number + i) → HoldsLock view_after p
+      by_place zero at held = (r.suits id me.0 at_me has.live).holder p 0 own first_is before held
+      by_place (suc i) at held = (r.suits id me.0 at_me has.live).holder p (suc i) o (ap (λ o. slice_get o (suc i)) is ∙ at) before held
+
+  closer_after : (n i : ℕ) (o : Own) → slice_get (own_after ∷ owns) i ≡ Some o → r.shape.closed_by n ≡ suc (me.0.number + i) → (alone : Bool) × (me.0.gate ≡ Closed n alone)
+  closer_after n zero o at closed = (r.suits id me.0 at_me has.live).closer n 0 own first_is closed
+  closer_after n (suc i) o at closed = (r.suits id me.0 at_me has.live).closer n (suc i) o (ap (λ o. slice_get o (suc i)) is ∙ at) closed
+
   suits_after : Suits k shape (with_call r.log me.0.number item) (with_one r.calls me.0.number item) words view_after
   suits_after = let u = r.suits id me.0 at_me has.live in record {
     begin = u.begin;
@@ -153,6 +167,8 @@ module _ (k : Begin) (laws : HistoryLaws) (s : TableState) (r : Kept k s) (id : 
     room = rooms_after;
     gate = subst (AtGate k shape me.0.number) (sym has.gate) (gate.0, gate.1, gate.2);
     only = only_after;
+    holder = holder_after;
+    closer = closer_after;
     lock = λ z e. absurd (none-some z (sym has.lock ∙ e));
     upper = λ z e. absurd (none-some z (sym has.upper ∙ e));
     nobody = λ e. absurd (let ne : suc (length owns) ≡ 0 = e in omega arith);

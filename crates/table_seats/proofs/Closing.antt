@@ -27,7 +27,7 @@ use Rattle.table_seats.proofs.Frames.{Later, Apart}
 use Rattle.table_seats.proofs.Gating.{free, behind, no_root, no_gate, gate_within, closed_large, open_at, tries}
 use Rattle.table_seats.proofs.Outside.{same, later_out, apart_out, fine_out}
 use Rattle.table_seats.proofs.Quiet.{later_same, apart_same, kept_standing}
-use Rattle.table_seats.proofs.Still.{still, fits_holding, suits_holding}
+use Rattle.table_seats.proofs.Still.{owned, still, fits_holding, suits_holding, holds_none}
 
 -- the same shape, with gates closed by others
 abbrev pub with_closers : Shape → (ℕ → ℕ) → Shape
@@ -65,8 +65,8 @@ module _ (k : Begin) (sh : Shape) (log : List SharedEntry) (ws : List ℕ) (j x 
     value = l.value;
   }
 
-  pub apart_closed : (c : ℕ) → ((d i : ℕ) → d ≢ c → heads k ≤ i → sh.area_of i ≡ suc d → i ≢ j) → ((d m : ℕ) → d ≢ c → sh.closed_by m ≡ suc d → now m ≡ suc d) → Apart k c sh (with_closers sh now) ws (set ws j x)
-  apart_closed c room closed = let a = apart_out k sh log ws j x sh.inside fine none_there past other_root c room (λ d m other. refl) (λ d m other closed alone. alone) in record {
+  pub apart_closed : (c : ℕ) → ((d i : ℕ) → d ≢ c → heads k ≤ i → sh.area_of i ≡ suc d → i ≢ j) → ((d m : ℕ) → d ≢ c → sh.closed_by m ≡ suc d → now m ≡ suc d) → ((d m : ℕ) → d ≢ c → now m ≡ suc d → sh.closed_by m ≡ suc d) → Apart k c sh (with_closers sh now) ws (set ws j x)
+  apart_closed c room closed unclosed = let a = apart_out k sh log ws j x sh.inside fine none_there past other_root c room (λ d m other. refl) (λ d m other closed alone. alone) in record {
     held = a.held;
     words = a.words;
     reachable = a.reachable;
@@ -77,6 +77,8 @@ module _ (k : Begin) (sh : Shape) (log : List SharedEntry) (ws : List ℕ) (j x 
     inside = a.inside;
     closed = closed;
     alone = a.alone;
+    unheld = a.unheld;
+    unclosed = unclosed;
   }
 
   pub fine_closed : Fine k (with_closers sh now) log (set ws j x)
@@ -98,6 +100,15 @@ module _ (k : Begin) (sh : Shape) (log : List SharedEntry) (ws : List ℕ) (j x 
     slots = λ p d key is level is_key path. let s = f.slots p d key is level is_key path in record { shows = s.shows; entry = s.entry; childless = s.childless };
   }
 
+-- the map of a gate that is closed is one
+gate_map : (m n : ℕ) (a b : Bool) → Closed m a ≡ Closed n b → m ≡ n
+gate_map m n a b e = ap map_in e
+  where
+    map_in : Gate → ℕ
+    map_in Outside = 0
+    map_in (Inside n) = n
+    map_in (Closed n alone) = n
+
 -- none passes the test, where the count is 0, and the other way round
 none_below : (f : ℕ → Bool) (n : ℕ) → count_below f n ≡ 0 → (c : ℕ) → c < n → f c ≡ false
 none_below f zero e c below = absurd (omega arith)
@@ -116,7 +127,7 @@ count_none f (suc n) none_in = ap (λ b. cond b (suc (count_below f n)) (count_b
 
 -- a seat none of whose callers is a writer closes a gate, or opens it
 module _ (k : Begin) (laws : HistoryLaws) (s : TableState) (r : Kept k s) (id : ℕ) (v : View) (at_me : get_elem? s.views id ≡ some v) (live : v.live ≡ true) (own : Own) (owns : List Own) (is : v.owns ≡ own ∷ owns)
-    (nowhere : v.walk ≡ None) (out : (n i : ℕ) (o : Own) → slice_get v.owns i ≡ Some o → r.shape.inside n (v.number + i) ≡ true → ⊥) (m : ℕ) (below : m < k.maps) (who x : ℕ) (gate : Gate) where
+    (nowhere : v.walk ≡ None) (out : (n i : ℕ) (o : Own) → slice_get v.owns i ≡ Some o → r.shape.inside n (v.number + i) ≡ true → ⊥) (free_hands : v.lock ≡ None) (no_upper : v.upper ≡ None) (m : ℕ) (below : m < k.maps) (who x : ℕ) (gate : Gate) (caller : (c : ℕ) → who ≡ suc c → c < callers_of k) where
   abbrev now : ℕ → ℕ
   now = closers r.shape.closed_by m who
 
@@ -128,11 +139,13 @@ module _ (k : Begin) (laws : HistoryLaws) (s : TableState) (r : Kept k s) (id : 
     | inl e ↦ subst (Gated k (with_closers r.shape (closers r.shape.closed_by m who)) (set s.words (gate_word k m) x)) (sym e) record {
       word = get_or-set_same s.words (gate_word k m) x 0 (gate_within k s r m below) ∙ word ∙ ap (λ closer. count_below (r.shape.inside m) (callers_of k) + closed_bit closer) (sym (closer_here r.shape.closed_by m who));
       callers = (r.gates m below).callers;
+      closers = λ c is. caller c (sym (closer_here r.shape.closed_by m who) ∙ is);
     }
     | inr ne ↦ let g = r.gates n less in record {
       word = same k r.shape r.log s.words (gate_word k m) x r.shape.inside r.fine (free k s r m below) (behind k s r m below) (no_root k s r m below) (gate_word k n) (no_gate k s r m below n ne)
           ∙ g.word ∙ ap (λ closer. count_below (r.shape.inside n) (callers_of k) + closed_bit closer) (sym (closer_other r.shape.closed_by m who n ne));
       callers = g.callers;
+      closers = λ c is. g.closers c (sym (closer_other r.shape.closed_by m who n ne) ∙ is);
     }
   ]
 
@@ -140,8 +153,10 @@ module _ (k : Begin) (laws : HistoryLaws) (s : TableState) (r : Kept k s) (id : 
   later = later_closed k r.shape r.log s.words (gate_word k m) x (closers r.shape.closed_by m who) r.fine (free k s r m below) (behind k s r m below) (no_root k s r m below)
 
   pub kept_gate : x ≡ count_below (r.shape.inside m) (callers_of k) + closed_bit who → ((d n : ℕ) → d ≢ v.number → r.shape.closed_by n ≡ suc d → closers r.shape.closed_by m who n ≡ suc d)
+      → ((d n : ℕ) → d ≢ v.number → closers r.shape.closed_by m who n ≡ suc d → r.shape.closed_by n ≡ suc d)
+      → ((n i : ℕ) (o : Own) → slice_get v.owns i ≡ Some o → closers r.shape.closed_by m who n ≡ suc (v.number + i) → (alone : Bool) × (gate ≡ Closed n alone))
       → AtGate k (with_closers r.shape (closers r.shape.closed_by m who)) v.number gate → Kept k record { words = set s.words (gate_word k m) x; homes = s.homes; views = set s.views id (holding v gate None None) }
-  kept_gate word others at_gate = let u = r.suits id v at_me live in
+  kept_gate word others back knows at_gate = let u = r.suits id v at_me live in
       still k laws s r id v at_me live own owns is (with_closers r.shape (closers r.shape.closed_by m who)) (set s.words (gate_word k m) x) (holding v gate None None)
       (fits_holding k laws s r id v at_me live own owns is gate None None)
       (fine_closed k r.shape r.log s.words (gate_word k m) x (closers r.shape.closed_by m who) r.fine (free k s r m below) (behind k s r m below) (no_root k s r m below))
@@ -149,7 +164,7 @@ module _ (k : Begin) (laws : HistoryLaws) (s : TableState) (r : Kept k s) (id : 
       later
       (apart_closed k r.shape r.log s.words (gate_word k m) x (closers r.shape.closed_by m who) r.fine (free k s r m below) (behind k s r m below) (no_root k s r m below) v.number
       (λ d i other lies mine e. let less = below in absurd (omega arith))
-      others)
+      others back)
       (suits_holding k laws s r id v at_me live own owns is (with_closers r.shape (closers r.shape.closed_by m who)) (set s.words (gate_word k m) x) gate None None later
       (λ w e inside. absurd (none-some w (sym nowhere ∙ e)))
       (λ i o e. let h = u.room i o e in record {
@@ -161,6 +176,8 @@ module _ (k : Begin) (laws : HistoryLaws) (s : TableState) (r : Kept k s) (id : 
       })
       at_gate
       (λ n i o e is_in. absurd (out n i o e is_in))
+      (λ p i o e reach held. absurd (holds_none v p free_hands no_upper (u.holder p i o e reach held)))
+      knows
       (λ l e. absurd (none-some l e))
       (λ l e. absurd (none-some l e))
       (λ e. absurd (let none_there : suc (length owns) ≡ 0 = sym (ap length is) ∙ e in omega arith)))
@@ -182,10 +199,19 @@ module _ (k : Begin) (laws : HistoryLaws) (s : TableState) (r : Kept k s) (id : 
       omega arith
 
   pub kept_closed : Kept k record { words = set s.words (gate_word k m) (old + 2 ^ 32); homes = s.homes; views = set s.views id (holding me.0 (Closed m false) None None) }
-  kept_closed = kept_gate k laws s r id me.0 at_me outside.live own owns is outside.idle.walk out m below (suc me.0.number) (old + 2 ^ 32) (Closed m false) word_is
+  kept_closed = kept_gate k laws s r id me.0 at_me outside.live own owns is outside.idle.walk out outside.idle.lock outside.idle.upper m below (suc me.0.number) (old + 2 ^ 32) (Closed m false)
+      (λ c e. let few = (owned k laws s r id me.0 at_me outside.live own owns is).below in omega arith) word_is
       (λ d n other closed. elim (cases_eq n m) [
         | inl e ↦ absurd (let zero_closer : 0 ≡ suc d = sym open_now ∙ ap r.shape.closed_by (sym e) ∙ closed in omega arith)
         | inr ne ↦ closer_other r.shape.closed_by m (suc me.0.number) n ne ∙ closed
+      ])
+      (λ d n other closed. elim (cases_eq n m) [
+        | inl e ↦ absurd (other (let both : suc me.0.number ≡ suc d = sym (closer_here r.shape.closed_by m (suc me.0.number)) ∙ ap (closers r.shape.closed_by m (suc me.0.number)) (sym e) ∙ closed in omega arith))
+        | inr ne ↦ sym (closer_other r.shape.closed_by m (suc me.0.number) n ne) ∙ closed
+      ])
+      (λ n i o at closed. elim (cases_eq n m) [
+        | inl e ↦ (false, ap (λ map. Closed map false) (sym e))
+        | inr ne ↦ absurd (let was = (r.suits id me.0 at_me outside.live).closer n i o at (sym (closer_other r.shape.closed_by m (suc me.0.number) n ne) ∙ closed) in let same_gate : Outside ≡ Closed n was.0 = sym outside.idle.gate ∙ was.1 in (cc))
       ])
       (below, closer_here r.shape.closed_by m (suc me.0.number), λ e. absurd (let f : false ≡ true = e in (cc)))
 
@@ -212,6 +238,8 @@ module _ (k : Begin) (laws : HistoryLaws) (s : TableState) (r : Kept k s) (id : 
       u.room
       (at_gate.0, at_gate.1, λ e. nobody)
       (λ n i o e is_in. absurd (not_inside n i o e is_in))
+      (λ p i o e reach held. absurd (holds_none me.0 p has.lock has.upper (u.holder p i o e reach held)))
+      (λ n i o e closed. let was = u.closer n i o e closed in (true, ap (λ map. Closed map true) (gate_map m n alone was.0 (sym has.gate ∙ was.1))))
       (λ l e. absurd (none-some l e))
       (λ l e. absurd (none-some l e))
       (λ e. absurd (let none_there : suc (length owns) ≡ 0 = sym (ap length is) ∙ e in omega arith)))
@@ -271,10 +299,18 @@ opens k laws id me m has = by_owns me.0.owns refl
           holding me.0 Outside None None,
           keeps,
           tt,
-          kept_gate k laws s r id me.0 at_me has.live own owns is has.walk (not_inside k laws s r id me at_me own owns is m true has) m at.0 0 0 Outside word
+          kept_gate k laws s r id me.0 at_me has.live own owns is has.walk (not_inside k laws s r id me at_me own owns is m true has) has.lock has.upper m at.0 0 0 Outside (λ c e. absurd (omega arith)) word
               (λ d n other closed. elim (cases_eq n m) [
                 | inl e ↦ absurd (other (let both : suc me.0.number ≡ suc d = sym at.1 ∙ ap r.shape.closed_by (sym e) ∙ closed in omega arith))
                 | inr ne ↦ closer_other r.shape.closed_by m 0 n ne ∙ closed
+              ])
+              (λ d n other closed. elim (cases_eq n m) [
+                | inl e ↦ absurd (let z : 0 ≡ suc d = sym (closer_here r.shape.closed_by m 0) ∙ ap (closers r.shape.closed_by m 0) (sym e) ∙ closed in omega arith)
+                | inr ne ↦ sym (closer_other r.shape.closed_by m 0 n ne) ∙ closed
+              ])
+              (λ n i o e closed. elim (cases_eq n m) [
+                | inl it ↦ absurd (let z : 0 ≡ suc (me.0.number + i) = sym (closer_here r.shape.closed_by m 0) ∙ ap (closers r.shape.closed_by m 0) (sym it) ∙ closed in omega arith)
+                | inr ne ↦ absurd (let was = (r.suits id me.0 at_me has.live).closer n i o e (sym (closer_other r.shape.closed_by m 0 n ne) ∙ closed) in ne (sym (gate_map m n true was.0 (sym has.gate ∙ was.1))))
               ])
               tt,
           (refl, refl, λ o at_first. subst (λ (b : Begin). o.next + unit_words * o.spare ≤ size_of b) (sym has.begin) ((r.suits id me.0 at_me has.live).room 0 o at_first).within),

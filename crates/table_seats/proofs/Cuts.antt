@@ -20,7 +20,7 @@ use Rattle.table_rule.specs.Rule.{TableState, Kept}
 use Rattle.table_rule.specs.Shape.{Shape}
 use Rattle.table_seats.specs.TrieLaws.{TrieLaws}
 use Rattle.table_seats.specs.Writing.{holding}
-use Rattle.table_seats.proofs.Cutting.{with_cut, Stub, fine_cut, gates_cut, later_cut, steady_cut, apart_cut, room_cut, cut_off, lock_same, parent_same}
+use Rattle.table_seats.proofs.Cutting.{with_cut, Stub, fine_cut, gates_cut, later_cut, steady_cut, apart_cut, room_cut, cut_off, lock_same, parent_same, other_reachable, was_reachable}
 use Rattle.table_seats.proofs.Frames.{Later}
 use Rattle.table_seats.proofs.LockWords.{by_first, same_map}
 use Rattle.table_seats.proofs.Still.{still, fits_holding, suits_holding}
@@ -100,6 +100,13 @@ module _ (k : Begin) (laws : HistoryLaws) (tries : TrieLaws) (s : TableState) (r
       (λ i o e. room_cut k r.shape r.log s.words u.node u.level u.key l.node tries stub (me.0.number + i) o (suits.room i o e))
       (same_gate k r.shape l.node (length r.log) me.0.number me.0.gate suits.gate)
       suits.only
+      (λ p i o at reach held.
+      let was = suits.holder p i o at (was_reachable k r.shape r.log s.words u.node u.level u.key l.node tries stub p reach) held in
+      elim was.1 [
+        | inl e ↦ absurd (other_reachable k r.shape r.log s.words u.node u.level u.key l.node tries stub p reach (sym was.2 ∙ ap (λ (z : Lock). z.node) (sym (same_Some l was.0 (sym both.lock ∙ e)))))
+        | inr e ↦ (bare u, inl refl, ap (λ (z : Lock). z.node) (same_Some u was.0 (sym both.upper ∙ e)) ∙ was.2)
+      ])
+      suits.closer
       (λ z e. (upper.0, upper.1, subst (Locks k shape words me.0.number upper.0) (same_Some (bare u) z e) locks))
       (λ z e. absurd (none-some z e))
       suits.nobody)

@@ -114,6 +114,10 @@ module _ (k : Begin) (sh : Shape) (log : List SharedEntry) (ws : List ℕ) (p d 
   cut_here : (with_cut sh child (length log)).cut_of child ≡ Some (length log)
   cut_here = ap (λ b. cond b (Some (length log)) (sh.cut_of child)) (eq-eqb child child refl)
 
+  -- a node that is reachable is another one, and was reachable
+  pub other_reachable : (q : ℕ) → (with_cut sh child (length log)).cut_of q ≡ None → q ≢ child
+  other_reachable q reach e = none-some (length log) (sym reach ∙ ap (with_cut sh child (length log)).cut_of e ∙ cut_here)
+
   pub cut_off : (q : ℕ) → q ≢ child → (with_cut sh child (length log)).cut_of q ≡ sh.cut_of q
   cut_off q ne = ap (λ b. cond b (Some (length log)) (sh.cut_of q)) (ne_eqb q child ne)
 
@@ -285,7 +289,7 @@ module _ (k : Begin) (sh : Shape) (log : List SharedEntry) (ws : List ℕ) (p d 
   }
 
   pub gates_cut : (m : ℕ) → m < k.maps → Gated k sh ws m → Gated k (with_cut sh child (length log)) (set ws (slot_word p (nibble key k.seed d)) 0) m
-  gates_cut m below g = record { word = head (gate_word k m) (omega arith) ∙ g.word; callers = g.callers }
+  gates_cut m below g = record { word = head (gate_word k m) (omega arith) ∙ g.word; callers = g.callers; closers = g.closers }
 
   pub later_cut : Later sh (with_cut sh child (length log)) log log ws (set ws (slot_word p (nibble key k.seed d)) 0)
   later_cut = record {
@@ -304,6 +308,9 @@ module _ (k : Begin) (sh : Shape) (log : List SharedEntry) (ws : List ℕ) (p d 
     key = at_key;
     value = at_value;
   }
+
+  pub was_reachable : (q : ℕ) → (with_cut sh child (length log)).cut_of q ≡ None → sh.cut_of q ≡ None
+  was_reachable q reach = sym (cut_off q (other_reachable q reach)) ∙ reach
 
   -- whoever stands at the dead node finds it dead
   pub steady_cut : (q : ℕ) → sh.cut_of q ≡ None → ((with_cut sh child (length log)).cut_of q ≡ None) ⊎ (slice_index (set ws (slot_word p (nibble key k.seed d)) 0) q ≡ dead_word)
@@ -325,6 +332,8 @@ module _ (k : Begin) (sh : Shape) (log : List SharedEntry) (ws : List ℕ) (p d 
     inside = λ e m other. refl;
     closed = λ e m other closed. closed;
     alone = λ e m other closed alone. alone;
+    unheld = λ e q other reach held. (was_reachable q reach, held);
+    unclosed = λ e m other closed. closed;
   }
 
   -- a room is part of no node

@@ -1,5 +1,5 @@
 -- A caller writes the next word of its own room, which nobody else reads yet.
-use Rattle.std.proofs.Common.{◌≡◌, ◌≢◌, ℕ, zero, suc, ◌+◌, ◌*◌, ◌<◌, ◌≤◌, true, List, [], ◌∷◌, ◌++◌, length, set, Some, slice_get, slice_index, inl, inr, refl, sym, ap, ◌∙◌, subst, arith, get_or-set_same}
+use Rattle.std.proofs.Common.{◌≡◌, ◌≢◌, ℕ, zero, suc, ◌+◌, ◌*◌, ◌<◌, ◌≤◌, true, List, [], ◌∷◌, ◌++◌, length, set, Some, slice_get, slice_index, inl, inr, refl, sym, ap, ◌∙◌, subst, arith, get_or-set_same, Bool, None}
 use Rattle.std.proofs.lemmas.Bool.{cases_eq}
 use Rattle.std.proofs.lemmas.List.{append-nil}
 use Rattle.std.proofs.lemmas.Option.{same_Some}
@@ -17,12 +17,13 @@ use Rattle.table_seats.specs.Laws.{HistoryLaws}
 use Rattle.trie_nodes.specs.Layout.{unit_words, parent_word, slot_word}
 use Rattle.table_rule.specs.Layout.{root_word, gate_word, heads, callers_of}
 use Rattle.table_rule.specs.Ledger.{Owned, Fits}
-use Rattle.table_rule.specs.Owed.{HasRoom, Locks, AtGate, Suits}
+use Rattle.table_rule.specs.Owed.{HasRoom, Locks, AtGate, Suits, HoldsLock}
 use Rattle.table_rule.specs.Rule.{TableState, Kept}
 use Rattle.table_rule.specs.Shape.{Shape}
 use Rattle.table_seats.specs.Writing.{with_word, Drafts}
 use Rattle.table_seats.proofs.Frames.{Later, walks_on, leaf_on, stands_on}
 use Rattle.table_seats.proofs.Outside.{with_inside, same, in_node, later_out, apart_out, fine_out}
+use Rattle.table_seats.proofs.Lists.{past_end}
 use Rattle.table_seats.proofs.Still.{still}
 
 -- the words of a draft with one more
@@ -88,7 +89,7 @@ module _ (k : Begin) (laws : HistoryLaws) (s : TableState) (r : Kept k s) (id : 
   not_theirs d i other theirs e = other (let both : suc d ≡ suc v.number = sym theirs ∙ ap r.shape.area_of e ∙ area in omega arith)
 
   gates_on : (m : ℕ) → m < k.maps → Gated k (with_inside r.shape r.shape.inside) (set s.words (own.next + length own.draft) x) m
-  gates_on m below = let g = r.gates m below in record { word = elsewhere (gate_word k m) (λ e. let lies = behind_heads in absurd (omega arith)) ∙ g.word; callers = g.callers }
+  gates_on m below = let g = r.gates m below in record { word = elsewhere (gate_word k m) (λ e. let lies = behind_heads in absurd (omega arith)) ∙ g.word; callers = g.callers; closers = g.closers }
 
   same_gate : (gate : Gate) → AtGate k r.shape v.number gate → AtGate k (with_inside r.shape r.shape.inside) v.number gate
   same_gate Outside at = at
@@ -139,6 +140,14 @@ module _ (k : Begin) (laws : HistoryLaws) (s : TableState) (r : Kept k s) (id : 
   abbrev view_after : View
   view_after = record v { owns = own_after ∷ owns }
 
+  holder_on : (p i : ℕ) (o : Own) → slice_get (own_after ∷ owns) i ≡ Some o → r.shape.cut_of p ≡ None → r.shape.held_by p ≡ suc (v.number + i) → HoldsLock view_after p
+  holder_on p zero o at reach held = (r.suits id v at_me live).holder p 0 own first_is reach held
+  holder_on p (suc i) o at reach held = (r.suits id v at_me live).holder p (suc i) o (ap (λ l. slice_get l (suc i)) is ∙ at) reach held
+
+  closer_on : (m i : ℕ) (o : Own) → slice_get (own_after ∷ owns) i ≡ Some o → r.shape.closed_by m ≡ suc (v.number + i) → (alone : Bool) × (v.gate ≡ Closed m alone)
+  closer_on m zero o at closed = (r.suits id v at_me live).closer m 0 own first_is closed
+  closer_on m (suc i) o at closed = (r.suits id v at_me live).closer m (suc i) o (ap (λ l. slice_get l (suc i)) is ∙ at) closed
+
   suits_on : Suits k (with_inside r.shape r.shape.inside) r.log r.calls (set s.words (own.next + length own.draft) x) view_after
   suits_on = let u = r.suits id v at_me live in record {
     begin = u.begin;
@@ -149,6 +158,8 @@ module _ (k : Begin) (laws : HistoryLaws) (s : TableState) (r : Kept k s) (id : 
     room = room_on;
     gate = same_gate v.gate u.gate;
     only = only_on;
+    holder = holder_on;
+    closer = closer_on;
     lock = λ l e. let h = u.lock l e in (h.0, h.1, locks_on h.0 l h.2);
     upper = λ l e. let h = u.upper l e in (h.0, h.1, locks_on h.0 l h.2);
     nobody = λ e. absurd (let ne : suc (length owns) ≡ 0 = e in omega arith);
@@ -161,6 +172,10 @@ module _ (k : Begin) (laws : HistoryLaws) (s : TableState) (r : Kept k s) (id : 
       owned_on zero o at = let f = (r.fits id v at_me live).owns 0 own first_is in
           subst (Owned (callers_of k) r.calls r.claim id v.front (v.number + 0)) (same_Some own_after o at) record { below = f.below; claimed = f.claimed; items = f.items; counted = f.counted; knew = f.knew }
       owned_on (suc i) o at = (r.fits id v at_me live).owns (suc i) o (ap (λ l. slice_get l (suc i)) is ∙ at)
+
+  -- the word is 0 so far
+  pub zero_there : slice_index s.words (own.next + length own.draft) ≡ 0
+  zero_there = mine.words (length own.draft) room ∙ past_end own.draft (length own.draft) (omega arith)
 
   pub kept_drafted : Kept k record { words = set s.words (own.next + length own.draft) x; homes = s.homes; views = set s.views id view_after }
   kept_drafted = still k laws s r id v at_me live own owns is (with_inside r.shape r.shape.inside) (set s.words (own.next + length own.draft) x) view_after fits_on
@@ -181,4 +196,16 @@ drafts k laws id me own owns x live is room = λ s r one at_me bounded. (
   tt,
   kept_drafted k laws s r id me.0 at_me live own owns is x room,
   (refl, ap (λ l. record me.0 { owns = with_word l x }) (sym is)),
+)
+
+-- a caller lets the next word of its room stay 0
+pub drafts_zero : (k : Begin) → HistoryLaws → (id : ℕ) (me : Me (Unit {0}) View) (own : Own) (owns : List Own) → me.0.live ≡ true → me.0.owns ≡ own ∷ owns → length own.draft < unit_words * own.spare
+    → Allows (Kept k) 0 id me (own.next + length own.draft) (λ n. n) (λ found. Drafts 0 me 0)
+drafts_zero k laws id me own owns live is room = λ s r one at_me bounded. (
+  record me.0 { owns = record own { draft = own.draft ++ 0 ∷ [] } ∷ owns },
+  keeps,
+  tt,
+  subst (λ x. Kept k record { words = set s.words (own.next + length own.draft) x; homes = s.homes; views = set s.views id (record me.0 { owns = record own { draft = own.draft ++ 0 ∷ [] } ∷ owns }) })
+      (sym (zero_there k laws s r id me.0 at_me live own owns is 0 room)) (kept_drafted k laws s r id me.0 at_me live own owns is 0 room),
+  (refl, ap (λ l. record me.0 { owns = with_word l 0 }) (sym is)),
 )

@@ -48,6 +48,9 @@ pub record Apart (k : Begin) (c : ℕ) (sh new : Shape) (ws ws' : List ℕ) : Ty
   pub inside : (d m : ℕ) → d ≢ c → new.inside m d ≡ sh.inside m d
   pub closed : (d m : ℕ) → d ≢ c → sh.closed_by m ≡ suc d → new.closed_by m ≡ suc d
   pub alone : (d m : ℕ) → d ≢ c → sh.closed_by m ≡ suc d → ((e : ℕ) → sh.inside m e ≡ false) → (e : ℕ) → new.inside m e ≡ false
+  -- and they take no lock, and close no gate
+  pub unheld : (d p : ℕ) → d ≢ c → new.cut_of p ≡ None → new.held_by p ≡ suc d → (sh.cut_of p ≡ None) × (sh.held_by p ≡ suc d)
+  pub unclosed : (d m : ℕ) → d ≢ c → new.closed_by m ≡ suc d → sh.closed_by m ≡ suc d
 
 -- a seat stands for nobody, or its first caller isn't c
 pub first_apart : (owns : List Own) (n c : ℕ) → ((i : ℕ) (own : Own) → slice_get owns i ≡ Some own → n + i ≢ c) → (length owns ≡ 0) ⊎ (n ≢ c)
@@ -149,6 +152,8 @@ module _ (k : Begin) (sh new : Shape) (log log' : List SharedEntry) (ws ws' : Li
         room = λ i own at. room_on (v.number + i) (away i own at) own (r.room i own at);
         gate = gate_on v.number v.gate standing r.gate;
         only = λ m i own at inside. r.only m i own at (sym (apart.inside (v.number + i) m (away i own at)) ∙ inside);
+        holder = λ p i own at reach held. let was = apart.unheld (v.number + i) p (away i own at) reach held in r.holder p i own at was.0 was.1;
+        closer = λ m i own at closed. r.closer m i own at (apart.unclosed (v.number + i) m (away i own at) closed);
         lock = λ l is. locked l (r.lock l is);
         upper = λ l is. locked l (r.upper l is);
         nobody = r.nobody;

@@ -23,7 +23,7 @@ use Rattle.table_seats.specs.Writing.{holding, ComesIn, IsInside, GoesOut}
 use Rattle.table_seats.proofs.Frames.{Later}
 use Rattle.table_seats.proofs.Outside.{with_inside, same, later_out, apart_out, fine_out}
 use Rattle.table_seats.proofs.Quiet.{kept_standing}
-use Rattle.table_seats.proofs.Still.{owned, still, fits_holding, suits_holding}
+use Rattle.table_seats.proofs.Still.{owned, still, fits_holding, suits_holding, holds_none}
 
 -- the writers, when a caller has come in to a map, or gone out
 abbrev pub writers : (ℕ → ℕ → Bool) → ℕ → ℕ → Bool → ℕ → ℕ → Bool
@@ -170,11 +170,13 @@ module _ (k : Begin) (laws : HistoryLaws) (s : TableState) (r : Kept k s) (id : 
         | inl same_one ↦ let less = few in omega arith
         | inr other ↦ (r.gates m below).callers d (sym (writer_other r.shape.inside m me.0.number true m d other) ∙ is_in)
       ];
+      closers = (r.gates m below).closers;
     }
     | inr ne ↦ let g = r.gates n less in record {
       word = same k r.shape r.log s.words (gate_word k m) (old + 1) (writers r.shape.inside m me.0.number true) r.fine (free k s r m below) (behind k s r m below) (no_root k s r m below) (gate_word k n) (no_gate k s r m below n ne)
           ∙ g.word ∙ ap (λ count. count + closed_bit (r.shape.closed_by n)) (sym (count_same (r.shape.inside n) (writers r.shape.inside m me.0.number true n) (callers_of k) (λ d less. writer_elsewhere r.shape.inside m me.0.number true n d ne)));
       callers = λ d is_in. g.callers d (sym (writer_elsewhere r.shape.inside m me.0.number true n d ne) ∙ is_in);
+      closers = g.closers;
     }
   ]
 
@@ -209,6 +211,8 @@ module _ (k : Begin) (laws : HistoryLaws) (s : TableState) (r : Kept k s) (id : 
         | inl same_map ↦ ap Inside (sym same_map)
         | inr ne ↦ absurd (let gate = u.only n i o e (sym (writer_elsewhere r.shape.inside m me.0.number true n (me.0.number + i) ne) ∙ is_in) in let same_gate : Outside ≡ Inside n = sym outside.idle.gate ∙ gate in (cc))
       ])
+      (λ p i o e reach held. absurd (holds_none me.0 p outside.idle.lock outside.idle.upper (u.holder p i o e reach held)))
+      (λ n i o e closed. absurd (let was = u.closer n i o e closed in let same_gate : Outside ≡ Closed n was.0 = sym outside.idle.gate ∙ was.1 in (cc)))
       (λ l e. absurd (none-some l e))
       (λ l e. absurd (none-some l e))
       (λ e. absurd (let stands = outside.some in omega arith)))
@@ -259,11 +263,13 @@ module _ (k : Begin) (laws : HistoryLaws) (s : TableState) (r : Kept k s) (id : 
         | inl same_one ↦ let less = present in omega arith
         | inr other ↦ (r.gates m below).callers d (sym (writer_other r.shape.inside m me.0.number false m d other) ∙ is_in)
       ];
+      closers = (r.gates m below).closers;
     }
     | inr ne ↦ let g = r.gates n less in record {
       word = same k r.shape r.log s.words (gate_word k m) word (writers r.shape.inside m me.0.number false) r.fine (free k s r m below) (behind k s r m below) (no_root k s r m below) (gate_word k n) (no_gate k s r m below n ne)
           ∙ g.word ∙ ap (λ count. count + closed_bit (r.shape.closed_by n)) (sym (count_same (r.shape.inside n) (writers r.shape.inside m me.0.number false n) (callers_of k) (λ d less. writer_elsewhere r.shape.inside m me.0.number false n d ne)));
       callers = λ d is_in. g.callers d (sym (writer_elsewhere r.shape.inside m me.0.number false n d ne) ∙ is_in);
+      closers = g.closers;
     }
   ]
 
@@ -301,6 +307,8 @@ module _ (k : Begin) (laws : HistoryLaws) (s : TableState) (r : Kept k s) (id : 
       })
       tt
       (λ n i o e is_in. absurd (still_in n i o e is_in))
+      (λ p i o e reach held. absurd (holds_none me.0 p writer.lock writer.upper (u.holder p i o e reach held)))
+      (λ n i o e closed. absurd (let was = u.closer n i o e closed in let same_gate : Inside m ≡ Closed n was.0 = sym writer.gate ∙ was.1 in (cc)))
       (λ l e. absurd (none-some l e))
       (λ l e. absurd (none-some l e))
       (λ e. refl))

@@ -70,7 +70,7 @@ module _ (k : Begin) (sh : Shape) (log : List SharedEntry) (ws : List ℕ) (node
   head = words.head k sh log ws node node x fine is_node from to
 
   pub gates_hold : (m : ℕ) → m < k.maps → Gated k sh ws m → Gated k (with_holder sh node holder) (set ws node x) m
-  gates_hold m below g = record { word = head (gate_word k m) (omega arith) ∙ g.word; callers = g.callers }
+  gates_hold m below g = record { word = head (gate_word k m) (omega arith) ∙ g.word; callers = g.callers; closers = g.closers }
 
   pub later_hold : slice_index ws node ≢ dead_word → Later sh (with_holder sh node holder) log log ws (set ws node x)
   later_hold alive = record {
@@ -87,8 +87,8 @@ module _ (k : Begin) (sh : Shape) (log : List SharedEntry) (ws : List ℕ) (node
     value = at_value;
   }
 
-  pub apart_hold : (c : ℕ) → ((d : ℕ) → d ≢ c → sh.held_by node ≢ suc d) → Apart k c sh (with_holder sh node holder) ws (set ws node x)
-  apart_hold c nobody_else =
+  pub apart_hold : (c : ℕ) → ((d : ℕ) → d ≢ c → sh.held_by node ≢ suc d) → ((d : ℕ) → d ≢ c → holder ≢ suc d) → Apart k c sh (with_holder sh node holder) ws (set ws node x)
+  apart_hold c nobody_else mine_now =
       let elsewhere_held : (d p : ℕ) → d ≢ c → sh.held_by p ≡ suc d → p ≢ node = (λ d p other held e. nobody_else d other (ap sh.held_by (sym e) ∙ held)) in record {
         held = λ d p other is inside held. other_holder sh node holder p (elsewhere_held d p other held) ∙ held;
         words = λ d p i other is inside held from to. other_node p i is (elsewhere_held d p other held) from to;
@@ -100,6 +100,11 @@ module _ (k : Begin) (sh : Shape) (log : List SharedEntry) (ws : List ℕ) (node
         inside = λ d m other. refl;
         closed = λ d m other closed. closed;
         alone = λ d m other closed alone. alone;
+        unheld = λ d p other reach held. elim (cases_eq p node) [
+          | inl e ↦ absurd (mine_now d other (sym (holder_of sh node holder) ∙ ap (with_holder sh node holder).held_by (sym e) ∙ held))
+          | inr ne ↦ (reach, sym (other_holder sh node holder p ne) ∙ held)
+        ];
+        unclosed = λ d m other closed. closed;
       }
 
   shows_on : (p d key w : ℕ) → ShowsAt k sh log ws p d key w → ShowsAt k (with_holder sh node holder) log (set ws node x) p d key w

@@ -1,5 +1,6 @@
 -- A writer changes the lock word of a node that nobody else holds: it takes the lock, marks the node dead, or gives the lock back.
 use Rattle.std.proofs.Common.{◌≡◌, ◌≢◌, ℕ, suc, ◌+◌, ◌^◌, ◌<◌, ◌≤◌, true, false, List, [], ◌∷◌, length, set, Option, Some, None, slice_index, inl, inr, refl, sym, ap, ◌∙◌, subst, arith}
+use Rattle.std.proofs.lemmas.Bool.{cases_eq}
 use Rattle.std.proofs.lemmas.List.{set-get_or}
 use Rattle.std.proofs.lemmas.Option.{none-some, same_Some}
 use mathlib.Core.Option.{some}
@@ -16,14 +17,14 @@ use Rattle.trie_nodes.specs.Layout.{parent_word, slot_word, dead_word}
 use Rattle.trie_nodes.specs.Paths.{route}
 use Rattle.table_rule.specs.Layout.{callers_of}
 use Rattle.table_rule.specs.Ledger.{Fits}
-use Rattle.table_rule.specs.Owed.{Locks, AtGate, Suits}
+use Rattle.table_rule.specs.Owed.{Locks, HoldsLock, AtGate, Suits}
 use Rattle.table_rule.specs.Rule.{TableState, Kept}
 use Rattle.table_rule.specs.Shape.{Shape}
 use Rattle.table_seats.specs.Writing.{holding}
 use Rattle.table_seats.proofs.Frames.{Later}
 use Rattle.table_seats.proofs.Holding.{with_holder, holder_of, other_holder, here, behind, other_node, gates_hold, later_hold, apart_hold, fine_hold, room_hold}
 use Rattle.table_seats.proofs.Quiet.{later_same, apart_same, kept_standing}
-use Rattle.table_seats.proofs.Still.{owned, still, fits_holding, suits_holding}
+use Rattle.table_seats.proofs.Still.{KnowsLocks, owned, still, fits_holding, suits_holding}
 
 pub not_dead : (n : ℕ) → n < 2 ^ 32 → n ≢ dead_word
 not_dead n below e = absurd (omega arith)
@@ -51,7 +52,7 @@ module _ (k : Begin) (laws : HistoryLaws) (s : TableState) (r : Kept k s) (id : 
   few = let below = (owned k laws s r id v at_me live own owns is).below in let most = r.begin.callers in omega arith
 
   module _ (node x holder : ℕ) (is_node : r.shape.kind_of node ≡ 1) (holds : x ≢ dead_word → holder ≡ x) (empty : x ≡ dead_word → (i : ℕ) → i < 16 → slice_index s.words (slot_word node i) ≡ 0)
-      (alive : slice_index s.words node ≢ dead_word) (alone : (d : ℕ) → d ≢ v.number → r.shape.held_by node ≢ suc d) where
+      (alive : slice_index s.words node ≢ dead_word) (alone : (d : ℕ) → d ≢ v.number → (r.shape.held_by node ≢ suc d) × (holder ≢ suc d)) where
     abbrev new : Shape
     new = with_holder r.shape node holder
 
@@ -87,16 +88,16 @@ module _ (k : Begin) (laws : HistoryLaws) (s : TableState) (r : Kept k s) (id : 
     pub lock_word_is : slice_index (set s.words node x) node ≡ x
     lock_word_is = here k r.shape r.log s.words node x holder r.fine is_node holds empty
 
-    pub suits_held : (lock upper : Option Lock)
+    pub suits_held : (lock upper : Option Lock) → KnowsLocks v (with_holder r.shape node holder) v.gate lock upper
         → ((z : Lock) → lock ≡ Some z → (m : ℕ) × (v.gate ≡ Inside m) × Locks k (with_holder r.shape node holder) (set s.words node x) v.number m z)
         → ((z : Lock) → upper ≡ Some z → (m : ℕ) × (v.gate ≡ Inside m) × Locks k (with_holder r.shape node holder) (set s.words node x) v.number m z)
         → Suits k (with_holder r.shape node holder) r.log r.calls (set s.words node x) (holding v v.gate lock upper)
-    suits_held lock upper locks uppers = let u = r.suits id v at_me live in
+    suits_held lock upper knows locks uppers = let u = r.suits id v at_me live in
         suits_holding k laws s r id v at_me live own owns is new words v.gate lock upper later
         (λ w e gate. elim (u.steady w e gate) [ inl living ↦ inl living | inr d ↦ inr (later.dead w.node (u.walk w e).node d) ])
         (λ i o e. room_hold k r.shape r.log s.words node x holder r.fine is_node holds empty (v.number + i) o (u.room i o e))
         (same_gate k r.shape node holder v.number v.gate u.gate)
-        u.only locks uppers u.nobody
+        u.only knows u.closer locks uppers u.nobody
 
     -- the seat then knows this
     pub kept_as : (w : View) → Fits (callers_of k) r.log r.calls r.claim id w → Suits k (with_holder r.shape node holder) r.log r.calls (set s.words node x) w → Kept k record { words = set s.words node x; homes = s.homes; views = set s.views id w }
@@ -104,22 +105,29 @@ module _ (k : Begin) (laws : HistoryLaws) (s : TableState) (r : Kept k s) (id : 
         (fine_hold k r.shape r.log s.words node x holder r.fine is_node holds empty)
         (λ m below. gates_hold k r.shape r.log s.words node x holder r.fine is_node holds empty m below (r.gates m below))
         later
-        (apart_hold k r.shape r.log s.words node x holder r.fine is_node holds empty v.number alone)
+        (apart_hold k r.shape r.log s.words node x holder r.fine is_node holds empty v.number (λ d other. (alone d other).0) (λ d other. (alone d other).1))
         suits
 
-    pub kept_held : (lock upper : Option Lock)
+    -- its lock on this node is one of these, and those on others too
+    pub knows_held : (lock upper : Option Lock) → HoldsLock (holding v v.gate lock upper) node → ((p : ℕ) → HoldsLock v p → HoldsLock (holding v v.gate lock upper) p) → KnowsLocks v (with_holder r.shape node holder) v.gate lock upper
+    knows_held lock upper this others p i o at reach held = elim (cases_eq p node) [
+      | inl e ↦ subst (HoldsLock (holding v v.gate lock upper)) (sym e) this
+      | inr ne ↦ others p ((r.suits id v at_me live).holder p i o at reach (sym (other_holder r.shape node holder p ne) ∙ held))
+    ]
+
+    pub kept_held : (lock upper : Option Lock) → KnowsLocks v (with_holder r.shape node holder) v.gate lock upper
         → ((z : Lock) → lock ≡ Some z → (m : ℕ) × (v.gate ≡ Inside m) × Locks k (with_holder r.shape node holder) (set s.words node x) v.number m z)
         → ((z : Lock) → upper ≡ Some z → (m : ℕ) × (v.gate ≡ Inside m) × Locks k (with_holder r.shape node holder) (set s.words node x) v.number m z)
         → Kept k record { words = set s.words node x; homes = s.homes; views = set s.views id (holding v v.gate lock upper) }
-    kept_held lock upper locks uppers = kept_as (holding v v.gate lock upper) (fits_holding k laws s r id v at_me live own owns is v.gate lock upper) (suits_held lock upper locks uppers)
+    kept_held lock upper knows locks uppers = kept_as (holding v v.gate lock upper) (fits_holding k laws s r id v at_me live own owns is v.gate lock upper) (suits_held lock upper knows locks uppers)
 
   -- the lock is free, and the seat takes it
   module _ (m node key level : ℕ) (at : IsReachable k r.shape m node key level) (free : slice_index s.words node ≡ 0) where
     not_dead_yet : slice_index s.words node ≢ dead_word
     not_dead_yet dead = absurd (let e : 0 ≡ dead_word = sym free ∙ dead in omega arith)
 
-    nobody_holds : (d : ℕ) → d ≢ v.number → r.shape.held_by node ≢ suc d
-    nobody_holds d other held = absurd (let e : 0 ≡ suc d = sym (r.fine.held node at.node not_dead_yet ∙ free) ∙ held in omega arith)
+    nobody_holds : (d : ℕ) → d ≢ v.number → (r.shape.held_by node ≢ suc d) × (suc v.number ≢ suc d)
+    nobody_holds d other = (λ held. absurd (let e : 0 ≡ suc d = sym (r.fine.held node at.node not_dead_yet ∙ free) ∙ held in omega arith), λ e. other (omega arith))
 
     held_word_is : suc v.number ≢ dead_word → suc v.number ≡ suc v.number
     held_word_is alive = refl
@@ -159,16 +167,19 @@ module _ (k : Begin) (laws : HistoryLaws) (s : TableState) (r : Kept k s) (id : 
           (locks_off node (suc v.number) (suc v.number) at.node held_word_is no_corpse not_dead_yet nobody_holds n l ne was),
     )
 
-    pub kept_taken : (lock upper : Option Lock) → Holds lock → Holds upper → Kept k record { words = set s.words node (suc v.number); homes = s.homes; views = set s.views id (holding v v.gate lock upper) }
+    pub knows_taken : (lock upper : Option Lock) → HoldsLock (holding v v.gate lock upper) node → ((p : ℕ) → HoldsLock v p → HoldsLock (holding v v.gate lock upper) p) → KnowsLocks v (with_holder r.shape node (suc v.number)) v.gate lock upper
+    knows_taken = knows_held node (suc v.number) (suc v.number) at.node held_word_is no_corpse not_dead_yet nobody_holds
+
+    pub kept_taken : (lock upper : Option Lock) → KnowsLocks v (with_holder r.shape node (suc v.number)) v.gate lock upper → Holds lock → Holds upper → Kept k record { words = set s.words node (suc v.number); homes = s.homes; views = set s.views id (holding v v.gate lock upper) }
     kept_taken = kept_held node (suc v.number) (suc v.number) at.node held_word_is no_corpse not_dead_yet nobody_holds
 
   -- the seat knows more of the node whose lock it holds, and nothing changes
-  pub kept_knowing : (z : Lock) → ((y : Lock) → Some z ≡ Some y → (m : ℕ) × (v.gate ≡ Inside m) × Locks k r.shape s.words v.number m y) → Kept k record { words = s.words; homes = s.homes; views = set s.views id (holding v v.gate (Some z) None) }
-  kept_knowing z locks = let u = r.suits id v at_me live in
+  pub kept_knowing : (z : Lock) → ((p : ℕ) → HoldsLock v p → z.node ≡ p) → ((y : Lock) → Some z ≡ Some y → (m : ℕ) × (v.gate ≡ Inside m) × Locks k r.shape s.words v.number m y) → Kept k record { words = s.words; homes = s.homes; views = set s.views id (holding v v.gate (Some z) None) }
+  kept_knowing z one locks = let u = r.suits id v at_me live in
       still k laws s r id v at_me live own owns is r.shape s.words (holding v v.gate (Some z) None) (fits_holding k laws s r id v at_me live own owns is v.gate (Some z) None)
       r.fine r.gates (later_same r.shape r.log s.words) (apart_same k v.number r.shape s.words)
       (suits_holding k laws s r id v at_me live own owns is r.shape s.words v.gate (Some z) None (later_same r.shape r.log s.words) u.steady u.room u.gate u.only
-      locks (λ y e. absurd (none-some y e)) u.nobody)
+      (λ p i o at reach held. (z, inl refl, one p (u.holder p i o at reach held))) u.closer locks (λ y e. absurd (none-some y e)) u.nobody)
 
   -- nothing changes at all
   pub kept_idle : (word : ℕ) → Kept k record { words = set s.words word (slice_index s.words word); homes = s.homes; views = set s.views id v }

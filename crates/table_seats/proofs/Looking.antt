@@ -40,6 +40,8 @@ module _ (k : Begin) (laws : HistoryLaws) (s : TableState) (r : Kept k s) (id : 
     room = u.room;
     gate = u.gate;
     only = u.only;
+    holder = u.holder;
+    closer = u.closer;
     lock = u.lock;
     upper = u.upper;
     nobody = u.nobody;

@@ -399,7 +399,7 @@ module _ (k : Begin) (sh : Shape) (log log' : List SharedEntry) (ws : List ℕ) 
   }
 
   pub gates_rooted : (n : ℕ) → n < k.maps → Gated k sh ws n → Gated k (with_root sh m unit (length log)) (set ws (root_word k m) unit) n
-  gates_rooted n below g = record { word = same (gate_word k n) (λ e. absurd (omega arith)) ∙ g.word; callers = g.callers }
+  gates_rooted n below g = record { word = same (gate_word k n) (λ e. absurd (omega arith)) ∙ g.word; callers = g.callers; closers = g.closers }
 
   pub later_rooted : Later sh (with_root sh m unit (length log)) log log' ws (set ws (root_word k m) unit)
   later_rooted = record {
@@ -419,6 +419,17 @@ module _ (k : Begin) (sh : Shape) (log log' : List SharedEntry) (ws : List ℕ) 
     value = λ p is. let lies = (fine.leaves p is).lies in behind_heads (p + 1) (omega arith);
   }
 
+  -- a reachable node that somebody holds was one before
+  pub was_held : (p e : ℕ) → (with_root sh m unit (length log)).cut_of p ≡ None → (with_root sh m unit (length log)).held_by p ≡ suc e → (sh.cut_of p ≡ None) × (sh.held_by p ≡ suc e)
+  was_held p e reach held = elim (cases_eq p unit) [
+    | inl it ↦ absurd (let z : 0 ≡ suc e = sym root_holder ∙ ap (with_root sh m unit (length log)).held_by (sym it) ∙ held in omega arith)
+    | inr ne ↦ (by_cut ne (sh.cut_of p) refl, sym (holder_off p ne) ∙ held)
+  ]
+    where
+      by_cut : p ≢ unit → (o : Option ℕ) → sh.cut_of p ≡ o → sh.cut_of p ≡ None
+      by_cut ne None is = is
+      by_cut ne (Some t) is = absurd (none-some t (sym reach ∙ cut_kept p t ne is))
+
   -- no writer of the map is inside, and the unit lies in the caller's room
   pub apart_rooted : (c : ℕ) → ((d : ℕ) → sh.inside m d ≡ false) → ((i : ℕ) → i < unit_words → sh.area_of (unit + i) ≡ suc c) → Apart k c sh (with_root sh m unit (length log)) ws (set ws (root_word k m) unit)
   apart_rooted c nobody area = record {
@@ -435,6 +446,8 @@ module _ (k : Begin) (sh : Shape) (log log' : List SharedEntry) (ws : List ℕ) 
     inside = λ d n other. refl;
     closed = λ d n other closed. closed;
     alone = λ d n other closed alone. alone;
+    unheld = λ d p other reach held. was_held p d reach held;
+    unclosed = λ d n other closed. closed;
   }
     where
       elsewhere : (d p : ℕ) → sh.inside (sh.map_of p) d ≡ true → sh.map_of p ≢ m

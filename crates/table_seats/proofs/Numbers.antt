@@ -50,7 +50,7 @@ module _ (k : Begin) (laws : HistoryLaws) (sh : Shape) (log log' : List SharedEn
   in_entry p i is from = let lies = (fine.leaves p is).lies in behind i (omega arith)
 
   pub gates_on : (m : ℕ) → m < k.maps → Gated k sh ws m → Gated k sh (set ws (atomic_word a) word) m
-  gates_on m inside g = record { word = behind (gate_word k m) (omega arith) ∙ g.word; callers = g.callers }
+  gates_on m inside g = record { word = behind (gate_word k m) (omega arith) ∙ g.word; callers = g.callers; closers = g.closers }
 
   pub apart_on : (c : ℕ) → Apart k c sh sh ws (set ws (atomic_word a) word)
   apart_on c = record {
@@ -64,6 +64,8 @@ module _ (k : Begin) (laws : HistoryLaws) (sh : Shape) (log log' : List SharedEn
     inside = λ d m other. refl;
     closed = λ d m other closed. closed;
     alone = λ d m other closed alone. alone;
+    unheld = λ d p other reach held. (reach, held);
+    unclosed = λ d m other closed. closed;
   }
 
   module _ (history : Begins log' log) where

@@ -223,6 +223,7 @@ module _ (k : Begin) (begin : IsBegin k) (ws : List ℕ) (is_blank : IsBlank k w
   blank_gates m inside = record {
     word = is_blank.others (gate_word k m) (λ n below e. omega arith) ∙ sym (let none_there = none_counted (callers_of k) in omega arith);
     callers = λ c is. absurd (cc);
+    closers = λ c is. absurd (let z : 0 ≡ suc c = is in omega arith);
   }
 
   blank_fits : Fits (callers_of k) [] (λ c. []) (λ c. 0) 0 (first_view k)
@@ -256,6 +257,8 @@ module _ (k : Begin) (begin : IsBegin k) (ws : List ℕ) (is_blank : IsBlank k w
     };
     gate = tt;
     only = λ m i own at is. absurd (cc);
+    holder = λ p i own at reach held. absurd (let z : 0 ≡ suc (0 + i) = held in omega arith);
+    closer = λ m i own at closed. absurd (let z : 0 ≡ suc (0 + i) = closed in omega arith);
     lock = λ l is. absurd (none-some l is);
     upper = λ l is. absurd (none-some l is);
     nobody = λ e. refl;

@@ -1,5 +1,5 @@
 -- An operation on an atomic's word keeps the rule, and places its call.
-use Rattle.std.proofs.Common.{◌≡◌, ℕ, zero, suc, ◌+◌, ◌<◌, true, List, [], ◌∷◌, ◌++◌, length, set, Some, slice_get, slice_index, refl, sym, ap, ◌∙◌, subst, arith}
+use Rattle.std.proofs.Common.{◌≡◌, ℕ, zero, suc, ◌+◌, ◌<◌, true, List, [], ◌∷◌, ◌++◌, length, set, Some, slice_get, slice_index, refl, sym, ap, ◌∙◌, subst, arith, Bool, None}
 use Rattle.std.proofs.lemmas.Option.{same_Some}
 use mathlib.Core.Option.{some}
 use lib.ListN.{get_elem?}
@@ -18,14 +18,14 @@ use Rattle.sync_model.specs.Shared.{Called}
 use Rattle.sync_types.specs.WordLayout.{is_word, number_in}
 use Rattle.table_rule.specs.declared.begin.Begin.{Begin}
 use Rattle.table_rule.specs.declared.view.Own.{Own}
-use Rattle.table_rule.specs.declared.view.Gate.TheVariants.{Inside}
+use Rattle.table_rule.specs.declared.view.Gate.TheVariants.{Inside, Closed}
 use Rattle.table_rule.specs.declared.view.View.{View}
 use Rattle.table_seats.specs.Laws.{HistoryLaws}
 use Rattle.trie_nodes.specs.Layout.{atomic_word}
 use Rattle.table_rule.specs.Layout.{callers_of}
 use Rattle.table_rule.specs.Ledger.{Owned, Fits}
 use Rattle.table_seats.specs.Operations.{IsOperation, PlacesCall, Operates}
-use Rattle.table_rule.specs.Owed.{HasRoom, Suits}
+use Rattle.table_rule.specs.Owed.{HasRoom, Suits, HoldsLock}
 use Rattle.table_rule.specs.Rule.{TableState, Kept}
 use Rattle.table_rule.specs.Shape.{start_of, IsNumber}
 use Rattle.table_rule.specs.Views.{with_item, called_view, view_state}
@@ -114,6 +114,8 @@ module _ (k : Begin) (laws : HistoryLaws) (s : TableState) (r : Kept k s) (id : 
       room = room_after u.room;
       gate = u.gate;
       only = λ m i o at inside. only_after u.only m i o at inside;
+      holder = λ p i o at reach held. holder_after p u.holder i o at reach held;
+      closer = λ m i o at closed. closer_after m u.closer i o at closed;
       lock = u.lock;
       upper = u.upper;
       nobody = λ e. absurd (let ne : suc (length owns) ≡ 0 = e in omega arith);
@@ -130,6 +132,16 @@ module _ (k : Begin) (laws : HistoryLaws) (s : TableState) (r : Kept k s) (id : 
         only_after : ((m i : ℕ) (o : Own) → slice_get v.owns i ≡ Some o → r.shape.inside m (v.number + i) ≡ true → v.gate ≡ Inside m) → (m i : ℕ) (o : Own) → slice_get (own_after ∷ owns) i ≡ Some o → r.shape.inside m (v.number + i) ≡ true → v.gate ≡ Inside m
         only_after only m zero o at inside = only m 0 own first_is inside
         only_after only m (suc i) o at inside = only m (suc i) o (ap (λ l. slice_get l (suc i)) is ∙ at) inside
+
+        holder_after : (p : ℕ) → ((p i : ℕ) (o : Own) → slice_get v.owns i ≡ Some o → r.shape.cut_of p ≡ None → r.shape.held_by p ≡ suc (v.number + i) → HoldsLock v p)
+            → (i : ℕ) (o : Own) → slice_get (own_after ∷ owns) i ≡ Some o → r.shape.cut_of p ≡ None → r.shape.held_by p ≡ suc (v.number + i) → HoldsLock view_after p
+        holder_after p holder zero o at reach held = holder p 0 own first_is reach held
+        holder_after p holder (suc i) o at reach held = holder p (suc i) o (ap (λ l. slice_get l (suc i)) is ∙ at) reach held
+
+        closer_after : (m : ℕ) → ((m i : ℕ) (o : Own) → slice_get v.owns i ≡ Some o → r.shape.closed_by m ≡ suc (v.number + i) → (alone : Bool) × (v.gate ≡ Closed m alone))
+            → (i : ℕ) (o : Own) → slice_get (own_after ∷ owns) i ≡ Some o → r.shape.closed_by m ≡ suc (v.number + i) → (alone : Bool) × (v.gate ≡ Closed m alone)
+        closer_after m closer zero o at closed = closer m 0 own first_is closed
+        closer_after m closer (suc i) o at closed = closer m (suc i) o (ap (λ l. slice_get l (suc i)) is ∙ at) closed
 
     kept : Keeps k s r id v.number words_after view_after
     kept = record {

@@ -75,6 +75,8 @@ module _ (k : Begin) (sh : Shape) (log : List SharedEntry) (ws : List ℕ) (j x 
     inside = inside_same;
     closed = λ d m other closed. closed;
     alone = alone;
+    unheld = λ d p other reach held. (reach, held);
+    unclosed = λ d m other closed. closed;
   }
 
   shows_on : (p d key w : ℕ) → ShowsAt k sh log ws p d key w → ShowsAt k (with_inside sh inside) log (set ws j x) p d key w

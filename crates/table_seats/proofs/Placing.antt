@@ -1,5 +1,5 @@
 -- A call that is no entry is placed. No word changes, and its seat goes elsewhere.
-use Rattle.std.proofs.Common.{◌≡◌, ℕ, zero, suc, ◌+◌, true, false, List, [], ◌∷◌, ◌++◌, length, set, Option, Some, None, slice_get, slice_index, ◌⊎◌, refl, sym, ap, ◌∙◌, subst, arith}
+use Rattle.std.proofs.Common.{◌≡◌, ℕ, zero, suc, ◌+◌, true, false, List, [], ◌∷◌, ◌++◌, length, set, Option, Some, None, slice_get, slice_index, ◌⊎◌, refl, sym, ap, ◌∙◌, subst, arith, Bool}
 use Rattle.std.proofs.lemmas.Option.{same_Some}
 use mathlib.Core.Option.{some}
 use lib.ListN.{get_elem?}
@@ -9,7 +9,7 @@ use Rattle.sync_model.specs.declared.item.SharedReply.{SharedReply}
 use Rattle.sync_model.specs.SharedCalls.{Grows}
 use Rattle.sync_model.specs.Shared.{Called}
 use Rattle.table_rule.specs.declared.begin.Begin.{Begin}
-use Rattle.table_rule.specs.declared.view.Gate.TheVariants.{Inside}
+use Rattle.table_rule.specs.declared.view.Gate.TheVariants.{Inside, Closed}
 use Rattle.table_rule.specs.declared.view.Leaf.{Leaf}
 use Rattle.table_rule.specs.declared.view.Own.{Own}
 use Rattle.table_rule.specs.declared.view.View.{View}
@@ -19,7 +19,7 @@ use Rattle.table_seats.specs.Laws.{HistoryLaws}
 use Rattle.trie_nodes.specs.Layout.{dead_word}
 use Rattle.table_rule.specs.Layout.{callers_of}
 use Rattle.table_rule.specs.Ledger.{Owned, Fits}
-use Rattle.table_rule.specs.Owed.{Walks, IsLeaf, HasRoom, Stands, Suits}
+use Rattle.table_rule.specs.Owed.{Walks, IsLeaf, HasRoom, Stands, Suits, HoldsLock}
 use Rattle.table_rule.specs.Rule.{TableState, Kept}
 use Rattle.table_rule.specs.Shape.{Shape, start_of}
 use Rattle.table_rule.specs.Views.{called_view, paid, paid_own, MayPay, view_state, Looks}
@@ -93,6 +93,8 @@ module _ (k : Begin) (laws : HistoryLaws) (s : TableState) (r : Kept k s) (id : 
     room = room_after u.room;
     gate = u.gate;
     only = λ m i o at inside. only_after u.only m i o at inside;
+    holder = λ p i o at reach held. holder_after p u.holder i o at reach held;
+    closer = λ m i o at closed. closer_after m u.closer i o at closed;
     lock = u.lock;
     upper = u.upper;
     nobody = λ e. absurd (let ne : suc (length owns) ≡ 0 = e in omega arith);
@@ -109,6 +111,16 @@ module _ (k : Begin) (laws : HistoryLaws) (s : TableState) (r : Kept k s) (id : 
       only_after : ((m i : ℕ) (o : Own) → slice_get v.owns i ≡ Some o → r.shape.inside m (v.number + i) ≡ true → v.gate ≡ Inside m) → (m i : ℕ) (o : Own) → slice_get (own_after ∷ owns) i ≡ Some o → r.shape.inside m (v.number + i) ≡ true → v.gate ≡ Inside m
       only_after only m zero o at inside = only m 0 own first_is inside
       only_after only m (suc i) o at inside = only m (suc i) o (ap (λ l. slice_get l (suc i)) is ∙ at) inside
+
+      holder_after : (p : ℕ) → ((p i : ℕ) (o : Own) → slice_get v.owns i ≡ Some o → r.shape.cut_of p ≡ None → r.shape.held_by p ≡ suc (v.number + i) → HoldsLock v p)
+          → (i : ℕ) (o : Own) → slice_get (own_after ∷ owns) i ≡ Some o → r.shape.cut_of p ≡ None → r.shape.held_by p ≡ suc (v.number + i) → HoldsLock view_after p
+      holder_after p holder zero o at reach held = holder p 0 own first_is reach held
+      holder_after p holder (suc i) o at reach held = holder p (suc i) o (ap (λ l. slice_get l (suc i)) is ∙ at) reach held
+
+      closer_after : (m : ℕ) → ((m i : ℕ) (o : Own) → slice_get v.owns i ≡ Some o → r.shape.closed_by m ≡ suc (v.number + i) → (alone : Bool) × (v.gate ≡ Closed m alone))
+          → (i : ℕ) (o : Own) → slice_get (own_after ∷ owns) i ≡ Some o → r.shape.closed_by m ≡ suc (v.number + i) → (alone : Bool) × (v.gate ≡ Closed m alone)
+      closer_after m closer zero o at closed = closer m 0 own first_is closed
+      closer_after m closer (suc i) o at closed = closer m (suc i) o (ap (λ l. slice_get l (suc i)) is ∙ at) closed
 
   fits_now : Fits (callers_of k) r.log (with_one r.calls v.number item) r.claim id view_after
   fits_now = let f = fits_after k laws r.log r.calls (callers_of k) r.claim id r.lawful v own owns is fits item may own_after (paid_items cost (record own { items = own.items ++ item ∷ [] })) in record { seen = f.seen; heard = f.heard; long = f.long; front = f.front; owns = f.owns }

@@ -1,5 +1,5 @@
 -- The step that publishes a call's change: the call is placed there as an entry, and one unit of its caller's room is used up.
-use Rattle.std.proofs.Common.{◌≡◌, ◌≢◌, inl, inr, ℕ, zero, suc, ◌+◌, ◌*◌, ◌^◌, ◌<◌, ◌≤◌, true, false, cond, List, [], ◌∷◌, ◌++◌, length, set, Option, Some, None, slice_get, slice_index, refl, sym, ap, ◌∙◌, subst, arith}
+use Rattle.std.proofs.Common.{◌≡◌, ◌≢◌, inl, inr, ℕ, zero, suc, ◌+◌, ◌*◌, ◌^◌, ◌<◌, ◌≤◌, true, false, cond, List, [], ◌∷◌, ◌++◌, length, set, Option, Some, None, slice_get, slice_index, refl, sym, ap, ◌∙◌, subst, arith, Bool}
 use Rattle.std.proofs.lemmas.Bool.{cases_eq}
 use Rattle.std.proofs.lemmas.Option.{none-some, same_Some}
 use mathlib.Core.Option.{some}
@@ -28,7 +28,7 @@ use Rattle.trie_nodes.specs.Paths.{nibble}
 use Rattle.trie_nodes.specs.Slots.{slot_in}
 use Rattle.table_rule.specs.Layout.{callers_of}
 use Rattle.table_rule.specs.Ledger.{Owned, Fits}
-use Rattle.table_rule.specs.Owed.{HasRoom, Locks, AtGate, Suits}
+use Rattle.table_rule.specs.Owed.{HasRoom, Locks, AtGate, Suits, HoldsLock}
 use Rattle.table_rule.specs.Rule.{TableState, Kept}
 use Rattle.table_rule.specs.Shape.{Shape, start_of, Fine}
 use Rattle.table_seats.specs.TrieLaws.{TrieLaws}
@@ -41,6 +41,7 @@ use Rattle.table_seats.proofs.Lists.{past_end}
 use Rattle.table_seats.proofs.Moves.{Keeps, moves}
 use Rattle.table_seats.proofs.Publishing as publishing
 use Rattle.table_seats.proofs.Sites.{Site}
+use Rattle.table_seats.proofs.Still.{holds_one}
 use Rattle.table_seats.proofs.Units as units
 
 -- a caller that holds a node's lock knows the word in the slot for a key, which isn't a node's, and has a unit of room
@@ -216,6 +217,24 @@ module _ (k : Begin) (laws : HistoryLaws) (tries : TrieLaws) (s : TableState) (r
       only_after n zero o at inside = (r.suits id v at_me ready.live).only n 0 own first_is inside
       only_after n (suc i) o at inside = (r.suits id v at_me ready.live).only n (suc i) o (ap (λ o. slice_get o (suc i)) ready.is ∙ at) inside
 
+      -- its lock is the one that it has
+      one_lock : (p : ℕ) → HoldsLock v p → HoldsLock view_after p
+      one_lock p h = (lock_after, inl refl, holds_one v l p ready.locked ready.alone h)
+
+      holder_after : (p i : ℕ) (o : Own) → slice_get (own_after ∷ owns) i ≡ Some o → shape.cut_of p ≡ None → shape.held_by p ≡ suc (v.number + i) → HoldsLock view_after p
+      holder_after p i o at reach held = by_place i at before.1
+        where
+          before : (r.shape.cut_of p ≡ None) × (r.shape.held_by p ≡ suc (v.number + i))
+          before = units.was_held r.shape tries k.seed m l.level l.key own.next nodes p (v.number + i) reach held
+
+          by_place : (i : ℕ) → slice_get (own_after ∷ owns) i ≡ Some o → r.shape.held_by p ≡ suc (v.number + i) → HoldsLock view_after p
+          by_place zero at held = one_lock p ((r.suits id v at_me ready.live).holder p 0 own first_is before.0 held)
+          by_place (suc i) at held = one_lock p ((r.suits id v at_me ready.live).holder p (suc i) o (ap (λ o. slice_get o (suc i)) ready.is ∙ at) before.0 held)
+
+      closer_after : (n i : ℕ) (o : Own) → slice_get (own_after ∷ owns) i ≡ Some o → r.shape.closed_by n ≡ suc (v.number + i) → (alone : Bool) × (v.gate ≡ Closed n alone)
+      closer_after n zero o at closed = (r.suits id v at_me ready.live).closer n 0 own first_is closed
+      closer_after n (suc i) o at closed = (r.suits id v at_me ready.live).closer n (suc i) o (ap (λ o. slice_get o (suc i)) ready.is ∙ at) closed
+
       suits_after : Suits k shape (with_call r.log v.number item) (with_one r.calls v.number item) words view_after
       suits_after = let u = r.suits id v at_me ready.live in record {
         begin = u.begin;
@@ -226,6 +245,8 @@ module _ (k : Begin) (laws : HistoryLaws) (tries : TrieLaws) (s : TableState) (r
         room = rooms_after;
         gate = same_gate v.gate u.gate;
         only = only_after;
+        holder = holder_after;
+        closer = closer_after;
         lock = λ z e. (m, ready.inside, subst (Locks k shape words v.number m) (same_Some lock_after z e) locks_after);
         upper = λ z e. absurd (none-some z (sym ready.alone ∙ e));
         nobody = λ e. absurd (let ne : suc (length owns) ≡ 0 = e in omega arith);

@@ -380,7 +380,7 @@ module _ (k : Begin) (sh : Shape) (log log' : List SharedEntry) (ws : List ℕ) 
     }
 
   pub gates_published : (n : ℕ) → n < k.maps → Gated k sh ws n → Gated k (with_unit sh k.seed m d key unit nodes) (set ws (slot_word p (nibble key k.seed d)) x) n
-  gates_published n below g = record { word = head (gate_word k n) (omega arith) ∙ g.word; callers = g.callers }
+  gates_published n below g = record { word = head (gate_word k n) (omega arith) ∙ g.word; callers = g.callers; closers = g.closers }
 
   pub later_published : Later sh (with_unit sh k.seed m d key unit nodes) log log' ws (set ws (slot_word p (nibble key k.seed d)) x)
   later_published = record {
@@ -417,4 +417,6 @@ module _ (k : Begin) (sh : Shape) (log log' : List SharedEntry) (ws : List ℕ) 
         inside = λ e n other. refl;
         closed = λ e n other closed. closed;
         alone = λ e n other closed alone. alone;
+        unheld = λ e q other reach is_held. units.was_held sh tries k.seed m d key unit nodes q e reach is_held;
+        unclosed = λ e n other closed. closed;
       }

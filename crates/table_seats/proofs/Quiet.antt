@@ -48,6 +48,8 @@ apart_same k c sh ws = record {
   inside = λ d m other. refl;
   closed = λ d m other closed. closed;
   alone = λ d m other closed alone. alone;
+  unheld = λ d p other reach held. (reach, held);
+  unclosed = λ d m other closed. closed;
 }
 
 -- a seat stands elsewhere
@@ -68,6 +70,8 @@ module _ (k : Begin) (s : TableState) (r : Kept k s) (id : ℕ) (v : View) (at_m
     room = u.room;
     gate = u.gate;
     only = u.only;
+    holder = u.holder;
+    closer = u.closer;
     lock = u.lock;
     upper = u.upper;
     nobody = u.nobody;

@@ -15,12 +15,13 @@ use Rattle.sync_model.specs.SharedCalls.{Knows}
 use Rattle.table_rule.specs.declared.begin.Begin.{Begin}
 use Rattle.table_rule.specs.declared.view.Own.{Own}
 use Rattle.table_rule.specs.declared.view.Gate.{Gate}
-use Rattle.table_rule.specs.declared.view.Gate.TheVariants.{Outside, Inside}
+use Rattle.table_rule.specs.declared.view.Gate.TheVariants.{Outside, Inside, Closed}
 use Rattle.table_rule.specs.declared.view.View.{View}
 use Rattle.table_seats.specs.Laws.{HistoryLaws}
 use Rattle.table_rule.specs.Layout.{callers_of}
 use Rattle.table_rule.specs.Ledger.{Owned, Fits}
 use Rattle.table_rule.specs.Owed.{HasRoom, AtGate, Suits}
+use Rattle.table_seats.proofs.Still.{holds_none}
 use Rattle.table_rule.specs.Rule.{TableState, Kept}
 use Rattle.table_rule.specs.Views.{IsIdle, first_of, others_of, copied, dealt, kept, most, longest, joined, spent}
 use Rattle.table_seats.proofs.Lists.{each_after, at_end, item_there}
@@ -80,6 +81,8 @@ module _ (k : Begin) (s : TableState) (r : Kept k s) (id : ℕ) (v : View) (at_m
     room = λ i own at. absurd (none-some own at);
     gate = u.gate;
     only = λ m i own at inside. absurd (none-some own at);
+    holder = λ p i own at reach held. absurd (none-some own at);
+    closer = λ m i own at closed. absurd (none-some own at);
     lock = u.lock;
     upper = u.upper;
     nobody = λ e. outside;
@@ -119,6 +122,8 @@ deals k id v live idle stands s r at_me =
       room = λ i own at. let number : v.number + suc i ≡ (v.number + 1) + i = omega arith in subst (λ c. HasRoom k r.shape s.words c own) number (u.room (suc i) own (in_others v.owns i own at));
       gate = subst (AtGate k r.shape (v.number + 1)) (sym idle.gate) tt;
       only = λ m i own at inside. let number : (v.number + 1) + i ≡ v.number + suc i = omega arith in u.only m (suc i) own (in_others v.owns i own at) (ap (r.shape.inside m) (sym number) ∙ inside);
+      holder = λ p i own at reach held. let number : (v.number + 1) + i ≡ v.number + suc i = omega arith in u.holder p (suc i) own (in_others v.owns i own at) reach (held ∙ ap suc number);
+      closer = λ m i own at closed. let number : (v.number + 1) + i ≡ v.number + suc i = omega arith in u.closer m (suc i) own (in_others v.owns i own at) (closed ∙ ap suc number);
       lock = λ l is. absurd (none-some l (sym idle.lock ∙ is));
       upper = λ l is. absurd (none-some l (sym idle.upper ∙ is));
       nobody = λ e. idle.gate;
@@ -132,6 +137,8 @@ deals k id v live idle stands s r at_me =
       room = λ i own at. u.room i own (in_first v.owns i own at).1;
       gate = u.gate;
       only = λ m i own at. u.only m i own (in_first v.owns i own at).1;
+      holder = λ p i own at. u.holder p i own (in_first v.owns i own at).1;
+      closer = λ m i own at. u.closer m i own (in_first v.owns i own at).1;
       lock = u.lock;
       upper = u.upper;
       nobody = λ e. idle.gate;
@@ -285,6 +292,14 @@ joins k laws id v other w live live_it idle next_callers s r at_me apart at_it =
       only = λ m i own at inside. elim (in_both v.owns w.owns i own at) [
         | inl mine ↦ u.only m i own mine inside
         | inr its ↦ let within = slice_get_within w.owns its.0 own its.2 in absurd (out_of w.gate m idle.gate (h.only m its.0 own its.2 (ap (r.shape.inside m) (number_of i its.0 within its.1) ∙ inside)))
+      ];
+      holder = λ p i own at reach held. elim (in_both v.owns w.owns i own at) [
+        | inl mine ↦ u.holder p i own mine reach held
+        | inr its ↦ let within = slice_get_within w.owns its.0 own its.2 in absurd (holds_none w p idle.lock idle.upper (h.holder p its.0 own its.2 reach (held ∙ ap suc (sym (number_of i its.0 within its.1)))))
+      ];
+      closer = λ m i own at closed. elim (in_both v.owns w.owns i own at) [
+        | inl mine ↦ u.closer m i own mine closed
+        | inr its ↦ let within = slice_get_within w.owns its.0 own its.2 in let was = h.closer m its.0 own its.2 (closed ∙ ap suc (sym (number_of i its.0 within its.1))) in absurd (let e : Outside ≡ Closed m was.0 = sym idle.gate ∙ was.1 in (cc))
       ];
       lock = u.lock;
       upper = u.upper;

@@ -1,14 +1,14 @@
 -- A step that makes no call: the history stays.
-use Rattle.std.proofs.Common.{◌≡◌, ℕ, ◌+◌, ◌<◌, true, List, [], ◌∷◌, length, set, Option, Some, None, slice_get, slice_index, ◌⊎◌, refl, sym}
+use Rattle.std.proofs.Common.{◌≡◌, ℕ, suc, ◌+◌, ◌<◌, Bool, true, List, [], ◌∷◌, length, set, Option, Some, None, slice_get, slice_index, ◌⊎◌, inl, inr, refl, sym, ap, ◌∙◌}
 use Rattle.std.proofs.lemmas.List.{append-nil}
-use Rattle.std.proofs.lemmas.Option.{none-some}
+use Rattle.std.proofs.lemmas.Option.{none-some, same_Some}
 use mathlib.Core.Option.{some}
 use lib.ListN.{get_elem?}
 use Rattle.sync_model.specs.declared.item.Item.{Item}
 use Rattle.sync_model.specs.declared.item.SharedEntry.{SharedEntry}
 use Rattle.table_rule.specs.declared.begin.Begin.{Begin}
 use Rattle.table_rule.specs.declared.view.Gate.{Gate}
-use Rattle.table_rule.specs.declared.view.Gate.TheVariants.{Outside, Inside}
+use Rattle.table_rule.specs.declared.view.Gate.TheVariants.{Outside, Inside, Closed}
 use Rattle.table_rule.specs.declared.view.Lock.{Lock}
 use Rattle.table_rule.specs.declared.view.Own.{Own}
 use Rattle.table_rule.specs.declared.view.View.{View}
@@ -18,7 +18,7 @@ use Rattle.table_seats.specs.Laws.{HistoryLaws}
 use Rattle.table_rule.specs.Layout.{callers_of}
 use Rattle.table_rule.specs.Ledger.{Owned, Fits}
 use Rattle.trie_nodes.specs.Layout.{dead_word}
-use Rattle.table_rule.specs.Owed.{HasRoom, Locks, AtGate, Suits}
+use Rattle.table_rule.specs.Owed.{HasRoom, Locks, HoldsLock, AtGate, Suits}
 use Rattle.table_seats.specs.Walking.{standing}
 use Rattle.table_seats.specs.Writing.{holding}
 use Rattle.table_rule.specs.Rule.{TableState, Kept}
@@ -26,6 +26,18 @@ use Rattle.table_rule.specs.Shape.{Shape, Fine}
 use Rattle.table_seats.proofs.Frames.{Later, Apart, walks_on, leaf_on, stands_on}
 use Rattle.table_seats.proofs.Ledgers.{first}
 use Rattle.table_seats.proofs.Moves.{moves}
+
+-- a seat that stands to a gate so, and holds these locks, holds those of all reachable nodes that its callers hold
+abbrev pub KnowsLocks : View → Shape → Gate → Option Lock → Option Lock → Type 0
+KnowsLocks v sh gate lock upper = (p i : ℕ) (o : Own) → slice_get v.owns i ≡ Some o → sh.cut_of p ≡ None → sh.held_by p ≡ suc (v.number + i) → HoldsLock (holding v gate lock upper) p
+
+-- a seat without a lock holds none
+pub holds_none : (v : View) (p : ℕ) → v.lock ≡ None → v.upper ≡ None → HoldsLock v p → ⊥
+holds_none v p lock upper h = elim h.1 [ inl e ↦ none-some h.0 (sym lock ∙ e) | inr e ↦ none-some h.0 (sym upper ∙ e) ]
+
+-- and one with one lock no other
+pub holds_one : (v : View) (l : Lock) (p : ℕ) → v.lock ≡ Some l → v.upper ≡ None → HoldsLock v p → l.node ≡ p
+holds_one v l p lock upper h = elim h.1 [ inl e ↦ ap (λ (z : Lock). z.node) (same_Some l h.0 (sym lock ∙ e)) ∙ h.2 | inr e ↦ absurd (none-some h.0 (sym upper ∙ e)) ]
 
 module _ (k : Begin) (laws : HistoryLaws) (s : TableState) (r : Kept k s) (id : ℕ) (v : View) (at_me : get_elem? s.views id ≡ some v) (live : v.live ≡ true) (own : Own) (owns : List Own) (is : v.owns ≡ own ∷ owns) where
   fits : Fits (callers_of k) r.log r.calls r.claim id v
@@ -63,11 +75,13 @@ module _ (k : Begin) (laws : HistoryLaws) (s : TableState) (r : Kept k s) (id : 
       → ((i : ℕ) (o : Own) → slice_get v.owns i ≡ Some o → HasRoom k new words (v.number + i) o)
       → AtGate k new v.number gate
       → ((m i : ℕ) (o : Own) → slice_get v.owns i ≡ Some o → new.inside m (v.number + i) ≡ true → gate ≡ Inside m)
+      → KnowsLocks v new gate lock upper
+      → ((m i : ℕ) (o : Own) → slice_get v.owns i ≡ Some o → new.closed_by m ≡ suc (v.number + i) → (alone : Bool) × (gate ≡ Closed m alone))
       → ((l : Lock) → lock ≡ Some l → (m : ℕ) × (gate ≡ Inside m) × Locks k new words v.number m l)
       → ((l : Lock) → upper ≡ Some l → (m : ℕ) × (gate ≡ Inside m) × Locks k new words v.number m l)
       → (length v.owns ≡ 0 → gate ≡ Outside)
       → Suits k new r.log r.calls words (holding v gate lock upper)
-  suits_holding new words gate lock upper later steady room at_gate only locks uppers nobody = let u = r.suits id v at_me live in record {
+  suits_holding new words gate lock upper later steady room at_gate only holder closer locks uppers nobody = let u = r.suits id v at_me live in record {
     begin = u.begin;
     walk = λ w is. walks_on k r.shape new r.log r.log s.words words later w (u.walk w is);
     steady = steady;
@@ -76,6 +90,8 @@ module _ (k : Begin) (laws : HistoryLaws) (s : TableState) (r : Kept k s) (id : 
     room = room;
     gate = at_gate;
     only = only;
+    holder = holder;
+    closer = closer;
     lock = locks;
     upper = uppers;
     nobody = nobody;
@@ -92,6 +108,8 @@ suits_nowhere k sh log calls ws v u = record {
   room = u.room;
   gate = u.gate;
   only = u.only;
+  holder = u.holder;
+  closer = u.closer;
   lock = u.lock;
   upper = u.upper;
   nobody = u.nobody;

@@ -42,6 +42,8 @@ module _ (k : Begin) (s : TableState) (r : Kept k s) (id : ℕ) (v : View) (at_m
     room = u.room;
     gate = u.gate;
     only = u.only;
+    holder = u.holder;
+    closer = u.closer;
     lock = u.lock;
     upper = u.upper;
     nobody = u.nobody;

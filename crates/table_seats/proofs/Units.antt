@@ -67,6 +67,14 @@ module _ (sh : Shape) (laws : TrieLaws) (seed m d key unit nodes : ℕ) where
   pub cut_outside : (i : ℕ) → IsOutside i → (with_unit sh seed m d key unit nodes).cut_of i ≡ sh.cut_of i
   cut_outside i out = ap (λ b. cond b None (sh.cut_of i)) (no_links i out)
 
+  -- a reachable node that somebody holds was one before
+  pub was_held : (q e : ℕ) → (with_unit sh seed m d key unit nodes).cut_of q ≡ None → (with_unit sh seed m d key unit nodes).held_by q ≡ suc e → (sh.cut_of q ≡ None) × (sh.held_by q ≡ suc e)
+  was_held q e reach held = by_link (in_links sh seed m d key unit nodes q) reach held
+    where
+      by_link : (b : Bool) → cond b None (sh.cut_of q) ≡ None → cond b 0 (sh.held_by q) ≡ suc e → (sh.cut_of q ≡ None) × (sh.held_by q ≡ suc e)
+      by_link true reach held = absurd (omega arith)
+      by_link false reach held = (reach, held)
+
   pub holder_outside : (i : ℕ) → IsOutside i → (with_unit sh seed m d key unit nodes).held_by i ≡ sh.held_by i
   holder_outside i out = ap (λ b. cond b 0 (sh.held_by i)) (no_links i out)
 

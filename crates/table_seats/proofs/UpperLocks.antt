@@ -21,8 +21,9 @@ use Rattle.table_rule.specs.Rule.{TableState, Kept}
 use Rattle.table_seats.specs.Walking.{HasWords}
 use Rattle.table_seats.specs.Writing.{holding, Holds}
 use Rattle.table_seats.proofs.Lookups.{has_words}
-use Rattle.table_seats.proofs.LockWords.{IsReachable, not_dead, few, locks_off, after_lock, lock_word_is, kept_held, holds_taken, holds_beside, kept_taken, kept_knowing, kept_idle, by_first}
+use Rattle.table_seats.proofs.LockWords.{IsReachable, not_dead, few, locks_off, after_lock, lock_word_is, kept_held, holds_taken, holds_beside, kept_taken, kept_knowing, kept_idle, by_first, knows_taken, knows_held}
 use Rattle.table_seats.proofs.Holding.{with_holder, holder_of}
+use Rattle.table_seats.proofs.Still.{holds_one}
 
 module _ (k : Begin) (laws : HistoryLaws) (s : TableState) (r : Kept k s) (id : ℕ) (v : View) (at_me : get_elem? s.views id ≡ some v) (live : v.live ≡ true) (own : Own) (owns : List Own) (is : v.owns ≡ own ∷ owns) where
   suits : Suits k r.shape r.log r.calls s.words v
@@ -58,7 +59,7 @@ module _ (k : Begin) (laws : HistoryLaws) (s : TableState) (r : Kept k s) (id : 
         omega (arith, length-append (route k.seed (l.level - 1) l.key) (nibble l.key k.seed (l.level - 1) ∷ []))
 
   -- it takes the parent's lock
-  module _ (l : Lock) (locked : v.lock ≡ Some l) (deep : 0 < l.level) (free : slice_index s.words l.up ≡ 0) where
+  module _ (l : Lock) (locked : v.lock ≡ Some l) (deep : 0 < l.level) (free : slice_index s.words l.up ≡ 0) (no_upper : v.upper ≡ None) where
     was : (m : ℕ) × (v.gate ≡ Inside m) × Locks k r.shape s.words v.number m l
     was = suits.lock l locked
 
@@ -70,6 +71,8 @@ module _ (k : Begin) (laws : HistoryLaws) (s : TableState) (r : Kept k s) (id : 
 
     pub kept_both : Kept k record { words = set s.words l.up (suc v.number); homes = s.homes; views = set s.views id (holding v v.gate (Some l) (Some (upper_lock l (slice_index s.words (parent_word l.up))))) }
     kept_both = kept_taken k laws s r id v at_me live own owns is was.0 l.up l.key (l.level - 1) at free (Some l) (Some (upper_lock l up_of))
+        (knows_taken k laws s r id v at_me live own owns is was.0 l.up l.key (l.level - 1) at free (Some l) (Some (upper_lock l up_of))
+        (upper_lock l up_of, inr refl, refl) (λ p h. (l, inl refl, holds_one v l p locked no_upper h)))
         (holds_beside k laws s r id v at_me live own owns is was.0 l.up l.key (l.level - 1) at free was.0 l was.1 (above_other was.0 l was.2 deep) was.2)
         (holds_taken k laws s r id v at_me live own owns is was.0 l.up l.key (l.level - 1) at free was.1)
 
@@ -86,7 +89,7 @@ module _ (k : Begin) (laws : HistoryLaws) (s : TableState) (r : Kept k s) (id : 
         let small = few k laws s r id v at_me live own owns is in
         let word : slice_index s.words l.node ≡ suc v.number = held.2.word ∙ ap (λ b. cond b dead_word (suc v.number)) living in
         let lives : slice_index s.words l.node ≢ dead_word = (λ dead. not_dead (suc v.number) small (sym word ∙ dead)) in
-        let nobody : (d : ℕ) → d ≢ v.number → r.shape.held_by l.node ≢ suc d = (λ d ne theirs. ne (let e : suc v.number ≡ suc d = sym held.2.mine ∙ theirs in omega arith)) in
+        let nobody : (d : ℕ) → d ≢ v.number → (r.shape.held_by l.node ≢ suc d) × (suc v.number ≢ suc d) = (λ d ne. (λ theirs. ne (let e : suc v.number ≡ suc d = sym held.2.mine ∙ theirs in omega arith), λ e. ne (omega arith))) in
         let holds : dead_word ≢ dead_word → suc v.number ≡ dead_word = (λ ne. absurd (ne refl)) in
         let corpse : dead_word ≡ dead_word → (i : ℕ) → i < 16 → slice_index s.words (slot_word l.node i) ≡ 0 = (λ dead i below. held.2.empty_so_far i (omega arith)) in
         let behind = after_lock k laws s r id v at_me live own owns is l.node dead_word (suc v.number) held.2.node holds corpse lives nobody in
@@ -107,6 +110,11 @@ module _ (k : Begin) (laws : HistoryLaws) (s : TableState) (r : Kept k s) (id : 
           empty_so_far = λ slot below. behind (slot_word l.node slot) (omega arith) (omega arith) ∙ was.empty_so_far slot below;
         } in
         kept_held k laws s r id v at_me live own owns is l.node dead_word (suc v.number) held.2.node holds corpse lives nobody (Some (marked l)) v.upper
+        (knows_held k laws s r id v at_me live own owns is l.node dead_word (suc v.number) held.2.node holds corpse lives nobody (Some (marked l)) v.upper
+        (marked l, inl refl, refl) (λ p h. elim h.1 [
+          | inl e ↦ (marked l, inl refl, ap (λ (z : Lock). z.node) (same_Some l h.0 (sym locked ∙ e)) ∙ h.2)
+          | inr e ↦ (h.0, inr e, h.2)
+        ]))
         (λ z e. (held.0, held.1, subst (Locks k (with_holder r.shape l.node (suc v.number)) (set s.words l.node dead_word) v.number held.0) (same_Some (marked l) z e) locks))
         (λ z e. (
           above_held.0,
@@ -149,7 +157,7 @@ looks_at_slot k laws id me l held below = by_first me (Allows (Kept k) 0 id me (
           keeps,
           tt,
           subst (λ ws. Kept k record { words = ws; homes = s.homes; views = set s.views id (holding me.0 me.0.gate (Some (with_empty l)) None) }) (sym (set-get_or s.words (slot_word l.node l.empty) 0))
-              (kept_knowing k laws s r id me.0 at_me held.live own owns is (with_empty l)
+              (kept_knowing k laws s r id me.0 at_me held.live own owns is (with_empty l) (λ p h. holds_one me.0 l p held.lock held.upper h)
               (λ z e. (was.0, was.1, subst (Locks k r.shape s.words me.0.number was.0) (same_Some (with_empty l) z e) locks))),
           (refl, refl),
         )
@@ -181,7 +189,7 @@ tries_upper k laws id me l held deep = by_first me (Allows (Kept k) 0 id me l.up
       holding me.0 me.0.gate (Some l) (Some (upper_lock l (slice_index s.words (parent_word l.up)))),
       keeps,
       tt,
-      kept_both k laws s r id me.0 at_me held.live own owns is l held.lock deep (eqb-true (slice_index s.words l.up) 0 e),
+      kept_both k laws s r id me.0 at_me held.live own owns is l held.lock deep (eqb-true (slice_index s.words l.up) 0 e) held.upper,
       (refl, (slice_index s.words (parent_word l.up), refl)),
     )
 

@@ -20,7 +20,7 @@ use Rattle.table_seats.specs.Making.{StandsLocked, LooksHeld}
 use Rattle.table_rule.specs.Rule.{Kept}
 use Rattle.table_seats.specs.Walking.{HasWords, Affords, IsFree}
 use Rattle.table_seats.specs.Writing.{IsWriter, TriesLock, Holds, Unlocks, ComesIn, IsInside, GoesOut, Drafts, HasDraft}
-use Rattle.table_seats.proofs.Drafting.{drafts}
+use Rattle.table_seats.proofs.Drafting.{drafts, drafts_zero}
 use Rattle.table_seats.proofs.Gating.{comes_in, goes_out}
 use Rattle.table_seats.proofs.Held.{looks_held}
 use Rattle.table_seats.proofs.KeyCalls.{IsOn}
@@ -77,6 +77,14 @@ module _ (table : TableWords) (id : ℕ) (me : Me (Unit {0}) View) (word : ℕ) 
       let room = has.room in
       let within = has.within in
       may table id me word (own.next + length own.draft) (λ n. x) (λ found. Drafts x me x) (omega arith) (omega arith) (drafts key laws id me own owns x has.live has.owns_are (omega arith))
+
+  pub may_draft_zero : (own : Own) (owns : List Own) (next written : ℕ) → HasDraft table.table.shared.key me own owns next written → word ≡ next + written → MayChange (λ n. n) (λ found. Drafts 0 me 0)
+  may_draft_zero own owns next written has is =
+      let next_is = has.next_is in
+      let written_is = has.written_is in
+      let room = has.room in
+      let within = has.within in
+      may table id me word (own.next + length own.draft) (λ n. n) (λ found. Drafts 0 me 0) (omega arith) (omega arith) (drafts_zero key laws id me own owns has.live has.owns_are (omega arith))
 
 pub draft_within : (table : TableWords) (me : Me (Unit {0}) View) (own : Own) (owns : List Own) (next written : ℕ) → HasDraft table.table.shared.key me own owns next written → next + written < 2 ^ 32
 draft_within table me own owns next written has = let room = has.room in let within = has.within in let objects = table.made.objects in let units = table.made.units in omega arith

@@ -1,5 +1,5 @@
 -- A seat on its way to a key of a map, and what the words tell it there.
-use Rattle.std.specs.Prelude.{◌≡◌, ℕ, suc, true, ◌+◌, ◌^◌, ◌<◌, ◌≤◌, ◌==◌, cond, List, length, Option, Some, None, MatchBool, slice_get}
+use Rattle.std.specs.Prelude.{◌≡◌, ◌⊎◌, ℕ, suc, true, ◌+◌, ◌^◌, ◌<◌, ◌≤◌, ◌==◌, cond, List, length, Option, Some, None, IsSome, MatchBool, slice_get}
 use Rattle.atomic_table.specs.Table.{Me}
 use Rattle.sync_model.specs.declared.item.Item.{Item}
 use Rattle.sync_model.specs.declared.item.SharedCall.TheVariants as calls
@@ -8,6 +8,7 @@ use Rattle.sync_model.specs.declared.item.SharedReply.TheVariants as replies
 use Rattle.sync_types.specs.declared.map_object.MapCall.{MapCall}
 use Rattle.sync_types.specs.declared.map_object.MapReply.{MapReply}
 use Rattle.sync_model.specs.Shared.{Called, cost_of}
+use Rattle.table_rule.specs.declared.view.Gate.TheVariants.{Inside}
 use Rattle.table_rule.specs.declared.view.Leaf.{Leaf}
 use Rattle.table_rule.specs.declared.view.Own.{Own}
 use Rattle.table_rule.specs.declared.view.View.{View}
@@ -85,6 +86,10 @@ ReadsValue before found after = (after.1 ≡ before.1) × (after.0 ≡ standing 
 -- a seat that knows no entry may read a root word
 abbrev pub MayEnter : Begin → Me (Unit {0}) View → Type 0
 MayEnter k me = (me.0.live ≡ true) × (me.0.begin ≡ k) × (me.0.leaf ≡ None)
+
+-- a seat whose call is no load: it is a writer inside of a gate, or it has a cursor
+abbrev pub IsUncounted : View → Type 0
+IsUncounted v = ((m : ℕ) × (v.gate ≡ Inside m)) ⊎ IsSome v.spot
 
 -- a caller's seat, between two calls
 pub record IsFree (k : Begin) (me : Me (Unit {0}) View) : Type 0 where

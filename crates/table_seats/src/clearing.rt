@@ -13,6 +13,7 @@ use crate::lookup::Way;
 use crate::words::TableWords;
 use atomic_table::{Play, Seat};
 use std::marker::{Brand, PhantomData};
+use std::sync::Wait;
 use table_rule::view::View;
 
 // The word of a gate that is closed, where no writer is inside.
@@ -53,8 +54,9 @@ impl Play<(), View> for Open {
 }
 
 impl TableWords {
-    /// Tries to close the map's gate. It doesn't where another has closed it, or passed it just then.
-    pub fn try_close(&self, seat: &mut Seat<(), View>, map: u32) -> bool
+    /// Tries to close the map's gate. It doesn't where another has closed it, or passed it just then. Only a call that may wait
+    /// closes it, so no load does.
+    pub fn try_close<R: Wait>(&self, _rt: &R, seat: &mut Seat<(), View>, map: u32) -> bool
         requires table { IsSeatOf self.now seat.old }
         requires free { IsFree (begin_of self.now) seat.old.me }
         requires map { map < (begin_of self.now).maps }

@@ -16,8 +16,10 @@ mod operations;
 mod pruning;
 mod publish;
 pub mod rule;
+pub mod steps;
 pub mod words;
 mod writing;
 
+pub use steps::Steps;
 pub use table_rule::{Begin, Leaf, View, WordStep};
 pub use words::TableWords;

@@ -1,18 +1,21 @@
 //! The reads of a seat on its way to a key: a map's root word, then a slot in each node on the key's path, and the words of an
-//! entry. None of them waits.
+//! entry. None of them waits. Each takes a counter, which rises by one for each look at a word. A load can make no other reading
+//! step: those that nobody counts ask for a seat that is inside of a gate, or has a cursor, and a load's seat has neither.
 ghost use Rattle.std.specs.Prelude.{◌≡◌, ℕ, ◌+◌, ◌<◌, ◌≤◌, ◌^◌, Some, length};
 ghost use Rattle.sync_types.specs.SequentialMap.{map_key};
 ghost use Rattle.sync_model.specs.Shared.{cost_of};
 ghost use Rattle.table_rule.specs.declared.view.Leaf.{Leaf};
 ghost use Rattle.table_seats.specs.Seats.{begin_of, IsSeatOf};
 ghost use Rattle.trie_nodes.specs.Slots.{slot_in};
-ghost use Rattle.table_seats.specs.Walking.{standing, walk_at, HasWords, Enters, MayEnter, FindsIn, LooksIn, Affords, ReadsKey, KeepsValue, ReadsValue, OnWay, AtEntry};
+ghost use Rattle.table_seats.specs.Walking.{standing, walk_at, HasWords, Enters, MayEnter, FindsIn, LooksIn, Affords, ReadsKey, KeepsValue, ReadsValue, OnWay, AtEntry, IsUncounted};
 
 use crate::laws::history_laws;
 use crate::making::Making;
+use crate::steps::Steps;
 use crate::words::TableWords;
 use atomic_table::{Play, Seat};
 use std::marker::{Brand, PhantomData};
+use std::sync::ledger::Ledger;
 use sync_types::MapCall;
 use table_rule::view::{Leaf, View};
 use trie_nodes::layout::{key_word, slot_word, value_word};
@@ -71,10 +74,31 @@ impl Play<(), View> for ReadValue {
 }
 
 impl TableWords {
-    /// The seat comes to the map's root.
-    pub fn enter(&self, seat: &mut Seat<(), View>, map: u32, key: u32) -> u64
+    /// The seat comes to the map's root. It looks at one word.
+    pub fn enter<L: Ledger>(
+        &self,
+        seat: &mut Seat<(), View>,
+        map: u32,
+        key: u32,
+        steps: &mut Steps<L>,
+    ) -> u64
         requires table { IsSeatOf self.now seat.old }
         requires may { MayEnter (begin_of self.now) seat.old.me }
+        requires map { map < (begin_of self.now).maps }
+        ensures table { seat.new.table_id ≡ seat.old.table_id }
+        ensures entered { Enters map key seat.old.me result seat.new.me }
+        ensures counted { steps.new ≡ steps.old + 1 }
+    {
+        let root = self.enter_as::<Brand>(seat, map, key);
+        steps.tick();
+        root
+    }
+
+    /// The same, where nobody counts.
+    pub fn enter_uncounted(&self, seat: &mut Seat<(), View>, map: u32, key: u32) -> u64
+        requires table { IsSeatOf self.now seat.old }
+        requires may { MayEnter (begin_of self.now) seat.old.me }
+        requires no_load { IsUncounted seat.old.me.0 }
         requires map { map < (begin_of self.now).maps }
         ensures table { seat.new.table_id ≡ seat.old.table_id }
         ensures entered { Enters map key seat.old.me result seat.new.me }
@@ -95,8 +119,33 @@ impl TableWords {
         self.table.shared.load::<Enter<W>>(seat, word)
     }
 
-    /// The seat of a call on a key reads the key's slot in the node where it stands.
-    pub fn look(
+    /// The seat of a call on a key reads the key's slot in the node where it stands. It looks at one word.
+    pub fn look<L: Ledger>(
+        &self,
+        seat: &mut Seat<(), View>,
+        call: MapCall<u32>,
+        map: u32,
+        key: u32,
+        node: u64,
+        level: u32,
+        steps: &mut Steps<L>,
+    ) -> Slot
+        requires table { IsSeatOf self.now seat.old }
+        requires call { (map_key call ≡ Some key) × Affords (cost_of call) seat.old.me.0.owns }
+        requires way { OnWay (begin_of self.now) seat.old.me (walk_at map key node level (length seat.old.me.0.seen)) }
+        requires words { HasWords seat.old.me.0 node 18 }
+        requires level { level < 8 }
+        ensures table { seat.new.table_id ≡ seat.old.table_id }
+        ensures found { (seat.new.me.1 ≡ seat.old.me.1) × FindsIn call (walk_at map key node level (length seat.old.me.0.seen)) result seat.old.me.0 seat.new.me.0 }
+        ensures counted { steps.new ≡ steps.old + 1 }
+    {
+        let found = self.look_as::<Brand>(seat, call, map, key, node, level);
+        steps.tick();
+        found
+    }
+
+    /// The same, where nobody counts.
+    pub fn look_uncounted(
         &self,
         seat: &mut Seat<(), View>,
         call: MapCall<u32>,
@@ -108,6 +157,7 @@ impl TableWords {
         requires table { IsSeatOf self.now seat.old }
         requires call { (map_key call ≡ Some key) × Affords (cost_of call) seat.old.me.0.owns }
         requires way { OnWay (begin_of self.now) seat.old.me (walk_at map key node level (length seat.old.me.0.seen)) }
+        requires no_load { IsUncounted seat.old.me.0 }
         requires words { HasWords seat.old.me.0 node 18 }
         requires level { level < 8 }
         ensures table { seat.new.table_id ≡ seat.old.table_id }
@@ -152,8 +202,43 @@ impl TableWords {
         self.table.shared.load::<ReadKey>(seat, key_word(place))
     }
 
-    /// The seat reads the entry that it knows, its key and its value, and leaves it.
-    pub fn read_pair(&self, seat: &mut Seat<(), View>, place: u64) -> (u64, u64)
+    /// The seat reads the entry that it knows, its key and its value, and leaves it. It looks at two words.
+    pub fn read_pair<L: Ledger>(
+        &self,
+        seat: &mut Seat<(), View>,
+        place: u64,
+        steps: &mut Steps<L>,
+    ) -> (u64, u64)
+        requires table { IsSeatOf self.now seat.old }
+        requires begin { seat.old.me.0.begin ≡ begin_of self.now }
+        requires entry { AtEntry seat.old.me place }
+        requires words { HasWords seat.old.me.0 place 2 }
+        ensures table { seat.new.table_id ≡ seat.old.table_id }
+        ensures left { (seat.new.me.1 ≡ seat.old.me.1) × (seat.new.me.0 ≡ standing seat.old.me.0 seat.old.me.0.walk None) }
+        ensures pair { (l : Leaf) → seat.old.me.0.leaf ≡ Some l → (result.0 ≡ l.key) × (result.1 ≡ l.value) }
+        ensures counted { steps.new ≡ steps.old + 2 }
+    {
+        steps.tick();
+        steps.tick();
+        self.read_both(seat, place)
+    }
+
+    /// The same, where nobody counts.
+    pub fn read_pair_uncounted(&self, seat: &mut Seat<(), View>, place: u64) -> (u64, u64)
+        requires table { IsSeatOf self.now seat.old }
+        requires begin { seat.old.me.0.begin ≡ begin_of self.now }
+        requires entry { AtEntry seat.old.me place }
+        requires no_load { IsUncounted seat.old.me.0 }
+        requires words { HasWords seat.old.me.0 place 2 }
+        ensures table { seat.new.table_id ≡ seat.old.table_id }
+        ensures left { (seat.new.me.1 ≡ seat.old.me.1) × (seat.new.me.0 ≡ standing seat.old.me.0 seat.old.me.0.walk None) }
+        ensures pair { (l : Leaf) → seat.old.me.0.leaf ≡ Some l → (result.0 ≡ l.key) × (result.1 ≡ l.value) }
+    {
+        self.read_both(seat, place)
+    }
+
+    // The seat reads the entry that it knows, its key and its value, and leaves it.
+    fn read_both(&self, seat: &mut Seat<(), View>, place: u64) -> (u64, u64)
         requires table { IsSeatOf self.now seat.old }
         requires begin { seat.old.me.0.begin ≡ begin_of self.now }
         requires entry { AtEntry seat.old.me place }
@@ -167,11 +252,12 @@ impl TableWords {
         (key, value)
     }
 
-    /// The seat reads the entry that it knows, and keeps it in mind.
+    /// The seat of a writer reads the entry that it knows, and keeps it in mind.
     pub fn read_leaf(&self, seat: &mut Seat<(), View>, place: u64) -> Leaf
         requires table { IsSeatOf self.now seat.old }
         requires begin { seat.old.me.0.begin ≡ begin_of self.now }
         requires entry { AtEntry seat.old.me place }
+        requires no_load { IsUncounted seat.old.me.0 }
         requires words { HasWords seat.old.me.0 place 2 }
         ensures table { seat.new.table_id ≡ seat.old.table_id }
         ensures same { seat.new.me ≡ seat.old.me }

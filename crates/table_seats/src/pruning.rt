@@ -92,6 +92,9 @@ impl TableWords {
         history_laws();
         let word = lock_word(parent);
         let shared = &self.table.shared;
+        if shared.peek(word) != FREE {
+            return false;
+        }
         let found = shared.compare_exchange::<TryUpper>(seat, word, FREE, held_word(caller));
         found == FREE
     }

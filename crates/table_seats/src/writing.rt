@@ -7,7 +7,7 @@ ghost use Rattle.table_rule.specs.declared.view.Own.{Own};
 ghost use Rattle.table_rule.specs.declared.view.Walk.{Walk};
 ghost use Rattle.table_rule.specs.Layout.{size_of};
 ghost use Rattle.table_seats.specs.Seats.{begin_of, IsSeatOf};
-ghost use Rattle.table_seats.specs.Walking.{standing, walk_at, HasWords, Affords, IsFree};
+ghost use Rattle.table_seats.specs.Walking.{standing, walk_at, HasWords, Affords, IsFree, IsUncounted};
 ghost use Rattle.sync_types.specs.SequentialMap.{map_key};
 ghost use Rattle.sync_model.specs.Shared.{cost_of};
 ghost use Rattle.table_seats.specs.Making.{StandsLocked, LooksHeld};
@@ -20,6 +20,7 @@ use crate::making::Making;
 use crate::words::TableWords;
 use atomic_table::{Play, Seat};
 use std::marker::{Brand, PhantomData};
+use std::sync::Wait;
 use sync_types::MapCall;
 use table_rule::view::View;
 use trie_nodes::layout::{DEAD, FREE, held_word, lock_word, slot_word};
@@ -64,6 +65,13 @@ impl Play<(), View> for Unlock {
     ghost then = { λ step before found after. Unlocks before found after };
 }
 
+/// A seat lets the next word of its own room stay 0.
+pub(crate) struct DraftZero;
+
+impl Play<(), View> for DraftZero {
+    ghost then = { λ step before found after. Drafts 0 before 0 after };
+}
+
 /// A seat writes the next word of its own room.
 pub(crate) struct Draft;
 
@@ -72,8 +80,9 @@ impl Play<(), View> for Draft {
 }
 
 impl TableWords {
-    /// Tries to come in as a writer of the map. It doesn't where the gate is closed, or where another passed it just then.
-    pub fn try_come_in(&self, seat: &mut Seat<(), View>, map: u32) -> bool
+    /// Tries to come in as a writer of the map. It doesn't where the gate is closed, or where another passed it just then. Only a
+    /// call that may wait comes in, so no load does.
+    pub fn try_come_in<R: Wait>(&self, _rt: &R, seat: &mut Seat<(), View>, map: u32) -> bool
         requires table { IsSeatOf self.now seat.old }
         requires free { IsFree (begin_of self.now) seat.old.me }
         requires map { map < (begin_of self.now).maps }
@@ -104,14 +113,16 @@ impl TableWords {
         shared.compare_exchange::<ComeIn<W>>(seat, word, writers, writers + 1) == writers
     }
 
-    /// Whether a node is dead, so that nobody takes its lock any more.
-    pub fn is_dead(&self, node: u64) -> bool
-        requires { node < size_of (begin_of self.now) }
+    /// Whether a node is dead, so that nobody takes its lock any more. A writer looks.
+    pub fn is_dead(&self, _seat: &Seat<(), View>, node: u64) -> bool
+        requires no_load { IsUncounted _seat.now.me.0 }
+        requires node { node < size_of (begin_of self.now) }
     {
         self.table.shared.peek(lock_word(node)) == DEAD
     }
 
-    /// Tries the lock of the node where the seat stands, for the seat's caller.
+    /// Tries the lock of the node where the seat stands, for the seat's caller. A lock that isn't free is only looked at, so that
+    /// whoever waits doesn't take the word's cache line from the holder.
     pub fn try_lock(&self, seat: &mut Seat<(), View>, node: u64, caller: u32) -> bool
         requires table { IsSeatOf self.now seat.old }
         requires writer { (w : Walk) × (w.node ≡ node) × IsWriter (begin_of self.now) seat.old.me w }
@@ -122,10 +133,12 @@ impl TableWords {
         ensures lock { (w : Walk) → seat.old.me.0.walk ≡ Some w → MatchBool result ((up : ℕ) × (seat.new.me.0 ≡ holding seat.old.me.0 seat.old.me.0.gate (Some (lock_at w up)) None)) (seat.new.me.0 ≡ seat.old.me.0) }
     {
         history_laws();
-        let found = self
-            .table
-            .shared
-            .compare_exchange::<TryLock>(seat, lock_word(node), FREE, held_word(caller));
+        let word = lock_word(node);
+        let shared = &self.table.shared;
+        if shared.peek(word) != FREE {
+            return false;
+        }
+        let found = shared.compare_exchange::<TryLock>(seat, word, FREE, held_word(caller));
         found == FREE
     }
 
@@ -201,7 +214,8 @@ impl TableWords {
         self.table.shared.fetch_sub::<GoOut>(seat, word, 1);
     }
 
-    /// Writes the next word of the caller's own room, which no slot leads to. So far it holds this many words.
+    /// Writes the next word of the caller's own room, which no slot leads to. So far it holds this many words. The words of the room
+    /// are 0 until they are written, so a 0 is only read: a write costs ten times as much, and most words of a chain are 0.
     pub fn draft(&self, seat: &mut Seat<(), View>, next: u64, written: u64, new: u64)
         requires table { IsSeatOf self.now seat.old }
         requires room { (own : Own) × (owns : List Own) × HasDraft (begin_of self.now) seat.old.me own owns next written }
@@ -210,6 +224,11 @@ impl TableWords {
     {
         history_laws();
         let word = (next + written) as usize;
-        self.table.shared.store::<Draft>(seat, word, new);
+        let shared = &self.table.shared;
+        if new == 0 {
+            shared.load::<DraftZero>(seat, word);
+            return;
+        }
+        shared.store::<Draft>(seat, word, new);
     }
 }

@@ -38,7 +38,7 @@ pub loop-level-preserved : goal.loop-level-preserved
 loop-level-preserved g c =
     let one = goes_on (begin_of c.args.self.now.words) c.args.seat.now.me c.requires.free c.args.map c.args.key c.loop-level.seat.me c.look.new.seat.me c.loop-level.node c.loop-level.level c.loop-level.invariant.at
     c.in-Node.ensures.found.0 c.in-Node.below c.in-Node.ensures.found.1 in
-    let more = c.tick-in-loop-level.ensures in
+    let more = c.in-Node.ensures.counted in
     let cost = c.loop-level.invariant.cost in
     let below = one.1 in
     record {

@@ -1,6 +1,6 @@
 use Rattle.std.proofs.Common.{◌∙◌}
 use Rattle.table_seats.proofs.Reading.{then_read_value}
-use Rattle.table_seats.proofs.words.TableWords.read_pair.Goals as goal
+use Rattle.table_seats.proofs.words.TableWords.read_both.Goals as goal
 
 pub load-value-requires : goal.load-value-requires
 load-value-requires c =

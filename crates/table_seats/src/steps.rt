@@ -1,10 +1,11 @@
-//! How many words were read.
+//! How many words a load looked at.
 ghost use Rattle.std.specs.Prelude.{◌≡◌, ℕ, ◌+◌, ◌<◌, ◌^◌};
 
 use std::marker::Model;
 use std::sync::ledger::{Blank, Book, Ledger, Share};
 
-/// Counts the reads of a table's words. No call can set it back: it stands for a ledger's total, which only grows.
+/// Counts the reads of a table's words. No call can set it back: it stands for a ledger's total, which only grows. It rises by the
+/// reading steps alone, by one for each look at a word.
 #[derive(Drop)]
 pub struct Steps<L: Ledger> {
     book: Book<L>,
@@ -42,7 +43,7 @@ impl<L: Ledger> Steps<L> {
         self.shown
     }
 
-    // One more read.
+    // One more look at a word.
     pub(crate) fn tick(&mut self)
         ensures { self.new ≡ self.old + 1 }
     {

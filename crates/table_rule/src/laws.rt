@@ -1,0 +1,87 @@
+//! What the rule is for, in the words of whoever uses a table. Each law is the contract of a function that does nothing. They speak of
+//! any state of a table in which the rule holds (`Kept`): so it is at every moment, whatever the seats do.
+ghost use Rattle.std.specs.Prelude.{◌≡◌, ◌≢◌, ◌⊎◌, ℕ, suc, ◌+◌, ◌^◌, ◌<◌, ◌≤◌, true, false, Bool, Some, None, length, slice_index};
+ghost use Rattle.sync_model.specs.SharedHistory.{value_at, contents_at, contents_after};
+ghost use Rattle.trie_nodes.specs.Layout.{slot_word, dead_word};
+ghost use Rattle.trie_nodes.specs.Nodes.{stands_for};
+ghost use Rattle.trie_nodes.specs.Paths.{route};
+ghost use Rattle.table_rule.specs.declared.begin.Begin.{Begin};
+ghost use Rattle.table_rule.specs.declared.view.Gate.TheVariants.{Inside, Closed};
+ghost use Rattle.table_rule.specs.declared.view.Leaf.{Leaf};
+ghost use Rattle.table_rule.specs.declared.view.View.{View};
+ghost use Rattle.table_rule.specs.Layout.{root_word, gate_word};
+ghost use Rattle.table_rule.specs.LawWords.{IsSeat, StandsFor, AllAtRest};
+ghost use Rattle.table_rule.specs.Owed.{HoldsLock};
+ghost use Rattle.table_rule.specs.Rule.{TableState, Kept};
+ghost use Rattle.table_rule.specs.Shape.{start_of};
+ghost use Rattle.table_rule.specs.Views.{IsIdle};
+
+use sync_model::laws::shared_steps::histories_go_on;
+use trie_nodes::laws::nodes::{
+    an_empty_node_stands_for_nothing, nodes_stand_for_what_their_slots_show,
+};
+
+/// What a map's root stands for is the map of one thread after the whole history. A node that was cut off stands, for the keys of its
+/// path, for what the map had at the length of the history at which it was cut off, which is never more than the history's.
+pub fn a_root_stands_for_the_map_after_the_whole_history()
+    ensures root { (k : Begin) (s : TableState) (r : Kept k s) (m key : ℕ) → m < k.maps → key < 2 ^ 32
+        → stands_for s.words k.seed 0 (slice_index s.words (root_word k m)) key ≡ value_at (contents_after (start_of k) r.log) m key }
+    ensures cut_off { (k : Begin) (s : TableState) (r : Kept k s) (p level key moment : ℕ) → r.shape.kind_of p ≡ 1 → r.shape.cut_of p ≡ Some moment
+        → level < 8 → key < 2 ^ 32 → r.shape.path_of p ≡ route k.seed level key
+        → stands_for s.words k.seed level p key ≡ value_at (contents_at (start_of k) r.log moment) (r.shape.map_of p) key }
+    ensures earlier { (k : Begin) (s : TableState) (r : Kept k s) (p moment : ℕ) → r.shape.kind_of p ≡ 1 → r.shape.cut_of p ≡ Some moment → moment ≤ length r.log }
+{
+    histories_go_on();
+    nodes_stand_for_what_their_slots_show();
+}
+
+/// A dead node has only empty slots, and so stands for nothing.
+pub fn a_dead_node_is_empty()
+    ensures slots { (k : Begin) (s : TableState) (r : Kept k s) (p slot : ℕ) → r.shape.kind_of p ≡ 1 → slice_index s.words p ≡ dead_word → slot < 16
+        → slice_index s.words (slot_word p slot) ≡ 0 }
+    ensures nothing { (k : Begin) (s : TableState) (r : Kept k s) (p level key : ℕ) → r.shape.kind_of p ≡ 1 → slice_index s.words p ≡ dead_word
+        → stands_for s.words k.seed level p key ≡ None }
+{
+    an_empty_node_stands_for_nothing();
+}
+
+/// A seat that holds the lock of a node is inside of the gate of the node's map, and the node is reachable. The node's lock word is that
+/// of the seat's caller, or says that the node is dead, so no other seat holds the lock. And the other way round: a reachable node whose
+/// lock word is that of a caller is one whose lock the caller's seat holds.
+pub fn a_lock_is_one_seats()
+    ensures inside { (k : Begin) (s : TableState) (r : Kept k s) (j p : ℕ) (v : View) → IsSeat s j v → HoldsLock v p
+        → (m : ℕ) × (v.gate ≡ Inside m) × (r.shape.kind_of p ≡ 1) × (r.shape.map_of p ≡ m) × (r.shape.cut_of p ≡ None) }
+    ensures word { (k : Begin) (s : TableState) (r : Kept k s) (j p : ℕ) (v : View) → IsSeat s j v → HoldsLock v p
+        → (slice_index s.words p ≡ suc v.number) ⊎ (slice_index s.words p ≡ dead_word) }
+    ensures counted { (k : Begin) (s : TableState) (r : Kept k s) (j m : ℕ) (v : View) → IsSeat s j v → v.gate ≡ Inside m
+        → (m < k.maps) × (r.shape.inside m v.number ≡ true) × (0 < slice_index s.words (gate_word k m)) }
+    ensures one { (k : Begin) (s : TableState) (r : Kept k s) (i j p : ℕ) (u v : View) → IsSeat s i u → IsSeat s j v → HoldsLock u p → HoldsLock v p → i ≡ j }
+    ensures named { (k : Begin) (s : TableState) (r : Kept k s) (j p caller : ℕ) (v : View) → IsSeat s j v → StandsFor v caller
+        → r.shape.kind_of p ≡ 1 → r.shape.cut_of p ≡ None → slice_index s.words p ≡ suc caller → HoldsLock v p }
+{}
+
+/// A gate is closed by one seat. Where that seat knows that nobody is inside, the gate's word counts no writer.
+pub fn a_closed_gate_is_one_seats()
+    ensures one { (k : Begin) (s : TableState) (r : Kept k s) (i j m : ℕ) (u v : View) (a b : Bool) → IsSeat s i u → IsSeat s j v
+        → u.gate ≡ Closed m a → v.gate ≡ Closed m b → i ≡ j }
+    ensures word { (k : Begin) (s : TableState) (r : Kept k s) (j m : ℕ) (v : View) (alone : Bool) → IsSeat s j v → v.gate ≡ Closed m alone
+        → 2 ^ 32 ≤ slice_index s.words (gate_word k m) }
+    ensures nobody { (k : Begin) (s : TableState) (r : Kept k s) (j m : ℕ) (v : View) → IsSeat s j v → v.gate ≡ Closed m true
+        → slice_index s.words (gate_word k m) ≡ 2 ^ 32 }
+{}
+
+/// A published entry never changes: its words are what a seat read there, whatever has happened since.
+pub fn an_entry_stays_as_it_was_read()
+    ensures { (k : Begin) (s : TableState) (r : Kept k s) (j : ℕ) (v : View) (l : Leaf) → IsSeat s j v → v.leaf ≡ Some l
+        → (slice_index s.words l.place ≡ l.key) × (slice_index s.words (l.place + 1) ≡ l.value) }
+{}
+
+/// A caller between two calls holds no node, is outside of all gates, and has closed none. This says so of the words: no reachable
+/// node's lock word is the caller's, and where all callers are between two calls each gate's word is 0.
+pub fn a_caller_between_two_calls_holds_nothing()
+    ensures node { (k : Begin) (s : TableState) (r : Kept k s) (j p caller : ℕ) (v : View) → IsSeat s j v → IsIdle v → StandsFor v caller
+        → r.shape.kind_of p ≡ 1 → r.shape.cut_of p ≡ None → slice_index s.words p ≢ suc caller }
+    ensures gate { (k : Begin) (s : TableState) (r : Kept k s) (j m caller : ℕ) (v : View) → IsSeat s j v → IsIdle v → StandsFor v caller
+        → (r.shape.inside m caller ≡ false) × (r.shape.closed_by m ≢ suc caller) }
+    ensures open { (k : Begin) (s : TableState) (r : Kept k s) (m : ℕ) → AllAtRest k s → m < k.maps → slice_index s.words (gate_word k m) ≡ 0 }
+{}
