@@ -1,4 +1,5 @@
 mod fresh;
 mod one_thread;
+mod packed;
 mod threads;
 mod wake_ups;

@@ -184,5 +184,6 @@ impl MutexCore {
     }
 }
 
+mod packed;
 #[cfg(test)]
 mod tests;
