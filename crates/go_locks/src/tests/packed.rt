@@ -6,6 +6,7 @@ ghost use Rattle.go_locks.specs.Mutexes.{IsPassOfMutex};
 ghost use Rattle.go_locks.specs.Fresh.{IsFresh};
 
 use super::fresh::{LockPass, Locked, last, mutex, nothing};
+use std::alloc::Global;
 use std::sync::Wait;
 use std::sync::atomic::{AtomicU64, AtomicUsize, Ordering};
 use std::test::Fail;
@@ -191,13 +192,14 @@ fn later_callers<R: Threads + Wait + Sync>(
 // Caller 1 is woken, and loses against caller 0 at the moment `late`, when caller 2 has queued behind it. The word is then
 // `lost`, and caller 0's try after its unlock takes the mutex or doesn't. The answers that were wrong, and how often each
 // caller looked at its clock.
-fn loses_at(
-    rt: &HostRuntime,
+fn loses_at<R: Threads + Wait + Sync>(
+    rt: &R,
+    alloc: Global,
     late: u64,
     lost: u64,
     takes: bool,
 ) -> Result<(u64, usize, usize, usize), Fail> {
-    let (mutex, mut passes) = mutex(rt.alloc(), 3)?;
+    let (mutex, mut passes) = mutex(alloc, 3)?;
     let two = last(&mutex, &mut passes);
     let one = last(&mutex, &mut passes);
     let zero = last(&mutex, &mut passes);
@@ -207,20 +209,20 @@ fn loses_at(
     };
     let clock_zero = HeldClock {
         gate: &row.gate,
-        steps: Vec::from_slice(rt.alloc(), &[0, 0])?,
-        moments: Vec::from_slice(rt.alloc(), &[0, 0])?,
+        steps: Vec::from_slice(alloc, &[0, 0])?,
+        moments: Vec::from_slice(alloc, &[0, 0])?,
         looks: AtomicUsize::new(0),
     };
     let clock_one = HeldClock {
         gate: &row.gate,
-        steps: Vec::from_slice(rt.alloc(), &[1, 3, 4])?,
-        moments: Vec::from_slice(rt.alloc(), &[0, late, late])?,
+        steps: Vec::from_slice(alloc, &[1, 3, 4])?,
+        moments: Vec::from_slice(alloc, &[0, late, late])?,
         looks: AtomicUsize::new(0),
     };
     let clock_two = HeldClock {
         gate: &row.gate,
-        steps: Vec::from_slice(rt.alloc(), &[2, 4])?,
-        moments: Vec::from_slice(rt.alloc(), &[late, late])?,
+        steps: Vec::from_slice(alloc, &[2, 4])?,
+        moments: Vec::from_slice(alloc, &[late, late])?,
         looks: AtomicUsize::new(0),
     };
     join(
@@ -239,13 +241,19 @@ fn loses_at(
 // More than a millisecond after its arrival caller 1 starves: the mutex is handed to it, and a try fails.
 #[test]
 fn a_starving_loser_is_handed_the_mutex(rt: HostRuntime) -> Result<(), Fail> {
-    assert_eq!(rt; loses_at(&rt, 1_000_001, 21, false)?, (0, 2, 3, 2));
+    assert_eq!(rt;
+        loses_at(&rt, rt.alloc(), 1_000_001, 21, false)?,
+        (0, 2, 3, 2)
+    );
     Ok(())
 }
 
 // After a millisecond itself it doesn't, and a try takes the mutex.
 #[test]
 fn a_loser_that_does_not_starve_loses_again(rt: HostRuntime) -> Result<(), Fail> {
-    assert_eq!(rt; loses_at(&rt, 1_000_000, 17, true)?, (0, 2, 3, 2));
+    assert_eq!(rt;
+        loses_at(&rt, rt.alloc(), 1_000_000, 17, true)?,
+        (0, 2, 3, 2)
+    );
     Ok(())
 }
