@@ -144,21 +144,13 @@ sized : {E R : Type 0} (es : List (Placed E R)) → length (entries_of es) ≡ l
 sized [] = refl
 sized (e ∷ es) = ap suc (sized es)
 
-module _ {S E R : Type 0} (alone : S → ℕ → E → Bool) where
-  -- the word alone decides the event, whatever it was answered
-  pub alone_of : (state : S) (caller : ℕ) (event : E) (answer : Answer R) → IsAlone alone state caller (deed_of event answer) → alone state caller event ≡ true
-  alone_of state caller event (Done reply) is = is
-  alone_of state caller event (Halted misuse) is = is
-
 module _ {S N E R : Type 0} (next : S → ℕ → E → S × R) (halts : Bool) (alone : S → ℕ → E → Bool) (start : S) where
   -- the one entry that a pass's caller made is the last that it has seen
-  pub needs_none : (old new : Pass S N E R) (journal : List (Entry E R)) (e : Entry E R) (event : E) (answer : Answer R) (from to : List ℕ) → seen_by new ≡ journal ++ e ∷ [] → e.caller ≡ number_of old → e.deed ≡ deed_of event answer
-      → (alone (state_after next start journal) (number_of old) event ≡ true → turns_of new ≡ turns_of old) → NeedsNoTurn next halts alone start old from new to
-  needs_none old new journal e event answer from to seen caller deed none one grows is =
+  pub needs_none : (old new : Pass S N E R) (journal : List (Entry E R)) (e : Entry E R) (from to : List ℕ) → seen_by new ≡ journal ++ e ∷ [] → (IsAlone alone (state_after next start journal) e.caller e.deed → turns_of new ≡ turns_of old)
+      → NeedsNoTurn next halts alone start old from new to
+  needs_none old new journal e from to seen none one grows is =
       let same = same_snoc one.before journal one.entry e (sym grows.history.2 ∙ seen) in
-      let here : IsAlone alone (state_after next start journal) (number_of old) (deed_of event answer) =
-      subst (λ (z : S × ℕ × Deed E R). IsAlone alone z.0 z.1 z.2) (λ i. (state_after next start (same.0 i), (ap (λ (x : Entry E R). x.caller) same.1 ∙ caller) i, (ap (λ (x : Entry E R). x.deed) same.1 ∙ deed) i)) is in
-      none (alone_of alone (state_after next start journal) (number_of old) event answer here)
+      none (subst (λ (z : List (Entry E R) × Entry E R). IsAlone alone (state_after next start z.0) z.1.caller z.1.deed) (λ i. (same.0 i, same.1 i)) is)
 
   pub needs_none_spent : (old mid new : Pass S N E R) (from to : List ℕ) → IsSpent old mid → NeedsNoTurn next halts alone start mid from new to → NeedsNoTurn next halts alone start old from new to
   needs_none_spent old mid new from to spent needs one grows is =

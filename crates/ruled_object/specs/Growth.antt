@@ -89,13 +89,13 @@ pub record KeepsNote {H N : Type 0} (at : H → N → Type 0) (own : N → Optio
   pub rises : AtLeast (front new) (front old)
 
 module _ {S E R : Type 0} where
-  -- the word alone decides the event of this deed, made by this caller at this state
+  -- the word alone decides this deed of a caller at this state: an event that it decides, and each event that is refused
   abbrev pub IsAlone : (S → ℕ → E → Bool) → S → ℕ → Deed E R → Type 0
   IsAlone alone state caller (Event event reply) = alone state caller event ≡ true
-  IsAlone alone state caller (Refused event misuse) = alone state caller event ≡ true
+  IsAlone alone state caller (Refused event misuse) = Unit {0}
   IsAlone alone state caller (Halt misuse) = ⊥
 
--- Where the pass's caller made one entry alone, and the word alone decides its event at its place, no turn was taken.
+-- Where the pass's caller made one entry alone, and the word alone decides it at its place, no turn was taken.
 abbrev pub NeedsNoTurn : {S N E R : Type 0} → (S → ℕ → E → S × R) → Bool → (S → ℕ → E → Bool) → S → Pass S N E R → List ℕ → Pass S N E R → List ℕ → Type 0
 NeedsNoTurn {S} {N} {E} {R} next halts alone start old from new to =
     (one : Placed E R) → Grows next halts start old from (one ∷ []) new to → IsAlone alone (state_after next start one.before) one.entry.caller one.entry.deed → turns_of new ≡ turns_of old

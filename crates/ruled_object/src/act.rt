@@ -6,6 +6,7 @@ ghost use Rattle.sync_model.specs.Journal.{is_such};
 ghost use Rattle.sync_model.specs.Note.{SameHome};
 ghost use Rattle.ruled_object.specs.declared.view.Stage.TheVariants.{Deep, Taken};
 ghost use Rattle.ruled_object.specs.Cells.{deed_of, Acts};
+ghost use Rattle.ruled_object.specs.Growth.{IsAlone};
 ghost use Rattle.ruled_object.specs.Passes.{turns_of, CountsTurns};
 ghost use Rattle.ruled_object.specs.Steps.{counted, HasCell, IsSameSeat};
 
@@ -35,7 +36,7 @@ impl<M: Worded, N: Note> Object<M, N> {
         ensures pass { (pass.new.number ≡ pass.old.number) × (pass.new.left ≡ pass.old.left) × CountsTurns pass.new }
         ensures seat { IsSameSeat pass.old.seat pass.new.seat × (pass.new.seat.me.0 ≡ counted pass.old.seat.me.0 pass.new.seat.me.0.turns) }
         ensures acts { HasCell pass.old.seat.me (λ old. HasCell pass.new.seat.me (λ new. Acts M.next M.HALTS M.frees M.takes N.front M.tells M.means pass.old.number (deed_of event result.0) (N.front note.new) word old result.2 new × SameHome N.at old.note new.note
-            × (M.alone (M.means old.state word) pass.old.number event ≡ true → turns_of pass.new ≡ turns_of pass.old))) }
+            × (IsAlone M.alone (M.means old.state word) pass.old.number (deed_of event result.0) → turns_of pass.new ≡ turns_of pass.old))) }
         ensures free { result.2 < 2 ^ 63 }
         ensures home { SameHome N.at note.old note.new }
         ensures note { (N.own note.new ≡ N.own note.old) × AtLeast (N.front note.new) (N.front note.old) }

@@ -26,7 +26,7 @@ impl<M: Worded, N: Note> Object<M, N> {
     /// Once the word is given back, the callers that the event lets go on are woken, as the machine names them
     /// (`Machine::wakes`), each as `unpark` does.
     ///
-    /// Where the word alone decides the event, no turn is taken for it (`NeedsNoTurn`).
+    /// Where the word alone decides the event, and where it is refused, no turn is taken for it (`NeedsNoTurn`).
     ///
     /// An event that acquires synchronizes after each earlier one that releases: the caller's note then knows all that
     /// theirs knew. After any other event, and after `Halted`, it knows what it knew before.

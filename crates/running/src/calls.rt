@@ -52,7 +52,7 @@ pub fn call<P: Protocol + Worded, N: Note, C: Clock, R: Wait>(
 /// one stage after the other, as the protocol says. Where the caller is to wait it sleeps until it is woken; nobody may have
 /// told it to go on, and then it sleeps again.
 ///
-/// Where it makes one event alone, and the object's word alone decides that event, it takes no turn.
+/// Where it makes one event alone, and the object's word alone decides that event or the event is refused, it takes no turn.
 ///
 /// It answers `Halted` exactly where the object was halted before the last of its events. Where it gains nothing, and where
 /// it is a misuse or halted, its caller's note knows what it knew.

@@ -1,5 +1,4 @@
-use Rattle.std.proofs.Common.{ap, ◌≤◌, sym, subst}
-use Rattle.mutex_core.specs.Word.{bit}
+use Rattle.std.proofs.Common.{◌≤◌, sym, subst}
 use Rattle.mutex_core.proofs.PackedWord.{bit_small, counts, quiet_word, small_quiet}
 use Rattle.mutex_core.proofs.laws.the_word.Goals as goal
 

@@ -1,4 +1,4 @@
-use Rattle.std.proofs.Common.{◌≡◌, ◌≤◌, length, arith, sym, ap, ◌∙◌}
+use Rattle.std.proofs.Common.{◌≤◌, length, arith, sym, ◌∙◌}
 use Rattle.ruled_object.proofs.Holding.{one_held, own_held, some_held}
 use Rattle.ruled_object.proofs.laws.passes_and_copies.Goals as goal
 

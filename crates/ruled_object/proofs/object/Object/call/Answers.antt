@@ -4,6 +4,7 @@ use Rattle.ruled_object.specs.Cells.{deed_of, Acts}
 use Rattle.ruled_object.specs.Steps.{gave, taken, counted, MayAdd}
 use Rattle.ruled_object.proofs.Calls.{entry, learned, may_add, may_counted, adds}
 use Rattle.ruled_object.proofs.Growth.{makes_one, needs_none}
+use Rattle.ruled_object.specs.Growth.{IsAlone}
 use Rattle.ruled_object.proofs.Journals.{never_halted}
 use Rattle.ruled_object.proofs.object.Object.call.Goals as goal
 
@@ -112,6 +113,8 @@ returns-clause-quick g c =
     let learns = learned m.next m.HALTS m.frees m.takes n.front n.at g.M.Worded.tells g.M.Worded.means begin word pass.seat.me c.take_word-word.new.seat.me old took acts.1 in
     let view = c.act-answer.ensures.seat.1 ∙ ap (λ me. counted me.0 new.seat.me.0.turns) took.2 in
     let e = entry pass.number c.deed-deed.result (n.front c.act-answer.new.note) new.seat.me.0.knew in
-    needs_none m.next m.HALTS g.M.Worded.alone begin.state pass record { number = new.number; left = new.left; turns = new.turns; seat = c.give_entry.new.seat } took.0 e c.args.event c.act-answer.result.0 (n.front c.args.note.now) (n.front c.act-answer.new.note)
-    (ap (λ me. me.0.seen) c.give_entry.ensures.gave ∙ ap (λ v. v.seen ++ e ∷ []) view) refl c.deed-deed.ensures
-    (λ alone. acts.2.2.2 (subst (λ state. g.M.Worded.alone state pass.number c.args.event ≡ true) (sym learns.lies.state) alone))
+    needs_none m.next m.HALTS g.M.Worded.alone begin.state pass record { number = new.number; left = new.left; turns = new.turns; seat = c.give_entry.new.seat } took.0 e (n.front c.args.note.now) (n.front c.act-answer.new.note)
+    (ap (λ me. me.0.seen) c.give_entry.ensures.gave ∙ ap (λ v. v.seen ++ e ∷ []) view)
+    (λ alone.
+        let at_cell = subst (λ state. IsAlone g.M.Worded.alone state pass.number c.deed-deed.result) (sym learns.lies.state) alone in
+        acts.2.2.2 (subst (λ deed. IsAlone g.M.Worded.alone (g.M.Worded.means old.state word) pass.number deed) c.deed-deed.ensures at_cell))

@@ -1,8 +1,7 @@
-use Rattle.std.proofs.Common.{rules, ◌≡◌, ◌<◌, [], ◌∷◌, Some, ap, sym, ◌∙◌, subst, length}
-use Rattle.atomic_table.specs.Table.{Allows, rest}
-use Rattle.ruled_object.specs.declared.view.Stage.TheVariants.{Taken}
+use Rattle.std.proofs.Common.{rules, ◌≡◌, [], sym, subst}
+use Rattle.atomic_table.specs.Table.{Allows}
 use Rattle.ruled_object.specs.Rule.{Kept}
-use Rattle.ruled_object.specs.Steps.{gave, MayGive}
+use Rattle.ruled_object.specs.Steps.{gave}
 use Rattle.ruled_object.proofs.Steps.{gives_word}
 use Rattle.ruled_object.proofs.object.Object.give_word.Goals as goal
 

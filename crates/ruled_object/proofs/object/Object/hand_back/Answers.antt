@@ -1,4 +1,4 @@
-use Rattle.std.proofs.Common.{rules, ◌+◌, ◌<◌, length, arith, refl, sym, ◌∙◌, subst}
+use Rattle.std.proofs.Common.{rules, ◌+◌, ◌<◌, length, arith, sym, ◌∙◌, subst}
 use mathlib.Core.Option.{some-injective}
 use Rattle.ruled_object.specs.Gathered.{Dealing}
 use Rattle.ruled_object.specs.Passes.{own_by}

@@ -1,9 +1,7 @@
-use Rattle.std.proofs.Common.{rules, ◌≡◌, ◌++◌, [], length, arith, ap, sym, ◌∙◌, subst}
+use Rattle.std.proofs.Common.{rules, ◌++◌, length, arith, ap, sym, ◌∙◌, subst}
 use Rattle.std.proofs.lemmas.List.{append-nil}
 use Rattle.sync_model.specs.Journal.{Begins}
-use Rattle.ruled_object.specs.Looks.{looked}
 use Rattle.ruled_object.specs.Notes.{held_of}
-use Rattle.ruled_object.specs.Steps.{joined}
 use Rattle.ruled_object.proofs.Holding.{nobody, sees_both, shows_after}
 use Rattle.ruled_object.proofs.Steps.{joins}
 use Rattle.ruled_object.proofs.object.Object.merge.Goals as goal

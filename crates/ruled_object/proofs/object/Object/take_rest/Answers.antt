@@ -1,5 +1,5 @@
-use Rattle.std.proofs.Common.{rules, ◌∷◌, Some, ap, sym, ◌∙◌, subst}
-use Rattle.atomic_table.specs.Table.{Allows, rest}
+use Rattle.std.proofs.Common.{rules, sym, subst}
+use Rattle.atomic_table.specs.Table.{Allows}
 use Rattle.ruled_object.specs.Rule.{Kept}
 use Rattle.ruled_object.specs.Steps.{IfBegun, TakesRest}
 use Rattle.ruled_object.proofs.Steps.{takes_rest}

@@ -1,6 +1,6 @@
-use Rattle.std.proofs.Common.{rules, ◌≡◌, ◌<◌, [], ◌∷◌, Some, ap, sym, ◌∙◌, subst, length, eqb, ◌+◌}
+use Rattle.std.proofs.Common.{rules, ◌≡◌, ◌<◌, [], sym, subst, length, eqb, ◌+◌}
 use prog.Atomic.{either}
-use Rattle.atomic_table.specs.Table.{Allows, rest}
+use Rattle.atomic_table.specs.Table.{Allows}
 use Rattle.ruled_object.specs.Rule.{Kept}
 use Rattle.ruled_object.specs.Steps.{IfBegun, TakesRest, TakesWord}
 use Rattle.ruled_object.proofs.Steps.{takes_word}
