@@ -7,6 +7,7 @@ mod calls;
 mod halts;
 mod new;
 mod within;
+mod word;
 
 use mutex_core::MutexCore;
 use ruled_object::{Object, PassOf};

@@ -10,6 +10,7 @@ ghost use Rattle.thread_objects.specs.Seats.{IsSeat};
 ghost use Rattle.kind_calls.specs.Working.{Works, desk_at};
 ghost use Rattle.thread_objects.specs.Passes.{own_as};
 
+use object_word::Worded;
 use protocols::Protocol;
 use ruled_object::{Object, PassOf};
 use running::call_within;
@@ -21,7 +22,7 @@ use thread_objects::Worker;
 
 /// Makes a call of a protocol that leaves its caller out of the object, whatever it comes to. The run of a worker is one long
 /// call, as passes count them: it takes nothing off the calls that are left.
-pub(crate) fn part<P: Protocol, N: Note, C: Clock, R: Wait>(
+pub(crate) fn part<P: Protocol + Worded, N: Note, C: Clock, R: Wait>(
     rt: &R,
     worker: &Worker<N, C>,
     object: &Object<P, N>,

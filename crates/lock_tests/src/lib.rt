@@ -9,6 +9,8 @@ mod mutex;
 #[cfg(test)]
 mod one_thread;
 #[cfg(test)]
+mod packed;
+#[cfg(test)]
 mod rw_mutex;
 #[cfg(test)]
 mod threads;

@@ -116,4 +116,14 @@ impl<'a> Member<'a> {
     pub(super) fn left(&self) -> u64 {
         self.pass.left()
     }
+
+    /// How often the turn was taken for this caller.
+    pub(super) fn turns(&self) -> u64 {
+        self.pass.turns()
+    }
+
+    /// What the lock's word says just now.
+    pub(super) fn word(&mut self) -> u64 {
+        self.lock.word(&mut self.pass)
+    }
 }

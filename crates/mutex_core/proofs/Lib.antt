@@ -8,3 +8,4 @@ pub mod Standing
 pub mod Modes
 pub mod Order
 pub mod Moves
+pub mod PackedWord

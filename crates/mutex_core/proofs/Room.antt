@@ -14,7 +14,7 @@ length-waiting_by (flight.Woken w) q = omega (arith, length-callers_of q)
 length-waiting_by flight.Handed q = omega (arith, length-callers_of q)
 
 -- a valid state's queue is no longer than there are callers
-length-queue : (s : State) → IsValid s → length s.queue ≤ s.callers
+pub length-queue : (s : State) → IsValid s → length s.queue ≤ s.callers
 length-queue s h = omega (arith, length-waiting_by s.flight s.queue, length-apart s.callers (waiting_by s.flight s.queue) h.callers h.apart)
 
 -- a caller that is out can join the queue

@@ -1,11 +1,12 @@
 //! What holds of the machine, whatever its callers do. A log lists who did what, and what it was answered. It follows the
 //! machine, from the unlocked mutex on, where each of its answers is the machine's.
-ghost use Rattle.std.specs.Prelude.{◌≡◌, ◌≢◌, ◌↔◌, ℕ, ◌+◌, ◌<◌, ◌≤◌, false, true, IsTrue, ◌∷◌, ◌++◌, IsFalse};
+ghost use Rattle.std.specs.Prelude.{◌≡◌, ◌≢◌, ◌↔◌, ℕ, ◌+◌, ◌*◌, ◌<◌, ◌≤◌, false, true, IsTrue, ◌∷◌, ◌++◌, IsFalse, length};
 ghost use Rattle.std.specs.List.{list_any};
 ghost use Rattle.sync_model.specs.Log.{Entry, after, Follows};
 ghost use Rattle.mutex_core.specs.declared.event.MutexEvent.{MutexEvent};
 ghost use Rattle.mutex_core.specs.declared.reply.MutexReply.{MutexReply};
-ghost use Rattle.mutex_core.specs.MutexMachine.{next, start, IsValid, State, may_make, place_of};
+ghost use Rattle.mutex_core.specs.MutexMachine.{next, start, IsValid, State, may_make, place_of, waiting_by};
+ghost use Rattle.mutex_core.specs.Word.{bit, word_of, is_quiet, is_uncontended};
 ghost use Rattle.mutex_core.specs.EventsLeft.{events_left, given_by, used_by};
 ghost use Rattle.mutex_core.specs.Edges.{Log, acquires, releases};
 ghost use Rattle.mutex_core.specs.Exclusion.{TakesTurns};
@@ -127,4 +128,22 @@ pub fn changes_of_mode()
         → IsTrue state.starving → IsFalse (next state caller event).0.starving → IsTheLastToStarve state event (next state caller event).1 }
     ensures ended { (state : State) (caller : ℕ) (event : MutexEvent)
         → IsTheLastToStarve state event (next state caller event).1 → IsFalse (next state caller event).0.starving }
+{}
+
+/// What the packed word tells. It is 0 or 1 exactly where nobody waits and nobody is in flight, and then it is 1 exactly
+/// where the mutex is locked. It counts each waiter in the queue, one that was handed the mutex too, and none that is woken.
+pub fn the_word()
+    ensures quiet { (state : State) → IsValid state → word_of state ≤ 1 ↔ IsTrue (is_quiet state) }
+    ensures locked { (state : State) → IsValid state → IsTrue (is_quiet state) → word_of state ≡ bit state.locked }
+    ensures waiters { (state : State) → IsValid state
+        → word_of state + 8 * bit state.woken ≡ bit state.locked + 2 * bit state.woken + 4 * bit state.starving + 8 * length (waiting_by state.flight state.queue) }
+{}
+
+/// An uncontended event, which finds an empty queue and nobody in flight and doesn't queue its caller, changes at most
+/// whether the mutex is locked. So the packed word alone decides it.
+pub fn uncontended_events()
+    ensures leaves { (state : State) (caller : ℕ) (event : MutexEvent) → IsValid state → IsTrue (is_uncontended state caller event)
+        → (next state caller event).0 ≡ record state { locked = (next state caller event).0.locked } }
+    ensures word { (state : State) (caller : ℕ) (event : MutexEvent) → IsValid state → IsTrue (is_uncontended state caller event)
+        → word_of (next state caller event).0 ≡ bit (next state caller event).0.locked }
 {}

@@ -9,6 +9,7 @@ pub mod mutex;
 pub mod place;
 pub mod reply;
 pub mod waiter;
+mod word;
 
 pub use event::MutexEvent;
 pub use mutex::MutexCore;

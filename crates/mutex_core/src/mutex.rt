@@ -183,3 +183,5 @@ impl MutexCore {
         self.queue.iter().any(|waiter| caller == waiter.caller)
     }
 }
+
+mod packed;

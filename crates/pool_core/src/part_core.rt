@@ -7,6 +7,7 @@ ghost use Rattle.pool_core.specs.PoolParts.{take_tail, take_victim, reply_of_loo
 use crate::part::Part;
 use crate::pool::PoolCore;
 use crate::pool_event::{PoolEvent, PoolReply};
+use object_word::Worded;
 use std::alloc::{AllocError, Global};
 use std::marker::Model;
 use std::mem;
@@ -96,5 +97,28 @@ impl Machine for PartCore {
 
     fn acquires(event: &PoolEvent<u64>, reply: &PoolReply<u64>) -> bool {
         PoolCore::acquires(event, reply)
+    }
+}
+
+// Its objects' word tells nothing.
+impl Worded for PartCore {
+    const TELLS: bool = false;
+
+    #[inline(always)]
+    fn word(_state: &PartCore) -> u64 {
+        0
+    }
+
+    #[inline(always)]
+    fn refresh(_kept: &mut PartCore, _word: u64) {}
+
+    #[inline(always)]
+    fn quick(
+        kept: &mut PartCore,
+        _word: u64,
+        caller: u32,
+        event: PoolEvent<u64>,
+    ) -> Option<(u64, PoolReply<u64>)> {
+        Some((0, Self::step(kept, caller, event)))
     }
 }

@@ -6,6 +6,7 @@ ghost use Rattle.pool_core.specs.PoolMachine.{start, next, callers_of};
 
 use crate::part::Part;
 use crate::pool_event::{PoolEvent, PoolPut, PoolReply};
+use object_word::Worded;
 use std::alloc::{AllocError, Global};
 use std::marker::Model;
 use std::mem;
@@ -158,6 +159,29 @@ impl Machine for PoolCore {
 
     fn acquires(_event: &PoolEvent<u64>, reply: &PoolReply<u64>) -> bool {
         matches!(reply, PoolReply::Item(_))
+    }
+}
+
+// Its objects' word tells nothing.
+impl Worded for PoolCore {
+    const TELLS: bool = false;
+
+    #[inline(always)]
+    fn word(_state: &PoolCore) -> u64 {
+        0
+    }
+
+    #[inline(always)]
+    fn refresh(_kept: &mut PoolCore, _word: u64) {}
+
+    #[inline(always)]
+    fn quick(
+        kept: &mut PoolCore,
+        _word: u64,
+        caller: u32,
+        event: PoolEvent<u64>,
+    ) -> Option<(u64, PoolReply<u64>)> {
+        Some((0, Self::step(kept, caller, event)))
     }
 }
 

@@ -1,5 +1,5 @@
 -- What a call adds to the history.
-use Rattle.std.proofs.Common.{◌≡◌, ℕ, ◌+◌, ◌<◌, Bool, List, [], ◌∷◌, ◌++◌, length, Option, Some, None, refl, sym, ap, ◌∙◌, subst, arith}
+use Rattle.std.proofs.Common.{◌≡◌, ℕ, ◌+◌, ◌<◌, Bool, List, [], ◌∷◌, ◌++◌, length, Option, Some, None, IfSome, IfNone, refl, sym, ap, ◌∙◌, subst, arith}
 use mathlib.Core.Option.{some}
 use lib.ListN.{get_elem?}
 use Rattle.atomic_table.specs.Table.{rest}
@@ -14,7 +14,7 @@ use Rattle.ruled_object.specs.declared.rule.Begin.{Begin}
 use Rattle.ruled_object.specs.declared.view.View.{View}
 use Rattle.ruled_object.specs.Cells.{Acts}
 use Rattle.ruled_object.specs.Passes.{own_of, Adds, seen_by}
-use Rattle.ruled_object.specs.Steps.{Sat, taken, added, gave, Learns, MayAdd, TakesRest}
+use Rattle.ruled_object.specs.Steps.{Sat, taken, counted, added, gave, Learns, MayAdd, TakesRest}
 use Rattle.ruled_object.proofs.Journals.{by_here, halt_snoc, covers_more, covers_snoc, edges_snoc, state_snoc, follows_snoc}
 
 module _ {E R : Type 0} where
@@ -34,6 +34,15 @@ module _ {E R : Type 0} where
   still_one [] e = refl
   still_one (own ∷ owns) e = refl
 
+-- what follows where there is something, and where there is nothing
+pub where_some : {A : Type 0} {P Q : A → Type 0} (o : Option A) → ((x : A) → P x → Q x) → IfSome o P → IfSome o Q
+where_some None f p = tt
+where_some (Some x) f p = f x p
+
+pub where_none : {A P Q : Type 0} (o : Option A) → (P → Q) → IfNone o P → IfNone o Q
+where_none None f p = f p
+where_none (Some x) f p = tt
+
 module _ {S N E R : Type 0} where
   -- one cell lies in the slot
   pub one_cell : (m : Sat S N E R) (a b : Cell S N) → m.1 ≡ (0, Some a) ∷ [] → m.1 ≡ (0, Some b) ∷ [] → a ≡ b
@@ -47,34 +56,40 @@ module _ {S N E R : Type 0} where
   pub holds_new : (m : Sat S N E R) (new old : Cell S N) → m.1 ≡ (0, Some old) ∷ [] → (0, Some new) ∷ rest m.1 ≡ (0, Some new) ∷ []
   holds_new m new old held = ap (λ slots. (0, Some new) ∷ rest slots) held
 
-module _ {S N E R H : Type 0} (next : S → ℕ → E → S × R) (halts : Bool) (frees takes : E → R → Bool) (front : N → List ℕ) (at : H → N → Type 0) (begin : Begin S N) where
+module _ {S N E R H : Type 0} (next : S → ℕ → E → S × R) (halts : Bool) (frees takes : E → R → Bool) (front : N → List ℕ) (at : H → N → Type 0) (tells : S → ℕ) (means : S → ℕ → S) (begin : Begin S N) where
   -- what was learned with the turn is so of the cell that the seat then has
-  pub learned : (m n : Sat S N E R) (cell : Cell S N) (took : TakesRest next halts frees takes front at begin m n) → n.1 ≡ (0, Some cell) ∷ [] → Learns next halts frees takes front at begin m.0 took.0 cell
-  learned m n cell took held = subst (λ c. Learns next halts frees takes front at begin m.0 took.0 c) (one_cell n took.1 cell (ap (λ x. x.1) took.2) held) took.3
+  pub learned : (word : ℕ) (m n : Sat S N E R) (cell : Cell S N) (took : TakesRest next halts frees takes front at tells means begin word m n) → n.1 ≡ (0, Some cell) ∷ [] → Learns next halts frees takes front at tells means begin m.0 took.0 word cell
+  learned word m n cell took held = subst (λ c. Learns next halts frees takes front at tells means begin m.0 took.0 word c) (one_cell n took.1 cell (ap (λ x. x.1) took.2) held) took.3
 
   -- a deed that is right at the cell that was learned may be added
-  pub may_add : (v : View E R) (journal : List (Entry E R)) (old new : Cell S N) (caller : ℕ) (deed : Deed E R) (known : List ℕ) → Learns next halts frees takes front at begin v journal old
-      → Acts next halts frees takes front caller deed known old new → SameHome at old.note new.note → v.number ≡ caller
-      → MayAdd next halts frees takes front at begin (taken v journal) (entry caller deed known (length v.seen)) new
-  may_add v journal old new caller deed known learns acts same number =
-      let e : Entry E R = entry caller deed known (length v.seen) in let lies = learns.lies in record {
+  pub may_add : (v : View E R) (journal : List (Entry E R)) (word : ℕ) (old : Cell S N) (left : ℕ) (new : Cell S N) (caller : ℕ) (deed : Deed E R) (known : List ℕ) → Learns next halts frees takes front at tells means begin v journal word old
+      → Acts next halts frees takes front tells means caller deed known word old left new → SameHome at old.note new.note → v.number ≡ caller
+      → MayAdd next halts frees takes front at tells means begin (taken v journal) (entry caller deed known (length v.seen)) left new
+  may_add v journal word old left new caller deed known learns acts same number =
+      let e : Entry E R = entry caller deed known (length v.seen) in let lies = learns.lies in
+      let state : means new.state left ≡ state_after next begin.state (journal ++ e ∷ []) = acts.state ∙ (ap (λ (s : S). state_next next s caller deed) lies.state ∙ sym (state_snoc next begin.state journal e)) in record {
         caller = sym number;
         right = subst (λ (z : S × Option Misuse). Right next halts z.0 z.1 caller deed) (λ i. (lies.state i, lies.halted i)) acts.right;
         edge = λ take. covers_more frees known (front old.note) journal (acts.taken take) lies.knows;
         lies = record {
-          state = acts.state ∙ (ap (λ (s : S). state_next next s caller deed) lies.state ∙ sym (state_snoc next begin.state journal e));
+          state = state;
+          told = acts.told ∙ ap tells state;
           halted = acts.halted ∙ (ap (λ (h : Option Misuse). halt_next h deed) lies.halted ∙ sym (halt_snoc None journal e));
           home = λ home is. same home (lies.home home is);
           knows = covers_snoc frees (front new.note) journal e (covers_more frees (front new.note) (front old.note) journal acts.more lies.knows) acts.left;
         };
       }
 
+  -- how many turns the seat has taken doesn't matter for it
+  pub may_counted : (v : View E R) (turns : ℕ) (e : Entry E R) (word : ℕ) (cell : Cell S N) → MayAdd next halts frees takes front at tells means begin v e word cell → MayAdd next halts frees takes front at tells means begin (counted v turns) e word cell
+  may_counted v turns e word cell may = record { caller = may.caller; right = may.right; edge = may.edge; lies = may.lies }
+
   -- what the pass then says
-  pub adds : (old new : Pass S N E R) (journal : List (Entry E R)) (cell left : Cell S N) (deed : Deed E R) (known : List ℕ) → Learns next halts frees takes front at begin old.seat.me.0 journal cell
-      → MayAdd next halts frees takes front at begin (taken old.seat.me.0 journal) (entry old.number deed known (length old.seat.me.0.seen)) left → 0 < length old.seat.me.0.owns
-      → new.seat.me ≡ (gave (taken old.seat.me.0 journal) (Some (entry old.number deed known (length old.seat.me.0.seen))), [])
+  pub adds : (old new : Pass S N E R) (journal : List (Entry E R)) (word : ℕ) (cell : Cell S N) (after : ℕ) (left : Cell S N) (turns : ℕ) (deed : Deed E R) (known : List ℕ) → Learns next halts frees takes front at tells means begin old.seat.me.0 journal word cell
+      → MayAdd next halts frees takes front at tells means begin (taken old.seat.me.0 journal) (entry old.number deed known (length old.seat.me.0.seen)) after left → 0 < length old.seat.me.0.owns
+      → new.seat.me ≡ (gave (counted (taken old.seat.me.0 journal) turns) (Some (entry old.number deed known (length old.seat.me.0.seen))), [])
       → Adds next halts frees takes begin.state old (entry old.number deed known (length old.seat.me.0.seen)) new
-  adds old new journal cell left deed known learns may some_own is =
+  adds old new journal word cell after left turns deed known learns may some_own is =
       let v : View E R = old.seat.me.0 in let e : Entry E R = entry old.number deed known (length v.seen) in
       let seen : seen_by new ≡ journal ++ e ∷ [] = ap (λ (m : Sat S N E R). m.0.seen) is in
       let owns : new.seat.me.0.owns ≡ added v.owns e = ap (λ (m : Sat S N E R). m.0.owns) is in

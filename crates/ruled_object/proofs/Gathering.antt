@@ -16,8 +16,8 @@ use Rattle.ruled_object.specs.declared.pass.Pass.{Pass}
 use Rattle.ruled_object.specs.declared.rule.Begin.{Begin}
 use Rattle.ruled_object.specs.declared.view.Stage.TheVariants.{Idle}
 use Rattle.ruled_object.specs.declared.view.View.{View}
-use Rattle.ruled_object.specs.Gathered.{AreAllPasses, SamePasses, SameOwn, Gathered, Dealing, IsDealt, IsWhole, IsSeen}
-use Rattle.ruled_object.specs.Passes.{own_of, own_by, seen_by, SamePass, callers_of}
+use Rattle.ruled_object.specs.Gathered.{AreAllPasses, SamePasses, SameOwn, Gathered, Dealing, IsDealt, IsWhole, IsSeen, SameTurns}
+use Rattle.ruled_object.specs.Passes.{own_of, own_by, turns_of, seen_by, SamePass, callers_of, CountsTurns}
 use Rattle.ruled_object.specs.Steps.{Sat, first_of, others_of, joined, kept, dealt, Learns}
 use Rattle.ruled_object.proofs.Calls.{own_is}
 use Rattle.ruled_object.proofs.Journals.{begins_all}
@@ -74,8 +74,8 @@ module _ {E R : Type 0} where
   }
 
 module _ {S N E R : Type 0} where
-  abbrev pub pass_of : ℕ → ℕ → Seat (Option (Cell S N)) (View E R) → Pass S N E R
-  pass_of number left seat = record { number = number; left = left; seat = seat }
+  abbrev pub pass_of : ℕ → ℕ → ℕ → Seat (Option (Cell S N)) (View E R) → Pass S N E R
+  pass_of number left turns seat = record { number = number; left = left; turns = turns; seat = seat }
 
   -- one pass more is taken in
   pub gathered_on : (n : ℕ) (passes : List (Pass S N E R)) (pass : Pass S N E R) (v : View E R) → slice_get passes n ≡ Some pass → length pass.seat.me.0.owns ≡ 1 → Gathered n passes v
@@ -119,6 +119,23 @@ module _ {S N E R : Type 0} where
         (λ other. d.each i p q at_old (sym (get_set_other passes n i after other) ∙ at_new));
   }
 
+  same_item : (xs : List (Pass S N E R)) (i : ℕ) (p q : Pass S N E R) → slice_get xs i ≡ Some p → slice_get xs i ≡ Some q → p ≡ q
+  same_item xs i p q a c = let e : Some p ≡ Some q = sym a ∙ c in (cc)
+
+  -- nobody has taken a turn since
+  pub turns_stay : (passes : List (Pass S N E R)) → SameTurns passes passes
+  turns_stay passes = λ i before after at_old at_new. ap turns_of (sym (same_item passes i before after at_old at_new))
+
+  pub turns_on : (old passes : List (Pass S N E R)) (n : ℕ) (before after : Pass S N E R) → slice_get old n ≡ Some before → turns_of after ≡ turns_of before → SameTurns old passes → SameTurns old (set passes n after)
+  turns_on old passes n before after at_n same d = λ i p q at_old at_new. dite (ℕ_discrete i n)
+      (λ is. let e : before ≡ p = same_item old n before p at_n (ap (slice_get old) (sym is) ∙ at_old) in
+      let f : after ≡ q = get_set_same passes n after q (ap (slice_get (set passes n after)) (sym is) ∙ at_new) in
+      subst (λ (x : Pass S N E R × Pass S N E R). turns_of x.1 ≡ turns_of x.0) (λ k. (e k, f k)) same)
+      (λ other. d i p q at_old (sym (get_set_other passes n i after other) ∙ at_new))
+
+  pub turns_through : (a b c : List (Pass S N E R)) → length c ≡ length b → SameTurns a b → SameTurns b c → SameTurns a c
+  turns_through a b c count d e = λ i p q at_a at_c. let middle = at_same b c i q count at_c in e i (get_or b i q) q middle at_c ∙ d i p (get_or b i q) at_a middle
+
   pub same_own : (next : S → ℕ → E → S × R) (halts : Bool) (frees takes : E → R → Bool) (start : S) (journal : List (Entry E R)) (old new : List (Pass S N E R)) → SamePasses old new
       → IsWhole next halts frees takes start journal old → IsWhole next halts frees takes start journal new → SameOwn old new
   same_own next halts frees takes start journal old new same whole_old whole_new = λ i pass at_i.
@@ -126,9 +143,9 @@ module _ {S N E R : Type 0} where
       (get_or old i pass, before, whole_new.owns i pass at_i ∙ sym (whole_old.owns i (get_or old i pass) before))
 
 -- the pass that is dealt out
-pub is_dealt : {M N S E R H : Type 0} (object : Object M N S E R H) (n : ℕ) (journal : List (Entry E R)) (all : List (List (Entry E R))) (v : View E R) (pass : Pass S N E R) → Dealing n journal all v → 0 < length v.owns
-    → n < callers_of object → pass.seat.table_id ≡ object.table.shared.table_id → pass.seat.me ≡ (dealt v, []) → pass.number ≡ n → IsDealt object n journal all pass
-is_dealt {M} {N} {S} {E} {R} {H} object n journal all v pass d some_own below table me number =
+pub is_dealt : {M N S E R H : Type 0} (object : Object M N S E R H) (n turns : ℕ) (journal : List (Entry E R)) (all : List (List (Entry E R))) (v : View E R) (pass : Pass S N E R) → Dealing n journal all v → 0 < length v.owns
+    → n < callers_of object → pass.seat.table_id ≡ object.table.shared.table_id → pass.seat.me ≡ (dealt turns v, []) → pass.number ≡ n → CountsTurns pass → IsDealt object n journal all pass
+is_dealt {M} {N} {S} {E} {R} {H} object n turns journal all v pass d some_own below table me number counts =
     let owns : pass.seat.me.0.owns ≡ first_of v.owns = ap (λ (m : Sat S N E R). m.0.owns) me in
     let same : n + 0 ≡ n = omega arith in record {
       is = record {
@@ -138,17 +155,18 @@ is_dealt {M} {N} {S} {E} {R} {H} object n journal all v pass d some_own below ta
         one = ap (λ (xs : List (List (Entry E R))). length xs) owns ∙ just_one v.owns some_own;
         turn = ap (λ (m : Sat S N E R). m.0.stage) me;
         empty = ap (λ (m : Sat S N E R). m.1) me;
+        turns = counts;
       };
       number = number;
       seen = ap (λ (m : Sat S N E R). m.0.seen) me ∙ d.seen;
       own = ap (get_elem? all) (sym same) ∙ (sym (d.owns 0) ∙ (own_is v.owns some_own ∙ ap (λ (x : List (Entry E R)). some x) (sym (ap own_of owns ∙ own_of_first v.owns))));
     }
 
-module _ {S N E R H : Type 0} (next : S → ℕ → E → S × R) (halts : Bool) (frees takes : E → R → Bool) (front : N → List ℕ) (at : H → N → Type 0) (begin : Begin S N) where
+module _ {S N E R H : Type 0} (next : S → ℕ → E → S × R) (halts : Bool) (frees takes : E → R → Bool) (front : N → List ℕ) (at : H → N → Type 0) (tells : S → ℕ) (means : S → ℕ → S) (begin : Begin S N) where
   -- what the seat that gathered all passes learns with the turn
-  pub whole : (passes : List (Pass S N E R)) (v : View E R) (journal : List (Entry E R)) (cell : Cell S N) → length passes ≡ begin.callers → Gathered (length passes) passes v
-      → Learns next halts frees takes front at begin v journal cell → IsWhole next halts frees takes begin.state journal passes
-  whole passes v journal cell count d learns = record {
+  pub whole : (passes : List (Pass S N E R)) (v : View E R) (journal : List (Entry E R)) (word : ℕ) (cell : Cell S N) → length passes ≡ begin.callers → Gathered (length passes) passes v
+      → Learns next halts frees takes front at tells means begin v journal word cell → IsWhole next halts frees takes begin.state journal passes
+  whole passes v journal word cell count d learns = record {
     follows = learns.lawful.follows;
     edges = learns.lawful.edges;
     owns = λ i pass at_i. let number = d.number in let same : v.number + i ≡ i = omega arith in (learns.owns i (own_by pass) (d.owns i pass (slice_get_within passes i pass at_i) at_i)).1 ∙ ap (λ (c : ℕ). by c journal) same;
@@ -157,10 +175,10 @@ module _ {S N E R H : Type 0} (next : S → ℕ → E → S × R) (halts : Bool)
   }
 
   -- and what the passes say that it deals out again
-  pub whole_again : {M : Type 0} (object : Object M N S E R H) (passes : List (Pass S N E R)) (v : View E R) (journal : List (Entry E R)) (cell : Cell S N) → length passes ≡ begin.callers → v.number ≡ 0
+  pub whole_again : {M : Type 0} (object : Object M N S E R H) (passes : List (Pass S N E R)) (v : View E R) (journal : List (Entry E R)) (word : ℕ) (cell : Cell S N) → length passes ≡ begin.callers → v.number ≡ 0
       → ((i : ℕ) (pass : Pass S N E R) → slice_get passes i ≡ Some pass → IsDealt object i journal v.owns pass)
-      → Learns next halts frees takes front at begin v journal cell → IsWhole next halts frees takes begin.state journal passes
-  whole_again object passes v journal cell count from_first dealt learns = record {
+      → Learns next halts frees takes front at tells means begin v journal word cell → IsWhole next halts frees takes begin.state journal passes
+  whole_again object passes v journal word cell count from_first dealt learns = record {
     follows = learns.lawful.follows;
     edges = learns.lawful.edges;
     owns = λ i pass at_i. let same : v.number + i ≡ i = omega arith in (learns.owns i (own_by pass) (dealt i pass at_i).own).1 ∙ ap (λ (c : ℕ). by c journal) same;
@@ -168,11 +186,11 @@ module _ {S N E R H : Type 0} (next : S → ℕ → E → S × R) (halts : Bool)
     callers = λ c past. learns.lawful.callers c (omega arith);
   }
 
-  pub seen_again : {M : Type 0} (object : Object M N S E R H) (passes : List (Pass S N E R)) (v : View E R) (journal : List (Entry E R)) (cell : Cell S N) → length passes ≡ begin.callers → v.number ≡ 0
+  pub seen_again : {M : Type 0} (object : Object M N S E R H) (passes : List (Pass S N E R)) (v : View E R) (journal : List (Entry E R)) (word : ℕ) (cell : Cell S N) → length passes ≡ begin.callers → v.number ≡ 0
       → ((i : ℕ) (pass : Pass S N E R) → slice_get passes i ≡ Some pass → IsDealt object i journal v.owns pass)
-      → Learns next halts frees takes front at begin v journal cell → IsSeen next halts frees takes begin.state journal passes
-  seen_again object passes v journal cell count from_first dealt learns = record {
-    whole = whole_again object passes v journal cell count from_first dealt learns;
+      → Learns next halts frees takes front at tells means begin v journal word cell → IsSeen next halts frees takes begin.state journal passes
+  seen_again object passes v journal word cell count from_first dealt learns = record {
+    whole = whole_again object passes v journal word cell count from_first dealt learns;
     all = λ i pass at_i. (dealt i pass at_i).seen;
   }
 

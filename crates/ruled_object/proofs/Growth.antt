@@ -1,18 +1,19 @@
 -- Entries of one caller that stand one after the other.
-use Rattle.std.proofs.Common.{◌≡◌, ℕ, Bool, Option, None, List, [], ◌∷◌, ◌++◌, slice_index, refl, sym, ap, ◌∙◌, subst, append_assoc, arith}
+use Rattle.std.proofs.Common.{◌≡◌, ℕ, suc, ◌<◌, Bool, true, length, length-append, Option, None, List, [], ◌∷◌, ◌++◌, slice_index, refl, sym, ap, ◌∙◌, subst, append_assoc, arith}
 use Rattle.std.specs.List.{AllByRecursion}
 use Rattle.std.proofs.lemmas.List.{append_cancel_right, map-append}
 use Rattle.ruled_object.proofs.Journals.{by_here}
 use Rattle.sync_types.specs.declared.misuse.Misuse.{Misuse}
 use Rattle.sync_model.specs.declared.answer.Answer.{Answer}
 use Rattle.sync_model.specs.declared.answer.Answer.TheVariants.{Done, Halted}
+use Rattle.sync_model.specs.declared.journal.Deed.{Deed}
 use Rattle.sync_model.specs.declared.journal.Entry.{Entry}
 use Rattle.sync_model.specs.Front.{AtLeast}
 use Rattle.sync_model.specs.Journal.{halt_next, halt_of, by, Rising, state_next, state_after, Right, Follows}
 use Rattle.ruled_object.specs.declared.pass.Pass.{Pass}
 use Rattle.ruled_object.specs.Cells.{deed_of}
-use Rattle.ruled_object.specs.Growth.{Placed, entries_of, Leads, halt_before, MeetsHalt, IsRight, Grows, Makes}
-use Rattle.ruled_object.specs.Passes.{number_of, seen_by, own_by, Adds}
+use Rattle.ruled_object.specs.Growth.{Placed, entries_of, Leads, halt_before, MeetsHalt, IsRight, Grows, Makes, IsAlone, NeedsNoTurn}
+use Rattle.ruled_object.specs.Passes.{number_of, left_of, turns_of, seen_by, own_by, IsSpent, Adds}
 use Rattle.ruled_object.specs.Standing.{stand_next, stand_from}
 
 module _ {E R : Type 0} where
@@ -114,3 +115,50 @@ module _ {S N E R : Type 0} (next : S → ℕ → E → S × R) (halts : Bool) (
       let p : Placed E R = one.0 in
       let known = before_one frees takes old new e p.before adds (one.2.history.2 ∙ ap (λ (x : Entry E R). p.before ++ x ∷ []) one.1) in
       record { one = p; grows = one.2; deed = ap (λ (x : Entry E R). x.deed) one.1 ∙ deed; halted = one.3; own = sym known.1; follows = known.0 }
+
+module _ {A : Type 0} where
+  abbrev but_last : List A → List A
+  but_last [] = []
+  but_last (x ∷ []) = []
+  but_last (x ∷ (y ∷ ys)) = x ∷ but_last (y ∷ ys)
+
+  but_last-snoc : (xs : List A) (x : A) → but_last (xs ++ x ∷ []) ≡ xs
+  but_last-snoc [] x = refl
+  but_last-snoc (y ∷ []) x = refl
+  but_last-snoc (y ∷ (z ∷ zs)) x = ap (λ (l : List A). y ∷ l) (but_last-snoc (z ∷ zs) x)
+
+  abbrev last_or : A → List A → A
+  last_or d [] = d
+  last_or d (x ∷ xs) = last_or x xs
+
+  last_or-snoc : (d : A) (xs : List A) (x : A) → last_or d (xs ++ x ∷ []) ≡ x
+  last_or-snoc d [] x = refl
+  last_or-snoc d (y ∷ ys) x = last_or-snoc y ys x
+
+  -- the last item, and those before it
+  pub same_snoc : (xs ys : List A) (x y : A) → xs ++ x ∷ [] ≡ ys ++ y ∷ [] → (xs ≡ ys) × (x ≡ y)
+  same_snoc xs ys x y e =
+      (sym (but_last-snoc xs x) ∙ (ap but_last e ∙ but_last-snoc ys y), sym (last_or-snoc x xs x) ∙ (ap (last_or x) e ∙ last_or-snoc x ys y))
+
+sized : {E R : Type 0} (es : List (Placed E R)) → length (entries_of es) ≡ length es
+sized [] = refl
+sized (e ∷ es) = ap suc (sized es)
+
+module _ {S N E R : Type 0} (next : S → ℕ → E → S × R) (halts : Bool) (alone : S → ℕ → E → Bool) (start : S) where
+  -- the one entry that a pass's caller made is the last that it has seen
+  pub needs_none : (old new : Pass S N E R) (journal : List (Entry E R)) (e : Entry E R) (from to : List ℕ) → seen_by new ≡ journal ++ e ∷ [] → (IsAlone alone (state_after next start journal) e.caller e.deed → turns_of new ≡ turns_of old)
+      → NeedsNoTurn next halts alone start old from new to
+  needs_none old new journal e from to seen none one grows is =
+      let same = same_snoc one.before journal one.entry e (sym grows.history.2 ∙ seen) in
+      none (subst (λ (z : List (Entry E R) × Entry E R). IsAlone alone (state_after next start z.0) z.1.caller z.1.deed) (λ i. (same.0 i, same.1 i)) is)
+
+  pub needs_none_spent : (old mid new : Pass S N E R) (from to : List ℕ) → IsSpent old mid → NeedsNoTurn next halts alone start mid from new to → NeedsNoTurn next halts alone start old from new to
+  needs_none_spent old mid new from to spent needs one grows is =
+      let after : Grows next halts start (record old { left = left_of mid }) from (one ∷ []) new to = record { history = grows.history; mine = grows.mine; right = grows.right; fronts = grows.fronts; number = grows.number } in
+      needs one (subst (λ p. Grows next halts start p from (one ∷ []) new to) (sym spent.1) after) is ∙ ap turns_of spent.1
+
+  -- who made several entries didn't make one
+  pub needs_none_several : (old new : Pass S N E R) (es : List (Placed E R)) (low high from to : List ℕ) → Grows next halts start old low es new high → 1 < length es → NeedsNoTurn next halts alone start old from new to
+  needs_none_several old new es low high from to many more one grows is =
+      let whole : length (own_by old ++ entries_of es) ≡ length (own_by old ++ one.entry ∷ []) = ap length (sym many.mine ∙ grows.mine) in
+      absurd (omega (arith, length-append (own_by old) (entries_of es), length-append (own_by old) (one.entry ∷ []), sized es))

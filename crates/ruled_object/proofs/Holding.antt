@@ -38,14 +38,14 @@ module _ {E R : Type 0} where
   one_held [] one = absurd (omega arith)
   one_held (own ∷ owns) one = refl
 
-module _ {S N E R H : Type 0} (next : S → ℕ → E → S × R) (halts : Bool) (frees takes : E → R → Bool) (front : N → List ℕ) (at : H → N → Type 0) (begin : Begin S N) where
+module _ {S N E R H : Type 0} (next : S → ℕ → E → S × R) (halts : Bool) (frees takes : E → R → Bool) (front : N → List ℕ) (at : H → N → Type 0) (tells : S → ℕ) (means : S → ℕ → S) (begin : Begin S N) where
   -- a seat that took in another and then looked has seen what both had
-  pub sees_both : (v w : View E R) (journal : List (Entry E R)) → Finds next halts frees takes front at begin (joined v w) journal → Begins journal v.seen × Begins journal w.seen
+  pub sees_both : (v w : View E R) (journal : List (Entry E R)) → Finds next halts frees takes front at tells means begin (joined v w) journal → Begins journal v.seen × Begins journal w.seen
   sees_both v w journal finds = (finds.seen, finds.heard (length v.heard + 0) w.seen (at_second v.heard (w.seen ∷ w.heard) 0 w.seen refl))
 
   -- what a pass shows after a look
   pub shows_after : (pass : Pass S N E R) (v : View E R) (slots : List (ℕ × Option (Cell S N))) (journal : List (Entry E R)) → pass.seat.me ≡ (looked v journal, slots) → v.number ≡ pass.number
-      → Finds next halts frees takes front at begin v journal → Shows next halts frees takes begin.state pass
+      → Finds next halts frees takes front at tells means begin v journal → Shows next halts frees takes begin.state pass
   shows_after pass v slots journal me number finds =
       let seen : pass.seat.me.0.seen ≡ journal = ap (λ (m : Sat S N E R). m.0.seen) me in
       let owns : pass.seat.me.0.owns ≡ v.owns = ap (λ (m : Sat S N E R). m.0.owns) me in

@@ -1,31 +1,39 @@
 -- A copy and a look keep the rule of an object's table.
-use Rattle.std.proofs.Common.{◌≡◌, ◌≢◌, ℕ, ◌+◌, ◌<◌, Bool, ⊎_elim, List, [], ◌∷◌, ◌++◌, get_or, set, Option, Some, None, refl, sym, ap, ◌∙◌, subst, arith}
+use Rattle.std.proofs.Common.{◌≡◌, ◌≢◌, ℕ, zero, suc, length, ◌+◌, ◌<◌, Bool, ⊎_elim, List, [], ◌∷◌, ◌++◌, get_or, set, Option, Some, None, refl, sym, ap, ◌∙◌, subst, arith}
 use mathlib.Core.Option.{some, some-ne-none, some-injective}
 use lib.ListN.{get_elem?}
 use lib.Seq.{set-get_or}
 use Rattle.atomic_table.specs.Table.{State, Allows, Splits}
 use Rattle.atomic_table.specs.Table as table
-use Rattle.atomic_table.proofs.Lists.{at_snoc, at_longer, set_else, set_again}
+use Rattle.atomic_table.proofs.Lists.{at_set, at_snoc, at_longer, set_here, set_else, set_again}
 use Rattle.sync_model.specs.declared.journal.Entry.{Entry}
 use Rattle.ruled_object.specs.declared.cell.Cell.{Cell}
 use Rattle.ruled_object.specs.declared.rule.Begin.{Begin}
 use Rattle.ruled_object.specs.declared.view.Stage.TheVariants.{Idle}
 use Rattle.ruled_object.specs.declared.view.View.{View}
-use Rattle.ruled_object.specs.Looks.{copied, looked, LooksAt}
-use Rattle.ruled_object.specs.Rule.{HasTurn, AtStage, Fits, Kept}
+use Rattle.ruled_object.specs.Looks.{copied, looked, LooksAt, Says}
+use Rattle.ruled_object.specs.Rule.{HasWord, IsFree, IsHeld, AtStage, Fits, Kept}
 use Rattle.ruled_object.specs.Steps.{Sat}
 use Rattle.ruled_object.proofs.Journals.{begins_all}
-use Rattle.ruled_object.proofs.Steps.{each_after}
+use Rattle.ruled_object.proofs.Steps.{each_after, word_is, not_both}
 
-module _ {S N E R H : Type 0} (next : S → ℕ → E → S × R) (halts : Bool) (frees takes : E → R → Bool) (front : N → List ℕ) (at : H → N → Type 0) (begin : Begin S N) where
+there : {A : Type 0} (xs : List A) (i : ℕ) (x : A) → get_elem? xs i ≡ some x → i < length xs
+there [] i x e = absurd (some-ne-none x (sym e))
+there (y ∷ ys) zero x e = omega arith
+there (y ∷ ys) (suc i) x e = let h = there ys i x e in omega arith
+
+module _ {S N E R H : Type 0} (next : S → ℕ → E → S × R) (halts : Bool) (frees takes : E → R → Bool) (front : N → List ℕ) (at : H → N → Type 0) (tells : S → ℕ) (means : S → ℕ → S) (begin : Begin S N) where
   abbrev St : Type 0
   St = State (Option (Cell S N)) (View E R)
 
   abbrev Rule : St → Type 0
-  Rule = Kept next halts frees takes front at begin
+  Rule = Kept next halts frees takes front at tells means begin
 
   abbrev word_of : St → ℕ
   word_of s = get_or s.words 0 0
+
+  abbrev turn_of : St → ℕ
+  turn_of s = get_or s.words 1 0
 
   abbrev V : Type 0
   V = View E R
@@ -36,36 +44,48 @@ module _ {S N E R H : Type 0} (next : S → ℕ → E → S × R) (halts : Bool)
       let f = r.each id v at_me in
       let more : Rule record { words = s.words; homes = s.homes; views = s.views ++ copied v ∷ [] } = record {
         journal = r.journal;
-        turn = r.turn;
+        holder = r.holder;
         claim = r.claim;
         wide = r.wide;
         lawful = r.lawful;
         each = λ j u e. ⊎_elim (r.each j u)
-            (λ (t : copied v ≡ u). subst (Fits begin.callers r.journal (word_of s) s.homes r.turn r.claim j) t
+            (λ (t : copied v ≡ u). subst (Fits begin.callers r.journal (word_of s) (turn_of s) s.homes r.holder r.claim j) t
             record { seen = f.seen; heard = λ i xs is. absurd (some-ne-none xs (sym is)); owns = λ i xs is. absurd (some-ne-none xs (sym is)); stage = tt })
             (at_snoc s.views (copied v) u j e);
         free = r.free;
-        busy = λ ne. let b = r.busy ne in (b.0, at_longer s.views (copied v ∷ []) r.turn b.0 b.1, b.2, b.3);
+        busy = λ ne. let b = r.busy ne in (b.0, at_longer s.views (copied v ∷ []) r.holder b.0 b.1, b.2, b.3);
       } in
       subst (λ (vs : List V). Rule record { words = s.words; homes = s.homes; views = vs ++ copied v ∷ [] }) (sym (set_again s.views id v at_me)) more
 
-  -- a seat without the turn sees the history
-  pub looks : (id : ℕ) (me : Sat S N E R) → me.0.stage ≡ Idle → Allows Rule 1 id me 0 (λ n. n) (λ _. LooksAt next halts frees takes front at begin me)
+  -- a seat that has the word is the one that has it
+  its : (s : St) (r : Rule s) (j : ℕ) (u : V) → get_elem? s.views j ≡ some u → HasWord u.stage → (j ≡ r.holder) × IsHeld (word_of s)
+  its s r j u e h = word_is begin.callers r.journal (word_of s) (turn_of s) r.holder s.homes j u.seen u.stage (r.each j u e).stage h
+
+  -- what the word says at any moment
+  says : (s : St) (r : Rule s) → Says next tells begin.state (word_of s) r.journal s.views
+  says s r = record {
+    told = λ free. (r.free free).1.2.told;
+    free = λ free j u e h. not_both (word_of s) free (its s r j u e h).1;
+    held = λ held. let b = r.busy held in (r.holder, (b.0, b.1, b.2, b.3, λ j u e h. (its s r j u e h).0));
+  }
+
+  -- a seat without the word sees the history
+  pub looks : (id : ℕ) (me : Sat S N E R) → me.0.stage ≡ Idle → Allows Rule 1 id me 0 (λ n. n) (LooksAt next halts frees takes front at tells means begin me)
   looks id me idle s r one at_me _ =
       let v : V = me.0 in let w : V = looked v r.journal in let f = r.each id v at_me in
       let after : Rule record { words = s.words; homes = s.homes; views = set s.views id w } = record {
         journal = r.journal;
-        turn = r.turn;
+        holder = r.holder;
         claim = r.claim;
         wide = r.wide;
         lawful = r.lawful;
-        each = each_after (Fits begin.callers r.journal (word_of s) s.homes r.turn r.claim) s.views id w
-            record { seen = begins_all r.journal; heard = λ i xs is. absurd (some-ne-none xs (sym is)); owns = f.owns; stage = subst (AtStage r.journal (word_of s) s.homes r.turn id r.journal) (sym idle) tt }
+        each = each_after (Fits begin.callers r.journal (word_of s) (turn_of s) s.homes r.holder r.claim) s.views id w
+            record { seen = begins_all r.journal; heard = λ i xs is. absurd (some-ne-none xs (sym is)); owns = f.owns; stage = subst (AtStage r.journal (word_of s) (turn_of s) s.homes r.holder id r.journal) (sym idle) tt }
             (λ j u other e. r.each j u e);
         free = r.free;
         busy = λ ne. let b = r.busy ne in (
           b.0,
-          set_else s.views id r.turn w (λ is. let same = some-injective b.0 v (sym b.1 ∙ (ap (get_elem? s.views) is ∙ at_me)) in absurd (subst HasTurn (ap (λ (x : V). x.stage) same ∙ idle) b.2)) ∙ b.1,
+          set_else s.views id r.holder w (λ is. let same = some-injective b.0 v (sym b.1 ∙ (ap (get_elem? s.views) is ∙ at_me)) in absurd (subst HasWord (ap (λ (x : V). x.stage) same ∙ idle) b.2)) ∙ b.1,
           b.2,
           b.3,
         );
@@ -74,5 +94,10 @@ module _ {S N E R H : Type 0} (next : S → ℕ → E → S × R) (halts : Bool)
         table.keeps,
         tt,
         subst (λ (ws : List ℕ). Rule record { words = ws; homes = s.homes; views = set s.views id w }) (sym (set-get_or s.words 0 0)) after,
-        (r.journal, refl, record { seen = f.seen; heard = f.heard; owns = λ i xs e. let o = f.owns i xs e in (o.0, o.2); lawful = r.lawful }),
+        (
+          r.journal,
+          refl,
+          record { seen = f.seen; heard = f.heard; owns = λ i xs e. let o = f.owns i xs e in (o.0, o.2); lawful = r.lawful },
+          (set s.views id w, (id, set_here s.views id w (there s.views id v at_me)), says record { words = s.words; homes = s.homes; views = set s.views id w } after),
+        ),
       )

@@ -1,5 +1,5 @@
 -- Each step on an object's table keeps its rule.
-use Rattle.std.proofs.Common.{◌≡◌, ◌≢◌, ℕ, zero, suc, ◌+◌, ◌<◌, Bool, cond, eqb, eq-eqb, ne_eqb, ◌⊎◌, inl, inr, ⊎_elim, List, [], ◌∷◌, ◌++◌, length, replicate, get_or, set, Option, Some, None, refl, sym, ap, ◌∙◌, subst, arith, length-set, length-append, get_or-set_same}
+use Rattle.std.proofs.Common.{◌≡◌, ◌≢◌, ℕ, zero, suc, ◌+◌, ◌^◌, ◌<◌, ◌≤◌, Bool, cond, eqb, eq-eqb, ne_eqb, ◌⊎◌, inl, inr, ⊎_elim, List, [], ◌∷◌, ◌++◌, length, replicate, get_or, set, Option, Some, None, refl, sym, ap, ◌∙◌, subst, arith, length-set, length-append, get_or-set_same}
 use Rattle.std.proofs.lemmas.List.{length-replicate}
 use mathlib.Core.Logic.{dite}
 use mathlib.Core.Option.{some, none, some-ne-none, some-injective}
@@ -7,6 +7,7 @@ use native.Mathlib.Decide.{ℕ_discrete}
 use prog.Atomic.{either}
 use lib.ListN.{get_elem?}
 use lib.Seq.{set-get_or}
+use Rattle.std.proofs.Math.Nat.{lt_of_not-le}
 use Rattle.atomic_table.specs.Table.{State, Me, keeps, stepped, Allows, Enters, Splits, Joins, opening, Final, Seen}
 use Rattle.atomic_table.specs.Table as table
 use Rattle.atomic_table.proofs.Lists.{at_set, at_snoc, set_here, set_else, set_again, at_longer}
@@ -15,10 +16,10 @@ use Rattle.sync_model.specs.Journal.{Begins, by}
 use Rattle.ruled_object.specs.declared.cell.Cell.{Cell}
 use Rattle.ruled_object.specs.declared.rule.Begin.{Begin}
 use Rattle.ruled_object.specs.declared.view.Stage.{Stage}
-use Rattle.ruled_object.specs.declared.view.Stage.TheVariants.{Idle, Making, Taken}
+use Rattle.ruled_object.specs.declared.view.Stage.TheVariants.{Idle, Making, Taken, Deep}
 use Rattle.ruled_object.specs.declared.view.View.{View}
-use Rattle.ruled_object.specs.Rule.{HasTurn, Homes, AtStage, Owned, Fits, Lawful, Lies, Rests, Kept}
-use Rattle.ruled_object.specs.Steps.{Sat, first_of, others_of, blank, first_view, taken, added, gave, dealt, kept, joined, made, Learns, TakesTurn, TakesRest, MayAdd, MayGive}
+use Rattle.ruled_object.specs.Rule.{HasWord, IsFree, IsHeld, Homes, AtStage, Owned, Fits, Lawful, Lies, Rests, Kept}
+use Rattle.ruled_object.specs.Steps.{Sat, first_of, others_of, blank, first_view, taken, deepened, raised, added, gave, dealt, kept, joined, made, Learns, TakesWord, TakesRest, MayAdd, MayGive}
 use Rattle.ruled_object.proofs.Journals.{begins_all, begins_more, by_here, by_other, follows_snoc, edges_snoc}
 
 module _ {V : Type 0} where
@@ -63,6 +64,19 @@ module _ {V : Type 0} where
   first_there (x ∷ xs) zero h = (x, refl)
   first_there (x ∷ xs) (suc i) h = first_there xs i (omega arith)
 
+-- a step on one word leaves the other
+second_of_set : (ws : List ℕ) (n : ℕ) → get_or (set ws 0 n) 1 0 ≡ get_or ws 1 0
+second_of_set [] n = refl
+second_of_set (w ∷ ws) n = refl
+
+pub first_is : (ws : List ℕ) (n : ℕ) → get_elem? ws 0 ≡ some n → get_or ws 0 0 ≡ n
+first_is [] n e = absurd (some-ne-none n (sym e))
+first_is (w ∷ ws) n e = some-injective w n e
+
+first_of_set : (ws : List ℕ) (n : ℕ) → get_or (set ws 1 n) 0 0 ≡ get_or ws 0 0
+first_of_set [] n = refl
+first_of_set (w ∷ ws) n = refl
+
 module _ {E R : Type 0} where
   in_added : (xs : List (List (Entry E R))) (e : Entry E R) (i : ℕ) (y : List (Entry E R)) → get_elem? (added xs e) i ≡ some y
       → ((i ≡ 0) × ((own : List (Entry E R)) × (get_elem? xs 0 ≡ some own) × (y ≡ own ++ e ∷ []))) ⊎ ((i ≢ 0) × (get_elem? xs i ≡ some y))
@@ -77,39 +91,48 @@ module _ {E R : Type 0} where
 
 module _ {S N E R : Type 0} (callers : ℕ) where
   -- what another seat knows stays so
-  fits_on : (journal journal' : List (Entry E R)) (word word' turn turn' : ℕ) (homes homes' : Homes S N) (claim claim' : ℕ → ℕ) (j : ℕ) (v : View E R)
+  fits_on : (journal journal' : List (Entry E R)) (word word' turn turn' holder holder' : ℕ) (homes homes' : Homes S N) (claim claim' : ℕ → ℕ) (j : ℕ) (v : View E R)
       → ((xs : List (Entry E R)) → Begins journal xs → Begins journal' xs) → ((c : ℕ) → claim c ≡ j → (claim' c ≡ j) × (by c journal' ≡ by c journal))
-      → (AtStage journal word homes turn j v.seen v.stage → AtStage journal' word' homes' turn' j v.seen v.stage)
-      → Fits callers journal word homes turn claim j v → Fits callers journal' word' homes' turn' claim' j v
-  fits_on journal journal' word word' turn turn' homes homes' claim claim' j v more same still f = record {
+      → (AtStage journal word turn homes holder j v.seen v.stage → AtStage journal' word' turn' homes' holder' j v.seen v.stage)
+      → Fits callers journal word turn homes holder claim j v → Fits callers journal' word' turn' homes' holder' claim' j v
+  fits_on journal journal' word word' turn turn' holder holder' homes homes' claim claim' j v more same still f = record {
     seen = more v.seen f.seen;
     heard = λ i xs e. more xs (f.heard i xs e);
     owns = λ i xs e. let o = f.owns i xs e in let s = same (v.number + i) o.1 in (o.0, s.0, o.2 ∙ sym s.1);
     stage = still f.stage;
   }
 
-  -- a seat without the turn doesn't mind who has it
-  idle_on : (journal journal' : List (Entry E R)) (word word' turn turn' : ℕ) (homes homes' : Homes S N) (j : ℕ) (seen : List (Entry E R)) (st : Stage)
-      → (HasTurn st → ⊥) → AtStage journal word homes turn j seen st → AtStage journal' word' homes' turn' j seen st
-  idle_on journal journal' word word' turn turn' homes homes' j seen Idle without f = tt
-  idle_on journal journal' word word' turn turn' homes homes' j seen Making without f = absurd (without tt)
-  idle_on journal journal' word word' turn turn' homes homes' j seen Taken without f = absurd (without tt)
+  -- a seat without the word doesn't mind who has it
+  idle_on : (journal journal' : List (Entry E R)) (word word' turn turn' holder holder' : ℕ) (homes homes' : Homes S N) (j : ℕ) (seen : List (Entry E R)) (st : Stage)
+      → (HasWord st → ⊥) → AtStage journal word turn homes holder j seen st → AtStage journal' word' turn' homes' holder' j seen st
+  idle_on journal journal' word word' turn turn' holder holder' homes homes' j seen Idle without f = tt
+  idle_on journal journal' word word' turn turn' holder holder' homes homes' j seen Making without f = absurd (without tt)
+  idle_on journal journal' word word' turn turn' holder holder' homes homes' j seen Taken without f = absurd (without tt)
+  idle_on journal journal' word word' turn turn' holder holder' homes homes' j seen Deep without f = absurd (without tt)
 
-  -- a seat with the turn is the one that has it, and the word isn't 0
-  turn_is : (journal : List (Entry E R)) (word turn : ℕ) (homes : Homes S N) (j : ℕ) (seen : List (Entry E R)) (st : Stage) → AtStage journal word homes turn j seen st → HasTurn st → (j ≡ turn) × (word ≢ 0)
-  turn_is journal word turn homes j seen Idle f h = absurd h
-  turn_is journal word turn homes j seen Making f h = let e = f.0 in (f.1, λ z. absurd (omega arith))
-  turn_is journal word turn homes j seen Taken f h = let e = f.0 in (f.1, λ z. absurd (omega arith))
+  -- a seat with the word is the one that has it
+  pub word_is : (journal : List (Entry E R)) (word turn holder : ℕ) (homes : Homes S N) (j : ℕ) (seen : List (Entry E R)) (st : Stage) → AtStage journal word turn homes holder j seen st → HasWord st → (j ≡ holder) × IsHeld word
+  word_is journal word turn holder homes j seen Idle f h = absurd h
+  word_is journal word turn holder homes j seen Making f h = (f.2, f.0)
+  word_is journal word turn holder homes j seen Taken f h = (f.2, f.0)
+  word_is journal word turn holder homes j seen Deep f h = (f.2, f.0)
 
-module _ {S N E R H : Type 0} (next : S → ℕ → E → S × R) (halts : Bool) (frees takes : E → R → Bool) (front : N → List ℕ) (at : H → N → Type 0) (begin : Begin S N) where
+-- a word that is held isn't free
+pub not_both : (word : ℕ) → IsFree word → IsHeld word → ⊥
+not_both word free held = absurd (omega arith)
+
+module _ {S N E R H : Type 0} (next : S → ℕ → E → S × R) (halts : Bool) (frees takes : E → R → Bool) (front : N → List ℕ) (at : H → N → Type 0) (tells : S → ℕ) (means : S → ℕ → S) (begin : Begin S N) where
   abbrev St : Type 0
   St = State (Option (Cell S N)) (View E R)
 
   abbrev Rule : St → Type 0
-  Rule = Kept next halts frees takes front at begin
+  Rule = Kept next halts frees takes front at tells means begin
 
   abbrev word_of : St → ℕ
   word_of s = get_or s.words 0 0
+
+  abbrev turn_of : St → ℕ
+  turn_of s = get_or s.words 1 0
 
   abbrev V : Type 0
   V = View E R
@@ -124,113 +147,166 @@ module _ {S N E R H : Type 0} (next : S → ℕ → E → S × R) (halts : Bool)
   Cl = Cell S N
 
   abbrev Legal : Journal → Type 0
-  Legal = Lawful next halts frees takes front at begin
+  Legal = Lawful next halts frees takes front at tells means begin
 
-  abbrev Left : Journal → Cl → Type 0
-  Left = Lies next halts frees takes front at begin
+  abbrev Left : Journal → ℕ → Cl → Type 0
+  Left = Lies next halts frees takes front at tells means begin
 
   -- the making seat stands for all callers
-  pub opens : 0 < begin.callers → Rule (opening (2 ∷ []) (None ∷ []) (first_view begin.callers))
+  pub opens : 0 < begin.callers → Rule (opening (9223372036854775808 ∷ 0 ∷ []) (None ∷ []) (first_view begin.callers))
   opens some_caller = record {
     journal = [];
-    turn = 0;
+    holder = 0;
     claim = λ c. 0;
     wide = refl;
     lawful = record { follows = tt; edges = λ i j x y before e. (cc); callers = λ c _. refl };
     each = λ j v e. let t = in_first (first_view begin.callers ∷ []) j v e in let hs : Homes S N = some None ∷ [] in
-        subst (λ (z : ℕ × V). Fits begin.callers [] 2 hs 0 (λ c. 0) z.0 z.1) (λ i. (sym t.0 i, some-injective (first_view begin.callers) v t.1 i)) record {
+        subst (λ (z : ℕ × V). Fits begin.callers [] 9223372036854775808 0 hs 0 (λ c. 0) z.0 z.1) (λ i. (sym t.0 i, some-injective (first_view begin.callers) v t.1 i)) record {
           seen = begins_all [];
           heard = λ i xs is. absurd (some-ne-none xs (sym is));
           owns = λ i xs is. let u = in_blank begin.callers i [] xs is in let h = u.0 in (omega arith, refl, sym u.1);
-          stage = (refl, refl, refl, refl);
+          stage = (omega arith, refl, refl, refl, refl);
         };
     free = λ e. absurd (omega arith);
     busy = λ _. (first_view begin.callers, refl, tt, subst (λ (z : ℕ). 0 < z) (sym (length-replicate {A = List (Entry E R)} begin.callers [])) some_caller);
   }
 
-  -- a step of the seat that has the turn then or before: it sets the word, what lies in the slot, and the history
-  turned : (s : St) (r : Rule s) (id : ℕ) (v w : V) (n : ℕ) (hs : Homes S N) (journal : Journal) (turn : ℕ) → get_elem? s.views id ≡ some v → Legal journal
-      → Fits begin.callers journal n hs turn r.claim id w → ((xs : Journal) → Begins r.journal xs → Begins journal xs) → ((c : ℕ) → r.claim c ≢ id → by c journal ≡ by c r.journal)
-      → ((j : ℕ) (u : V) → j ≢ id → get_elem? s.views j ≡ some u → HasTurn u.stage → ⊥) → (n ≡ 0 → Rests next halts frees takes front at begin journal hs)
-      → (n ≢ 0 → (turn ≡ id) × HasTurn w.stage × (0 < length w.owns)) → Rule record { words = set s.words 0 n; homes = hs; views = set s.views id w }
-  turned s r id v w n hs journal turn at_me lawful mine more same alone free busy =
-      let wide = r.wide in let now : get_or (set s.words 0 n) 0 0 ≡ n = get_or-set_same s.words 0 n 0 (omega arith) in record {
+  -- a step on the word, of the seat that has it then or before: it sets the word, what lies in the slot, and the history
+  turned : (s : St) (r : Rule s) (id : ℕ) (v w : V) (n : ℕ) (hs : Homes S N) (journal : Journal) (holder : ℕ) → get_elem? s.views id ≡ some v → Legal journal
+      → Fits begin.callers journal n (turn_of s) hs holder r.claim id w → ((xs : Journal) → Begins r.journal xs → Begins journal xs) → ((c : ℕ) → r.claim c ≢ id → by c journal ≡ by c r.journal)
+      → ((j : ℕ) (u : V) → j ≢ id → get_elem? s.views j ≡ some u → HasWord u.stage → ⊥) → (IsFree n → (turn_of s ≡ 0) × Rests next halts frees takes front at tells means begin journal n hs)
+      → (IsHeld n → (holder ≡ id) × HasWord w.stage × (0 < length w.owns)) → Rule record { words = set s.words 0 n; homes = hs; views = set s.views id w }
+  turned s r id v w n hs journal holder at_me lawful mine more same alone free busy =
+      let wide = r.wide in let now : get_or (set s.words 0 n) 0 0 ≡ n = get_or-set_same s.words 0 n 0 (omega arith) in let other : get_or (set s.words 0 n) 1 0 ≡ turn_of s = second_of_set s.words n in record {
         journal = journal;
-        turn = turn;
+        holder = holder;
         claim = r.claim;
         wide = length-set s.words 0 n ∙ wide;
         lawful = lawful;
-        each = subst (λ (z : ℕ). (j : ℕ) (u : V) → get_elem? (set s.views id w) j ≡ some u → Fits begin.callers journal z hs turn r.claim j u) (sym now)
-            (each_after (Fits begin.callers journal n hs turn r.claim) s.views id w mine
-            (λ j u other e. fits_on begin.callers r.journal journal (word_of s) n r.turn turn s.homes hs r.claim r.claim j u more (λ c is. (is, same c (λ k. other (sym is ∙ k))))
-            (idle_on begin.callers r.journal journal (word_of s) n r.turn turn s.homes hs j u.seen u.stage (alone j u other e)) (r.each j u e)));
-        free = λ e. free (sym now ∙ e);
-        busy = λ ne. let b = busy (λ e. ne (now ∙ e)) in (w, subst (λ (z : ℕ). get_elem? (set s.views id w) z ≡ some w) (sym b.0) (set_here s.views id w (there s.views id v at_me)), b.1, b.2);
+        each = subst (λ (z : ℕ × ℕ). (j : ℕ) (u : V) → get_elem? (set s.views id w) j ≡ some u → Fits begin.callers journal z.0 z.1 hs holder r.claim j u) (λ i. (sym now i, sym other i))
+            (each_after (Fits begin.callers journal n (turn_of s) hs holder r.claim) s.views id w mine
+            (λ j u ne e. fits_on begin.callers r.journal journal (word_of s) n (turn_of s) (turn_of s) r.holder holder s.homes hs r.claim r.claim j u more (λ c is. (is, same c (λ k. ne (sym is ∙ k))))
+            (idle_on begin.callers r.journal journal (word_of s) n (turn_of s) (turn_of s) r.holder holder s.homes hs j u.seen u.stage (alone j u ne e)) (r.each j u e)));
+        free = subst (λ (z : ℕ × ℕ). IsFree z.0 → (z.1 ≡ 0) × Rests next halts frees takes front at tells means begin journal z.0 hs) (λ i. (sym now i, sym other i)) free;
+        busy = λ held. let b = busy (subst IsHeld now held) in (w, subst (λ (z : ℕ). get_elem? (set s.views id w) z ≡ some w) (sym b.0) (set_here s.views id w (there s.views id v at_me)), b.1, b.2);
+      }
+
+  -- a step on the turn, of the seat that has the word
+  moved : (s : St) (r : Rule s) (id : ℕ) (v w : V) (n : ℕ) → get_elem? s.views id ≡ some v → IsHeld (word_of s) → id ≡ r.holder
+      → Fits begin.callers r.journal (word_of s) n s.homes r.holder r.claim id w → ((j : ℕ) (u : V) → j ≢ id → get_elem? s.views j ≡ some u → HasWord u.stage → ⊥)
+      → HasWord w.stage → 0 < length w.owns → Rule record { words = set s.words 1 n; homes = s.homes; views = set s.views id w }
+  moved s r id v w n at_me held holder mine alone has some_own =
+      let wide = r.wide in let now : get_or (set s.words 1 n) 1 0 ≡ n = get_or-set_same s.words 1 n 0 (omega arith) in let other : get_or (set s.words 1 n) 0 0 ≡ word_of s = first_of_set s.words n in record {
+        journal = r.journal;
+        holder = r.holder;
+        claim = r.claim;
+        wide = length-set s.words 1 n ∙ wide;
+        lawful = r.lawful;
+        each = subst (λ (z : ℕ × ℕ). (j : ℕ) (u : V) → get_elem? (set s.views id w) j ≡ some u → Fits begin.callers r.journal z.0 z.1 s.homes r.holder r.claim j u) (λ i. (sym other i, sym now i))
+            (each_after (Fits begin.callers r.journal (word_of s) n s.homes r.holder r.claim) s.views id w mine
+            (λ j u ne e. fits_on begin.callers r.journal r.journal (word_of s) (word_of s) (turn_of s) n r.holder r.holder s.homes s.homes r.claim r.claim j u (λ xs b. b) (λ c is. (is, refl))
+            (idle_on begin.callers r.journal r.journal (word_of s) (word_of s) (turn_of s) n r.holder r.holder s.homes s.homes j u.seen u.stage (alone j u ne e)) (r.each j u e)));
+        free = λ free. absurd (not_both (word_of s) (subst IsFree other free) held);
+        busy = λ _. (w, subst (λ (z : ℕ). get_elem? (set s.views id w) z ≡ some w) holder (set_here s.views id w (there s.views id v at_me)), has, some_own);
       }
 
   -- a step that changes nothing
   unmoved : (s : St) → Rule s → (id : ℕ) (v : V) → get_elem? s.views id ≡ some v → Rule record { words = set s.words 0 (word_of s); homes = s.homes; views = set s.views id v }
   unmoved s r id v at_me = subst (λ (x : List ℕ × List V). Rule record { words = x.0; homes = s.homes; views = x.1 }) (λ i. (sym (set-get_or s.words 0 0) i, sym (set_again s.views id v at_me) i)) r
 
-  -- no other seat has the turn
-  one_turn : (s : St) (r : Rule s) (id : ℕ) → id ≡ r.turn → (j : ℕ) (u : V) → j ≢ id → get_elem? s.views j ≡ some u → HasTurn u.stage → ⊥
-  one_turn s r id mine j u other e h = let t = turn_is begin.callers r.journal (word_of s) r.turn s.homes j u.seen u.stage (r.each j u e).stage h in other (t.0 ∙ sym mine)
+  -- no other seat has the word
+  one_holder : (s : St) (r : Rule s) (id : ℕ) → id ≡ r.holder → (j : ℕ) (u : V) → j ≢ id → get_elem? s.views j ≡ some u → HasWord u.stage → ⊥
+  one_holder s r id mine j u other e h = let t = word_is begin.callers r.journal (word_of s) (turn_of s) r.holder s.homes j u.seen u.stage (r.each j u e).stage h in other (t.0 ∙ sym mine)
+
+  -- where the word is free no seat has it
+  nobody_has : (s : St) (r : Rule s) → IsFree (word_of s) → (j : ℕ) (u : V) → get_elem? s.views j ≡ some u → HasWord u.stage → ⊥
+  nobody_has s r free j u e h = let t = word_is begin.callers r.journal (word_of s) (turn_of s) r.holder s.homes j u.seen u.stage (r.each j u e).stage h in not_both (word_of s) free t.1
 
   -- the making seat takes the empty slot
-  pub makes : (id : ℕ) (me : M) → me.0.stage ≡ Making → me.1 ≡ [] → 0 < length me.0.owns → Allows Rule 1 id me 0 (λ _. 1) (λ _. made me)
+  pub makes : (id : ℕ) (me : M) → me.0.stage ≡ Making → me.1 ≡ [] → 0 < length me.0.owns → Allows Rule 1 id me 0 (λ _. 9223372036854775808) (λ _. made me)
   makes id me making empty some_own s r one at_me _ =
       let v : V = me.0 in let w : V = record v { stage = Taken } in let f = r.each id v at_me in
-      let st : AtStage r.journal (word_of s) s.homes r.turn id v.seen Making = subst (λ (z : Stage). AtStage r.journal (word_of s) s.homes r.turn id v.seen z) making f.stage in (
+      let st : AtStage r.journal (word_of s) (turn_of s) s.homes r.holder id v.seen Making = subst (λ (z : Stage). AtStage r.journal (word_of s) (turn_of s) s.homes r.holder id v.seen z) making f.stage in (
         w,
         table.takes 0 None,
-        st.3,
-        turned s r id v w 1 (set s.homes 0 none) r.journal id at_me r.lawful record { seen = f.seen; heard = f.heard; owns = f.owns; stage = (refl, refl, st.2) }
-            (λ xs b. b) (λ c _. refl) (one_turn s r id st.1) (λ e. absurd (omega arith)) (λ _. (refl, tt, some_own)),
+        st.4,
+        turned s r id v w 9223372036854775808 (set s.homes 0 none) r.journal id at_me r.lawful record { seen = f.seen; heard = f.heard; owns = f.owns; stage = (omega arith, st.1, refl, st.3) }
+            (λ xs b. b) (λ c _. refl) (one_holder s r id st.2) (λ e. absurd (omega arith)) (λ _. (refl, tt, some_own)),
         (λ i. (w, (0, None) ∷ empty i)),
       )
 
-  -- a seat takes the turn where nobody has it
-  pub takes_turn : (id : ℕ) (me : M) → me.1 ≡ [] → 0 < length me.0.owns → Allows Rule 1 id me 0 (λ x. either (eqb x 0) 1 x) (TakesTurn next halts frees takes front at begin me)
-  takes_turn id me empty some_own s r one at_me _ = let v : V = me.0 in let f = r.each id v at_me in dite (ℕ_discrete (word_of s) 0)
-      (λ is_free. let rest = r.free is_free in let w : V = taken v r.journal in (
+  -- a seat takes the word where nobody has it
+  pub takes_word : (id : ℕ) (me : M) (expected : ℕ) → me.1 ≡ [] → 0 < length me.0.owns → IsFree expected → Allows Rule 1 id me 0 (λ x. either (eqb x expected) (expected + 9223372036854775808) x) (TakesWord next halts frees takes front at tells means begin expected me)
+  takes_word id me expected empty some_own free s r one at_me _ = let v : V = me.0 in let f = r.each id v at_me in dite (ℕ_discrete (word_of s) expected)
+      (λ is. let is_free : IsFree (word_of s) = subst IsFree (sym is) free in let known = r.free is_free in let rest = known.1 in let w : V = taken v r.journal in (
         w,
         table.takes 0 (Some rest.0),
         rest.1,
-        subst (λ b. Rule (stepped s 0 (either b 1 (word_of s)) id me.1 w (table.takes 0 (Some rest.0)))) (sym (eq-eqb (word_of s) 0 is_free))
-            (turned s r id v w 1 (set s.homes 0 none) r.journal id at_me r.lawful record { seen = begins_all r.journal; heard = f.heard; owns = f.owns; stage = (refl, refl, refl) }
-            (λ xs b. b) (λ c _. refl) (λ j u _ e h. let t = turn_is begin.callers r.journal (word_of s) r.turn s.homes j u.seen u.stage (r.each j u e).stage h in t.1 is_free) (λ e. absurd (omega arith)) (λ _. (refl, tt, some_own))),
+        subst (λ b. Rule (stepped s 0 (either b (expected + 9223372036854775808) (word_of s)) id me.1 w (table.takes 0 (Some rest.0)))) (sym (eq-eqb (word_of s) expected is))
+            (turned s r id v w (expected + 9223372036854775808) (set s.homes 0 none) r.journal id at_me r.lawful record { seen = begins_all r.journal; heard = f.heard; owns = f.owns; stage = (omega arith, known.0, refl, refl) }
+            (λ xs b. b) (λ c _. refl) (λ j u _ e h. nobody_has s r is_free j u e h) (λ e. absurd (omega arith)) (λ _. (refl, tt, some_own))),
         (
-          (λ _. (r.journal, rest.0, (λ i. (w, (0, Some rest.0) ∷ empty i)), record { seen = f.seen; heard = f.heard; owns = λ i xs e. let o = f.owns i xs e in (o.0, o.2); lawful = r.lawful; lies = rest.2 })),
-          λ ne. absurd (ne is_free),
+          (λ _. (
+            r.journal,
+            rest.0,
+            (λ i. (w, (0, Some rest.0) ∷ empty i)),
+            record { seen = f.seen; heard = f.heard; owns = λ i xs e. let o = f.owns i xs e in (o.0, o.2); lawful = r.lawful; lies = rest.2 },
+            is_free,
+          )),
+          λ ne. absurd (ne is),
         ),
       ))
-      (λ is_busy. (
+      (λ other. (
         v,
         keeps,
         tt,
-        subst (λ b. Rule (stepped s 0 (either b 1 (word_of s)) id me.1 v keeps)) (sym (ne_eqb (word_of s) 0 is_busy)) (unmoved s r id v at_me),
-        ((λ e. absurd (is_busy e)), λ _. refl),
+        subst (λ b. Rule (stepped s 0 (either b (expected + 9223372036854775808) (word_of s)) id me.1 v keeps)) (sym (ne_eqb (word_of s) expected other)) (unmoved s r id v at_me),
+        ((λ e. absurd (other e)), λ _. refl),
       ))
 
-  -- the seat with the turn gives it back, with one entry more or with none
-  gives_plain : (id : ℕ) (v : V) (cell : Cl) → v.stage ≡ Taken → Left v.seen cell → Allows Rule 1 id (v, (0, Some cell) ∷ []) 0 (λ _. 0) (λ _ n. n ≡ (gave v None, []))
-  gives_plain id v cell holder left s r one at_me _ =
-      let w : V = gave v None in let hs : Homes S N = set s.homes 0 (some (Some cell)) in let f = r.each id v at_me in
-      let st : AtStage r.journal (word_of s) s.homes r.turn id v.seen Taken = subst (λ (z : Stage). AtStage r.journal (word_of s) s.homes r.turn id v.seen z) holder f.stage in (
+  -- the seat with the word takes the turn
+  pub takes_turn : (id : ℕ) (me : M) → me.0.stage ≡ Taken → 0 < length me.0.owns → Allows Rule 1 id me 1 (λ _. 1) (λ _ n. n ≡ (deepened me.0, me.1))
+  takes_turn id me holder some_own s r one at_me _ =
+      let v : V = me.0 in let w : V = deepened v in let f = r.each id v at_me in
+      let st : AtStage r.journal (word_of s) (turn_of s) s.homes r.holder id v.seen Taken = subst (λ (z : Stage). AtStage r.journal (word_of s) (turn_of s) s.homes r.holder id v.seen z) holder f.stage in (
         w,
-        table.gives,
+        keeps,
         tt,
-        turned s r id v w 0 hs r.journal id at_me r.lawful record { seen = f.seen; heard = f.heard; owns = f.owns; stage = tt } (λ xs b. b) (λ c _. refl) (one_turn s r id st.1)
-            (λ _. (cell, set_here s.homes 0 (some (Some cell)) (omega arith), subst (λ (z : Journal). Left z cell) (sym st.2) left)) (λ ne. absurd (ne refl)),
+        moved s r id v w 1 at_me st.0 st.2 record { seen = f.seen; heard = f.heard; owns = f.owns; stage = (st.0, refl, st.2, st.3) } (one_holder s r id st.2) tt some_own,
         refl,
       )
 
-  gives_entry : (id : ℕ) (v : V) (e : Entry E R) (cell : Cl) → v.stage ≡ Taken → 0 < length v.owns → MayAdd next halts frees takes front at begin v e cell
-      → Allows Rule 1 id (v, (0, Some cell) ∷ []) 0 (λ _. 0) (λ _ n. n ≡ (gave v (Some e), []))
-  gives_entry id v e cell holder some_own adds s r one at_me _ =
+  -- and gives it back
+  pub gives_turn : (id : ℕ) (me : M) → me.0.stage ≡ Deep → 0 < length me.0.owns → Allows Rule 1 id me 1 (λ _. 0) (λ _ n. n ≡ (raised me.0, me.1))
+  gives_turn id me holder some_own s r one at_me _ =
+      let v : V = me.0 in let w : V = raised v in let f = r.each id v at_me in
+      let st : AtStage r.journal (word_of s) (turn_of s) s.homes r.holder id v.seen Deep = subst (λ (z : Stage). AtStage r.journal (word_of s) (turn_of s) s.homes r.holder id v.seen z) holder f.stage in (
+        w,
+        keeps,
+        tt,
+        moved s r id v w 0 at_me st.0 st.2 record { seen = f.seen; heard = f.heard; owns = f.owns; stage = (st.0, refl, st.2, st.3) } (one_holder s r id st.2) tt some_own,
+        refl,
+      )
+
+  -- the seat with the word gives it back, with one entry more or with none
+  gives_plain : (id : ℕ) (v : V) (word : ℕ) (cell : Cl) → v.stage ≡ Taken → IsFree word → Left v.seen word cell → Allows Rule 1 id (v, (0, Some cell) ∷ []) 0 (λ _. word) (λ _ n. n ≡ (gave v None, []))
+  gives_plain id v word cell holder free left s r one at_me _ =
+      let w : V = gave v None in let hs : Homes S N = set s.homes 0 (some (Some cell)) in let f = r.each id v at_me in
+      let st : AtStage r.journal (word_of s) (turn_of s) s.homes r.holder id v.seen Taken = subst (λ (z : Stage). AtStage r.journal (word_of s) (turn_of s) s.homes r.holder id v.seen z) holder f.stage in (
+        w,
+        table.gives,
+        tt,
+        turned s r id v w word hs r.journal id at_me r.lawful record { seen = f.seen; heard = f.heard; owns = f.owns; stage = tt } (λ xs b. b) (λ c _. refl) (one_holder s r id st.2)
+            (λ _. (st.1, (cell, set_here s.homes 0 (some (Some cell)) (omega arith), subst (λ (z : Journal). Left z word cell) (sym st.3) left))) (λ held. absurd (not_both word free held)),
+        refl,
+      )
+
+  gives_entry : (id : ℕ) (v : V) (e : Entry E R) (word : ℕ) (cell : Cl) → v.stage ≡ Taken → 0 < length v.owns → IsFree word → MayAdd next halts frees takes front at tells means begin v e word cell
+      → Allows Rule 1 id (v, (0, Some cell) ∷ []) 0 (λ _. word) (λ _ n. n ≡ (gave v (Some e), []))
+  gives_entry id v e word cell holder some_own free adds s r one at_me _ =
       let w : V = gave v (Some e) in let hs : Homes S N = set s.homes 0 (some (Some cell)) in let f = r.each id v at_me in
-      let st : AtStage r.journal (word_of s) s.homes r.turn id v.seen Taken = subst (λ (z : Stage). AtStage r.journal (word_of s) s.homes r.turn id v.seen z) holder f.stage in
-      let lawful : Legal v.seen = subst Legal st.2 r.lawful in
+      let st : AtStage r.journal (word_of s) (turn_of s) s.homes r.holder id v.seen Taken = subst (λ (z : Stage). AtStage r.journal (word_of s) (turn_of s) s.homes r.holder id v.seen z) holder f.stage in
+      let lawful : Legal v.seen = subst Legal st.3 r.lawful in
       let journal : Journal = v.seen ++ e ∷ [] in
       let first = first_there v.owns 0 some_own in
       let own = f.owns 0 first.0 first.1 in
@@ -240,7 +316,7 @@ module _ {S N E R H : Type 0} (next : S → ℕ → E → S × R) (halts : Bool)
         w,
         table.gives,
         tt,
-        turned s r id v w 0 hs journal id at_me
+        turned s r id v w word hs journal id at_me
             record {
               follows = follows_snoc next halts begin.state None v.seen e lawful.follows adds.right;
               edges = edges_snoc frees takes v.seen e lawful.edges adds.edge;
@@ -248,27 +324,27 @@ module _ {S N E R H : Type 0} (next : S → ℕ → E → S × R) (halts : Bool)
             }
             record {
               seen = begins_all journal;
-              heard = λ i xs is. begins_more v.seen (e ∷ []) xs (subst (λ (z : Journal). Begins z xs) st.2 (f.heard i xs is));
+              heard = λ i xs is. begins_more v.seen (e ∷ []) xs (subst (λ (z : Journal). Begins z xs) st.3 (f.heard i xs is));
               owns = λ i xs is. ⊎_elim
                   (λ t. let u = t.1 in let o = f.owns 0 u.0 u.1 in let c : ℕ = v.number + i in let z : v.number + 0 ≡ c = (let k = t.0 in omega arith) in let here : e.caller ≡ c = omega arith in
                   subst (λ (x : ℕ). Owned begin.callers journal r.claim id x xs) z
-                  (o.0, o.1, u.2 ∙ (ap (λ (y : Journal). y ++ e ∷ []) (o.2 ∙ ap (by (v.number + 0)) st.2) ∙ sym (by_here (v.number + 0) v.seen e (here ∙ sym z)))))
-                  (λ t. let o = f.owns i xs t.1 in let ne = t.0 in (o.0, o.1, o.2 ∙ (ap (by (v.number + i)) st.2 ∙ sym (by_other (v.number + i) v.seen e (λ k. ne (omega arith))))))
+                  (o.0, o.1, u.2 ∙ (ap (λ (y : Journal). y ++ e ∷ []) (o.2 ∙ ap (by (v.number + 0)) st.3) ∙ sym (by_here (v.number + 0) v.seen e (here ∙ sym z)))))
+                  (λ t. let o = f.owns i xs t.1 in let ne = t.0 in (o.0, o.1, o.2 ∙ (ap (by (v.number + i)) st.3 ∙ sym (by_other (v.number + i) v.seen e (λ k. ne (omega arith))))))
                   (in_added v.owns e i xs is);
               stage = tt;
             }
-            (λ xs b. begins_more v.seen (e ∷ []) xs (subst (λ (z : Journal). Begins z xs) st.2 b))
-            (λ c ne. by_other c v.seen e (λ k. ne (ap r.claim (sym k) ∙ claimed)) ∙ ap (by c) (sym st.2)) (one_turn s r id st.1)
-            (λ _. (cell, set_here s.homes 0 (some (Some cell)) (omega arith), adds.lies)) (λ ne. absurd (ne refl)),
+            (λ xs b. begins_more v.seen (e ∷ []) xs (subst (λ (z : Journal). Begins z xs) st.3 b))
+            (λ c ne. by_other c v.seen e (λ k. ne (ap r.claim (sym k) ∙ claimed)) ∙ ap (by c) (sym st.3)) (one_holder s r id st.2)
+            (λ _. (st.1, (cell, set_here s.homes 0 (some (Some cell)) (omega arith), adds.lies))) (λ held. absurd (not_both word free held)),
         refl,
       )
 
-  pub gives_turn : (id : ℕ) (me : M) (told : Option (Entry E R)) (cell : Cl) → me.0.stage ≡ Taken → me.1 ≡ (0, Some cell) ∷ [] → 0 < length me.0.owns
-      → MayGive next halts frees takes front at begin me.0 told cell → Allows Rule 1 id me 0 (λ _. 0) (λ _ n. n ≡ (gave me.0 told, []))
-  gives_turn id me None cell holder held some_own may = subst (λ (c : List (ℕ × Option Cl)). Allows Rule 1 id (me.0, c) 0 (λ _. 0) (λ _ n. n ≡ (gave me.0 None, []))) (sym held)
-      (gives_plain id me.0 cell holder may)
-  gives_turn id me (Some e) cell holder held some_own may = subst (λ (c : List (ℕ × Option Cl)). Allows Rule 1 id (me.0, c) 0 (λ _. 0) (λ _ n. n ≡ (gave me.0 (Some e), []))) (sym held)
-      (gives_entry id me.0 e cell holder some_own may)
+  pub gives_word : (id : ℕ) (me : M) (entry : Option (Entry E R)) (word : ℕ) (cell : Cl) → me.0.stage ≡ Taken → me.1 ≡ (0, Some cell) ∷ [] → 0 < length me.0.owns → IsFree word
+      → MayGive next halts frees takes front at tells means begin me.0 entry word cell → Allows Rule 1 id me 0 (λ _. word) (λ _ n. n ≡ (gave me.0 entry, []))
+  gives_word id me None word cell holder held some_own free may = subst (λ (c : List (ℕ × Option Cl)). Allows Rule 1 id (me.0, c) 0 (λ _. word) (λ _ n. n ≡ (gave me.0 None, []))) (sym held)
+      (gives_plain id me.0 word cell holder free may)
+  gives_word id me (Some e) word cell holder held some_own free may = subst (λ (c : List (ℕ × Option Cl)). Allows Rule 1 id (me.0, c) 0 (λ _. word) (λ _ n. n ≡ (gave me.0 (Some e), []))) (sym held)
+      (gives_entry id me.0 e word cell holder some_own free may)
 
   -- a new seat knows nothing
   pub comes : Enters Rule 1 0 (λ _ w. w ≡ blank)
@@ -276,16 +352,16 @@ module _ {S N E R H : Type 0} (next : S → ℕ → E → S × R) (halts : Bool)
     blank,
     record {
       journal = r.journal;
-      turn = r.turn;
+      holder = r.holder;
       claim = r.claim;
       wide = r.wide;
       lawful = r.lawful;
       each = λ j v e. ⊎_elim (r.each j v)
-          (λ (t : blank ≡ v). subst (Fits begin.callers r.journal (word_of s) s.homes r.turn r.claim j) t
+          (λ (t : blank ≡ v). subst (Fits begin.callers r.journal (word_of s) (turn_of s) s.homes r.holder r.claim j) t
           record { seen = (r.journal, refl); heard = λ i xs is. absurd (some-ne-none xs (sym is)); owns = λ i xs is. absurd (some-ne-none xs (sym is)); stage = tt })
           (at_snoc s.views blank v j e);
       free = r.free;
-      busy = λ ne. let b = r.busy ne in (b.0, at_longer s.views (blank ∷ []) r.turn b.0 b.1, b.2, b.3);
+      busy = λ ne. let b = r.busy ne in (b.0, at_longer s.views (blank ∷ []) r.holder b.0 b.1, b.2, b.3);
     },
     refl,
   )
@@ -298,9 +374,9 @@ module _ {S N E R H : Type 0} (next : S → ℕ → E → S × R) (halts : Bool)
       let f = r.each id v at_me in let g = r.each other w at_w in
       let claim : ℕ → ℕ = λ c. cond (eqb (r.claim c) other) id (r.claim c) in
       let stays : (c j : ℕ) → r.claim c ≡ j → j ≢ other → claim c ≡ j = λ c j is ne. ap (λ (b : Bool). cond b id (r.claim c)) (ne_eqb (r.claim c) other (λ k. ne (sym is ∙ k))) ∙ is in
-      let Q : ℕ → V → Type 0 = λ j u. Fits begin.callers r.journal (word_of s) s.homes r.turn claim j u in record {
+      let Q : ℕ → V → Type 0 = λ j u. Fits begin.callers r.journal (word_of s) (turn_of s) s.homes r.holder claim j u in record {
         journal = r.journal;
-        turn = r.turn;
+        holder = r.holder;
         claim = claim;
         wide = r.wide;
         lawful = r.lawful;
@@ -316,32 +392,32 @@ module _ {S N E R H : Type 0} (next : S → ℕ → E → S × R) (halts : Bool)
                   (in_both v.owns w.owns i xs is);
               stage = f.stage;
             })
-            (λ i x away at_x alive. fits_on begin.callers r.journal r.journal (word_of s) (word_of s) r.turn r.turn s.homes s.homes r.claim claim i x (λ xs b. b) (λ c is. (stays c i is alive, refl)) (λ k. k) (r.each i x at_x))
+            (λ i x away at_x alive. fits_on begin.callers r.journal r.journal (word_of s) (word_of s) (turn_of s) (turn_of s) r.holder r.holder s.homes s.homes r.claim claim i x (λ xs b. b) (λ c is. (stays c i is alive, refl)) (λ k. k) (r.each i x at_x))
             j u e ne);
         free = r.free;
-        busy = λ ne. let b = r.busy ne in dite (ℕ_discrete r.turn other)
-            (λ is. let same = some-injective b.0 w (sym b.1 ∙ (ap (get_elem? s.views) is ∙ at_w)) in absurd (subst HasTurn (ap (λ (x : V). x.stage) same ∙ idle) b.2))
-            (λ not_it. dite (ℕ_discrete r.turn id)
+        busy = λ ne. let b = r.busy ne in dite (ℕ_discrete r.holder other)
+            (λ is. let same = some-injective b.0 w (sym b.1 ∙ (ap (get_elem? s.views) is ∙ at_w)) in absurd (subst HasWord (ap (λ (x : V). x.stage) same ∙ idle) b.2))
+            (λ not_it. dite (ℕ_discrete r.holder id)
             (λ is. let same = some-injective b.0 v (sym b.1 ∙ (ap (get_elem? s.views) is ∙ at_me)) in let some_own : 0 < length v.owns = subst (λ (x : V). 0 < length x.owns) same b.3 in (
               both,
-              set_else vs other r.turn blank not_it ∙ (ap (get_elem? vs) is ∙ set_here s.views id both (there s.views id v at_me)),
-              subst (λ (x : V). HasTurn x.stage) same b.2,
+              set_else vs other r.holder blank not_it ∙ (ap (get_elem? vs) is ∙ set_here s.views id both (there s.views id v at_me)),
+              subst (λ (x : V). HasWord x.stage) same b.2,
               omega (arith, length-append v.owns w.owns),
             ))
-            (λ not_me. (b.0, set_else vs other r.turn blank not_it ∙ (set_else s.views id r.turn both not_me ∙ b.1), b.2, b.3)));
+            (λ not_me. (b.0, set_else vs other r.holder blank not_it ∙ (set_else s.views id r.holder both not_me ∙ b.1), b.2, b.3)));
       }
 
   -- a new seat stands for the first caller of another's
-  pub deals : (id : ℕ) (v : V) → v.stage ≡ Idle → 0 < length v.owns → Splits Rule id v (kept v) (dealt v)
-  deals id v idle some_own s r at_me =
-      let left : V = kept v in let right : V = dealt v in let vs : List V = set s.views id left in let n : ℕ = length vs in
+  pub deals : (turns id : ℕ) (v : V) → v.stage ≡ Idle → 0 < length v.owns → Splits Rule id v (kept v) (dealt turns v)
+  deals turns id v idle some_own s r at_me =
+      let left : V = kept v in let right : V = dealt turns v in let vs : List V = set s.views id left in let n : ℕ = length vs in
       let f = r.each id v at_me in let first = first_there v.owns 0 some_own in let own = f.owns 0 first.0 first.1 in
       let mine : r.claim v.number ≡ id = ap r.claim (let k : v.number ≡ v.number + 0 = omega arith in k) ∙ own.1 in
       let claim : ℕ → ℕ = λ c. cond (eqb c v.number) n (r.claim c) in
       let stays : (c j : ℕ) → r.claim c ≡ j → c ≢ v.number → claim c ≡ j = λ c j is ne. ap (λ (b : Bool). cond b n (r.claim c)) (ne_eqb c v.number ne) ∙ is in
-      let Q : ℕ → V → Type 0 = λ j u. Fits begin.callers r.journal (word_of s) s.homes r.turn claim j u in record {
+      let Q : ℕ → V → Type 0 = λ j u. Fits begin.callers r.journal (word_of s) (turn_of s) s.homes r.holder claim j u in record {
         journal = r.journal;
-        turn = r.turn;
+        holder = r.holder;
         claim = claim;
         wide = r.wide;
         lawful = r.lawful;
@@ -354,7 +430,7 @@ module _ {S N E R H : Type 0} (next : S → ℕ → E → S × R) (halts : Bool)
                   subst (λ (c : ℕ). Owned begin.callers r.journal claim id c xs) same (o.0, stays (v.number + suc i) id o.1 (λ k. omega arith), o.2);
               stage = f.stage;
             }
-            (λ i x away at_x. fits_on begin.callers r.journal r.journal (word_of s) (word_of s) r.turn r.turn s.homes s.homes r.claim claim i x (λ xs b. b)
+            (λ i x away at_x. fits_on begin.callers r.journal r.journal (word_of s) (word_of s) (turn_of s) (turn_of s) r.holder r.holder s.homes s.homes r.claim claim i x (λ xs b. b)
             (λ c is. (stays c i is (λ k. away (sym is ∙ (ap r.claim k ∙ mine))), refl)) (λ k. k) (r.each i x at_x))
             j u t)
             (λ t. subst (λ (z : ℕ × V). Q z.0 z.1) (λ i. (sym t.0 i, t.1 i)) record {
@@ -369,41 +445,57 @@ module _ {S N E R H : Type 0} (next : S → ℕ → E → S × R) (halts : Bool)
         free = r.free;
         busy = λ ne. let b = r.busy ne in (
           b.0,
-          at_longer vs (right ∷ []) r.turn b.0 (set_else s.views id r.turn left (λ is. let same = some-injective b.0 v (sym b.1 ∙ (ap (get_elem? s.views) is ∙ at_me)) in
-              absurd (subst HasTurn (ap (λ (x : V). x.stage) same ∙ idle) b.2)) ∙ b.1),
+          at_longer vs (right ∷ []) r.holder b.0 (set_else s.views id r.holder left (λ is. let same = some-injective b.0 v (sym b.1 ∙ (ap (get_elem? s.views) is ∙ at_me)) in
+              absurd (subst HasWord (ap (λ (x : V). x.stage) same ∙ idle) b.2)) ∙ b.1),
           b.2,
           b.3,
         );
       }
 
   -- what a seat that stands for all callers knows when the table is closed
-  abbrev pub Ended : V → List (Option Cl) → Type 0
-  Ended v slots = (journal : Journal) × (cell : Cl) × (get_elem? slots 0 ≡ some (Some cell)) × Learns next halts frees takes front at begin v journal cell
+  abbrev pub Ended : V → List ℕ → List (Option Cl) → Type 0
+  Ended v words slots = (journal : Journal) × (cell : Cl) × (get_elem? slots 0 ≡ some (Some cell)) × Learns next halts frees takes front at tells means begin v journal (get_or words 0 0) cell
 
-  -- where a seat without the turn stands for all callers, nobody has the turn
-  at_rest : (s : St) (r : Rule s) (id : ℕ) (v : V) → get_elem? s.views id ≡ some v → v.stage ≡ Idle → v.number ≡ 0 → length v.owns ≡ begin.callers → word_of s ≡ 0
-  at_rest s r id v at_me idle from_first all = dite (ℕ_discrete (word_of s) 0) (λ z. z)
-      (λ is_busy. let b = r.busy is_busy in let u : V = b.0 in
-      let its = first_there u.owns 0 b.3 in let theirs = (r.each r.turn u b.1).owns 0 its.0 its.1 in let below = theirs.0 in
+  -- where a seat without the word stands for all callers, nobody has the word
+  at_rest : (s : St) (r : Rule s) (id : ℕ) (v : V) → get_elem? s.views id ≡ some v → v.stage ≡ Idle → v.number ≡ 0 → length v.owns ≡ begin.callers → IsFree (word_of s)
+  at_rest s r id v at_me idle from_first all = lt_of_not-le
+      (λ is_held. let b = r.busy is_held in let u : V = b.0 in
+      let its = first_there u.owns 0 b.3 in let theirs = (r.each r.holder u b.1).owns 0 its.0 its.1 in let below = theirs.0 in
       let mine = first_there v.owns (u.number + 0) (omega arith) in let ours = (r.each id v at_me).owns (u.number + 0) mine.0 mine.1 in
       let same_claim : r.claim (v.number + (u.number + 0)) ≡ r.claim (u.number + 0) = ap r.claim (let k : v.number + (u.number + 0) ≡ u.number + 0 = omega arith in k) in
-      let is : r.turn ≡ id = sym theirs.1 ∙ (sym same_claim ∙ ours.1) in
-      let same = some-injective u v (sym b.1 ∙ (ap (get_elem? s.views) is ∙ at_me)) in absurd (subst HasTurn (ap (λ (x : V). x.stage) same ∙ idle) b.2))
+      let is : r.holder ≡ id = sym theirs.1 ∙ (sym same_claim ∙ ours.1) in
+      let same = some-injective u v (sym b.1 ∙ (ap (get_elem? s.views) is ∙ at_me)) in subst HasWord (ap (λ (x : V). x.stage) same ∙ idle) b.2)
 
-  pub ends : (id : ℕ) (v : V) (words : List ℕ) (slots : List (Option Cl)) → v.stage ≡ Idle → v.number ≡ 0 → length v.owns ≡ begin.callers → Final (Seen Rule id v) words slots → Ended v slots
+  pub ends : (id : ℕ) (v : V) (words : List ℕ) (slots : List (Option Cl)) → v.stage ≡ Idle → v.number ≡ 0 → length v.owns ≡ begin.callers → Final (Seen Rule id v) words slots → Ended v words slots
   ends id v words slots idle from_first all (s, seen, same_words, same_slots, values) =
-      let r = seen.0 in let f = r.each id v seen.1 in let rest = r.free (at_rest s r id v seen.1 idle from_first all) in
-      (r.journal, rest.0, values 0 (Some rest.0) rest.1, record { seen = f.seen; heard = f.heard; owns = λ i xs e. let o = f.owns i xs e in (o.0, o.2); lawful = r.lawful; lies = rest.2 })
+      let r = seen.0 in let f = r.each id v seen.1 in let rest = (r.free (at_rest s r id v seen.1 idle from_first all)).1 in (
+        r.journal,
+        rest.0,
+        values 0 (Some rest.0) rest.1,
+        record {
+          seen = f.seen;
+          heard = f.heard;
+          owns = λ i xs e. let o = f.owns i xs e in (o.0, o.2);
+          lawful = r.lawful;
+          lies = subst (λ (ws : List ℕ). Left r.journal (get_or ws 0 0) rest.0) same_words rest.2;
+        },
+      )
 
-  -- a seat that stands for all callers, and hasn't the turn, takes it
+  -- a seat that stands for all callers, and hasn't the word, takes it
   pub takes_rest : (id : ℕ) (me : M) → me.1 ≡ [] → me.0.stage ≡ Idle → me.0.number ≡ 0 → length me.0.owns ≡ begin.callers → 0 < begin.callers
-      → Allows Rule 1 id me 0 (λ _. 1) (λ _. TakesRest next halts frees takes front at begin me)
+      → Allows Rule 1 id me 0 (λ _. 9223372036854775808) (λ word. TakesRest next halts frees takes front at tells means begin word me)
   takes_rest id me empty idle from_first all some_caller s r one at_me _ =
-      let v : V = me.0 in let f = r.each id v at_me in let is_free = at_rest s r id v at_me idle from_first all in let rest = r.free is_free in let w : V = taken v r.journal in (
+      let v : V = me.0 in let f = r.each id v at_me in let is_free = at_rest s r id v at_me idle from_first all in let known = r.free is_free in let rest = known.1 in let w : V = taken v r.journal in (
         w,
         table.takes 0 (Some rest.0),
         rest.1,
-        turned s r id v w 1 (set s.homes 0 none) r.journal id at_me r.lawful record { seen = begins_all r.journal; heard = f.heard; owns = f.owns; stage = (refl, refl, refl) }
-            (λ xs b. b) (λ c _. refl) (λ j u _ e h. let t = turn_is begin.callers r.journal (word_of s) r.turn s.homes j u.seen u.stage (r.each j u e).stage h in t.1 is_free) (λ e. absurd (omega arith)) (λ _. (refl, tt, omega arith)),
-        (r.journal, rest.0, (λ i. (w, (0, Some rest.0) ∷ empty i)), record { seen = f.seen; heard = f.heard; owns = λ i xs e. let o = f.owns i xs e in (o.0, o.2); lawful = r.lawful; lies = rest.2 }),
+        turned s r id v w 9223372036854775808 (set s.homes 0 none) r.journal id at_me r.lawful record { seen = begins_all r.journal; heard = f.heard; owns = f.owns; stage = (omega arith, known.0, refl, refl) }
+            (λ xs b. b) (λ c _. refl) (λ j u _ e h. nobody_has s r is_free j u e h) (λ e. absurd (omega arith)) (λ _. (refl, tt, omega arith)),
+        (
+          r.journal,
+          rest.0,
+          (λ i. (w, (0, Some rest.0) ∷ empty i)),
+          record { seen = f.seen; heard = f.heard; owns = λ i xs e. let o = f.owns i xs e in (o.0, o.2); lawful = r.lawful; lies = rest.2 },
+          is_free,
+        ),
       )

@@ -13,11 +13,12 @@ abbrev pub deed_of : {E R : Type 0} → E → Answer R → Deed E R
 deed_of e (Done r) = Event e r
 deed_of e (Halted m) = Refused e m
 
--- A deed of a caller that is right at this cell, with the front that the caller's note then has.
+-- A deed of a caller that is right at this cell with this word, and the cell and the word after it. `known` is the front that the caller's note then has.
 -- An acquiring event's front is at least what releasing ones left, and a releasing one leaves its front. No other deed leaves anything.
-pub record Acts {S N E R : Type 0} (next : S → ℕ → E → S × R) (halts : Bool) (frees takes : E → R → Bool) (front : N → List ℕ) (caller : ℕ) (deed : Deed E R) (known : List ℕ) (old new : Cell S N) : Type 0 where
-  pub right : Right next halts old.state old.halted caller deed
-  pub state : new.state ≡ state_next next old.state caller deed
+pub record Acts {S N E R : Type 0} (next : S → ℕ → E → S × R) (halts : Bool) (frees takes : E → R → Bool) (front : N → List ℕ) (tells : S → ℕ) (means : S → ℕ → S) (caller : ℕ) (deed : Deed E R) (known : List ℕ) (word : ℕ) (old : Cell S N) (left_word : ℕ) (new : Cell S N) : Type 0 where
+  pub right : Right next halts (means old.state word) old.halted caller deed
+  pub state : means new.state left_word ≡ state_next next (means old.state word) caller deed
+  pub told : left_word ≡ tells (means new.state left_word)
   pub halted : new.halted ≡ halt_next old.halted deed
   pub more : AtLeast (front new.note) (front old.note)
   pub left : is_such frees deed ≡ true → AtLeast (front new.note) known

@@ -8,7 +8,7 @@ use Rattle.ruled_object.specs.declared.object.Object.{Object}
 use Rattle.ruled_object.specs.declared.pass.Pass.{Pass}
 use Rattle.ruled_object.specs.declared.view.Stage.TheVariants.{Idle}
 use Rattle.ruled_object.specs.declared.view.View.{View}
-use Rattle.ruled_object.specs.Passes.{number_of, left_of, seen_by, own_by, callers_of, IsPassOf, SamePass}
+use Rattle.ruled_object.specs.Passes.{number_of, left_of, turns_of, seen_by, own_by, callers_of, IsPassOf, SamePass}
 
 -- all passes of the object, in order of number
 pub record AreAllPasses {M N S E R H : Type 0} (object : Object M N S E R H) (passes : List (Pass S N E R)) : Type 0 where
@@ -20,6 +20,10 @@ module _ {S N E R : Type 0} where
   pub record SamePasses (old new : List (Pass S N E R)) : Type 0 where
     pub count : length new ≡ length old
     pub each : (i : ℕ) (before after : Pass S N E R) → slice_get old i ≡ Some before → slice_get new i ≡ Some after → SamePass before after
+
+  -- each of these passes has taken as many turns as the same caller's had
+  abbrev pub SameTurns : List (Pass S N E R) → List (Pass S N E R) → Type 0
+  SameTurns old new = (i : ℕ) (before after : Pass S N E R) → slice_get old i ≡ Some before → slice_get new i ≡ Some after → turns_of after ≡ turns_of before
 
   -- each of these passes has the entries that the same caller's had
   abbrev pub SameOwn : List (Pass S N E R) → List (Pass S N E R) → Type 0

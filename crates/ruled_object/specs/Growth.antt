@@ -1,17 +1,18 @@
 -- What several entries of one caller, made one after the other, show of the history. A call of the layers above is such a list.
-use Rattle.std.specs.Prelude.{◌≡◌, ℕ, Bool, List, [], ◌∷◌, ◌++◌, Option, Some, None, length, map}
+use Rattle.std.specs.Prelude.{◌≡◌, ℕ, Bool, true, List, [], ◌∷◌, ◌++◌, Option, Some, None, length, map}
 use Rattle.std.specs.List.{AllByRecursion}
 use Rattle.sync_types.specs.declared.misuse.Misuse.{Misuse}
 use Rattle.sync_model.specs.declared.answer.Answer.{Answer}
 use Rattle.sync_model.specs.declared.answer.Answer.TheVariants.{Done, Halted}
 use Rattle.sync_model.specs.declared.journal.Deed.{Deed}
+use Rattle.sync_model.specs.declared.journal.Deed.TheVariants.{Event, Refused, Halt}
 use Rattle.sync_model.specs.declared.journal.Entry.{Entry}
 use Rattle.sync_model.specs.Front.{AtLeast}
 use Rattle.sync_model.specs.Journal.{Begins, halt_of, by, KeepsEdges, Rising, state_after, Right, Follows}
 use Rattle.sync_model.specs.Note.{SameHome, Holding}
 use Rattle.ruled_object.specs.declared.pass.Pass.{Pass}
 use Rattle.ruled_object.specs.Cells.{deed_of}
-use Rattle.ruled_object.specs.Passes.{number_of, seen_by, own_by}
+use Rattle.ruled_object.specs.Passes.{number_of, turns_of, seen_by, own_by}
 
 -- an entry at its place: the history that stands before it
 pub record Placed (E R : Type 0) : Type 0 where
@@ -86,3 +87,15 @@ pub record KeepsNote {H N : Type 0} (at : H → N → Type 0) (own : N → Optio
   pub home : SameHome at old new
   pub kept : own new ≡ own old
   pub rises : AtLeast (front new) (front old)
+
+module _ {S E R : Type 0} where
+  -- the word alone decides this deed of a caller at this state: an event that it decides, and each event that is refused
+  abbrev pub IsAlone : (S → ℕ → E → Bool) → S → ℕ → Deed E R → Type 0
+  IsAlone alone state caller (Event event reply) = alone state caller event ≡ true
+  IsAlone alone state caller (Refused event misuse) = Unit {0}
+  IsAlone alone state caller (Halt misuse) = ⊥
+
+-- Where the pass's caller made one entry alone, and the word alone decides it at its place, no turn was taken.
+abbrev pub NeedsNoTurn : {S N E R : Type 0} → (S → ℕ → E → S × R) → Bool → (S → ℕ → E → Bool) → S → Pass S N E R → List ℕ → Pass S N E R → List ℕ → Type 0
+NeedsNoTurn {S} {N} {E} {R} next halts alone start old from new to =
+    (one : Placed E R) → Grows next halts start old from (one ∷ []) new to → IsAlone alone (state_after next start one.before) one.entry.caller one.entry.deed → turns_of new ≡ turns_of old

@@ -5,7 +5,7 @@ use Rattle.sync_model.specs.Journal.{by, KeepsEdges, Follows}
 use Rattle.ruled_object.specs.declared.object.Object.{Object}
 use Rattle.ruled_object.specs.declared.pass.Pass.{Pass}
 use Rattle.ruled_object.specs.declared.view.Stage.TheVariants.{Idle}
-use Rattle.ruled_object.specs.Passes.{number_of, left_of, seen_by, SamePass}
+use Rattle.ruled_object.specs.Passes.{number_of, left_of, seen_by, CountsTurns, SamePass}
 
 -- the entries of the first caller that a seat stands for, if it stands for any
 abbrev pub held_of : {E R : Type 0} → List (List (Entry E R)) → Option (List (Entry E R))
@@ -16,7 +16,7 @@ held_of (own ∷ owns) = Some own
 abbrev pub held_by : {S N E R : Type 0} → Pass S N E R → Option (List (Entry E R))
 held_by pass = held_of pass.seat.me.0.owns
 
--- it is a caller's pass to this object or a copy of one, as a note may hold, and doesn't have the turn
+-- it is a caller's pass to this object or a copy of one, as a note may hold, and doesn't have the word
 pub record IsNoteOf {M N S E R H : Type 0} (object : Object M N S E R H) (pass : Pass S N E R) : Type 0 where
   pub table : pass.seat.table_id ≡ object.table.shared.table_id
   pub caller : pass.number < object.table.shared.key.callers
@@ -24,6 +24,7 @@ pub record IsNoteOf {M N S E R H : Type 0} (object : Object M N S E R H) (pass :
   pub one : length pass.seat.me.0.owns ≤ 1
   pub turn : pass.seat.me.0.stage ≡ Idle
   pub empty : pass.seat.me.1 ≡ []
+  pub turns : CountsTurns pass
 
 module _ {S N E R : Type 0} where
   -- the same pass, and it knows the same

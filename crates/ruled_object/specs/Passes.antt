@@ -1,10 +1,14 @@
 -- What contracts see of an object and of the passes to it.
-use Rattle.std.specs.Prelude.{◌≡◌, ℕ, ◌+◌, ◌<◌, Bool, List, [], ◌∷◌, ◌++◌, None, length}
+use Rattle.std.specs.Prelude.{◌≡◌, ℕ, ◌+◌, ◌<◌, Bool, List, [], ◌∷◌, ◌++◌, None, length, min}
 use Rattle.sync_model.specs.declared.journal.Entry.{Entry}
 use Rattle.sync_model.specs.Journal.{halt_of, by, KeepsEdges, state_after, Right, Follows}
 use Rattle.ruled_object.specs.declared.object.Object.{Object}
 use Rattle.ruled_object.specs.declared.pass.Pass.{Pass}
 use Rattle.ruled_object.specs.declared.view.Stage.TheVariants.{Idle}
+
+-- a number, or the last value of its type where it is more
+abbrev pub capped : ℕ → ℕ
+capped n = min n 18446744073709551615
 
 -- the entries of the first caller that a seat stands for
 abbrev pub own_of : {E R : Type 0} → List (List (Entry E R)) → List (Entry E R)
@@ -19,6 +23,14 @@ module _ {S N E R : Type 0} where
   -- how many calls of the layers above it is still good for
   abbrev pub left_of : Pass S N E R → ℕ
   left_of pass = pass.left
+
+  -- how often it has taken the turn
+  abbrev pub turns_of : Pass S N E R → ℕ
+  turns_of pass = pass.turns
+
+  -- that is what the view of its seat keeps, or the last value of the type where that is more
+  abbrev pub CountsTurns : Pass S N E R → Type 0
+  CountsTurns pass = turns_of pass ≡ capped pass.seat.me.0.turns
 
   -- how much of the history its caller has seen
   abbrev pub seen_by : Pass S N E R → List (Entry E R)
@@ -41,7 +53,7 @@ module _ {M N S E R H : Type 0} where
   abbrev pub IsHomeOf : (H → N → Type 0) → Object M N S E R H → H → Type 0
   IsHomeOf at object home = at home object.table.shared.key.note
 
-  -- it is the pass of one caller to this object, and doesn't have the turn
+  -- it is the pass of one caller to this object, and doesn't have the word
   pub record IsPassOf (object : Object M N S E R H) (pass : Pass S N E R) : Type 0 where
     pub table : pass.seat.table_id ≡ object.table.shared.table_id
     pub caller : pass.number < object.table.shared.key.callers
@@ -49,6 +61,7 @@ module _ {M N S E R H : Type 0} where
     pub one : length pass.seat.me.0.owns ≡ 1
     pub turn : pass.seat.me.0.stage ≡ Idle
     pub empty : pass.seat.me.1 ≡ []
+    pub turns : CountsTurns pass
 
 -- One entry more, of the pass's caller: all that it had seen lies before the entry, and what is seen now ends with it.
 -- The pass has all entries of its caller, each once. The whole follows the machine from its start and keeps the edge law.

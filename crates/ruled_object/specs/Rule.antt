@@ -1,6 +1,6 @@
 -- The rule of an object's table: whatever its seats do, there is one history, which follows the machine.
--- The table has one word, the turn: 0 while nobody has it, 1 while one seat has it, 2 while the object is being made. Its one slot has the cell.
-use Rattle.std.specs.Prelude.{◌≡◌, ◌≢◌, ℕ, ◌+◌, ◌<◌, ◌≤◌, Bool, List, [], Option, Some, None, length, slice_index}
+-- The table has two words. The first tells of the machine's state; its bit of value 2^63 is set while one seat has it. The second is the turn: 1 while the seat that has the word has the turn too, else 0. The one slot has the cell.
+use Rattle.std.specs.Prelude.{◌≡◌, ℕ, ◌+◌, ◌^◌, ◌<◌, ◌≤◌, Bool, List, [], Option, Some, None, length, slice_index}
 use mathlib.Core.Option.{some}
 use mathlib.Core.Option as option
 use lib.ListN.{get_elem?}
@@ -11,66 +11,77 @@ use Rattle.sync_model.specs.Journal.{Begins, halt_of, by, Covers, KeepsEdges, st
 use Rattle.ruled_object.specs.declared.cell.Cell.{Cell}
 use Rattle.ruled_object.specs.declared.rule.Begin.{Begin}
 use Rattle.ruled_object.specs.declared.view.Stage.{Stage}
-use Rattle.ruled_object.specs.declared.view.Stage.TheVariants.{Idle, Making, Taken}
+use Rattle.ruled_object.specs.declared.view.Stage.TheVariants.{Idle, Making, Taken, Deep}
 use Rattle.ruled_object.specs.declared.view.View.{View}
 
-abbrev pub HasTurn : Stage → Type 0
-HasTurn Idle = ⊥
-HasTurn Making = Unit {0}
-HasTurn Taken = Unit {0}
+-- a seat at this stage has the word
+abbrev pub HasWord : Stage → Type 0
+HasWord Idle = ⊥
+HasWord Making = Unit {0}
+HasWord Taken = Unit {0}
+HasWord Deep = Unit {0}
+
+-- nobody has the word, or somebody has it
+abbrev pub IsFree : ℕ → Type 0
+IsFree word = word < 2 ^ 63
+
+abbrev pub IsHeld : ℕ → Type 0
+IsHeld word = 2 ^ 63 ≤ word
 
 module _ {E R : Type 0} where
   -- these are all entries of the caller, and the seat stands for it
   abbrev pub Owned : ℕ → List (Entry E R) → (ℕ → ℕ) → ℕ → ℕ → List (Entry E R) → Type 0
   Owned callers journal claim seat caller own = (caller < callers) × (claim caller ≡ seat) × (own ≡ by caller journal)
 
-  -- the seat that has the turn stands for a caller
+  -- the seat that has the word stands for a caller
   abbrev pub IsBusy : List (View E R) → ℕ → Type 0
-  IsBusy views turn = (v : View E R) × (get_elem? views turn ≡ some v) × HasTurn v.stage × (0 < length v.owns)
+  IsBusy views holder = (v : View E R) × (get_elem? views holder ≡ some v) × HasWord v.stage × (0 < length v.owns)
 
 -- the home of a slot: there with its value, or out with a seat
 abbrev pub Homes : Type 0 → Type 0 → Type 0
 Homes S N = List (option.Option (Option (Cell S N)))
 
 module _ {S N E R : Type 0} where
-  -- a seat with the turn is the one that has it, and has seen all of the history; while the object is being made nothing lies in the slot
-  abbrev pub AtStage : List (Entry E R) → ℕ → Homes S N → ℕ → ℕ → List (Entry E R) → Stage → Type 0
-  AtStage journal word homes turn seat seen Idle = Unit {0}
-  AtStage journal word homes turn seat seen Making = (word ≡ 2) × (seat ≡ turn) × (journal ≡ seen) × (get_elem? homes 0 ≡ some (some None))
-  AtStage journal word homes turn seat seen Taken = (word ≡ 1) × (seat ≡ turn) × (journal ≡ seen)
+  -- a seat with the word is the one that has it, and has seen all of the history; while the object is being made nothing lies in the slot
+  abbrev pub AtStage : List (Entry E R) → ℕ → ℕ → Homes S N → ℕ → ℕ → List (Entry E R) → Stage → Type 0
+  AtStage journal word turn homes holder seat seen Idle = Unit {0}
+  AtStage journal word turn homes holder seat seen Making = IsHeld word × (turn ≡ 0) × (seat ≡ holder) × (journal ≡ seen) × (get_elem? homes 0 ≡ some (some None))
+  AtStage journal word turn homes holder seat seen Taken = IsHeld word × (turn ≡ 0) × (seat ≡ holder) × (journal ≡ seen)
+  AtStage journal word turn homes holder seat seen Deep = IsHeld word × (turn ≡ 1) × (seat ≡ holder) × (journal ≡ seen)
 
   -- what a seat knows is so: all that it has seen and heard are beginnings of the history
-  pub record Fits (callers : ℕ) (journal : List (Entry E R)) (word : ℕ) (homes : Homes S N) (turn : ℕ) (claim : ℕ → ℕ) (seat : ℕ) (v : View E R) : Type 0 where
+  pub record Fits (callers : ℕ) (journal : List (Entry E R)) (word turn : ℕ) (homes : Homes S N) (holder : ℕ) (claim : ℕ → ℕ) (seat : ℕ) (v : View E R) : Type 0 where
     pub seen : Begins journal v.seen
     pub heard : (i : ℕ) (xs : List (Entry E R)) → get_elem? v.heard i ≡ some xs → Begins journal xs
     pub owns : (i : ℕ) (xs : List (Entry E R)) → get_elem? v.owns i ≡ some xs → Owned callers journal claim seat (v.number + i) xs
-    pub stage : AtStage journal word homes turn seat v.seen v.stage
+    pub stage : AtStage journal word turn homes holder seat v.seen v.stage
 
-module _ {S N E R H : Type 0} (next : S → ℕ → E → S × R) (halts : Bool) (frees takes : E → R → Bool) (front : N → List ℕ) (at : H → N → Type 0) (begin : Begin S N) where
+module _ {S N E R H : Type 0} (next : S → ℕ → E → S × R) (halts : Bool) (frees takes : E → R → Bool) (front : N → List ℕ) (at : H → N → Type 0) (tells : S → ℕ) (means : S → ℕ → S) (begin : Begin S N) where
   -- a history of the object: it follows the machine, keeps the edge law, and is of the object's callers
   pub record Lawful (journal : List (Entry E R)) : Type 0 where
     pub follows : Follows next halts begin.state None journal
     pub edges : KeepsEdges frees takes journal
     pub callers : (c : ℕ) → begin.callers ≤ c → by c journal ≡ []
 
-  -- the cell is what the history left
-  pub record Lies (journal : List (Entry E R)) (cell : Cell S N) : Type 0 where
-    pub state : cell.state ≡ state_after next begin.state journal
+  -- the cell, with the word, is what the history left: the state in it may be older, and the word tells what has changed since
+  pub record Lies (journal : List (Entry E R)) (word : ℕ) (cell : Cell S N) : Type 0 where
+    pub state : means cell.state word ≡ state_after next begin.state journal
+    pub told : word ≡ tells (state_after next begin.state journal)
     pub halted : cell.halted ≡ halt_of journal
     pub home : SameHome at begin.note cell.note
     pub knows : Covers frees (front cell.note) journal
 
   -- the cell lies in the slot
-  abbrev pub Rests : List (Entry E R) → Homes S N → Type 0
-  Rests journal homes = (cell : Cell S N) × (get_elem? homes 0 ≡ some (some (Some cell))) × Lies journal cell
+  abbrev pub Rests : List (Entry E R) → ℕ → Homes S N → Type 0
+  Rests journal word homes = (cell : Cell S N) × (get_elem? homes 0 ≡ some (some (Some cell))) × Lies journal word cell
 
-  -- there is one history. While nobody has the turn the slot has what it left
+  -- There is one history. While nobody has the word, nobody has the turn, and the slot and the word have what the history left
   pub record Kept (s : State (Option (Cell S N)) (View E R)) : Type 0 where
     pub journal : List (Entry E R)
-    pub turn : ℕ
+    pub holder : ℕ
     pub claim : ℕ → ℕ
-    pub wide : length s.words ≡ 1
+    pub wide : length s.words ≡ 2
     pub lawful : Lawful journal
-    pub each : (seat : ℕ) (v : View E R) → get_elem? s.views seat ≡ some v → Fits begin.callers journal (slice_index s.words 0) s.homes turn claim seat v
-    pub free : slice_index s.words 0 ≡ 0 → Rests journal s.homes
-    pub busy : slice_index s.words 0 ≢ 0 → IsBusy s.views turn
+    pub each : (seat : ℕ) (v : View E R) → get_elem? s.views seat ≡ some v → Fits begin.callers journal (slice_index s.words 0) (slice_index s.words 1) s.homes holder claim seat v
+    pub free : IsFree (slice_index s.words 0) → (slice_index s.words 1 ≡ 0) × Rests journal (slice_index s.words 0) s.homes
+    pub busy : IsHeld (slice_index s.words 0) → IsBusy s.views holder

@@ -6,7 +6,7 @@ ghost use Rattle.sync_model.specs.Journal.{halt_of};
 ghost use Rattle.ruled_object.specs.declared.pass.Pass.{Pass};
 ghost use Rattle.ruled_object.specs.Assembled.{Brought, HandsBack};
 ghost use Rattle.ruled_object.specs.Gathered.{AreAllPasses, IsWhole};
-ghost use Rattle.ruled_object.specs.Passes.{callers_of, number_of, own_by, seen_by, start_of, IsPassOf, SamePass};
+ghost use Rattle.ruled_object.specs.Passes.{callers_of, number_of, own_by, seen_by, start_of, turns_of, IsPassOf, SamePass};
 
 use crate::cell::Cell;
 use crate::object::Object;
@@ -15,6 +15,7 @@ use crate::rule::Silent;
 use crate::turn::SeatOf;
 use crate::view::View;
 use atomic_table::Seat;
+use object_word::Worded;
 use std::marker::Brand;
 use sync_model::{Machine, Note};
 use sync_types::Misuse;
@@ -33,7 +34,7 @@ pub type AssemblyOf<M, N> = Assembly<
     <M as Machine>::Reply,
 >;
 
-impl<M: Machine, N: Note> Object<M, N> {
+impl<M: Worded, N: Note> Object<M, N> {
     /// An assembly to which no pass was brought yet.
     pub fn assembly(&self) -> AssemblyOf<M, N>
         ensures { Brought self.now [] result }
@@ -49,6 +50,7 @@ impl<M: Machine, N: Note> Object<M, N> {
         requires pass { IsPassOf self.now pass.old }
         requires all { (passes : List (Pass M.State N M.Event M.Reply)) × Brought self.now passes all.old × (number_of pass.old ≡ length passes) }
         ensures pass { SamePass pass.old pass.new }
+        ensures turns { turns_of pass.new ≡ turns_of pass.old }
         ensures all { (passes : List (Pass M.State N M.Event M.Reply)) → Brought self.now passes all.old → Brought self.now (passes ++ pass.old ∷ []) all.new }
     {
         self.take_in(&mut all.seat, pass);
@@ -62,9 +64,9 @@ impl<M: Machine, N: Note> Object<M, N> {
         ensures { (passes : List (Pass M.State N M.Event M.Reply)) → Brought self.now passes all.old → AreAllPasses self.now passes
             → (journal : List (Entry M.Event M.Reply)) × (result ≡ halt_of journal) × IsWhole M.next M.HALTS M.frees M.takes (start_of self.now) journal passes × HandsBack self.now 0 journal passes all.new }
     {
-        self.take_rest::<Brand>(&mut all.seat);
+        let word = self.take_rest::<Brand>(&mut all.seat);
         let halted = self.halted_in(&mut all.seat);
-        self.give_turn::<Silent>(&mut all.seat);
+        self.give_word::<Silent>(&mut all.seat, word);
         halted
     }
 
@@ -74,12 +76,13 @@ impl<M: Machine, N: Note> Object<M, N> {
         requires pass { number_of pass.old < callers_of self.now }
         requires all { (journal : List (Entry M.Event M.Reply)) × (passes : List (Pass M.State N M.Event M.Reply)) × HandsBack self.now (number_of pass.old) journal passes all.old }
         ensures pass { IsPassOf self.now pass.new × SamePass pass.old pass.new }
+        ensures turns { turns_of pass.new ≡ turns_of pass.old }
         ensures all { (journal : List (Entry M.Event M.Reply)) (passes : List (Pass M.State N M.Event M.Reply)) → HandsBack self.now (number_of pass.old) journal passes all.old
             → HandsBack self.now (number_of pass.old + 1) journal passes all.new }
         ensures seen { (journal : List (Entry M.Event M.Reply)) (passes : List (Pass M.State N M.Event M.Reply)) → HandsBack self.now (number_of pass.old) journal passes all.old → seen_by pass.new ≡ journal }
         ensures own { (journal : List (Entry M.Event M.Reply)) (passes : List (Pass M.State N M.Event M.Reply)) (before : Pass M.State N M.Event M.Reply) → HandsBack self.now (number_of pass.old) journal passes all.old
             → slice_get passes (number_of pass.old) ≡ Some before → own_by pass.new ≡ own_by before }
     {
-        pass.seat = self.deal(&mut all.seat);
+        self.deal_to(&mut all.seat, pass);
     }
 }

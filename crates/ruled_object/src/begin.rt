@@ -8,11 +8,12 @@ ghost use Rattle.ruled_object.specs.Passes.{left_of, own_by, start_of, IsHomeOf,
 
 use crate::object::Object;
 use crate::pass::PassOf;
+use object_word::Worded;
 use std::sync::Wait;
-use sync_model::{Answer, Machine, Note};
+use sync_model::{Answer, Note};
 use sync_types::Misuse;
 
-impl<M: Machine, N: Note> Object<M, N> {
+impl<M: Worded, N: Note> Object<M, N> {
     /// Takes one off the calls that are left. It makes no step, and adds nothing to the history.
     pub fn spend(&self, pass: &mut PassOf<M, N>)
         requires pass { IsPassOf self.now pass.old }

@@ -6,24 +6,27 @@ ghost use Rattle.sync_model.specs.declared.journal.Deed.TheVariants.{Halt};
 ghost use Rattle.sync_model.specs.declared.journal.Entry.{Entry};
 ghost use Rattle.sync_model.specs.Journal.{is_such};
 ghost use Rattle.ruled_object.specs.Cells.{deed_of};
-ghost use Rattle.ruled_object.specs.Growth.{IsLawful, KeepsNote, Makes};
-ghost use Rattle.ruled_object.specs.Passes.{start_of, IsHomeOf, IsPassOf, Adds, SamePass};
+ghost use Rattle.ruled_object.specs.Growth.{IsLawful, KeepsNote, Makes, NeedsNoTurn};
+ghost use Rattle.ruled_object.specs.Passes.{start_of, turns_of, IsHomeOf, IsPassOf, Adds, SamePass};
 
 use crate::cell::deed;
 use crate::object::Object;
 use crate::pass::PassOf;
+use object_word::Worded;
 use std::marker::Brand;
 use std::sync::Wait;
-use sync_model::{Answer, Deed, Machine, Note};
+use sync_model::{Answer, Deed, Note};
 use sync_types::Misuse;
 
-impl<M: Machine, N: Note> Object<M, N> {
-    /// Makes one event. It is one entry of the object's one history, placed at the step that gives the turn back: all
+impl<M: Worded, N: Note> Object<M, N> {
+    /// Makes one event. It is one entry of the object's one history, placed at the step that gives the word back: all
     /// that the caller had seen of the history stands before it. Where a halt stands before it the answer is `Halted`,
     /// with the first halt's misuse, and the machine stays as it was; else the answer is the machine's reply.
     ///
-    /// Once the turn is given back, the callers that the event lets go on are woken, as the machine names them
+    /// Once the word is given back, the callers that the event lets go on are woken, as the machine names them
     /// (`Machine::wakes`), each as `unpark` does.
+    ///
+    /// Where the word alone decides the event, and where it is refused, no turn is taken for it (`NeedsNoTurn`).
     ///
     /// An event that acquires synchronizes after each earlier one that releases: the caller's note then knows all that
     /// theirs knew. After any other event, and after `Halted`, it knows what it knew before.
@@ -45,11 +48,13 @@ impl<M: Machine, N: Note> Object<M, N> {
         ensures note { KeepsNote N.at N.own N.front note.old note.new }
         ensures no_edge { is_such M.takes (deed_of event result) ≡ false → N.front note.new ≡ N.front note.old }
         ensures halts { M.HALTS ≡ false → (m : Misuse) → result ≡ Halted m → ⊥ }
+        ensures quick { NeedsNoTurn M.next M.HALTS M.alone (start_of self.now) pass.old (N.front note.old) pass.new (N.front note.new) }
     {
-        self.take_turn::<Brand, R>(rt, &mut pass.seat);
-        let (answer, wakes) = self.act(&mut pass.seat, home, pass.number, note, event);
+        let number = pass.number;
+        let word = self.take_word::<Brand, R>(rt, &mut pass.seat);
+        let (answer, wakes, after) = self.act(pass, home, note, event, word);
         let deed = deed(event, &answer);
-        self.give_entry::<Brand>(&mut pass.seat, pass.number, &deed, note);
+        self.give_entry::<Brand>(&mut pass.seat, after, number, &deed, note);
         self.unpark_all(wakes);
         answer
     }
@@ -61,10 +66,11 @@ impl<M: Machine, N: Note> Object<M, N> {
         requires pass { IsPassOf self.now pass.old }
         ensures pass { IsPassOf self.now pass.new × SamePass pass.old pass.new }
         ensures entry { (e : Entry M.Event M.Reply) × Adds M.next M.HALTS M.frees M.takes (start_of self.now) pass.old e pass.new × (e.deed ≡ Halt misuse) × (e.front ≡ N.front note.now) }
+        ensures turns { turns_of pass.new ≡ turns_of pass.old }
     {
-        self.take_turn::<Brand, R>(rt, &mut pass.seat);
-        self.act_halt(&mut pass.seat, misuse, note);
+        let word = self.take_word::<Brand, R>(rt, &mut pass.seat);
+        self.act_halt(&mut pass.seat, misuse, note, word);
         let deed = Deed::Halt(misuse);
-        self.give_entry::<Brand>(&mut pass.seat, pass.number, &deed, note);
+        self.give_entry::<Brand>(&mut pass.seat, word, pass.number, &deed, note);
     }
 }

@@ -1,11 +1,12 @@
 //! What lies in the slot of an object, and what an event does to it.
-ghost use Rattle.std.specs.Prelude.{◌≡◌, ℕ, false, IsTrue};
-ghost use Rattle.sync_model.specs.declared.journal.Deed.TheVariants.{Halt};
+ghost use Rattle.std.specs.Prelude.{◌≡◌, ◌<◌, ◌^◌, ℕ, false, true, None, IsTrue, IfNone, IfSome};
+ghost use Rattle.sync_model.specs.declared.journal.Deed.TheVariants.{Event, Halt};
 ghost use Rattle.sync_model.specs.Front.{AtLeast};
 ghost use Rattle.sync_model.specs.Journal.{is_such};
 ghost use Rattle.sync_model.specs.Note.{SameHome};
 ghost use Rattle.ruled_object.specs.Cells.{deed_of, Acts};
 
+use object_word::Worded;
 use sync_model::{Answer, Callers, Deed, Machine, Note};
 use sync_types::Misuse;
 
@@ -18,41 +19,94 @@ pub struct Cell<S, N> {
 }
 
 impl<S, N: Note> Cell<S, N> {
-    // Makes one event, or refuses it where the object is halted. An event that acquires takes in what earlier
-    // releasing ones left, and then one that releases leaves all that its caller knows. Beside the answer it tells whom
-    // the event lets go on, and of a refused one nobody.
+    // Makes one event that the word alone decides, or refuses it where the object is halted: the answer, whom it lets go on,
+    // and the word after it. Where the word alone doesn't decide the event it does nothing.
     #[inline(always)]
-    pub(crate) fn apply<M: Machine<State = S>>(
+    pub(crate) fn apply_quick<M: Worded<State = S>>(
         &mut self,
         home: &N::Home,
         caller: u32,
         note: &mut N,
         event: M::Event,
-    ) -> (Answer<M::Reply>, Callers)
-        requires { N.at home.now self.old.note × N.at home.now note.old }
-        ensures acts { Acts M.next M.HALTS M.frees M.takes N.front caller (deed_of event result.0) (N.front note.new) self.old self.new }
+        word: u64,
+    ) -> Option<(Answer<M::Reply>, Callers, u64)>
+        requires home { N.at home.now self.old.note × N.at home.now note.old }
+        requires word { (word ≡ M.tells (M.means self.old.state word)) × (word < 2 ^ 63) }
+        ensures acts { IfSome result (λ did. Acts M.next M.HALTS M.frees M.takes N.front M.tells M.means caller (deed_of event did.0) (N.front note.new) word self.old did.2 self.new × (did.2 < 2 ^ 63)) }
+        ensures no_edge { IfSome result (λ did. is_such M.takes (deed_of event did.0) ≡ false → N.front note.new ≡ N.front note.old) }
+        ensures left { IfNone result ((self.new ≡ self.old) × (note.new ≡ note.old) × (self.old.halted ≡ None) × (M.alone (M.means self.old.state word) caller event ≡ false)) }
         ensures home { SameHome N.at self.old.note self.new.note × SameHome N.at note.old note.new }
         ensures note { (N.own note.new ≡ N.own note.old) × AtLeast (N.front note.new) (N.front note.old) }
-        ensures no_edge { is_such M.takes (deed_of event result.0) ≡ false → N.front note.new ≡ N.front note.old }
     {
         if let Some(misuse) = self.halted {
-            return (Answer::Halted(misuse), Callers::nobody());
+            return Some((Answer::Halted(misuse), Callers::nobody(), word));
         }
+        let Some((after, answer)) = M::quick(&mut self.state, word, caller, event) else {
+            return None;
+        };
+        self.share::<M>(home, note, event, answer);
+        let wakes = M::wakes(&self.state, &event, &answer);
+        Some((Answer::Done(answer), wakes, after))
+    }
+
+    // Makes one event on the state, which it brings up to date by the word: the reply, whom the event lets go on, and the
+    // word after it.
+    #[inline(always)]
+    pub(crate) fn apply<M: Worded<State = S>>(
+        &mut self,
+        home: &N::Home,
+        caller: u32,
+        note: &mut N,
+        event: M::Event,
+        word: u64,
+    ) -> (M::Reply, Callers, u64)
+        requires home { N.at home.now self.old.note × N.at home.now note.old }
+        requires live { self.old.halted ≡ None }
+        ensures acts { Acts M.next M.HALTS M.frees M.takes N.front M.tells M.means caller (Event event result.0) (N.front note.new) word self.old result.2 self.new × (result.2 < 2 ^ 63) }
+        ensures no_edge { M.takes event result.0 ≡ false → N.front note.new ≡ N.front note.old }
+        ensures home { SameHome N.at self.old.note self.new.note × SameHome N.at note.old note.new }
+        ensures note { (N.own note.new ≡ N.own note.old) × AtLeast (N.front note.new) (N.front note.old) }
+    {
+        M::refresh(&mut self.state, word);
         let reply = M::step(&mut self.state, caller, event);
+        self.share::<M>(home, note, event, reply);
+        let wakes = M::wakes(&self.state, &event, &reply);
+        (reply, wakes, M::word(&self.state))
+    }
+
+    // What an event that was made does to the notes: one that acquires takes in what earlier releasing ones left, and then
+    // one that releases leaves all that its caller knows.
+    #[inline(always)]
+    fn share<M: Worded<State = S>>(
+        &mut self,
+        home: &N::Home,
+        note: &mut N,
+        event: M::Event,
+        reply: M::Reply,
+    )
+        requires home { N.at home.now self.old.note × N.at home.now note.old }
+        ensures cell { (self.new.state ≡ self.old.state) × (self.new.halted ≡ self.old.halted) }
+        ensures more { AtLeast (N.front self.new.note) (N.front self.old.note) }
+        ensures left { M.frees event reply ≡ true → AtLeast (N.front self.new.note) (N.front note.new) }
+        ensures taken { M.takes event reply ≡ true → AtLeast (N.front note.new) (N.front self.old.note) }
+        ensures kept { M.frees event reply ≡ false → N.front self.new.note ≡ N.front self.old.note }
+        ensures no_edge { M.takes event reply ≡ false → N.front note.new ≡ N.front note.old }
+        ensures home { SameHome N.at self.old.note self.new.note × SameHome N.at note.old note.new }
+        ensures note { (N.own note.new ≡ N.own note.old) × AtLeast (N.front note.new) (N.front note.old) }
+    {
         if M::acquires(&event, &reply) {
             note.take_in(home, &mut self.note);
         }
         if M::releases(&event, &reply) {
             self.note.take_in(home, note);
         }
-        let wakes = M::wakes(&self.state, &event, &reply);
-        (Answer::Done(reply), wakes)
     }
 
     // Halts the object. The first misuse is kept.
-    pub(crate) fn halt<M: Machine<State = S>>(&mut self, misuse: Misuse, note: &N)
-        requires { IsTrue M.HALTS }
-        ensures acts { (caller : ℕ) → Acts M.next M.HALTS M.frees M.takes N.front caller (Halt misuse) (N.front note.now) self.old self.new }
+    pub(crate) fn halt<M: Worded<State = S>>(&mut self, misuse: Misuse, note: &N, word: u64)
+        requires halts { IsTrue M.HALTS }
+        requires word { word ≡ M.tells (M.means self.old.state word) }
+        ensures acts { (caller : ℕ) → Acts M.next M.HALTS M.frees M.takes N.front M.tells M.means caller (Halt misuse) (N.front note.now) word self.old word self.new }
         ensures home { SameHome N.at self.old.note self.new.note }
     {
         self.halted = self.halted.or(Some(misuse));

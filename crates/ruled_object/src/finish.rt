@@ -2,18 +2,20 @@
 ghost use Rattle.std.specs.Prelude.{◌≡◌, false, List, None};
 ghost use Rattle.sync_model.specs.declared.journal.Entry.{Entry};
 ghost use Rattle.sync_model.specs.Journal.{halt_of, state_after};
-ghost use Rattle.ruled_object.specs.Gathered.{AreAllPasses, SamePasses, SameOwn, IsWhole, IsSeen};
+ghost use Rattle.ruled_object.specs.Gathered.{AreAllPasses, SamePasses, SameOwn, SameTurns, IsWhole, IsSeen};
 ghost use Rattle.ruled_object.specs.Passes.{start_of};
 
 use crate::cell::Cell;
 use crate::object::Object;
 use crate::pass::PassOf;
 use crate::rule::Silent;
+use crate::turn::{SLOT, WORD};
+use object_word::Worded;
 use std::marker::Brand;
-use sync_model::{Machine, Note};
+use sync_model::Note;
 use sync_types::Misuse;
 
-impl<M: Machine, N: Note> Object<M, N> {
+impl<M: Worded, N: Note> Object<M, N> {
     /// The misuse of the history's first halt, and `None` exactly where there is none. It takes all passes, so that no
     /// call is under way, and adds no entry. Afterwards each pass has seen all of the history.
     pub fn first_halt(&self, passes: &mut [PassOf<M, N>]) -> Option<Misuse>
@@ -23,12 +25,13 @@ impl<M: Machine, N: Note> Object<M, N> {
         ensures seen { (journal : List (Entry M.Event M.Reply)) × IsSeen M.next M.HALTS M.frees M.takes (start_of self.now) journal passes.new }
         ensures one_journal { (journal : List (Entry M.Event M.Reply)) × (result ≡ halt_of journal) × IsWhole M.next M.HALTS M.frees M.takes (start_of self.now) journal passes.old × IsSeen M.next M.HALTS M.frees M.takes (start_of self.now) journal passes.new }
         ensures own { SameOwn passes.old passes.new }
+        ensures turns { SameTurns passes.old passes.new }
         ensures halts { M.HALTS ≡ false → result ≡ None }
     {
         let mut all = self.gather(passes);
-        self.take_rest::<Brand>(&mut all);
+        let word = self.take_rest::<Brand>(&mut all);
         let halted = self.halted_in(&mut all);
-        self.give_turn::<Silent>(&mut all);
+        self.give_word::<Silent>(&mut all, word);
         self.deal_out(&mut all, passes);
         halted
     }
@@ -42,8 +45,10 @@ impl<M: Machine, N: Note> Object<M, N> {
         let all = self.gather(&mut passes);
         let Object { table, .. } = self;
         let mut closed = table.close_with(all);
-        let Cell { state, .. } = closed.take(0).unwrap();
+        let word = closed.word(WORD);
+        let Cell { mut state, .. } = closed.take(SLOT).unwrap();
         closed.free();
+        M::refresh(&mut state, word);
         state
     }
 }

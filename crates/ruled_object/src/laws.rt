@@ -1,20 +1,21 @@
 //! How the entries of several calls add up.
-ghost use Rattle.std.specs.Prelude.{◌≡◌, ℕ, List, [], ◌∷◌, ◌++◌, Some, length, slice_get};
+ghost use Rattle.std.specs.Prelude.{◌≡◌, ◌<◌, ℕ, List, [], ◌∷◌, ◌++◌, Some, length, slice_get};
 ghost use Rattle.sync_model.specs.declared.journal.Entry.{Entry};
 ghost use Rattle.ruled_object.specs.declared.pass.Pass.{Pass};
 ghost use Rattle.ruled_object.specs.declared.object.Object.{Object};
 ghost use Rattle.ruled_object.specs.Gathered.{IsSeen, IsWhole};
-ghost use Rattle.ruled_object.specs.Growth.{Placed, Grows, IsLawful, KeepsNote, AddUp, LastTells, entries_of};
+ghost use Rattle.ruled_object.specs.Growth.{Placed, Grows, IsLawful, KeepsNote, NeedsNoTurn, AddUp, LastTells, entries_of};
 ghost use Rattle.ruled_object.specs.Notes.{held_by, IsNoteOf, Shows};
-ghost use Rattle.ruled_object.specs.Passes.{own_by, seen_by, IsPassOf};
+ghost use Rattle.ruled_object.specs.Passes.{own_by, seen_by, IsPassOf, IsSpent};
 ghost use Rattle.ruled_object.specs.Standing.{stand_next, stand_from};
 
 use crate::new::MAX_CALLS;
-use sync_model::{MAX_CALLERS, Machine, Note};
+use object_word::Worded;
+use sync_model::{MAX_CALLERS, Note};
 
 /// What several calls of one caller add to the history. No call adds nothing; what two calls add, one after the other,
 /// they add together; and of several entries the last one tells whether a halt was met.
-pub fn growth<M: Machine, N: Note>()
+pub fn growth<M: Worded, N: Note>()
     ensures nothing { (start : M.State) (pass : Pass M.State N M.Event M.Reply) (front : List ℕ)
         → Grows M.next M.HALTS start pass front [] pass front }
     ensures both { (start : M.State) → AddUp N M.next M.HALTS start }
@@ -30,7 +31,7 @@ pub fn notes_are_kept<N: Note>()
 
 /// Where a caller stands after one entry more of its own, alone or behind others: where the entry's deed leads from where
 /// it stood before.
-pub fn standing<M: Machine, W>()
+pub fn standing<M: Worded, W>()
     ensures entry { (out : W) (after : W → M.Event → M.Reply → W) (place : W) (own : List (Entry M.Event M.Reply)) (last : Entry M.Event M.Reply)
         → stand_from out after place (own ++ last ∷ []) ≡ stand_next out after (stand_from out after place own) last.deed }
     ensures entries { (out : W) (after : W → M.Event → M.Reply → W) (place : W) (old new : List (Entry M.Event M.Reply)) (es : List (Placed M.Event M.Reply)) (last : Placed M.Event M.Reply)
@@ -40,7 +41,7 @@ pub fn standing<M: Machine, W>()
 
 /// A caller's pass is what holds its entries, and a copy is what holds nobody's. What the one shows of the history the
 /// other does.
-pub fn passes_and_copies<M: Machine, N: Note>()
+pub fn passes_and_copies<M: Worded, N: Note>()
     ensures holds { (object : Object M N M.State M.Event M.Reply N.Home) (pass : Pass M.State N M.Event M.Reply)
         → IsPassOf object pass → IsNoteOf object pass × (held_by pass ≡ Some (own_by pass)) }
     ensures is_pass { (object : Object M N M.State M.Event M.Reply N.Home) (pass : Pass M.State N M.Event M.Reply) (own : List (Entry M.Event M.Reply))
@@ -53,11 +54,20 @@ pub fn passes_and_copies<M: Machine, N: Note>()
 
 /// Passes that were looked at together and handed back, each with its caller's entries, have together seen the whole
 /// history.
-pub fn all_handed_back<M: Machine, N: Note>()
+pub fn all_handed_back<M: Worded, N: Note>()
     ensures { (start : M.State) (journal : List (Entry M.Event M.Reply)) (old new : List (Pass M.State N M.Event M.Reply))
         → IsWhole M.next M.HALTS M.frees M.takes start journal old → length new ≡ length old
         → ((i : ℕ) (before after : Pass M.State N M.Event M.Reply) → slice_get old i ≡ Some before → slice_get new i ≡ Some after → (seen_by after ≡ journal) × (own_by after ≡ own_by before))
         → IsSeen M.next M.HALTS M.frees M.takes start journal new }
+{}
+
+/// Who made one event that the word alone decides took no turn, also where it took off a call before; and who made several
+/// events didn't make one alone.
+pub fn turns_needed<M: Worded, N: Note>()
+    ensures spent { (start : M.State) (old mid new : Pass M.State N M.Event M.Reply) (from to : List ℕ)
+        → IsSpent old mid → NeedsNoTurn M.next M.HALTS M.alone start mid from new to → NeedsNoTurn M.next M.HALTS M.alone start old from new to }
+    ensures several { (start : M.State) (old new : Pass M.State N M.Event M.Reply) (es : List (Placed M.Event M.Reply)) (low high from to : List ℕ)
+        → Grows M.next M.HALTS start old low es new high → 1 < length es → NeedsNoTurn M.next M.HALTS M.alone start old from new to }
 {}
 
 /// The limits of an object by their numbers: how many calls a pass is good for, and how many callers an object has.

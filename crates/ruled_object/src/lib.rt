@@ -18,6 +18,7 @@ pub mod pass;
 pub mod rule;
 mod turn;
 pub mod view;
+mod word;
 
 pub use assembly::{Assembly, AssemblyOf};
 pub use new::MAX_CALLS;

@@ -7,12 +7,13 @@ ghost use Rattle.ruled_object.specs.Steps.{first_view, IsSameSeat};
 use crate::cell::Cell;
 use crate::object::Object;
 use crate::pass::{Pass, PassOf};
-use crate::rule::{Begin, Make, Silent};
-use crate::turn::{MAKING, SLOT, SeatOf, TAKEN, TURN};
+use crate::rule::{Begin, Make, Silent, Unturned};
+use crate::turn::{FREE, SLOT, SeatOf, WORD};
 use atomic_table::Table;
+use object_word::{HELD, Worded};
 use std::alloc::{AllocError, Global};
 use std::thread::Parker;
-use sync_model::{MAX_CALLERS, Machine, Note};
+use sync_model::{MAX_CALLERS, Note};
 
 /// The most calls that a pass is good for.
 pub const MAX_CALLS: u64 = 1_000_000;
@@ -28,7 +29,7 @@ fn parkers(alloc: Global, callers: u32) -> Result<Vec<Parker>, AllocError>
     Ok(parkers)
 }
 
-impl<M: Machine, N: Note> Object<M, N> {
+impl<M: Worded, N: Note> Object<M, N> {
     /// An object with this machine's state, and the passes of its callers, in order of number, each good for `calls`
     /// calls of the layers above. The object keeps `note` for what releasing events leave.
     pub fn new(
@@ -49,7 +50,7 @@ impl<M: Machine, N: Note> Object<M, N> {
             note,
             callers,
         };
-        let (table, mut seat) = Table::vacant(alloc, &[MAKING], 1, &begin)?;
+        let (table, mut seat) = Table::vacant(alloc, &[HELD, FREE], 1, &begin)?;
         let object = Object { table, parkers };
         let Begin { state, note, .. } = begin;
         object.fill(
@@ -72,9 +73,10 @@ impl<M: Machine, N: Note> Object<M, N> {
         ensures dealing { Dealing 0 [] (replicate (callers_of self.now) []) seat.new.me.0 }
     {
         let shared = &self.table.shared;
-        shared.store::<Make>(seat, TURN, TAKEN);
+        let word = M::word(&cell.state);
+        shared.store::<Make>(seat, WORD, HELD);
         drop(shared.exchange(seat, SLOT, Some(cell)));
-        self.give_turn::<Silent>(seat);
+        self.give_word::<Silent>(seat, word);
     }
 
     // A pass for each caller.
@@ -91,10 +93,11 @@ impl<M: Machine, N: Note> Object<M, N> {
     {
         let mut passes = Vec::with_capacity(alloc, callers as usize)?;
         for number in 0..callers {
-            let seat = self.deal(&mut all);
+            let seat = self.deal::<Unturned>(&mut all);
             passes.push_reserved(Pass {
                 number,
                 left: calls,
+                turns: 0,
                 seat,
             });
         }

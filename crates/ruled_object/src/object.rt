@@ -5,13 +5,14 @@ use crate::cell::Cell;
 use crate::rule::{Begin, Turns};
 use crate::view::View;
 use atomic_table::Table;
+use object_word::Worded;
 use std::alloc::Global;
 use std::thread::Parker;
-use sync_model::{Machine, Note};
+use sync_model::Note;
 
-/// One machine, shared by its callers. Who has the turn works on the cell where it lies.
+/// One machine, shared by its callers. Who has the word works on the cell where it lies.
 #[derive(Drop)]
-pub struct Object<M: Machine, N: Note> {
+pub struct Object<M: Worded, N: Note> {
     pub(crate) table: Table<
         Option<Cell<M::State, N>>,
         View<M::Event, M::Reply>,
@@ -20,6 +21,6 @@ pub struct Object<M: Machine, N: Note> {
         Global,
     >,
     pub(crate) parkers: Vec<Parker>,
-    ghost sized: { (table.shared.table_id.words ≡ 1) × (table.shared.table_id.slots ≡ 1) },
+    ghost sized: { (table.shared.table_id.words ≡ 2) × (table.shared.table_id.slots ≡ 1) },
     ghost callers: { (vec_len parkers ≡ table.shared.key.callers) × (0 < table.shared.key.callers) },
 }

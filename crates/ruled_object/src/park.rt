@@ -3,10 +3,11 @@ ghost use Rattle.ruled_object.specs.Passes.{IsPassOf};
 
 use crate::object::Object;
 use crate::pass::PassOf;
+use object_word::Worded;
 use std::sync::Wait;
-use sync_model::{Callers, Machine, Note};
+use sync_model::{Callers, Note};
 
-impl<M: Machine, N: Note> Object<M, N> {
+impl<M: Worded, N: Note> Object<M, N> {
     /// Sleeps until the pass's caller is woken. A wake-up that came before is kept, one at most.
     pub fn park<R: Wait>(&self, rt: &R, pass: &PassOf<M, N>)
         requires { IsPassOf self.now pass.now }

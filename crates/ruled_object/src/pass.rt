@@ -1,6 +1,6 @@
 //! The pass of one caller to one object.
 ghost use Rattle.std.specs.Prelude.{◌≡◌};
-ghost use Rattle.ruled_object.specs.Passes.{left_of, number_of};
+ghost use Rattle.ruled_object.specs.Passes.{left_of, number_of, turns_of};
 
 use crate::cell::Cell;
 use crate::view::View;
@@ -12,6 +12,7 @@ use sync_model::Machine;
 pub struct Pass<S, N, E, R> {
     pub(crate) number: u32,
     pub(crate) left: u64,
+    pub(crate) turns: u64,
     pub(crate) seat: Seat<Option<Cell<S, N>>, View<E, R>>,
 }
 
@@ -36,5 +37,12 @@ impl<S, N, E, R> Pass<S, N, E, R> {
         ensures { result ≡ left_of self.now }
     {
         self.left
+    }
+
+    /// How often it has taken the turn, or the last value of the type where that is more.
+    pub fn turns(&self) -> u64
+        ensures { result ≡ turns_of self.now }
+    {
+        self.turns
     }
 }

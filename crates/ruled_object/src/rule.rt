@@ -1,15 +1,16 @@
 //! The rule of an object's table, and what each step on it tells.
-ghost use Rattle.std.specs.Prelude.{◌≡◌, [], Option, None};
+ghost use Rattle.std.specs.Prelude.{◌≡◌, ℕ, [], Option, None};
 ghost use Rattle.sync_model.specs.declared.journal.Entry.{Entry};
 ghost use Rattle.ruled_object.specs.declared.rule.Begin.{Begin};
 ghost use Rattle.ruled_object.specs.Rule.{Kept};
-ghost use Rattle.ruled_object.specs.Steps.{first_view, blank, made, gave, dealt, kept, joined, TakesTurn, TakesRest, IfBegun};
+ghost use Rattle.ruled_object.specs.Steps.{first_view, blank, made, deepened, raised, gave, dealt, kept, joined, TakesWord, TakesRest, IfBegun};
 
 use crate::cell::Cell;
 use crate::view::View;
 use atomic_table::{Join, Play, Split, TableRule};
+use object_word::Worded;
 use std::marker::{Brand, PhantomData};
-use sync_model::{Machine, Note};
+use sync_model::Note;
 
 /// How an object began.
 #[derive(Drop)]
@@ -24,12 +25,12 @@ pub struct Turns<M, N> {
     marker: PhantomData<(M, N)>,
 }
 
-impl<M: Machine, N: Note> TableRule<
+impl<M: Worded, N: Note> TableRule<
     Option<Cell<M::State, N>>,
     View<M::Event, M::Reply>,
     Begin<M::State, N>,
 > for Turns<M, N> {
-    ghost holds = { Kept M.next M.HALTS M.frees M.takes N.front N.at };
+    ghost holds = { Kept M.next M.HALTS M.frees M.takes N.front N.at M.tells M.means };
 
     ghost first = { λ begin. first_view begin.callers };
 }
@@ -52,11 +53,27 @@ impl<E, R> Told<E, R> for Brand {
     ghost entry = { None };
 }
 
-/// The turn goes back with no entry.
+/// The turns that a new seat begins with, for proofs. A call at `Brand` picks them.
+pub(crate) trait Turned {
+    ghost turns: { ℕ };
+}
+
+impl Turned for Brand {
+    ghost turns = { 0 };
+}
+
+/// The word goes back with no entry.
 pub(crate) struct Silent;
 
 impl<E, R> Told<E, R> for Silent {
     ghost entry = { None };
+}
+
+/// A new seat has taken no turn.
+pub(crate) struct Unturned;
+
+impl Turned for Unturned {
+    ghost turns = { 0 };
 }
 
 /// The making seat takes the empty slot.
@@ -66,31 +83,45 @@ impl<S, N, E, R> Play<Option<Cell<S, N>>, View<E, R>> for Make {
     ghost then = { λ step before found after. made before after };
 }
 
-/// A seat takes the turn, and the cell, where nobody has it.
+/// A seat takes the word, and the cell, where nobody has it.
 pub(crate) struct Take<M, N, K> {
     marker: PhantomData<(M, N, K)>,
 }
 
-impl<M: Machine, N: Note, K: Begun<M::State, N>> Play<
+impl<M: Worded, N: Note, K: Begun<M::State, N>> Play<
     Option<Cell<M::State, N>>,
     View<M::Event, M::Reply>,
 > for Take<M, N, K> {
-    ghost then = { λ step before found after. IfBegun K.begun (λ begin. TakesTurn M.next M.HALTS M.frees M.takes N.front N.at begin before found after) };
+    ghost then = { λ step before found after. IfBegun K.begun (λ begin. TakesWord M.next M.HALTS M.frees M.takes N.front N.at M.tells M.means begin step.first before found after) };
 }
 
-/// The seat that stands for all callers takes the turn, which nobody has.
+/// The seat that stands for all callers takes the word, which nobody has.
 pub(crate) struct TakeRest<M, N, K> {
     marker: PhantomData<(M, N, K)>,
 }
 
-impl<M: Machine, N: Note, K: Begun<M::State, N>> Play<
+impl<M: Worded, N: Note, K: Begun<M::State, N>> Play<
     Option<Cell<M::State, N>>,
     View<M::Event, M::Reply>,
 > for TakeRest<M, N, K> {
-    ghost then = { λ step before found after. IfBegun K.begun (λ begin. TakesRest M.next M.HALTS M.frees M.takes N.front N.at begin before after) };
+    ghost then = { λ step before found after. IfBegun K.begun (λ begin. TakesRest M.next M.HALTS M.frees M.takes N.front N.at M.tells M.means begin found before after) };
 }
 
-/// A seat gives the turn and the cell back. This step places the event.
+/// A seat that has the word takes the turn.
+pub(crate) struct Deepen;
+
+impl<S, N, E, R> Play<Option<Cell<S, N>>, View<E, R>> for Deepen {
+    ghost then = { λ step before found after. after ≡ (deepened before.0, before.1) };
+}
+
+/// A seat gives the turn back, and has the word still.
+pub(crate) struct Raise;
+
+impl<S, N, E, R> Play<Option<Cell<S, N>>, View<E, R>> for Raise {
+    ghost then = { λ step before found after. after ≡ (raised before.0, before.1) };
+}
+
+/// A seat gives the word and the cell back. This step places the event.
 pub(crate) struct Give<T> {
     marker: PhantomData<T>,
 }
@@ -107,12 +138,14 @@ impl<S, N, E, R> Play<Option<Cell<S, N>>, View<E, R>> for Come {
 }
 
 /// A seat lets the first of its callers go to a seat of its own.
-pub(crate) struct Deal;
+pub(crate) struct Deal<T> {
+    marker: PhantomData<T>,
+}
 
-impl<E, R> Split<View<E, R>> for Deal {
+impl<E, R, T: Turned> Split<View<E, R>> for Deal<T> {
     ghost left = { kept };
 
-    ghost right = { dealt };
+    ghost right = { dealt T.turns };
 }
 
 /// A seat takes in the callers of another.

@@ -1,13 +1,15 @@
-//! The turn of an object: who has it may change the machine.
-ghost use Rattle.std.specs.Prelude.{◌≡◌, ◌<◌, [], Some, length};
-ghost use Rattle.ruled_object.specs.declared.view.Stage.TheVariants.{Idle, Taken};
-ghost use Rattle.ruled_object.specs.Steps.{gave, HasCell, MayGive, TakesRest, IsSameSeat};
+//! The word of an object, and its turn: who has the word may make an event, and who has the turn too may change the
+//! machine's state.
+ghost use Rattle.std.specs.Prelude.{◌≡◌, ◌<◌, ◌^◌, [], Some, length};
+ghost use Rattle.ruled_object.specs.declared.view.Stage.TheVariants.{Idle, Taken, Deep};
+ghost use Rattle.ruled_object.specs.Steps.{gave, deepened, raised, HasCell, MayGive, TakesRest, IsSameSeat};
 
 use crate::cell::Cell;
 use crate::object::Object;
-use crate::rule::{Begun, Give, Take, TakeRest, Told};
+use crate::rule::{Begun, Deepen, Give, Raise, Take, TakeRest, Told};
 use crate::view::View;
 use atomic_table::Seat;
+use object_word::{HELD, Worded};
 use std::sync::Wait;
 use std::thread;
 use sync_model::{Deed, Machine, Note};
@@ -18,8 +20,11 @@ pub(crate) type SeatOf<M, N> = Seat<
     View<<M as Machine>::Event, <M as Machine>::Reply>,
 >;
 
-/// The word that says who has the turn.
-pub(crate) const TURN: usize = 0;
+/// The word that tells of the machine's state. Its bit `HELD` is set while a seat has it.
+pub(crate) const WORD: usize = 0;
+
+/// The word that says whether the seat that has the word has the turn too.
+pub(crate) const TURN: usize = 1;
 
 /// The slot of the cell.
 pub(crate) const SLOT: usize = 0;
@@ -30,50 +35,85 @@ pub(crate) const FREE: u64 = 0;
 /// A seat has the turn.
 pub(crate) const TAKEN: u64 = 1;
 
-/// The object is being made.
-pub(crate) const MAKING: u64 = 2;
-
-impl<M: Machine, N: Note> Object<M, N> {
-    // Waits for the turn. The seat then has the slot, and the cell stays where it lies.
+impl<M: Worded, N: Note> Object<M, N> {
+    // What the word may be while nobody has it: what it was just now, without its highest bit.
     #[inline(always)]
-    pub(crate) fn take_turn<K: Begun<M::State, N>, R: Wait>(&self, rt: &R, seat: &mut SeatOf<M, N>)
+    fn guess(&self) -> u64
+        ensures { result < 2 ^ 63 }
+    {
+        if !M::TELLS {
+            return 0;
+        }
+        self.table.shared.peek(WORD) % HELD
+    }
+
+    // Waits for the word, and gives what it told. The seat then has the slot, and the cell stays where it lies.
+    #[inline(always)]
+    pub(crate) fn take_word<K: Begun<M::State, N>, R: Wait>(
+        &self,
+        rt: &R,
+        seat: &mut SeatOf<M, N>,
+    ) -> u64
         requires begun { K.begun ≡ Some self.now.table.shared.key }
         requires seat { (seat.old.table_id ≡ self.now.table.shared.table_id) × (seat.old.me.1 ≡ []) × (0 < length seat.old.me.0.owns) }
         ensures seat { IsSameSeat seat.old seat.new }
-        ensures takes { TakesRest M.next M.HALTS M.frees M.takes N.front N.at self.now.table.shared.key seat.old.me seat.new.me }
+        ensures takes { TakesRest M.next M.HALTS M.frees M.takes N.front N.at M.tells M.means self.now.table.shared.key result seat.old.me seat.new.me }
     {
         let shared = &self.table.shared;
         for _ in rt.forever() {
-            if shared.compare_exchange::<Take<M, N, K>>(seat, TURN, FREE, TAKEN) == FREE {
-                return;
+            let word = self.guess();
+            if shared.compare_exchange::<Take<M, N, K>>(seat, WORD, word, word + HELD) == word {
+                return word;
             }
             thread::yield_now();
         }
         unreachable!()
     }
 
-    // Takes the turn for a seat that stands for all callers, so that nobody has it.
-    pub(crate) fn take_rest<K: Begun<M::State, N>>(&self, seat: &mut SeatOf<M, N>)
+    // Takes the word for a seat that stands for all callers, so that nobody has it, and gives what it told.
+    pub(crate) fn take_rest<K: Begun<M::State, N>>(&self, seat: &mut SeatOf<M, N>) -> u64
         requires begun { K.begun ≡ Some self.now.table.shared.key }
         requires seat { (seat.old.table_id ≡ self.now.table.shared.table_id) × (seat.old.me.1 ≡ []) }
         requires all { (seat.old.me.0.stage ≡ Idle) × (seat.old.me.0.number ≡ 0) × (length seat.old.me.0.owns ≡ self.now.table.shared.key.callers) }
         ensures seat { IsSameSeat seat.old seat.new }
-        ensures takes { TakesRest M.next M.HALTS M.frees M.takes N.front N.at self.now.table.shared.key seat.old.me seat.new.me }
+        ensures takes { TakesRest M.next M.HALTS M.frees M.takes N.front N.at M.tells M.means self.now.table.shared.key result seat.old.me seat.new.me }
     {
         self.table
             .shared
-            .store::<TakeRest<M, N, K>>(seat, TURN, TAKEN);
+            .swap::<TakeRest<M, N, K>>(seat, WORD, HELD)
     }
 
-    // Gives the turn back, with the slot and the cell that lies in it. The entry that this adds is picked by the caller.
+    // Takes the turn, which nobody else has, since the seat has the word.
     #[inline(always)]
-    pub(crate) fn give_turn<T: Told<M::Event, M::Reply>>(&self, seat: &mut SeatOf<M, N>)
+    pub(crate) fn take_turn(&self, seat: &mut SeatOf<M, N>)
         requires seat { (seat.old.table_id ≡ self.now.table.shared.table_id) × (seat.old.me.0.stage ≡ Taken) × (0 < length seat.old.me.0.owns) }
-        requires may { HasCell seat.old.me (MayGive M.next M.HALTS M.frees M.takes N.front N.at self.now.table.shared.key seat.old.me.0 T.entry) }
+        ensures seat { IsSameSeat seat.old seat.new }
+        ensures took { seat.new.me ≡ (deepened seat.old.me.0, seat.old.me.1) }
+    {
+        self.table.shared.store::<Deepen>(seat, TURN, TAKEN);
+    }
+
+    // Gives the turn back. The seat has the word still.
+    #[inline(always)]
+    pub(crate) fn give_turn(&self, seat: &mut SeatOf<M, N>)
+        requires seat { (seat.old.table_id ≡ self.now.table.shared.table_id) × (seat.old.me.0.stage ≡ Deep) × (0 < length seat.old.me.0.owns) }
+        ensures seat { IsSameSeat seat.old seat.new }
+        ensures gave { seat.new.me ≡ (raised seat.old.me.0, seat.old.me.1) }
+    {
+        self.table.shared.store::<Raise>(seat, TURN, FREE);
+    }
+
+    // Gives the word back with this value, and with it the slot and the cell that lies in it. The entry that this adds is
+    // picked by the caller.
+    #[inline(always)]
+    pub(crate) fn give_word<T: Told<M::Event, M::Reply>>(&self, seat: &mut SeatOf<M, N>, word: u64)
+        requires seat { (seat.old.table_id ≡ self.now.table.shared.table_id) × (seat.old.me.0.stage ≡ Taken) × (0 < length seat.old.me.0.owns) }
+        requires free { word < 2 ^ 63 }
+        requires may { HasCell seat.old.me (MayGive M.next M.HALTS M.frees M.takes N.front N.at M.tells M.means self.now.table.shared.key seat.old.me.0 T.entry word) }
         ensures seat { IsSameSeat seat.old seat.new }
         ensures gave { seat.new.me ≡ (gave seat.old.me.0 T.entry, []) }
     {
-        self.table.shared.store::<Give<T>>(seat, TURN, FREE);
+        self.table.shared.store::<Give<T>>(seat, WORD, word);
     }
 
     // The same, with all that the entry is made of, from which the caller picks it.
@@ -81,15 +121,17 @@ impl<M: Machine, N: Note> Object<M, N> {
     pub(crate) fn give_entry<T: Told<M::Event, M::Reply>>(
         &self,
         seat: &mut SeatOf<M, N>,
+        word: u64,
         _caller: u32,
         _deed: &Deed<M::Event, M::Reply>,
         _note: &N,
     )
         requires seat { (seat.old.table_id ≡ self.now.table.shared.table_id) × (seat.old.me.0.stage ≡ Taken) × (0 < length seat.old.me.0.owns) }
-        requires may { HasCell seat.old.me (MayGive M.next M.HALTS M.frees M.takes N.front N.at self.now.table.shared.key seat.old.me.0 T.entry) }
+        requires free { word < 2 ^ 63 }
+        requires may { HasCell seat.old.me (MayGive M.next M.HALTS M.frees M.takes N.front N.at M.tells M.means self.now.table.shared.key seat.old.me.0 T.entry word) }
         ensures seat { IsSameSeat seat.old seat.new }
         ensures gave { seat.new.me ≡ (gave seat.old.me.0 T.entry, []) }
     {
-        self.give_turn::<T>(seat);
+        self.give_word::<T>(seat, word);
     }
 }

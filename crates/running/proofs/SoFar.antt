@@ -1,5 +1,5 @@
 -- A call of several stages, from its first on.
-use Rattle.std.proofs.Common.{◌≡◌, ℕ, Bool, true, false, List, [], ◌∷◌, ◌++◌, Option, Result, Ok, Err, refl, sym, ap, subst, ◌∙◌}
+use Rattle.std.proofs.Common.{◌≡◌, ℕ, ◌<◌, length, arith, Bool, true, false, List, [], ◌∷◌, ◌++◌, Option, Result, Ok, Err, refl, sym, ap, subst, ◌∙◌}
 use Rattle.sync_types.specs.declared.misuse.Misuse.{Misuse}
 use Rattle.sync_model.specs.declared.answer.Answer.{Answer}
 use Rattle.sync_model.specs.declared.answer.Answer.TheVariants.{Done, Halted}
@@ -251,3 +251,8 @@ module _ {S N E R G O : Type 0} (next : S → ℕ → E → S × R) (halts : Boo
       same_gain (Done (Ok outcome)) same = same outcome
       same_gain (Done (Err misuse)) same = refl
       same_gain (Halted misuse) same = refl
+
+-- a call makes at least one event
+pub some_entries : {G O E R : Type 0} (event_of : G → ℕ → E) (meaning : G → R → Step G O) (stage : G) (answer : CallAnswer O) (es : List (Placed E R)) → Spells event_of meaning stage (deeds_of es) answer → 0 < length es
+some_entries event_of meaning stage answer [] spelt = absurd spelt
+some_entries event_of meaning stage answer (e ∷ es) spelt = omega arith

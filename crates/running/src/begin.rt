@@ -3,6 +3,7 @@ ghost use Rattle.std.specs.Prelude.{◌≡◌, ◌<◌, ◌≤◌, IfOk};
 ghost use Rattle.ruled_object.specs.Passes.{callers_of, start_of, IsHomeOf};
 ghost use Rattle.running.specs.Between.{AreNewBetween};
 
+use object_word::Worded;
 use protocols::Protocol;
 use ruled_object::{MAX_CALLS, Object, PassOf};
 use std::alloc::{AllocError, Global};
@@ -10,7 +11,7 @@ use sync_model::{MAX_CALLERS, Note};
 
 /// An object whose machine begins in this state, and the passes of its callers in order of number, each good for `calls`
 /// calls and between two of them. It keeps `note` for what releasing events leave. No other call takes memory.
-pub fn new<P: Protocol, N: Note>(
+pub fn new<P: Protocol + Worded, N: Note>(
     alloc: Global,
     callers: u32,
     calls: u64,

@@ -3,15 +3,16 @@
 //! The calls from here down to the machine's step are inlined, so that the compiler makes one function of a call on a type:
 //! `docs/PERFORMANCE.md` says what it saves.
 ghost use Rattle.std.specs.Prelude.{◌≡◌, ◌<◌, true, false};
-ghost use Rattle.ruled_object.specs.Growth.{IsLawful, KeepsNote};
+ghost use Rattle.ruled_object.specs.Growth.{IsLawful, KeepsNote, NeedsNoTurn};
 ghost use Rattle.ruled_object.specs.Passes.{own_by, left_of, callers_of, start_of, IsHomeOf, IsOneLess, IsPassOf, SamePass};
 ghost use Rattle.ruled_object.specs.Standing.{stand_by};
 ghost use Rattle.protocols.specs.Spelling.{Spells, AreTimely};
 ghost use Rattle.running.specs.Calls.{Did, IsGiven, left_in, has_gained};
 
 use crate::stage::make;
+use object_word::Worded;
 use protocols::{Protocol, Step};
-use ruled_object::laws::{growth, notes_are_kept};
+use ruled_object::laws::{growth, notes_are_kept, turns_needed};
 use ruled_object::{Object, PassOf};
 use std::sync::Wait;
 use sync_model::{Answer, Note};
@@ -20,7 +21,7 @@ use sync_types::Misuse;
 
 /// Makes the call whose first stage this is, and takes one off the calls that are left: see `call_within`.
 #[inline(always)]
-pub fn call<P: Protocol, N: Note, C: Clock, R: Wait>(
+pub fn call<P: Protocol + Worded, N: Note, C: Clock, R: Wait>(
     object: &Object<P, N>,
     rt: &R,
     at: &At<N, C>,
@@ -39,8 +40,10 @@ pub fn call<P: Protocol, N: Note, C: Clock, R: Wait>(
     ensures gives { IsGiven (P.gives stage) result }
     ensures no_edge { has_gained (P.gains stage) result ≡ false → N.front note.new ≡ N.front note.old }
     ensures journal { IsLawful P.next P.HALTS P.frees P.takes (start_of object.now) pass.new }
+    ensures turns { NeedsNoTurn P.next P.HALTS P.alone (start_of object.now) pass.old (N.front note.old) pass.new (N.front note.new) }
 {
     growth::<P, N>();
+    turns_needed::<P, N>();
     object.spend(pass);
     call_within(object, rt, at, pass, note, stage)
 }
@@ -49,10 +52,12 @@ pub fn call<P: Protocol, N: Note, C: Clock, R: Wait>(
 /// one stage after the other, as the protocol says. Where the caller is to wait it sleeps until it is woken; nobody may have
 /// told it to go on, and then it sleeps again.
 ///
+/// Where it makes one event alone, and the object's word alone decides that event or the event is refused, it takes no turn.
+///
 /// It answers `Halted` exactly where the object was halted before the last of its events. Where it gains nothing, and where
 /// it is a misuse or halted, its caller's note knows what it knew.
 #[inline(always)]
-pub fn call_within<P: Protocol, N: Note, C: Clock, R: Wait>(
+pub fn call_within<P: Protocol + Worded, N: Note, C: Clock, R: Wait>(
     object: &Object<P, N>,
     rt: &R,
     at: &At<N, C>,
@@ -71,9 +76,11 @@ pub fn call_within<P: Protocol, N: Note, C: Clock, R: Wait>(
     ensures gives { IsGiven (P.gives stage) result }
     ensures no_edge { has_gained (P.gains stage) result ≡ false → N.front note.new ≡ N.front note.old }
     ensures journal { IsLawful P.next P.HALTS P.frees P.takes (start_of object.now) pass.new }
+    ensures turns { NeedsNoTurn P.next P.HALTS P.alone (start_of object.now) pass.old (N.front note.old) pass.new (N.front note.new) }
 {
     P::laws();
     growth::<P, N>();
+    turns_needed::<P, N>();
     notes_are_kept::<N>();
     match make(object, rt, at, pass, note, stage) {
         Answer::Halted(misuse) => Answer::Halted(misuse),
@@ -91,7 +98,7 @@ pub fn call_within<P: Protocol, N: Note, C: Clock, R: Wait>(
 // Goes on with a call whose first stage didn't end it. It stands apart, so that a call that ends with its first stage, as most
 // do, is compiled for that stage alone.
 #[inline(never)]
-fn go_on<P: Protocol, N: Note, C: Clock, R: Wait>(
+fn go_on<P: Protocol + Worded, N: Note, C: Clock, R: Wait>(
     object: &Object<P, N>,
     rt: &R,
     at: &At<N, C>,

@@ -8,6 +8,7 @@ ghost use Rattle.ruled_object.specs.Passes.{own_by, start_of, Adds, IsPassOf, Sa
 ghost use Rattle.ruled_object.specs.Standing.{stand_by};
 ghost use Rattle.running.specs.Between.{AreAllBetween};
 
+use object_word::Worded;
 use protocols::Protocol;
 use ruled_object::laws::standing;
 use ruled_object::{Object, PassOf};
@@ -18,7 +19,7 @@ use sync_types::Misuse;
 /// Halts the object by a misuse, and wakes all who sleep: from then on each event is answered `Halted`. The first halt is
 /// kept. It is one entry of the journal, neither releases nor acquires, leaves its caller where it stood, and takes nothing
 /// off the calls that are left.
-pub fn halt<P: Protocol, N: Note, R: Wait>(
+pub fn halt<P: Protocol + Worded, N: Note, R: Wait>(
     object: &Object<P, N>,
     rt: &R,
     pass: &mut PassOf<P, N>,
@@ -40,7 +41,7 @@ pub fn halt<P: Protocol, N: Note, R: Wait>(
 
 /// The misuse of the journal's first halt, and `None` exactly where there is none. It takes all passes, so that no call is
 /// under way, and adds no entry. Afterwards each pass has seen the whole journal.
-pub fn first_halt<P: Protocol, N: Note>(
+pub fn first_halt<P: Protocol + Worded, N: Note>(
     object: &Object<P, N>,
     passes: &mut [PassOf<P, N>],
 ) -> Option<Misuse>

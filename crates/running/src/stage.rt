@@ -1,12 +1,13 @@
 //! One stage of a running call.
 ghost use Rattle.std.specs.Prelude.{◌≡◌, true, false};
-ghost use Rattle.ruled_object.specs.Growth.{IsLawful, KeepsNote};
+ghost use Rattle.ruled_object.specs.Growth.{IsLawful, KeepsNote, NeedsNoTurn};
 ghost use Rattle.ruled_object.specs.Passes.{own_by, callers_of, start_of, IsHomeOf, IsPassOf, SamePass};
 ghost use Rattle.ruled_object.specs.Standing.{stand_by};
 ghost use Rattle.protocols.specs.Spelling.{IsEventOf};
 ghost use Rattle.protocols.specs.Steps.{IsAt};
 ghost use Rattle.running.specs.Stages.{MadeStage, MayCome, StandsOn, acquires_by};
 
+use object_word::Worded;
 use protocols::{Protocol, Step};
 use ruled_object::laws::standing;
 use ruled_object::{Object, PassOf};
@@ -31,7 +32,7 @@ fn event_at<P: Protocol, C: Clock>(stage: P::Stage, clock: &C) -> P::Event
 
 // Makes the event of a stage that its caller is allowed, and tells how the call goes on.
 #[inline(always)]
-pub(crate) fn make<P: Protocol, N: Note, C: Clock, R: Wait>(
+pub(crate) fn make<P: Protocol + Worded, N: Note, C: Clock, R: Wait>(
     object: &Object<P, N>,
     rt: &R,
     at: &At<N, C>,
@@ -50,6 +51,7 @@ pub(crate) fn make<P: Protocol, N: Note, C: Clock, R: Wait>(
     ensures stands { StandsOn P.out P.left (P.allows (start_of object.now)) (stand_by P.out P.stands (own_by pass.new)) result }
     ensures no_edge { acquires_by (P.gains stage) result ≡ false → N.front note.new ≡ N.front note.old }
     ensures journal { IsLawful P.next P.HALTS P.frees P.takes (start_of object.now) pass.new }
+    ensures turns { NeedsNoTurn P.next P.HALTS P.alone (start_of object.now) pass.old (N.front note.old) pass.new (N.front note.new) }
 {
     P::laws();
     standing::<P, P::Stand>();

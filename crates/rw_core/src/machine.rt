@@ -8,6 +8,7 @@ use crate::event::RwEvent;
 use crate::place::Place;
 use crate::reply::{Arrival, Resumption, RwReply, Unlocking};
 use crate::rw::RwCore;
+use object_word::Worded;
 use sync_model::{Callers, Machine};
 
 /// After Go's memory model, an unlock that isn't a misuse, of a reader or of a writer, synchronizes
@@ -87,5 +88,23 @@ impl Machine for RwCore {
             (RwEvent::WriteUnlock, RwReply::Unlocked(Unlocking::Done)) => state.let_on(),
             _ => Callers::nobody(),
         }
+    }
+}
+
+// Its objects' word tells nothing.
+impl Worded for RwCore {
+    const TELLS: bool = false;
+
+    #[inline(always)]
+    fn word(_state: &RwCore) -> u64 {
+        0
+    }
+
+    #[inline(always)]
+    fn refresh(_kept: &mut RwCore, _word: u64) {}
+
+    #[inline(always)]
+    fn quick(kept: &mut RwCore, _word: u64, caller: u32, event: RwEvent) -> Option<(u64, RwReply)> {
+        Some((0, Self::step(kept, caller, event)))
     }
 }

@@ -4,6 +4,7 @@ ghost use Rattle.shared_plain.specs.PlainMachine.{next};
 
 use crate::event::{Answered, Event};
 use crate::state::PlainState;
+use object_word::Worded;
 use sync_model::Machine;
 
 /// Maps and atomics, which no misuse halts. What their callers know of one another's calls is what they have seen of the
@@ -37,5 +38,28 @@ impl Machine for PlainMachine {
 
     fn acquires(_event: &Event, _reply: &Option<Answered>) -> bool {
         false
+    }
+}
+
+// Its objects' word tells nothing.
+impl Worded for PlainMachine {
+    const TELLS: bool = false;
+
+    #[inline(always)]
+    fn word(_state: &PlainState) -> u64 {
+        0
+    }
+
+    #[inline(always)]
+    fn refresh(_kept: &mut PlainState, _word: u64) {}
+
+    #[inline(always)]
+    fn quick(
+        kept: &mut PlainState,
+        _word: u64,
+        caller: u32,
+        event: Event,
+    ) -> Option<(u64, Option<Answered>)> {
+        Some((0, Self::step(kept, caller, event)))
     }
 }

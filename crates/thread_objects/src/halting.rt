@@ -10,6 +10,7 @@ use crate::by_kind::{arms, by_kind};
 use crate::object::AnyObject;
 use crate::pass::AnyPass;
 use crate::worker::Worker;
+use object_word::Worded;
 use protocols::Protocol;
 use ruled_object::{Object, PassOf};
 use running::halt;
@@ -19,7 +20,7 @@ use sync_outside::Clock;
 use sync_types::Misuse;
 
 // Halts an object of one kind.
-fn halt_one<P: Protocol, N: Note, C: Clock, R: Wait>(
+fn halt_one<P: Protocol + Worded, N: Note, C: Clock, R: Wait>(
     rt: &R,
     _worker: &Worker<N, C>,
     object: &Object<P, N>,

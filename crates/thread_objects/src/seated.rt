@@ -15,6 +15,7 @@ ghost use Rattle.thread_objects.specs.Passes.{own_of, own_as};
 ghost use Rattle.thread_objects.specs.Seats.{IsSeat};
 
 use crate::crew::Crew;
+use object_word::Worded;
 use protocols::Protocol;
 use ruled_object::{Object, PassOf};
 use std::alloc::{AllocError, Global};
@@ -23,7 +24,7 @@ use sync_types::Misuse;
 
 /// An object that begins in this state, and a pass of each worker. The workers make one long call each, as passes count calls,
 /// so these are good for none more. No other call takes memory.
-pub(crate) fn begin<P: Protocol, N: Note>(
+pub(crate) fn begin<P: Protocol + Worded, N: Note>(
     alloc: Global,
     crew: &Crew<N>,
     start: P::State,
@@ -42,7 +43,7 @@ pub(crate) fn begin<P: Protocol, N: Note>(
 }
 
 /// Takes the pass of the last worker that has one here.
-pub(crate) fn take_pass<P: Protocol, N: Note>(
+pub(crate) fn take_pass<P: Protocol + Worded, N: Note>(
     _crew: &Crew<N>,
     _worker: u32,
     _object: &Object<P, N>,
@@ -60,7 +61,7 @@ pub(crate) fn take_pass<P: Protocol, N: Note>(
 }
 
 /// Adds the pass of the next worker, for which there is room.
-pub(crate) fn put_pass<P: Protocol, N: Note>(
+pub(crate) fn put_pass<P: Protocol + Worded, N: Note>(
     _crew: &Crew<N>,
     _worker: u32,
     _object: &Object<P, N>,
@@ -79,7 +80,7 @@ pub(crate) fn put_pass<P: Protocol, N: Note>(
 }
 
 /// The misuse of the first halt, and `None` exactly where there is none. It takes all passes, and adds no entry.
-pub(crate) fn first_of<P: Protocol, N: Note>(
+pub(crate) fn first_of<P: Protocol + Worded, N: Note>(
     _crew: &Crew<N>,
     object: &Object<P, N>,
     passes: &mut Vec<PassOf<P, N>>,

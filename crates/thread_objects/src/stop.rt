@@ -3,6 +3,7 @@ ghost use Rattle.std.specs.Prelude.{true, false, None};
 ghost use Rattle.protocols.specs.declared.step.Step.TheVariants.{Never};
 ghost use Rattle.thread_objects.specs.Stop.{StopBegins};
 
+use object_word::Worded;
 use protocols::{Protocol, Step};
 use sync_model::Machine;
 
@@ -40,6 +41,24 @@ impl Machine for StopCore {
 
     fn acquires(_event: &NoEvent, _reply: &NoEvent) -> bool {
         false
+    }
+}
+
+// Its objects' word tells nothing.
+impl Worded for StopCore {
+    const TELLS: bool = false;
+
+    #[inline(always)]
+    fn word(_state: &()) -> u64 {
+        0
+    }
+
+    #[inline(always)]
+    fn refresh(_kept: &mut (), _word: u64) {}
+
+    #[inline(always)]
+    fn quick(kept: &mut (), _word: u64, caller: u32, event: NoEvent) -> Option<(u64, NoEvent)> {
+        Some((0, Self::step(kept, caller, event)))
     }
 }
 

@@ -4,6 +4,7 @@ ghost use Rattle.std.specs.List.{list_any};
 ghost use Rattle.wait_cores.specs.GroupEdges.{group_releases, group_acquires};
 ghost use Rattle.wait_cores.specs.GroupMachine.{start, next, callers_of, place_of, reply_of_wait, reply_of_result, is_reused, is_waiting, released};
 
+use object_word::Worded;
 use std::alloc::{AllocError, Global};
 use std::marker::Model;
 use sync_model::{Callers, Machine};
@@ -269,6 +270,29 @@ impl Machine for GroupCore {
             (GroupEvent::Add(_), GroupReply::Done) => state.released,
             _ => Callers::nobody(),
         }
+    }
+}
+
+// Its objects' word tells nothing.
+impl Worded for GroupCore {
+    const TELLS: bool = false;
+
+    #[inline(always)]
+    fn word(_state: &GroupCore) -> u64 {
+        0
+    }
+
+    #[inline(always)]
+    fn refresh(_kept: &mut GroupCore, _word: u64) {}
+
+    #[inline(always)]
+    fn quick(
+        kept: &mut GroupCore,
+        _word: u64,
+        caller: u32,
+        event: GroupEvent,
+    ) -> Option<(u64, GroupReply)> {
+        Some((0, Self::step(kept, caller, event)))
     }
 }
 

@@ -3,6 +3,7 @@ ghost use Rattle.std.specs.Prelude.{◌≡◌, ℕ, ◌<◌, ◌≤◌, true, If
 ghost use Rattle.wait_cores.specs.NotifyEdges.{notify_releases, notify_acquires};
 ghost use Rattle.wait_cores.specs.NotifyMachine.{start, next, callers_of, place_of};
 
+use object_word::Worded;
 use std::alloc::{AllocError, Global};
 use std::marker::Model;
 use sync_model::{Callers, Machine};
@@ -199,5 +200,28 @@ impl Machine for NotifyCore {
             (NotifyEvent::Broadcast, NotifyReply::Done) => state.notified_from(0),
             _ => Callers::nobody(),
         }
+    }
+}
+
+// Its objects' word tells nothing.
+impl Worded for NotifyCore {
+    const TELLS: bool = false;
+
+    #[inline(always)]
+    fn word(_state: &NotifyCore) -> u64 {
+        0
+    }
+
+    #[inline(always)]
+    fn refresh(_kept: &mut NotifyCore, _word: u64) {}
+
+    #[inline(always)]
+    fn quick(
+        kept: &mut NotifyCore,
+        _word: u64,
+        caller: u32,
+        event: NotifyEvent,
+    ) -> Option<(u64, NotifyReply)> {
+        Some((0, Self::step(kept, caller, event)))
     }
 }

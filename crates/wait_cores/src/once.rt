@@ -3,6 +3,7 @@ ghost use Rattle.std.specs.Prelude.{◌≡◌, ◌<◌, ◌≤◌, true, IfOk};
 ghost use Rattle.wait_cores.specs.OnceEdges.{once_releases, once_acquires};
 ghost use Rattle.wait_cores.specs.OnceMachine.{start, next, callers_of, place_of, runner_of, reply_of};
 
+use object_word::Worded;
 use std::alloc::{AllocError, Global};
 use std::marker::Model;
 use sync_model::{Callers, Machine};
@@ -248,5 +249,28 @@ impl<T: Copy> Machine for OnceCore<T> {
             OnceReply::Ended => state.waiting(),
             _ => Callers::nobody(),
         }
+    }
+}
+
+// Its objects' word tells nothing.
+impl<T: Copy> Worded for OnceCore<T> {
+    const TELLS: bool = false;
+
+    #[inline(always)]
+    fn word(_state: &OnceCore<T>) -> u64 {
+        0
+    }
+
+    #[inline(always)]
+    fn refresh(_kept: &mut OnceCore<T>, _word: u64) {}
+
+    #[inline(always)]
+    fn quick(
+        kept: &mut OnceCore<T>,
+        _word: u64,
+        caller: u32,
+        event: OnceEvent<T>,
+    ) -> Option<(u64, OnceReply<T>)> {
+        Some((0, Self::step(kept, caller, event)))
     }
 }

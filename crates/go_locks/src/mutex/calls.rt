@@ -5,7 +5,8 @@ ghost use Rattle.sync_model.specs.declared.answer.Answer.TheVariants.{Done, Halt
 ghost use Rattle.mutex_core.specs.declared.event.MutexEvent.{MutexEvent};
 ghost use Rattle.mutex_core.specs.Edges.{acquires, releases};
 ghost use Rattle.mutex_core.specs.MutexMachine.{next};
-ghost use Rattle.ruled_object.specs.Growth.{IsLawful, KeepsNote};
+ghost use Rattle.mutex_core.specs.Word.{is_uncontended};
+ghost use Rattle.ruled_object.specs.Growth.{IsLawful, KeepsNote, NeedsNoTurn};
 ghost use Rattle.ruled_object.specs.Passes.{left_of, IsOneLess};
 ghost use Rattle.go_locks.specs.Calls.{Did};
 ghost use Rattle.go_locks.specs.Mutexes.{mutex_start, IsHomeOfMutex, IsPassOfMutex};
@@ -39,6 +40,7 @@ impl<N: Note> Mutex<N> {
         ensures events { Did next (mutex_start self.now) Locks (AreClocked (C.shows at.now.clock.now)) pass.old (N.front note.old) result pass.new (N.front note.new) }
         ensures halted { (misuse : Misuse) → result ≡ Halted misuse → N.front note.new ≡ N.front note.old }
         ensures journal { IsLawful next true (λ event reply. releases reply) (λ event reply. acquires reply) (mutex_start self.now) pass.new }
+        ensures turns { NeedsNoTurn next true is_uncontended (mutex_start self.now) pass.old (N.front note.old) pass.new (N.front note.new) }
     {
         locked(call(&self.object, rt, at, pass, note, MutexStage::Lock))
     }
@@ -61,6 +63,7 @@ impl<N: Note> Mutex<N> {
         ensures events { Did next (mutex_start self.now) Tries (AreClocked (C.shows at.now.clock.now)) pass.old (N.front note.old) result pass.new (N.front note.new) }
         ensures no_edge { result ≢ Done true → N.front note.new ≡ N.front note.old }
         ensures journal { IsLawful next true (λ event reply. releases reply) (λ event reply. acquires reply) (mutex_start self.now) pass.new }
+        ensures turns { NeedsNoTurn next true is_uncontended (mutex_start self.now) pass.old (N.front note.old) pass.new (N.front note.new) }
     {
         tried(call(&self.object, rt, at, pass, note, MutexStage::TryLock))
     }
@@ -83,6 +86,7 @@ impl<N: Note> Mutex<N> {
         ensures events { Did next (mutex_start self.now) Unlocks (AreClocked (C.shows at.now.clock.now)) pass.old (N.front note.old) result pass.new (N.front note.new) }
         ensures no_edge { N.front note.new ≡ N.front note.old }
         ensures journal { IsLawful next true (λ event reply. releases reply) (λ event reply. acquires reply) (mutex_start self.now) pass.new }
+        ensures turns { NeedsNoTurn next true is_uncontended (mutex_start self.now) pass.old (N.front note.old) pass.new (N.front note.new) }
     {
         unlocked(call(&self.object, rt, at, pass, note, MutexStage::Unlock))
     }

@@ -10,7 +10,7 @@ use sync_types::Misuse;
 
 // A caller with its pass, and a note of its own.
 #[derive(Drop)]
-struct Caller<M: Machine> {
+struct Caller<M: Worded> {
     pass: PassOf<M, FrontNote>,
     note: FrontNote,
 }
@@ -40,7 +40,7 @@ fn a_copy_is_merged_into_the_other_pass(rt: HostRuntime) -> Result<(), Fail> {
 }
 
 // Two callers' passes, looked at together where they lie.
-fn look_at_both<M: Machine>(
+fn look_at_both<M: Worded>(
     object: &Object<M, FrontNote>,
     first: &mut Caller<M>,
     second: &mut Caller<M>,

@@ -4,6 +4,7 @@ ghost use Rattle.object_tests.specs.Both.{AreBoth};
 ghost use Rattle.ruled_object.specs.Gathered.{AreAllPasses};
 ghost use Rattle.ruled_object.specs.Passes.{callers_of};
 
+use object_word::Worded;
 use ruled_object::{Object, PassOf};
 use std::alloc::{AllocError, Global};
 use sync_model::{Callers, FrontNote, Machine};
@@ -43,6 +44,24 @@ impl Machine for Counter {
     }
 }
 
+// Its objects' word tells nothing.
+impl Worded for Counter {
+    const TELLS: bool = false;
+
+    #[inline(always)]
+    fn word(_state: &u64) -> u64 {
+        0
+    }
+
+    #[inline(always)]
+    fn refresh(_kept: &mut u64, _word: u64) {}
+
+    #[inline(always)]
+    fn quick(kept: &mut u64, _word: u64, caller: u32, event: u64) -> Option<(u64, u64)> {
+        Some((0, Self::step(kept, caller, event)))
+    }
+}
+
 /// The same, but that a misuse halts it.
 pub(super) struct Fragile;
 
@@ -74,6 +93,24 @@ impl Machine for Fragile {
 
     fn acquires(_event: &u64, _reply: &u64) -> bool {
         false
+    }
+}
+
+// Its objects' word tells nothing.
+impl Worded for Fragile {
+    const TELLS: bool = false;
+
+    #[inline(always)]
+    fn word(_state: &u64) -> u64 {
+        0
+    }
+
+    #[inline(always)]
+    fn refresh(_kept: &mut u64, _word: u64) {}
+
+    #[inline(always)]
+    fn quick(kept: &mut u64, _word: u64, caller: u32, event: u64) -> Option<(u64, u64)> {
+        Some((0, Self::step(kept, caller, event)))
     }
 }
 
@@ -114,6 +151,24 @@ impl Machine for Bell {
     }
 }
 
+// Its objects' word tells nothing.
+impl Worded for Bell {
+    const TELLS: bool = false;
+
+    #[inline(always)]
+    fn word(_state: &u64) -> u64 {
+        0
+    }
+
+    #[inline(always)]
+    fn refresh(_kept: &mut u64, _word: u64) {}
+
+    #[inline(always)]
+    fn quick(kept: &mut u64, _word: u64, caller: u32, event: u32) -> Option<(u64, ())> {
+        Some((0, Self::step(kept, caller, event)))
+    }
+}
+
 /// A note that knows this many calls of caller 0.
 pub(super) fn knows(count: u32) -> FrontNote {
     let mut counts = [0; 64];
@@ -122,7 +177,7 @@ pub(super) fn knows(count: u32) -> FrontNote {
 }
 
 /// An object for two callers, and their passes.
-pub(super) fn duo<M: Machine<State = u64>>(
+pub(super) fn duo<M: Worded<State = u64>>(
     alloc: Global,
     start: u64,
 ) -> Result<
@@ -141,7 +196,7 @@ pub(super) fn duo<M: Machine<State = u64>>(
 }
 
 /// The passes of such an object's two callers.
-pub(super) fn both_of<M: Machine>(
+pub(super) fn both_of<M: Worded>(
     _object: &Object<M, FrontNote>,
     mut passes: Vec<PassOf<M, FrontNote>>,
 ) -> (PassOf<M, FrontNote>, PassOf<M, FrontNote>)
@@ -154,7 +209,7 @@ pub(super) fn both_of<M: Machine>(
 }
 
 /// All passes of such an object.
-pub(super) fn all_of<M: Machine>(
+pub(super) fn all_of<M: Worded>(
     alloc: Global,
     _object: &Object<M, FrontNote>,
     first: PassOf<M, FrontNote>,

@@ -1,4 +1,4 @@
-use Rattle.std.proofs.Common.{get_or, sym, ◌∙◌, subst, ◌≡◌, ◌≤◌, length, arith}
+use Rattle.std.proofs.Common.{get_or, sym, ◌∙◌, subst, arith}
 use Rattle.sync_model.specs.Journal.{Begins}
 use Rattle.ruled_object.proofs.Gathering.{at_same}
 use Rattle.ruled_object.proofs.Journals.{begins_all}

@@ -1,8 +1,8 @@
-use Rattle.std.proofs.Common.{ap, ◌∙◌, refl}
+use Rattle.std.proofs.Common.{ap, ◌∙◌, refl, [], ◌∷◌, arith}
 use Rattle.sync_model.specs.declared.answer.Answer.TheVariants.{Done}
 use Rattle.ruled_object.specs.Passes.{start_of}
 use Rattle.protocols.specs.declared.step.Step.TheVariants.{Waits, Next}
-use Rattle.running.proofs.SoFar.{went_on}
+use Rattle.running.proofs.SoFar.{some_entries, went_on}
 use Rattle.running.proofs.calls.call_within.Goals as goal
 
 pub returns-in-Done-Waits-clause-events : goal.returns-in-Done-Waits-clause-events
@@ -16,3 +16,27 @@ returns-in-Done-Next-clause-events g c = (went_on g.P.Machine.next g.P.Machine.H
 
 pub returns-in-Done-Next-clause-no_edge : goal.returns-in-Done-Next-clause-no_edge
 returns-in-Done-Next-clause-no_edge g c = (went_on g.P.Machine.next g.P.Machine.HALTS (start_of c.args.object.now) g.P.Protocol.event g.P.Protocol.moment g.P.Protocol.meaning (g.C.Clock.shows c.args.at.now.clock.now) g.P.Protocol.gives g.P.Protocol.gains c.args.stage c.args.pass.now c.make.new.pass c.go_on-in-Done-Next.new.pass (g.N.Note.front c.args.note.now) (g.N.Note.front c.make.new.note) (g.N.Note.front c.go_on-in-Done-Next.new.note) c.in-Done-Next.later c.make.result (Next c.in-Done-Next.later) c.go_on-in-Done-Next.result (c.growth.ensures.both (start_of c.args.object.now)) (λ r. c.laws.ensures.gives c.args.stage r) (λ r. (g.P.Machine.takes (g.P.Protocol.event c.args.stage 0) r, c.laws.ensures.gains c.args.stage 0 r)) (c.growth.ensures.nothing (start_of c.args.object.now) c.args.pass.now (g.N.Note.front c.args.note.now)) c.make.ensures.made c.make.ensures.no_edge (c.in-Done-Next.is ∙ ap Done c.in-Done-Next.field-0-is) refl c.go_on-in-Done-Next.ensures.events c.go_on-in-Done-Next.ensures.no_edge).1
+
+pub returns-in-Done-Waits-clause-turns : goal.returns-in-Done-Waits-clause-turns
+returns-in-Done-Waits-clause-turns g c =
+    let start = start_of c.args.object.now in
+    let front = g.N.Note.front in
+    let made = c.make.ensures.made in
+    let did = c.go_on.ensures.events in
+    let some = some_entries g.P.Protocol.event g.P.Protocol.meaning c.in-Done-Waits.later c.go_on.result did.entries did.spelt in
+    let from = front c.args.note.now in
+    let to = front c.go_on.new.note in
+    c.turns_needed.ensures.several start c.args.pass.now c.go_on.new.pass (made.one ∷ did.entries) from to from to
+    (c.growth.ensures.both start c.args.pass.now c.make.new.pass c.go_on.new.pass (made.one ∷ []) did.entries from (front c.make.new.note) to made.grows did.grows) (omega arith)
+
+pub returns-in-Done-Next-clause-turns : goal.returns-in-Done-Next-clause-turns
+returns-in-Done-Next-clause-turns g c =
+    let start = start_of c.args.object.now in
+    let front = g.N.Note.front in
+    let made = c.make.ensures.made in
+    let did = c.go_on-in-Done-Next.ensures.events in
+    let some = some_entries g.P.Protocol.event g.P.Protocol.meaning c.in-Done-Next.later c.go_on-in-Done-Next.result did.entries did.spelt in
+    let from = front c.args.note.now in
+    let to = front c.go_on-in-Done-Next.new.note in
+    c.turns_needed.ensures.several start c.args.pass.now c.go_on-in-Done-Next.new.pass (made.one ∷ did.entries) from to from to
+    (c.growth.ensures.both start c.args.pass.now c.make.new.pass c.go_on-in-Done-Next.new.pass (made.one ∷ []) did.entries from (front c.make.new.note) to made.grows did.grows) (omega arith)

@@ -1,19 +1,19 @@
-use Rattle.std.proofs.Common.{rules, ◌<◌, ◌+◌, get_or, slice_get, set, length, length-set, refl, sym, ap, ◌∙◌, subst, arith, le_refl}
+use Rattle.std.proofs.Common.{rules, ◌<◌, ◌+◌, get_or, slice_get, set, length, length-set, sym, ap, ◌∙◌, subst, arith, le_refl}
 use Rattle.std.proofs.lemmas.Option.{slice_get-get_or, slice_get_within}
 use mathlib.Core.Logic.{dite}
 use native.Mathlib.Decide.{ℕ_discrete}
 use Rattle.ruled_object.specs.Gathered.{Dealing, IsDealt}
-use Rattle.ruled_object.proofs.Gathering.{dealing_on, is_dealt, same_on, get_set_same, get_set_other}
+use Rattle.ruled_object.proofs.Gathering.{dealing_on, is_dealt, same_on, turns_on, get_set_same, get_set_other}
 use Rattle.ruled_object.proofs.object.Object.deal_out.Goals as goal
 
-pub deal-requires-clause-all : goal.deal-requires-clause-all
-deal-requires-clause-all g c = (c.loop-pass.invariant.table, c.loop-pass.invariant.empty)
+pub deal_to-requires-clause-all : goal.deal_to-requires-clause-all
+deal_to-requires-clause-all g c = (c.loop-pass.invariant.table, c.loop-pass.invariant.empty)
 
-pub deal-requires-clause-idle : goal.deal-requires-clause-idle
-deal-requires-clause-idle g c = c.loop-pass.invariant.dealing.stage
+pub deal_to-requires-clause-idle : goal.deal_to-requires-clause-idle
+deal_to-requires-clause-idle g c = c.loop-pass.invariant.dealing.stage
 
-pub deal-requires-clause-some : goal.deal-requires-clause-some
-deal-requires-clause-some g c =
+pub deal_to-requires-clause-some : goal.deal_to-requires-clause-some
+deal_to-requires-clause-some g c =
     let count = c.loop-pass.invariant.dealing.count in
     let sized = c.requires.count.0 in
     let inside = c.loop-pass-test.true in
@@ -35,16 +35,18 @@ loop-pass-preserved g c =
     let some_own : 0 < length v.owns = omega arith in
     let number = c.requires.order i _ at_i in
     let before = get_or passes i c.pass-item.result in
-    let after = record before { seat = c.deal.result } in
-    let mine = is_dealt c.args.self.now i old.seen old.owns v after c.loop-pass.invariant.dealing some_own (subst (λ k. i < k) c.requires.count.1 inside) c.deal.ensures.dealt.0 c.deal.ensures.dealt.1 number in
+    let after = c.deal_to.new.pass in
+    let same_pass = c.deal_to.ensures.pass in
+    let mine = is_dealt c.args.self.now i before.turns old.seen old.owns v after c.loop-pass.invariant.dealing some_own (subst (λ k. i < k) c.requires.count.1 inside) c.deal_to.ensures.dealt.0 c.deal_to.ensures.dealt.1 (same_pass.0 ∙ number) c.deal_to.ensures.turns in
     record {
       table = search rules;
       empty = search rules;
-      dealing = subst (λ me. Dealing (i + 1) old.seen old.owns me.0) (sym c.deal.ensures.all.1) (dealing_on i old.seen old.owns v some_own c.loop-pass.invariant.dealing);
-      same = same_on c.args.passes.now passes i before after at_i (refl, refl) (length-set passes i after) c.loop-pass.invariant.same;
+      dealing = subst (λ me. Dealing (i + 1) old.seen old.owns me.0) (sym c.deal_to.ensures.all.1) (dealing_on i old.seen old.owns v some_own c.loop-pass.invariant.dealing);
+      turns = turns_on c.args.passes.now passes i before after at_i same_pass.2 c.loop-pass.invariant.turns;
+      same = same_on c.args.passes.now passes i before after at_i (same_pass.0, same_pass.1) (length-set passes i after) c.loop-pass.invariant.same;
       dealt = λ k pass at_most at_k. dite (ℕ_discrete k i)
-          (λ is. let same_pass = get_set_same passes i after pass (ap (slice_get (set passes i after)) (sym is) ∙ at_k) in
-          subst (λ j. IsDealt c.args.self.now j old.seen old.owns pass) (sym is) (subst (IsDealt c.args.self.now i old.seen old.owns) same_pass mine))
+          (λ is. let it = get_set_same passes i after pass (ap (slice_get (set passes i after)) (sym is) ∙ at_k) in
+          subst (λ j. IsDealt c.args.self.now j old.seen old.owns pass) (sym is) (subst (IsDealt c.args.self.now i old.seen old.owns) it mine))
           (λ other. c.loop-pass.invariant.dealt k pass (omega arith) (sym (get_set_other passes i k after other) ∙ at_k));
       rest = λ k past. get_set_other passes i k after (λ e. omega arith) ∙ c.loop-pass.invariant.rest k (omega arith);
     }

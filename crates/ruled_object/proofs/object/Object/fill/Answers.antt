@@ -15,13 +15,13 @@ store-requires g c =
     let fresh = c.requires.seat.1 in (
       search rules,
       search rules,
-      subst (λ slots. Allows (Kept m.next m.HALTS m.frees m.takes n.front n.at begin) slots seat.id seat.me 0 (λ _. 1) (λ _. made seat.me)) (sym c.args.self.now.sized.1)
-          (makes m.next m.HALTS m.frees m.takes n.front n.at begin seat.id seat.me (ap (λ me. me.0.stage) fresh) (ap (λ me. me.1) fresh)
+      subst (λ slots. Allows (Kept m.next m.HALTS m.frees m.takes n.front n.at g.M.Worded.tells g.M.Worded.means begin) slots seat.id seat.me 0 (λ _. 9223372036854775808) (λ _. made seat.me)) (sym c.args.self.now.sized.1)
+          (makes m.next m.HALTS m.frees m.takes n.front n.at g.M.Worded.tells g.M.Worded.means begin seat.id seat.me (ap (λ me. me.0.stage) fresh) (ap (λ me. me.1) fresh)
           (subst (λ me. 0 < length me.0.owns) (sym fresh) (subst (λ k. 0 < k) (sym (length-replicate begin.callers [])) c.args.self.now.callers.1))),
     )
 
-pub give_turn-requires-clause-may : goal.give_turn-requires-clause-may
-give_turn-requires-clause-may g c =
+pub give_word-requires-clause-may : goal.give_word-requires-clause-may
+give_word-requires-clause-may g c =
     let cell = c.args.cell in
     let is = c.exchange.ensures.3 in
     (cell, ap (λ me. me.1) is ∙ ap (λ me. (0, Some cell) ∷ rest me.1) c.store.ensures.2, search rules)

@@ -1,6 +1,6 @@
 use Rattle.std.proofs.Common.{rules, ◌≡◌, ◌<◌, ◌+◌, [], ◌∷◌, ⊎_elim, length, length-append, replicate, slice_get, refl, sym, ap, ◌∙◌, subst, arith}
 use Rattle.ruled_object.specs.Gathered.{Dealing, IsDealt}
-use Rattle.ruled_object.specs.Passes.{left_of, own_by}
+use Rattle.ruled_object.specs.Passes.{capped, left_of, own_by}
 use Rattle.ruled_object.proofs.Gathering.{dealing_on, is_dealt, no_entries, pass_of, some_left}
 use Rattle.ruled_object.proofs.Journals.{at_end}
 use Rattle.ruled_object.proofs.object.Object.first_passes.Goals as goal
@@ -13,8 +13,8 @@ loop-number-preserved g c =
     let v = c.loop-number.all.me.0 in
     let inside = c.loop-number-test.true in
     let some_own = some_left i c.args.callers [] v c.loop-number.invariant.dealing inside in
-    let pass = pass_of i c.args.calls c.deal-seat.result in
-    let mine = is_dealt c.args.self.now i [] all v pass c.loop-number.invariant.dealing some_own (subst (λ k. i < k) c.requires.callers inside) c.deal-seat.ensures.dealt.0 c.deal-seat.ensures.dealt.1 refl in
+    let pass = pass_of i c.args.calls 0 c.deal-seat.result in
+    let mine = is_dealt c.args.self.now i 0 [] all v pass c.loop-number.invariant.dealing some_own (subst (λ k. i < k) c.requires.callers inside) c.deal-seat.ensures.dealt.0 c.deal-seat.ensures.dealt.1 refl (sym (ap (λ me. capped me.0.turns) c.deal-seat.ensures.dealt.1)) in
     record {
       table = search rules;
       empty = search rules;

@@ -1,7 +1,7 @@
 use Rattle.std.proofs.Common.{rules, ◌<◌, ◌+◌, length, length-set, sym, ◌∙◌, subst, arith, le_refl}
 use Rattle.std.proofs.lemmas.Option.{slice_get-get_or}
 use Rattle.ruled_object.specs.Gathered.{Gathered}
-use Rattle.ruled_object.proofs.Gathering.{gathered_on, same_on, get_set_other}
+use Rattle.ruled_object.proofs.Gathering.{gathered_on, same_on, turns_on, get_set_other}
 use Rattle.ruled_object.proofs.object.Object.gather.Goals as goal
 
 pub take_in-requires-clause-pass : goal.take_in-requires-clause-pass
@@ -42,6 +42,7 @@ loop-pass-preserved g c =
       table = search rules;
       empty = search rules;
       gathered = subst (λ me. Gathered (i + 1) c.args.passes.now me.0) (sym c.take_in.ensures.all.1) (gathered_on i c.args.passes.now _ c.loop-pass.all.me.0 at_i asked.one c.loop-pass.invariant.gathered);
+      turns = turns_on c.args.passes.now passes i _ after at_i c.take_in.ensures.turns c.loop-pass.invariant.turns;
       same = same_on c.args.passes.now passes i _ after at_i c.take_in.ensures.pass (length-set passes i after) c.loop-pass.invariant.same;
       rest = λ k past. get_set_other passes i k after (λ e. omega arith) ∙ c.loop-pass.invariant.rest k (omega arith);
     }

@@ -1,8 +1,7 @@
-use Rattle.std.proofs.Common.{rules, ◌≡◌, ◌<◌, [], ◌∷◌, Some, ap, sym, ◌∙◌, subst, length}
-use Rattle.atomic_table.specs.Table.{Allows, rest}
-use Rattle.ruled_object.specs.declared.view.Stage.TheVariants.{Taken}
+use Rattle.std.proofs.Common.{rules, ◌≡◌, sym, subst}
+use Rattle.atomic_table.specs.Table.{Allows}
 use Rattle.ruled_object.specs.Rule.{Kept}
-use Rattle.ruled_object.specs.Steps.{gave, MayGive}
+use Rattle.ruled_object.specs.Steps.{raised}
 use Rattle.ruled_object.proofs.Steps.{gives_turn}
 use Rattle.ruled_object.proofs.object.Object.give_turn.Goals as goal
 
@@ -11,11 +10,9 @@ store-requires g c =
     let m = g.M.Machine in
     let n = g.N.Note in
     let begin = c.args.self.now.table.shared.key in
-    let seat = c.args.seat.now in
-    let told = g.T.Told.entry in
-    let may = c.requires.may in (
+    let seat = c.args.seat.now in (
       search rules,
       search rules,
-      subst (λ slots. Allows (Kept m.next m.HALTS m.frees m.takes n.front n.at begin) slots seat.id seat.me 0 (λ _. 0) (λ _ after. after ≡ (gave seat.me.0 told, []))) (sym c.args.self.now.sized.1)
-          (gives_turn m.next m.HALTS m.frees m.takes n.front n.at begin seat.id seat.me told may.0 c.requires.seat.1 may.1 c.requires.seat.2 may.2),
+      subst (λ slots. Allows (Kept m.next m.HALTS m.frees m.takes n.front n.at g.M.Worded.tells g.M.Worded.means begin) slots seat.id seat.me 1 (λ _. 0) (λ _ after. after ≡ (raised seat.me.0, seat.me.1))) (sym c.args.self.now.sized.1)
+          (gives_turn m.next m.HALTS m.frees m.takes n.front n.at g.M.Worded.tells g.M.Worded.means begin seat.id seat.me c.requires.seat.1 c.requires.seat.2),
     )

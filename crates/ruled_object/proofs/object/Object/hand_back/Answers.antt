@@ -1,8 +1,8 @@
-use Rattle.std.proofs.Common.{rules, ◌+◌, ◌<◌, length, arith, refl, sym, ◌∙◌, subst}
+use Rattle.std.proofs.Common.{rules, ◌+◌, ◌<◌, length, arith, sym, ◌∙◌, subst}
 use mathlib.Core.Option.{some-injective}
 use Rattle.ruled_object.specs.Gathered.{Dealing}
 use Rattle.ruled_object.specs.Passes.{own_by}
-use Rattle.ruled_object.proofs.Gathering.{dealing_on, is_dealt, pass_of}
+use Rattle.ruled_object.proofs.Gathering.{dealing_on, is_dealt}
 use Rattle.ruled_object.proofs.object.Object.hand_back.Goals as goal
 
 pub returns-clause-all : goal.returns-clause-all
@@ -20,7 +20,7 @@ returns-clause-all g c journal passes back =
       owns = back.owns;
       sized = back.sized;
       own = back.own;
-      dealing = subst (λ me. Dealing (n + 1) journal back.owns me.0) (sym c.deal.ensures.all.1) (dealing_on n journal back.owns v some_own back.dealing);
+      dealing = subst (λ me. Dealing (n + 1) journal back.owns me.0) (sym c.deal_to.ensures.all.1) (dealing_on n journal back.owns v some_own back.dealing);
     }
 
 pub returns-clause-own : goal.returns-clause-own
@@ -32,6 +32,6 @@ returns-clause-own g c journal passes before back at_n =
     let callers = back.passes_are.count in
     let below = c.requires.pass in
     let some_own : 0 < length v.owns = omega arith in
-    let after = pass_of n c.args.pass.now.left c.deal.result in
-    let dealt = is_dealt c.args.self.now n journal back.owns v after back.dealing some_own below c.deal.ensures.dealt.0 c.deal.ensures.dealt.1 refl in
+    let after = c.deal_to.new.pass in
+    let dealt = is_dealt c.args.self.now n c.args.pass.now.turns journal back.owns v after back.dealing some_own below c.deal_to.ensures.dealt.0 c.deal_to.ensures.dealt.1 c.deal_to.ensures.pass.0 c.deal_to.ensures.turns in
     some-injective (own_by after) (own_by before) (sym dealt.own ∙ back.own n before at_n)

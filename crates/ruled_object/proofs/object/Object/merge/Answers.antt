@@ -1,9 +1,7 @@
-use Rattle.std.proofs.Common.{rules, ◌≡◌, ◌++◌, [], length, arith, ap, sym, ◌∙◌, subst}
+use Rattle.std.proofs.Common.{rules, ◌++◌, length, arith, ap, sym, ◌∙◌, subst}
 use Rattle.std.proofs.lemmas.List.{append-nil}
 use Rattle.sync_model.specs.Journal.{Begins}
-use Rattle.ruled_object.specs.Looks.{looked}
 use Rattle.ruled_object.specs.Notes.{held_of}
-use Rattle.ruled_object.specs.Steps.{joined}
 use Rattle.ruled_object.proofs.Holding.{nobody, sees_both, shows_after}
 use Rattle.ruled_object.proofs.Steps.{joins}
 use Rattle.ruled_object.proofs.object.Object.merge.Goals as goal
@@ -19,7 +17,7 @@ join_seat-requires g c =
       search rules,
       search rules,
       search rules,
-      joins m.next m.HALTS m.frees m.takes n.front n.at c.args.self.now.table.shared.key seat.id seat.me.0 other.id other.me.0 c.requires.other.0.turn (λ some_own. absurd (omega arith)),
+      joins m.next m.HALTS m.frees m.takes n.front n.at g.M.Worded.tells g.M.Worded.means c.args.self.now.table.shared.key seat.id seat.me.0 other.id other.me.0 c.requires.other.0.turn (λ some_own. absurd (omega arith)),
     )
 
 pub returns-clause-held : goal.returns-clause-held
@@ -35,7 +33,7 @@ returns-clause-seen g c =
     let n = g.N.Note in
     let found = c.look.ensures.looked in
     let is = ap (λ me. me.0) c.join_seat.ensures.2 in
-    let both = sees_both m.next m.HALTS m.frees m.takes n.front n.at c.args.self.now.table.shared.key c.args.pass.now.seat.me.0 c.args.other.seat.me.0 found.0
+    let both = sees_both m.next m.HALTS m.frees m.takes n.front n.at g.M.Worded.tells g.M.Worded.means c.args.self.now.table.shared.key c.args.pass.now.seat.me.0 c.args.other.seat.me.0 found.0
     (rw is at found.2) in
     let seen = sym (ap (λ me. me.0.seen) found.1) in
     (subst (λ journal. Begins journal c.args.pass.now.seat.me.0.seen) seen both.0, subst (λ journal. Begins journal c.args.other.seat.me.0.seen) seen both.1)
@@ -46,5 +44,5 @@ returns-clause-shows g c =
     let n = g.N.Note in
     let found = c.look.ensures.looked in
     let v = c.join_seat.new.seat.me in
-    shows_after m.next m.HALTS m.frees m.takes n.front n.at c.args.self.now.table.shared.key record { number = c.args.pass.now.number; left = c.args.pass.now.left; seat = c.look.new.seat } v.0 v.1 found.0 found.1
+    shows_after m.next m.HALTS m.frees m.takes n.front n.at g.M.Worded.tells g.M.Worded.means c.args.self.now.table.shared.key record { number = c.args.pass.now.number; left = c.args.pass.now.left; turns = c.args.pass.now.turns; seat = c.look.new.seat } v.0 v.1 found.0 found.1
     (ap (λ me. me.0.number) c.join_seat.ensures.2 ∙ c.requires.pass.number) found.2

@@ -18,6 +18,6 @@ join_seat-requires g c =
       search rules,
       search rules,
       search rules,
-      subst (λ seat. Joins (Kept m.next m.HALTS m.frees m.takes n.front n.at begin) all.id all.me.0 seat.id seat.me.0 (joined all.me.0 seat.me.0) blank) is
-          (joins m.next m.HALTS m.frees m.takes n.front n.at begin all.id all.me.0 other.id other.me.0 asked.turn (λ _. c.requires.order ∙ sym asked.number)),
+      subst (λ seat. Joins (Kept m.next m.HALTS m.frees m.takes n.front n.at g.M.Worded.tells g.M.Worded.means begin) all.id all.me.0 seat.id seat.me.0 (joined all.me.0 seat.me.0) blank) is
+          (joins m.next m.HALTS m.frees m.takes n.front n.at g.M.Worded.tells g.M.Worded.means begin all.id all.me.0 other.id other.me.0 asked.turn (λ _. c.requires.order ∙ sym asked.number)),
     )

@@ -1,33 +1,18 @@
-use Rattle.std.proofs.Common.{rules, ◌≡◌, ◌<◌, [], ◌∷◌, Some, ap, sym, ◌∙◌, subst, length, eqb}
-use prog.Atomic.{either}
-use Rattle.atomic_table.specs.Table.{Allows, rest}
+use Rattle.std.proofs.Common.{rules, ◌≡◌, sym, subst}
+use Rattle.atomic_table.specs.Table.{Allows}
 use Rattle.ruled_object.specs.Rule.{Kept}
-use Rattle.ruled_object.specs.Steps.{IfBegun, TakesRest, TakesTurn}
+use Rattle.ruled_object.specs.Steps.{deepened}
 use Rattle.ruled_object.proofs.Steps.{takes_turn}
 use Rattle.ruled_object.proofs.object.Object.take_turn.Goals as goal
 
-pub compare_exchange-requires : goal.compare_exchange-requires
-compare_exchange-requires g c =
+pub store-requires : goal.store-requires
+store-requires g c =
     let m = g.M.Machine in
     let n = g.N.Note in
     let begin = c.args.self.now.table.shared.key in
-    let seat = c.loop.seat in
-    let same = sym c.loop.invariant.unmoved in
-    let empty = subst (λ me. me.1 ≡ []) same c.requires.seat.1 in
-    let some_own = subst (λ me. 0 < length me.0.owns) same c.requires.seat.2 in (
+    let seat = c.args.seat.now in (
       search rules,
       search rules,
-      subst (λ slots. Allows (Kept m.next m.HALTS m.frees m.takes n.front n.at begin) slots seat.id seat.me 0 (λ x. either (eqb x 0) 1 x)
-          (λ found after. IfBegun g.K.Begun.begun (λ b. TakesTurn m.next m.HALTS m.frees m.takes n.front n.at b seat.me found after))) (sym c.args.self.now.sized.1)
-          (subst (λ told. Allows (Kept m.next m.HALTS m.frees m.takes n.front n.at begin) 1 seat.id seat.me 0 (λ x. either (eqb x 0) 1 x)
-          (λ found after. IfBegun told (λ b. TakesTurn m.next m.HALTS m.frees m.takes n.front n.at b seat.me found after))) (sym c.requires.begun)
-          (takes_turn m.next m.HALTS m.frees m.takes n.front n.at begin seat.id seat.me empty some_own)),
+      subst (λ slots. Allows (Kept m.next m.HALTS m.frees m.takes n.front n.at g.M.Worded.tells g.M.Worded.means begin) slots seat.id seat.me 1 (λ _. 1) (λ _ after. after ≡ (deepened seat.me.0, seat.me.1))) (sym c.args.self.now.sized.1)
+          (takes_turn m.next m.HALTS m.frees m.takes n.front n.at g.M.Worded.tells g.M.Worded.means begin seat.id seat.me c.requires.seat.1 c.requires.seat.2),
     )
-
-pub returns-then-compare_exchange-eq-FREE-clause-takes : goal.returns-then-compare_exchange-eq-FREE-clause-takes
-returns-then-compare_exchange-eq-FREE-clause-takes g c =
-    let m = g.M.Machine in
-    let n = g.N.Note in
-    let me = c.compare_exchange.new.seat.me in
-    let told = subst (λ b. IfBegun b (λ begin. TakesTurn m.next m.HALTS m.frees m.takes n.front n.at begin c.loop.seat.me c.compare_exchange.result me)) c.requires.begun c.compare_exchange.ensures.2 in
-    subst (λ before. TakesRest m.next m.HALTS m.frees m.takes n.front n.at c.args.self.now.table.shared.key before me) c.loop.invariant.unmoved (told.0 c.if-compare_exchange-eq-FREE.true)

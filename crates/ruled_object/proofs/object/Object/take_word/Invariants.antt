@@ -1,6 +1,6 @@
 use Rattle.std.proofs.Common.{◌≡◌}
 use Rattle.ruled_object.specs.Steps.{IsSameSeat}
-use Rattle.ruled_object.proofs.object.Object.take_turn.Given as goal
+use Rattle.ruled_object.proofs.object.Object.take_word.Given as goal
 
 abbrev pub invariant-loop : goal.invariant-loop
 invariant-loop g l = record {
