@@ -1,5 +1,5 @@
--- The numbers of a workload's maps and atomics, what they contain at the start, and the ends of a run.
-use Rattle.std.specs.Prelude.{ℕ, ◌+◌, Bool, true, false, cond, List, [], ◌∷◌, map, take, count_by, zip}
+-- The numbers of a workload's maps and atomics, and of its pools' parts; what maps and atomics contain at the start, and the ends of a run.
+use Rattle.std.specs.Prelude.{ℕ, ◌+◌, Bool, true, false, cond, List, [], ◌∷◌, map, length, take, count_by, zip}
 use Rattle.std.specs.List.{flat_map}
 use Rattle.std.specs.Ordering.{nat_cmp}
 use Rattle.std.specs.Cmp.Lexicographic.{slice_cmp}
@@ -13,6 +13,7 @@ use Rattle.workload.specs.declared.object.ObjectKind.TheVariants as kinds
 use Rattle.workload.specs.declared.object.ObjectLine.{ObjectLine}
 use Rattle.workload.specs.Keys.{keys_in, key_number, key_name}
 use Rattle.workload.specs.Plan.{Plan}
+use Rattle.run_record.specs.Record.{object_number}
 
 abbrev pub is_map : ObjectKind → Bool
 is_map kinds.Map = true
@@ -33,6 +34,24 @@ map_number objects place = count_by (λ object. is_map object.kind) (take place 
 
 abbrev pub atomic_number : List ObjectLine → ℕ → ℕ
 atomic_number objects place = count_by (λ object. is_atomic object.kind) (take place objects)
+
+-- a pool has a part for each worker; no other object has parts
+abbrev pub parts_of : ℕ → ObjectKind → ℕ
+parts_of workers kinds.Pool = workers
+parts_of workers kind = 0
+
+-- how many parts these objects have together
+abbrev pub parts_in : ℕ → List ObjectLine → ℕ
+parts_in workers [] = 0
+parts_in workers (object ∷ objects) = parts_of workers object.kind + parts_in workers objects
+
+-- Each part of a pool is an object of its own. The parts stand behind all objects of the workload, pool by pool: this is the number of part 0 of the pool at a place, and its other parts follow
+abbrev pub first_part : Plan → ℕ → ℕ
+first_part plan place = object_number (length plan.objects) + parts_in plan.workers (take place plan.objects)
+
+-- how many objects a record of a run has: Stop, those of the workload, and the parts of its pools
+abbrev pub object_count : Plan → ℕ
+object_count plan = object_number (length plan.objects) + parts_in plan.workers plan.objects
 
 -- the places of the objects of which this is true, in order, from a place on
 abbrev pub places_from : ℕ → (ObjectKind → Bool) → List ObjectLine → List ℕ
