@@ -3,5 +3,6 @@ pub mod edges;
 pub mod endings;
 pub mod examples;
 pub mod limits;
+pub mod numbers;
 pub mod objects;
 pub mod spelling;
