@@ -1,7 +1,7 @@
-//! What a workload asks of its maps and atomics.
+//! What a workload asks of its maps, atomics and pools.
 ghost use Rattle.std.specs.Prelude.{◌≡◌, ℕ, ◌+◌, ◌<◌, ◌≤◌, ◌^◌, ◌++◌, ◌∷◌, [], cond, length, get_or, slice_index, count_by, IfOk, OnOk};
 ghost use Rattle.std.specs.List.{flat_map};
-ghost use Rattle.run_record.specs.Objects.{is_map, is_atomic, places_from, types_of};
+ghost use Rattle.run_record.specs.Objects.{is_map, is_atomic, is_pool, places_from, types_of};
 ghost use Rattle.thread_calls.specs.Sites.{cost_of_call, cost_of_calls};
 
 use std::alloc::{AllocError, Global};
@@ -24,6 +24,16 @@ fn is_atomic(kind: ObjectKind) -> bool
 {
     match kind {
         ObjectKind::Atomic(_) => true,
+        _ => false,
+    }
+}
+
+/// Whether an object of this kind is a pool.
+pub(crate) fn is_pool(kind: ObjectKind) -> bool
+    ensures { result ≡ is_pool kind }
+{
+    match kind {
+        ObjectKind::Pool => true,
         _ => false,
     }
 }
