@@ -1,5 +1,5 @@
 -- Objects and their columns, one after the other.
-use Rattle.std.proofs.Common.{◌≡◌, ℕ, zero, suc, ◌+◌, ◌<◌, ◌≤◌, true, List, [], ◌∷◌, ◌++◌, length, get_or, Some, None, ◌⊎◌, inl, inr, slice_get, refl, sym, ap, ◌∙◌, subst, arith}
+use Rattle.std.proofs.Common.{◌≡◌, ℕ, zero, suc, ◌+◌, ◌<◌, ◌≤◌, Bool, true, false, cond, List, [], ◌∷◌, ◌++◌, length, get_or, Some, None, ◌⊎◌, inl, inr, slice_get, refl, sym, ap, ◌∙◌, subst, arith}
 use Rattle.std.proofs.lemmas.Bool.{false≢true}
 use Rattle.std.proofs.lemmas.List.{length_push, get_or_past}
 use Rattle.std.proofs.lemmas.Option.{none-some, same_Some, slice_get_cases, slice_get_within, get_or_from_slice_get}
@@ -18,6 +18,11 @@ use Rattle.thread_objects.specs.Passes.{owns_of}
 use Rattle.thread_objects.specs.Rows.{AreColumns, made_on}
 use Rattle.thread_runner.specs.Dealing.{AreMade, MadeNothingFrom}
 use Rattle.thread_runner.proofs.Dealt.{pushed_at}
+
+-- an object that has some part is a pool
+pub some_parts : (pool : Bool) (workers part : ℕ) → part < cond pool workers 0 → (pool ≡ true) × (part < workers)
+some_parts true workers part below = (refl, below)
+some_parts false workers part below = absurd (omega (arith, below))
 
 pub of_pool : (kind : ObjectKind) → is_pool kind ≡ true → kind ≡ Pool
 of_pool Pool is = refl

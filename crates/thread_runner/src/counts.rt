@@ -28,13 +28,13 @@ fn is_atomic(kind: ObjectKind) -> bool
     }
 }
 
-/// Whether an object of this kind is a pool.
-pub(crate) fn is_pool(kind: ObjectKind) -> bool
-    ensures { result ≡ is_pool kind }
+/// How many parts an object of this kind has, where there are so many workers: a pool has one for each.
+pub(crate) fn parts_of(kind: ObjectKind, workers: u32) -> u32
+    ensures { result ≡ cond (is_pool kind) workers 0 }
 {
     match kind {
-        ObjectKind::Pool => true,
-        _ => false,
+        ObjectKind::Pool => workers,
+        _ => 0,
     }
 }
 
