@@ -1,5 +1,5 @@
 -- The looks of a pool's get, and the parts of a sweep, one after the other.
-use Rattle.std.proofs.Common.{◌≡◌, ℕ, ◌+◌, ◌-◌, ◌*◌, ◌<◌, suc, List, [], ◌∷◌, map, Ok, refl, sym, ap, subst, arith}
+use Rattle.std.proofs.Common.{◌≡◌, ℕ, ◌+◌, ◌-◌, ◌*◌, ◌<◌, suc, List, [], ◌∷◌, map, Ok, refl, sym, ap, ◌∙◌, subst, arith}
 use Rattle.std.specs.List.{range_with_len}
 use Rattle.sync_model.specs.declared.answer.Answer.TheVariants.{Done, Halted}
 use Rattle.sync_types.specs.declared.call.Reply.{Reply}
@@ -7,7 +7,9 @@ use Rattle.sync_types.specs.declared.call.Reply.TheVariants as replies
 use Rattle.sync_types.specs.declared.misuse.Misuse.{Misuse}
 use Rattle.sync_types.specs.declared.pool_call.PoolCallReply.TheVariants as pool_replies
 use Rattle.pool_core.specs.declared.pool_event.PoolEvent.{PoolEvent}
+use Rattle.pool_core.specs.declared.pool_event.PoolEvent.TheVariants as events
 use Rattle.pool_core.specs.Looks.{look}
+use Rattle.protocols.specs.PoolStages.{pool_event}
 use Rattle.protocols.specs.declared.pool.PoolOutcome.{PoolOutcome}
 use Rattle.protocols.specs.declared.pool.PoolOutcome.TheVariants.{Item, Nothing}
 use Rattle.protocols.specs.declared.pool.PoolStage.{PoolStage}
@@ -17,6 +19,14 @@ use Rattle.run_record.specs.Parts.{returns}
 use Rattle.run_record.specs.PoolKind.{pool_part, part_of, found_or, found_by, looks_of, stage_of, swept_by}
 use Rattle.kind_calls.specs.Working.{Desk, Works}
 use Rattle.kind_calls.proofs.Working.{rests, halted_first, went_first}
+
+-- an event's stage is made at the part that the event is about
+named : (worker : ℕ) (e : PoolEvent ℕ) → part_of worker (pool_event (stage_of e) 0) ≡ part_of worker e
+named worker (events.Put item) = refl
+named worker events.LookOwn = refl
+named worker (events.LookOther part) = refl
+named worker (events.LookVictim part) = refl
+named worker events.Sweep = refl
 
 module _ (workers worker first : ℕ) where
   -- the looks that are left
@@ -53,8 +63,10 @@ module _ (workers worker first : ℕ) where
     abbrev pub Looked : CallAnswer PoolOutcome → Type 0
     Looked given = Works (pool_part object stage) now given later
 
-    pub looked_by : (part : ℕ) (made : PoolStage) (given : CallAnswer PoolOutcome) → part ≡ part_of worker (look workers worker from) → made ≡ stage → Works (pool_part (first + part) made) now given later → Looked given
-    looked_by part made given there is works = subst (λ (s : PoolStage). Works (pool_part object s) now given later) is (subst (λ (p : ℕ). Works (pool_part (first + p) made) now given later) there works)
+    pub looked_by : (part : ℕ) (made : PoolStage) (given : CallAnswer PoolOutcome) → part ≡ part_of worker (pool_event made 0) → made ≡ stage → Works (pool_part (first + part) made) now given later → Looked given
+    looked_by part made given there is works =
+        let at : part ≡ part_of worker (look workers worker from) = there ∙ ap (λ (s : PoolStage). part_of worker (pool_event s 0)) is ∙ named worker (look workers worker from) in
+        subst (λ (s : PoolStage). Works (pool_part object s) now given later) is (subst (λ (p : ℕ). Works (pool_part (first + p) made) now given later) at works)
 
     pub looked_on : from < 2 * workers → Looked (Done (Ok Nothing)) → AnswersAll (from + 1) start later
     looked_on within looked answer new works = through within answer new (went_first (pool_part object stage) (found_or (found_by worker first (looks_from (from + 1)))) now later Nothing new answer looked works)

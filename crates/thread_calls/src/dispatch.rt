@@ -1,5 +1,5 @@
 //! Each call of a script, by the kind of its object.
-ghost use Rattle.std.specs.Prelude.{◌≡◌, ℕ, ◌+◌, ◌<◌, ◌≤◌, true, List, [], length, vec_len, IfSome, IfNone};
+ghost use Rattle.std.specs.Prelude.{◌≡◌, ℕ, ◌+◌, ◌<◌, ◌≤◌, ◌*◌, ◌^◌, true, List, [], length, vec_len, IfSome, IfNone};
 ghost use Rattle.std.specs.List.{list_any};
 ghost use Rattle.std.specs.Option.{ForSome};
 ghost use Rattle.std.specs.Str.{bytes_eq};
@@ -50,6 +50,14 @@ fn take_room(rooms: &mut Vec<BoundedSeq<(u32, u64)>>) -> BoundedSeq<(u32, u64)>
     rooms.pop().unwrap()
 }
 
+// The number of part 0 of the pool behind so many pools, of a workload with so many objects.
+fn part_behind(objects: usize, pools: u32, workers: u32) -> usize
+    requires { objects + 1 + pools * workers < 2 ^ 63 }
+    ensures { result ≡ objects + 1 + pools * workers }
+{
+    objects + 1 + pools as usize * workers as usize
+}
+
 // The number of the object that is part 0 of the pool at a place.
 fn first_part_of<S: Shared>(site: &Site<S>, place: usize) -> usize
     requires numbered { AreNumbers site.now.workload.now.objects site.now.numbers.now }
@@ -60,8 +68,9 @@ fn first_part_of<S: Shared>(site: &Site<S>, place: usize) -> usize
     parts_have_numbers_of_their_own();
     let workers = site.workload.workers();
     let _count = site.objects.len();
-    let before = site.numbers[place] as usize * workers as usize;
-    site.workload.objects().len() + 1 + before
+    let pools = site.numbers[place];
+    let lines = site.workload.objects();
+    part_behind(lines.len(), pools, workers)
 }
 
 // Makes a call on the object at a place, which is of this kind and has the call.

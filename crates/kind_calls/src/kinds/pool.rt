@@ -1,10 +1,10 @@
 //! The calls of a pool, each of whose parts is an object of its own. None waits for anybody.
-ghost use Rattle.std.specs.Prelude.{◌≡◌, ℕ, ◌*◌, ◌<◌, Result};
+ghost use Rattle.std.specs.Prelude.{◌≡◌, ℕ, ◌+◌, ◌*◌, ◌<◌, ◌≤◌, length, Result};
 ghost use Rattle.std.specs.List.{range_with_len};
 ghost use Rattle.sync_types.specs.declared.misuse.Misuse.{Misuse};
 ghost use Rattle.protocols.specs.declared.pool.PoolOutcome.{PoolOutcome};
 ghost use Rattle.pool_core.specs.Looks.{look};
-ghost use Rattle.protocols.specs.PoolStages.{pool_gives, look_gives};
+ghost use Rattle.protocols.specs.PoolStages.{pool_event, pool_gives, look_gives};
 ghost use Rattle.ruled_object.specs.Growth.{KeepsNote};
 ghost use Rattle.running.specs.Calls.{IsGiven};
 ghost use Rattle.run_record.specs.PoolKind.{pool_part, pool_call, part_of, found_by, swept_by, looks_of, stage_of};
@@ -23,23 +23,12 @@ use sync_outside::Clock;
 use sync_types::{Misuse, PoolCall, PoolCallReply, Reply};
 use thread_objects::{AnyObject, AnyPass, Worker};
 
-// At which part this look of a get is made, by a worker of so many.
-fn look_part(worker: u32, workers: u32, number: u64) -> u32
-    requires worker { worker < workers }
-    requires number { number < 2 * workers }
-    ensures part { result ≡ part_of worker (look workers worker number) }
-    ensures there { result < workers }
-{
-    if number == 0 {
-        return worker;
-    }
-    ((u64::from(worker) + number) % u64::from(workers)) as u32
-}
-
 // Which look of a get this is. It is at the worker's own part, at the shared items of another, or among the victims of a part.
 fn look_stage(worker: u32, workers: u32, number: u64) -> PoolStage
+    requires worker { worker < workers }
     requires number { number < 2 * workers }
     ensures stage { result ≡ stage_of (look workers worker number) }
+    ensures there { part_of worker (pool_event result 0) < workers }
     ensures look { (given : Result PoolOutcome Misuse) → pool_gives result given ≡ look_gives given }
 {
     if number == 0 {
@@ -50,6 +39,19 @@ fn look_stage(worker: u32, workers: u32, number: u64) -> PoolStage
         PoolStage::LookOther(part)
     } else {
         PoolStage::LookVictim(part)
+    }
+}
+
+// The part that an event is made at: the one that it names, or the worker's own.
+fn part_named(worker: u32, stage: PoolStage) -> u32
+    ensures { result ≡ part_of worker (pool_event stage 0) }
+{
+    match stage {
+        PoolStage::LookOther(part) => part,
+        PoolStage::LookVictim(part) => part,
+        PoolStage::LookOwn => worker,
+        PoolStage::Put(_item) => worker,
+        PoolStage::Sweep => worker,
     }
 }
 
@@ -113,6 +115,7 @@ fn put<N: Note, C: Clock, R: Wait>(
     item: u64,
 ) -> CallAnswer
     requires parts { ArePartsAt objects.now first worker.now.workers }
+    requires room { first + worker.now.workers ≤ length objects.now }
     requires own { worker.now.number < worker.now.workers }
     requires seats { AreSeats N.at worker.now.at.home.now worker.now.workers worker.now.number objects.now passes.old }
     requires note { N.at worker.now.at.home.now note.old }
@@ -136,6 +139,7 @@ fn get<N: Note, C: Clock, R: Wait>(
     first: usize,
 ) -> CallAnswer
     requires parts { ArePartsAt objects.now first worker.now.workers }
+    requires room { first + worker.now.workers ≤ length objects.now }
     requires own { worker.now.number < worker.now.workers }
     requires seats { AreSeats N.at worker.now.at.home.now worker.now.workers worker.now.number objects.now passes.old }
     requires note { N.at worker.now.at.home.now note.old }
@@ -145,8 +149,8 @@ fn get<N: Note, C: Clock, R: Wait>(
 {
     let _count = objects.len();
     for nth in 0..2 * u64::from(worker.workers) {
-        let part = look_part(worker.number, worker.workers, nth);
         let stage = look_stage(worker.number, worker.workers, nth);
+        let part = part_named(worker.number, stage);
         let number = first + part as usize;
         match part_at(rt, worker, objects, passes, note, number, stage) {
             Answer::Halted(misuse) => return Answer::Halted(misuse),
@@ -173,6 +177,7 @@ fn sweep<N: Note, C: Clock, R: Wait>(
     first: usize,
 ) -> CallAnswer
     requires parts { ArePartsAt objects.now first worker.now.workers }
+    requires room { first + worker.now.workers ≤ length objects.now }
     requires seats { AreSeats N.at worker.now.at.home.now worker.now.workers worker.now.number objects.now passes.old }
     requires note { N.at worker.now.at.home.now note.old }
     ensures seats { AreSeats N.at worker.now.at.home.now worker.now.workers worker.now.number objects.now passes.new }
@@ -202,6 +207,7 @@ pub fn call_pool<N: Note, C: Clock, R: Wait>(
     call: PoolCall,
 ) -> CallAnswer
     requires parts { ArePartsAt objects.now first worker.now.workers }
+    requires room { first + worker.now.workers ≤ length objects.now }
     requires own { worker.now.number < worker.now.workers }
     requires seats { AreSeats N.at worker.now.at.home.now worker.now.workers worker.now.number objects.now passes.old }
     requires note { N.at worker.now.at.home.now note.old }

@@ -7,7 +7,7 @@ use Rattle.kind_calls.proofs.PoolLooks.{looked_by, looked_on, took, halted, foun
 use Rattle.kind_calls.proofs.kinds.pool.get.Goals as goal
 
 pub part_at-requires-clause-kind : goal.part_at-requires-clause-kind
-part_at-requires-clause-kind g c = (c.requires.parts c.look_part-part.result c.look_part-part.ensures.there).1
+part_at-requires-clause-kind g c = c.requires.parts c.part_named-part.result (omega (arith, c.part_named-part.ensures, c.look_stage-stage.ensures.there))
 
 pub loop-nth-preserved : goal.loop-nth-preserved
 loop-nth-preserved g c =
@@ -22,7 +22,7 @@ loop-nth-preserved g c =
     record {
       seats = search rules;
       note = search rules;
-      all = looked_on workers worker c.args.first c.loop-nth.nth start now later c.loop-nth.invariant.all within (looked_by workers worker c.args.first c.loop-nth.nth start now later c.loop-nth.invariant.all c.look_part-part.result c.look_stage-stage.result (Done (Ok Nothing)) c.look_part-part.ensures.part c.look_stage-stage.ensures.stage did);
+      all = looked_on workers worker c.args.first c.loop-nth.nth start now later c.loop-nth.invariant.all within (looked_by workers worker c.args.first c.loop-nth.nth start now later c.loop-nth.invariant.all c.part_named-part.result c.look_stage-stage.result (Done (Ok Nothing)) c.part_named-part.ensures c.look_stage-stage.ensures.stage did);
     }
 
 pub returns-in-Done-Ok-Item-clause-works : goal.returns-in-Done-Ok-Item-clause-works
@@ -36,7 +36,7 @@ returns-in-Done-Ok-Item-clause-works g c =
     let given = rw c.in-Done-Ok-Item.field-0-is at c.in-Done-Ok-Item.ensures.works in
     let did = rw c.in-Done-Ok-Item.field-0-0-is at given in
     took workers worker c.args.first c.loop-nth.nth start now later c.loop-nth.invariant.all within c.in-Done-Ok-Item.item
-    (looked_by workers worker c.args.first c.loop-nth.nth start now later c.loop-nth.invariant.all c.look_part-part.result c.look_stage-stage.result (Done (Ok (Item c.in-Done-Ok-Item.item))) c.look_part-part.ensures.part c.look_stage-stage.ensures.stage did)
+    (looked_by workers worker c.args.first c.loop-nth.nth start now later c.loop-nth.invariant.all c.part_named-part.result c.look_stage-stage.result (Done (Ok (Item c.in-Done-Ok-Item.item))) c.part_named-part.ensures c.look_stage-stage.ensures.stage did)
 
 pub returns-in-Halted-clause-works : goal.returns-in-Halted-clause-works
 returns-in-Halted-clause-works g c =
@@ -47,7 +47,7 @@ returns-in-Halted-clause-works g c =
     let worker = c.args.worker.now.number in
     let within = omega (arith, c.loop-nth-test.true, c.from-nth-end.ensures) in
     halted workers worker c.args.first c.loop-nth.nth start now later c.loop-nth.invariant.all within c.in-Halted.misuse
-    (looked_by workers worker c.args.first c.loop-nth.nth start now later c.loop-nth.invariant.all c.look_part-part.result c.look_stage-stage.result (Halted c.in-Halted.misuse) c.look_part-part.ensures.part c.look_stage-stage.ensures.stage c.in-Halted.ensures.works)
+    (looked_by workers worker c.args.first c.loop-nth.nth start now later c.loop-nth.invariant.all c.part_named-part.result c.look_stage-stage.result (Halted c.in-Halted.misuse) c.part_named-part.ensures c.look_stage-stage.ensures.stage c.in-Halted.ensures.works)
 
 pub returns-clause-works : goal.returns-clause-works
 returns-clause-works g c =

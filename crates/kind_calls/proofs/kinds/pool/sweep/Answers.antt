@@ -5,7 +5,7 @@ use Rattle.kind_calls.proofs.PoolLooks.{swept_on, sweep_halted, swept_all}
 use Rattle.kind_calls.proofs.kinds.pool.sweep.Goals as goal
 
 pub part_at-requires-clause-kind : goal.part_at-requires-clause-kind
-part_at-requires-clause-kind g c = (c.requires.parts c.loop-part.part c.loop-part-test.true).1
+part_at-requires-clause-kind g c = c.requires.parts c.loop-part.part c.loop-part-test.true
 
 pub loop-part-preserved : goal.loop-part-preserved
 loop-part-preserved g c =
