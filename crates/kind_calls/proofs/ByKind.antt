@@ -6,7 +6,6 @@ use Rattle.sync_types.specs.declared.call.Operation.TheVariants as operations
 use Rattle.sync_types.specs.declared.call.Reply.{Reply}
 use Rattle.sync_types.specs.declared.lock_call.MutexCall.{MutexCall}
 use Rattle.sync_types.specs.declared.lock_call.RwMutexCall.{RwMutexCall}
-use Rattle.sync_types.specs.declared.pool_call.PoolCall.{PoolCall}
 use Rattle.sync_types.specs.declared.wait_call.CondCall.TheVariants as cond_calls
 use Rattle.sync_types.specs.declared.wait_call.WaitGroupCall.{WaitGroupCall}
 use Rattle.protocols.specs.declared.cond.CondStage.TheVariants as stage
@@ -19,7 +18,6 @@ use Rattle.run_record.specs.CondKind.{cond_part}
 use Rattle.run_record.specs.MutexKind.{mutex_call}
 use Rattle.run_record.specs.OnceKind.{func_call, value_call}
 use Rattle.run_record.specs.Parts.{read_as}
-use Rattle.run_record.specs.PoolKind.{pool_call}
 use Rattle.run_record.specs.Record.{object_number}
 use Rattle.run_record.specs.RwMutexKind.{rw_mutex_call}
 use Rattle.run_record.specs.WaitGroupKind.{wait_group_call}
@@ -54,10 +52,6 @@ module _ (plan : Plan) (worker before place : ℕ) (old new : Desk) (answer : Ca
   group_made (kinds.WaitGroup start) call works has = works
   group_made kind call works has = absurd (false≢true has)
 
-  pool_made : (kind : ObjectKind) (call : PoolCall) → Works (pool_call plan.workers worker (object_number place) call) old answer new → has_call kind (operations.Pool call) ≡ true → MadeOn kind (operations.Pool call)
-  pool_made kinds.Pool call works has = works
-  pool_made kind call works has = absurd (false≢true has)
-
   module _ (kind : ObjectKind) (operation : Operation) (has : has_call kind operation ≡ true) where
     pub on_mutex : (call : MutexCall) → operation ≡ operations.Mutex call → Works (mutex_call (object_number place) call) old answer new → MadeOn kind operation
     on_mutex call is works = named kind operation (operations.Mutex call) is has (mutex_made kind call works)
@@ -79,6 +73,3 @@ module _ (plan : Plan) (worker before place : ℕ) (old new : Desk) (answer : Ca
 
     pub on_value : (value : ℕ) → operation ≡ operations.OnceValue → kind ≡ kinds.OnceValue value → Works (value_call (object_number place) value) old answer new → MadeOn kind operation
     on_value value is of works = subst (λ (k : ObjectKind). MadeOn k operation) (sym of) (subst (λ (o : Operation). MadeOn (kinds.OnceValue value) o) (sym is) works)
-
-    pub on_pool : (workers : ℕ) (call : PoolCall) → plan.workers ≡ workers → operation ≡ operations.Pool call → Works (pool_call workers worker (object_number place) call) old answer new → MadeOn kind operation
-    on_pool workers call all is works = named kind operation (operations.Pool call) is has (pool_made kind call (subst (λ (n : ℕ). Works (pool_call n worker (object_number place) call) old answer new) (sym all) works))

@@ -1,5 +1,5 @@
--- The looks of a pool's get, one after the other.
-use Rattle.std.proofs.Common.{◌≡◌, ℕ, ◌+◌, ◌-◌, ◌*◌, ◌<◌, suc, List, [], ◌∷◌, map, Ok, refl, sym, ap, subst, arith}
+-- The looks of a pool's get, and the parts of a sweep, one after the other.
+use Rattle.std.proofs.Common.{◌≡◌, ℕ, ◌+◌, ◌-◌, ◌*◌, ◌<◌, suc, List, [], ◌∷◌, map, Ok, refl, sym, ap, ◌∙◌, subst, arith}
 use Rattle.std.specs.List.{range_with_len}
 use Rattle.sync_model.specs.declared.answer.Answer.TheVariants.{Done, Halted}
 use Rattle.sync_types.specs.declared.call.Reply.{Reply}
@@ -7,24 +7,35 @@ use Rattle.sync_types.specs.declared.call.Reply.TheVariants as replies
 use Rattle.sync_types.specs.declared.misuse.Misuse.{Misuse}
 use Rattle.sync_types.specs.declared.pool_call.PoolCallReply.TheVariants as pool_replies
 use Rattle.pool_core.specs.declared.pool_event.PoolEvent.{PoolEvent}
+use Rattle.pool_core.specs.declared.pool_event.PoolEvent.TheVariants as events
 use Rattle.pool_core.specs.Looks.{look}
+use Rattle.protocols.specs.PoolStages.{pool_event}
 use Rattle.protocols.specs.declared.pool.PoolOutcome.{PoolOutcome}
 use Rattle.protocols.specs.declared.pool.PoolOutcome.TheVariants.{Item, Nothing}
 use Rattle.protocols.specs.declared.pool.PoolStage.{PoolStage}
+use Rattle.protocols.specs.declared.pool.PoolStage.TheVariants.{Sweep}
 use Rattle.protocols.specs.Spelling.{CallAnswer}
 use Rattle.run_record.specs.Parts.{returns}
-use Rattle.run_record.specs.PoolKind.{pool_part, found_or, found_by, looks_of, stage_of}
+use Rattle.run_record.specs.PoolKind.{pool_part, part_of, found_or, found_by, looks_of, stage_of, swept_by}
 use Rattle.kind_calls.specs.Working.{Desk, Works}
 use Rattle.kind_calls.proofs.Working.{rests, halted_first, went_first}
 
-module _ (workers worker : ℕ) where
+-- an event's stage is made at the part that the event is about
+named : (worker : ℕ) (e : PoolEvent ℕ) → part_of worker (pool_event (stage_of e) 0) ≡ part_of worker e
+named worker (events.Put item) = refl
+named worker events.LookOwn = refl
+named worker (events.LookOther part) = refl
+named worker (events.LookVictim part) = refl
+named worker events.Sweep = refl
+
+module _ (workers worker first : ℕ) where
   -- the looks that are left
   abbrev pub looks_from : ℕ → List (PoolEvent ℕ)
   looks_from from = map (look workers worker) (range_with_len from (2 * workers - from))
 
-  -- from here the looks that are left answer what all looks answer from the start, whichever object it is
-  abbrev pub AnswersAll : ℕ → (ℕ → Desk) → (ℕ → Desk) → Type 0
-  AnswersAll from start now = (object : ℕ) (answer : CallAnswer (Reply ℕ)) (new : Desk) → Works (found_by object (looks_from from)) (now object) answer new → Works (found_by object (looks_of workers worker)) (start object) answer new
+  -- from here the looks that are left answer what all looks answer from the start
+  abbrev pub AnswersAll : ℕ → Desk → Desk → Type 0
+  AnswersAll from start now = (answer : CallAnswer (Reply ℕ)) (new : Desk) → Works (found_by worker first (looks_from from)) now answer new → Works (found_by worker first (looks_of workers worker)) start answer new
 
   next_look : (from : ℕ) → from < 2 * workers → looks_from from ≡ look workers worker from ∷ looks_from (from + 1)
   next_look from within =
@@ -36,33 +47,67 @@ module _ (workers worker : ℕ) where
       let none : 2 * workers - from ≡ 0 = omega (arith, end) in
       ap (λ (n : ℕ). map (look workers worker) (range_with_len from n)) none
 
-  module _ (from : ℕ) (start now later : ℕ → Desk) (all : AnswersAll from start now) where
+  module _ (from : ℕ) (start now later : Desk) (all : AnswersAll from start now) where
+    -- the object that this look is made on, and how it is made
+    abbrev object : ℕ
+    object = first + part_of worker (look workers worker from)
+
+    abbrev stage : PoolStage
+    stage = stage_of (look workers worker from)
+
     -- what this look and those behind it answer, all looks answer
-    through : from < 2 * workers → (object : ℕ) (answer : CallAnswer (Reply ℕ)) (new : Desk) → Works (found_by object (look workers worker from ∷ looks_from (from + 1))) (now object) answer new → Works (found_by object (looks_of workers worker)) (start object) answer new
-    through within object answer new works = all object answer new (subst (λ (looks : List (PoolEvent ℕ)). Works (found_by object looks) (now object) answer new) (sym (next_look from within)) works)
+    through : from < 2 * workers → (answer : CallAnswer (Reply ℕ)) (new : Desk) → Works (found_by worker first (look workers worker from ∷ looks_from (from + 1))) now answer new → Works (found_by worker first (looks_of workers worker)) start answer new
+    through within answer new works = all answer new (subst (λ (looks : List (PoolEvent ℕ)). Works (found_by worker first looks) now answer new) (sym (next_look from within)) works)
 
     -- this look
     abbrev pub Looked : CallAnswer PoolOutcome → Type 0
-    Looked given = (object : ℕ) → Works (pool_part object (stage_of (look workers worker from))) (now object) given (later object)
+    Looked given = Works (pool_part object stage) now given later
 
-    pub looked_by : (stage : PoolStage) (given : CallAnswer PoolOutcome) → stage ≡ stage_of (look workers worker from) → ((object : ℕ) → Works (pool_part object stage) (now object) given (later object)) → Looked given
-    looked_by stage given is works object = subst (λ (s : PoolStage). Works (pool_part object s) (now object) given (later object)) is (works object)
+    pub looked_by : (part : ℕ) (made : PoolStage) (given : CallAnswer PoolOutcome) → part ≡ part_of worker (pool_event made 0) → made ≡ stage → Works (pool_part (first + part) made) now given later → Looked given
+    looked_by part made given there is works =
+        let at : part ≡ part_of worker (look workers worker from) = there ∙ ap (λ (s : PoolStage). part_of worker (pool_event s 0)) is ∙ named worker (look workers worker from) in
+        subst (λ (s : PoolStage). Works (pool_part object s) now given later) is (subst (λ (p : ℕ). Works (pool_part (first + p) made) now given later) at works)
 
     pub looked_on : from < 2 * workers → Looked (Done (Ok Nothing)) → AnswersAll (from + 1) start later
-    looked_on within looked object answer new works =
-        through within object answer new (went_first (pool_part object (stage_of (look workers worker from))) (found_or (found_by object (looks_from (from + 1)))) (now object) (later object) Nothing new answer (looked object) works)
+    looked_on within looked answer new works = through within answer new (went_first (pool_part object stage) (found_or (found_by worker first (looks_from (from + 1)))) now later Nothing new answer looked works)
 
-    pub took : from < 2 * workers → (item : ℕ) → Looked (Done (Ok (Item item))) → (object : ℕ) → Works (found_by object (looks_of workers worker)) (start object) (Done (Ok (replies.Pool (pool_replies.Put item)))) (later object)
-    took within item looked object =
-        through within object _ (later object) (went_first (pool_part object (stage_of (look workers worker from))) (found_or (found_by object (looks_from (from + 1)))) (now object) (later object) (Item item) (later object) (Done (Ok (replies.Pool (pool_replies.Put item)))) (looked object)
-        (rests (returns (replies.Pool (pool_replies.Put item))) (later object) _ (refl, refl)))
+    pub took : from < 2 * workers → (item : ℕ) → Looked (Done (Ok (Item item))) → Works (found_by worker first (looks_of workers worker)) start (Done (Ok (replies.Pool (pool_replies.Put item)))) later
+    took within item looked =
+        through within _ later (went_first (pool_part object stage) (found_or (found_by worker first (looks_from (from + 1)))) now later (Item item) later (Done (Ok (replies.Pool (pool_replies.Put item)))) looked
+        (rests (returns (replies.Pool (pool_replies.Put item))) later _ (refl, refl)))
 
-    pub halted : from < 2 * workers → (misuse : Misuse) → Looked (Halted misuse) → (object : ℕ) → Works (found_by object (looks_of workers worker)) (start object) (Halted misuse) (later object)
-    halted within misuse looked object =
-        through within object _ (later object) (halted_first (pool_part object (stage_of (look workers worker from))) (found_or (found_by object (looks_from (from + 1)))) (now object) (later object) misuse (looked object))
+    pub halted : from < 2 * workers → (misuse : Misuse) → Looked (Halted misuse) → Works (found_by worker first (looks_of workers worker)) start (Halted misuse) later
+    halted within misuse looked = through within _ later (halted_first (pool_part object stage) (found_or (found_by worker first (looks_from (from + 1)))) now later misuse looked)
 
   -- all looks found nothing
-  pub found_none : (from : ℕ) (start now : ℕ → Desk) → AnswersAll from start now → from ≡ 2 * workers → (object : ℕ) → Works (found_by object (looks_of workers worker)) (start object) (Done (Ok (replies.Pool pool_replies.New))) (now object)
-  found_none from start now all end object =
-      all object _ (now object) (subst (λ (looks : List (PoolEvent ℕ)). Works (found_by object looks) (now object) (Done (Ok (replies.Pool pool_replies.New))) (now object)) (sym (no_look from end))
-      (rests (returns (replies.Pool pool_replies.New)) (now object) _ (refl, refl)))
+  pub found_none : (from : ℕ) (start now : Desk) → AnswersAll from start now → from ≡ 2 * workers → Works (found_by worker first (looks_of workers worker)) start (Done (Ok (replies.Pool pool_replies.New))) now
+  found_none from start now all end =
+      all _ now (subst (λ (looks : List (PoolEvent ℕ)). Works (found_by worker first looks) now (Done (Ok (replies.Pool pool_replies.New))) now) (sym (no_look from end))
+      (rests (returns (replies.Pool pool_replies.New)) now _ (refl, refl)))
+
+module _ (workers first : ℕ) where
+  -- the parts that are left, and from here they answer what all answer from the start
+  abbrev pub parts_from : ℕ → List ℕ
+  parts_from from = range_with_len from (workers - from)
+
+  abbrev pub SweepsAll : ℕ → Desk → Desk → Type 0
+  SweepsAll from start now = (answer : CallAnswer (Reply ℕ)) (new : Desk) → Works (swept_by first (parts_from from)) now answer new → Works (swept_by first (range_with_len 0 workers)) start answer new
+
+  module _ (from : ℕ) (start now later : Desk) (all : SweepsAll from start now) (within : from < workers) where
+    sweeps : (answer : CallAnswer (Reply ℕ)) (new : Desk) → Works (swept_by first (from ∷ parts_from (from + 1))) now answer new → Works (swept_by first (range_with_len 0 workers)) start answer new
+    sweeps answer new works =
+        let one_less : workers - from ≡ suc (workers - (from + 1)) = omega (arith, within) in
+        all answer new (subst (λ (parts : List ℕ). Works (swept_by first parts) now answer new) (sym (ap (λ (n : ℕ). range_with_len from n) one_less)) works)
+
+    pub swept_on : (outcome : PoolOutcome) → Works (pool_part (first + from) Sweep) now (Done (Ok outcome)) later → SweepsAll (from + 1) start later
+    swept_on outcome swept answer new works = sweeps answer new (went_first (pool_part (first + from) Sweep) (λ done. swept_by first (parts_from (from + 1))) now later outcome new answer swept works)
+
+    pub sweep_halted : (misuse : Misuse) → Works (pool_part (first + from) Sweep) now (Halted misuse) later → Works (swept_by first (range_with_len 0 workers)) start (Halted misuse) later
+    sweep_halted misuse met = sweeps _ later (halted_first (pool_part (first + from) Sweep) (λ done. swept_by first (parts_from (from + 1))) now later misuse met)
+
+  -- all parts are swept
+  pub swept_all : (from : ℕ) (start now : Desk) → SweepsAll from start now → from ≡ workers → Works (swept_by first (range_with_len 0 workers)) start (Done (Ok (replies.Pool pool_replies.Done))) now
+  swept_all from start now all end =
+      let none : workers - from ≡ 0 = omega (arith, end) in
+      all _ now (subst (λ (parts : List ℕ). Works (swept_by first parts) now (Done (Ok (replies.Pool pool_replies.Done))) now) (sym (ap (λ (n : ℕ). range_with_len from n) none))
+      (rests (returns (replies.Pool pool_replies.Done)) now _ (refl, refl)))

@@ -10,7 +10,7 @@ IsNotifying cond_calls.Wait = ⊥
 IsNotifying cond_calls.Signal = Unit {0}
 IsNotifying cond_calls.Broadcast = Unit {0}
 
--- maps and atomics are shared, and a once adds to an atomic
+-- maps and atomics are shared, a once adds to an atomic, and a pool is as many objects as it has parts
 abbrev pub IsAlone : Operation → Type 0
 IsAlone (operations.Map call) = ⊥
 IsAlone operations.Range = ⊥
@@ -22,4 +22,4 @@ IsAlone (operations.WaitGroup call) = Unit {0}
 IsAlone operations.Once = ⊥
 IsAlone operations.OnceFunc = Unit {0}
 IsAlone operations.OnceValue = Unit {0}
-IsAlone (operations.Pool call) = Unit {0}
+IsAlone (operations.Pool call) = ⊥

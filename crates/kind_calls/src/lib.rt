@@ -12,6 +12,7 @@ mod shared_calls;
 
 pub use halting::halt_all;
 pub use kinds::do_once::do_at;
+pub use kinds::pool::call_pool;
 pub use kinds::range::call_range;
 pub use kinds::replies::CallAnswer;
 pub use object_calls::{object_at, wait_at};

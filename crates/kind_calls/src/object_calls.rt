@@ -14,7 +14,6 @@ ghost use Rattle.kind_calls.specs.Working.{Works, desk_at, desk_with};
 use crate::kinds::cond::notify;
 use crate::kinds::mutex::call_mutex;
 use crate::kinds::once::{call_func, call_value};
-use crate::kinds::pool::call_pool;
 use crate::kinds::replies::CallAnswer;
 use crate::kinds::rw_mutex::call_rw_mutex;
 use crate::kinds::wait::wait;
@@ -44,7 +43,7 @@ fn call_object<N: Note, C: Clock, R: Wait>(
     requires note { N.at worker.now.at.home.now note.old }
     ensures seat { IsSeatAt N.at worker.now.at.home.now worker.now.workers worker.now.number object.now pass.new }
     ensures note { KeepsNote N.at N.own N.front note.old note.new }
-    ensures works { (plan : Plan) (before place : ℕ) → plan.workers ≡ worker.now.workers
+    ensures works { (plan : Plan) (before place : ℕ)
         → Works (call_on plan worker.now.number before place kind operation.now) (desk_at N.own N.front (object_number place) (own_of pass.old) note.old) result (desk_at N.own N.front (object_number place) (own_of pass.new) note.new) }
 {
     match operation {
@@ -64,7 +63,7 @@ fn call_object<N: Note, C: Clock, R: Wait>(
             ObjectKind::OnceValue { value } => call_value(rt, worker, object, pass, note, value),
             _ => unreachable!(),
         },
-        Operation::Pool(call) => call_pool(rt, worker, object, pass, note, *call),
+        Operation::Pool(_call) => unreachable!(),
         Operation::Map(_call) => unreachable!(),
         Operation::Range => unreachable!(),
         Operation::Atomic(_call) => unreachable!(),
@@ -91,7 +90,7 @@ pub fn object_at<N: Note, C: Clock, R: Wait>(
     requires note { N.at worker.now.at.home.now note.old }
     ensures seats { AreSeats N.at worker.now.at.home.now worker.now.workers worker.now.number objects.now passes.new }
     ensures note { KeepsNote N.at N.own N.front note.old note.new }
-    ensures works { (plan : Plan) (before : ℕ) → plan.workers ≡ worker.now.workers
+    ensures works { (plan : Plan) (before : ℕ)
         → Works (call_on plan worker.now.number before place kind operation.now) (desk_with N.own N.front (owns_of passes.old) note.old) result (desk_with N.own N.front (owns_of passes.new) note.new) }
 {
     let _count = objects.len();

@@ -1,5 +1,6 @@
 -- What holds of the parts of calls, however they are put together, holds of the calls of a workload.
-use Rattle.std.proofs.Common.{◌≡◌, ℕ, ℤ, List, [], ◌∷◌, Option, Some, None, slice_get, refl}
+use Rattle.std.proofs.Common.{◌≡◌, ℕ, ◌+◌, ℤ, List, [], ◌∷◌, Option, Some, None, slice_get, refl}
+use Rattle.std.specs.List.{range_with_len}
 use Rattle.sync_types.specs.declared.atomic_object.AtomicCall.{AtomicCall}
 use Rattle.sync_types.specs.declared.call.Call.{Call}
 use Rattle.sync_types.specs.declared.call.Operation.{Operation}
@@ -46,7 +47,7 @@ use Rattle.run_record.specs.MapKind.{map_call, range_call}
 use Rattle.run_record.specs.MutexKind.{mutex_part}
 use Rattle.run_record.specs.OnceKind.{goes_on_once, once_part, do_call, func_call, value_call, failure}
 use Rattle.run_record.specs.Parts.{Part, returns, never, and_then, read_as, stages}
-use Rattle.run_record.specs.PoolKind.{pool_part, pool_call, found_by, found_or, looks_of, stage_of}
+use Rattle.run_record.specs.PoolKind.{pool_part, pool_call, part_of, found_by, found_or, looks_of, stage_of, swept_by}
 
 -- it holds of each part, and goes on from parts to what they are put together to; of calls on maps nothing is said
 pub record HoldsOfParts (Q : (O : Type 0) → Part O → Type 0) : Type 1 where
@@ -104,14 +105,18 @@ module _ (Q : (O : Type 0) → Part O → Type 0) (holds : HoldsOfParts Q) where
   of_found rest later (Dropped item) = holds.none _
   of_found rest later Swept = holds.none _
 
-  of_looks : (object : ℕ) (looks : List (PoolEvent ℕ)) → Q (Reply ℕ) (found_by object looks)
-  of_looks object [] = holds.returned _ (replies.Pool pool_replies.New)
-  of_looks object (look ∷ looks) = holds.behind _ _ _ _ (holds.pool object (stage_of look)) (of_found (found_by object looks) (of_looks object looks))
+  of_looks : (worker first : ℕ) (looks : List (PoolEvent ℕ)) → Q (Reply ℕ) (found_by worker first looks)
+  of_looks worker first [] = holds.returned _ (replies.Pool pool_replies.New)
+  of_looks worker first (look ∷ looks) = holds.behind _ _ _ _ (holds.pool (first + part_of worker look) (stage_of look)) (of_found (found_by worker first looks) (of_looks worker first looks))
 
-  of_pool_call : (workers worker object : ℕ) (call : PoolCall) → Q (Reply ℕ) (pool_call workers worker object call)
-  of_pool_call workers worker object (pool_calls.Put item) = holds.read _ _ (λ put. replies.Pool pool_replies.Done) _ (holds.pool object (pool_stage.Put item))
-  of_pool_call workers worker object pool_calls.Get = of_looks object (looks_of workers worker)
-  of_pool_call workers worker object pool_calls.Sweep = holds.read _ _ (λ swept. replies.Pool pool_replies.Done) _ (holds.pool object pool_stage.Sweep)
+  of_sweeps : (first : ℕ) (parts : List ℕ) → Q (Reply ℕ) (swept_by first parts)
+  of_sweeps first [] = holds.returned _ (replies.Pool pool_replies.Done)
+  of_sweeps first (part ∷ parts) = holds.behind _ _ _ _ (holds.pool (first + part) pool_stage.Sweep) (λ swept. of_sweeps first parts)
+
+  of_pool_call : (workers worker first : ℕ) (call : PoolCall) → Q (Reply ℕ) (pool_call workers worker first call)
+  of_pool_call workers worker first (pool_calls.Put item) = holds.read _ _ (λ put. replies.Pool pool_replies.Done) _ (holds.pool (first + worker) (pool_stage.Put item))
+  of_pool_call workers worker first pool_calls.Get = of_looks worker first (looks_of workers worker)
+  of_pool_call workers worker first pool_calls.Sweep = of_sweeps first (range_with_len 0 workers)
 
   -- where it holds of the call, if that is one on a map
   module _ (plan : Plan) (worker before : ℕ) where

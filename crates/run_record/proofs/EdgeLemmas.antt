@@ -14,7 +14,8 @@ use Rattle.run_record.specs.Explains.{IsRecordOf}
 use Rattle.run_record.specs.Journals.{IsStops}
 use Rattle.run_record.specs.Record.{Record, ObjectEntry, stop, object_number, journal_of, list_of, shared_in}
 use Rattle.run_record.proofs.ListLemmas.{shared_before, get_past}
-use Rattle.run_record.proofs.ObjectJournals.{Keeps, nothing, of_kind}
+use Rattle.run_record.proofs.ObjectJournals.{Keeps, nothing, of_kind, of_part}
+use Rattle.run_record.proofs.NumberLemmas.{each_journal}
 
 no_halt : (x : ObjectEntry) → (misuse : Misuse) × (x.deed ≡ Halt misuse) → is_such frees x.deed ≡ true → ⊥
 no_halt x halt is = halts (subst (λ d. is_such frees d ≡ true) halt.1 is) where
@@ -27,16 +28,8 @@ of_stop journal stops i j x y before at_x at_y is_x is_y =
     absurd (no_halt x halt is_x)
 
 module _ (plan : Plan) (r : Record) (lawful : IsRecordOf plan r) where
-  -- the edge law, of the object behind a place
-  at_place : (place : ℕ) → Keeps (journal_of r (object_number place))
-  at_place place = by_case (slice_get_cases plan.objects place).1 where
-    by_case : ((object : ObjectLine) × (place < length plan.objects) × (slice_get plan.objects place ≡ Some object) × (get_or plan.objects place object ≡ object)) ⊎ ((length plan.objects ≤ place) × (slice_get plan.objects place ≡ None)) → Keeps (journal_of r (object_number place))
-    by_case (inl (object, within, some, is)) = of_kind plan place object.kind (journal_of r (object_number place)) (lawful.journals place object some)
-    by_case (inr (past, none)) = subst Keeps (sym (get_past r.journals (object_number place) (omega (arith, past, lawful.objects)))) nothing
-
   pub of_object : (object : ℕ) → Keeps (journal_of r object)
-  of_object zero = of_stop (journal_of r stop) lawful.stops
-  of_object (suc place) = let e : object_number place ≡ suc place = omega arith in subst (λ n. Keeps (journal_of r n)) e (at_place place)
+  of_object object = each_journal plan r lawful Keeps nothing (λ stops. of_stop (journal_of r stop) stops) (λ place kind journal is. of_kind plan place kind journal is) of_part object
 
   -- a call that stands before a releasing entry of its worker is counted by the front of each call behind an entry that acquires later
   pub counted : (giver taker i j k l object m n : ℕ) (known call : Item) (first second : ObjectEntry)

@@ -1,5 +1,5 @@
 -- The parts of what explains the example.
-use Rattle.std.proofs.Common.{◌≡◌, ℕ, zero, suc, ◌<◌, ◌≤◌, ◌==◌, Bool, true, false, cond, pos, [], ◌∷◌, length, take, Option, Some, slice_get, slice_index, refl, ap, subst, arith}
+use Rattle.std.proofs.Common.{◌≡◌, ℕ, zero, suc, ◌+◌, ◌<◌, ◌≤◌, ◌==◌, Bool, true, false, cond, pos, [], ◌∷◌, length, take, Option, Some, slice_get, slice_index, refl, sym, ap, ◌∙◌, subst, arith}
 use Rattle.std.specs.Prelude.{unwrap_or, All}
 use Rattle.std.proofs.lemmas.Bool.{false≢true, eqb-true}
 use Rattle.std.proofs.lemmas.Option.{none-some}
@@ -13,14 +13,18 @@ use Rattle.sync_model.specs.Front.{AtLeast}
 use Rattle.sync_model.specs.Journal.{by}
 use Rattle.sync_model.specs.SharedCalls.{bound, IsSound, Lawful}
 use Rattle.sync_model.specs.SharedHistory.{entries_by, marked_in}
+use Rattle.workload.specs.declared.object.ObjectKind.{ObjectKind}
+use Rattle.workload.specs.declared.object.ObjectKind.TheVariants as kinds
 use Rattle.workload.specs.declared.object.ObjectLine.{ObjectLine}
+use Rattle.workload.specs.Puts.{puts_at}
 use Rattle.run_record.specs.declared.made.Made.{Made}
 use Rattle.run_record.specs.declared.made.Made.TheVariants.{Shared}
 use Rattle.run_record.specs.Calls.{IsJournalOf}
 use Rattle.run_record.specs.Example.{plan, example, store_call, load_call, store_item, load_item, entry, replies_by, done, held}
 use Rattle.run_record.specs.Explains.{IsRecordOf, AreLines, Explains}
 use Rattle.run_record.specs.Lines.{Line, whole, IsLineOf}
-use Rattle.run_record.specs.Objects.{contents_of}
+use Rattle.run_record.specs.Objects.{contents_of, first_part}
+use Rattle.run_record.specs.PoolKind.{IsPartJournal}
 use Rattle.run_record.specs.Record.{object_number, journal_of, list_of, calls_of, shared_in, entries_in, front_of}
 
 -- there are two calls on maps and atomics
@@ -110,6 +114,15 @@ journals : (place : ℕ) (object : ObjectLine) → slice_get plan.objects place 
 journals zero object at = subst (λ (o : ObjectLine). IsJournalOf plan 0 o.kind (journal_of example (object_number 0))) (ap (λ (o : Option ObjectLine). unwrap_or o object) at) refl
 journals (suc place) object at = absurd (none-some object at)
 
+abbrev is_pool_kind : ObjectKind → Bool
+is_pool_kind kinds.Pool = true
+is_pool_kind kind = false
+
+-- there is no pool
+parts : (place part : ℕ) (object : ObjectLine) → slice_get plan.objects place ≡ Some object → object.kind ≡ kinds.Pool → part < plan.workers → IsPartJournal (puts_at place plan.scripts) (journal_of example (first_part plan place + part))
+parts zero part object at pool below = absurd (false≢true (ap is_pool_kind (ap (λ (o : Option ObjectLine). (unwrap_or o object).kind) at ∙ pool)))
+parts (suc place) part object at pool below = absurd (none-some object at)
+
 once : (worker object : ℕ) → entries_in object (list_of example worker) ≡ by worker (journal_of example object)
 once zero zero = refl
 once zero (suc zero) = refl
@@ -133,6 +146,7 @@ lawful = record {
   objects = refl;
   stops = λ k d within. absurd (omega (arith, within));
   journals = journals;
+  parts = parts;
   once = once;
   fronts = record {
     rises = items_rise;

@@ -1,6 +1,7 @@
 -- That the reply of a call shows few pairs, where the cursor of its `range` did.
 use Rattle.std.proofs.Common.{◌≡◌, ℕ, ◌≤◌, true, List, [], ◌∷◌, length, Option, Some, None, slice_get, refl, sym, subst, arith}
 use Rattle.std.specs.Prelude.{Ok, Err}
+use Rattle.std.specs.List.{range_with_len}
 use Rattle.std.proofs.lemmas.Bool.{le-leb}
 use Rattle.std.proofs.lemmas.List.Sorted.{length_permutation}
 use Rattle.sync_model.specs.declared.answer.Answer.TheVariants.{Done, Halted}
@@ -38,7 +39,7 @@ use Rattle.run_record.specs.CondKind.{cond_call}
 use Rattle.run_record.specs.MapKind.{cursor_showing}
 use Rattle.run_record.specs.OnceKind.{goes_on_once, once_part, failure}
 use Rattle.run_record.specs.Parts.{Part, GoesOn, returns, never, and_then, read_as, with_outcome, Places, stages}
-use Rattle.run_record.specs.PoolKind.{pool_call, found_by, found_or, looks_of}
+use Rattle.run_record.specs.PoolKind.{pool_call, found_by, found_or, looks_of, swept_by}
 
 module _ (most : ℕ) where
   abbrev pub Few : CallAnswer (Reply ℕ) → Type 0
@@ -93,14 +94,18 @@ module _ (most : ℕ) where
   few_found rest few (Dropped item) = few_never
   few_found rest few Swept = few_never
 
-  few_looks : (object : ℕ) (looks : List (PoolEvent ℕ)) → AnswersFew (found_by object looks)
-  few_looks object [] = few_returns (replies.Pool pool_replies.New) refl
-  few_looks object (look ∷ looks) = few_then _ _ (few_found (found_by object looks) (few_looks object looks))
+  few_looks : (worker first : ℕ) (looks : List (PoolEvent ℕ)) → AnswersFew (found_by worker first looks)
+  few_looks worker first [] = few_returns (replies.Pool pool_replies.New) refl
+  few_looks worker first (look ∷ looks) = few_then _ _ (few_found (found_by worker first looks) (few_looks worker first looks))
 
-  few_pool : (workers worker object : ℕ) (call : PoolCall) → AnswersFew (pool_call workers worker object call)
-  few_pool workers worker object (pool_calls.Put item) = few_read (λ put. replies.Pool pool_replies.Done) _ (λ put. refl)
-  few_pool workers worker object pool_calls.Get = few_looks object (looks_of workers worker)
-  few_pool workers worker object pool_calls.Sweep = few_read (λ swept. replies.Pool pool_replies.Done) _ (λ swept. refl)
+  few_sweeps : (first : ℕ) (parts : List ℕ) → AnswersFew (swept_by first parts)
+  few_sweeps first [] = few_returns (replies.Pool pool_replies.Done) refl
+  few_sweeps first (part ∷ parts) = few_then _ _ (λ swept. few_sweeps first parts)
+
+  few_pool : (workers worker first : ℕ) (call : PoolCall) → AnswersFew (pool_call workers worker first call)
+  few_pool workers worker first (pool_calls.Put item) = few_read (λ put. replies.Pool pool_replies.Done) _ (λ put. refl)
+  few_pool workers worker first pool_calls.Get = few_looks worker first (looks_of workers worker)
+  few_pool workers worker first pool_calls.Sweep = few_sweeps first (range_with_len 0 workers)
 
   module _ (plan : Plan) (worker before : ℕ) (items : List Made) (answer : CallAnswer (Reply ℕ)) (ranged : (m : ℕ) (shown : List (ℕ × ℕ)) → Places (cursor_showing (keys_in plan.scripts) m before shown) items → length shown ≤ most) where
     few_on : (place : ℕ) (kind : ObjectKind) (operation : Operation) → call_on plan worker before place kind operation items answer → Few answer

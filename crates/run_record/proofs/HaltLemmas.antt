@@ -23,6 +23,7 @@ use Rattle.run_record.specs.Parts.{lifted, lifted_deed}
 use Rattle.run_record.specs.Record.{Record, ObjectEntry, stop, object_number, journal_of}
 use Rattle.run_record.proofs.Having.{Has, has_mapped, has_map, place_of}
 use Rattle.run_record.proofs.ListLemmas.{get_past}
+use Rattle.run_record.proofs.NumberLemmas.{each_journal}
 use Rattle.run_record.proofs.PartLemmas.{IsRefusal}
 
 -- the entry halts its object by this misuse
@@ -116,7 +117,7 @@ of_kind m plan place (kinds.WaitGroup start) journal is has = of_follows event.W
 of_kind m plan place (kinds.Once atomic delta) journal is has = of_follows event.Once reply.Once _ m _ _ _ journal is has
 of_kind m plan place (kinds.OnceFunc code) journal is has = of_follows event.OnceFunc reply.OnceFunc _ m _ _ _ journal is has
 of_kind m plan place (kinds.OnceValue value) journal is has = of_follows event.OnceValue reply.OnceValue _ m _ _ _ journal is has
-of_kind m plan place kinds.Pool journal is has = of_follows event.Pool reply.Pool _ m _ _ _ journal is has
+of_kind m plan place kinds.Pool journal is has = absurd (subst (λ (xs : List ObjectEntry). Has (IsRefusal m) xs) is has)
 
 of_stop : (m : Misuse) (journal : List ObjectEntry) → IsStops journal → Has (IsRefusal m) journal → ⊥
 of_stop m journal stops has = let at = place_of (IsRefusal m) journal has in
@@ -124,13 +125,9 @@ of_stop m journal stops has = let at = place_of (IsRefusal m) journal has in
     false≢true (ap is_refused (sym halt.1 ∙ at.3.1))
 
 module _ (plan : Plan) (r : Record) (lawful : IsRecordOf plan r) where
-  at_place : (m : Misuse) (place : ℕ) → Has (IsRefusal m) (journal_of r (object_number place)) → Has (IsHaltBy m) (journal_of r (object_number place))
-  at_place m place = by_case (slice_get_cases plan.objects place).1 where
-    by_case : ((object : ObjectLine) × (place < length plan.objects) × (slice_get plan.objects place ≡ Some object) × (get_or plan.objects place object ≡ object)) ⊎ ((length plan.objects ≤ place) × (slice_get plan.objects place ≡ None)) → Has (IsRefusal m) (journal_of r (object_number place)) → Has (IsHaltBy m) (journal_of r (object_number place))
-    by_case (inl (object, within, some, is)) has = of_kind m plan place object.kind (journal_of r (object_number place)) (lawful.journals place object some) has
-    by_case (inr (past, none)) has = absurd (subst (λ (xs : List ObjectEntry). Has (IsRefusal m) xs) (get_past r.journals (object_number place) (omega (arith, past, lawful.objects))) has)
-
   -- whatever the object, whoever is refused comes behind a halt by the same misuse
   pub refusal_has : (m : Misuse) (object : ℕ) → Has (IsRefusal m) (journal_of r object) → Has (IsHaltBy m) (journal_of r object)
-  refusal_has m zero has = absurd (of_stop m (journal_of r stop) lawful.stops has)
-  refusal_has m (suc place) has = let e : object_number place ≡ suc place = omega arith in subst (λ n. Has (IsHaltBy m) (journal_of r n)) e (at_place m place (subst (λ n. Has (IsRefusal m) (journal_of r n)) (sym e) has))
+  refusal_has m object = each_journal plan r lawful (λ journal. Has (IsRefusal m) journal → Has (IsHaltBy m) journal) (λ has. absurd has)
+      (λ stops has. absurd (of_stop m (journal_of r stop) stops has))
+      (λ place kind journal is. of_kind m plan place kind journal is)
+      (λ room journal is. of_follows event.Pool reply.Pool _ m _ _ _ journal is) object

@@ -14,6 +14,7 @@ mod Limits
 mod LineLemmas
 mod ListLemmas
 mod NamedLemmas
+mod NumberLemmas
 mod ObjectJournals
 mod PairLemmas
 mod PartLemmas

@@ -11,6 +11,7 @@ use Rattle.run_record.specs.declared.entered.ObjectReply.TheVariants as reply
 use Rattle.run_record.specs.Calls.{IsJournalOf}
 use Rattle.run_record.specs.Edges.{frees, takes}
 use Rattle.run_record.specs.Explains.{IsRecordOf}
+use Rattle.run_record.specs.PoolKind.{IsPartJournal}
 use Rattle.run_record.specs.Record.{Record, ObjectEntry, object_number, journal_of}
 use Rattle.run_record.proofs.Lifts.{edges_lifted}
 
@@ -35,7 +36,11 @@ of_kind plan place (kinds.WaitGroup start) journal is = from is.1 (edges_lifted 
 of_kind plan place (kinds.Once atomic delta) journal is = from is.1 (edges_lifted event.Once reply.Once frees takes is.0 is.3)
 of_kind plan place (kinds.OnceFunc code) journal is = from is.1 (edges_lifted event.OnceFunc reply.OnceFunc frees takes is.0 is.3)
 of_kind plan place (kinds.OnceValue value) journal is = from is.1 (edges_lifted event.OnceValue reply.OnceValue frees takes is.0 is.3)
-of_kind plan place kinds.Pool journal is = from is.1 (edges_lifted event.Pool reply.Pool frees takes is.0 is.3)
+of_kind plan place kinds.Pool journal is = from is nothing
+
+-- and of a part of a pool
+pub of_part : (room : ℕ) (journal : List ObjectEntry) → IsPartJournal room journal → Keeps journal
+of_part room journal is = from is.1 (edges_lifted event.Pool reply.Pool frees takes is.0 is.3)
 
 -- the journal of an object of a known kind
 pub journal_at : (plan : Plan) (r : Record) (place : ℕ) (object : ObjectLine) (kind : ObjectKind) → IsRecordOf plan r → slice_get plan.objects place ≡ Some object → object.kind ≡ kind → IsJournalOf plan place kind (journal_of r (object_number place))

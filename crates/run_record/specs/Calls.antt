@@ -9,15 +9,14 @@ use Rattle.workload.specs.declared.object.ObjectKind.TheVariants as kinds
 use Rattle.workload.specs.declared.object.ObjectLine.{ObjectLine}
 use Rattle.workload.specs.Keys.{keys_in}
 use Rattle.workload.specs.Plan.{Plan}
-use Rattle.workload.specs.Puts.{puts_at}
 use Rattle.run_record.specs.AtomicKind.{atomic_call}
 use Rattle.run_record.specs.CondKind.{cond_call, IsCondJournal}
 use Rattle.run_record.specs.MapKind.{map_call, range_call}
 use Rattle.run_record.specs.MutexKind.{mutex_call, IsMutexJournal}
-use Rattle.run_record.specs.Objects.{map_number, atomic_number}
+use Rattle.run_record.specs.Objects.{map_number, atomic_number, first_part}
 use Rattle.run_record.specs.OnceKind.{do_call, func_call, value_call, IsOnceJournal, IsOnceFuncJournal, IsOnceValueJournal}
 use Rattle.run_record.specs.Parts.{Part, never}
-use Rattle.run_record.specs.PoolKind.{pool_call, IsPoolJournal}
+use Rattle.run_record.specs.PoolKind.{pool_call}
 use Rattle.run_record.specs.Record.{ObjectEntry, object_number}
 use Rattle.run_record.specs.RwMutexKind.{rw_mutex_call, IsRwMutexJournal}
 use Rattle.run_record.specs.WaitGroupKind.{wait_group_call, IsWaitGroupJournal}
@@ -34,7 +33,7 @@ call_on plan worker before place (kinds.WaitGroup start) (operations.WaitGroup c
 call_on plan worker before place (kinds.Once atomic delta) operations.Once = do_call (object_number place) (atomic_number plan.objects atomic) delta
 call_on plan worker before place (kinds.OnceFunc code) operations.OnceFunc = func_call (object_number place) code
 call_on plan worker before place (kinds.OnceValue value) operations.OnceValue = value_call (object_number place) value
-call_on plan worker before place kinds.Pool (operations.Pool call) = pool_call plan.workers worker (object_number place) call
+call_on plan worker before place kinds.Pool (operations.Pool call) = pool_call plan.workers worker (first_part plan place) call
 call_on plan worker before place kind operation = never
 
 abbrev pub call_at : Plan → (worker before place : ℕ) → Option ObjectLine → Operation → Part (Reply ℕ)
@@ -45,7 +44,7 @@ call_at plan worker before place (Some object) operation = call_on plan worker b
 abbrev pub SpellsCall : Plan → (worker before : ℕ) → Call → Part (Reply ℕ)
 SpellsCall plan worker before call = call_at plan worker before call.object (slice_get plan.objects call.object) call.operation
 
--- the journal is one of the object at a place: it follows the machine of the object's kind from the declared start, and keeps the edge law
+-- the journal is one of the object at a place: it follows the machine of the object's kind from the declared start, and keeps the edge law. A map and an atomic have none, and a pool has those of its parts
 abbrev pub IsJournalOf : Plan → ℕ → ObjectKind → List ObjectEntry → Type 0
 IsJournalOf plan place kinds.Map journal = journal ≡ []
 IsJournalOf plan place (kinds.Atomic type) journal = journal ≡ []
@@ -56,4 +55,4 @@ IsJournalOf plan place (kinds.WaitGroup start) journal = IsWaitGroupJournal plan
 IsJournalOf plan place (kinds.Once atomic delta) journal = IsOnceJournal plan.workers journal
 IsJournalOf plan place (kinds.OnceFunc code) journal = IsOnceFuncJournal plan.workers journal
 IsJournalOf plan place (kinds.OnceValue value) journal = IsOnceValueJournal plan.workers journal
-IsJournalOf plan place kinds.Pool journal = IsPoolJournal plan.workers (puts_at place plan.scripts) journal
+IsJournalOf plan place kinds.Pool journal = journal ≡ []

@@ -1,5 +1,5 @@
 -- When a record explains the outcome of a run of a workload.
-use Rattle.std.specs.Prelude.{◌≡◌, ℕ, ◌<◌, ◌≤◌, List, [], map, length, take, All, Some, slice_get, slice_index}
+use Rattle.std.specs.Prelude.{◌≡◌, ℕ, ◌+◌, ◌<◌, ◌≤◌, List, [], map, length, take, All, Some, slice_get, slice_index}
 use Rattle.sync_types.specs.declared.outcome.Outcome.{Outcome}
 use Rattle.sync_types.specs.declared.outcome.Outcome.TheVariants.{Done, Misused, Deadlocked}
 use Rattle.sync_model.specs.Front.{AtLeast}
@@ -7,13 +7,16 @@ use Rattle.sync_model.specs.Journal.{by, halt_of}
 use Rattle.sync_types.specs.Outcome.{left_by}
 use Rattle.sync_model.specs.SharedCalls.{Lawful}
 use Rattle.sync_model.specs.SharedHistory.{contents_after}
+use Rattle.workload.specs.declared.object.ObjectKind.TheVariants.{Pool}
 use Rattle.workload.specs.declared.object.ObjectLine.{ObjectLine}
 use Rattle.workload.specs.Plan.{Plan}
+use Rattle.workload.specs.Puts.{puts_at}
 use Rattle.run_record.specs.declared.made.Made.{Made}
 use Rattle.run_record.specs.Calls.{IsJournalOf}
 use Rattle.run_record.specs.Journals.{IsStops}
 use Rattle.run_record.specs.Lines.{Line, LineEnd, whole, misused, halted, unfinished, script_of, items_of, replies_of, IsLineOf}
-use Rattle.run_record.specs.Objects.{contents_of, ends_in}
+use Rattle.run_record.specs.Objects.{contents_of, ends_in, first_part, object_count}
+use Rattle.run_record.specs.PoolKind.{IsPartJournal}
 use Rattle.run_record.specs.Record.{Record, stop, object_number, journal_of, list_of, shared_in, entries_in, calls_of, front_of}
 
 -- The front law along a worker's list. No worker forgets what it knew, and it knows all its own earlier calls; nobody knows of a call that wasn't made.
@@ -26,9 +29,11 @@ pub record KeepsFronts (r : Record) : Type 0 where
 pub record IsRecordOf (plan : Plan) (r : Record) : Type 0 where
   -- the history is legal, and the workers' own calls on maps and atomics explain it: the front law and the Range law are among this
   pub shared : Lawful (contents_of plan) r.history (calls_of r)
-  pub objects : length r.journals ≡ object_number (length plan.objects)
+  pub objects : length r.journals ≡ object_count plan
   pub stops : IsStops (journal_of r stop)
   pub journals : (place : ℕ) (object : ObjectLine) → slice_get plan.objects place ≡ Some object → IsJournalOf plan place object.kind (journal_of r (object_number place))
+  -- each part of a pool has a journal of its own, and room for all items that the scripts put into the pool
+  pub parts : (place part : ℕ) (object : ObjectLine) → slice_get plan.objects place ≡ Some object → object.kind ≡ Pool → part < plan.workers → IsPartJournal (puts_at place plan.scripts) (journal_of r (first_part plan place + part))
   -- each entry of a journal stands in exactly one list, once, which is that of its caller, in the order of the journal
   pub once : (worker object : ℕ) → entries_in object (list_of r worker) ≡ by worker (journal_of r object)
   pub fronts : KeepsFronts r

@@ -1,5 +1,5 @@
--- The numbers of a workload's maps and atomics, what they contain at the start, and the ends of a run.
-use Rattle.std.specs.Prelude.{ℕ, ◌+◌, Bool, true, false, cond, List, [], ◌∷◌, map, take, count_by, zip}
+-- The numbers of a workload's maps and atomics, and of its pools' parts; what maps and atomics contain at the start, and the ends of a run.
+use Rattle.std.specs.Prelude.{ℕ, ◌+◌, ◌*◌, Bool, true, false, cond, List, [], ◌∷◌, map, length, take, count_by, zip}
 use Rattle.std.specs.List.{flat_map}
 use Rattle.std.specs.Ordering.{nat_cmp}
 use Rattle.std.specs.Cmp.Lexicographic.{slice_cmp}
@@ -13,6 +13,7 @@ use Rattle.workload.specs.declared.object.ObjectKind.TheVariants as kinds
 use Rattle.workload.specs.declared.object.ObjectLine.{ObjectLine}
 use Rattle.workload.specs.Keys.{keys_in, key_number, key_name}
 use Rattle.workload.specs.Plan.{Plan}
+use Rattle.run_record.specs.Record.{object_number}
 
 abbrev pub is_map : ObjectKind → Bool
 is_map kinds.Map = true
@@ -22,17 +23,32 @@ abbrev pub is_atomic : ObjectKind → Bool
 is_atomic (kinds.Atomic type) = true
 is_atomic kind = false
 
+abbrev pub is_pool : ObjectKind → Bool
+is_pool kinds.Pool = true
+is_pool kind = false
+
 -- the type of an atomic; an object of another kind has none
 abbrev pub types_of : ObjectKind → List AtomicKind
 types_of (kinds.Atomic type) = type ∷ []
 types_of kind = []
 
--- the number of the object at a place among the maps, and among the atomics: how many of them are declared before it
+-- the number of the object at a place among the maps, among the atomics, and among the pools: how many of them are declared before it
 abbrev pub map_number : List ObjectLine → ℕ → ℕ
 map_number objects place = count_by (λ object. is_map object.kind) (take place objects)
 
 abbrev pub atomic_number : List ObjectLine → ℕ → ℕ
 atomic_number objects place = count_by (λ object. is_atomic object.kind) (take place objects)
+
+abbrev pub pool_number : List ObjectLine → ℕ → ℕ
+pool_number objects place = count_by (λ object. is_pool object.kind) (take place objects)
+
+-- Each part of a pool is an object of its own. The parts stand behind all objects of the workload, pool by pool, and a pool has one for each worker: this is the number of part 0 of the pool at a place, and its other parts follow
+abbrev pub first_part : Plan → ℕ → ℕ
+first_part plan place = object_number (length plan.objects) + pool_number plan.objects place * plan.workers
+
+-- how many objects a record of a run has: Stop, those of the workload, and the parts of its pools
+abbrev pub object_count : Plan → ℕ
+object_count plan = object_number (length plan.objects) + count_by (λ object. is_pool object.kind) plan.objects * plan.workers
 
 -- the places of the objects of which this is true, in order, from a place on
 abbrev pub places_from : ℕ → (ObjectKind → Bool) → List ObjectLine → List ℕ

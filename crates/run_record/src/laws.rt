@@ -4,6 +4,7 @@ pub mod endings;
 pub mod examples;
 pub mod limits;
 pub mod locks;
+pub mod numbers;
 pub mod objects;
 pub mod spelling;
 pub mod waits;

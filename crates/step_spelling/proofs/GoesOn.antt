@@ -1,6 +1,7 @@
 -- Whatever is left of a call can be spelt.
-use Rattle.std.proofs.Common.{◌≡◌, ℕ, Bool, true, false, List, [], ◌∷◌, ◌++◌, Option, Some, None, refl, sym, subst, append-nil, arith}
+use Rattle.std.proofs.Common.{◌≡◌, ℕ, ◌+◌, Bool, true, false, List, [], ◌∷◌, ◌++◌, Option, Some, None, refl, sym, subst, append-nil, arith}
 use Rattle.std.specs.Prelude.{Ok}
+use Rattle.std.specs.List.{range_with_len}
 use Rattle.std.proofs.lemmas.List.Sorted.{IsPermutation-refl}
 use Rattle.sync_types.specs.Renaming.{renamed_call}
 use Rattle.sync_model.specs.declared.answer.Answer.TheVariants.{Done, Halted}
@@ -48,7 +49,7 @@ use Rattle.protocols.specs.declared.wait_group.GroupStage.TheVariants as group_s
 use Rattle.run_record.specs.AtomicKind.{adds}
 use Rattle.run_record.specs.MapKind.{cursor_showing}
 use Rattle.run_record.specs.MutexKind.{mutex_stage as mutex_first}
-use Rattle.run_record.specs.Objects.{map_number, atomic_number}
+use Rattle.run_record.specs.Objects.{map_number, atomic_number, first_part}
 use Rattle.run_record.specs.OnceKind.{failure}
 use Rattle.run_record.specs.Parts.{Part, and_then, read_as, returns, stages}
 use Rattle.run_record.specs.PoolKind as record_pool
@@ -129,9 +130,16 @@ once_can event answer object function ran returned value made is true false =
     (made ++ ends.0, (made, ends.0, Done (Ok value), refl, is, ends.1))
 once_can event answer object function ran returned value made is false false = then_halts (stages event answer once_event once_meaning object once_stage.Begin) _ (stage_halts event answer once_event once_meaning object once_stage.Begin)
 
-found_can : (object : ℕ) (looks : List (PoolEvent ℕ)) → CanBe (record_pool.found_by object looks)
-found_can object [] = ([], _, (refl, refl))
-found_can object (e ∷ looks) = halted (record_pool.found_by object (e ∷ looks)) (then_halts (record_pool.pool_part object (record_pool.stage_of e)) _ (stage_halts events.Pool answered.Pool pool_event pool_meaning object (record_pool.stage_of e)))
+found_can : (worker first : ℕ) (looks : List (PoolEvent ℕ)) → CanBe (record_pool.found_by worker first looks)
+found_can worker first [] = ([], _, (refl, refl))
+found_can worker first (e ∷ looks) =
+    let object = first + record_pool.part_of worker e in
+    halted (record_pool.found_by worker first (e ∷ looks)) (then_halts (record_pool.pool_part object (record_pool.stage_of e)) _ (stage_halts events.Pool answered.Pool pool_event pool_meaning object (record_pool.stage_of e)))
+
+swept_can : (first : ℕ) (parts : List ℕ) → CanBe (record_pool.swept_by first parts)
+swept_can first [] = ([], _, (refl, refl))
+swept_can first (part ∷ parts) =
+    halted (record_pool.swept_by first (part ∷ parts)) (then_halts (record_pool.pool_part (first + part) pool_stage.Sweep) _ (stage_halts events.Pool answered.Pool pool_event pool_meaning (first + part) pool_stage.Sweep))
 
 module _ (plan : Plan) (x before place : ℕ) where
   on_can : (operation : Operation) (o : ObjectState) → has_call (kind_of o) operation ≡ true → reference_of (kind_of o) ≡ None → CanBe (left_on plan x before place operation o)
@@ -151,11 +159,9 @@ module _ (plan : Plan) (x before place : ℕ) where
       (once_can events.OnceValue answered.OnceValue (object_number place) (returns value) replies.OnceValue replies.OnceValue value [] (refl, refl) (once_standing.runs_at o x) (once_standing.waits_at o x))
   on_can (operations.Pool (pool_calls.Put item)) (states.Pool p) has alone =
       halted (left_on plan x before place (operations.Pool (pool_calls.Put item)) (states.Pool p))
-      (read_halts _ (record_pool.pool_part (object_number place) (pool_stage.Put item)) (stage_halts events.Pool answered.Pool pool_event pool_meaning (object_number place) (pool_stage.Put item)))
-  on_can (operations.Pool pool_calls.Sweep) (states.Pool p) has alone =
-      halted (left_on plan x before place (operations.Pool pool_calls.Sweep) (states.Pool p))
-      (read_halts _ (record_pool.pool_part (object_number place) pool_stage.Sweep) (stage_halts events.Pool answered.Pool pool_event pool_meaning (object_number place) pool_stage.Sweep))
-  on_can (operations.Pool pool_calls.Get) (states.Pool p) has alone = found_can (object_number place) (record_pool.looks_of plan.workers x)
+      (read_halts _ (record_pool.pool_part (first_part plan place + x) (pool_stage.Put item)) (stage_halts events.Pool answered.Pool pool_event pool_meaning (first_part plan place + x) (pool_stage.Put item)))
+  on_can (operations.Pool pool_calls.Sweep) (states.Pool p) has alone = swept_can (first_part plan place) (range_with_len 0 plan.workers)
+  on_can (operations.Pool pool_calls.Get) (states.Pool p) has alone = found_can x (first_part plan place) (record_pool.looks_of plan.workers x)
   on_can (operations.Cond call) o has alone = absurd (cond_refers o call has alone)
   on_can operations.Once o has alone = absurd (once_refers o has alone)
   on_can operation o has alone = absurd cc

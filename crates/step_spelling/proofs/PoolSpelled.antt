@@ -1,5 +1,5 @@
 -- A turn at a pool spells its call: a get is a row of looks.
-use Rattle.std.proofs.Common.{◌≡◌, ℕ, zero, suc, ◌+◌, ◌*◌, ◌%◌, ◌<◌, Bool, true, false, List, [], ◌∷◌, map, length, Option, Some, None, refl, sym, subst, arith}
+use Rattle.std.proofs.Common.{◌≡◌, ℕ, zero, suc, ◌+◌, ◌*◌, ◌%◌, ◌<◌, Bool, true, false, List, [], ◌∷◌, ◌++◌, map, length, Option, Some, None, refl, sym, subst, append-nil, arith}
 use Rattle.std.specs.Prelude.{Ok, slice_get, option_map, nat_lt, if◌then◌else◌, ◌==◌}
 use Rattle.std.specs.List.{range_with_len}
 use Rattle.std.proofs.lemmas.Bool.{lt-ltb}
@@ -28,7 +28,7 @@ use Rattle.protocols.specs.Spelling.{CallAnswer}
 use Rattle.run_record.specs.Parts.{Part, and_then}
 use Rattle.run_record.specs.PoolKind as record_pool
 use Rattle.run_record.specs.PoolKind.{pool_part, pool_call}
-use Rattle.run_record.specs.Record.{object_number}
+use Rattle.run_record.specs.Objects.{first_part}
 use Rattle.run_record.specs.declared.entered.ObjectEvent.TheVariants as events
 use Rattle.run_record.specs.declared.entered.ObjectReply.TheVariants as answered
 use Rattle.run_record.specs.declared.made.Made.{Made}
@@ -39,7 +39,7 @@ use Rattle.step_turns.specs.Due as due
 use Rattle.step_turns.specs.Items.{unless_found, look_items, pool_items}
 use Rattle.step_turns.specs.PoolTurn.{found_or, found_by, pool_step, item_of}
 use Rattle.step_turns.specs.Stages.{outcome_of}
-use Rattle.step_spelling.specs.Recorded.{recorded_reply, recorded}
+use Rattle.step_spelling.specs.Recorded.{recorded_reply, recorded, recorded_pool_event}
 use Rattle.step_spelling.specs.Tells.{Tells}
 use Rattle.step_spelling.proofs.MachineLaws.{PoolKeeps, no}
 use Rattle.step_spelling.proofs.Spelled.{event_made, says}
@@ -116,12 +116,15 @@ module _ (n x : ℕ) (p : pool.PoolState ℕ) (below : x < n) (primary : length 
 
 -- ---- a call
 
-module _ (keeps : PoolKeeps) (plan : Plan) (place worker moment n : ℕ) (below : worker < n) where
-  abbrev made_of : PoolStage → PoolReply ℕ → Made
-  made_of s r = event_made events.Pool answered.Pool pool_event pool_meaning (object_number place) worker (pool_event s moment) r
+module _ (keeps : PoolKeeps) (plan : Plan) (place worker moment : ℕ) (below : worker < plan.workers) where
+  abbrev first : ℕ
+  first = first_part plan place
 
-  said : (s : PoolStage) (r : PoolReply ℕ) (outcome : PoolOutcome) → pool_meaning s r ≡ Finished outcome → pool_part (object_number place) s (made_of s r ∷ []) (Done (Ok outcome))
-  said s r outcome is = says events.Pool answered.Pool pool_event pool_meaning (object_number place) worker s moment r (Finished outcome) is
+  abbrev made_at : ℕ → PoolStage → PoolReply ℕ → Made
+  made_at part s r = event_made events.Pool answered.Pool pool_event pool_meaning (first + part) worker (pool_event s moment) r
+
+  said : (part : ℕ) (s : PoolStage) (r : PoolReply ℕ) (outcome : PoolOutcome) → pool_meaning s r ≡ Finished outcome → pool_part (first + part) s (made_at part s r ∷ []) (Done (Ok outcome))
+  said part s r outcome is = says events.Pool answered.Pool pool_event pool_meaning (first + part) worker s moment r (Finished outcome) is
 
   -- the items spell the whole call
   abbrev pub Whole : Part (Reply ℕ) → List Made → Answer → Type 0
@@ -141,42 +144,43 @@ module _ (keeps : PoolKeeps) (plan : Plan) (place worker moment n : ℕ) (below 
   abbrev LookWhole : PoolEvent ℕ → PoolReply ℕ → pool.PoolState ℕ → ℕ → List PoolStage → Part (Reply ℕ) → Type 0
   LookWhole e r q before looks rest =
       let found = item_of (outcome_of (pool_meaning (due.stage_of e) r)) in
-      Whole (and_then (pool_part (object_number place) (record_pool.stage_of e)) (record_pool.found_or rest))
-      (made_of (due.stage_of e) r ∷ recorded plan before (unless_found worker moment place (q, found) (look_items worker moment place looks))) (found_or (q, found) (found_by worker moment looks)).1
+      Whole (and_then (pool_part (first + record_pool.part_of worker e) (record_pool.stage_of e)) (record_pool.found_or rest))
+      (recorded_pool_event plan place worker (pool_event (due.stage_of e) moment) (answered.Pool r) ++ recorded plan before (unless_found worker moment place (q, found) (look_items worker moment place looks))) (found_or (q, found) (found_by worker moment looks)).1
 
   abbrev RestWhole : pool.PoolState ℕ → ℕ → List PoolStage → Part (Reply ℕ) → Type 0
   RestWhole q before looks rest = Whole rest (recorded plan before (look_items worker moment place looks q)) (found_by worker moment looks q).1
 
-  goes_behind : (s : PoolStage) (r : PoolReply ℕ) (rest : Part (Reply ℕ)) → pool_meaning s r ≡ Finished Nothing → (later : List Made) (given : CallAnswer (Reply ℕ)) → rest later given
-      → and_then (pool_part (object_number place) s) (record_pool.found_or rest) (made_of s r ∷ later) given
-  goes_behind s r rest is later given l = (made_of s r ∷ [], later, Done (Ok Nothing), refl, said s r Nothing is, l)
+  goes_behind : (part : ℕ) (s : PoolStage) (r : PoolReply ℕ) (rest : Part (Reply ℕ)) → pool_meaning s r ≡ Finished Nothing → (later : List Made) (given : CallAnswer (Reply ℕ)) → rest later given
+      → and_then (pool_part (first + part) s) (record_pool.found_or rest) (made_at part s r ∷ later) given
+  goes_behind part s r rest is later given l = (made_at part s r ∷ [], later, Done (Ok Nothing), refl, said part s r Nothing is, l)
 
   look_whole : (e : PoolEvent ℕ) (r : PoolReply ℕ) (q : pool.PoolState ℕ) (before : ℕ) (looks : List PoolStage) (rest : Part (Reply ℕ)) → IsLook e → answers_look r ≡ true → RestWhole q before looks rest → LookWhole e r q before looks rest
   look_whole (pool_events.Put item) r q before looks rest is answers later = absurd is
   look_whole pool_events.Sweep r q before looks rest is answers later = absurd is
-  look_whole pool_events.LookOwn (reply.Item item) q before looks rest is answers later = (made_of stage.LookOwn (reply.Item item) ∷ [], [], Done (Ok (Taken item)), refl, said stage.LookOwn (reply.Item item) (Taken item) refl, (refl, refl))
+  look_whole pool_events.LookOwn (reply.Item item) q before looks rest is answers later =
+      (made_at worker stage.LookOwn (reply.Item item) ∷ [], [], Done (Ok (Taken item)), refl, said worker stage.LookOwn (reply.Item item) (Taken item) refl, (refl, refl))
   look_whole pool_events.LookOwn reply.Nothing q before looks rest is answers later =
-      whole_on (and_then (pool_part (object_number place) stage.LookOwn) (record_pool.found_or rest)) rest (made_of stage.LookOwn reply.Nothing) _ _ (goes_behind stage.LookOwn reply.Nothing rest refl) later
+      whole_on (and_then (pool_part (first + worker) stage.LookOwn) (record_pool.found_or rest)) rest (made_at worker stage.LookOwn reply.Nothing) _ _ (goes_behind worker stage.LookOwn reply.Nothing rest refl) later
   look_whole pool_events.LookOwn r q before looks rest is answers later = no answers
   look_whole (pool_events.LookOther part) (reply.Item item) q before looks rest is answers later =
-      (made_of (stage.LookOther part) (reply.Item item) ∷ [], [], Done (Ok (Taken item)), refl, said (stage.LookOther part) (reply.Item item) (Taken item) refl, (refl, refl))
+      (made_at part (stage.LookOther part) (reply.Item item) ∷ [], [], Done (Ok (Taken item)), refl, said part (stage.LookOther part) (reply.Item item) (Taken item) refl, (refl, refl))
   look_whole (pool_events.LookOther part) reply.Nothing q before looks rest is answers later =
-      whole_on (and_then (pool_part (object_number place) (stage.LookOther part)) (record_pool.found_or rest)) rest (made_of (stage.LookOther part) reply.Nothing) _ _ (goes_behind (stage.LookOther part) reply.Nothing rest refl) later
+      whole_on (and_then (pool_part (first + part) (stage.LookOther part)) (record_pool.found_or rest)) rest (made_at part (stage.LookOther part) reply.Nothing) _ _ (goes_behind part (stage.LookOther part) reply.Nothing rest refl) later
   look_whole (pool_events.LookOther part) r q before looks rest is answers later = no answers
   look_whole (pool_events.LookVictim part) (reply.Item item) q before looks rest is answers later =
-      (made_of (stage.LookVictim part) (reply.Item item) ∷ [], [], Done (Ok (Taken item)), refl, said (stage.LookVictim part) (reply.Item item) (Taken item) refl, (refl, refl))
+      (made_at part (stage.LookVictim part) (reply.Item item) ∷ [], [], Done (Ok (Taken item)), refl, said part (stage.LookVictim part) (reply.Item item) (Taken item) refl, (refl, refl))
   look_whole (pool_events.LookVictim part) reply.Nothing q before looks rest is answers later =
-      whole_on (and_then (pool_part (object_number place) (stage.LookVictim part)) (record_pool.found_or rest)) rest (made_of (stage.LookVictim part) reply.Nothing) _ _ (goes_behind (stage.LookVictim part) reply.Nothing rest refl) later
+      whole_on (and_then (pool_part (first + part) (stage.LookVictim part)) (record_pool.found_or rest)) rest (made_at part (stage.LookVictim part) reply.Nothing) _ _ (goes_behind part (stage.LookVictim part) reply.Nothing rest refl) later
   look_whole (pool_events.LookVictim part) r q before looks rest is answers later = no answers
 
   -- each look of a get is at a part that is there
-  looks_there : (k : ℕ) → IsLook (look n worker k) × IsThere n (look n worker k)
+  looks_there : (k : ℕ) → IsLook (look plan.workers worker k) × IsThere plan.workers (look plan.workers worker k)
   looks_there zero = (tt, tt)
-  looks_there (suc k) = by_test (nat_lt (suc k) n)
+  looks_there (suc k) = by_test (nat_lt (suc k) plan.workers)
     where
-      by_test : (b : Bool) → let e = if b then pool_events.LookOther ((worker + suc k) % n) else pool_events.LookVictim ((worker + suc k) % n) in IsLook e × IsThere n e
-      by_test true = (tt, mod_below (worker + suc k) n (omega (arith, below)))
-      by_test false = (tt, mod_below (worker + suc k) n (omega (arith, below)))
+      by_test : (b : Bool) → let e = if b then pool_events.LookOther ((worker + suc k) % plan.workers) else pool_events.LookVictim ((worker + suc k) % plan.workers) in IsLook e × IsThere plan.workers e
+      by_test true = (tt, mod_below (worker + suc k) plan.workers (omega (arith, below)))
+      by_test false = (tt, mod_below (worker + suc k) plan.workers (omega (arith, below)))
 
   is_event : (e : PoolEvent ℕ) → IsLook e → pool_event (due.stage_of e) moment ≡ e
   is_event (pool_events.Put item) is = refl
@@ -192,33 +196,41 @@ module _ (keeps : PoolKeeps) (plan : Plan) (place worker moment n : ℕ) (below 
   look_answers (pool_events.LookVictim part) r is answers = answers
   look_answers pool_events.Sweep r is answers = absurd is
 
-  get_whole : (numbers : List ℕ) (p : pool.PoolState ℕ) (before : ℕ) → length p.primary ≡ n → length p.victims ≡ n
-      → RestWhole p before (map (λ number. due.stage_of (look n worker number)) numbers) (record_pool.found_by (object_number place) (map (look n worker) numbers))
+  get_whole : (numbers : List ℕ) (p : pool.PoolState ℕ) (before : ℕ) → length p.primary ≡ plan.workers → length p.victims ≡ plan.workers
+      → RestWhole p before (map (λ number. due.stage_of (look plan.workers worker number)) numbers) (record_pool.found_by worker first (map (look plan.workers worker) numbers))
   get_whole [] p before primary victims = (refl, refl)
   get_whole (k ∷ numbers) p before primary victims =
-      let e = look n worker k in
+      let e = look plan.workers worker k in
       let there = looks_there k in
       let x = pool.next p worker (pool_event (due.stage_of e) moment) in
-      let kept = keeps p worker n (pool_event (due.stage_of e) moment) primary victims in
-      let is : answers_look x.1 ≡ true = look_answers e x.1 there.0 (subst (λ (d : PoolEvent ℕ). Answers e (pool.next p worker d).1) (sym (is_event e there.0)) (next_answers n worker p below primary victims e there.1)) in
-      look_whole e x.1 x.0 _ (map (λ number. due.stage_of (look n worker number)) numbers) (record_pool.found_by (object_number place) (map (look n worker) numbers)) there.0 is (get_whole numbers x.0 _ kept.0 kept.1)
+      let kept = keeps p worker plan.workers (pool_event (due.stage_of e) moment) primary victims in
+      let is : answers_look x.1 ≡ true = look_answers e x.1 there.0 (subst (λ (d : PoolEvent ℕ). Answers e (pool.next p worker d).1) (sym (is_event e there.0)) (next_answers plan.workers worker p below primary victims e there.1)) in
+      look_whole e x.1 x.0 _ (map (λ number. due.stage_of (look plan.workers worker number)) numbers) (record_pool.found_by worker first (map (look plan.workers worker) numbers)) there.0 is (get_whole numbers x.0 _ kept.0 kept.1)
 
-  put_whole : (item : ℕ) (r : PoolReply ℕ) → answers_put r ≡ true → Whole (pool_call n worker (object_number place) (pool_calls.Put item)) (made_of (stage.Put item) r ∷ []) (answers.Completed (replies.Pool pool_replies.Done))
-  put_whole item reply.Kept is = (Done (Ok Kept), said (stage.Put item) reply.Kept Kept refl, refl)
-  put_whole item (reply.Dropped other) is = (Done (Ok (Dropped other)), said (stage.Put item) (reply.Dropped other) (Dropped other) refl, refl)
+  put_whole : (item : ℕ) (r : PoolReply ℕ) → answers_put r ≡ true → Whole (pool_call plan.workers worker first (pool_calls.Put item)) (made_at worker (stage.Put item) r ∷ []) (answers.Completed (replies.Pool pool_replies.Done))
+  put_whole item reply.Kept is = (Done (Ok Kept), said worker (stage.Put item) reply.Kept Kept refl, refl)
+  put_whole item (reply.Dropped other) is = (Done (Ok (Dropped other)), said worker (stage.Put item) (reply.Dropped other) (Dropped other) refl, refl)
   put_whole item r is = no is
 
-  sweep_whole : (r : PoolReply ℕ) → r ≡ reply.Swept → Whole (pool_call n worker (object_number place) pool_calls.Sweep) (made_of stage.Sweep r ∷ []) (answers.Completed (replies.Pool pool_replies.Done))
-  sweep_whole r is = subst (λ (r : PoolReply ℕ). Whole (pool_call n worker (object_number place) pool_calls.Sweep) (made_of stage.Sweep r ∷ []) (answers.Completed (replies.Pool pool_replies.Done))) (sym is) (Done (Ok Swept), said stage.Sweep reply.Swept Swept refl, refl)
+  sweeps_whole : (parts : List ℕ) → Whole (record_pool.swept_by first parts) (map (λ part. made_at part stage.Sweep reply.Swept) parts) (answers.Completed (replies.Pool pool_replies.Done))
+  sweeps_whole [] = (refl, refl)
+  sweeps_whole (part ∷ parts) = (made_at part stage.Sweep reply.Swept ∷ [], map (λ part. made_at part stage.Sweep reply.Swept) parts, Done (Ok Swept), refl, said part stage.Sweep reply.Swept Swept refl, sweeps_whole parts)
 
-  abbrev CallWhole : ℕ → ℕ → PoolCall → pool.PoolState ℕ → Type 0
-  CallWhole before callers call p = Whole (pool_call callers worker (object_number place) call) (recorded plan before (pool_items worker moment place call p)) (pool_step worker moment call p).1
+  sweep_whole : (r : PoolReply ℕ) → r ≡ reply.Swept → Whole (pool_call plan.workers worker first pool_calls.Sweep) (recorded_pool_event plan place worker pool_events.Sweep (answered.Pool r) ++ []) (answers.Completed (replies.Pool pool_replies.Done))
+  sweep_whole r is =
+      let parts = range_with_len 0 plan.workers in
+      let made = map (λ part. made_at part stage.Sweep reply.Swept) parts in
+      subst (λ (r : PoolReply ℕ). Whole (record_pool.swept_by first parts) (recorded_pool_event plan place worker pool_events.Sweep (answered.Pool r) ++ []) (answers.Completed (replies.Pool pool_replies.Done))) (sym is)
+      (subst (λ (l : List Made). Whole (record_pool.swept_by first parts) l (answers.Completed (replies.Pool pool_replies.Done))) (sym (append-nil made)) (sweeps_whole parts))
 
-  pub pool_whole : (before : ℕ) (call : PoolCall) (p : pool.PoolState ℕ) → length p.primary ≡ n → length p.victims ≡ n → CallWhole before n call p
-  pool_whole before (pool_calls.Put item) p primary victims = put_whole item (pool.next p worker (pool_events.Put item)).1 (next_answers n worker p below primary victims (pool_events.Put item) tt)
-  pool_whole before pool_calls.Sweep p primary victims = sweep_whole (pool.next p worker pool_events.Sweep).1 (next_answers n worker p below primary victims pool_events.Sweep tt)
+  abbrev CallWhole : ℕ → PoolCall → pool.PoolState ℕ → Type 0
+  CallWhole before call p = Whole (pool_call plan.workers worker first call) (recorded plan before (pool_items worker moment place call p)) (pool_step worker moment call p).1
+
+  pub pool_whole : (before : ℕ) (call : PoolCall) (p : pool.PoolState ℕ) → length p.primary ≡ plan.workers → length p.victims ≡ plan.workers → CallWhole before call p
+  pool_whole before (pool_calls.Put item) p primary victims = put_whole item (pool.next p worker (pool_events.Put item)).1 (next_answers plan.workers worker p below primary victims (pool_events.Put item) tt)
+  pool_whole before pool_calls.Sweep p primary victims = sweep_whole (pool.next p worker pool_events.Sweep).1 (next_answers plan.workers worker p below primary victims pool_events.Sweep tt)
   pool_whole before pool_calls.Get p primary victims =
-      subst (λ (c : ℕ). RestWhole p before (due.looks_of c worker 0 (2 * c)) (record_pool.found_by (object_number place) (record_pool.looks_of n worker))) (sym primary) (get_whole (range_with_len 0 (2 * n)) p before primary victims)
+      subst (λ (c : ℕ). RestWhole p before (due.looks_of c worker 0 (2 * c)) (record_pool.found_by worker first (record_pool.looks_of plan.workers worker))) (sym primary) (get_whole (range_with_len 0 (2 * plan.workers)) p before primary victims)
 
   -- whatever is left behind
   pub whole_tells : (old new : Part (Reply ℕ)) (made : List Made) (a : Answer) → Whole old made a → Tells plan old new made a

@@ -1,5 +1,5 @@
 -- A worker's own turn at the objects of its call.
-use Rattle.std.proofs.Common.{◌≡◌, ℕ, ◌+◌, ◌<◌, true, false, List, [], ◌++◌, map, length, Option, Some, None, refl, sym, ◌∙◌, subst, arith, append-nil}
+use Rattle.std.proofs.Common.{◌≡◌, ℕ, ◌+◌, ◌<◌, true, false, List, [], ◌∷◌, ◌++◌, map, length, Option, Some, None, refl, sym, ap, ◌∙◌, subst, arith, append-nil}
 use Rattle.std.specs.Prelude.{ℤ, Ok, Err, Result}
 use Rattle.std.specs.FinMap.{entries}
 use Rattle.std.specs.Int.{w64, int_wrapping_add}
@@ -30,7 +30,7 @@ use Rattle.protocols.specs.declared.once.OnceOutcome.TheVariants.{Run, Already, 
 use Rattle.protocols.specs.declared.once.OnceStage.{OnceStage}
 use Rattle.run_record.specs.AtomicKind.{adds}
 use Rattle.run_record.specs.MapKind.{cursor_showing, range_call}
-use Rattle.run_record.specs.Objects.{map_number, atomic_number}
+use Rattle.run_record.specs.Objects.{map_number, atomic_number, first_part}
 use Rattle.run_record.specs.OnceKind.{failure}
 use Rattle.run_record.specs.Parts.{returns}
 use Rattle.run_record.specs.PoolKind.{pool_call}
@@ -54,7 +54,7 @@ use Rattle.step_turns.specs.Objects.{kind_of, IsMachineOf}
 use Rattle.step_turns.specs.Stands.{may_wait, IsOutAt}
 use Rattle.step_turns.specs.Turns.{once_made, turn_on, turn_on_both}
 use Rattle.step_spelling.specs.Left.{left_on, left_on_both}
-use Rattle.step_spelling.specs.Recorded.{recorded, made_shared, shared_calls}
+use Rattle.step_spelling.specs.Recorded.{recorded, made_shared, shared_calls, recorded_event, made_on}
 use Rattle.step_spelling.specs.Tells.{Tells}
 use Rattle.step_spelling.specs.Within.{IsIdle, IsOutOfOnce, StandsAtOnce, StandsOn, StandsOnBoth}
 use Rattle.step_spelling.proofs.CondSpelled.{CondBehind, CondStandsAt, cond_tells}
@@ -92,9 +92,10 @@ once_behind operation x o (answers.Misused misuse) new stands idle is = tt
 
 -- the items of a once's stage, in a record
 due_recorded : {T : Type 0} (event : OnceEvent T → ObjectEvent) (answer : OnceReply T → ObjectReply) (plan : Plan) (place worker moment before : ℕ) (stage : Option (OnceStage T)) (o : once.OnceState T)
+    → ((e : OnceEvent T) (r : OnceReply T) → recorded_event plan place worker (event e) (answer r) ≡ made_on plan (object_number place) worker (event e) (answer r) ∷ [])
     → recorded plan before (stage_items event answer once.next once_event worker moment place stage o) ≡ due_made event answer place worker moment stage o
-due_recorded event answer plan place worker moment before None o = refl
-due_recorded event answer plan place worker moment before (Some stage) o = refl
+due_recorded event answer plan place worker moment before None o one = refl
+due_recorded event answer plan place worker moment before (Some stage) o one = ap (λ (l : List Made). l ++ []) (one _ _)
 
 -- a function that does nothing has no items
 nothing_first : {T : Type 0} (made : Result (OnceOutcome T) Answer) (rest : List Made) → before_end [] made ++ rest ≡ rest
@@ -174,7 +175,7 @@ module _ (laws : Laws) (plan : Plan) (worker before place moment : ℕ) where
       (replies.OnceFunc (due.failure code)) (λ kept. replies.OnceFunc (due.failure kept)) refl (λ kept. refl) [] (refl, refl) o stands below in
       let step = turn_on operations.OnceFunc worker moment (states.OnceFunc o code) in (
         subst (λ (l : List Made). Tells plan (left_on plan worker before place operations.OnceFunc (states.OnceFunc o code)) (left_on plan worker (before + length (shared_in l)) place operations.OnceFunc step.0) l step.1)
-            (nothing_first made.1 (due_made events.OnceFunc answered.OnceFunc place worker moment stage o) ∙ sym (due_recorded events.OnceFunc answered.OnceFunc plan place worker moment before stage o)) told.0,
+            (nothing_first made.1 (due_made events.OnceFunc answered.OnceFunc place worker moment stage o) ∙ sym (due_recorded events.OnceFunc answered.OnceFunc plan place worker moment before stage o (λ e r. refl))) told.0,
         once_behind operations.OnceFunc worker made.0 step.1 step.0 (λ stands. stands) (λ idle. idle) told.1,
       )
 
@@ -186,7 +187,7 @@ module _ (laws : Laws) (plan : Plan) (worker before place moment : ℕ) where
       (replies.OnceValue value) replies.OnceValue refl (λ kept. refl) [] (refl, refl) o stands below in
       let step = turn_on operations.OnceValue worker moment (states.OnceValue o value) in (
         subst (λ (l : List Made). Tells plan (left_on plan worker before place operations.OnceValue (states.OnceValue o value)) (left_on plan worker (before + length (shared_in l)) place operations.OnceValue step.0) l step.1)
-            (nothing_first made.1 (due_made events.OnceValue answered.OnceValue place worker moment stage o) ∙ sym (due_recorded events.OnceValue answered.OnceValue plan place worker moment before stage o)) told.0,
+            (nothing_first made.1 (due_made events.OnceValue answered.OnceValue place worker moment stage o) ∙ sym (due_recorded events.OnceValue answered.OnceValue plan place worker moment before stage o (λ e r. refl))) told.0,
         once_behind operations.OnceValue worker made.0 step.1 step.0 (λ stands. stands) (λ idle. idle) told.1,
       )
 
@@ -220,7 +221,7 @@ module _ (laws : Laws) (plan : Plan) (worker before place moment : ℕ) where
   turn_own operations.OnceValue (states.OnceValue o value) has alone below is keys out stands = value_own o value stands (omega (arith, below, is))
   turn_own (operations.Pool call) (states.Pool p) has alone below is keys out stands =
       let step = turn_on (operations.Pool call) worker moment (states.Pool p) in (
-        whole_tells laws.pools plan place worker moment plan.workers below (pool_call plan.workers worker (object_number place) call) _ _ step.1 (pool_whole laws.pools plan place worker moment plan.workers below before call p is.0 is.1),
+        whole_tells laws.pools plan place worker moment below (pool_call plan.workers worker (first_part plan place) call) _ _ step.1 (pool_whole laws.pools plan place worker moment below before call p is.0 is.1),
         behind (operations.Pool call) worker step.1 step.0 tt tt,
       )
   turn_own (operations.Cond call) o has alone below is keys out stands = absurd (cond_refers o call has alone)

@@ -10,6 +10,7 @@ use Rattle.sync_types.specs.declared.call.Operation.{Operation}
 use Rattle.sync_types.specs.declared.call.Operation.TheVariants as operations
 use Rattle.sync_types.specs.declared.call.Reply.{Reply}
 use Rattle.sync_types.specs.declared.map_object.MapCall.{MapCall}
+use Rattle.sync_types.specs.declared.pool_call.PoolCall.{PoolCall}
 use Rattle.protocols.specs.Spelling.{CallAnswer}
 use Rattle.workload.specs.declared.object.ObjectKind.{ObjectKind}
 use Rattle.workload.specs.declared.object.ObjectKind.TheVariants as kinds
@@ -18,10 +19,19 @@ use Rattle.workload.specs.declared.object.ObjectLine.{ObjectLine}
 use Rattle.workload.specs.Keys.{keys_in}
 use Rattle.run_record.specs.AtomicKind.{atomic_call}
 use Rattle.run_record.specs.MapKind.{map_call, range_call}
-use Rattle.run_record.specs.Objects.{map_number, atomic_number}
+use Rattle.run_record.specs.Objects.{map_number, atomic_number, first_part}
+use Rattle.run_record.specs.PoolKind.{pool_call}
 use Rattle.run_record.specs.Calls.{call_on, call_at, SpellsCall}
 use Rattle.thread_objects.specs.AsDeclared.{IsAt}
 use Rattle.kind_calls.specs.Working.{Desk, Works}
+
+-- an object that has a pool's call is a pool
+pool_kind : (kind : ObjectKind) (call : PoolCall) → has_call kind (operations.Pool call) ≡ true → kind ≡ kinds.Pool
+pool_kind kinds.Pool call has = refl
+pool_kind kind call has = absurd (false≢true has)
+
+pub of_pool : (kind : ObjectKind) (operation : Operation) (call : PoolCall) → has_call kind operation ≡ true → operation ≡ operations.Pool call → kind ≡ kinds.Pool
+of_pool kind operation call has is = pool_kind kind call (ap (λ (o : Operation). has_call kind o) (sym is) ∙ has)
 
 -- an object that has an atomic's call is an atomic
 pub atomic_type : (kind : ObjectKind) (call : AtomicCall) → has_call kind (operations.Atomic call) ≡ true → (type : AtomicKind) × (kind ≡ kinds.Atomic type)
@@ -43,6 +53,10 @@ module _ (plan : Plan) (worker before place : ℕ) (old new : Desk) (answer : Ca
   range_made kinds.Map works has = works
   range_made kind works has = absurd (false≢true has)
 
+  pool_made : (kind : ObjectKind) (call : PoolCall) → Works (pool_call plan.workers worker (first_part plan place) call) old answer new → has_call kind (operations.Pool call) ≡ true → MadeOn kind (operations.Pool call)
+  pool_made kinds.Pool call works has = works
+  pool_made kind call works has = absurd (false≢true has)
+
   module _ (kind : ObjectKind) (operation : Operation) (has : has_call kind operation ≡ true) where
     -- the object has the operation, under its own name
     has_own : (own : Operation) → operation ≡ own → has_call kind own ≡ true
@@ -56,6 +70,12 @@ module _ (plan : Plan) (worker before place : ℕ) (old new : Desk) (answer : Ca
 
     pub on_range : operation ≡ operations.Range → Works (range_call (keys_in plan.scripts) (map_number plan.objects place) before) old answer new → MadeOn kind operation
     on_range is works = subst (λ (o : Operation). MadeOn kind o) (sym is) (range_made kind works (has_own operations.Range is))
+
+    -- a call on so many parts, from this object on, which are the pool's
+    pub on_pool : (call : PoolCall) (workers first : ℕ) → plan.workers ≡ workers → first ≡ first_part plan place → operation ≡ operations.Pool call → Works (pool_call workers worker first call) old answer new → MadeOn kind operation
+    on_pool call workers first all from is works =
+        let whole = subst (λ (n : ℕ). Works (pool_call n worker (first_part plan place) call) old answer new) (sym all) (subst (λ (n : ℕ). Works (pool_call workers worker n call) old answer new) from works) in
+        subst (λ (o : Operation). MadeOn kind o) (sym is) (pool_made kind call whole (has_own (operations.Pool call) is))
 
 -- the object of a call that is on one
 on_line : (object : Option ObjectLine) (call : Call) → is_on object call ≡ true → (line : ObjectLine) × (object ≡ Some line) × (has_call line.kind call.operation ≡ true)

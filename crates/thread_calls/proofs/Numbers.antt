@@ -1,4 +1,4 @@
--- How many maps and atomics a workload declares before a place.
+-- How many maps, atomics and pools a workload declares before a place.
 use Rattle.std.proofs.Common.{◌≡◌, ℕ, ◌+◌, ◌<◌, ◌≤◌, Bool, true, false, ◌&&◌, not, cond, List, [], ◌∷◌, ◌++◌, length, take, Some, slice_get, slice_index, refl, sym, ap, ◌∙◌, subst, inl, inr, arith, append_assoc}
 use Rattle.std.specs.Prelude.{nat_lt, is_some, count_by}
 use Rattle.std.proofs.lemmas.Bool.{and_parts, cases_lt, ltb-true}
@@ -13,8 +13,8 @@ use Rattle.workload.specs.declared.object.ObjectWord.TheVariants as words
 use Rattle.workload.specs.Draft.{count_of, count_together, limit_of, is_kind, declared_from}
 use Rattle.workload.specs.Plan.{word_of, refers}
 use Rattle.workload.specs.Readable.{may_join, may_declare}
-use Rattle.run_record.specs.Objects.{is_map, is_atomic, map_number, atomic_number}
-use Rattle.thread_calls.specs.Sites.{shared_number}
+use Rattle.run_record.specs.Objects.{is_map, is_atomic, is_pool, map_number, atomic_number, pool_number}
+use Rattle.thread_calls.specs.Sites.{kind_number, number_at}
 
 -- an object that may be declared keeps the limit of its word
 room_of : (others : List ObjectLine) (o : ObjectLine) → may_join others o ≡ true → count_of (word_of o.kind) others < limit_of (word_of o.kind)
@@ -87,8 +87,18 @@ atomic_limit kind is = absurd cc
 pub few_atomics : (os : List ObjectLine) (i : ℕ) → may_declare [] os ≡ true → atomic_number os i ≤ 64
 few_atomics os i declares = few_before is_atomic (λ kind others is. (same_counts (λ o. count_together (word_of kind) (word_of o.kind)) (λ o. is_atomic o.kind) (atomic_word kind is) others, atomic_limit kind is)) os i declares
 
+pool_word : (o : ObjectLine) → count_together words.Pool (word_of o.kind) ≡ is_pool o.kind
+pool_word o = elim o.kind as (λ kind. count_together words.Pool (word_of kind) ≡ is_pool kind) [ kinds.Pool ↦ refl | _ ↦ refl ]
+
+pools_fit : (kind : ObjectKind) (others : List ObjectLine) → is_pool kind ≡ true → (count_of (word_of kind) others ≡ counted is_pool others) × (limit_of (word_of kind) ≤ 64)
+pools_fit kinds.Pool others is = (same_counts (λ o. count_together words.Pool (word_of o.kind)) (λ o. is_pool o.kind) pool_word others, omega arith)
+pools_fit kind others is = absurd cc
+
+pub few_pools : (os : List ObjectLine) (i : ℕ) → may_declare [] os ≡ true → pool_number os i ≤ 64
+few_pools os i declares = few_before is_pool pools_fit os i declares
+
 abbrev pub number_of : List ObjectLine → ℕ → ObjectLine → ℕ
-number_of objects place object = shared_number (map_number objects place) (atomic_number objects place) object.kind
+number_of objects place object = number_at objects place object.kind
 
 -- one more number at the end
 pub numbered : (objects : List ObjectLine) (i : ℕ) (here : ObjectLine) (numbers : List ℕ) (n : ℕ) → slice_get objects i ≡ Some here → length numbers ≡ i → n ≡ number_of objects i here
@@ -104,5 +114,6 @@ numbered objects i here numbers n at count is each place object below found =
     ]
 
 -- the number of an object behind those that were counted
-pub same_number : (objects : List ObjectLine) (i maps atomics : ℕ) (kind : ObjectKind) → maps ≡ map_number objects i → atomics ≡ atomic_number objects i → shared_number maps atomics kind ≡ shared_number (map_number objects i) (atomic_number objects i) kind
-same_number objects i maps atomics kind m a = ap (λ (n : ℕ). shared_number n atomics kind) m ∙ ap (λ (n : ℕ). shared_number (map_number objects i) n kind) a
+pub same_number : (objects : List ObjectLine) (i maps atomics pools : ℕ) (kind : ObjectKind) → maps ≡ map_number objects i → atomics ≡ atomic_number objects i → pools ≡ pool_number objects i → kind_number maps atomics pools kind ≡ number_at objects i kind
+same_number objects i maps atomics pools kind m a p =
+    ap (λ (n : ℕ). kind_number n atomics pools kind) m ∙ ap (λ (n : ℕ). kind_number (map_number objects i) n pools kind) a ∙ ap (λ (n : ℕ). kind_number (map_number objects i) (atomic_number objects i) n kind) p

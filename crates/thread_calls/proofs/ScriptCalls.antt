@@ -3,7 +3,7 @@ use Rattle.std.proofs.Common.{◌≡◌, ℕ, zero, suc, ◌+◌, ◌^◌, ◌<�
 use Rattle.std.specs.List.{list_all, list_any, flat_map, position_from}
 use Rattle.std.specs.Option.{option_map_or, option_to_list}
 use Rattle.std.specs.Str.{bytes_eq}
-use Rattle.std.proofs.lemmas.Bool.{and_parts, leb-true, false≢true}
+use Rattle.std.proofs.lemmas.Bool.{and_parts, eqb-true, leb-true, false≢true}
 use Rattle.std.proofs.lemmas.List.Folds.{list_any-append}
 use Rattle.std.proofs.lemmas.Option.{slice_get_within, none-some, same_Some}
 use Rattle.std.proofs.lemmas.Slice.Eq.{bytes_eq-Decides}
@@ -64,6 +64,13 @@ module _ (plan : Plan) (worker : ℕ) (call : Call) (scripted : IsScripted plan 
       let on = list_all (list_all (λ (c : Call). is_on (slice_get plan.objects c.object) c)) plan.scripts in
       let rest = list_all (is_turn plan.workers) plan.schedule && list_all (λ (o : ObjectLine). refers plan.objects o.kind) plan.objects in
       of_each (λ c. is_on (slice_get plan.objects c.object) c) (and_parts on rest (and_parts (length plan.scripts == plan.workers) (on && rest) valid).1).0
+
+  -- it is a worker of the run
+  pub worker_within : is_valid plan ≡ true → worker < plan.workers
+  worker_within valid =
+      let on = list_all (list_all (λ (c : Call). is_on (slice_get plan.objects c.object) c)) plan.scripts in
+      let rest = list_all (is_turn plan.workers) plan.schedule && list_all (λ (o : ObjectLine). refers plan.objects o.kind) plan.objects in
+      omega (arith, slice_get_within plan.scripts worker found.0 found.1, eqb-true (length plan.scripts) plan.workers (and_parts (length plan.scripts == plan.workers) (on && rest) valid).0)
 
   pub in_range : IsReadable plan → is_call call ≡ true
   in_range readable = of_each is_call readable.calls

@@ -32,7 +32,7 @@ use Rattle.run_record.specs.OnceKind.{do_call}
 use Rattle.run_record.specs.Objects.{is_map, is_atomic, types_of, map_number, atomic_number}
 use Rattle.thread_objects.specs.AsDeclared.{IsAt}
 use Rattle.kind_calls.specs.Parts.{placed_map}
-use Rattle.thread_calls.specs.Sites.{AreNumbers, AreShared, shared_number}
+use Rattle.thread_calls.specs.Sites.{AreNumbers, AreShared, number_at}
 use Rattle.kind_calls.specs.Working.{Desk, Works}
 use Rattle.thread_calls.proofs.Numbers.{one_more}
 
@@ -68,8 +68,8 @@ module _ (plan : Plan) (place : ℕ) (numbers : List ℕ) (numbered : AreNumbers
   pub has_number : (kind : ObjectKind) → IsAt plan place kind → place < length numbers
   has_number kind is = omega (arith, slice_get_within plan.objects place is.0 is.1, numbered.count)
 
-  pub number_is : (kind : ObjectKind) → IsAt plan place kind → slice_index numbers place ≡ shared_number (map_number plan.objects place) (atomic_number plan.objects place) kind
-  number_is kind is = numbered.each place is.0 is.1 ∙ ap (λ (k : ObjectKind). shared_number (map_number plan.objects place) (atomic_number plan.objects place) k) is.2
+  pub number_is : (kind : ObjectKind) → IsAt plan place kind → slice_index numbers place ≡ number_at plan.objects place kind
+  number_is kind is = numbered.each place is.0 is.1 ∙ ap (λ (k : ObjectKind). number_at plan.objects place k) is.2
 
   module _ (maps : ℕ) (types : List AtomicKind) (takes : ℕ → Type 0) (shared : AreShared plan maps types takes) where
     pub map_within : (n : ℕ) → IsAt plan place kinds.Map → n ≡ slice_index numbers place → n < maps

@@ -14,18 +14,23 @@ use Rattle.workload.specs.Keys.{keys_in}
 use Rattle.workload.specs.Plan.{Plan}
 use Rattle.thread_objects.specs.declared.object.AnyObject.{AnyObject}
 use Rattle.thread_objects.specs.AsDeclared.{AreDeclared}
-use Rattle.run_record.specs.Objects.{is_map, types_of, map_number, atomic_number}
+use Rattle.run_record.specs.Objects.{is_map, types_of, map_number, atomic_number, pool_number}
 
--- the number of a map among so many maps before it, and of an atomic among so many atomics; an object of another kind has none
-abbrev pub shared_number : (maps atomics : ℕ) → ObjectKind → ℕ
-shared_number maps atomics kinds.Map = maps
-shared_number maps atomics (kinds.Atomic type) = atomics
-shared_number maps atomics kind = 0
+-- the number of a map among so many maps before it, of an atomic among so many atomics, and of a pool among so many pools; an object of another kind has none
+abbrev pub kind_number : (maps atomics pools : ℕ) → ObjectKind → ℕ
+kind_number maps atomics pools kinds.Map = maps
+kind_number maps atomics pools (kinds.Atomic type) = atomics
+kind_number maps atomics pools kinds.Pool = pools
+kind_number maps atomics pools kind = 0
 
--- the numbers of a workload's maps and atomics, by place
+-- the number of the object at a place among those of its kind
+abbrev pub number_at : List ObjectLine → ℕ → ObjectKind → ℕ
+number_at objects place kind = kind_number (map_number objects place) (atomic_number objects place) (pool_number objects place) kind
+
+-- the numbers of a workload's maps, atomics and pools, by place
 pub record AreNumbers (objects : List ObjectLine) (numbers : List ℕ) : Type 0 where
   pub count : length numbers ≡ length objects
-  pub each : (place : ℕ) (object : ObjectLine) → slice_get objects place ≡ Some object → slice_index numbers place ≡ shared_number (map_number objects place) (atomic_number objects place) object.kind
+  pub each : (place : ℕ) (object : ObjectLine) → slice_get objects place ≡ Some object → slice_index numbers place ≡ number_at objects place object.kind
 
 -- maps of this number, and atomics of these types, that take these keys, are those of the workload
 pub record AreShared (plan : Plan) (maps : ℕ) (types : List AtomicKind) (takes : ℕ → Type 0) : Type 0 where
@@ -33,7 +38,7 @@ pub record AreShared (plan : Plan) (maps : ℕ) (types : List AtomicKind) (takes
   pub all_types : types ≡ flat_map (λ object. types_of object.kind) plan.objects
   pub keys : (key : ℕ) → key < length (keys_in plan.scripts) → takes key
 
--- what all workers of a run share: its objects, with Stop, as the workload declares them, and its maps and atomics with their numbers
+-- what all workers of a run share: its objects, with Stop, as the workload declares them, its maps and atomics, and the numbers of these and of its pools
 pub record IsSite {N H : Type 0} (at : H → N → Type 0) (home : H) (plan : Plan) (maps : ℕ) (types : List AtomicKind) (takes : ℕ → Type 0) (objects : List (AnyObject N H)) (numbers : List ℕ) : Type 0 where
   pub declared : AreDeclared at home plan objects
   pub shared : AreShared plan maps types takes

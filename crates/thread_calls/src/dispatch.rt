@@ -1,26 +1,29 @@
 //! Each call of a script, by the kind of its object.
-ghost use Rattle.std.specs.Prelude.{◌≡◌, ℕ, ◌+◌, ◌<◌, ◌≤◌, true, List, [], length, vec_len, IfSome, IfNone};
+ghost use Rattle.std.specs.Prelude.{◌≡◌, ℕ, ◌+◌, ◌<◌, ◌≤◌, ◌*◌, ◌^◌, true, List, [], length, vec_len, IfSome, IfNone};
 ghost use Rattle.std.specs.List.{list_any};
 ghost use Rattle.std.specs.Option.{ForSome};
 ghost use Rattle.std.specs.Str.{bytes_eq};
 ghost use Rattle.sync_model.specs.Note.{SameHome};
 ghost use Rattle.sync_model.specs.Shared.{IsCallerAt, items_of};
+ghost use Rattle.workload.specs.declared.object.ObjectKind.TheVariants.{Pool};
 ghost use Rattle.workload.specs.Draft.{all_keys, is_operation, operation_keys};
 ghost use Rattle.workload.specs.Keys.{keys_in};
 ghost use Rattle.workload.specs.Plan.{has_call, refers};
 ghost use Rattle.run_record.specs.Calls.{SpellsCall, call_on};
 ghost use Rattle.run_record.specs.Limits.{IsCallOf};
+ghost use Rattle.run_record.specs.Objects.{first_part, object_count};
 ghost use Rattle.thread_objects.specs.Desks.{AreSeats};
 ghost use Rattle.kind_calls.specs.GivenUp.{GaveUp, MakesOnly};
 ghost use Rattle.thread_objects.specs.Passes.{owns_of};
-ghost use Rattle.thread_calls.specs.Sites.{AreRooms, IsScripted, IsSite, operation_cost, operation_ranges, cost_of_call, ranges_in_call};
+ghost use Rattle.thread_calls.specs.Sites.{AreNumbers, AreRooms, IsScripted, IsSite, operation_cost, operation_ranges, cost_of_call, ranges_in_call};
 ghost use Rattle.thread_objects.specs.AsDeclared.{IsAt};
 ghost use Rattle.kind_calls.specs.Spending.{Spends};
 ghost use Rattle.kind_calls.specs.Working.{Works, desk_with};
 
 use crate::placed_calls::{atomic_at, map_at, once_at, range_at};
 use crate::site::Site;
-use kind_calls::{CallAnswer, object_at, wait_at};
+use kind_calls::{CallAnswer, call_pool, object_at, wait_at};
+use run_record::laws::numbers::parts_have_numbers_of_their_own;
 use std::sync::Wait;
 use sync_model::{Caller, Shared};
 use sync_outside::Clock;
@@ -47,6 +50,29 @@ fn take_room(rooms: &mut Vec<BoundedSeq<(u32, u64)>>) -> BoundedSeq<(u32, u64)>
     rooms.pop().unwrap()
 }
 
+// The number of part 0 of the pool behind so many pools, of a workload with so many objects.
+fn part_behind(objects: usize, pools: u32, workers: u32) -> usize
+    requires { objects + 1 + pools * workers < 2 ^ 63 }
+    ensures { result ≡ objects + 1 + pools * workers }
+{
+    objects + 1 + pools as usize * workers as usize
+}
+
+// The number of the object that is part 0 of the pool at a place.
+fn first_part_of<S: Shared>(site: &Site<S>, place: usize) -> usize
+    requires numbered { AreNumbers site.now.workload.now.objects site.now.numbers.now }
+    requires room { object_count site.now.workload.now ≤ length site.now.objects.now }
+    requires place { IsAt site.now.workload.now place Pool }
+    ensures { result ≡ first_part site.now.workload.now place }
+{
+    parts_have_numbers_of_their_own();
+    let workers = site.workload.workers();
+    let _count = site.objects.len();
+    let pools = site.numbers[place];
+    let lines = site.workload.objects();
+    part_behind(lines.len(), pools, workers)
+}
+
 // Makes a call on the object at a place, which is of this kind and has the call.
 fn call_at<S: Shared, C: Clock, R: Wait>(
     rt: &R,
@@ -62,6 +88,7 @@ fn call_at<S: Shared, C: Clock, R: Wait>(
     requires site { IsSite S.Mark.at worker.now.at.home.now site.now.workload.now (S.maps site.now.shared.now) (S.kinds site.now.shared.now) (S.takes site.now.shared.now) site.now.objects.now site.now.numbers.now }
     requires homes { S.home_of site.now.shared.now ≡ worker.now.at.home.now }
     requires workers { site.now.workload.now.workers ≡ worker.now.workers }
+    requires own { worker.now.number < worker.now.workers }
     requires place { IsAt site.now.workload.now place kind }
     requires call { has_call kind operation.now ≡ true }
     requires reference { refers site.now.workload.now.objects kind ≡ true }
@@ -105,14 +132,22 @@ fn call_at<S: Shared, C: Clock, R: Wait>(
             )),
             _ => unreachable!(),
         },
+        Operation::Pool(call) => Some(call_pool(
+            rt,
+            worker,
+            site.objects,
+            passes,
+            &mut caller.note,
+            first_part_of(site, place),
+            *call,
+        )),
         Operation::Cond(CondCall::Signal)
         | Operation::Cond(CondCall::Broadcast)
         | Operation::Mutex(_)
         | Operation::RwMutex(_)
         | Operation::WaitGroup(_)
         | Operation::OnceFunc
-        | Operation::OnceValue
-        | Operation::Pool(_) => Some(object_at(
+        | Operation::OnceValue => Some(object_at(
             rt,
             worker,
             site.objects,

@@ -27,7 +27,7 @@ module _ {N H : Type 0} (at : H → N → Type 0) (home : H) (workers count : �
   count_in (objects.Once o) (columns.Once ps) is = length-map ps.items passes.Once ∙ is.0.sized
   count_in (objects.OnceFunc o) (columns.OnceFunc ps) is = length-map ps.items passes.OnceFunc ∙ is.0.sized
   count_in (objects.OnceValue o) (columns.OnceValue ps) is = length-map ps.items passes.OnceValue ∙ is.0.sized
-  count_in (objects.Pool o) (columns.Pool ps) is = length-map ps.items passes.Pool ∙ is.0.sized
+  count_in (objects.PoolPart o) (columns.PoolPart ps) is = length-map ps.items passes.PoolPart ∙ is.0.sized
   count_in object column is = absurd is
 
 module _ {N : Type 0} where

@@ -22,4 +22,4 @@ nothing_made (columns.WaitGroup ps) untouched worker = none_made event.WaitGroup
 nothing_made (columns.Once ps) untouched worker = none_made event.Once reply.Once passes.Once (λ pass. refl) ps.items untouched worker
 nothing_made (columns.OnceFunc ps) untouched worker = none_made event.OnceFunc reply.OnceFunc passes.OnceFunc (λ pass. refl) ps.items untouched worker
 nothing_made (columns.OnceValue ps) untouched worker = none_made event.OnceValue reply.OnceValue passes.OnceValue (λ pass. refl) ps.items untouched worker
-nothing_made (columns.Pool ps) untouched worker = none_made event.Pool reply.Pool passes.Pool (λ pass. refl) ps.items untouched worker
+nothing_made (columns.PoolPart ps) untouched worker = none_made event.Pool reply.Pool passes.PoolPart (λ pass. refl) ps.items untouched worker

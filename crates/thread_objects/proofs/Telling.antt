@@ -5,7 +5,10 @@ use Rattle.std.proofs.Math.Seq.{get_or-append_seam}
 use Rattle.std.proofs.lemmas.Option.{slice_get_cases, slice_get_past, slice_get_within}
 use Rattle.sync_types.specs.declared.misuse.Misuse.{Misuse}
 use Rattle.sync_model.specs.Journal.{by, halt_of}
+use Rattle.workload.specs.declared.object.ObjectKind.TheVariants as kinds
+use Rattle.workload.specs.declared.object.ObjectLine.{ObjectLine}
 use Rattle.workload.specs.Plan.{Plan}
+use Rattle.run_record.specs.Objects.{first_part, object_count}
 use Rattle.run_record.specs.Record.{ObjectEntry, stop, object_number}
 use Rattle.thread_objects.specs.declared.column.AnyColumn.{AnyColumn}
 use Rattle.thread_objects.specs.declared.column.AnyColumn.TheVariants as columns
@@ -14,7 +17,7 @@ use Rattle.thread_objects.specs.AsDeclared.{AreDeclared}
 use Rattle.thread_objects.specs.Columns.{AreParts, IsJournalAt, passes_in}
 use Rattle.thread_objects.specs.Rows.{AreJournals, made_on}
 use Rattle.thread_objects.proofs.ColumnLists.{got, got_none, there_is}
-use Rattle.thread_objects.proofs.DeclaredJournals.{of_declared, of_stop}
+use Rattle.thread_objects.proofs.DeclaredJournals.{of_declared, of_part, of_stop}
 use Rattle.thread_objects.proofs.Histories.{History}
 
 module _ {N H : Type 0} (objects : List (AnyObject N H)) (all : List (AnyColumn N)) where
@@ -77,8 +80,8 @@ module _ {N H : Type 0} (objects : List (AnyObject N H)) (all : List (AnyColumn 
 
   -- the journals of all objects
   module _ (at : H → N → Type 0) (home : H) (plan : Plan) (stopped : Option Misuse) (declared : AreDeclared at home plan objects) (sized : length all ≡ length objects) (told : ToldTo stopped (length objects)) where
-    pub are_journals : AreJournals plan told.journals
-    are_journals = record {
+    pub are_journals : ((place part : ℕ) (line : ObjectLine) → slice_get plan.objects place ≡ Some line → line.kind ≡ kinds.Pool → part < plan.workers → first_part plan place + part < object_count plan) → AreJournals plan told.journals
+    are_journals rooms = record {
       count = told.count ∙ declared.count;
       stops =
           let within : stop < length objects = omega (arith, declared.count) in
@@ -91,6 +94,11 @@ module _ {N H : Type 0} (objects : List (AnyObject N H)) (all : List (AnyColumn 
           let object = there_is objects (object_number place) within in
           let column = there_is all (object_number place) (omega (arith, sized, within)) in
           of_declared at home plan place (get_or told.journals (object_number place) []) line.kind object.0 (declared.each place line object.0 here object.1) (told.each (object_number place) object.0 column.0 within object.1 column.1).0;
+      parts = λ place part line here pool below.
+          let within : first_part plan place + part < length objects = omega (arith, declared.count, rooms place part line here pool below) in
+          let object = there_is objects (first_part plan place + part) within in
+          let column = there_is all (first_part plan place + part) (omega (arith, sized, within)) in
+          of_part at home plan place (get_or told.journals (first_part plan place + part) []) object.0 (declared.parts place part line object.0 here pool below object.1) (told.each (first_part plan place + part) object.0 column.0 within object.1 column.1).0;
     }
 
     pub are_parts : (object worker : ℕ) → made_on all object worker ≡ by worker (get_or told.journals object [])

@@ -4,7 +4,7 @@ use Rattle.sync_model.specs.Journal.{by}
 use Rattle.mutex_core.specs.Edges as mutex_edges
 use Rattle.mutex_core.specs.MutexMachine as mutex
 use Rattle.pool_core.specs.Edges.{pool_releases, pool_acquires}
-use Rattle.pool_core.specs.PoolMachine as pool
+use Rattle.pool_core.specs.PartMachine.{part_next}
 use Rattle.rw_core.specs.Edges as rw_edges
 use Rattle.rw_core.specs.RwMachine as rw
 use Rattle.wait_cores.specs.GroupEdges.{group_releases, group_acquires}
@@ -18,7 +18,7 @@ use Rattle.protocols.specs.CondStages.{cond_stands, CondBegins}
 use Rattle.protocols.specs.GroupStages.{GroupBegins}
 use Rattle.protocols.specs.MutexStages.{mutex_stands, MutexBegins}
 use Rattle.protocols.specs.OnceStages.{once_stands, OnceBegins}
-use Rattle.protocols.specs.PoolStages.{pool_stands, PoolBegins}
+use Rattle.protocols.specs.PoolStages.{pool_stands, PartBegins}
 use Rattle.protocols.specs.RwMutexStages.{rw_stands, RwMutexBegins}
 use Rattle.ruled_object.specs.declared.object.Object.{Object}
 use Rattle.ruled_object.specs.declared.pass.Pass.{Pass}
@@ -67,7 +67,7 @@ module _ {N : Type 0} where
   passes_in (columns.Once ps) = map passes.Once ps.items
   passes_in (columns.OnceFunc ps) = map passes.OnceFunc ps.items
   passes_in (columns.OnceValue ps) = map passes.OnceValue ps.items
-  passes_in (columns.Pool ps) = map passes.Pool ps.items
+  passes_in (columns.PoolPart ps) = map passes.PoolPart ps.items
 
   -- nobody made an entry
   abbrev pub IsUntouched : AnyColumn N → Type 0
@@ -80,7 +80,7 @@ module _ {N : Type 0} where
   IsUntouched (columns.Once ps) = AreUntouched ps.items
   IsUntouched (columns.OnceFunc ps) = AreUntouched ps.items
   IsUntouched (columns.OnceValue ps) = AreUntouched ps.items
-  IsUntouched (columns.Pool ps) = AreUntouched ps.items
+  IsUntouched (columns.PoolPart ps) = AreUntouched ps.items
 
 module _ {N H : Type 0} (at : H → N → Type 0) (home : H) (workers count : ℕ) where
   -- These are the passes of the object's first workers, so many of all. There is room for all, in memory that is taken.
@@ -94,7 +94,7 @@ module _ {N H : Type 0} (at : H → N → Type 0) (home : H) (workers count : �
   IsColumnOf (objects.Once o) (columns.Once ps) = AreSeated OnceBegins (false, false) once_stands at home workers count o ps.items × (workers ≤ vec_capacity ps)
   IsColumnOf (objects.OnceFunc o) (columns.OnceFunc ps) = AreSeated OnceBegins (false, false) once_stands at home workers count o ps.items × (workers ≤ vec_capacity ps)
   IsColumnOf (objects.OnceValue o) (columns.OnceValue ps) = AreSeated OnceBegins (false, false) once_stands at home workers count o ps.items × (workers ≤ vec_capacity ps)
-  IsColumnOf (objects.Pool o) (columns.Pool ps) = AreSeated PoolBegins tt pool_stands at home workers count o ps.items × (workers ≤ vec_capacity ps)
+  IsColumnOf (objects.PoolPart o) (columns.PoolPart ps) = AreSeated PartBegins tt pool_stands at home workers count o ps.items × (workers ≤ vec_capacity ps)
   IsColumnOf object column = ⊥
 
 -- the journal is one of the object: it follows the machine from the state in which the object began, and keeps the edge law
@@ -108,7 +108,7 @@ IsJournalAt (objects.WaitGroup o) journal = FollowsFrom event.WaitGroup reply.Wa
 IsJournalAt (objects.Once o) journal = FollowsFrom event.Once reply.Once once.next once_releases once_acquires (start_of o) journal
 IsJournalAt (objects.OnceFunc o) journal = FollowsFrom event.OnceFunc reply.OnceFunc once.next once_releases once_acquires (start_of o) journal
 IsJournalAt (objects.OnceValue o) journal = FollowsFrom event.OnceValue reply.OnceValue once.next once_releases once_acquires (start_of o) journal
-IsJournalAt (objects.Pool o) journal = FollowsFrom event.Pool reply.Pool pool.next pool_releases pool_acquires (start_of o) journal
+IsJournalAt (objects.PoolPart o) journal = FollowsFrom event.Pool reply.Pool part_next pool_releases pool_acquires (start_of o) journal
 
 -- each worker's entries in the journal are those of its pass, and nobody else has any
 abbrev pub AreParts : {N : Type 0} → List ObjectEntry → List (AnyPass N) → Type 0

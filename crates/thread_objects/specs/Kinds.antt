@@ -37,11 +37,11 @@ module _ {N H : Type 0} where
   IsOnceValue (objects.OnceValue o) = Unit {0}
   IsOnceValue object = ⊥
 
-  abbrev pub IsPool : AnyObject N H → Type 0
-  IsPool (objects.Pool o) = Unit {0}
-  IsPool object = ⊥
+  abbrev pub IsPoolPart : AnyObject N H → Type 0
+  IsPoolPart (objects.PoolPart o) = Unit {0}
+  IsPoolPart object = ⊥
 
-  -- it is of the kind that was declared. Maps and atomics are shared as one, which isn't here
+  -- it is of the kind that was declared. Maps and atomics are shared as one, which isn't here, and of a pool there are only the parts
   abbrev pub IsOfKind : ObjectKind → AnyObject N H → Type 0
   IsOfKind kinds.Map object = Unit {0}
   IsOfKind (kinds.Atomic type) object = Unit {0}
@@ -52,4 +52,4 @@ module _ {N H : Type 0} where
   IsOfKind (kinds.Once atomic delta) object = IsOnce object
   IsOfKind (kinds.OnceFunc code) object = IsOnceFunc object
   IsOfKind (kinds.OnceValue value) object = IsOnceValue object
-  IsOfKind kinds.Pool object = IsPool object
+  IsOfKind kinds.Pool object = Unit {0}

@@ -4,7 +4,7 @@ use Rattle.protocols.specs.CondStages.{cond_stands, CondBegins}
 use Rattle.protocols.specs.GroupStages.{GroupBegins}
 use Rattle.protocols.specs.MutexStages.{mutex_stands, MutexBegins}
 use Rattle.protocols.specs.OnceStages.{once_stands, OnceBegins}
-use Rattle.protocols.specs.PoolStages.{pool_stands, PoolBegins}
+use Rattle.protocols.specs.PoolStages.{pool_stands, PartBegins}
 use Rattle.protocols.specs.RwMutexStages.{rw_stands, RwMutexBegins}
 use Rattle.wait_cores.specs.GroupStanding.{waits_after}
 use Rattle.ruled_object.specs.declared.pass.Pass.{Pass}
@@ -38,7 +38,7 @@ own_of (passes.WaitGroup p) = own_as event.WaitGroup reply.WaitGroup p
 own_of (passes.Once p) = own_as event.Once reply.Once p
 own_of (passes.OnceFunc p) = own_as event.OnceFunc reply.OnceFunc p
 own_of (passes.OnceValue p) = own_as event.OnceValue reply.OnceValue p
-own_of (passes.Pool p) = own_as event.Pool reply.Pool p
+own_of (passes.PoolPart p) = own_as event.Pool reply.Pool p
 
 -- the entries that a worker with these passes made on each object
 abbrev pub owns_of : {N : Type 0} → List (AnyPass N) → ℕ → List ObjectEntry
@@ -56,5 +56,5 @@ module _ {N H : Type 0} (at : H → N → Type 0) (home : H) (workers worker : �
   IsSeatAt (objects.Once o) (passes.Once p) = IsSeat OnceBegins (false, false) once_stands at home workers worker o p
   IsSeatAt (objects.OnceFunc o) (passes.OnceFunc p) = IsSeat OnceBegins (false, false) once_stands at home workers worker o p
   IsSeatAt (objects.OnceValue o) (passes.OnceValue p) = IsSeat OnceBegins (false, false) once_stands at home workers worker o p
-  IsSeatAt (objects.Pool o) (passes.Pool p) = IsSeat PoolBegins tt pool_stands at home workers worker o p
+  IsSeatAt (objects.PoolPart o) (passes.PoolPart p) = IsSeat PartBegins tt pool_stands at home workers worker o p
   IsSeatAt object pass = ⊥

@@ -5,7 +5,7 @@
 /// stand in this one list.
 macro_rules! by_kind {
     ($($all:tt)*) => {
-        arms!([Stop Mutex RwMutex Cond WaitGroup Once OnceFunc OnceValue Pool] $($all)*)
+        arms!([Stop Mutex RwMutex Cond WaitGroup Once OnceFunc OnceValue PoolPart] $($all)*)
     };
 }
 

@@ -1,7 +1,7 @@
 //! All passes of one object of a run, in order of worker.
 use crate::stop::StopCore;
 use mutex_core::MutexCore;
-use pool_core::PoolCore;
+use pool_core::PartCore;
 use ruled_object::PassOf;
 use rw_core::RwCore;
 use wait_cores::{GroupCore, NotifyCore, OnceCore};
@@ -20,5 +20,5 @@ pub enum AnyColumn<N> {
     Once(Vec<PassOf<OnceCore<i64>, N>>),
     OnceFunc(Vec<PassOf<OnceCore<u32>, N>>),
     OnceValue(Vec<PassOf<OnceCore<u64>, N>>),
-    Pool(Vec<PassOf<PoolCore, N>>),
+    PoolPart(Vec<PassOf<PartCore, N>>),
 }

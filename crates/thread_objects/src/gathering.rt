@@ -9,6 +9,7 @@ use crate::column::AnyColumn;
 use crate::crew::Crew;
 use crate::first_halt::first_halt;
 use crate::object::AnyObject;
+use run_record::laws::numbers::parts_have_numbers_of_their_own;
 use sync_model::Note;
 use sync_types::Misuse;
 use workload::Workload;
@@ -28,6 +29,7 @@ pub fn journals<N: Note>(
     ensures journals { (journals : List (List ObjectEntry)) × AreJournals _workload.now journals × (result ≡ halt_of (get_or journals stop []))
         × ((object worker : ℕ) → made_on columns.old object worker ≡ by worker (get_or journals object [])) }
 {
+    parts_have_numbers_of_their_own();
     let stopped = first_halt(crew, &objects[0], &mut columns[0]);
     for number in 1..objects.len() {
         first_halt(crew, &objects[number], &mut columns[number]);

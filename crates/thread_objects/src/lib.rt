@@ -22,7 +22,7 @@ pub use column::AnyColumn;
 pub use crew::Crew;
 pub use gathering::journals;
 pub use halting::halt_any;
-pub use making::{make_object, make_stop};
+pub use making::{make_object, make_part, make_stop};
 pub use object::AnyObject;
 pub use pass::AnyPass;
 pub use rows::{deal_row, put_row};

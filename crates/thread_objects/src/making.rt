@@ -3,7 +3,7 @@ ghost use Rattle.std.specs.Prelude.{◌≡◌, ℕ, ◌<◌, ◌≤◌, true, []
 ghost use Rattle.workload.specs.declared.object.ObjectLine.{ObjectLine};
 ghost use Rattle.workload.specs.Draft.{is_kind};
 ghost use Rattle.run_record.specs.WaitGroupKind.{group_start};
-ghost use Rattle.thread_objects.specs.AsDeclared.{IsDeclared, IsStopOf};
+ghost use Rattle.thread_objects.specs.AsDeclared.{IsDeclared, IsPartOf, IsStopOf};
 ghost use Rattle.thread_objects.specs.Columns.{IsColumnOf, IsUntouched, passes_in};
 ghost use Rattle.thread_objects.specs.Passes.{owns_of};
 
@@ -12,7 +12,7 @@ use crate::crew::Crew;
 use crate::object::AnyObject;
 use crate::seated::begin;
 use mutex_core::MutexCore;
-use pool_core::PoolCore;
+use pool_core::PartCore;
 use rw_core::RwCore;
 use std::alloc::{AllocError, Global};
 use sync_model::Note;
@@ -50,16 +50,16 @@ fn new_group(alloc: Global, workers: u32, start: u32) -> Result<GroupCore, Alloc
 fn make_kind<N: Note>(
     alloc: Global,
     crew: &Crew<N>,
-    workload: &Workload,
-    place: usize,
+    _workload: &Workload,
+    _place: usize,
     kind: ObjectKind,
     note: N,
 ) -> Result<(AnyObject<N>, AnyColumn<N>), AllocError>
     requires workers { (0 < crew.now.workers) × (crew.now.workers ≤ 64) }
-    requires same { crew.now.workers ≡ workload.now.workers }
+    requires same { crew.now.workers ≡ _workload.now.workers }
     requires home { N.at crew.now.home.now note }
     requires kind { is_kind kind ≡ true }
-    ensures declared { IfOk result (λ made. IsDeclared N.at crew.now.home.now workload.now place kind made.0) }
+    ensures declared { IfOk result (λ made. IsDeclared N.at crew.now.home.now _workload.now _place kind made.0) }
     ensures column { IfOk result (λ made. IsColumnOf N.at crew.now.home.now crew.now.workers crew.now.workers made.0 made.1) }
     ensures untouched { IfOk result (λ made. IsUntouched made.1) }
 {
@@ -101,16 +101,12 @@ fn make_kind<N: Note>(
             let (object, passes) = begin(alloc, crew, core, note)?;
             Ok((AnyObject::OnceValue(object), AnyColumn::OnceValue(passes)))
         }
-        ObjectKind::Pool => {
-            let core = PoolCore::new(alloc, crew.workers, workload.puts_at(place))?;
-            let (object, passes) = begin(alloc, crew, core, note)?;
-            Ok((AnyObject::Pool(object), AnyColumn::Pool(passes)))
-        }
+        ObjectKind::Pool => Ok((AnyObject::Shared, AnyColumn::None(crew.workers))),
     }
 }
 
 /// The object that the workload declares at this place, as it begins, and a pass of each worker to it. It keeps `note` for
-/// what calls leave. A pool has room for all items that the workload's scripts put into it. No other call takes memory.
+/// what calls leave. No other call takes memory. Of a map, an atomic and a pool nothing is here.
 pub fn make_object<N: Note>(
     alloc: Global,
     crew: &Crew<N>,
@@ -129,4 +125,25 @@ pub fn make_object<N: Note>(
     let kind = workload.objects()[place].kind;
     let (object, column) = make_kind(alloc, crew, workload, place, kind, note)?;
     Ok((object, column))
+}
+
+/// A part of the pool that the workload declares at this place, as it begins, and a pass of each worker. It keeps `note` for what
+/// calls leave, and has room for all items that the workload's scripts put into the pool. No other call takes memory.
+pub fn make_part<N: Note>(
+    alloc: Global,
+    crew: &Crew<N>,
+    workload: &Workload,
+    place: usize,
+    note: N,
+) -> Result<(AnyObject<N>, AnyColumn<N>), AllocError>
+    requires workers { crew.now.workers ≡ workload.now.workers }
+    requires home { N.at crew.now.home.now note }
+    ensures part { IfOk result (λ made. IsPartOf N.at crew.now.home.now workload.now place made.0) }
+    ensures column { IfOk result (λ made. IsColumnOf N.at crew.now.home.now crew.now.workers crew.now.workers made.0 made.1) }
+    ensures untouched { IfOk result (λ made. (worker : ℕ) → owns_of (passes_in made.1) worker ≡ []) }
+{
+    let _workers = workload.workers();
+    let core = PartCore::new(alloc, workload.puts_at(place))?;
+    let (object, passes) = begin(alloc, crew, core, note)?;
+    Ok((AnyObject::PoolPart(object), AnyColumn::PoolPart(passes)))
 }

@@ -1,7 +1,7 @@
 //! The objects of a run.
 use crate::stop::StopCore;
 use mutex_core::MutexCore;
-use pool_core::PoolCore;
+use pool_core::PartCore;
 use ruled_object::Object;
 use rw_core::RwCore;
 use sync_model::Note;
@@ -10,7 +10,7 @@ use wait_cores::{GroupCore, NotifyCore, OnceCore};
 /// An object of a run, of whatever kind. A kind is a line here, and one in `AnyPass`.
 #[derive(Drop)]
 pub enum AnyObject<N: Note> {
-    /// A map or an atomic. All of them are shared as one, which isn't here.
+    /// A map or an atomic: all of them are shared as one, which isn't here. Or a pool, of which there are only the parts.
     Shared,
     Stop(Object<StopCore, N>),
     Mutex(Object<MutexCore, N>),
@@ -20,5 +20,6 @@ pub enum AnyObject<N: Note> {
     Once(Object<OnceCore<i64>, N>),
     OnceFunc(Object<OnceCore<u32>, N>),
     OnceValue(Object<OnceCore<u64>, N>),
-    Pool(Object<PoolCore, N>),
+    /// One part of a pool, which is an object of its own.
+    PoolPart(Object<PartCore, N>),
 }

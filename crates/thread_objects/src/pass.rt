@@ -1,7 +1,7 @@
 //! The passes of one worker.
 use crate::stop::StopCore;
 use mutex_core::MutexCore;
-use pool_core::PoolCore;
+use pool_core::PartCore;
 use ruled_object::PassOf;
 use rw_core::RwCore;
 use wait_cores::{GroupCore, NotifyCore, OnceCore};
@@ -9,7 +9,7 @@ use wait_cores::{GroupCore, NotifyCore, OnceCore};
 /// A worker's pass to an object of a run, of whatever kind.
 #[derive(Drop)]
 pub enum AnyPass<N> {
-    /// To a map or an atomic, or a pass that was taken out for a while.
+    /// To a map, an atomic or a pool, or a pass that was taken out for a while.
     None,
     Stop(PassOf<StopCore, N>),
     Mutex(PassOf<MutexCore, N>),
@@ -19,5 +19,5 @@ pub enum AnyPass<N> {
     Once(PassOf<OnceCore<i64>, N>),
     OnceFunc(PassOf<OnceCore<u32>, N>),
     OnceValue(PassOf<OnceCore<u64>, N>),
-    Pool(PassOf<PoolCore, N>),
+    PoolPart(PassOf<PartCore, N>),
 }

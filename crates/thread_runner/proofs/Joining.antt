@@ -129,6 +129,7 @@ module _ (plan : Plan) (history : List SharedEntry) (journals : List (List Objec
     objects = all.objects.count;
     stops = all.objects.stops;
     journals = all.objects.each;
+    parts = all.objects.parts;
     once = once;
     fronts = record { rises = rises; own = own; made = made };
   }

@@ -1,41 +1,49 @@
 -- Objects and their columns, one after the other.
-use Rattle.std.proofs.Common.{◌≡◌, ℕ, zero, suc, ◌+◌, ◌<◌, ◌≤◌, List, [], ◌∷◌, ◌++◌, length, get_or, Some, None, ◌⊎◌, inl, inr, slice_get, refl, sym, ap, ◌∙◌, subst, arith}
+use Rattle.std.proofs.Common.{◌≡◌, ℕ, zero, suc, ◌+◌, ◌<◌, ◌≤◌, Bool, true, false, cond, List, [], ◌∷◌, ◌++◌, length, get_or, Some, None, ◌⊎◌, inl, inr, slice_get, refl, sym, ap, ◌∙◌, subst, arith}
+use Rattle.std.proofs.lemmas.Bool.{false≢true}
 use Rattle.std.proofs.lemmas.List.{length_push, get_or_past}
 use Rattle.std.proofs.lemmas.Option.{none-some, same_Some, slice_get_cases, slice_get_within, get_or_from_slice_get}
+use Rattle.workload.specs.declared.object.ObjectKind.{ObjectKind}
+use Rattle.workload.specs.declared.object.ObjectKind.TheVariants.{Pool}
 use Rattle.workload.specs.declared.object.ObjectLine.{ObjectLine}
 use Rattle.workload.specs.Plan.{Plan}
+use Rattle.run_record.specs.Objects.{is_pool, first_part, object_count}
 use Rattle.run_record.specs.Record.{stop, object_number}
 use Rattle.thread_objects.specs.declared.column.AnyColumn.{AnyColumn}
 use Rattle.thread_objects.specs.declared.column.AnyColumn.TheVariants as columns
 use Rattle.thread_objects.specs.declared.object.AnyObject.{AnyObject}
-use Rattle.thread_objects.specs.AsDeclared.{IsStopOf, IsDeclared, AreDeclared}
+use Rattle.thread_objects.specs.AsDeclared.{IsStopOf, IsDeclared, IsPartOf, AreDeclared}
 use Rattle.thread_objects.specs.Columns.{IsColumnOf, passes_in}
 use Rattle.thread_objects.specs.Passes.{owns_of}
 use Rattle.thread_objects.specs.Rows.{AreColumns, made_on}
-use Rattle.thread_runner.specs.Dealing.{MadeNothingFrom}
+use Rattle.thread_runner.specs.Dealing.{AreMade, MadeNothingFrom}
 use Rattle.thread_runner.proofs.Dealt.{pushed_at}
 
-module _ {N H : Type 0} (at : H → N → Type 0) (home : H) (workers : ℕ) (plan : Plan) where
-  -- Stop and so many objects of the workload, each with the passes of all workers, none of whom made an entry
-  pub record AreMade (count : ℕ) (objects : List (AnyObject N H)) (all : List (AnyColumn N)) : Type 0 where
-    pub objects_count : length objects ≡ count + 1
-    pub columns_count : length all ≡ count + 1
-    pub stops : (object : AnyObject N H) → slice_get objects stop ≡ Some object → IsStopOf at home workers object
-    pub declared : (place : ℕ) (line : ObjectLine) (object : AnyObject N H) → slice_get plan.objects place ≡ Some line → slice_get objects (object_number place) ≡ Some object → IsDeclared at home plan place line.kind object
-    pub columns : (number : ℕ) (object : AnyObject N H) (column : AnyColumn N) → slice_get objects number ≡ Some object → slice_get all number ≡ Some column → IsColumnOf at home workers workers object column
-    pub nothing : (number : ℕ) (column : AnyColumn N) (worker : ℕ) → slice_get all number ≡ Some column → owns_of (passes_in column) worker ≡ []
+-- an object that has some part is a pool
+pub some_parts : (pool : Bool) (workers part : ℕ) → part < cond pool workers 0 → (pool ≡ true) × (part < workers)
+some_parts true workers part below = (refl, below)
+some_parts false workers part below = absurd (omega (arith, below))
 
-  pub first_made : (object : AnyObject N H) (column : AnyColumn N) → IsStopOf at home workers object → IsColumnOf at home workers workers object column → ((worker : ℕ) → owns_of (passes_in column) worker ≡ []) → AreMade 0 (object ∷ []) (column ∷ [])
+pub of_pool : (kind : ObjectKind) → is_pool kind ≡ true → kind ≡ Pool
+of_pool Pool is = refl
+of_pool kind is = absurd (false≢true is)
+
+module _ {N H : Type 0} (at : H → N → Type 0) (home : H) (workers : ℕ) (plan : Plan) where
+  pub first_made : (object : AnyObject N H) (column : AnyColumn N) → IsStopOf at home workers object → IsColumnOf at home workers workers object column → ((worker : ℕ) → owns_of (passes_in column) worker ≡ []) → AreMade at home workers plan 1 (object ∷ []) (column ∷ [])
   first_made object column is seated none = record {
     objects_count = refl;
     columns_count = refl;
     stops = λ other at_other. subst (λ o. IsStopOf at home workers o) (same_Some object other at_other) is;
     declared = λ place line other at_line at_other. absurd (past place other at_other);
+    parts = λ place part line other at_line pool below at_other. absurd (beyond place part other at_other);
     columns = one;
     nothing = empty;
   } where
     past : (place : ℕ) (other : AnyObject N H) → slice_get (object ∷ []) (object_number place) ≡ Some other → ⊥
     past place other found = let within = slice_get_within (object ∷ []) (object_number place) other found in absurd (omega (arith, within))
+
+    beyond : (place part : ℕ) (other : AnyObject N H) → slice_get (object ∷ []) (first_part plan place + part) ≡ Some other → ⊥
+    beyond place part other found = let within = slice_get_within (object ∷ []) (first_part plan place + part) other found in absurd (omega (arith, within))
 
     one : (number : ℕ) (o : AnyObject N H) (c : AnyColumn N) → slice_get (object ∷ []) number ≡ Some o → slice_get (column ∷ []) number ≡ Some c → IsColumnOf at home workers workers o c
     one zero o c at_o at_c = subst (λ k. IsColumnOf at home workers workers o k) (same_Some column c at_c) (subst (λ k. IsColumnOf at home workers workers k column) (same_Some object o at_o) seated)
@@ -45,27 +53,55 @@ module _ {N H : Type 0} (at : H → N → Type 0) (home : H) (workers : ℕ) (pl
     empty zero c worker at_c = subst (λ k. owns_of (passes_in k) worker ≡ []) (same_Some column c at_c) (none worker)
     empty (suc n) c worker at_c = absurd (none-some c at_c)
 
-  pub next_made : (count : ℕ) (objects : List (AnyObject N H)) (all : List (AnyColumn N)) (object : AnyObject N H) (column : AnyColumn N) → AreMade count objects all
-      → ((line : ObjectLine) → slice_get plan.objects count ≡ Some line → IsDeclared at home plan count line.kind object) → IsColumnOf at home workers workers object column → ((worker : ℕ) → owns_of (passes_in column) worker ≡ [])
-      → AreMade (count + 1) (objects ++ object ∷ []) (all ++ column ∷ [])
-  next_made count objects all object column made is seated none = record {
+  -- the object is the one with this number
+  pub record IsNumbered (number : ℕ) (object : AnyObject N H) : Type 0 where
+    pub declared : (place : ℕ) (line : ObjectLine) → slice_get plan.objects place ≡ Some line → object_number place ≡ number → IsDeclared at home plan place line.kind object
+    pub part : (place part : ℕ) (line : ObjectLine) → slice_get plan.objects place ≡ Some line → line.kind ≡ Pool → part < plan.workers → first_part plan place + part ≡ number → IsPartOf at home plan place object
+
+  pub at_place : (count : ℕ) (object : AnyObject N H) → count < length plan.objects → ((line : ObjectLine) → slice_get plan.objects count ≡ Some line → IsDeclared at home plan count line.kind object) → IsNumbered (count + 1) object
+  at_place count object within is = record {
+    declared = λ place line at_line number.
+        let here : count ≡ place = omega (arith, number) in
+        subst (λ n. IsDeclared at home plan n line.kind object) here (is line (ap (λ n. slice_get plan.objects n) here ∙ at_line));
+    part = λ place part line at_line pool below number. absurd (omega (arith, within, number));
+  }
+
+  -- each part has a number of its own
+  abbrev pub AreApart : Type 0
+  AreApart = (place other part another : ℕ) (line one : ObjectLine) → slice_get plan.objects place ≡ Some line → line.kind ≡ Pool → part < plan.workers → slice_get plan.objects other ≡ Some one → one.kind ≡ Pool → another < plan.workers
+      → first_part plan place + part ≡ first_part plan other + another → (place ≡ other) × (part ≡ another)
+
+  pub at_part : AreApart → (place part : ℕ) (line : ObjectLine) (object : AnyObject N H) → slice_get plan.objects place ≡ Some line → line.kind ≡ Pool → part < plan.workers → IsPartOf at home plan place object → IsNumbered (first_part plan place + part) object
+  at_part apart place part line object at_line pool below is = record {
+    declared = λ other one at_other number. absurd (omega (arith, slice_get_within plan.objects other one at_other, number));
+    part = λ other another one at_other also under number. subst (λ n. IsPartOf at home plan n object) (apart place other part another line one at_line pool below at_other also under (sym number)).0 is;
+  }
+
+  pub next_made : (count : ℕ) (objects : List (AnyObject N H)) (all : List (AnyColumn N)) (object : AnyObject N H) (column : AnyColumn N) → 0 < count → AreMade at home workers plan count objects all
+      → IsNumbered count object → IsColumnOf at home workers workers object column → ((worker : ℕ) → owns_of (passes_in column) worker ≡ [])
+      → AreMade at home workers plan (count + 1) (objects ++ object ∷ []) (all ++ column ∷ [])
+  next_made count objects all object column some made is seated none = record {
     objects_count = length_push objects object ∙ ap (λ n. n + 1) made.objects_count;
     columns_count = length_push all column ∙ ap (λ n. n + 1) made.columns_count;
     stops = λ other found. stops_by other (pushed_at objects object other stop found);
     declared = λ place line other at_line found. declared_by place line other at_line (pushed_at objects object other (object_number place) found);
+    parts = λ place part line other at_line pool below found. parts_by place part line other at_line pool below (pushed_at objects object other (first_part plan place + part) found);
     columns = λ number o c at_o at_c. columns_by number o c (pushed_at objects object o number at_o) (pushed_at all column c number at_c);
     nothing = λ number c worker found. nothing_by number c worker (pushed_at all column c number found);
   } where
     stops_by : (other : AnyObject N H) → (slice_get objects stop ≡ Some other) ⊎ ((stop ≡ length objects) × (object ≡ other)) → IsStopOf at home workers other
     stops_by other (inl found) = made.stops other found
-    stops_by other (inr (behind, same)) = let long = made.objects_count in absurd (omega (arith, behind, long))
+    stops_by other (inr (behind, same)) = let long = made.objects_count in absurd (omega (arith, some, behind, long))
 
     declared_by : (place : ℕ) (line : ObjectLine) (other : AnyObject N H) → slice_get plan.objects place ≡ Some line → (slice_get objects (object_number place) ≡ Some other) ⊎ ((object_number place ≡ length objects) × (object ≡ other)) → IsDeclared at home plan place line.kind other
     declared_by place line other at_line (inl found) = made.declared place line other at_line found
     declared_by place line other at_line (inr (behind, same)) =
-        let long = made.objects_count in
-        let here : count ≡ place = omega (arith, behind, long) in
-        subst (λ o. IsDeclared at home plan place line.kind o) same (subst (λ n. IsDeclared at home plan n line.kind object) here (is line (ap (λ n. slice_get plan.objects n) here ∙ at_line)))
+        subst (λ o. IsDeclared at home plan place line.kind o) same (is.declared place line at_line (behind ∙ made.objects_count))
+
+    parts_by : (place part : ℕ) (line : ObjectLine) (other : AnyObject N H) → slice_get plan.objects place ≡ Some line → line.kind ≡ Pool → part < plan.workers
+        → (slice_get objects (first_part plan place + part) ≡ Some other) ⊎ ((first_part plan place + part ≡ length objects) × (object ≡ other)) → IsPartOf at home plan place other
+    parts_by place part line other at_line pool below (inl found) = made.parts place part line other at_line pool below found
+    parts_by place part line other at_line pool below (inr (behind, same)) = subst (λ o. IsPartOf at home plan place o) same (is.part place part line at_line pool below (behind ∙ made.objects_count))
 
     columns_by : (number : ℕ) (o : AnyObject N H) (c : AnyColumn N) → (slice_get objects number ≡ Some o) ⊎ ((number ≡ length objects) × (object ≡ o)) → (slice_get all number ≡ Some c) ⊎ ((number ≡ length all) × (column ≡ c)) → IsColumnOf at home workers workers o c
     columns_by number o c (inl at_o) (inl at_c) = made.columns number o c at_o at_c
@@ -77,12 +113,13 @@ module _ {N H : Type 0} (at : H → N → Type 0) (home : H) (workers : ℕ) (pl
     nothing_by number c worker (inl found) = made.nothing number c worker found
     nothing_by number c worker (inr (behind, same)) = subst (λ k. owns_of (passes_in k) worker ≡ []) same (none worker)
 
-  module _ (objects : List (AnyObject N H)) (all : List (AnyColumn N)) (made : AreMade (length plan.objects) objects all) where
+  module _ (objects : List (AnyObject N H)) (all : List (AnyColumn N)) (made : AreMade at home workers plan (object_count plan) objects all) where
     pub all_declared : workers ≡ plan.workers → AreDeclared at home plan objects
     all_declared same = record {
       count = made.objects_count;
       stops = λ object found. subst (λ n. IsStopOf at home n object) same (made.stops object found);
       each = made.declared;
+      parts = made.parts;
     }
 
     pub all_columns : AreColumns at home workers workers objects all

@@ -1,7 +1,7 @@
-//! What a workload asks of its maps and atomics.
+//! What a workload asks of its maps, atomics and pools.
 ghost use Rattle.std.specs.Prelude.{◌≡◌, ℕ, ◌+◌, ◌<◌, ◌≤◌, ◌^◌, ◌++◌, ◌∷◌, [], cond, length, get_or, slice_index, count_by, IfOk, OnOk};
 ghost use Rattle.std.specs.List.{flat_map};
-ghost use Rattle.run_record.specs.Objects.{is_map, is_atomic, places_from, types_of};
+ghost use Rattle.run_record.specs.Objects.{is_map, is_atomic, is_pool, places_from, types_of};
 ghost use Rattle.thread_calls.specs.Sites.{cost_of_call, cost_of_calls};
 
 use std::alloc::{AllocError, Global};
@@ -25,6 +25,16 @@ fn is_atomic(kind: ObjectKind) -> bool
     match kind {
         ObjectKind::Atomic(_) => true,
         _ => false,
+    }
+}
+
+/// How many parts an object of this kind has, where there are so many workers: a pool has one for each.
+pub(crate) fn parts_of(kind: ObjectKind, workers: u32) -> u32
+    ensures { result ≡ cond (is_pool kind) workers 0 }
+{
+    match kind {
+        ObjectKind::Pool => workers,
+        _ => 0,
     }
 }
 

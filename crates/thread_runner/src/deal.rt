@@ -1,20 +1,77 @@
 //! The objects of a run, and dealing their passes to the workers.
-ghost use Rattle.std.specs.Prelude.{◌≡◌, ℕ, ◌<◌, ◌≤◌, IfOk, List, [], length, get_or, map, Some, slice_get};
+ghost use Rattle.std.specs.Prelude.{◌≡◌, ℕ, ◌+◌, ◌<◌, ◌≤◌, IfOk, List, [], length, get_or, map, Some, slice_get};
 ghost use Rattle.sync_model.specs.Note.{SameHome};
-ghost use Rattle.thread_objects.specs.AsDeclared.{AreDeclared};
+ghost use Rattle.run_record.specs.Objects.{first_part, object_count};
+ghost use Rattle.run_record.specs.Record.{object_number};
+ghost use Rattle.thread_objects.specs.AsDeclared.{AreDeclared, IsAt};
 ghost use Rattle.thread_objects.specs.Desks.{AreSeats};
 ghost use Rattle.thread_objects.specs.Passes.{owns_of};
 ghost use Rattle.thread_objects.specs.Rows.{AreColumns, made_on};
-ghost use Rattle.thread_runner.specs.Dealing.{MadeNothingFrom, AreRows, SameNotes};
+ghost use Rattle.thread_runner.specs.Dealing.{AreMade, MadeNothingFrom, AreRows, SameNotes};
 
+use crate::counts::parts_of;
+use run_record::laws::numbers::parts_have_numbers_of_their_own;
 use std::alloc::{AllocError, Global};
 use sync_model::{Caller, Note};
 use thread_objects::{
-    AnyColumn, AnyObject, AnyPass, Crew, deal_row, make_object, make_stop, put_row,
+    AnyColumn, AnyObject, AnyPass, Crew, deal_row, make_object, make_part, make_stop, put_row,
 };
-use workload::Workload;
+use workload::{ObjectKind, Workload};
 
-/// Stop, and the objects that the workload declares, with the passes of all workers. Each object keeps a copy of the note.
+// The parts of the object at a place, behind the objects that were made: a pool has one for each worker, any other object none.
+fn make_parts<N: Note>(
+    alloc: Global,
+    crew: &Crew<N>,
+    workload: &Workload,
+    place: usize,
+    kind: ObjectKind,
+    note: &mut N,
+    objects: &mut Vec<AnyObject<N>>,
+    columns: &mut Vec<AnyColumn<N>>,
+) -> Result<(), AllocError>
+    requires workers { crew.now.workers ≡ workload.now.workers }
+    requires note { N.at crew.now.home.now note.old }
+    requires place { IsAt workload.now place kind }
+    requires made { AreMade N.at crew.now.home.now crew.now.workers workload.now (first_part workload.now place) objects.old.items columns.old.items }
+    ensures note { SameHome N.at note.old note.new × (N.own note.new ≡ N.own note.old) × (N.front note.new ≡ N.front note.old) }
+    ensures made { IfOk result (λ done. AreMade N.at crew.now.home.now crew.now.workers workload.now (first_part workload.now (place + 1)) objects.new.items columns.new.items) }
+{
+    parts_have_numbers_of_their_own();
+    for _part in 0..parts_of(kind, crew.workers) {
+        let (object, passes) = make_part(alloc, crew, workload, place, note.copy(crew.home))?;
+        objects.push(object)?;
+        columns.push(passes)?;
+    }
+    Ok(())
+}
+
+// The parts of all pools, behind the other objects.
+fn make_pools<N: Note>(
+    alloc: Global,
+    crew: &Crew<N>,
+    workload: &Workload,
+    note: &mut N,
+    objects: &mut Vec<AnyObject<N>>,
+    columns: &mut Vec<AnyColumn<N>>,
+) -> Result<(), AllocError>
+    requires workers { crew.now.workers ≡ workload.now.workers }
+    requires note { N.at crew.now.home.now note.old }
+    requires made { AreMade N.at crew.now.home.now crew.now.workers workload.now (object_number (length workload.now.objects)) objects.old.items columns.old.items }
+    ensures note { SameHome N.at note.old note.new × (N.own note.new ≡ N.own note.old) × (N.front note.new ≡ N.front note.old) }
+    ensures made { IfOk result (λ done. AreMade N.at crew.now.home.now crew.now.workers workload.now (object_count workload.now) objects.new.items columns.new.items) }
+{
+    parts_have_numbers_of_their_own();
+    let _workers = workload.workers();
+    let lines = workload.objects();
+    for place in 0..lines.len() {
+        let kind = lines[place].kind;
+        make_parts(alloc, crew, workload, place, kind, note, objects, columns)?;
+    }
+    Ok(())
+}
+
+/// Stop, the objects that the workload declares, and the parts of its pools, with the passes of all workers. Each object keeps a copy
+/// of the note.
 pub(crate) fn make_objects<N: Note>(
     alloc: Global,
     crew: &Crew<N>,
@@ -40,6 +97,7 @@ pub(crate) fn make_objects<N: Note>(
         objects.push_reserved(object);
         columns.push_reserved(passes);
     }
+    make_pools(alloc, crew, workload, note, &mut objects, &mut columns)?;
     Ok((objects, columns))
 }
 

@@ -214,6 +214,11 @@ const KINDS: [(&str, &str); 14] = [
         "workers 2\npool p\nwaitgroup g 1\nworker 0\nput p 1\nput p 2\ndone g\nworker 1\nwait g\nget p\nget p\n",
         "[Pool(Done), Pool(Done), Returned] [Returned, Pool(Put(2)), Pool(New)] []",
     ),
+    // Two pools, with an object between them: each has parts of its own, and a sweep is of one pool.
+    (
+        "workers 2\npool p\nmutex m\npool q\nwaitgroup g 1\nworker 0\nput p 1\nput p 2\nput q 7\nput q 8\nsweep q\ndone g\nworker 1\nwait g\nget q\nget p\nget q\nget p\n",
+        "[Pool(Done), Pool(Done), Pool(Done), Pool(Done), Pool(Done), Returned] [Returned, Pool(Put(8)), Pool(Put(2)), Pool(New), Pool(New)] []",
+    ),
 ];
 
 #[test]

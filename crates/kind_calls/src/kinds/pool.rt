@@ -1,16 +1,18 @@
-//! The calls of a pool.
-ghost use Rattle.std.specs.Prelude.{◌≡◌, ℕ, ◌*◌, ◌<◌, true, Result};
+//! The calls of a pool, each of whose parts is an object of its own. None waits for anybody.
+ghost use Rattle.std.specs.Prelude.{◌≡◌, ℕ, ◌+◌, ◌*◌, ◌<◌, ◌≤◌, length, Result};
+ghost use Rattle.std.specs.List.{range_with_len};
 ghost use Rattle.sync_types.specs.declared.misuse.Misuse.{Misuse};
 ghost use Rattle.protocols.specs.declared.pool.PoolOutcome.{PoolOutcome};
 ghost use Rattle.pool_core.specs.Looks.{look};
-ghost use Rattle.pool_core.specs.PoolMachine.{PoolState};
-ghost use Rattle.protocols.specs.PoolStages.{pool_allows, pool_gives, look_gives, PoolBegins};
+ghost use Rattle.protocols.specs.PoolStages.{pool_event, pool_gives, look_gives};
 ghost use Rattle.ruled_object.specs.Growth.{KeepsNote};
 ghost use Rattle.running.specs.Calls.{IsGiven};
-ghost use Rattle.run_record.specs.PoolKind.{pool_part, pool_call, found_by, looks_of, stage_of};
-ghost use Rattle.thread_objects.specs.Kinds.{IsPool};
-ghost use Rattle.thread_objects.specs.Passes.{IsSeatAt, own_of};
-ghost use Rattle.kind_calls.specs.Working.{Works, desk_at};
+ghost use Rattle.run_record.specs.PoolKind.{pool_part, pool_call, part_of, found_by, swept_by, looks_of, stage_of};
+ghost use Rattle.thread_objects.specs.Desks.{AreSeats, IsObjectAt};
+ghost use Rattle.thread_objects.specs.Kinds.{IsPoolPart};
+ghost use Rattle.thread_objects.specs.Passes.{IsSeatAt, own_of, owns_of};
+ghost use Rattle.kind_calls.specs.PoolParts.{ArePartsAt};
+ghost use Rattle.kind_calls.specs.Working.{Works, desk_at, desk_with};
 
 use super::replies::{CallAnswer, pool_done};
 use crate::part::part;
@@ -21,12 +23,12 @@ use sync_outside::Clock;
 use sync_types::{Misuse, PoolCall, PoolCallReply, Reply};
 use thread_objects::{AnyObject, AnyPass, Worker};
 
-// Which look of a get this is, by a worker of so many. It is at the worker's own part, at the shared items of another, or among
-// the victims of a part.
+// Which look of a get this is. It is at the worker's own part, at the shared items of another, or among the victims of a part.
 fn look_stage(worker: u32, workers: u32, number: u64) -> PoolStage
+    requires worker { worker < workers }
     requires number { number < 2 * workers }
     ensures stage { result ≡ stage_of (look workers worker number) }
-    ensures allowed { (start : PoolState ℕ) → PoolBegins workers start → pool_allows start tt result ≡ true }
+    ensures there { part_of worker (pool_event result 0) < workers }
     ensures look { (given : Result PoolOutcome Misuse) → pool_gives result given ≡ look_gives given }
 {
     if number == 0 {
@@ -40,7 +42,20 @@ fn look_stage(worker: u32, workers: u32, number: u64) -> PoolStage
     }
 }
 
-// Makes one event of a call on a pool. It waits for nobody.
+// The part that an event is made at: the one that it names, or the worker's own.
+fn part_named(worker: u32, stage: PoolStage) -> u32
+    ensures { result ≡ part_of worker (pool_event stage 0) }
+{
+    match stage {
+        PoolStage::LookOther(part) => part,
+        PoolStage::LookVictim(part) => part,
+        PoolStage::LookOwn => worker,
+        PoolStage::Put(_item) => worker,
+        PoolStage::Sweep => worker,
+    }
+}
+
+// Makes one event of a call on a part of a pool.
 fn part_of_pool<N: Note, C: Clock, R: Wait>(
     rt: &R,
     worker: &Worker<N, C>,
@@ -49,42 +64,95 @@ fn part_of_pool<N: Note, C: Clock, R: Wait>(
     note: &mut N,
     stage: PoolStage,
 ) -> Answer<Result<PoolOutcome, Misuse>>
-    requires kind { IsPool object.now }
+    requires kind { IsPoolPart object.now }
     requires seat { IsSeatAt N.at worker.now.at.home.now worker.now.workers worker.now.number object.now pass.old }
     requires note { N.at worker.now.at.home.now note.old }
-    requires allowed { (start : PoolState ℕ) → PoolBegins worker.now.workers start → pool_allows start tt stage ≡ true }
     ensures seat { IsSeatAt N.at worker.now.at.home.now worker.now.workers worker.now.number object.now pass.new }
     ensures note { KeepsNote N.at N.own N.front note.old note.new }
     ensures gives { IsGiven (pool_gives stage) result }
     ensures works { (number : ℕ) → Works (pool_part number stage) (desk_at N.own N.front number (own_of pass.old) note.old) result (desk_at N.own N.front number (own_of pass.new) note.new) }
 {
     match object {
-        AnyObject::Pool(object) => match pass {
-            AnyPass::Pool(pass) => part(rt, worker, object, pass, note, stage),
+        AnyObject::PoolPart(object) => match pass {
+            AnyPass::PoolPart(pass) => part(rt, worker, object, pass, note, stage),
             _ => unreachable!(),
         },
         _ => unreachable!(),
     }
 }
 
-// Takes an item that a look finds, or a new one, where none does. It waits for nobody.
+// The same, of the part of a pool that is the object with this number.
+fn part_at<N: Note, C: Clock, R: Wait>(
+    rt: &R,
+    worker: &Worker<N, C>,
+    objects: &[AnyObject<N>],
+    passes: &mut [AnyPass<N>],
+    note: &mut N,
+    number: usize,
+    stage: PoolStage,
+) -> Answer<Result<PoolOutcome, Misuse>>
+    requires kind { IsObjectAt IsPoolPart objects.now number }
+    requires seats { AreSeats N.at worker.now.at.home.now worker.now.workers worker.now.number objects.now passes.old }
+    requires note { N.at worker.now.at.home.now note.old }
+    ensures seats { AreSeats N.at worker.now.at.home.now worker.now.workers worker.now.number objects.now passes.new }
+    ensures note { KeepsNote N.at N.own N.front note.old note.new }
+    ensures gives { IsGiven (pool_gives stage) result }
+    ensures works { Works (pool_part number stage) (desk_with N.own N.front (owns_of passes.old) note.old) result (desk_with N.own N.front (owns_of passes.new) note.new) }
+{
+    let object = &objects[number];
+    let pass = &mut passes[number];
+    part_of_pool(rt, worker, object, pass, note, stage)
+}
+
+// Puts an item into the worker's own part.
+fn put<N: Note, C: Clock, R: Wait>(
+    rt: &R,
+    worker: &Worker<N, C>,
+    objects: &[AnyObject<N>],
+    passes: &mut [AnyPass<N>],
+    note: &mut N,
+    first: usize,
+    item: u64,
+) -> CallAnswer
+    requires parts { ArePartsAt objects.now first worker.now.workers }
+    requires room { first + worker.now.workers ≤ length objects.now }
+    requires own { worker.now.number < worker.now.workers }
+    requires seats { AreSeats N.at worker.now.at.home.now worker.now.workers worker.now.number objects.now passes.old }
+    requires note { N.at worker.now.at.home.now note.old }
+    ensures seats { AreSeats N.at worker.now.at.home.now worker.now.workers worker.now.number objects.now passes.new }
+    ensures note { KeepsNote N.at N.own N.front note.old note.new }
+    ensures works { Works (pool_call worker.now.workers worker.now.number first (PoolCall.Put item)) (desk_with N.own N.front (owns_of passes.old) note.old) result (desk_with N.own N.front (owns_of passes.new) note.new) }
+{
+    let _count = objects.len();
+    let number = first + worker.number as usize;
+    let stage = PoolStage::Put(item);
+    pool_done(part_at(rt, worker, objects, passes, note, number, stage))
+}
+
+// Takes an item that a look finds, or a new one, where none does. Each look is made at the part that it names.
 fn get<N: Note, C: Clock, R: Wait>(
     rt: &R,
     worker: &Worker<N, C>,
-    object: &AnyObject<N>,
-    pass: &mut AnyPass<N>,
+    objects: &[AnyObject<N>],
+    passes: &mut [AnyPass<N>],
     note: &mut N,
+    first: usize,
 ) -> CallAnswer
-    requires kind { IsPool object.now }
-    requires seat { IsSeatAt N.at worker.now.at.home.now worker.now.workers worker.now.number object.now pass.old }
+    requires parts { ArePartsAt objects.now first worker.now.workers }
+    requires room { first + worker.now.workers ≤ length objects.now }
+    requires own { worker.now.number < worker.now.workers }
+    requires seats { AreSeats N.at worker.now.at.home.now worker.now.workers worker.now.number objects.now passes.old }
     requires note { N.at worker.now.at.home.now note.old }
-    ensures seat { IsSeatAt N.at worker.now.at.home.now worker.now.workers worker.now.number object.now pass.new }
+    ensures seats { AreSeats N.at worker.now.at.home.now worker.now.workers worker.now.number objects.now passes.new }
     ensures note { KeepsNote N.at N.own N.front note.old note.new }
-    ensures works { (number : ℕ) → Works (found_by number (looks_of worker.now.workers worker.now.number)) (desk_at N.own N.front number (own_of pass.old) note.old) result (desk_at N.own N.front number (own_of pass.new) note.new) }
+    ensures works { Works (found_by worker.now.number first (looks_of worker.now.workers worker.now.number)) (desk_with N.own N.front (owns_of passes.old) note.old) result (desk_with N.own N.front (owns_of passes.new) note.new) }
 {
+    let _count = objects.len();
     for nth in 0..2 * u64::from(worker.workers) {
         let stage = look_stage(worker.number, worker.workers, nth);
-        match part_of_pool(rt, worker, object, pass, note, stage) {
+        let part = part_named(worker.number, stage);
+        let number = first + part as usize;
+        match part_at(rt, worker, objects, passes, note, number, stage) {
             Answer::Halted(misuse) => return Answer::Halted(misuse),
             Answer::Done(Err(misuse)) => return Answer::Done(Err(misuse)),
             Answer::Done(Ok(PoolOutcome::Nothing)) => {}
@@ -99,29 +167,57 @@ fn get<N: Note, C: Clock, R: Wait>(
     Answer::Done(Ok(Reply::Pool(PoolCallReply::New)))
 }
 
-/// Makes a call on a pool. It waits for nobody.
-pub(crate) fn call_pool<N: Note, C: Clock, R: Wait>(
+// Sweeps one part after the other, from 0 up.
+fn sweep<N: Note, C: Clock, R: Wait>(
     rt: &R,
     worker: &Worker<N, C>,
-    object: &AnyObject<N>,
-    pass: &mut AnyPass<N>,
+    objects: &[AnyObject<N>],
+    passes: &mut [AnyPass<N>],
     note: &mut N,
+    first: usize,
+) -> CallAnswer
+    requires parts { ArePartsAt objects.now first worker.now.workers }
+    requires room { first + worker.now.workers ≤ length objects.now }
+    requires seats { AreSeats N.at worker.now.at.home.now worker.now.workers worker.now.number objects.now passes.old }
+    requires note { N.at worker.now.at.home.now note.old }
+    ensures seats { AreSeats N.at worker.now.at.home.now worker.now.workers worker.now.number objects.now passes.new }
+    ensures note { KeepsNote N.at N.own N.front note.old note.new }
+    ensures works { Works (swept_by first (range_with_len 0 worker.now.workers)) (desk_with N.own N.front (owns_of passes.old) note.old) result (desk_with N.own N.front (owns_of passes.new) note.new) }
+{
+    let _count = objects.len();
+    for part in 0..worker.workers {
+        let number = first + part as usize;
+        match part_at(rt, worker, objects, passes, note, number, PoolStage::Sweep) {
+            Answer::Halted(misuse) => return Answer::Halted(misuse),
+            Answer::Done(Err(misuse)) => return Answer::Done(Err(misuse)),
+            Answer::Done(Ok(_outcome)) => {}
+        }
+    }
+    Answer::Done(Ok(Reply::Pool(PoolCallReply::Done)))
+}
+
+/// Makes a call on the pool whose parts are the objects from this number on, one for each worker.
+pub fn call_pool<N: Note, C: Clock, R: Wait>(
+    rt: &R,
+    worker: &Worker<N, C>,
+    objects: &[AnyObject<N>],
+    passes: &mut [AnyPass<N>],
+    note: &mut N,
+    first: usize,
     call: PoolCall,
 ) -> CallAnswer
-    requires kind { IsPool object.now }
-    requires seat { IsSeatAt N.at worker.now.at.home.now worker.now.workers worker.now.number object.now pass.old }
+    requires parts { ArePartsAt objects.now first worker.now.workers }
+    requires room { first + worker.now.workers ≤ length objects.now }
+    requires own { worker.now.number < worker.now.workers }
+    requires seats { AreSeats N.at worker.now.at.home.now worker.now.workers worker.now.number objects.now passes.old }
     requires note { N.at worker.now.at.home.now note.old }
-    ensures seat { IsSeatAt N.at worker.now.at.home.now worker.now.workers worker.now.number object.now pass.new }
+    ensures seats { AreSeats N.at worker.now.at.home.now worker.now.workers worker.now.number objects.now passes.new }
     ensures note { KeepsNote N.at N.own N.front note.old note.new }
-    ensures works { (number : ℕ) → Works (pool_call worker.now.workers worker.now.number number call) (desk_at N.own N.front number (own_of pass.old) note.old) result (desk_at N.own N.front number (own_of pass.new) note.new) }
+    ensures works { Works (pool_call worker.now.workers worker.now.number first call) (desk_with N.own N.front (owns_of passes.old) note.old) result (desk_with N.own N.front (owns_of passes.new) note.new) }
 {
     match call {
-        PoolCall::Put(item) => {
-            pool_done(part_of_pool(rt, worker, object, pass, note, PoolStage::Put(item)))
-        }
-        PoolCall::Get => get(rt, worker, object, pass, note),
-        PoolCall::Sweep => {
-            pool_done(part_of_pool(rt, worker, object, pass, note, PoolStage::Sweep))
-        }
+        PoolCall::Put(item) => put(rt, worker, objects, passes, note, first, item),
+        PoolCall::Get => get(rt, worker, objects, passes, note, first),
+        PoolCall::Sweep => sweep(rt, worker, objects, passes, note, first),
     }
 }

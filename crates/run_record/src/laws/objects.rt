@@ -1,6 +1,6 @@
 //! What the objects' journals say. Each follows its machine, so each law of the machine holds of it; these are the ones that
 //! users of the objects know.
-ghost use Rattle.std.specs.Prelude.{◌≡◌, ℕ, ℤ, ◌≤◌, false, Some, slice_get, count_by};
+ghost use Rattle.std.specs.Prelude.{◌≡◌, ℕ, ℤ, ◌+◌, ◌<◌, ◌≤◌, false, Some, slice_get, count_by};
 ghost use Rattle.mutex_core.specs.Edges as mutex;
 ghost use Rattle.mutex_core.specs.Exclusion.{TakesTurns};
 ghost use Rattle.wait_cores.specs.OnceLaws as once;
@@ -8,11 +8,12 @@ ghost use Rattle.pool_core.specs.PoolLaws as pool;
 ghost use Rattle.workload.specs.Plan.{Plan};
 ghost use Rattle.run_record.specs.Explains.{IsRecordOf};
 ghost use Rattle.run_record.specs.Logs.{Shows};
+ghost use Rattle.run_record.specs.Objects.{first_part};
 ghost use Rattle.run_record.specs.Record.{Record, object_number, journal_of};
 
 use crate::entered::{ObjectEvent, ObjectReply};
 use mutex_core::MutexCore;
-use pool_core::PoolCore;
+use pool_core::PartCore;
 use sync_model::laws::journals::journal_is_log;
 use wait_cores::OnceCore;
 use workload::{ObjectKind, ObjectLine};
@@ -49,13 +50,13 @@ pub fn a_function_runs_once()
     wait_cores::laws::once::runs_once::<u64>();
 }
 
-/// Each item that a look of a pool takes was put by one put before, no other look takes it, and at most one sweep stands
-/// between.
+/// Each item that a look of a pool's part takes was put into that part by one put before, no other look takes it, and at most one
+/// sweep of the part stands between.
 pub fn each_item_got_was_put()
-    ensures { (plan : Plan) (r : Record) (place : ℕ) (object : ObjectLine)
-        → IsRecordOf plan r → slice_get plan.objects place ≡ Some object → object.kind ≡ ObjectKind.Pool
-        → (log : pool.Log ℕ) × Shows ObjectEvent.Pool ObjectReply.Pool (journal_of r (object_number place)) log × (origin : ℕ → ℕ) × pool.ComeFrom log origin }
+    ensures { (plan : Plan) (r : Record) (place part : ℕ) (object : ObjectLine)
+        → IsRecordOf plan r → slice_get plan.objects place ≡ Some object → object.kind ≡ ObjectKind.Pool → part < plan.workers
+        → (log : pool.Log ℕ) × Shows ObjectEvent.Pool ObjectReply.Pool (journal_of r (first_part plan place + part)) log × (origin : ℕ → ℕ) × pool.ComeFrom log origin }
 {
-    journal_is_log::<PoolCore>();
-    pool_core::laws::gives_each_once();
+    journal_is_log::<PartCore>();
+    pool_core::part_laws::a_part_gives_each_once();
 }

@@ -12,6 +12,6 @@ returns-clause-seats g c =
     seats_kept g.N.Note.at c.args.worker.now.at.home.now c.args.worker.now.workers c.args.worker.now.number objects c.args.passes.now number c.index-objects-number.result c.call_object.new.pass here c.call_object.ensures.seat c.requires.seats
 
 pub returns-clause-works : goal.returns-clause-works
-returns-clause-works g c = λ plan before all.
+returns-clause-works g c = λ plan before.
     let number = c.args.place + 1 in
-    in_slot c.args.passes.now number c.index-passes-number.result c.call_object.new.pass (omega (arith, slice_get_within c.args.objects.now number c.requires.kind.0 c.requires.kind.1, c.requires.seats.count)) (call_on plan c.args.worker.now.number before c.args.place c.args.kind c.args.operation.now) g.N.Note.own g.N.Note.front c.args.note.now c.call_object.new.note c.call_object.result (c.call_object.ensures.works plan before c.args.place all)
+    in_slot c.args.passes.now number c.index-passes-number.result c.call_object.new.pass (omega (arith, slice_get_within c.args.objects.now number c.requires.kind.0 c.requires.kind.1, c.requires.seats.count)) (call_on plan c.args.worker.now.number before c.args.place c.args.kind c.args.operation.now) g.N.Note.own g.N.Note.front c.args.note.now c.call_object.new.note c.call_object.result (c.call_object.ensures.works plan before c.args.place)

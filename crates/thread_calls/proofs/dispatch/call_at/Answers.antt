@@ -1,12 +1,13 @@
 use Rattle.std.proofs.lemmas.Option.{IfSome_then}
 use Rattle.workload.specs.declared.object.ObjectKind.TheVariants as kinds
 use Rattle.thread_objects.specs.Passes.{owns_of}
-use Rattle.thread_calls.proofs.ByKind.{on_map, on_atomic, on_range}
+use Rattle.thread_calls.proofs.ByKind.{of_pool, on_map, on_atomic, on_pool, on_range}
 use Rattle.thread_calls.proofs.ScriptCalls.{key_among}
 use Rattle.thread_calls.proofs.Sites.{mutex_of}
-use Rattle.std.proofs.Common.{subst}
+use Rattle.std.proofs.Common.{ℕ, ◌-◌, sym, subst, arith}
 use Rattle.workload.specs.declared.object.ObjectKind.{ObjectKind}
 use Rattle.thread_objects.specs.AsDeclared.{IsAt}
+use Rattle.kind_calls.specs.PoolParts.{ArePartsAt}
 use Rattle.thread_calls.proofs.dispatch.call_at.Goals as goal
 
 pub map_at-requires-clause-key : goal.map_at-requires-clause-key
@@ -44,3 +45,28 @@ returns-in-Range-clause-works g c = IfSome_then c.range_at.result c.range_at.ens
 
 pub returns-in-Range-clause-rooms : goal.returns-in-Range-clause-rooms
 returns-in-Range-clause-rooms g c = c.take_room.ensures.rooms _ c.requires.rooms
+
+pub first_part_of-requires-clause-room : goal.first_part_of-requires-clause-room
+first_part_of-requires-clause-room g c = omega (arith, c.requires.site.declared.count)
+
+pub first_part_of-requires-clause-place : goal.first_part_of-requires-clause-place
+first_part_of-requires-clause-place g c = subst (λ (k : ObjectKind). IsAt c.args.site.now.workload.now c.args.place k) (of_pool c.args.kind c.args.operation.now c.in-Pool.call c.requires.call c.in-Pool.is) c.requires.place
+
+pub call_pool-requires-clause-parts : goal.call_pool-requires-clause-parts
+call_pool-requires-clause-parts g c =
+    let plan = c.args.site.now.workload.now in
+    let objects = c.args.site.now.objects.now in
+    let is = subst (λ (k : ObjectKind). IsAt plan c.args.place k) (of_pool c.args.kind c.args.operation.now c.in-Pool.call c.requires.call c.in-Pool.is) c.requires.place in
+    subst (λ (first : ℕ). ArePartsAt objects first c.args.worker.now.workers) (sym c.first_part_of.ensures)
+    (λ part below. (c.objects_are_of_their_kinds.ensures.parts c.args.worker.now.at.home.now plan objects c.args.place part c.requires.site.declared is (omega (arith, below, c.requires.workers))).1)
+
+pub call_pool-requires-clause-room : goal.call_pool-requires-clause-room
+call_pool-requires-clause-room g c =
+    let plan = c.args.site.now.workload.now in
+    let objects = c.args.site.now.objects.now in
+    let is = subst (λ (k : ObjectKind). IsAt plan c.args.place k) (of_pool c.args.kind c.args.operation.now c.in-Pool.call c.requires.call c.in-Pool.is) c.requires.place in
+    let last = (c.objects_are_of_their_kinds.ensures.parts c.args.worker.now.at.home.now plan objects c.args.place (plan.workers - 1) c.requires.site.declared is (omega (arith, c.requires.own, c.requires.workers))).0 in
+    omega (arith, last, c.first_part_of.ensures, c.requires.own, c.requires.workers)
+
+pub returns-in-Pool-clause-works : goal.returns-in-Pool-clause-works
+returns-in-Pool-clause-works g c = on_pool c.args.site.now.workload.now c.args.worker.now.number _ c.args.place _ _ _ c.args.kind c.args.operation.now c.requires.call c.in-Pool.call c.args.worker.now.workers c.first_part_of.result c.requires.workers c.first_part_of.ensures c.in-Pool.is c.call_pool.ensures.works

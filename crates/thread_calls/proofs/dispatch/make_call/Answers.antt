@@ -1,9 +1,9 @@
-use Rattle.std.proofs.Common.{sym, ap, ◌∙◌}
+use Rattle.std.proofs.Common.{sym, ap, ◌∙◌, arith}
 use Rattle.std.proofs.lemmas.Option.{slice_get_within}
 use Rattle.workload.specs.declared.object.ObjectKind.{ObjectKind}
 use Rattle.workload.specs.Plan.{refers}
 use Rattle.thread_calls.proofs.ByKind.{kind_has, line_of, spells_if}
-use Rattle.thread_calls.proofs.ScriptCalls.{in_range, keys_are_known, on_object, refers_at}
+use Rattle.thread_calls.proofs.ScriptCalls.{worker_within, in_range, keys_are_known, on_object, refers_at}
 use Rattle.thread_calls.proofs.dispatch.make_call.Goals as goal
 
 pub kind_at-kind-requires : goal.kind_at-kind-requires
@@ -33,3 +33,6 @@ call_at-requires-clause-keys g c = λ name any. keys_are_known c.args.site.now.w
 
 pub returns-clause-works : goal.returns-clause-works
 returns-clause-works g c = spells_if c.args.site.now.workload.now c.args.worker.now.number _ c.args.call.now _ c.kind_at-kind.ensures _ _ c.call_at.result c.call_at.ensures.works
+
+pub call_at-requires-clause-own : goal.call_at-requires-clause-own
+call_at-requires-clause-own g c = omega (arith, worker_within c.args.site.now.workload.now c.args.worker.now.number c.args.call.now c.requires.call c.workers-workers.ensures.valid, c.requires.workers)

@@ -45,5 +45,5 @@ returns-in-OnceFunc-column-clause-history g c = history_at _ c.args.object.now (
 pub returns-in-OnceValue-column-clause-history : goal.returns-in-OnceValue-column-clause-history
 returns-in-OnceValue-column-clause-history g c = history_at _ c.args.object.now (objects.OnceValue c.in-OnceValue.object) c.args.column.now (columns.OnceValue c.in-OnceValue-column.passes) c.in-OnceValue.is c.in-OnceValue-column.is (c.first_of-in-OnceValue-column.ensures.history event.OnceValue reply.OnceValue passes.OnceValue (λ pass. refl))
 
-pub returns-in-Pool-column-clause-history : goal.returns-in-Pool-column-clause-history
-returns-in-Pool-column-clause-history g c = history_at _ c.args.object.now (objects.Pool c.in-Pool.object) c.args.column.now (columns.Pool c.in-Pool-column.passes) c.in-Pool.is c.in-Pool-column.is (c.first_of-in-Pool-column.ensures.history event.Pool reply.Pool passes.Pool (λ pass. refl))
+pub returns-in-PoolPart-column-clause-history : goal.returns-in-PoolPart-column-clause-history
+returns-in-PoolPart-column-clause-history g c = history_at _ c.args.object.now (objects.PoolPart c.in-PoolPart.object) c.args.column.now (columns.PoolPart c.in-PoolPart-column.passes) c.in-PoolPart.is c.in-PoolPart-column.is (c.first_of-in-PoolPart-column.ensures.history event.Pool reply.Pool passes.PoolPart (λ pass. refl))
