@@ -1,5 +1,5 @@
 -- The passes of a new object are between two calls.
-use Rattle.std.proofs.Common.{◌≡◌, ℕ, false, List, ap, Result, Ok, Err, IfOk}
+use Rattle.std.proofs.Common.{ℕ, false, List, ap, Result, Ok, Err, IfOk}
 use Rattle.std.proofs.lemmas.Option.{slice_get-get_or}
 use Rattle.sync_model.specs.declared.journal.Entry.{Entry}
 use Rattle.mutex_core.specs.declared.event.MutexEvent.{MutexEvent}

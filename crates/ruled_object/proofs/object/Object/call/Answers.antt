@@ -1,4 +1,4 @@
-use Rattle.std.proofs.Common.{◌≡◌, true, [], ◌∷◌, ◌++◌, Some, refl, sym, ap, ◌∙◌, subst, length, arith, ◌<◌}
+use Rattle.std.proofs.Common.{◌≡◌, [], ◌∷◌, ◌++◌, Some, refl, sym, ap, ◌∙◌, subst, length, arith, ◌<◌}
 use Rattle.sync_model.specs.Journal.{by, Right}
 use Rattle.ruled_object.specs.Cells.{deed_of, Acts}
 use Rattle.ruled_object.specs.Steps.{gave, taken, counted, MayAdd}
