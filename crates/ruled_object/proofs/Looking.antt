@@ -1,18 +1,17 @@
 -- A copy and a look keep the rule of an object's table.
-use Rattle.std.proofs.Common.{◌≡◌, ◌≢◌, ℕ, zero, suc, length, ◌+◌, ◌<◌, Bool, ⊎_elim, List, [], ◌∷◌, ◌++◌, get_or, set, Option, Some, None, refl, sym, ap, ◌∙◌, subst, arith}
+use Rattle.std.proofs.Common.{◌≡◌, ℕ, zero, suc, length, ◌<◌, Bool, ⊎_elim, List, [], ◌∷◌, ◌++◌, get_or, set, Option, refl, sym, ap, ◌∙◌, subst, arith}
 use mathlib.Core.Option.{some, some-ne-none, some-injective}
 use lib.ListN.{get_elem?}
 use lib.Seq.{set-get_or}
 use Rattle.atomic_table.specs.Table.{State, Allows, Splits}
 use Rattle.atomic_table.specs.Table as table
-use Rattle.atomic_table.proofs.Lists.{at_set, at_snoc, at_longer, set_here, set_else, set_again}
-use Rattle.sync_model.specs.declared.journal.Entry.{Entry}
+use Rattle.atomic_table.proofs.Lists.{at_snoc, at_longer, set_here, set_else, set_again}
 use Rattle.ruled_object.specs.declared.cell.Cell.{Cell}
 use Rattle.ruled_object.specs.declared.rule.Begin.{Begin}
 use Rattle.ruled_object.specs.declared.view.Stage.TheVariants.{Idle}
 use Rattle.ruled_object.specs.declared.view.View.{View}
 use Rattle.ruled_object.specs.Looks.{copied, looked, LooksAt, Says}
-use Rattle.ruled_object.specs.Rule.{HasWord, IsFree, IsHeld, AtStage, Fits, Kept}
+use Rattle.ruled_object.specs.Rule.{HasWord, IsHeld, AtStage, Fits, Kept}
 use Rattle.ruled_object.specs.Steps.{Sat}
 use Rattle.ruled_object.proofs.Journals.{begins_all}
 use Rattle.ruled_object.proofs.Steps.{each_after, word_is, not_both}

@@ -2,7 +2,6 @@
 use Rattle.std.proofs.Common.{◌≡◌, ℕ, Bool, true, false, cond, List, [], ◌∷◌, ◌++◌, Option, Some, None, refl, sym, ap, subst, ◌∙◌}
 use Rattle.std.specs.Prelude.{◌==◌, if◌then◌else◌}
 use Rattle.sync_types.specs.declared.misuse.Misuse.{Misuse}
-use Rattle.sync_model.specs.declared.answer.Answer.{Answer}
 use Rattle.sync_model.specs.declared.answer.Answer.TheVariants.{Done}
 use Rattle.sync_model.specs.declared.journal.Deed.{Deed}
 use Rattle.sync_model.specs.declared.journal.Deed.TheVariants.{Event, Refused, Halt}
@@ -10,15 +9,14 @@ use Rattle.sync_model.specs.declared.journal.Entry.{Entry}
 use Rattle.sync_model.specs.Log as log
 use Rattle.sync_model.specs.Journal.{halt_next, halt_after, halt_of, by, logged, log_of, state_next, state_after, Right, Follows}
 use Rattle.ruled_object.specs.declared.pass.Pass.{Pass}
-use Rattle.ruled_object.specs.Cells.{deed_of}
-use Rattle.ruled_object.specs.Growth.{entries_of, Makes}
+use Rattle.ruled_object.specs.Growth.{Makes}
 use Rattle.ruled_object.specs.Passes.{number_of, own_by}
 use Rattle.ruled_object.specs.Standing.{stand_next, stand_from, stand_by}
 use Rattle.protocols.specs.declared.step.Step.{Step}
 use Rattle.protocols.specs.declared.step.Step.TheVariants.{Finished, Misused, Waits, Next, Never}
 use Rattle.protocols.specs.Spelling.{IsEventOf}
 use Rattle.protocols.specs.Stands as stands
-use Rattle.protocols.specs.Steps.{IsExpected, GainsAtItsEnd, LeadsOn}
+use Rattle.protocols.specs.Steps.{IsExpected, GainsAtItsEnd}
 use Rattle.running.specs.Stages.{acquires_by}
 
 module _ {E R : Type 0} where

@@ -1,4 +1,4 @@
-use Rattle.std.proofs.Common.{◌≡◌, true, [], ◌∷◌, ◌++◌, Some, refl, sym, ap, ◌∙◌, subst, length, arith, ◌<◌}
+use Rattle.std.proofs.Common.{◌≡◌, [], ◌∷◌, ◌++◌, Some, refl, sym, ap, ◌∙◌, subst, length, arith, ◌<◌}
 use Rattle.sync_model.specs.Journal.{by, Right}
 use Rattle.ruled_object.specs.Cells.{deed_of, Acts}
 use Rattle.ruled_object.specs.Steps.{gave, taken, counted, MayAdd}
@@ -116,5 +116,5 @@ returns-clause-quick g c =
     needs_none m.next m.HALTS g.M.Worded.alone begin.state pass record { number = new.number; left = new.left; turns = new.turns; seat = c.give_entry.new.seat } took.0 e (n.front c.args.note.now) (n.front c.act-answer.new.note)
     (ap (λ me. me.0.seen) c.give_entry.ensures.gave ∙ ap (λ v. v.seen ++ e ∷ []) view)
     (λ alone.
-        let at_cell = subst (λ state. IsAlone g.M.Worded.alone state pass.number c.deed-deed.result) (sym learns.lies.state) alone in
-        acts.2.2.2 (subst (λ deed. IsAlone g.M.Worded.alone (g.M.Worded.means old.state word) pass.number deed) c.deed-deed.ensures at_cell))
+    let at_cell = subst (λ state. IsAlone g.M.Worded.alone state pass.number c.deed-deed.result) (sym learns.lies.state) alone in
+    acts.2.2.2 (subst (λ deed. IsAlone g.M.Worded.alone (g.M.Worded.means old.state word) pass.number deed) c.deed-deed.ensures at_cell))
