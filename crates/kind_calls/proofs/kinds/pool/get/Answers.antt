@@ -1,4 +1,4 @@
-use Rattle.std.proofs.Common.{arith, rules, Ok}
+use Rattle.std.proofs.Common.{◌*◌, ◌<◌, arith, rules, Ok}
 use Rattle.sync_model.specs.declared.answer.Answer.TheVariants.{Done, Halted}
 use Rattle.protocols.specs.declared.pool.PoolOutcome.TheVariants.{Item, Nothing}
 use Rattle.thread_objects.specs.Passes.{owns_of}
@@ -16,7 +16,7 @@ loop-nth-preserved g c =
     let later : Desk = desk_with g.N.Note.own g.N.Note.front (owns_of c.part_at.new.passes) c.part_at.new.note in
     let workers = c.args.worker.now.workers in
     let worker = c.args.worker.now.number in
-    let within = omega (arith, c.loop-nth-test.true, c.from-nth-end.ensures) in
+    let within : c.loop-nth.nth < 2 * workers = omega (arith, c.loop-nth-test.true, c.from-nth-end.ensures) in
     let given = rw c.in-Done-Ok-Nothing.field-0-is at c.in-Done-Ok-Nothing.ensures.works in
     let did = rw c.in-Done-Ok-Nothing.field-0-0-is at given in
     record {
@@ -32,7 +32,7 @@ returns-in-Done-Ok-Item-clause-works g c =
     let later : Desk = desk_with g.N.Note.own g.N.Note.front (owns_of c.part_at.new.passes) c.part_at.new.note in
     let workers = c.args.worker.now.workers in
     let worker = c.args.worker.now.number in
-    let within = omega (arith, c.loop-nth-test.true, c.from-nth-end.ensures) in
+    let within : c.loop-nth.nth < 2 * workers = omega (arith, c.loop-nth-test.true, c.from-nth-end.ensures) in
     let given = rw c.in-Done-Ok-Item.field-0-is at c.in-Done-Ok-Item.ensures.works in
     let did = rw c.in-Done-Ok-Item.field-0-0-is at given in
     took workers worker c.args.first c.loop-nth.nth start now later c.loop-nth.invariant.all within c.in-Done-Ok-Item.item
@@ -45,7 +45,7 @@ returns-in-Halted-clause-works g c =
     let later : Desk = desk_with g.N.Note.own g.N.Note.front (owns_of c.part_at.new.passes) c.part_at.new.note in
     let workers = c.args.worker.now.workers in
     let worker = c.args.worker.now.number in
-    let within = omega (arith, c.loop-nth-test.true, c.from-nth-end.ensures) in
+    let within : c.loop-nth.nth < 2 * workers = omega (arith, c.loop-nth-test.true, c.from-nth-end.ensures) in
     halted workers worker c.args.first c.loop-nth.nth start now later c.loop-nth.invariant.all within c.in-Halted.misuse
     (looked_by workers worker c.args.first c.loop-nth.nth start now later c.loop-nth.invariant.all c.part_named-part.result c.look_stage-stage.result (Halted c.in-Halted.misuse) c.part_named-part.ensures c.look_stage-stage.ensures.stage c.in-Halted.ensures.works)
 

@@ -1,8 +1,15 @@
-use Rattle.std.proofs.Common.{arith}
-use Rattle.std.proofs.lemmas.Option.{slice_get_within}
+use Rattle.std.proofs.Common.{length, refl, arith}
+use Rattle.std.proofs.lemmas.Option.{slice_get_read, slice_get_within}
 use Rattle.run_record.specs.PoolKind.{pool_part}
-use Rattle.kind_calls.proofs.Slots.{in_slot}
+use Rattle.kind_calls.proofs.Slots.{in_slot, seats_kept}
 use Rattle.kind_calls.proofs.kinds.pool.part_at.Goals as goal
+
+pub returns-clause-seats : goal.returns-clause-seats
+returns-clause-seats g c =
+    let objects = c.args.objects.now in
+    let number = c.args.number in
+    let here = slice_get_read objects (length objects) number c.index-objects-number.result refl (slice_get_within objects number c.requires.kind.0 c.requires.kind.1) c.index-objects-number.is in
+    seats_kept g.N.Note.at c.args.worker.now.at.home.now c.args.worker.now.workers c.args.worker.now.number objects c.args.passes.now number c.index-objects-number.result c.part_of_pool.new.pass here c.part_of_pool.ensures.seat c.requires.seats
 
 pub returns-clause-works : goal.returns-clause-works
 returns-clause-works g c =

@@ -8,4 +8,4 @@ use Rattle.kind_calls.proofs.Working.{same_own}
 use Rattle.kind_calls.proofs.kinds.pool.part_of_pool.Goals as goal
 
 pub returns-clause-works : goal.returns-clause-works
-returns-clause-works g c = λ number. same_own (pool_part number c.args.stage) g.N.Note.own g.N.Note.front number _ _ _ c.args.note.now c.part.new.note _ (ap (λ (p : AnyPass _). own_of p) c.in-Pool-pass.is) (c.part.ensures.works event.Pool reply.Pool number)
+returns-clause-works g c = λ number. same_own (pool_part number c.args.stage) g.N.Note.own g.N.Note.front number _ _ _ c.args.note.now c.part.new.note _ (ap (λ (p : AnyPass _). own_of p) c.in-PoolPart-pass.is) (c.part.ensures.works event.Pool reply.Pool number)
