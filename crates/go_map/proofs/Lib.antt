@@ -1,1 +1,4 @@
+pub mod Callers
+pub mod AllCallers
 pub mod RangeLaw
+pub mod Walkers

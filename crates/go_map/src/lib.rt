@@ -10,3 +10,6 @@ pub mod trie;
 pub use cursor::Cursor;
 pub use map::Map;
 pub use trie::Trie;
+
+#[cfg(test)]
+mod tests;
