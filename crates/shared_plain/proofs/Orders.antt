@@ -132,6 +132,7 @@ note_of plain home old new was is number at_home = record {
   one = is.one;
   turn = is.turn;
   empty = is.empty;
+  turns = is.turns;
 }
 
 -- a note keeps what it kept of its caller, where its pass has seen no more of the caller
