@@ -308,12 +308,12 @@ fn any_number_of_jobs_is_done(rt: HostRuntime) -> Result<(), Fail> {
         let shared = AtomicU64::new(0);
         let jobs = adding(rt.alloc(), count, &shared)?;
         let done = match ThreadSpawner::new().start_all(&rt, rt.alloc(), jobs) {
-            Started::Done(results) => results.len() as u32,
-            Started::Refused(_) | Started::Memory => u32::MAX,
+            Started::Done(results) => results.len(),
+            Started::Refused(_) | Started::Memory => usize::MAX,
         };
         assert_eq!(rt;
             (done, shared.load(Ordering::SeqCst)),
-            (count, u64::from(count))
+            (count as usize, u64::from(count))
         );
     }
     Ok(())
