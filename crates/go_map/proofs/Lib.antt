@@ -1,4 +1,1 @@
-pub mod Callers
-pub mod AllCallers
 pub mod RangeLaw
-pub mod Walkers

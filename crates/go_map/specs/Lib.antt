@@ -1,4 +1,3 @@
 pub mod Maps
 pub mod Ranges
 pub mod Tries
-pub mod Walking

@@ -10,6 +10,3 @@ pub mod trie;
 pub use cursor::Cursor;
 pub use map::Map;
 pub use trie::Trie;
-
-#[cfg(test)]
-mod tests;

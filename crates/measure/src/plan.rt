@@ -37,28 +37,34 @@ pub enum Call {
     Add,
 }
 
-impl What {
-    fn of(word: &str) -> Option<Self> {
-        match word.as_bytes() {
-            b"mutex" => Some(What::Mutex),
-            b"read" => Some(What::Read),
-            b"write" => Some(What::Write),
-            b"group" => Some(What::Group),
-            b"once" => Some(What::Once),
-            b"pool" => Some(What::Pool),
-            b"plain-load" => Some(What::Plain(Call::Load)),
-            b"plain-store" => Some(What::Plain(Call::Store)),
-            b"plain-churn" => Some(What::Plain(Call::Churn)),
-            b"plain-mix" => Some(What::Plain(Call::Mix)),
-            b"plain-add" => Some(What::Plain(Call::Add)),
-            b"trie-load" => Some(What::Table(Call::Load)),
-            b"trie-store" => Some(What::Table(Call::Store)),
-            b"trie-churn" => Some(What::Table(Call::Churn)),
-            b"trie-mix" => Some(What::Table(Call::Mix)),
-            b"word-add" => Some(What::Table(Call::Add)),
-            _ => None,
+/// The words of what is measured.
+const WHATS: [(&str, What); 16] = [
+    ("mutex", What::Mutex),
+    ("read", What::Read),
+    ("write", What::Write),
+    ("group", What::Group),
+    ("once", What::Once),
+    ("pool", What::Pool),
+    ("plain-load", What::Plain(Call::Load)),
+    ("plain-store", What::Plain(Call::Store)),
+    ("plain-churn", What::Plain(Call::Churn)),
+    ("plain-mix", What::Plain(Call::Mix)),
+    ("plain-add", What::Plain(Call::Add)),
+    ("trie-load", What::Table(Call::Load)),
+    ("trie-store", What::Table(Call::Store)),
+    ("trie-churn", What::Table(Call::Churn)),
+    ("trie-mix", What::Table(Call::Mix)),
+    ("word-add", What::Table(Call::Add)),
+];
+
+/// What stands beside a word.
+fn of_word<T: Copy>(word: &str, rows: &[(&str, T)]) -> Option<T> {
+    for (name, meaning) in rows {
+        if *name == word {
+            return Some(*meaning);
         }
     }
+    None
 }
 
 /// How many threads call, each as one caller.
@@ -70,18 +76,16 @@ pub enum How {
     Shared(usize),
 }
 
-impl How {
-    fn of(word: &str) -> Option<Self> {
-        match word.as_bytes() {
-            b"one" => Some(How::Own(1)),
-            b"two-own" => Some(How::Own(2)),
-            b"four-own" => Some(How::Own(4)),
-            b"two-shared" => Some(How::Shared(2)),
-            b"four-shared" => Some(How::Shared(4)),
-            _ => None,
-        }
-    }
+/// The words of how many threads call.
+const HOWS: [(&str, How); 5] = [
+    ("one", How::Own(1)),
+    ("two-own", How::Own(2)),
+    ("four-own", How::Own(4)),
+    ("two-shared", How::Shared(2)),
+    ("four-shared", How::Shared(4)),
+];
 
+impl How {
     /// How many threads call on one object, and at most 4.
     pub fn callers(self) -> usize
         ensures { (0 < result) × (result ≤ 4) }
@@ -102,15 +106,8 @@ pub enum Notes {
     Empty,
 }
 
-impl Notes {
-    fn of(word: &str) -> Option<Self> {
-        match word.as_bytes() {
-            b"front" => Some(Notes::Front),
-            b"empty" => Some(Notes::Empty),
-            _ => None,
-        }
-    }
-}
+/// The words of the notes.
+const NOTES: [(&str, Notes); 2] = [("front", Notes::Front), ("empty", Notes::Empty)];
 
 /// The clock that the calls read.
 #[derive(Clone, Copy, Debug, PartialEq, Eq)]
@@ -121,15 +118,8 @@ pub enum Reads {
     Standing,
 }
 
-impl Reads {
-    fn of(word: &str) -> Option<Self> {
-        match word.as_bytes() {
-            b"machine" => Some(Reads::Machine),
-            b"standing" => Some(Reads::Standing),
-            _ => None,
-        }
-    }
-}
+/// The words of the clocks.
+const CLOCKS: [(&str, Reads); 2] = [("machine", Reads::Machine), ("standing", Reads::Standing)];
 
 /// One measurement.
 #[derive(Clone, Copy, Debug, PartialEq, Eq)]
@@ -167,10 +157,10 @@ pub fn plan_of(words: &[String]) -> Option<Plan> {
     let [what, how, notes, reads, callers, rounds] = words else {
         return None;
     };
-    let what = What::of(what.as_str())?;
-    let how = How::of(how.as_str())?;
-    let notes = Notes::of(notes.as_str())?;
-    let reads = Reads::of(reads.as_str())?;
+    let what = of_word(what.as_str(), &WHATS)?;
+    let how = of_word(how.as_str(), &HOWS)?;
+    let notes = of_word(notes.as_str(), &NOTES)?;
+    let reads = of_word(reads.as_str(), &CLOCKS)?;
     let callers: u32 = callers.parse().ok()?;
     let rounds: u32 = rounds.parse().ok()?;
     if callers < 4 || 64 < callers || rounds == 0 || 100_000 < rounds {

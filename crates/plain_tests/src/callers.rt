@@ -17,111 +17,113 @@ fn is_same(
     Ok(format!(in alloc; "{given:?}")? == format!(in alloc; "{wanted:?}")?)
 }
 
+// Who calls, the call on map 0, and what it is answered.
+const MAP_CALLS: [(Who, MapCall<u32>, MapReply); 28] = [
+    (FIRST, MapCall::Load { key: 1 }, MapReply::Found(None)),
+    (
+        SECOND,
+        MapCall::LoadAndDelete { key: 1 },
+        MapReply::Found(None),
+    ),
+    (FIRST, MapCall::Delete { key: 1 }, MapReply::Done),
+    (
+        SECOND,
+        MapCall::CompareAndSwap {
+            key: 1,
+            old: 0,
+            new: 1,
+        },
+        MapReply::Compared(false),
+    ),
+    (
+        FIRST,
+        MapCall::CompareAndDelete { key: 1, old: 0 },
+        MapReply::Compared(false),
+    ),
+    (
+        SECOND,
+        MapCall::Swap { key: 1, value: 7 },
+        MapReply::Found(None),
+    ),
+    (FIRST, MapCall::Load { key: 1 }, MapReply::Found(Some(7))),
+    (
+        FIRST,
+        MapCall::Swap { key: 1, value: 7 },
+        MapReply::Found(Some(7)),
+    ),
+    (
+        SECOND,
+        MapCall::Swap { key: 1, value: 8 },
+        MapReply::Found(Some(7)),
+    ),
+    (
+        FIRST,
+        MapCall::LoadOrStore { key: 1, value: 5 },
+        MapReply::Settled {
+            value: 8,
+            loaded: true,
+        },
+    ),
+    (
+        SECOND,
+        MapCall::LoadOrStore { key: 2, value: 5 },
+        MapReply::Settled {
+            value: 5,
+            loaded: false,
+        },
+    ),
+    (FIRST, MapCall::Load { key: 2 }, MapReply::Found(Some(5))),
+    (
+        SECOND,
+        MapCall::CompareAndSwap {
+            key: 1,
+            old: 9,
+            new: 4,
+        },
+        MapReply::Compared(false),
+    ),
+    (
+        FIRST,
+        MapCall::CompareAndSwap {
+            key: 1,
+            old: 8,
+            new: 9,
+        },
+        MapReply::Compared(true),
+    ),
+    (SECOND, MapCall::Load { key: 1 }, MapReply::Found(Some(9))),
+    (
+        SECOND,
+        MapCall::CompareAndDelete { key: 2, old: 4 },
+        MapReply::Compared(false),
+    ),
+    (
+        FIRST,
+        MapCall::CompareAndDelete { key: 2, old: 5 },
+        MapReply::Compared(true),
+    ),
+    (SECOND, MapCall::Load { key: 2 }, MapReply::Found(None)),
+    (
+        FIRST,
+        MapCall::LoadAndDelete { key: 1 },
+        MapReply::Found(Some(9)),
+    ),
+    (SECOND, MapCall::Load { key: 1 }, MapReply::Found(None)),
+    (SECOND, MapCall::Store { key: 3, value: 3 }, MapReply::Done),
+    (FIRST, MapCall::Store { key: 3, value: 6 }, MapReply::Done),
+    (SECOND, MapCall::Load { key: 3 }, MapReply::Found(Some(6))),
+    (SECOND, MapCall::Delete { key: 3 }, MapReply::Done),
+    (FIRST, MapCall::Load { key: 3 }, MapReply::Found(None)),
+    (FIRST, MapCall::Store { key: 0, value: 1 }, MapReply::Done),
+    (SECOND, MapCall::Clear, MapReply::Done),
+    (FIRST, MapCall::Load { key: 0 }, MapReply::Found(None)),
+];
+
 // Each call on an absent, on an equal and on another value, by either of the callers.
 #[test]
 fn map_calls_of_two_callers_are_answered_in_order(rt: HostRuntime) -> Result<(), Fail> {
     let mut pair = Pair::new(rt.alloc(), 20)?.expect(&rt, "two callers");
-    let table = [
-        (FIRST, MapCall::Load { key: 1 }, MapReply::Found(None)),
-        (
-            SECOND,
-            MapCall::LoadAndDelete { key: 1 },
-            MapReply::Found(None),
-        ),
-        (FIRST, MapCall::Delete { key: 1 }, MapReply::Done),
-        (
-            SECOND,
-            MapCall::CompareAndSwap {
-                key: 1,
-                old: 0,
-                new: 1,
-            },
-            MapReply::Compared(false),
-        ),
-        (
-            FIRST,
-            MapCall::CompareAndDelete { key: 1, old: 0 },
-            MapReply::Compared(false),
-        ),
-        (
-            SECOND,
-            MapCall::Swap { key: 1, value: 7 },
-            MapReply::Found(None),
-        ),
-        (FIRST, MapCall::Load { key: 1 }, MapReply::Found(Some(7))),
-        (
-            FIRST,
-            MapCall::Swap { key: 1, value: 7 },
-            MapReply::Found(Some(7)),
-        ),
-        (
-            SECOND,
-            MapCall::Swap { key: 1, value: 8 },
-            MapReply::Found(Some(7)),
-        ),
-        (
-            FIRST,
-            MapCall::LoadOrStore { key: 1, value: 5 },
-            MapReply::Settled {
-                value: 8,
-                loaded: true,
-            },
-        ),
-        (
-            SECOND,
-            MapCall::LoadOrStore { key: 2, value: 5 },
-            MapReply::Settled {
-                value: 5,
-                loaded: false,
-            },
-        ),
-        (FIRST, MapCall::Load { key: 2 }, MapReply::Found(Some(5))),
-        (
-            SECOND,
-            MapCall::CompareAndSwap {
-                key: 1,
-                old: 9,
-                new: 4,
-            },
-            MapReply::Compared(false),
-        ),
-        (
-            FIRST,
-            MapCall::CompareAndSwap {
-                key: 1,
-                old: 8,
-                new: 9,
-            },
-            MapReply::Compared(true),
-        ),
-        (SECOND, MapCall::Load { key: 1 }, MapReply::Found(Some(9))),
-        (
-            SECOND,
-            MapCall::CompareAndDelete { key: 2, old: 4 },
-            MapReply::Compared(false),
-        ),
-        (
-            FIRST,
-            MapCall::CompareAndDelete { key: 2, old: 5 },
-            MapReply::Compared(true),
-        ),
-        (SECOND, MapCall::Load { key: 2 }, MapReply::Found(None)),
-        (
-            FIRST,
-            MapCall::LoadAndDelete { key: 1 },
-            MapReply::Found(Some(9)),
-        ),
-        (SECOND, MapCall::Load { key: 1 }, MapReply::Found(None)),
-        (SECOND, MapCall::Store { key: 3, value: 3 }, MapReply::Done),
-        (FIRST, MapCall::Store { key: 3, value: 6 }, MapReply::Done),
-        (SECOND, MapCall::Load { key: 3 }, MapReply::Found(Some(6))),
-        (SECOND, MapCall::Delete { key: 3 }, MapReply::Done),
-        (FIRST, MapCall::Load { key: 3 }, MapReply::Found(None)),
-        (FIRST, MapCall::Store { key: 0, value: 1 }, MapReply::Done),
-        (SECOND, MapCall::Clear, MapReply::Done),
-        (FIRST, MapCall::Load { key: 0 }, MapReply::Found(None)),
-    ];
-    for (who, call, reply) in table {
+    for &(who, call, reply) in &MAP_CALLS {
         let given = pair.on_map(&rt, who, 0, call);
         assert!(rt;
             is_same(rt.alloc(), given, Some(reply))?,
@@ -148,41 +150,70 @@ fn maps_are_apart(rt: HostRuntime) -> Result<(), Fail> {
     Ok(())
 }
 
-fn held(value: u64) -> AtomicReply {
-    AtomicReply::Held(Number::Uint64(value))
-}
+const TWO: Number = Number::Uint64(2);
+
+const FIVE: Number = Number::Uint64(5);
+
+// Who calls, the call on the Uint64, and what it is answered.
+const ATOMIC_CALLS: [(Who, AtomicCall, AtomicReply); 10] = [
+    (
+        FIRST,
+        AtomicCall::Load,
+        AtomicReply::Held(Number::Uint64(0)),
+    ),
+    (SECOND, AtomicCall::Store { value: FIVE }, AtomicReply::Done),
+    (
+        FIRST,
+        AtomicCall::Load,
+        AtomicReply::Held(Number::Uint64(5)),
+    ),
+    (
+        FIRST,
+        AtomicCall::Add { operand: TWO },
+        AtomicReply::Held(Number::Uint64(7)),
+    ),
+    (
+        SECOND,
+        AtomicCall::And { operand: TWO },
+        AtomicReply::Held(Number::Uint64(7)),
+    ),
+    (
+        FIRST,
+        AtomicCall::Or { operand: FIVE },
+        AtomicReply::Held(Number::Uint64(2)),
+    ),
+    (
+        SECOND,
+        AtomicCall::Swap { value: TWO },
+        AtomicReply::Held(Number::Uint64(7)),
+    ),
+    (
+        FIRST,
+        AtomicCall::CompareAndSwap {
+            old: FIVE,
+            new: TWO,
+        },
+        AtomicReply::Compared(false),
+    ),
+    (
+        FIRST,
+        AtomicCall::CompareAndSwap {
+            old: TWO,
+            new: FIVE,
+        },
+        AtomicReply::Compared(true),
+    ),
+    (
+        SECOND,
+        AtomicCall::Load,
+        AtomicReply::Held(Number::Uint64(5)),
+    ),
+];
 
 #[test]
 fn atomic_calls_of_two_callers_are_answered_in_order(rt: HostRuntime) -> Result<(), Fail> {
     let mut pair = Pair::new(rt.alloc(), 0)?.expect(&rt, "two callers");
-    let [two, five] = [Number::Uint64(2), Number::Uint64(5)];
-    let table = [
-        (FIRST, AtomicCall::Load, held(0)),
-        (SECOND, AtomicCall::Store { value: five }, AtomicReply::Done),
-        (FIRST, AtomicCall::Load, held(5)),
-        (FIRST, AtomicCall::Add { operand: two }, held(7)),
-        (SECOND, AtomicCall::And { operand: two }, held(7)),
-        (FIRST, AtomicCall::Or { operand: five }, held(2)),
-        (SECOND, AtomicCall::Swap { value: two }, held(7)),
-        (
-            FIRST,
-            AtomicCall::CompareAndSwap {
-                old: five,
-                new: two,
-            },
-            AtomicReply::Compared(false),
-        ),
-        (
-            FIRST,
-            AtomicCall::CompareAndSwap {
-                old: two,
-                new: five,
-            },
-            AtomicReply::Compared(true),
-        ),
-        (SECOND, AtomicCall::Load, held(5)),
-    ];
-    for (who, call, reply) in table {
+    for &(who, call, reply) in &ATOMIC_CALLS {
         assert_eq!(rt;
             pair.on_atomic(&rt, who, call),
             Some(reply),

@@ -8,6 +8,3 @@ pub mod value;
 pub use atomic::{Atomic, Bool, Int32, Int64, Uint32, Uint64};
 pub use call::atomic_call;
 pub use value::{AtomicBits, AtomicValue};
-
-#[cfg(test)]
-mod tests;

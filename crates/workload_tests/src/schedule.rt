@@ -20,15 +20,40 @@ fn push_number(alloc: Global, text: &mut String, number: Number) -> Result<(), A
     text.push_str(&word)
 }
 
-fn push_map_reply(alloc: Global, text: &mut String, reply: &MapReply) -> Result<(), AllocError> {
-    let word = match reply {
-        MapReply::Done => format!(in alloc; " ok")?,
-        MapReply::Found(None) => format!(in alloc; " -")?,
-        MapReply::Found(Some(value)) => format!(in alloc; " {value}")?,
-        MapReply::Settled { value, loaded } => format!(in alloc; " {value}:{loaded}")?,
-        MapReply::Compared(same) => format!(in alloc; " {same}")?,
-    };
+fn push_value(alloc: Global, text: &mut String, value: u64) -> Result<(), AllocError> {
+    let word = format!(in alloc; " {value}")?;
     text.push_str(&word)
+}
+
+fn push_flag(alloc: Global, text: &mut String, flag: bool) -> Result<(), AllocError> {
+    let word = format!(in alloc; " {flag}")?;
+    text.push_str(&word)
+}
+
+fn push_found(alloc: Global, text: &mut String, found: Option<u64>) -> Result<(), AllocError> {
+    match found {
+        None => text.push_str(" -"),
+        Some(value) => push_value(alloc, text, value),
+    }
+}
+
+fn push_settled(
+    alloc: Global,
+    text: &mut String,
+    value: u64,
+    loaded: bool,
+) -> Result<(), AllocError> {
+    let word = format!(in alloc; " {value}:{loaded}")?;
+    text.push_str(&word)
+}
+
+fn push_map_reply(alloc: Global, text: &mut String, reply: &MapReply) -> Result<(), AllocError> {
+    match reply {
+        MapReply::Done => text.push_str(" ok"),
+        MapReply::Found(found) => push_found(alloc, text, *found),
+        MapReply::Settled { value, loaded } => push_settled(alloc, text, *value, *loaded),
+        MapReply::Compared(same) => push_flag(alloc, text, *same),
+    }
 }
 
 fn push_pairs(
@@ -56,19 +81,13 @@ fn push_reply(
         Reply::Map(reply) => push_map_reply(alloc, text, reply),
         Reply::Pairs(pairs) => push_pairs(alloc, text, keys, pairs.as_slice()),
         Reply::Atomic(AtomicReply::Done) => text.push_str(" ok"),
-        Reply::Atomic(AtomicReply::Compared(same)) => {
-            let word = format!(in alloc; " {same}")?;
-            text.push_str(&word)
-        }
+        Reply::Atomic(AtomicReply::Compared(same)) => push_flag(alloc, text, *same),
         Reply::Atomic(AtomicReply::Held(number)) => {
             text.push_str(" ")?;
             push_number(alloc, text, *number)
         }
         Reply::Lock(LockReply::Done) => text.push_str(" ok"),
-        Reply::Lock(LockReply::Tried(acquired)) => {
-            let word = format!(in alloc; " {acquired}")?;
-            text.push_str(&word)
-        }
+        Reply::Lock(LockReply::Tried(acquired)) => push_flag(alloc, text, *acquired),
         Reply::Returned | Reply::OnceFunc(None) | Reply::Pool(PoolCallReply::Done) => {
             text.push_str(" ok")
         }
@@ -81,10 +100,7 @@ fn push_reply(
             let words = format!(in alloc; " err {code}")?;
             text.push_str(&words)
         }
-        Reply::OnceValue(value) => {
-            let word = format!(in alloc; " {value}")?;
-            text.push_str(&word)
-        }
+        Reply::OnceValue(value) => push_value(alloc, text, *value),
         Reply::Pool(PoolCallReply::Put(item)) => {
             let words = format!(in alloc; " {item} put")?;
             text.push_str(&words)

@@ -1,6 +1,0 @@
-use Rattle.sync_model.specs.Shared.{IsHeldBy}
-use Rattle.shared_table.specs.Notes.{own_by, IsNoteOf}
-use Rattle.go_map.proofs.tests.race.work.Given as goal
-
-abbrev pub invariant-loop-round : goal.invariant-loop-round
-invariant-loop-round g l = record { caller : IsNoteOf l.map.table.now l.caller.note × IsHeldBy l.number (own_by l.caller.note) }

@@ -1,5 +1,0 @@
-use Rattle.go_map.proofs.Callers.{all_callers}
-use Rattle.go_map.proofs.tests.threads.two_threads_that_fill_and_empty_one_path_leave_nothing_of_it.Goals as goal
-
-pub take-requires : goal.take-requires
-take-requires g c = all_callers _ _ _ c.in_ok-table.ensures.callers

@@ -1,0 +1,4 @@
+mod AllCallers
+mod Callers
+mod Pairs
+mod Walkers
