@@ -18,5 +18,4 @@ mod ObjectJournals
 mod PairLemmas
 mod PartLemmas
 mod TwoCalls
-mod WaitCalls
 mod WaitLemmas
