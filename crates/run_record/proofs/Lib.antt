@@ -19,5 +19,4 @@ mod ObjectJournals
 mod PairLemmas
 mod PartLemmas
 mod TwoCalls
-mod WaitCalls
 mod WaitLemmas

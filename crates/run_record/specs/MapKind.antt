@@ -13,7 +13,6 @@ use Rattle.sync_types.specs.declared.map_object.MapCall.{MapCall}
 use Rattle.sync_types.specs.declared.map_object.MapReply.{MapReply}
 use Rattle.sync_types.specs.Renaming.{renamed_call}
 use Rattle.workload.specs.Keys.{key_number, key_name}
-use Rattle.run_record.specs.Limits.{step_of}
 use Rattle.run_record.specs.Parts.{Part, Places}
 
 module _ (keys : List (List ℕ)) (m : ℕ) where
@@ -23,7 +22,7 @@ module _ (keys : List (List ℕ)) (m : ℕ) where
 
   -- a step of the cursor that the worker's call of this number began, which shows a pair
   abbrev pub step_showing : ℕ → ℕ × ℕ → SharedCall × SharedReply
-  step_showing begin pair = step_of begin pair
+  step_showing begin pair = (calls.Next begin, answers.Shown (Some pair))
 
   -- a cursor that begins as the worker's call of this number, shows these pairs, and then none
   abbrev pub cursor_showing : ℕ → List (ℕ × ℕ) → List (SharedCall × SharedReply)

@@ -1,5 +1,5 @@
 -- What returns a wait on a cond, and one on a wait group.
-use Rattle.std.specs.Prelude.{◌≡◌, ◌≢◌, ◌⊎◌, ℕ, ◌^◌, ◌<◌, ℤ, pos, ◌+ℤ◌, List, ◌∷◌, ◌++◌, Some, slice_get}
+use Rattle.std.specs.Prelude.{◌≡◌, ◌≢◌, ◌⊎◌, ℕ, ◌^◌, ◌<◌, pos, ◌+ℤ◌, List, ◌∷◌, ◌++◌, Some, slice_get}
 use Rattle.sync_model.specs.declared.journal.Deed.TheVariants.{Event}
 use Rattle.sync_model.specs.Front.{AtLeast}
 use Rattle.sync_model.specs.Log.{after}
@@ -7,14 +7,12 @@ use Rattle.wait_cores.specs.declared.group.GroupEvent.{GroupEvent}
 use Rattle.wait_cores.specs.declared.group.GroupReply.{GroupReply}
 use Rattle.wait_cores.specs.declared.group.GroupReply.TheVariants as grouped
 use Rattle.wait_cores.specs.declared.notify.NotifyEvent.{NotifyEvent}
-use Rattle.wait_cores.specs.declared.notify.NotifyEvent.TheVariants.{Ticket, Leave, Signal, Broadcast}
+use Rattle.wait_cores.specs.declared.notify.NotifyEvent.TheVariants.{Signal, Broadcast}
 use Rattle.wait_cores.specs.declared.notify.NotifyReply.TheVariants as notified
 use Rattle.wait_cores.specs.GroupLaws.{Log, additions, wait_by, leave_by}
 use Rattle.wait_cores.specs.GroupMachine.{next}
 use Rattle.run_record.specs.declared.entered.ObjectEvent.TheVariants as event
 use Rattle.run_record.specs.declared.entered.ObjectReply.TheVariants as reply
-use Rattle.run_record.specs.declared.made.Made.{Made}
-use Rattle.run_record.specs.declared.made.Made.TheVariants.{Entered}
 use Rattle.run_record.specs.Record.{ObjectEntry}
 use Rattle.run_record.specs.WaitGroupKind.{group_start}
 
@@ -35,21 +33,6 @@ pub record WasNotified (journal : List ObjectEntry) (taken left : ℕ) (leaving 
   pub after_ticket : taken < at
   pub before_leaving : at < left
   pub knows : AtLeast leaving.front notice.front
-
--- A cond's `wait`, made of these items, was notified: it has a ticket and a leaving, and between the two in the cond's journal somebody signals or broadcasts.
-pub record WaitWasNotified (object : ℕ) (journal : List ObjectEntry) (items : List Made) : Type 0 where
-  pub ticket : ObjectEntry
-  pub leaving : ObjectEntry
-  pub between : List Made
-  pub rest : List Made
-  pub parts : items ≡ Entered object ticket ∷ (between ++ Entered object leaving ∷ rest)
-  pub is_ticket : IsOnCond Ticket ticket
-  pub is_leaving : IsOnCond Leave leaving
-  pub taken : ℕ
-  pub left : ℕ
-  pub at_ticket : slice_get journal taken ≡ Some ticket
-  pub at_leaving : slice_get journal left ≡ Some leaving
-  pub notified : WasNotified journal taken left leaving
 
 -- the counter of a wait group of so many callers after the events of a log: it begins as the workload declares
 abbrev pub counter_after : (callers declared : ℕ) → Log → ℕ

@@ -1,22 +1,17 @@
 //! What stands before the return of a wait, by the journals of conds and wait groups.
-ghost use Rattle.std.specs.Prelude.{◌≡◌, ℕ, ◌<◌, ℤ, negsuc, List, ◌∷◌, ◌++◌, Some, Ok, slice_get};
+ghost use Rattle.std.specs.Prelude.{◌≡◌, ℕ, ◌<◌, ℤ, negsuc, ◌∷◌, ◌++◌, Some, slice_get};
 ghost use Rattle.sync_model.specs.Front.{AtLeast};
 ghost use Rattle.wait_cores.specs.GroupLaws as group;
 ghost use Rattle.wait_cores.specs.NotifyLaws as notify;
 ghost use Rattle.workload.specs.Plan.{Plan};
 ghost use Rattle.run_record.specs.Explains.{IsRecordOf};
 ghost use Rattle.run_record.specs.Logs.{Shows};
-ghost use Rattle.run_record.specs.Calls.{SpellsCall};
-ghost use Rattle.run_record.specs.Record.{Record, ObjectEntry, object_number, journal_of, list_of};
-ghost use Rattle.run_record.specs.Waits.{IsOnCond, IsOnGroup, WasNotified, WaitWasNotified, ReturnsAtZero};
+ghost use Rattle.run_record.specs.Record.{Record, ObjectEntry, object_number, journal_of};
+ghost use Rattle.run_record.specs.Waits.{IsOnCond, IsOnGroup, WasNotified, ReturnsAtZero};
 
 use crate::entered::{ObjectEvent, ObjectReply};
-use crate::laws::edges::a_list_keeps_the_order_of_its_journals;
-use crate::made::Made;
-use sync_model::Answer;
 use sync_model::laws::journals::journal_is_log;
 use sync_model::laws::logs::logs_go_on;
-use sync_types::{Call, CondCall, Operation, Reply};
 use wait_cores::{GroupCore, GroupEvent, GroupReply, NotifyCore, NotifyEvent};
 use workload::{ObjectKind, ObjectLine};
 
@@ -38,18 +33,6 @@ pub fn whoever_leaves_a_cond_was_notified()
     journal_is_log::<NotifyCore>();
     wait_cores::laws::notify::synchronizes();
     wait_cores::laws::notify::leaves_when_notified();
-}
-
-/// A cond's `wait` that returned was notified by a signal or a broadcast behind its ticket, and its worker knows from then on what
-/// that one's worker knew. It is a call of a worker whose items stand in the worker's list.
-pub fn a_wait_that_returned_was_notified()
-    ensures { (plan : Plan) (r : Record) (worker before mutex : ℕ) (object : ObjectLine) (call : Call) (reply : Reply ℕ) (items earlier later : List Made)
-        → IsRecordOf plan r → slice_get plan.objects call.object ≡ Some object → object.kind ≡ ObjectKind.Cond mutex → call.operation ≡ Operation.Cond CondCall.Wait
-        → SpellsCall plan worker before call items (Answer.Done (Ok reply)) → list_of r worker ≡ earlier ++ (items ++ later)
-        → WaitWasNotified (object_number call.object) (journal_of r (object_number call.object)) items }
-{
-    whoever_leaves_a_cond_was_notified();
-    a_list_keeps_the_order_of_its_journals();
 }
 
 /// A wait on a wait group returns only behind additions that brought the counter to 0, and its caller knows from then on what

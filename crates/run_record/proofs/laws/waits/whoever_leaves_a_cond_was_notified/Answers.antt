@@ -1,11 +1,8 @@
-use Rattle.std.proofs.Common.{◌≡◌, ℕ, List, ◌∷◌, ◌++◌, map, Some, slice_get, refl, sym, ap, ◌∙◌, subst}
-use Rattle.sync_model.specs.declared.journal.Entry.{Entry}
+use Rattle.std.proofs.Common.{◌≡◌, ℕ, List, ◌∷◌, ◌++◌, Some, slice_get, refl, sym, ap, ◌∙◌, subst}
 use Rattle.sync_model.specs.Front.{AtLeast}
 use Rattle.sync_model.specs.Journal.{is_such, log_of}
 use Rattle.sync_model.specs.Log.{Follows, entry}
-use Rattle.wait_cores.specs.declared.notify.NotifyEvent.{NotifyEvent}
 use Rattle.wait_cores.specs.declared.notify.NotifyEvent.TheVariants.{Ticket, Leave}
-use Rattle.wait_cores.specs.declared.notify.NotifyReply.{NotifyReply}
 use Rattle.wait_cores.specs.declared.notify.NotifyReply.TheVariants.{Done}
 use Rattle.wait_cores.specs.NotifyEdges.{notify_releases, notify_acquires}
 use Rattle.wait_cores.specs.NotifyLaws.{Log, ticket_by, leave_by}
@@ -15,7 +12,6 @@ use Rattle.run_record.specs.declared.entered.ObjectEvent.TheVariants as event
 use Rattle.run_record.specs.declared.entered.ObjectReply.TheVariants as reply
 use Rattle.run_record.specs.Parts.{lifted}
 use Rattle.run_record.specs.Record.{ObjectEntry}
-use Rattle.run_record.specs.Waits.{IsOnCond}
 use Rattle.run_record.proofs.JournalParts.{cut_two, log_cut, logged_such}
 use Rattle.run_record.proofs.Lifts.{lifted_from, lifted_at}
 use Rattle.run_record.proofs.ObjectJournals.{journal_at}
