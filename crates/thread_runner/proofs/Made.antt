@@ -113,6 +113,13 @@ module _ {N H : Type 0} (at : H → N → Type 0) (home : H) (workers : ℕ) (pl
     nothing_by number c worker (inl found) = made.nothing number c worker found
     nothing_by number c worker (inr (behind, same)) = subst (λ k. owns_of (passes_in k) worker ≡ []) same (none worker)
 
+  -- the same lists, by other names
+  pub made_as : (n m : ℕ) (objects more : List (AnyObject N H)) (all columns : List (AnyColumn N)) → n ≡ m → objects ≡ more → all ≡ columns → AreMade at home workers plan n more columns → AreMade at home workers plan m objects all
+  made_as n m objects more all columns count one other made =
+      subst (λ k. AreMade at home workers plan k objects all) count
+      (subst (λ (l : List (AnyObject N H)). AreMade at home workers plan n l all) (sym one)
+      (subst (λ (l : List (AnyColumn N)). AreMade at home workers plan n more l) (sym other) made))
+
   module _ (objects : List (AnyObject N H)) (all : List (AnyColumn N)) (made : AreMade at home workers plan (object_count plan) objects all) where
     pub all_declared : workers ≡ plan.workers → AreDeclared at home plan objects
     all_declared same = record {
