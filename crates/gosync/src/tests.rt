@@ -444,7 +444,7 @@ fn calls_and_ranges_are_limited(rt: HostRuntime) -> Result<(), Fail> {
     Ok(())
 }
 
-const FAULTS: [(&str, &str); 18] = [
+const FAULTS: [(&str, &str); 17] = [
     ("", "gosync: line 1: no workers line\n"),
     ("map t\n", "gosync: line 1: no workers line\n"),
     (

@@ -3,9 +3,12 @@ use super::{Row, STEP, USAGE, comes_out, is_of, run_on, run_through};
 use std::test::Fail;
 use sync_outside::{HoldGate, OpenGate, RefuseStart, ThreadSpawner};
 
-pub const SEVEN: Row = Row {
+/// The five lines of seed 7.
+pub const LINES: &str = "workers 8\ncalls 16000\ntotal 2007240\nkeys 347\nsum 3001507156\n";
+
+const SEVEN: Row = Row {
     words: "gosync make 7",
-    report: "workers 8\ncalls 16000\ntotal 2007240\nkeys 347\nsum 3001507156\n",
+    report: LINES,
     ..STEP
 };
 
@@ -92,7 +95,7 @@ fn each_write_of_a_line_fails_in_turn(rt: HostRuntime) -> Result<(), Fail> {
 const REFUSED_STARTS: [(usize, u8, &str, &str); 3] = [
     (1, 3, "", "gosync: cannot start the workers\n"),
     (8, 3, "", "gosync: cannot start the workers\n"),
-    (9, 0, SEVEN.report, ""),
+    (9, 0, LINES, ""),
 ];
 
 // There are eight starts, so a ninth isn't refused.

@@ -15,11 +15,13 @@ const RUN: Row = Row {
 const EACH_WAITS: &str =
     "workers 2\nwaitgroup g0 1\nwaitgroup g1 1\nworker 0\ndone g0\nwait g1\nworker 1\ndone g1\nwait g0\n";
 
+const EACH_REPORT: &str =
+    "0.0 done g0 -> ok\n0.1 wait g1 -> ok\n1.0 done g1 -> ok\n1.1 wait g0 -> ok\n";
+
+const TWO_REPORT: &str = "0.0 store t apple 5 -> ok\n0.1 load t apple -> 5 true\nend t apple 5\n";
+
 const RUNS: [(&str, &str); 6] = [
-    (
-        TWO_CALLS,
-        "0.0 store t apple 5 -> ok\n0.1 load t apple -> 5 true\nend t apple 5\n",
-    ),
+    (TWO_CALLS, TWO_REPORT),
     (
         "workers 1\nmap t\nworker 0\nlos t k 7\nlos t k 8\nrange t\nclear t\nrange t\n",
         "0.0 los t k 7 -> 7 false\n0.1 los t k 8 -> 7 true\n0.2 range t -> k=7\n0.3 clear t -> ok\n0.4 range t -> -\n",
@@ -32,10 +34,7 @@ const RUNS: [(&str, &str); 6] = [
         "workers 2\nint64 a\nonce o a 5\noncefunc g 3\nworker 0\ndo o\ncall g\ncall g\n",
         "0.0 do o -> ran 5\n0.1 call g -> err 3\n0.2 call g -> err 3\nend a 5\n",
     ),
-    (
-        EACH_WAITS,
-        "0.0 done g0 -> ok\n0.1 wait g1 -> ok\n1.0 done g1 -> ok\n1.1 wait g0 -> ok\n",
-    ),
+    (EACH_WAITS, EACH_REPORT),
     (
         "workers 3\nmap t\nworker 0\nstore t b 2\nworker 1\nstore t a 1\nworker 2\nstore t c 3\n",
         "0.0 store t b 2 -> ok\n1.0 store t a 1 -> ok\n2.0 store t c 3 -> ok\nend t a 1\nend t b 2\nend t c 3\n",
@@ -99,6 +98,7 @@ fn workers_work_beside_each_other(rt: HostRuntime) -> Result<(), Fail> {
 }
 
 /// A clock that counts how often it is read.
+#[derive(Drop)]
 struct ReadClock {
     reads: AtomicU64,
 }
@@ -121,7 +121,7 @@ fn a_run_reads_its_own_clock(rt: HostRuntime) -> Result<(), Fail> {
     };
     let made = Row {
         words: "gosync make 7",
-        report: super::make::SEVEN.report,
+        report: super::make::LINES,
         ..RUN
     };
     for row in &[locked, made] {
@@ -148,7 +148,7 @@ fn a_run_reads_its_own_clock(rt: HostRuntime) -> Result<(), Fail> {
 const REFUSED_STARTS: [(usize, u8, &str, &str); 3] = [
     (1, 3, "", "gosync: cannot start the workers\n"),
     (2, 3, "", "gosync: cannot start the workers\n"),
-    (3, 0, RUNS[4].1, ""),
+    (3, 0, EACH_REPORT, ""),
 ];
 
 // There are two starts, so a third isn't refused.
@@ -206,7 +206,7 @@ const FAULTS: [(&[u64], &[u64], u8, &str, &str); 8] = [
     (&[1], &[], 3, "", "gosync: cannot read w.txt\n"),
     (&[2], &[], 3, "", "gosync: cannot read w.txt\n"),
     (&[3], &[], 3, "", "gosync: cannot read w.txt\n"),
-    (&[4], &[], 0, RUNS[0].1, ""),
+    (&[4], &[], 0, TWO_REPORT, ""),
     (&[], &[1], 3, "", "gosync: cannot write the report\n"),
     (
         &[],
@@ -222,7 +222,7 @@ const FAULTS: [(&[u64], &[u64], u8, &str, &str); 8] = [
         "0.0 store t apple 5 -> ok\n0.1 load t apple -> 5 true\n",
         "gosync: cannot write the report\n",
     ),
-    (&[], &[4], 0, RUNS[0].1, ""),
+    (&[], &[4], 0, TWO_REPORT, ""),
 ];
 
 // The source has three calls, an open and two reads, and the output three. A fourth isn't made.
