@@ -19,7 +19,7 @@ loop-part-preserved g c =
     let home = c.args.crew.now.home.now in
     let workers = c.args.crew.now.workers in
     let plan = c.args.workload.now in
-    let part = c.loop-part.part in
+    let part = c.loop-part._part in
     let count = first_part plan c.args.place + part in
     let line = c.requires.place in
     let some = some_parts (is_pool c.args.kind) workers part (omega (arith, c.loop-part-test.true, c.parts_of-part-end.ensures)) in
@@ -41,5 +41,5 @@ returns-clause-made g c =
     let follow = c.parts_have_numbers_of_their_own.ensures.follow plan c.args.place line.0 line.1 in
     let kind = ap (λ (k : ObjectKind). cond (is_pool k) plan.workers 0) line.2 in
     let same = ap (λ n. cond (is_pool c.args.kind) n 0) c.requires.workers in
-    let all : first_part plan c.args.place + c.loop-part.part ≡ first_part plan (c.args.place + 1) = omega (arith, c.loop-part-test.false, c.loop-part.auto.part-end, c.parts_of-part-end.ensures, follow, kind, same) in
+    let all : first_part plan c.args.place + c.loop-part._part ≡ first_part plan (c.args.place + 1) = omega (arith, c.loop-part-test.false, c.loop-part.auto._part-end, c.parts_of-part-end.ensures, follow, kind, same) in
     subst (λ n. AreMade g.N.Note.at c.args.crew.now.home.now c.args.crew.now.workers plan n c.loop-part.objects.items c.loop-part.columns.items) all c.loop-part.invariant.made
