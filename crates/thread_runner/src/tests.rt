@@ -151,7 +151,7 @@ fn a_workload_is_run_in_threads(rt: HostRuntime) -> Result<(), Fail> {
 }
 
 // Each leaves the same in every order of its workers that their calls allow.
-const KINDS: [(&str, &str); 14] = [
+const KINDS: [(&str, &str); 15] = [
     // Each worker has keys of its own.
     (
         "workers 3\nmap t\nworker 0\nstore t b 1\nload t b\nswap t b 2\ncas t b 2 3\nworker 1\nlos t a 4\nlad t a\nlos t a 5\ncad t a 6\nworker 2\nstore t c 7\ndelete t c\nload t c\nload t d\n",
