@@ -5,7 +5,12 @@ use Rattle.go_pool.proofs.Looking.{looked_none, looks_on, looks_up, looks_refuse
 use Rattle.go_pool.proofs.pool.Pool.get.Goals as goal
 
 pub loop-number-init : goal.loop-number-init
-loop-number-init g c = record { looked = looked_none c.args.self.now c.args.pass.now _ (g.N.Note.front c.args.note.now) refl refl; is = search rules; less = search rules; note = search rules }
+loop-number-init g c = record {
+  looked = looked_none c.args.self.now c.args.pass.now _ (g.N.Note.front c.args.note.now) refl refl;
+  is = search rules;
+  less = search rules;
+  note = search rules;
+}
 
 pub loop-number-preserved : goal.loop-number-preserved
 loop-number-preserved g c =

@@ -10,7 +10,12 @@ use Rattle.go_pool.proofs.Sweeping.{none_swept, swept_on, swept_refused, swept_a
 use Rattle.go_pool.proofs.pool.Pool.sweep.Goals as goal
 
 pub loop-part-init : goal.loop-part-init
-loop-part-init g c = record { swept = none_swept c.args.self.now c.args.pass.now _ (g.N.Note.front c.args.note.now) refl refl; is = search rules; less = search rules; note = search rules }
+loop-part-init g c = record {
+  swept = none_swept c.args.self.now c.args.pass.now _ (g.N.Note.front c.args.note.now) refl refl;
+  is = search rules;
+  less = search rules;
+  note = search rules;
+}
 
 pub loop-part-preserved : goal.loop-part-preserved
 loop-part-preserved g c =
