@@ -1,4 +1,4 @@
-// Measures a pair of calls of Go's sync types: nanoseconds a pair, for each thread.
+// Measures a pair of calls of Go's sync types, and a call of its sync.Map and atomic.Int64: nanoseconds for each thread.
 // go run measure.go ROUNDS
 package main
 
@@ -7,6 +7,7 @@ import (
 	"os"
 	"strconv"
 	"sync"
+	"sync/atomic"
 	"time"
 )
 
@@ -18,21 +19,21 @@ func apart[T any]() *T {
 	}).object
 }
 
-// A caller makes its pair of calls so many times.
-type caller func(rounds int)
+// A caller makes its pair of calls so many times. The callers of one object count from 0.
+type caller func(number, rounds int)
 
-// run has each of the callers make its pairs in a goroutine of its own.
-func run(name string, rounds int, callers []caller) {
+// run has so many callers make their pairs, each in a goroutine of its own, on the object that belongs to its number.
+func run(name string, rounds, callers int, object func(number int) caller) {
 	var ready, ended sync.WaitGroup
 	start := make(chan struct{})
-	for _, call := range callers {
-		call := call
+	for number := 0; number < callers; number++ {
+		number, call := number, object(number)
 		ready.Add(1)
 		ended.Add(1)
 		go func() {
 			ready.Done()
 			<-start
-			call(rounds)
+			call(number, rounds)
 			ended.Done()
 		}()
 	}
@@ -43,28 +44,117 @@ func run(name string, rounds int, callers []caller) {
 	fmt.Printf("%s %.1f\n", name, float64(time.Since(begin).Nanoseconds())/float64(rounds))
 }
 
-// each measures one caller, two and four on objects of their own, and two and four on one.
+// each measures one caller, two and four on objects of their own, and two, four and eight on one.
 func each(name string, rounds int, object func() caller) {
-	own := func(n int) []caller {
-		callers := []caller{}
-		for i := 0; i < n; i++ {
-			callers = append(callers, object())
-		}
-		return callers
+	own := func(callers int) {
+		run(fmt.Sprintf("%s %s-own", name, words[callers]), rounds, callers, func(int) caller {
+			// On an object of its own each caller is number 0.
+			call := object()
+			return func(_, rounds int) { call(0, rounds) }
+		})
 	}
-	shared := func(n int) []caller {
+	shared := func(callers int) {
 		one := object()
-		callers := []caller{}
-		for i := 0; i < n; i++ {
-			callers = append(callers, one)
-		}
-		return callers
+		run(fmt.Sprintf("%s %s-shared", name, words[callers]), rounds, callers, func(int) caller { return one })
 	}
-	run(name+" one", rounds, own(1))
-	run(name+" two-own", rounds, own(2))
-	run(name+" four-own", rounds, own(4))
-	run(name+" two-shared", rounds, shared(2))
-	run(name+" four-shared", rounds, shared(4))
+	run(name+" one", rounds, 1, func(int) caller { return object() })
+	own(2)
+	own(4)
+	shared(2)
+	shared(4)
+	shared(8)
+}
+
+var words = map[int]string{2: "two", 4: "four", 8: "eight"}
+
+// keysBefore is how many keys most maps have before the first call, ownKeys how many each caller stores and deletes, and
+// wideKeys how many are stored and deleted where they are many.
+const (
+	keysBefore = 512
+	ownKeys    = 128
+	wideKeys   = 4096
+)
+
+// The keys, and a value, as what a sync.Map takes. They are made once, before the first call.
+var (
+	keys      = makeKeys()
+	value any = uint64(1)
+)
+
+func makeKeys() []any {
+	keys := make([]any, wideKeys)
+	for i := range keys {
+		keys[i] = uint32(i)
+	}
+	return keys
+}
+
+func ownKey(number, round int) any {
+	return keys[ownKeys*(number%4)+round%ownKeys]
+}
+
+// eachMap measures calls on a map that has so many keys before the first one.
+func eachMap(name string, rounds, before int, calls func(m *sync.Map, number, rounds int)) {
+	each(name, rounds, func() caller {
+		m := apart[sync.Map]()
+		for _, key := range keys[:before] {
+			m.Store(key, value)
+		}
+		return func(number, rounds int) { calls(m, number, rounds) }
+	})
+}
+
+func load(m *sync.Map, round int) {
+	if _, found := m.Load(keys[round%keysBefore]); !found {
+		panic("a key is gone")
+	}
+}
+
+func maps(rounds int) {
+	eachMap("load", rounds, keysBefore, func(m *sync.Map, _, rounds int) {
+		for round := 0; round < rounds; round++ {
+			load(m, round)
+		}
+	})
+	eachMap("store", rounds, keysBefore, func(m *sync.Map, number, rounds int) {
+		for round := 0; round < rounds; round++ {
+			m.Store(ownKey(number, round), value)
+		}
+	})
+	eachMap("churn", rounds, keysBefore, func(m *sync.Map, number, rounds int) {
+		for round := 0; round < rounds; round++ {
+			key := ownKey(number, round)
+			m.Store(key, value)
+			m.Delete(key)
+		}
+	})
+	eachMap("wide", rounds, 0, func(m *sync.Map, number, rounds int) {
+		for round := 0; round < rounds; round++ {
+			key := keys[(512*number+round)%wideKeys]
+			if round/wideKeys%2 == 0 {
+				m.Store(key, value)
+			} else {
+				m.Delete(key)
+			}
+		}
+	})
+	eachMap("mix", rounds, keysBefore, func(m *sync.Map, number, rounds int) {
+		for round := 0; round < rounds; round++ {
+			if round%10 < 9 {
+				load(m, round)
+			} else {
+				m.Store(ownKey(number, round), value)
+			}
+		}
+	})
+	each("add", rounds, func() caller {
+		number := apart[atomic.Int64]()
+		return func(_, rounds int) {
+			for i := 0; i < rounds; i++ {
+				number.Add(1)
+			}
+		}
+	})
 }
 
 func main() {
@@ -74,7 +164,7 @@ func main() {
 	}
 	each("mutex", rounds, func() caller {
 		m := apart[sync.Mutex]()
-		return func(rounds int) {
+		return func(_, rounds int) {
 			for i := 0; i < rounds; i++ {
 				m.Lock()
 				m.Unlock()
@@ -83,7 +173,7 @@ func main() {
 	})
 	each("read", rounds, func() caller {
 		m := apart[sync.RWMutex]()
-		return func(rounds int) {
+		return func(_, rounds int) {
 			for i := 0; i < rounds; i++ {
 				m.RLock()
 				m.RUnlock()
@@ -92,7 +182,7 @@ func main() {
 	})
 	each("write", rounds, func() caller {
 		m := apart[sync.RWMutex]()
-		return func(rounds int) {
+		return func(_, rounds int) {
 			for i := 0; i < rounds; i++ {
 				m.Lock()
 				m.Unlock()
@@ -101,7 +191,7 @@ func main() {
 	})
 	each("group", rounds, func() caller {
 		g := apart[sync.WaitGroup]()
-		return func(rounds int) {
+		return func(_, rounds int) {
 			for i := 0; i < rounds; i++ {
 				g.Add(1)
 				g.Done()
@@ -110,7 +200,7 @@ func main() {
 	})
 	each("once", rounds, func() caller {
 		o := apart[sync.Once]()
-		return func(rounds int) {
+		return func(_, rounds int) {
 			for i := 0; i < rounds; i++ {
 				o.Do(func() {})
 			}
@@ -119,7 +209,7 @@ func main() {
 	each("pool", rounds, func() caller {
 		p := apart[sync.Pool]()
 		p.New = func() any { return new(uint64) }
-		return func(rounds int) {
+		return func(_, rounds int) {
 			item := any(new(uint64))
 			for i := 0; i < rounds; i++ {
 				p.Put(item)
@@ -127,4 +217,5 @@ func main() {
 			}
 		}
 	})
+	maps(rounds / 2)
 }

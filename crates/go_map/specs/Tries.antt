@@ -6,7 +6,7 @@ use Rattle.sync_model.specs.declared.item.SharedCall.TheVariants.{Next}
 use Rattle.table_cursors.specs.declared.cursor.TableCursor.{TableCursor}
 use Rattle.table_cursors.specs.CursorStays as still
 use Rattle.table_cursors.specs.Ranging.{IsCursor}
-use Rattle.shared_table.specs.Tables.{kinds_of, maps_of, count_of}
+use Rattle.shared_table.specs.Tables.{kinds_of, maps_of, caller_count}
 use Rattle.go_map.specs.declared.trie.Trie.{Trie}
 
 -- the types of the atomics, by number
@@ -19,7 +19,7 @@ maps_in trie = maps_of trie.0
 
 -- how many callers there are
 abbrev pub count_in : Trie → ℕ
-count_in trie = count_of trie.0
+count_in trie = caller_count trie.0
 
 -- its maps take all keys of 32 bits
 abbrev pub Takes : Trie → ℕ → Type 0

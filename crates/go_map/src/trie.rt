@@ -23,7 +23,8 @@ use sync_types::{AtomicCall, AtomicReply, MapCall, MapReply};
 pub struct Trie(pub SharedTable);
 
 // What a key has. The words that it reads are counted, and nobody asks for the count.
-fn load<L: Ledger>(
+fn load<R: Wait, L: Ledger>(
+    rt: &R,
     table: &SharedTable,
     caller: &mut Caller<SharedNote>,
     map: u32,
@@ -35,7 +36,7 @@ fn load<L: Ledger>(
     requires ledger { (blank.name ≡ L.name) × (blank.parts ≡ L.parts) × (0 < L.parts) }
     ensures { MakesCall table.now map (MapCall.Load key) (MapReply.Found result) caller.old.note caller.new.note }
 {
-    Map::at(table, map).load(caller, key, &mut Steps::<L>::new(blank))
+    Map::at(table, map).load(caller, key, &mut Steps::<L>::new(rt, blank))
 }
 
 impl Shared for Trie {
@@ -70,7 +71,8 @@ impl Shared for Trie {
     ) -> MapReply {
         match call {
             MapCall::Load { key } => {
-                MapReply::Found(load::<Brand>(&self.0, caller, map, key, Blank::new(1)))
+                let found = load::<_, Brand>(rt, &self.0, caller, map, key, Blank::new(1));
+                MapReply::Found(found)
             }
             MapCall::Store { key, .. }
             | MapCall::LoadOrStore { key, .. }

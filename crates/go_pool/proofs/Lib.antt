@@ -5,6 +5,7 @@ pub mod Looking
 pub mod Making
 pub mod PoolGrowth
 pub mod PoolSpelling
+pub mod Rounds
 pub mod Seats
 pub mod Sweeping
 pub mod TableSteps

@@ -43,6 +43,14 @@ module _ {M N H : Type 0} where
     )
 
 module _ {N H : Type 0} where
+  -- the same caller's pass with the same passes to the parts
+  pub pass_as : (pool : Pool N H) (old spent : PoolPass N) → IsPassOf pool old → spent.number ≡ old.number → spent.parts ≡ old.parts → IsPassOf pool spent
+  pass_as pool old spent is number parts = record {
+    caller = subst (λ (n : ℕ). n < pool.callers) (sym number) is.caller;
+    seats = subst (λ (n : ℕ). AreSeatsOf pool.parts.items n spent.parts.items) (sym number) (subst (λ (l : List (PartPass N)). AreSeatsOf pool.parts.items old.number l) (sym (ap (λ v. v.items) parts)) is.seats);
+    lawful = λ part p at_p. is.lawful part p (ap (λ v. slice_get v.items part) (sym parts) ∙ at_p);
+  }
+
   -- the pass to one part was used, and shows what is lawful
   pub pass_set : (pool : Pool N H) (old new : PoolPass N) (part : ℕ) (q : PartPass N) → IsPassOf pool old → new.number ≡ old.number → new.parts.items ≡ set old.parts.items part q → AreSeatsOf pool.parts.items old.number (set old.parts.items part q)
       → growth.IsLawful part_next true pool_releases pool_acquires (part_start (room_of pool)) q → IsPassOf pool new

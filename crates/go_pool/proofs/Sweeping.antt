@@ -1,7 +1,7 @@
 -- How the events of a sweep add up, part by part.
-use Rattle.std.proofs.Common.{◌≡◌, ℕ, ◌+◌, ◌<◌, [], ◌∷◌, ◌++◌, List, map, take, Some, None, refl, sym, ap, ◌∙◌, append-nil, arith}
+use Rattle.std.proofs.Common.{◌≡◌, ℕ, ◌+◌, ◌<◌, [], ◌∷◌, ◌++◌, List, map, take, Some, refl, sym, ap, ◌∙◌, append-nil, arith}
 use Rattle.std.specs.List.{range_with_len, slice_get}
-use Rattle.std.proofs.lemmas.List.{map-append, map_more, take-map}
+use Rattle.std.proofs.lemmas.List.{map_more, take-map}
 use Rattle.std.proofs.lemmas.List.FromFn.{length-range_with_len, get_or-range_with_len, take-map-range_with_len}
 use Rattle.std.proofs.lemmas.Option.{slice_get-get_or}
 use Rattle.sync_types.specs.declared.misuse.Misuse.{Misuse}
@@ -12,15 +12,15 @@ use Rattle.pool_core.specs.declared.pool_event.PoolEvent.{PoolEvent}
 use Rattle.pool_core.specs.declared.pool_event.PoolEvent.TheVariants.{Sweep}
 use Rattle.pool_core.specs.declared.pool_event.PoolReply.{PoolReply}
 use Rattle.pool_core.specs.declared.pool_event.PoolReply.TheVariants.{Swept}
-use Rattle.ruled_object.specs.Growth.{halt_before}
 use Rattle.ruled_object.specs.Passes as object
 use Rattle.go_pool.specs.declared.pass.PoolPass.{PoolPass}
 use Rattle.go_pool.specs.declared.pool.Pool.{Pool}
 use Rattle.go_pool.specs.AtParts.{DidAt}
 use Rattle.go_pool.specs.Calls.{Single, Sweeps}
 use Rattle.go_pool.specs.Parts.{PartPass}
-use Rattle.go_pool.specs.Pools.{PartDeeds, Placed, deeds_at, all_of, parts_of, number_of, Did, Grows}
-use Rattle.go_pool.proofs.PoolGrowth.{at, deeds_here, entries_at, grows_at, halted_at, grows_both, grows_none, grows_as, last_halt, last_meets}
+use Rattle.go_pool.specs.Pools.{PartDeeds, deeds_at, parts_of, number_of, Did}
+use Rattle.go_pool.proofs.PoolGrowth.{at, deeds_here, entries_at, grows_at, halted_at}
+use Rattle.go_pool.proofs.Rounds.{SoFar, ends}
 
 -- a part that was swept
 abbrev pub swept_at : ℕ → ℕ × Deed (PoolEvent ℕ) (PoolReply ℕ)
@@ -41,55 +41,37 @@ all_parts n = sym (take-map swept_at n (range_with_len 0 n)) ∙ take-map-range_
 part_at : (n k : ℕ) → k < n → slice_get (range_with_len 0 n) k ≡ Some k
 part_at n k below = slice_get-get_or (range_with_len 0 n) k 0 (let l = length-range_with_len 0 n in omega arith) ∙ ap Some (get_or-range_with_len 0 n k 0 below ∙ zero_more k)
 
-module _ {N H : Type 0} where
-  -- so many parts were swept, and nothing was taken in
-  pub record SweptSo (pool : Pool N H) (old : PoolPass N) (from : List ℕ) (number : ℕ) (pass : PoolPass N) (to : List ℕ) : Type 0 where
-    pub es : List Placed
-    pub grows : Grows pool old from es pass to
-    pub done : deeds_at es ≡ map swept_at (take number (range_with_len 0 (parts_of pool)))
-    pub free : halt_before (all_of es) ≡ None
-    pub front : to ≡ from
+module _ {N H : Type 0} (pool : Pool N H) where
+  -- so many parts were swept
+  abbrev pub AreSwept : ℕ → PartDeeds → Type 0
+  AreSwept number done = done ≡ map swept_at (take number (range_with_len 0 (parts_of pool)))
 
-  pub none_swept : (pool : Pool N H) (old spent : PoolPass N) (front : List ℕ) → spent.number ≡ old.number → spent.parts ≡ old.parts → SweptSo pool old front 0 spent front
-  none_swept pool old spent front number parts = record { es = []; grows = grows_as pool old spent spent [] front front number parts (grows_none pool spent front); done = refl; free = refl; front = refl }
-
-  module _ (pool : Pool N H) (old mid new : PoolPass N) (from between to : List ℕ) (number : ℕ) (below : number < parts_of pool) (before : SweptSo pool old from number mid between) (numbers : (p : PartPass N) → slice_get mid.parts.items number ≡ Some p → object.number_of p ≡ number_of mid) where
+  module _ (old mid new : PoolPass N) (between to : List ℕ) (number : ℕ) (below : number < parts_of pool) (numbers : (p : PartPass N) → slice_get mid.parts.items number ≡ Some p → object.number_of p ≡ number_of mid) where
     -- one part more
-    pub swept_on : DidAt pool number (λ ds a. Single {A = Unit {0}} Sweep (λ done. Swept) ds a) (λ ds. Unit {0}) mid between (Done tt) new to → to ≡ between → SweptSo pool old from (number + 1) new to
-    swept_on did same = record {
-      es = before.es ++ entries_at pool number mid new between to (Done tt) numbers did;
-      grows = grows_both pool old mid new before.es (entries_at pool number mid new between to (Done tt) numbers did) from between to before.grows (grows_at pool number mid new between to (Done tt) numbers did);
-      done = map-append (λ (q : Placed). (q.part, q.placed.entry.deed)) before.es (entries_at pool number mid new between to (Done tt) numbers did)
-          ∙ (ap (λ (l : PartDeeds). l ++ deeds_at (map (at number) did.did.entries)) before.done
-          ∙ (ap (λ (l : PartDeeds). map swept_at (take number (range_with_len 0 (parts_of pool))) ++ l) (deeds_here number did.did.entries ∙ ap (map (λ (d : Deed (PoolEvent ℕ) (PoolReply ℕ)). (number, d))) did.did.spelt)
-          ∙ sym (one_more (parts_of pool) number below)));
-      free = last_halt before.es (entries_at pool number mid new between to (Done tt) numbers did) before.free (halted_at pool number mid new between to (Done tt) numbers did);
-      front = same ∙ before.front;
-    }
+    pub swept_more : (did : DidAt pool number (λ ds a. Single {A = Unit {0}} Sweep (λ done. Swept) ds a) (λ ds. Unit {0}) mid between (Done tt) new to) (ds : PartDeeds) → AreSwept number ds
+        → AreSwept (number + 1) (ds ++ deeds_at (entries_at pool number mid new between to (Done tt) numbers did))
+    swept_more did ds are =
+        ap (λ (l : PartDeeds). l ++ deeds_at (map (at number) did.did.entries)) are
+        ∙ (ap (λ (l : PartDeeds). map swept_at (take number (range_with_len 0 (parts_of pool))) ++ l) (deeds_here number did.did.entries ∙ ap (map (λ (d : Deed (PoolEvent ℕ) (PoolReply ℕ)). (number, d))) did.did.spelt)
+        ∙ sym (one_more (parts_of pool) number below))
 
     -- a part refused it
-    pub swept_refused : (misuse : Misuse) → DidAt pool number (λ ds a. Single {A = Unit {0}} Sweep (λ done. Swept) ds a) (λ ds. Unit {0}) mid between (Halted misuse) new to → Did pool Sweeps old from (Halted misuse) new to
-    swept_refused misuse did =
+    pub swept_refused : (from : List ℕ) → SoFar pool (AreSwept number) old from mid between → (misuse : Misuse) → DidAt pool number (λ ds a. Single {A = Unit {0}} Sweep (λ done. Swept) ds a) (λ ds. Unit {0}) mid between (Halted misuse) new to → Did pool Sweeps old from (Halted misuse) new to
+    swept_refused from before misuse did =
         let fs = entries_at pool number mid new between to (Halted misuse) numbers did in
-        let done : deeds_at (before.es ++ fs) ≡ map swept_at (take number (range_with_len 0 (parts_of pool))) ++ (number, Refused Sweep misuse) ∷ [] =
-        map-append (λ (q : Placed). (q.part, q.placed.entry.deed)) before.es fs
-        ∙ (ap (λ (l : PartDeeds). l ++ deeds_at fs) before.done
-        ∙ ap (λ (l : PartDeeds). map swept_at (take number (range_with_len 0 (parts_of pool))) ++ l) (deeds_here number did.did.entries ∙ ap (map (λ (d : Deed (PoolEvent ℕ) (PoolReply ℕ)). (number, d))) did.did.spelt)) in record {
-          deeds = Refused Sweep misuse ∷ [];
-          entries = before.es ++ fs;
-          grows = grows_both pool old mid new before.es fs from between to before.grows (grows_at pool number mid new between to (Halted misuse) numbers did);
-          done = (deeds_at (before.es ++ fs), [], sym (append-nil (deeds_at (before.es ++ fs))), (number, number, part_at (parts_of pool) number below, done), refl);
-          spelt = refl;
-          halted = last_meets before.es fs misuse (halted_at pool number mid new between to (Halted misuse) numbers did);
-        }
+        let done : deeds_at before.es ++ deeds_at fs ≡ map swept_at (take number (range_with_len 0 (parts_of pool))) ++ (number, Refused Sweep misuse) ∷ [] =
+        ap (λ (l : PartDeeds). l ++ deeds_at fs) before.are
+        ∙ ap (λ (l : PartDeeds). map swept_at (take number (range_with_len 0 (parts_of pool))) ++ l) (deeds_here number did.did.entries ∙ ap (map (λ (d : Deed (PoolEvent ℕ) (PoolReply ℕ)). (number, d))) did.did.spelt) in
+        ends pool old mid new from between to before fs (grows_at pool number mid new between to (Halted misuse) numbers did) Sweeps (Halted misuse) (Refused Sweep misuse ∷ []) refl
+        (deeds_at before.es ++ deeds_at fs, [], sym (append-nil (deeds_at before.es ++ deeds_at fs)), (number, number, part_at (parts_of pool) number below, done), refl) (halted_at pool number mid new between to (Halted misuse) numbers did)
 
   -- all parts were swept
-  pub swept_all : (pool : Pool N H) (old new : PoolPass N) (from to : List ℕ) (number : ℕ) → number ≡ parts_of pool → SweptSo pool old from number new to → Did pool Sweeps old from (Done tt) new to
-  swept_all pool old new from to number all swept = record {
+  pub swept_all : (old new : PoolPass N) (from to : List ℕ) (number : ℕ) → number ≡ parts_of pool → SoFar pool (AreSwept number) old from new to → Did pool Sweeps old from (Done tt) new to
+  swept_all old new from to number all swept = record {
     deeds = Event Sweep Swept ∷ [];
     entries = swept.es;
     grows = swept.grows;
-    done = (deeds_at swept.es, [], sym (append-nil (deeds_at swept.es)), swept.done ∙ (ap (λ (k : ℕ). map swept_at (take k (range_with_len 0 (parts_of pool)))) all ∙ all_parts (parts_of pool)), refl);
+    done = (deeds_at swept.es, [], sym (append-nil (deeds_at swept.es)), swept.are ∙ (ap (λ (k : ℕ). map swept_at (take k (range_with_len 0 (parts_of pool)))) all ∙ all_parts (parts_of pool)), refl);
     spelt = refl;
     halted = swept.free;
   }

@@ -28,7 +28,7 @@ use Rattle.go_waits.specs.declared.once.Once.{Once}
 use Rattle.go_waits.specs.declared.once_begun.OnceBegun.{OnceBegun}
 use Rattle.go_waits.specs.declared.once_begun.OnceBegun.TheVariants.{Run, Already}
 use Rattle.go_waits.specs.Answers.{done_answer, IsBegunBy}
-use Rattle.go_waits.specs.OnceCalls.{OnceDeeds, LeavesBy, Begins, Ends, RunsOnce, StandsAs}
+use Rattle.go_waits.specs.OnceCalls.{OnceDeeds, LeavesBy, Begins, EndsFunction, RunsOnce, StandsAs}
 use Rattle.go_waits.specs.Onces.{OnceJournal, OncePass, waits_by, runs_by, IsOnceLawful}
 use Rattle.go_waits.proofs.Calling.{ends, once_more}
 
@@ -87,15 +87,15 @@ module _ {T : Type 0} where
   begun_gains answer caller (Halted misuse) is other = ap (has_gained (once_gains stage.Begin)) is
 
   -- an end
-  pub ends_by : (kept : T) (deeds : OnceDeeds T) (answer : CallAnswer (OnceOutcome T)) → Spells once_event once_meaning (stage.End kept) deeds answer → Ends kept deeds (done_answer answer)
+  pub ends_by : (kept : T) (deeds : OnceDeeds T) (answer : CallAnswer (OnceOutcome T)) → Spells once_event once_meaning (stage.End kept) deeds answer → EndsFunction kept deeds (done_answer answer)
   ends_by kept [] answer spelt = absurd spelt
-  ends_by kept (Event e reply.Ended ∷ rest) answer (of, on) = ends (λ ds a. Ends kept ds (done_answer a)) [] (λ x. Event x reply.Ended) e (End kept) rest answer (Done (Ok outcome.Ended)) of.1 on.0 on.1 refl
+  ends_by kept (Event e reply.Ended ∷ rest) answer (of, on) = ends (λ ds a. EndsFunction kept ds (done_answer a)) [] (λ x. Event x reply.Ended) e (End kept) rest answer (Done (Ok outcome.Ended)) of.1 on.0 on.1 refl
   ends_by kept (Event e reply.Run ∷ rest) answer (of, on) = absurd on
   ends_by kept (Event e reply.Queued ∷ rest) answer (of, on) = absurd on
   ends_by kept (Event e (reply.Done other) ∷ rest) answer (of, on) = absurd on
   ends_by kept (Event e (reply.Left other) ∷ rest) answer (of, on) = absurd on
   ends_by kept (Event e reply.Still ∷ rest) answer (of, on) = absurd on
-  ends_by kept (Refused e m ∷ rest) answer (of, none, is) = ends (λ ds a. Ends kept ds (done_answer a)) [] (λ x. Refused x m) e (End kept) rest answer (Halted m) of.1 none is refl
+  ends_by kept (Refused e m ∷ rest) answer (of, none, is) = ends (λ ds a. EndsFunction kept ds (done_answer a)) [] (λ x. Refused x m) e (End kept) rest answer (Halted m) of.1 none is refl
   ends_by kept (Halt m ∷ rest) answer spelt = absurd spelt
 
   -- it leaves its caller out, and gains nothing

@@ -32,9 +32,9 @@ module _ {T : Type 0} where
   Begins deeds (Halted misuse) = (deeds ≡ Refused Begin misuse ∷ []) ⊎ LeavesBy (Refused Leave misuse) deeds
 
   -- an end is one event, which keeps what the function came to
-  abbrev pub Ends : T → OnceDeeds T → Answer Unit → Type 0
-  Ends kept deeds (Done done) = deeds ≡ Event (End kept) reply.Ended ∷ []
-  Ends kept deeds (Halted misuse) = deeds ≡ Refused (End kept) misuse ∷ []
+  abbrev pub EndsFunction : T → OnceDeeds T → Answer Unit → Type 0
+  EndsFunction kept deeds (Done done) = deeds ≡ Event (End kept) reply.Ended ∷ []
+  EndsFunction kept deeds (Halted misuse) = deeds ≡ Refused (End kept) misuse ∷ []
 
   -- so far as the caller has seen, the function was begun at most once
   abbrev pub RunsOnce : {N : Type 0} → OncePass T N → Type 0

@@ -1,25 +1,10 @@
 //! Runs written workloads over Go's `sync` and `sync/atomic`.
+//!
+//! This is the program alone: it hands its words, the real files and streams, the machine's clock and its threads to the call
+//! `gosync` of the crate `gosync_call`, where all is that the program does, and where its theorem stands.
 #![tactic(auto)]
 
-mod front;
-mod input;
-mod laws;
-mod made;
-mod make;
-mod message;
-mod program;
-mod read;
-mod report;
-mod run;
-mod status;
-mod step;
-#[cfg(test)]
-mod tests;
-mod words;
-
-use crate::message::say;
-use crate::program::gosync;
-use crate::status::{Status, Unread};
+use gosync_call::{Status, Unread, gosync, say};
 use std::env;
 use std::io::ErrorKind;
 use std::process::ExitCode;

@@ -22,7 +22,7 @@ use Rattle.run_record.specs.Record.{object_number}
 use Rattle.run_record.specs.RwMutexKind.{rw_mutex_call}
 use Rattle.run_record.specs.WaitGroupKind.{wait_group_call}
 use Rattle.kind_calls.specs.Replies.{returned}
-use Rattle.kind_calls.specs.Working.{Desk, Works}
+use Rattle.shared_calls.specs.Working.{Desk, Works}
 
 module _ (plan : Plan) (worker before place : ℕ) (old new : Desk) (answer : CallAnswer (Reply ℕ)) where
   abbrev pub MadeOn : ObjectKind → Operation → Type 0

@@ -1,27 +1,32 @@
 -- Halting, in the words of the record.
-use Rattle.std.proofs.Common.{◌≡◌, ℕ, ◌+◌, ◌≤◌, Bool, true, false, ◌==◌, cond, List, [], ◌∷◌, ◌++◌, length, take, drop, refl, sym, ap, subst, ◌∙◌, arith, Option, Some, slice_get, slice_index, Ok}
-use Rattle.std.specs.List.{AllByRecursion}
+use Rattle.std.proofs.Common.{◌≡◌, ℕ, zero, suc, ◌+◌, ◌<◌, ◌≤◌, Bool, true, false, ◌==◌, cond, List, [], ◌∷◌, ◌++◌, length, take, refl, sym, ap, subst, ◌∙◌, add-one, append_assoc, arith, Option, Some, slice_get, slice_index, Ok}
+use Rattle.std.specs.List.{AllByRecursion, range_with_len}
+use Rattle.std.proofs.lemmas.List.{append-nil, take_all, take_more, length-take-le}
+use Rattle.std.proofs.lemmas.List.Elements.{All-from_recursion}
+use Rattle.std.proofs.lemmas.Option.{slice_get_within, get_or_from_slice_get}
 use Rattle.sync_model.specs.declared.answer.Answer.TheVariants.{Done}
+use Rattle.sync_model.specs.declared.journal.Deed.TheVariants.{Halt}
 use Rattle.sync_model.specs.Front.{AtLeast}
 use Rattle.sync_model.specs.Note.{Holding, IsCounted}
 use Rattle.sync_model.specs.Shared.{items_of}
-use Rattle.std.proofs.lemmas.List.{append-nil, take_all, take_more, length-take-le}
-use Rattle.std.proofs.lemmas.List.Elements.{All-from_recursion}
-use Rattle.std.proofs.lemmas.Option.{slice_get_within, get_or_from_slice_get, none-some, same_Some}
-use Rattle.sync_model.specs.declared.journal.Deed.TheVariants.{Halt}
 use Rattle.sync_types.specs.declared.misuse.Misuse.{Misuse}
+use Rattle.workload.specs.declared.object.ObjectKind.{ObjectKind}
+use Rattle.workload.specs.declared.object.ObjectKind.TheVariants as kinds
+use Rattle.workload.specs.declared.object.ObjectLine.{ObjectLine}
+use Rattle.workload.specs.Plan.{Plan}
 use Rattle.run_record.specs.declared.made.Made.{Made}
 use Rattle.run_record.specs.declared.made.Made.TheVariants.{Shared, Entered}
 use Rattle.run_record.specs.Lines.{IsHalt}
-use Rattle.run_record.specs.Record.{ObjectEntry, stop}
+use Rattle.run_record.specs.Objects.{first_part, is_pool}
+use Rattle.run_record.specs.Record.{ObjectEntry, stop, object_number}
+use Rattle.shared_calls.specs.Working.{Desk, Works, desk_at}
 use Rattle.thread_objects.specs.declared.object.AnyObject.{AnyObject}
 use Rattle.thread_objects.specs.declared.object.AnyObject.TheVariants as objects
-use Rattle.thread_objects.specs.Desks.{IsObjectAt}
+use Rattle.thread_objects.specs.AsDeclared.{IsDeclared}
 use Rattle.thread_objects.specs.Halting.{Halts, AreHalted}
-use Rattle.kind_calls.specs.Halting.{can_halt, halted_from, entered_on, halting, HaltsAll}
-use Rattle.thread_objects.specs.Kinds.{IsStop}
-use Rattle.kind_calls.specs.Working.{Desk, Works, desk_at}
-use Rattle.kind_calls.proofs.Working.{rests, joined, counted_of}
+use Rattle.thread_objects.specs.Kinds.{IsStop, IsPoolPart}
+use Rattle.kind_calls.specs.Halting.{halted_one, halted_at, halted_from, halted_with_stop, entered_on, halting, HaltsAll}
+use Rattle.kind_calls.proofs.Working.{Stays, Joins, Counts, rests}
 
 -- halts one after the other
 entered_append : (xs ys : List Made) → entered_on (xs ++ ys) ≡ entered_on xs ++ entered_on ys
@@ -33,8 +38,8 @@ halts_append : (misuse : Misuse) (xs ys : List Made) → AllByRecursion (IsHalt 
 halts_append misuse [] ys first later = later
 halts_append misuse (x ∷ xs) ys first later = (first.0, halts_append misuse xs ys first.1 later)
 
-halts_on : (misuse : Misuse) (numbers more : List ℕ) (old between new : Desk) → Works (halting misuse numbers) old (Done (Ok tt)) between → Works (halting misuse more) between (Done (Ok tt)) new → Works (halting misuse (numbers ++ more)) old (Done (Ok tt)) new
-halts_on misuse numbers more old between new first later = record {
+pub halts_on : Joins → (misuse : Misuse) (numbers more : List ℕ) (old between new : Desk) → Works (halting misuse numbers) old (Done (Ok tt)) between → Works (halting misuse more) between (Done (Ok tt)) new → Works (halting misuse (numbers ++ more)) old (Done (Ok tt)) new
+halts_on joined misuse numbers more old between new first later = record {
   items = first.items ++ later.items;
   moves = joined old between new first.items later.items first.moves later.moves;
   spelt = (halts_append misuse first.items later.items first.spelt.0 later.spelt.0, entered_append first.items later.items ∙ ap (λ (l : List ℕ). l ++ entered_on later.items) first.spelt.1 ∙ ap (λ (l : List ℕ). numbers ++ l) later.spelt.1, refl);
@@ -51,55 +56,88 @@ first_halted misuse (Entered object entry ∷ items) numbers halts is =
     let first : object ≡ stop = cc in
     (entry, ap (λ (n : ℕ). Some (Entered n entry)) first, halts.0)
 
-module _ {N H : Type 0} where
-  -- Stop is halted before the others
-  stop_first : (objects : List (AnyObject N H)) (object : AnyObject N H) → slice_get objects stop ≡ Some object → IsStop object → halted_from stop objects ≡ stop ∷ halted_from (stop + 1) (drop 1 objects)
-  stop_first [] object at is = absurd (none-some object at)
-  stop_first (objects.Stop o ∷ all) object at is = refl
-  stop_first (other ∷ all) object at is = absurd (subst IsStop (sym (same_Some other object at)) is)
+-- the same objects, by numbers of another form
+pub halts_as : (misuse : Misuse) (numbers others : List ℕ) (old new : Desk) → numbers ≡ others → Works (halting misuse numbers) old (Done (Ok tt)) new → Works (halting misuse others) old (Done (Ok tt)) new
+halts_as misuse numbers others old new same works = subst (λ (l : List ℕ). Works (halting misuse l) old (Done (Ok tt)) new) same works
 
-  -- what is halted of an object, whose number is this
-  abbrev pub halted_here : ℕ → AnyObject N H → List ℕ
-  halted_here number object = halted_from number (object ∷ [])
+-- one part more of a pool
+pub part_more : (first count : ℕ) → range_with_len first count ++ (first + count) ∷ [] ≡ range_with_len first (count + 1)
+part_more first count = sym (ap (λ (n : ℕ). range_with_len first n) (add-one count) ∙ more first count) where
+  more : (a n : ℕ) → range_with_len a (suc n) ≡ range_with_len a n ++ (a + n) ∷ []
+  more a zero = ap (λ (k : ℕ). k ∷ []) (omega arith)
+  more a (suc n) = ap (λ (l : List ℕ). a ∷ l) (more (a + 1) n ∙ ap (λ (k : ℕ). range_with_len (a + 1) n ++ k ∷ []) (omega arith))
 
-  from_append : (number : ℕ) (xs : List (AnyObject N H)) (object : AnyObject N H) → halted_from number (xs ++ object ∷ []) ≡ halted_from number xs ++ halted_here (number + length xs) object
-  from_append number [] object = ap (λ (n : ℕ). halted_here n object) (omega arith)
-  from_append number (x ∷ xs) object =
-      let rest = from_append (number + 1) xs object ∙ ap (λ (n : ℕ). halted_from (number + 1) xs ++ halted_here n object) (omega arith) in
-      elim (can_halt x) as (λ b. cond b (number ∷ halted_from (number + 1) (xs ++ object ∷ [])) (halted_from (number + 1) (xs ++ object ∷ [])) ≡ cond b (number ∷ halted_from (number + 1) xs) (halted_from (number + 1) xs) ++ halted_here (number + length (x ∷ xs)) object) [
-        | true ↦ ap (λ (l : List ℕ). number ∷ l) rest
-        | false ↦ rest
-      ]
+module _ (plan : Plan) where
+  from_append : (place : ℕ) (lines : List ObjectLine) (line : ObjectLine) → halted_from plan place (lines ++ line ∷ []) ≡ halted_from plan place lines ++ halted_at plan (place + length lines) line.kind
+  from_append place [] line = append-nil (halted_at plan place line.kind) ∙ ap (λ (n : ℕ). halted_at plan n line.kind) (omega arith)
+  from_append place (x ∷ lines) line =
+      ap (λ (l : List ℕ). halted_at plan place x.kind ++ l) (from_append (place + 1) lines line ∙ ap (λ (n : ℕ). halted_from plan (place + 1) lines ++ halted_at plan n line.kind) (omega arith))
+      ∙ sym (append_assoc (halted_at plan place x.kind) (halted_from plan (place + 1) lines) (halted_at plan (place + length (x ∷ lines)) line.kind))
 
-  -- one more object is halted behind those before it
-  halted_more : (objects : List (AnyObject N H)) (i : ℕ) (object : AnyObject N H) → slice_get objects i ≡ Some object → halted_from stop (take (i + 1) objects) ≡ halted_from stop (take i objects) ++ halted_here i object
-  halted_more objects i object at =
-      let within = slice_get_within objects i object at in
-      ap (λ (l : List (AnyObject N H)). halted_from stop l) (take_more objects i object within ∙ ap (λ (x : AnyObject N H). take i objects ++ x ∷ []) (get_or_from_slice_get objects i object object at)) ∙ from_append stop (take i objects) object ∙ ap (λ (n : ℕ). halted_from stop (take i objects) ++ halted_here n object) (omega (arith, length-take-le i objects (omega arith)))
+  -- what is declared at one more place is halted behind what is declared before it
+  pub halted_more : (place : ℕ) (line : ObjectLine) → slice_get plan.objects place ≡ Some line → halted_with_stop plan (take place plan.objects) ++ halted_at plan place line.kind ≡ halted_with_stop plan (take (place + 1) plan.objects)
+  halted_more place line at =
+      let within = slice_get_within plan.objects place line at in
+      sym (ap (λ (l : List ObjectLine). halted_with_stop plan l) (take_more plan.objects place line within ∙ ap (λ (x : ObjectLine). take place plan.objects ++ x ∷ []) (get_or_from_slice_get plan.objects place line line at))
+      ∙ ap (λ (l : List ℕ). stop ∷ l) (from_append 0 (take place plan.objects) line ∙ ap (λ (n : ℕ). halted_from plan 0 (take place plan.objects) ++ halted_at plan n line.kind) (omega (arith, length-take-le place plan.objects (omega arith)))))
 
-module _ {N H : Type 0} (misuse : Misuse) (objects : List (AnyObject N H)) (i : ℕ) (old new : Desk) where
-  -- the same object, under another name
-  pub halted_it : (it object : AnyObject N H) → slice_get objects i ≡ Some it → slice_get objects i ≡ Some object → Works (halting misuse (halted_here i it)) old (Done (Ok tt)) new → Works (halting misuse (halted_here i object)) old (Done (Ok tt)) new
-  halted_it it object at there works = subst (λ (o : AnyObject N H). Works (halting misuse (halted_here i o)) old (Done (Ok tt)) new) (same_Some it object (sym at ∙ there)) works
-
-  -- so many objects were halted, the first ones
-  abbrev pub HaltedTo : ℕ → Desk → Type 0
-  HaltedTo count desk = Works (halting misuse (halted_from stop (take count objects))) old (Done (Ok tt)) desk
-
-  pub next_halted : (object : AnyObject N H) (between : Desk) → slice_get objects i ≡ Some object → HaltedTo i between → Works (halting misuse (halted_here i object)) between (Done (Ok tt)) new → HaltedTo (i + 1) new
-  next_halted object between at before here =
-      subst (λ (numbers : List ℕ). Works (halting misuse numbers) old (Done (Ok tt)) new) (sym (halted_more objects i object at)) (halts_on misuse (halted_from stop (take i objects)) (halted_here i object) old between new before here)
-
-  pub all_halted : IsObjectAt IsStop objects stop → length objects ≤ i → HaltedTo i new → HaltsAll misuse objects old new
-  all_halted first whole halted =
-      let works = subst (λ (l : List (AnyObject N H)). Works (halting misuse (halted_from stop l)) old (Done (Ok tt)) new) (take_all i objects whole) halted in
+  -- all that the workload declares was halted
+  pub all_halted : (misuse : Misuse) (place : ℕ) (old new : Desk) → length plan.objects ≤ place → Works (halting misuse (halted_with_stop plan (take place plan.objects))) old (Done (Ok tt)) new → HaltsAll plan misuse old new
+  all_halted misuse place old new whole halted =
+      let works = halts_as misuse _ (halted_with_stop plan plan.objects) old new (ap (λ (l : List ObjectLine). halted_with_stop plan l) (take_all place plan.objects whole)) halted in
       record {
         items = works.items;
         moves = works.moves;
         halts = All-from_recursion (IsHalt misuse) works.items works.spelt.0;
         order = works.spelt.1;
-        stops = first_halted misuse works.items (halted_from (stop + 1) (drop 1 objects)) works.spelt.0 (works.spelt.1 ∙ stop_first objects first.0 first.1 first.2);
+        stops = first_halted misuse works.items (halted_from plan 0 plan.objects) works.spelt.0 works.spelt.1;
       }
+
+  -- the parts of a pool are what is halted for it
+  pub pool_halted : (place first workers : ℕ) (kind : ObjectKind) → kind ≡ kinds.Pool → first ≡ first_part plan place → plan.workers ≡ workers → range_with_len first workers ≡ halted_at plan place kind
+  pool_halted place first workers kind is begins all =
+      ap (λ (n : ℕ). range_with_len n workers) begins ∙ ap (λ (n : ℕ). range_with_len (first_part plan place) n) (sym all) ∙ ap (λ (k : ObjectKind). halted_at plan place k) (sym is)
+
+pub no_pool : (kind : ObjectKind) → (kind ≡ kinds.Pool → ⊥) → is_pool kind ≡ false
+no_pool kinds.Pool apart = absurd (apart refl)
+no_pool kind apart = refl
+
+pub line_at : (lines : List ObjectLine) (place : ℕ) → place < length lines → (line : ObjectLine) × (slice_get lines place ≡ Some line)
+line_at [] place below = absurd (omega arith)
+line_at (x ∷ lines) zero below = (x, refl)
+line_at (x ∷ lines) (suc place) below = line_at lines place (omega arith)
+
+module _ {N H : Type 0} where
+  -- Stop, and a part of a pool, can be halted
+  pub halts_stop : (number : ℕ) (object : AnyObject N H) → IsStop object → halted_one number object ≡ number ∷ []
+  halts_stop number (objects.Stop o) is = refl
+  halts_stop number object is = absurd is
+
+  pub halts_part : (number : ℕ) (object : AnyObject N H) → IsPoolPart object → halted_one number object ≡ number ∷ []
+  halts_part number (objects.PoolPart o) is = refl
+  halts_part number object is = absurd is
+
+  -- of an object that is no pool itself is halted, if it can be
+  pub halts_declared : (at : H → N → Type 0) (home : H) (plan : Plan) (place : ℕ) (kind : ObjectKind) (object : AnyObject N H) → (kind ≡ kinds.Pool → ⊥) → IsDeclared at home plan place kind object → halted_one (object_number place) object ≡ halted_at plan place kind
+  halts_declared at home plan place kinds.Map objects.Shared apart is = refl
+  halts_declared at home plan place kinds.Map object apart is = absurd is
+  halts_declared at home plan place (kinds.Atomic type) objects.Shared apart is = refl
+  halts_declared at home plan place (kinds.Atomic type) object apart is = absurd is
+  halts_declared at home plan place kinds.Mutex (objects.Mutex o) apart is = refl
+  halts_declared at home plan place kinds.Mutex object apart is = absurd is
+  halts_declared at home plan place kinds.RwMutex (objects.RwMutex o) apart is = refl
+  halts_declared at home plan place kinds.RwMutex object apart is = absurd is
+  halts_declared at home plan place (kinds.Cond mutex) (objects.Cond o) apart is = refl
+  halts_declared at home plan place (kinds.Cond mutex) object apart is = absurd is
+  halts_declared at home plan place (kinds.WaitGroup start) (objects.WaitGroup o) apart is = refl
+  halts_declared at home plan place (kinds.WaitGroup start) object apart is = absurd is
+  halts_declared at home plan place (kinds.Once atomic delta) (objects.Once o) apart is = refl
+  halts_declared at home plan place (kinds.Once atomic delta) object apart is = absurd is
+  halts_declared at home plan place (kinds.OnceFunc code) (objects.OnceFunc o) apart is = refl
+  halts_declared at home plan place (kinds.OnceFunc code) object apart is = absurd is
+  halts_declared at home plan place (kinds.OnceValue value) (objects.OnceValue o) apart is = refl
+  halts_declared at home plan place (kinds.OnceValue value) object apart is = absurd is
+  halts_declared at home plan place kinds.Pool object apart is = absurd (apart refl)
 
 module _ {K : Type 0} (owner : K → Option Holding) (front : K → List ℕ) (note : K) (counted : IsCounted (owner note) (front note)) (number : ℕ) (misuse : Misuse) (old new : List ObjectEntry) where
   abbrev at : List ObjectEntry → Desk
@@ -109,23 +147,23 @@ module _ {K : Type 0} (owner : K → Option Holding) (front : K → List ℕ) (n
   one_more halts true = halts.own
   one_more halts false = refl
 
-  halts_once : Halts misuse (front note) old new → Works (halting misuse (number ∷ [])) (at old) (Done (Ok tt)) (at new)
-  halts_once halts = record {
+  halts_once : Counts → Halts misuse (front note) old new → Works (halting misuse (number ∷ [])) (at old) (Done (Ok tt)) (at new)
+  halts_once counts halts = record {
     items = Entered number halts.entry ∷ [];
     moves = record {
       worker = refl;
       owns = λ object. one_more halts (number == object);
       calls = sym (append-nil (items_of (owner note)));
       fronts = (subst (λ (f : List ℕ). AtLeast f (front note)) (sym halts.known) (λ i. omega arith), subst (λ (f : List ℕ). AtLeast (front note) f) (sym halts.known) (λ i. omega arith));
-      counts = λ worker is. (ap (λ (f : List ℕ). slice_index f worker) halts.known ∙ counted_of (owner note) (front note) counted worker is, tt);
+      counts = λ worker is. (ap (λ (f : List ℕ). slice_index f worker) halts.known ∙ counts (owner note) (front note) worker counted is, tt);
     };
     spelt = ((halts.deed, tt), refl, refl);
   }
 
-  leaves_it : new ≡ old → Works (halting misuse []) (at old) (Done (Ok tt)) (at new)
-  leaves_it same = subst (λ (l : List ObjectEntry). Works (halting misuse []) (at old) (Done (Ok tt)) (at l)) (sym same) (rests (halting misuse []) (at old) (Done (Ok tt)) (tt, refl, refl))
+  leaves_it : Stays → new ≡ old → Works (halting misuse []) (at old) (Done (Ok tt)) (at new)
+  leaves_it stays same = subst (λ (l : List ObjectEntry). Works (halting misuse []) (at old) (Done (Ok tt)) (at l)) (sym same) (rests stays (halting misuse []) (at old) (Done (Ok tt)) (tt, refl, refl))
 
   -- halting an object of whatever kind
-  pub halted_any : {N H : Type 0} (object : AnyObject N H) → AreHalted object misuse (front note) old new → Works (halting misuse (halted_here number object)) (at old) (Done (Ok tt)) (at new)
-  halted_any objects.Shared halted = leaves_it halted
-  halted_any object halted = halts_once halted
+  pub halted_any : Stays → Counts → {N H : Type 0} (object : AnyObject N H) → AreHalted object misuse (front note) old new → Works (halting misuse (halted_one number object)) (at old) (Done (Ok tt)) (at new)
+  halted_any stays counts objects.Shared halted = leaves_it stays halted
+  halted_any stays counts object halted = halts_once counts halted

@@ -1,11 +1,6 @@
 pub mod ByKind
 pub mod HaltLemmas
-pub mod Knowing
 pub mod OnceParts
-pub mod OnlyCalls
 pub mod PoolLooks
-pub mod Ranging
-pub mod SharedParts
 pub mod Slots
-pub mod Spending
 pub mod Working

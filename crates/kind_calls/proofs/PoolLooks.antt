@@ -17,8 +17,8 @@ use Rattle.protocols.specs.declared.pool.PoolStage.TheVariants.{Sweep}
 use Rattle.protocols.specs.Spelling.{CallAnswer}
 use Rattle.run_record.specs.Parts.{returns}
 use Rattle.run_record.specs.PoolKind.{pool_part, part_of, found_or, found_by, looks_of, stage_of, swept_by}
-use Rattle.kind_calls.specs.Working.{Desk, Works}
-use Rattle.kind_calls.proofs.Working.{rests, halted_first, went_first}
+use Rattle.shared_calls.specs.Working.{Desk, Works}
+use Rattle.kind_calls.proofs.Working.{Stays, Joins, rests, halted_first, went_first}
 
 -- an event's stage is made at the part that the event is about
 named : (worker : ℕ) (e : PoolEvent ℕ) → part_of worker (pool_event (stage_of e) 0) ≡ part_of worker e
@@ -68,22 +68,22 @@ module _ (workers worker first : ℕ) where
         let at : part ≡ part_of worker (look workers worker from) = there ∙ ap (λ (s : PoolStage). part_of worker (pool_event s 0)) is ∙ named worker (look workers worker from) in
         subst (λ (s : PoolStage). Works (pool_part object s) now given later) is (subst (λ (p : ℕ). Works (pool_part (first + p) made) now given later) at works)
 
-    pub looked_on : from < 2 * workers → Looked (Done (Ok Nothing)) → AnswersAll (from + 1) start later
-    looked_on within looked answer new works = through within answer new (went_first (pool_part object stage) (found_or (found_by worker first (looks_from (from + 1)))) now later Nothing new answer looked works)
+    pub looked_on : Stays → Joins → from < 2 * workers → Looked (Done (Ok Nothing)) → AnswersAll (from + 1) start later
+    looked_on stays joined within looked answer new works = through within answer new (went_first stays joined (pool_part object stage) (found_or (found_by worker first (looks_from (from + 1)))) now later Nothing new answer looked works)
 
-    pub took : from < 2 * workers → (item : ℕ) → Looked (Done (Ok (Item item))) → Works (found_by worker first (looks_of workers worker)) start (Done (Ok (replies.Pool (pool_replies.Put item)))) later
-    took within item looked =
-        through within _ later (went_first (pool_part object stage) (found_or (found_by worker first (looks_from (from + 1)))) now later (Item item) later (Done (Ok (replies.Pool (pool_replies.Put item)))) looked
-        (rests (returns (replies.Pool (pool_replies.Put item))) later _ (refl, refl)))
+    pub took : Stays → Joins → from < 2 * workers → (item : ℕ) → Looked (Done (Ok (Item item))) → Works (found_by worker first (looks_of workers worker)) start (Done (Ok (replies.Pool (pool_replies.Put item)))) later
+    took stays joined within item looked =
+        through within _ later (went_first stays joined (pool_part object stage) (found_or (found_by worker first (looks_from (from + 1)))) now later (Item item) later (Done (Ok (replies.Pool (pool_replies.Put item)))) looked
+        (rests stays (returns (replies.Pool (pool_replies.Put item))) later _ (refl, refl)))
 
-    pub halted : from < 2 * workers → (misuse : Misuse) → Looked (Halted misuse) → Works (found_by worker first (looks_of workers worker)) start (Halted misuse) later
-    halted within misuse looked = through within _ later (halted_first (pool_part object stage) (found_or (found_by worker first (looks_from (from + 1)))) now later misuse looked)
+    pub halted : Stays → Joins → from < 2 * workers → (misuse : Misuse) → Looked (Halted misuse) → Works (found_by worker first (looks_of workers worker)) start (Halted misuse) later
+    halted stays joined within misuse looked = through within _ later (halted_first stays joined (pool_part object stage) (found_or (found_by worker first (looks_from (from + 1)))) now later misuse looked)
 
   -- all looks found nothing
-  pub found_none : (from : ℕ) (start now : Desk) → AnswersAll from start now → from ≡ 2 * workers → Works (found_by worker first (looks_of workers worker)) start (Done (Ok (replies.Pool pool_replies.New))) now
-  found_none from start now all end =
+  pub found_none : Stays → (from : ℕ) (start now : Desk) → AnswersAll from start now → from ≡ 2 * workers → Works (found_by worker first (looks_of workers worker)) start (Done (Ok (replies.Pool pool_replies.New))) now
+  found_none stays from start now all end =
       all _ now (subst (λ (looks : List (PoolEvent ℕ)). Works (found_by worker first looks) now (Done (Ok (replies.Pool pool_replies.New))) now) (sym (no_look from end))
-      (rests (returns (replies.Pool pool_replies.New)) now _ (refl, refl)))
+      (rests stays (returns (replies.Pool pool_replies.New)) now _ (refl, refl)))
 
 module _ (workers first : ℕ) where
   -- the parts that are left, and from here they answer what all answer from the start
@@ -99,15 +99,15 @@ module _ (workers first : ℕ) where
         let one_less : workers - from ≡ suc (workers - (from + 1)) = omega (arith, within) in
         all answer new (subst (λ (parts : List ℕ). Works (swept_by first parts) now answer new) (sym (ap (λ (n : ℕ). range_with_len from n) one_less)) works)
 
-    pub swept_on : (outcome : PoolOutcome) → Works (pool_part (first + from) Sweep) now (Done (Ok outcome)) later → SweepsAll (from + 1) start later
-    swept_on outcome swept answer new works = sweeps answer new (went_first (pool_part (first + from) Sweep) (λ done. swept_by first (parts_from (from + 1))) now later outcome new answer swept works)
+    pub swept_on : Stays → Joins → (outcome : PoolOutcome) → Works (pool_part (first + from) Sweep) now (Done (Ok outcome)) later → SweepsAll (from + 1) start later
+    swept_on stays joined outcome swept answer new works = sweeps answer new (went_first stays joined (pool_part (first + from) Sweep) (λ done. swept_by first (parts_from (from + 1))) now later outcome new answer swept works)
 
-    pub sweep_halted : (misuse : Misuse) → Works (pool_part (first + from) Sweep) now (Halted misuse) later → Works (swept_by first (range_with_len 0 workers)) start (Halted misuse) later
-    sweep_halted misuse met = sweeps _ later (halted_first (pool_part (first + from) Sweep) (λ done. swept_by first (parts_from (from + 1))) now later misuse met)
+    pub sweep_halted : Stays → Joins → (misuse : Misuse) → Works (pool_part (first + from) Sweep) now (Halted misuse) later → Works (swept_by first (range_with_len 0 workers)) start (Halted misuse) later
+    sweep_halted stays joined misuse met = sweeps _ later (halted_first stays joined (pool_part (first + from) Sweep) (λ done. swept_by first (parts_from (from + 1))) now later misuse met)
 
   -- all parts are swept
-  pub swept_all : (from : ℕ) (start now : Desk) → SweepsAll from start now → from ≡ workers → Works (swept_by first (range_with_len 0 workers)) start (Done (Ok (replies.Pool pool_replies.Done))) now
-  swept_all from start now all end =
+  pub swept_all : Stays → (from : ℕ) (start now : Desk) → SweepsAll from start now → from ≡ workers → Works (swept_by first (range_with_len 0 workers)) start (Done (Ok (replies.Pool pool_replies.Done))) now
+  swept_all stays from start now all end =
       let none : workers - from ≡ 0 = omega (arith, end) in
       all _ now (subst (λ (parts : List ℕ). Works (swept_by first parts) now (Done (Ok (replies.Pool pool_replies.Done))) now) (sym (ap (λ (n : ℕ). range_with_len from n) none))
-      (rests (returns (replies.Pool pool_replies.Done)) now _ (refl, refl)))
+      (rests stays (returns (replies.Pool pool_replies.Done)) now _ (refl, refl)))

@@ -12,7 +12,7 @@ use Rattle.thread_objects.specs.declared.pass.AnyPass.{AnyPass}
 use Rattle.thread_objects.specs.declared.pass.AnyPass.TheVariants as passes
 use Rattle.thread_objects.specs.Desks.{AreSeats}
 use Rattle.thread_objects.specs.Passes.{IsSeatAt, own_of, owns_of}
-use Rattle.kind_calls.specs.Working.{Works, desk_at, desk_with}
+use Rattle.shared_calls.specs.Working.{Works, desk_at, desk_with}
 use Rattle.kind_calls.proofs.Working.{among}
 
 module _ {N : Type 0} (all : List (AnyPass N)) (number : ℕ) (d is : AnyPass N) (within : number < length all) where

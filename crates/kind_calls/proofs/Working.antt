@@ -1,8 +1,7 @@
 -- Parts of calls, and what they add to what their worker has done.
-use Rattle.std.proofs.Common.{◌≡◌, ℕ, ◌+◌, Bool, true, false, ◌==◌, cond, List, [], ◌∷◌, ◌++◌, map, length, refl, sym, ap, ◌∙◌, subst, arith, append_assoc, Option, Some, None, slice_index, Ok, Err}
+use Rattle.std.proofs.Common.{◌≡◌, ℕ, Bool, true, false, ◌==◌, cond, List, [], ◌∷◌, ◌++◌, map, length, refl, sym, ap, ◌∙◌, subst, arith, Option, Some, slice_index, Ok, Err}
 use Rattle.std.proofs.lemmas.Bool.{eqb-true}
-use Rattle.std.proofs.lemmas.List.{map-append, append-nil, length-append}
-use Rattle.std.proofs.lemmas.Option.{none-some, same_Some}
+use Rattle.std.proofs.lemmas.List.{map-append, append-nil}
 use Rattle.sync_model.specs.declared.answer.Answer.TheVariants.{Done, Halted}
 use Rattle.sync_model.specs.declared.item.Item.{Item}
 use Rattle.sync_model.specs.declared.journal.Deed.{Deed}
@@ -16,30 +15,30 @@ use Rattle.ruled_object.specs.declared.pass.Pass.{Pass}
 use Rattle.ruled_object.specs.Growth.{Placed, entries_of, deeds_of, KeepsNote}
 use Rattle.protocols.specs.declared.step.Step.{Step}
 use Rattle.protocols.specs.Spelling.{CallAnswer, Spells}
-use Rattle.running.specs.Calls.{Did, left_in}
+use Rattle.running.specs.Calls.{Did}
 use Rattle.run_record.specs.declared.entered.ObjectEvent.{ObjectEvent}
 use Rattle.run_record.specs.declared.entered.ObjectReply.{ObjectReply}
 use Rattle.run_record.specs.declared.made.Made.{Made}
-use Rattle.run_record.specs.declared.made.Made.TheVariants.{Shared, Entered}
+use Rattle.run_record.specs.declared.made.Made.TheVariants.{Entered}
 use Rattle.run_record.specs.Parts.{Part, lifted, stages, read_as, with_outcome, and_then, GoesOn}
-use Rattle.run_record.specs.Record.{ObjectEntry, shared_in, entries_in, front_of}
-use Rattle.kind_calls.specs.Working.{Desk, Rises, CountsOwn, Moves, Works, alone, number_in, desk_with, desk_at}
+use Rattle.run_record.specs.Record.{ObjectEntry, shared_in, entries_in}
+use Rattle.shared_calls.specs.Working.{Desk, Rises, CountsOwn, Moves, Works, alone, number_in, desk_with, desk_at}
 use Rattle.thread_objects.specs.Passes.{own_as}
 
-module _ {O W : Type 0} (out : W) (left : O → W) where
-  -- where every outcome leaves its caller out, every call does
-  pub all_out : (answer : CallAnswer O) → ((outcome : O) → left outcome ≡ out) → left_in out left answer ≡ out
-  all_out (Done (Ok outcome)) is = is outcome
-  all_out (Done (Err misuse)) is = refl
-  all_out (Halted misuse) is = refl
+-- what `shared_calls::laws` says of what a worker makes: nothing, some items and then others, and how many calls its note counts
+abbrev pub Stays : Type 0
+Stays = (desk : Desk) → Moves desk [] desk
+
+abbrev pub Joins : Type 0
+Joins = (old between new : Desk) (earlier later : List Made) → Moves old earlier between → Moves between later new → Moves old (earlier ++ later) new
+
+abbrev pub Counts : Type 0
+Counts = (own : Option Holding) (front : List ℕ) (worker : ℕ) → IsCounted own front → number_in own ≡ Some worker → slice_index front worker ≡ length (items_of own)
 
 module _ {E R : Type 0} where
   deeds_are : (es : List (Placed E R)) → deeds_of es ≡ map (λ entry. entry.deed) (entries_of es)
   deeds_are [] = refl
   deeds_are (p ∷ es) = ap (λ (deeds : List (Deed E R)). p.entry.deed ∷ deeds) (deeds_are es)
-
-pub least_over : (low from to : List ℕ) → AtLeast from low → AtLeast to from → AtLeast to low
-least_over low from to a b i = omega (arith, a i, b i)
 
 module _ {E R : Type 0} (event : E → ObjectEvent) (reply : R → ObjectReply) (number : ℕ) where
   abbrev items_as : List (Entry E R) → List Made
@@ -75,7 +74,7 @@ module _ {E R : Type 0} (event : E → ObjectEvent) (reply : R → ObjectReply) 
 
   rising_whole : (from to : List ℕ) (es : List (Entry E R)) → Rising from es to → AtLeast to from
   rising_whole from to [] rises = rises
-  rising_whole from to (e ∷ es) rises = least_over from e.front to rises.0 (rising_whole e.front to es rises.1)
+  rising_whole from to (e ∷ es) rises = λ k. let first = rises.0 k in let rest = rising_whole e.front to es rises.1 k in omega arith
 
   -- where the worker's own number is the same in the front before and in the one after, it is so in each between
   counts_as : (worker before : ℕ) (from to : List ℕ) (es : List (Entry E R)) → Rising from es to → slice_index from worker ≡ before → slice_index to worker ≡ before → CountsOwn worker before (items_as es)
@@ -84,18 +83,13 @@ module _ {E R : Type 0} (event : E → ObjectEvent) (reply : R → ObjectReply) 
       let here : slice_index e.front worker ≡ before = omega (arith, rises.0 worker, rising_whole e.front to es rises.1 worker, first, last) in
       (here, counts_as worker before e.front to es rises.1 here last)
 
--- of a note that counts all its holder's calls, the desk's front does
-pub counted_of : (own : Option Holding) (front : List ℕ) → IsCounted own front → (worker : ℕ) → number_in own ≡ Some worker → slice_index front worker ≡ length (items_of own)
-counted_of None front counted worker is = absurd (none-some worker is)
-counted_of (Some holding) front counted worker is = ap (λ (n : ℕ). slice_index front n) (sym (same_Some holding.number worker is)) ∙ counted
-
 module _ {S N H E R G O : Type 0} (next : S → ℕ → E → S × R) (halts : Bool) (start : S) (event_of : G → ℕ → E) (meaning : G → R → Step G O) (timely : List (Deed E R) → Type 0) (at : H → N → Type 0) (owner : N → Option Holding) (front : N → List ℕ) where
   -- what a call of a protocol does is the record's part
-  pub did_works : (event : E → ObjectEvent) (reply : R → ObjectReply) (number : ℕ) (stage : G) (old new : Pass S N E R) (was note : N) (answer : CallAnswer O)
+  pub did_works : Counts → (event : E → ObjectEvent) (reply : R → ObjectReply) (number : ℕ) (stage : G) (old new : Pass S N E R) (was note : N) (answer : CallAnswer O)
       → ((home : H) (any : N) → at home any → IsCounted (owner any) (front any)) → (home : H) → at home was → KeepsNote at owner front was note
       → Did next halts start (Spells event_of meaning stage) timely old (front was) answer new (front note)
       → Works (stages event reply event_of meaning number stage) (desk_at owner front number (own_as event reply old) was) answer (desk_at owner front number (own_as event reply new) note)
-  did_works event reply number stage old new was note answer counted home here keeps did =
+  did_works counts event reply number stage old new was note answer counted home here keeps did =
       let es = entries_of did.entries in
       let grown : own_as event reply new ≡ own_as event reply old ++ map (lifted event reply) es = ap (λ (xs : List (Entry E R)). map (lifted event reply) xs) did.grows.mine ∙ map-append (lifted event reply) _ es in
       let later : IsCounted (owner was) (front note) = subst (λ (o : Option Holding). IsCounted o (front note)) keeps.kept (counted home note (keeps.home home here)) in
@@ -106,7 +100,7 @@ module _ {S N H E R G O : Type 0} (next : S → ℕ → E → S × R) (halts : B
           owns = λ object. alone_grows event reply number (own_as event reply old) (own_as event reply new) es grown object (number == object) refl;
           calls = ap items_of keeps.kept ∙ sym (ap (λ (xs : List Item). items_of (owner was) ++ xs) (none_shared event reply number es) ∙ append-nil (items_of (owner was)));
           fronts = rises_as event reply number (front was) (front note) es did.grows.fronts;
-          counts = λ worker is. counts_as event reply number worker _ (front was) (front note) es did.grows.fronts (counted_of (owner was) (front was) (counted home was here) worker is) (counted_of (owner was) (front note) later worker is);
+          counts = λ worker is. counts_as event reply number worker _ (front was) (front note) es did.grows.fronts (counts (owner was) (front was) worker (counted home was here) is) (counts (owner was) (front note) worker later is);
         };
         spelt = (es, refl, subst (λ (deeds : List (Deed E R)). Spells event_of meaning stage deeds answer) (deeds_are did.entries) did.spelt);
       }
@@ -133,60 +127,18 @@ answers_as {O} part old new told answer is works = subst (λ (a : CallAnswer O).
 pub part_as : {O G : Type 0} (part_of : G → Part O) (call due : G) (old new : Desk) (answer : CallAnswer O) → call ≡ due → Works (part_of due) old answer new → Works (part_of call) old answer new
 part_as {O} {G} part_of call due old new answer is works = subst (λ (g : G). Works (part_of g) old answer new) (sym is) works
 
-pub shared_append : (xs ys : List Made) → shared_in (xs ++ ys) ≡ shared_in xs ++ shared_in ys
-shared_append [] ys = refl
-shared_append (Shared x ∷ xs) ys = ap (λ (l : List Item). x ∷ l) (shared_append xs ys)
-shared_append (Entered object entry ∷ xs) ys = shared_append xs ys
-
-entries_joined : (here : Bool) (entry : ObjectEntry) (xs ys both : List ObjectEntry) → both ≡ xs ++ ys → cond here (entry ∷ both) both ≡ cond here (entry ∷ xs) xs ++ ys
-entries_joined true entry xs ys both is = ap (λ (l : List ObjectEntry). entry ∷ l) is
-entries_joined false entry xs ys both is = is
-
-entries_append : (object : ℕ) (xs ys : List Made) → entries_in object (xs ++ ys) ≡ entries_in object xs ++ entries_in object ys
-entries_append object [] ys = refl
-entries_append object (Shared x ∷ xs) ys = entries_append object xs ys
-entries_append object (Entered other entry ∷ xs) ys = entries_joined (other == object) entry (entries_in object xs) (entries_in object ys) (entries_in object (xs ++ ys)) (entries_append object xs ys)
-
-rises_from : (low from to : List ℕ) (xs : List Made) → AtLeast from low → Rises from xs to → Rises low xs to
-rises_from low from to [] least rises = least_over low from to least rises
-rises_from low from to (x ∷ xs) least rises = (least_over low from (front_of x) least rises.0, rises.1)
-
-rises_append : (from between to : List ℕ) (xs ys : List Made) → Rises from xs between → Rises between ys to → Rises from (xs ++ ys) to
-rises_append from between to [] ys first later = rises_from from between to ys first later
-rises_append from between to (x ∷ xs) ys first later = (first.0, rises_append (front_of x) between to xs ys first.1 later)
-
-counts_append : (worker before : ℕ) (xs ys : List Made) → CountsOwn worker before xs → CountsOwn worker (before + length (shared_in xs)) ys → CountsOwn worker before (xs ++ ys)
-counts_append worker before [] ys first later = subst (λ (n : ℕ). CountsOwn worker n ys) (omega arith) later
-counts_append worker before (Shared x ∷ xs) ys first later =
-    (first.0, counts_append worker (before + 1) xs ys first.1 (subst (λ (n : ℕ). CountsOwn worker n ys) (omega arith) later))
-counts_append worker before (Entered object entry ∷ xs) ys first later = (first.0, counts_append worker before xs ys first.1 later)
-
--- nothing is made
-pub stays : (desk : Desk) → Moves desk [] desk
-stays desk = record { worker = refl; owns = λ object. sym (append-nil (desk.owns object)); calls = sym (append-nil desk.calls); fronts = λ i. omega arith; counts = λ worker is. tt }
-
--- these items, and then those
-pub joined : (old between new : Desk) (xs ys : List Made) → Moves old xs between → Moves between ys new → Moves old (xs ++ ys) new
-joined old between new xs ys a b = record {
-  worker = b.worker ∙ a.worker;
-  owns = λ object. b.owns object ∙ ap (λ (l : List ObjectEntry). l ++ entries_in object ys) (a.owns object) ∙ append_assoc (old.owns object) (entries_in object xs) (entries_in object ys) ∙ ap (λ (l : List ObjectEntry). old.owns object ++ l) (sym (entries_append object xs ys));
-  calls = b.calls ∙ ap (λ (l : List Item). l ++ shared_in ys) a.calls ∙ append_assoc old.calls (shared_in xs) (shared_in ys) ∙ ap (λ (l : List Item). old.calls ++ l) (sym (shared_append xs ys));
-  fronts = rises_append old.front between.front new.front xs ys a.fronts b.fronts;
-  counts = λ worker is. counts_append worker (length old.calls) xs ys (a.counts worker is) (subst (λ (n : ℕ). CountsOwn worker n ys) (ap (λ (l : List Item). length l) a.calls ∙ length-append old.calls (shared_in xs)) (b.counts worker (a.worker ∙ is)));
-}
-
 module _ {O P : Type 0} (first : Part O) (next : O → Part P) where
   -- one part, and then what comes behind it
-  pub works_on : (old between new : Desk) (given : CallAnswer O) (answer : CallAnswer P) → Works first old given between → Works (GoesOn next given) between answer new → Works (and_then first next) old answer new
-  works_on old between new given answer a b = record {
+  pub works_on : Joins → (old between new : Desk) (given : CallAnswer O) (answer : CallAnswer P) → Works first old given between → Works (GoesOn next given) between answer new → Works (and_then first next) old answer new
+  works_on joined old between new given answer a b = record {
     items = a.items ++ b.items;
     moves = joined old between new a.items b.items a.moves b.moves;
     spelt = (a.items, b.items, given, refl, a.spelt, b.spelt);
   }
 
 -- nothing is made, and that is the part
-pub rests : {O : Type 0} (part : Part O) (desk : Desk) (answer : CallAnswer O) → part [] answer → Works part desk answer desk
-rests part desk answer spelt = record { items = []; moves = stays desk; spelt = spelt }
+pub rests : Stays → {O : Type 0} (part : Part O) (desk : Desk) (answer : CallAnswer O) → part [] answer → Works part desk answer desk
+rests stays part desk answer spelt = record { items = []; moves = stays desk; spelt = spelt }
 
 module _ {N O : Type 0} (part : Part O) (owner : N → Option Holding) (front : N → List ℕ) (number : ℕ) (was is : List ObjectEntry) (owns others : ℕ → List ObjectEntry) (old new : N) (answer : CallAnswer O) where
   -- what is done on one object is done there among all objects, where nothing changes on the others
@@ -206,14 +158,14 @@ module _ {N O : Type 0} (part : Part O) (owner : N → Option Holding) (front : 
         let none : [] ≡ entries_in object works.items = subst (λ (b : Bool). cond b is [] ≡ cond b was [] ++ entries_in object works.items) e (works.moves.owns object) in
         subst (λ (l : List ObjectEntry). others object ≡ owns object ++ l) none (same object e ∙ sym (append-nil (owns object)))
 
-module _ {O P : Type 0} (first : Part O) (next : O → Part P) (old between : Desk) where
+module _ (stays : Stays) (joined : Joins) {O P : Type 0} (first : Part O) (next : O → Part P) (old between : Desk) where
   -- a first part that met a halt, or was a misuse, is the last
   pub halted_first : (misuse : Misuse) → Works first old (Halted misuse) between → Works (and_then first next) old (Halted misuse) between
-  halted_first misuse works = works_on first next old between between (Halted misuse) (Halted misuse) works (rests _ between _ (refl, refl))
+  halted_first misuse works = works_on first next joined old between between (Halted misuse) (Halted misuse) works (rests stays _ between _ (refl, refl))
 
   pub erred_first : (misuse : Misuse) → Works first old (Done (Err misuse)) between → Works (and_then first next) old (Done (Err misuse)) between
-  erred_first misuse works = works_on first next old between between (Done (Err misuse)) (Done (Err misuse)) works (rests _ between _ (refl, refl))
+  erred_first misuse works = works_on first next joined old between between (Done (Err misuse)) (Done (Err misuse)) works (rests stays _ between _ (refl, refl))
 
   -- and any other goes on
   pub went_first : (outcome : O) (new : Desk) (answer : CallAnswer P) → Works first old (Done (Ok outcome)) between → Works (next outcome) between answer new → Works (and_then first next) old answer new
-  went_first outcome new answer works later = works_on first next old between new (Done (Ok outcome)) answer works later
+  went_first outcome new answer works later = works_on first next joined old between new (Done (Ok outcome)) answer works later

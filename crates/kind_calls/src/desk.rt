@@ -8,7 +8,7 @@ ghost use Rattle.run_record.specs.MutexKind.{mutex_part};
 ghost use Rattle.thread_objects.specs.Desks.{AreSeats, IsObjectAt};
 ghost use Rattle.thread_objects.specs.Kinds.{IsMutex, IsCond};
 ghost use Rattle.thread_objects.specs.Passes.{owns_of};
-ghost use Rattle.kind_calls.specs.Working.{Works, desk_with};
+ghost use Rattle.shared_calls.specs.Working.{Works, desk_with};
 
 use crate::kinds::cond::part_of_cond;
 use crate::kinds::mutex::part_of_mutex;

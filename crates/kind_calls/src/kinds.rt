@@ -4,7 +4,6 @@ pub(crate) mod do_once;
 pub(crate) mod mutex;
 pub(crate) mod once;
 pub(crate) mod pool;
-pub(crate) mod range;
 pub(crate) mod replies;
 pub(crate) mod rw_mutex;
 pub(crate) mod wait;

@@ -9,16 +9,16 @@ ghost use Rattle.kind_calls.specs.Alone.{IsAlone};
 ghost use Rattle.thread_objects.specs.Desks.{AreSeats, IsObjectAt};
 ghost use Rattle.thread_objects.specs.Kinds.{IsCond, IsMutex, IsOfKind};
 ghost use Rattle.thread_objects.specs.Passes.{IsSeatAt, own_of, owns_of};
-ghost use Rattle.kind_calls.specs.Working.{Works, desk_at, desk_with};
+ghost use Rattle.shared_calls.specs.Working.{Works, desk_at, desk_with};
 
 use crate::kinds::cond::notify;
 use crate::kinds::mutex::call_mutex;
 use crate::kinds::once::{call_func, call_value};
-use crate::kinds::replies::CallAnswer;
 use crate::kinds::rw_mutex::call_rw_mutex;
 use crate::kinds::wait::wait;
 use crate::kinds::wait_group::call_group;
 use protocols::CondStage;
+use shared_calls::CallAnswer;
 use std::sync::Wait;
 use sync_model::Note;
 use sync_outside::Clock;

@@ -7,13 +7,14 @@ ghost use Rattle.run_record.specs.declared.entered.ObjectEvent.{ObjectEvent};
 ghost use Rattle.run_record.specs.declared.entered.ObjectReply.{ObjectReply};
 ghost use Rattle.run_record.specs.Parts.{stages};
 ghost use Rattle.thread_objects.specs.Seats.{IsSeat};
-ghost use Rattle.kind_calls.specs.Working.{Works, desk_at};
+ghost use Rattle.shared_calls.specs.Working.{Works, desk_at};
 ghost use Rattle.thread_objects.specs.Passes.{own_as};
 
 use object_word::Worded;
 use protocols::Protocol;
 use ruled_object::{Object, PassOf};
 use running::call_within;
+use shared_calls::laws::a_note_counts_its_calls;
 use std::sync::Wait;
 use sync_model::{Answer, Note};
 use sync_outside::Clock;
@@ -40,5 +41,6 @@ pub(crate) fn part<P: Protocol + Worded, N: Note, C: Clock, R: Wait>(
     ensures works { (event : P.Event → ObjectEvent) (reply : P.Reply → ObjectReply) (number : ℕ)
         → Works (stages event reply P.event P.meaning number stage) (desk_at N.own N.front number (own_as event reply pass.old) note.old) result (desk_at N.own N.front number (own_as event reply pass.new) note.new) }
 {
+    a_note_counts_its_calls();
     call_within(object, rt, &worker.at, pass, note, stage)
 }

@@ -5,7 +5,7 @@ ghost use Rattle.generated_runs.specs.Runs.{number_in, is_key, value_in};
 use sync_types::{End, Number, Reply, Seq};
 
 /// How many replies there are.
-pub fn count_of(replies: &[Seq<Reply<u32>>]) -> u128
+pub fn reply_count(replies: &[Seq<Reply<u32>>]) -> u128
     ensures { result ≡ sum_by length replies.now }
 {
     let mut count = 0_u128;

@@ -2,7 +2,7 @@
 ghost use Rattle.std.specs.Prelude.{◌≡◌};
 ghost use Rattle.made_run.specs.TotalsOf.{totals_of};
 
-use crate::sums::{count_of, keys_in, total_in, values_in};
+use crate::sums::{keys_in, reply_count, total_in, values_in};
 use sync_types::Report;
 
 /// What a run of a made workload comes to, in numbers. Each is a sum of numbers of 64 bits, so none wraps.
@@ -27,7 +27,7 @@ pub fn totals_of(left: &Report) -> Totals
     let ends = left.ends.as_slice();
     Totals {
         workers: left.replies.len() as u128,
-        calls: count_of(left.replies.as_slice()),
+        calls: reply_count(left.replies.as_slice()),
         total: total_in(ends),
         keys: keys_in(ends),
         sum: values_in(ends),

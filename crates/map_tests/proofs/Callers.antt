@@ -12,7 +12,7 @@ use Rattle.shared_table.specs.declared.note.SharedNote.{SharedNote}
 use Rattle.shared_table.specs.declared.table.SharedTable.{SharedTable}
 use Rattle.shared_table.specs.NewCallers.{AreNewCallers}
 use Rattle.shared_table.specs.Notes.{own_by, IsNoteOf}
-use Rattle.shared_table.specs.Tables.{count_of}
+use Rattle.shared_table.specs.Tables.{caller_count}
 use Rattle.go_map.specs.Maps.{MakesCall}
 
 some_is : (own : Option Holding) (h : Holding) → own ≡ Some h → IsSome own
@@ -57,7 +57,7 @@ held_on table map number call reply old new is makes =
     same_holding own a b first second = (cc)
 
 -- the four callers of a new table for four
-pub four_held : (table : SharedTable) (spare : List ℕ) (callers start : List (Caller SharedNote)) (one two three four : Caller SharedNote) → AreNewCallers table spare callers → count_of table ≡ 4 → callers ≡ (((start ++ one ∷ []) ++ two ∷ []) ++ three ∷ []) ++ four ∷ []
+pub four_held : (table : SharedTable) (spare : List ℕ) (callers start : List (Caller SharedNote)) (one two three four : Caller SharedNote) → AreNewCallers table spare callers → caller_count table ≡ 4 → callers ≡ (((start ++ one ∷ []) ++ two ∷ []) ++ three ∷ []) ++ four ∷ []
     → (IsCallers table 0 one.note × IsCallers table 1 two.note) × (IsCallers table 2 three.note × IsCallers table 3 four.note)
 four_held table spare callers [] one two three four new many is = (
   (new.all.each 0 one (ap (λ l. slice_get l 0) is), new.all.each 1 two (ap (λ l. slice_get l 1) is)),
@@ -70,15 +70,15 @@ four_held table spare callers (x ∷ start) one two three four new many is =
     absurd no
 
 -- taken one by one, from the last on
-pub four_taken : (table : SharedTable) (spare : List ℕ) (callers a b c start : List (Caller SharedNote)) (one two three four : Caller SharedNote) → AreNewCallers table spare callers → count_of table ≡ 4
+pub four_taken : (table : SharedTable) (spare : List ℕ) (callers a b c start : List (Caller SharedNote)) (one two three four : Caller SharedNote) → AreNewCallers table spare callers → caller_count table ≡ 4
     → callers ≡ a ++ four ∷ [] → a ≡ b ++ three ∷ [] → b ≡ c ++ two ∷ [] → c ≡ start ++ one ∷ []
     → (IsCallers table 0 one.note × IsCallers table 1 two.note) × (IsCallers table 2 three.note × IsCallers table 3 four.note)
 four_taken table spare callers a b c start one two three four new many fourth third second first =
     four_held table spare callers start one two three four new many (fourth ∙ ap (λ l. l ++ four ∷ []) (third ∙ ap (λ l. l ++ three ∷ []) (second ∙ ap (λ l. l ++ two ∷ []) first)))
 
 -- they are all callers of it
-pub all_four : (table : SharedTable) (one two three four : Caller SharedNote) → count_of table ≡ 4 → IsCallers table 0 one.note → IsCallers table 1 two.note → IsCallers table 2 three.note → IsCallers table 3 four.note
-    → AreAllCallers IsNoteOf own_by table (one ∷ two ∷ three ∷ four ∷ []) (count_of table)
+pub all_four : (table : SharedTable) (one two three four : Caller SharedNote) → caller_count table ≡ 4 → IsCallers table 0 one.note → IsCallers table 1 two.note → IsCallers table 2 three.note → IsCallers table 3 four.note
+    → AreAllCallers IsNoteOf own_by table (one ∷ two ∷ three ∷ four ∷ []) (caller_count table)
 all_four table one two three four many a b c d = record { all = sym many; each = each }
   where
     at : (number : ℕ) (caller other : Caller SharedNote) → IsCallers table number caller.note → Some caller ≡ Some other → IsCallers table number other.note

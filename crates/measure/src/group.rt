@@ -15,7 +15,7 @@ impl<N: FreshNote> Measured for WaitGroup<N> {
 
     type Kept = N;
 
-    ghost is_of = { λ group pass. IsPassOf group pass };
+    ghost has_pass = { λ group pass. IsPassOf group pass };
 
     fn new(alloc: Global, plan: Plan) -> Result<(Self, Vec<GroupPass<N>>), AllocError> {
         let (group, passes) = WaitGroup::new(alloc, plan.callers, MAX_CALLS, 0, N::fresh())?;

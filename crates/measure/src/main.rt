@@ -18,7 +18,7 @@ mod table_objects;
 
 use crate::fresh::FreshNote;
 use crate::map_and_int::MapAndInt;
-use crate::one_call::{Add, Churn, Load, Mix, On, Store};
+use crate::one_call::{Add, Churn, Load, Mix, On, Path, Store, Wide};
 use crate::plain_objects::PlainObjects;
 use crate::plan::{Call, Notes, Plan, Reads, What, plan_of};
 use crate::run::measure;
@@ -40,16 +40,17 @@ use sync_outside::{Clock, SystemClock};
 const USAGE: &str = "usage: measure WHAT HOW NOTES CLOCK CALLERS ROUNDS
 Prints how many nanoseconds a pair of calls takes, for each thread.
   WHAT     mutex | read | write | group | once | pool
-           plain-load | plain-store | plain-churn | plain-mix | plain-add
-           trie-load | trie-store | trie-churn | trie-mix | word-add
-  HOW      one | two-own | four-own | two-shared | four-shared
+           plain-load | plain-store | plain-churn | plain-wide | plain-mix | plain-add
+           trie-load | trie-store | trie-churn | trie-path | trie-wide | trie-mix | word-add
+  HOW      one | two-own | four-own | two-shared | four-shared | eight-shared
   NOTES    front | empty
   CLOCK    machine | standing
-  CALLERS  the callers of each object, whether they call or not: 4 to 64. Maps and atomics have one for each thread
-  ROUNDS   the pairs of each thread: 1 to 100000";
+  CALLERS  the callers of each object, whether they call or not: 4 to 64, with eight-shared 8 to 64.
+           Maps and atomics have one for each thread
+  ROUNDS   the pairs of each thread: 1 to 100000, with churn 1 to 50000, with path 1 to 25000";
 
 /// How many tenths of a nanosecond a call on a shared map or atomic takes.
-fn with_call<S: MapAndInt, C: Clock + Sync, R: Threads + Wait + rt::Clock + Sync>(
+fn with_shared_call<S: MapAndInt, C: Clock + Sync, R: Threads + Wait + rt::Clock + Sync>(
     rt: &R,
     alloc: Global,
     clock: &C,
@@ -60,6 +61,8 @@ fn with_call<S: MapAndInt, C: Clock + Sync, R: Threads + Wait + rt::Clock + Sync
         Call::Load => measure::<On<S, Load>, C, R>(rt, alloc, clock, plan),
         Call::Store => measure::<On<S, Store>, C, R>(rt, alloc, clock, plan),
         Call::Churn => measure::<On<S, Churn>, C, R>(rt, alloc, clock, plan),
+        Call::Path => measure::<On<S, Path>, C, R>(rt, alloc, clock, plan),
+        Call::Wide => measure::<On<S, Wide>, C, R>(rt, alloc, clock, plan),
         Call::Mix => measure::<On<S, Mix>, C, R>(rt, alloc, clock, plan),
         Call::Add => measure::<On<S, Add>, C, R>(rt, alloc, clock, plan),
     }
@@ -79,8 +82,8 @@ fn with_notes<N: FreshNote, C: Clock + Sync, R: Threads + Wait + rt::Clock + Syn
         What::Group => measure::<WaitGroup<N>, C, R>(rt, alloc, clock, plan),
         What::Once => measure::<Once<(), N>, C, R>(rt, alloc, clock, plan),
         What::Pool => measure::<Pool<N>, C, R>(rt, alloc, clock, plan),
-        What::Plain(call) => with_call::<PlainObjects, C, R>(rt, alloc, clock, plan, call),
-        What::Table(call) => with_call::<TableObjects, C, R>(rt, alloc, clock, plan, call),
+        What::Plain(call) => with_shared_call::<PlainObjects, C, R>(rt, alloc, clock, plan, call),
+        What::Table(call) => with_shared_call::<TableObjects, C, R>(rt, alloc, clock, plan, call),
     }
 }
 

@@ -7,38 +7,38 @@ use std::alloc::{AllocError, Global};
 use std::sync::Wait;
 use sync_model::{Caller, CallerNote};
 
-/// How many keys the map has, from 0.
+/// How many keys most calls go over, from 0.
 pub const KEYS: u32 = 512;
 
-/// A map that takes the keys below 512, and an int64.
+/// A map and an int64.
 pub trait MapAndInt: Sized + Sync + Drop {
     /// What its callers know.
     type Mark: CallerNote + Send + Drop;
 
     // It is a caller of these, between two calls.
-    ghost is_of: { Self → CallerOf Self.Mark → Type 0 };
+    ghost has_caller: { Self → CallerOf Self.Mark → Type 0 };
 
     /// An empty map and an int64 of 0. There is a caller for each number of `spare`, who may make so many stores and deletes.
     fn new(alloc: Global, spare: &[u32]) -> Result<(Self, Vec<Caller<Self::Mark>>), AllocError>
-        requires callers { (0 < length spare.now) × (length spare.now ≤ 4) }
+        requires callers { (0 < length spare.now) × (length spare.now ≤ 8) }
         requires units { sum spare.now ≤ 1_000_000 }
-        ensures { IfOk result (λ made. All (is_of made.0) made.1.items) };
+        ensures { IfOk result (λ made. All (has_caller made.0) made.1.items) };
 
     /// Loads a key, and answers whether it has a value.
     fn load<R: Wait>(&self, rt: &R, caller: &mut Caller<Self::Mark>, key: u32) -> bool
-        requires { is_of self.now caller.old × (key < 512) }
-        ensures { is_of self.now caller.new };
+        requires { has_caller self.now caller.old }
+        ensures { has_caller self.now caller.new };
 
     /// Stores under a key.
     fn store<R: Wait>(&self, rt: &R, caller: &mut Caller<Self::Mark>, key: u32)
-        requires caller { is_of self.now caller.old × (key < 512) }
+        requires caller { has_caller self.now caller.old }
         requires spare { ForSome (Self.Mark.own caller.old.note) (λ holding. 1 ≤ holding.spare) }
-        ensures { is_of self.now caller.new };
+        ensures { has_caller self.now caller.new };
 
     /// Stores under a key, if the caller may, and answers whether it did.
     fn store_if_room<R: Wait>(&self, rt: &R, caller: &mut Caller<Self::Mark>, key: u32) -> bool
-        requires { is_of self.now caller.old × (key < 512) }
-        ensures { is_of self.now caller.new }
+        requires { has_caller self.now caller.old }
+        ensures { has_caller self.now caller.new }
     {
         if caller.spare() == 0 {
             return false;
@@ -49,12 +49,24 @@ pub trait MapAndInt: Sized + Sync + Drop {
 
     /// Deletes a key.
     fn delete<R: Wait>(&self, rt: &R, caller: &mut Caller<Self::Mark>, key: u32)
-        requires caller { is_of self.now caller.old × (key < 512) }
+        requires caller { has_caller self.now caller.old }
         requires spare { ForSome (Self.Mark.own caller.old.note) (λ holding. 1 ≤ holding.spare) }
-        ensures { is_of self.now caller.new };
+        ensures { has_caller self.now caller.new };
+
+    /// Deletes a key, if the caller may, and answers whether it did.
+    fn delete_if_room<R: Wait>(&self, rt: &R, caller: &mut Caller<Self::Mark>, key: u32) -> bool
+        requires { has_caller self.now caller.old }
+        ensures { has_caller self.now caller.new }
+    {
+        if caller.spare() == 0 {
+            return false;
+        }
+        self.delete(rt, caller, key);
+        true
+    }
 
     /// Adds 1 to the int64.
     fn add<R: Wait>(&self, rt: &R, caller: &mut Caller<Self::Mark>)
-        requires { is_of self.now caller.old }
-        ensures { is_of self.now caller.new };
+        requires { has_caller self.now caller.old }
+        ensures { has_caller self.now caller.new };
 }

@@ -16,16 +16,16 @@ pub trait Measured: Sized + Sync + Drop {
     type Kept: Fresh + Send + Drop;
 
     // It is a pass to this object, between two calls.
-    ghost is_of: { Self → Self.Pass → Type 0 };
+    ghost has_pass: { Self → Self.Pass → Type 0 };
 
     /// An object for a measurement, and the passes of its callers, each good for all pairs.
     fn new(alloc: Global, plan: Plan) -> Result<(Self, Vec<Self::Pass>), AllocError>
-        ensures { IfOk result (λ made. All (is_of made.0) made.1.items) };
+        ensures { IfOk result (λ made. All (has_pass made.0) made.1.items) };
 
     /// Gives the object what it is to have before the first pair.
     fn fill<R: Wait>(&self, _rt: &R, _pass: &mut Self::Pass)
-        requires { is_of self.now _pass.old }
-        ensures { is_of self.now _pass.new }
+        requires { has_pass self.now _pass.old }
+        ensures { has_pass self.now _pass.new }
     {}
 
     /// Makes the pair of calls. A pass with no two calls left makes none.
@@ -36,6 +36,6 @@ pub trait Measured: Sized + Sync + Drop {
         pass: &mut Self::Pass,
         kept: &mut Self::Kept,
     )
-        requires { is_of self.now pass.old }
-        ensures { is_of self.now pass.new };
+        requires { has_pass self.now pass.old }
+        ensures { has_pass self.now pass.new };
 }

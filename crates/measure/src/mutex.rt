@@ -15,7 +15,7 @@ impl<N: FreshNote> Measured for Mutex<N> {
 
     type Kept = N;
 
-    ghost is_of = { λ mutex pass. IsPassOfMutex mutex pass };
+    ghost has_pass = { λ mutex pass. IsPassOfMutex mutex pass };
 
     fn new(alloc: Global, plan: Plan) -> Result<(Self, Vec<MutexPass<N>>), AllocError> {
         let (mutex, passes) = Mutex::new(alloc, plan.callers, MAX_CALLS, N::fresh())?;

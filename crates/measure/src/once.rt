@@ -15,7 +15,7 @@ impl<N: FreshNote> Measured for Once<(), N> {
 
     type Kept = N;
 
-    ghost is_of = { λ once pass. IsPassOf once pass };
+    ghost has_pass = { λ once pass. IsPassOf once pass };
 
     fn new(alloc: Global, plan: Plan) -> Result<(Self, Vec<OncePass<(), N>>), AllocError> {
         let (once, passes) = Once::new(alloc, plan.callers, MAX_CALLS, N::fresh())?;

@@ -31,6 +31,10 @@ pub enum Call {
     Store,
     /// One store and one delete.
     Churn,
+    /// Two stores and two deletes, of keys whose paths differ at their last nibble alone.
+    Path,
+    /// One call on a map: many keys are stored one after the other, and then deleted one after the other.
+    Wide,
     /// One call on a map: each tenth is a store, and the others are loads.
     Mix,
     /// One `add` to an int64.
@@ -38,7 +42,7 @@ pub enum Call {
 }
 
 /// The words of what is measured.
-const WHATS: [(&str, What); 16] = [
+const WHATS: [(&str, What); 19] = [
     ("mutex", What::Mutex),
     ("read", What::Read),
     ("write", What::Write),
@@ -48,11 +52,14 @@ const WHATS: [(&str, What); 16] = [
     ("plain-load", What::Plain(Call::Load)),
     ("plain-store", What::Plain(Call::Store)),
     ("plain-churn", What::Plain(Call::Churn)),
+    ("plain-wide", What::Plain(Call::Wide)),
     ("plain-mix", What::Plain(Call::Mix)),
     ("plain-add", What::Plain(Call::Add)),
     ("trie-load", What::Table(Call::Load)),
     ("trie-store", What::Table(Call::Store)),
     ("trie-churn", What::Table(Call::Churn)),
+    ("trie-path", What::Table(Call::Path)),
+    ("trie-wide", What::Table(Call::Wide)),
     ("trie-mix", What::Table(Call::Mix)),
     ("word-add", What::Table(Call::Add)),
 ];
@@ -77,22 +84,23 @@ pub enum How {
 }
 
 /// The words of how many threads call.
-const HOWS: [(&str, How); 5] = [
+const HOWS: [(&str, How); 6] = [
     ("one", How::Own(1)),
     ("two-own", How::Own(2)),
     ("four-own", How::Own(4)),
     ("two-shared", How::Shared(2)),
     ("four-shared", How::Shared(4)),
+    ("eight-shared", How::Shared(8)),
 ];
 
 impl How {
-    /// How many threads call on one object, and at most 4.
+    /// How many threads call on one object, and at most 8.
     pub fn callers(self) -> usize
-        ensures { (0 < result) × (result ≤ 4) }
+        ensures { (0 < result) × (result ≤ 8) }
     {
         match self {
             How::Own(_) => 1,
-            How::Shared(threads) => threads.clamp(1, 4),
+            How::Shared(threads) => threads.clamp(1, 8),
         }
     }
 }
@@ -132,23 +140,25 @@ pub struct Plan {
     pub callers: u32,
     /// How many pairs each thread makes: 1 to 100,000.
     pub rounds: u32,
+    /// How many stores and deletes each thread makes at most: 0 to 100,000.
+    pub stores: u32,
     ghost sized: { (4 ≤ callers) × (callers ≤ 64) },
     ghost runs: { (0 < rounds) × (rounds ≤ 100_000) },
+    ghost few: { stores ≤ 100_000 },
 }
 
-impl Plan {
-    /// How many stores and deletes each thread makes.
-    pub fn spare(&self) -> u32
-        ensures { result ≤ 200_000 }
-    {
-        match self.what {
-            What::Plain(call) | What::Table(call) => match call {
-                Call::Load | Call::Add => 0,
-                Call::Store | Call::Mix => self.rounds,
-                Call::Churn => 2 * self.rounds,
-            },
-            _ => 0,
-        }
+// How many stores and deletes so many pairs make at most.
+fn stores_of(what: What, rounds: u32) -> u32
+    requires { rounds ≤ 100_000 }
+{
+    match what {
+        What::Plain(call) | What::Table(call) => match call {
+            Call::Load | Call::Add => 0,
+            Call::Store | Call::Mix | Call::Wide => rounds,
+            Call::Churn => 2 * rounds,
+            Call::Path => 4 * rounds,
+        },
+        _ => 0,
     }
 }
 
@@ -166,6 +176,10 @@ pub fn plan_of(words: &[String]) -> Option<Plan> {
     if callers < 4 || 64 < callers || rounds == 0 || 100_000 < rounds {
         return None;
     }
+    let stores = stores_of(what, rounds);
+    if (callers as usize) < how.callers() || 100_000 < stores {
+        return None;
+    }
     Some(Plan {
         what,
         how,
@@ -173,5 +187,6 @@ pub fn plan_of(words: &[String]) -> Option<Plan> {
         reads,
         callers,
         rounds,
+        stores,
     })
 }

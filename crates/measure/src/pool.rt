@@ -18,7 +18,7 @@ impl<N: FreshNote> Measured for Pool<N> {
 
     type Kept = N;
 
-    ghost is_of = { λ pool pass. IsPassOf pool pass };
+    ghost has_pass = { λ pool pass. IsPassOf pool pass };
 
     fn new(alloc: Global, plan: Plan) -> Result<(Self, Vec<PoolPass<N>>), AllocError> {
         let (pool, passes) = Pool::new(alloc, &(), plan.callers, ROOM, 0, MAX_CALLS, N::fresh())?;

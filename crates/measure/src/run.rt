@@ -18,7 +18,7 @@ fn time_of<M: Measured, C: Clock, R: Wait + rt::Clock>(
     mut pass: M::Pass,
     rounds: u32,
 ) -> u64
-    requires { M.is_of object.now pass }
+    requires { M.has_pass object.now pass }
 {
     let mut kept = M::Kept::fresh();
     let start = SystemClock::new(rt);
@@ -46,7 +46,7 @@ fn shared<M: Measured, C: Clock + Sync, R: Threads + Wait + rt::Clock + Sync>(
         rt,
         passes,
         &|pass: M::Pass| -> u64
-            requires { M.is_of object pass }
+            requires { M.has_pass object pass }
         { time_of(rt, &object, clock, pass, plan.rounds) },
     )?;
     Ok(times.iter().copied().max().unwrap_or(0))

@@ -23,7 +23,7 @@ impl<N: FreshNote> Measured for Reading<N> {
 
     type Kept = N;
 
-    ghost is_of = { λ reading pass. IsPassOfRwMutex reading.lock pass };
+    ghost has_pass = { λ reading pass. IsPassOfRwMutex reading.lock pass };
 
     fn new(alloc: Global, plan: Plan) -> Result<(Self, Vec<RwPass<N>>), AllocError> {
         let (lock, passes) = RwMutex::new(alloc, plan.callers, MAX_CALLS, N::fresh())?;
@@ -51,7 +51,7 @@ impl<N: FreshNote> Measured for Writing<N> {
 
     type Kept = N;
 
-    ghost is_of = { λ writing pass. IsPassOfRwMutex writing.lock pass };
+    ghost has_pass = { λ writing pass. IsPassOfRwMutex writing.lock pass };
 
     fn new(alloc: Global, plan: Plan) -> Result<(Self, Vec<RwPass<N>>), AllocError> {
         let (lock, passes) = RwMutex::new(alloc, plan.callers, MAX_CALLS, N::fresh())?;

@@ -28,7 +28,8 @@ pub struct TableObjects {
 }
 
 // Whether a key of map 0 has a value. The words that are read are counted.
-fn load_counted<L: Ledger>(
+fn load_counted<R: Wait, L: Ledger>(
+    rt: &R,
     table: &SharedTable,
     caller: &mut Caller<SharedNote>,
     key: u32,
@@ -39,22 +40,22 @@ fn load_counted<L: Ledger>(
     requires ledger { (blank.name ≡ L.name) × (blank.parts ≡ L.parts) × (0 < L.parts) }
     ensures { IsCallerAt IsNoteOf own_by table.now caller.new }
 {
-    let mut steps = Steps::<L>::new(blank);
+    let mut steps = Steps::<L>::new(rt, blank);
     Map::at(table, 0).load(caller, key, &mut steps).is_some()
 }
 
 impl MapAndInt for TableObjects {
     type Mark = SharedNote;
 
-    ghost is_of = { λ objects caller. IsCallerAt IsNoteOf own_by objects.table caller };
+    ghost has_caller = { λ objects caller. IsCallerAt IsNoteOf own_by objects.table caller };
 
     fn new(alloc: Global, spare: &[u32]) -> Result<(Self, Vec<Caller<SharedNote>>), AllocError> {
         let (table, callers) = SharedTable::new(alloc, &[AtomicKind::Int64], 1, SEED, spare)?;
         Ok((TableObjects { table }, callers))
     }
 
-    fn load<R: Wait>(&self, _rt: &R, caller: &mut Caller<SharedNote>, key: u32) -> bool {
-        load_counted::<Brand>(&self.table, caller, key, Blank::new(1))
+    fn load<R: Wait>(&self, rt: &R, caller: &mut Caller<SharedNote>, key: u32) -> bool {
+        load_counted::<_, Brand>(rt, &self.table, caller, key, Blank::new(1))
     }
 
     fn store<R: Wait>(&self, rt: &R, caller: &mut Caller<SharedNote>, key: u32) {

@@ -15,7 +15,7 @@ use Rattle.mutex_core.specs.declared.reply.Resumption.TheVariants.{Acquired}
 use Rattle.mutex_core.specs.declared.waiter.Waiter.{Waiter}
 use Rattle.mutex_core.specs.declared.waiter.Flight.{Flight}
 use Rattle.mutex_core.specs.declared.waiter.Flight.TheVariants as flight
-use Rattle.mutex_core.specs.MutexMachine.{State, start, is_of, place_in, place_of, unlocked, still, at_place, next, IsValid}
+use Rattle.mutex_core.specs.MutexMachine.{State, start, is_waiter_of, place_in, place_of, unlocked, still, at_place, next, IsValid}
 use Rattle.mutex_core.specs.Edges.{Log, acquires}
 use Rattle.mutex_core.specs.HandOff.{goes_on, GoesTo, HandsOff}
 use Rattle.mutex_core.proofs.Validity.{state, start-valid, after-valid, callers-after, unlocked-valid}
@@ -52,7 +52,7 @@ at_place-keeps n w q c event.Try other = try-keeps n w q (place_of (kept n w q) 
 at_place-keeps n w q c event.Unlock other = record { unacquired = refl; queue = q; still_kept = refl }
 at_place-keeps n w q c (event.Woken now) other =
     let P : Bool → Type 0 = λ first. Keeps n w (at_place (event.Woken now) (if first then place.Handed else place_in q c) c (kept n w q)) in
-    subst P (sym other) (woken-keeps n w q now c (list_any (is_of c) q))
+    subst P (sym other) (woken-keeps n w q now c (list_any (is_waiter_of c) q))
 
 next-keeps : (n : ℕ) (w : Waiter) (q : List Waiter) (c : ℕ) (e : MutexEvent) → goes_on w.caller c e ≡ false → Keeps n w (next (kept n w q) c e)
 next-keeps n w q c e other = by_test (nat_lt c n)
@@ -65,7 +65,7 @@ next-keeps n w q c e other = by_test (nat_lt c n)
 next-gives : (n : ℕ) (w : Waiter) (q : List Waiter) (c : ℕ) (e : MutexEvent) → w.caller < n → goes_on w.caller c e ≡ true → (next (kept n w q) c e).1 ≡ Resumed Acquired
 next-gives n w q c (event.Woken now) below own =
     let same : c ≡ w.caller = eqb-true c w.caller own in
-    let first : is_of c w ≡ true = own in
+    let first : is_waiter_of c w ≡ true = own in
     let here : nat_lt c n ≡ true = lt-ltb c n (subst (λ x. x < n) (sym same) below) in
     rw (here, first) refl
 next-gives n w q c (event.Arrive now) below own = absurd (false≢true own)

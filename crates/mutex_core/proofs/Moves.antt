@@ -15,7 +15,7 @@ use Rattle.mutex_core.specs.declared.reply.Unlocking.TheVariants as unlocking
 use Rattle.mutex_core.specs.declared.waiter.Waiter.{Waiter}
 use Rattle.mutex_core.specs.declared.waiter.Flight.{Flight}
 use Rattle.mutex_core.specs.declared.waiter.Flight.TheVariants as flight
-use Rattle.mutex_core.specs.MutexMachine.{State, is_of, place_in, place_by, place_of, arrived, tried, unlocked, resumed, still, at_place, next, IsValid}
+use Rattle.mutex_core.specs.MutexMachine.{State, is_waiter_of, place_in, place_by, place_of, arrived, tried, unlocked, resumed, still, at_place, next, IsValid}
 use Rattle.mutex_core.specs.Starving.{is_starving}
 use Rattle.mutex_core.specs.Moves.{place_after, tells}
 use Rattle.mutex_core.proofs.Validity.{state}
@@ -28,13 +28,13 @@ Moves by s step = (x : ℕ) → place_of step.0 x ≡ place_after x by (place_of
 
 -- ---- a waiter more
 
-any-push : (x : ℕ) (q : List Waiter) (w : Waiter) → list_any (is_of x) (q ++ w ∷ []) ≡ (list_any (is_of x) q || (x == w.caller))
+any-push : (x : ℕ) (q : List Waiter) (w : Waiter) → list_any (is_waiter_of x) (q ++ w ∷ []) ≡ (list_any (is_waiter_of x) q || (x == w.caller))
 any-push x [] w = or-last (x == w.caller)
   where
     or-last : (b : Bool) → (b || false) ≡ b
     or-last true = refl
     or-last false = refl
-any-push x (y ∷ q) w = ap (λ (b : Bool). is_of x y || b) (any-push x q w) ∙ or-assoc (is_of x y) (list_any (is_of x) q) (x == w.caller)
+any-push x (y ∷ q) w = ap (λ (b : Bool). is_waiter_of x y || b) (any-push x q w) ∙ or-assoc (is_waiter_of x y) (list_any (is_waiter_of x) q) (x == w.caller)
   where
     or-assoc : (a b c : Bool) → (a || (b || c)) ≡ ((a || b) || c)
     or-assoc true b c = refl
@@ -47,7 +47,7 @@ queued-by false true = refl
 queued-by false false = refl
 
 place_in-push : (x : ℕ) (q : List Waiter) (w : Waiter) → place_in (q ++ w ∷ []) x ≡ (if x == w.caller then place.Waiting else place_in q x)
-place_in-push x q w = ap (λ (b : Bool). if b then place.Waiting else place.Out) (any-push x q w) ∙ queued-by (list_any (is_of x) q) (x == w.caller)
+place_in-push x q w = ap (λ (b : Bool). if b then place.Waiting else place.Out) (any-push x q w) ∙ queued-by (list_any (is_waiter_of x) q) (x == w.caller)
 
 -- the first of those that wait isn't the new one
 first-push : (x : ℕ) (p : Place) (first : ℕ) (q : List Waiter) (w : Waiter) → nat_eq w.caller first ≡ false
@@ -92,10 +92,10 @@ unlocked-moves : (n : ℕ) (l k v : Bool) (q : List Waiter) (f : Flight) (c : �
 unlocked-moves n false k v q f c h = λ x. refl
 unlocked-moves n true k true [] f c h = λ x. refl
 unlocked-moves n true k false [] f c h = λ x. refl
-unlocked-moves n true k true (w ∷ q) flight.Nobody c h = λ x. told-by (is_of x w) (list_any (is_of x) q) place.Handed
+unlocked-moves n true k true (w ∷ q) flight.Nobody c h = λ x. told-by (is_waiter_of x w) (list_any (is_waiter_of x) q) place.Handed
 unlocked-moves n true k true (w ∷ q) (flight.Woken y) c h = no (cc (h.unwoken refl, h.woken))
 unlocked-moves n true k true (w ∷ q) flight.Handed c h = no (cc h.handed)
-unlocked-moves n true false false (w ∷ q) flight.Nobody c h = λ x. told-by (is_of x w) (list_any (is_of x) q) place.Woken
+unlocked-moves n true false false (w ∷ q) flight.Nobody c h = λ x. told-by (is_waiter_of x w) (list_any (is_waiter_of x) q) place.Woken
 unlocked-moves n true false false (w ∷ q) (flight.Woken y) c h = no h.woken
 unlocked-moves n true false false (w ∷ q) flight.Handed c h = no (cc h.handed)
 unlocked-moves n true true false (w ∷ q) f c h = λ x. refl
@@ -112,10 +112,10 @@ gone x c first p q same out = by_test (x == c) refl
 
 -- it is queued again, and nobody else moves
 back : (x c : ℕ) (w : Waiter) (asked : Bool) (q : List Waiter) → c ≡ w.caller
-    → place_in (record w { asked = asked } ∷ q) x ≡ (if x == c then place.Waiting else (if is_of x w then place.Woken else place_in q x))
-back x c w asked q same = by_test (is_of x w) refl
+    → place_in (record w { asked = asked } ∷ q) x ≡ (if x == c then place.Waiting else (if is_waiter_of x w then place.Woken else place_in q x))
+back x c w asked q same = by_test (is_waiter_of x w) refl
   where
-    by_test : (b : Bool) → is_of x w ≡ b → (if b || list_any (is_of x) q then place.Waiting else place.Out) ≡ (if x == c then place.Waiting else (if b then place.Woken else place_in q x))
+    by_test : (b : Bool) → is_waiter_of x w ≡ b → (if b || list_any (is_waiter_of x) q then place.Waiting else place.Out) ≡ (if x == c then place.Waiting else (if b then place.Woken else place_in q x))
     by_test true is = sym (ap (λ (b : Bool). if b then place.Waiting else place.Woken) (ap (λ (y : ℕ). x == y) same ∙ is))
     by_test false is = sym (ap (λ (b : Bool). if b then place.Waiting else place_in q x) (ap (λ (y : ℕ). x == y) same ∙ is))
 
@@ -123,11 +123,11 @@ resumed-moves : (n : ℕ) (l k v : Bool) (q : List Waiter) (f : Flight) (c now :
 resumed-moves n l k v q flight.Nobody c now at h = λ x. refl
 resumed-moves n l k v [] flight.Handed c now at h = λ x. refl
 resumed-moves n l k v (w ∷ q) flight.Handed c now at h =
-    λ x. gone x c w.caller place.Handed q (first_by (is_of c w) place.Handed q c w.caller refl at) (in_place false q w.caller (absent-rest w.caller (callers_of q) h.apart))
+    λ x. gone x c w.caller place.Handed q (first_by (is_waiter_of c w) place.Handed q c w.caller refl at) (in_place false q w.caller (absent-rest w.caller (callers_of q) h.apart))
 resumed-moves n true k v q (flight.Woken w) c now at h =
-    λ x. back x c w (is_starving w now) q (first_by (is_of c w) place.Woken q c w.caller refl at)
+    λ x. back x c w (is_starving w now) q (first_by (is_waiter_of c w) place.Woken q c w.caller refl at)
 resumed-moves n false k v q (flight.Woken w) c now at h =
-    λ x. gone x c w.caller place.Woken q (first_by (is_of c w) place.Woken q c w.caller refl at) (in_place false q w.caller (absent-rest w.caller (callers_of q) h.apart))
+    λ x. gone x c w.caller place.Woken q (first_by (is_waiter_of c w) place.Woken q c w.caller refl at) (in_place false q w.caller (absent-rest w.caller (callers_of q) h.apart))
 
 -- ---- any event
 
@@ -154,8 +154,8 @@ moves s c e x h = by_test (nat_lt c s.callers) x
 abbrev Tells : State → MutexEvent → State × MutexReply → Type 0
 Tells s e step = (x : ℕ) → tells x step.1 ≡ true → (e ≡ event.Unlock) × (place_of s x ≡ place.Waiting)
 
-front-waits : (x : ℕ) (w : Waiter) (q : List Waiter) → is_of x w ≡ true → place_in (w ∷ q) x ≡ place.Waiting
-front-waits x w q is = ap (λ (b : Bool). if b || list_any (is_of x) q then place.Waiting else place.Out) is
+front-waits : (x : ℕ) (w : Waiter) (q : List Waiter) → is_waiter_of x w ≡ true → place_in (w ∷ q) x ≡ place.Waiting
+front-waits x w q is = ap (λ (b : Bool). if b || list_any (is_waiter_of x) q then place.Waiting else place.Out) is
 
 arrived-tells : (n : ℕ) (l k v : Bool) (q : List Waiter) (f : Flight) (c now : ℕ) (e : MutexEvent) → Tells (state n l k v q f) e (arrived (state n l k v q f) c now)
 arrived-tells n false k false q f c now e = λ x told. no told

@@ -15,7 +15,7 @@ use Rattle.mutex_core.specs.declared.reply.Resumption.TheVariants as resumption
 use Rattle.mutex_core.specs.declared.waiter.Waiter.{Waiter}
 use Rattle.mutex_core.specs.declared.waiter.Flight.{Flight}
 use Rattle.mutex_core.specs.declared.waiter.Flight.TheVariants as flight
-use Rattle.mutex_core.specs.MutexMachine.{State, start, is_of, place_in, place_by, place_of, arrived, tried, unlocked, resumed, still, at_place, next, is_needed, may_make, waiting_by, IsValid}
+use Rattle.mutex_core.specs.MutexMachine.{State, start, is_waiter_of, place_in, place_by, place_of, arrived, tried, unlocked, resumed, still, at_place, next, is_needed, may_make, waiting_by, IsValid}
 use Rattle.mutex_core.specs.Edges.{Log}
 use Rattle.mutex_core.specs.Standing.{is_answer, waits_after, is_waiting}
 use Rattle.mutex_core.proofs.Validity.{state, next-valid, start-valid}
@@ -68,7 +68,7 @@ abbrev pub IsInFlight : Place → Type 0
 IsInFlight p = (p ≡ place.Woken) ⊎ (p ≡ place.Handed)
 
 not_queued : (q : List Waiter) (c : ℕ) → IsInFlight (place_in q c) → ⊥
-not_queued q c at = by_test (list_any (is_of c) q) at
+not_queued q c at = by_test (list_any (is_waiter_of c) q) at
   where
     by_test : (b : Bool) → IsInFlight (if b then place.Waiting else place.Out) → ⊥
     by_test true (inl e) = cc
@@ -85,10 +85,10 @@ resumed-shifts : (n : ℕ) (l k v : Bool) (q : List Waiter) (f : Flight) (c now 
 resumed-shifts n l k v q flight.Nobody c now at = refl
 resumed-shifts n l k v [] flight.Handed c now at = refl
 resumed-shifts n l k v (w ∷ q) flight.Handed c now at =
-    ap (λ (x : ℕ). x ∷ callers_of q) (sym (first_by (is_of c w) place.Handed q c w.caller refl at))
+    ap (λ (x : ℕ). x ∷ callers_of q) (sym (first_by (is_waiter_of c w) place.Handed q c w.caller refl at))
 resumed-shifts n true k v q (flight.Woken w) c now at = refl
 resumed-shifts n false k v q (flight.Woken w) c now at =
-    ap (λ (x : ℕ). x ∷ callers_of q) (sym (first_by (is_of c w) place.Woken q c w.caller refl at))
+    ap (λ (x : ℕ). x ∷ callers_of q) (sym (first_by (is_waiter_of c w) place.Woken q c w.caller refl at))
 
 at_place-shifts : (e : MutexEvent) (p : Place) (c : ℕ) (s : State) → place_of s c ≡ p → IsValid s → ShiftsBy c s (at_place e p c s)
 at_place-shifts (event.Arrive now) place.Out c s at h = arrived-shifts s.callers s.locked s.woken s.starving s.queue s.flight c now
@@ -185,9 +185,9 @@ or-parts false b e = (refl, e)
 -- who isn't among those that wait is out
 absent-out : (f : Flight) (q : List Waiter) (c : ℕ) → Among c (waiting_by f q) ≡ false → place_by f q c ≡ place.Out
 absent-out flight.Nobody q c out = in_place false q c out
-absent-out (flight.Woken w) q c out = let parts = or-parts (is_of c w) _ out in rw (parts.0, in_place false q c parts.1) refl
+absent-out (flight.Woken w) q c out = let parts = or-parts (is_waiter_of c w) _ out in rw (parts.0, in_place false q c parts.1) refl
 absent-out flight.Handed [] c out = refl
-absent-out flight.Handed (w ∷ q) c out = let parts = or-parts (is_of c w) _ out in rw (parts.0, in_place false q c parts.1) refl
+absent-out flight.Handed (w ∷ q) c out = let parts = or-parts (is_waiter_of c w) _ out in rw (parts.0, in_place false q c parts.1) refl
 
 -- who is among them is elsewhere
 abbrev IsElsewhere : Place → Type 0
@@ -202,9 +202,9 @@ first-elsewhere p false q c is among = queued-elsewhere q c among
 
 among-elsewhere : (f : Flight) (q : List Waiter) (c : ℕ) → Among c (waiting_by f q) ≡ true → IsElsewhere (place_by f q c)
 among-elsewhere flight.Nobody q c among = queued-elsewhere q c among
-among-elsewhere (flight.Woken w) q c among = first-elsewhere place.Woken (is_of c w) q c (λ e. cc) among
+among-elsewhere (flight.Woken w) q c among = first-elsewhere place.Woken (is_waiter_of c w) q c (λ e. cc) among
 among-elsewhere flight.Handed [] c among = no among
-among-elsewhere flight.Handed (w ∷ q) c among = first-elsewhere place.Handed (is_of c w) q c (λ e. cc) among
+among-elsewhere flight.Handed (w ∷ q) c among = first-elsewhere place.Handed (is_waiter_of c w) q c (λ e. cc) among
 
 -- whether a caller is among those that wait is what its own answers say
 among_by_answers : (callers : ℕ) (log : Log) (caller : ℕ) → Follows next (start callers) log → Among caller (waiting (after next (start callers) log)) ≡ is_waiting false caller log

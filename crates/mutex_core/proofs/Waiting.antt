@@ -9,7 +9,7 @@ use Rattle.mutex_core.specs.declared.place.Place.TheVariants as place
 use Rattle.mutex_core.specs.declared.waiter.Waiter.{Waiter}
 use Rattle.mutex_core.specs.declared.waiter.Flight.{Flight}
 use Rattle.mutex_core.specs.declared.waiter.Flight.TheVariants as flight
-use Rattle.mutex_core.specs.MutexMachine.{is_of, place_in, place_by, waiting_by}
+use Rattle.mutex_core.specs.MutexMachine.{is_waiter_of, place_in, place_by, waiting_by}
 
 -- the callers in a queue
 abbrev pub callers_of : List Waiter → List ℕ
@@ -24,7 +24,7 @@ waiting_by-push flight.Nobody queue w = callers_of-push queue w
 waiting_by-push (flight.Woken x) queue w = ap (λ cs. x.caller ∷ cs) (callers_of-push queue w)
 waiting_by-push flight.Handed queue w = callers_of-push queue w
 
-pub list_any-callers_of : (c : ℕ) (queue : List Waiter) → list_any (nat_eq c) (callers_of queue) ≡ list_any (is_of c) queue
+pub list_any-callers_of : (c : ℕ) (queue : List Waiter) → list_any (nat_eq c) (callers_of queue) ≡ list_any (is_waiter_of c) queue
 list_any-callers_of c [] = refl
 list_any-callers_of c (x ∷ queue) = ap (λ b. nat_eq c x.caller || b) (list_any-callers_of c queue)
 
@@ -34,17 +34,17 @@ out_past true p q never out = absurd (false≢true (never out))
 out_past false p q never out = (refl, out)
 
 out_of_queue : (c : ℕ) (queue : List Waiter) → place_in queue c ≡ place.Out → list_any (nat_eq c) (callers_of queue) ≡ false
-out_of_queue c queue out = rw list_any-callers_of ((out_past (list_any (is_of c) queue) place.Waiting place.Out (λ e. cc) out).0)
+out_of_queue c queue out = rw list_any-callers_of ((out_past (list_any (is_waiter_of c) queue) place.Waiting place.Out (λ e. cc) out).0)
 
 -- a caller that is out isn't among those that wait
 pub waiting-out : (f : Flight) (queue : List Waiter) (c : ℕ) → place_by f queue c ≡ place.Out → list_any (nat_eq c) (waiting_by f queue) ≡ false
 waiting-out flight.Nobody queue c out = out_of_queue c queue out
 waiting-out (flight.Woken w) queue c out =
-    let parts = out_past (is_of c w) place.Woken (place_in queue c) (λ e. cc) out in
+    let parts = out_past (is_waiter_of c w) place.Woken (place_in queue c) (λ e. cc) out in
     rw (parts.0, out_of_queue c queue parts.1) refl
 waiting-out flight.Handed [] c out = refl
 waiting-out flight.Handed (w ∷ queue) c out =
-    let parts = out_past (is_of c w) place.Handed (place_in queue c) (λ e. cc) out in
+    let parts = out_past (is_waiter_of c w) place.Handed (place_in queue c) (λ e. cc) out in
     rw (parts.0, out_of_queue c queue parts.1) refl
 
 pub AllByRecursion-push : {X : Type 0} (P : X → Type 0) (xs : List X) (x : X) → AllByRecursion P xs → P x → AllByRecursion P (xs ++ x ∷ [])

@@ -31,19 +31,19 @@ abbrev pub start : ℕ → State
 start callers = record { callers = callers; locked = false; woken = false; starving = false; queue = []; flight = flight.Nobody }
 
 -- whether the waiter is this caller's
-abbrev pub is_of : ℕ → Waiter → Bool
-is_of caller waiter = caller == waiter.caller
+abbrev pub is_waiter_of : ℕ → Waiter → Bool
+is_waiter_of caller waiter = caller == waiter.caller
 
 -- in the queue, or out
 abbrev pub place_in : List Waiter → ℕ → Place
-place_in queue caller = if list_any (is_of caller) queue then place.Waiting else place.Out
+place_in queue caller = if list_any (is_waiter_of caller) queue then place.Waiting else place.Out
 
 -- where a caller is, by who is in flight and who waits
 abbrev pub place_by : Flight → List Waiter → ℕ → Place
 place_by flight.Nobody queue caller = place_in queue caller
-place_by (flight.Woken waiter) queue caller = if is_of caller waiter then place.Woken else place_in queue caller
+place_by (flight.Woken waiter) queue caller = if is_waiter_of caller waiter then place.Woken else place_in queue caller
 place_by flight.Handed [] caller = place.Out
-place_by flight.Handed (front ∷ rest) caller = if is_of caller front then place.Handed else place_in rest caller
+place_by flight.Handed (front ∷ rest) caller = if is_waiter_of caller front then place.Handed else place_in rest caller
 
 -- a caller's place
 abbrev pub place_of : State → ℕ → Place

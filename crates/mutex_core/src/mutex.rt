@@ -1,7 +1,7 @@
 //! The mutex machine, in memory that is taken once.
 ghost use Rattle.std.specs.Prelude.{◌≡◌, ◌⊎◌, ◌<◌, ◌≤◌, IfOk, IfSome, IfNone, IsFalse};
 ghost use Rattle.std.specs.List.{list_any};
-ghost use Rattle.mutex_core.specs.MutexMachine.{is_of, next, place_of, start, IsValid};
+ghost use Rattle.mutex_core.specs.MutexMachine.{is_waiter_of, next, place_of, start, IsValid};
 ghost use Rattle.mutex_core.specs.declared.event.MutexEvent.{MutexEvent};
 ghost use Rattle.mutex_core.specs.declared.waiter.Flight.{Flight};
 ghost use Rattle.mutex_core.specs.declared.reply.MutexReply.{MutexReply};
@@ -178,7 +178,7 @@ impl MutexCore {
 
     /// Whether the caller is in the queue.
     fn is_queued(&self, caller: u32) -> bool
-        ensures { result ≡ list_any (is_of caller) self.now.queue }
+        ensures { result ≡ list_any (is_waiter_of caller) self.now.queue }
     {
         self.queue.iter().any(|waiter| caller == waiter.caller)
     }

@@ -10,7 +10,7 @@ use Rattle.shared_plain.specs.declared.mark.Mark.{Mark}
 use Rattle.shared_plain.specs.declared.plain.Plain.{Plain}
 use Rattle.shared_plain.specs.Marks.{own_by, IsMarkOf}
 use Rattle.shared_plain.specs.NewCallers.{AreNewCallers}
-use Rattle.shared_plain.specs.Plains.{count_of}
+use Rattle.shared_plain.specs.Plains.{caller_count}
 
 pub is_caller : (plain : Plain) (spare : List ℕ) (callers : List (Caller Mark)) → AreNewCallers plain spare callers → (i : ℕ) (caller : Caller Mark) → slice_get callers i ≡ Some caller → IsCallerAt IsMarkOf own_by plain caller
 is_caller plain spare callers new i caller at = ((new.all.each i caller at).0, subst (λ o. IsSome o) (sym (new.own i caller at)) refl)
@@ -30,7 +30,7 @@ abbrev pub IsCallers : Plain → ℕ → Caller Mark → Type 0
 IsCallers plain number caller = IsMarkOf plain caller.note × IsHeldBy number (own_by caller.note)
 
 -- the two callers of new maps and atomics for two
-pub two_held : (plain : Plain) (spare : List ℕ) (callers start : List (Caller Mark)) (first second : Caller Mark) → AreNewCallers plain spare callers → count_of plain ≡ 2 → callers ≡ (start ++ first ∷ []) ++ second ∷ [] → IsCallers plain 0 first × IsCallers plain 1 second
+pub two_held : (plain : Plain) (spare : List ℕ) (callers start : List (Caller Mark)) (first second : Caller Mark) → AreNewCallers plain spare callers → caller_count plain ≡ 2 → callers ≡ (start ++ first ∷ []) ++ second ∷ [] → IsCallers plain 0 first × IsCallers plain 1 second
 two_held plain spare callers [] first second new two is = (new.all.each 0 first (ap (λ l. slice_get l 0) is), new.all.each 1 second (ap (λ l. slice_get l 1) is))
 two_held plain spare callers (x ∷ start) first second new two is =
     let few : length callers ≡ 2 = new.all.all ∙ two in

@@ -1,3 +1,4 @@
 pub mod Endings
 pub mod Expected
 pub mod StandLemmas
+mod Gains

@@ -1,11 +1,12 @@
 -- Which deeds a call makes, one after the other, and what it then answers. This is the spelling of every call of every kind of object.
-use Rattle.std.specs.Prelude.{◌≡◌, ℕ, List, [], ◌∷◌, Option, Result, Ok, Err}
+use Rattle.std.specs.Prelude.{◌≡◌, ℕ, Bool, false, List, [], ◌∷◌, Option, Result, Ok, Err}
 use Rattle.std.specs.List.{AllByRecursion}
 use Rattle.sync_types.specs.declared.misuse.Misuse.{Misuse}
 use Rattle.sync_model.specs.declared.answer.Answer.{Answer}
 use Rattle.sync_model.specs.declared.answer.Answer.TheVariants.{Done, Halted}
 use Rattle.sync_model.specs.declared.journal.Deed.{Deed}
 use Rattle.sync_model.specs.declared.journal.Deed.TheVariants.{Event, Refused, Halt}
+use Rattle.sync_model.specs.Journal.{is_such}
 use Rattle.protocols.specs.declared.step.Step.{Step}
 use Rattle.protocols.specs.declared.step.Step.TheVariants.{Finished, Misused, Waits, Next, Never}
 use Rattle.protocols.specs.Steps.{IsAt}
@@ -30,15 +31,15 @@ module _ {G E : Type 0} (event_of : G → ℕ → E) where
 
 module _ {G O E R : Type 0} (event_of : G → ℕ → E) (meaning : G → R → Step G O) where
   -- the first deed is the stage's event, and the rest goes on by its answer; a refusal ends the call
-  abbrev pub Begun : G → Deed E R → List (Deed E R) → (G → Type 0) → CallAnswer O → Type 0
-  Begun stage (Event event reply) rest on answer = IsEventOf event_of stage event × Rest (meaning stage reply) rest on answer
-  Begun stage (Refused event misuse) rest on answer = IsEventOf event_of stage event × (rest ≡ []) × (answer ≡ Halted misuse)
-  Begun stage (Halt misuse) rest on answer = ⊥
+  abbrev pub IsFirstDeed : G → Deed E R → List (Deed E R) → (G → Type 0) → CallAnswer O → Type 0
+  IsFirstDeed stage (Event event reply) rest on answer = IsEventOf event_of stage event × Rest (meaning stage reply) rest on answer
+  IsFirstDeed stage (Refused event misuse) rest on answer = IsEventOf event_of stage event × (rest ≡ []) × (answer ≡ Halted misuse)
+  IsFirstDeed stage (Halt misuse) rest on answer = ⊥
 
   -- from this stage on, the deeds are those of a call that answers this
   abbrev pub Spells : G → List (Deed E R) → CallAnswer O → Type 0
   Spells stage [] answer = ⊥
-  Spells stage (deed ∷ rest) answer = Begun stage deed rest (λ later. Spells later rest answer) answer
+  Spells stage (deed ∷ rest) answer = IsFirstDeed stage deed rest (λ later. Spells later rest answer) answer
 
 module _ {E R : Type 0} where
   abbrev pub IsEvent : Deed E R → Type 0
@@ -56,6 +57,13 @@ module _ {E R : Type 0} where
   Ends [] answer = ⊥
   Ends (last ∷ []) answer = IsLast last answer
   Ends (deed ∷ (next ∷ rest)) answer = IsEvent deed × Ends (next ∷ rest) answer
+
+module _ {E R : Type 0} (takes : E → R → Bool) where
+  -- the last deed takes in what earlier calls left, exactly where this says so, and no other deed does
+  abbrev pub TakesInLast : Bool → List (Deed E R) → Type 0
+  TakesInLast gained [] = ⊥
+  TakesInLast gained (last ∷ []) = is_such takes last ≡ gained
+  TakesInLast gained (deed ∷ (next ∷ rest)) = (is_such takes deed ≡ false) × TakesInLast gained (next ∷ rest)
 
 module _ {E R : Type 0} (moment : E → Option ℕ) (shows : ℕ → Type 0) where
   -- the moment of a deed's event, where it has one, is such a moment

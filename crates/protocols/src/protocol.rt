@@ -69,7 +69,8 @@ pub trait Protocol: Machine {
     /// What holds of the kind's calls; it does nothing. Whatever was done at an object from its beginning on, the event of a
     /// stage that is allowed gets an answer that a call goes on by. Each answer leads to where the next stage is allowed, or
     /// to where the outcome leaves the caller. A call gives no more than its first stage says, and acquires by its last
-    /// event, exactly where its outcome gains. An event carries the moment at which it is made, or none.
+    /// event, exactly where its outcome gains. An event carries the moment at which it is made, or none, and is then the same at
+    /// every moment.
     fn laws()
         ensures expected { (callers caller now : ℕ) (start : Self.State) (log : List (Entry Self.Event Self.Reply)) (stage : Self.Stage)
             → begins callers start → Follows Self.next start log → caller < callers
@@ -82,5 +83,7 @@ pub trait Protocol: Machine {
         ensures gains { (stage : Self.Stage) (now : ℕ) (reply : Self.Reply)
             → GainsAtItsEnd gains stage (Self.takes (event stage now) reply) (meaning stage reply) }
         ensures moments { (stage : Self.Stage) (now : ℕ)
-            → (moment (event stage now) ≡ None) ⊎ (moment (event stage now) ≡ Some now) };
+            → (moment (event stage now) ≡ None) ⊎ (moment (event stage now) ≡ Some now) }
+        ensures timeless { (stage : Self.Stage) (now other : ℕ)
+            → moment (event stage now) ≡ None → event stage now ≡ event stage other };
 }

@@ -108,3 +108,20 @@ module _ {S N E R H : Type 0} (next : S → ℕ → E → S × R) (halts : Bool)
         follows = subst (Follows next halts begin.state None) (sym seen) (follows_snoc next halts begin.state None journal e learns.lawful.follows may.right);
         edges = subst (KeepsEdges frees takes) (sym seen) (edges_snoc frees takes journal e learns.lawful.edges may.edge);
       }
+
+  -- What a caller that took the word comes to by a deed that is right at the cell: its entry may be added, and a pass whose seat then gave the word back shows it.
+  pub record Places (pass : Pass S N E R) (deed : Deed E R) (known : List ℕ) (v : View E R) (after : ℕ) (left : Cell S N) : Type 0 where
+    pub may : MayAdd next halts frees takes front at tells means begin v (entry pass.number deed known v.knew) after left
+    pub shows : (now : Pass S N E R) → now.seat.me ≡ (gave v (Some (entry pass.number deed known v.knew)), []) → Adds next halts frees takes begin.state pass (entry pass.number deed known (length pass.seat.me.0.seen)) now
+
+  pub places : (pass : Pass S N E R) (word : ℕ) (n : Sat S N E R) (took : TakesRest next halts frees takes front at tells means begin word pass.seat.me n) (old : Cell S N) (did deed : Deed E R) (known : List ℕ) (v : View E R) (turns after : ℕ) (left : Cell S N)
+      → n.1 ≡ (0, Some old) ∷ [] → Acts next halts frees takes front tells means pass.number did known word old after left → SameHome at old.note left.note → deed ≡ did → pass.seat.me.0.number ≡ pass.number → length pass.seat.me.0.owns ≡ 1
+      → v ≡ counted (taken pass.seat.me.0 took.0) turns → Places pass deed known v after left
+  places pass word n took old did deed known v turns after left held acts same is number one view =
+      let learns = learned word pass.seat.me n old took held in
+      let right = subst (λ (d : Deed E R). Acts next halts frees takes front tells means pass.number d known word old after left) (sym is) acts in
+      let may = may_add pass.seat.me.0 took.0 word old after left pass.number deed known learns right same number in
+      let e : Entry E R = entry pass.number deed known (length pass.seat.me.0.seen) in record {
+        may = subst (λ (w : View E R). MayAdd next halts frees takes front at tells means begin w (entry pass.number deed known w.knew) after left) (sym view) (may_counted (taken pass.seat.me.0 took.0) turns e after left may);
+        shows = λ now gives. adds pass now took.0 word old after left turns deed known learns may (omega arith) (subst (λ (w : View E R). now.seat.me ≡ (gave w (Some (entry pass.number deed known w.knew)), [])) view gives);
+      }

@@ -7,7 +7,7 @@ ghost use Rattle.ruled_object.specs.Steps.{IfBegun, IsSameSeat};
 
 use crate::cell::Cell;
 use crate::object::Object;
-use crate::rule::Begun;
+use crate::rule::Origin;
 use crate::turn::{SeatOf, WORD};
 use crate::view::View;
 use atomic_table::{Play, Split};
@@ -29,7 +29,7 @@ pub(crate) struct Look<M, N, K> {
     marker: PhantomData<(M, N, K)>,
 }
 
-impl<M: Worded, N: Note, K: Begun<M::State, N>> Play<
+impl<M: Worded, N: Note, K: Origin<M::State, N>> Play<
     Option<Cell<M::State, N>>,
     View<M::Event, M::Reply>,
 > for Look<M, N, K> {
@@ -47,7 +47,7 @@ impl<M: Worded, N: Note> Object<M, N> {
     }
 
     // The seat, which hasn't it, looks at the word.
-    pub(crate) fn look<K: Begun<M::State, N>>(&self, seat: &mut SeatOf<M, N>) -> u64
+    pub(crate) fn look<K: Origin<M::State, N>>(&self, seat: &mut SeatOf<M, N>) -> u64
         requires begun { K.begun ≡ Some self.now.table.shared.key }
         requires seat { (seat.old.table_id ≡ self.now.table.shared.table_id) × (seat.old.me.0.stage ≡ Idle) }
         ensures seat { IsSameSeat seat.old seat.new }

@@ -1,7 +1,7 @@
 //! A new object.
-ghost use Rattle.std.specs.Prelude.{◌≡◌, ◌<◌, ◌≤◌, [], None, IfOk, replicate, vec_len};
+ghost use Rattle.std.specs.Prelude.{◌≡◌, ◌<◌, ◌≤◌, [], All, None, IfOk, replicate, vec_len};
 ghost use Rattle.ruled_object.specs.Gathered.{AreNew, Dealing};
-ghost use Rattle.ruled_object.specs.Passes.{IsHomeOf, callers_of, start_of};
+ghost use Rattle.ruled_object.specs.Passes.{IsHomeOf, callers_of, start_of, turns_of};
 ghost use Rattle.ruled_object.specs.Steps.{first_view, IsSameSeat};
 
 use crate::cell::Cell;
@@ -31,7 +31,7 @@ fn parkers(alloc: Global, callers: u32) -> Result<Vec<Parker>, AllocError>
 
 impl<M: Worded, N: Note> Object<M, N> {
     /// An object with this machine's state, and the passes of its callers, in order of number, each good for `calls`
-    /// calls of the layers above. The object keeps `note` for what releasing events leave.
+    /// calls of the layers above. None has taken a turn. The object keeps `note` for what releasing events leave.
     pub fn new(
         alloc: Global,
         callers: u32,
@@ -43,6 +43,7 @@ impl<M: Worded, N: Note> Object<M, N> {
         requires calls { calls ≤ MAX_CALLS }
         ensures object { IfOk result (λ made. (callers_of made.0 ≡ callers) × (start_of made.0 ≡ start) × ((home : N.Home) → N.at home note → IsHomeOf N.at made.0 home)) }
         ensures passes { IfOk result (λ made. AreNew made.0 calls made.1.items) }
+        ensures turns { IfOk result (λ made. All (λ pass. turns_of pass ≡ 0) made.1.items) }
     {
         let parkers = parkers(alloc, callers)?;
         let begin = Begin {
@@ -89,7 +90,8 @@ impl<M: Worded, N: Note> Object<M, N> {
     ) -> Result<Vec<PassOf<M, N>>, AllocError>
         requires callers { callers ≡ callers_of self.now }
         requires all { (all.table_id ≡ self.now.table.shared.table_id) × (all.me.1 ≡ []) × Dealing 0 [] (replicate callers []) all.me.0 }
-        ensures { IfOk result (λ passes. AreNew self.now calls passes.items) }
+        ensures new { IfOk result (λ passes. AreNew self.now calls passes.items) }
+        ensures turns { IfOk result (λ passes. All (λ pass. turns_of pass ≡ 0) passes.items) }
     {
         let mut passes = Vec::with_capacity(alloc, callers as usize)?;
         for number in 0..callers {

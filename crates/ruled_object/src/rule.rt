@@ -36,11 +36,11 @@ impl<M: Worded, N: Note> TableRule<
 }
 
 /// How the object began, for proofs: a step can't read it off the table. A call at `Brand` picks it.
-pub(crate) trait Begun<S, N> {
+pub(crate) trait Origin<S, N> {
     ghost begun: { Option (Begin S N) };
 }
 
-impl<S, N> Begun<S, N> for Brand {
+impl<S, N> Origin<S, N> for Brand {
     ghost begun = { None };
 }
 
@@ -88,7 +88,7 @@ pub(crate) struct Take<M, N, K> {
     marker: PhantomData<(M, N, K)>,
 }
 
-impl<M: Worded, N: Note, K: Begun<M::State, N>> Play<
+impl<M: Worded, N: Note, K: Origin<M::State, N>> Play<
     Option<Cell<M::State, N>>,
     View<M::Event, M::Reply>,
 > for Take<M, N, K> {
@@ -100,7 +100,7 @@ pub(crate) struct TakeRest<M, N, K> {
     marker: PhantomData<(M, N, K)>,
 }
 
-impl<M: Worded, N: Note, K: Begun<M::State, N>> Play<
+impl<M: Worded, N: Note, K: Origin<M::State, N>> Play<
     Option<Cell<M::State, N>>,
     View<M::Event, M::Reply>,
 > for TakeRest<M, N, K> {

@@ -6,7 +6,7 @@ ghost use Rattle.ruled_object.specs.Steps.{gave, deepened, raised, HasCell, MayG
 
 use crate::cell::Cell;
 use crate::object::Object;
-use crate::rule::{Begun, Deepen, Give, Raise, Take, TakeRest, Told};
+use crate::rule::{Deepen, Give, Origin, Raise, Take, TakeRest, Told};
 use crate::view::View;
 use atomic_table::Seat;
 use object_word::{HELD, Worded};
@@ -49,7 +49,7 @@ impl<M: Worded, N: Note> Object<M, N> {
 
     // Waits for the word, and gives what it told. The seat then has the slot, and the cell stays where it lies.
     #[inline(always)]
-    pub(crate) fn take_word<K: Begun<M::State, N>, R: Wait>(
+    pub(crate) fn take_word<K: Origin<M::State, N>, R: Wait>(
         &self,
         rt: &R,
         seat: &mut SeatOf<M, N>,
@@ -71,7 +71,7 @@ impl<M: Worded, N: Note> Object<M, N> {
     }
 
     // Takes the word for a seat that stands for all callers, so that nobody has it, and gives what it told.
-    pub(crate) fn take_rest<K: Begun<M::State, N>>(&self, seat: &mut SeatOf<M, N>) -> u64
+    pub(crate) fn take_rest<K: Origin<M::State, N>>(&self, seat: &mut SeatOf<M, N>) -> u64
         requires begun { K.begun ≡ Some self.now.table.shared.key }
         requires seat { (seat.old.table_id ≡ self.now.table.shared.table_id) × (seat.old.me.1 ≡ []) }
         requires all { (seat.old.me.0.stage ≡ Idle) × (seat.old.me.0.number ≡ 0) × (length seat.old.me.0.owns ≡ self.now.table.shared.key.callers) }

@@ -4,6 +4,7 @@ mod AsMany
 mod ByCaller
 mod DoneLines
 mod EachOf
+mod EndsShown
 mod Holders
 mod KeyAtEnd
 mod LockLines

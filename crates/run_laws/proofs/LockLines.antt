@@ -26,7 +26,7 @@ use Rattle.mutex_core.specs.declared.reply.Unlocking.TheVariants as unlocking
 use Rattle.protocols.specs.declared.mutex.MutexStage.{MutexStage}
 use Rattle.protocols.specs.declared.mutex.MutexStage.TheVariants as stage
 use Rattle.protocols.specs.MutexStages.{mutex_event, mutex_meaning}
-use Rattle.protocols.specs.Spelling.{CallAnswer, Begun, Spells}
+use Rattle.protocols.specs.Spelling.{CallAnswer, IsFirstDeed, Spells}
 use Rattle.workload.specs.declared.object.ObjectKind.TheVariants as kinds
 use Rattle.workload.specs.Plan.{Plan}
 use Rattle.run_record.specs.declared.entered.ObjectEvent.{ObjectEvent}
@@ -122,7 +122,7 @@ module _ (xs : List (Entry MutexEvent MutexReply)) (answer : CallAnswer LockRepl
   Goes held deed = IsHolders held (lifted_deed event.Mutex reply.Mutex deed) × OnlyHolder (holds_after held (lifted_deed event.Mutex reply.Mutex deed)) (of_kind xs ++ rest)
 
   lock_deed : Behind answer true rest → (Spells mutex_event mutex_meaning stage.Resume (deeds xs) answer → OnlyHolder false (of_kind xs ++ rest))
-      → (from : MutexStage) (deed : Deed MutexEvent MutexReply) → IsLocking from → Begun mutex_event mutex_meaning from deed (deeds xs) (λ later. Spells mutex_event mutex_meaning later (deeds xs) answer) answer → Goes false deed
+      → (from : MutexStage) (deed : Deed MutexEvent MutexReply) → IsLocking from → IsFirstDeed mutex_event mutex_meaning from deed (deeds xs) (λ later. Spells mutex_event mutex_meaning later (deeds xs) answer) answer → Goes false deed
   lock_deed behind on stage.Lock (Event e (Arrived arrival.Acquired)) locking (is, (none, gives)) = (λ u. no u, last_then true none (subst (λ (a : CallAnswer LockReply). Behind a true rest) gives behind))
   lock_deed behind on stage.Lock (Event e (Arrived (arrival.Queued ticket))) locking (is, later) = (λ u. no u, on later)
   lock_deed behind on stage.Lock (Event e r) locking (is, never) = absurd never
@@ -135,7 +135,7 @@ module _ (xs : List (Entry MutexEvent MutexReply)) (answer : CallAnswer LockRepl
   lock_deed behind on stage.TryLock deed locking begun = absurd locking
   lock_deed behind on stage.Unlock deed locking begun = absurd locking
 
-  unlock_deed : Behind answer false rest → (deed : Deed MutexEvent MutexReply) → Begun mutex_event mutex_meaning stage.Unlock deed (deeds xs) (λ later. Spells mutex_event mutex_meaning later (deeds xs) answer) answer → Goes true deed
+  unlock_deed : Behind answer false rest → (deed : Deed MutexEvent MutexReply) → IsFirstDeed mutex_event mutex_meaning stage.Unlock deed (deeds xs) (λ later. Spells mutex_event mutex_meaning later (deeds xs) answer) answer → Goes true deed
   unlock_deed behind (Event e (Unlocked unlocking.Free)) (is, (none, gives)) = (λ u. refl, last_then false none (subst (λ (a : CallAnswer LockReply). Behind a false rest) gives behind))
   unlock_deed behind (Event e (Unlocked (unlocking.Woke ticket))) (is, (none, gives)) = (λ u. refl, last_then false none (subst (λ (a : CallAnswer LockReply). Behind a false rest) gives behind))
   unlock_deed behind (Event e (Unlocked (unlocking.Handed ticket))) (is, (none, gives)) = (λ u. refl, last_then false none (subst (λ (a : CallAnswer LockReply). Behind a false rest) gives behind))

@@ -12,7 +12,7 @@ use Rattle.sync_types.specs.declared.map_object.MapCall.{MapCall}
 use Rattle.sync_types.specs.declared.map_object.MapCall.TheVariants.{Load, Store, LoadOrStore, LoadAndDelete, Delete, Swap, CompareAndSwap, CompareAndDelete, Clear}
 use Rattle.sync_types.specs.Renaming.{renamed_call}
 use Rattle.sync_types.specs.KeyCalls.{key_after}
-use Rattle.sync_types.specs.SequentialMap.{is_value, map_after, map_key}
+use Rattle.sync_types.specs.SequentialMap.{has_value, map_after, map_key}
 
 -- what a call leaves at its own key is the same at whatever name the key has
 pub value_renamed : {K L : Type 0} (rename : K → L) (call : MapCall K) (was : Option ℕ) → key_after (renamed_call rename call) was ≡ key_after call was
@@ -89,6 +89,6 @@ module _ {K : Type 0} {R : K → K → Ordering} (total : IsTotalOrder R) (key :
   key_left (LoadAndDelete other) m = removed m other
   key_left (Delete other) m = removed m other
   key_left (Swap other value) m = inserted m other value
-  key_left (CompareAndSwap other old new) m = chosen (is_value old (get m other)) (insert m other new) m ∙ (ap (λ (v : Option ℕ). cond (is_value old (get m other)) v (get m key)) (inserted m other new) ∙ by_key (is_value old) (Some new) m other)
-  key_left (CompareAndDelete other old) m = chosen (is_value old (get m other)) (remove m other) m ∙ (ap (λ (v : Option ℕ). cond (is_value old (get m other)) v (get m key)) (removed m other) ∙ by_key (is_value old) None m other)
+  key_left (CompareAndSwap other old new) m = chosen (has_value old (get m other)) (insert m other new) m ∙ (ap (λ (v : Option ℕ). cond (has_value old (get m other)) v (get m key)) (inserted m other new) ∙ by_key (has_value old) (Some new) m other)
+  key_left (CompareAndDelete other old) m = chosen (has_value old (get m other)) (remove m other) m ∙ (ap (λ (v : Option ℕ). cond (has_value old (get m other)) v (get m key)) (removed m other) ∙ by_key (has_value old) None m other)
   key_left Clear m = get-empty R key

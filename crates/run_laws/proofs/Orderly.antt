@@ -28,7 +28,7 @@ use Rattle.protocols.specs.declared.mutex.MutexStage.TheVariants as stage
 use Rattle.protocols.specs.declared.step.Step.{Step}
 use Rattle.protocols.specs.declared.step.Step.TheVariants.{Finished, Misused, Waits, Next, Never}
 use Rattle.protocols.specs.MutexStages.{mutex_event, mutex_meaning}
-use Rattle.protocols.specs.Spelling.{CallAnswer, Rest, Begun, Spells}
+use Rattle.protocols.specs.Spelling.{CallAnswer, Rest, IsFirstDeed, Spells}
 use Rattle.workload.specs.declared.object.ObjectKind.TheVariants as kinds
 use Rattle.workload.specs.Plan.{Plan}
 use Rattle.run_record.specs.declared.entered.ObjectEvent.TheVariants as event
@@ -74,7 +74,7 @@ module _ (xs : List (Entry MutexEvent MutexReply)) (answer : CallAnswer LockRepl
   by_step from r (Next later) is rest used = on later rest
   by_step from r Never is rest used = rest
 
-  by_deed : (from : MutexStage) (deed : Deed MutexEvent MutexReply) → Begun mutex_event mutex_meaning from deed (deeds xs) (λ later. Spells mutex_event mutex_meaning later (deeds xs) answer) answer → IsUse (lifted_deed event.Mutex reply.Mutex deed) → ⊥
+  by_deed : (from : MutexStage) (deed : Deed MutexEvent MutexReply) → IsFirstDeed mutex_event mutex_meaning from deed (deeds xs) (λ later. Spells mutex_event mutex_meaning later (deeds xs) answer) answer → IsUse (lifted_deed event.Mutex reply.Mutex deed) → ⊥
   by_deed from (Event e r) begun used = by_step from r (mutex_meaning from r) refl begun.1 used
   by_deed from (Refused e misuse) (is, none, gives) used = false≢true (sym (ap (is_err {O = LockReply}) gives) ∙ err)
   by_deed from (Halt misuse) begun used = begun

@@ -1,19 +1,18 @@
 -- What an edge makes known.
-use Rattle.std.proofs.Common.{◌≡◌, ℕ, zero, suc, ◌<◌, ◌≤◌, true, false, List, length, take, Some, None, ◌⊎◌, inl, inr, get_or, slice_get, slice_index, sym, subst, arith}
+use Rattle.std.proofs.Common.{◌≡◌, ℕ, ◌<◌, true, false, List, length, take, Some, slice_get, slice_index, subst, arith}
 use Rattle.std.proofs.lemmas.Bool.{false≢true}
-use Rattle.std.proofs.lemmas.Option.{slice_get_cases, slice_get_within, get_or_from_slice_get}
+use Rattle.std.proofs.lemmas.Option.{slice_get_within, get_or_from_slice_get}
 use Rattle.sync_model.specs.declared.item.Item.{Item}
 use Rattle.sync_model.specs.declared.journal.Deed.TheVariants.{Halt}
 use Rattle.sync_types.specs.declared.misuse.Misuse.{Misuse}
 use Rattle.sync_model.specs.Journal.{is_such}
-use Rattle.workload.specs.declared.object.ObjectLine.{ObjectLine}
 use Rattle.workload.specs.Plan.{Plan}
 use Rattle.run_record.specs.declared.made.Made.TheVariants.{Shared, Entered}
 use Rattle.run_record.specs.Edges.{frees, takes}
 use Rattle.run_record.specs.Explains.{IsRecordOf}
 use Rattle.run_record.specs.Journals.{IsStops}
-use Rattle.run_record.specs.Record.{Record, ObjectEntry, stop, object_number, journal_of, list_of, shared_in}
-use Rattle.run_record.proofs.ListLemmas.{shared_before, get_past}
+use Rattle.run_record.specs.Record.{Record, ObjectEntry, stop, journal_of, list_of, shared_in}
+use Rattle.run_record.proofs.ListLemmas.{shared_before}
 use Rattle.run_record.proofs.ObjectJournals.{Keeps, nothing, of_kind, of_part}
 use Rattle.run_record.proofs.NumberLemmas.{each_journal}
 

@@ -1,8 +1,8 @@
 -- Halts and refusals in journals.
-use Rattle.std.proofs.Common.{◌≡◌, ◌⊎◌, inl, inr, ℕ, zero, suc, ◌<◌, ◌≤◌, Bool, true, false, List, [], ◌∷◌, length, get_or, Option, Some, None, slice_get, refl, sym, ap, ◌∙◌, subst, arith}
+use Rattle.std.proofs.Common.{◌≡◌, ◌⊎◌, inl, inr, ℕ, Bool, true, false, List, [], ◌∷◌, Option, Some, None, refl, sym, ap, ◌∙◌, subst}
 use Rattle.std.specs.Prelude.{unwrap_or}
 use Rattle.std.proofs.lemmas.Bool.{false≢true}
-use Rattle.std.proofs.lemmas.Option.{none-some, slice_get_cases, slice_get_within, get_or_from_slice_get}
+use Rattle.std.proofs.lemmas.Option.{none-some, slice_get_within, get_or_from_slice_get}
 use Rattle.sync_model.specs.declared.journal.Deed.{Deed}
 use Rattle.sync_model.specs.declared.journal.Deed.TheVariants.{Event, Refused, Halt}
 use Rattle.sync_model.specs.declared.journal.Entry.{Entry}
@@ -10,7 +10,6 @@ use Rattle.sync_types.specs.declared.misuse.Misuse.{Misuse}
 use Rattle.sync_model.specs.Journal.{halt_next, halt_after, state_next, Right, Follows}
 use Rattle.workload.specs.declared.object.ObjectKind.{ObjectKind}
 use Rattle.workload.specs.declared.object.ObjectKind.TheVariants as kinds
-use Rattle.workload.specs.declared.object.ObjectLine.{ObjectLine}
 use Rattle.workload.specs.Plan.{Plan}
 use Rattle.run_record.specs.declared.entered.ObjectEvent.{ObjectEvent}
 use Rattle.run_record.specs.declared.entered.ObjectEvent.TheVariants as event
@@ -20,9 +19,8 @@ use Rattle.run_record.specs.Calls.{IsJournalOf}
 use Rattle.run_record.specs.Explains.{IsRecordOf}
 use Rattle.run_record.specs.Journals.{IsStops, FollowsFrom}
 use Rattle.run_record.specs.Parts.{lifted, lifted_deed}
-use Rattle.run_record.specs.Record.{Record, ObjectEntry, stop, object_number, journal_of}
+use Rattle.run_record.specs.Record.{Record, ObjectEntry, stop, journal_of}
 use Rattle.run_record.proofs.Having.{Has, has_mapped, has_map, place_of}
-use Rattle.run_record.proofs.ListLemmas.{get_past}
 use Rattle.run_record.proofs.NumberLemmas.{each_journal}
 use Rattle.run_record.proofs.PartLemmas.{IsRefusal}
 

@@ -1,6 +1,7 @@
 mod AskLemmas
 mod CallLemmas
 mod CallParts
+mod CondWaits
 mod EdgeLemmas
 mod ExampleLemmas
 mod FewLemmas
@@ -11,12 +12,19 @@ mod JournalParts
 mod Lifts
 mod ListOrder
 mod Limits
+mod LockReturns
 mod LineLemmas
 mod ListLemmas
 mod NamedLemmas
 mod NumberLemmas
 mod ObjectJournals
+mod OnceReturns
 mod PairLemmas
 mod PartLemmas
+mod PoolReturns
+mod RangeReplies
+mod Returning
+mod RwReturns
 mod TwoCalls
 mod WaitLemmas
+mod WaitReturns

@@ -13,7 +13,7 @@ use Rattle.workload.specs.Plan.{Plan}
 use Rattle.run_record.specs.Calls.{IsJournalOf}
 use Rattle.run_record.specs.Explains.{IsRecordOf}
 use Rattle.run_record.specs.Journals.{IsStops}
-use Rattle.run_record.specs.Objects.{is_pool, first_part, object_count}
+use Rattle.run_record.specs.Objects.{is_pool, first_part}
 use Rattle.run_record.specs.PoolKind.{IsPartJournal}
 use Rattle.run_record.specs.Record.{Record, ObjectEntry, stop, object_number, journal_of}
 use Rattle.run_record.proofs.ListLemmas.{get_past}

@@ -46,12 +46,12 @@ module _ {A : Type 0} (P : A → Type 0) where
   by_recursion [] each = tt
   by_recursion (x ∷ xs) each = (each.0, by_recursion xs each.1)
 
-shared_both : (xs ys : List Made) → shared_in (xs ++ ys) ≡ shared_in xs ++ shared_in ys
+pub shared_both : (xs ys : List Made) → shared_in (xs ++ ys) ≡ shared_in xs ++ shared_in ys
 shared_both [] ys = refl
 shared_both (Shared x ∷ xs) ys = ap (λ (l : List Item). x ∷ l) (shared_both xs ys)
 shared_both (Entered object entry ∷ xs) ys = shared_both xs ys
 
-shared_of : (xs : List Item) → shared_in (map Shared xs) ≡ xs
+pub shared_of : (xs : List Item) → shared_in (map Shared xs) ≡ xs
 shared_of [] = refl
 shared_of (x ∷ xs) = ap (λ (l : List Item). x ∷ l) (shared_of xs)
 

@@ -15,7 +15,9 @@ pub mod Objects
 pub mod OnceKind
 pub mod Parts
 pub mod PoolKind
+pub mod Ranges
 pub mod Record
+pub mod Returns
 pub mod RwMutexKind
 pub mod WaitGroupKind
 pub mod Waits

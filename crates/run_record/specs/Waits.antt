@@ -7,13 +7,15 @@ use Rattle.wait_cores.specs.declared.group.GroupEvent.{GroupEvent}
 use Rattle.wait_cores.specs.declared.group.GroupReply.{GroupReply}
 use Rattle.wait_cores.specs.declared.group.GroupReply.TheVariants as grouped
 use Rattle.wait_cores.specs.declared.notify.NotifyEvent.{NotifyEvent}
-use Rattle.wait_cores.specs.declared.notify.NotifyEvent.TheVariants.{Signal, Broadcast}
+use Rattle.wait_cores.specs.declared.notify.NotifyEvent.TheVariants.{Ticket, Signal, Broadcast, Leave}
 use Rattle.wait_cores.specs.declared.notify.NotifyReply.TheVariants as notified
 use Rattle.wait_cores.specs.GroupLaws.{Log, additions, wait_by, leave_by}
 use Rattle.wait_cores.specs.GroupMachine.{next}
 use Rattle.run_record.specs.declared.entered.ObjectEvent.TheVariants as event
 use Rattle.run_record.specs.declared.entered.ObjectReply.TheVariants as reply
-use Rattle.run_record.specs.Record.{ObjectEntry}
+use Rattle.run_record.specs.declared.made.Made.{Made}
+use Rattle.run_record.specs.declared.made.Made.TheVariants.{Entered}
+use Rattle.run_record.specs.Record.{Record, ObjectEntry, journal_of}
 use Rattle.run_record.specs.WaitGroupKind.{group_start}
 
 -- the entry is this event of a cond, and it was made
@@ -33,6 +35,21 @@ pub record WasNotified (journal : List ObjectEntry) (taken left : ℕ) (leaving 
   pub after_ticket : taken < at
   pub before_leaving : at < left
   pub knows : AtLeast leaving.front notice.front
+
+-- A wait on the cond that is this object, by its items: the first one takes a ticket, and a later one leaves. Between the two, in the cond's journal, somebody signals or broadcasts, and the waiter knows from then on what that one knew.
+pub record IsNotifiedWait (r : Record) (object : ℕ) (items : List Made) : Type 0 where
+  pub ticket : ObjectEntry
+  pub leaving : ObjectEntry
+  pub between : List Made
+  pub later : List Made
+  pub items_are : items ≡ Entered object ticket ∷ (between ++ Entered object leaving ∷ later)
+  pub takes : IsOnCond Ticket ticket
+  pub leaves : IsOnCond Leave leaving
+  pub taken : ℕ
+  pub left : ℕ
+  pub at_ticket : slice_get (journal_of r object) taken ≡ Some ticket
+  pub at_leaving : slice_get (journal_of r object) left ≡ Some leaving
+  pub notified : WasNotified (journal_of r object) taken left leaving
 
 -- the counter of a wait group of so many callers after the events of a log: it begins as the workload declares
 abbrev pub counter_after : (callers declared : ℕ) → Log → ℕ

@@ -6,5 +6,7 @@ pub mod limits;
 pub mod locks;
 pub mod numbers;
 pub mod objects;
+pub mod ranges;
+pub mod returns;
 pub mod spelling;
 pub mod waits;

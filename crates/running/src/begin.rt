@@ -1,6 +1,6 @@
 //! A new object.
-ghost use Rattle.std.specs.Prelude.{◌≡◌, ◌<◌, ◌≤◌, IfOk};
-ghost use Rattle.ruled_object.specs.Passes.{callers_of, start_of, IsHomeOf};
+ghost use Rattle.std.specs.Prelude.{◌≡◌, ◌<◌, ◌≤◌, All, IfOk};
+ghost use Rattle.ruled_object.specs.Passes.{callers_of, start_of, turns_of, IsHomeOf};
 ghost use Rattle.running.specs.Between.{AreNewBetween};
 
 use object_word::Worded;
@@ -10,7 +10,8 @@ use std::alloc::{AllocError, Global};
 use sync_model::{MAX_CALLERS, Note};
 
 /// An object whose machine begins in this state, and the passes of its callers in order of number, each good for `calls`
-/// calls and between two of them. It keeps `note` for what releasing events leave. No other call takes memory.
+/// calls and between two of them, with no turn taken. It keeps `note` for what releasing events leave. No other call takes
+/// memory.
 pub fn new<P: Protocol + Worded, N: Note>(
     alloc: Global,
     callers: u32,
@@ -24,6 +25,7 @@ pub fn new<P: Protocol + Worded, N: Note>(
     ensures object { IfOk result (λ made. (callers_of made.0 ≡ callers) × (start_of made.0 ≡ start) × ((home : N.Home) → N.at home note → IsHomeOf N.at made.0 home)) }
     ensures begun { IfOk result (λ made. P.begins (callers_of made.0) (start_of made.0)) }
     ensures passes { IfOk result (λ made. AreNewBetween P.out P.stands made.0 calls made.1.items) }
+    ensures turns { IfOk result (λ made. All (λ pass. turns_of pass ≡ 0) made.1.items) }
 {
     Object::new(alloc, callers, calls, start, note)
 }

@@ -14,8 +14,8 @@ use Rattle.mutex_core.specs.declared.reply.Resumption.TheVariants as resumption
 use Rattle.mutex_core.specs.declared.waiter.Waiter.{Waiter}
 use Rattle.mutex_core.specs.declared.waiter.Flight.{Flight}
 use Rattle.mutex_core.specs.declared.waiter.Flight.TheVariants as flight
-use Rattle.rw_core.specs.RwMachine.{is_among, count_of}
-use Rattle.rw_core.proofs.Callers.{once, count_of-push, count_of-absent}
+use Rattle.rw_core.specs.RwMachine.{is_among, times_in}
+use Rattle.rw_core.proofs.Callers.{once, times_in-push, times_in-absent}
 
 abbrev pub waiting : mutex.State → List ℕ
 waiting i = mutex.waiting_by i.flight i.queue
@@ -23,15 +23,15 @@ waiting i = mutex.waiting_by i.flight i.queue
 -- the same callers wait, one more does, or one less
 pub record Keeps (i j : mutex.State) : Type 0 where
   pub callers : j.callers ≡ i.callers
-  pub counts : (q : ℕ) → count_of q (waiting j) ≡ count_of q (waiting i)
+  pub counts : (q : ℕ) → times_in q (waiting j) ≡ times_in q (waiting i)
 
 pub record Joins (c : ℕ) (i j : mutex.State) : Type 0 where
   pub callers : j.callers ≡ i.callers
-  pub counts : (q : ℕ) → count_of q (waiting j) ≡ count_of q (waiting i) + once q c
+  pub counts : (q : ℕ) → times_in q (waiting j) ≡ times_in q (waiting i) + once q c
 
 pub record Parts (c : ℕ) (i j : mutex.State) : Type 0 where
   pub callers : j.callers ≡ i.callers
-  pub counts : (q : ℕ) → count_of q (waiting j) + once q c ≡ count_of q (waiting i)
+  pub counts : (q : ℕ) → times_in q (waiting j) + once q c ≡ times_in q (waiting i)
 
 abbrev pub state : ℕ → Bool → Bool → Bool → List Waiter → Flight → mutex.State
 state callers locked woken starving queue flight =
@@ -54,8 +54,8 @@ arrive-cases P i c now below out acquired queued =
   where
     by_state : (n : ℕ) (l k v : Bool) (q : List Waiter) (f : Flight) → ((j : mutex.State) → l ≡ false → j.locked ≡ true → Keeps (state n l k v q f) j → P (j, Arrived arrival.Acquired)) → ((j : mutex.State) → j.locked ≡ l → Joins c (state n l k v q f) j → P (j, Arrived (arrival.Queued c))) → P (mutex.arrived (state n l k v q f) c now)
     by_state n false k false q f acquired queued = acquired _ refl refl (record { callers = refl; counts = λ x. refl })
-    by_state n true k v q f acquired queued = queued _ refl (record { callers = refl; counts = λ x. rw waiting-push (count_of-push x (mutex.waiting_by f q) c) })
-    by_state n false k true q f acquired queued = queued _ refl (record { callers = refl; counts = λ x. rw waiting-push (count_of-push x (mutex.waiting_by f q) c) })
+    by_state n true k v q f acquired queued = queued _ refl (record { callers = refl; counts = λ x. rw waiting-push (times_in-push x (mutex.waiting_by f q) c) })
+    by_state n false k true q f acquired queued = queued _ refl (record { callers = refl; counts = λ x. rw waiting-push (times_in-push x (mutex.waiting_by f q) c) })
 
 -- a try
 pub try-cases : (P : mutex.State × MutexReply → Type 0) (i : mutex.State) (c : ℕ) → c < i.callers → mutex.place_of i c ≡ place.Out → ((j : mutex.State) → i.locked ≡ false → j.locked ≡ true → Keeps i j → P (j, Tried true)) → P (i, Tried false) → P (mutex.next i c event.Try)
@@ -98,7 +98,7 @@ queued_not_in_flight false (inr e) = cc
 
 first_in_flight : (b : Bool) (p : Place) (q : List Waiter) (c : ℕ) → IsInFlight (if b then p else mutex.place_in q c) → b ≡ true
 first_in_flight true p q c at = refl
-first_in_flight false p q c at = absurd (false≢true (queued_not_in_flight (list_any (mutex.is_of c) q) at))
+first_in_flight false p q c at = absurd (false≢true (queued_not_in_flight (list_any (mutex.is_waiter_of c) q) at))
 
 unlocked_for : (v l : Bool) → true ≡ (v && not l) → l ≡ false
 unlocked_for true false e = refl
@@ -106,7 +106,7 @@ unlocked_for true true e = absurd (false≢true (sym e))
 unlocked_for false l e = absurd (false≢true (sym e))
 
 -- the caller in front is the one that goes on
-front-parts : (c : ℕ) (w : Waiter) (q : List Waiter) → mutex.is_of c w ≡ true → (x : ℕ) → count_of x (map (λ y. y.caller) q) + once x c ≡ once x w.caller + count_of x (map (λ y. y.caller) q)
+front-parts : (c : ℕ) (w : Waiter) (q : List Waiter) → mutex.is_waiter_of c w ≡ true → (x : ℕ) → times_in x (map (λ y. y.caller) q) + once x c ≡ once x w.caller + times_in x (map (λ y. y.caller) q)
 front-parts c w q own x = omega (arith, ap (λ y. once x y) (eqb-true c w.caller own))
 
 -- a waiter goes on
@@ -122,15 +122,15 @@ woken-cases P i c now below at valid acquired requeued =
     by_place place.Waiting at resumed = absurd (false≢true (queued_not_in_flight true at))
 
     by_state : (n : ℕ) (l k v : Bool) (q : List Waiter) (f : Flight) → IsInFlight (mutex.place_by f q c) → mutex.IsValid (state n l k v q f) → ((j : mutex.State) → l ≡ false → j.locked ≡ true → Parts c (state n l k v q f) j → P (j, Resumed resumption.Acquired)) → ((j : mutex.State) → j.locked ≡ l → Keeps (state n l k v q f) j → P (j, Resumed resumption.Requeued)) → P (mutex.resumed f q now (state n l k v q f))
-    by_state n l k v q flight.Nobody at valid acquired requeued = absurd (false≢true (queued_not_in_flight (list_any (mutex.is_of c) q) at))
+    by_state n l k v q flight.Nobody at valid acquired requeued = absurd (false≢true (queued_not_in_flight (list_any (mutex.is_waiter_of c) q) at))
     by_state n l k v [] flight.Handed at valid acquired requeued = absurd (false≢true (queued_not_in_flight false at))
     by_state n l k v (w ∷ q) flight.Handed at valid acquired requeued =
-        acquired _ (unlocked_for v l valid.handed) refl (record { callers = refl; counts = front-parts c w q (first_in_flight (mutex.is_of c w) place.Handed q c at) })
+        acquired _ (unlocked_for v l valid.handed) refl (record { callers = refl; counts = front-parts c w q (first_in_flight (mutex.is_waiter_of c w) place.Handed q c at) })
     by_state n false k v q (flight.Woken w) at valid acquired requeued =
-        acquired _ refl refl (record { callers = refl; counts = front-parts c w q (first_in_flight (mutex.is_of c w) place.Woken q c at) })
+        acquired _ refl refl (record { callers = refl; counts = front-parts c w q (first_in_flight (mutex.is_waiter_of c w) place.Woken q c at) })
     by_state n true k v q (flight.Woken w) at valid acquired requeued = requeued _ refl (record { callers = refl; counts = λ x. refl })
 
-among-callers : (c : ℕ) (q : List Waiter) → is_among c (map (λ w. w.caller) q) ≡ list_any (mutex.is_of c) q
+among-callers : (c : ℕ) (q : List Waiter) → is_among c (map (λ w. w.caller) q) ≡ list_any (mutex.is_waiter_of c) q
 among-callers c [] = refl
 among-callers c (w ∷ q) = ap (λ b. (c == w.caller) || b) (among-callers c q)
 
@@ -138,19 +138,19 @@ past : (b : Bool) (p q : Place) → (p ≡ place.Out → false ≡ true) → (if
 past true p q never out = absurd (false≢true (never out))
 past false p q never out = (refl, out)
 
-queue-absent : (c : ℕ) (q : List Waiter) → mutex.place_in q c ≡ place.Out → count_of c (map (λ w. w.caller) q) ≡ 0
-queue-absent c q out = count_of-absent c _ (rw among-callers ((past _ place.Waiting place.Out (λ e. cc) out).0))
+queue-absent : (c : ℕ) (q : List Waiter) → mutex.place_in q c ≡ place.Out → times_in c (map (λ w. w.caller) q) ≡ 0
+queue-absent c q out = times_in-absent c _ (rw among-callers ((past _ place.Waiting place.Out (λ e. cc) out).0))
 
 -- a caller that isn't at the mutex isn't counted there
-pub waiting-absent : (i : mutex.State) (c : ℕ) → mutex.place_of i c ≡ place.Out → count_of c (waiting i) ≡ 0
+pub waiting-absent : (i : mutex.State) (c : ℕ) → mutex.place_of i c ≡ place.Out → times_in c (waiting i) ≡ 0
 waiting-absent i c out = by_flight i.flight i.queue out
   where
-    by_flight : (f : Flight) (q : List Waiter) → mutex.place_by f q c ≡ place.Out → count_of c (mutex.waiting_by f q) ≡ 0
+    by_flight : (f : Flight) (q : List Waiter) → mutex.place_by f q c ≡ place.Out → times_in c (mutex.waiting_by f q) ≡ 0
     by_flight flight.Nobody q out = queue-absent c q out
     by_flight flight.Handed [] out = refl
     by_flight (flight.Woken w) q out =
-        let parts = past (mutex.is_of c w) place.Woken (mutex.place_in q c) (λ e. cc) out in
+        let parts = past (mutex.is_waiter_of c w) place.Woken (mutex.place_in q c) (λ e. cc) out in
         rw (parts.0, queue-absent c q parts.1) refl
     by_flight flight.Handed (w ∷ q) out =
-        let parts = past (mutex.is_of c w) place.Handed (mutex.place_in q c) (λ e. cc) out in
+        let parts = past (mutex.is_waiter_of c w) place.Handed (mutex.place_in q c) (λ e. cc) out in
         rw (parts.0, queue-absent c q parts.1) refl

@@ -29,7 +29,7 @@ use Rattle.rw_core.specs.declared.writer.Writer.{Writer}
 use Rattle.rw_core.specs.declared.writer.Writer.TheVariants as writer
 use Rattle.rw_core.specs.Moves.{MovesOther, MovesOwn}
 use Rattle.rw_core.specs.RwMachine.{State, is_among, without, is_announced, is_holding, waits_as, place_at, one_more, place_of, still, read_arrived, read_tried, last_read, read_unlocked, write_arrived, write_resumed, write_tried, write_unlocked, at_place, next, places_of, IsValid}
-use Rattle.rw_core.proofs.Callers.{count_of-present, once-same}
+use Rattle.rw_core.proofs.Callers.{times_in-present, once-same}
 use Rattle.rw_core.proofs.Inner.{Keeps, Joins, Parts, IsInFlight, arrive-cases, try-cases, woken-cases}
 use Rattle.rw_core.proofs.Places.{IsInner, out-inner, woken-inner, handed-inner, mutex-out, mutex-woken, mutex-handed}
 use Rattle.rw_core.proofs.Standing.{no, unlocked-waits, holding-waits, none-absent, not_once, nowhere-out, at_place-shifts, ShiftsBy}
@@ -262,7 +262,7 @@ admitted_by false false false p to apart told = told
 
 -- a caller that is granted the lock isn't in the queue
 granted_alone : (s : State) (x : ℕ) → IsValid s → is_among x s.granted ≡ true → is_among x s.queue ≡ false
-granted_alone s x h here = none-absent x s.queue (omega (arith, h.apart x, count_of-present x s.granted here))
+granted_alone s x h here = none-absent x s.queue (omega (arith, h.apart x, times_in-present x s.granted here))
 
 write_unlocked-other : InnerMoves → (s : State) (x by : ℕ) → IsValid s → x ≢ by → MovesOther event.WriteUnlock (place_of s x) (place_of (write_unlocked (mutex.next s.inner by mutex_event.Unlock) s).0 x)
 write_unlocked-other laws s x by h apart = by_writer (is_holding s.writer) refl

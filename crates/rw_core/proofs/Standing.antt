@@ -25,10 +25,10 @@ use Rattle.rw_core.specs.declared.reply.Resumption.TheVariants as resumption
 use Rattle.rw_core.specs.declared.reply.Unlocking.TheVariants as unlocking
 use Rattle.rw_core.specs.declared.writer.Writer.{Writer}
 use Rattle.rw_core.specs.declared.writer.Writer.TheVariants as writer
-use Rattle.rw_core.specs.RwMachine.{State, start, is_among, without, is_announced, is_holding, waits_as, place_at, place_of, still, read_arrived, read_tried, last_read, read_unlocked, write_arrived, write_resumed, write_tried, write_unlocked, at_place, next, count_of, places_of, IsValid}
+use Rattle.rw_core.specs.RwMachine.{State, start, is_among, without, is_announced, is_holding, waits_as, place_at, place_of, still, read_arrived, read_tried, last_read, read_unlocked, write_arrived, write_resumed, write_tried, write_unlocked, at_place, next, times_in, places_of, IsValid}
 use Rattle.rw_core.specs.Edges.{Log}
 use Rattle.rw_core.specs.Standing.{waits_after, is_waiting}
-use Rattle.rw_core.proofs.Callers.{once, once-same, count_of-append, count_of-push, count_of-present}
+use Rattle.rw_core.proofs.Callers.{once, once-same, times_in-append, times_in-push, times_in-present}
 use Rattle.rw_core.proofs.Inner.{Keeps, Parts, IsInFlight, arrive-cases, try-cases, unlocks, woken-cases}
 use Rattle.rw_core.proofs.Places.{out-inner, woken-inner, handed-inner, mutex-out, mutex-woken, mutex-handed}
 use Rattle.rw_core.proofs.Runs.{MutexLaws, start-valid, keeps}
@@ -54,8 +54,8 @@ ShiftsBy caller s step = Shifts caller step.1 (λ x. places_of x s) (λ x. place
 
 read_arrived-shifts : (n r : ℕ) (w : Writer) (q a g : List ℕ) (i : mutex.State) (c : ℕ) → ShiftsBy c (record { callers = n; readers = r; writer = w; queue = q; admitted = a; granted = g; inner = i }) (read_arrived c (record { callers = n; readers = r; writer = w; queue = q; admitted = a; granted = g; inner = i }))
 read_arrived-shifts n r writer.Nobody q a g i c = λ x. omega arith
-read_arrived-shifts n r (writer.Waiting w) q a g i c = λ x. omega (arith, count_of-push x q c)
-read_arrived-shifts n r writer.Holding q a g i c = λ x. omega (arith, count_of-push x q c)
+read_arrived-shifts n r (writer.Waiting w) q a g i c = λ x. omega (arith, times_in-push x q c)
+read_arrived-shifts n r writer.Holding q a g i c = λ x. omega (arith, times_in-push x q c)
 
 read_tried-shifts : (n r : ℕ) (w : Writer) (q a g : List ℕ) (i : mutex.State) (c : ℕ) → ShiftsBy c (record { callers = n; readers = r; writer = w; queue = q; admitted = a; granted = g; inner = i }) (read_tried (record { callers = n; readers = r; writer = w; queue = q; admitted = a; granted = g; inner = i }))
 read_tried-shifts n r writer.Nobody q a g i c = λ x. omega arith
@@ -64,7 +64,7 @@ read_tried-shifts n r writer.Holding q a g i c = λ x. omega arith
 
 last_read-places : (n r : ℕ) (w : Writer) (q a g : List ℕ) (i : mutex.State) (x : ℕ) → places_of x (last_read w (record { callers = n; readers = r; writer = w; queue = q; admitted = a; granted = g; inner = i })) ≡ places_of x (record { callers = n; readers = r; writer = w; queue = q; admitted = a; granted = g; inner = i })
 last_read-places n r writer.Nobody q a g i x = omega arith
-last_read-places n r (writer.Waiting w) q a g i x = omega (arith, count_of-push x g w)
+last_read-places n r (writer.Waiting w) q a g i x = omega (arith, times_in-push x g w)
 last_read-places n r writer.Holding q a g i x = omega arith
 
 read_unlocked-shifts : (s : State) (c : ℕ) → ShiftsBy c s (read_unlocked s)
@@ -129,7 +129,7 @@ write_unlocked-shifts s c below h = by_writer (is_holding s.writer) refl
     by_writer : (b : Bool) → is_holding s.writer ≡ b → ShiftsBy c s (if b then (record s { readers = length s.queue; writer = writer.Nobody; queue = []; admitted = s.admitted ++ s.queue; inner = (mutex.next s.inner c mutex_event.Unlock).0 }, Unlocked unlocking.Done) else (s, Unlocked (unlocking.Misuse UnlockOfUnlockedRwMutex)))
     by_writer true holds =
         let facts = unlocks s.inner c (subst (λ (n : ℕ). c < n) (sym h.same_callers) below) (h.locked ∙ announced-holding s.writer holds) h.inner in
-        λ x. omega (arith, facts.1.counts x, count_of-append x s.admitted s.queue, holding-waits s.writer x holds)
+        λ x. omega (arith, facts.1.counts x, times_in-append x s.admitted s.queue, holding-waits s.writer x holds)
     by_writer false holds = λ x. omega arith
 
 -- a list in which a caller isn't, without it
@@ -142,21 +142,21 @@ without-absent c (y ∷ ys) absent = by_test (c == y) absent (without-absent c y
     by_test false absent later = ap (λ (zs : List ℕ). y ∷ zs) (later absent)
 
 -- a caller that is in a list no times isn't in it
-pub none-absent : (c : ℕ) (xs : List ℕ) → count_of c xs ≡ 0 → is_among c xs ≡ false
+pub none-absent : (c : ℕ) (xs : List ℕ) → times_in c xs ≡ 0 → is_among c xs ≡ false
 none-absent c xs none = by_test (is_among c xs) refl
   where
     by_test : (b : Bool) → is_among c xs ≡ b → b ≡ false
-    by_test true here = absurd (omega (arith, count_of-present c xs here, none))
+    by_test true here = absurd (omega (arith, times_in-present c xs here, none))
     by_test false here = refl
 
 -- a list without a caller that is in it once
-count_of-left : (c x : ℕ) (xs : List ℕ) → is_among c xs ≡ true → count_of c xs ≤ 1 → count_of x (without c xs) + once x c ≡ count_of x xs
-count_of-left c x [] here apart = no here
-count_of-left c x (y ∷ ys) here apart = by_test (c == y) refl here apart (count_of-left c x ys)
+times_in-left : (c x : ℕ) (xs : List ℕ) → is_among c xs ≡ true → times_in c xs ≤ 1 → times_in x (without c xs) + once x c ≡ times_in x xs
+times_in-left c x [] here apart = no here
+times_in-left c x (y ∷ ys) here apart = by_test (c == y) refl here apart (times_in-left c x ys)
   where
-    by_test : (b : Bool) → (c == y) ≡ b → (b || is_among c ys) ≡ true → (if b then 1 else 0) + count_of c ys ≤ 1 → (is_among c ys ≡ true → count_of c ys ≤ 1 → count_of x (without c ys) + once x c ≡ count_of x ys) → count_of x (cond (not b) (y ∷ without c ys) (without c ys)) + once x c ≡ once x y + count_of x ys
+    by_test : (b : Bool) → (c == y) ≡ b → (b || is_among c ys) ≡ true → (if b then 1 else 0) + times_in c ys ≤ 1 → (is_among c ys ≡ true → times_in c ys ≤ 1 → times_in x (without c ys) + once x c ≡ times_in x ys) → times_in x (cond (not b) (y ∷ without c ys) (without c ys)) + once x c ≡ once x y + times_in x ys
     by_test true is here apart later =
-        let rest = ap (count_of x) (without-absent c ys (none-absent c ys (omega (arith, apart)))) in
+        let rest = ap (times_in x) (without-absent c ys (none-absent c ys (omega (arith, apart)))) in
         omega (arith, rest, ap (λ (z : ℕ). once x z) (eqb-true c y is))
     by_test false is here apart later = omega (arith, later here (omega (arith, apart)))
 
@@ -206,8 +206,8 @@ at_place-shifts (event.WriteWoken now) place.Woken c s below at h = write_resume
 at_place-shifts (event.WriteWoken now) place.Handed c s below at h = write_resumed-shifts s c now below (inr (mutex-handed _ (handed-inner s c at).inner)) h
 at_place-shifts (event.WriteWoken now) _ c s below at h = λ x. refl
 at_place-shifts event.WriteUnlock _ c s below at h = write_unlocked-shifts s c below h
-at_place-shifts event.Leave place.Granted c s below at h = λ x. omega (arith, count_of-left c x s.granted (granted-among s c at) (omega (arith, h.apart c)))
-at_place-shifts event.Leave place.Admitted c s below at h = λ x. omega (arith, count_of-left c x s.admitted (admitted-among s c at) (omega (arith, h.apart c)))
+at_place-shifts event.Leave place.Granted c s below at h = λ x. omega (arith, times_in-left c x s.granted (granted-among s c at) (omega (arith, h.apart c)))
+at_place-shifts event.Leave place.Admitted c s below at h = λ x. omega (arith, times_in-left c x s.admitted (admitted-among s c at) (omega (arith, h.apart c)))
 at_place-shifts event.Leave _ c s below at h = λ x. refl
 
 next-shifts : (s : State) (c : ℕ) (e : RwEvent) → IsValid s → ShiftsBy c s (next s c e)
@@ -268,22 +268,22 @@ pub not_once : (b : Bool) → ◌≡◌ {A = ℕ} (if b then 1 else 0) 0 → b �
 not_once true none = absurd (omega (arith, none))
 not_once false none = refl
 
-among-callers : (c : ℕ) (q : List Waiter) → is_among c (map (λ w. w.caller) q) ≡ list_any (mutex.is_of c) q
+among-callers : (c : ℕ) (q : List Waiter) → is_among c (map (λ w. w.caller) q) ≡ list_any (mutex.is_waiter_of c) q
 among-callers c [] = refl
 among-callers c (w ∷ q) = ap (λ (b : Bool). (c == w.caller) || b) (among-callers c q)
 
-out_in : (c : ℕ) (q : List Waiter) → count_of c (map (λ w. w.caller) q) ≡ 0 → mutex.place_in q c ≡ mutex_place.Out
-out_in c q none = let absent : list_any (mutex.is_of c) q ≡ false = sym (among-callers c q) ∙ none-absent c _ none in rw absent refl
+out_in : (c : ℕ) (q : List Waiter) → times_in c (map (λ w. w.caller) q) ≡ 0 → mutex.place_in q c ≡ mutex_place.Out
+out_in c q none = let absent : list_any (mutex.is_waiter_of c) q ≡ false = sym (among-callers c q) ∙ none-absent c _ none in rw absent refl
 
 -- who doesn't wait at the inner mutex is out of it
-inner-out : (f : Flight) (q : List Waiter) (c : ℕ) → count_of c (mutex.waiting_by f q) ≡ 0 → mutex.place_by f q c ≡ mutex_place.Out
+inner-out : (f : Flight) (q : List Waiter) (c : ℕ) → times_in c (mutex.waiting_by f q) ≡ 0 → mutex.place_by f q c ≡ mutex_place.Out
 inner-out flight.Nobody q c none = out_in c q none
 inner-out (flight.Woken w) q c none =
-    let first : mutex.is_of c w ≡ false = not_once (c == w.caller) (omega (arith, none)) in
+    let first : mutex.is_waiter_of c w ≡ false = not_once (c == w.caller) (omega (arith, none)) in
     rw (first, out_in c q (omega (arith, none))) refl
 inner-out flight.Handed [] c none = refl
 inner-out flight.Handed (w ∷ q) c none =
-    let first : mutex.is_of c w ≡ false = not_once (c == w.caller) (omega (arith, none)) in
+    let first : mutex.is_waiter_of c w ≡ false = not_once (c == w.caller) (omega (arith, none)) in
     rw (first, out_in c q (omega (arith, none))) refl
 
 -- who is at no place is out

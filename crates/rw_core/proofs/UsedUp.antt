@@ -22,9 +22,9 @@ use Rattle.rw_core.specs.declared.reply.Resumption.TheVariants as resumption
 use Rattle.rw_core.specs.declared.reply.Unlocking.TheVariants as unlocking
 use Rattle.rw_core.specs.declared.writer.Writer.{Writer}
 use Rattle.rw_core.specs.declared.writer.Writer.TheVariants as writer
-use Rattle.rw_core.specs.RwMachine.{State, without, is_announced, is_holding, waits_as, place_of, one_more, read_arrived, read_tried, last_read, read_unlocked, announced, write_arrived, write_resumed, write_tried, write_unlocked, still, at_place, next, count_of, places_of, IsValid}
+use Rattle.rw_core.specs.RwMachine.{State, without, is_announced, is_holding, waits_as, place_of, one_more, read_arrived, read_tried, last_read, read_unlocked, announced, write_arrived, write_resumed, write_tried, write_unlocked, still, at_place, next, times_in, places_of, IsValid}
 use Rattle.rw_core.specs.EventsLeft.{waiting_writer, waiting, events_left, used_by, given_by}
-use Rattle.rw_core.proofs.Callers.{count_of-append, length-from_count}
+use Rattle.rw_core.proofs.Callers.{times_in-append, length-from_count}
 use Rattle.rw_core.proofs.Places.{out-inner, woken-inner, handed-inner, mutex-out, mutex-woken, mutex-handed}
 use Rattle.rw_core.proofs.Inner.{IsInFlight, arrive-cases, try-cases, woken-cases}
 
@@ -35,7 +35,7 @@ MutexUses = (i : mutex.State) (c : ℕ) (e : MutexEvent) → mutex.IsValid i
 
 -- ---- how many callers wait
 
-count-writer : (x : ℕ) (w : Writer) → count_of x (waiting_writer w) ≡ (if waits_as x w then 1 else 0)
+count-writer : (x : ℕ) (w : Writer) → times_in x (waiting_writer w) ≡ (if waits_as x w then 1 else 0)
 count-writer x writer.Nobody = refl
 count-writer x (writer.Waiting c) = omega arith
 count-writer x writer.Holding = refl
@@ -43,13 +43,13 @@ count-writer x writer.Holding = refl
 abbrev inner_waiting : State → List ℕ
 inner_waiting s = mutex.waiting_by s.inner.flight s.inner.queue
 
-count-waiting : (x : ℕ) (s : State) → count_of x (waiting s) ≡ places_of x s
+count-waiting : (x : ℕ) (s : State) → times_in x (waiting s) ≡ places_of x s
 count-waiting x s = omega (
   arith,
-  count_of-append x s.admitted (s.granted ++ (waiting_writer s.writer ++ (s.queue ++ inner_waiting s))),
-  count_of-append x s.granted (waiting_writer s.writer ++ (s.queue ++ inner_waiting s)),
-  count_of-append x (waiting_writer s.writer) (s.queue ++ inner_waiting s),
-  count_of-append x s.queue (inner_waiting s),
+  times_in-append x s.admitted (s.granted ++ (waiting_writer s.writer ++ (s.queue ++ inner_waiting s))),
+  times_in-append x s.granted (waiting_writer s.writer ++ (s.queue ++ inner_waiting s)),
+  times_in-append x (waiting_writer s.writer) (s.queue ++ inner_waiting s),
+  times_in-append x s.queue (inner_waiting s),
   count-writer x s.writer,
 )
 
@@ -182,11 +182,11 @@ write_unlocked-moves law s c h = by_writer (is_holding s.writer) refl
         omega (arith, uses, one, not_waiting s.writer holds, length-append s.admitted s.queue)
     by_writer false holds = omega arith
 
-length-without : (c : ℕ) (xs : List ℕ) → length (without c xs) + count_of c xs ≡ length xs
+length-without : (c : ℕ) (xs : List ℕ) → length (without c xs) + times_in c xs ≡ length xs
 length-without c [] = refl
 length-without c (x ∷ xs) = by_test (c == x) (length-without c xs)
   where
-    by_test : (b : Bool) → length (without c xs) + count_of c xs ≡ length xs → length (cond (not b) (x ∷ without c xs) (without c xs)) + ((if b then 1 else 0) + count_of c xs) ≡ length (x ∷ xs)
+    by_test : (b : Bool) → length (without c xs) + times_in c xs ≡ length xs → length (cond (not b) (x ∷ without c xs) (without c xs)) + ((if b then 1 else 0) + times_in c xs) ≡ length (x ∷ xs)
     by_test true later = omega (arith, later)
     by_test false later = omega (arith, later)
 

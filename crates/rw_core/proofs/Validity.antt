@@ -17,8 +17,8 @@ use Rattle.rw_core.specs.declared.reply.RwReply.TheVariants.{Tried, Unlocked}
 use Rattle.rw_core.specs.declared.reply.Unlocking.TheVariants as unlocking
 use Rattle.rw_core.specs.declared.writer.Writer.{Writer}
 use Rattle.rw_core.specs.declared.writer.Writer.TheVariants as writer
-use Rattle.rw_core.specs.RwMachine.{State, without, is_announced, is_holding, place_of, read_arrived, read_tried, last_read, read_unlocked, announced, write_arrived, write_resumed, write_tried, write_unlocked, still, at_place, next, count_of, places_of, IsValid}
-use Rattle.rw_core.proofs.Callers.{once, count_of-append, count_of-push, count_of-absent, count_of-without}
+use Rattle.rw_core.specs.RwMachine.{State, without, is_announced, is_holding, place_of, read_arrived, read_tried, last_read, read_unlocked, announced, write_arrived, write_resumed, write_tried, write_unlocked, still, at_place, next, times_in, places_of, IsValid}
+use Rattle.rw_core.proofs.Callers.{once, times_in-append, times_in-push, times_in-absent, times_in-without}
 use Rattle.rw_core.proofs.Places.{out-inner, woken-inner, handed-inner, mutex-out, mutex-woken, mutex-handed}
 use Rattle.rw_core.proofs.Inner.{Keeps, IsInFlight, arrive-cases, try-cases, unlocks, woken-cases, waiting, waiting-absent}
 
@@ -34,7 +34,7 @@ ValidStep step = IsValid step.0
 pub out-nowhere : (s : State) (c : ℕ) → place_of s c ≡ place.Out → places_of c s ≡ 0
 out-nowhere s c out =
     let at = out-inner s c out in
-    rw at.unannounced (omega (arith, count_of-absent c s.admitted at.unadmitted, count_of-absent c s.granted at.ungranted, count_of-absent c s.queue at.unqueued, waiting-absent s.inner c (mutex-out _ at.inner)))
+    rw at.unannounced (omega (arith, times_in-absent c s.admitted at.unadmitted, times_in-absent c s.granted at.ungranted, times_in-absent c s.queue at.unqueued, waiting-absent s.inner c (mutex-out _ at.inner)))
 
 pub once-other : (q c : ℕ) → (q ≡ c → ⊥) → once q c ≡ 0
 once-other q c other = by_test (q == c) refl
@@ -85,8 +85,8 @@ read_arrived-valid n r (writer.Waiting w) q a g i c en h = record {
   locked = h.locked;
   inner = h.inner;
   same_callers = h.same_callers;
-  apart = λ x. omega (arith, count_of-push x q c, en.apart x);
-  among = λ x above. omega (arith, count_of-push x q c, en.among x above);
+  apart = λ x. omega (arith, times_in-push x q c, en.apart x);
+  among = λ x above. omega (arith, times_in-push x q c, en.among x above);
 }
 read_arrived-valid n r writer.Holding q a g i c en h = record {
   exclusive = h.exclusive;
@@ -95,8 +95,8 @@ read_arrived-valid n r writer.Holding q a g i c en h = record {
   locked = h.locked;
   inner = h.inner;
   same_callers = h.same_callers;
-  apart = λ x. omega (arith, count_of-push x q c, en.apart x);
-  among = λ x above. omega (arith, count_of-push x q c, en.among x above);
+  apart = λ x. omega (arith, times_in-push x q c, en.apart x);
+  among = λ x above. omega (arith, times_in-push x q c, en.among x above);
 }
 
 read_tried-valid : (n r : ℕ) (w : Writer) (q a g : List ℕ) (i : mutex.State) → IsValid (state n r w q a g i) → IsValid (read_tried (state n r w q a g i)).0
@@ -131,8 +131,8 @@ last_read-valid n r (writer.Waiting w) q a g i h = record {
   locked = h.locked;
   inner = h.inner;
   same_callers = h.same_callers;
-  apart = λ x. omega (arith, count_of-push x g w, h.apart x);
-  among = λ x above. omega (arith, count_of-push x g w, h.among x above);
+  apart = λ x. omega (arith, times_in-push x g w, h.apart x);
+  among = λ x above. omega (arith, times_in-push x g w, h.among x above);
 }
 last_read-valid n r writer.Holding q a g i h = record {
   exclusive = λ e. refl;
@@ -166,7 +166,7 @@ read_unlocked-valid s h = by_first (s.readers == 0) (s.readers == 1) refl refl
     }
 
 -- a writer that got the inner mutex, where its place is settled
-announced-valid : (s : State) (c : ℕ) (at_once later : RwReply) (j : mutex.State) → j.locked ≡ true → mutex.IsValid j → j.callers ≡ s.callers → ((x : ℕ) → count_of x s.admitted + (count_of x s.granted + (once x c + (count_of x s.queue + count_of x (waiting j)))) ≤ 1) → ((x : ℕ) → s.callers ≤ x → count_of x s.admitted + (count_of x s.granted + (once x c + (count_of x s.queue + count_of x (waiting j)))) ≡ 0) → IsValid (announced c at_once later (record s { inner = j })).0
+announced-valid : (s : State) (c : ℕ) (at_once later : RwReply) (j : mutex.State) → j.locked ≡ true → mutex.IsValid j → j.callers ≡ s.callers → ((x : ℕ) → times_in x s.admitted + (times_in x s.granted + (once x c + (times_in x s.queue + times_in x (waiting j)))) ≤ 1) → ((x : ℕ) → s.callers ≤ x → times_in x s.admitted + (times_in x s.granted + (once x c + (times_in x s.queue + times_in x (waiting j)))) ≡ 0) → IsValid (announced c at_once later (record s { inner = j })).0
 announced-valid s c at_once later j locked valid callers apart among = by_readers (s.readers == 0) refl
   where
     by_readers : (none : Bool) → (s.readers == 0) ≡ none → ValidStep (if none then (record s { writer = writer.Holding; inner = j }, at_once) else (record s { writer = writer.Waiting c; inner = j }, later))
@@ -256,8 +256,8 @@ write_unlocked-valid s c below inner h = by_writer (is_holding s.writer) refl
           locked = facts.0;
           inner = inner;
           same_callers = facts.1.callers ∙ h.same_callers;
-          apart = λ x. omega (arith, facts.1.counts x, count_of-append x s.admitted s.queue, h.apart x);
-          among = λ x above. omega (arith, facts.1.counts x, count_of-append x s.admitted s.queue, h.among x above);
+          apart = λ x. omega (arith, facts.1.counts x, times_in-append x s.admitted s.queue, h.apart x);
+          among = λ x above. omega (arith, facts.1.counts x, times_in-append x s.admitted s.queue, h.among x above);
         }
     by_writer false holds = h
 
@@ -273,7 +273,7 @@ KeepsInner s c event.ReadUnlock = Unit {0}
 KeepsInner s c event.Leave = Unit {0}
 
 -- fewer callers have still to leave
-pub fewer-valid : (s : State) (a g : List ℕ) → ((x : ℕ) → count_of x a + count_of x g ≤ count_of x s.admitted + count_of x s.granted) → IsValid s → IsValid (record s { admitted = a; granted = g })
+pub fewer-valid : (s : State) (a g : List ℕ) → ((x : ℕ) → times_in x a + times_in x g ≤ times_in x s.admitted + times_in x s.granted) → IsValid s → IsValid (record s { admitted = a; granted = g })
 fewer-valid s a g fewer h = record {
   exclusive = h.exclusive;
   write_waits = h.write_waits;
@@ -299,8 +299,8 @@ at_place-valid (event.WriteWoken now) place.Woken c s below at inner h = write_r
 at_place-valid (event.WriteWoken now) place.Handed c s below at inner h = write_resumed-valid s c now below (inr (mutex-handed _ (handed-inner s c at).inner)) inner h
 at_place-valid (event.WriteWoken now) _ c s below at inner h = h
 at_place-valid event.WriteUnlock _ c s below at inner h = write_unlocked-valid s c below inner h
-at_place-valid event.Leave place.Granted c s below at inner h = fewer-valid s s.admitted (without c s.granted) (λ x. omega (arith, count_of-without x c s.granted)) h
-at_place-valid event.Leave place.Admitted c s below at inner h = fewer-valid s (without c s.admitted) s.granted (λ x. omega (arith, count_of-without x c s.admitted)) h
+at_place-valid event.Leave place.Granted c s below at inner h = fewer-valid s s.admitted (without c s.granted) (λ x. omega (arith, times_in-without x c s.granted)) h
+at_place-valid event.Leave place.Admitted c s below at inner h = fewer-valid s (without c s.admitted) s.granted (λ x. omega (arith, times_in-without x c s.admitted)) h
 at_place-valid event.Leave _ c s below at inner h = h
 
 -- whatever the event is

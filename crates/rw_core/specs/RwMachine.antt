@@ -209,16 +209,16 @@ abbrev pub may_make : State → ℕ → RwEvent → Bool
 may_make s caller event = nat_lt caller s.callers && is_needed event (place_of s caller)
 
 -- how often the caller is in the list
-abbrev pub count_of : ℕ → List ℕ → ℕ
-count_of caller [] = 0
-count_of caller (other ∷ callers) = (if caller == other then 1 else 0) + count_of caller callers
+abbrev pub times_in : ℕ → List ℕ → ℕ
+times_in caller [] = 0
+times_in caller (other ∷ callers) = (if caller == other then 1 else 0) + times_in caller callers
 
 -- at how many places the caller is
 abbrev pub places_of : ℕ → State → ℕ
 places_of caller s =
-    count_of caller s.admitted
-    + (count_of caller s.granted
-    + ((if waits_as caller s.writer then 1 else 0) + (count_of caller s.queue + count_of caller (mutex.waiting_by s.inner.flight s.inner.queue))))
+    times_in caller s.admitted
+    + (times_in caller s.granted
+    + ((if waits_as caller s.writer then 1 else 0) + (times_in caller s.queue + times_in caller (mutex.waiting_by s.inner.flight s.inner.queue))))
 
 -- what is true of every state that the machine comes to from `start`
 pub record IsValid (s : State) : Type 0 where

@@ -17,7 +17,7 @@ use Rattle.sync_model.specs.EndsOfHistory.{AreEnds}
 use Rattle.shared_plain.specs.Marks.{holding, own_by, seen_of, IsMarkOf}
 use Rattle.shared_plain.specs.PlainHistory.{Step, history_of, items_by}
 use Rattle.shared_plain.specs.PlainMachine.{contents_of, next}
-use Rattle.shared_plain.specs.Plains.{count_of}
+use Rattle.shared_plain.specs.Plains.{caller_count}
 use Rattle.shared_plain.specs.Settling.{passes_in}
 use Rattle.shared_plain.specs.Walks.{AreInOrder}
 use Rattle.shared_plain.proofs.AllSettled.{PassLaws, calls_at, calls_past}
@@ -29,10 +29,10 @@ use Rattle.shared_plain.proofs.Orders.{kept_order}
 use Rattle.shared_plain.proofs.Passing.{kept_items, no_items}
 use Rattle.shared_plain.proofs.Walking.{Laws}
 
-module _ (plain : Plain) (laws : PassLaws plain) (frees takes : Event → Option Answered → Bool) (callers : List (Caller Mark)) (journal : List Step) (all : AreAllCallers IsMarkOf own_by plain callers (count_of plain))
+module _ (plain : Plain) (laws : PassLaws plain) (frees takes : Event → Option Answered → Bool) (callers : List (Caller Mark)) (journal : List Step) (all : AreAllCallers IsMarkOf own_by plain callers (caller_count plain))
     (whole : IsWhole next false frees takes (start_of plain.object) journal (passes_in callers)) where
   abbrev n : ℕ
-  n = count_of plain
+  n = caller_count plain
 
   -- caller i, and all that it did
   record Stands (i : ℕ) (caller : Caller Mark) : Type 0 where

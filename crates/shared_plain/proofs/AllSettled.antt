@@ -21,7 +21,7 @@ use Rattle.shared_plain.specs.Counting.{length-items}
 use Rattle.shared_plain.specs.Marks.{front_by, holding, own_by, seen_of, KeepsOwn, IsMarkOf}
 use Rattle.shared_plain.specs.PlainHistory.{Step, front_of, history_of, items_by}
 use Rattle.shared_plain.specs.PlainMachine.{contents_of, next}
-use Rattle.shared_plain.specs.Plains.{count_of}
+use Rattle.shared_plain.specs.Plains.{caller_count}
 use Rattle.shared_plain.specs.Settling.{PlainPass, passes_in, IsSameMark, AreSameMarks, IsBack}
 use Rattle.shared_plain.specs.Walks.{AreInOrder}
 use Rattle.shared_plain.proofs.Explained.{explained, front_at_most}
@@ -48,7 +48,7 @@ pub record PassLaws (plain : Plain) : Type 0 where
   pub is_pass : (pass : PlainPass) (own : List Step) → IsNoteOf plain.object pass → held_by pass ≡ Some own → IsPassOf plain.object pass × (entries_of pass ≡ own)
 
 -- all callers' passes are all passes
-pub all_passes : (plain : Plain) → PassLaws plain → (callers : List (Caller Mark)) → AreAllCallers IsMarkOf own_by plain callers (count_of plain) → AreAllPasses plain.object (passes_in callers)
+pub all_passes : (plain : Plain) → PassLaws plain → (callers : List (Caller Mark)) → AreAllCallers IsMarkOf own_by plain callers (caller_count plain) → AreAllPasses plain.object (passes_in callers)
 all_passes plain laws callers all = record {
   count = length-map callers (λ (caller : Caller Mark). caller.note.pass) ∙ all.all;
   each = λ i pass at.
@@ -60,13 +60,13 @@ all_passes plain laws callers all = record {
 }
 
 -- the same passes have the same numbers
-pub still_numbered : (plain : Plain) (old new : List (Caller Mark)) → AreAllCallers IsMarkOf own_by plain old (count_of plain) → AreSameMarks old new → (i : ℕ) (caller : Caller Mark) → slice_get new i ≡ Some caller → number_of caller.note.pass ≡ i
+pub still_numbered : (plain : Plain) (old new : List (Caller Mark)) → AreAllCallers IsMarkOf own_by plain old (caller_count plain) → AreSameMarks old new → (i : ℕ) (caller : Caller Mark) → slice_get new i ≡ Some caller → number_of caller.note.pass ≡ i
 still_numbered plain old new all same i caller at =
     let below = slice_get_within new i caller at in let count = same.count in
     let before = item_there old i (omega arith) in
     (same.each i before.0 caller before.1 at).number ∙ (own_of before.0.note i (all.each i before.0 before.1).1).number
 
-module _ (plain : Plain) (laws : PassLaws plain) (frees takes : Event → Option Answered → Bool) (old new : List (Caller Mark)) (journal : List Step) (all : AreAllCallers IsMarkOf own_by plain old (count_of plain))
+module _ (plain : Plain) (laws : PassLaws plain) (frees takes : Event → Option Answered → Bool) (old new : List (Caller Mark)) (journal : List Step) (all : AreAllCallers IsMarkOf own_by plain old (caller_count plain))
     (whole : IsWhole next false frees takes (start_of plain.object) journal (passes_in old)) (same : AreSameMarks old new) (back : (i : ℕ) (caller : Caller Mark) → slice_get new i ≡ Some caller → IsBack plain journal (passes_in old) i caller.note) where
   -- caller i before and after
   record Both (i : ℕ) (before after : Caller Mark) : Type 0 where
@@ -122,7 +122,7 @@ module _ (plain : Plain) (laws : PassLaws plain) (frees takes : Event → Option
   there : (i : ℕ) (after : Caller Mark) → slice_get new i ≡ Some after → (before : Caller Mark) × Both i before after
   there i after at = let before = old_there i after at in (before.0, both i before.0 after before.1 at)
 
-  pub still_all : AreAllCallers IsMarkOf own_by plain new (count_of plain)
+  pub still_all : AreAllCallers IsMarkOf own_by plain new (caller_count plain)
   still_all = record {
     all = same.count ∙ all.all;
     each = λ i after at. let before = old_there i after at in let b = both i before.0 after before.1 at in (is_mark i before.0 after b, subst (IsHeldBy i) (sym (same_calls i before.0 after b)) (all.each i before.0 before.1).1);
@@ -138,7 +138,7 @@ module _ (plain : Plain) (laws : PassLaws plain) (frees takes : Event → Option
   }
 
   abbrev pub n : ℕ
-  n = count_of plain
+  n = caller_count plain
 
   past : (c : ℕ) → n ≤ c → by c journal ≡ []
   past c least = let count = length-map old (λ (caller : Caller Mark). caller.note.pass) in let many = all.all in whole.callers c (omega arith)

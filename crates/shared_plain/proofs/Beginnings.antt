@@ -13,9 +13,9 @@ use Rattle.ruled_object.specs.Passes.{number_of, seen_by, own_by as entries_of}
 use Rattle.shared_plain.specs.declared.mark.Mark.{Mark}
 use Rattle.shared_plain.specs.declared.plain.Plain.{Plain}
 use Rattle.shared_plain.specs.Marks.{front_by, holding, own_by, seen_of, IsMarkOf}
-use Rattle.shared_plain.specs.PlainHistory.{count_of as counted_of, history_of, items_by}
+use Rattle.shared_plain.specs.PlainHistory.{calls_counted, history_of, items_by}
 use Rattle.shared_plain.specs.PlainMachine.{Holdings, first_holdings}
-use Rattle.shared_plain.specs.Plains.{count_of}
+use Rattle.shared_plain.specs.Plains.{caller_count}
 use Rattle.shared_plain.specs.Walks.{AreInOrder}
 
 kind_of_zero : (kind : AtomicKind) → kind_of (zero_of kind) ≡ kind
@@ -63,7 +63,7 @@ module _ {A B C : Type 0} (f : A × B → C) where
   length-beside (x ∷ xs) [] e = absurd (omega arith)
   length-beside (x ∷ xs) (y ∷ ys) e = let rest = length-beside xs ys (omega arith) in omega arith
 
-knows_none : (n from c : ℕ) → get_or (map (λ d. counted_of d []) (range_with_len from n)) c 0 ≡ 0
+knows_none : (n from c : ℕ) → get_or (map (λ d. calls_counted d []) (range_with_len from n)) c 0 ≡ 0
 knows_none zero from c = refl
 knows_none (suc n) from zero = refl
 knows_none (suc n) from (suc c) = knows_none n (from + 1) c
@@ -76,7 +76,7 @@ pub record IsNewMark (plain : Plain) (i spare : ℕ) (mark : Mark) : Type 0 wher
   pub knows : (c : ℕ) → slice_index (front_by mark) c ≡ 0
 
 pub new_mark : (plain : Plain) (mark : Mark) (i spare : ℕ) → IsNoteOf plain.object mark.pass → held_by mark.pass ≡ Some (entries_of mark.pass) → number_of mark.pass ≡ i → seen_by mark.pass ≡ [] → entries_of mark.pass ≡ []
-    → mark.callers ≡ count_of plain → mark.spare ≡ spare → mark.done ≡ 0 → IsNewMark plain i spare mark
+    → mark.callers ≡ caller_count plain → mark.spare ≡ spare → mark.done ≡ 0 → IsNewMark plain i spare mark
 new_mark plain mark i spare is held number seen own callers left done = record {
   is = record {
     pass = is;
@@ -84,10 +84,10 @@ new_mark plain mark i spare is held number seen own callers left done = record {
     keeps = λ mine e. record {
       own_is = same_Some mine (entries_of mark.pass) (sym e ∙ held) ∙ (own ∙ sym (ap (by (number_of mark.pass)) seen));
       order = subst (λ journal. AreInOrder mark.callers (number_of mark.pass) [] journal) (sym seen) tt;
-      done = λ _. done ∙ sym (ap (counted_of (number_of mark.pass)) seen);
+      done = λ _. done ∙ sym (ap (calls_counted (number_of mark.pass)) seen);
     };
   };
   own = ap (holding mark) held ∙ (λ j. Some (record { number = number j; items = ap (items_by mark.callers (number_of mark.pass)) seen j; spare = left j }));
   seen = ap history_of seen;
-  knows = λ c. ap (λ journal. get_or (map (λ d. counted_of d journal) (range_with_len 0 mark.callers)) c 0) seen ∙ knows_none mark.callers 0 c;
+  knows = λ c. ap (λ journal. get_or (map (λ d. calls_counted d journal) (range_with_len 0 mark.callers)) c 0) seen ∙ knows_none mark.callers 0 c;
 }

@@ -12,10 +12,10 @@ use Rattle.sync_model.specs.declared.item.Item.{Item}
 use Rattle.sync_model.specs.Front.{AtLeast}
 use Rattle.sync_model.specs.Journal.{Begins, by, halt_next, halt_after, state_next, state_after, Right, Follows}
 use Rattle.sync_model.specs.SharedCalls.{Knows, IsSound, AddsCall}
-use Rattle.sync_model.specs.SharedHistory.{Contents, IsReply, is_entry, contents_after, contents_at, value_at, with_call}
+use Rattle.sync_model.specs.SharedHistory.{Contents, IsReply, is_entry, contents_after, contents_at, value_at, history_with}
 use Rattle.shared_plain.specs.Counting.{counted_by, length-items}
 use Rattle.shared_plain.specs.PlainMachine.{Holdings, contents_of, next}
-use Rattle.shared_plain.specs.PlainHistory.{Step, call_in, entered, history_of, count_of, front_of, item_at, listed, items_from, items_by}
+use Rattle.shared_plain.specs.PlainHistory.{Step, call_in, entered, history_of, calls_counted, front_of, item_at, listed, items_from, items_by}
 use Rattle.shared_plain.specs.Walks.{IsInOrder, AreInOrder}
 use Rattle.shared_plain.proofs.Calling.{last_right, bounded}
 use Rattle.shared_plain.proofs.Cursors.{shown_at, none_from}
@@ -35,15 +35,15 @@ past_front (suc n) from zero f past = absurd (omega arith)
 past_front (suc n) from (suc i) f past = past_front n (from + 1) i f (omega arith)
 
 -- a front counts no more calls of a caller than were made
-pub front_at_most : (n d : ℕ) (seen : List Step) → slice_index (front_of n seen) d ≤ count_of d seen
+pub front_at_most : (n d : ℕ) (seen : List Step) → slice_index (front_of n seen) d ≤ calls_counted d seen
 front_at_most n d seen = by_caller (cases_lt d n)
   where
-    by_caller : (d < n) ⊎ (n ≤ d) → slice_index (front_of n seen) d ≤ count_of d seen
+    by_caller : (d < n) ⊎ (n ≤ d) → slice_index (front_of n seen) d ≤ calls_counted d seen
     by_caller (inl below) = let same = counted_by n d seen below in let long = length-items n d [] seen in omega arith
-    by_caller (inr past) = let none = past_front n 0 d (λ c. count_of c seen) past in omega arith
+    by_caller (inr past) = let none = past_front n 0 d (λ c. calls_counted c seen) past in omega arith
 
-pub fewer_counted : (d : ℕ) (seen whole : List Step) → Begins whole seen → count_of d seen ≤ count_of d whole
-fewer_counted d seen whole begins = let same = ap (count_of d) begins.1 in let more = count-append d seen begins.0 in omega arith
+pub fewer_counted : (d : ℕ) (seen whole : List Step) → Begins whole seen → calls_counted d seen ≤ calls_counted d whole
+fewer_counted d seen whole begins = let same = ap (calls_counted d) begins.1 in let more = count-append d seen begins.0 in omega arith
 
 nothing : {A : Type 0} (xs ys : List A) → length (xs ++ ys) ≡ length xs → ys ≡ []
 nothing xs [] e = refl
@@ -51,7 +51,7 @@ nothing xs (y ∷ ys) e = absurd (omega (arith, length-append xs (y ∷ ys), e))
 
 module _ (n c : ℕ) where
   -- a caller that knew all its own calls had seen them
-  same_items : (seen whole : List Step) → Begins whole seen → count_of c seen ≡ count_of c whole → items_by n c whole ≡ items_by n c seen
+  same_items : (seen whole : List Step) → Begins whole seen → calls_counted c seen ≡ calls_counted c whole → items_by n c whole ≡ items_by n c seen
   same_items seen whole begins same =
       let split : items_by n c whole ≡ items_by n c seen ++ items_from n c seen begins.0 = ap (items_by n c) begins.1 ∙ items-append n c [] seen begins.0 in
       let long : length (items_by n c seen ++ items_from n c seen begins.0) ≡ length (items_by n c seen) = ap (λ (l : List Item). length l) (sym split) ∙ (length-items n c [] whole ∙ (sym same ∙ sym (length-items n c [] seen))) in
@@ -177,7 +177,7 @@ module _ (laws : Laws) (unseen : Unseen) (all : (start : Contents) (history : Li
             steps = step_is;
             fresh = unmade n c [] before (length (items_by n c before)) 0 order (le_refl (length (items_by n c before)));
           } (calls_in (before ++ x ∷ [])) adds in
-          let history : with_call (history_of before) c item ≡ history_of (before ++ x ∷ []) = with_is (history_of before) c item ∙ sym (history-append before (x ∷ []) ∙ ap (λ f. history_of before ++ entered c f []) is) in
+          let history : history_with (history_of before) c item ≡ history_of (before ++ x ∷ []) = with_is (history_of before) c item ∙ sym (history-append before (x ∷ []) ∙ ap (λ f. history_of before ++ entered c f []) is) in
           subst (λ h. Walks (contents_of start) h (calls_in (before ++ x ∷ []))) history on
 
     told_on : Told (before ++ x ∷ [])

@@ -7,7 +7,7 @@ use Rattle.sync_model.specs.declared.item.SharedEntry.{SharedEntry}
 use Rattle.sync_model.specs.declared.item.Item.{Item}
 use Rattle.sync_model.specs.SharedHistory.{entries_from, marked_in}
 use Rattle.shared_plain.specs.declared.event.Answered.{Answered}
-use Rattle.shared_plain.specs.PlainHistory.{Step, call_in, entered, history_of, count_of, item_at, listed, items_from}
+use Rattle.shared_plain.specs.PlainHistory.{Step, call_in, entered, history_of, calls_counted, item_at, listed, items_from}
 
 abbrev pub Made : Type 0
 Made = SharedCall × Answered
@@ -25,7 +25,7 @@ pub history-append : (xs ys : List Step) → history_of (xs ++ ys) ≡ history_o
 history-append [] ys = refl
 history-append (x ∷ xs) ys = ap (entered x.caller (call_in x.deed)) (history-append xs ys) ∙ entered-append x.caller (call_in x.deed) (history_of xs) (history_of ys)
 
-pub count-append : (c : ℕ) (xs ys : List Step) → count_of c (xs ++ ys) ≡ count_of c xs + count_of c ys
+pub count-append : (c : ℕ) (xs ys : List Step) → calls_counted c (xs ++ ys) ≡ calls_counted c xs + calls_counted c ys
 count-append c [] ys = omega arith
 count-append c (x ∷ xs) ys = let rest = count-append c xs ys in omega arith
 

@@ -18,7 +18,7 @@ use Rattle.shared_plain.specs.declared.plain.Plain.{Plain}
 use Rattle.shared_plain.specs.Counting.{length-items}
 use Rattle.shared_plain.specs.Marks.{KeepsOwn}
 use Rattle.shared_plain.specs.PlainMachine.{call_of}
-use Rattle.shared_plain.specs.PlainHistory.{Step, call_in, counts, count_of, item_at, listed, items_from, items_by}
+use Rattle.shared_plain.specs.PlainHistory.{Step, call_in, counts, calls_counted, item_at, listed, items_from, items_by}
 use Rattle.shared_plain.specs.Staying.{stands_still}
 use Rattle.shared_plain.specs.Walks.{spot_next, spot_from, StandsAt, IsInOrder, AreInOrder}
 use Rattle.shared_plain.proofs.Items.{Made, items-append, count-append}
@@ -47,7 +47,7 @@ module _ (n c : ℕ) where
       subst (λ l. AreInOrder n c [] l) (sym begins.1) (order-append [] old rest order (none_in_order old rest none))
 
   -- and are as many
-  pub kept_count : (old new : List Step) → Begins new old → by c new ≡ by c old → count_of c new ≡ count_of c old
+  pub kept_count : (old new : List Step) → Begins new old → by c new ≡ by c old → calls_counted c new ≡ calls_counted c old
   kept_count old new begins same = sym (length-items n c [] new) ∙ (ap (λ (l : List Item). length l) (kept_items n c old new begins same) ∙ length-items n c [] old)
 
   -- one entry more, behind others'
@@ -57,10 +57,10 @@ module _ (n c : ℕ) where
   more_order seen between e same caller knew steps order =
       let front : List Step = seen ++ between in
       let known : take e.knew front ≡ seen = ap (λ (k : ℕ). take k front) knew ∙ take_front seen between in
-      let count : count_of c front ≡ count_of c seen = kept_count seen front (between, refl) same in
+      let count : calls_counted c front ≡ calls_counted c seen = kept_count seen front (between, refl) same in
       let items : items_by n c seen ≡ items_by n e.caller front = sym (kept_items n c seen front (between, refl) same) ∙ ap (λ d. items_by n d front) (sym caller) in
       let mine : IsInOrder n front e = record {
-        knew = ap (count_of e.caller) known ∙ (ap (λ d. count_of d seen) caller ∙ (sym count ∙ ap (λ d. count_of d front) (sym caller)));
+        knew = ap (calls_counted e.caller) known ∙ (ap (λ d. calls_counted d seen) caller ∙ (sym count ∙ ap (λ d. calls_counted d front) (sym caller)));
         steps = λ m b from reply did. subst (λ l. StandsAt l m b from) items (steps m b from reply did);
       } in
       order-append [] front (e ∷ []) (kept_order seen front (between, refl) same order) ((λ _. mine), tt)
@@ -117,9 +117,9 @@ pub same_event : (event : Event) (answer : Option Answered) (m b from : ℕ) (re
 same_event event answer m b from reply e = (cc)
 
 -- one call more of the caller is counted
-pub more_count : (n c : ℕ) (seen between : List Step) (e : Step) (made : Made) → by c (seen ++ between) ≡ by c seen → e.caller ≡ c → call_in e.deed ≡ Some made → count_of c ((seen ++ between) ++ e ∷ []) ≡ count_of c seen + 1
+pub more_count : (n c : ℕ) (seen between : List Step) (e : Step) (made : Made) → by c (seen ++ between) ≡ by c seen → e.caller ≡ c → call_in e.deed ≡ Some made → calls_counted c ((seen ++ between) ++ e ∷ []) ≡ calls_counted c seen + 1
 more_count n c seen between e made same caller is =
-    let kept : count_of c (seen ++ between) ≡ count_of c seen = kept_count n c seen (seen ++ between) (between, refl) same in
+    let kept : calls_counted c (seen ++ between) ≡ calls_counted c seen = kept_count n c seen (seen ++ between) (between, refl) same in
     let one : counts c e.caller (call_in e.deed) ≡ 1 = ap (counts c e.caller) is ∙ ap (λ (b : Bool). cond b 1 0) (eq-eqb e.caller c caller) in
     let whole = count-append c (seen ++ between) (e ∷ []) in omega arith
 
@@ -144,5 +144,5 @@ keeps_on old new own callers number done begins is keeps =
     record {
       own_is = is;
       order = subst (λ n. AreInOrder n (number_of new.pass) [] (seen_by new.pass)) (sym callers) (subst (λ d. AreInOrder old.callers d [] (seen_by new.pass)) (sym number) (kept_order old.callers c (seen_by old.pass) (seen_by new.pass) begins stays keeps.order));
-      done = λ below. done ∙ (keeps.done (λ e. below (done ∙ e)) ∙ (sym (kept_count old.callers c (seen_by old.pass) (seen_by new.pass) begins stays) ∙ ap (λ d. count_of d (seen_by new.pass)) (sym number)));
+      done = λ below. done ∙ (keeps.done (λ e. below (done ∙ e)) ∙ (sym (kept_count old.callers c (seen_by old.pass) (seen_by new.pass) begins stays) ∙ ap (λ d. calls_counted d (seen_by new.pass)) (sym number)));
     }

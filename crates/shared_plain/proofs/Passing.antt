@@ -11,7 +11,7 @@ use Rattle.ruled_object.specs.Notes.{held_by}
 use Rattle.ruled_object.specs.Passes.{number_of, seen_by}
 use Rattle.shared_plain.specs.declared.mark.Mark.{Mark}
 use Rattle.shared_plain.specs.Marks.{holding, own_by}
-use Rattle.shared_plain.specs.PlainHistory.{Step, call_in, count_of, front_of, item_at, listed, items_from, items_by}
+use Rattle.shared_plain.specs.PlainHistory.{Step, call_in, calls_counted, front_of, item_at, listed, items_from, items_by}
 use Rattle.shared_plain.proofs.Items.{count-append, items-append}
 
 pub take_front : {A : Type 0} (xs ys : List A) → take (length xs) (xs ++ ys) ≡ xs
@@ -62,7 +62,7 @@ at_most (suc n) from (suc i) f g each = at_most n (from + 1) i f g each
 
 -- who has seen more knows at least as much
 pub rises : (n : ℕ) (old new : List Step) → Begins new old → AtLeast (front_of n new) (front_of n old)
-rises n old new begins c = at_most n 0 c (λ d. count_of d old) (λ d. count_of d new) (λ d. let more = count-append d old begins.0 in let same = ap (count_of d) begins.1 in omega arith)
+rises n old new begins c = at_most n 0 c (λ d. calls_counted d old) (λ d. calls_counted d new) (λ d. let more = count-append d old begins.0 in let same = ap (calls_counted d) begins.1 in omega arith)
 
 held_on : (new old : Mark) (found : Option (List Step)) → number_of new.pass ≡ number_of old.pass → new.callers ≡ old.callers → new.spare ≡ old.spare
     → ((own : List Step) → found ≡ Some own → items_by old.callers (number_of old.pass) (seen_by new.pass) ≡ items_by old.callers (number_of old.pass) (seen_by old.pass)) → holding new found ≡ holding old found

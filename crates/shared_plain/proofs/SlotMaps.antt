@@ -16,7 +16,7 @@ use Rattle.sync_model.specs.declared.item.SharedReply.{SharedReply}
 use Rattle.sync_model.specs.declared.item.SharedReply.TheVariants.{Map}
 use Rattle.sync_types.specs.declared.map_object.MapReply.{MapReply}
 use Rattle.sync_types.specs.declared.map_object.MapReply.TheVariants.{Found}
-use Rattle.sync_types.specs.SequentialMap.{is_value, map_key, map_reply, map_after, is_map_entry}
+use Rattle.sync_types.specs.SequentialMap.{has_value, map_key, map_reply, map_after, is_map_entry}
 use Rattle.sync_types.specs.KeyCalls.{key_reply, is_key_entry, key_after}
 use Rattle.sync_types.specs.MapLaws.{Finds}
 use Rattle.shared_plain.specs.Slots.{map_from, map_of, keyed_after, slots_at, slots_after, has_slot}
@@ -108,12 +108,12 @@ after_call (Delete k) slots has = ap map_of (keyed_is (Delete k) k slots (below_
 after_call (Swap k v) slots has = ap map_of (keyed_is (Swap k v) k slots (below_of k slots has)) ∙ stored slots k (below_of k slots has) v
 after_call (CompareAndSwap k old v) slots has =
     ap map_of (keyed_is (CompareAndSwap k old v) k slots (below_of k slots has))
-    ∙ (swaps slots k (below_of k slots has) (is_value old (get_or slots k None)) (get_or slots k None) v refl
-    ∙ ap (λ (held : Option ℕ). cond (is_value old held) (insert (map_of slots) k v) (map_of slots)) (sym (get-map_of slots k)))
+    ∙ (swaps slots k (below_of k slots has) (has_value old (get_or slots k None)) (get_or slots k None) v refl
+    ∙ ap (λ (held : Option ℕ). cond (has_value old held) (insert (map_of slots) k v) (map_of slots)) (sym (get-map_of slots k)))
 after_call (CompareAndDelete k old) slots has =
     ap map_of (keyed_is (CompareAndDelete k old) k slots (below_of k slots has))
-    ∙ (deletes slots k (below_of k slots has) (is_value old (get_or slots k None)) (get_or slots k None) refl
-    ∙ ap (λ (held : Option ℕ). cond (is_value old held) (remove (map_of slots) k) (map_of slots)) (sym (get-map_of slots k)))
+    ∙ (deletes slots k (below_of k slots has) (has_value old (get_or slots k None)) (get_or slots k None) refl
+    ∙ ap (λ (held : Option ℕ). cond (has_value old held) (remove (map_of slots) k) (map_of slots)) (sym (get-map_of slots k)))
 after_call Clear slots has = all_none (length slots)
 
 abbrev pub answer : SharedReply → Bool → Answered

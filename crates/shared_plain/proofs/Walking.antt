@@ -12,7 +12,7 @@ use Rattle.sync_model.specs.declared.item.SharedReply.TheVariants as replies
 use Rattle.sync_model.specs.declared.item.SharedEntry.{SharedEntry}
 use Rattle.sync_model.specs.declared.item.Item.{Item}
 use Rattle.sync_model.specs.Front.{AtLeast}
-use Rattle.sync_model.specs.SharedHistory.{Contents, value_at, contents_at, entry_of, with_call}
+use Rattle.sync_model.specs.SharedHistory.{Contents, value_at, contents_at, entry_of, history_with}
 use Rattle.sync_model.specs.SharedCalls.{Knows, Grows, IsStep, IsUnshown, WasSo, MayShow, IsSound, Lawful, MayCall, AddsCall}
 use Rattle.shared_plain.specs.Staying.{spot_one_more}
 use Rattle.shared_plain.specs.Walks.{spot_shown, spot_next, spot_of, StandsAt}
@@ -22,7 +22,7 @@ use Rattle.shared_plain.proofs.Steps.{some_is}
 -- the laws of shared histories on which this stands
 pub record Laws : Type 0 where
   pub first : (start : Contents) → Lawful start [] (λ caller. [])
-  pub more : (start : Contents) (history : List SharedEntry) (calls new : ℕ → List Item) (c : ℕ) (x : Item) → AddsCall calls c x new → Lawful start history calls → MayCall start history calls c x → Lawful start (with_call history c x) new
+  pub more : (start : Contents) (history : List SharedEntry) (calls new : ℕ → List Item) (c : ℕ) (x : Item) → AddsCall calls c x new → Lawful start history calls → MayCall start history calls c x → Lawful start (history_with history c x) new
   pub same : (start : Contents) (history : List SharedEntry) (calls other : ℕ → List Item) → ((c : ℕ) → other c ≡ calls c) → Lawful start history calls → Lawful start history other
   pub grows : (calls new : ℕ → List Item) (c : ℕ) (x : Item) → AddsCall calls c x new → Grows calls new
   pub known : (calls new : ℕ → List Item) (front : List ℕ) (n m : ℕ) → Grows calls new → n ≤ m → Knows calls front n → Knows new front m
@@ -66,7 +66,7 @@ same_begin m n one other is_m is_n same = let e : Begin m ≡ Begin n = sym is_m
 grows_self : (calls : ℕ → List Item) → Grows calls calls
 grows_self calls c = ([], sym (append-nil (calls c)))
 
-pub with_is : (history : List SharedEntry) (c : ℕ) (x : Item) → with_call history c x ≡ history ++ cond x.entry (entry_of c x ∷ []) []
+pub with_is : (history : List SharedEntry) (c : ℕ) (x : Item) → history_with history c x ≡ history ++ cond x.entry (entry_of c x ∷ []) []
 with_is history c x = by_entry x.entry
   where
     by_entry : (b : Bool) → cond b (history ++ entry_of c x ∷ []) history ≡ history ++ cond b (entry_of c x ∷ []) []
@@ -233,7 +233,7 @@ module _ (laws : Laws) (start : Contents) (history : List SharedEntry) (calls : 
       by_place (inr end) = absurd (let none = begun end.0 end.1 in omega arith)
 
   -- one more call
-  pub walks_on : (new : ℕ → List Item) → AddsCall calls c x new → Walks start (with_call history c x) new
+  pub walks_on : (new : ℕ → List Item) → AddsCall calls c x new → Walks start (history_with history c x) new
   walks_on new adds = record {
     lawful = laws.more start history calls new c x adds walks.lawful may_call;
     below = λ d b j key value y step. by_below d b j key value y step;
@@ -250,13 +250,13 @@ module _ (laws : Laws) (start : Contents) (history : List SharedEntry) (calls : 
       longer : List SharedEntry
       longer = history ++ cond x.entry (entry_of c x ∷ []) []
 
-      lasting : (m key : ℕ) (y : Item) → WasSo start history calls y.front (length history) m key None → WasSo start (with_call history c x) new y.front (length (with_call history c x)) m key None
+      lasting : (m key : ℕ) (y : Item) → WasSo start history calls y.front (length history) m key None → WasSo start (history_with history c x) new y.front (length (history_with history c x)) m key None
       lasting m key y so =
           let kept = laws.was_so calls new start history (cond x.entry (entry_of c x ∷ []) []) y.front (length history) m key None (laws.grows calls new c x adds) (le_refl (length history)) so in
           let more = kept.within in
           subst (λ h. WasSo start h new y.front (length h) m key None) (sym (with_is history c x))
           (record { moment = kept.moment; knows = kept.knows; within = omega (arith, length-append history (cond x.entry (entry_of c x ∷ []) [])); is = kept.is })
 
-      later : (d b m key : ℕ) (y : Item) → IsShown (new d) b key ⊎ WasSo start history calls y.front (length history) m key None → IsShown (new d) b key ⊎ WasSo start (with_call history c x) new y.front (length (with_call history c x)) m key None
+      later : (d b m key : ℕ) (y : Item) → IsShown (new d) b key ⊎ WasSo start history calls y.front (length history) m key None → IsShown (new d) b key ⊎ WasSo start (history_with history c x) new y.front (length (history_with history c x)) m key None
       later d b m key y (inl was) = inl was
       later d b m key y (inr so) = inr (lasting m key y so)

@@ -12,7 +12,7 @@ use Rattle.shared_plain.specs.declared.event.Answered.{Answered}
 use Rattle.shared_plain.specs.declared.mark.Mark.{Mark}
 use Rattle.shared_plain.specs.declared.plain.Plain.{Plain}
 use Rattle.shared_plain.specs.Marks.{front_by, holding, own_by, IsMarkOf}
-use Rattle.shared_plain.specs.PlainHistory.{Step, call_in, counts, count_of, front_of, item_at, listed, items_from, items_by}
+use Rattle.shared_plain.specs.PlainHistory.{Step, call_in, counts, calls_counted, front_of, item_at, listed, items_from, items_by}
 
 module _ (n c : ℕ) where
   listed_count : (before : List Step) (x : Step) (found : Option (SharedCall × Answered)) (later : List Item) (k : ℕ) → length later ≡ k → length (listed n c before x found later) ≡ counts c x.caller found + k
@@ -24,9 +24,9 @@ module _ (n c : ℕ) where
       by_caller false = omega arith
 
   -- a caller has as many calls as are counted
-  pub length-items : (before xs : List Step) → length (items_from n c before xs) ≡ count_of c xs
+  pub length-items : (before xs : List Step) → length (items_from n c before xs) ≡ calls_counted c xs
   length-items before [] = refl
-  length-items before (x ∷ xs) = listed_count before x (call_in x.deed) (items_from n c (before ++ x ∷ []) xs) (count_of c xs) (length-items (before ++ x ∷ []) xs)
+  length-items before (x ∷ xs) = listed_count before x (call_in x.deed) (items_from n c (before ++ x ∷ []) xs) (calls_counted c xs) (length-items (before ++ x ∷ []) xs)
 
 at_caller : (f : ℕ → ℕ) (from count i : ℕ) → i < count → slice_index (map f (range_with_len from count)) i ≡ f (from + i)
 at_caller f from zero i below = absurd (omega arith)
@@ -37,7 +37,7 @@ at_caller f from (suc count) (suc i) below = let same : (from + 1) + i ≡ from 
 pub counted_by : (n c : ℕ) (seen : List Step) → c < n → slice_index (front_of n seen) c ≡ length (items_by n c seen)
 counted_by n c seen below =
     let first : 0 + c ≡ c = omega arith in
-    at_caller (λ d. count_of d seen) 0 n c below ∙ (ap (λ d. count_of d seen) first ∙ sym (length-items n c [] seen))
+    at_caller (λ d. calls_counted d seen) 0 n c below ∙ (ap (λ d. calls_counted d seen) first ∙ sym (length-items n c [] seen))
 
 pub is_counted : (home : Plain) (mark : Mark) → IsMarkOf home mark → IsCounted (own_by mark) (front_by mark)
 is_counted home mark is = by_held (held_by mark.pass)

@@ -7,7 +7,7 @@ use Rattle.ruled_object.specs.Notes.{held_by, IsNoteOf}
 use Rattle.ruled_object.specs.Passes.{callers_of, number_of, seen_by}
 use Rattle.shared_plain.specs.declared.mark.Mark.{Mark}
 use Rattle.shared_plain.specs.declared.plain.Plain.{Plain}
-use Rattle.shared_plain.specs.PlainHistory.{Step, count_of, front_of, history_of, items_by}
+use Rattle.shared_plain.specs.PlainHistory.{Step, calls_counted, front_of, history_of, items_by}
 use Rattle.shared_plain.specs.Walks.{AreInOrder}
 
 -- for each caller the number of its shared calls that are known
@@ -29,7 +29,7 @@ pub record KeepsOwn (mark : Mark) (own : List Step) : Type 0 where
   -- and knew it each time, and where its cursors stood
   pub order : AreInOrder mark.callers (number_of mark.pass) [] (seen_by mark.pass)
   -- so many they are, unless the count stands at its last value
-  pub done : mark.done ≢ 2 ^ 64 - 1 → mark.done ≡ count_of (number_of mark.pass) (seen_by mark.pass)
+  pub done : mark.done ≢ 2 ^ 64 - 1 → mark.done ≡ calls_counted (number_of mark.pass) (seen_by mark.pass)
 
 -- it is the note of a caller of these maps and atomics, or a copy of one, which is nobody's
 pub record IsMarkOf (plain : Plain) (mark : Mark) : Type 0 where

@@ -38,13 +38,13 @@ counts c caller None = 0
 counts c caller (Some made) = cond (caller == c) 1 0
 
 -- how many shared calls a caller made
-abbrev pub count_of : ℕ → List Step → ℕ
-count_of c [] = 0
-count_of c (x ∷ xs) = counts c x.caller (call_in x.deed) + count_of c xs
+abbrev pub calls_counted : ℕ → List Step → ℕ
+calls_counted c [] = 0
+calls_counted c (x ∷ xs) = counts c x.caller (call_in x.deed) + calls_counted c xs
 
 -- for each of so many callers, the number of its shared calls
 abbrev pub front_of : ℕ → List Step → List ℕ
-front_of callers journal = map (λ c. count_of c journal) (range_with_len 0 callers)
+front_of callers journal = map (λ c. calls_counted c journal) (range_with_len 0 callers)
 
 -- a caller's call that stands behind these entries, of which it had seen so many. Its place is the number of entries of the shared history before it
 abbrev pub item_at : ℕ → List Step → ℕ → SharedCall × Answered → Item

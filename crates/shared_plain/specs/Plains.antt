@@ -22,5 +22,5 @@ abbrev pub Takes : Plain → ℕ → Type 0
 Takes plain key = key < keys_of plain
 
 -- how many callers there are
-abbrev pub count_of : Plain → ℕ
-count_of plain = callers_of plain.object
+abbrev pub caller_count : Plain → ℕ
+caller_count plain = callers_of plain.object

@@ -8,7 +8,7 @@ use Rattle.sync_model.specs.declared.item.Item.{Item}
 use Rattle.sync_model.specs.declared.journal.Deed.TheVariants as deeds
 use Rattle.shared_plain.specs.declared.event.Event.TheVariants.{Next}
 use Rattle.shared_plain.specs.declared.event.Answered.{Answered}
-use Rattle.shared_plain.specs.PlainHistory.{Step, count_of, items_by}
+use Rattle.shared_plain.specs.PlainHistory.{Step, calls_counted, items_by}
 
 -- a cursor that showed a pair stands behind its key; one that showed none stays
 abbrev pub spot_behind : Option (ℕ × ℕ) → ℕ → ℕ
@@ -45,7 +45,7 @@ pub record StandsAt (items : List Item) (m b key : ℕ) : Type 0 where
 
 -- a caller's entry behind these: the caller knew all its own earlier calls, and a cursor's step asks from where the cursor stands
 pub record IsInOrder (n : ℕ) (before : List Step) (x : Step) : Type 0 where
-  pub knew : count_of x.caller (take x.knew before) ≡ count_of x.caller before
+  pub knew : calls_counted x.caller (take x.knew before) ≡ calls_counted x.caller before
   pub steps : (m b from : ℕ) (reply : Option Answered) → x.deed ≡ deeds.Event (Next m b from) reply → StandsAt (items_by n x.caller before) m b from
 
 -- so are all of a caller's entries in a journal that goes on behind these

@@ -6,7 +6,7 @@ ghost use Rattle.sync_model.specs.Shared.{AreAllCallers};
 ghost use Rattle.sync_model.specs.EndsOfHistory.{HasKeysBelow, AreEnds};
 ghost use Rattle.shared_plain.specs.Marks.{own_by, seen_of, IsMarkOf};
 ghost use Rattle.shared_plain.specs.PlainMachine.{contents_of};
-ghost use Rattle.shared_plain.specs.Plains.{count_of, keys_of, kinds_of, maps_of};
+ghost use Rattle.shared_plain.specs.Plains.{caller_count, keys_of, kinds_of, maps_of};
 ghost use Rattle.shared_plain.specs.Settling.{passes_in, room_of};
 
 use crate::laws::starts_empty;
@@ -41,8 +41,8 @@ impl Plain {
     /// and waits for nobody. There is a map and an atomic of each number, of its type, and all keys that are there are below the maps' limit. `PlainState::push_ends` gives what a report
     /// shows of them.
     pub fn ends(self, callers: Vec<Caller<Mark>>, room: EndsRoom) -> PlainState
-        requires callers { AreAllCallers IsMarkOf own_by self callers.items (count_of self) }
-        requires room { count_of self ≤ room_of room }
+        requires callers { AreAllCallers IsMarkOf own_by self callers.items (caller_count self) }
+        requires room { caller_count self ≤ room_of room }
         ensures ends { AreEnds own_by seen_of (first_contents (maps_of self) (kinds_of self)) callers.items (contents_of result) }
         ensures maps { length result.maps ≡ maps_of self }
         ensures kinds { map kind_of result.numbers ≡ kinds_of self }

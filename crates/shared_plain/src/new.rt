@@ -2,7 +2,7 @@
 ghost use Rattle.std.specs.Prelude.{◌≡◌, ◌<◌, ◌≤◌, IfOk, length, map};
 ghost use Rattle.std.specs.List.{zip};
 ghost use Rattle.shared_plain.specs.NewCallers.{AreNewCallers};
-ghost use Rattle.shared_plain.specs.Plains.{count_of, keys_of, kinds_of, maps_of};
+ghost use Rattle.shared_plain.specs.Plains.{caller_count, keys_of, kinds_of, maps_of};
 
 use crate::machine::PlainMachine;
 use crate::mark::Mark;
@@ -26,7 +26,7 @@ impl Plain {
         spare: &[u32],
     ) -> Result<(Self, Vec<Caller<Mark>>), AllocError>
         requires callers { (0 < length spare.now) × (length spare.now ≤ MAX_CALLERS) }
-        ensures plain { IfOk result (λ made. (kinds_of made.0 ≡ kinds.now) × (maps_of made.0 ≡ maps) × (keys_of made.0 ≡ keys) × (count_of made.0 ≡ length spare.now)) }
+        ensures plain { IfOk result (λ made. (kinds_of made.0 ≡ kinds.now) × (maps_of made.0 ≡ maps) × (keys_of made.0 ≡ keys) × (caller_count made.0 ≡ length spare.now)) }
         ensures callers { IfOk result (λ made. AreNewCallers made.0 spare.now made.1.items) }
     {
         passes_and_copies::<PlainMachine, NoNote>();

@@ -3,7 +3,7 @@
 ghost use Rattle.std.specs.Prelude.{◌≡◌};
 ghost use Rattle.shared_plain.specs.CursorsStand.{Stands};
 ghost use Rattle.shared_plain.specs.Marks.{seen_of};
-ghost use Rattle.shared_plain.specs.Plains.{count_of, kinds_of, maps_of, Takes};
+ghost use Rattle.shared_plain.specs.Plains.{caller_count, kinds_of, maps_of, Takes};
 ghost use Rattle.shared_plain.specs.Staying.{stays};
 
 use crate::cursor::{Cursor, behind, in_shown, next_number};
@@ -31,7 +31,7 @@ impl Shared for Plain {
 
     ghost maps = { maps_of };
 
-    ghost count = { count_of };
+    ghost count = { caller_count };
 
     ghost takes = { Takes };
 

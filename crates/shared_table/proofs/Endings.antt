@@ -18,10 +18,10 @@ use Rattle.shared_table.specs.declared.table.SharedTable.{SharedTable}
 use Rattle.sync_model.specs.EndsOfHistory.{AreEnds}
 use Rattle.shared_table.specs.Notes.{own_by, seen_by, IsNoteOf}
 use Rattle.shared_table.specs.Settling.{Gathered}
-use Rattle.shared_table.specs.Tables.{count_of, first_of}
+use Rattle.shared_table.specs.Tables.{caller_count, first_of}
 use Rattle.shared_table.proofs.Settles.{item_there, calls_at, calls_past, CountAlone}
 
-module _ (table : SharedTable) (callers : List (Caller SharedNote)) (all : AreAllCallers IsNoteOf own_by table callers (count_of table)) (me : Me (Unit {0}) View) (g : Gathered table callers (length callers) me) (ends : Contents) (at : EndsAt me.0 ends) where
+module _ (table : SharedTable) (callers : List (Caller SharedNote)) (all : AreAllCallers IsNoteOf own_by table callers (caller_count table)) (me : Me (Unit {0}) View) (g : Gathered table callers (length callers) me) (ends : Contents) (at : EndsAt me.0 ends) where
   -- the history has the calls of exactly these callers
   calls_are : (c : ℕ) → calls_of own_by callers c ≡ at.1.calls c
   calls_are c = elim (cases_lt c (length callers)) [

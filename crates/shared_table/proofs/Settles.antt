@@ -22,7 +22,7 @@ use Rattle.table_rule.specs.Layout.{callers_of}
 use Rattle.shared_table.specs.Notes.{front_by, own_by, seen_by, IsNoteOf}
 use Rattle.shared_table.specs.Settling.{IsSameCaller, AreSameCallers, Gathered, after_first, MayTake, IsBack}
 use Rattle.table_rule.specs.Shape.{start_of}
-use Rattle.shared_table.specs.Tables.{count_of, first_of}
+use Rattle.shared_table.specs.Tables.{caller_count, first_of}
 use Rattle.table_rule.specs.Views.{held_in, next_in, spare_in, copied, dealt, joined, most, IsIdle, Looks}
 use Rattle.table_rule.specs.Views as views
 
@@ -141,7 +141,7 @@ abbrev pub CountAlone : Type 0
 CountAlone = (start : Contents) (history : List SharedEntry) (calls other : ℕ → List Item) → ((c : ℕ) → other c ≡ calls c) → Lawful start history calls → Lawful start history other
 
 -- the seat of all has looked
-module _ (table : SharedTable) (callers : List (Caller SharedNote)) (all : AreAllCallers IsNoteOf own_by table callers (count_of table)) (me : Me (Unit {0}) View) (g : Gathered table callers (length callers) me) (w : View) (looks : Looks me.0 w) where
+module _ (table : SharedTable) (callers : List (Caller SharedNote)) (all : AreAllCallers IsNoteOf own_by table callers (caller_count table)) (me : Me (Unit {0}) View) (g : Gathered table callers (length callers) me) (w : View) (looks : Looks me.0 w) where
   abbrev v : View
   v = me.0
 
@@ -235,7 +235,7 @@ module _ (table : SharedTable) (callers : List (Caller SharedNote)) (all : AreAl
             let was_counted : slice_index old.note.seat.me.0.front i ≡ length h.own.items = subst (λ n. slice_index old.note.seat.me.0.front n ≡ length h.own.items) h.old_number (subst (λ (l : List Own). IsCounted (held_in old.note.seat.me.0.number l) old.note.seat.me.0.front) h.had was) in
             omega arith
 
-    pub all_back : AreAllCallers IsNoteOf own_by table news (count_of table)
+    pub all_back : AreAllCallers IsNoteOf own_by table news (caller_count table)
     all_back = record {
       all = count ∙ all.all;
       each = λ i new at_new. let old = old_of i new at_new in let held = (all.each i old.0 old.1).1 in (note_back i old.0 new old.1 at_new, (held.0, own_same i old.0 new old.1 at_new ∙ held.1, held.2));

@@ -10,8 +10,8 @@ use Rattle.table_rule.specs.declared.view.Lock.{Lock}
 use Rattle.table_rule.specs.declared.view.View.{View}
 use Rattle.table_rule.specs.declared.view.Walk.{Walk}
 use Rattle.sync_types.specs.KeyCalls.{is_key_entry, key_reply, key_after}
-use Rattle.table_seats.specs.Making.{leaf_value, IsLockAt, Makes}
-use Rattle.table_seats.specs.Walking.{standing, walk_at, HasWords, Answers}
+use Rattle.table_steps.specs.Making.{leaf_value, IsLockAt, Makes}
+use Rattle.table_steps.specs.Walking.{standing, walk_at, HasWords, Answers}
 use Rattle.table_writes.specs.Drafts.{IsPoised}
 use Rattle.shared_table.specs.declared.changes.Change.{Change}
 use Rattle.shared_table.specs.declared.changes.Change.TheVariants.{Keep, Put, Remove}

@@ -14,8 +14,8 @@ use Rattle.sync_types.specs.WordLayout.{is_word, number_in}
 use Rattle.shared_table.specs.declared.note.SharedNote.{SharedNote}
 use Rattle.shared_table.specs.declared.table.SharedTable.{SharedTable}
 use Rattle.table_rule.specs.declared.view.Own.{Own}
-use Rattle.table_seats.specs.Operations.{IsOperation}
-use Rattle.shared_table.specs.Tables.{kinds_of, count_of, first_of}
+use Rattle.table_steps.specs.Operations.{IsOperation}
+use Rattle.shared_table.specs.Tables.{kinds_of, caller_count, first_of}
 use Rattle.table_seats.specs.Seats.{begin_of, IsSeatOf}
 use Rattle.table_rule.specs.Views.{held_in, IsIdle}
 
@@ -57,6 +57,6 @@ Operated table atomic call found old new = (kind : AtomicKind) → slice_get (ki
 pub record IsLawfulFor (table : SharedTable) (note : SharedNote) : Type 0 where
   pub calls : ℕ → List Item
   pub lawful : Lawful (first_of table) (seen_by note) calls
-  pub none_else : (c : ℕ) → count_of table ≤ c → calls c ≡ []
+  pub none_else : (c : ℕ) → caller_count table ≤ c → calls c ≡ []
   pub mine : (holding : Holding) → own_by note ≡ Some holding → calls holding.number ≡ holding.items
   pub made : (c : ℕ) → slice_index (front_by note) c ≤ length (calls c)

@@ -5,9 +5,9 @@ use Rattle.table_rule.specs.declared.begin.Begin.{Begin}
 use Rattle.table_rule.specs.declared.view.Lock.{Lock}
 use Rattle.table_rule.specs.declared.view.View.{View}
 use Rattle.trie_nodes.specs.Plans.{HasOnlyEmptySlots}
-use Rattle.table_seats.specs.Making.{IsLockAt}
-use Rattle.table_seats.specs.Walking.{HasWords}
-use Rattle.table_seats.specs.Writing.{holding, Holds}
+use Rattle.table_steps.specs.Making.{IsLockAt}
+use Rattle.table_steps.specs.Walking.{HasWords}
+use Rattle.table_steps.specs.Writing.{holding, Holds}
 
 -- a lock under which so many of the first slots are known to be empty
 abbrev pub knowing : Lock → ℕ → Lock

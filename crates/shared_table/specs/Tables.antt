@@ -16,8 +16,8 @@ abbrev pub maps_of : SharedTable → ℕ
 maps_of table = (begin_of table.words).maps
 
 -- how many callers there are
-abbrev pub count_of : SharedTable → ℕ
-count_of table = callers_of (begin_of table.words)
+abbrev pub caller_count : SharedTable → ℕ
+caller_count table = callers_of (begin_of table.words)
 
 -- what the maps and atomics contain at the start
 abbrev pub first_of : SharedTable → Contents

@@ -8,7 +8,7 @@ ghost use Rattle.sync_model.specs.SharedHistory.{contents_after};
 ghost use Rattle.table_ends.specs.EndContents.{contents_of};
 ghost use Rattle.sync_model.specs.EndsOfHistory.{AreEnds, HasKeysBelow};
 ghost use Rattle.shared_table.specs.Notes.{own_by, seen_by, IsNoteOf};
-ghost use Rattle.shared_table.specs.Tables.{count_of, first_of, kinds_of, maps_of};
+ghost use Rattle.shared_table.specs.Tables.{caller_count, first_of, kinds_of, maps_of};
 
 use crate::note::SharedNote;
 use crate::table::SharedTable;
@@ -23,7 +23,7 @@ impl SharedTable {
     /// and waits for nobody. No other history is lawful with all their calls, so it is the one that `settle` tells. There is a
     /// map and an atomic of each number, of its type, and all keys that are there are numbers of 32 bits.
     pub fn ends(self, callers: Vec<Caller<SharedNote>>) -> TableEnds
-        requires { AreAllCallers IsNoteOf own_by self callers.items (count_of self) }
+        requires { AreAllCallers IsNoteOf own_by self callers.items (caller_count self) }
         ensures ends { AreEnds own_by seen_by (first_of self) callers.items (contents_of result) }
         ensures after { (history : List SharedEntry) → Lawful (first_of self) history (calls_of own_by callers.items) → contents_of result ≡ contents_after (first_of self) history }
         ensures maps { length (contents_of result).maps ≡ maps_of self }

@@ -2,7 +2,7 @@
 ghost use Rattle.std.specs.Prelude.{◌≡◌, ◌+◌, ◌^◌, ◌<◌, ◌≤◌, true, [], IfOk, length, sum};
 ghost use Rattle.table_seats.specs.Seats.{begin_of, IsSeatOf};
 ghost use Rattle.shared_table.specs.NewCallers.{AreNewCallers};
-ghost use Rattle.shared_table.specs.Tables.{kinds_of, maps_of, count_of, seed_of};
+ghost use Rattle.shared_table.specs.Tables.{kinds_of, maps_of, caller_count, seed_of};
 ghost use Rattle.table_rule.specs.Views.{first_view};
 
 use crate::note::SharedNote;
@@ -33,7 +33,7 @@ impl SharedTable {
         requires callers { (0 < length spare.now) × (length spare.now ≤ MAX_CALLERS) }
         requires objects { length kinds.now + maps ≤ MAX_OBJECTS }
         requires units { sum spare.now ≤ MAX_UNITS }
-        ensures table { IfOk result (λ made. (kinds_of made.0 ≡ kinds.now) × (maps_of made.0 ≡ maps) × (seed_of made.0 ≡ seed) × (count_of made.0 ≡ length spare.now)) }
+        ensures table { IfOk result (λ made. (kinds_of made.0 ≡ kinds.now) × (maps_of made.0 ≡ maps) × (seed_of made.0 ≡ seed) × (caller_count made.0 ≡ length spare.now)) }
         ensures callers { IfOk result (λ made. AreNewCallers made.0 spare.now made.1.items) }
     {
         let begin = Begin {

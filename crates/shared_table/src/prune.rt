@@ -3,10 +3,10 @@ ghost use Rattle.std.specs.Prelude.{◌≡◌, ◌<◌, true, Some, None, IsSome
 ghost use Rattle.table_rule.specs.declared.view.Lock.{Lock};
 ghost use Rattle.shared_table.specs.Pruning.{LooksAtSlots, HoldsAt, NowHolds, PrunesAt};
 ghost use Rattle.sync_types.specs.SequentialMap.{map_key};
-ghost use Rattle.table_seats.specs.Pruning.{TriedUpper};
+ghost use Rattle.table_steps.specs.Pruning.{TriedUpper};
 ghost use Rattle.table_seats.specs.Seats.{begin_of, IsSeatOf};
-ghost use Rattle.table_seats.specs.Walking.{standing, HasWords};
-ghost use Rattle.table_seats.specs.Writing.{holding, Holds};
+ghost use Rattle.table_steps.specs.Walking.{standing, HasWords};
+ghost use Rattle.table_steps.specs.Writing.{holding, Holds};
 
 use crate::changes::may_remove;
 use crate::table::SharedTable;

@@ -6,7 +6,7 @@ ghost use Rattle.sync_model.specs.Shared.{AreAllCallers, SameCalls, Settled};
 ghost use Rattle.shared_table.specs.declared.note.SharedNote.{SharedNote};
 ghost use Rattle.shared_table.specs.Notes.{front_by, own_by, seen_by, IsNoteOf};
 ghost use Rattle.shared_table.specs.Settling.{IsSameCaller, AreSameCallers, Gathered, MayTake, IsBack};
-ghost use Rattle.shared_table.specs.Tables.{count_of, first_of};
+ghost use Rattle.shared_table.specs.Tables.{caller_count, first_of};
 ghost use Rattle.table_seats.specs.Seats.{IsSeatOf};
 ghost use Rattle.table_rule.specs.Views.{copied, dealt, joined, kept, next_in, spare_in, IsIdle};
 
@@ -22,8 +22,8 @@ impl SharedTable {
     /// Lets all callers see the whole history. It makes no shared call, takes all callers, in order of number, so that none
     /// is under way, and waits for nobody.
     pub fn settle(&self, callers: &mut [Caller<SharedNote>])
-        requires { AreAllCallers IsNoteOf own_by self.now callers.old (count_of self.now) }
-        ensures callers { AreAllCallers IsNoteOf own_by self.now callers.new (count_of self.now) }
+        requires { AreAllCallers IsNoteOf own_by self.now callers.old (caller_count self.now) }
+        ensures callers { AreAllCallers IsNoteOf own_by self.now callers.new (caller_count self.now) }
         ensures same { SameCalls own_by front_by seen_by callers.old callers.new }
         ensures settled { Settled own_by front_by seen_by (first_of self.now) callers.new }
     {
@@ -35,7 +35,7 @@ impl SharedTable {
 
     // One seat for all callers, of whom each keeps a copy of its own.
     pub(crate) fn gather(&self, callers: &mut [Caller<SharedNote>]) -> Seat<(), View>
-        requires { AreAllCallers IsNoteOf own_by self.now callers.old (count_of self.now) }
+        requires { AreAllCallers IsNoteOf own_by self.now callers.old (caller_count self.now) }
         ensures table { IsSeatOf self.now.words result }
         ensures gathered { Gathered self.now callers.old (length callers.old) result.me }
         ensures callers { AreSameCallers callers.old callers.new }
@@ -70,7 +70,7 @@ impl SharedTable {
 
     // One seat takes in all callers'.
     fn bring_all(&self, all: &mut Seat<(), View>, callers: &mut [Caller<SharedNote>])
-        requires callers { AreAllCallers IsNoteOf own_by self.now callers.old (count_of self.now) }
+        requires callers { AreAllCallers IsNoteOf own_by self.now callers.old (caller_count self.now) }
         requires all { IsSeatOf self.now.words all.old × Gathered self.now callers.old 0 all.old.me }
         ensures all { IsSeatOf self.now.words all.new × Gathered self.now callers.old (length callers.old) all.new.me }
         ensures callers { AreSameCallers callers.old callers.new }

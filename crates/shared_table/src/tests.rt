@@ -5,7 +5,7 @@ ghost use Rattle.sync_model.specs.Shared.{IsCallerAt};
 ghost use Rattle.shared_table.specs.Notes.{own_by, IsNoteOf};
 ghost use Rattle.shared_table.specs.Tables.{maps_of};
 ghost use Rattle.table_seats.specs.Seats.{begin_of, IsSeatOf};
-ghost use Rattle.table_seats.specs.Walking.{IsFree};
+ghost use Rattle.table_steps.specs.Walking.{IsFree};
 
 mod prunes;
 
@@ -78,7 +78,7 @@ fn look_over_a_clear<R: Wait, L: Ledger>(
     requires seat { IsSeatOf table.now.words seat.old × IsFree (begin_of table.now.words) seat.old.me }
     requires clearer { IsNoteOf table.now clearer.old × IsSome (own_by clearer.old) }
 {
-    let mut steps = Steps::<L>::new(blank);
+    let mut steps = Steps::<L>::new(rt, blank);
     let node = table.words.enter(seat, 0, key, &mut steps);
     if !clear_one(rt, table, clearer) {
         return None;
@@ -109,7 +109,7 @@ fn look_beside_a_closed_gate<R: Wait, L: Ledger>(
     if !table.words.try_close(rt, closer, 0) {
         return None;
     }
-    table.look_up(reader, 0, key, &mut Steps::<L>::new(blank))
+    table.look_up(reader, 0, key, &mut Steps::<L>::new(rt, blank))
 }
 
 #[test]

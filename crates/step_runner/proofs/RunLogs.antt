@@ -20,7 +20,7 @@ use Rattle.step_turns.specs.Ready.{IsReady}
 use Rattle.step_turns.specs.Turns.{turn_at}
 use Rattle.step_runner.specs.declared.step.Step.{Step}
 use Rattle.step_runner.specs.declared.step.Step.TheVariants as steps
-use Rattle.step_runner.specs.Ends.{ends_of}
+use Rattle.step_runner.specs.Ends.{scheduled_ends}
 use Rattle.step_runner.specs.Outcomes.{rounds, IsDone}
 use Rattle.step_runner.specs.RunItems.{made_by, unless_ended, all_made, LeadTo}
 use Rattle.step_runner.specs.State.{State, start, new_objects, with_moment, IsStateOf}
@@ -116,7 +116,7 @@ run_leads laws plan goes of list place line object at there =
 
 -- at the end of a run that is done
 pub ends_lead : Leads → (plan : Plan) → GoesOn plan → IsStateOf plan (start plan) → (report : Report) → IsDone plan report
-    → (count : ℕ) × (objects : List ObjectState) × LeadTo plan (all_made plan (plan.schedule ++ rounds count plan.workers) (start plan)) objects × (report.ends ≡ ends_of plan objects)
+    → (count : ℕ) × (objects : List ObjectState) × LeadTo plan (all_made plan (plan.schedule ++ rounds count plan.workers) (start plan)) objects × (report.ends ≡ scheduled_ends plan objects)
 ends_lead laws plan goes of report done =
     let turns = plan.schedule ++ rounds done.reached.count plan.workers in (
       done.reached.count,

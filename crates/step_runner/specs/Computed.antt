@@ -10,7 +10,7 @@ use Rattle.sync_types.specs.declared.outcome.Outcome.TheVariants as outcomes
 use Rattle.step_runner.specs.State.{State, start}
 use Rattle.step_runner.specs.Turns.{items_of, round, has_ended}
 use Rattle.step_runner.specs.LeftToDo.{left_to_do}
-use Rattle.step_runner.specs.Ends.{ends_of, left_in}
+use Rattle.step_runner.specs.Ends.{scheduled_ends, left_in}
 
 -- how a run ends or goes on behind a round
 abbrev pub behind_round : State × Step → (State → State × Ending) → State × Ending
@@ -39,7 +39,7 @@ whole_run plan = behind_schedule plan (items_of plan plan.schedule (start plan))
 
 -- what the run leaves behind
 abbrev pub outcome_of : Plan → State × Ending → Outcome
-outcome_of plan (s, endings.Done) = outcomes.Done (left_in plan s (ends_of plan s.objects))
+outcome_of plan (s, endings.Done) = outcomes.Done (left_in plan s (scheduled_ends plan s.objects))
 outcome_of plan (s, endings.Misused misuse) = outcomes.Misused (left_in plan s []) misuse
 outcome_of plan (s, endings.Deadlocked) = outcomes.Deadlocked (left_in plan s [])
 

@@ -7,7 +7,7 @@ use Rattle.sync_types.specs.declared.atomic_object.Number.{Number}
 use Rattle.sync_types.specs.declared.call.Reply.{Reply}
 use Rattle.sync_types.specs.declared.outcome.End.{End}
 use Rattle.sync_types.specs.declared.outcome.Report.{Report}
-use Rattle.sync_types.specs.Ends.{Contents}
+use Rattle.sync_types.specs.Ends.{FinalContents}
 use Rattle.sync_types.specs.Ends as ends
 use Rattle.sync_types.specs.Outcome.{with_keys_renamed}
 use Rattle.workload.specs.Keys.{keys_in, key_number}
@@ -36,12 +36,12 @@ abbrev pub maps_from : ℕ → List ObjectState → List (ℕ × FinMap (slice_c
 maps_from place [] = []
 maps_from place (object ∷ objects) = maps_of place object ++ maps_from (place + 1) objects
 
-abbrev pub contents_of : List ObjectState → Contents (List ℕ) (slice_cmp nat_cmp)
+abbrev pub contents_of : List ObjectState → FinalContents (List ℕ) (slice_cmp nat_cmp)
 contents_of objects = record { numbers = numbers_from 0 objects; maps = maps_from 0 objects }
 
 -- the ends of a run of a plan, with the numbers of the keys
-abbrev pub ends_of : Plan → List ObjectState → List End
-ends_of plan objects = ends.ends_of (key_number (keys_in plan.scripts)) (contents_of objects)
+abbrev pub scheduled_ends : Plan → List ObjectState → List End
+scheduled_ends plan objects = ends.ends_of (key_number (keys_in plan.scripts)) (contents_of objects)
 
 -- all workers' replies with the numbers of the keys
 abbrev pub numbered : Plan → List (List (Reply (List ℕ))) → List (List (Reply ℕ))

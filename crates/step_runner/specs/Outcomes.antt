@@ -10,7 +10,7 @@ use Rattle.sync_types.specs.declared.outcome.Outcome.{Outcome}
 use Rattle.sync_types.specs.declared.outcome.Outcome.TheVariants as outcomes
 use Rattle.step_runner.specs.State.{State, start}
 use Rattle.step_runner.specs.Turns.{items_of, round, has_ended}
-use Rattle.step_runner.specs.Ends.{ends_of, left_in}
+use Rattle.step_runner.specs.Ends.{scheduled_ends, left_in}
 
 -- so many whole rounds
 abbrev pub rounds : ℕ → ℕ → List Turn
@@ -34,7 +34,7 @@ pub record IsDone (plan : Plan) (report : Report) : Type 0 where
   pub state : State
   pub reached : Reaches plan state
   pub ended : has_ended plan state ≡ true
-  pub leaves : report ≡ left_in plan state (ends_of plan state.objects)
+  pub leaves : report ≡ left_in plan state (scheduled_ends plan state.objects)
 
 -- a turn of the schedule, or of some round, was a misuse
 pub record IsMisused (plan : Plan) (report : Report) (misuse : Misuse) : Type 0 where

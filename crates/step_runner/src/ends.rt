@@ -3,7 +3,7 @@ ghost use Rattle.std.specs.Prelude.{◌≡◌, ℕ, ◌++◌, map, IfOk, OnOk};
 ghost use Rattle.std.specs.List.{flat_map};
 ghost use Rattle.sync_types.specs.Ends.{number_end, pair_ends};
 ghost use Rattle.workload.specs.Keys.{keys_in, key_number};
-ghost use Rattle.step_runner.specs.Ends.{numbers_from, maps_from, ends_of};
+ghost use Rattle.step_runner.specs.Ends.{numbers_from, maps_from, scheduled_ends};
 
 use crate::numbering::number_of;
 use std::alloc::{AllocError, Global};
@@ -69,7 +69,7 @@ pub fn ends(
     workload: &Workload,
     objects: &[ObjectState],
 ) -> Result<Seq<End>, AllocError>
-    ensures { IfOk result (λ ends. ends ≡ ends_of workload.now objects.now) }
+    ensures { IfOk result (λ ends. ends ≡ scheduled_ends workload.now objects.now) }
 {
     let mut ends = Seq::new(alloc);
     push_numbers(&mut ends, objects)?;

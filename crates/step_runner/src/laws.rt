@@ -35,7 +35,7 @@ ghost use Rattle.sync_types.specs.declared.outcome.Report.{Report};
 ghost use Rattle.sync_types.specs.declared.outcome.Outcome.{Outcome};
 ghost use Rattle.sync_types.specs.declared.outcome.Outcome.TheVariants as outcomes;
 ghost use Rattle.step_runner.specs.CallTurns.{advances, requeues, wakes, count_turns};
-ghost use Rattle.step_runner.specs.Ends.{ends_of};
+ghost use Rattle.step_runner.specs.Ends.{scheduled_ends};
 ghost use Rattle.step_runner.specs.LeftToDo.{left_to_do};
 ghost use Rattle.step_runner.specs.MadeCalls.{made_calls, calls_of};
 ghost use Rattle.step_runner.specs.Outcomes.{rounds, is_misused, StepsTo};
@@ -170,7 +170,7 @@ pub fn objects_keep_their_kinds()
 pub fn objects_come_by_the_items_of_the_run()
     ensures always { (plan : Plan) (items : List Turn) → is_valid plan ≡ true → LeadTo plan (all_made plan items (start plan)) (after_items plan items (start plan)).objects }
     ensures ends { (plan : Plan) (report : Report) → is_valid plan ≡ true → StepsTo plan (outcomes.Done report)
-        → (count : ℕ) × (objects : List ObjectState) × LeadTo plan (all_made plan (plan.schedule ++ rounds count plan.workers) (start plan)) objects × (report.ends ≡ ends_of plan objects) }
+        → (count : ℕ) × (objects : List ObjectState) × LeadTo plan (all_made plan (plan.schedule ++ rounds count plan.workers) (start plan)) objects × (report.ends ≡ scheduled_ends plan objects) }
 {
     validity();
     items_lead_from_turn_to_turn();

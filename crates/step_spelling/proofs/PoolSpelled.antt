@@ -35,7 +35,7 @@ use Rattle.run_record.specs.declared.made.Made.{Made}
 use Rattle.workload.specs.Plan.{Plan}
 use Rattle.step_turns.specs.declared.answer.Answer.{Answer}
 use Rattle.step_turns.specs.declared.answer.Answer.TheVariants as answers
-use Rattle.step_turns.specs.Due as due
+use Rattle.step_turns.specs.Due.{looks_of}
 use Rattle.step_turns.specs.Items.{unless_found, look_items, pool_items}
 use Rattle.step_turns.specs.PoolTurn.{found_or, found_by, pool_step, item_of}
 use Rattle.step_turns.specs.Stages.{outcome_of}
@@ -143,9 +143,9 @@ module _ (keeps : PoolKeeps) (plan : Plan) (place worker moment : ℕ) (below : 
   -- a look that finds an item ends the get, and another goes on with the next one
   abbrev LookWhole : PoolEvent ℕ → PoolReply ℕ → pool.PoolState ℕ → ℕ → List PoolStage → Part (Reply ℕ) → Type 0
   LookWhole e r q before looks rest =
-      let found = item_of (outcome_of (pool_meaning (due.stage_of e) r)) in
+      let found = item_of (outcome_of (pool_meaning (record_pool.stage_of e) r)) in
       Whole (and_then (pool_part (first + record_pool.part_of worker e) (record_pool.stage_of e)) (record_pool.found_or rest))
-      (recorded_pool_event plan place worker (pool_event (due.stage_of e) moment) (answered.Pool r) ++ recorded plan before (unless_found worker moment place (q, found) (look_items worker moment place looks))) (found_or (q, found) (found_by worker moment looks)).1
+      (recorded_pool_event plan place worker (pool_event (record_pool.stage_of e) moment) (answered.Pool r) ++ recorded plan before (unless_found worker moment place (q, found) (look_items worker moment place looks))) (found_or (q, found) (found_by worker moment looks)).1
 
   abbrev RestWhole : pool.PoolState ℕ → ℕ → List PoolStage → Part (Reply ℕ) → Type 0
   RestWhole q before looks rest = Whole rest (recorded plan before (look_items worker moment place looks q)) (found_by worker moment looks q).1
@@ -182,7 +182,7 @@ module _ (keeps : PoolKeeps) (plan : Plan) (place worker moment : ℕ) (below : 
       by_test true = (tt, mod_below (worker + suc k) plan.workers (omega (arith, below)))
       by_test false = (tt, mod_below (worker + suc k) plan.workers (omega (arith, below)))
 
-  is_event : (e : PoolEvent ℕ) → IsLook e → pool_event (due.stage_of e) moment ≡ e
+  is_event : (e : PoolEvent ℕ) → IsLook e → pool_event (record_pool.stage_of e) moment ≡ e
   is_event (pool_events.Put item) is = refl
   is_event pool_events.LookOwn is = refl
   is_event (pool_events.LookOther part) is = refl
@@ -197,15 +197,15 @@ module _ (keeps : PoolKeeps) (plan : Plan) (place worker moment : ℕ) (below : 
   look_answers pool_events.Sweep r is answers = absurd is
 
   get_whole : (numbers : List ℕ) (p : pool.PoolState ℕ) (before : ℕ) → length p.primary ≡ plan.workers → length p.victims ≡ plan.workers
-      → RestWhole p before (map (λ number. due.stage_of (look plan.workers worker number)) numbers) (record_pool.found_by worker first (map (look plan.workers worker) numbers))
+      → RestWhole p before (map (λ number. record_pool.stage_of (look plan.workers worker number)) numbers) (record_pool.found_by worker first (map (look plan.workers worker) numbers))
   get_whole [] p before primary victims = (refl, refl)
   get_whole (k ∷ numbers) p before primary victims =
       let e = look plan.workers worker k in
       let there = looks_there k in
-      let x = pool.next p worker (pool_event (due.stage_of e) moment) in
-      let kept = keeps p worker plan.workers (pool_event (due.stage_of e) moment) primary victims in
+      let x = pool.next p worker (pool_event (record_pool.stage_of e) moment) in
+      let kept = keeps p worker plan.workers (pool_event (record_pool.stage_of e) moment) primary victims in
       let is : answers_look x.1 ≡ true = look_answers e x.1 there.0 (subst (λ (d : PoolEvent ℕ). Answers e (pool.next p worker d).1) (sym (is_event e there.0)) (next_answers plan.workers worker p below primary victims e there.1)) in
-      look_whole e x.1 x.0 _ (map (λ number. due.stage_of (look plan.workers worker number)) numbers) (record_pool.found_by worker first (map (look plan.workers worker) numbers)) there.0 is (get_whole numbers x.0 _ kept.0 kept.1)
+      look_whole e x.1 x.0 _ (map (λ number. record_pool.stage_of (look plan.workers worker number)) numbers) (record_pool.found_by worker first (map (look plan.workers worker) numbers)) there.0 is (get_whole numbers x.0 _ kept.0 kept.1)
 
   put_whole : (item : ℕ) (r : PoolReply ℕ) → answers_put r ≡ true → Whole (pool_call plan.workers worker first (pool_calls.Put item)) (made_at worker (stage.Put item) r ∷ []) (answers.Completed (replies.Pool pool_replies.Done))
   put_whole item reply.Kept is = (Done (Ok Kept), said worker (stage.Put item) reply.Kept Kept refl, refl)
@@ -230,7 +230,7 @@ module _ (keeps : PoolKeeps) (plan : Plan) (place worker moment : ℕ) (below : 
   pool_whole before (pool_calls.Put item) p primary victims = put_whole item (pool.next p worker (pool_events.Put item)).1 (next_answers plan.workers worker p below primary victims (pool_events.Put item) tt)
   pool_whole before pool_calls.Sweep p primary victims = sweep_whole (pool.next p worker pool_events.Sweep).1 (next_answers plan.workers worker p below primary victims pool_events.Sweep tt)
   pool_whole before pool_calls.Get p primary victims =
-      subst (λ (c : ℕ). RestWhole p before (due.looks_of c worker 0 (2 * c)) (record_pool.found_by worker first (record_pool.looks_of plan.workers worker))) (sym primary) (get_whole (range_with_len 0 (2 * plan.workers)) p before primary victims)
+      subst (λ (c : ℕ). RestWhole p before (looks_of c worker 0 (2 * c)) (record_pool.found_by worker first (record_pool.looks_of plan.workers worker))) (sym primary) (get_whole (range_with_len 0 (2 * plan.workers)) p before primary victims)
 
   -- whatever is left behind
   pub whole_tells : (old new : Part (Reply ℕ)) (made : List Made) (a : Answer) → Whole old made a → Tells plan old new made a

@@ -172,7 +172,7 @@ module _ (laws : Laws) (plan : Plan) (worker before place moment : ℕ) where
       let stage = due.once_due code (once_standing.runs_at o worker) (once.place_of o worker) in
       let made = once_made worker moment code o in
       let told = once_tells events.OnceFunc answered.OnceFunc laws.machines.giving plan place worker moment (returns code) (λ kept. replies.OnceFunc (failure kept)) (λ kept. replies.OnceFunc (failure kept)) code
-      (replies.OnceFunc (due.failure code)) (λ kept. replies.OnceFunc (due.failure kept)) refl (λ kept. refl) [] (refl, refl) o stands below in
+      (replies.OnceFunc (failure code)) (λ kept. replies.OnceFunc (failure kept)) refl (λ kept. refl) [] (refl, refl) o stands below in
       let step = turn_on operations.OnceFunc worker moment (states.OnceFunc o code) in (
         subst (λ (l : List Made). Tells plan (left_on plan worker before place operations.OnceFunc (states.OnceFunc o code)) (left_on plan worker (before + length (shared_in l)) place operations.OnceFunc step.0) l step.1)
             (nothing_first made.1 (due_made events.OnceFunc answered.OnceFunc place worker moment stage o) ∙ sym (due_recorded events.OnceFunc answered.OnceFunc plan place worker moment before stage o (λ e r. refl))) told.0,

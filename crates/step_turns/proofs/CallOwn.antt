@@ -88,13 +88,14 @@ use Rattle.run_record.specs.declared.entered.ObjectEvent.{ObjectEvent}
 use Rattle.run_record.specs.declared.entered.ObjectEvent.TheVariants as events
 use Rattle.run_record.specs.declared.entered.ObjectReply.{ObjectReply}
 use Rattle.run_record.specs.declared.entered.ObjectReply.TheVariants as answered
+use Rattle.run_record.specs.OnceKind.{failure}
 use Rattle.step_turns.specs.declared.answer.Answer.{Answer}
 use Rattle.step_turns.specs.declared.answer.Answer.TheVariants as answers
 use Rattle.step_turns.specs.declared.object_state.ObjectState.{ObjectState}
 use Rattle.step_turns.specs.declared.object_state.ObjectState.TheVariants as states
 use Rattle.step_turns.specs.CallTurns.{mutex_left, rw_left, once_left, left_at, TakesOf, TakesBy, mutex_told, rw_told, told_at, TellsOwn}
 use Rattle.step_turns.specs.Completes.{IsCompleted}
-use Rattle.step_turns.specs.Due.{mutex_due, rw_due, locked, group_due, returned, cond_due, waited, once_due, ran_or, failure}
+use Rattle.step_turns.specs.Due.{mutex_due, rw_due, locked, group_due, returned, cond_due, waited, once_due, ran_or}
 use Rattle.step_turns.specs.Items.{Item, entered, stage_items, items_on, items_on_both, add_items, once_items, look_items, unless_found, pool_items, is_requeued, goes_back}
 use Rattle.step_turns.specs.Objects.{IsMachineOf}
 use Rattle.step_turns.specs.PoolTurn.{looked, pool_step}

@@ -65,12 +65,13 @@ use Rattle.protocols.specs.declared.rw_mutex.RwMutexStage.TheVariants as rw_stag
 use Rattle.protocols.specs.declared.step.Step.{Step}
 use Rattle.protocols.specs.declared.wait_group.GroupStage.{GroupStage}
 use Rattle.protocols.specs.declared.wait_group.GroupStage.TheVariants as group_stage
+use Rattle.run_record.specs.OnceKind.{failure}
 use Rattle.step_turns.specs.declared.answer.Answer.{Answer}
 use Rattle.step_turns.specs.declared.answer.Answer.TheVariants as answers
 use Rattle.step_turns.specs.declared.object_state.ObjectState.{ObjectState}
 use Rattle.step_turns.specs.declared.object_state.ObjectState.TheVariants as states
 use Rattle.step_turns.specs.Completes.{IsCompleted}
-use Rattle.step_turns.specs.Due.{mutex_due, rw_due, locked, group_due, returned, cond_due, waited, once_due, ran_or, failure}
+use Rattle.step_turns.specs.Due.{mutex_due, rw_due, locked, group_due, returned, cond_due, waited, once_due, ran_or}
 use Rattle.step_turns.specs.ObjectLeft.{object_left, UsesBy}
 use Rattle.step_turns.specs.Objects.{IsMachineOf}
 use Rattle.step_turns.specs.PoolTurn.{pool_step}

@@ -59,11 +59,12 @@ use Rattle.protocols.specs.declared.rw_mutex.RwMutexStage.{RwMutexStage}
 use Rattle.protocols.specs.declared.rw_mutex.RwMutexStage.TheVariants as rw_stage
 use Rattle.protocols.specs.declared.step.Step.{Step}
 use Rattle.protocols.specs.declared.step.Step.TheVariants.{Finished, Misused, Waits, Next, Never}
+use Rattle.run_record.specs.OnceKind.{failure}
 use Rattle.step_turns.specs.declared.answer.Answer.{Answer}
 use Rattle.step_turns.specs.declared.answer.Answer.TheVariants as answers
 use Rattle.step_turns.specs.declared.object_state.ObjectState.{ObjectState}
 use Rattle.step_turns.specs.declared.object_state.ObjectState.TheVariants as states
-use Rattle.step_turns.specs.Due.{mutex_due, rw_due, locked, group_due, returned, cond_due, waited, once_due, ran_or, failure, looks_of}
+use Rattle.step_turns.specs.Due.{mutex_due, rw_due, locked, group_due, returned, cond_due, waited, once_due, ran_or, looks_of}
 use Rattle.step_turns.specs.Objects.{IsMachineOf}
 use Rattle.step_turns.specs.PoolTurn.{pool_step}
 use Rattle.step_turns.specs.ReplyForm.{HasForm}

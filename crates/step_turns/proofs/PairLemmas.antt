@@ -35,10 +35,11 @@ use Rattle.protocols.specs.declared.once.OnceOutcome.TheVariants.{Run, Already, 
 use Rattle.workload.specs.declared.object.ObjectKind.{ObjectKind}
 use Rattle.workload.specs.declared.object.ObjectKind.TheVariants as kinds
 use Rattle.workload.specs.Draft.{operation_keys, keys_of, distinct_count}
+use Rattle.run_record.specs.OnceKind.{failure}
 use Rattle.step_turns.specs.declared.answer.Answer.{Answer}
 use Rattle.step_turns.specs.declared.object_state.ObjectState.{ObjectState}
 use Rattle.step_turns.specs.declared.object_state.ObjectState.TheVariants as states
-use Rattle.step_turns.specs.Due.{mutex_due, rw_due, locked, group_due, returned, cond_due, waited, once_due, ran_or, failure, looks_of}
+use Rattle.step_turns.specs.Due.{mutex_due, rw_due, locked, group_due, returned, cond_due, waited, once_due, ran_or, looks_of}
 use Rattle.step_turns.specs.MapKeys.{AreAmong, HasObjectKeysIn}
 use Rattle.step_turns.specs.Objects.{new_object, EachAt}
 use Rattle.step_turns.specs.Pairs.{ShowsTo}

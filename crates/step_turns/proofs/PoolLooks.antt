@@ -2,7 +2,8 @@
 use Rattle.std.proofs.Common.{◌≡◌, ℕ, suc, ◌+◌, ◌-◌, ◌<◌, Option, Some, None, refl, sym, ap, ◌∙◌, arith}
 use Rattle.pool_core.specs.Looks.{look}
 use Rattle.pool_core.specs.PoolMachine.{PoolState}
-use Rattle.step_turns.specs.Due.{stage_of, looks_of}
+use Rattle.run_record.specs.PoolKind.{stage_of}
+use Rattle.step_turns.specs.Due.{looks_of}
 use Rattle.step_turns.specs.PoolTurn.{PoolStep, looked, found_or, found_by}
 
 -- a look that finds nothing is passed over

@@ -23,11 +23,11 @@ use Rattle.protocols.specs.PoolStages.{pool_event}
 use Rattle.workload.specs.Puts.{is_put}
 use Rattle.workload.specs.declared.object.ObjectKind.{ObjectKind}
 use Rattle.workload.specs.declared.object.ObjectKind.TheVariants as kinds
+use Rattle.run_record.specs.PoolKind.{stage_of}
 use Rattle.step_turns.specs.declared.answer.Answer.{Answer}
 use Rattle.step_turns.specs.declared.answer.Answer.TheVariants as answers
 use Rattle.step_turns.specs.declared.object_state.ObjectState.{ObjectState}
 use Rattle.step_turns.specs.declared.object_state.ObjectState.TheVariants as states
-use Rattle.step_turns.specs.Due.{stage_of}
 use Rattle.step_turns.specs.Objects.{new_object, EachAt}
 use Rattle.step_turns.specs.PoolRoom.{put_of, HavePartsRoom, HasPoolRoom, HasRoomFor, left_behind}
 use Rattle.step_turns.specs.PoolTurn.{PoolStep, pool_made, looked, found_or, found_by, pool_step}

@@ -1,13 +1,11 @@
 -- The stage that a worker's call is at, by where the worker stands at the object: none, where it waits and isn't told to go on. With it, what an outcome makes of the call.
-use Rattle.std.specs.Prelude.{ℕ, ◌==◌, if◌then◌else◌, Bool, true, false, List, map, Option, Some, None, Result}
+use Rattle.std.specs.Prelude.{ℕ, Bool, true, false, List, map, Option, Some, None, Result}
 use Rattle.std.specs.List.{range_with_len}
 use Rattle.sync_types.specs.declared.call.Reply.{Reply}
 use Rattle.sync_types.specs.declared.call.Reply.TheVariants as replies
 use Rattle.sync_types.specs.declared.lock_call.LockReply.{LockReply}
 use Rattle.sync_types.specs.declared.lock_call.MutexCall.{MutexCall}
-use Rattle.sync_types.specs.declared.lock_call.MutexCall.TheVariants as mutex_calls
 use Rattle.sync_types.specs.declared.lock_call.RwMutexCall.{RwMutexCall}
-use Rattle.sync_types.specs.declared.lock_call.RwMutexCall.TheVariants as rw_calls
 use Rattle.sync_types.specs.declared.wait_call.CondCall.{CondCall}
 use Rattle.sync_types.specs.declared.wait_call.CondCall.TheVariants as cond_calls
 use Rattle.sync_types.specs.declared.wait_call.WaitGroupCall.{WaitGroupCall}
@@ -23,50 +21,37 @@ use Rattle.wait_cores.specs.declared.notify.NotifyPlace.TheVariants as notify_pl
 use Rattle.wait_cores.specs.declared.once.OncePlace.{OncePlace}
 use Rattle.wait_cores.specs.declared.once.OncePlace.TheVariants as once_place
 use Rattle.pool_core.specs.Looks.{look}
-use Rattle.pool_core.specs.declared.pool_event.PoolEvent.{PoolEvent}
-use Rattle.pool_core.specs.declared.pool_event.PoolEvent.TheVariants as pool_event
 use Rattle.protocols.specs.declared.cond.CondStage.{CondStage}
 use Rattle.protocols.specs.declared.cond.CondStage.TheVariants as cond_stage
 use Rattle.protocols.specs.declared.mutex.MutexStage.{MutexStage}
-use Rattle.protocols.specs.declared.mutex.MutexStage.TheVariants as mutex_stage
+use Rattle.protocols.specs.declared.mutex.MutexStage.TheVariants as mutex_stages
 use Rattle.protocols.specs.declared.once.OnceOutcome.{OnceOutcome}
 use Rattle.protocols.specs.declared.once.OnceOutcome.TheVariants.{Run, Already, Ended}
 use Rattle.protocols.specs.declared.once.OnceStage.{OnceStage}
 use Rattle.protocols.specs.declared.once.OnceStage.TheVariants as once_stage
 use Rattle.protocols.specs.declared.pool.PoolStage.{PoolStage}
-use Rattle.protocols.specs.declared.pool.PoolStage.TheVariants as pool_stage
 use Rattle.protocols.specs.declared.rw_mutex.RwMutexStage.{RwMutexStage}
 use Rattle.protocols.specs.declared.rw_mutex.RwMutexStage.TheVariants as rw_stage
 use Rattle.protocols.specs.declared.wait_group.GroupStage.{GroupStage}
 use Rattle.protocols.specs.declared.wait_group.GroupStage.TheVariants as group_stage
+use Rattle.run_record.specs.MutexKind.{mutex_stage}
+use Rattle.run_record.specs.PoolKind.{stage_of}
+use Rattle.run_record.specs.RwMutexKind.{rw_mutex_stage}
 use Rattle.step_turns.specs.declared.answer.Answer.{Answer}
 use Rattle.step_turns.specs.declared.answer.Answer.TheVariants as answers
 use Rattle.step_turns.specs.Stages.{answer_by}
 
 -- ---- locks
 
--- the stage that a call begins with
-abbrev pub mutex_first : MutexCall → MutexStage
-mutex_first mutex_calls.Lock = mutex_stage.Lock
-mutex_first mutex_calls.Unlock = mutex_stage.Unlock
-mutex_first mutex_calls.TryLock = mutex_stage.TryLock
-
+-- a call begins at its first stage
 abbrev pub mutex_due : MutexCall → MutexPlace → Option MutexStage
-mutex_due call mutex_place.Out = Some (mutex_first call)
+mutex_due call mutex_place.Out = Some (mutex_stage call)
 mutex_due call mutex_place.Waiting = None
-mutex_due call mutex_place.Woken = Some mutex_stage.Resume
-mutex_due call mutex_place.Handed = Some mutex_stage.Resume
-
-abbrev pub rw_first : RwMutexCall → RwMutexStage
-rw_first rw_calls.Lock = rw_stage.Lock
-rw_first rw_calls.Unlock = rw_stage.Unlock
-rw_first rw_calls.TryLock = rw_stage.TryLock
-rw_first rw_calls.RLock = rw_stage.RLock
-rw_first rw_calls.RUnlock = rw_stage.RUnlock
-rw_first rw_calls.TryRLock = rw_stage.TryRLock
+mutex_due call mutex_place.Woken = Some mutex_stages.Resume
+mutex_due call mutex_place.Handed = Some mutex_stages.Resume
 
 abbrev pub rw_due : RwMutexCall → RwPlace → Option RwMutexStage
-rw_due call rw_place.Out = Some (rw_first call)
+rw_due call rw_place.Out = Some (rw_mutex_stage call)
 rw_due call rw_place.Queued = None
 rw_due call rw_place.Waiting = None
 rw_due call rw_place.Woken = Some rw_stage.Resume
@@ -93,18 +78,18 @@ returned outcome = answers.Completed replies.Returned
 -- Of a cond's call, by where the worker stands at the mutex and at the cond: the stage at the cond, if there is one, and the one behind it at the mutex.
 -- One that stands at the mutex has left the cond
 abbrev pub cond_due : CondCall → MutexPlace → NotifyPlace → Option CondStage × Option MutexStage
-cond_due cond_calls.Wait mutex_place.Out notify_place.Out = (Some cond_stage.Ticket, Some mutex_stage.Unlock)
+cond_due cond_calls.Wait mutex_place.Out notify_place.Out = (Some cond_stage.Ticket, Some mutex_stages.Unlock)
 cond_due cond_calls.Wait mutex_place.Out notify_place.Waiting = (None, None)
-cond_due cond_calls.Wait mutex_place.Out notify_place.Notified = (Some cond_stage.Leave, Some mutex_stage.Lock)
+cond_due cond_calls.Wait mutex_place.Out notify_place.Notified = (Some cond_stage.Leave, Some mutex_stages.Lock)
 cond_due cond_calls.Wait mutex_place.Waiting at = (None, None)
-cond_due cond_calls.Wait mutex_place.Woken at = (None, Some mutex_stage.Resume)
-cond_due cond_calls.Wait mutex_place.Handed at = (None, Some mutex_stage.Resume)
+cond_due cond_calls.Wait mutex_place.Woken at = (None, Some mutex_stages.Resume)
+cond_due cond_calls.Wait mutex_place.Handed at = (None, Some mutex_stages.Resume)
 cond_due cond_calls.Signal at_mutex at = (Some cond_stage.Signal, None)
 cond_due cond_calls.Broadcast at_mutex at = (Some cond_stage.Broadcast, None)
 
 -- one that gave the mutex up waits, and one that has it again returns
 abbrev pub waited : Option MutexStage → LockReply → Answer
-waited (Some mutex_stage.Unlock) outcome = answers.Unfinished
+waited (Some mutex_stages.Unlock) outcome = answers.Unfinished
 waited stage outcome = answers.Completed replies.Returned
 
 -- the stage at the mutex tells what a wait is at; the other calls return at once
@@ -128,19 +113,7 @@ ran_or ran had Run = answers.Unfinished
 ran_or ran had (Already kept) = answers.Completed (had kept)
 ran_or ran had Ended = answers.Completed ran
 
--- a code of 0 stands for no failure
-abbrev pub failure : ℕ → Option ℕ
-failure code = if code == 0 then None else Some code
-
 -- ---- pools
-
--- the stage of an event
-abbrev pub stage_of : PoolEvent ℕ → PoolStage
-stage_of (pool_event.Put item) = pool_stage.Put item
-stage_of pool_event.LookOwn = pool_stage.LookOwn
-stage_of (pool_event.LookOther part) = pool_stage.LookOther part
-stage_of (pool_event.LookVictim part) = pool_stage.LookVictim part
-stage_of pool_event.Sweep = pool_stage.Sweep
 
 -- the looks of a get by a worker of so many, from a number on, so many. The worker's part is that of its number
 abbrev pub looks_of : ℕ → ℕ → ℕ → ℕ → List PoolStage

@@ -29,11 +29,12 @@ use Rattle.protocols.specs.declared.mutex.MutexStage.{MutexStage}
 use Rattle.protocols.specs.declared.once.OnceOutcome.{OnceOutcome}
 use Rattle.protocols.specs.declared.once.OnceOutcome.TheVariants.{Ended}
 use Rattle.workload.specs.Plan.{reference_of}
+use Rattle.run_record.specs.OnceKind.{failure}
 use Rattle.step_turns.specs.declared.answer.Answer.{Answer}
 use Rattle.step_turns.specs.declared.answer.Answer.TheVariants as answers
 use Rattle.step_turns.specs.declared.object_state.ObjectState.{ObjectState}
 use Rattle.step_turns.specs.declared.object_state.ObjectState.TheVariants as states
-use Rattle.step_turns.specs.Due.{mutex_due, rw_due, locked, group_due, returned, cond_due, cond_answer, once_due, ran_or, failure}
+use Rattle.step_turns.specs.Due.{mutex_due, rw_due, locked, group_due, returned, cond_due, cond_answer, once_due, ran_or}
 use Rattle.step_turns.specs.Objects.{kind_of}
 use Rattle.step_turns.specs.PoolTurn.{pool_step}
 use Rattle.step_turns.specs.Stages.{make, answer_by}

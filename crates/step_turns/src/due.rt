@@ -2,7 +2,8 @@
 //! isn't told to go on. With it, what an outcome makes of the call.
 ghost use Rattle.std.specs.Prelude.{◌≡◌, ◌*◌, ◌<◌, ◌≤◌, List};
 ghost use Rattle.pool_core.specs.Looks.{look};
-ghost use Rattle.step_turns.specs.Due.{mutex_due, rw_due, locked, group_due, returned, cond_due, cond_answer, once_due, ran_or, stage_of};
+ghost use Rattle.run_record.specs.PoolKind.{stage_of};
+ghost use Rattle.step_turns.specs.Due.{mutex_due, rw_due, locked, group_due, returned, cond_due, cond_answer, once_due, ran_or};
 ghost use Rattle.step_turns.specs.Stages.{answer_by};
 
 use crate::answer::Answer;

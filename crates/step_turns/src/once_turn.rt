@@ -5,7 +5,7 @@ ghost use Rattle.std.specs.Int.{w64, int_wrapping_add};
 ghost use Rattle.sync_types.specs.declared.call.Operation.TheVariants as operations;
 ghost use Rattle.wait_cores.specs.OnceMachine as machine;
 ghost use Rattle.wait_cores.specs.OnceStanding.{runs_at};
-ghost use Rattle.step_turns.specs.Due.{failure};
+ghost use Rattle.run_record.specs.OnceKind.{failure};
 ghost use Rattle.step_turns.specs.Turns.{once_made, added, turn_on, turn_on_both};
 ghost use Rattle.step_turns.specs.declared.object_state.ObjectState.TheVariants as states;
 

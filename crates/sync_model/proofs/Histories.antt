@@ -15,7 +15,7 @@ use Rattle.sync_model.specs.declared.item.SharedEntry.{SharedEntry}
 use Rattle.sync_model.specs.declared.item.Item.{Item}
 use Rattle.sync_types.specs.SequentialMap.{map_after}
 use Rattle.sync_types.specs.SequentialAtomic.{atomic_after, is_atomic_entry}
-use Rattle.sync_model.specs.SharedHistory.{Contents, map_at, number_at, IsReply, is_entry, shared_after, contents_after, contents_at, IsLegal, entries_from, entries_by, entry_of, marked_in, with_call}
+use Rattle.sync_model.specs.SharedHistory.{Contents, map_at, number_at, IsReply, is_entry, shared_after, contents_after, contents_at, IsLegal, entries_from, entries_by, entry_of, marked_in, history_with}
 use Rattle.sync_types.proofs.MapLemmas as on_maps
 
 module _ {A : Type 0} where
@@ -154,7 +154,7 @@ unchanged (Atomic a call) contents e =
 abbrev pub added : ℕ → Item → List SharedEntry
 added c x = cond x.entry (entry_of c x ∷ []) []
 
-pub added_is : (history : List SharedEntry) (c : ℕ) (x : Item) → with_call history c x ≡ history ++ added c x
+pub added_is : (history : List SharedEntry) (c : ℕ) (x : Item) → history_with history c x ≡ history ++ added c x
 added_is history c x = by_test x.entry
   where
     by_test : (b : Bool) → cond b (history ++ entry_of c x ∷ []) history ≡ history ++ cond b (entry_of c x ∷ []) []

@@ -4,6 +4,7 @@ mod Journals
 pub mod Histories
 pub mod SharedSteps
 pub mod SharedReads
+pub mod SharedKeys
 pub mod SameHistory
 pub mod SharedRanges
 pub mod SharedCallers

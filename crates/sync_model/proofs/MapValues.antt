@@ -6,7 +6,7 @@ use Rattle.std.proofs.lemmas.Cmp.{nat_cmp_total}
 use Rattle.std.proofs.lemmas.Option.{none-some, same_Some}
 use Rattle.sync_types.specs.declared.map_object.MapCall.{MapCall}
 use Rattle.sync_types.specs.declared.map_object.MapCall.TheVariants.{Load, Store, LoadOrStore, LoadAndDelete, Delete, Swap, CompareAndSwap, CompareAndDelete, Clear}
-use Rattle.sync_types.specs.SequentialMap.{is_value, map_after}
+use Rattle.sync_types.specs.SequentialMap.{has_value, map_after}
 use Rattle.sync_model.specs.Shared.{values_of, cost_of}
 
 module _ (m : FinMap nat_cmp ℕ) (key value : ℕ) where
@@ -47,8 +47,8 @@ module _ (m : FinMap nat_cmp ℕ) (key value : ℕ) where
   value_given (LoadAndDelete k) e = inl (removed k e)
   value_given (Delete k) e = inl (removed k e)
   value_given (Swap k v) e = first_given v (inserted k v e)
-  value_given (CompareAndSwap k old new) e = either (is_value old (get m k)) (old ∷ new ∷ []) (insert m k new) m (λ there. second_given old new (inserted k new there)) (λ there. inl there) e
-  value_given (CompareAndDelete k old) e = either (is_value old (get m k)) (old ∷ []) (remove m k) m (λ there. inl (removed k there)) (λ there. inl there) e
+  value_given (CompareAndSwap k old new) e = either (has_value old (get m k)) (old ∷ new ∷ []) (insert m k new) m (λ there. second_given old new (inserted k new there)) (λ there. inl there) e
+  value_given (CompareAndDelete k old) e = either (has_value old (get m k)) (old ∷ []) (remove m k) m (λ there. inl (removed k there)) (λ there. inl there) e
   value_given Clear e = absurd (none-some value (sym (get-empty nat_cmp key) ∙ e))
 
 -- every call but a load takes a spare entry

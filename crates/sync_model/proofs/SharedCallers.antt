@@ -8,7 +8,7 @@ use Rattle.sync_model.specs.declared.item.SharedEntry.{SharedEntry}
 use Rattle.sync_model.specs.declared.item.Item.{Item}
 use Rattle.sync_model.specs.Front.{AtLeast}
 use Rattle.sync_model.specs.Journal.{Begins}
-use Rattle.sync_model.specs.SharedHistory.{Contents, contents_at, IsReply, is_entry, IsLegal, entries_from, entries_by, entry_of, marked_in, with_call}
+use Rattle.sync_model.specs.SharedHistory.{Contents, contents_at, IsReply, is_entry, IsLegal, entries_from, entries_by, entry_of, marked_in, history_with}
 use Rattle.sync_model.specs.SharedCalls.{bound, Knows, Lawful, MayCall, AddsCall}
 use Rattle.sync_model.specs.Shared.{CallerState, Called}
 use Rattle.sync_model.specs.SharedLaws.{IsWithinBoth, SameState, TakesIn}
@@ -96,7 +96,7 @@ bound_above x = by_entry x.entry
 
 -- a call that the law allows, and that its caller's state takes in, is one that a caller is promised
 pub is_called : (start : Contents) (history : List SharedEntry) (calls : ℕ → List Item) (x : Item) (cost : ℕ) (old new : CallerState) (takes : TakesIn x cost old new) → calls takes.was.number ≡ takes.was.items
-    → Lawful start history calls → MayCall start history calls takes.was.number x → Begins (with_call history takes.was.number x) new.seen → Called start x.call x.reply cost old new
+    → Lawful start history calls → MayCall start history calls takes.was.number x → Begins (history_with history takes.was.number x) new.seen → Called start x.call x.reply cost old new
 is_called start history calls x cost old new takes mine lawful may begins = record {
   was = takes.was;
   becomes = takes.becomes;
@@ -144,10 +144,10 @@ is_called start history calls x cost old new takes mine lawful may begins = reco
     adds : AddsCall calls takes.was.number x more
     adds = adds_one calls takes.was.number takes.becomes.items x (takes.items ∙ ap (λ xs. xs ++ x ∷ []) (sym mine))
 
-    next : Lawful start (with_call history takes.was.number x) more
+    next : Lawful start (history_with history takes.was.number x) more
     next = lawful_more calls more takes.was.number x adds start history lawful may
 
-    all_marked : marked_in takes.was.number takes.becomes.items ≡ entries_by takes.was.number (with_call history takes.was.number x)
+    all_marked : marked_in takes.was.number takes.becomes.items ≡ entries_by takes.was.number (history_with history takes.was.number x)
     all_marked = ap (marked_in takes.was.number) (takes.items ∙ ap (λ xs. xs ++ x ∷ []) (sym mine) ∙ sym adds.mine) ∙ next.marked takes.was.number
 
     place_same : contents_at start history x.place ≡ contents_at start new.seen x.place
@@ -156,7 +156,7 @@ is_called start history calls x cost old new takes mine lawful may begins = reco
         ∙ ap (λ h. contents_at start h x.place) (sym (added_is history takes.was.number x) ∙ begins.1)
         ∙ contents_same start new.seen begins.0 x.place to
 
-    last : x.entry ≡ true → slice_get (with_call history takes.was.number x) x.place ≡ Some (entry_of takes.was.number x)
+    last : x.entry ≡ true → slice_get (history_with history takes.was.number x) x.place ≡ Some (entry_of takes.was.number x)
     last is =
         ap (λ b. slice_get (cond b (history ++ entry_of takes.was.number x ∷ []) history) x.place) is
         ∙ ap (λ n. slice_get (history ++ entry_of takes.was.number x ∷ []) n) (may.last is)

@@ -31,7 +31,7 @@ use Rattle.sync_model.specs.SharedLaws.{is_on_key, is_on_atomic, LeaveKey, Leave
 use Rattle.sync_types.proofs.MapLemmas.{get_inserted, get_apart}
 use Rattle.sync_model.proofs.Histories.{maps_long, numbers_long, contents_both}
 
-ordered : IsKeyOrder nat_cmp
+pub ordered : IsKeyOrder nat_cmp
 ordered = (nat_cmp_total, nat_cmp-IsAntisymmetric)
 
 -- a call on another key leaves this one
@@ -44,7 +44,7 @@ module _ {A : Type 0} where
   set_past : (xs : List A) (i : ℕ) (y d : A) → length xs ≤ i → get_or (set xs i y) i d ≡ get_or xs i d
   set_past xs i y d past = get_or_past (set xs i y) i d (let same = length-set xs i y in omega arith) ∙ sym (get_or_past xs i d past)
 
-key_left : (m key : ℕ) (call : SharedCall) (contents : Contents) → is_on_key m key call ≡ false → value_at (shared_after call contents) m key ≡ value_at contents m key
+pub key_left : (m key : ℕ) (call : SharedCall) (contents : Contents) → is_on_key m key call ≡ false → value_at (shared_after call contents) m key ≡ value_at contents m key
 key_left m key (Map n call) contents e = by_map (n == m) refl e
   where
     by_map : (b : Bool) → (n == m) ≡ b → (b && option_map_or (λ k. k == key) (map_key call) true) ≡ false → value_at (shared_after (Map n call) contents) m key ≡ value_at contents m key
@@ -65,7 +65,7 @@ key_stays m key contents (entry ∷ later) leave =
     let P : SharedEntry → Type 0 = λ x. is_on_key m key x.call ≡ false in
     key_stays m key (shared_after entry.call contents) later (All-tail P entry later leave) ∙ key_left m key entry.call contents (All-head P entry later leave)
 
-atomic_left : (a : ℕ) (call : SharedCall) (contents : Contents) → is_on_atomic a call ≡ false → number_at (shared_after call contents) a ≡ number_at contents a
+pub atomic_left : (a : ℕ) (call : SharedCall) (contents : Contents) → is_on_atomic a call ≡ false → number_at (shared_after call contents) a ≡ number_at contents a
 atomic_left a (Map n call) contents e = refl
 atomic_left a (Begin n) contents e = refl
 atomic_left a (Next begin) contents e = refl

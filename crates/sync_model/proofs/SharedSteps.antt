@@ -7,7 +7,7 @@ use Rattle.sync_model.specs.declared.item.SharedReply.TheVariants.{Shown}
 use Rattle.sync_model.specs.declared.item.SharedEntry.{SharedEntry}
 use Rattle.sync_model.specs.declared.item.Item.{Item}
 use Rattle.sync_model.specs.Front.{AtLeast}
-use Rattle.sync_model.specs.SharedHistory.{Contents, value_at, contents_after, contents_at, IsReply, is_entry, IsLegal, entries_from, entries_by, entry_of, marked_in, with_call}
+use Rattle.sync_model.specs.SharedHistory.{Contents, value_at, contents_after, contents_at, IsReply, is_entry, IsLegal, entries_from, entries_by, entry_of, marked_in, history_with}
 use Rattle.sync_model.specs.SharedCalls.{Knows, Grows, IsStep, WasSo, MayShow, IsSound, Lawful, MayCall, AddsCall}
 use Rattle.sync_model.proofs.Histories.{get_left, get_front, get_on, contents_same, contents_all, legal_joined, entries_both, marked_both, entries_own, entries_other, added, added_is}
 
@@ -171,7 +171,7 @@ module _ (calls new : ℕ → List Item) (c : ℕ) (x : Item) (adds : AddsCall c
             let next : x.call ≡ Next b = ap (λ (w : Item). w.call) (sym last_i.2) ∙ step.call in
             absurd cc
 
-    pub lawful_more : Lawful start (with_call history c x) new
+    pub lawful_more : Lawful start (history_with history c x) new
     lawful_more = subst (λ h. Lawful start h new) (sym (added_is history c x)) (record {
       legal = legal_joined start history (added c x) lawful.legal (legal_on x.entry refl);
       marked = marked_on;

@@ -1,6 +1,8 @@
 -- What one caller's calls have to do with each other, by its own states alone.
-use Rattle.std.proofs.Common.{◌≡◌, ◌≢◌, ℕ, zero, suc, ◌<◌, ◌≤◌, true, List, [], ◌∷◌, ◌++◌, length, take, Option, Some, slice_get, refl, sym, ap, ◌∙◌, subst, arith, append_assoc}
+use Rattle.std.proofs.Common.{◌≡◌, ◌≢◌, ℕ, zero, suc, ◌+◌, ◌-◌, ◌<◌, ◌≤◌, true, List, [], ◌∷◌, ◌++◌, length, take, drop, Option, Some, slice_get, refl, sym, ap, ◌∙◌, subst, arith, append_assoc}
+use Rattle.std.proofs.lemmas.List.{take-append-drop}
 use Rattle.std.proofs.lemmas.Option.{same_Some}
+use Rattle.std.proofs.Math.Seq.{take-append-add}
 use Rattle.sync_model.specs.declared.item.SharedCall.{SharedCall}
 use Rattle.sync_model.specs.declared.item.SharedCall.TheVariants.{Map, Begin, Next}
 use Rattle.sync_model.specs.declared.item.SharedReply.{SharedReply}
@@ -11,14 +13,35 @@ use Rattle.sync_types.specs.declared.map_object.MapCall.TheVariants.{Load, Store
 use Rattle.sync_types.specs.declared.map_object.MapReply.{MapReply}
 use Rattle.sync_types.specs.declared.map_object.MapReply.TheVariants.{Found}
 use Rattle.sync_model.specs.Note.{Holding}
-use Rattle.sync_model.specs.SharedHistory.{Contents, value_at, shared_after, contents_after, contents_at, entry_of, marked_in}
+use Rattle.sync_model.specs.SharedHistory.{Contents, value_at, shared_after, contents_after, contents_at, IsReply, IsLegal, entry_of, marked_in}
 use Rattle.sync_model.specs.SharedCalls.{bound}
 use Rattle.sync_model.specs.Shared.{CallerState, Called, items_of}
 use Rattle.sync_model.specs.SharedLaws.{LeaveKey, FindsItsStore, StepsOn}
-use Rattle.sync_model.proofs.Histories.{get_mid, get_last}
+use Rattle.sync_model.proofs.Histories.{get_mid, get_last, legal_apart}
 use Rattle.sync_model.proofs.SharedCallers.{bound_is, bound_above}
 use Rattle.sync_model.proofs.SharedEntries.{IsIn, mark_in, entry_is}
 use Rattle.sync_model.proofs.SharedReads.{behind, stored_value}
+
+module _ {A : Type 0} where
+  -- the first part of a list that begins so, up to a place behind its beginning
+  take_on : (xs front rest : List A) (n : ℕ) → xs ≡ front ++ rest → length front ≤ n → take n xs ≡ front ++ take (n - length front) rest
+  take_on xs front rest n begins from =
+      let on : n ≡ length front + (n - length front) = omega arith in
+      ap (take n) begins ∙ ap (λ k. take k (front ++ rest)) on ∙ take-append-add front rest (n - length front)
+
+-- what a caller was told at its call's place is what it had seen before, and a part of what it saw since
+module _ (start : Contents) {call : SharedCall} {reply : SharedReply} {cost : ℕ} {old new : CallerState} (called : Called start call reply cost old new) where
+  pub at_place : take called.item.place new.seen ≡ old.seen ++ take (called.item.place - length old.seen) called.begins.0
+  at_place = take_on new.seen old.seen called.begins.0 called.item.place called.begins.1 called.from
+
+  pub on_then : (rest : List SharedEntry) × (new.seen ≡ (old.seen ++ take (called.item.place - length old.seen) called.begins.0) ++ rest)
+  on_then = (drop called.item.place new.seen, sym (take-append-drop called.item.place new.seen) ∙ ap (λ xs. xs ++ drop called.item.place new.seen) at_place)
+
+  pub legal_then : IsLegal start (old.seen ++ take (called.item.place - length old.seen) called.begins.0)
+  legal_then = (legal_apart start (old.seen ++ take (called.item.place - length old.seen) called.begins.0) on_then.0 (subst (IsLegal start) on_then.1 called.legal)).0
+
+  pub answered_then : IsReply call reply (contents_after start (old.seen ++ take (called.item.place - length old.seen) called.begins.0))
+  answered_then = subst (λ xs. IsReply call reply (contents_after start xs)) at_place called.answer
 
 get_take : {A : Type 0} (xs : List A) (n i : ℕ) → i < n → slice_get (take n xs) i ≡ slice_get xs i
 get_take [] zero i below = absurd (omega arith)

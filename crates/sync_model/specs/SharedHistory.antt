@@ -89,5 +89,5 @@ marked_in c [] = []
 marked_in c (x ∷ xs) = cond x.entry ((x.place, entry_of c x) ∷ marked_in c xs) (marked_in c xs)
 
 -- the history after one more call of a caller
-abbrev pub with_call : List SharedEntry → ℕ → Item → List SharedEntry
-with_call history c x = cond x.entry (history ++ entry_of c x ∷ []) history
+abbrev pub history_with : List SharedEntry → ℕ → Item → List SharedEntry
+history_with history c x = cond x.entry (history ++ entry_of c x ∷ []) history

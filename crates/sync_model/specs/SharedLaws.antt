@@ -1,10 +1,11 @@
 -- The words of the laws of shared histories.
-use Rattle.std.specs.Prelude.{◌≡◌, ℕ, ◌+◌, ◌≤◌, Bool, true, false, ◌&&◌, ◌==◌, ◌<◌, List, [], ◌∷◌, ◌++◌, length, take, Option, Some, All, slice_index, max}
+use Rattle.std.specs.Prelude.{◌≡◌, ℕ, ◌+◌, ◌≤◌, Bool, true, false, ◌&&◌, ◌==◌, ◌<◌, cond, List, [], ◌∷◌, ◌++◌, length, take, Option, Some, All, slice_index, max}
 use Rattle.std.specs.Option.{option_map_or}
 use Rattle.sync_model.specs.declared.item.SharedCall.{SharedCall}
 use Rattle.sync_model.specs.declared.item.SharedCall.TheVariants.{Map, Begin, Next, Atomic}
 use Rattle.sync_model.specs.declared.item.SharedReply.TheVariants as replies
 use Rattle.sync_model.specs.declared.item.SharedEntry.{SharedEntry}
+use Rattle.sync_types.specs.declared.atomic_object.Number.{Number}
 use Rattle.sync_types.specs.declared.map_object.MapCall.TheVariants.{Load, Store}
 use Rattle.sync_types.specs.declared.map_object.MapReply.{MapReply}
 use Rattle.sync_types.specs.declared.map_object.MapReply.TheVariants.{Found}
@@ -12,6 +13,8 @@ use Rattle.sync_model.specs.declared.item.Item.{Item}
 use Rattle.sync_model.specs.Front.{AtLeast}
 use Rattle.sync_model.specs.Journal.{Begins}
 use Rattle.sync_model.specs.Note.{Holding}
+use Rattle.sync_types.specs.KeyCalls.{key_after}
+use Rattle.sync_types.specs.SequentialAtomic.{atomic_after}
 use Rattle.sync_types.specs.SequentialMap.{map_key}
 use Rattle.sync_model.specs.SharedCalls.{bound}
 use Rattle.sync_model.specs.Shared.{CallerState, items_of}
@@ -37,6 +40,28 @@ LeaveKey m key entries = All (λ entry. is_on_key m key entry.call ≡ false) en
 -- no entry here is on this atomic
 abbrev pub LeaveAtomic : ℕ → List SharedEntry → Type 0
 LeaveAtomic a entries = All (λ entry. is_on_atomic a entry.call ≡ false) entries
+
+-- what a call that is on a key leaves there, and one that is on an atomic
+abbrev pub value_left : SharedCall → Option ℕ → Option ℕ
+value_left (Map m call) held = key_after call held
+value_left (Begin m) held = held
+value_left (Next begin) held = held
+value_left (Atomic a call) held = held
+
+abbrev pub number_left : SharedCall → Number → Number
+number_left (Map m call) held = held
+number_left (Begin m) held = held
+number_left (Next begin) held = held
+number_left (Atomic a call) held = atomic_after call held
+
+-- what a key of a map has, and what an atomic holds, when entries are played one after the other to it alone: those on other keys, maps and atomics pass it by
+abbrev pub value_by : ℕ → ℕ → Option ℕ → List SharedEntry → Option ℕ
+value_by m key held [] = held
+value_by m key held (entry ∷ later) = value_by m key (cond (is_on_key m key entry.call) (value_left entry.call held) held) later
+
+abbrev pub number_by : ℕ → Number → List SharedEntry → Number
+number_by a held [] = held
+number_by a held (entry ∷ later) = number_by a (cond (is_on_atomic a entry.call) (number_left entry.call held) held) later
 
 -- a front that counts no more than one of two fronts does: that of a note which took in another
 abbrev pub IsWithinBoth : List ℕ → List ℕ → List ℕ → Type 0

@@ -17,6 +17,12 @@ RoseIfRefused (Done results) before now = Unit {0}
 RoseIfRefused (Refused back) before now = Rose before now
 RoseIfRefused Memory before now = Unit {0}
 
+-- the count stays where no start was refused
+abbrev pub StaysUnlessRefused : {W O : Type 0} → Started W O → ℕ → ℕ → Type 0
+StaysUnlessRefused (Done results) before now = now ≡ before
+StaysUnlessRefused (Refused back) before now = Unit {0}
+StaysUnlessRefused Memory before now = now ≡ before
+
 -- the count rose by at least the number of jobs where they were done, and else stays
 abbrev pub RoseByDone : {W O : Type 0} → Started W O → ℕ → ℕ → ℕ → Type 0
 RoseByDone (Done results) jobs before now = RoseBy jobs before now

@@ -1,7 +1,7 @@
 //! What starts a program's threads.
 ghost use Rattle.std.specs.Prelude.{◌≡◌, ℕ, ◌<◌, ◌≤◌, All, false, vec_len};
 ghost use Rattle.sync_outside.specs.Faults.{Rose, RoseBy, raised};
-ghost use Rattle.sync_outside.specs.Starts.{Becomes, RoseIfRefused, RoseByDone, rounds_after, is_done};
+ghost use Rattle.sync_outside.specs.Starts.{Becomes, RoseIfRefused, StaysUnlessRefused, RoseByDone, rounds_after, is_done};
 
 use crate::starting::start_jobs;
 use crate::work::Work;
@@ -64,6 +64,7 @@ pub trait Spawner {
         requires { All W.ready jobs.items }
         ensures jobs { Becomes W.gives jobs.items result }
         ensures failed { RoseIfRefused result (faults self.old) (faults self.new) }
+        ensures stays { StaysUnlessRefused result (faults self.old) (faults self.new) }
         ensures faults { faults self.old ≤ faults self.new }
         ensures ran { RoseByDone result (vec_len jobs) (ran self.old) (ran self.new) }
         ensures rounds { rounds self.new ≡ rounds_after result (rounds self.old) }

@@ -10,7 +10,7 @@ use Rattle.std.proofs.lemmas.Bool.{eq-eqb}
 use Rattle.sync_types.specs.declared.map_object.MapCall.{MapCall}
 use Rattle.sync_types.specs.declared.map_object.MapCall.TheVariants.{Load, Store, LoadOrStore, LoadAndDelete, Delete, Swap, CompareAndSwap, CompareAndDelete, Clear}
 use Rattle.sync_types.specs.declared.map_object.MapReply.TheVariants.{Found, Settled, Compared}
-use Rattle.sync_types.specs.SequentialMap.{is_value, settled, map_reply, map_after, map_key, is_map_entry}
+use Rattle.sync_types.specs.SequentialMap.{has_value, settled, map_reply, map_after, map_key, is_map_entry}
 use Rattle.sync_types.specs.MapLaws.{IsKeyOrder, Finds}
 use Rattle.sync_types.specs.KeyCalls.{key_reply, is_key_entry, key_after}
 
@@ -23,12 +23,12 @@ compared_is a b e = cc
 some_is : {X : Type 0} (x y : X) → Some x ≡ Some y → x ≡ y
 some_is x y e = cc
 
-is_value-same : (old : ℕ) → is_value old (Some old) ≡ true
-is_value-same old = eq-eqb old old refl
+has_value-same : (old : ℕ) → has_value old (Some old) ≡ true
+has_value-same old = eq-eqb old old refl
 
 module _ {K : Type 0} {R : K → K → Ordering} where
-  pub value_there : (m : FinMap R ℕ) (key : K) (old : ℕ) → Finds m key (Some old) → is_value old (get m key) ≡ true
-  value_there m key old finds = ap (is_value old) (found_is (get m key) (Some old) finds) ∙ is_value-same old
+  pub value_there : (m : FinMap R ℕ) (key : K) (old : ℕ) → Finds m key (Some old) → has_value old (get m key) ≡ true
+  value_there m key old finds = ap (has_value old) (found_is (get m key) (Some old) finds) ∙ has_value-same old
 
   module _ (o : IsKeyOrder R) where
     pub tied : (key : K) → eq_by_cmp R key key ≡ true
@@ -60,15 +60,15 @@ module _ {K : Type 0} {R : K → K → Ordering} where
     pub found_removed : (m : FinMap R ℕ) (key : K) → Finds (remove m key) key None
     found_removed m key = ap Found (get_removed m key)
 
-    pub swap_made : (m : FinMap R ℕ) (key : K) (old new : ℕ) → is_value old (get m key) ≡ true →
+    pub swap_made : (m : FinMap R ℕ) (key : K) (old new : ℕ) → has_value old (get m key) ≡ true →
         Finds (map_after (CompareAndSwap key old new) m) key (Some new)
     swap_made m key old new e = ap (λ b. map_reply (Load key) (cond b (insert m key new) m)) e ∙ found_inserted m key new
 
     pub found_compared : (m : FinMap R ℕ) (key : K) (old new : ℕ) → map_reply (CompareAndSwap key old new) m ≡ Compared true →
         Finds (map_after (CompareAndSwap key old new) m) key (Some new)
-    found_compared m key old new e = swap_made m key old new (compared_is (is_value old (get m key)) true e)
+    found_compared m key old new e = swap_made m key old new (compared_is (has_value old (get m key)) true e)
 
-    pub delete_made : (m : FinMap R ℕ) (key : K) (old : ℕ) → is_value old (get m key) ≡ true →
+    pub delete_made : (m : FinMap R ℕ) (key : K) (old : ℕ) → has_value old (get m key) ≡ true →
         Finds (map_after (CompareAndDelete key old) m) key None
     delete_made m key old e = ap (λ b. map_reply (Load key) (cond b (remove m key) m)) e ∙ found_removed m key
 
@@ -95,8 +95,8 @@ module _ {K : Type 0} {R : K → K → Ordering} where
     get_apart m (LoadAndDelete at) key other e ne = removed_apart m at other (keyed m at key other e ne)
     get_apart m (Delete at) key other e ne = removed_apart m at other (keyed m at key other e ne)
     get_apart m (Swap at value) key other e ne = inserted_apart m at value other (keyed m at key other e ne)
-    get_apart m (CompareAndSwap at old new) key other e ne = either_apart (is_value old (get m at)) (insert m at new) m m other (inserted_apart m at new other (keyed m at key other e ne)) refl
-    get_apart m (CompareAndDelete at old) key other e ne = either_apart (is_value old (get m at)) (remove m at) m m other (removed_apart m at other (keyed m at key other e ne)) refl
+    get_apart m (CompareAndSwap at old new) key other e ne = either_apart (has_value old (get m at)) (insert m at new) m m other (inserted_apart m at new other (keyed m at key other e ne)) refl
+    get_apart m (CompareAndDelete at old) key other e ne = either_apart (has_value old (get m at)) (remove m at) m m other (removed_apart m at other (keyed m at key other e ne)) refl
     get_apart m Clear key other e ne = absurd cc
 
     pub found_apart : (m : FinMap R ℕ) (call : MapCall K) (key other : K) → map_key call ≡ Some key → other ≢ key →
@@ -145,10 +145,10 @@ module _ {K : Type 0} {R : K → K → Ordering} where
     left_at m (LoadAndDelete at) key on = subst (λ q. get (remove m q) key ≡ None) (sym (some_is at key on)) (get_removed m key)
     left_at m (Delete at) key on = subst (λ q. get (remove m q) key ≡ None) (sym (some_is at key on)) (get_removed m key)
     left_at m (Swap at value) key on = subst (λ q. get (insert m q value) key ≡ Some value) (sym (some_is at key on)) (get_inserted m key value)
-    left_at m (CompareAndSwap at old new) key on = subst (λ q. get (cond (is_value old (get m q)) (insert m q new) m) key ≡ cond (is_value old (get m key)) (Some new) (get m key)) (sym (some_is at key on))
-        (on_choice (is_value old (get m key)) (insert m key new) m key (Some new) (get m key) (get_inserted m key new) refl)
-    left_at m (CompareAndDelete at old) key on = subst (λ q. get (cond (is_value old (get m q)) (remove m q) m) key ≡ cond (is_value old (get m key)) None (get m key)) (sym (some_is at key on))
-        (on_choice (is_value old (get m key)) (remove m key) m key None (get m key) (get_removed m key) refl)
+    left_at m (CompareAndSwap at old new) key on = subst (λ q. get (cond (has_value old (get m q)) (insert m q new) m) key ≡ cond (has_value old (get m key)) (Some new) (get m key)) (sym (some_is at key on))
+        (on_choice (has_value old (get m key)) (insert m key new) m key (Some new) (get m key) (get_inserted m key new) refl)
+    left_at m (CompareAndDelete at old) key on = subst (λ q. get (cond (has_value old (get m q)) (remove m q) m) key ≡ cond (has_value old (get m key)) None (get m key)) (sym (some_is at key on))
+        (on_choice (has_value old (get m key)) (remove m key) m key None (get m key) (get_removed m key) refl)
     left_at m Clear key on = absurd cc
 
     pub found_after : (m : FinMap R ℕ) (call : MapCall K) (key : K) (held : Option ℕ) → map_key call ≡ Some key → Finds m key held → Finds (map_after call m) key (key_after call held)

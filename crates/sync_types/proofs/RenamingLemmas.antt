@@ -9,7 +9,7 @@ use Rattle.std.specs.FinMap.{FinMap, empty, get, insert, remove, get-empty, get-
 use Rattle.sync_types.specs.declared.map_object.MapCall.{MapCall}
 use Rattle.sync_types.specs.declared.map_object.MapCall.TheVariants.{Load, Store, LoadOrStore, LoadAndDelete, Delete, Swap, CompareAndSwap, CompareAndDelete, Clear}
 use Rattle.sync_types.specs.declared.map_object.MapReply.TheVariants.{Found, Compared}
-use Rattle.sync_types.specs.SequentialMap.{is_value, settled, map_reply, map_after, is_map_entry}
+use Rattle.sync_types.specs.SequentialMap.{has_value, settled, map_reply, map_after, is_map_entry}
 use Rattle.sync_types.specs.MapLaws.{IsKeyOrder}
 use Rattle.sync_types.specs.Renaming.{renamed_call, IsOneToOne, IsRenamed, is_call_at}
 use Rattle.sync_types.proofs.MapLemmas.{tied, apart, inserted_apart, removed_apart}
@@ -30,8 +30,8 @@ module _ {K L : Type 0} {R : K → K → Ordering} {S : L → L → Ordering} (r
     same_reply (LoadAndDelete key) is = ap Found (r.same key is)
     same_reply (Delete key) is = refl
     same_reply (Swap key value) is = ap Found (r.same key is)
-    same_reply (CompareAndSwap key old new) is = ap (λ f. Compared (is_value old f)) (r.same key is)
-    same_reply (CompareAndDelete key old) is = ap (λ f. Compared (is_value old f)) (r.same key is)
+    same_reply (CompareAndSwap key old new) is = ap (λ f. Compared (has_value old f)) (r.same key is)
+    same_reply (CompareAndDelete key old) is = ap (λ f. Compared (has_value old f)) (r.same key is)
     same_reply Clear is = refl
 
     pub same_entry : (call : MapCall K) → is_call_at is_key call ≡ true → is_map_entry (renamed_call rename call) n ≡ is_map_entry call m
@@ -41,8 +41,8 @@ module _ {K L : Type 0} {R : K → K → Ordering} {S : L → L → Ordering} (r
     same_entry (LoadAndDelete key) is = ap is_some (r.same key is)
     same_entry (Delete key) is = ap is_some (r.same key is)
     same_entry (Swap key value) is = refl
-    same_entry (CompareAndSwap key old new) is = ap (is_value old) (r.same key is)
-    same_entry (CompareAndDelete key old) is = ap (is_value old) (r.same key is)
+    same_entry (CompareAndSwap key old new) is = ap (has_value old) (r.same key is)
+    same_entry (CompareAndDelete key old) is = ap (has_value old) (r.same key is)
     same_entry Clear is = refl
 
     module _ (o : IsKeyOrder R) (p : IsKeyOrder S) (one : IsOneToOne rename is_key) where
@@ -92,6 +92,6 @@ module _ {K L : Type 0} {R : K → K → Ordering} {S : L → L → Ordering} (r
       renamed_after (LoadAndDelete key) is = removed key is
       renamed_after (Delete key) is = removed key is
       renamed_after (Swap key value) is = inserted key value is
-      renamed_after (CompareAndSwap key old new) is = either (is_value old (get m key)) (is_value old (get n (rename key))) (insert m key new) m (insert n (rename key) new) n (ap (is_value old) (r.same key is)) (inserted key new is) r
-      renamed_after (CompareAndDelete key old) is = either (is_value old (get m key)) (is_value old (get n (rename key))) (remove m key) m (remove n (rename key)) n (ap (is_value old) (r.same key is)) (removed key is) r
+      renamed_after (CompareAndSwap key old new) is = either (has_value old (get m key)) (has_value old (get n (rename key))) (insert m key new) m (insert n (rename key) new) n (ap (has_value old) (r.same key is)) (inserted key new is) r
+      renamed_after (CompareAndDelete key old) is = either (has_value old (get m key)) (has_value old (get n (rename key))) (remove m key) m (remove n (rename key)) n (ap (has_value old) (r.same key is)) (removed key is) r
       renamed_after Clear is = none_renamed empty empty refl refl

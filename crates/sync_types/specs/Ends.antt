@@ -8,7 +8,7 @@ use Rattle.sync_types.specs.declared.outcome.End.{End}
 use Rattle.sync_types.specs.declared.outcome.End.TheVariants as ends
 
 -- the numbers of the atomics and the maps, each with its object's place, in order of declaration; keys of any type, in an order
-pub record Contents (K : Type 0) (R : K → K → Ordering) : Type 0 where
+pub record FinalContents (K : Type 0) (R : K → K → Ordering) : Type 0 where
   pub numbers : List (ℕ × Number)
   pub maps : List (ℕ × FinMap R ℕ)
 
@@ -22,5 +22,5 @@ module _ {K : Type 0} {R : K → K → Ordering} (key_number : K → ℕ) where
   pair_ends held = map (λ entry. ends.Pair held.0 (key_number entry.0) entry.1) (entries held.1)
 
   -- first the atomics, and then the maps
-  abbrev pub ends_of : Contents K R → List End
+  abbrev pub ends_of : FinalContents K R → List End
   ends_of held = map number_end held.numbers ++ flat_map pair_ends held.maps

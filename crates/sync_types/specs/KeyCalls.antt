@@ -4,7 +4,7 @@ use Rattle.sync_types.specs.declared.map_object.MapCall.{MapCall}
 use Rattle.sync_types.specs.declared.map_object.MapCall.TheVariants.{Load, Store, LoadOrStore, LoadAndDelete, Delete, Swap, CompareAndSwap, CompareAndDelete, Clear}
 use Rattle.sync_types.specs.declared.map_object.MapReply.{MapReply}
 use Rattle.sync_types.specs.declared.map_object.MapReply.TheVariants.{Done, Found, Compared}
-use Rattle.sync_types.specs.SequentialMap.{is_value, settled}
+use Rattle.sync_types.specs.SequentialMap.{has_value, settled}
 
 module _ {K : Type 0} where
   abbrev pub key_reply : MapCall K → Option ℕ → MapReply
@@ -14,8 +14,8 @@ module _ {K : Type 0} where
   key_reply (LoadAndDelete key) held = Found held
   key_reply (Delete key) held = Done
   key_reply (Swap key value) held = Found held
-  key_reply (CompareAndSwap key old new) held = Compared (is_value old held)
-  key_reply (CompareAndDelete key old) held = Compared (is_value old held)
+  key_reply (CompareAndSwap key old new) held = Compared (has_value old held)
+  key_reply (CompareAndDelete key old) held = Compared (has_value old held)
   key_reply Clear held = Done
 
   abbrev pub is_key_entry : MapCall K → Option ℕ → Bool
@@ -25,8 +25,8 @@ module _ {K : Type 0} where
   is_key_entry (LoadAndDelete key) held = is_some held
   is_key_entry (Delete key) held = is_some held
   is_key_entry (Swap key value) held = true
-  is_key_entry (CompareAndSwap key old new) held = is_value old held
-  is_key_entry (CompareAndDelete key old) held = is_value old held
+  is_key_entry (CompareAndSwap key old new) held = has_value old held
+  is_key_entry (CompareAndDelete key old) held = has_value old held
   is_key_entry Clear held = true
 
   abbrev pub key_after : MapCall K → Option ℕ → Option ℕ
@@ -36,6 +36,6 @@ module _ {K : Type 0} where
   key_after (LoadAndDelete key) held = None
   key_after (Delete key) held = None
   key_after (Swap key value) held = Some value
-  key_after (CompareAndSwap key old new) held = cond (is_value old held) (Some new) held
-  key_after (CompareAndDelete key old) held = cond (is_value old held) None held
+  key_after (CompareAndSwap key old new) held = cond (has_value old held) (Some new) held
+  key_after (CompareAndDelete key old) held = cond (has_value old held) None held
   key_after Clear held = None

@@ -9,8 +9,8 @@ use Rattle.sync_types.specs.declared.map_object.MapReply.{MapReply}
 use Rattle.sync_types.specs.declared.map_object.MapReply.TheVariants.{Done, Found, Settled, Compared}
 
 -- whether a key is there with this value: an absent key has none, which isn't 0
-abbrev pub is_value : ℕ → Option ℕ → Bool
-is_value old found = option_map_or (λ value. value == old) found false
+abbrev pub has_value : ℕ → Option ℕ → Bool
+has_value old found = option_map_or (λ value. value == old) found false
 
 -- the value that was there, or else the given one, which is stored
 abbrev pub settled : Option ℕ → ℕ → MapReply
@@ -26,8 +26,8 @@ module _ {K : Type 0} {R : K → K → Ordering} where
   map_reply (LoadAndDelete key) m = Found (get m key)
   map_reply (Delete key) m = Done
   map_reply (Swap key value) m = Found (get m key)
-  map_reply (CompareAndSwap key old new) m = Compared (is_value old (get m key))
-  map_reply (CompareAndDelete key old) m = Compared (is_value old (get m key))
+  map_reply (CompareAndSwap key old new) m = Compared (has_value old (get m key))
+  map_reply (CompareAndDelete key old) m = Compared (has_value old (get m key))
   map_reply Clear m = Done
 
   -- what the map contains after a call
@@ -38,8 +38,8 @@ module _ {K : Type 0} {R : K → K → Ordering} where
   map_after (LoadAndDelete key) m = remove m key
   map_after (Delete key) m = remove m key
   map_after (Swap key value) m = insert m key value
-  map_after (CompareAndSwap key old new) m = cond (is_value old (get m key)) (insert m key new) m
-  map_after (CompareAndDelete key old) m = cond (is_value old (get m key)) (remove m key) m
+  map_after (CompareAndSwap key old new) m = cond (has_value old (get m key)) (insert m key new) m
+  map_after (CompareAndDelete key old) m = cond (has_value old (get m key)) (remove m key) m
   map_after Clear m = empty
 
   -- whether a call is an entry of the shared history of map and atomic calls, by what the map contains before it
@@ -50,8 +50,8 @@ module _ {K : Type 0} {R : K → K → Ordering} where
   is_map_entry (LoadAndDelete key) m = is_some (get m key)
   is_map_entry (Delete key) m = is_some (get m key)
   is_map_entry (Swap key value) m = true
-  is_map_entry (CompareAndSwap key old new) m = is_value old (get m key)
-  is_map_entry (CompareAndDelete key old) m = is_value old (get m key)
+  is_map_entry (CompareAndSwap key old new) m = has_value old (get m key)
+  is_map_entry (CompareAndDelete key old) m = has_value old (get m key)
   is_map_entry Clear m = true
 
 -- the key of a call, which `Clear` hasn't

@@ -15,18 +15,18 @@ use Rattle.sync_types.specs.declared.map_object.MapCall.TheVariants.{Clear}
 use Rattle.sync_types.specs.declared.map_object.MapReply.TheVariants.{Done}
 use Rattle.sync_model.specs.Journal.{Begins}
 use Rattle.sync_model.specs.SharedCalls.{Grows}
-use Rattle.sync_model.specs.SharedHistory.{Contents, value_at, contents_after, with_call}
+use Rattle.sync_model.specs.SharedHistory.{Contents, value_at, contents_after, history_with}
 use Rattle.sync_model.specs.Shared.{Called}
 use Rattle.table_rule.specs.declared.begin.Begin.{Begin}
 use Rattle.table_rule.specs.declared.view.Gate.TheVariants.{Inside, Closed}
 use Rattle.table_rule.specs.declared.view.Own.{Own}
 use Rattle.table_rule.specs.declared.view.View.{View}
-use Rattle.table_seats.specs.Clearing.{HasClosed, Clears}
+use Rattle.table_steps.specs.Clearing.{HasClosed, Clears}
 use Rattle.sync_model.specs.EndsOfHistory.{HasKeysBelow}
 use Rattle.table_seats.specs.Laws.{HistoryLaws}
 use Rattle.table_rule.specs.Layout.{root_word, callers_of}
 use Rattle.table_rule.specs.Ledger.{Owned, Fits}
-use Rattle.table_seats.specs.Making.{HasUnit, MadeCall}
+use Rattle.table_steps.specs.Making.{HasUnit, MadeCall}
 use Rattle.table_rule.specs.Owed.{HasRoom, AtGate, Suits, HoldsLock}
 use Rattle.table_rule.specs.Rule.{TableState, Kept}
 use Rattle.table_rule.specs.Shape.{Shape, start_of}
@@ -83,17 +83,17 @@ module _ (k : Begin) (laws : HistoryLaws) (s : TableState) (r : Kept k s) (id : 
     shows = λ b n y shown at begin next reply. absurd (cc);
   }
 
-  history : Begins (with_call r.log me.0.number item) r.log
+  history : Begins (history_with r.log me.0.number item) r.log
   history = history_on k laws r.log r.calls (callers_of k) r.claim id r.lawful me.0 own owns is fits item may
 
-  empties : EmptiesMap k r.log (with_call r.log me.0.number item) m
+  empties : EmptiesMap k r.log (history_with r.log me.0.number item) m
   empties =
       let before : Contents = contents_after (start_of k) r.log in
       let below = gate.0 in
       let long = laws.maps_long (start_of k) r.log in
       let first_maps : length (start_of k).maps ≡ k.maps = length-replicate k.maps empty in
       let many : m < length before.maps = omega arith in
-      let now : contents_after (start_of k) (with_call r.log me.0.number item) ≡ record before { maps = set before.maps m empty } = contents_on laws k r.log me.0.number item refl in record {
+      let now : contents_after (start_of k) (history_with r.log me.0.number item) ≡ record before { maps = set before.maps m empty } = contents_on laws k r.log me.0.number item refl in record {
         history = history;
         numbers = ap (λ (z : Contents). z.numbers) now;
         here = λ key. ap (λ (z : Contents). value_at z m key) now ∙ ap (λ f. get f key) (get_or-set_same before.maps m empty empty many) ∙ get-empty nat_cmp key;
@@ -104,7 +104,7 @@ module _ (k : Begin) (laws : HistoryLaws) (s : TableState) (r : Kept k s) (id : 
   own_after = spend_own 18 (record own { items = own.items ++ item ∷ [] })
 
   abbrev pub view_after : View
-  view_after = called_view me.0 (own_after ∷ owns) (with_call r.log me.0.number item)
+  view_after = called_view me.0 (own_after ∷ owns) (history_with r.log me.0.number item)
 
   abbrev shape : Shape
   shape = with_root r.shape m own.next (length r.log)
@@ -112,11 +112,11 @@ module _ (k : Begin) (laws : HistoryLaws) (s : TableState) (r : Kept k s) (id : 
   abbrev words : List ℕ
   words = set s.words (root_word k m) own.next
 
-  later : Later r.shape shape r.log (with_call r.log me.0.number item) s.words words
-  later = later_rooted k r.shape r.log (with_call r.log me.0.number item) s.words m own.next laws ground empties
+  later : Later r.shape shape r.log (history_with r.log me.0.number item) s.words words
+  later = later_rooted k r.shape r.log (history_with r.log me.0.number item) s.words m own.next laws ground empties
 
   apart : Apart k me.0.number r.shape shape s.words words
-  apart = apart_rooted k r.shape r.log (with_call r.log me.0.number item) s.words m own.next laws ground empties me.0.number (gate.2 refl) (λ i below. room.mine i (let left = spare in omega arith))
+  apart = apart_rooted k r.shape r.log (history_with r.log me.0.number item) s.words m own.next laws ground empties me.0.number (gate.2 refl) (λ i below. room.mine i (let left = spare in omega arith))
 
   grows : Grows r.calls (with_one r.calls me.0.number item)
   grows = grows_on k laws r.log r.calls (callers_of k) r.claim id r.lawful me.0 own owns is fits item may
@@ -128,15 +128,15 @@ module _ (k : Begin) (laws : HistoryLaws) (s : TableState) (r : Kept k s) (id : 
         within = omega arith;
         mine = λ i below. let at : own.next + 18 + i ≡ own.next + (18 + i) = omega arith in subst (λ n. r.shape.area_of n ≡ suc me.0.number) (sym at) (room.mine (18 + i) (omega arith));
         unused = λ i below. let at : own.next + 18 + i ≡ own.next + (18 + i) = omega arith in
-            part_out k r.shape r.log (with_call r.log me.0.number item) s.words m own.next laws ground empties (own.next + 18 + i) (λ from to. omega arith) ∙ subst (λ n. r.shape.part_of n ≡ 0) (sym at) (room.unused (18 + i) (omega arith));
+            part_out k r.shape r.log (history_with r.log me.0.number item) s.words m own.next laws ground empties (own.next + 18 + i) (λ from to. omega arith) ∙ subst (λ n. r.shape.part_of n ≡ 0) (sym at) (room.unused (18 + i) (omega arith));
         words = λ i below. let at : own.next + 18 + i ≡ own.next + (18 + i) = omega arith in
-            ap (slice_index words) at ∙ behind_heads k r.shape r.log (with_call r.log me.0.number item) s.words m own.next laws ground empties (own.next + (18 + i)) (omega arith)
+            ap (slice_index words) at ∙ behind_heads k r.shape r.log (history_with r.log me.0.number item) s.words m own.next laws ground empties (own.next + (18 + i)) (omega arith)
             ∙ room.words (18 + i) (omega arith) ∙ past_end own.draft (18 + i) (omega arith);
       }
 
   rooms_after : (i : ℕ) (o : Own) → slice_get (own_after ∷ owns) i ≡ Some o → HasRoom k shape words (me.0.number + i) o
   rooms_after zero o at = let e : me.0.number ≡ me.0.number + 0 = omega arith in subst (λ (p : ℕ × Own). HasRoom k shape words p.0 p.1) (λ i. (e i, same_Some own_after o at i)) room_after
-  rooms_after (suc i) o at = room_on k r.shape shape r.log (with_call r.log me.0.number item) s.words words later laws r.calls (with_one r.calls me.0.number item) grows me.0.number apart (me.0.number + suc i) (λ e. omega arith) o
+  rooms_after (suc i) o at = room_on k r.shape shape r.log (history_with r.log me.0.number item) s.words words later laws r.calls (with_one r.calls me.0.number item) grows me.0.number apart (me.0.number + suc i) (λ e. omega arith) o
       ((r.suits id me.0 at_me has.live).room (suc i) o (ap (λ o. slice_get o (suc i)) is ∙ at))
 
   only_after : (n i : ℕ) (o : Own) → slice_get (own_after ∷ owns) i ≡ Some o → r.shape.inside n (me.0.number + i) ≡ true → me.0.gate ≡ Inside n
@@ -144,10 +144,10 @@ module _ (k : Begin) (laws : HistoryLaws) (s : TableState) (r : Kept k s) (id : 
   only_after n (suc i) o at inside = absurd (not_inside k laws s r id me at_me own owns is m true has n (suc i) o (ap (λ o. slice_get o (suc i)) is ∙ at) inside)
 
   holder_after : (p i : ℕ) (o : Own) → slice_get (own_after ∷ owns) i ≡ Some o → shape.cut_of p ≡ None → shape.held_by p ≡ suc (me.0.number + i) → HoldsLock view_after p
-  holder_after p i o at reach held = let was = was_held k r.shape r.log (with_call r.log me.0.number item) s.words m own.next laws ground empties p (me.0.number + i) reach held in by_place i at was.1
+  holder_after p i o at reach held = let was = was_held k r.shape r.log (history_with r.log me.0.number item) s.words m own.next laws ground empties p (me.0.number + i) reach held in by_place i at was.1
     where
       before : (r.shape.cut_of p ≡ None)
-      before = (was_held k r.shape r.log (with_call r.log me.0.number item) s.words m own.next laws ground empties p (me.0.number + i) reach held).0
+      before = (was_held k r.shape r.log (history_with r.log me.0.number item) s.words m own.next laws ground empties p (me.0.number + i) reach held).0
 
       by_place : (i : ℕ) → slice_get (own_after ∷ owns) i ≡ Some o → r.shape.held_by p ≡ suc (me.0.number + i) → HoldsLock view_after p
       by_place zero at held = (r.suits id me.0 at_me has.live).holder p 0 own first_is before held
@@ -157,7 +157,7 @@ module _ (k : Begin) (laws : HistoryLaws) (s : TableState) (r : Kept k s) (id : 
   closer_after n zero o at closed = (r.suits id me.0 at_me has.live).closer n 0 own first_is closed
   closer_after n (suc i) o at closed = (r.suits id me.0 at_me has.live).closer n (suc i) o (ap (λ o. slice_get o (suc i)) is ∙ at) closed
 
-  suits_after : Suits k shape (with_call r.log me.0.number item) (with_one r.calls me.0.number item) words view_after
+  suits_after : Suits k shape (history_with r.log me.0.number item) (with_one r.calls me.0.number item) words view_after
   suits_after = let u = r.suits id me.0 at_me has.live in record {
     begin = u.begin;
     walk = λ w e. absurd (none-some w (sym has.walk ∙ e));
@@ -174,23 +174,23 @@ module _ (k : Begin) (laws : HistoryLaws) (s : TableState) (r : Kept k s) (id : 
     nobody = λ e. absurd (let ne : suc (length owns) ≡ 0 = e in omega arith);
   }
 
-  keys_after : HasKeysBelow (2 ^ 32) (contents_after (start_of k) (with_call r.log me.0.number item))
+  keys_after : HasKeysBelow (2 ^ 32) (contents_after (start_of k) (history_with r.log me.0.number item))
   keys_after n q x at = elim (cases_eq n m) [
-    | inl mine ↦ absurd (none-some x (sym (empties.here q) ∙ subst (λ i. value_at (contents_after (start_of k) (with_call r.log me.0.number item)) i q ≡ Some x) mine at))
+    | inl mine ↦ absurd (none-some x (sym (empties.here q) ∙ subst (λ i. value_at (contents_after (start_of k) (history_with r.log me.0.number item)) i q ≡ Some x) mine at))
     | inr other ↦ r.keys n q x (sym (empties.others n q other) ∙ at)
   ]
 
   keeps_all : Keeps k s r id me.0.number words view_after
   keeps_all = record {
-    log = with_call r.log me.0.number item;
+    log = history_with r.log me.0.number item;
     calls = with_one r.calls me.0.number item;
     shape = shape;
     mine = owned.claimed;
     lawful = lawful_after k laws r.log r.calls (callers_of k) r.claim id r.lawful me.0 own owns is fits item may;
     none_else = none_after k laws r.log r.calls (callers_of k) r.claim id r.lawful me.0 own owns is fits item may r.none_else;
     keys = keys_after;
-    fine = fine_rooted k r.shape r.log (with_call r.log me.0.number item) s.words m own.next laws ground empties;
-    gates = λ n below. gates_rooted k r.shape r.log (with_call r.log me.0.number item) s.words m own.next laws ground empties n below (r.gates n below);
+    fine = fine_rooted k r.shape r.log (history_with r.log me.0.number item) s.words m own.next laws ground empties;
+    gates = λ n below. gates_rooted k r.shape r.log (history_with r.log me.0.number item) s.words m own.next laws ground empties n below (r.gates n below);
     later = later;
     apart = apart;
     grows = grows;
@@ -205,8 +205,8 @@ module _ (k : Begin) (laws : HistoryLaws) (s : TableState) (r : Kept k s) (id : 
   pub is_made : MadeCall m Clear Done 18 me.0 view_after
   is_made = record {
     item = item;
-    seen = with_call r.log me.0.number item;
-    is = ap (λ o. called_view me.0 o (with_call r.log me.0.number item)) (ap (λ o. spend 18 (with_item o item)) (sym is));
+    seen = history_with r.log me.0.number item;
+    is = ap (λ o. called_view me.0 o (history_with r.log me.0.number item)) (ap (λ o. spend 18 (with_item o item)) (sym is));
     called = subst (λ b. Called (start_of b) (calls.Map m Clear) (replies.Map Done) 1 (view_state me.0) (view_state view_after)) (sym has.begin)
         (called k laws r.log r.calls (callers_of k) r.claim id r.lawful me.0 own owns is fits item may own_after refl 1 (let left = spare in omega arith));
   }

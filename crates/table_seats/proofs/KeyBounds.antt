@@ -14,8 +14,8 @@ use Rattle.sync_model.specs.declared.item.SharedCall.TheVariants as calls
 use Rattle.sync_model.specs.declared.item.SharedEntry.{SharedEntry}
 use Rattle.sync_types.specs.declared.map_object.MapCall.{MapCall}
 use Rattle.sync_types.specs.declared.map_object.MapCall.TheVariants.{Load, Store, LoadOrStore, LoadAndDelete, Delete, Swap, CompareAndSwap, CompareAndDelete, Clear}
-use Rattle.sync_types.specs.SequentialMap.{is_value, map_key, map_after}
-use Rattle.sync_model.specs.SharedHistory.{Contents, map_at, contents_after, shared_after, is_entry, with_call}
+use Rattle.sync_types.specs.SequentialMap.{has_value, map_key, map_after}
+use Rattle.sync_model.specs.SharedHistory.{Contents, map_at, contents_after, shared_after, is_entry, history_with}
 use Rattle.table_rule.specs.declared.begin.Begin.{Begin}
 use Rattle.sync_model.specs.EndsOfHistory.{HasKeysBelow}
 use Rattle.table_seats.specs.Laws.{HistoryLaws}
@@ -64,8 +64,8 @@ map_stays_small (LoadOrStore key value) m fits small = either (is_some (get m ke
 map_stays_small (LoadAndDelete key) m fits small = removed m key small
 map_stays_small (Delete key) m fits small = removed m key small
 map_stays_small (Swap key value) m fits small = inserted m key value (fits key refl) small
-map_stays_small (CompareAndSwap key old new) m fits small = either (is_value old (get m key)) (insert m key new) m (inserted m key new (fits key refl) small) small
-map_stays_small (CompareAndDelete key old) m fits small = either (is_value old (get m key)) (remove m key) m (removed m key small) small
+map_stays_small (CompareAndSwap key old new) m fits small = either (has_value old (get m key)) (insert m key new) m (inserted m key new (fits key refl) small) small
+map_stays_small (CompareAndDelete key old) m fits small = either (has_value old (get m key)) (remove m key) m (removed m key small) small
 map_stays_small Clear m fits small = emptied
 
 -- one map of many is replaced
@@ -86,5 +86,5 @@ shared_stays_small (calls.Atomic a call) contents fits small = small
 
 -- after one more call whose key has 32 bits, all keys of the maps have
 pub keys_on : HistoryLaws → (k : Begin) (log : List SharedEntry) (c : ℕ) (x : Item) → x.entry ≡ is_entry x.call (contents_after (start_of k) log) → HasSmallKey x.call → HasKeysBelow (2 ^ 32) (contents_after (start_of k) log)
-    → HasKeysBelow (2 ^ 32) (contents_after (start_of k) (with_call log c x))
+    → HasKeysBelow (2 ^ 32) (contents_after (start_of k) (history_with log c x))
 keys_on laws k log c x entry fits small = subst (HasKeysBelow (2 ^ 32)) (sym (contents_on laws k log c x entry)) (shared_stays_small x.call (contents_after (start_of k) log) fits small)

@@ -10,7 +10,7 @@ use Rattle.sync_model.specs.declared.item.SharedEntry.{SharedEntry}
 use Rattle.sync_types.specs.declared.map_object.MapCall.{MapCall}
 use Rattle.sync_model.specs.Journal.{Begins}
 use Rattle.sync_types.specs.SequentialMap.{map_key, map_after}
-use Rattle.sync_model.specs.SharedHistory.{Contents, map_at, value_at, contents_after, is_entry, shared_after, with_call}
+use Rattle.sync_model.specs.SharedHistory.{Contents, map_at, value_at, contents_after, is_entry, shared_after, history_with}
 use Rattle.table_rule.specs.declared.begin.Begin.{Begin}
 use Rattle.sync_types.specs.KeyCalls.{key_after}
 use Rattle.table_seats.specs.Laws.{HistoryLaws}
@@ -38,9 +38,9 @@ module _ (k : Begin) (laws : HistoryLaws) (log : List SharedEntry) (c : ℕ) (x 
   many : m < length before.maps
   many = let long = laws.maps_long (start_of k) log in let same : length (start_of k).maps ≡ k.maps = length-replicate k.maps empty in omega arith
 
-  pub changes_key : x.entry ≡ is_entry x.call (contents_after (start_of k) log) → Begins (with_call log c x) log → ChangesKey k log (with_call log c x) m key (key_after call (value_at (contents_after (start_of k) log) m key))
+  pub changes_key : x.entry ≡ is_entry x.call (contents_after (start_of k) log) → Begins (history_with log c x) log → ChangesKey k log (history_with log c x) m key (key_after call (value_at (contents_after (start_of k) log) m key))
   changes_key entry history =
-      let now : contents_after (start_of k) (with_call log c x) ≡ record before { maps = set before.maps m map_now } = contents_on laws k log c x entry ∙ ap (λ y. shared_after y before) is in record {
+      let now : contents_after (start_of k) (history_with log c x) ≡ record before { maps = set before.maps m map_now } = contents_on laws k log c x entry ∙ ap (λ y. shared_after y before) is in record {
         history = history;
         numbers = ap (λ (z : Contents). z.numbers) now;
         here = ap (λ (z : Contents). value_at z m key) now ∙ ap (λ f. get f key) (get_or-set_same before.maps m map_now empty many) ∙ laws.keys.left call key (map_at before m) on;

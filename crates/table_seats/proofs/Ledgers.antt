@@ -9,7 +9,7 @@ use Rattle.sync_model.specs.declared.item.SharedReply.TheVariants.{Shown}
 use Rattle.sync_model.specs.declared.item.Item.{Item}
 use Rattle.sync_model.specs.Front.{AtLeast}
 use Rattle.sync_model.specs.Journal.{Begins}
-use Rattle.sync_model.specs.SharedHistory.{contents_after, contents_at, shared_after, IsReply, is_entry, entry_of, with_call}
+use Rattle.sync_model.specs.SharedHistory.{contents_after, contents_at, shared_after, IsReply, is_entry, entry_of, history_with}
 use Rattle.sync_model.specs.SharedCalls.{bound, Knows, Grows, Lawful, MayCall, MayShow, AddsCall}
 use Rattle.sync_model.specs.Shared.{Called}
 use Rattle.sync_model.specs.SharedLaws.{TakesIn}
@@ -93,15 +93,15 @@ module _ (k : Begin) (laws : HistoryLaws) (log : List SharedEntry) (calls : ℕ 
       }
 
       pub log_after : List SharedEntry
-      log_after = with_call log v.number x
+      log_after = history_with log v.number x
 
       pub calls_after : ℕ → List Item
       calls_after = with_one calls v.number x
 
-      pub lawful_after : Lawful (start_of k) (with_call log v.number x) (with_one calls v.number x)
+      pub lawful_after : Lawful (start_of k) (history_with log v.number x) (with_one calls v.number x)
       lawful_after = laws.more (start_of k) log calls (with_one calls v.number x) v.number x (adds_one calls v.number x) lawful may_call
 
-      pub history_on : Begins (with_call log v.number x) log
+      pub history_on : Begins (history_with log v.number x) log
       history_on = begins_on log (entry_of v.number x) x.entry
 
       pub grows_on : Grows calls (with_one calls v.number x)
@@ -113,7 +113,7 @@ module _ (k : Begin) (laws : HistoryLaws) (log : List SharedEntry) (calls : ℕ 
       -- the room may change with the call
       module _ (own' : Own) (items : own'.items ≡ own.items ++ x ∷ []) where
         abbrev pub view_after : View
-        view_after = called_view v (own' ∷ owns) (with_call log v.number x)
+        view_after = called_view v (own' ∷ owns) (history_with log v.number x)
 
         mine : with_one calls v.number x v.number ≡ own'.items
         mine = (adds_one calls v.number x).mine ∙ ap (λ xs. xs ++ x ∷ []) first.items ∙ sym items
@@ -133,7 +133,7 @@ module _ (k : Begin) (laws : HistoryLaws) (log : List SharedEntry) (calls : ℕ 
           | inr ne ↦ let same = front_other d ne in omega arith
         ]
 
-        known_on : Knows (with_one calls v.number x) (set v.front v.number (length own'.items)) (length (with_call log v.number x))
+        known_on : Knows (with_one calls v.number x) (set v.front v.number (length own'.items)) (length (history_with log v.number x))
         known_on = record {
           made = λ d. elim (cases_eq d v.number) [
             | inl e ↦ subst (λ n. slice_index (set v.front v.number (length own'.items)) n ≤ length (with_one calls v.number x n)) (sym e)
@@ -143,22 +143,22 @@ module _ (k : Begin) (laws : HistoryLaws) (log : List SharedEntry) (calls : ℕ 
           within = λ d j y below at. elim (cases_eq d v.number) [
             | inl e ↦ of_mine j y (ap (λ items. slice_get items j) (sym mine ∙ ap (with_one calls v.number x) (sym e)) ∙ at)
             | inr ne ↦ let same = front_other d ne in let old = fits.front.within d j y (omega arith) (ap (λ items. slice_get items j) (sym ((adds_one calls v.number x).others d ne)) ∙ at) in
-                let up = longer log (with_call log v.number x) history_on in let from = may.from in let to = may.to in omega arith
+                let up = longer log (history_with log v.number x) history_on in let from = may.from in let to = may.to in omega arith
           ];
         }
           where
-            of_mine : (j : ℕ) (y : Item) → slice_get own'.items j ≡ Some y → bound y ≤ length (with_call log v.number x)
+            of_mine : (j : ℕ) (y : Item) → slice_get own'.items j ≡ Some y → bound y ≤ length (history_with log v.number x)
             of_mine j y at = elim (item_on own.items x y j (ap (λ l. slice_get l j) (sym items) ∙ at)) [
               | inl old ↦ let below = slice_get_within own.items j y old in let counted = first.counted in
                   let early = fits.front.within v.number j y (omega arith) (ap (λ l. slice_get l j) first.items ∙ old) in
-                  let up = longer log (with_call log v.number x) history_on in let from = may.from in let to = may.to in omega arith
-              | inr now ↦ subst (λ (z : Item). bound z ≤ length (with_call log v.number x)) (sym now.1) (bound_on log (entry_of v.number x) x.entry x.place may.last may.to)
+                  let up = longer log (history_with log v.number x) history_on in let from = may.from in let to = may.to in omega arith
+              | inr now ↦ subst (λ (z : Item). bound z ≤ length (history_with log v.number x)) (sym now.1) (bound_on log (entry_of v.number x) x.entry x.place may.last may.to)
             ]
 
-        pub fits_after : Fits callers (with_call log v.number x) (with_one calls v.number x) claim seat view_after
+        pub fits_after : Fits callers (history_with log v.number x) (with_one calls v.number x) claim seat view_after
         fits_after = record {
-          seen = ([], sym (append-nil (with_call log v.number x)));
-          heard = λ i xs at. begins_more xs log (with_call log v.number x) history_on (fits.heard i xs at);
+          seen = ([], sym (append-nil (history_with log v.number x)));
+          heard = λ i xs at. begins_more xs log (history_with log v.number x) history_on (fits.heard i xs at);
           long = length-set v.front v.number (length own'.items) ∙ fits.long;
           front = known_on;
           owns = own_after;
@@ -185,7 +185,7 @@ module _ (k : Begin) (laws : HistoryLaws) (log : List SharedEntry) (calls : ℕ 
             }
 
         pub called : (cost : ℕ) → own'.spare + cost ≡ own.spare → Called (start_of k) x.call x.reply cost (view_state v) (view_state view_after)
-        called cost spare = laws.promised (start_of k) log calls x cost (view_state v) (view_state view_after) takes first.items lawful may_call ([], sym (append-nil (with_call log v.number x)))
+        called cost spare = laws.promised (start_of k) log calls x cost (view_state v) (view_state view_after) takes first.items lawful may_call ([], sym (append-nil (history_with log v.number x)))
           where
             takes : TakesIn x cost (view_state v) (view_state view_after)
             takes = record {
@@ -199,13 +199,13 @@ module _ (k : Begin) (laws : HistoryLaws) (log : List SharedEntry) (calls : ℕ 
               is_front = may.front;
               counted = front_mine;
               rises = rises_on;
-              begins = begins_more v.seen log (with_call log v.number x) history_on fits.seen;
+              begins = begins_more v.seen log (history_with log v.number x) history_on fits.seen;
               from = may.from;
               to = bound_on log (entry_of v.number x) x.entry x.place may.last may.to;
             }
 
 -- what a call leaves, is what its operation leaves
-pub contents_on : HistoryLaws → (k : Begin) (log : List SharedEntry) (c : ℕ) (x : Item) → x.entry ≡ is_entry x.call (contents_after (start_of k) log) → contents_after (start_of k) (with_call log c x) ≡ shared_after x.call (contents_after (start_of k) log)
+pub contents_on : HistoryLaws → (k : Begin) (log : List SharedEntry) (c : ℕ) (x : Item) → x.entry ≡ is_entry x.call (contents_after (start_of k) log) → contents_after (start_of k) (history_with log c x) ≡ shared_after x.call (contents_after (start_of k) log)
 contents_on laws k log c x entry = by_entry x.entry entry
   where
     by_entry : (b : Bool) → b ≡ is_entry x.call (contents_after (start_of k) log) → contents_after (start_of k) (cond b (log ++ entry_of c x ∷ []) log) ≡ shared_after x.call (contents_after (start_of k) log)

@@ -29,7 +29,7 @@ use Rattle.table_rule.specs.Owed.{Walks, IsLeaf}
 use Rattle.table_rule.specs.Rule.{TableState, Kept}
 use Rattle.table_rule.specs.Shape.{start_of, held_at, till, time, IsBelow}
 use Rattle.table_rule.specs.Views.{MayPay}
-use Rattle.table_seats.specs.Walking.{standing, walk_at, HasWords, Enters, Answers, IsAlong, FindsIn, LooksIn, Affords, ReadsKey, KeepsValue, ReadsValue}
+use Rattle.table_steps.specs.Walking.{standing, walk_at, HasWords, Enters, Answers, IsAlong, FindsIn, LooksIn, Affords, ReadsKey, KeepsValue, ReadsValue}
 use Rattle.table_seats.proofs.KeyCalls.{IsOn}
 use Rattle.table_seats.proofs.Ledgers.{longer}
 use Rattle.table_seats.proofs.Placed.{view_after, kept_quiet, answers}
@@ -116,11 +116,11 @@ module _ (k : Begin) (laws : HistoryLaws) (id : ℕ) (me : Me (Unit {0}) View) (
   quiet held e off = sym off ∙ ap (is_key_entry call) (sym (is_held held e)) ∙ sym (laws.keys.entries call w.key (map_at (contents_at (start_of k) r.log until) w.map) on)
 
   -- the call isn't placed yet, or is answered
-  abbrev Ends : Option ℕ → Option Leaf → Bool → View → Type 0
-  Ends held leaf b u = MatchBool b (u ≡ standing me.0 me.0.walk leaf) (Answers w.map call (key_reply call held) 0 leaf me.0 u)
+  abbrev StandsOrAnswers : Option ℕ → Option Leaf → Bool → View → Type 0
+  StandsOrAnswers held leaf b u = MatchBool b (u ≡ standing me.0 me.0.walk leaf) (Answers w.map call (key_reply call held) 0 leaf me.0 u)
 
   settled : (held : Option ℕ) (leaf : Option Leaf) → held_now ≡ held → ((l : Leaf) → leaf ≡ Some l → IsLeaf r.shape s.words l) → (b : Bool) → is_key_entry call held ≡ b
-      → (u : View) × Kept k record { words = s.words; homes = s.homes; views = set s.views id u } × Ends held leaf b u
+      → (u : View) × Kept k record { words = s.words; homes = s.homes; views = set s.views id u } × StandsOrAnswers held leaf b u
   settled held leaf e leaves true off = let u = r.suits id me.0 at_me live in (standing me.0 me.0.walk leaf, kept_standing k s r id me.0 at_me live me.0.walk leaf u.walk u.steady leaves, refl)
   settled held leaf e leaves false off = (
     view_after k laws s r id me.0 at_me live own owns is w.map call pays (key_reply call held) until from moment (reply_is held e) (quiet held e off) leaf leaves,

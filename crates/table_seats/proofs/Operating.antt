@@ -12,7 +12,7 @@ use Rattle.sync_model.specs.declared.item.SharedCall.TheVariants.{Atomic}
 use Rattle.sync_model.specs.declared.item.SharedReply.TheVariants as replies
 use Rattle.sync_model.specs.Journal.{Begins}
 use Rattle.sync_types.specs.SequentialAtomic.{atomic_reply, atomic_after, is_atomic_entry}
-use Rattle.sync_model.specs.SharedHistory.{number_at, contents_after, contents_at, with_call}
+use Rattle.sync_model.specs.SharedHistory.{number_at, contents_after, contents_at, history_with}
 use Rattle.sync_model.specs.SharedCalls.{Grows}
 use Rattle.sync_model.specs.Shared.{Called}
 use Rattle.sync_types.specs.WordLayout.{is_word, number_in}
@@ -24,7 +24,7 @@ use Rattle.table_seats.specs.Laws.{HistoryLaws}
 use Rattle.trie_nodes.specs.Layout.{atomic_word}
 use Rattle.table_rule.specs.Layout.{callers_of}
 use Rattle.table_rule.specs.Ledger.{Owned, Fits}
-use Rattle.table_seats.specs.Operations.{IsOperation, PlacesCall, Operates}
+use Rattle.table_steps.specs.Operations.{IsOperation, PlacesCall, Operates}
 use Rattle.table_rule.specs.Owed.{HasRoom, Suits, HoldsLock}
 use Rattle.table_rule.specs.Rule.{TableState, Kept}
 use Rattle.table_rule.specs.Shape.{start_of, IsNumber}
@@ -74,7 +74,7 @@ module _ (k : Begin) (laws : HistoryLaws) (s : TableState) (r : Kept k s) (id : 
   own_after = record own { items = own.items ++ item ∷ [] }
 
   abbrev pub view_after : View
-  view_after = called_view v (own_after ∷ owns) (with_call r.log v.number item)
+  view_after = called_view v (own_after ∷ owns) (history_with r.log v.number item)
 
   module _ (f : ℕ → ℕ) (operation : IsOperation kind call f) where
     abbrev found : ℕ
@@ -86,10 +86,10 @@ module _ (k : Begin) (laws : HistoryLaws) (s : TableState) (r : Kept k s) (id : 
     after_number : IsNumber kind (f (slice_index s.words (atomic_word a))) (atomic_after call (number_at (contents_after (start_of k) r.log) a))
     after_number = let now = r.fine.numbers a kind at in (operation.keeps (slice_index s.words (atomic_word a)) now.0, ap (atomic_after call) now.1 ∙ sym (operation.leads (slice_index s.words (atomic_word a)) now.0))
 
-    contents_are : contents_after (start_of k) (with_call r.log v.number item) ≡ record (contents_after (start_of k) r.log) { numbers = set (contents_after (start_of k) r.log).numbers a (atomic_after call (number_at (contents_after (start_of k) r.log) a)) }
+    contents_are : contents_after (start_of k) (history_with r.log v.number item) ≡ record (contents_after (start_of k) r.log) { numbers = set (contents_after (start_of k) r.log).numbers a (atomic_after call (number_at (contents_after (start_of k) r.log) a)) }
     contents_are = contents_on laws k r.log v.number item refl
 
-    history : Begins (with_call r.log v.number item) r.log
+    history : Begins (history_with r.log v.number item) r.log
     history = history_on k laws r.log r.calls (callers_of k) r.claim id r.lawful v own owns is fits item may
 
     grows : Grows r.calls (with_one r.calls v.number item)
@@ -99,12 +99,12 @@ module _ (k : Begin) (laws : HistoryLaws) (s : TableState) (r : Kept k s) (id : 
     owned = first k laws r.log r.calls (callers_of k) r.claim id r.lawful v own owns is fits
 
     -- the seat's own things stay: no caller has the number that is one too high
-    suits_same : Suits k r.shape (with_call r.log v.number item) (with_one r.calls v.number item) words_after v
-    suits_same = suits_on k r.shape r.shape r.log (with_call r.log v.number item) s.words words_after (later_on k laws r.shape r.log (with_call r.log v.number item) s.words a (f found) kind at r.fine history) laws
-        r.calls (with_one r.calls v.number item) grows (callers_of k) (apart_on k laws r.shape r.log (with_call r.log v.number item) s.words a (f found) kind at r.fine (callers_of k)) v
+    suits_same : Suits k r.shape (history_with r.log v.number item) (with_one r.calls v.number item) words_after v
+    suits_same = suits_on k r.shape r.shape r.log (history_with r.log v.number item) s.words words_after (later_on k laws r.shape r.log (history_with r.log v.number item) s.words a (f found) kind at r.fine history) laws
+        r.calls (with_one r.calls v.number item) grows (callers_of k) (apart_on k laws r.shape r.log (history_with r.log v.number item) s.words a (f found) kind at r.fine (callers_of k)) v
         (λ i own at e. let below = (fits.owns i own at).below in absurd (omega arith)) (r.suits id v at_me live)
 
-    suits_after : Suits k r.shape (with_call r.log v.number item) (with_one r.calls v.number item) words_after view_after
+    suits_after : Suits k r.shape (history_with r.log v.number item) (with_one r.calls v.number item) words_after view_after
     suits_after = let u = suits_same in record {
       begin = u.begin;
       walk = u.walk;
@@ -145,17 +145,17 @@ module _ (k : Begin) (laws : HistoryLaws) (s : TableState) (r : Kept k s) (id : 
 
     kept : Keeps k s r id v.number words_after view_after
     kept = record {
-      log = with_call r.log v.number item;
+      log = history_with r.log v.number item;
       calls = with_one r.calls v.number item;
       shape = r.shape;
       mine = owned.claimed;
       lawful = lawful_after k laws r.log r.calls (callers_of k) r.claim id r.lawful v own owns is fits item may;
       none_else = none_after k laws r.log r.calls (callers_of k) r.claim id r.lawful v own owns is fits item may r.none_else;
       keys = keys_on laws k r.log v.number item refl (λ m key other is. absurd (cc)) r.keys;
-      fine = fine_on k laws r.shape r.log (with_call r.log v.number item) s.words a (f found) kind at r.fine history (atomic_after call held) (ap (λ contents. contents.maps) contents_are) (ap (λ contents. contents.numbers) contents_are) after_number;
-      gates = λ m inside. gates_on k laws r.shape r.log (with_call r.log v.number item) s.words a (f found) kind at r.fine m inside (r.gates m inside);
-      later = later_on k laws r.shape r.log (with_call r.log v.number item) s.words a (f found) kind at r.fine history;
-      apart = apart_on k laws r.shape r.log (with_call r.log v.number item) s.words a (f found) kind at r.fine v.number;
+      fine = fine_on k laws r.shape r.log (history_with r.log v.number item) s.words a (f found) kind at r.fine history (atomic_after call held) (ap (λ contents. contents.maps) contents_are) (ap (λ contents. contents.numbers) contents_are) after_number;
+      gates = λ m inside. gates_on k laws r.shape r.log (history_with r.log v.number item) s.words a (f found) kind at r.fine m inside (r.gates m inside);
+      later = later_on k laws r.shape r.log (history_with r.log v.number item) s.words a (f found) kind at r.fine history;
+      apart = apart_on k laws r.shape r.log (history_with r.log v.number item) s.words a (f found) kind at r.fine v.number;
       grows = grows;
       others = (adds_one r.calls v.number item).others;
       fits = fits_after k laws r.log r.calls (callers_of k) r.claim id r.lawful v own owns is fits item may own_after refl;
@@ -194,8 +194,8 @@ operates k laws id me a kind call f live begin stands at operation = by_owns me.
                   was_word k laws s r id v at_me live own owns is a kind at call f operation,
                   record {
                     item = item k laws s r id v at_me live own owns is a kind at call;
-                    seen = with_call r.log v.number (item k laws s r id v at_me live own owns is a kind at call);
-                    is = ap (λ l. called_view v (with_item l (item k laws s r id v at_me live own owns is a kind at call)) (with_call r.log v.number (item k laws s r id v at_me live own owns is a kind at call))) (sym is);
+                    seen = history_with r.log v.number (item k laws s r id v at_me live own owns is a kind at call);
+                    is = ap (λ l. called_view v (with_item l (item k laws s r id v at_me live own owns is a kind at call)) (history_with r.log v.number (item k laws s r id v at_me live own owns is a kind at call))) (sym is);
                     called = subst (λ b. Called (start_of b) (Atomic a call) (replies.Atomic (atomic_reply call (number_in kind word))) 0 (view_state v) (view_state w)) (sym begin)
                         (is_called k laws s r id v at_me live own owns is a kind at call f operation);
                   },

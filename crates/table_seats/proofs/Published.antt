@@ -11,7 +11,7 @@ use Rattle.sync_types.specs.declared.map_object.MapCall.{MapCall}
 use Rattle.sync_model.specs.Journal.{Begins}
 use Rattle.sync_types.specs.SequentialMap.{map_reply, is_map_entry}
 use Rattle.sync_model.specs.SharedCalls.{Grows}
-use Rattle.sync_model.specs.SharedHistory.{map_at, value_at, contents_after, contents_at, with_call}
+use Rattle.sync_model.specs.SharedHistory.{map_at, value_at, contents_after, contents_at, history_with}
 use Rattle.sync_model.specs.Shared.{Called}
 use Rattle.table_rule.specs.declared.begin.Begin.{Begin}
 use Rattle.table_rule.specs.declared.view.Gate.{Gate}
@@ -32,7 +32,7 @@ use Rattle.table_rule.specs.Owed.{HasRoom, Locks, AtGate, Suits, HoldsLock}
 use Rattle.table_rule.specs.Rule.{TableState, Kept}
 use Rattle.table_rule.specs.Shape.{Shape, start_of, Fine}
 use Rattle.table_seats.specs.TrieLaws.{TrieLaws}
-use Rattle.table_seats.specs.Units.{with_unit}
+use Rattle.table_steps.specs.Units.{with_unit}
 use Rattle.table_rule.specs.Views.{called_view, spend_own, view_state}
 use Rattle.table_seats.proofs.Frames.{Later, Apart, room_on, stands_on}
 use Rattle.table_seats.proofs.KeyCalls.{IsOn, ChangesKey, changes_key}
@@ -137,10 +137,10 @@ module _ (k : Begin) (laws : HistoryLaws) (tries : TrieLaws) (s : TableState) (r
       shows = λ b n y shown at begin next reply. absurd (cc);
     }
 
-    history : Begins (with_call r.log v.number item) r.log
+    history : Begins (history_with r.log v.number item) r.log
     history = history_on k laws r.log r.calls (callers_of k) r.claim id r.lawful v own owns ready.is fits item may
 
-    pub changes : ChangesKey k r.log (with_call r.log v.number item) m l.key (key_after call (value_at (contents_after (start_of k) r.log) m l.key))
+    pub changes : ChangesKey k r.log (history_with r.log v.number item) m l.key (key_after call (value_at (contents_after (start_of k) r.log) m l.key))
     changes = changes_key k laws r.log v.number item m l.key call refl on below_maps (sym is_entry ∙ sym (laws.keys.entries call l.key (map_at (contents_after (start_of k) r.log) m) on)) history
 
     abbrev pub own_after : Own
@@ -150,23 +150,23 @@ module _ (k : Begin) (laws : HistoryLaws) (tries : TrieLaws) (s : TableState) (r
     lock_after = record l { found = None; empty = 0 }
 
     abbrev pub view_after : View
-    view_after = record (called_view v (own_after ∷ owns) (with_call r.log v.number item)) { walk = None; leaf = None; lock = Some lock_after }
+    view_after = record (called_view v (own_after ∷ owns) (history_with r.log v.number item)) { walk = None; leaf = None; lock = Some lock_after }
 
     abbrev shape : Shape
     shape = with_unit r.shape k.seed m l.level l.key own.next nodes
 
-    module _ (x : ℕ) (fine : Fine k (with_unit r.shape k.seed m l.level l.key own.next nodes) (with_call r.log v.number item) (set s.words (slot_word l.node (nibble l.key k.seed l.level)) x)) where
+    module _ (x : ℕ) (fine : Fine k (with_unit r.shape k.seed m l.level l.key own.next nodes) (history_with r.log v.number item) (set s.words (slot_word l.node (nibble l.key k.seed l.level)) x)) where
       abbrev words : List ℕ
       words = set s.words (slot_word l.node (nibble l.key k.seed l.level)) x
 
       value : Option ℕ
       value = key_after call (value_at (contents_after (start_of k) r.log) m l.key)
 
-      later : Later r.shape shape r.log (with_call r.log v.number item) s.words words
-      later = publishing.later_published k r.shape r.log (with_call r.log v.number item) s.words m l.node l.level l.key x own.next nodes (key_after call (value_at (contents_after (start_of k) r.log) m l.key)) laws tries site changes
+      later : Later r.shape shape r.log (history_with r.log v.number item) s.words words
+      later = publishing.later_published k r.shape r.log (history_with r.log v.number item) s.words m l.node l.level l.key x own.next nodes (key_after call (value_at (contents_after (start_of k) r.log) m l.key)) laws tries site changes
 
       apart : Apart k v.number r.shape shape s.words words
-      apart = publishing.apart_published k r.shape r.log (with_call r.log v.number item) s.words m l.node l.level l.key x own.next nodes (key_after call (value_at (contents_after (start_of k) r.log) m l.key)) laws tries site changes
+      apart = publishing.apart_published k r.shape r.log (history_with r.log v.number item) s.words m l.node l.level l.key x own.next nodes (key_after call (value_at (contents_after (start_of k) r.log) m l.key)) laws tries site changes
           v.number locks.mine (λ i below. room.mine i (in_room i below))
 
       grows : Grows r.calls (with_one r.calls v.number item)
@@ -179,14 +179,14 @@ module _ (k : Begin) (laws : HistoryLaws) (tries : TrieLaws) (s : TableState) (r
 
       locks_after : Locks k shape words v.number m lock_after
       locks_after =
-          let old : (i : ℕ) → l.node ≤ i → i < l.node + 2 → slice_index words i ≡ slice_index s.words i = (λ i. publishing.top_word k r.shape r.log (with_call r.log v.number item) s.words m l.node l.level l.key x own.next nodes (key_after call (value_at (contents_after (start_of k) r.log) m l.key)) laws tries site changes l.node i locks.node) in record {
+          let old : (i : ℕ) → l.node ≤ i → i < l.node + 2 → slice_index words i ≡ slice_index s.words i = (λ i. publishing.top_word k r.shape r.log (history_with r.log v.number item) s.words m l.node l.level l.key x own.next nodes (key_after call (value_at (contents_after (start_of k) r.log) m l.key)) laws tries site changes l.node i locks.node) in record {
             node = later.node l.node locks.node;
             map = later.map l.node locks.node ∙ locks.map;
             key = locks.key;
             level = locks.level;
             path = later.path l.node locks.node ∙ locks.path;
-            reachable = publishing.old_cut k r.shape r.log (with_call r.log v.number item) s.words m l.node l.level l.key x own.next nodes (key_after call (value_at (contents_after (start_of k) r.log) m l.key)) laws tries site changes l.node locks.node ∙ locks.reachable;
-            mine = publishing.old_holder k r.shape r.log (with_call r.log v.number item) s.words m l.node l.level l.key x own.next nodes (key_after call (value_at (contents_after (start_of k) r.log) m l.key)) laws tries site changes l.node locks.node ∙ locks.mine;
+            reachable = publishing.old_cut k r.shape r.log (history_with r.log v.number item) s.words m l.node l.level l.key x own.next nodes (key_after call (value_at (contents_after (start_of k) r.log) m l.key)) laws tries site changes l.node locks.node ∙ locks.reachable;
+            mine = publishing.old_holder k r.shape r.log (history_with r.log v.number item) s.words m l.node l.level l.key x own.next nodes (key_after call (value_at (contents_after (start_of k) r.log) m l.key)) laws tries site changes l.node locks.node ∙ locks.mine;
             word = old l.node (omega arith) (omega arith) ∙ locks.word;
             parent = old (parent_word l.node) (omega arith) (omega arith) ∙ locks.parent;
             found = λ slot w e. absurd (none-some (slot, w) e);
@@ -204,13 +204,13 @@ module _ (k : Begin) (laws : HistoryLaws) (tries : TrieLaws) (s : TableState) (r
                 units.part_outside r.shape tries k.seed m l.level l.key own.next nodes (own.next + (2 + 18 * nodes) + i) (λ past. omega arith) ∙ subst (λ n. r.shape.part_of n ≡ 0) (sym at) (room.unused (2 + 18 * nodes + i) (omega arith));
             words = λ i below. let at : own.next + (2 + 18 * nodes) + i ≡ own.next + (2 + 18 * nodes + i) = omega arith in
                 let none_there = room.unused (2 + 18 * nodes + i) (omega arith) in
-                ap (slice_index words) at ∙ publishing.free_word k r.shape r.log (with_call r.log v.number item) s.words m l.node l.level l.key x own.next nodes (key_after call (value_at (contents_after (start_of k) r.log) m l.key)) laws tries site changes (own.next + (2 + 18 * nodes + i)) none_there
+                ap (slice_index words) at ∙ publishing.free_word k r.shape r.log (history_with r.log v.number item) s.words m l.node l.level l.key x own.next nodes (key_after call (value_at (contents_after (start_of k) r.log) m l.key)) laws tries site changes (own.next + (2 + 18 * nodes + i)) none_there
                 ∙ room.words (2 + 18 * nodes + i) (omega arith) ∙ past_end own.draft (2 + 18 * nodes + i) (omega arith);
           }
 
       rooms_after : (i : ℕ) (o : Own) → slice_get (own_after ∷ owns) i ≡ Some o → HasRoom k shape words (v.number + i) o
       rooms_after zero o at = let e : v.number ≡ v.number + 0 = omega arith in subst (λ (p : ℕ × Own). HasRoom k shape words p.0 p.1) (λ i. (e i, same_Some own_after o at i)) room_after
-      rooms_after (suc i) o at = room_on k r.shape shape r.log (with_call r.log v.number item) s.words words later laws r.calls (with_one r.calls v.number item) grows v.number apart (v.number + suc i) (λ e. omega arith) o
+      rooms_after (suc i) o at = room_on k r.shape shape r.log (history_with r.log v.number item) s.words words later laws r.calls (with_one r.calls v.number item) grows v.number apart (v.number + suc i) (λ e. omega arith) o
           ((r.suits id v at_me ready.live).room (suc i) o (ap (λ o. slice_get o (suc i)) ready.is ∙ at))
 
       only_after : (n i : ℕ) (o : Own) → slice_get (own_after ∷ owns) i ≡ Some o → r.shape.inside n (v.number + i) ≡ true → v.gate ≡ Inside n
@@ -235,13 +235,13 @@ module _ (k : Begin) (laws : HistoryLaws) (tries : TrieLaws) (s : TableState) (r
       closer_after n zero o at closed = (r.suits id v at_me ready.live).closer n 0 own first_is closed
       closer_after n (suc i) o at closed = (r.suits id v at_me ready.live).closer n (suc i) o (ap (λ o. slice_get o (suc i)) ready.is ∙ at) closed
 
-      suits_after : Suits k shape (with_call r.log v.number item) (with_one r.calls v.number item) words view_after
+      suits_after : Suits k shape (history_with r.log v.number item) (with_one r.calls v.number item) words view_after
       suits_after = let u = r.suits id v at_me ready.live in record {
         begin = u.begin;
         walk = λ w e. absurd (none-some w e);
         steady = λ w e gate. absurd (none-some w e);
         leaf = λ z e. absurd (none-some z e);
-        spot = λ z e. stands_on k r.shape shape r.log (with_call r.log v.number item) s.words words later laws r.calls (with_one r.calls v.number item) grows z (u.spot z e);
+        spot = λ z e. stands_on k r.shape shape r.log (history_with r.log v.number item) s.words words later laws r.calls (with_one r.calls v.number item) grows z (u.spot z e);
         room = rooms_after;
         gate = same_gate v.gate u.gate;
         only = only_after;
@@ -252,10 +252,10 @@ module _ (k : Begin) (laws : HistoryLaws) (tries : TrieLaws) (s : TableState) (r
         nobody = λ e. absurd (let ne : suc (length owns) ≡ 0 = e in omega arith);
       }
 
-      fits_now : Fits (callers_of k) (with_call r.log v.number item) (with_one r.calls v.number item) r.claim id view_after
+      fits_now : Fits (callers_of k) (history_with r.log v.number item) (with_one r.calls v.number item) r.claim id view_after
       fits_now = let f = fits_after k laws r.log r.calls (callers_of k) r.claim id r.lawful v own owns ready.is fits item may own_after refl in record { seen = f.seen; heard = f.heard; long = f.long; front = f.front; owns = f.owns }
 
-      keys_after : HasKeysBelow (2 ^ 32) (contents_after (start_of k) (with_call r.log v.number item))
+      keys_after : HasKeysBelow (2 ^ 32) (contents_after (start_of k) (history_with r.log v.number item))
       keys_after n q x at = elim (cases_eq q l.key) [
         | inl same ↦ subst (λ i. i < 2 ^ 32) (sym same) locks.key
         | inr other ↦ r.keys n q x (sym (changes.others n q (inr other)) ∙ at)
@@ -263,7 +263,7 @@ module _ (k : Begin) (laws : HistoryLaws) (tries : TrieLaws) (s : TableState) (r
 
       keeps_all : Keeps k s r id v.number words view_after
       keeps_all = record {
-        log = with_call r.log v.number item;
+        log = history_with r.log v.number item;
         calls = with_one r.calls v.number item;
         shape = shape;
         mine = owned.claimed;
@@ -271,7 +271,7 @@ module _ (k : Begin) (laws : HistoryLaws) (tries : TrieLaws) (s : TableState) (r
         none_else = none_after k laws r.log r.calls (callers_of k) r.claim id r.lawful v own owns ready.is fits item may r.none_else;
         keys = keys_after;
         fine = fine;
-        gates = λ n below. publishing.gates_published k r.shape r.log (with_call r.log v.number item) s.words m l.node l.level l.key x own.next nodes (key_after call (value_at (contents_after (start_of k) r.log) m l.key)) laws tries site changes n below (r.gates n below);
+        gates = λ n below. publishing.gates_published k r.shape r.log (history_with r.log v.number item) s.words m l.node l.level l.key x own.next nodes (key_after call (value_at (contents_after (start_of k) r.log) m l.key)) laws tries site changes n below (r.gates n below);
         later = later;
         apart = apart;
         grows = grows;

@@ -5,7 +5,7 @@ use mathlib.Core.Option.{some}
 use lib.ListN.{get_elem?}
 use Rattle.sync_model.specs.declared.item.SharedEntry.{SharedEntry}
 use Rattle.sync_types.specs.declared.map_object.MapCall.{MapCall}
-use Rattle.sync_model.specs.SharedHistory.{value_at, contents_after, with_call}
+use Rattle.sync_model.specs.SharedHistory.{value_at, contents_after, history_with}
 use Rattle.table_rule.specs.declared.begin.Begin.{Begin}
 use Rattle.table_rule.specs.declared.view.Lock.{Lock}
 use Rattle.table_rule.specs.declared.view.Own.{Own}
@@ -22,7 +22,7 @@ use Rattle.table_rule.specs.Owed.{Locks}
 use Rattle.table_rule.specs.Rule.{TableState, Kept}
 use Rattle.table_rule.specs.Shape.{Shape, start_of, held_at, till, time, IsBelow, ShowsAt, Fine}
 use Rattle.table_seats.specs.TrieLaws.{TrieLaws}
-use Rattle.table_seats.specs.Units.{link_at, with_unit}
+use Rattle.table_steps.specs.Units.{link_at, with_unit}
 use Rattle.table_seats.proofs.KeyCalls.{IsOn, ChangesKey}
 use Rattle.table_seats.proofs.Published as published
 use Rattle.table_seats.proofs.Publishing as publishing
@@ -54,7 +54,7 @@ none_or_some (Some q) = inr (q, refl)
 module _ (k : Begin) (laws : HistoryLaws) (tries : TrieLaws) (s : TableState) (r : Kept k s) (id : ℕ) (v : View) (at_me : get_elem? s.views id ≡ some v) (own : Own) (owns : List Own) (l : Lock) (m word nodes : ℕ) (ready : published.IsReady k v own owns l m word nodes)
     (call : MapCall ℕ) (on : IsOn l.key call) (is_entry : is_key_entry call (value_at (contents_after (start_of k) r.log) m l.key) ≡ true) where
   abbrev pub log : List SharedEntry
-  log = with_call r.log v.number (published.item k laws tries s r id v at_me own owns l m word nodes ready call on is_entry)
+  log = history_with r.log v.number (published.item k laws tries s r id v at_me own owns l m word nodes ready call on is_entry)
 
   abbrev pub shape : Shape
   shape = with_unit r.shape k.seed m l.level l.key own.next nodes

@@ -9,7 +9,7 @@ use Rattle.sync_model.specs.declared.item.Item.{Item}
 use Rattle.sync_model.specs.declared.item.SharedCall.{SharedCall}
 use Rattle.sync_model.specs.declared.item.SharedEntry.{SharedEntry}
 use Rattle.sync_model.specs.Journal.{Begins}
-use Rattle.sync_model.specs.SharedHistory.{Contents, contents_after, contents_at, shared_after, is_entry, with_call}
+use Rattle.sync_model.specs.SharedHistory.{Contents, contents_after, contents_at, shared_after, is_entry, history_with}
 use Rattle.sync_model.specs.SharedCalls.{Knows, Grows, Lawful, MayCall, AddsCall}
 use Rattle.sync_model.specs.Shared.{CallerState, Called}
 use Rattle.sync_model.specs.SharedLaws.{IsWithinBoth, TakesIn}
@@ -25,11 +25,11 @@ pub record HistoryLaws : Type 0 where
   pub keys : KeyLaws
   pub start : (start : Contents) → Lawful start [] (λ caller. [])
   pub more : (start : Contents) (history : List SharedEntry) (calls new : ℕ → List Item) (c : ℕ) (x : Item)
-      → AddsCall calls c x new → Lawful start history calls → MayCall start history calls c x → Lawful start (with_call history c x) new
+      → AddsCall calls c x new → Lawful start history calls → MayCall start history calls c x → Lawful start (history_with history c x) new
   pub same_calls : (start : Contents) (history : List SharedEntry) (calls other : ℕ → List Item) → ((c : ℕ) → other c ≡ calls c) → Lawful start history calls → Lawful start history other
   pub promised : (start : Contents) (history : List SharedEntry) (calls : ℕ → List Item) (x : Item) (cost : ℕ) (old new : CallerState) (takes : TakesIn x cost old new)
       → calls takes.was.number ≡ takes.was.items → Lawful start history calls → MayCall start history calls takes.was.number x
-      → Begins (with_call history takes.was.number x) new.seen → Called start x.call x.reply cost old new
+      → Begins (history_with history takes.was.number x) new.seen → Called start x.call x.reply cost old new
   pub grows : (calls new : ℕ → List Item) (c : ℕ) (x : Item) → AddsCall calls c x new → Grows calls new
   pub known : (calls new : ℕ → List Item) (front : List ℕ) (n m : ℕ) → Grows calls new → n ≤ m → Knows calls front n → Knows new front m
   pub known_both : (calls : ℕ → List Item) (both first second : List ℕ) (n : ℕ) → IsWithinBoth both first second → Knows calls first n → Knows calls second n → Knows calls both n

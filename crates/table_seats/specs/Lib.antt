@@ -2,13 +2,5 @@ pub mod Laws
 pub mod TrieLaws
 pub mod EndLaws
 pub mod SweepLaws
-pub mod Units
 pub mod Seats
 pub mod Blank
-pub mod Operations
-pub mod Walking
-pub mod Writing
-pub mod Cursors
-pub mod Making
-pub mod Clearing
-pub mod Pruning

@@ -2,56 +2,23 @@
 //! empty root into the map's root word, and opens the gate. Lookups go on all the while, in the new nodes or in the old ones.
 ghost use Rattle.std.specs.Prelude.{◌≡◌, ◌<◌, true, false, None, MatchBool};
 ghost use Rattle.table_rule.specs.declared.view.Gate.TheVariants.{Outside, Closed};
-ghost use Rattle.table_seats.specs.Clearing.{HasClosed, Closes, LooksInside, Clears};
-ghost use Rattle.table_seats.specs.Making.{HasUnit};
+ghost use Rattle.table_steps.specs.Clearing.{HasClosed, Closes, LooksInside, Clears};
+ghost use Rattle.table_steps.specs.Making.{HasUnit};
 ghost use Rattle.table_seats.specs.Seats.{begin_of, IsSeatOf};
-ghost use Rattle.table_seats.specs.Walking.{IsFree};
-ghost use Rattle.table_seats.specs.Writing.{holding, GoesOut, HasRoomWithin};
+ghost use Rattle.table_steps.specs.Walking.{IsFree};
+ghost use Rattle.table_steps.specs.Writing.{holding, GoesOut, HasRoomWithin};
 
 use crate::laws::history_laws;
-use crate::lookup::Way;
 use crate::words::TableWords;
-use atomic_table::{Play, Seat};
-use std::marker::{Brand, PhantomData};
+use atomic_table::Seat;
+use std::marker::Brand;
 use std::sync::Wait;
 use table_rule::view::View;
+use table_steps::clearing::{Close, LookInside, Open, WriteRoot};
+use table_steps::subject::Way;
 
 // The word of a gate that is closed, where no writer is inside.
 const CLOSED: u64 = 1 << 32;
-
-/// A seat closes the gate of a map.
-pub(crate) struct Close<W> {
-    marker: PhantomData<W>,
-}
-
-impl<W: Way> Play<(), View> for Close<W> {
-    ghost then = { λ step before found after. Closes W.map step.first before found after };
-}
-
-/// A seat looks whether a writer is inside the gate that it has closed.
-pub(crate) struct LookInside<W> {
-    marker: PhantomData<W>,
-}
-
-impl<W: Way> Play<(), View> for LookInside<W> {
-    ghost then = { λ step before found after. LooksInside W.map before found after };
-}
-
-/// A seat writes a new empty root. This step places the call of the seat's first caller.
-pub(crate) struct WriteRoot<W> {
-    marker: PhantomData<W>,
-}
-
-impl<W: Way> Play<(), View> for WriteRoot<W> {
-    ghost then = { λ step before found after. Clears W.map before after };
-}
-
-/// A seat opens the gate that it has closed, and is outside.
-pub(crate) struct Open;
-
-impl Play<(), View> for Open {
-    ghost then = { λ step before found after. GoesOut before found after };
-}
 
 impl TableWords {
     /// Tries to close the map's gate. It doesn't where another has closed it, or passed it just then. Only a call that may wait

@@ -6,10 +6,10 @@ ghost use Rattle.table_seats.specs.Seats.{begin_of, IsSeatOf};
 ghost use Rattle.table_rule.specs.Views.{copied, dealt, joined, kept, IsIdle, Looks};
 
 use crate::laws::history_laws;
-use crate::rule::{Copied, Deal, Gather, Look};
 use crate::words::TableWords;
 use atomic_table::Seat;
 use table_rule::view::View;
+use table_steps::copies::{Copied, Deal, Gather, Look};
 
 // The word that a look reads: it is always 0.
 pub(crate) const ZERO: usize = 0;

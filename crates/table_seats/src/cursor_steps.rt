@@ -1,74 +1,25 @@
 //! The steps of a cursor over a map: it begins at the map's root, reads the slot where it stands, goes up, and at its end shows
 //! none. It has a seat of its own, which the caller's takes in for each step, and lets go behind it.
-ghost use Rattle.std.specs.Prelude.{◌≡◌, ℕ, ◌<◌, true, List, [], ◌∷◌, ◌++◌, length, Some, None};
+ghost use Rattle.std.specs.Prelude.{◌≡◌, ℕ, ◌<◌, true, List, [], ◌∷◌, ◌++◌, length};
 ghost use Rattle.table_rule.specs.declared.view.Gate.TheVariants.{Outside};
 ghost use Rattle.table_rule.specs.declared.view.Spot.{Spot};
-ghost use Rattle.table_seats.specs.Cursors.{mounted, unmounted, cursor_seat, BeginsCursor, SweepsSlot, GoesUp, ShowsNone, Sweeping, StandsIn};
+ghost use Rattle.table_steps.specs.Cursors.{mounted, unmounted, cursor_seat, BeginsCursor, SweepsSlot, GoesUp, ShowsNone, Sweeping, StandsIn};
 ghost use Rattle.table_seats.specs.SweepLaws.{SweepLaws};
 ghost use Rattle.table_seats.specs.Seats.{begin_of, IsSeatOf};
-ghost use Rattle.table_rule.specs.Views.{spent};
-ghost use Rattle.table_seats.specs.Walking.{HasWords};
-ghost use Rattle.trie_nodes.specs.Slots.{slot_in};
+ghost use Rattle.table_steps.specs.Walking.{HasWords};
 
 use crate::copies::ZERO;
 use crate::laws::history_laws;
-use crate::lookup::Way;
 use crate::words::TableWords;
-use atomic_table::{Join, Play, Seat, Split};
-use std::marker::{Brand, PhantomData};
+use atomic_table::Seat;
+use std::marker::Brand;
 use table_rule::view::View;
+use table_steps::cursors::{BeginCursor, Mount, Rise, ShowNone, Sweep, Unmount};
+use table_steps::subject::Way;
 use trie_nodes::Slot;
 use trie_nodes::laws::order::a_walk_passes_each_key_once;
 use trie_nodes::laws::paths::{a_path_has_a_slot_of_each_level, each_slot_has_a_key};
 use trie_nodes::layout::slot_word;
-
-/// A seat begins a cursor at the root of a map.
-pub(crate) struct BeginCursor<W> {
-    marker: PhantomData<W>,
-}
-
-impl<W: Way> Play<(), View> for BeginCursor<W> {
-    ghost then = { λ step before found after. BeginsCursor W.map before found after };
-}
-
-/// A seat's cursor reads the slot where it stands.
-pub(crate) struct Sweep;
-
-impl Play<(), View> for Sweep {
-    ghost then = { λ step before found after. SweepsSlot before (slot_in found) after };
-}
-
-/// A seat's cursor goes up.
-pub(crate) struct Rise;
-
-impl Play<(), View> for Rise {
-    ghost then = { λ step before found after. GoesUp before found after };
-}
-
-/// A seat's cursor shows none.
-pub(crate) struct ShowNone;
-
-impl Play<(), View> for ShowNone {
-    ghost then = { λ step before found after. ShowsNone before found after };
-}
-
-/// A seat takes in its cursor's.
-pub(crate) struct Mount;
-
-impl Join<View> for Mount {
-    ghost both = { mounted };
-
-    ghost spent = { spent };
-}
-
-/// A seat lets its cursor go.
-pub(crate) struct Unmount;
-
-impl Split<View> for Unmount {
-    ghost left = { unmounted };
-
-    ghost right = { cursor_seat };
-}
 
 impl TableWords {
     /// Begins a cursor at the root of a map, whose place it gives.

@@ -9,7 +9,6 @@ mod ends;
 mod kinds;
 mod laws;
 mod lookup;
-mod making;
 mod map_words;
 mod new;
 mod operations;

@@ -1,77 +1,25 @@
 //! The reads of a seat on its way to a key: a map's root word, then a slot in each node on the key's path, and the words of an
 //! entry. None of them waits. Each takes a counter, which rises by one for each look at a word. A load can make no other reading
 //! step: those that nobody counts ask for a seat that is inside of a gate, or has a cursor, and a load's seat has neither.
-ghost use Rattle.std.specs.Prelude.{◌≡◌, ℕ, ◌+◌, ◌<◌, ◌≤◌, ◌^◌, Some, length};
+ghost use Rattle.std.specs.Prelude.{◌≡◌, ◌+◌, ◌<◌, ◌≤◌, ◌^◌, Some, length};
 ghost use Rattle.sync_types.specs.SequentialMap.{map_key};
 ghost use Rattle.sync_model.specs.Shared.{cost_of};
 ghost use Rattle.table_rule.specs.declared.view.Leaf.{Leaf};
 ghost use Rattle.table_seats.specs.Seats.{begin_of, IsSeatOf};
-ghost use Rattle.trie_nodes.specs.Slots.{slot_in};
-ghost use Rattle.table_seats.specs.Walking.{standing, walk_at, HasWords, Enters, MayEnter, FindsIn, LooksIn, Affords, ReadsKey, KeepsValue, ReadsValue, OnWay, AtEntry, IsUncounted};
+ghost use Rattle.table_steps.specs.Walking.{standing, walk_at, HasWords, Enters, MayEnter, FindsIn, Affords, OnWay, AtEntry, IsUncounted};
 
 use crate::laws::history_laws;
-use crate::making::Making;
 use crate::steps::Steps;
 use crate::words::TableWords;
-use atomic_table::{Play, Seat};
-use std::marker::{Brand, PhantomData};
+use atomic_table::Seat;
+use std::marker::Brand;
 use std::sync::ledger::Ledger;
 use sync_types::MapCall;
 use table_rule::view::{Leaf, View};
+use table_steps::lookup::{Enter, KeepValue, LookIn, ReadKey, ReadValue};
+use table_steps::subject::{Making, Way};
 use trie_nodes::layout::{key_word, slot_word, value_word};
 use trie_nodes::{Slot, nibble};
-
-/// The map and the key of a walk, for proofs. A call at `Brand` picks them.
-pub(crate) trait Way {
-    ghost map: { ℕ };
-
-    ghost key: { ℕ };
-}
-
-impl Way for Brand {
-    ghost map = { 0 };
-
-    ghost key = { 0 };
-}
-
-/// A seat reads the root word of a map.
-pub(crate) struct Enter<W> {
-    marker: PhantomData<W>,
-}
-
-impl<W: Way> Play<(), View> for Enter<W> {
-    ghost then = { λ step before found after. Enters W.map W.key before found after };
-}
-
-/// A seat reads a slot, and its call is placed there, where it is no entry of the history.
-pub(crate) struct LookIn<C> {
-    marker: PhantomData<C>,
-}
-
-impl<C: Making> Play<(), View> for LookIn<C> {
-    ghost then = { λ step before found after. LooksIn C.call before (slot_in found) after };
-}
-
-/// A seat reads the key of an entry.
-pub(crate) struct ReadKey;
-
-impl Play<(), View> for ReadKey {
-    ghost then = { λ step before found after. ReadsKey before found after };
-}
-
-/// A seat reads the value of an entry, which it keeps in mind.
-pub(crate) struct KeepValue;
-
-impl Play<(), View> for KeepValue {
-    ghost then = { λ step before found after. KeepsValue before found after };
-}
-
-/// A seat reads the value of an entry.
-pub(crate) struct ReadValue;
-
-impl Play<(), View> for ReadValue {
-    ghost then = { λ step before found after. ReadsValue before found after };
-}
 
 impl TableWords {
     /// The seat comes to the map's root. It looks at one word.

@@ -2,53 +2,19 @@
 //! parent, marks the node dead, and empties the parent's slot. The parent's lock is the one that it holds then.
 ghost use Rattle.std.specs.Prelude.{◌≡◌, ◌<◌, true, false, Some};
 ghost use Rattle.table_rule.specs.declared.view.Lock.{Lock};
-ghost use Rattle.table_seats.specs.Pruning.{LooksAtSlot, ReadsParent, TriedUpper, TriesUpper, HoldsBoth, Marks, CutsOff};
+ghost use Rattle.table_steps.specs.Pruning.{LooksAtSlot, ReadsParent, TriedUpper, TriesUpper, HoldsBoth, Marks, CutsOff};
 ghost use Rattle.table_seats.specs.Seats.{begin_of, IsSeatOf};
-ghost use Rattle.table_seats.specs.Walking.{HasWords};
-ghost use Rattle.table_seats.specs.Writing.{Holds};
+ghost use Rattle.table_steps.specs.Walking.{HasWords};
+ghost use Rattle.table_steps.specs.Writing.{Holds};
 ghost use Rattle.trie_nodes.specs.Paths.{nibble};
 
 use crate::laws::{history_laws, trie_laws};
 use crate::words::TableWords;
-use atomic_table::{Play, Seat};
+use atomic_table::Seat;
 use table_rule::view::View;
+use table_steps::pruning::{CutOff, LookAtSlot, Mark, ReadParent, TryUpper};
 use trie_nodes::Slot;
 use trie_nodes::layout::{DEAD, FREE, held_word, lock_word, parent_word, slot_word};
-
-/// A seat looks at a slot of the node whose lock it holds.
-pub(crate) struct LookAtSlot;
-
-impl Play<(), View> for LookAtSlot {
-    ghost then = { λ step before found after. LooksAtSlot before found after };
-}
-
-/// A seat reads the parent's place of the node whose lock it holds.
-pub(crate) struct ReadParent;
-
-impl Play<(), View> for ReadParent {
-    ghost then = { λ step before found after. ReadsParent before found after };
-}
-
-/// A seat tries the lock of the parent of the node whose lock it holds.
-pub(crate) struct TryUpper;
-
-impl Play<(), View> for TryUpper {
-    ghost then = { λ step before found after. TriesUpper before found after };
-}
-
-/// A seat marks the node dead whose lock it holds.
-pub(crate) struct Mark;
-
-impl Play<(), View> for Mark {
-    ghost then = { λ step before found after. Marks before after };
-}
-
-/// A seat empties the slot of a dead node's parent.
-pub(crate) struct CutOff;
-
-impl Play<(), View> for CutOff {
-    ghost then = { λ step before found after. CutsOff before after };
-}
 
 impl TableWords {
     /// Looks at a slot of the node whose lock the seat holds. All slots before it are known to be empty.

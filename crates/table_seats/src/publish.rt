@@ -1,28 +1,20 @@
 //! The write of a call that changes a map: one write to a slot, under its node's lock, shows what its caller has drafted.
 ghost use Rattle.std.specs.Prelude.{◌≡◌, ◌<◌};
 ghost use Rattle.table_rule.specs.declared.view.Lock.{Lock};
-ghost use Rattle.table_seats.specs.Making.{used_in, IsLockAt, MayPublish, Publishes};
+ghost use Rattle.table_steps.specs.Making.{used_in, IsLockAt, MayPublish, Publishes};
 ghost use Rattle.table_seats.specs.Seats.{begin_of, IsSeatOf};
-ghost use Rattle.table_seats.specs.Walking.{HasWords};
+ghost use Rattle.table_steps.specs.Walking.{HasWords};
 
 use crate::laws::{history_laws, trie_laws};
-use crate::making::Making;
 use crate::words::TableWords;
-use atomic_table::{Play, Seat};
-use std::marker::{Brand, PhantomData};
+use atomic_table::Seat;
+use std::marker::Brand;
 use sync_types::MapCall;
 use table_rule::view::View;
+use table_steps::publish::Publish;
+use table_steps::subject::Making;
 use trie_nodes::layout::slot_word;
 use trie_nodes::nibble;
-
-/// A seat writes a slot of the node whose lock it holds. This step places the call of the seat's first caller.
-pub(crate) struct Publish<C> {
-    marker: PhantomData<C>,
-}
-
-impl<C: Making> Play<(), View> for Publish<C> {
-    ghost then = { λ step before found after. Publishes C.map C.call (used_in before.0.owns) before after };
-}
 
 impl TableWords {
     /// Writes the slot of a key. This places the call.

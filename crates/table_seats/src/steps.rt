@@ -2,10 +2,12 @@
 ghost use Rattle.std.specs.Prelude.{◌≡◌, ℕ, ◌+◌, ◌<◌, ◌^◌};
 
 use std::marker::Model;
+use std::sync::Wait;
 use std::sync::ledger::{Blank, Book, Ledger, Share};
 
 /// Counts the reads of a table's words. No call can set it back: it stands for a ledger's total, which only grows. It rises by the
-/// reading steps alone, by one for each look at a word.
+/// reading steps alone, by one for each look at a word. To make one takes a handle that lets its caller wait. A load has none, so it
+/// can't count on a counter of its own.
 #[derive(Drop)]
 pub struct Steps<L: Ledger> {
     book: Book<L>,
@@ -23,7 +25,7 @@ impl<L: Ledger> Model for Steps<L> {
 
 impl<L: Ledger> Steps<L> {
     /// No read yet.
-    pub fn new(blank: Blank) -> Self
+    pub fn new<R: Wait>(_rt: &R, blank: Blank) -> Self
         requires name { blank.name ≡ L.name }
         requires parts { (blank.parts ≡ L.parts) × (0 < L.parts) }
         ensures { result ≡ 0 }

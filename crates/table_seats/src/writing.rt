@@ -7,77 +7,23 @@ ghost use Rattle.table_rule.specs.declared.view.Own.{Own};
 ghost use Rattle.table_rule.specs.declared.view.Walk.{Walk};
 ghost use Rattle.table_rule.specs.Layout.{size_of};
 ghost use Rattle.table_seats.specs.Seats.{begin_of, IsSeatOf};
-ghost use Rattle.table_seats.specs.Walking.{standing, walk_at, HasWords, Affords, IsFree, IsUncounted};
+ghost use Rattle.table_steps.specs.Walking.{standing, walk_at, HasWords, Affords, IsFree, IsUncounted};
 ghost use Rattle.sync_types.specs.SequentialMap.{map_key};
 ghost use Rattle.sync_model.specs.Shared.{cost_of};
-ghost use Rattle.table_seats.specs.Making.{StandsLocked, LooksHeld};
-ghost use Rattle.trie_nodes.specs.Slots.{slot_in};
-ghost use Rattle.table_seats.specs.Writing.{holding, lock_at, IsWriter, TriesLock, Holds, Unlocks, ComesIn, IsInside, GoesOut, HasRoomWithin, drafted, Drafts, HasDraft};
+ghost use Rattle.table_steps.specs.Making.{StandsLocked, LooksHeld};
+ghost use Rattle.table_steps.specs.Writing.{holding, lock_at, IsWriter, TriesLock, Holds, Unlocks, ComesIn, IsInside, GoesOut, HasRoomWithin, drafted, Drafts, HasDraft};
 
 use crate::laws::history_laws;
-use crate::lookup::Way;
-use crate::making::Making;
 use crate::words::TableWords;
-use atomic_table::{Play, Seat};
-use std::marker::{Brand, PhantomData};
+use atomic_table::Seat;
+use std::marker::Brand;
 use std::sync::Wait;
 use sync_types::MapCall;
 use table_rule::view::View;
+use table_steps::subject::{Making, Way};
+use table_steps::writing::{ComeIn, Draft, DraftZero, GoOut, LookHeld, TryLock, Unlock};
 use trie_nodes::layout::{DEAD, FREE, held_word, lock_word, slot_word};
 use trie_nodes::{Slot, nibble};
-
-/// A seat comes in as a writer of a map.
-pub(crate) struct ComeIn<W> {
-    marker: PhantomData<W>,
-}
-
-impl<W: Way> Play<(), View> for ComeIn<W> {
-    ghost then = { λ step before found after. ComesIn W.map step.first before found after };
-}
-
-/// A seat goes out.
-pub(crate) struct GoOut;
-
-impl Play<(), View> for GoOut {
-    ghost then = { λ step before found after. GoesOut before found after };
-}
-
-/// A seat tries the lock of the node where it stands.
-pub(crate) struct TryLock;
-
-impl Play<(), View> for TryLock {
-    ghost then = { λ step before found after. (w : Walk) → before.0.walk ≡ Some w → TriesLock w before found after };
-}
-
-/// A seat looks at its key's slot under the lock of the node where it stands.
-pub(crate) struct LookHeld<C> {
-    marker: PhantomData<C>,
-}
-
-impl<C: Making> Play<(), View> for LookHeld<C> {
-    ghost then = { λ step before found after. LooksHeld C.call before (slot_in found) after };
-}
-
-/// A seat gives its lock back.
-pub(crate) struct Unlock;
-
-impl Play<(), View> for Unlock {
-    ghost then = { λ step before found after. Unlocks before found after };
-}
-
-/// A seat lets the next word of its own room stay 0.
-pub(crate) struct DraftZero;
-
-impl Play<(), View> for DraftZero {
-    ghost then = { λ step before found after. Drafts 0 before 0 after };
-}
-
-/// A seat writes the next word of its own room.
-pub(crate) struct Draft;
-
-impl Play<(), View> for Draft {
-    ghost then = { λ step before found after. Drafts step.first before found after };
-}
 
 impl TableWords {
     /// Tries to come in as a writer of the map. It doesn't where the gate is closed, or where another passed it just then. Only a

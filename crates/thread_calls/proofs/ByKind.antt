@@ -23,7 +23,7 @@ use Rattle.run_record.specs.Objects.{map_number, atomic_number, first_part}
 use Rattle.run_record.specs.PoolKind.{pool_call}
 use Rattle.run_record.specs.Calls.{call_on, call_at, SpellsCall}
 use Rattle.thread_objects.specs.AsDeclared.{IsAt}
-use Rattle.kind_calls.specs.Working.{Desk, Works}
+use Rattle.shared_calls.specs.Working.{Desk, Works}
 
 -- an object that has a pool's call is a pool
 pool_kind : (kind : ObjectKind) (call : PoolCall) → has_call kind (operations.Pool call) ≡ true → kind ≡ kinds.Pool

@@ -31,9 +31,9 @@ use Rattle.run_record.specs.MapKind.{map_call, range_call}
 use Rattle.run_record.specs.OnceKind.{do_call}
 use Rattle.run_record.specs.Objects.{is_map, is_atomic, types_of, map_number, atomic_number}
 use Rattle.thread_objects.specs.AsDeclared.{IsAt}
-use Rattle.kind_calls.specs.Parts.{placed_map}
+use Rattle.shared_calls.specs.PlacedCalls.{placed_map}
 use Rattle.thread_calls.specs.Sites.{AreNumbers, AreShared, number_at}
-use Rattle.kind_calls.specs.Working.{Desk, Works}
+use Rattle.shared_calls.specs.Working.{Desk, Works}
 use Rattle.thread_calls.proofs.Numbers.{one_more}
 
 -- the number of a call costs nothing

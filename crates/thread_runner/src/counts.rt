@@ -66,11 +66,8 @@ fn count_one(count: u32, is_one: bool) -> u32
     if is_one { count + 1 } else { count }
 }
 
-/// The types of a workload's atomics, in order of declaration.
-pub(crate) fn atomic_kinds(
-    alloc: Global,
-    workload: &Workload,
-) -> Result<Vec<AtomicKind>, AllocError>
+/// The types of a workload's atomics, in order of declaration: those of the atomics that a run of it is made over.
+pub fn atomic_kinds(alloc: Global, workload: &Workload) -> Result<Vec<AtomicKind>, AllocError>
     ensures { IfOk result (λ types. types.items ≡ flat_map (λ object. types_of object.kind) workload.now.objects) }
 {
     let mut types = Vec::new(alloc);
@@ -80,8 +77,8 @@ pub(crate) fn atomic_kinds(
     Ok(types)
 }
 
-/// How many maps a workload declares.
-pub(crate) fn map_count(workload: &Workload) -> u32
+/// How many maps a workload declares: as many as a run of it is made over.
+pub fn map_count(workload: &Workload) -> u32
     ensures { result ≡ count_by (λ object. is_map object.kind) workload.now.objects }
 {
     let _workers = workload.workers();
@@ -142,8 +139,9 @@ fn script_cost(script: &[Call]) -> u32
     cost
 }
 
-/// How many spare entries the script of each worker takes at most, in order of number.
-pub(crate) fn spares(alloc: Global, workload: &Workload) -> Result<Vec<u32>, AllocError>
+/// How many spare entries the script of each worker takes at most, in order of number: as many as its caller has at the start
+/// of a run.
+pub fn spares(alloc: Global, workload: &Workload) -> Result<Vec<u32>, AllocError>
     ensures count { IfOk result (λ spares. length spares.items ≡ workload.now.workers) }
     ensures each { IfOk result (λ spares. (worker : ℕ) → worker < workload.now.workers → slice_index spares.items worker ≡ cost_of_calls (get_or workload.now.scripts worker [])) }
     ensures few { IfOk result (λ spares. (worker : ℕ) → worker < workload.now.workers → slice_index spares.items worker ≤ length (get_or workload.now.scripts worker [])) }

@@ -38,16 +38,13 @@ where
     <S::Mark as Note>::Home: Sync,
 {
     ghost use Rattle.std.specs.Prelude.{◌≡◌};
-    ghost use Rattle.run_record.specs.Record.{stop};
-    ghost use Rattle.thread_objects.specs.Desks.{IsObjectAt};
-    ghost use Rattle.thread_objects.specs.Kinds.{IsStop};
     ghost use Rattle.thread_calls.specs.Sites.{IsSite};
     ghost use Rattle.thread_runner.specs.Jobs.{IsReady, HasGone};
 
     type Out = Gone<S::Mark>;
 
     ghost ready = { λ job. IsSite S.Mark.at job.worker.at.home.now job.site.workload.now (S.maps job.site.shared.now) (S.kinds job.site.shared.now) (S.takes job.site.shared.now) job.site.objects.now job.site.numbers.now
-        × IsObjectAt IsStop job.site.objects.now stop × (job.site.workload.now.workers ≡ job.worker.workers) × (S.home_of job.site.shared.now ≡ job.worker.at.home.now)
+        × (job.site.workload.now.workers ≡ job.worker.workers) × (S.home_of job.site.shared.now ≡ job.worker.at.home.now)
         × IsReady S.Mark.at S.Mark.own S.Mark.front job.worker.at.home.now job.site.workload.now job.site.objects.now job.worker.number job.passes.items job.caller job.replies job.rooms.items };
 
     ghost gives = { λ job gone. HasGone S.Mark.at S.Mark.own S.Mark.front job.worker.at.home.now job.site.workload.now job.site.objects.now job.worker.number job.passes.items job.caller gone.passes.items gone.caller gone.replies };

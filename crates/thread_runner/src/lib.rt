@@ -15,9 +15,7 @@ mod script;
 mod trie_maps;
 mod whole_run;
 
+pub use counts::{atomic_kinds, map_count, spares};
 pub use fault::RunFault;
 pub use run::threaded_over;
 pub use whole_run::threaded;
-
-#[cfg(test)]
-mod tests;

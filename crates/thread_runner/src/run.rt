@@ -15,9 +15,9 @@ use crate::deal::{collect, deal, make_objects_by};
 use crate::fault::RunFault;
 use crate::gather::Left;
 use crate::hire::hire;
-use kind_calls::laws::a_worker_knows_its_own_calls;
 use run_record::laws::endings::stop_says_how_a_run_ended;
 use run_record::laws::limits::{a_range_shows_no_key_but_the_workloads, an_int64_answers_an_int64};
+use shared_calls::laws::a_worker_knows_its_own_calls;
 use std::alloc::Global;
 use std::sync::Wait;
 use std::thread::Threads;
@@ -26,7 +26,6 @@ use sync_model::{Caller, Note, Shared};
 use sync_outside::{Clock, Gate, Spawner, Started};
 use sync_types::{Outcome, Report, Seq};
 use thread_calls::numbers_of;
-use thread_objects::laws::stop_is_the_first_object;
 use thread_objects::{AnyColumn, AnyObject, AnyPass, Crew, journals};
 use workload::Workload;
 
@@ -115,7 +114,6 @@ where
     ensures rounds { P.rounds spawner.new ≤ P.rounds spawner.old + 1 }
     ensures unstarted { IfErr result (λ fault. (P.ran spawner.new ≡ P.ran spawner.old) × (P.rounds spawner.new ≡ P.rounds spawner.old)) }
 {
-    stop_is_the_first_object::<S::Mark>();
     let _workers = workload.workers();
     let jobs = hire(
         alloc, workload, shared, objects, numbers, clock, gate, callers, rows,

@@ -9,17 +9,16 @@ ghost use Rattle.run_record.specs.declared.made.Made.{Made};
 ghost use Rattle.run_record.specs.Calls.{SpellsCall};
 ghost use Rattle.run_record.specs.Limits.{IsCallOf};
 ghost use Rattle.run_record.specs.Lines.{Line, IsHalt};
-ghost use Rattle.run_record.specs.Record.{ObjectEntry, stop};
-ghost use Rattle.thread_objects.specs.Desks.{AreSeats, IsObjectAt};
-ghost use Rattle.kind_calls.specs.GivenUp.{GaveUp};
-ghost use Rattle.thread_objects.specs.Kinds.{IsStop};
+ghost use Rattle.run_record.specs.Record.{ObjectEntry};
+ghost use Rattle.thread_objects.specs.Desks.{AreSeats};
+ghost use Rattle.shared_calls.specs.GivenUp.{GaveUp};
 ghost use Rattle.thread_objects.specs.Passes.{owns_of};
 ghost use Rattle.thread_calls.specs.Sites.{IsSite, AreRooms, cost_of_calls, ranges_in_calls};
-ghost use Rattle.kind_calls.specs.Working.{Desk, Works, Moves, desk_with};
+ghost use Rattle.shared_calls.specs.Working.{Desk, Works, Moves, desk_with};
 ghost use Rattle.thread_runner.specs.DidLines.{DidLine, IsFresh};
 
 use kind_calls::halt_all;
-use kind_calls::laws::moves;
+use shared_calls::laws::moves;
 use std::sync::Wait;
 use sync_model::{Answer, Caller, Note, Shared};
 use sync_outside::{Clock, Gate};
@@ -44,7 +43,6 @@ pub(crate) fn run_script<S: Shared, C: Clock, G: Gate, R: Wait>(
     requires site { IsSite S.Mark.at worker.now.at.home.now site.now.workload.now (S.maps site.now.shared.now) (S.kinds site.now.shared.now) (S.takes site.now.shared.now) site.now.objects.now site.now.numbers.now }
     requires homes { S.home_of site.now.shared.now ≡ worker.now.at.home.now }
     requires workers { site.now.workload.now.workers ≡ worker.now.workers }
-    requires stop { IsObjectAt IsStop site.now.objects.now stop }
     requires seats { AreSeats S.Mark.at worker.now.at.home.now worker.now.workers worker.now.number site.now.objects.now passes.old }
     requires caller { IsCallerAt S.Mark.at S.Mark.own worker.now.at.home.now caller.old }
     requires spare { ForSome (S.Mark.own caller.old.note) (λ holding. cost_of_calls (get_or site.now.workload.now.scripts worker.now.number []) ≤ holding.spare) }
@@ -71,7 +69,15 @@ pub(crate) fn run_script<S: Shared, C: Clock, G: Gate, R: Wait>(
             None => return,
             Some(Answer::Done(Ok(reply))) => replies.push(reply),
             Some(Answer::Done(Err(misuse))) => {
-                halt_all(rt, worker, site.objects, passes, &caller.note, misuse);
+                halt_all(
+                    rt,
+                    worker,
+                    site.workload,
+                    site.objects,
+                    passes,
+                    &caller.note,
+                    misuse,
+                );
                 return;
             }
             Some(Answer::Halted(_misuse)) => return,

@@ -18,8 +18,8 @@ use sync_outside::{Clock, Gate, Spawner};
 use sync_types::Outcome;
 use workload::Workload;
 
-/// The run over these maps and atomics, whatever they are.
-pub(crate) fn threaded_on<
+// The run over these maps and atomics, whatever they are.
+fn threaded_on<
     M: RunMaps + Drop + Sync,
     C: Clock + Sync,
     P: Spawner,

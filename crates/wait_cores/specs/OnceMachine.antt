@@ -5,8 +5,8 @@ use Rattle.wait_cores.specs.declared.once.OnceEvent.{OnceEvent}
 use Rattle.wait_cores.specs.declared.once.OnceEvent.TheVariants.{Begin, End, Leave}
 use Rattle.wait_cores.specs.declared.once.OnceReply.{OnceReply}
 use Rattle.wait_cores.specs.declared.once.OnceReply.TheVariants as reply
-use Rattle.wait_cores.specs.declared.once.Begun.{Begun}
-use Rattle.wait_cores.specs.declared.once.Begun.TheVariants.{Run, Queued, Done}
+use Rattle.wait_cores.specs.declared.once.Beginning.{Beginning}
+use Rattle.wait_cores.specs.declared.once.Beginning.TheVariants.{Run, Queued, Done}
 use Rattle.wait_cores.specs.declared.once.OnceProgress.{OnceProgress}
 use Rattle.wait_cores.specs.declared.once.OnceProgress.TheVariants.{NotRun, Running, Ended}
 use Rattle.wait_cores.specs.declared.once.OncePlace.{OncePlace}
@@ -85,7 +85,7 @@ module _ {T : Type 0} where
   next state caller event = if nat_lt caller (callers_of state) then made state caller event else (state, reply.Still)
 
   -- the machine's reply that an answer of `begin` is
-  abbrev pub reply_of : Begun T → OnceReply T
+  abbrev pub reply_of : Beginning T → OnceReply T
   reply_of Run = reply.Run
   reply_of Queued = reply.Queued
   reply_of (Done kept) = reply.Done kept

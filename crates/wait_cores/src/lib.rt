@@ -9,4 +9,4 @@ pub mod once;
 
 pub use group::{GroupCore, GroupEvent, GroupPlace, GroupReply, GroupWait};
 pub use notify::{NotifyCore, NotifyEvent, NotifyPlace, NotifyReply};
-pub use once::{Begun, OnceCore, OnceEvent, OncePlace, OnceProgress, OnceReply};
+pub use once::{Beginning, OnceCore, OnceEvent, OncePlace, OnceProgress, OnceReply};

@@ -60,7 +60,7 @@ pub enum OncePlace {
 
 /// What `OnceCore::begin` answers.
 #[derive(Clone, Copy, Debug, PartialEq, Eq)]
-pub enum Begun<T> {
+pub enum Beginning<T> {
     /// The caller is to run the function.
     Run,
     /// The function is being run: the caller waits.
@@ -69,14 +69,14 @@ pub enum Begun<T> {
     Done(T),
 }
 
-impl<T> From<Begun<T>> for OnceReply<T> {
-    ghost from_gives = { λ begun reply. reply ≡ reply_of begun };
+impl<T> From<Beginning<T>> for OnceReply<T> {
+    ghost from_gives = { λ beginning reply. reply ≡ reply_of beginning };
 
-    fn from(begun: Begun<T>) -> Self {
-        match begun {
-            Begun::Run => OnceReply::Run,
-            Begun::Queued => OnceReply::Queued,
-            Begun::Done(kept) => OnceReply::Done(kept),
+    fn from(beginning: Beginning<T>) -> Self {
+        match beginning {
+            Beginning::Run => OnceReply::Run,
+            Beginning::Queued => OnceReply::Queued,
+            Beginning::Done(kept) => OnceReply::Done(kept),
         }
     }
 }
@@ -111,7 +111,7 @@ impl<T: Copy> OnceCore<T> {
     }
 
     /// Comes to have the function run: the first caller runs it, others wait for its end, and after that nobody waits.
-    pub fn begin(&mut self, caller: u32) -> Begun<T>
+    pub fn begin(&mut self, caller: u32) -> Beginning<T>
         requires is_caller { caller < callers_of self.old }
         requires is_out { place_of self.old caller ≡ OncePlace.Out }
         ensures step { next self.old caller OnceEvent.Begin ≡ (self.new, reply_of result) }
@@ -120,13 +120,13 @@ impl<T: Copy> OnceCore<T> {
         match self.progress {
             OnceProgress::NotRun => {
                 self.progress = OnceProgress::Running(caller);
-                Begun::Run
+                Beginning::Run
             }
             OnceProgress::Running(_) => {
                 self.waits[caller as usize] = true;
-                Begun::Queued
+                Beginning::Queued
             }
-            OnceProgress::Ended(kept) => Begun::Done(kept),
+            OnceProgress::Ended(kept) => Beginning::Done(kept),
         }
     }
 

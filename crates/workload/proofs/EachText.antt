@@ -514,14 +514,14 @@ line_reads before line small h =
       | false ↦ λ f e. (before, record { short = good.0; clean = good.1.0; silent = λ _. refl; continues = λ t. not_both_ways t f })
     ] refl one.1
 
-abbrev Ends : List (List ℕ) → Option Draft → ℕ → Type 0
-Ends lines before next = ((plan : Plan) × ReadsOn lines before plan) ⊎ ((line : ℕ) × (reason : Reason) × FirstFault lines before next line reason)
+abbrev IsReadOrRefused : List (List ℕ) → Option Draft → ℕ → Type 0
+IsReadOrRefused lines before next = ((plan : Plan) × ReadsOn lines before plan) ⊎ ((line : ℕ) × (reason : Reason) × FirstFault lines before next line reason)
 
-lines_end : (lines : List (List ℕ)) (before : Option Draft) (next : ℕ) → IsSmall before → Ends lines before next
+lines_end : (lines : List (List ℕ)) (before : Option Draft) (next : ℕ) → IsSmall before → IsReadOrRefused lines before next
 lines_end [] None next small = inr (max 1 (next - 1), NoWorkersLine, (refl, refl))
 lines_end [] (Some d) next small = inl (d.plan, refl)
 lines_end (line ∷ lines) before next small =
-    elim (reason_of before line) as (λ r. reason_of before line ≡ r → Ends (line ∷ lines) before next) [
+    elim (reason_of before line) as (λ r. reason_of before line ≡ r → IsReadOrRefused (line ∷ lines) before next) [
       | Some reason ↦ λ is. inr (next, reason, inl (refl, is))
       | None ↦ λ is.
           let read = line_reads before line small is in

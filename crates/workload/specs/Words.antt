@@ -27,13 +27,14 @@ abbrev pub turn_word : Turn → List ℕ
 turn_word (turns.Worker worker) = decimal worker
 turn_word (turns.Moment moment) = 64 ∷ decimal moment
 
--- the words of a line behind the first one
+-- the keyword that a line begins with
 abbrev pub keyword_of : Line → Keyword
 keyword_of (lines.Object object reference) = keywords.Object (word_of object.kind)
 keyword_of (lines.Worker worker) = keywords.Worker
 keyword_of (lines.Schedule schedule) = keywords.Schedule
 keyword_of (lines.Call name call) = keywords.Call (verb_of call.operation)
 
+-- the words of a line behind the first one
 abbrev pub arguments_of : Line → List (List ℕ)
 arguments_of (lines.Object object reference) = object.name ∷ option_to_list reference ++ kind_parameters object.kind
 arguments_of (lines.Worker worker) = decimal worker ∷ []

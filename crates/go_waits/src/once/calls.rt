@@ -6,7 +6,7 @@ ghost use Rattle.wait_cores.specs.declared.once.OnceReply.{OnceReply};
 ghost use Rattle.ruled_object.specs.Growth.{Placed, KeepsNote, MeetsHalt, deeds_of};
 ghost use Rattle.ruled_object.specs.Passes.{left_of, number_of, IsOneLess, SamePass};
 ghost use Rattle.go_waits.specs.declared.once_begun.OnceBegun.TheVariants.{Already};
-ghost use Rattle.go_waits.specs.OnceCalls.{Begins, Ends, RunsOnce, StandsAs};
+ghost use Rattle.go_waits.specs.OnceCalls.{Begins, EndsFunction, RunsOnce, StandsAs};
 ghost use Rattle.go_waits.specs.Onces.{OnceGrows, IsHomeOf, IsPassOf, IsRunnerOf, IsOnceLawful};
 
 use super::{Once, OncePass};
@@ -64,7 +64,7 @@ impl<T: Copy, N: Note> Once<T, N> {
         requires home { IsHomeOf N.at self.now at.now.home.now × N.at at.now.home.now note.old }
         ensures pass { IsPassOf self.now pass.new × SamePass pass.old pass.new }
         ensures note { KeepsNote N.at N.own N.front note.old note.new }
-        ensures events { (es : List (Placed (OnceEvent T) (OnceReply T))) × OnceGrows self.now pass.old (N.front note.old) es pass.new (N.front note.new) × Ends kept (deeds_of es) result × MeetsHalt es result }
+        ensures events { (es : List (Placed (OnceEvent T) (OnceReply T))) × OnceGrows self.now pass.old (N.front note.old) es pass.new (N.front note.new) × EndsFunction kept (deeds_of es) result × MeetsHalt es result }
         ensures once { RunsOnce pass.new }
         ensures no_edge { N.front note.new ≡ N.front note.old }
         ensures journal { IsOnceLawful self.now pass.new }

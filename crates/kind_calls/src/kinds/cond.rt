@@ -6,11 +6,12 @@ ghost use Rattle.run_record.specs.Parts.{read_as};
 ghost use Rattle.kind_calls.specs.Replies.{returned};
 ghost use Rattle.thread_objects.specs.Kinds.{IsCond};
 ghost use Rattle.thread_objects.specs.Passes.{IsSeatAt, own_of};
-ghost use Rattle.kind_calls.specs.Working.{Works, desk_at};
+ghost use Rattle.shared_calls.specs.Working.{Works, desk_at};
 
-use super::replies::{CallAnswer, returned};
+use super::replies::returned;
 use crate::part::part;
 use protocols::CondStage;
+use shared_calls::CallAnswer;
 use std::sync::Wait;
 use sync_model::{Answer, Note};
 use sync_outside::Clock;

@@ -1,74 +1,35 @@
 //! `do` on a once, whose function adds to an int64.
-ghost use Rattle.std.specs.Prelude.{◌≡◌, ℕ, ℤ, false, List, Ok, IfSome, IfNone};
-ghost use Rattle.sync_model.specs.declared.answer.Answer.TheVariants.{Done};
+ghost use Rattle.std.specs.Prelude.{◌≡◌, ℕ, false, IfSome, IfNone};
 ghost use Rattle.sync_types.specs.declared.atomic_object.AtomicCall.TheVariants.{Add};
-ghost use Rattle.sync_types.specs.declared.atomic_object.AtomicReply.TheVariants.{Held};
 ghost use Rattle.sync_types.specs.declared.atomic_object.Number.TheVariants.{Int64};
 ghost use Rattle.sync_model.specs.Note.{SameHome};
 ghost use Rattle.sync_model.specs.Shared.{IsAtomicCall, IsCallerAt, items_of};
 ghost use Rattle.workload.specs.Plan.{Plan};
 ghost use Rattle.protocols.specs.OnceStages.{once_stands, OnceBegins};
-ghost use Rattle.run_record.specs.AtomicKind.{adds};
 ghost use Rattle.run_record.specs.declared.entered.ObjectEvent.TheVariants as event;
 ghost use Rattle.run_record.specs.declared.entered.ObjectReply.TheVariants as reply;
 ghost use Rattle.run_record.specs.Limits.{IsCallOf, atomic_types};
 ghost use Rattle.run_record.specs.OnceKind.{do_call};
-ghost use Rattle.run_record.specs.Record.{ObjectEntry};
+ghost use Rattle.shared_calls.specs.GivenUp.{MakesOnly, AnsweredAmiss};
+ghost use Rattle.shared_calls.specs.Spending.{Spends};
+ghost use Rattle.shared_calls.specs.Working.{Works, desk_at, desk_with};
 ghost use Rattle.thread_objects.specs.Desks.{AreSeats, IsObjectAt};
-ghost use Rattle.kind_calls.specs.GivenUp.{MakesOnly, AnsweredAmiss};
 ghost use Rattle.thread_objects.specs.Kinds.{IsOnce};
 ghost use Rattle.thread_objects.specs.Passes.{IsSeatAt, own_of, owns_of, own_as};
 ghost use Rattle.thread_objects.specs.Seats.{IsSeat};
-ghost use Rattle.kind_calls.specs.Spending.{Spends};
-ghost use Rattle.kind_calls.specs.Working.{Works, desk_at, desk_with};
 
 use super::once::{begin, end, ended};
-use super::replies::{CallAnswer, ran};
+use super::replies::ran;
 use protocols::OnceOutcome;
 use ruled_object::{Object, PassOf};
+use shared_calls::laws::{moves, what_calls_spend, which_calls_are_made};
+use shared_calls::{CallAnswer, add_int64};
 use std::sync::Wait;
 use sync_model::{Answer, Caller, Shared};
 use sync_outside::Clock;
-use sync_types::{AtomicCall, AtomicReply, DoReply, Number, Reply};
+use sync_types::{DoReply, Reply};
 use thread_objects::{AnyObject, AnyPass, Worker};
 use wait_cores::OnceCore;
-
-// The int64 that a reply holds. `None`, where it holds another number, or none.
-fn int64_in(reply: AtomicReply) -> Option<i64>
-    ensures sum { IfSome result (λ sum. reply ≡ Held (Int64 sum)) }
-    ensures other { IfNone result ((sum : ℤ) → reply ≡ Held (Int64 sum) → ⊥) }
-{
-    match reply {
-        AtomicReply::Held(Number::Int64(sum)) => Some(sum),
-        AtomicReply::Held(Number::Int32(_number)) => None,
-        AtomicReply::Held(Number::Uint32(_number)) => None,
-        AtomicReply::Held(Number::Uint64(_number)) => None,
-        AtomicReply::Held(Number::Bool(_truth)) => None,
-        AtomicReply::Done => None,
-        AtomicReply::Compared(_swapped) => None,
-    }
-}
-
-// Adds to an int64, and answers the sum. It may wait for other callers. `None`, where it is answered by another number.
-fn add<S: Shared, R: Wait>(
-    rt: &R,
-    shared: &S,
-    caller: &mut Caller<S::Mark>,
-    atomic: u32,
-    delta: i64,
-) -> Option<i64>
-    requires caller { IsCallerAt S.Mark.at S.Mark.own (S.home_of shared.now) caller.old }
-    requires call { IsAtomicCall (S.kinds shared.now) atomic (Add (Int64 delta)) }
-    ensures home { SameHome S.Mark.at caller.old.note caller.new.note }
-    ensures spends { Spends S.Mark.own 0 caller.old.note caller.new.note }
-    ensures calls { (plan : Plan) → atomic_types plan ≡ S.kinds shared.now → MakesOnly (IsCallOf plan) (items_of (S.Mark.own caller.old.note)) (items_of (S.Mark.own caller.new.note)) }
-    ensures amiss { IfNone result (AnsweredAmiss (items_of (S.Mark.own caller.new.note))) }
-    ensures works { IfSome result (λ sum. (owns : ℕ → List ObjectEntry)
-        → Works (adds atomic delta) (desk_with S.Mark.own S.Mark.front owns caller.old.note) (Done (Ok sum)) (desk_with S.Mark.own S.Mark.front owns caller.new.note)) }
-{
-    let operand = Number::Int64(delta);
-    int64_in(shared.atomic_call(rt, caller, atomic, AtomicCall::Add { operand }))
-}
 
 // The first call runs the function, which adds to the int64, and later ones find it run. Where the add is answered by no int64 the once is
 // ended all the same, so that nobody waits for it.
@@ -94,13 +55,16 @@ fn do_on<S: Shared, C: Clock, R: Wait>(
     ensures works { IfSome result (λ answer. (number : ℕ)
         → Works (do_call number atomic delta) (desk_at S.Mark.own S.Mark.front number (own_as event.Once reply.Once pass.old) caller.old.note) answer (desk_at S.Mark.own S.Mark.front number (own_as event.Once reply.Once pass.new) caller.new.note)) }
 {
+    moves();
+    what_calls_spend::<S::Mark>();
+    which_calls_are_made();
     match begin(rt, worker, once, pass, &mut caller.note) {
         Answer::Halted(misuse) => Some(Answer::Halted(misuse)),
         Answer::Done(Err(misuse)) => Some(Answer::Done(Err(misuse))),
         Answer::Done(Ok(OnceOutcome::Already(_kept))) => {
             Some(Answer::Done(Ok(Reply::Once(DoReply::Done))))
         }
-        Answer::Done(Ok(OnceOutcome::Run)) => match add(rt, shared, caller, atomic, delta) {
+        Answer::Done(Ok(OnceOutcome::Run)) => match add_int64(rt, shared, caller, atomic, delta) {
             Some(sum) => {
                 let answer = end(rt, worker, once, pass, &mut caller.note, sum);
                 Some(ran(ended(answer, sum)))

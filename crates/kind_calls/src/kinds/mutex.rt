@@ -6,11 +6,12 @@ ghost use Rattle.ruled_object.specs.Growth.{KeepsNote};
 ghost use Rattle.run_record.specs.MutexKind.{mutex_part, mutex_stage, mutex_call};
 ghost use Rattle.thread_objects.specs.Kinds.{IsMutex};
 ghost use Rattle.thread_objects.specs.Passes.{IsSeatAt, own_of};
-ghost use Rattle.kind_calls.specs.Working.{Works, desk_at};
+ghost use Rattle.shared_calls.specs.Working.{Works, desk_at};
 
-use super::replies::{CallAnswer, lock_reply};
+use super::replies::lock_reply;
 use crate::part::part;
 use protocols::MutexStage;
+use shared_calls::CallAnswer;
 use std::sync::Wait;
 use sync_model::{Answer, Note};
 use sync_outside::Clock;

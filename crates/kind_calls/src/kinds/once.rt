@@ -14,12 +14,14 @@ ghost use Rattle.run_record.specs.Parts.{returns, stages, with_outcome};
 ghost use Rattle.thread_objects.specs.Kinds.{IsOnceFunc, IsOnceValue};
 ghost use Rattle.thread_objects.specs.Passes.{IsSeatAt, own_of, own_as};
 ghost use Rattle.thread_objects.specs.Seats.{IsSeat, IsStanding};
-ghost use Rattle.kind_calls.specs.Working.{Works, desk_at};
+ghost use Rattle.shared_calls.specs.Working.{Works, desk_at};
 
-use super::replies::{CallAnswer, func_reply, value_reply};
+use super::replies::{func_reply, value_reply};
 use protocols::{OnceOutcome, OnceStage};
 use ruled_object::{Object, PassOf};
 use running::call_within;
+use shared_calls::CallAnswer;
+use shared_calls::laws::{a_note_counts_its_calls, moves};
 use std::sync::Wait;
 use sync_model::{Answer, Note};
 use sync_outside::Clock;
@@ -43,6 +45,7 @@ pub(super) fn begin<T: Copy, N: Note, C: Clock, R: Wait>(
     ensures works { (event : OnceEvent T → ObjectEvent) (reply : OnceReply T → ObjectReply) (number : ℕ)
         → Works (stages event reply once_event once_meaning number stage.Begin) (desk_at N.own N.front number (own_as event reply pass.old) note.old) result (desk_at N.own N.front number (own_as event reply pass.new) note.new) }
 {
+    a_note_counts_its_calls();
     call_within(once, rt, &worker.at, pass, note, OnceStage::Begin)
 }
 
@@ -62,6 +65,7 @@ pub(super) fn end<T: Copy, N: Note, C: Clock, R: Wait>(
     ensures works { (event : OnceEvent T → ObjectEvent) (reply : OnceReply T → ObjectReply) (number : ℕ)
         → Works (stages event reply once_event once_meaning number (stage.End value)) (desk_at N.own N.front number (own_as event reply pass.old) note.old) result (desk_at N.own N.front number (own_as event reply pass.new) note.new) }
 {
+    a_note_counts_its_calls();
     call_within(once, rt, &worker.at, pass, note, OnceStage::End(value))
 }
 
@@ -95,6 +99,7 @@ fn kept<T: Copy, N: Note, C: Clock, R: Wait>(
     ensures works { (event : OnceEvent T → ObjectEvent) (reply : OnceReply T → ObjectReply) (number : ℕ) (told : T → Reply ℕ)
         → Works (once_part (stages event reply once_event once_meaning number) (returns value) told told) (desk_at N.own N.front number (own_as event reply pass.old) note.old) (with_outcome told result) (desk_at N.own N.front number (own_as event reply pass.new) note.new) }
 {
+    moves();
     match begin(rt, worker, once, pass, note) {
         Answer::Halted(misuse) => Answer::Halted(misuse),
         Answer::Done(Err(misuse)) => Answer::Done(Err(misuse)),

@@ -12,11 +12,13 @@ ghost use Rattle.thread_objects.specs.Desks.{AreSeats, IsObjectAt};
 ghost use Rattle.thread_objects.specs.Kinds.{IsPoolPart};
 ghost use Rattle.thread_objects.specs.Passes.{IsSeatAt, own_of, owns_of};
 ghost use Rattle.kind_calls.specs.PoolParts.{ArePartsAt};
-ghost use Rattle.kind_calls.specs.Working.{Works, desk_at, desk_with};
+ghost use Rattle.shared_calls.specs.Working.{Works, desk_at, desk_with};
 
-use super::replies::{CallAnswer, pool_done};
+use super::replies::pool_done;
 use crate::part::part;
 use protocols::{PoolOutcome, PoolStage};
+use shared_calls::CallAnswer;
+use shared_calls::laws::moves;
 use std::sync::Wait;
 use sync_model::{Answer, Note};
 use sync_outside::Clock;
@@ -104,31 +106,6 @@ fn part_at<N: Note, C: Clock, R: Wait>(
     part_of_pool(rt, worker, object, pass, note, stage)
 }
 
-// Puts an item into the worker's own part.
-fn put<N: Note, C: Clock, R: Wait>(
-    rt: &R,
-    worker: &Worker<N, C>,
-    objects: &[AnyObject<N>],
-    passes: &mut [AnyPass<N>],
-    note: &mut N,
-    first: usize,
-    item: u64,
-) -> CallAnswer
-    requires parts { ArePartsAt objects.now first worker.now.workers }
-    requires room { first + worker.now.workers ≤ length objects.now }
-    requires own { worker.now.number < worker.now.workers }
-    requires seats { AreSeats N.at worker.now.at.home.now worker.now.workers worker.now.number objects.now passes.old }
-    requires note { N.at worker.now.at.home.now note.old }
-    ensures seats { AreSeats N.at worker.now.at.home.now worker.now.workers worker.now.number objects.now passes.new }
-    ensures note { KeepsNote N.at N.own N.front note.old note.new }
-    ensures works { Works (pool_call worker.now.workers worker.now.number first (PoolCall.Put item)) (desk_with N.own N.front (owns_of passes.old) note.old) result (desk_with N.own N.front (owns_of passes.new) note.new) }
-{
-    let _count = objects.len();
-    let number = first + worker.number as usize;
-    let stage = PoolStage::Put(item);
-    pool_done(part_at(rt, worker, objects, passes, note, number, stage))
-}
-
 // Takes an item that a look finds, or a new one, where none does. Each look is made at the part that it names.
 fn get<N: Note, C: Clock, R: Wait>(
     rt: &R,
@@ -147,6 +124,7 @@ fn get<N: Note, C: Clock, R: Wait>(
     ensures note { KeepsNote N.at N.own N.front note.old note.new }
     ensures works { Works (found_by worker.now.number first (looks_of worker.now.workers worker.now.number)) (desk_with N.own N.front (owns_of passes.old) note.old) result (desk_with N.own N.front (owns_of passes.new) note.new) }
 {
+    moves();
     let _count = objects.len();
     for nth in 0..2 * u64::from(worker.workers) {
         let stage = look_stage(worker.number, worker.workers, nth);
@@ -184,6 +162,7 @@ fn sweep<N: Note, C: Clock, R: Wait>(
     ensures note { KeepsNote N.at N.own N.front note.old note.new }
     ensures works { Works (swept_by first (range_with_len 0 worker.now.workers)) (desk_with N.own N.front (owns_of passes.old) note.old) result (desk_with N.own N.front (owns_of passes.new) note.new) }
 {
+    moves();
     let _count = objects.len();
     for part in 0..worker.workers {
         let number = first + part as usize;
@@ -196,7 +175,8 @@ fn sweep<N: Note, C: Clock, R: Wait>(
     Answer::Done(Ok(Reply::Pool(PoolCallReply::Done)))
 }
 
-/// Makes a call on the pool whose parts are the objects from this number on, one for each worker.
+/// Makes a call on the pool whose parts are the objects from this number on, one for each worker. An item is put into the
+/// worker's own part.
 pub fn call_pool<N: Note, C: Clock, R: Wait>(
     rt: &R,
     worker: &Worker<N, C>,
@@ -215,8 +195,13 @@ pub fn call_pool<N: Note, C: Clock, R: Wait>(
     ensures note { KeepsNote N.at N.own N.front note.old note.new }
     ensures works { Works (pool_call worker.now.workers worker.now.number first call) (desk_with N.own N.front (owns_of passes.old) note.old) result (desk_with N.own N.front (owns_of passes.new) note.new) }
 {
+    let _count = objects.len();
     match call {
-        PoolCall::Put(item) => put(rt, worker, objects, passes, note, first, item),
+        PoolCall::Put(item) => {
+            let own = first + worker.number as usize;
+            let stage = PoolStage::Put(item);
+            pool_done(part_at(rt, worker, objects, passes, note, own, stage))
+        }
         PoolCall::Get => get(rt, worker, objects, passes, note, first),
         PoolCall::Sweep => sweep(rt, worker, objects, passes, note, first),
     }

@@ -5,11 +5,9 @@ ghost use Rattle.run_record.specs.Parts.{with_outcome};
 ghost use Rattle.kind_calls.specs.Replies.{of_lock, relocked, returned, func_told, value_told, pool_done, ran};
 
 use protocols::PoolOutcome;
+use shared_calls::CallAnswer;
 use sync_model::Answer;
 use sync_types::{DoReply, LockReply, Misuse, PoolCallReply, Reply};
-
-/// The answer to a call of a workload.
-pub type CallAnswer = Answer<Result<Reply<u32>, Misuse>>;
 
 /// Of a lock.
 pub(crate) fn lock_reply(answer: Answer<Result<LockReply, Misuse>>) -> CallAnswer

@@ -7,11 +7,12 @@ ghost use Rattle.run_record.specs.RwMutexKind.{rw_mutex_stage, rw_mutex_call};
 ghost use Rattle.kind_calls.specs.Parts.{rw_mutex_part};
 ghost use Rattle.thread_objects.specs.Kinds.{IsRwMutex};
 ghost use Rattle.thread_objects.specs.Passes.{IsSeatAt, own_of};
-ghost use Rattle.kind_calls.specs.Working.{Works, desk_at};
+ghost use Rattle.shared_calls.specs.Working.{Works, desk_at};
 
-use super::replies::{CallAnswer, lock_reply};
+use super::replies::lock_reply;
 use crate::part::part;
 use protocols::RwMutexStage;
+use shared_calls::CallAnswer;
 use std::sync::Wait;
 use sync_model::{Answer, Note};
 use sync_outside::Clock;

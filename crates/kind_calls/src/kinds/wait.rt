@@ -6,11 +6,13 @@ ghost use Rattle.thread_objects.specs.Desks.{AreSeats, IsObjectAt};
 ghost use Rattle.thread_objects.specs.Kinds.{IsMutex, IsCond};
 ghost use Rattle.kind_calls.specs.Parts.{lock_again, leave_part, unlock_part};
 ghost use Rattle.thread_objects.specs.Passes.{owns_of};
-ghost use Rattle.kind_calls.specs.Working.{Works, desk_with};
+ghost use Rattle.shared_calls.specs.Working.{Works, desk_with};
 
-use super::replies::{CallAnswer, locked_again};
+use super::replies::locked_again;
 use crate::desk::{cond_at, mutex_at};
 use protocols::{CondStage, MutexStage};
+use shared_calls::CallAnswer;
+use shared_calls::laws::moves;
 use std::sync::Wait;
 use sync_model::{Answer, Note};
 use sync_outside::Clock;
@@ -53,6 +55,7 @@ fn leave<N: Note, C: Clock, R: Wait>(
     ensures note { KeepsNote N.at N.own N.front note.old note.new }
     ensures works { Works (leave_part cond mutex) (desk_with N.own N.front (owns_of passes.old) note.old) result (desk_with N.own N.front (owns_of passes.new) note.new) }
 {
+    moves();
     match cond_at(rt, worker, objects, passes, note, cond, CondStage::Leave) {
         Answer::Halted(misuse) => Answer::Halted(misuse),
         Answer::Done(Err(misuse)) => Answer::Done(Err(misuse)),
@@ -78,6 +81,7 @@ fn give_up<N: Note, C: Clock, R: Wait>(
     ensures note { KeepsNote N.at N.own N.front note.old note.new }
     ensures works { Works (unlock_part cond mutex) (desk_with N.own N.front (owns_of passes.old) note.old) result (desk_with N.own N.front (owns_of passes.new) note.new) }
 {
+    moves();
     match mutex_at(rt, worker, objects, passes, note, mutex, MutexStage::Unlock) {
         Answer::Halted(misuse) => Answer::Halted(misuse),
         Answer::Done(Err(misuse)) => Answer::Done(Err(misuse)),
@@ -103,6 +107,7 @@ pub(crate) fn wait<N: Note, C: Clock, R: Wait>(
     ensures note { KeepsNote N.at N.own N.front note.old note.new }
     ensures works { Works (wait_part cond mutex) (desk_with N.own N.front (owns_of passes.old) note.old) result (desk_with N.own N.front (owns_of passes.new) note.new) }
 {
+    moves();
     match cond_at(rt, worker, objects, passes, note, cond, CondStage::Ticket) {
         Answer::Halted(misuse) => Answer::Halted(misuse),
         Answer::Done(Err(misuse)) => Answer::Done(Err(misuse)),

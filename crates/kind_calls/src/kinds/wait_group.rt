@@ -7,11 +7,12 @@ ghost use Rattle.run_record.specs.WaitGroupKind.{wait_group_stage, wait_group_ca
 ghost use Rattle.kind_calls.specs.Parts.{group_part};
 ghost use Rattle.thread_objects.specs.Kinds.{IsWaitGroup};
 ghost use Rattle.thread_objects.specs.Passes.{IsSeatAt, own_of};
-ghost use Rattle.kind_calls.specs.Working.{Works, desk_at};
+ghost use Rattle.shared_calls.specs.Working.{Works, desk_at};
 
-use super::replies::{CallAnswer, returned};
+use super::replies::returned;
 use crate::part::part;
 use protocols::GroupStage;
+use shared_calls::CallAnswer;
 use std::sync::Wait;
 use sync_model::{Answer, Note};
 use sync_outside::Clock;

@@ -36,7 +36,7 @@ fn store_and_clear<R: Wait, L: Ledger>(
     requires caller { IsCallerAt IsNoteOf own_by table.now caller.old }
     requires ledger { (blank.name ≡ L.name) × (blank.parts ≡ L.parts) × (0 < L.parts) }
 {
-    let mut steps = Steps::<L>::new(blank);
+    let mut steps = Steps::<L>::new(rt, blank);
     if !stored(rt, table, caller, NEAR, 1) || !stored(rt, table, caller, FAR, 2) {
         return None;
     }
@@ -89,7 +89,7 @@ fn clear_then_load<R: Wait, L: Ledger>(
     requires second { IsCallerAt IsNoteOf own_by table.now second.old }
     requires ledger { (blank.name ≡ L.name) × (blank.parts ≡ L.parts) × (0 < L.parts) }
 {
-    let mut steps = Steps::<L>::new(blank);
+    let mut steps = Steps::<L>::new(rt, blank);
     if !stored(rt, table, first, 5, 6) || !cleared(rt, table, first) {
         return Some(0);
     }

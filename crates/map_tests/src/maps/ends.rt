@@ -2,7 +2,7 @@
 ghost use Rattle.std.specs.Prelude.{◌≡◌, ◌<◌, ◌^◌};
 ghost use Rattle.sync_model.specs.Shared.{AreAllCallers, IsHeldBy};
 ghost use Rattle.shared_table.specs.Notes.{own_by, IsNoteOf};
-ghost use Rattle.shared_table.specs.Tables.{count_of, maps_of};
+ghost use Rattle.shared_table.specs.Tables.{caller_count, maps_of};
 
 use go_map::Map;
 use shared_table::{SharedNote, SharedTable};
@@ -35,9 +35,9 @@ fn store_all<R: Wait>(
     pairs: &[(u32, u32)],
 ) -> bool
     requires map { 1 < maps_of table.now }
-    requires some { 0 < count_of table.now }
-    requires callers { AreAllCallers IsNoteOf own_by table.now callers.old (count_of table.now) }
-    ensures { AreAllCallers IsNoteOf own_by table.now callers.new (count_of table.now) }
+    requires some { 0 < caller_count table.now }
+    requires callers { AreAllCallers IsNoteOf own_by table.now callers.old (caller_count table.now) }
+    ensures { AreAllCallers IsNoteOf own_by table.now callers.new (caller_count table.now) }
 {
     let map = Map::at(table, 1);
     for (key, value) in pairs {

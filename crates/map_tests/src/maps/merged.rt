@@ -25,7 +25,7 @@ fn store_then_load<R: Wait, L: Ledger>(
     requires second { IsCallerAt IsNoteOf own_by table.now second.old }
     requires ledger { (blank.name ≡ L.name) × (blank.parts ≡ L.parts) × (0 < L.parts) }
 {
-    let mut steps = Steps::<L>::new(blank);
+    let mut steps = Steps::<L>::new(rt, blank);
     if !stored(rt, table, first, 5, 6) {
         return None;
     }

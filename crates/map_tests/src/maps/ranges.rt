@@ -135,7 +135,7 @@ fn walk_over_a_cut<R: Wait, L: Ledger>(
     }
     let second = shown(table, walker, &mut cursor);
     let third = shown(table, walker, &mut cursor);
-    let found = loaded(table, walker, FAR, &mut Steps::<L>::new(blank));
+    let found = loaded(table, walker, FAR, &mut Steps::<L>::new(rt, blank));
     Some(([first, second, third], found))
 }
 

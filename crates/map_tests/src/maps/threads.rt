@@ -105,7 +105,8 @@ fn work_four<R: Threads + Wait + Sync>(
 }
 
 // What some keys have.
-fn load_each<L: Ledger>(
+fn load_each<R: Wait, L: Ledger>(
+    rt: &R,
     table: &SharedTable,
     caller: &mut Caller<SharedNote>,
     keys: [u32; 5],
@@ -115,7 +116,7 @@ fn load_each<L: Ledger>(
     requires caller { IsCallerAt IsNoteOf own_by table.now caller.old }
     requires ledger { (blank.name ≡ L.name) × (blank.parts ≡ L.parts) × (0 < L.parts) }
 {
-    let mut steps = Steps::<L>::new(blank);
+    let mut steps = Steps::<L>::new(rt, blank);
     let mut values = [None; 5];
     for index in 0..5 {
         values[index] = loaded(table, caller, keys[index], &mut steps);
@@ -131,7 +132,7 @@ fn four_threads_share_a_map_and_a_key(rt: HostRuntime) -> Result<(), Fail> {
     let two = take(&table, &mut callers).expect(&rt, "caller 1");
     let one = take(&table, &mut callers).expect(&rt, "caller 0");
     let ((mut one, _), _) = work_four(&rt, &table, one, two, three, four);
-    let values = load_each::<Brand>(&table, &mut one, [3, 19, 35, 51, 67], Blank::new(1));
+    let values = load_each::<_, Brand>(&rt, &table, &mut one, [3, 19, 35, 51, 67], Blank::new(1));
     let last = Some(999);
     assert_eq!(rt; values, [None, last, last, last, last]);
     Ok(())
@@ -148,7 +149,7 @@ fn load_and_store<R: Wait, L: Ledger>(
     requires caller { IsCallerAt IsNoteOf own_by table.now caller.old }
     requires ledger { (blank.name ≡ L.name) × (blank.parts ≡ L.parts) × (0 < L.parts) }
 {
-    let mut steps = Steps::<L>::new(blank);
+    let mut steps = Steps::<L>::new(rt, blank);
     let near = loaded(table, caller, NEAR, &mut steps);
     let far = loaded(table, caller, FAR, &mut steps);
     stored(rt, table, caller, NEAR, 9);

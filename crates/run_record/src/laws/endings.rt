@@ -1,5 +1,5 @@
 //! How a run ends. A misuse ends it by halts, and nothing else halts an object.
-ghost use Rattle.std.specs.Prelude.{◌≡◌, ◌≢◌, ℕ, List, map, length, All, Some, None, slice_get};
+ghost use Rattle.std.specs.Prelude.{◌≡◌, ◌≢◌, ℕ, List, [], map, length, All, Some, None, slice_get};
 ghost use Rattle.sync_model.specs.Journal.{halt_of};
 ghost use Rattle.workload.specs.Plan.{Plan};
 ghost use Rattle.run_record.specs.Explains.{AreLines, IsRecordOf, HasEnded, Explains};
@@ -51,12 +51,13 @@ pub fn stop_says_how_a_run_ended()
 }
 
 /// An outcome that a record explains is Done exactly where no worker met a misuse, and never Deadlocked. Where it is Misused,
-/// some worker met just that misuse.
+/// some worker met just that misuse, and no ends are shown.
 pub fn a_run_is_done_unless_it_was_misused()
     ensures done { (plan : Plan) (r : Record) (left : Report) (explains : Explains plan (Outcome.Done left) r) (worker : ℕ) (line : Line) (misuse : Misuse)
         → slice_get explains.lines worker ≡ Some line → line.ending ≢ misused misuse }
     ensures misused { (plan : Plan) (r : Record) (left : Report) (misuse : Misuse) (explains : Explains plan (Outcome.Misused left misuse) r)
         → (worker : ℕ) × (line : Line) × (slice_get explains.lines worker ≡ Some line) × (line.ending ≡ misused misuse) }
+    ensures no_ends { (plan : Plan) (r : Record) (left : Report) (misuse : Misuse) → Explains plan (Outcome.Misused left misuse) r → left.ends ≡ [] }
     ensures never_deadlocked { (plan : Plan) (r : Record) (left : Report) → Explains plan (Outcome.Deadlocked left) r → ⊥ }
 {
     stop_says_how_a_run_ended();

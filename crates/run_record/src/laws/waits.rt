@@ -1,17 +1,23 @@
 //! What stands before the return of a wait, by the journals of conds and wait groups.
-ghost use Rattle.std.specs.Prelude.{◌≡◌, ℕ, ◌<◌, ℤ, negsuc, ◌∷◌, ◌++◌, Some, slice_get};
+ghost use Rattle.std.specs.Prelude.{◌≡◌, ℕ, ◌<◌, ℤ, negsuc, List, ◌∷◌, ◌++◌, Some, Ok, slice_get};
 ghost use Rattle.sync_model.specs.Front.{AtLeast};
 ghost use Rattle.wait_cores.specs.GroupLaws as group;
 ghost use Rattle.wait_cores.specs.NotifyLaws as notify;
 ghost use Rattle.workload.specs.Plan.{Plan};
-ghost use Rattle.run_record.specs.Explains.{IsRecordOf};
+ghost use Rattle.run_record.specs.Calls.{SpellsCall};
+ghost use Rattle.run_record.specs.Explains.{IsRecordOf, Explains};
+ghost use Rattle.run_record.specs.Lines.{Line, SpeltCall};
 ghost use Rattle.run_record.specs.Logs.{Shows};
-ghost use Rattle.run_record.specs.Record.{Record, ObjectEntry, object_number, journal_of};
-ghost use Rattle.run_record.specs.Waits.{IsOnCond, IsOnGroup, WasNotified, ReturnsAtZero};
+ghost use Rattle.run_record.specs.Record.{Record, ObjectEntry, object_number, journal_of, list_of};
+ghost use Rattle.run_record.specs.Waits.{IsOnCond, IsOnGroup, WasNotified, IsNotifiedWait, ReturnsAtZero};
 
 use crate::entered::{ObjectEvent, ObjectReply};
+use crate::laws::edges::a_list_keeps_the_order_of_its_journals;
+use crate::made::Made;
+use sync_model::Answer;
 use sync_model::laws::journals::journal_is_log;
 use sync_model::laws::logs::logs_go_on;
+use sync_types::{Call, CondCall, Operation, Outcome, Reply};
 use wait_cores::{GroupCore, GroupEvent, GroupReply, NotifyCore, NotifyEvent};
 use workload::{ObjectKind, ObjectLine};
 
@@ -33,6 +39,23 @@ pub fn whoever_leaves_a_cond_was_notified()
     journal_is_log::<NotifyCore>();
     wait_cores::laws::notify::synchronizes();
     wait_cores::laws::notify::leaves_when_notified();
+}
+
+/// A `wait` on a cond that returned was notified. Its items begin with the ticket that its worker took, and have the leaving behind
+/// it; between the two, in the cond's journal, somebody signals or broadcasts, and the worker knows from then on what that one knew.
+/// So it is of the items of each completed `wait` of a run, and of those in any worker's list that spell one.
+pub fn a_wait_that_returned_was_notified()
+    ensures completed { (plan : Plan) (outcome : Outcome) (r : Record) (explains : Explains plan outcome r) (worker i mutex : ℕ) (line : Line) (wait : SpeltCall) (object : ObjectLine)
+        → slice_get explains.lines worker ≡ Some line → slice_get line.spelt i ≡ Some wait
+        → slice_get plan.objects wait.call.object ≡ Some object → object.kind ≡ ObjectKind.Cond mutex → wait.call.operation ≡ Operation.Cond CondCall.Wait
+        → IsNotifiedWait r (object_number wait.call.object) wait.items }
+    ensures in_a_list { (plan : Plan) (r : Record) (worker before mutex : ℕ) (object : ObjectLine) (call : Call) (given : Reply ℕ) (items earlier later : List Made)
+        → IsRecordOf plan r → slice_get plan.objects call.object ≡ Some object → object.kind ≡ ObjectKind.Cond mutex → call.operation ≡ Operation.Cond CondCall.Wait
+        → list_of r worker ≡ earlier ++ (items ++ later) → SpellsCall plan worker before call items (Answer.Done (Ok given))
+        → IsNotifiedWait r (object_number call.object) items }
+{
+    a_list_keeps_the_order_of_its_journals();
+    whoever_leaves_a_cond_was_notified();
 }
 
 /// A wait on a wait group returns only behind additions that brought the counter to 0, and its caller knows from then on what

@@ -1,16 +1,32 @@
-//! What a caller of shared maps and atomics may rely on, whichever they are. Each function makes two calls or three, and its
-//! contract says what they have to do with each other.
-ghost use Rattle.std.specs.Prelude.{◌≡◌, ◌^◌, ◌<◌, ◌≤◌, None};
+//! What a caller of shared maps and atomics may rely on, whichever they are: of one call, and, by functions that make two calls
+//! or three, what these have to do with each other.
+ghost use Rattle.std.specs.Prelude.{◌≡◌, ℕ, ◌^◌, ◌<◌, ◌≤◌, List, ◌++◌, None};
 ghost use Rattle.std.specs.Option.{ForSome};
+ghost use Rattle.sync_types.specs.SequentialAtomic.{atomic_reply};
+ghost use Rattle.sync_types.specs.SequentialMap.{map_reply};
+ghost use Rattle.sync_model.specs.Journal.{Begins};
 ghost use Rattle.sync_model.specs.Note.{SameHome};
-ghost use Rattle.sync_model.specs.Shared.{IsCallerAt, state_of};
+ghost use Rattle.sync_model.specs.Shared.{CallerState, Called, IsCallerAt, state_of};
+ghost use Rattle.sync_model.specs.SharedHistory.{Contents, contents_after, map_at, number_at, IsLegal};
 ghost use Rattle.sync_model.specs.SharedLaws.{FindsItsStore, StepsOn};
 
 use crate::caller::{Caller, CallerNote};
+use crate::item::{SharedCall, SharedEntry, SharedReply};
 use crate::note::Note;
 use crate::shared::Shared;
 use std::sync::Wait;
-use sync_types::{MapCall, MapReply};
+use sync_types::{AtomicCall, AtomicReply, MapCall, MapReply};
+
+/// A call answers by all that its caller had seen before it, and by what others did since then, up to some moment before the
+/// call returns: as one thread is answered after just that, which is a legal history and part of what the caller has seen now.
+pub fn a_call_answers_by_all_that_was_seen()
+    ensures map { (start : Contents) (m cost : ℕ) (call : MapCall ℕ) (reply : MapReply) (old new : CallerState)
+        → Called start (SharedCall.Map m call) (SharedReply.Map reply) cost old new
+        → (since : List SharedEntry) × Begins new.seen (old.seen ++ since) × IsLegal start (old.seen ++ since) × (reply ≡ map_reply call (map_at (contents_after start (old.seen ++ since)) m)) }
+    ensures atomic { (start : Contents) (a cost : ℕ) (call : AtomicCall) (reply : AtomicReply) (old new : CallerState)
+        → Called start (SharedCall.Atomic a call) (SharedReply.Atomic reply) cost old new
+        → (since : List SharedEntry) × Begins new.seen (old.seen ++ since) × IsLegal start (old.seen ++ since) × (reply ≡ atomic_reply call (number_at (contents_after start (old.seen ++ since)) a)) }
+{}
 
 /// Stores a value, takes in what another caller told, and loads the key. However much was told, the load lies behind the
 /// store in the history; and it finds the value, where no entry between the two is on the key.

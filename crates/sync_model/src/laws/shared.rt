@@ -1,14 +1,15 @@
 //! What a lawful history of shared maps and atomics says to their users.
-ghost use Rattle.std.specs.Prelude.{◌≡◌, ◌≢◌, ℕ, ◌+◌, ◌^◌, ◌<◌, ◌≤◌, true, false, List, ◌∷◌, ◌++◌, length, Option, Some, None, slice_get, slice_index, ◌⊎◌};
+ghost use Rattle.std.specs.Prelude.{◌≡◌, ◌≢◌, ℕ, ◌+◌, ◌^◌, ◌<◌, ◌≤◌, true, false, List, ◌∷◌, ◌++◌, length, take, Option, Some, None, slice_get, slice_index, ◌⊎◌};
 ghost use Rattle.std.specs.Ordering.{nat_cmp};
 ghost use Rattle.std.specs.FinMap.{FinMap, get};
-ghost use Rattle.sync_types.specs.SequentialMap.{map_after};
+ghost use Rattle.sync_types.specs.KeyCalls.{key_reply, is_key_entry};
+ghost use Rattle.sync_types.specs.SequentialMap.{map_after, map_key};
+ghost use Rattle.sync_types.specs.SequentialAtomic.{zero_of, atomic_reply, is_atomic_entry};
 ghost use Rattle.sync_model.specs.Front.{AtLeast};
-ghost use Rattle.sync_types.specs.SequentialAtomic.{zero_of};
 ghost use Rattle.sync_model.specs.SharedHistory.{Contents, first_contents, value_at, contents_at};
 ghost use Rattle.sync_model.specs.SharedCalls.{Knows, IsStep, WasSo, Lawful};
 ghost use Rattle.sync_model.specs.Shared.{values_of, cost_of};
-ghost use Rattle.sync_model.specs.SharedLaws.{LeaveKey, LeaveAtomic};
+ghost use Rattle.sync_model.specs.SharedLaws.{LeaveKey, LeaveAtomic, value_by, number_by};
 
 use crate::item::{Item, SharedCall, SharedEntry, SharedReply};
 use sync_types::{AtomicCall, AtomicKind, AtomicReply, MapCall, MapReply, Number};
@@ -35,6 +36,25 @@ pub fn a_load_finds_the_last_store()
         → Lawful (first_contents maps kinds) (earlier ++ later) calls → slice_get (calls c) j ≡ Some load
         → load.place ≡ length earlier → load.call ≡ SharedCall.Atomic a AtomicCall.Load → slice_get kinds a ≡ Some kind → LeaveAtomic a earlier
         → load.reply ≡ SharedReply.Atomic (AtomicReply.Held (zero_of kind)) }
+{}
+
+/// Each key of a map goes by itself, and each atomic: what a call answers, and whether it is an entry, follows from the entries
+/// on its key or its atomic that lie before its place, played one after the other to one thread. So what is known of the
+/// objects for one thread is known of those that callers share, key by key. A call of a cursor is never an entry.
+pub fn each_key_and_each_atomic_goes_by_itself()
+    ensures map { (maps : ℕ) (kinds : List AtomicKind) (history : List SharedEntry) (calls : ℕ → List Item) (c j m key : ℕ) (call : MapCall ℕ) (x : Item)
+        → Lawful (first_contents maps kinds) history calls → slice_get (calls c) j ≡ Some x → x.call ≡ SharedCall.Map m call → map_key call ≡ Some key → m < maps
+        → (x.reply ≡ SharedReply.Map (key_reply call (value_by m key None (take x.place history)))) × (x.entry ≡ is_key_entry call (value_by m key None (take x.place history))) }
+    ensures clear { (start : Contents) (history : List SharedEntry) (calls : ℕ → List Item) (c j m : ℕ) (x : Item)
+        → Lawful start history calls → slice_get (calls c) j ≡ Some x → x.call ≡ SharedCall.Map m MapCall.Clear
+        → (x.reply ≡ SharedReply.Map MapReply.Done) × (x.entry ≡ true) }
+    ensures atomic { (maps : ℕ) (kinds : List AtomicKind) (history : List SharedEntry) (calls : ℕ → List Item) (c j a : ℕ) (kind : AtomicKind) (call : AtomicCall) (x : Item)
+        → Lawful (first_contents maps kinds) history calls → slice_get (calls c) j ≡ Some x → x.call ≡ SharedCall.Atomic a call → slice_get kinds a ≡ Some kind
+        → (x.reply ≡ SharedReply.Atomic (atomic_reply call (number_by a (zero_of kind) (take x.place history)))) × (x.entry ≡ is_atomic_entry call (number_by a (zero_of kind) (take x.place history))) }
+    ensures begin { (start : Contents) (history : List SharedEntry) (calls : ℕ → List Item) (c j m : ℕ) (x : Item)
+        → Lawful start history calls → slice_get (calls c) j ≡ Some x → x.call ≡ SharedCall.Begin m → (x.reply ≡ SharedReply.Begun) × (x.entry ≡ false) }
+    ensures next { (start : Contents) (history : List SharedEntry) (calls : ℕ → List Item) (c j b : ℕ) (x : Item)
+        → Lawful start history calls → slice_get (calls c) j ≡ Some x → x.call ≡ SharedCall.Next b → x.entry ≡ false }
 {}
 
 /// A caller's calls lie in the history in the caller's own order: an entry lies below the place of each later call of its

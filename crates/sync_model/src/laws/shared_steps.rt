@@ -2,7 +2,7 @@
 ghost use Rattle.std.specs.Prelude.{◌≡◌, ◌≢◌, ℕ, ◌+◌, ◌<◌, ◌≤◌, true, false, List, [], ◌∷◌, ◌++◌, length, Option, Some, slice_get, slice_index};
 ghost use Rattle.sync_model.specs.Front.{AtLeast};
 ghost use Rattle.sync_model.specs.Journal.{Begins};
-ghost use Rattle.sync_model.specs.SharedHistory.{Contents, contents_after, contents_at, shared_after, is_entry, IsReply, IsLegal, entries_by, marked_in, with_call};
+ghost use Rattle.sync_model.specs.SharedHistory.{Contents, contents_after, contents_at, shared_after, is_entry, IsReply, IsLegal, entries_by, marked_in, history_with};
 ghost use Rattle.sync_model.specs.SharedCalls.{bound, Knows, Grows, IsStep, WasSo, Lawful, MayCall, AddsCall};
 ghost use Rattle.sync_model.specs.Shared.{CallerState, Called};
 ghost use Rattle.sync_model.specs.SharedLaws.{IsWithinBoth, SameState, TakesIn};
@@ -14,7 +14,7 @@ use crate::item::{Item, SharedCall, SharedEntry, SharedReply};
 pub fn one_more_call_keeps_the_law()
     ensures start { (start : Contents) → Lawful start [] (λ caller. []) }
     ensures more { (start : Contents) (history : List SharedEntry) (calls new : ℕ → List Item) (c : ℕ) (x : Item)
-        → AddsCall calls c x new → Lawful start history calls → MayCall start history calls c x → Lawful start (with_call history c x) new }
+        → AddsCall calls c x new → Lawful start history calls → MayCall start history calls c x → Lawful start (history_with history c x) new }
     ensures same { (start : Contents) (history : List SharedEntry) (calls other : ℕ → List Item)
         → ((c : ℕ) → other c ≡ calls c) → Lawful start history calls → Lawful start history other }
 {}
@@ -24,7 +24,7 @@ pub fn one_more_call_keeps_the_law()
 pub fn a_lawful_call_is_as_promised()
     ensures { (start : Contents) (history : List SharedEntry) (calls : ℕ → List Item) (x : Item) (cost : ℕ) (old new : CallerState) (takes : TakesIn x cost old new)
         → calls takes.was.number ≡ takes.was.items → Lawful start history calls → MayCall start history calls takes.was.number x
-        → Begins (with_call history takes.was.number x) new.seen → Called start x.call x.reply cost old new }
+        → Begins (history_with history takes.was.number x) new.seen → Called start x.call x.reply cost old new }
 {}
 
 /// What a caller is promised of a call speaks of what contracts see of its note alone, before the call and after it. So a

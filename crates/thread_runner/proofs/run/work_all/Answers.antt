@@ -7,11 +7,8 @@ use Rattle.sync_types.specs.declared.call.Reply.{Reply}
 use Rattle.sync_model.specs.declared.caller.Caller.{Caller}
 use Rattle.sync_outside.specs.Faults.{RoseBy}
 use Rattle.workload.specs.Plan.{Plan}
-use Rattle.run_record.specs.Record.{stop}
 use Rattle.thread_objects.specs.declared.object.AnyObject.{AnyObject}
 use Rattle.thread_objects.specs.declared.pass.AnyPass.{AnyPass}
-use Rattle.thread_objects.specs.Desks.{IsObjectAt}
-use Rattle.thread_objects.specs.Kinds.{IsStop}
 use Rattle.thread_calls.specs.Sites.{IsSite, ranges_in_calls}
 use Rattle.thread_runner.specs.AllGone.{HaveGone}
 use Rattle.thread_runner.specs.Jobs.{IsReady, HasGone}
@@ -49,7 +46,6 @@ start_all-requires-after_bounds g c κs within k d low =
     (subst (λ s. Site job.worker.at.home.now job.site.workload.now s objects c.args.numbers.now) (sym site.1)
     (subst (λ p. Site job.worker.at.home.now p shared objects c.args.numbers.now) (sym site.0)
     (subst (λ h. Site h plan shared objects c.args.numbers.now) (sym at.0) c.requires.site)))) in
-    let stops = subst (λ o. IsObjectAt IsStop o stop) (sym site.2) (c.stop_is_the_first_object.ensures home plan objects c.requires.site.declared) in
     let room : length (get_or plan.scripts k []) ≤ job.replies.room = subst (λ s. length s ≤ job.replies.room) by_place replies.1 in
     let rooms_len : vec_len job.rooms ≡ length job.rooms.items = search rules in
     let enough : ranges_in_calls (get_or plan.scripts k []) ≤ length job.rooms.items = subst (λ n. ranges_in_calls (get_or plan.scripts k []) ≤ n) rooms_len (subst (λ s. ranges_in_calls s ≤ vec_len job.rooms) by_place rooms.1) in
@@ -60,7 +56,7 @@ start_all-requires-after_bounds g c κs within k d low =
     (subst (λ o. Ready job.worker.at.home.now job.site.workload.now o k) (sym site.2)
     (subst (λ p. Ready job.worker.at.home.now p objects k) (sym site.0)
     (subst (λ h. Ready h plan objects k) (sym at.0) ready))) in
-    (is_site, stops, ap (λ (p : Plan). p.workers) site.0 ∙ sym at.1, ap g.S.Shared.home_of site.1 ∙ sym at.0, is_ready)
+    (is_site, ap (λ (p : Plan). p.workers) site.0 ∙ sym at.1, ap g.S.Shared.home_of site.1 ∙ sym at.0, is_ready)
 
 pub gather-requires-clause-room : goal.gather-requires-clause-room
 gather-requires-clause-room g c =

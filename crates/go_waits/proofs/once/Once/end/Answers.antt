@@ -2,7 +2,7 @@ use Rattle.std.proofs.Common.{false, true, refl, sym, subst, ◌∙◌}
 use Rattle.ruled_object.specs.Growth.{MeetsHalt, deeds_of}
 use Rattle.protocols.specs.declared.once.OnceStage.TheVariants as stage
 use Rattle.protocols.specs.OnceStages.{once_allows}
-use Rattle.go_waits.specs.OnceCalls.{Ends}
+use Rattle.go_waits.specs.OnceCalls.{EndsFunction}
 use Rattle.go_waits.specs.Onces.{start_of}
 use Rattle.go_waits.proofs.Calling.{allowed, done_meets}
 use Rattle.go_waits.proofs.OnceSpelling.{ends_by, ended_out, runs_at_most_once}
@@ -20,7 +20,7 @@ pub returns-clause-events : goal.returns-clause-events
 returns-clause-events g c =
     let did = c.call_within.ensures.events in
     let is = sym c.done.ensures in
-    (did.entries, did.grows, subst (Ends c.args.kept (deeds_of did.entries)) is (ends_by c.args.kept _ c.call_within.result did.spelt), subst (MeetsHalt did.entries) is (done_meets did.entries c.call_within.result did.halted))
+    (did.entries, did.grows, subst (EndsFunction c.args.kept (deeds_of did.entries)) is (ends_by c.args.kept _ c.call_within.result did.spelt), subst (MeetsHalt did.entries) is (done_meets did.entries c.call_within.result did.halted))
 
 pub returns-clause-once : goal.returns-clause-once
 returns-clause-once g c = runs_at_most_once c.args.self.now c.call_within.new.pass c.journal_is_log.ensures c.runs_once.ensures.begun c.call_within.ensures.journal

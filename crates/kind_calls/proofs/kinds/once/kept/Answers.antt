@@ -7,13 +7,13 @@ use Rattle.kind_calls.proofs.Working.{rests, answers_as}
 use Rattle.kind_calls.proofs.kinds.once.kept.Goals as goal
 
 pub returns-in-Halted-clause-works : goal.returns-in-Halted-clause-works
-returns-in-Halted-clause-works g c = λ event reply number told. stopped (stages event reply once_event once_meaning number) (returns c.args.value) told told _ _ c.in-Halted.misuse (c.in-Halted.ensures.works event reply number)
+returns-in-Halted-clause-works g c = λ event reply number told. stopped c.moves.ensures.none c.moves.ensures.joined (stages event reply once_event once_meaning number) (returns c.args.value) told told _ _ c.in-Halted.misuse (c.in-Halted.ensures.works event reply number)
 
 pub returns-in-Done-Ok-Already-clause-works : goal.returns-in-Done-Ok-Already-clause-works
 returns-in-Done-Ok-Already-clause-works g c = λ event reply number told.
     let given = rw c.in-Done-Ok-Already.field-0-is at c.in-Done-Ok-Already.ensures.works in
     let did = rw c.in-Done-Ok-Already.field-0-0-is at given in
-    had (stages event reply once_event once_meaning number) (returns c.args.value) told told _ _ c.in-Done-Ok-Already.kept (did event reply number)
+    had c.moves.ensures.none c.moves.ensures.joined (stages event reply once_event once_meaning number) (returns c.args.value) told told _ _ c.in-Done-Ok-Already.kept (did event reply number)
 
 pub returns-in-Done-Ok-Run-clause-works : goal.returns-in-Done-Ok-Run-clause-works
 returns-in-Done-Ok-Run-clause-works g c = λ event reply number told.
@@ -21,4 +21,4 @@ returns-in-Done-Ok-Run-clause-works g c = λ event reply number told.
     let did = rw c.in-Done-Ok-Run.field-0-0-is at given in
     let value = c.args.value in
     let part = stages event reply once_event once_meaning number in
-    answers_as _ _ _ _ _ (ap (λ (a : CallAnswer _). with_outcome told a) c.ended.ensures) (ran part (returns value) told told _ _ _ _ value c.end.result (did event reply number) (rests (returns value) _ _ (refl, refl)) (c.end.ensures.works event reply number))
+    answers_as _ _ _ _ _ (ap (λ (a : CallAnswer _). with_outcome told a) c.ended.ensures) (ran c.moves.ensures.none c.moves.ensures.joined part (returns value) told told _ _ _ _ value c.end.result (did event reply number) (rests c.moves.ensures.none (returns value) _ _ (refl, refl)) (c.end.ensures.works event reply number))

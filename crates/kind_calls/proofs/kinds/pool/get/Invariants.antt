@@ -1,7 +1,7 @@
 use Rattle.ruled_object.specs.Growth.{KeepsNote}
 use Rattle.thread_objects.specs.Desks.{AreSeats}
 use Rattle.thread_objects.specs.Passes.{owns_of}
-use Rattle.kind_calls.specs.Working.{desk_with}
+use Rattle.shared_calls.specs.Working.{desk_with}
 use Rattle.kind_calls.proofs.PoolLooks.{AnswersAll}
 use Rattle.kind_calls.proofs.kinds.pool.get.Given as goal
 

@@ -2,7 +2,7 @@ use Rattle.std.proofs.Common.{◌<◌, get_or, length, sym, subst, arith}
 use Rattle.std.proofs.lemmas.Option.{slice_get-get_or}
 use Rattle.sync_model.specs.Shared.{IsHeldBy}
 use Rattle.shared_table.specs.Notes.{own_by, IsNoteOf}
-use Rattle.shared_table.specs.Tables.{count_of}
+use Rattle.shared_table.specs.Tables.{caller_count}
 use Rattle.map_tests.proofs.AllCallers.{all_still}
 use Rattle.map_tests.proofs.maps.ends.store_all.Goals as goal
 
@@ -17,10 +17,10 @@ store-requires g c =
 
 pub returns-then-not-store : goal.returns-then-not-store
 returns-then-not-store g c =
-    all_still c.args.table.now c.loop-key.callers (count_of c.args.table.now) 0 (record { note = c.store.new.caller.note }) c.loop-key.invariant
+    all_still c.args.table.now c.loop-key.callers (caller_count c.args.table.now) 0 (record { note = c.store.new.caller.note }) c.loop-key.invariant
     (subst (λ table. IsNoteOf table c.store.new.caller.note × IsHeldBy 0 (own_by c.store.new.caller.note)) c.at-map.ensures.0 c.store.ensures)
 
 pub loop-key-preserved : goal.loop-key-preserved
 loop-key-preserved g c =
-    all_still c.args.table.now c.loop-key.callers (count_of c.args.table.now) 0 (record { note = c.store.new.caller.note }) c.loop-key.invariant
+    all_still c.args.table.now c.loop-key.callers (caller_count c.args.table.now) 0 (record { note = c.store.new.caller.note }) c.loop-key.invariant
     (subst (λ table. IsNoteOf table c.store.new.caller.note × IsHeldBy 0 (own_by c.store.new.caller.note)) c.at-map.ensures.0 c.store.ensures)

@@ -1,7 +1,7 @@
 use Rattle.std.proofs.Common.{[], ◌∷◌, ◌++◌, sym, ap, ◌∙◌, subst}
 use Rattle.sync_model.specs.Shared.{AreAllCallers}
 use Rattle.shared_table.specs.Notes.{own_by, IsNoteOf}
-use Rattle.shared_table.specs.Tables.{count_of}
+use Rattle.shared_table.specs.Tables.{caller_count}
 use Rattle.map_tests.proofs.Callers.{four_taken, all_four}
 use Rattle.map_tests.proofs.maps.race.a_map_that_four_threads_clear_ends_with_last_stores_at_most.Goals as goal
 
@@ -30,5 +30,5 @@ ends-ends-requires g c =
     let done = c.work_four-one.ensures in
     let each = c.work_four-one.result in
     let items = c.in_ok-push-4.ensures.items ∙ ap (λ l. l ++ each.1.1 ∷ []) (c.in_ok-push-3.ensures.items ∙ ap (λ l. l ++ each.1.0 ∷ []) (c.in_ok-push-2.ensures.items ∙ ap (λ l. l ++ each.0.1 ∷ []) (c.in_ok-push.ensures.items ∙ ap (λ l. l ++ each.0.0 ∷ []) c.in_ok-callers.ensures.items))) in
-    subst (λ l. AreAllCallers IsNoteOf own_by c.in_ok-table.table l (count_of c.in_ok-table.table)) (sym items)
+    subst (λ l. AreAllCallers IsNoteOf own_by c.in_ok-table.table l (caller_count c.in_ok-table.table)) (sym items)
     (all_four c.in_ok-table.table each.0.0 each.0.1 each.1.0 each.1.1 c.in_ok-table.ensures.table.3 done.one done.two done.three done.four)

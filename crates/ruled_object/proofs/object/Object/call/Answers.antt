@@ -1,8 +1,8 @@
-use Rattle.std.proofs.Common.{◌≡◌, [], ◌∷◌, ◌++◌, Some, refl, sym, ap, ◌∙◌, subst, length, arith, ◌<◌}
+use Rattle.std.proofs.Common.{◌≡◌, [], ◌∷◌, ◌++◌, Some, refl, sym, ap, ◌∙◌, subst}
 use Rattle.sync_model.specs.Journal.{by, Right}
-use Rattle.ruled_object.specs.Cells.{deed_of, Acts}
-use Rattle.ruled_object.specs.Steps.{gave, taken, counted, MayAdd}
-use Rattle.ruled_object.proofs.Calls.{entry, learned, may_add, may_counted, adds}
+use Rattle.ruled_object.specs.Cells.{deed_of}
+use Rattle.ruled_object.specs.Steps.{counted}
+use Rattle.ruled_object.proofs.Calls.{entry, learned, places}
 use Rattle.ruled_object.proofs.Growth.{makes_one, needs_none}
 use Rattle.ruled_object.specs.Growth.{IsAlone}
 use Rattle.ruled_object.proofs.Journals.{never_halted}
@@ -19,55 +19,25 @@ pub give_entry-requires-clause-may : goal.give_entry-requires-clause-may
 give_entry-requires-clause-may g c =
     let m = g.M.Machine in
     let n = g.N.Note in
-    let begin = c.args.self.now.table.shared.key in
     let pass = c.args.pass.now in
-    let word = c.take_word-word.result in
-    let after = c.act-answer.result.2 in
-    let turns = c.act-answer.new.pass.seat.me.0.turns in
     let took = c.take_word-word.ensures.takes in
     let acts = c.act-answer.ensures.acts in
-    let old = acts.0 in
-    let new = acts.2.0 in
-    let learns = learned m.next m.HALTS m.frees m.takes n.front n.at g.M.Worded.tells g.M.Worded.means begin word pass.seat.me c.take_word-word.new.seat.me old took acts.1 in
-    let known = n.front c.act-answer.new.note in
-    let deed = c.deed-deed.result in
-    let right = subst (λ d. Acts m.next m.HALTS m.frees m.takes n.front g.M.Worded.tells g.M.Worded.means pass.number d known word old after new) (sym c.deed-deed.ensures) acts.2.2.0 in
-    let view = c.act-answer.ensures.seat.1 ∙ ap (λ me. counted me.0 turns) took.2 in (
-      new,
-      acts.2.1,
-      subst (λ v. MayAdd m.next m.HALTS m.frees m.takes n.front n.at g.M.Worded.tells g.M.Worded.means begin v (entry pass.number deed known v.knew) after new) (sym view)
-          (may_counted m.next m.HALTS m.frees m.takes n.front n.at g.M.Worded.tells g.M.Worded.means begin (taken pass.seat.me.0 took.0) turns (entry pass.number deed known (length pass.seat.me.0.seen)) after new
-          (may_add m.next m.HALTS m.frees m.takes n.front n.at g.M.Worded.tells g.M.Worded.means begin pass.seat.me.0 took.0 word old after new pass.number deed known learns right acts.2.2.1 c.requires.pass.number)),
-    )
+    let turns = c.act-answer.new.pass.seat.me.0.turns in
+    let placed = places m.next m.HALTS m.frees m.takes n.front n.at g.M.Worded.tells g.M.Worded.means c.args.self.now.table.shared.key pass _ _ took acts.0 _ _ _ _ turns _ acts.2.0 acts.1 acts.2.2.0 acts.2.2.1 c.deed-deed.ensures c.requires.pass.number
+    c.requires.pass.one (c.act-answer.ensures.seat.1 ∙ ap (λ me. counted me.0 turns) took.2) in
+    (acts.2.0, acts.2.1, placed.may)
 
 pub returns-clause-entry : goal.returns-clause-entry
 returns-clause-entry g c =
     let m = g.M.Machine in
     let n = g.N.Note in
-    let begin = c.args.self.now.table.shared.key in
     let pass = c.args.pass.now in
-    let word = c.take_word-word.result in
-    let after = c.act-answer.result.2 in
-    let turns = c.act-answer.new.pass.seat.me.0.turns in
     let took = c.take_word-word.ensures.takes in
     let acts = c.act-answer.ensures.acts in
-    let old = acts.0 in
-    let new = acts.2.0 in
-    let learns = learned m.next m.HALTS m.frees m.takes n.front n.at g.M.Worded.tells g.M.Worded.means begin word pass.seat.me c.take_word-word.new.seat.me old took acts.1 in
-    let known = n.front c.act-answer.new.note in
-    let deed = c.deed-deed.result in
-    let right = subst (λ d. Acts m.next m.HALTS m.frees m.takes n.front g.M.Worded.tells g.M.Worded.means pass.number d known word old after new) (sym c.deed-deed.ensures) acts.2.2.0 in
-    let may = may_add m.next m.HALTS m.frees m.takes n.front n.at g.M.Worded.tells g.M.Worded.means begin pass.seat.me.0 took.0 word old after new pass.number deed known learns right acts.2.2.1 c.requires.pass.number in
-    let view = c.act-answer.ensures.seat.1 ∙ ap (λ me. counted me.0 turns) took.2 in
-    let one = c.requires.pass.one in
-    let some_own : 0 < length pass.seat.me.0.owns = omega arith in
-    let seat = c.give_entry.new.seat in (
-      entry pass.number deed known (length pass.seat.me.0.seen),
-      adds m.next m.HALTS m.frees m.takes n.front n.at g.M.Worded.tells g.M.Worded.means begin pass record { number = c.act-answer.new.pass.number; left = c.act-answer.new.pass.left; turns = c.act-answer.new.pass.turns; seat = seat } took.0 word old after new turns deed known learns may some_own
-          (subst (λ v. seat.me ≡ (gave v (Some (entry pass.number deed known v.knew)), [])) view c.give_entry.ensures.gave),
-      c.deed-deed.ensures,
-      refl,
-    )
+    let new = c.act-answer.new.pass in
+    let placed = places m.next m.HALTS m.frees m.takes n.front n.at g.M.Worded.tells g.M.Worded.means c.args.self.now.table.shared.key pass _ _ took acts.0 _ _ _ _ new.seat.me.0.turns _ acts.2.0 acts.1 acts.2.2.0 acts.2.2.1 c.deed-deed.ensures c.requires.pass.number
+    c.requires.pass.one (c.act-answer.ensures.seat.1 ∙ ap (λ me. counted me.0 new.seat.me.0.turns) took.2) in
+    (_, placed.shows record { number = new.number; left = new.left; turns = new.turns; seat = c.give_entry.new.seat } c.give_entry.ensures.gave, c.deed-deed.ensures, refl)
 
 pub returns-clause-makes : goal.returns-clause-makes
 returns-clause-makes g c =

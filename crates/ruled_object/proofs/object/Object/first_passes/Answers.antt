@@ -1,6 +1,7 @@
-use Rattle.std.proofs.Common.{rules, ◌≡◌, ◌<◌, ◌+◌, [], ◌∷◌, ⊎_elim, length, length-append, replicate, slice_get, refl, sym, ap, ◌∙◌, subst, arith}
+use Rattle.std.proofs.Common.{rules, ◌≡◌, ◌<◌, ◌+◌, [], ◌∷◌, All, ⊎_elim, length, length-append, replicate, slice_get, refl, sym, ap, ◌∙◌, subst, arith}
+use Rattle.std.proofs.lemmas.List.Elements.{All-push}
 use Rattle.ruled_object.specs.Gathered.{Dealing, IsDealt}
-use Rattle.ruled_object.specs.Passes.{capped, left_of, own_by}
+use Rattle.ruled_object.specs.Passes.{capped, left_of, own_by, turns_of}
 use Rattle.ruled_object.proofs.Gathering.{dealing_on, is_dealt, no_entries, pass_of, some_left}
 use Rattle.ruled_object.proofs.Journals.{at_end}
 use Rattle.ruled_object.proofs.object.Object.first_passes.Goals as goal
@@ -22,14 +23,15 @@ loop-number-preserved g c =
       made = search rules;
       count = let made = c.loop-number.invariant.count in ap length c.push_reserved.ensures.items ∙ omega (arith, length-append items (pass ∷ []));
       room = search rules;
+      turns = subst (All (λ p. turns_of p ≡ 0)) (sym c.push_reserved.ensures.items) (All-push (λ p. turns_of p ≡ 0) items pass c.loop-number.invariant.turns refl);
       dealt = λ k p at_k. ⊎_elim (λ t. c.loop-number.invariant.dealt k p t)
           (λ t. let is : k ≡ i = t.0 ∙ c.loop-number.invariant.count in
           subst (λ j. IsDealt c.args.self.now j [] all p × (left_of p ≡ c.args.calls)) (sym is) (subst (λ q. IsDealt c.args.self.now i [] all q × (left_of q ≡ c.args.calls)) t.1 (mine, refl)))
           (at_end items pass p k (ap (λ l. slice_get l k) (sym c.push_reserved.ensures.items) ∙ at_k));
     }
 
-pub returns : goal.returns
-returns g c =
+pub returns-clause-new : goal.returns-clause-new
+returns-clause-new g c =
     let ended = c.loop-number-test.false in
     let least = c.loop-number.auto.number-end in
     let made = c.loop-number.invariant.count in

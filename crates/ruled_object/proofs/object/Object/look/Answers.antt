@@ -15,7 +15,7 @@ load-requires g c =
       search rules,
       search rules,
       subst (λ slots. Allows (Kept m.next m.HALTS m.frees m.takes n.front n.at g.M.Worded.tells g.M.Worded.means begin) slots seat.id seat.me 0 (λ x. x)
-          (λ found after. IfBegun g.K.Begun.begun (λ b. LooksAt m.next m.HALTS m.frees m.takes n.front n.at g.M.Worded.tells g.M.Worded.means b seat.me found after))) (sym c.args.self.now.sized.1)
+          (λ found after. IfBegun g.K.Origin.begun (λ b. LooksAt m.next m.HALTS m.frees m.takes n.front n.at g.M.Worded.tells g.M.Worded.means b seat.me found after))) (sym c.args.self.now.sized.1)
           (subst (λ told. Allows (Kept m.next m.HALTS m.frees m.takes n.front n.at g.M.Worded.tells g.M.Worded.means begin) 1 seat.id seat.me 0 (λ x. x)
           (λ found after. IfBegun told (λ b. LooksAt m.next m.HALTS m.frees m.takes n.front n.at g.M.Worded.tells g.M.Worded.means b seat.me found after))) (sym c.requires.begun)
           (looks m.next m.HALTS m.frees m.takes n.front n.at g.M.Worded.tells g.M.Worded.means begin seat.id seat.me c.requires.seat.1)),

@@ -15,7 +15,7 @@ swap-requires g c =
       search rules,
       search rules,
       subst (λ slots. Allows (Kept m.next m.HALTS m.frees m.takes n.front n.at g.M.Worded.tells g.M.Worded.means begin) slots seat.id seat.me 0 (λ _. 9223372036854775808)
-          (λ found after. IfBegun g.K.Begun.begun (λ b. TakesRest m.next m.HALTS m.frees m.takes n.front n.at g.M.Worded.tells g.M.Worded.means b found seat.me after))) (sym c.args.self.now.sized.1)
+          (λ found after. IfBegun g.K.Origin.begun (λ b. TakesRest m.next m.HALTS m.frees m.takes n.front n.at g.M.Worded.tells g.M.Worded.means b found seat.me after))) (sym c.args.self.now.sized.1)
           (subst (λ told. Allows (Kept m.next m.HALTS m.frees m.takes n.front n.at g.M.Worded.tells g.M.Worded.means begin) 1 seat.id seat.me 0 (λ _. 9223372036854775808)
           (λ found after. IfBegun told (λ b. TakesRest m.next m.HALTS m.frees m.takes n.front n.at g.M.Worded.tells g.M.Worded.means b found seat.me after))) (sym c.requires.begun)
           (takes_rest m.next m.HALTS m.frees m.takes n.front n.at g.M.Worded.tells g.M.Worded.means begin seat.id seat.me c.requires.seat.1 all.0 all.1 all.2 c.args.self.now.callers.1)),

@@ -19,7 +19,7 @@ compare_exchange-requires g c =
       search rules,
       search rules,
       subst (λ slots. Allows (Kept m.next m.HALTS m.frees m.takes n.front n.at g.M.Worded.tells g.M.Worded.means begin) slots seat.id seat.me 0 (λ x. either (eqb x word) (word + 9223372036854775808) x)
-          (λ found after. IfBegun g.K.Begun.begun (λ b. TakesWord m.next m.HALTS m.frees m.takes n.front n.at g.M.Worded.tells g.M.Worded.means b word seat.me found after))) (sym c.args.self.now.sized.1)
+          (λ found after. IfBegun g.K.Origin.begun (λ b. TakesWord m.next m.HALTS m.frees m.takes n.front n.at g.M.Worded.tells g.M.Worded.means b word seat.me found after))) (sym c.args.self.now.sized.1)
           (subst (λ told. Allows (Kept m.next m.HALTS m.frees m.takes n.front n.at g.M.Worded.tells g.M.Worded.means begin) 1 seat.id seat.me 0 (λ x. either (eqb x word) (word + 9223372036854775808) x)
           (λ found after. IfBegun told (λ b. TakesWord m.next m.HALTS m.frees m.takes n.front n.at g.M.Worded.tells g.M.Worded.means b word seat.me found after))) (sym c.requires.begun)
           (takes_word m.next m.HALTS m.frees m.takes n.front n.at g.M.Worded.tells g.M.Worded.means begin seat.id seat.me word empty some_own c.guess-word.ensures)),

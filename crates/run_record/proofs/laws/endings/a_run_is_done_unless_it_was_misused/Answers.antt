@@ -21,3 +21,6 @@ returns-clause-misused c plan r left misuse explains = c.stop_says_how_a_run_end
 
 pub returns-clause-never_deadlocked : goal.returns-clause-never_deadlocked
 returns-clause-never_deadlocked c plan r left explains = explains.agrees
+
+pub returns-clause-no_ends : goal.returns-clause-no_ends
+returns-clause-no_ends c plan r left misuse explains = explains.agrees.1

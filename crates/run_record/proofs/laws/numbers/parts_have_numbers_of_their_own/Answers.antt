@@ -1,4 +1,4 @@
-use Rattle.std.proofs.Common.{◌≡◌, ℕ, suc, ◌+◌, ◌*◌, Bool, true, false, cond, List, length, take, count_by, ap, ◌∙◌, arith}
+use Rattle.std.proofs.Common.{◌≡◌, ℕ, suc, ◌+◌, ◌*◌, Bool, true, false, cond, List, length, take, count_by, ap, arith}
 use Rattle.std.proofs.Math.Seq.{take-length}
 use Rattle.workload.specs.declared.object.ObjectLine.{ObjectLine}
 use Rattle.run_record.specs.Objects.{is_pool}

@@ -1,7 +1,7 @@
 use Rattle.std.proofs.Common.{◌≡◌, ℕ, List, ◌∷◌, ◌++◌, Some, slice_get, refl, sym, ap, ◌∙◌, subst}
 use Rattle.sync_model.specs.Front.{AtLeast}
 use Rattle.sync_model.specs.Journal.{is_such, log_of}
-use Rattle.sync_model.specs.Log.{Follows, entry}
+use Rattle.sync_model.specs.Log.{Follows}
 use Rattle.wait_cores.specs.declared.notify.NotifyEvent.TheVariants.{Ticket, Leave}
 use Rattle.wait_cores.specs.declared.notify.NotifyReply.TheVariants.{Done}
 use Rattle.wait_cores.specs.NotifyEdges.{notify_releases, notify_acquires}

@@ -9,7 +9,7 @@ use Rattle.sync_model.specs.Shared.{Called, items_of, state_of}
 use Rattle.ruled_object.specs.Passes.{number_of, seen_by, start_of}
 use Rattle.shared_plain.specs.declared.mark.Mark.{Mark}
 use Rattle.shared_plain.specs.Marks.{front_by, holding, own_by, seen_of}
-use Rattle.shared_plain.specs.PlainHistory.{call_in, count_of, items_by}
+use Rattle.shared_plain.specs.PlainHistory.{call_in, calls_counted, items_by}
 use Rattle.shared_plain.specs.PlainMachine.{call_of, contents_of, next}
 use Rattle.shared_plain.specs.Walks.{StandsAt, AreInOrder}
 use Rattle.shared_plain.proofs.Calling.{state_at, called, adds_same, held_there, unanswered}
@@ -51,8 +51,8 @@ returns-clause-home g c home is =
     let steps : (m b from : ℕ) (reply : Option Answered) → entry.0.deed ≡ Did (Next m b from) reply → StandsAt (items_by n who seen) m b from = λ m b from reply did. subst (λ l. StandsAt l m b from) asked (c.requires.steps m b from (same_event c.args.event _ m b from reply (sym deed ∙ did))) in
     let order = more_order n who seen adds.between entry.0 same adds.caller adds.knew steps kept.order in
     let more = more_count n who seen adds.between entry.0 (call_of c.args.event, answered) same adds.caller (ap call_in deed) in
-    let whole : count_of (number_of new.pass) (seen_by new.pass) ≡ count_of who seen + 1 = ap (λ d. count_of d (seen_by new.pass)) number ∙ (ap (count_of who) adds.history ∙ more) in
-    let done : new.done ≢ 2 ^ 64 - 1 → new.done ≡ count_of (number_of new.pass) (seen_by new.pass) = λ below. let one = c.one_more-mark.ensures below in one.1 ∙ (ap (λ (k : ℕ). k + 1) (kept.done one.0) ∙ sym whole) in
+    let whole : calls_counted (number_of new.pass) (seen_by new.pass) ≡ calls_counted who seen + 1 = ap (λ d. calls_counted d (seen_by new.pass)) number ∙ (ap (calls_counted who) adds.history ∙ more) in
+    let done : new.done ≢ 2 ^ 64 - 1 → new.done ≡ calls_counted (number_of new.pass) (seen_by new.pass) = λ below. let one = c.one_more-mark.ensures below in one.1 ∙ (ap (λ (k : ℕ). k + 1) (kept.done one.0) ∙ sym whole) in
     record {
       pass = note_of c.args.self.now home old new at_self.pass is_pass.0 number is.pass;
       callers = is.callers;

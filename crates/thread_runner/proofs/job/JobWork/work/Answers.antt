@@ -4,9 +4,9 @@ use Rattle.sync_types.specs.declared.call.Reply.{Reply}
 use Rattle.thread_objects.specs.declared.pass.AnyPass.{AnyPass}
 use Rattle.thread_objects.specs.Desks.{AreSeats}
 use Rattle.sync_model.specs.Shared.{items_of}
-use Rattle.kind_calls.specs.GivenUp.{GaveUp}
+use Rattle.shared_calls.specs.GivenUp.{GaveUp}
 use Rattle.thread_objects.specs.Passes.{owns_of}
-use Rattle.kind_calls.specs.Working.{desk_with}
+use Rattle.shared_calls.specs.Working.{desk_with}
 use Rattle.run_record.specs.Lines.{Line}
 use Rattle.thread_runner.specs.DidLines.{DidLine}
 use Rattle.thread_runner.specs.Jobs.{HasGone}
@@ -18,11 +18,11 @@ returns g c =
     let mark = g.S.Mark.Note in
     let new = c.run_script.new.passes in
     let made = c.run_script.ensures in
-    let ready = c.requires.4 in
+    let ready = c.requires.3 in
     let home = job.worker.at.home.now in
     let plan = job.site.workload.now in
     let objects = job.site.objects.now in
-    let seats : AreSeats mark.at home plan.workers job.worker.number objects new = subst (λ n. AreSeats mark.at home n job.worker.number objects new) (sym c.requires.2) made.seats in
+    let seats : AreSeats mark.at home plan.workers job.worker.number objects new = subst (λ n. AreSeats mark.at home n job.worker.number objects new) (sym c.requires.1) made.seats in
     let long : job.passes.len ≡ length new = omega (arith, job.passes.ok, ready.seats.count, made.seats.count) in
     let same : take job.passes.len (new ++ drop (length new) job.passes.items) ≡ new = take-append-le job.passes.len new (drop (length new) job.passes.items) (omega (arith, long)) ∙ take_all job.passes.len new (omega (arith, long)) in
     let last = desk_with mark.own mark.front (owns_of new) c.run_script.new.caller.note in

@@ -1,9 +1,0 @@
-pub mod AskedWords
-pub mod Fronts
-pub mod Lines
-pub mod MadeLines
-pub mod MessageTexts
-pub mod Reading
-pub mod Runs
-pub mod Seeds
-pub mod Writing

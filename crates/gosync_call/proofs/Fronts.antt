@@ -1,0 +1,141 @@
+-- What is left before any thread is started, by what the words ask for.
+use Rattle.std.proofs.Common.{◌≡◌, ◌⊎◌, inl, inr, ℕ, List, Option, Some, None, Result, Err, refl, sym, ap, subst, ◌∙◌}
+use Rattle.std.specs.Prelude.{option_and_then}
+use Rattle.sync_types.specs.declared.outcome.Outcome.{Outcome}
+use Rattle.workload.specs.Plan.{Plan}
+use Rattle.workload.specs.Reads.{Reads}
+use Rattle.command_line.specs.Command.{matched}
+use Rattle.command_line.specs.Seed.{seed_of}
+use Rattle.command_line.specs.declared.definition.Subcommand.{Subcommand}
+use Rattle.command_line.specs.declared.definition.Subcommand.TheVariants as subcommands
+use Rattle.gosync_call.specs.Command.{file_in, file_of, AreRefused, AskFor, AskToMake}
+use Rattle.gosync_call.specs.ComesTo.{ComesTo}
+use Rattle.gosync_call.specs.Front.{IsFrontOfRun, IsLeftOfAllBytes, IsOfAllBytes}
+use Rattle.gosync_call.specs.Made.{MakesTo}
+use Rattle.gosync_call.specs.Messages.{code_of, IsOutOfMemory}
+use Rattle.gosync_call.specs.declared.status.Ending.{Ending}
+use Rattle.gosync_call.specs.declared.status.Ending.TheVariants as endings
+use Rattle.gosync_call.specs.declared.status.Fault.{Fault}
+use Rattle.gosync_call.specs.declared.status.Front.{Front}
+use Rattle.gosync_call.specs.declared.status.Front.TheVariants as fronts
+use Rattle.gosync_call.specs.declared.status.Status.{Status}
+use Rattle.gosync_call.specs.declared.status.Status.TheVariants as statuses
+use Rattle.gosync_call.specs.declared.status.Unread.{Unread}
+use Rattle.gosync_call.specs.declared.status.Unread.TheVariants as unreads
+use Rattle.gosync_call.specs.declared.words.Mode.{Mode}
+use Rattle.gosync_call.specs.declared.words.Mode.TheVariants as modes
+use Rattle.gosync_call.proofs.Runs.{is_read, told_so}
+
+-- words name one file
+pub same_file : (words : Option (Mode × List ℕ)) (mode other : Mode) (file name : List ℕ) → words ≡ Some (mode, file) → words ≡ Some (other, name) → file ≡ name
+same_file words mode other file name asks names = ap file_in (sym asks ∙ names)
+
+-- what is left of a front that ended
+pub left_of_ended : (Whole : Type 0) (front : Front) (status : Status) → front ≡ fronts.Ended status → (IsOfAllBytes status → Whole) → IsLeftOfAllBytes front → Whole
+left_of_ended Whole front status is whole left = whole (subst (λ (f : Front). IsLeftOfAllBytes f) is left)
+
+-- a workload that is left to be run was read
+pub run_is_read : (told : Option (List ℕ)) (bytes : List ℕ) (plan : Plan) → IsFrontOfRun told (fronts.Run plan) → told ≡ Some bytes → ((p : Plan) → Reads bytes p → ⊥) → ⊥
+run_is_read told bytes plan front is none =
+    let read = is_read told plan front in
+    none plan (subst (λ (b : List ℕ). Reads b plan) (told_so bytes read.0 told is read.1) read.2)
+
+same_status : (x y : Status) → fronts.Ended x ≡ fronts.Ended y → x ≡ y
+same_status x y is = cc
+
+abbrev pub err_of : Fault → Result Ending Fault
+err_of fault = Err fault
+
+pub same_fault : (x y : Fault) → statuses.Failed x ≡ statuses.Failed y → x ≡ y
+same_fault x y is = cc
+
+ended_no_make : (status : Status) (seed : ℕ) → fronts.Ended status ≡ fronts.Make seed → ⊥
+ended_no_make status seed is = cc
+
+ended_no_run : (status : Status) (plan : Plan) → fronts.Ended status ≡ fronts.Run plan → ⊥
+ended_no_run status plan is = cc
+
+run_no_make : (plan : Plan) (seed : ℕ) → fronts.Run plan ≡ fronts.Make seed → ⊥
+run_no_make plan seed is = cc
+
+pub run_no_ended : (plan : Plan) (status : Status) → fronts.Run plan ≡ fronts.Ended status → ⊥
+run_no_ended plan status is = cc
+
+pub ended_no_unread : (ending : Ending) (why : Unread) → statuses.Ended ending ≡ statuses.Unread why → ⊥
+ended_no_unread ending why is = cc
+
+pub failed_no_unread : (fault : Fault) (why : Unread) → statuses.Failed fault ≡ statuses.Unread why → ⊥
+failed_no_unread fault why is = cc
+
+pub ended_no_failed : (ending : Ending) (fault : Fault) → statuses.Ended ending ≡ statuses.Failed fault → ⊥
+ended_no_failed ending fault is = cc
+
+-- what is left of a workload that is to be made, where it ended: memory is out
+abbrev IsLeftOfMake : Status → ℕ → Type 0
+IsLeftOfMake status seed = (fronts.Ended status ≡ fronts.Make seed) ⊎ (fronts.Ended status ≡ fronts.Ended (statuses.Unread unreads.Memory))
+
+pub ended_make : (status : Status) (seed ran ran_now : ℕ) (old new : Option (List ℕ)) → IsLeftOfMake status seed → new ≡ old → MakesTo seed ran ran_now old new status
+ended_make status seed ran ran_now old new (inl is) same = absurd (ended_no_make status seed is)
+ended_make status seed ran ran_now old new (inr is) same = subst (λ (s : Status). MakesTo seed ran ran_now old new s) (sym (same_status status (statuses.Unread unreads.Memory) is)) same
+
+pub ended_makes : (status : Status) (seed : ℕ) → IsLeftOfMake status seed → (status ≡ statuses.Ended endings.Done) ⊎ IsOutOfMemory status
+ended_makes status seed (inl is) = absurd (ended_no_make status seed is)
+ended_makes status seed (inr is) = inr (subst (λ (s : Status). IsOutOfMemory s) (sym (same_status status (statuses.Unread unreads.Memory) is)) refl)
+
+-- a workload that is left to be run isn't one to be made
+pub run_unmade : (plan : Plan) (seed : ℕ) → (fronts.Run plan ≡ fronts.Make seed) ⊎ (fronts.Run plan ≡ fronts.Ended (statuses.Unread unreads.Memory)) → ⊥
+run_unmade plan seed (inl is) = run_no_make plan seed is
+run_unmade plan seed (inr is) = run_no_ended plan (statuses.Unread unreads.Memory) is
+
+pub run_taken : (plan : Plan) → (fronts.Run plan ≡ fronts.Ended statuses.Usage) ⊎ (fronts.Run plan ≡ fronts.Ended (statuses.Unread unreads.Memory)) → ⊥
+run_taken plan (inl is) = run_no_ended plan statuses.Usage is
+run_taken plan (inr is) = run_no_ended plan (statuses.Unread unreads.Memory) is
+
+module _ (words : List (List ℕ)) where
+  seeded : (text : List ℕ) → matched words ≡ Some (subcommands.Make, text) → (found : Option ℕ) → seed_of text ≡ found → ((seed : ℕ) × AskToMake words seed) ⊎ AreRefused words
+  seeded text is None none = inr (inr (text, is, none))
+  seeded text is (Some seed) some = inl (seed, (text, is, some))
+
+  abbrev Asking : Type 0
+  Asking = ((mode : Mode) × (file : List ℕ) × AskFor words mode file) ⊎ (((seed : ℕ) × AskToMake words seed) ⊎ AreRefused words)
+
+  asking_by : (found : Option (Subcommand × List ℕ)) → matched words ≡ found → Asking
+  asking_by None is = inr (inr (inl is))
+  asking_by (Some (subcommands.Step, text)) is = inl (modes.Step, text, ap (λ (f : Option (Subcommand × List ℕ)). option_and_then file_of f) is)
+  asking_by (Some (subcommands.Run, text)) is = inl (modes.Run, text, ap (λ (f : Option (Subcommand × List ℕ)). option_and_then file_of f) is)
+  asking_by (Some (subcommands.Make, text)) is = inr (seeded text is (seed_of text) refl)
+
+  -- words ask to run a file or to make a workload, or are refused
+  pub asking : Asking
+  asking = asking_by (matched words) refl
+
+  -- by the mode in which a file is to be run
+  pub by_mode : {X : Type 0} (file : List ℕ) (mode : Mode) → AskFor words mode file → (AskFor words modes.Step file → X) → (AskFor words modes.Run file → X) → X
+  by_mode file modes.Step asks step run = step asks
+  by_mode file modes.Run asks step run = run asks
+
+  run_by : (file : List ℕ) (mode : Mode) → AskFor words mode file → (AskFor words modes.Step file → ⊥) → ((file : List ℕ) × AskFor words modes.Run file)
+  run_by file modes.Step asks no_step = absurd (no_step asks)
+  run_by file modes.Run asks no_step = (file, asks)
+
+  -- where no other thing is asked for, a run with threads is
+  pub asks_run : Asking → ((file : List ℕ) → AskFor words modes.Step file → ⊥) → ((seed : ℕ) → AskToMake words seed → ⊥) → (AreRefused words → ⊥) → (file : List ℕ) × AskFor words modes.Run file
+  asks_run (inl ask) no_step no_make no_refusal = run_by ask.1 ask.0 ask.2 (no_step ask.1)
+  asks_run (inr (inl make)) no_step no_make no_refusal = absurd (no_make make.0 make.1)
+  asks_run (inr (inr refused)) no_step no_make no_refusal = absurd (no_refusal refused)
+
+module _ (Comes : Plan → Outcome → Type 0) (told old new : Option (List ℕ)) where
+  -- what a file that no workload is read from comes to
+  pub front_comes : (status : Status) → IsFrontOfRun told (fronts.Ended status) → new ≡ old → ComesTo Comes told old new status
+  front_comes status (inl front) same = absurd (ended_no_run status front.0 front.1)
+  front_comes status (inr front) same = subst (λ (s : Status). ComesTo Comes told old new s) (sym (same_status status (statuses.Unread front.0) front.1)) (front.2, same)
+
+  -- a text that isn't read is refused, unless memory is out
+  pub refuses : (bytes : List ℕ) (Read : Type 0) (status : Status) → ComesTo Comes told old new status → told ≡ Some bytes → ((plan : Plan) → Reads bytes plan → ⊥)
+      → (status ≡ statuses.Unread unreads.CannotRead → Read) → (Read → ⊥) → (code_of status ≡ 1) ⊎ IsOutOfMemory status
+  refuses bytes Read (statuses.Ended ending) comes is none read no_read = absurd (none comes.0 (subst (λ (b : List ℕ). Reads b comes.0) (told_so bytes comes.1.0 told is comes.1.1) comes.1.2))
+  refuses bytes Read (statuses.Unread (unreads.NotAccepted line reason)) comes is none read no_read = inl refl
+  refuses bytes Read (statuses.Unread unreads.CannotRead) comes is none read no_read = absurd (no_read (read refl))
+  refuses bytes Read (statuses.Unread unreads.Memory) comes is none read no_read = inr refl
+  refuses bytes Read (statuses.Failed fault) comes is none read no_read = absurd (none comes.0 (subst (λ (b : List ℕ). Reads b comes.0) (told_so bytes comes.1.0 told is comes.1.1) comes.1.2))
+  refuses bytes Read statuses.Usage comes is none read no_read = absurd comes

@@ -1,0 +1,12 @@
+pub mod AskedWords
+pub mod Counts
+pub mod Fronts
+pub mod Lines
+pub mod MadeLines
+pub mod MessageTexts
+pub mod Reading
+pub mod Runs
+pub mod Seeds
+pub mod Shown
+pub mod Statuses
+pub mod Writing

@@ -1,0 +1,72 @@
+-- The lines of a report, one after the other.
+use Rattle.std.proofs.Common.{◌≡◌, ℕ, zero, suc, ◌+◌, List, [], ◌∷◌, ◌++◌, ◌<◌, ◌≤◌, Bool, false, ◌&&◌, true, length, get_or, drop, refl, sym, ap, ◌∙◌, add-one, arith}
+use Rattle.std.specs.List.{list_all}
+use Rattle.std.proofs.Math.Seq.{drop-cons}
+use Rattle.sync_types.specs.declared.call.Call.{Call}
+use Rattle.sync_types.specs.declared.call.Reply.{Reply}
+use Rattle.std.proofs.Common.{inl, inr}
+use Rattle.std.proofs.Math.Dec.{ltb}
+use Rattle.std.proofs.lemmas.Bool.{eqb-true, lt-ltb, ltb-true, cases_lt}
+use Rattle.workload.specs.Plan.{Plan, is_valid}
+use Rattle.report_lines.specs.ReportLines.{completed_line}
+use Rattle.gosync_call.specs.ReportText.{calls_text, workers_text}
+
+-- no replies are left
+pub workers_none : (plan : Plan) (worker : ℕ) (scripts : List (List Call)) (replies : List (List (Reply ℕ))) → replies ≡ [] → workers_text plan worker scripts replies ≡ []
+workers_none plan worker scripts replies e = ap (workers_text plan worker scripts) e ∙ none scripts
+  where
+    none : (ss : List (List Call)) → workers_text plan worker ss [] ≡ []
+    none [] = refl
+    none (s ∷ ss) = refl
+
+-- an item and those behind it
+drop_at : {X : Type 0} (xs : List X) (i : ℕ) (x : X) → i < length xs → x ≡ get_or xs i x → drop i xs ≡ x ∷ drop (i + 1) xs
+drop_at xs i x lt e = drop-cons xs i x lt ∙ ap (λ y. y ∷ drop (suc i) xs) (sym e) ∙ ap (λ n. x ∷ drop n xs) (sym (add-one i))
+
+pub drop_item : {X : Type 0} (xs : List X) (i : ℕ) (d : X) → i < length xs → drop i xs ≡ get_or xs i d ∷ drop (i + 1) xs
+drop_item xs i d lt = drop-cons xs i d lt ∙ ap (λ n. get_or xs i d ∷ drop n xs) (sym (add-one i))
+
+-- one more call
+pub calls_next : (plan : Plan) (worker i : ℕ) (script : List Call) (replies : List (Reply ℕ)) (call : Call) (reply : Reply ℕ)
+    → i < length script → call ≡ get_or script i call → ltb i (length replies) ≡ true → reply ≡ get_or replies i reply
+    → calls_text plan worker i (drop i script) (drop i replies) ≡ completed_line plan worker i call reply ++ calls_text plan worker (i + 1) (drop (i + 1) script) (drop (i + 1) replies)
+calls_next plan worker i script replies call reply made is some same =
+    ap (λ (cs : List Call). calls_text plan worker i cs (drop i replies)) (drop_at script i call made is)
+    ∙ ap (λ (rs : List (Reply ℕ)). calls_text plan worker i (call ∷ drop (i + 1) script) rs) (drop_at replies i reply (ltb-true i (length replies) some) same)
+
+-- one more worker
+pub workers_next : (plan : Plan) (i : ℕ) (replies : List (List (Reply ℕ))) (completed : List (Reply ℕ))
+    → i < length plan.scripts → ltb i (length replies) ≡ true → completed ≡ get_or replies i completed
+    → workers_text plan i (drop i plan.scripts) (drop i replies) ≡ calls_text plan i 0 (get_or plan.scripts i []) completed ++ workers_text plan (i + 1) (drop (i + 1) plan.scripts) (drop (i + 1) replies)
+workers_next plan i replies completed below some same =
+    ap (λ (ss : List (List Call)). workers_text plan i ss (drop i replies)) (drop_item plan.scripts i [] below)
+    ∙ ap (λ (rs : List (List (Reply ℕ))). workers_text plan i (get_or plan.scripts i [] ∷ drop (i + 1) plan.scripts) rs) (drop_at replies i completed (ltb-true i (length replies) some) same)
+
+and_left : (a b : Bool) → (a && b) ≡ true → a ≡ true
+and_left true b e = refl
+and_left false b e = e
+
+and_right : (a b : Bool) → (a && b) ≡ true → b ≡ true
+and_right true b e = e
+and_right false b e = absurd cc
+
+-- what each item of a list passes, the one at an index does
+pub all_at : {X : Type 0} (p : X → Bool) (xs : List X) (i : ℕ) (x : X) → list_all p xs ≡ true → i < length xs → x ≡ get_or xs i x → p x ≡ true
+all_at p [] i x all lt e = absurd (omega arith)
+all_at p (y ∷ xs) zero x all lt e = ap p e ∙ and_left (p y) (list_all p xs) all
+all_at p (y ∷ xs) (suc i) x all lt e = all_at p xs i x (and_right (p y) (list_all p xs) all) (omega arith) e
+
+true_false : true ≡ false → ⊥
+true_false e = cc
+
+-- an index that isn't below
+pub not_below : (i n : ℕ) → ltb i n ≡ false → n ≤ i
+not_below i n e =
+    elim (cases_lt i n) [
+      | inl lt ↦ absurd (true_false (sym (lt-ltb i n lt) ∙ e))
+      | inr le ↦ le
+    ]
+
+-- there is a script for each worker
+pub scripts_are : (plan : Plan) → is_valid plan ≡ true → length plan.scripts ≡ plan.workers
+scripts_are plan e = eqb-true (length plan.scripts) plan.workers (and_left _ _ e)

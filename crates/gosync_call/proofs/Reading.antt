@@ -1,0 +1,70 @@
+-- From the bytes that were taken to all bytes of a file.
+use Rattle.std.proofs.Common.{◌≡◌, ℕ, true, zero, suc, ◌+◌, ◌≤◌, List, [], ◌∷◌, ◌++◌, length, take, Option, Some, None, refl, sym, ap, subst, ◌∙◌, arith, inl, inr, append-nil, append_assoc}
+use Rattle.std.proofs.lemmas.List.{length-take}
+use Rattle.std.proofs.Math.Seq.{take-append_seam}
+use Rattle.std.specs.Io.KnownBytes.{prepend_known, IsAtEnd}
+use Rattle.workload.specs.declared.limits.TheConstants.{MAX_INPUT}
+use Rattle.workload.specs.declared.reason.Reason.{Reason}
+use Rattle.workload.specs.Plan.{Plan, is_valid}
+use Rattle.workload.specs.Reads.{Reads, IsRefused}
+use Rattle.gosync_call.specs.declared.status.Unread.TheVariants.{NotAccepted}
+use Rattle.gosync_call.specs.Input.{IsInput}
+use Rattle.gosync_call.specs.ComesTo.{IsReadFromFile, IsUnread}
+
+some_is : {X : Type 0} (x y : X) → Some x ≡ Some y → x ≡ y
+some_is x y e = cc
+
+take_whole : (n : ℕ) (xs : List ℕ) → length xs ≤ n → take n xs ≡ xs
+take_whole zero [] le = refl
+take_whole zero (x ∷ xs) le = absurd (omega arith)
+take_whole (suc n) [] le = refl
+take_whole (suc n) (x ∷ xs) le = ap (λ (l : List ℕ). x ∷ l) (take_whole n xs (omega arith))
+
+-- what one read gives stands behind what was taken before
+pub taken_more : (before now after : Option (List ℕ)) (bytes given : List ℕ) → before ≡ prepend_known bytes now → now ≡ prepend_known given after → before ≡ prepend_known (bytes ++ given) after
+taken_more before now None bytes given e f = e ∙ ap (prepend_known bytes) f
+taken_more before now (Some rest) bytes given e f = e ∙ ap (prepend_known bytes) f ∙ ap (λ (l : List ℕ). Some l) (sym (append_assoc bytes given rest))
+
+-- before the last read nothing was left
+pub ended_before : (before after : Option (List ℕ)) (given : List ℕ) → before ≡ prepend_known given after → given ≡ [] → IsAtEnd after → IsAtEnd before
+ended_before None after given e none h = tt
+ended_before (Some left) None given e none h = absurd cc
+ended_before (Some left) (Some rest) given e none h = some_is left (given ++ rest) e ∙ ap (λ (l : List ℕ). l ++ rest) none ∙ h
+
+-- the file has ended
+pub input_ended : (before after : Option (List ℕ)) (bytes : List ℕ) → before ≡ prepend_known bytes after → IsAtEnd after → length bytes ≤ MAX_INPUT + 1 → IsInput before bytes
+input_ended None after bytes e ended short = tt
+input_ended (Some held) None bytes e ended short = absurd cc
+input_ended (Some held) (Some rest) bytes e ended short =
+    let whole : held ≡ bytes = some_is held (bytes ++ rest) e ∙ ap (λ r. bytes ++ r) ended ∙ append-nil bytes in
+    sym (take_whole (MAX_INPUT + 1) bytes short) ∙ ap (take (MAX_INPUT + 1)) (sym whole)
+
+-- as many bytes were taken as are taken at most
+pub input_full : (before after : Option (List ℕ)) (bytes : List ℕ) → before ≡ prepend_known bytes after → length bytes ≡ MAX_INPUT + 1 → IsInput before bytes
+input_full None after bytes e full = tt
+input_full (Some held) None bytes e full = absurd cc
+input_full (Some held) (Some rest) bytes e full =
+    sym (take-append_seam bytes rest) ∙ ap (λ n. take n (bytes ++ rest)) full ∙ ap (take (MAX_INPUT + 1)) (sym (some_is held (bytes ++ rest) e))
+
+-- a text that isn't too long was taken whole
+fits_whole : (held bytes : List ℕ) → bytes ≡ take (MAX_INPUT + 1) held → length bytes ≤ MAX_INPUT → bytes ≡ held
+fits_whole held bytes e fits =
+    let short : length held ≤ MAX_INPUT + 1 = omega (arith, fits, ap length e, length-take (MAX_INPUT + 1) held) in
+    e ∙ take_whole (MAX_INPUT + 1) held short
+
+pub whole_read : (told : Option (List ℕ)) (bytes : List ℕ) (plan : Plan) → IsInput told bytes → Reads bytes plan → is_valid plan ≡ true → IsReadFromFile told plan
+whole_read None bytes plan h read valid = (bytes, tt, read, valid)
+whole_read (Some held) bytes plan h read valid = (held, refl, subst (λ (b : List ℕ). Reads b plan) (fits_whole held bytes h read.fits) read, valid)
+
+refused_whole : (held bytes : List ℕ) (line : ℕ) (reason : Reason) → bytes ≡ take (MAX_INPUT + 1) held → IsRefused bytes line reason → IsRefused held line reason
+refused_whole held bytes line reason e (inl long) =
+    inl (omega (arith, long.0, ap length e, length-take (MAX_INPUT + 1) held), long.1, long.2)
+refused_whole held bytes line reason e (inr fault) =
+    subst (λ (b : List ℕ). IsRefused b line reason) (fits_whole held bytes e fault.0) (inr fault)
+
+pub whole_refused : (told : Option (List ℕ)) (bytes : List ℕ) (line : ℕ) (reason : Reason)
+    → ((b : List ℕ) (plan : Plan) (l : ℕ) (r : Reason) → Reads b plan → IsRefused b l r → ⊥) → IsInput told bytes → IsRefused bytes line reason → IsUnread told (NotAccepted line reason)
+whole_refused None bytes line reason never h refused = (bytes, tt, refused, λ plan read. never bytes plan line reason read refused)
+whole_refused (Some held) bytes line reason never h refused =
+    let all = refused_whole held bytes line reason h refused in
+    (held, refl, all, λ plan read. never held plan line reason read all)

@@ -1,0 +1,167 @@
+-- From the parts of a run to what the program's status says of it.
+use Rattle.std.proofs.Common.{◌≡◌, ℕ, List, [], Option, Some, None, Result, Ok, Err, MatchResult, ◌⊎◌, inl, inr, refl, sym, ap, subst, ◌∙◌}
+use Rattle.sync_outside.specs.Bytes.{Appends, AppendsFront}
+use Rattle.sync_types.specs.declared.misuse.Misuse.{Misuse}
+use Rattle.sync_types.specs.declared.outcome.Outcome.{Outcome}
+use Rattle.sync_types.specs.declared.outcome.Outcome.TheVariants as outcomes
+use Rattle.sync_types.specs.declared.outcome.Report.{Report}
+use Rattle.workload.specs.Plan.{Plan}
+use Rattle.workload.specs.Reads.{Reads}
+use Rattle.run_record.specs.Explains.{Explains}
+use Rattle.run_record.specs.Record.{Record}
+use Rattle.gosync_call.specs.declared.status.Ending.{Ending}
+use Rattle.gosync_call.specs.declared.status.Ending.TheVariants as endings
+use Rattle.gosync_call.specs.declared.status.Fault.{Fault}
+use Rattle.gosync_call.specs.declared.status.Fault.TheVariants as faults
+use Rattle.gosync_call.specs.declared.status.Front.{Front}
+use Rattle.gosync_call.specs.declared.status.Front.TheVariants as fronts
+use Rattle.gosync_call.specs.declared.status.Status.{Status}
+use Rattle.gosync_call.specs.declared.status.Status.TheVariants as statuses
+use Rattle.gosync_call.specs.declared.status.Unread.TheVariants as unreads
+use Rattle.gosync_call.specs.declared.words.Mode.{Mode}
+use Rattle.gosync_call.specs.declared.words.Mode.TheVariants as modes
+use Rattle.gosync_call.specs.Command.{file_in, AskFor}
+use Rattle.gosync_call.specs.ComesTo.{ComesTo, EndsWithReport, Fails, IsReadFromFile}
+use Rattle.gosync_call.specs.Front.{IsFrontOfRun}
+use Rattle.gosync_call.specs.Headline.{RunsTo, RunsInJobs}
+use Rattle.gosync_call.specs.Input.{AreBytesOf}
+use Rattle.gosync_call.specs.Messages.{ending_of, message_of, IsOutOfMemory, WritesOut}
+use Rattle.gosync_call.specs.ReportText.{report_text}
+
+none_is : (b : List ℕ) → None ≡ Some b → ⊥
+none_is b is = cc
+
+held_is : (x y : List ℕ) → Some x ≡ Some y → x ≡ y
+held_is x y e = cc
+
+status_is : (x y : Status) → fronts.Ended x ≡ fronts.Ended y → x ≡ y
+status_is x y is = cc
+
+run_is : (x y : Plan) → fronts.Run x ≡ fronts.Run y → y ≡ x
+run_is x y is = cc
+
+no_run : (plan : Plan) (status : Status) → fronts.Run plan ≡ fronts.Ended status → ⊥
+no_run plan status is = cc
+
+runs_steps : modes.Run ≡ modes.Step → ⊥
+runs_steps is = cc
+
+not_misused : (misuse : Misuse) → endings.Done ≡ endings.Misused misuse → ⊥
+not_misused misuse is = cc
+
+not_deadlocked : endings.Done ≡ endings.Deadlocked → ⊥
+not_deadlocked is = cc
+
+misused_not_done : (misuse : Misuse) → endings.Misused misuse ≡ endings.Done → ⊥
+misused_not_done misuse is = cc
+
+misused_not_deadlocked : (misuse : Misuse) → endings.Misused misuse ≡ endings.Deadlocked → ⊥
+misused_not_deadlocked misuse is = cc
+
+same_misuse : (x y : Misuse) → endings.Misused x ≡ endings.Misused y → x ≡ y
+same_misuse x y is = cc
+
+abbrev pub mode_in : Option (Mode × List ℕ) → Mode
+mode_in None = modes.Step
+mode_in (Some words) = words.0
+
+-- words that ask for a run with threads ask for none by schedule
+pub no_step : (words : List (List ℕ)) (file other : List ℕ) → AskFor words modes.Run file → AskFor words modes.Step other → ⊥
+no_step words file other run step = runs_steps (ap mode_in (sym run ∙ step))
+
+-- the workload that is left to be run is the one that the file is read as
+pub is_read : (told : Option (List ℕ)) (plan : Plan) → IsFrontOfRun told (fronts.Run plan) → IsReadFromFile told plan
+is_read told plan (inl front) = subst (IsReadFromFile told) (run_is plan front.0 front.1) front.2
+is_read told plan (inr front) = absurd (no_run plan (statuses.Unread front.0) front.1)
+
+pub told_so : (bytes read : List ℕ) (told : Option (List ℕ)) → told ≡ Some bytes → AreBytesOf told read → read ≡ bytes
+told_so bytes read None is are = absurd (none_is bytes is)
+told_so bytes read (Some held) is are = are ∙ held_is held bytes is
+
+-- the workload that told bytes are read as
+pub plan_is : (bytes : List ℕ) (plan : Plan) (told : Option (List ℕ)) → ((b : List ℕ) (p q : Plan) → Reads b p → Reads b q → p ≡ q) → (other : Plan) → told ≡ Some bytes → Reads bytes plan → IsReadFromFile told other → other ≡ plan
+plan_is bytes plan told one other is reads read = one bytes other plan (subst (λ (b : List ℕ). Reads b other) (told_so bytes read.0 told is read.1) read.2) reads
+
+-- what is said of the status that is left
+pub says_of : (front : Front) (words : Option (Mode × List ℕ)) (mode : Mode) (file : List ℕ) (other status : Status) (old new : Option (List ℕ)) (before now : ℕ)
+    → Some (mode, file) ≡ words → front ≡ fronts.Ended other → front ≡ fronts.Ended status → WritesOut old new before now (message_of file other) → WritesOut old new before now (message_of (file_in words) status)
+says_of front words mode file other status old new before now asks was is says =
+    subst (λ (s : Status). WritesOut old new before now (message_of (file_in words) s)) (status_is other status (sym was ∙ is))
+    (subst (λ (w : Option (Mode × List ℕ)). WritesOut old new before now (message_of (file_in w) other)) asks says)
+
+module _ (Comes : Plan → Outcome → Type 0) (old new : Option (List ℕ)) where
+  -- what is written of an outcome that the run came to
+  pub written_so : (plan : Plan) (outcome : Outcome) (result : Result Ending Fault) → Comes plan outcome
+      → MatchResult result (λ ending. (ending ≡ ending_of outcome) × Appends old new (report_text plan outcome)) (λ fault. (fault ≡ faults.CannotWrite) × AppendsFront old new (report_text plan outcome))
+      → MatchResult result (EndsWithReport Comes plan old new) (Fails Comes plan old new)
+  written_so plan outcome (Ok ending) comes written = (outcome, comes, written.0, written.1)
+  written_so plan outcome (Err fault) comes written = subst (λ (f : Fault). Fails Comes plan old new f) (sym written.0) (outcome, comes, written.1)
+
+  -- what a front's status comes to
+  pub step_comes : (told : Option (List ℕ)) (status : Status) → ((s : Status) × (fronts.Ended status ≡ fronts.Ended s) × ComesTo Comes told old new s) → ComesTo Comes told old new status
+  step_comes told status comes = subst (λ (s : Status). ComesTo Comes told old new s) (sym (status_is status comes.0 comes.1)) comes.2
+
+  -- without a fault, a text that is read is run, unless memory is out
+  pub completes : (bytes : List ℕ) (plan : Plan) (told : Option (List ℕ)) (Read Write Start : Type 0)
+      → ((b : List ℕ) (p q : Plan) → Reads b p → Reads b q → p ≡ q) → (status : Status) → ComesTo Comes told old new status → told ≡ Some bytes → Reads bytes plan
+      → (status ≡ statuses.Unread unreads.CannotRead → Read) → (status ≡ statuses.Failed faults.CannotWrite → Write) → (status ≡ statuses.Failed faults.CannotStart → Start)
+      → (Read → ⊥) → (Write → ⊥) → (Start → ⊥)
+      → ((outcome : Outcome) × Comes plan outcome × (status ≡ statuses.Ended (ending_of outcome))) ⊎ IsOutOfMemory status
+  completes bytes plan told Read Write Start one (statuses.Ended ending) comes is reads read write start no_read no_write no_start =
+      inl (comes.2.0, subst (λ (p : Plan). Comes p comes.2.0) (plan_is bytes plan told one comes.0 is reads comes.1) comes.2.1, ap (λ (e : Ending). statuses.Ended e) comes.2.2)
+  completes bytes plan told Read Write Start one (statuses.Unread (unreads.NotAccepted line reason)) comes is reads read write start no_read no_write no_start =
+      absurd (comes.0.3 plan (subst (λ (b : List ℕ). Reads b plan) (sym (told_so bytes comes.0.0 told is comes.0.1)) reads))
+  completes bytes plan told Read Write Start one (statuses.Unread unreads.CannotRead) comes is reads read write start no_read no_write no_start = absurd (no_read (read refl))
+  completes bytes plan told Read Write Start one (statuses.Unread unreads.Memory) comes is reads read write start no_read no_write no_start = inr refl
+  completes bytes plan told Read Write Start one (statuses.Failed faults.CannotWrite) comes is reads read write start no_read no_write no_start = absurd (no_write (write refl))
+  completes bytes plan told Read Write Start one (statuses.Failed faults.CannotStart) comes is reads read write start no_read no_write no_start = absurd (no_start (start refl))
+  completes bytes plan told Read Write Start one (statuses.Failed faults.Memory) comes is reads read write start no_read no_write no_start = inr refl
+  completes bytes plan told Read Write Start one statuses.Usage comes is reads read write start no_read no_write no_start = absurd comes
+
+module _ (plan : Plan) (old new : Option (List ℕ)) where
+  -- what comes in jobs comes
+  pub ends_by_record : (ran ran_now : ℕ) (ending : Ending) → EndsWithReport (RunsInJobs ran ran_now) plan old new ending → EndsWithReport RunsTo plan old new ending
+  ends_by_record ran ran_now ending ends = (ends.0, ends.1.0, ends.2, ends.3)
+
+  pub fails_by_record : (ran ran_now : ℕ) (fault : Fault) → Fails (RunsInJobs ran ran_now) plan old new fault → Fails RunsTo plan old new fault
+  fails_by_record ran ran_now faults.CannotWrite fails = (fails.0, fails.1.0, fails.2)
+  fails_by_record ran ran_now faults.CannotStart fails = fails
+  fails_by_record ran ran_now faults.Memory fails = fails
+
+  by_done : (outcome : Outcome) → RunsTo plan outcome → endings.Done ≡ ending_of outcome → Appends old new (report_text plan outcome)
+      → (left : Report) × (r : Record) × Explains plan (outcomes.Done left) r × Appends old new (report_text plan (outcomes.Done left))
+  by_done (outcomes.Done left) runs is appends = (left, runs.0, runs.1, appends)
+  by_done (outcomes.Misused left misuse) runs is appends = absurd (not_misused misuse is)
+  by_done (outcomes.Deadlocked left) runs is appends = absurd (not_deadlocked is)
+
+  -- how a run ended that a record explains
+  pub done_left : EndsWithReport RunsTo plan old new endings.Done → (left : Report) × (r : Record) × Explains plan (outcomes.Done left) r × Appends old new (report_text plan (outcomes.Done left))
+  done_left ends = by_done ends.0 ends.1 ends.2 ends.3
+
+  by_misused : (misuse : Misuse) (outcome : Outcome) → RunsTo plan outcome → endings.Misused misuse ≡ ending_of outcome → Appends old new (report_text plan outcome)
+      → (left : Report) × (r : Record) × Explains plan (outcomes.Misused left misuse) r × Appends old new (report_text plan (outcomes.Misused left misuse))
+  by_misused misuse (outcomes.Done left) runs is appends = absurd (misused_not_done misuse is)
+  by_misused misuse (outcomes.Misused left other) runs is appends =
+      subst (λ (m : Misuse). (l : Report) × (r : Record) × Explains plan (outcomes.Misused l m) r × Appends old new (report_text plan (outcomes.Misused l m))) (sym (same_misuse misuse other is)) (left, runs.0, runs.1, appends)
+  by_misused misuse (outcomes.Deadlocked left) runs is appends = absurd (misused_not_deadlocked misuse is)
+
+  pub misused_left : (misuse : Misuse) → EndsWithReport RunsTo plan old new (endings.Misused misuse)
+      → (left : Report) × (r : Record) × Explains plan (outcomes.Misused left misuse) r × Appends old new (report_text plan (outcomes.Misused left misuse))
+  misused_left misuse ends = by_misused misuse ends.0 ends.1 ends.2 ends.3
+
+-- what is said behind a run needs no file
+pub says_run : (file : List ℕ) (result status : Status) (old mid new : Option (List ℕ)) (before between now : ℕ) → result ≡ status → (mid ≡ old) × (between ≡ before) → message_of [] status ≡ message_of file status
+    → WritesOut mid new between now (message_of [] status) → WritesOut old new before now (message_of file result)
+says_run file result status old mid new before between now is silent same says =
+    subst (λ (s : Status). WritesOut old new before now (message_of file s)) (sym is)
+    (subst (λ (t : List ℕ). WritesOut old new before now t) same
+    (subst (λ (o : Option (List ℕ)). WritesOut o new before now (message_of [] status)) silent.0
+    (subst (λ (b : ℕ). WritesOut mid new b now (message_of [] status)) silent.1 says)))
+
+module _ (Comes : Plan → Outcome → Type 0) (told old mid new : Option (List ℕ)) where
+  -- what a run comes to, where nothing was written before it
+  pub ended_run : (plan : Plan) (ending : Ending) (result : Status) → result ≡ statuses.Ended ending → IsReadFromFile told plan → mid ≡ old → EndsWithReport Comes plan mid new ending → ComesTo Comes told old new result
+  ended_run plan ending result is read same ends = subst (λ (s : Status). ComesTo Comes told old new s) (sym is) (plan, read, subst (λ (o : Option (List ℕ)). EndsWithReport Comes plan o new ending) same ends)
+
+  pub failed_run : (plan : Plan) (fault : Fault) (result : Status) → result ≡ statuses.Failed fault → IsReadFromFile told plan → mid ≡ old → Fails Comes plan mid new fault → ComesTo Comes told old new result
+  failed_run plan fault result is read same fails = subst (λ (s : Status). ComesTo Comes told old new s) (sym is) (plan, read, subst (λ (o : Option (List ℕ)). Fails Comes plan o new fault) same fails)

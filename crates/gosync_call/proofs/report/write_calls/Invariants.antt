@@ -1,0 +1,15 @@
+use Rattle.std.proofs.Common.{◌≤◌, drop}
+use Rattle.std.specs.Vec.{vec_capacity}
+use Rattle.report_lines.specs.declared.line.TheConstants.{LINE_ROOM}
+use Rattle.gosync_call.specs.ReportText.{calls_text}
+use Rattle.gosync_call.proofs.Writing.{Goes}
+use Rattle.gosync_call.proofs.report.write_calls.Given as goal
+
+abbrev pub invariant-loop-index : goal.invariant-loop-index
+invariant-loop-index g l = record {
+  goes : Goes (g.O.Sink.contents l.initial.out) (g.O.Sink.contents l.out)
+      (calls_text l.workload l.worker 0 l.script l.replies)
+      (calls_text l.workload l.worker l.index (drop l.index l.script) (drop l.index l.replies));
+  faults : g.O.Sink.faults l.initial.out ≤ g.O.Sink.faults l.out;
+  room : LINE_ROOM ≤ vec_capacity l.line;
+}

@@ -1,0 +1,44 @@
+-- What a status says of the bytes of the file and of the report. `Comes plan outcome` stands for: a run of the plan comes to
+-- this outcome. Where the run is the one by its schedule, that is `StepsTo`.
+use Rattle.std.specs.Prelude.{◌≡◌, ℕ, true, List, Option}
+use Rattle.sync_outside.specs.Bytes.{Appends, AppendsFront}
+use Rattle.sync_types.specs.declared.outcome.Outcome.{Outcome}
+use Rattle.workload.specs.Plan.{Plan, is_valid}
+use Rattle.workload.specs.Reads.{Reads, IsRefused}
+use Rattle.gosync_call.specs.declared.status.Status.{Status}
+use Rattle.gosync_call.specs.declared.status.Status.TheVariants as statuses
+use Rattle.gosync_call.specs.declared.status.Ending.{Ending}
+use Rattle.gosync_call.specs.declared.status.Unread.{Unread}
+use Rattle.gosync_call.specs.declared.status.Unread.TheVariants as unreads
+use Rattle.gosync_call.specs.declared.status.Fault.{Fault}
+use Rattle.gosync_call.specs.declared.status.Fault.TheVariants as faults
+use Rattle.gosync_call.specs.Input.{AreBytesOf}
+use Rattle.gosync_call.specs.Messages.{ending_of}
+use Rattle.gosync_call.specs.ReportText.{report_text}
+
+-- all bytes of the file, where they are told, are read as this workload, with each place and number in range
+abbrev pub IsReadFromFile : Option (List ℕ) → Plan → Type 0
+IsReadFromFile told plan = (bytes : List ℕ) × AreBytesOf told bytes × Reads bytes plan × (is_valid plan ≡ true)
+
+-- why no workload is read from a file: its text is refused, it can't be read, or memory is out
+abbrev pub IsUnread : Option (List ℕ) → Unread → Type 0
+IsUnread told (unreads.NotAccepted line reason) = (bytes : List ℕ) × AreBytesOf told bytes × IsRefused bytes line reason × ((plan : Plan) → Reads bytes plan → ⊥)
+IsUnread told unreads.CannotRead = Unit {0}
+IsUnread told unreads.Memory = Unit {0}
+
+-- the workload's run came to an outcome that ends so, and its report was written
+abbrev pub EndsWithReport : (Plan → Outcome → Type 0) → Plan → Option (List ℕ) → Option (List ℕ) → Ending → Type 0
+EndsWithReport Comes plan old new ending = (outcome : Outcome) × Comes plan outcome × (ending ≡ ending_of outcome) × Appends old new (report_text plan outcome)
+
+-- what a fault leaves of the report of an outcome that the workload's run came to: a first part, or nothing
+abbrev pub Fails : (Plan → Outcome → Type 0) → Plan → Option (List ℕ) → Option (List ℕ) → Fault → Type 0
+Fails Comes plan old new faults.CannotWrite = (outcome : Outcome) × Comes plan outcome × AppendsFront old new (report_text plan outcome)
+Fails Comes plan old new faults.CannotStart = new ≡ old
+Fails Comes plan old new faults.Memory = new ≡ old
+
+-- what the bytes of a file come to, where they are told, with what was written before and after
+abbrev pub ComesTo : (Plan → Outcome → Type 0) → Option (List ℕ) → Option (List ℕ) → Option (List ℕ) → Status → Type 0
+ComesTo Comes told old new (statuses.Ended ending) = (plan : Plan) × IsReadFromFile told plan × EndsWithReport Comes plan old new ending
+ComesTo Comes told old new (statuses.Unread why) = IsUnread told why × (new ≡ old)
+ComesTo Comes told old new (statuses.Failed fault) = (plan : Plan) × IsReadFromFile told plan × Fails Comes plan old new fault
+ComesTo Comes told old new statuses.Usage = ⊥

@@ -1,0 +1,38 @@
+-- The headline: what a run with a thread for each worker writes is explained by one legal history.
+--
+-- For every workload and interleaving in which the run returns there is one record that explains what is written: one
+-- history of all maps and atomics, one journal of each other object, and one list of what each worker made (`Record`).
+-- `Explains` says of it, in `run_record`:
+--
+-- * each worker's list spells its calls, in its order, and the replies are those that the items of the list were answered (`AreLines`);
+-- * each call on a map or an atomic but a `range` is answered what the one-thread object answers at its place in the history, each
+--   once, never before what its worker had seen itself or through an edge; a `range` shows no key twice (`Lawful`);
+-- * each other object's journal follows its machine, and an acquiring entry knows what each releasing entry before it knew (`IsJournalOf`);
+-- * the run is done where each script is at its end, and then the ends are what stands after the whole history; else it was
+--   misused, and the misuse is the first that halted it (`Agrees`).
+use Rattle.std.specs.Prelude.{◌≡◌, ℕ, List, Option, Some, slice_get}
+use Rattle.sync_outside.specs.Faults.{RoseBy}
+use Rattle.sync_types.specs.declared.outcome.Outcome.{Outcome}
+use Rattle.sync_types.specs.declared.misuse.Misuse.{Misuse}
+use Rattle.workload.specs.Plan.{Plan}
+use Rattle.run_record.specs.Record.{Record}
+use Rattle.run_record.specs.Explains.{Explains}
+use Rattle.run_record.specs.Lines.{Line, misused}
+use Rattle.gosync_call.specs.declared.status.Status.{Status}
+use Rattle.gosync_call.specs.ComesTo.{ComesTo}
+
+-- a run with threads comes to this outcome of a workload: one record explains it
+abbrev pub RunsTo : Plan → Outcome → Type 0
+RunsTo plan outcome = (r : Record) × Explains plan outcome r
+
+-- the headline, of the bytes of a file, where they are told, of what was written before and after, and of the program's status
+abbrev pub Headline : Option (List ℕ) → Option (List ℕ) → Option (List ℕ) → Status → Type 0
+Headline told old new status = ComesTo RunsTo told old new status
+
+-- it comes to the outcome by at least one job for each worker, as the spawner counts the jobs that were done
+abbrev pub RunsInJobs : ℕ → ℕ → Plan → Outcome → Type 0
+RunsInJobs ran ran_now plan outcome = RunsTo plan outcome × RoseBy plan.workers ran ran_now
+
+-- the record explains this outcome, and some worker's list ends in this misuse
+abbrev pub HasMet : Plan → Outcome → Record → Misuse → Type 0
+HasMet plan outcome r misuse = (explains : Explains plan outcome r) × (worker : ℕ) × (line : Line) × (slice_get explains.lines worker ≡ Some line) × (line.ending ≡ misused misuse)

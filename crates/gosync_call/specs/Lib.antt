@@ -1,0 +1,10 @@
+pub mod ComesTo
+pub mod Command
+pub mod Front
+pub mod Headline
+pub mod Input
+pub mod Made
+pub mod MadeText
+pub mod Messages
+pub mod ReportText
+pub mod Shown

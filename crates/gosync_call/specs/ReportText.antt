@@ -1,0 +1,36 @@
+-- The report: a line for each completed call, worker by worker, and then, where every script has ended, a line for each value that an object holds.
+use Rattle.std.specs.Prelude.{ℕ, ◌+◌, List, [], ◌∷◌, ◌++◌}
+use Rattle.std.specs.List.{flat_map}
+use Rattle.sync_types.specs.declared.call.Call.{Call}
+use Rattle.sync_types.specs.declared.call.Reply.{Reply}
+use Rattle.workload.specs.Plan.{Plan}
+use Rattle.sync_types.specs.declared.outcome.End.{End}
+use Rattle.sync_types.specs.Outcome.{left_by}
+use Rattle.sync_types.specs.declared.outcome.Outcome.{Outcome}
+use Rattle.sync_types.specs.declared.outcome.Outcome.TheVariants as outcomes
+use Rattle.report_lines.specs.ReportLines.{completed_line, end_line}
+
+-- a worker's completed calls, from an index on: as many of its script as there are replies
+abbrev pub calls_text : Plan → ℕ → ℕ → List Call → List (Reply ℕ) → List ℕ
+calls_text plan worker index (call ∷ calls) (reply ∷ replies) = completed_line plan worker index call reply ++ calls_text plan worker (index + 1) calls replies
+calls_text plan worker index [] replies = []
+calls_text plan worker index (call ∷ calls) [] = []
+
+-- the completed calls of the workers, from a worker on
+abbrev pub workers_text : Plan → ℕ → List (List Call) → List (List (Reply ℕ)) → List ℕ
+workers_text plan worker (script ∷ scripts) (replies ∷ rest) = calls_text plan worker 0 script replies ++ workers_text plan (worker + 1) scripts rest
+workers_text plan worker [] replies = []
+workers_text plan worker (script ∷ scripts) [] = []
+
+abbrev pub ends_text : Plan → List End → List ℕ
+ends_text plan ends = flat_map (end_line plan) ends
+
+-- the end lines come only where every script has ended
+abbrev pub outcome_ends : Outcome → List End
+outcome_ends (outcomes.Done left) = left.ends
+outcome_ends (outcomes.Misused left misuse) = []
+outcome_ends (outcomes.Deadlocked left) = []
+
+-- the report of what a run of a workload came to
+abbrev pub report_text : Plan → Outcome → List ℕ
+report_text plan outcome = workers_text plan 0 plan.scripts (left_by outcome).replies ++ ends_text plan (outcome_ends outcome)

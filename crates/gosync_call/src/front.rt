@@ -1,0 +1,90 @@
+//! What the program does before any thread is started.
+ghost use Rattle.std.specs.Prelude.{◌≡◌, ◌⊎◌, ◌+◌, ◌≤◌, ℕ, List, map, string_bytes};
+ghost use Rattle.sync_outside.specs.Faults.{Rose};
+ghost use Rattle.workload.specs.declared.limits.TheConstants.{MAX_INPUT};
+ghost use Rattle.workload.specs.Plan.{Plan};
+ghost use Rattle.step_runner.specs.Outcomes.{StepsTo};
+ghost use Rattle.gosync_call.specs.Command.{asked, file_in, AreRefused, AskFor, AskToMake};
+ghost use Rattle.gosync_call.specs.ComesTo.{ComesTo};
+ghost use Rattle.gosync_call.specs.Front.{IsFrontOfRun, IsLeftOfAllBytes};
+ghost use Rattle.gosync_call.specs.Input.{IsWhollyRead, ReadFailed};
+ghost use Rattle.gosync_call.specs.Messages.{message_of, WritesOut};
+ghost use Rattle.gosync_call.specs.declared.status.Front.TheVariants as fronts;
+ghost use Rattle.gosync_call.specs.declared.status.Status.{Status};
+ghost use Rattle.gosync_call.specs.declared.status.Status.TheVariants as statuses;
+ghost use Rattle.gosync_call.specs.declared.status.Unread.TheVariants as unreads;
+ghost use Rattle.gosync_call.specs.declared.status.Fault.TheVariants as faults;
+ghost use Rattle.gosync_call.specs.declared.words.Mode.{Mode};
+ghost use Rattle.gosync_call.specs.declared.words.Mode.TheVariants as modes;
+
+use crate::message::say;
+use crate::read::read_workload;
+use crate::status::{Front, Status, Unread};
+use crate::step::step;
+use crate::words::{Mode, Request, asked};
+use command_line::WordsFault;
+use std::alloc::Global;
+use sync_outside::{Sink, Sources};
+
+// Says how the program ends, and ends it.
+fn ended<E: Sink>(err: &mut E, file: &str, status: Status) -> Front
+    ensures ended { result ≡ fronts.Ended status }
+    ensures says { WritesOut (E.contents err.old) (E.contents err.new) (E.faults err.old) (E.faults err.new) (message_of file.now status) }
+    ensures faults { E.faults err.old ≤ E.faults err.new }
+{
+    say(err, file, status);
+    Front::Ended(status)
+}
+
+/// Does what the words ask for up to the first start of a thread: all of a run by schedule, and the reading of the file for
+/// a run with threads. A workload that is to be made isn't made yet. It waits for nobody.
+pub fn front<S: Sources, O: Sink, E: Sink>(
+    alloc: Global,
+    words: &[String],
+    src: &mut S,
+    out: &mut O,
+    err: &mut E,
+) -> Front
+    // What the words ask for, and what the bytes of the file come to.
+    ensures usage { result ≡ fronts.Ended statuses.Usage → AreRefused (map string_bytes words.now) }
+    ensures refused { AreRefused (map string_bytes words.now) → (result ≡ fronts.Ended statuses.Usage) ⊎ (result ≡ fronts.Ended (statuses.Unread unreads.Memory)) }
+    ensures step { (file : List ℕ) → AskFor (map string_bytes words.now) modes.Step file → (status : Status) × (result ≡ fronts.Ended status) × ComesTo StepsTo (S.contents src.old file) (O.contents out.old) (O.contents out.new) status }
+    ensures run { (file : List ℕ) → AskFor (map string_bytes words.now) modes.Run file → IsFrontOfRun (S.contents src.old file) result }
+    ensures make { (seed : ℕ) → AskToMake (map string_bytes words.now) seed → (result ≡ fronts.Make seed) ⊎ (result ≡ fronts.Ended (statuses.Unread unreads.Memory)) }
+    ensures made { (seed : ℕ) → result ≡ fronts.Make seed → AskToMake (map string_bytes words.now) seed }
+    ensures unwritten { ((file : List ℕ) → ¬ AskFor (map string_bytes words.now) modes.Step file) → (O.contents out.new ≡ O.contents out.old) × (O.faults out.new ≡ O.faults out.old) }
+
+    // What is told of a file is told of all its bytes.
+    ensures whole { (mode : Mode) (file : List ℕ) → AskFor (map string_bytes words.now) mode file → IsLeftOfAllBytes result → IsWhollyRead (S.contents src.old file) (S.remaining src.new) }
+
+    // Whose faults are answered.
+    ensures cannot_read { (mode : Mode) (file : List ℕ) → AskFor (map string_bytes words.now) mode file → result ≡ fronts.Ended (statuses.Unread unreads.CannotRead) → ReadFailed (S.open_faults src.old file) (S.open_faults src.new file) (S.read_faults src.old) (S.read_faults src.new) }
+    ensures cannot_write { result ≡ fronts.Ended (statuses.Failed faults.CannotWrite) → Rose (O.faults out.old) (O.faults out.new) }
+    ensures started { result ≡ fronts.Ended (statuses.Failed faults.CannotStart) → ⊥ }
+
+    // The one line on the error output.
+    ensures says { (status : Status) → result ≡ fronts.Ended status → WritesOut (E.contents err.old) (E.contents err.new) (E.faults err.old) (E.faults err.new) (message_of (file_in (asked (map string_bytes words.now))) status) }
+    ensures silent { (plan : Plan) → result ≡ fronts.Run plan → (E.contents err.new ≡ E.contents err.old) × (E.faults err.new ≡ E.faults err.old) }
+    ensures silent_making { (seed : ℕ) → result ≡ fronts.Make seed → (E.contents err.new ≡ E.contents err.old) × (E.faults err.new ≡ E.faults err.old) }
+
+    // How many reads there are at most, and that no count falls.
+    ensures reads { S.reads src.new ≤ S.reads src.old + (MAX_INPUT + 1) }
+    ensures read_faults { S.read_faults src.old ≤ S.read_faults src.new }
+    ensures open_faults { (name : List ℕ) → S.open_faults src.old name ≤ S.open_faults src.new name }
+    ensures out_faults { O.faults out.old ≤ O.faults out.new }
+    ensures err_faults { E.faults err.old ≤ E.faults err.new }
+{
+    match asked(alloc, words) {
+        Ok(Request::File(Mode::Step, file)) => {
+            let status = step(alloc, file, src, out);
+            ended(err, file, status)
+        }
+        Ok(Request::File(Mode::Run, file)) => match read_workload(alloc, file, src) {
+            Ok(workload) => Front::Run(workload),
+            Err(why) => ended(err, file, Status::Unread(why)),
+        },
+        Ok(Request::Make(seed)) => Front::Make(seed),
+        Err(WordsFault::Refused) => ended(err, "", Status::Usage),
+        Err(WordsFault::Memory) => ended(err, "", Status::Unread(Unread::Memory)),
+    }
+}

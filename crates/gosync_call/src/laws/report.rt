@@ -1,0 +1,16 @@
+//! What it means that a report was written.
+ghost use Rattle.std.specs.Prelude.{[]};
+ghost use Rattle.sync_types.specs.declared.misuse.Misuse.{Misuse};
+ghost use Rattle.sync_types.specs.declared.outcome.Outcome.TheVariants as outcomes;
+ghost use Rattle.sync_types.specs.declared.outcome.Report.{Report};
+ghost use Rattle.workload.specs.Plan.{Plan};
+ghost use Rattle.gosync_call.specs.ReportText.{report_text};
+ghost use Rattle.gosync_call.specs.Shown.{AreReplies, Shows};
+
+/// A report has one line for each completed call, and behind these, where every script has ended, one for each end; and it has
+/// no others.
+pub fn a_report_has_a_line_for_each_call_and_end()
+    ensures done { (plan : Plan) (left : Report) → AreReplies plan.scripts left.replies → Shows plan left.replies left.ends (report_text plan (outcomes.Done left)) }
+    ensures misused { (plan : Plan) (left : Report) (misuse : Misuse) → AreReplies plan.scripts left.replies → Shows plan left.replies [] (report_text plan (outcomes.Misused left misuse)) }
+    ensures deadlocked { (plan : Plan) (left : Report) → AreReplies plan.scripts left.replies → Shows plan left.replies [] (report_text plan (outcomes.Deadlocked left)) }
+{}

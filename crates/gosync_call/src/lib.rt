@@ -1,0 +1,25 @@
+//! The call `gosync`: all of the program of that name but the real files, streams, clock and threads, which the program hands
+//! to it. It reads the words of a command line, reads or makes a workload, runs it by schedule or with a thread for each
+//! worker, writes the report, and answers how the program ends.
+//!
+//! Its first clause is the headline of the repository, which `specs/Headline.antt` states: what a run with threads writes is
+//! explained by one legal history. `laws` says it in a user's words.
+#![tactic(auto)]
+
+pub mod front;
+mod input;
+pub mod laws;
+mod made;
+mod make;
+mod message;
+mod program;
+mod read;
+pub mod report;
+mod run;
+pub mod status;
+mod step;
+mod words;
+
+pub use message::say;
+pub use program::gosync;
+pub use status::{Ending, Fault, Status, Unread};

@@ -1,0 +1,121 @@
+//! The program: its words, its file, its outputs and its status.
+ghost use Rattle.std.specs.Prelude.{◌≡◌, ◌⊎◌, ◌+◌, ◌≤◌, ℕ, List, Some, map, string_bytes};
+ghost use Rattle.sync_outside.specs.Faults.{Rose};
+ghost use Rattle.sync_types.specs.declared.outcome.Outcome.{Outcome};
+ghost use Rattle.workload.specs.declared.limits.TheConstants.{MAX_INPUT};
+ghost use Rattle.workload.specs.Plan.{Plan};
+ghost use Rattle.workload.specs.Reads.{Reads};
+ghost use Rattle.step_runner.specs.Outcomes.{StepsTo};
+ghost use Rattle.gosync_call.specs.Command.{asked, file_in, AreRefused, AskFor, AskToMake};
+ghost use Rattle.gosync_call.specs.ComesTo.{ComesTo};
+ghost use Rattle.gosync_call.specs.Front.{IsOfAllBytes, IsUnstarted};
+ghost use Rattle.gosync_call.specs.Headline.{Headline, RunsTo, RunsInJobs};
+ghost use Rattle.gosync_call.specs.Input.{IsWhollyRead, ReadFailed, NoReadFailed, NoWriteFailed};
+ghost use Rattle.gosync_call.specs.Made.{MakesTo};
+ghost use Rattle.gosync_call.specs.Messages.{code_of, ending_of, message_of, IsOutOfMemory, WritesOut};
+ghost use Rattle.gosync_call.specs.declared.status.Ending.TheVariants as endings;
+ghost use Rattle.gosync_call.specs.declared.status.Status.TheVariants as statuses;
+ghost use Rattle.gosync_call.specs.declared.status.Unread.TheVariants as unreads;
+ghost use Rattle.gosync_call.specs.declared.status.Fault.TheVariants as faults;
+ghost use Rattle.gosync_call.specs.declared.words.Mode.{Mode};
+ghost use Rattle.gosync_call.specs.declared.words.Mode.TheVariants as modes;
+
+use crate::front::front;
+use crate::make::make;
+use crate::message::say_run;
+use crate::run::run_by_threads;
+use crate::status::{Front, Status};
+use std::alloc::Global;
+use std::sync::Wait;
+use std::thread::Threads;
+use sync_outside::{Clock, Gate, Sink, Sources, Spawner};
+use workload::laws::one_reading;
+
+/// The program `gosync`, on the words of its command line, of which the first is its own name.
+///
+/// A run with threads returns where its workers do: a worker may wait for one that never comes.
+pub fn gosync<
+    S: Sources,
+    O: Sink,
+    E: Sink,
+    C: Clock + Sync,
+    P: Spawner,
+    G: Gate + Sync,
+    R: Threads + Wait + Sync,
+>(
+    rt: &R,
+    alloc: Global,
+    words: &[String],
+    src: &mut S,
+    out: &mut O,
+    err: &mut E,
+    clock: &C,
+    spawner: &mut P,
+    gate: &G,
+) -> Status
+    // The headline: whatever a run with threads comes to is explained by one record.
+    ensures headline { (file : List ℕ) → AskFor (map string_bytes words.now) modes.Run file → Headline (S.contents src.old file) (O.contents out.old) (O.contents out.new) result }
+
+    // A run by schedule comes to what that run is defined to come to.
+    ensures step { (file : List ℕ) → AskFor (map string_bytes words.now) modes.Step file → ComesTo StepsTo (S.contents src.old file) (O.contents out.old) (O.contents out.new) result }
+
+    // The workload of a seed comes to the five lines of the seed, whatever the interleaving.
+    ensures make { (seed : ℕ) → AskToMake (map string_bytes words.now) seed → MakesTo seed (P.ran spawner.old) (P.ran spawner.new) (O.contents out.old) (O.contents out.new) result }
+
+    // What the words ask for.
+    ensures usage { result ≡ statuses.Usage → AreRefused (map string_bytes words.now) }
+    ensures refused_words { AreRefused (map string_bytes words.now) → (result ≡ statuses.Usage) ⊎ (result ≡ statuses.Unread unreads.Memory) }
+    ensures unasked { result ≡ statuses.Usage → O.contents out.new ≡ O.contents out.old }
+
+    // A run with threads had a job for each worker, in one start of all; nothing else starts a thread.
+    ensures jobs { (file : List ℕ) → AskFor (map string_bytes words.now) modes.Run file → ComesTo (RunsInJobs (P.ran spawner.old) (P.ran spawner.new)) (S.contents src.old file) (O.contents out.old) (O.contents out.new) result }
+    ensures rounds { P.rounds spawner.new ≤ P.rounds spawner.old + 1 }
+    ensures unstarted { IsUnstarted result ⊎ ((file : List ℕ) × AskFor (map string_bytes words.now) modes.Step file) → (P.ran spawner.new ≡ P.ran spawner.old) × (P.rounds spawner.new ≡ P.rounds spawner.old) }
+
+    // What is told of a file is told of all its bytes: it was read to its end, or as far as a text may go and a byte more.
+    ensures whole { (mode : Mode) (file : List ℕ) → AskFor (map string_bytes words.now) mode file → IsOfAllBytes result → IsWhollyRead (S.contents src.old file) (S.remaining src.new) }
+
+    // Whose faults are answered.
+    ensures cannot_read { (mode : Mode) (file : List ℕ) → AskFor (map string_bytes words.now) mode file → result ≡ statuses.Unread unreads.CannotRead → ReadFailed (S.open_faults src.old file) (S.open_faults src.new file) (S.read_faults src.old) (S.read_faults src.new) }
+    ensures cannot_write { result ≡ statuses.Failed faults.CannotWrite → Rose (O.faults out.old) (O.faults out.new) }
+    ensures cannot_start { result ≡ statuses.Failed faults.CannotStart → Rose (P.faults spawner.old) (P.faults spawner.new) × (((file : List ℕ) × AskFor (map string_bytes words.now) modes.Run file) ⊎ ((seed : ℕ) × AskToMake (map string_bytes words.now) seed)) }
+
+    // The one line on the error output, of which there is none where all is done.
+    ensures says { WritesOut (E.contents err.old) (E.contents err.new) (E.faults err.old) (E.faults err.new) (message_of (file_in (asked (map string_bytes words.now))) result) }
+
+    // Without a fault, a text that is read is run, with the status of an outcome that its run comes to, and one that
+    // isn't read is refused, unless memory is out.
+    ensures steps { (file bytes : List ℕ) (plan : Plan) → AskFor (map string_bytes words.now) modes.Step file → S.contents src.old file ≡ Some bytes → Reads bytes plan
+        → NoReadFailed (S.open_faults src.old file) (S.open_faults src.new file) (S.read_faults src.old) (S.read_faults src.new) → NoWriteFailed (O.faults out.old) (O.faults out.new)
+        → ((outcome : Outcome) × StepsTo plan outcome × (result ≡ statuses.Ended (ending_of outcome))) ⊎ IsOutOfMemory result }
+    ensures runs { (file bytes : List ℕ) (plan : Plan) → AskFor (map string_bytes words.now) modes.Run file → S.contents src.old file ≡ Some bytes → Reads bytes plan
+        → NoReadFailed (S.open_faults src.old file) (S.open_faults src.new file) (S.read_faults src.old) (S.read_faults src.new) → NoWriteFailed (O.faults out.old) (O.faults out.new)
+        → ¬ Rose (P.faults spawner.old) (P.faults spawner.new)
+        → ((outcome : Outcome) × RunsTo plan outcome × (result ≡ statuses.Ended (ending_of outcome))) ⊎ IsOutOfMemory result }
+    ensures refused { (mode : Mode) (file bytes : List ℕ) → AskFor (map string_bytes words.now) mode file → S.contents src.old file ≡ Some bytes → ((plan : Plan) → ¬ Reads bytes plan)
+        → NoReadFailed (S.open_faults src.old file) (S.open_faults src.new file) (S.read_faults src.old) (S.read_faults src.new)
+        → (code_of result ≡ 1) ⊎ IsOutOfMemory result }
+
+    ensures makes { (seed : ℕ) → AskToMake (map string_bytes words.now) seed → NoWriteFailed (O.faults out.old) (O.faults out.new) → ¬ Rose (P.faults spawner.old) (P.faults spawner.new)
+        → (result ≡ statuses.Ended endings.Done) ⊎ IsOutOfMemory result }
+
+    // How many reads there are at most, and that no count falls.
+    ensures reads { S.reads src.new ≤ S.reads src.old + (MAX_INPUT + 1) }
+    ensures read_faults { S.read_faults src.old ≤ S.read_faults src.new }
+    ensures open_faults { (name : List ℕ) → S.open_faults src.old name ≤ S.open_faults src.new name }
+    ensures out_faults { O.faults out.old ≤ O.faults out.new }
+    ensures err_faults { E.faults err.old ≤ E.faults err.new }
+    ensures start_faults { P.faults spawner.old ≤ P.faults spawner.new }
+{
+    one_reading();
+    match front(alloc, words, src, out, err) {
+        Front::Ended(status) => status,
+        Front::Run(workload) => {
+            match run_by_threads(rt, alloc, &workload, out, clock, spawner, gate) {
+                Ok(ending) => say_run(err, Status::Ended(ending)),
+                Err(fault) => say_run(err, Status::Failed(fault)),
+            }
+        }
+        Front::Make(seed) => make(rt, alloc, seed, out, err, clock, spawner, gate),
+    }
+}

@@ -1,6 +1,0 @@
-use Rattle.std.proofs.Common.{◌≡◌, ◌*◌, ◌^◌, ◌≤◌, take, length}
-use Rattle.std.specs.Prelude.{sum_by}
-use Rattle.made_run.proofs.sums.count_of.Given as goal
-
-abbrev pub invariant-loop-completed : goal.invariant-loop-completed
-invariant-loop-completed l = (l.count ≡ sum_by length (take l.completed-index l.replies)) × (l.count ≤ l.completed-index * 2 ^ 64)

@@ -1,0 +1,14 @@
+use Rattle.std.proofs.Common.{Ok}
+use Rattle.sync_model.specs.declared.answer.Answer.TheVariants.{Done}
+use Rattle.sync_types.specs.declared.call.Operation.TheVariants as operations
+use Rattle.workload.specs.declared.object.ObjectKind.TheVariants as kinds
+use Rattle.run_record.specs.Objects.{atomic_number}
+use Rattle.run_record.specs.Record.{object_number}
+use Rattle.run_record.proofs.OnceReturns.{once_returns}
+use Rattle.run_record.proofs.Returning.{spelt_on}
+use Rattle.run_record.proofs.laws.returns.what_a_do_has_done.Goals as goal
+
+pub returns : goal.returns
+returns c plan worker before atomic amount object call items answer there is called spelt =
+    once_returns (object_number call.object) c.calls_give_what_they_may.ensures (atomic_number plan.objects atomic) amount items answer
+    (spelt_on plan worker before object call (kinds.Once atomic amount) operations.Once items (Done (Ok answer)) there is called spelt)

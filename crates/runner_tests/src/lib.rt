@@ -1,0 +1,8 @@
+//! What the tests show of a run by threads, by public calls. They stand in a crate of their own so that `thread_runner` is proved
+//! once.
+#![tactic(auto)]
+
+#[cfg(test)]
+mod plain_maps;
+#[cfg(test)]
+mod threads;

@@ -1,0 +1,396 @@
+//! Runs of workloads by threads.
+use crate::plain_maps::threaded_plain;
+use std::alloc::{AllocError, Global};
+use std::sync::Wait;
+use std::test::Fail;
+use std::thread::Threads;
+use sync_outside::{
+    Clock, Gate, HoldGate, MemClock, OpenGate, RefuseStart, Spawner, SystemClock, ThreadSpawner,
+};
+use sync_types::{Outcome, Report};
+use thread_runner::{RunFault, threaded};
+use workload::Workload;
+use workload_reader::parse;
+
+// What the maps and atomics of a run are.
+#[derive(Clone, Copy, Debug)]
+enum Over {
+    Tries,
+    Plain,
+}
+
+// What the run of a workload comes to, over maps and atomics of either kind.
+fn run_of<C: Clock + Sync, P: Spawner, G: Gate + Sync, R: Threads + Wait + Sync>(
+    rt: &R,
+    alloc: Global,
+    over: Over,
+    workload: &Workload,
+    clock: &C,
+    spawner: &mut P,
+    gate: &G,
+) -> Result<Outcome, RunFault> {
+    match over {
+        Over::Tries => threaded(rt, alloc, workload, clock, spawner, gate),
+        Over::Plain => threaded_plain(rt, alloc, workload, clock, spawner, gate),
+    }
+}
+
+// The replies of each worker, and what the objects hold at the end.
+fn told(alloc: Global, report: &Report) -> Result<String, AllocError> {
+    let mut text = String::new(alloc);
+    for replies in report.replies.as_slice() {
+        let answers = replies.as_slice();
+        let words = format!(in alloc; "{answers:?} ")?;
+        text.push_str(&words)?;
+    }
+    let ends = report.ends.as_slice();
+    let words = format!(in alloc; "{ends:?}")?;
+    text.push_str(&words)?;
+    Ok(text)
+}
+
+// What the run of a text comes to: what it leaves behind, and then how it ends where it isn't Done.
+fn told_of<C: Clock + Sync, P: Spawner, G: Gate + Sync, R: Threads + Wait + Sync>(
+    rt: &R,
+    alloc: Global,
+    over: Over,
+    text: &str,
+    clock: &C,
+    spawner: &mut P,
+    gate: &G,
+) -> Result<String, AllocError> {
+    let Ok(workload) = parse(alloc, text.as_bytes()) else {
+        return String::from_str(alloc, "not read");
+    };
+    match run_of(rt, alloc, over, &workload, clock, spawner, gate) {
+        Ok(Outcome::Done(report)) => told(alloc, &report),
+        Ok(Outcome::Misused(report, misuse)) => {
+            let left = told(alloc, &report)?;
+            let words = misuse.text();
+            format!(in alloc; "{left} {words}")
+        }
+        Ok(Outcome::Deadlocked(_report)) => String::from_str(alloc, "deadlocked"),
+        Err(RunFault::StartRefused) => String::from_str(alloc, "refused"),
+        Err(RunFault::Memory) => Err(AllocError),
+    }
+}
+
+// What it comes to in threads of the machine, over tries, with this gate.
+fn told_through<G: Gate + Sync, R: Threads + Wait + Sync>(
+    rt: &R,
+    alloc: Global,
+    text: &str,
+    gate: &G,
+) -> Result<String, AllocError> {
+    let clock = MemClock::new(Vec::new(alloc));
+    let mut spawner = ThreadSpawner::new();
+    told_of(rt, alloc, Over::Tries, text, &clock, &mut spawner, gate)
+}
+
+// The first of these texts that doesn't come to what stands beside it, over tries or over plain maps, and what it comes to.
+fn first_other<C: Clock + Sync, R: Threads + Wait + Sync>(
+    rt: &R,
+    alloc: Global,
+    clock: &C,
+    table: &[(&'static str, &'static str)],
+) -> Result<Option<(&'static str, String)>, AllocError> {
+    for &(text, want) in table {
+        for over in [Over::Tries, Over::Plain] {
+            let mut spawner = ThreadSpawner::new();
+            let got = told_of(rt, alloc, over, text, clock, &mut spawner, &OpenGate)?;
+            if got.as_str() != want {
+                return Ok(Some((text, got)));
+            }
+        }
+    }
+    Ok(None)
+}
+
+// Two workers that wait for each other. Run one after the other, they would never end.
+const EACH_WAITS: &str =
+    "workers 2\nwaitgroup g0 1\nwaitgroup g1 1\nworker 0\ndone g0\nwait g1\nworker 1\ndone g1\nwait g0\n";
+
+const RUNS: [(&str, &str); 7] = [
+    (
+        "workers 1\nmap t\nworker 0\nstore t apple 5\nload t apple\n",
+        "[Map(Done), Map(Found(Some(5)))] [Pair { object: 0, key: 0, value: 5 }]",
+    ),
+    (
+        "workers 1\nmap t\nworker 0\nlos t k 7\nlos t k 8\nrange t\nclear t\nrange t\n",
+        "[Map(Settled { value: 7, loaded: false }), Map(Settled { value: 7, loaded: true }), Pairs(Seq { items: [(0, 7)] }), Map(Done), Pairs(Seq { items: [] })] []",
+    ),
+    (
+        "workers 1\nint32 a\nworker 0\nadd a 1\nadd a -1\ncas a 0 1\n",
+        "[Atomic(Held(Int32(1))), Atomic(Held(Int32(0))), Atomic(Compared(true))] [Number { object: 0, number: Int32(1) }]",
+    ),
+    (
+        "workers 1\nmutex m\nworker 0\nunlock m\n",
+        "[] [] fatal error: sync: unlock of unlocked mutex",
+    ),
+    (
+        "workers 1\nwaitgroup g 0\nworker 0\nadd g 1\ndone g\ndone g\n",
+        "[Returned, Returned] [] panic: sync: negative WaitGroup counter",
+    ),
+    (
+        "workers 2\nint64 a\nonce o a 5\noncefunc g 3\nworker 0\ndo o\ncall g\ncall g\nworker 1\n",
+        "[Once(Ran(5)), OnceFunc(Some(3)), OnceFunc(Some(3))] [] [Number { object: 0, number: Int64(5) }]",
+    ),
+    (EACH_WAITS, "[Returned, Returned] [Returned, Returned] []"),
+];
+
+#[test]
+fn a_workload_is_run_in_threads(rt: HostRuntime) -> Result<(), Fail> {
+    let clock = MemClock::new(Vec::from_slice(rt.alloc(), &[5, 9, 7])?);
+    let other = first_other(&rt, rt.alloc(), &clock, &RUNS)?;
+    assert!(rt; other.is_none(), "{other:?}");
+    Ok(())
+}
+
+// Each leaves the same in every order of its workers that their calls allow.
+const KINDS: [(&str, &str); 15] = [
+    // Each worker has keys of its own.
+    (
+        "workers 3\nmap t\nworker 0\nstore t b 1\nload t b\nswap t b 2\ncas t b 2 3\nworker 1\nlos t a 4\nlad t a\nlos t a 5\ncad t a 6\nworker 2\nstore t c 7\ndelete t c\nload t c\nload t d\n",
+        "[Map(Done), Map(Found(Some(1))), Map(Found(Some(1))), Map(Compared(true))] [Map(Settled { value: 4, loaded: false }), Map(Found(Some(4))), Map(Settled { value: 5, loaded: false }), Map(Compared(false))] [Map(Done), Map(Done), Map(Found(None)), Map(Found(None))] [Pair { object: 0, key: 1, value: 5 }, Pair { object: 0, key: 0, value: 3 }]",
+    ),
+    // What others stored is shown, in byte order of the keys.
+    (
+        "workers 3\nmap t\nmap u\nwaitgroup g 2\nworker 0\nstore t b 1\nstore u z 9\ndone g\nworker 1\nstore t a 2\ndone g\nworker 2\nwait g\nrange t\nrange u\nclear t\nrange t\n",
+        "[Map(Done), Map(Done), Returned] [Map(Done), Returned] [Returned, Pairs(Seq { items: [(2, 2), (0, 1)] }), Pairs(Seq { items: [(1, 9)] }), Map(Done), Pairs(Seq { items: [] })] [Pair { object: 1, key: 1, value: 9 }]",
+    ),
+    // Each type of atomic, at an end of its range.
+    (
+        "workers 2\nint32 a\nint64 b\nuint32 c\nuint64 d\nbool e\nwaitgroup g 1\nworker 0\nstore a 2147483647\nstore b -9223372036854775808\nstore c 4294967295\nstore d 18446744073709551615\nstore e true\ndone g\nworker 1\nwait g\nadd a 1\nadd b -1\nadd c 2\nand d 7\nor d 8\ncas e true false\nswap a 3\n",
+        "[Atomic(Done), Atomic(Done), Atomic(Done), Atomic(Done), Atomic(Done), Returned] [Returned, Atomic(Held(Int32(-2147483648))), Atomic(Held(Int64(9223372036854775807))), Atomic(Held(Uint32(1))), Atomic(Held(Uint64(18446744073709551615))), Atomic(Held(Uint64(7))), Atomic(Compared(true)), Atomic(Held(Int32(-2147483648)))] [Number { object: 0, number: Int32(3) }, Number { object: 1, number: Int64(9223372036854775807) }, Number { object: 2, number: Uint32(1) }, Number { object: 3, number: Uint64(15) }, Number { object: 4, number: Bool(false) }]",
+    ),
+    // Who holds the mutex finds 0 and leaves 0.
+    (
+        "workers 4\nmutex m\nint64 a\nworker 0\nlock m\ncas a 0 1\ncas a 1 0\nunlock m\nworker 1\nlock m\ncas a 0 1\ncas a 1 0\nunlock m\nworker 2\nlock m\ncas a 0 1\ncas a 1 0\nunlock m\nworker 3\nlock m\ncas a 0 1\ncas a 1 0\nunlock m\n",
+        "[Lock(Done), Atomic(Compared(true)), Atomic(Compared(true)), Lock(Done)] [Lock(Done), Atomic(Compared(true)), Atomic(Compared(true)), Lock(Done)] [Lock(Done), Atomic(Compared(true)), Atomic(Compared(true)), Lock(Done)] [Lock(Done), Atomic(Compared(true)), Atomic(Compared(true)), Lock(Done)] [Number { object: 1, number: Int64(0) }]",
+    ),
+    (
+        "workers 2\nmutex m\nwaitgroup g 1\nworker 0\ntrylock m\ndone g\nworker 1\nwait g\ntrylock m\nunlock m\ntrylock m\n",
+        "[Lock(Tried(true)), Returned] [Returned, Lock(Tried(false)), Lock(Done), Lock(Tried(true))] []",
+    ),
+    (
+        "workers 4\nrwmutex w\nint64 a\nworker 0\nlock w\ncas a 0 1\ncas a 1 0\nunlock w\nworker 1\nlock w\ncas a 0 1\ncas a 1 0\nunlock w\nworker 2\nrlock w\nload a\nrunlock w\nworker 3\nrlock w\nload a\nrunlock w\n",
+        "[Lock(Done), Atomic(Compared(true)), Atomic(Compared(true)), Lock(Done)] [Lock(Done), Atomic(Compared(true)), Atomic(Compared(true)), Lock(Done)] [Lock(Done), Atomic(Held(Int64(0))), Lock(Done)] [Lock(Done), Atomic(Held(Int64(0))), Lock(Done)] [Number { object: 1, number: Int64(0) }]",
+    ),
+    (
+        "workers 3\nrwmutex w\nwaitgroup g 2\nworker 0\nrlock w\ndone g\nworker 1\ntryrlock w\ndone g\nworker 2\nwait g\ntrylock w\ntryrlock w\nrunlock w\nrunlock w\nrunlock w\ntrylock w\ntryrlock w\nunlock w\n",
+        "[Lock(Done), Returned] [Lock(Tried(true)), Returned] [Returned, Lock(Tried(false)), Lock(Tried(true)), Lock(Done), Lock(Done), Lock(Done), Lock(Tried(true)), Lock(Tried(false)), Lock(Done)] []",
+    ),
+    // The mutex is free for the one who signals only when the other waits.
+    (
+        "workers 2\nmutex m\ncond c m\nwaitgroup g 1\nworker 0\nlock m\ndone g\nwait c\nunlock m\nworker 1\nwait g\nlock m\nsignal c\nunlock m\n",
+        "[Lock(Done), Returned, Returned, Lock(Done)] [Returned, Lock(Done), Returned, Lock(Done)] []",
+    ),
+    (
+        "workers 3\nmutex m\ncond c m\nwaitgroup g 2\nworker 0\nlock m\ndone g\nwait c\nunlock m\nworker 1\nlock m\ndone g\nwait c\nunlock m\nworker 2\nwait g\nlock m\nbroadcast c\nunlock m\n",
+        "[Lock(Done), Returned, Returned, Lock(Done)] [Lock(Done), Returned, Returned, Lock(Done)] [Returned, Lock(Done), Returned, Lock(Done)] []",
+    ),
+    (
+        "workers 4\nwaitgroup g 3\nworker 0\nwait g\nworker 1\ndone g\nwait g\nworker 2\nadd g 1\ndone g\ndone g\nwait g\nworker 3\ndone g\n",
+        "[Returned] [Returned, Returned] [Returned, Returned, Returned, Returned] [Returned] []",
+    ),
+    (
+        "workers 3\nint64 a\nonce o a 5\nwaitgroup g 1\nworker 0\ndo o\ndone g\nworker 1\nwait g\ndo o\nload a\nworker 2\nwait g\ndo o\n",
+        "[Once(Ran(5)), Returned] [Returned, Once(Done), Atomic(Held(Int64(5)))] [Returned, Once(Done)] [Number { object: 0, number: Int64(5) }]",
+    ),
+    (
+        "workers 4\noncefunc f 3\noncefunc h 0\noncevalue v 9\nworker 0\ncall f\ncall h\nvalue v\nworker 1\ncall f\ncall h\nvalue v\nworker 2\ncall f\ncall h\nvalue v\nworker 3\ncall f\ncall h\nvalue v\n",
+        "[OnceFunc(Some(3)), OnceFunc(None), OnceValue(9)] [OnceFunc(Some(3)), OnceFunc(None), OnceValue(9)] [OnceFunc(Some(3)), OnceFunc(None), OnceValue(9)] [OnceFunc(Some(3)), OnceFunc(None), OnceValue(9)] []",
+    ),
+    // The first item of a worker's part is taken by nobody else.
+    (
+        "workers 3\npool p\nworker 0\nput p 1\nget p\nworker 1\nput p 2\nget p\nget p\nworker 2\nput p 3\nsweep p\nget p\n",
+        "[Pool(Done), Pool(Put(1))] [Pool(Done), Pool(Put(2)), Pool(New)] [Pool(Done), Pool(Done), Pool(Put(3))] []",
+    ),
+    (
+        "workers 2\npool p\nwaitgroup g 1\nworker 0\nput p 1\nput p 2\ndone g\nworker 1\nwait g\nget p\nget p\n",
+        "[Pool(Done), Pool(Done), Returned] [Returned, Pool(Put(2)), Pool(New)] []",
+    ),
+    // Two pools, with an object between them: each has parts of its own, and a sweep is of one pool.
+    (
+        "workers 2\npool p\nmutex m\npool q\nwaitgroup g 1\nworker 0\nput p 1\nput p 2\nput q 7\nput q 8\nsweep q\ndone g\nworker 1\nwait g\nget q\nget p\nget q\nget p\n",
+        "[Pool(Done), Pool(Done), Pool(Done), Pool(Done), Pool(Done), Returned] [Returned, Pool(Put(8)), Pool(Put(2)), Pool(New), Pool(New)] []",
+    ),
+];
+
+#[test]
+fn each_kind_of_object_in_threads(rt: HostRuntime) -> Result<(), Fail> {
+    let clock = SystemClock::new(&rt);
+    let other = first_other(&rt, rt.alloc(), &clock, &KINDS)?;
+    assert!(rt; other.is_none(), "{other:?}");
+    Ok(())
+}
+
+// The first call of this worker of two is held until the other one's was answered.
+const HELD: [(u32, &str, &str); 4] = [
+    (
+        0,
+        "workers 2\nint64 a\nworker 0\nadd a 1\nworker 1\nadd a 1\n",
+        "[Atomic(Held(Int64(2)))] [Atomic(Held(Int64(1)))] [Number { object: 0, number: Int64(2) }]",
+    ),
+    (
+        1,
+        "workers 2\nint64 a\nworker 0\nadd a 1\nworker 1\nadd a 1\n",
+        "[Atomic(Held(Int64(1)))] [Atomic(Held(Int64(2)))] [Number { object: 0, number: Int64(2) }]",
+    ),
+    (
+        0,
+        "workers 2\nint64 a\nonce o a 5\nworker 0\ndo o\nload a\nworker 1\ndo o\n",
+        "[Once(Done), Atomic(Held(Int64(5)))] [Once(Ran(5))] [Number { object: 0, number: Int64(5) }]",
+    ),
+    (
+        1,
+        "workers 2\nint64 a\nonce o a 5\nworker 0\ndo o\nload a\nworker 1\ndo o\n",
+        "[Once(Ran(5)), Atomic(Held(Int64(5)))] [Once(Done)] [Number { object: 0, number: Int64(5) }]",
+    ),
+];
+
+#[test]
+fn a_gate_decides_who_comes_first(rt: HostRuntime) -> Result<(), Fail> {
+    for &(held, text, want) in &HELD {
+        let gate = HoldGate::new(held);
+        let got = told_through(&rt, rt.alloc(), text, &gate)?;
+        assert_eq!(rt; got.as_str(), want, "{held}");
+        assert!(rt; !gate.has_given_up(), "{held}");
+    }
+    Ok(())
+}
+
+#[test]
+fn a_gate_is_passed_before_and_after_each_call(rt: HostRuntime) -> Result<(), Fail> {
+    for (text, answered) in [
+        (EACH_WAITS, 4),
+        ("workers 1\nmutex m\nworker 0\nunlock m\n", 1),
+    ] {
+        let gate = HoldGate::new(2);
+        told_through(&rt, rt.alloc(), text, &gate)?;
+        assert_eq!(rt; gate.answered(), answered, "{text}");
+    }
+    Ok(())
+}
+
+// Worker 1 makes the misuse, and its first call is held until that of worker 0 was answered. The others wait for good, unless said.
+const MISUSES: [(&str, &str); 8] = [
+    (
+        "workers 3\nmutex m\nmutex n\nwaitgroup g 1\nworker 0\nlock m\nlock m\nworker 1\nunlock n\nworker 2\nwait g\n",
+        "[Lock(Done)] [] [] [] fatal error: sync: unlock of unlocked mutex",
+    ),
+    (
+        "workers 3\nrwmutex w\nrwmutex v\nwaitgroup g 1\nworker 0\nrlock w\nlock w\nworker 1\nrunlock v\nworker 2\nwait g\n",
+        "[Lock(Done)] [] [] [] fatal error: sync: RUnlock of unlocked RWMutex",
+    ),
+    (
+        "workers 2\nrwmutex w\nrwmutex v\nworker 0\nlock w\nrlock w\nworker 1\nunlock v\n",
+        "[Lock(Done)] [] [] fatal error: sync: Unlock of unlocked RWMutex",
+    ),
+    (
+        "workers 2\nmutex m\ncond c m\nwaitgroup g 0\nworker 0\nlock m\nwait c\nworker 1\ndone g\n",
+        "[Lock(Done)] [] [] panic: sync: negative WaitGroup counter",
+    ),
+    // Who was signalled waits for the mutex.
+    (
+        "workers 2\nmutex m\ncond c m\nwaitgroup g 0\nworker 0\nlock m\nwait c\nworker 1\nlock m\nsignal c\ndone g\n",
+        "[Lock(Done)] [Lock(Done), Returned] [] panic: sync: negative WaitGroup counter",
+    ),
+    (
+        "workers 4\nmutex m\ncond c m\nwaitgroup g 1\nworker 0\nadd g 1\nwait g\nworker 1\nwait c\nworker 2\nwait g\nworker 3\nwait g\n",
+        "[Returned] [] [] [] [] fatal error: sync: unlock of unlocked mutex",
+    ),
+    // Nobody waits for good on these kinds of object. They are halted when their calls have returned.
+    (
+        "workers 3\nint64 a\nonce o a 5\noncefunc f 3\noncevalue v 9\npool p\nwaitgroup g 1\nwaitgroup h 1\nmutex m\nworker 0\ncall f\nwait g\nworker 1\nwait h\nunlock m\nworker 2\ndo o\ncall f\nvalue v\nput p 1\nget p\ndone h\nwait g\n",
+        "[OnceFunc(Some(3))] [Returned] [Once(Ran(5)), OnceFunc(Some(3)), OnceValue(9), Pool(Done), Pool(Put(1)), Returned] [] fatal error: sync: unlock of unlocked mutex",
+    ),
+    // Who calls only maps and atomics goes on to the end of the script.
+    (
+        "workers 2\nmap t\nint64 a\nmutex m\nworker 0\nstore t k 1\nload t k\nadd a 1\nrange t\nworker 1\nunlock m\n",
+        "[Map(Done), Map(Found(Some(1))), Atomic(Held(Int64(1))), Pairs(Seq { items: [(0, 1)] })] [] [] fatal error: sync: unlock of unlocked mutex",
+    ),
+];
+
+#[test]
+fn a_misuse_ends_all_who_wait(rt: HostRuntime) -> Result<(), Fail> {
+    for &(text, want) in &MISUSES {
+        let gate = HoldGate::new(1);
+        let got = told_through(&rt, rt.alloc(), text, &gate)?;
+        assert_eq!(rt; got.as_str(), want, "{text}");
+        assert!(rt; !gate.has_given_up(), "{text}");
+    }
+    Ok(())
+}
+
+// How the text ends, which is the same in every order of the workers. Their replies aren't.
+const RACES: [(&str, &str); 4] = [
+    (
+        "workers 4\nint64 a\nworker 0\nadd a 1\nadd a 2\nworker 1\nadd a 4\nadd a 8\nworker 2\nadd a 16\nworker 3\nadd a 32\n",
+        "] [Number { object: 0, number: Int64(63) }]",
+    ),
+    (
+        "workers 3\nint64 a\nonce o a 5\nworker 0\ndo o\nworker 1\ndo o\nworker 2\ndo o\n",
+        "] [Number { object: 0, number: Int64(5) }]",
+    ),
+    // Each worker may be halted at any of its calls, or at none.
+    (
+        "workers 4\nint64 a\nonce o a 5\noncefunc f 3\noncevalue v 9\npool p\nmutex m\nworker 0\ndo o\ndo o\nworker 1\ncall f\nvalue v\nworker 2\nput p 1\nget p\nworker 3\nunlock m\n",
+        "] [] fatal error: sync: unlock of unlocked mutex",
+    ),
+    (
+        "workers 3\nmutex m\nmutex n\nworker 0\nunlock m\nworker 1\nunlock n\nworker 2\nunlock m\n",
+        "[] [] [] [] fatal error: sync: unlock of unlocked mutex",
+    ),
+];
+
+#[test]
+fn workers_in_any_order_come_to_one_end(rt: HostRuntime) -> Result<(), Fail> {
+    for &(text, want) in &RACES {
+        let got = told_through(&rt, rt.alloc(), text, &OpenGate)?;
+        assert!(rt; got.ends_with(want), "{got}");
+    }
+    Ok(())
+}
+
+// Which start is refused, what the run comes to, and how many starts were refused, how many jobs were done, and in how many calls.
+const REFUSED: [(usize, &str, (u64, u64, u64)); 5] = [
+    (0, "[] [] [] []", (0, 3, 1)),
+    (1, "refused", (1, 0, 0)),
+    (2, "refused", (1, 0, 0)),
+    (3, "refused", (1, 0, 0)),
+    (4, "[] [] [] []", (0, 3, 1)),
+];
+
+#[test]
+fn a_start_that_is_refused_ends_the_run(rt: HostRuntime) -> Result<(), Fail> {
+    let clock = MemClock::new(Vec::new(rt.alloc()));
+    for &(refused, want, numbers) in &REFUSED {
+        let mut spawner = RefuseStart::new(refused);
+        let got = told_of(
+            &rt,
+            rt.alloc(),
+            Over::Tries,
+            "workers 3\n",
+            &clock,
+            &mut spawner,
+            &OpenGate,
+        )?;
+        assert_eq!(rt; got.as_str(), want, "{refused}");
+        let counts = spawner.counts();
+        let counted = (counts.faults(), counts.ran(), counts.rounds());
+        assert_eq!(rt; counted, numbers, "{refused}");
+    }
+    let mut spawner = RefuseStart::new(2);
+    let got = told_of(
+        &rt,
+        rt.alloc(),
+        Over::Tries,
+        EACH_WAITS,
+        &clock,
+        &mut spawner,
+        &OpenGate,
+    )?;
+    assert_eq!(rt; got.as_str(), "refused");
+    Ok(())
+}

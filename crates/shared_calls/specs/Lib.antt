@@ -1,0 +1,4 @@
+pub mod GivenUp
+pub mod PlacedCalls
+pub mod Spending
+pub mod Working

@@ -1,0 +1,6 @@
+//! What a call of a workload answers.
+use sync_model::Answer;
+use sync_types::{Misuse, Reply};
+
+/// The answer to a call of a workload.
+pub type CallAnswer = Answer<Result<Reply<u32>, Misuse>>;

@@ -1,0 +1,54 @@
+//! What holds of what a worker makes. Each law is the contract of a function that does nothing.
+ghost use Rattle.std.specs.Prelude.{◌≡◌, ℕ, ◌+◌, ◌<◌, List, [], ◌++◌, length, take, Option, Some, slice_get, slice_index, IsSome};
+ghost use Rattle.sync_model.specs.declared.item.Item.{Item};
+ghost use Rattle.sync_model.specs.Front.{AtLeast};
+ghost use Rattle.sync_model.specs.Note.{Holding, IsCounted};
+ghost use Rattle.sync_model.specs.Shared.{items_of};
+ghost use Rattle.workload.specs.Plan.{Plan};
+ghost use Rattle.run_record.specs.Limits.{IsCallOf};
+ghost use Rattle.run_record.specs.Record.{shared_in, front_of};
+ghost use Rattle.shared_calls.specs.GivenUp.{MakesOnly};
+ghost use Rattle.shared_calls.specs.Spending.{Spends};
+ghost use Rattle.shared_calls.specs.Working.{Desk, Moves, number_in};
+
+use run_record::Made;
+use sync_model::Note;
+
+/// A worker that makes nothing stays at its desk. What it makes from one desk to another, and then to a third, it makes from
+/// the first one to the third: what it makes first comes before, its calls on maps and atomics too.
+pub fn moves()
+    ensures none { (desk : Desk) → Moves desk [] desk }
+    ensures joined { (old between new : Desk) (earlier later : List Made) → Moves old earlier between → Moves between later new → Moves old (earlier ++ later) new }
+    ensures shared { (earlier later : List Made) → shared_in (earlier ++ later) ≡ shared_in earlier ++ shared_in later }
+{}
+
+/// A worker knows all its own earlier calls on maps and atomics, forgets nothing from one item to the next, and knows at the end
+/// what it knew at each of them.
+pub fn a_worker_knows_its_own_calls()
+    ensures own { (old new : Desk) (items : List Made) (worker i : ℕ) (made : Made)
+        → Moves old items new → old.worker ≡ Some worker → slice_get items i ≡ Some made → slice_index (front_of made) worker ≡ length old.calls + length (shared_in (take i items)) }
+    ensures rises { (old new : Desk) (items : List Made) (i j : ℕ) (earlier later : Made)
+        → Moves old items new → i < j → slice_get items i ≡ Some earlier → slice_get items j ≡ Some later → AtLeast (front_of later) (front_of earlier) }
+    ensures ends { (old new : Desk) (items : List Made) (i : ℕ) (made : Made)
+        → Moves old items new → slice_get items i ≡ Some made → AtLeast new.front (front_of made) }
+{}
+
+/// A note that counts all its holder's calls on maps and atomics has their number as its holder's own.
+pub fn a_note_counts_its_calls()
+    ensures { (own : Option Holding) (front : List ℕ) (worker : ℕ) → IsCounted own front → number_in own ≡ Some worker → slice_index front worker ≡ length (items_of own) }
+{}
+
+/// Of its spare entries a caller uses none while its note holds what it held, and by calls one after the other what each of them
+/// uses. Its note is still its own.
+pub fn what_calls_spend<N: Note>()
+    ensures none { (old new : N) → N.own new ≡ N.own old → IsSome (N.own old) → Spends N.own 0 old new }
+    ensures joined { (cost more : ℕ) (old between new : N) → Spends N.own cost old between → Spends N.own more between new → Spends N.own (cost + more) old new }
+    ensures held { (cost : ℕ) (old new : N) → Spends N.own cost old new → IsSome (N.own new) }
+{}
+
+/// A caller makes no call on maps and atomics while its note holds what it held. Who makes only calls of a workload, and then
+/// only such calls, makes only such calls.
+pub fn which_calls_are_made()
+    ensures none { (plan : Plan) (old new : Option Holding) → new ≡ old → MakesOnly (IsCallOf plan) (items_of old) (items_of new) }
+    ensures joined { (plan : Plan) (old between new : List Item) → MakesOnly (IsCallOf plan) old between → MakesOnly (IsCallOf plan) between new → MakesOnly (IsCallOf plan) old new }
+{}

@@ -1,0 +1,57 @@
+//! Calls on maps and atomics, in the words of the record.
+ghost use Rattle.std.specs.Prelude.{◌≡◌, ℕ, ◌<◌, ◌≤◌, List};
+ghost use Rattle.std.specs.Option.{ForSome};
+ghost use Rattle.sync_model.specs.Note.{SameHome};
+ghost use Rattle.sync_model.specs.declared.item.SharedCall.TheVariants as calls;
+ghost use Rattle.sync_model.specs.Shared.{IsMapCall, IsAtomicCall, cost_of, IsCallerAt, items_of};
+ghost use Rattle.workload.specs.Plan.{Plan};
+ghost use Rattle.run_record.specs.AtomicKind.{atomic_call};
+ghost use Rattle.run_record.specs.Limits.{IsCallOf};
+ghost use Rattle.run_record.specs.Record.{ObjectEntry};
+ghost use Rattle.shared_calls.specs.GivenUp.{MakesOnly};
+ghost use Rattle.shared_calls.specs.PlacedCalls.{placed_map};
+ghost use Rattle.shared_calls.specs.Spending.{Spends};
+ghost use Rattle.shared_calls.specs.Working.{Works, desk_with};
+
+use crate::answer::CallAnswer;
+use std::sync::Wait;
+use sync_model::{Answer, Caller, Shared};
+use sync_types::{AtomicCall, MapCall, Reply};
+
+/// Makes a call on an atomic. It may wait for other callers.
+pub fn call_atomic<S: Shared, R: Wait>(
+    rt: &R,
+    shared: &S,
+    caller: &mut Caller<S::Mark>,
+    atomic: u32,
+    call: AtomicCall,
+) -> CallAnswer
+    requires caller { IsCallerAt S.Mark.at S.Mark.own (S.home_of shared.now) caller.old }
+    requires call { IsAtomicCall (S.kinds shared.now) atomic call }
+    ensures home { SameHome S.Mark.at caller.old.note caller.new.note }
+    ensures spends { Spends S.Mark.own 0 caller.old.note caller.new.note }
+    ensures calls { (plan : Plan) → IsCallOf plan (calls.Atomic atomic call) → MakesOnly (IsCallOf plan) (items_of (S.Mark.own caller.old.note)) (items_of (S.Mark.own caller.new.note)) }
+    ensures works { (owns : ℕ → List ObjectEntry) → Works (atomic_call atomic call) (desk_with S.Mark.own S.Mark.front owns caller.old.note) result (desk_with S.Mark.own S.Mark.front owns caller.new.note) }
+{
+    Answer::Done(Ok(Reply::Atomic(shared.atomic_call(rt, caller, atomic, call))))
+}
+
+/// Makes a call on a map, whose keys are numbers. It may wait for other callers.
+pub fn call_map<S: Shared, R: Wait>(
+    rt: &R,
+    shared: &S,
+    caller: &mut Caller<S::Mark>,
+    map: u32,
+    call: MapCall<u32>,
+) -> CallAnswer
+    requires caller { IsCallerAt S.Mark.at S.Mark.own (S.home_of shared.now) caller.old }
+    requires map { map < S.maps shared.now }
+    requires call { IsMapCall (S.takes shared.now) call }
+    requires spare { ForSome (S.Mark.own caller.old.note) (λ holding. cost_of call ≤ holding.spare) }
+    ensures home { SameHome S.Mark.at caller.old.note caller.new.note }
+    ensures spends { Spends S.Mark.own (cost_of call) caller.old.note caller.new.note }
+    ensures calls { (plan : Plan) → IsCallOf plan (calls.Map map call) → MakesOnly (IsCallOf plan) (items_of (S.Mark.own caller.old.note)) (items_of (S.Mark.own caller.new.note)) }
+    ensures works { (owns : ℕ → List ObjectEntry) → Works (placed_map map call) (desk_with S.Mark.own S.Mark.front owns caller.old.note) result (desk_with S.Mark.own S.Mark.front owns caller.new.note) }
+{
+    Answer::Done(Ok(Reply::Map(shared.map_call(rt, caller, map, call))))
+}
