@@ -4,6 +4,7 @@ mod AsMany
 mod ByCaller
 mod DoneLines
 mod EachOf
+mod EdgesByAnswer
 mod EndsShown
 mod Holders
 mod KeyAtEnd

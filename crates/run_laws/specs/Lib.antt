@@ -1,3 +1,4 @@
 pub mod Adds
+pub mod DocumentedEdges
 pub mod Locks
 pub mod Owners

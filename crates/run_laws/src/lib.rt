@@ -3,6 +3,7 @@
 #![tactic(auto)]
 
 pub mod adds;
+pub mod edges;
 pub mod ends;
 pub mod locks;
 pub mod owners;

@@ -1,0 +1,55 @@
+//! The edges between the events of a run's objects are those that Go documents. The law is the contract of a function that does
+//! nothing.
+ghost use Rattle.std.specs.Prelude.{◌≡◌, ◌↔◌, ℕ, ℤ, true, IsFalse};
+ghost use Rattle.mutex_core.specs.MutexMachine as mutex;
+ghost use Rattle.pool_core.specs.PartMachine.{PartState, part_next};
+ghost use Rattle.rw_core.specs.RwMachine as rw;
+ghost use Rattle.wait_cores.specs.OnceMachine as once;
+ghost use Rattle.run_record.specs.Edges.{frees, takes};
+ghost use Rattle.run_laws.specs.DocumentedEdges.{CondWaitGoesOn, Dones, FunctionCompletes, Gets, GroupWaitReturns, Locks, Notifies, OnceCallReturns, Puts, RwLocks, RwUnlocks, Unlocks, is_of_its_kind};
+
+use mutex_core::MutexEvent;
+use pool_core::PoolEvent;
+use run_record::entered::{ObjectEvent, ObjectReply};
+use rw_core::RwEvent;
+use wait_cores::{GroupEvent, GroupReply, NotifyEvent, NotifyReply, OnceEvent};
+
+/// An event releases exactly where Go's memory model, or the documentation of its `sync`, names it as the first of two that
+/// are synchronized, and acquires exactly where it is the second: of each kind of object, whatever its state is and
+/// whoever makes the event. An event that is answered by a misuse, by an object of another kind, or not at all, does neither.
+pub fn the_edges_are_those_that_go_documents()
+    ensures mutex { (state : mutex.State) (caller : ℕ) (event : MutexEvent) → let reply = (mutex.next state caller event).1 in
+        (frees (ObjectEvent.Mutex event) (ObjectReply.Mutex reply) ≡ true ↔ Unlocks event reply)
+        × (takes (ObjectEvent.Mutex event) (ObjectReply.Mutex reply) ≡ true ↔ Locks event reply) }
+    ensures rw_mutex { (state : rw.State) (caller : ℕ) (event : RwEvent) → let reply = (rw.next state caller event).1 in
+        (frees (ObjectEvent.RwMutex event) (ObjectReply.RwMutex reply) ≡ true ↔ RwUnlocks event reply)
+        × (takes (ObjectEvent.RwMutex event) (ObjectReply.RwMutex reply) ≡ true ↔ RwLocks event reply) }
+    ensures wait_group { (event : GroupEvent) (reply : GroupReply)
+        → (frees (ObjectEvent.WaitGroup event) (ObjectReply.WaitGroup reply) ≡ true ↔ Dones event reply)
+        × (takes (ObjectEvent.WaitGroup event) (ObjectReply.WaitGroup reply) ≡ true ↔ GroupWaitReturns event reply) }
+    ensures once { (state : once.OnceState ℤ) (caller : ℕ) (event : OnceEvent ℤ) → let reply = (once.next state caller event).1 in
+        (frees (ObjectEvent.Once event) (ObjectReply.Once reply) ≡ true ↔ FunctionCompletes event reply)
+        × (takes (ObjectEvent.Once event) (ObjectReply.Once reply) ≡ true ↔ OnceCallReturns event reply) }
+    ensures once_func { (state : once.OnceState ℕ) (caller : ℕ) (event : OnceEvent ℕ) → let reply = (once.next state caller event).1 in
+        (frees (ObjectEvent.OnceFunc event) (ObjectReply.OnceFunc reply) ≡ true ↔ FunctionCompletes event reply)
+        × (takes (ObjectEvent.OnceFunc event) (ObjectReply.OnceFunc reply) ≡ true ↔ OnceCallReturns event reply) }
+    ensures once_value { (state : once.OnceState ℕ) (caller : ℕ) (event : OnceEvent ℕ) → let reply = (once.next state caller event).1 in
+        (frees (ObjectEvent.OnceValue event) (ObjectReply.OnceValue reply) ≡ true ↔ FunctionCompletes event reply)
+        × (takes (ObjectEvent.OnceValue event) (ObjectReply.OnceValue reply) ≡ true ↔ OnceCallReturns event reply) }
+    ensures cond { (event : NotifyEvent) (reply : NotifyReply)
+        → (frees (ObjectEvent.Cond event) (ObjectReply.Cond reply) ≡ true ↔ Notifies event reply)
+        × (takes (ObjectEvent.Cond event) (ObjectReply.Cond reply) ≡ true ↔ CondWaitGoesOn event reply) }
+    ensures pool { (state : PartState ℕ) (caller : ℕ) (event : PoolEvent ℕ) → let reply = (part_next state caller event).1 in
+        (frees (ObjectEvent.Pool event) (ObjectReply.Pool reply) ≡ true ↔ Puts event reply)
+        × (takes (ObjectEvent.Pool event) (ObjectReply.Pool reply) ≡ true ↔ Gets event reply) }
+    ensures apart { (event : ObjectEvent) (reply : ObjectReply)
+        → IsFalse (is_of_its_kind event reply) → IsFalse (frees event reply) × IsFalse (takes event reply) }
+{
+    mutex_core::laws::standing();
+    mutex_core::laws::still();
+    rw_core::laws::standing();
+    rw_core::laws::still();
+    wait_cores::laws::once::knows_where_it_stands::<i64>();
+    wait_cores::laws::once::knows_where_it_stands::<u32>();
+    pool_core::part_laws::a_part_answers();
+}
