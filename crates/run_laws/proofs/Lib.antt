@@ -4,6 +4,7 @@ mod AsMany
 mod ByCaller
 mod DoneLines
 mod EachOf
+mod LineEnds
 mod EndsShown
 mod Holders
 mod KeyAtEnd
@@ -17,5 +18,6 @@ mod Numbered
 mod OneKey
 mod Orderly
 mod PlainCalls
+mod Replied
 mod UnionAtEnd
 mod Weaving

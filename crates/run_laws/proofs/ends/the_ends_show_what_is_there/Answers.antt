@@ -1,7 +1,3 @@
-use Rattle.std.proofs.Common.{List, ap, sym, ◌∙◌}
-use Rattle.std.specs.Prelude.{Contains}
-use Rattle.sync_types.specs.declared.outcome.End.{End}
-use Rattle.sync_types.specs.declared.outcome.End.TheVariants as ends
 use Rattle.sync_model.specs.SharedHistory.{contents_after}
 use Rattle.run_record.specs.Objects.{contents_of}
 use Rattle.run_laws.proofs.AsMany.{as_many_after}
