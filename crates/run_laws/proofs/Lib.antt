@@ -8,6 +8,7 @@ mod EdgesByAnswer
 mod EndsShown
 mod Holders
 mod KeyAtEnd
+mod LineEnds
 mod LockLines
 mod LockSteps
 mod MapItems
@@ -18,5 +19,6 @@ mod Numbered
 mod OneKey
 mod Orderly
 mod PlainCalls
+mod Replied
 mod UnionAtEnd
 mod Weaving

@@ -1,17 +1,22 @@
-//! The edges between the events of a run's objects are those that Go documents. The law is the contract of a function that does
-//! nothing.
-ghost use Rattle.std.specs.Prelude.{◌≡◌, ◌↔◌, ℕ, ℤ, true, IsFalse};
+//! What one event makes known to another: the edges between the events of a run's objects are those that Go documents, and a front
+//! counts calls that were made. Each law is the contract of a function that does nothing.
+ghost use Rattle.std.specs.Prelude.{◌≡◌, ◌↔◌, ◌<◌, ℕ, ℤ, true, IsFalse, Some, slice_get, slice_index};
 ghost use Rattle.mutex_core.specs.MutexMachine as mutex;
 ghost use Rattle.pool_core.specs.PartMachine.{PartState, part_next};
 ghost use Rattle.rw_core.specs.RwMachine as rw;
 ghost use Rattle.wait_cores.specs.OnceMachine as once;
+ghost use Rattle.workload.specs.Plan.{Plan};
 ghost use Rattle.run_record.specs.Edges.{frees, takes};
+ghost use Rattle.run_record.specs.Explains.{IsRecordOf};
+ghost use Rattle.run_record.specs.Record.{Record, list_of, calls_of, front_of};
 ghost use Rattle.run_laws.specs.DocumentedEdges.{CondWaitGoesOn, Dones, FunctionCompletes, Gets, GroupWaitReturns, Locks, Notifies, OnceCallReturns, Puts, RwLocks, RwUnlocks, Unlocks, is_of_its_kind};
 
 use mutex_core::MutexEvent;
 use pool_core::PoolEvent;
+use run_record::Made;
 use run_record::entered::{ObjectEvent, ObjectReply};
 use rw_core::RwEvent;
+use sync_model::Item;
 use wait_cores::{GroupEvent, GroupReply, NotifyEvent, NotifyReply, OnceEvent};
 
 /// An event releases exactly where Go's memory model, or the documentation of its `sync`, names it as the first of two that
@@ -53,3 +58,10 @@ pub fn the_edges_are_those_that_go_documents()
     wait_cores::laws::once::knows_where_it_stands::<u32>();
     pool_core::part_laws::a_part_answers();
 }
+
+/// Each call that a front counts was made: nobody knows of a call that there isn't.
+pub fn a_front_counts_calls_that_were_made()
+    ensures { (plan : Plan) (r : Record) (worker i other known : ℕ) (made : Made)
+        → IsRecordOf plan r → slice_get (list_of r worker) i ≡ Some made → known < slice_index (front_of made) other
+        → (call : Item) × (slice_get (calls_of r other) known ≡ Some call) }
+{}
