@@ -59,6 +59,24 @@ pub(super) fn deleted<R: Wait>(
     true
 }
 
+// Deletes in map 0 where the key has this value, if the caller has room.
+pub(super) fn deleted_if<R: Wait>(
+    rt: &R,
+    table: &SharedTable,
+    caller: &mut Caller<SharedNote>,
+    key: u32,
+    value: u32,
+) -> bool
+    requires map { 0 < maps_of table.now }
+    requires caller { IsCallerAt IsNoteOf own_by table.now caller.old }
+    ensures { IsCallerAt IsNoteOf own_by table.now caller.new }
+{
+    if caller.spare() == 0 {
+        return false;
+    }
+    Map::at(table, 0).compare_and_delete(rt, caller, key, value as u64)
+}
+
 // Clears map 0, if the caller has room.
 pub(super) fn cleared<R: Wait>(rt: &R, table: &SharedTable, caller: &mut Caller<SharedNote>) -> bool
     requires map { 0 < maps_of table.now }
