@@ -95,7 +95,10 @@ fn store_and_load_in_new<R: Wait>(
 fn keys_that_part_at_the_last_nibble_are_read_in_eleven_words_until_both_are_deleted(
     rt: HostRuntime,
 ) -> Result<(), Fail> {
-    let loads = store_and_load_in_new(&rt, rt.alloc(), FAR, None)?.expect(&rt, "room for five calls");
+    let loads = store_and_load_in_new(&rt, rt.alloc(), FAR, None)?.expect(
+        &rt,
+        "room for five calls",
+    );
     assert!(&rt; loads.near.0 == Some(1) && loads.near.1 == 11);
     assert!(&rt; loads.far.0 == Some(2) && loads.far.1 == 22);
     assert!(&rt; loads.again.0 == Some(9) && loads.again.1 == 26);
@@ -106,7 +109,10 @@ fn keys_that_part_at_the_last_nibble_are_read_in_eleven_words_until_both_are_del
 fn keys_that_part_at_the_second_nibble_are_read_in_five_words_until_both_are_deleted(
     rt: HostRuntime,
 ) -> Result<(), Fail> {
-    let loads = store_and_load_in_new(&rt, rt.alloc(), BESIDE, Some(2))?.expect(&rt, "room for five calls");
+    let loads = store_and_load_in_new(&rt, rt.alloc(), BESIDE, Some(2))?.expect(
+        &rt,
+        "room for five calls",
+    );
     assert!(&rt; loads.near.0 == Some(1) && loads.near.1 == 5);
     assert!(&rt; loads.far.0 == Some(2) && loads.far.1 == 10);
     assert!(&rt; loads.again.0 == Some(9) && loads.again.1 == 14);
