@@ -3,7 +3,7 @@ use Rattle.std.proofs.Common.{Bool, ◌≡◌, ◌≢◌, ℕ, zero, suc, ◌+�
 use Rattle.std.proofs.lemmas.List.{length-replicate}
 use Rattle.std.proofs.lemmas.Option.{slice_get-get_or, slice_get_within}
 use mathlib.Core.Logic.{dite}
-use mathlib.Core.Option.{some}
+use mathlib.Core.Option.{some, some-injective}
 use native.Mathlib.Decide.{ℕ_discrete}
 use lib.ListN.{get_elem?}
 use Rattle.atomic_table.specs.declared.shared.Seat.{Seat}
@@ -15,10 +15,11 @@ use Rattle.ruled_object.specs.declared.object.Object.{Object}
 use Rattle.ruled_object.specs.declared.pass.Pass.{Pass}
 use Rattle.ruled_object.specs.declared.rule.Begin.{Begin}
 use Rattle.ruled_object.specs.declared.view.Stage.TheVariants.{Idle}
+use Rattle.ruled_object.specs.declared.view.Own.{Own}
 use Rattle.ruled_object.specs.declared.view.View.{View}
-use Rattle.ruled_object.specs.Gathered.{AreAllPasses, SamePasses, SameOwn, Gathered, Dealing, IsDealt, IsWhole, IsSeen, SameTurns}
-use Rattle.ruled_object.specs.Passes.{own_of, own_by, turns_of, seen_by, SamePass, callers_of, CountsTurns}
-use Rattle.ruled_object.specs.Steps.{Sat, first_of, others_of, joined, kept, dealt, Learns}
+use Rattle.ruled_object.specs.Gathered.{AreAllPasses, SamePasses, SameOwn, Gathered, Dealing, IsDealt, IsWhole, IsSeen, SameTurns, HaveCounted}
+use Rattle.ruled_object.specs.Passes.{capped, own_of, own_in, turns_of, seen_by, SamePass, callers_of}
+use Rattle.ruled_object.specs.Steps.{Sat, first_of, others_of, new_own, joined, kept, dealt, Learns}
 use Rattle.ruled_object.proofs.Calls.{own_is}
 use Rattle.ruled_object.proofs.Journals.{begins_all}
 use Rattle.ruled_object.proofs.Steps.{in_blank}
@@ -53,18 +54,18 @@ module _ {A : Type 0} where
   just_one (x ∷ xs) h = refl
 
 module _ {E R : Type 0} where
-  own_of_first : (owns : List (List (Entry E R))) → own_of (first_of owns) ≡ own_of owns
+  own_of_first : (owns : List (Own E R)) → own_of (first_of owns) ≡ own_of owns
   own_of_first [] = refl
   own_of_first (own ∷ owns) = refl
 
-  pub no_entries : (n i : ℕ) (own : List (Entry E R)) → get_elem? (replicate n []) i ≡ some own → own ≡ []
-  no_entries n i own e = sym (in_blank n i [] own e).1
+  pub is_new : (n i : ℕ) (own : Own E R) → get_elem? (replicate n new_own) i ≡ some own → own ≡ new_own
+  is_new n i own e = sym (in_blank n i new_own own e).1
 
-  pub some_left : (n callers : ℕ) (journal : List (Entry E R)) (v : View E R) → Dealing n journal (replicate callers []) v → n < callers → 0 < length v.owns
-  some_left n callers journal v d below = let count = d.count in let sized = length-replicate {A = List (Entry E R)} callers [] in omega arith
+  pub some_left : (n callers : ℕ) (journal : List (Entry E R)) (v : View E R) → Dealing n journal (replicate callers new_own) v → n < callers → 0 < length v.owns
+  some_left n callers journal v d below = let count = d.count in let sized = length-replicate {A = Own E R} callers new_own in omega arith
 
   -- the seat lets the next caller go
-  pub dealing_on : (n : ℕ) (journal : List (Entry E R)) (owns : List (List (Entry E R))) (v : View E R) → 0 < length v.owns → Dealing n journal owns v → Dealing (n + 1) journal owns (kept v)
+  pub dealing_on : (n : ℕ) (journal : List (Entry E R)) (owns : List (Own E R)) (v : View E R) → 0 < length v.owns → Dealing n journal owns v → Dealing (n + 1) journal owns (kept v)
   dealing_on n journal owns v some_own d = let count = d.count in let less = one_less v.owns some_own in let number = d.number in record {
     stage = d.stage;
     seen = d.seen;
@@ -87,8 +88,8 @@ module _ {S N E R : Type 0} where
     owns = λ i p below at_i. dite (ℕ_discrete i n)
         (λ is. let same : pass ≡ p = (let e : Some pass ≡ Some p = sym at_n ∙ (ap (slice_get passes) (sym is) ∙ at_i) in (cc)) in
         let place : length v.owns + 0 ≡ i = omega arith in let some_own : 0 < length w.owns = omega arith in
-        subst (λ (k : ℕ). get_elem? (v.owns ++ w.owns) k ≡ some (own_by p)) place (at_second v.owns w.owns 0 (own_by p) (own_is w.owns some_own ∙ ap (λ (x : Pass S N E R). some (own_by x)) same)))
-        (λ other. at_longer v.owns w.owns i (own_by p) (d.owns i p (omega arith) at_i));
+        subst (λ (k : ℕ). get_elem? (v.owns ++ w.owns) k ≡ some (own_in p)) place (at_second v.owns w.owns 0 (own_in p) (own_is w.owns some_own ∙ ap (λ (x : Pass S N E R). some (own_in x)) same)))
+        (λ other. at_longer v.owns w.owns i (own_in p) (d.owns i p (omega arith) at_i));
     heard = λ i p below at_i. dite (ℕ_discrete i n)
         (λ is. let same : pass ≡ p = (let e : Some pass ≡ Some p = sym at_n ∙ (ap (slice_get passes) (sym is) ∙ at_i) in (cc)) in
         (length v.heard + 0, at_second v.heard (w.seen ∷ w.heard) 0 (seen_by p) (ap (λ (x : Pass S N E R). some (seen_by x)) same)))
@@ -97,6 +98,14 @@ module _ {S N E R : Type 0} where
 
   pub at_same : (old new : List (Pass S N E R)) (i : ℕ) (pass : Pass S N E R) → length new ≡ length old → slice_get new i ≡ Some pass → slice_get old i ≡ Some (get_or old i pass)
   at_same old new i pass sized at_i = let below = slice_get_within new i pass at_i in slice_get-get_or old i pass (omega arith)
+
+  -- the passes count what a seat has of their callers, where that is what the passes had
+  pub have_counted : {M H : Type 0} (object : Object M N S E R H) (old new : List (Pass S N E R)) (all : List (Own E R)) → AreAllPasses object old → length new ≡ length old → SameTurns old new
+      → ((i : ℕ) (pass : Pass S N E R) → slice_get old i ≡ Some pass → get_elem? all i ≡ some (own_in pass)) → HaveCounted all new
+  have_counted object old new all are sized same has = λ i pass own at_i is.
+      let before = at_same old new i pass sized at_i in let was : Pass S N E R = get_or old i pass in
+      let mine = some-injective (own_in was) own (sym (has i was before) ∙ is) in
+      same i was pass before at_i ∙ ((are.each i was before).0.turns ∙ ap (λ (o : Own E R). capped o.turns) mine)
 
   pub same_through : (a b c : List (Pass S N E R)) → SamePasses a b → SamePasses b c → SamePasses a c
   same_through a b c d e = record {
@@ -143,23 +152,24 @@ module _ {S N E R : Type 0} where
       (get_or old i pass, before, whole_new.owns i pass at_i ∙ sym (whole_old.owns i (get_or old i pass) before))
 
 -- the pass that is dealt out
-pub is_dealt : {M N S E R H : Type 0} (object : Object M N S E R H) (n turns : ℕ) (journal : List (Entry E R)) (all : List (List (Entry E R))) (v : View E R) (pass : Pass S N E R) → Dealing n journal all v → 0 < length v.owns
-    → n < callers_of object → pass.seat.table_id ≡ object.table.shared.table_id → pass.seat.me ≡ (dealt turns v, []) → pass.number ≡ n → CountsTurns pass → IsDealt object n journal all pass
-is_dealt {M} {N} {S} {E} {R} {H} object n turns journal all v pass d some_own below table me number counts =
+pub is_dealt : {M N S E R H : Type 0} (object : Object M N S E R H) (n : ℕ) (journal : List (Entry E R)) (all : List (Own E R)) (v : View E R) (pass : Pass S N E R) → Dealing n journal all v → 0 < length v.owns
+    → n < callers_of object → pass.seat.table_id ≡ object.table.shared.table_id → pass.seat.me ≡ (dealt v, []) → pass.number ≡ n → ((own : Own E R) → get_elem? all n ≡ some own → turns_of pass ≡ capped own.turns) → IsDealt object n journal all pass
+is_dealt {M} {N} {S} {E} {R} {H} object n journal all v pass d some_own below table me number counts =
     let owns : pass.seat.me.0.owns ≡ first_of v.owns = ap (λ (m : Sat S N E R). m.0.owns) me in
-    let same : n + 0 ≡ n = omega arith in record {
+    let same : n + 0 ≡ n = omega arith in
+    let mine : get_elem? all n ≡ some (own_in pass) = ap (get_elem? all) (sym same) ∙ (sym (d.owns 0) ∙ (own_is v.owns some_own ∙ ap (λ (x : Own E R). some x) (sym (ap own_of owns ∙ own_of_first v.owns)))) in record {
       is = record {
         table = table;
         caller = subst (λ (k : ℕ). k < callers_of object) (sym number) below;
         number = ap (λ (m : Sat S N E R). m.0.number) me ∙ (d.number ∙ sym number);
-        one = ap (λ (xs : List (List (Entry E R))). length xs) owns ∙ just_one v.owns some_own;
+        one = ap (λ (xs : List (Own E R)). length xs) owns ∙ just_one v.owns some_own;
         turn = ap (λ (m : Sat S N E R). m.0.stage) me;
         empty = ap (λ (m : Sat S N E R). m.1) me;
-        turns = counts;
+        turns = counts (own_in pass) mine;
       };
       number = number;
       seen = ap (λ (m : Sat S N E R). m.0.seen) me ∙ d.seen;
-      own = ap (get_elem? all) (sym same) ∙ (sym (d.owns 0) ∙ (own_is v.owns some_own ∙ ap (λ (x : List (Entry E R)). some x) (sym (ap own_of owns ∙ own_of_first v.owns))));
+      own = mine;
     }
 
 module _ {S N E R H : Type 0} (next : S → ℕ → E → S × R) (halts : Bool) (frees takes : E → R → Bool) (front : N → List ℕ) (at : H → N → Type 0) (tells : S → ℕ) (means : S → ℕ → S) (begin : Begin S N) where
@@ -169,7 +179,7 @@ module _ {S N E R H : Type 0} (next : S → ℕ → E → S × R) (halts : Bool)
   whole passes v journal word cell count d learns = record {
     follows = learns.lawful.follows;
     edges = learns.lawful.edges;
-    owns = λ i pass at_i. let number = d.number in let same : v.number + i ≡ i = omega arith in (learns.owns i (own_by pass) (d.owns i pass (slice_get_within passes i pass at_i) at_i)).1 ∙ ap (λ (c : ℕ). by c journal) same;
+    owns = λ i pass at_i. let number = d.number in let same : v.number + i ≡ i = omega arith in (learns.owns i (own_in pass) (d.owns i pass (slice_get_within passes i pass at_i) at_i)).1 ∙ ap (λ (c : ℕ). by c journal) same;
     seen = λ i pass at_i. let h = d.heard i pass (slice_get_within passes i pass at_i) at_i in learns.heard h.0 (seen_by pass) h.1;
     callers = λ c past. learns.lawful.callers c (omega arith);
   }
@@ -181,7 +191,7 @@ module _ {S N E R H : Type 0} (next : S → ℕ → E → S × R) (halts : Bool)
   whole_again object passes v journal word cell count from_first dealt learns = record {
     follows = learns.lawful.follows;
     edges = learns.lawful.edges;
-    owns = λ i pass at_i. let same : v.number + i ≡ i = omega arith in (learns.owns i (own_by pass) (dealt i pass at_i).own).1 ∙ ap (λ (c : ℕ). by c journal) same;
+    owns = λ i pass at_i. let same : v.number + i ≡ i = omega arith in (learns.owns i (own_in pass) (dealt i pass at_i).own).1 ∙ ap (λ (c : ℕ). by c journal) same;
     seen = λ i pass at_i. subst (Begins journal) (sym (dealt i pass at_i).seen) (begins_all journal);
     callers = λ c past. learns.lawful.callers c (omega arith);
   }

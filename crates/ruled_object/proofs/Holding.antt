@@ -7,6 +7,7 @@ use Rattle.sync_model.specs.Journal.{Begins, by, KeepsEdges, Follows}
 use Rattle.ruled_object.specs.declared.cell.Cell.{Cell}
 use Rattle.ruled_object.specs.declared.pass.Pass.{Pass}
 use Rattle.ruled_object.specs.declared.rule.Begin.{Begin}
+use Rattle.ruled_object.specs.declared.view.Own.{Own}
 use Rattle.ruled_object.specs.declared.view.View.{View}
 use Rattle.ruled_object.specs.Looks.{looked, Finds}
 use Rattle.ruled_object.specs.Notes.{held_of, Shows}
@@ -16,24 +17,24 @@ use Rattle.ruled_object.proofs.Gathering.{at_second}
 
 module _ {E R : Type 0} where
   -- who holds nobody's entries stands for nobody
-  pub nobody : (owns : List (List (Entry E R))) → held_of owns ≡ None → owns ≡ []
+  pub nobody : (owns : List (Own E R)) → held_of owns ≡ None → owns ≡ []
   nobody [] none = refl
   nobody (own ∷ owns) none = (cc)
 
   -- what is held is what the first caller made
-  pub first_held : (owns : List (List (Entry E R))) (own : List (Entry E R)) → held_of owns ≡ Some own → get_elem? owns 0 ≡ some own
+  pub first_held : (owns : List (Own E R)) (own : List (Entry E R)) → held_of owns ≡ Some own → (get_elem? owns 0 ≡ some (own_of owns)) × ((own_of owns).entries ≡ own)
   first_held [] own is = (cc)
-  first_held (own ∷ owns) mine is = ap some (let same : own ≡ mine = (cc) in same)
+  first_held (own ∷ owns) mine is = (refl, (cc))
 
-  pub own_held : (owns : List (List (Entry E R))) (own : List (Entry E R)) → held_of owns ≡ Some own → own_of owns ≡ own
+  pub own_held : (owns : List (Own E R)) (own : List (Entry E R)) → held_of owns ≡ Some own → (own_of owns).entries ≡ own
   own_held [] own is = (cc)
   own_held (own ∷ owns) mine is = (cc)
 
-  pub some_held : (owns : List (List (Entry E R))) (own : List (Entry E R)) → held_of owns ≡ Some own → length owns ≤ 1 → length owns ≡ 1
+  pub some_held : (owns : List (Own E R)) (own : List (Entry E R)) → held_of owns ≡ Some own → length owns ≤ 1 → length owns ≡ 1
   some_held [] own is one = (cc)
   some_held (own ∷ owns) mine is one = omega arith
 
-  pub one_held : (owns : List (List (Entry E R))) → length owns ≡ 1 → held_of owns ≡ Some (own_of owns)
+  pub one_held : (owns : List (Own E R)) → length owns ≡ 1 → held_of owns ≡ Some (own_of owns).entries
   one_held [] one = absurd (omega arith)
   one_held (own ∷ owns) one = refl
 
@@ -48,8 +49,8 @@ module _ {S N E R H : Type 0} (next : S → ℕ → E → S × R) (halts : Bool)
   shows_after pass v slots journal me number finds =
       let seen : pass.seat.me.0.seen ≡ journal = ap (λ (m : Sat S N E R). m.0.seen) me in
       let owns : pass.seat.me.0.owns ≡ v.owns = ap (λ (m : Sat S N E R). m.0.owns) me in
-      let first : v.number + 0 ≡ pass.number = omega arith in record {
-        own = λ own is. (finds.owns 0 own (first_held v.owns own (sym (ap held_of owns) ∙ is))).1 ∙ (ap (λ (c : ℕ). by c journal) first ∙ ap (by pass.number) (sym seen));
+      let same : v.number + 0 ≡ pass.number = omega arith in record {
+        own = λ own is. let first = first_held v.owns own (sym (ap held_of owns) ∙ is) in sym first.1 ∙ (finds.owns 0 (own_of v.owns) first.0).1 ∙ (ap (λ (c : ℕ). by c journal) same ∙ ap (by pass.number) (sym seen));
         follows = subst (Follows next halts begin.state None) (sym seen) finds.lawful.follows;
         edges = subst (KeepsEdges frees takes) (sym seen) finds.lawful.edges;
       }

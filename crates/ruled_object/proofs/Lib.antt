@@ -1,5 +1,6 @@
 pub mod Assembling
 pub mod Calls
+pub mod Counting
 pub mod Gathering
 pub mod Growth
 pub mod Holding

@@ -31,9 +31,6 @@ module _ {S N E R H : Type 0} (next : S → ℕ → E → S × R) (halts : Bool)
   abbrev word_of : St → ℕ
   word_of s = get_or s.words 0 0
 
-  abbrev turn_of : St → ℕ
-  turn_of s = get_or s.words 1 0
-
   abbrev V : Type 0
   V = View E R
 
@@ -45,12 +42,15 @@ module _ {S N E R H : Type 0} (next : S → ℕ → E → S × R) (halts : Bool)
         journal = r.journal;
         holder = r.holder;
         claim = r.claim;
+        turn = r.turn;
+        turns = r.turns;
         wide = r.wide;
         lawful = r.lawful;
         each = λ j u e. ⊎_elim (r.each j u)
-            (λ (t : copied v ≡ u). subst (Fits begin.callers r.journal (word_of s) (turn_of s) s.homes r.holder r.claim j) t
+            (λ (t : copied v ≡ u). subst (Fits begin.callers r.journal (word_of s) r.turn s.homes r.holder r.claim r.turns j) t
             record { seen = f.seen; heard = λ i xs is. absurd (some-ne-none xs (sym is)); owns = λ i xs is. absurd (some-ne-none xs (sym is)); stage = tt })
             (at_snoc s.views (copied v) u j e);
+        counted = r.counted;
         free = r.free;
         busy = λ ne. let b = r.busy ne in (b.0, at_longer s.views (copied v ∷ []) r.holder b.0 b.1, b.2, b.3);
       } in
@@ -58,7 +58,7 @@ module _ {S N E R H : Type 0} (next : S → ℕ → E → S × R) (halts : Bool)
 
   -- a seat that has the word is the one that has it
   its : (s : St) (r : Rule s) (j : ℕ) (u : V) → get_elem? s.views j ≡ some u → HasWord u.stage → (j ≡ r.holder) × IsHeld (word_of s)
-  its s r j u e h = word_is begin.callers r.journal (word_of s) (turn_of s) r.holder s.homes j u.seen u.stage (r.each j u e).stage h
+  its s r j u e h = word_is begin.callers r.journal (word_of s) r.turn r.holder s.homes j u.seen u.stage (r.each j u e).stage h
 
   -- what the word says at any moment
   says : (s : St) (r : Rule s) → Says next tells begin.state (word_of s) r.journal s.views
@@ -76,11 +76,14 @@ module _ {S N E R H : Type 0} (next : S → ℕ → E → S × R) (halts : Bool)
         journal = r.journal;
         holder = r.holder;
         claim = r.claim;
+        turn = r.turn;
+        turns = r.turns;
         wide = r.wide;
         lawful = r.lawful;
-        each = each_after (Fits begin.callers r.journal (word_of s) (turn_of s) s.homes r.holder r.claim) s.views id w
-            record { seen = begins_all r.journal; heard = λ i xs is. absurd (some-ne-none xs (sym is)); owns = f.owns; stage = subst (AtStage r.journal (word_of s) (turn_of s) s.homes r.holder id r.journal) (sym idle) tt }
+        each = each_after (Fits begin.callers r.journal (word_of s) r.turn s.homes r.holder r.claim r.turns) s.views id w
+            record { seen = begins_all r.journal; heard = λ i xs is. absurd (some-ne-none xs (sym is)); owns = f.owns; stage = subst (AtStage r.journal (word_of s) r.turn s.homes r.holder id r.journal) (sym idle) tt }
             (λ j u other e. r.each j u e);
+        counted = r.counted;
         free = r.free;
         busy = λ ne. let b = r.busy ne in (
           b.0,

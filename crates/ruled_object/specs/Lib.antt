@@ -8,3 +8,4 @@ pub mod Passes
 pub mod Rule
 pub mod Standing
 pub mod Steps
+pub mod Turns

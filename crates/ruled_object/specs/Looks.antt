@@ -6,6 +6,7 @@ use Rattle.sync_model.specs.declared.journal.Entry.{Entry}
 use Rattle.sync_model.specs.Journal.{Begins, by, state_after}
 use Rattle.ruled_object.specs.declared.pass.Pass.{Pass}
 use Rattle.ruled_object.specs.declared.rule.Begin.{Begin}
+use Rattle.ruled_object.specs.declared.view.Own.{Own}
 use Rattle.ruled_object.specs.declared.view.Stage.TheVariants.{Idle}
 use Rattle.ruled_object.specs.declared.view.View.{View}
 use Rattle.ruled_object.specs.Rule.{HasWord, IsFree, IsHeld, Lawful}
@@ -14,7 +15,7 @@ use Rattle.ruled_object.specs.Steps.{Sat}
 module _ {E R : Type 0} where
   -- the view of a new seat that has seen what another has, and stands for nobody
   abbrev pub copied : View E R → View E R
-  copied v = record { stage = Idle; seen = v.seen; knew = 0; heard = []; number = v.number; owns = []; turns = 0 }
+  copied v = record { stage = Idle; seen = v.seen; knew = 0; heard = []; number = v.number; owns = [] }
 
   -- the view after a look: it has seen all of the history, so all that it had heard
   abbrev pub looked : View E R → List (Entry E R) → View E R
@@ -39,7 +40,7 @@ module _ {S N E R H : Type 0} (next : S → ℕ → E → S × R) (halts : Bool)
   pub record Finds (v : View E R) (journal : List (Entry E R)) : Type 0 where
     pub seen : Begins journal v.seen
     pub heard : (i : ℕ) (xs : List (Entry E R)) → get_elem? v.heard i ≡ some xs → Begins journal xs
-    pub owns : (i : ℕ) (xs : List (Entry E R)) → get_elem? v.owns i ≡ some xs → (v.number + i < begin.callers) × (xs ≡ by (v.number + i) journal)
+    pub owns : (i : ℕ) (own : Own E R) → get_elem? v.owns i ≡ some own → (v.number + i < begin.callers) × (own.entries ≡ by (v.number + i) journal)
     pub lawful : Lawful next halts frees takes front at tells means begin journal
 
   -- the seat found this word, and holds what it held

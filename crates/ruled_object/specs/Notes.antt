@@ -4,13 +4,14 @@ use Rattle.sync_model.specs.declared.journal.Entry.{Entry}
 use Rattle.sync_model.specs.Journal.{by, KeepsEdges, Follows}
 use Rattle.ruled_object.specs.declared.object.Object.{Object}
 use Rattle.ruled_object.specs.declared.pass.Pass.{Pass}
+use Rattle.ruled_object.specs.declared.view.Own.{Own}
 use Rattle.ruled_object.specs.declared.view.Stage.TheVariants.{Idle}
 use Rattle.ruled_object.specs.Passes.{number_of, left_of, seen_by, CountsTurns, SamePass}
 
 -- the entries of the first caller that a seat stands for, if it stands for any
-abbrev pub held_of : {E R : Type 0} → List (List (Entry E R)) → Option (List (Entry E R))
+abbrev pub held_of : {E R : Type 0} → List (Own E R) → Option (List (Entry E R))
 held_of [] = None
-held_of (own ∷ owns) = Some own
+held_of (own ∷ owns) = Some own.entries
 
 -- all entries of the caller whose pass it is; a copy holds nobody's
 abbrev pub held_by : {S N E R : Type 0} → Pass S N E R → Option (List (Entry E R))

@@ -4,15 +4,17 @@ use Rattle.sync_model.specs.declared.journal.Entry.{Entry}
 use Rattle.sync_model.specs.Journal.{halt_of, by, KeepsEdges, state_after, Right, Follows}
 use Rattle.ruled_object.specs.declared.object.Object.{Object}
 use Rattle.ruled_object.specs.declared.pass.Pass.{Pass}
+use Rattle.ruled_object.specs.declared.view.Own.{Own}
 use Rattle.ruled_object.specs.declared.view.Stage.TheVariants.{Idle}
+use Rattle.ruled_object.specs.Steps.{new_own}
 
 -- a number, or the last value of its type where it is more
 abbrev pub capped : ℕ → ℕ
 capped n = min n 18446744073709551615
 
--- the entries of the first caller that a seat stands for
-abbrev pub own_of : {E R : Type 0} → List (List (Entry E R)) → List (Entry E R)
-own_of [] = []
+-- what a seat has of the first caller that it stands for
+abbrev pub own_of : {E R : Type 0} → List (Own E R) → Own E R
+own_of [] = new_own
 own_of (own ∷ owns) = own
 
 module _ {S N E R : Type 0} where
@@ -28,9 +30,13 @@ module _ {S N E R : Type 0} where
   abbrev pub turns_of : Pass S N E R → ℕ
   turns_of pass = pass.turns
 
-  -- that is what the view of its seat keeps, or the last value of the type where that is more
+  -- what its seat has of its caller
+  abbrev pub own_in : Pass S N E R → Own E R
+  own_in pass = own_of pass.seat.me.0.owns
+
+  -- that is the number that its seat has, or the last value of the type where that is more
   abbrev pub CountsTurns : Pass S N E R → Type 0
-  CountsTurns pass = turns_of pass ≡ capped pass.seat.me.0.turns
+  CountsTurns pass = turns_of pass ≡ capped (own_in pass).turns
 
   -- how much of the history its caller has seen
   abbrev pub seen_by : Pass S N E R → List (Entry E R)
@@ -38,7 +44,7 @@ module _ {S N E R : Type 0} where
 
   -- the entries that its caller made, each once, in order
   abbrev pub own_by : Pass S N E R → List (Entry E R)
-  own_by pass = own_of pass.seat.me.0.owns
+  own_by pass = (own_in pass).entries
 
 module _ {M N S E R H : Type 0} where
   -- how many callers the object has

@@ -1,5 +1,5 @@
 -- What each step on an object's table tells its seat.
-use Rattle.std.specs.Prelude.{◌≡◌, ◌≢◌, ℕ, suc, ◌+◌, ◌<◌, Bool, true, List, [], ◌∷◌, ◌++◌, Option, Some, None, length, replicate}
+use Rattle.std.specs.Prelude.{◌≡◌, ◌≢◌, ℕ, zero, suc, ◌+◌, ◌<◌, Bool, true, List, [], ◌∷◌, ◌++◌, Option, Some, None, length, replicate}
 use mathlib.Core.Option.{some}
 use lib.ListN.{get_elem?}
 use Rattle.atomic_table.specs.Table.{Me}
@@ -9,6 +9,7 @@ use Rattle.sync_model.specs.Journal.{Begins, halt_of, by, is_such, Covers, state
 use Rattle.ruled_object.specs.declared.cell.Cell.{Cell}
 use Rattle.ruled_object.specs.declared.rule.Begin.{Begin}
 use Rattle.ruled_object.specs.declared.view.Stage.TheVariants.{Idle, Making, Taken, Deep}
+use Rattle.ruled_object.specs.declared.view.Own.{Own}
 use Rattle.ruled_object.specs.declared.view.View.{View}
 use Rattle.ruled_object.specs.Rule.{IsFree, Lawful, Lies}
 
@@ -25,6 +26,11 @@ abbrev pub first_of : {A : Type 0} → List A → List A
 first_of [] = []
 first_of (x ∷ xs) = x ∷ []
 
+-- the first of a list changed, and the others as they are
+abbrev pub on_first : {A : Type 0} → (A → A) → List A → List A
+on_first change [] = []
+on_first change (x ∷ xs) = change x ∷ xs
+
 -- all but the first
 abbrev pub others_of : {A : Type 0} → List A → List A
 others_of [] = []
@@ -33,41 +39,53 @@ others_of (x ∷ xs) = xs
 module _ {E R : Type 0} where
   -- a seat that knows nothing and stands for nobody
   abbrev pub blank : View E R
-  blank = record { stage = Idle; seen = []; knew = 0; heard = []; number = 0; owns = []; turns = 0 }
+  blank = record { stage = Idle; seen = []; knew = 0; heard = []; number = 0; owns = [] }
+
+  -- a caller that has no entry, and took no turn
+  abbrev pub new_own : Own E R
+  new_own = record { entries = []; turns = 0 }
 
   -- the seat that makes the object stands for all callers
   abbrev pub first_view : ℕ → View E R
-  first_view callers = record { stage = Making; seen = []; knew = 0; heard = []; number = 0; owns = replicate callers []; turns = 0 }
+  first_view callers = record { stage = Making; seen = []; knew = 0; heard = []; number = 0; owns = replicate callers new_own }
 
   -- the view with the word, after it has seen this history
   abbrev pub taken : View E R → List (Entry E R) → View E R
   taken v journal = record v { stage = Taken; seen = journal; knew = length v.seen }
 
-  -- the view after it took the turn too
+  -- one turn more of a caller
+  abbrev pub one_turn : Own E R → Own E R
+  one_turn own = record own { turns = suc own.turns }
+
+  -- the view after it took the turn too: one turn more of the first caller
   abbrev pub deepened : View E R → View E R
-  deepened v = record v { stage = Deep; turns = suc v.turns }
+  deepened v = record v { stage = Deep; owns = on_first one_turn v.owns }
 
   -- the view after it gave the turn back, and has the word still
   abbrev pub raised : View E R → View E R
   raised v = record v { stage = Taken }
 
-  -- the view after so many turns
-  abbrev pub counted : View E R → ℕ → View E R
-  counted v turns = record v { turns = turns }
+  -- so many turns more of the first caller
+  abbrev pub more_turns : ℕ → List (Own E R) → List (Own E R)
+  more_turns zero owns = owns
+  more_turns (suc n) owns = on_first one_turn (more_turns n owns)
 
-  -- one more entry of the first caller
-  abbrev pub added : List (List (Entry E R)) → Entry E R → List (List (Entry E R))
-  added [] e = []
-  added (own ∷ owns) e = (own ++ e ∷ []) ∷ owns
+  -- the view after so many turns more
+  abbrev pub counted : ℕ → View E R → View E R
+  counted n v = record v { owns = more_turns n v.owns }
+
+  -- one entry more of a caller
+  abbrev pub added : Entry E R → Own E R → Own E R
+  added e own = record own { entries = own.entries ++ e ∷ [] }
 
   -- the view after it gave the word back, with an entry or with none
   abbrev pub gave : View E R → Option (Entry E R) → View E R
   gave v None = record v { stage = Idle }
-  gave v (Some e) = record v { stage = Idle; seen = v.seen ++ e ∷ []; owns = added v.owns e }
+  gave v (Some e) = record v { stage = Idle; seen = v.seen ++ e ∷ []; owns = on_first (added e) v.owns }
 
-  -- the view of a new seat, for the first caller that a seat stood for, after so many turns
-  abbrev pub dealt : ℕ → View E R → View E R
-  dealt turns v = record { stage = Idle; seen = v.seen; knew = 0; heard = []; number = v.number; owns = first_of v.owns; turns = turns }
+  -- the view of a new seat, for the first caller that a seat stood for
+  abbrev pub dealt : View E R → View E R
+  dealt v = record { stage = Idle; seen = v.seen; knew = 0; heard = []; number = v.number; owns = first_of v.owns }
 
   -- what the seat keeps, which stands for the other callers
   abbrev pub kept : View E R → View E R
@@ -87,7 +105,7 @@ module _ {S N E R H : Type 0} (next : S → ℕ → E → S × R) (halts : Bool)
   pub record Learns (v : View E R) (journal : List (Entry E R)) (word : ℕ) (cell : Cell S N) : Type 0 where
     pub seen : Begins journal v.seen
     pub heard : (i : ℕ) (xs : List (Entry E R)) → get_elem? v.heard i ≡ some xs → Begins journal xs
-    pub owns : (i : ℕ) (xs : List (Entry E R)) → get_elem? v.owns i ≡ some xs → (v.number + i < begin.callers) × (xs ≡ by (v.number + i) journal)
+    pub owns : (i : ℕ) (own : Own E R) → get_elem? v.owns i ≡ some own → (v.number + i < begin.callers) × (own.entries ≡ by (v.number + i) journal)
     pub lawful : Lawful next halts frees takes front at tells means begin journal
     pub lies : Lies next halts frees takes front at tells means begin journal word cell
 

@@ -34,7 +34,7 @@ impl<M: Worded, N: Note> Object<M, N> {
         requires free { word < 2 ^ 63 }
         requires home { N.at home.now note.old }
         ensures pass { (pass.new.number ≡ pass.old.number) × (pass.new.left ≡ pass.old.left) × CountsTurns pass.new }
-        ensures seat { IsSameSeat pass.old.seat pass.new.seat × (pass.new.seat.me.0 ≡ counted pass.old.seat.me.0 pass.new.seat.me.0.turns) }
+        ensures seat { IsSameSeat pass.old.seat pass.new.seat × ((n : ℕ) × (pass.new.seat.me.0 ≡ counted n pass.old.seat.me.0)) }
         ensures acts { HasCell pass.old.seat.me (λ old. HasCell pass.new.seat.me (λ new. Acts M.next M.HALTS M.frees M.takes N.front M.tells M.means pass.old.number (deed_of event result.0) (N.front note.new) word old result.2 new × SameHome N.at old.note new.note
             × (IsAlone M.alone (M.means old.state word) pass.old.number (deed_of event result.0) → turns_of pass.new ≡ turns_of pass.old))) }
         ensures free { result.2 < 2 ^ 63 }

@@ -17,13 +17,14 @@ use crate::view::View;
 use atomic_table::Seat;
 use object_word::Worded;
 use std::marker::Brand;
-use sync_model::{Machine, Note};
+use sync_model::{MAX_CALLERS, Machine, Note};
 use sync_types::Misuse;
 
-/// What the passes know that were brought together. Who has it can hand them back.
+/// What the passes know that were brought together, and how often each took the turn. Who has it can hand them back.
 #[derive(Drop)]
 pub struct Assembly<S, N, E, R> {
     pub(crate) seat: Seat<Option<Cell<S, N>>, View<E, R>>,
+    pub(crate) turns: [u64; MAX_CALLERS],
 }
 
 /// An assembly of passes to an object of this machine.
@@ -41,6 +42,7 @@ impl<M: Worded, N: Note> Object<M, N> {
     {
         Assembly {
             seat: self.newcomer(),
+            turns: [0; MAX_CALLERS],
         }
     }
 
@@ -53,6 +55,7 @@ impl<M: Worded, N: Note> Object<M, N> {
         ensures turns { turns_of pass.new ≡ turns_of pass.old }
         ensures all { (passes : List (Pass M.State N M.Event M.Reply)) → Brought self.now passes all.old → Brought self.now (passes ++ pass.old ∷ []) all.new }
     {
+        all.turns[pass.number as usize] = pass.turns;
         self.take_in(&mut all.seat, pass);
     }
 
@@ -71,18 +74,20 @@ impl<M: Worded, N: Note> Object<M, N> {
     }
 
     /// Hands the pass of the next caller back, in the order in which they were brought. It has seen the whole history, and
-    /// has the entries of its caller that it had.
+    /// has the entries of its caller that it had, and as many turns.
     pub fn hand_back(&self, all: &mut AssemblyOf<M, N>, pass: &mut PassOf<M, N>)
         requires pass { number_of pass.old < callers_of self.now }
         requires all { (journal : List (Entry M.Event M.Reply)) × (passes : List (Pass M.State N M.Event M.Reply)) × HandsBack self.now (number_of pass.old) journal passes all.old }
         ensures pass { IsPassOf self.now pass.new × SamePass pass.old pass.new }
-        ensures turns { turns_of pass.new ≡ turns_of pass.old }
+        ensures turns { (journal : List (Entry M.Event M.Reply)) (passes : List (Pass M.State N M.Event M.Reply)) (before : Pass M.State N M.Event M.Reply) → HandsBack self.now (number_of pass.old) journal passes all.old
+            → slice_get passes (number_of pass.old) ≡ Some before → turns_of pass.new ≡ turns_of before }
         ensures all { (journal : List (Entry M.Event M.Reply)) (passes : List (Pass M.State N M.Event M.Reply)) → HandsBack self.now (number_of pass.old) journal passes all.old
             → HandsBack self.now (number_of pass.old + 1) journal passes all.new }
         ensures seen { (journal : List (Entry M.Event M.Reply)) (passes : List (Pass M.State N M.Event M.Reply)) → HandsBack self.now (number_of pass.old) journal passes all.old → seen_by pass.new ≡ journal }
         ensures own { (journal : List (Entry M.Event M.Reply)) (passes : List (Pass M.State N M.Event M.Reply)) (before : Pass M.State N M.Event M.Reply) → HandsBack self.now (number_of pass.old) journal passes all.old
             → slice_get passes (number_of pass.old) ≡ Some before → own_by pass.new ≡ own_by before }
     {
+        pass.turns = all.turns[pass.number as usize];
         self.deal_to(&mut all.seat, pass);
     }
 }

@@ -1,5 +1,5 @@
 //! What all passes together know of an object's history.
-ghost use Rattle.std.specs.Prelude.{◌≡◌, false, List, None};
+ghost use Rattle.std.specs.Prelude.{◌≡◌, ◌<◌, ◌^◌, false, List, None};
 ghost use Rattle.sync_model.specs.declared.journal.Entry.{Entry};
 ghost use Rattle.sync_model.specs.Journal.{halt_of, state_after};
 ghost use Rattle.ruled_object.specs.Gathered.{AreAllPasses, SamePasses, SameOwn, SameTurns, IsWhole, IsSeen};
@@ -28,12 +28,38 @@ impl<M: Worded, N: Note> Object<M, N> {
         ensures turns { SameTurns passes.old passes.new }
         ensures halts { M.HALTS ≡ false → result ≡ None }
     {
+        self.look_at_rest(passes).1
+    }
+
+    /// The word while nobody has it, which tells of the state that the whole history left. It takes all passes, so that no
+    /// call is under way, and adds no entry. Afterwards each pass has seen all of the history.
+    pub fn word_at_rest(&self, passes: &mut [PassOf<M, N>]) -> u64
+        requires { AreAllPasses self.now passes.old }
+        ensures passes { AreAllPasses self.now passes.new × SamePasses passes.old passes.new }
+        ensures one_journal { (journal : List (Entry M.Event M.Reply)) × (result ≡ M.tells (state_after M.next (start_of self.now) journal)) × IsWhole M.next M.HALTS M.frees M.takes (start_of self.now) journal passes.old × IsSeen M.next M.HALTS M.frees M.takes (start_of self.now) journal passes.new }
+        ensures free { result < 2 ^ 63 }
+        ensures own { SameOwn passes.old passes.new }
+        ensures turns { SameTurns passes.old passes.new }
+    {
+        self.look_at_rest(passes).0
+    }
+
+    // The word while nobody has it, and the misuse of the history's first halt. One seat takes in all passes, takes the word,
+    // gives it back as it was, and deals the callers out again.
+    fn look_at_rest(&self, passes: &mut [PassOf<M, N>]) -> (u64, Option<Misuse>)
+        requires { AreAllPasses self.now passes.old }
+        ensures passes { AreAllPasses self.now passes.new × SamePasses passes.old passes.new }
+        ensures one_journal { (journal : List (Entry M.Event M.Reply)) × (result.0 ≡ M.tells (state_after M.next (start_of self.now) journal)) × (result.1 ≡ halt_of journal) × IsWhole M.next M.HALTS M.frees M.takes (start_of self.now) journal passes.old × IsSeen M.next M.HALTS M.frees M.takes (start_of self.now) journal passes.new }
+        ensures free { result.0 < 2 ^ 63 }
+        ensures own { SameOwn passes.old passes.new }
+        ensures turns { SameTurns passes.old passes.new }
+    {
         let mut all = self.gather(passes);
         let word = self.take_rest::<Brand>(&mut all);
         let halted = self.halted_in(&mut all);
         self.give_word::<Silent>(&mut all, word);
         self.deal_out(&mut all, passes);
-        halted
+        (word, halted)
     }
 
     /// Ends the object, with all its passes, and gives the machine's state after the whole history: each entry of it

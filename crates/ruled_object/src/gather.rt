@@ -1,13 +1,13 @@
 //! Passes that are brought together in one seat, and dealt out again.
 ghost use Rattle.std.specs.Prelude.{◌≡◌, ℕ, ◌+◌, ◌<◌, ◌≤◌, [], Some, length, slice_get};
 ghost use Rattle.ruled_object.specs.declared.view.Stage.TheVariants.{Idle};
-ghost use Rattle.ruled_object.specs.Gathered.{AreAllPasses, SamePasses, SameTurns, Gathered, Dealing, IsDealt};
-ghost use Rattle.ruled_object.specs.Passes.{IsPassOf, SamePass, callers_of, number_of, turns_of, CountsTurns};
+ghost use Rattle.ruled_object.specs.Gathered.{AreAllPasses, SamePasses, SameTurns, HaveCounted, Gathered, Dealing, IsDealt};
+ghost use Rattle.ruled_object.specs.Passes.{IsPassOf, SamePass, callers_of, number_of, turns_of};
 ghost use Rattle.ruled_object.specs.Steps.{blank, dealt, kept, joined, IsSameSeat};
 
 use crate::object::Object;
 use crate::pass::PassOf;
-use crate::rule::{Come, Deal, Gather, Turned};
+use crate::rule::{Come, Deal, Gather};
 use crate::turn::{SeatOf, WORD};
 use object_word::Worded;
 use std::marker::Brand;
@@ -35,41 +35,27 @@ impl<M: Worded, N: Note> Object<M, N> {
         self.table.shared.join_seat::<Gather>(all, seat);
     }
 
-    // A seat of its own for the first caller that the seat stands for. How many turns it begins with is picked by the caller.
-    pub(crate) fn deal<T: Turned>(&self, all: &mut SeatOf<M, N>) -> SeatOf<M, N>
+    // A seat of its own for the first caller that the seat stands for.
+    pub(crate) fn deal(&self, all: &mut SeatOf<M, N>) -> SeatOf<M, N>
         requires all { (all.old.table_id ≡ self.now.table.shared.table_id) × (all.old.me.1 ≡ []) }
         requires idle { all.old.me.0.stage ≡ Idle }
         requires some { 0 < length all.old.me.0.owns }
         ensures all { IsSameSeat all.old all.new × (all.new.me ≡ (kept all.old.me.0, [])) }
-        ensures dealt { (result.table_id ≡ self.now.table.shared.table_id) × (result.me ≡ (dealt T.turns all.old.me.0, [])) }
+        ensures dealt { (result.table_id ≡ self.now.table.shared.table_id) × (result.me ≡ (dealt all.old.me.0, [])) }
     {
-        self.table.shared.split_seat::<Deal<T>>(all)
+        self.table.shared.split_seat::<Deal>(all)
     }
 
-    // Deals the first caller that the seat stands for out again, to its pass, which keeps its number of turns.
+    // Deals the first caller that the seat stands for out again, to its pass, whose count of turns stays.
     pub(crate) fn deal_to(&self, all: &mut SeatOf<M, N>, pass: &mut PassOf<M, N>)
         requires all { (all.old.table_id ≡ self.now.table.shared.table_id) × (all.old.me.1 ≡ []) }
         requires idle { all.old.me.0.stage ≡ Idle }
         requires some { 0 < length all.old.me.0.owns }
         ensures all { IsSameSeat all.old all.new × (all.new.me ≡ (kept all.old.me.0, [])) }
         ensures pass { (pass.new.number ≡ pass.old.number) × (pass.new.left ≡ pass.old.left) × (turns_of pass.new ≡ turns_of pass.old) }
-        ensures dealt { (pass.new.seat.table_id ≡ self.now.table.shared.table_id) × (pass.new.seat.me ≡ (dealt pass.old.turns all.old.me.0, [])) }
-        ensures turns { CountsTurns pass.new }
+        ensures dealt { (pass.new.seat.table_id ≡ self.now.table.shared.table_id) × (pass.new.seat.me ≡ (dealt all.old.me.0, [])) }
     {
-        let turns = pass.turns;
-        pass.seat = self.deal_after::<Brand>(all, turns);
-    }
-
-    // The same seat, with the number that the caller picks it by.
-    fn deal_after<T: Turned>(&self, all: &mut SeatOf<M, N>, _turns: u64) -> SeatOf<M, N>
-        requires all { (all.old.table_id ≡ self.now.table.shared.table_id) × (all.old.me.1 ≡ []) }
-        requires idle { all.old.me.0.stage ≡ Idle }
-        requires some { 0 < length all.old.me.0.owns }
-        ensures all { IsSameSeat all.old all.new × (all.new.me ≡ (kept all.old.me.0, [])) }
-        ensures dealt { (result.table_id ≡ self.now.table.shared.table_id) × (result.me ≡ (dealt T.turns all.old.me.0, [])) }
-        ensures small { _turns ≤ 18446744073709551615 }
-    {
-        self.deal::<T>(all)
+        pass.seat = self.deal(all);
     }
 
     // One seat that knows all that the passes know, and stands for all callers.
@@ -92,6 +78,7 @@ impl<M: Worded, N: Note> Object<M, N> {
         requires all { (all.old.table_id ≡ self.now.table.shared.table_id) × (all.old.me.1 ≡ []) × Dealing 0 all.old.me.0.seen all.old.me.0.owns all.old.me.0 }
         requires count { (length passes.old ≡ length all.old.me.0.owns) × (length passes.old ≡ callers_of self.now) }
         requires order { (i : ℕ) (pass : _) → slice_get passes.old i ≡ Some pass → number_of pass ≡ i }
+        requires counted { HaveCounted all.old.me.0.owns passes.old }
         ensures passes { SamePasses passes.old passes.new }
         ensures turns { SameTurns passes.old passes.new }
         ensures dealt { (i : ℕ) (pass : _) → slice_get passes.new i ≡ Some pass → IsDealt self.now i all.old.me.0.seen all.old.me.0.owns pass }

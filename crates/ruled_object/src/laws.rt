@@ -1,13 +1,19 @@
 //! How the entries of several calls add up.
-ghost use Rattle.std.specs.Prelude.{◌≡◌, ◌<◌, ℕ, List, [], ◌∷◌, ◌++◌, Some, length, slice_get};
+ghost use Rattle.std.specs.Prelude.{◌≡◌, ◌<◌, ◌+◌, ◌%◌, ◌^◌, ℕ, List, [], ◌∷◌, ◌++◌, Option, Some, length, slice_get, slice_index};
+ghost use Rattle.atomic_table.specs.Table.{State};
 ghost use Rattle.sync_model.specs.declared.journal.Entry.{Entry};
+ghost use Rattle.ruled_object.specs.declared.cell.Cell.{Cell};
 ghost use Rattle.ruled_object.specs.declared.pass.Pass.{Pass};
+ghost use Rattle.ruled_object.specs.declared.rule.Begin.{Begin};
+ghost use Rattle.ruled_object.specs.declared.view.View.{View};
 ghost use Rattle.ruled_object.specs.declared.object.Object.{Object};
 ghost use Rattle.ruled_object.specs.Gathered.{IsSeen, IsWhole};
 ghost use Rattle.ruled_object.specs.Growth.{Placed, Grows, IsLawful, KeepsNote, NeedsNoTurn, AddUp, LastTells, entries_of};
 ghost use Rattle.ruled_object.specs.Notes.{held_by, IsNoteOf, Shows};
 ghost use Rattle.ruled_object.specs.Passes.{own_by, seen_by, IsPassOf, IsSpent};
+ghost use Rattle.ruled_object.specs.Rule.{Kept};
 ghost use Rattle.ruled_object.specs.Standing.{stand_next, stand_from};
+ghost use Rattle.ruled_object.specs.Turns.{HaveTaken, IsOut, TurnTells};
 
 use crate::new::MAX_CALLS;
 use object_word::Worded;
@@ -68,6 +74,22 @@ pub fn turns_needed<M: Worded, N: Note>()
         → IsSpent old mid → NeedsNoTurn M.next M.HALTS M.alone start mid from new to → NeedsNoTurn M.next M.HALTS M.alone start old from new to }
     ensures several { (start : M.State) (old new : Pass M.State N M.Event M.Reply) (es : List (Placed M.Event M.Reply)) (low high from to : List ℕ)
         → Grows M.next M.HALTS start old low es new high → 1 < length es → NeedsNoTurn M.next M.HALTS M.alone start old from new to }
+{}
+
+/// The turn word of an object tells how often its callers took the turn: while nobody has it, the word is twice the number of
+/// turns that they count together, modulo 2^64, and while one of them has it, one less. So where all counts stay as they
+/// were, no step that raises the word by one has taken the turn.
+pub fn turns_are_counted<M: Worded, N: Note>()
+    ensures free { (begin : Begin M.State N) (now : State (Option (Cell M.State N)) (View M.Event M.Reply)) (turns : ℕ → ℕ)
+        → Kept M.next M.HALTS M.frees M.takes N.front N.at M.tells M.means begin now → HaveTaken now.views begin.callers turns
+        → (IsOut now.views → ⊥) → TurnTells now 0 begin.callers turns }
+    ensures out { (begin : Begin M.State N) (now : State (Option (Cell M.State N)) (View M.Event M.Reply)) (turns : ℕ → ℕ)
+        → Kept M.next M.HALTS M.frees M.takes N.front N.at M.tells M.means begin now → HaveTaken now.views begin.callers turns
+        → IsOut now.views → TurnTells now 1 begin.callers turns }
+    ensures counted { (begin : Begin M.State N) (before now : State (Option (Cell M.State N)) (View M.Event M.Reply)) (turns : ℕ → ℕ)
+        → Kept M.next M.HALTS M.frees M.takes N.front N.at M.tells M.means begin before → HaveTaken before.views begin.callers turns → (IsOut before.views → ⊥)
+        → Kept M.next M.HALTS M.frees M.takes N.front N.at M.tells M.means begin now → HaveTaken now.views begin.callers turns → IsOut now.views
+        → slice_index now.words 1 ≡ (slice_index before.words 1 + 1) % 2 ^ 64 → ⊥ }
 {}
 
 /// The limits of an object by their numbers: how many calls a pass is good for, and how many callers an object has.

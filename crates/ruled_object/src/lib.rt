@@ -3,7 +3,6 @@
 
 mod act;
 pub mod assembly;
-mod begin;
 mod call;
 pub mod cell;
 mod copy;
@@ -16,6 +15,7 @@ pub mod object;
 mod park;
 pub mod pass;
 pub mod rule;
+mod spend;
 mod turn;
 pub mod view;
 mod word;

@@ -2,13 +2,13 @@
 ghost use Rattle.std.specs.Prelude.{◌≡◌, ◌<◌, ◌≤◌, [], All, None, IfOk, replicate, vec_len};
 ghost use Rattle.ruled_object.specs.Gathered.{AreNew, Dealing};
 ghost use Rattle.ruled_object.specs.Passes.{IsHomeOf, callers_of, start_of, turns_of};
-ghost use Rattle.ruled_object.specs.Steps.{first_view, IsSameSeat};
+ghost use Rattle.ruled_object.specs.Steps.{first_view, new_own, IsSameSeat};
 
 use crate::cell::Cell;
 use crate::object::Object;
 use crate::pass::{Pass, PassOf};
-use crate::rule::{Begin, Make, Silent, Unturned};
-use crate::turn::{FREE, SLOT, SeatOf, WORD};
+use crate::rule::{Begin, Make, Silent};
+use crate::turn::{SLOT, SeatOf, WORD};
 use atomic_table::Table;
 use object_word::{HELD, Worded};
 use std::alloc::{AllocError, Global};
@@ -51,7 +51,7 @@ impl<M: Worded, N: Note> Object<M, N> {
             note,
             callers,
         };
-        let (table, mut seat) = Table::vacant(alloc, &[HELD, FREE], 1, &begin)?;
+        let (table, mut seat) = Table::vacant(alloc, &[HELD, 0], 1, &begin)?;
         let object = Object { table, parkers };
         let Begin { state, note, .. } = begin;
         object.fill(
@@ -71,7 +71,7 @@ impl<M: Worded, N: Note> Object<M, N> {
         requires seat { (seat.old.table_id ≡ self.now.table.shared.table_id) × (seat.old.me ≡ (first_view (callers_of self.now), [])) }
         requires cell { (cell.state ≡ self.now.table.shared.key.state) × (cell.halted ≡ None) × (cell.note ≡ self.now.table.shared.key.note) }
         ensures seat { IsSameSeat seat.old seat.new × (seat.new.me.1 ≡ []) }
-        ensures dealing { Dealing 0 [] (replicate (callers_of self.now) []) seat.new.me.0 }
+        ensures dealing { Dealing 0 [] (replicate (callers_of self.now) new_own) seat.new.me.0 }
     {
         let shared = &self.table.shared;
         let word = M::word(&cell.state);
@@ -89,13 +89,13 @@ impl<M: Worded, N: Note> Object<M, N> {
         mut all: SeatOf<M, N>,
     ) -> Result<Vec<PassOf<M, N>>, AllocError>
         requires callers { callers ≡ callers_of self.now }
-        requires all { (all.table_id ≡ self.now.table.shared.table_id) × (all.me.1 ≡ []) × Dealing 0 [] (replicate callers []) all.me.0 }
+        requires all { (all.table_id ≡ self.now.table.shared.table_id) × (all.me.1 ≡ []) × Dealing 0 [] (replicate callers new_own) all.me.0 }
         ensures new { IfOk result (λ passes. AreNew self.now calls passes.items) }
         ensures turns { IfOk result (λ passes. All (λ pass. turns_of pass ≡ 0) passes.items) }
     {
         let mut passes = Vec::with_capacity(alloc, callers as usize)?;
         for number in 0..callers {
-            let seat = self.deal::<Unturned>(&mut all);
+            let seat = self.deal(&mut all);
             passes.push_reserved(Pass {
                 number,
                 left: calls,

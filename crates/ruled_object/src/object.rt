@@ -1,5 +1,5 @@
 //! An object that callers share.
-ghost use Rattle.std.specs.Prelude.{◌≡◌, ◌<◌, vec_len};
+ghost use Rattle.std.specs.Prelude.{◌≡◌, ◌<◌, ◌≤◌, vec_len};
 
 use crate::cell::Cell;
 use crate::rule::{Begin, Turns};
@@ -22,5 +22,5 @@ pub struct Object<M: Worded, N: Note> {
     >,
     pub(crate) parkers: Vec<Parker>,
     ghost sized: { (table.shared.table_id.words ≡ 2) × (table.shared.table_id.slots ≡ 1) },
-    ghost callers: { (vec_len parkers ≡ table.shared.key.callers) × (0 < table.shared.key.callers) },
+    ghost callers: { (vec_len parkers ≡ table.shared.key.callers) × (0 < table.shared.key.callers) × (table.shared.key.callers ≤ 64) },
 }

@@ -1,5 +1,5 @@
 //! The rule of an object's table, and what each step on it tells.
-ghost use Rattle.std.specs.Prelude.{◌≡◌, ℕ, [], Option, None};
+ghost use Rattle.std.specs.Prelude.{◌≡◌, [], Option, None};
 ghost use Rattle.sync_model.specs.declared.journal.Entry.{Entry};
 ghost use Rattle.ruled_object.specs.declared.rule.Begin.{Begin};
 ghost use Rattle.ruled_object.specs.Rule.{Kept};
@@ -53,27 +53,11 @@ impl<E, R> Told<E, R> for Brand {
     ghost entry = { None };
 }
 
-/// The turns that a new seat begins with, for proofs. A call at `Brand` picks them.
-pub(crate) trait Turned {
-    ghost turns: { ℕ };
-}
-
-impl Turned for Brand {
-    ghost turns = { 0 };
-}
-
 /// The word goes back with no entry.
 pub(crate) struct Silent;
 
 impl<E, R> Told<E, R> for Silent {
     ghost entry = { None };
-}
-
-/// A new seat has taken no turn.
-pub(crate) struct Unturned;
-
-impl Turned for Unturned {
-    ghost turns = { 0 };
 }
 
 /// The making seat takes the empty slot.
@@ -107,7 +91,7 @@ impl<M: Worded, N: Note, K: Origin<M::State, N>> Play<
     ghost then = { λ step before found after. IfBegun K.begun (λ begin. TakesRest M.next M.HALTS M.frees M.takes N.front N.at M.tells M.means begin found before after) };
 }
 
-/// A seat that has the word takes the turn.
+/// A seat that has the word takes the turn, and counts it.
 pub(crate) struct Deepen;
 
 impl<S, N, E, R> Play<Option<Cell<S, N>>, View<E, R>> for Deepen {
@@ -138,14 +122,12 @@ impl<S, N, E, R> Play<Option<Cell<S, N>>, View<E, R>> for Come {
 }
 
 /// A seat lets the first of its callers go to a seat of its own.
-pub(crate) struct Deal<T> {
-    marker: PhantomData<T>,
-}
+pub(crate) struct Deal;
 
-impl<E, R, T: Turned> Split<View<E, R>> for Deal<T> {
+impl<E, R> Split<View<E, R>> for Deal {
     ghost left = { kept };
 
-    ghost right = { dealt T.turns };
+    ghost right = { dealt };
 }
 
 /// A seat takes in the callers of another.

@@ -23,17 +23,12 @@ pub(crate) type SeatOf<M, N> = Seat<
 /// The word that tells of the machine's state. Its bit `HELD` is set while a seat has it.
 pub(crate) const WORD: usize = 0;
 
-/// The word that says whether the seat that has the word has the turn too.
-pub(crate) const TURN: usize = 1;
+/// The word that counts the steps that take the turn and give it back. No other step is made on it, so it only rises: one
+/// that lowered it would undo a turn, which the rule, a fact about one moment, can't refuse.
+const TURN: usize = 1;
 
 /// The slot of the cell.
 pub(crate) const SLOT: usize = 0;
-
-/// Nobody has the turn.
-pub(crate) const FREE: u64 = 0;
-
-/// A seat has the turn.
-pub(crate) const TAKEN: u64 = 1;
 
 impl<M: Worded, N: Note> Object<M, N> {
     // What the word may be while nobody has it: what it was just now, without its highest bit.
@@ -83,14 +78,14 @@ impl<M: Worded, N: Note> Object<M, N> {
             .swap::<TakeRest<M, N, K>>(seat, WORD, HELD)
     }
 
-    // Takes the turn, which nobody else has, since the seat has the word.
+    // Takes the turn, which nobody else has, since the seat has the word. Its first caller counts it.
     #[inline(always)]
     pub(crate) fn take_turn(&self, seat: &mut SeatOf<M, N>)
         requires seat { (seat.old.table_id ≡ self.now.table.shared.table_id) × (seat.old.me.0.stage ≡ Taken) × (0 < length seat.old.me.0.owns) }
         ensures seat { IsSameSeat seat.old seat.new }
         ensures took { seat.new.me ≡ (deepened seat.old.me.0, seat.old.me.1) }
     {
-        self.table.shared.store::<Deepen>(seat, TURN, TAKEN);
+        self.table.shared.fetch_add::<Deepen>(seat, TURN, 1);
     }
 
     // Gives the turn back. The seat has the word still.
@@ -100,7 +95,7 @@ impl<M: Worded, N: Note> Object<M, N> {
         ensures seat { IsSameSeat seat.old seat.new }
         ensures gave { seat.new.me ≡ (raised seat.old.me.0, seat.old.me.1) }
     {
-        self.table.shared.store::<Raise>(seat, TURN, FREE);
+        self.table.shared.fetch_add::<Raise>(seat, TURN, 1);
     }
 
     // Gives the word back with this value, and with it the slot and the cell that lies in it. The entry that this adds is

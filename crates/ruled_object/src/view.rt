@@ -14,6 +14,14 @@ pub enum Stage {
     Deep,
 }
 
+/// What a seat has of one caller that it stands for.
+pub struct Own<E, R> {
+    /// All entries of the caller.
+    pub entries: LinkedList<Entry<E, R>>,
+    /// How often the caller took the turn.
+    pub turns: u64,
+}
+
 /// What a seat knows.
 pub struct View<E, R> {
     pub stage: Stage,
@@ -25,8 +33,6 @@ pub struct View<E, R> {
     pub heard: LinkedList<LinkedList<Entry<E, R>>>,
     /// The number of the first caller that the seat stands for.
     pub number: u32,
-    /// For each caller that it stands for, in order of number, all entries of that caller.
-    pub owns: LinkedList<LinkedList<Entry<E, R>>>,
-    /// How often it has taken the turn, with those of the seat that its pass had before.
-    pub turns: u64,
+    /// What it has of each caller that it stands for, in order of number.
+    pub owns: LinkedList<Own<E, R>>,
 }

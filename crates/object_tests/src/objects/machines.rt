@@ -177,9 +177,9 @@ pub(super) fn knows(count: u32) -> FrontNote {
 }
 
 /// An object for two callers, and their passes.
-pub(super) fn duo<M: Worded<State = u64>>(
+pub(super) fn duo<M: Worded>(
     alloc: Global,
-    start: u64,
+    start: M::State,
 ) -> Result<
     (
         Object<M, FrontNote>,

@@ -1,4 +1,5 @@
 use super::machines::{Counter, Fragile, all_of, both_of, duo, knows};
+use mutex_core::{MutexCore, MutexEvent};
 use std::test::Fail;
 use sync_model::Answer;
 use sync_types::Misuse;
@@ -62,6 +63,33 @@ fn no_halt_is_none_and_calls_go_on(rt: HostRuntime) -> Result<(), Fail> {
     let passes = all_of(rt.alloc(), &object, first, second)?;
     let sum: u64 = object.finish(passes);
     assert_eq!(rt; sum, 6);
+    Ok(())
+}
+
+#[test]
+fn the_word_at_rest_tells_of_a_mutex(rt: HostRuntime) -> Result<(), Fail> {
+    let core = MutexCore::new(rt.alloc(), 2)?;
+    let (object, first, second) = duo::<MutexCore>(rt.alloc(), core)?;
+    let mut note = knows(0);
+    let mut passes = all_of(rt.alloc(), &object, first, second)?;
+    assert_eq!(rt; object.word_at_rest(&mut passes), 0);
+    let (mut first, second) = both_of(&object, passes);
+    object.call(&rt, &(), &mut first, &mut note, MutexEvent::Try);
+    let mut passes = all_of(rt.alloc(), &object, first, second)?;
+    assert_eq!(rt; object.word_at_rest(&mut passes), 1);
+    // Who waits took the turn, and counts it still.
+    let (first, mut second) = both_of(&object, passes);
+    object.call(
+        &rt,
+        &(),
+        &mut second,
+        &mut note,
+        MutexEvent::Arrive { now: 0 },
+    );
+    let mut passes = all_of(rt.alloc(), &object, first, second)?;
+    object.word_at_rest(&mut passes);
+    let (first, second) = both_of(&object, passes);
+    assert_eq!(rt; (first.turns(), second.turns()), (0, 1));
     Ok(())
 }
 

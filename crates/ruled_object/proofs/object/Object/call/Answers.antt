@@ -1,8 +1,8 @@
-use Rattle.std.proofs.Common.{◌≡◌, [], ◌∷◌, ◌++◌, Some, refl, sym, ap, ◌∙◌, subst}
+use Rattle.std.proofs.Common.{rules, arith, length, ◌≡◌, [], ◌∷◌, ◌++◌, Some, refl, sym, ap, ◌∙◌, subst}
 use Rattle.sync_model.specs.Journal.{by, Right}
 use Rattle.ruled_object.specs.Cells.{deed_of}
 use Rattle.ruled_object.specs.Steps.{counted}
-use Rattle.ruled_object.proofs.Calls.{entry, learned, places}
+use Rattle.ruled_object.proofs.Calls.{entry, learned, places, sized_turns, still_its}
 use Rattle.ruled_object.proofs.Growth.{makes_one, needs_none}
 use Rattle.ruled_object.specs.Growth.{IsAlone}
 use Rattle.ruled_object.proofs.Journals.{never_halted}
@@ -22,10 +22,30 @@ give_entry-requires-clause-may g c =
     let pass = c.args.pass.now in
     let took = c.take_word-word.ensures.takes in
     let acts = c.act-answer.ensures.acts in
-    let turns = c.act-answer.new.pass.seat.me.0.turns in
+    let turns = c.act-answer.ensures.seat.1.0 in
     let placed = places m.next m.HALTS m.frees m.takes n.front n.at g.M.Worded.tells g.M.Worded.means c.args.self.now.table.shared.key pass _ _ took acts.0 _ _ _ _ turns _ acts.2.0 acts.1 acts.2.2.0 acts.2.2.1 c.deed-deed.ensures c.requires.pass.number
-    c.requires.pass.one (c.act-answer.ensures.seat.1 ∙ ap (λ me. counted me.0 turns) took.2) in
+    c.requires.pass.one (c.act-answer.ensures.seat.1.1 ∙ ap (λ me. counted turns me.0) took.2) in
     (acts.2.0, acts.2.1, placed.may)
+
+pub give_entry-requires-clause-seat : goal.give_entry-requires-clause-seat
+give_entry-requires-clause-seat g c =
+    let pass = c.args.pass.now in
+    let seat = c.act-answer.ensures.seat in
+    let turns = seat.1.0 in
+    let view = seat.1.1 ∙ ap (λ me. counted turns me.0) c.take_word-word.ensures.takes.2 in
+    let one = ap (λ v. length v.owns) view ∙ (sized_turns turns pass.seat.me.0.owns ∙ c.requires.pass.one) in
+    (search rules, ap (λ v. v.stage) view, omega arith)
+
+pub returns-clause-pass : goal.returns-clause-pass
+returns-clause-pass g c =
+    let seat = c.act-answer.ensures.seat in
+    let turns = seat.1.0 in
+    let took = c.take_word-word.ensures.takes in
+    let new = c.act-answer.new.pass in (
+      still_its c.args.self.now c.args.pass.now record { number = new.number; left = new.left; turns = new.turns; seat = c.give_entry.new.seat } took.0 turns new.seat.me.0 _ c.requires.pass (search rules) c.act-answer.ensures.pass.0 c.act-answer.ensures.pass.2
+          (seat.1.1 ∙ ap (λ me. counted turns me.0) took.2) c.give_entry.ensures.gave,
+      search rules,
+    )
 
 pub returns-clause-entry : goal.returns-clause-entry
 returns-clause-entry g c =
@@ -35,8 +55,9 @@ returns-clause-entry g c =
     let took = c.take_word-word.ensures.takes in
     let acts = c.act-answer.ensures.acts in
     let new = c.act-answer.new.pass in
-    let placed = places m.next m.HALTS m.frees m.takes n.front n.at g.M.Worded.tells g.M.Worded.means c.args.self.now.table.shared.key pass _ _ took acts.0 _ _ _ _ new.seat.me.0.turns _ acts.2.0 acts.1 acts.2.2.0 acts.2.2.1 c.deed-deed.ensures c.requires.pass.number
-    c.requires.pass.one (c.act-answer.ensures.seat.1 ∙ ap (λ me. counted me.0 new.seat.me.0.turns) took.2) in
+    let turns = c.act-answer.ensures.seat.1.0 in
+    let placed = places m.next m.HALTS m.frees m.takes n.front n.at g.M.Worded.tells g.M.Worded.means c.args.self.now.table.shared.key pass _ _ took acts.0 _ _ _ _ turns _ acts.2.0 acts.1 acts.2.2.0 acts.2.2.1 c.deed-deed.ensures c.requires.pass.number
+    c.requires.pass.one (c.act-answer.ensures.seat.1.1 ∙ ap (λ me. counted turns me.0) took.2) in
     (_, placed.shows record { number = new.number; left = new.left; turns = new.turns; seat = c.give_entry.new.seat } c.give_entry.ensures.gave, c.deed-deed.ensures, refl)
 
 pub returns-clause-makes : goal.returns-clause-makes
@@ -46,7 +67,6 @@ returns-clause-makes g c =
     let pass = c.args.pass.now in
     let word = c.take_word-word.result in
     let after = c.act-answer.result.2 in
-    let turns = c.act-answer.new.pass.seat.me.0.turns in
     let added = returns-clause-entry g c in
     makes_one m.next m.HALTS c.args.self.now.table.shared.key.state m.frees m.takes pass record { number = c.act-answer.new.pass.number; left = c.act-answer.new.pass.left; turns = c.act-answer.new.pass.turns; seat = c.give_entry.new.seat } added.0 c.args.event c.act-answer.result.0 (n.front c.args.note.now) (n.front c.act-answer.new.note) added.1
     c.act-answer.ensures.pass.0 added.2 added.3 c.act-answer.ensures.note.1
@@ -81,7 +101,7 @@ returns-clause-quick g c =
     let acts = c.act-answer.ensures.acts in
     let old = acts.0 in
     let learns = learned m.next m.HALTS m.frees m.takes n.front n.at g.M.Worded.tells g.M.Worded.means begin word pass.seat.me c.take_word-word.new.seat.me old took acts.1 in
-    let view = c.act-answer.ensures.seat.1 ∙ ap (λ me. counted me.0 new.seat.me.0.turns) took.2 in
+    let view = c.act-answer.ensures.seat.1.1 ∙ ap (λ me. counted c.act-answer.ensures.seat.1.0 me.0) took.2 in
     let e = entry pass.number c.deed-deed.result (n.front c.act-answer.new.note) new.seat.me.0.knew in
     needs_none m.next m.HALTS g.M.Worded.alone begin.state pass record { number = new.number; left = new.left; turns = new.turns; seat = c.give_entry.new.seat } took.0 e (n.front c.args.note.now) (n.front c.act-answer.new.note)
     (ap (λ me. me.0.seen) c.give_entry.ensures.gave ∙ ap (λ v. v.seen ++ e ∷ []) view)

@@ -37,7 +37,7 @@ loop-pass-preserved g c =
     let before = get_or passes i c.pass-item.result in
     let after = c.deal_to.new.pass in
     let same_pass = c.deal_to.ensures.pass in
-    let mine = is_dealt c.args.self.now i before.turns old.seen old.owns v after c.loop-pass.invariant.dealing some_own (subst (λ k. i < k) c.requires.count.1 inside) c.deal_to.ensures.dealt.0 c.deal_to.ensures.dealt.1 (same_pass.0 ∙ number) c.deal_to.ensures.turns in
+    let mine = is_dealt c.args.self.now i old.seen old.owns v after c.loop-pass.invariant.dealing some_own (subst (λ k. i < k) c.requires.count.1 inside) c.deal_to.ensures.dealt.0 c.deal_to.ensures.dealt.1 (same_pass.0 ∙ number) (λ own is. same_pass.2 ∙ c.requires.counted i before own at_i is) in
     record {
       table = search rules;
       empty = search rules;

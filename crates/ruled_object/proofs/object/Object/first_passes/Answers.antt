@@ -1,8 +1,9 @@
 use Rattle.std.proofs.Common.{rules, ◌≡◌, ◌<◌, ◌+◌, [], ◌∷◌, All, ⊎_elim, length, length-append, replicate, slice_get, refl, sym, ap, ◌∙◌, subst, arith}
 use Rattle.std.proofs.lemmas.List.Elements.{All-push}
 use Rattle.ruled_object.specs.Gathered.{Dealing, IsDealt}
-use Rattle.ruled_object.specs.Passes.{capped, left_of, own_by, turns_of}
-use Rattle.ruled_object.proofs.Gathering.{dealing_on, is_dealt, no_entries, pass_of, some_left}
+use Rattle.ruled_object.specs.Passes.{capped, left_of, own_in, turns_of}
+use Rattle.ruled_object.specs.Steps.{new_own}
+use Rattle.ruled_object.proofs.Gathering.{dealing_on, is_dealt, is_new, pass_of, some_left}
 use Rattle.ruled_object.proofs.Journals.{at_end}
 use Rattle.ruled_object.proofs.object.Object.first_passes.Goals as goal
 
@@ -10,12 +11,12 @@ pub loop-number-preserved : goal.loop-number-preserved
 loop-number-preserved g c =
     let i = c.loop-number.number in
     let items = c.loop-number.passes.items in
-    let all = replicate c.args.callers [] in
+    let all = replicate c.args.callers new_own in
     let v = c.loop-number.all.me.0 in
     let inside = c.loop-number-test.true in
     let some_own = some_left i c.args.callers [] v c.loop-number.invariant.dealing inside in
     let pass = pass_of i c.args.calls 0 c.deal-seat.result in
-    let mine = is_dealt c.args.self.now i 0 [] all v pass c.loop-number.invariant.dealing some_own (subst (λ k. i < k) c.requires.callers inside) c.deal-seat.ensures.dealt.0 c.deal-seat.ensures.dealt.1 refl (sym (ap (λ me. capped me.0.turns) c.deal-seat.ensures.dealt.1)) in
+    let mine = is_dealt c.args.self.now i [] all v pass c.loop-number.invariant.dealing some_own (subst (λ k. i < k) c.requires.callers inside) c.deal-seat.ensures.dealt.0 c.deal-seat.ensures.dealt.1 refl (λ own is. ap (λ o. capped o.turns) (sym (is_new c.args.callers i own is))) in
     record {
       table = search rules;
       empty = search rules;
@@ -43,5 +44,5 @@ returns-clause-new g c =
       };
       left = λ i pass at_i. (dealt i pass at_i).1;
       seen = λ i pass at_i. (dealt i pass at_i).0.seen;
-      own = λ i pass at_i. no_entries c.args.callers i (own_by pass) (dealt i pass at_i).0.own;
+      own = λ i pass at_i. ap (λ o. o.entries) (is_new c.args.callers i (own_in pass) (dealt i pass at_i).0.own);
     }

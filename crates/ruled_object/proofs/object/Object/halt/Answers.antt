@@ -16,7 +16,7 @@ give_entry-requires-clause-may g c =
     let pass = c.args.pass.now in
     let took = c.take_word-word.ensures.takes in
     let acts = c.act_halt.ensures.acts in
-    let placed = places m.next m.HALTS m.frees m.takes n.front n.at g.M.Worded.tells g.M.Worded.means c.args.self.now.table.shared.key pass _ _ took acts.0 _ (Halt c.args.misuse) _ _ pass.seat.me.0.turns _ acts.2.0 acts.1 (acts.2.2.0 pass.number) acts.2.2.1 refl c.requires.pass.number
+    let placed = places m.next m.HALTS m.frees m.takes n.front n.at g.M.Worded.tells g.M.Worded.means c.args.self.now.table.shared.key pass _ _ took acts.0 _ (Halt c.args.misuse) _ _ 0 _ acts.2.0 acts.1 (acts.2.2.0 pass.number) acts.2.2.1 refl c.requires.pass.number
     c.requires.pass.one (c.act_halt.ensures.seat.1 ∙ ap (λ me. me.0) took.2) in
     (acts.2.0, acts.2.1, placed.may)
 
@@ -27,6 +27,6 @@ returns-clause-entry g c =
     let pass = c.args.pass.now in
     let took = c.take_word-word.ensures.takes in
     let acts = c.act_halt.ensures.acts in
-    let placed = places m.next m.HALTS m.frees m.takes n.front n.at g.M.Worded.tells g.M.Worded.means c.args.self.now.table.shared.key pass _ _ took acts.0 _ (Halt c.args.misuse) _ _ pass.seat.me.0.turns _ acts.2.0 acts.1 (acts.2.2.0 pass.number) acts.2.2.1 refl c.requires.pass.number
+    let placed = places m.next m.HALTS m.frees m.takes n.front n.at g.M.Worded.tells g.M.Worded.means c.args.self.now.table.shared.key pass _ _ took acts.0 _ (Halt c.args.misuse) _ _ 0 _ acts.2.0 acts.1 (acts.2.2.0 pass.number) acts.2.2.1 refl c.requires.pass.number
     c.requires.pass.one (c.act_halt.ensures.seat.1 ∙ ap (λ me. me.0) took.2) in
     (_, placed.shows record { number = pass.number; left = pass.left; turns = pass.turns; seat = c.give_entry.new.seat } c.give_entry.ensures.gave, refl, refl)

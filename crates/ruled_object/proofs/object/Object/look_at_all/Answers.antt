@@ -41,6 +41,7 @@ returns g c passes brought all =
         owns = v.owns;
         sized = d.count;
         own = λ i pass at_i. d.owns i pass (slice_get_within passes i pass at_i) at_i;
+        turns = brought.turns;
         dealing = subst (Dealing 0 journal v.owns) (sym is) (dealing_all (gave (taken v journal) None) refl d.number);
       },
     )
