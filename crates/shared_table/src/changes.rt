@@ -1,8 +1,9 @@
 //! What a call on a map does to its key.
-ghost use Rattle.std.specs.Prelude.{◌≡◌, ℕ, true, Option, IsSome, IsFalse};
+ghost use Rattle.std.specs.Prelude.{◌≡◌, IsSome, IsFalse};
 ghost use Rattle.sync_types.specs.SequentialMap.{map_key};
-ghost use Rattle.sync_types.specs.KeyCalls.{is_key_entry, key_reply, key_after};
+ghost use Rattle.sync_types.specs.KeyCalls.{key_reply};
 ghost use Rattle.shared_table.specs.MapCalls.{IsChange};
+ghost use Rattle.shared_table.specs.Pruning.{NeverRemoves};
 
 use sync_types::{MapCall, MapReply};
 
@@ -83,7 +84,7 @@ pub(crate) fn reply_of(call: MapCall<u32>, held: Option<u64>) -> MapReply
 /// Whether a call may leave its key without a value.
 pub(crate) fn may_remove(call: MapCall<u32>) -> bool
     requires { IsSome (map_key call) }
-    ensures { IsFalse result → (held : Option ℕ) → is_key_entry call held ≡ true → IsSome (key_after call held) }
+    ensures { IsFalse result → NeverRemoves call }
 {
     match call {
         MapCall::LoadAndDelete { .. } | MapCall::Delete { .. } | MapCall::CompareAndDelete { .. } =>

@@ -1,7 +1,7 @@
 //! Pruning: a node below the root that was left empty is cut off, and then its parent in the same way, where that is empty now.
-ghost use Rattle.std.specs.Prelude.{◌≡◌, ◌<◌, true, Some, None, IsSome};
+ghost use Rattle.std.specs.Prelude.{◌≡◌, ◌⊎◌, ◌<◌, true, Some, None, IsNone, IsSome};
 ghost use Rattle.table_rule.specs.declared.view.Lock.{Lock};
-ghost use Rattle.shared_table.specs.Pruning.{LooksAtSlots, HoldsAt, NowHolds, PrunesAt};
+ghost use Rattle.shared_table.specs.Pruning.{LooksAtSlots, HoldsAt, HoldsInUse, HoldsToStay, NeverRemoves, NowHolds, PrunesAt};
 ghost use Rattle.sync_types.specs.SequentialMap.{map_key};
 ghost use Rattle.table_steps.specs.Pruning.{TriedUpper};
 ghost use Rattle.table_seats.specs.Seats.{begin_of, IsSeatOf};
@@ -60,6 +60,7 @@ impl SharedTable {
     }
 
     // Cuts off the node whose lock the seat holds, where it is empty. The seat then holds the lock of its parent, whose place this gives.
+    // None where a slot of the node isn't empty.
     fn prune_at<R: Wait>(
         &self,
         rt: &R,
@@ -76,6 +77,7 @@ impl SharedTable {
         requires caller { caller ≡ seat.old.me.0.number }
         ensures table { seat.new.table_id ≡ seat.old.table_id }
         ensures pruned { PrunesAt (begin_of self.now.words) key node level result seat.old.me seat.new.me }
+        ensures stays { IsNone result → HoldsInUse seat.new.me.0 }
     {
         let words = self.look_at_slots(seat, node);
         let plan = pruning(&words, key, self.words.seed(), level)?;
@@ -86,7 +88,7 @@ impl SharedTable {
     }
 
     // Cuts off the node whose lock the seat holds, where it is empty and no root, then its parent in the same way, and so on. The seat
-    // then holds the lock of the node that it came to, whose place this gives.
+    // then holds the lock of the node that it came to, whose place this gives: a root, or a node in which a slot isn't empty.
     pub(crate) fn prune<R: Wait>(
         &self,
         rt: &R,
@@ -102,6 +104,7 @@ impl SharedTable {
         requires caller { caller ≡ seat.old.me.0.number }
         ensures table { seat.new.table_id ≡ seat.old.table_id }
         ensures pruned { NowHolds result seat.old.me seat.new.me }
+        ensures stays { HoldsToStay seat.new.me.0 }
     {
         let mut node = node;
         for up in 0..level {
@@ -111,6 +114,18 @@ impl SharedTable {
             }
         }
         node
+    }
+
+    // Gives back the lock of a node. A seat whose call may have emptied a slot knows that the node is a root, or isn't empty.
+    fn give_back(&self, seat: &mut Seat<(), View>, _call: MapCall<u32>, node: u64)
+        requires table { IsSeatOf self.now.words seat.old }
+        requires lock { (l : Lock) × (l.node ≡ node) × Holds (begin_of self.now.words) seat.old.me l }
+        requires words { HasWords seat.old.me.0 node 18 }
+        requires stays { NeverRemoves _call ⊎ HoldsToStay seat.old.me.0 }
+        ensures table { seat.new.table_id ≡ seat.old.table_id }
+        ensures unlocked { (seat.new.me.1 ≡ seat.old.me.1) × (seat.new.me.0 ≡ standing (holding seat.old.me.0 seat.old.me.0.gate None None) None None) }
+    {
+        self.words.unlock(seat, node);
     }
 
     // Gives back the lock of the node under which the seat's caller made a call. Where the call may have left the node empty, it is
@@ -138,6 +153,6 @@ impl SharedTable {
         } else {
             node
         };
-        self.words.unlock(seat, held);
+        self.give_back(seat, call, held);
     }
 }

@@ -14,6 +14,7 @@ pub mod Lists
 pub mod Moves
 pub mod Numbers
 pub mod Opening
+pub mod AtRest
 pub mod Operating
 pub mod Operated
 pub mod Seats

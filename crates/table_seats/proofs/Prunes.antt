@@ -33,8 +33,8 @@ module _ (table : TableWords) (id : ℕ) (me : Me (Unit {0}) View) (word : ℕ) 
       let slot_is = lock.2 in
       let within = words_within table id me word laws node lock.3.begin has in
       may table id me word (slot_word l.node l.empty) (λ n. n) (LooksAtSlot me) (omega arith) (omega arith)
-      (allows_then (Kept key) 0 id me (slot_word l.node l.empty) (λ n. n) (λ found. SeesSlot l (found == 0) me) (LooksAtSlot me)
-      (λ n after told z e. subst (λ y. SeesSlot y (n == 0) me after) (same_Some l z (sym lock.3.lock ∙ e)) told)
+      (allows_then (Kept key) 0 id me (slot_word l.node l.empty) (λ n. n) (λ found. SeesSlot l found (found == 0) me) (LooksAtSlot me)
+      (λ n after told z e. subst (λ y. SeesSlot y n (n == 0) me after) (same_Some l z (sym lock.3.lock ∙ e)) told)
       (looks_at_slot key laws id me l lock.3 (omega arith)))
 
   pub may_read_parent : (node : ℕ) → (l : Lock) × (l.node ≡ node) × Holds table.table.shared.key me l → HasWords me.0 node 18 → word ≡ parent_word node → May table id me word (λ n. n) (ReadsParent me)
@@ -43,8 +43,8 @@ module _ (table : TableWords) (id : ℕ) (me : Me (Unit {0}) View) (word : ℕ) 
       let node_is = lock.1 in
       let within = words_within table id me word laws node lock.2.begin has in
       may table id me word (parent_word l.node) (λ n. n) (ReadsParent me) (omega arith) (omega arith)
-      (allows_then (Kept key) 0 id me (parent_word l.node) (λ n. n) (λ found after. (after ≡ me) × (found ≡ l.up) × (0 < l.level → HasWords me.0 found 18)) (ReadsParent me)
-      (λ n after told. (told.0, λ z e. subst (λ (y : Lock). (n ≡ y.up) × (0 < y.level → HasWords me.0 n 18)) (same_Some l z (sym lock.2.lock ∙ e)) (told.1, told.2)))
+      (allows_then (Kept key) 0 id me (parent_word l.node) (λ n. n) (λ found after. (after ≡ me) × (found ≡ l.up) × (0 < l.level → (0 < found) × HasWords me.0 found 18)) (ReadsParent me)
+      (λ n after told. (told.0, λ z e. subst (λ (y : Lock). (n ≡ y.up) × (0 < y.level → (0 < n) × HasWords me.0 n 18)) (same_Some l z (sym lock.2.lock ∙ e)) (told.1, told.2)))
       (reads_parent key laws id me l lock.2))
 
   pub may_try_upper : (parent new : ℕ) → (l : Lock) × (l.up ≡ parent) × (0 < l.level) × Holds table.table.shared.key me l → HasWords me.0 parent 18 → word ≡ parent → new ≡ me.0.number + 1

@@ -1,5 +1,5 @@
 -- A seat that holds a node's lock looks at the node's slots, takes the lock of the node's parent, and marks the node dead.
-use Rattle.std.proofs.Common.{◌≡◌, ◌≢◌, ℕ, suc, ◌-◌, ◌<◌, ◌==◌, Bool, true, false, cond, List, [], ◌∷◌, length, set, Some, None, slice_index, inl, inr, refl, sym, ap, ◌∙◌, subst, arith, ◌++◌, length-append}
+use Rattle.std.proofs.Common.{◌≡◌, ◌≢◌, ℕ, suc, ◌-◌, ◌<◌, ◌≤◌, ◌==◌, Bool, true, false, cond, Option, List, [], ◌∷◌, length, set, Some, None, slice_index, inl, inr, refl, sym, ap, ◌∙◌, subst, arith, ◌++◌, length-append}
 use Rattle.std.proofs.lemmas.Bool.{cases_eq, eqb-true}
 use Rattle.std.proofs.lemmas.List.{set-get_or}
 use Rattle.std.proofs.lemmas.Option.{same_Some}
@@ -16,6 +16,7 @@ use Rattle.table_seats.specs.Laws.{HistoryLaws}
 use Rattle.trie_nodes.specs.Layout.{parent_word, slot_word, dead_word}
 use Rattle.trie_nodes.specs.Paths.{nibble, route}
 use Rattle.table_rule.specs.Owed.{Locks, Suits}
+use Rattle.table_steps.specs.Making.{found_lock}
 use Rattle.table_steps.specs.Pruning.{with_empty, upper_lock, marked, SeesSlot, TriedUpper, HoldsBoth}
 use Rattle.table_rule.specs.Rule.{TableState, Kept}
 use Rattle.table_steps.specs.Walking.{HasWords}
@@ -49,6 +50,10 @@ module _ (k : Begin) (laws : HistoryLaws) (s : TableState) (r : Kept k s) (id : 
 
     pub above_words : v.begin ≡ k → HasWords v l.up 18
     above_words begin = let n = r.fine.nodes l.up above.node in has_words k v l.up 18 r.begin begin n.within (omega arith)
+
+    -- place 0 is no node's
+    pub above_some : 0 < l.up
+    above_some = let n = r.fine.nodes l.up above.node in let lies = n.lies in omega arith
 
     -- it is another node
     pub above_other : l.node ≢ l.up
@@ -124,19 +129,21 @@ module _ (k : Begin) (laws : HistoryLaws) (s : TableState) (r : Kept k s) (id : 
         ))
 
 -- a seat may look at the first slot of which it doesn't know that it is empty
-pub looks_at_slot : (k : Begin) → HistoryLaws → (id : ℕ) (me : Me (Unit {0}) View) (l : Lock) → Holds k me l → l.empty < 16 → Allows (Kept k) 0 id me (slot_word l.node l.empty) (λ n. n) (λ found. SeesSlot l (found == 0) me)
-looks_at_slot k laws id me l held below = by_first me (Allows (Kept k) 0 id me (slot_word l.node l.empty) (λ n. n) (λ found. SeesSlot l (found == 0) me)) held.some
+pub looks_at_slot : (k : Begin) → HistoryLaws → (id : ℕ) (me : Me (Unit {0}) View) (l : Lock) → Holds k me l → l.empty < 16 → Allows (Kept k) 0 id me (slot_word l.node l.empty) (λ n. n) (λ found. SeesSlot l found (found == 0) me)
+looks_at_slot k laws id me l held below = by_first me (Allows (Kept k) 0 id me (slot_word l.node l.empty) (λ n. n) (λ found. SeesSlot l found (found == 0) me)) held.some
     (λ own owns is s r one at_me bounded. by_found own owns is s r at_me (slice_index s.words (slot_word l.node l.empty) == 0) refl)
   where
     Told : TableState → Bool → Type 0
-    Told s b = (u : View) × (a : Act (Unit {0})) × Valid s.homes me.1 a × Kept k (stepped s (slot_word l.node l.empty) (slice_index s.words (slot_word l.node l.empty)) id me.1 u a) × SeesSlot l b me (u, carried_after me.1 a)
+    Told s b = (u : View) × (a : Act (Unit {0})) × Valid s.homes me.1 a × Kept k (stepped s (slot_word l.node l.empty) (slice_index s.words (slot_word l.node l.empty)) id me.1 u a) × SeesSlot l (slice_index s.words (slot_word l.node l.empty)) b me (u, carried_after me.1 a)
 
-    by_found : (own : Own) (owns : List Own) → me.0.owns ≡ own ∷ owns → (s : TableState) (r : Kept k s) → get_elem? s.views id ≡ some me.0 → (b : Bool) → (slice_index s.words (slot_word l.node l.empty) == 0) ≡ b → Told s b
-    by_found own owns is s r at_me false e = (me.0, keeps, tt, kept_idle k laws s r id me.0 at_me held.live own owns is (slot_word l.node l.empty), (refl, refl))
-    by_found own owns is s r at_me true e =
+    -- it may know of the node's slots what is so
+    kept_with : (own : Own) (owns : List Own) → me.0.owns ≡ own ∷ owns → (s : TableState) (r : Kept k s) → get_elem? s.views id ≡ some me.0 → (found : Option (ℕ × ℕ)) (empty : ℕ) → empty ≤ 16
+        → ((slot word : ℕ) → found ≡ Some (slot, word) → (slot < 16) × (slice_index s.words (slot_word l.node slot) ≡ word)) → ((slot : ℕ) → slot < empty → slice_index s.words (slot_word l.node slot) ≡ 0)
+        → Kept k record { words = set s.words (slot_word l.node l.empty) (slice_index s.words (slot_word l.node l.empty)); homes = s.homes; views = set s.views id (holding me.0 me.0.gate (Some (record l { found = found; empty = empty })) None) }
+    kept_with own owns is s r at_me found empty few found_is empty_is =
+        let z = record l { found = found; empty = empty } in
         let was = (r.suits id me.0 at_me held.live).lock l held.lock in
-        let here : slice_index s.words (slot_word l.node l.empty) ≡ 0 = eqb-true (slice_index s.words (slot_word l.node l.empty)) 0 e in
-        let locks : Locks k r.shape s.words me.0.number was.0 (with_empty l) = record {
+        let locks : Locks k r.shape s.words me.0.number was.0 (record l { found = found; empty = empty }) = record {
           node = was.2.node;
           map = was.2.map;
           key = was.2.key;
@@ -146,32 +153,49 @@ looks_at_slot k laws id me l held below = by_first me (Allows (Kept k) 0 id me (
           mine = was.2.mine;
           word = was.2.word;
           parent = was.2.parent;
-          found = was.2.found;
-          few = omega arith;
-          empty_so_far = λ slot less. elim (cases_eq slot l.empty) [
-            | inl last ↦ ap (λ n. slice_index s.words (slot_word l.node n)) last ∙ here
-            | inr ne ↦ was.2.empty_so_far slot (omega arith)
-          ];
-        } in (
+          found = found_is;
+          few = few;
+          empty_so_far = empty_is;
+        } in
+        subst (λ ws. Kept k record { words = ws; homes = s.homes; views = set s.views id (holding me.0 me.0.gate (Some (record l { found = found; empty = empty })) None) }) (sym (set-get_or s.words (slot_word l.node l.empty) 0))
+        (kept_knowing k laws s r id me.0 at_me held.live own owns is z (λ p h. holds_one me.0 l p held.lock held.upper h)
+        (λ y e. (was.0, was.1, subst (Locks k r.shape s.words me.0.number was.0) (same_Some z y e) locks)))
+
+    by_found : (own : Own) (owns : List Own) → me.0.owns ≡ own ∷ owns → (s : TableState) (r : Kept k s) → get_elem? s.views id ≡ some me.0 → (b : Bool) → (slice_index s.words (slot_word l.node l.empty) == 0) ≡ b → Told s b
+    by_found own owns is s r at_me false e =
+        let was = (r.suits id me.0 at_me held.live).lock l held.lock in
+        let word = slice_index s.words (slot_word l.node l.empty) in (
+          holding me.0 me.0.gate (Some (found_lock l l.empty word)) None,
+          keeps,
+          tt,
+          kept_with own owns is s r at_me (Some (l.empty, word)) l.empty (omega arith)
+              (λ slot x same. let t = same_Some (l.empty, word) (slot, x) same in let at = ap (λ p. p.0) t in let there = ap (λ p. p.1) t in (omega arith, ap (λ n. slice_index s.words (slot_word l.node n)) (sym at) ∙ there)) was.2.empty_so_far,
+          (refl, refl),
+        )
+    by_found own owns is s r at_me true e =
+        let was = (r.suits id me.0 at_me held.live).lock l held.lock in
+        let here : slice_index s.words (slot_word l.node l.empty) ≡ 0 = eqb-true (slice_index s.words (slot_word l.node l.empty)) 0 e in (
           holding me.0 me.0.gate (Some (with_empty l)) None,
           keeps,
           tt,
-          subst (λ ws. Kept k record { words = ws; homes = s.homes; views = set s.views id (holding me.0 me.0.gate (Some (with_empty l)) None) }) (sym (set-get_or s.words (slot_word l.node l.empty) 0))
-              (kept_knowing k laws s r id me.0 at_me held.live own owns is (with_empty l) (λ p h. holds_one me.0 l p held.lock held.upper h)
-              (λ z e. (was.0, was.1, subst (Locks k r.shape s.words me.0.number was.0) (same_Some (with_empty l) z e) locks))),
+          kept_with own owns is s r at_me l.found (suc l.empty) (omega arith) was.2.found
+              (λ slot less. elim (cases_eq slot l.empty) [
+                | inl last ↦ ap (λ n. slice_index s.words (slot_word l.node n)) last ∙ here
+                | inr ne ↦ was.2.empty_so_far slot (omega arith)
+              ]),
           (refl, refl),
         )
 
 -- a seat may read the place of the parent of the node whose lock it holds
 pub reads_parent : (k : Begin) → HistoryLaws → (id : ℕ) (me : Me (Unit {0}) View) (l : Lock) → Holds k me l
-    → Allows (Kept k) 0 id me (parent_word l.node) (λ n. n) (λ found after. (after ≡ me) × (found ≡ l.up) × (0 < l.level → HasWords me.0 found 18))
-reads_parent k laws id me l held = by_first me (Allows (Kept k) 0 id me (parent_word l.node) (λ n. n) (λ found after. (after ≡ me) × (found ≡ l.up) × (0 < l.level → HasWords me.0 found 18))) held.some
+    → Allows (Kept k) 0 id me (parent_word l.node) (λ n. n) (λ found after. (after ≡ me) × (found ≡ l.up) × (0 < l.level → (0 < found) × HasWords me.0 found 18))
+reads_parent k laws id me l held = by_first me (Allows (Kept k) 0 id me (parent_word l.node) (λ n. n) (λ found after. (after ≡ me) × (found ≡ l.up) × (0 < l.level → (0 < found) × HasWords me.0 found 18))) held.some
     (λ own owns is s r one at_me bounded. let was = (r.suits id me.0 at_me held.live).lock l held.lock in (
       me.0,
       keeps,
       tt,
       kept_idle k laws s r id me.0 at_me held.live own owns is (parent_word l.node),
-      (refl, was.2.parent, λ deep. subst (λ n. HasWords me.0 n 18) (sym was.2.parent) (above_words k laws s r id me.0 at_me held.live own owns is was.0 l was.2 deep held.begin)),
+      (refl, was.2.parent, λ deep. subst (λ n. (0 < n) × HasWords me.0 n 18) (sym was.2.parent) (above_some k laws s r id me.0 at_me held.live own owns is was.0 l was.2 deep, above_words k laws s r id me.0 at_me held.live own owns is was.0 l was.2 deep held.begin)),
     ))
 
 -- a seat may try the lock of the parent

@@ -1,4 +1,12 @@
-//! Laws of shared histories and of tries that the proofs here stand on.
+//! The law of new tables, and laws of shared histories and of tries that the proofs here stand on.
+ghost use Rattle.std.specs.Prelude.{ℕ, List, []};
+ghost use Rattle.atomic_table.specs.Table.{opening};
+ghost use Rattle.table_rule.specs.declared.begin.Begin.{Begin};
+ghost use Rattle.table_rule.specs.Layout.{IsBegin};
+ghost use Rattle.table_rule.specs.LawWords.{IsSeat, AllAtRest};
+ghost use Rattle.table_rule.specs.Rule.{Kept};
+ghost use Rattle.table_rule.specs.Views.{first_view};
+ghost use Rattle.table_seats.specs.Blank.{IsBlank};
 ghost use Rattle.table_seats.specs.Laws.{HistoryLaws, KeyLaws};
 ghost use Rattle.table_seats.specs.TrieLaws.{TrieLaws};
 
@@ -42,4 +50,14 @@ pub(crate) fn trie_laws()
     paths_that_part_stay_apart();
     a_word_is_that_of_one_slot();
     each_node_of_a_chain_shows_what_the_map_has();
+}
+
+/// In a new table the rule holds, its one seat counts, and each caller is between two calls. So what the laws of `table_rule` ask of a
+/// table, of its seats and of its callers is met by each new table.
+pub fn the_callers_of_a_new_table_are_between_two_calls()
+    ensures rule { (k : Begin) (words : List ℕ) → IsBegin k → IsBlank k words → Kept k (opening words [] (first_view k)) }
+    ensures seat { (k : Begin) (words : List ℕ) → IsSeat (opening words [] (first_view k)) 0 (first_view k) }
+    ensures callers { (k : Begin) (words : List ℕ) → AllAtRest k (opening words [] (first_view k)) }
+{
+    history_laws();
 }

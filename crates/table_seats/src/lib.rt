@@ -7,7 +7,7 @@ mod copies;
 mod cursor_steps;
 mod ends;
 mod kinds;
-mod laws;
+pub mod laws;
 mod lookup;
 mod map_words;
 mod new;

@@ -4,7 +4,7 @@ use Rattle.atomic_table.specs.Table.{Me}
 use Rattle.table_rule.specs.declared.begin.Begin.{Begin}
 use Rattle.table_rule.specs.declared.view.Lock.{Lock}
 use Rattle.table_rule.specs.declared.view.View.{View}
-use Rattle.table_steps.specs.Making.{bare}
+use Rattle.table_steps.specs.Making.{bare, found_lock}
 use Rattle.table_steps.specs.Walking.{HasWords}
 use Rattle.table_steps.specs.Writing.{holding}
 
@@ -20,16 +20,18 @@ upper_lock l up = record { node = l.up; up = up; key = l.key; level = l.level - 
 abbrev pub marked : Lock → Lock
 marked l = record l { dead = true }
 
--- a seat looked at the first slot of which it doesn't know under its lock that it is empty
-abbrev pub SeesSlot : Lock → Bool → Me (Unit {0}) View → Me (Unit {0}) View → Type 0
-SeesSlot l empty before after = (after.1 ≡ before.1) × MatchBool empty (after.0 ≡ holding before.0 before.0.gate (Some (with_empty l)) None) (after.0 ≡ before.0)
+-- a seat looked at the first slot of which it doesn't know under its lock that it is empty: it knows so now, or knows the word that is there
+abbrev pub SeesSlot : Lock → ℕ → Bool → Me (Unit {0}) View → Me (Unit {0}) View → Type 0
+SeesSlot l found empty before after =
+    (after.1 ≡ before.1)
+    × MatchBool empty (after.0 ≡ holding before.0 before.0.gate (Some (with_empty l)) None) (after.0 ≡ holding before.0 before.0.gate (Some (found_lock l l.empty found)) None)
 
 abbrev pub LooksAtSlot : Me (Unit {0}) View → ℕ → Me (Unit {0}) View → Type 0
-LooksAtSlot before found after = (l : Lock) → before.0.lock ≡ Some l → SeesSlot l (found == 0) before after
+LooksAtSlot before found after = (l : Lock) → before.0.lock ≡ Some l → SeesSlot l found (found == 0) before after
 
 -- a seat read the parent's place of the node whose lock it holds. The parent of a node below the root is a node
 abbrev pub ReadsParent : Me (Unit {0}) View → ℕ → Me (Unit {0}) View → Type 0
-ReadsParent before found after = (after ≡ before) × ((l : Lock) → before.0.lock ≡ Some l → (found ≡ l.up) × (0 < l.level → HasWords before.0 found 18))
+ReadsParent before found after = (after ≡ before) × ((l : Lock) → before.0.lock ≡ Some l → (found ≡ l.up) × (0 < l.level → (0 < found) × HasWords before.0 found 18))
 
 -- a seat tried the lock of the parent, and holds it too where it was free
 abbrev pub TriedUpper : Lock → Bool → Me (Unit {0}) View → Me (Unit {0}) View → Type 0

@@ -1,6 +1,6 @@
 //! Laws of the words: no two things share one.
-ghost use Rattle.std.specs.Prelude.{◌≡◌, ◌≢◌, ◌⊎◌, ℕ, ◌+◌, ◌*◌, ◌<◌, ◌≤◌, List, slice_index};
-ghost use Rattle.trie_nodes.specs.Layout.{atomic_word, root_word, gate_word, heads, first_root, first_room, unit_words};
+ghost use Rattle.std.specs.Prelude.{◌≡◌, ◌≢◌, ◌⊎◌, ℕ, ◌+◌, ◌*◌, ◌^◌, ◌<◌, ◌≤◌, List, slice_index};
+ghost use Rattle.trie_nodes.specs.Layout.{atomic_word, root_word, gate_word, heads, first_root, first_room, unit_words, lock_word, parent_word, slot_word, key_word, value_word, held_word, dead_word};
 ghost use Rattle.trie_nodes.specs.Slots.{word_of_slot, slot_in};
 
 use crate::slot::Slot;
@@ -36,6 +36,16 @@ pub fn roots_and_room_are_apart()
     ensures roots { (atomics maps m n : ℕ) → m < n → first_root atomics maps m + 18 ≤ first_root atomics maps n }
     ensures room { (atomics maps m : ℕ) → m < maps → first_root atomics maps m + 18 ≤ first_room atomics maps }
     ensures unit { (level nodes : ℕ) → 0 < level → level + nodes ≤ 8 → 2 + 18 * nodes ≤ unit_words }
+{}
+
+/// The words of a node lie apart, within its 18, and those of an entry within its two. A lock's word says who holds it, or that nobody
+/// does, or that the node is dead.
+pub fn words_of_nodes_and_entries_are_apart()
+    ensures node { (node slot : ℕ) → slot < 16 → (node ≤ lock_word node) × (lock_word node < parent_word node) × (parent_word node < slot_word node slot) × (slot_word node slot < node + 18) }
+    ensures slots { (node a b : ℕ) → slot_word node a ≡ slot_word node b → a ≡ b }
+    ensures entry { (entry : ℕ) → (entry ≤ key_word entry) × (key_word entry < value_word entry) × (value_word entry < entry + 2) }
+    ensures held { (caller : ℕ) → caller + 1 < 2 ^ 32 → (0 < held_word caller) × (held_word caller < dead_word) }
+    ensures holders { (a b : ℕ) → held_word a ≡ held_word b → a ≡ b }
 {}
 
 /// A word says one thing, and what it says has no other word. Place 0 is no node's.

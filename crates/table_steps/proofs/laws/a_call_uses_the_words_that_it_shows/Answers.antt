@@ -1,5 +1,4 @@
 use Rattle.std.proofs.Common.{ℕ, List, ap, ◌∙◌}
-use Rattle.sync_model.specs.Shared.{cost_of}
 use Rattle.table_rule.specs.declared.view.Own.{Own}
 use Rattle.table_rule.specs.declared.view.View.{View}
 use Rattle.table_rule.specs.Views.{next_in, paid, with_item}
