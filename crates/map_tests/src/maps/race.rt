@@ -1,5 +1,5 @@
-//! Four callers store keys of one map and clear it, each in a thread of its own. Each ends by itself, and at the end the map has
-//! of each key what was stored last, or nothing.
+//! Four callers store keys of one map, load them and clear it, each in a thread of its own. Each ends by itself. A caller finds
+//! what it stored last under its key, or nothing, and at the end the map has that of each key.
 ghost use Rattle.std.specs.Prelude.{◌≡◌, ◌+◌, ◌<◌};
 ghost use Rattle.std.specs.Thread.{IsSync};
 ghost use Rattle.sync_model.specs.Shared.{IsHeldBy};
@@ -7,8 +7,10 @@ ghost use Rattle.shared_table.specs.Notes.{own_by, IsNoteOf};
 ghost use Rattle.shared_table.specs.Tables.{maps_of};
 
 use go_map::Map;
-use shared_table::{SharedNote, SharedTable};
+use shared_table::{SharedNote, SharedTable, Steps};
+use std::marker::Brand;
 use std::sync::Wait;
+use std::sync::ledger::{Blank, Ledger};
 use std::test::Fail;
 use std::thread::{Threads, join};
 use sync_model::Caller;
@@ -42,24 +44,44 @@ fn clear_now_and_then<R: Wait>(
     }
 }
 
-// Stores and clears. The last call is a store.
+// What the caller's own key has.
+fn load_own<R: Wait, L: Ledger>(
+    rt: &R,
+    map: &Map,
+    caller: &mut Caller<SharedNote>,
+    number: u32,
+    blank: Blank,
+) -> Option<u64>
+    requires number { number < 4 }
+    requires caller { IsNoteOf map.now.table.now caller.old.note × IsHeldBy number (own_by caller.old.note) }
+    requires ledger { (blank.name ≡ L.name) × (blank.parts ≡ L.parts) × (0 < L.parts) }
+    ensures { IsNoteOf map.now.table.now caller.new.note × IsHeldBy number (own_by caller.new.note) }
+{
+    let mut steps = Steps::<L>::new(rt, blank);
+    map.load(caller, 3 + 16 * number, &mut steps)
+}
+
+// Clears, stores and loads. The last change is a store. Answers whether each load found what was stored last, or nothing.
 fn work<R: Wait>(
     rt: &R,
     table: &SharedTable,
     mut caller: Caller<SharedNote>,
     number: u32,
-) -> Caller<SharedNote>
+) -> (Caller<SharedNote>, bool)
     requires map { 0 < maps_of table.now }
     requires number { number < 4 }
     requires caller { IsNoteOf table.now caller.note × IsHeldBy number (own_by caller.note) }
-    ensures { IsNoteOf table.now result.note × IsHeldBy number (own_by result.note) }
+    ensures { IsNoteOf table.now result.0.note × IsHeldBy number (own_by result.0.note) }
 {
     let map = Map::at(table, 0);
+    let mut is_own = true;
     for round in 0..ROUNDS {
         clear_now_and_then(rt, &map, &mut caller, number, round);
         store_own(rt, &map, &mut caller, number, round);
+        let found = load_own::<_, Brand>(rt, &map, &mut caller, number, Blank::new(1));
+        is_own = is_own && (found.is_none() || found == Some(round as u64));
     }
-    caller
+    (caller, is_own)
 }
 
 // Two callers work, each in a thread of its own.
@@ -69,7 +91,7 @@ fn work_beside<R: Threads + Wait + Sync>(
     first: Caller<SharedNote>,
     second: Caller<SharedNote>,
     number: u32,
-) -> (Caller<SharedNote>, Caller<SharedNote>)
+) -> (Caller<SharedNote>, Caller<SharedNote>, bool)
     requires map { 0 < maps_of table.now }
     requires number { number < 3 }
     requires first { IsNoteOf table.now first.note × IsHeldBy number (own_by first.note) }
@@ -77,17 +99,18 @@ fn work_beside<R: Threads + Wait + Sync>(
     ensures first { IsNoteOf table.now result.0.note × IsHeldBy number (own_by result.0.note) }
     ensures second { IsNoteOf table.now result.1.note × IsHeldBy (number + 1) (own_by result.1.note) }
 {
-    join(
+    let ((first, of_first), (second, of_second)) = join(
         rt,
-        move || -> Caller<SharedNote>
+        move || -> (Caller<SharedNote>, bool)
             requires { IsSync R.row × (0 < maps_of table.now) × (number < 3) × IsNoteOf table.now first.note × IsHeldBy number (own_by first.note) }
-            ensures { IsNoteOf table.entry.now result.note × IsHeldBy number (own_by result.note) }
+            ensures { IsNoteOf table.entry.now result.0.note × IsHeldBy number (own_by result.0.note) }
         { work(rt, table, first, number) },
-        move || -> Caller<SharedNote>
+        move || -> (Caller<SharedNote>, bool)
             requires { IsSync R.row × (0 < maps_of table.now) × (number < 3) × IsNoteOf table.now second.note × IsHeldBy (number + 1) (own_by second.note) }
-            ensures { IsNoteOf table.entry.now result.note × IsHeldBy (number + 1) (own_by result.note) }
+            ensures { IsNoteOf table.entry.now result.0.note × IsHeldBy (number + 1) (own_by result.0.note) }
         { work(rt, table, second, number + 1) },
-    )
+    );
+    (first, second, of_first && of_second)
 }
 
 // All four work.
@@ -99,30 +122,34 @@ fn work_four<R: Threads + Wait + Sync>(
     three: Caller<SharedNote>,
     four: Caller<SharedNote>,
 ) -> (
-    (Caller<SharedNote>, Caller<SharedNote>),
-    (Caller<SharedNote>, Caller<SharedNote>),
+    Caller<SharedNote>,
+    Caller<SharedNote>,
+    Caller<SharedNote>,
+    Caller<SharedNote>,
+    bool,
 )
     requires map { 0 < maps_of table.now }
     requires one { IsNoteOf table.now one.note × IsHeldBy 0 (own_by one.note) }
     requires two { IsNoteOf table.now two.note × IsHeldBy 1 (own_by two.note) }
     requires three { IsNoteOf table.now three.note × IsHeldBy 2 (own_by three.note) }
     requires four { IsNoteOf table.now four.note × IsHeldBy 3 (own_by four.note) }
-    ensures one { IsNoteOf table.now result.0.0.note × IsHeldBy 0 (own_by result.0.0.note) }
-    ensures two { IsNoteOf table.now result.0.1.note × IsHeldBy 1 (own_by result.0.1.note) }
-    ensures three { IsNoteOf table.now result.1.0.note × IsHeldBy 2 (own_by result.1.0.note) }
-    ensures four { IsNoteOf table.now result.1.1.note × IsHeldBy 3 (own_by result.1.1.note) }
+    ensures one { IsNoteOf table.now result.0.note × IsHeldBy 0 (own_by result.0.note) }
+    ensures two { IsNoteOf table.now result.1.note × IsHeldBy 1 (own_by result.1.note) }
+    ensures three { IsNoteOf table.now result.2.note × IsHeldBy 2 (own_by result.2.note) }
+    ensures four { IsNoteOf table.now result.3.note × IsHeldBy 3 (own_by result.3.note) }
 {
-    join(
+    let ((one, two, of_two), (three, four, of_four)) = join(
         rt,
-        move || -> (Caller<SharedNote>, Caller<SharedNote>)
+        move || -> (Caller<SharedNote>, Caller<SharedNote>, bool)
             requires { IsSync R.row × (0 < maps_of table.now) × (IsNoteOf table.now one.note × IsHeldBy 0 (own_by one.note)) × (IsNoteOf table.now two.note × IsHeldBy 1 (own_by two.note)) }
             ensures { (IsNoteOf table.entry.now result.0.note × IsHeldBy 0 (own_by result.0.note)) × (IsNoteOf table.entry.now result.1.note × IsHeldBy 1 (own_by result.1.note)) }
         { work_beside(rt, table, one, two, 0) },
-        move || -> (Caller<SharedNote>, Caller<SharedNote>)
+        move || -> (Caller<SharedNote>, Caller<SharedNote>, bool)
             requires { IsSync R.row × (0 < maps_of table.now) × (IsNoteOf table.now three.note × IsHeldBy 2 (own_by three.note)) × (IsNoteOf table.now four.note × IsHeldBy 3 (own_by four.note)) }
             ensures { (IsNoteOf table.entry.now result.0.note × IsHeldBy 2 (own_by result.0.note)) × (IsNoteOf table.entry.now result.1.note × IsHeldBy 3 (own_by result.1.note)) }
         { work_beside(rt, table, three, four, 2) },
-    )
+    );
+    (one, two, three, four, of_two && of_four)
 }
 
 #[test]
@@ -142,7 +169,8 @@ fn a_map_that_four_threads_clear_ends_with_last_stores_at_most(
     let Some(one) = callers.pop() else {
         return Ok(());
     };
-    let ((one, two), (three, four)) = work_four(&rt, &table, one, two, three, four);
+    let (one, two, three, four, is_own) = work_four(&rt, &table, one, two, three, four);
+    assert!(&rt; is_own);
     let mut callers = Vec::with_capacity(rt.alloc(), 4)?;
     callers.push(one)?;
     callers.push(two)?;

@@ -29,6 +29,6 @@ pub ends-ends-requires : goal.ends-ends-requires
 ends-ends-requires g c =
     let done = c.work_four-one.ensures in
     let each = c.work_four-one.result in
-    let items = c.in_ok-push-4.ensures.items ∙ ap (λ l. l ++ each.1.1 ∷ []) (c.in_ok-push-3.ensures.items ∙ ap (λ l. l ++ each.1.0 ∷ []) (c.in_ok-push-2.ensures.items ∙ ap (λ l. l ++ each.0.1 ∷ []) (c.in_ok-push.ensures.items ∙ ap (λ l. l ++ each.0.0 ∷ []) c.in_ok-callers.ensures.items))) in
+    let items = c.in_ok-push-4.ensures.items ∙ ap (λ l. l ++ each.3 ∷ []) (c.in_ok-push-3.ensures.items ∙ ap (λ l. l ++ each.2 ∷ []) (c.in_ok-push-2.ensures.items ∙ ap (λ l. l ++ each.1 ∷ []) (c.in_ok-push.ensures.items ∙ ap (λ l. l ++ each.0 ∷ []) c.in_ok-callers.ensures.items))) in
     subst (λ l. AreAllCallers IsNoteOf own_by c.in_ok-table.table l (caller_count c.in_ok-table.table)) (sym items)
-    (all_four c.in_ok-table.table each.0.0 each.0.1 each.1.0 each.1.1 c.in_ok-table.ensures.table.3 done.one done.two done.three done.four)
+    (all_four c.in_ok-table.table each.0 each.1 each.2 each.3 c.in_ok-table.ensures.table.3 done.one done.two done.three done.four)
