@@ -24,6 +24,7 @@ use Rattle.run_record.specs.Parts.{Part, lifted, stages, read_as, with_outcome, 
 use Rattle.run_record.specs.Record.{ObjectEntry, shared_in, entries_in}
 use Rattle.shared_calls.specs.Working.{Desk, Rises, CountsOwn, Moves, Works, alone, number_in, desk_with, desk_at}
 use Rattle.thread_objects.specs.Passes.{own_as}
+use Rattle.kind_calls.specs.Replies.{gone_on}
 
 -- what `shared_calls::laws` says of what a worker makes: nothing, some items and then others, and how many calls its note counts
 abbrev pub Stays : Type 0
@@ -169,3 +170,16 @@ module _ (stays : Stays) (joined : Joins) {O P : Type 0} (first : Part O) (next 
   -- and any other goes on
   pub went_first : (outcome : O) (new : Desk) (answer : CallAnswer P) → Works first old (Done (Ok outcome)) between → Works (next outcome) between answer new → Works (and_then first next) old answer new
   went_first outcome new answer works later = works_on first next joined old between new (Done (Ok outcome)) answer works later
+
+  -- the same, by whether the call goes on
+  pub ended_first : (given : CallAnswer O) (answer : CallAnswer P) → gone_on given ≡ Err answer → Works first old given between → Works (and_then first next) old answer between
+  ended_first (Done (Ok outcome)) answer is works = absurd cc
+  ended_first (Done (Err misuse)) answer is works = let same : answer ≡ Done (Err misuse) = cc in answers_as _ old between (Done (Err misuse)) answer same (erred_first misuse works)
+  ended_first (Halted misuse) answer is works = let same : answer ≡ Halted misuse = cc in answers_as _ old between (Halted misuse) answer same (halted_first misuse works)
+
+  pub gone_first : (given : CallAnswer O) (outcome : O) (new : Desk) (answer : CallAnswer P) → gone_on {P = P} given ≡ Ok outcome → Works first old given between → Works (next outcome) between answer new → Works (and_then first next) old answer new
+  gone_first (Done (Ok o)) outcome new answer is works later =
+      let same : outcome ≡ o = cc in
+      went_first o new answer works (subst (λ (x : O). Works (next x) between answer new) same later)
+  gone_first (Done (Err misuse)) outcome new answer is works later = absurd cc
+  gone_first (Halted misuse) outcome new answer is works later = absurd cc

@@ -1,11 +1,13 @@
 -- What calls of a workload reply.
-use Rattle.std.specs.Prelude.{ℕ, ℤ}
+use Rattle.std.specs.Prelude.{ℕ, ℤ, Result, Ok, Err}
+use Rattle.sync_model.specs.declared.answer.Answer.TheVariants.{Done, Halted}
 use Rattle.sync_types.specs.declared.call.Reply.{Reply}
 use Rattle.sync_types.specs.declared.call.Reply.TheVariants as replies
 use Rattle.sync_types.specs.declared.lock_call.LockReply.{LockReply}
 use Rattle.sync_types.specs.declared.once_call.DoReply.TheVariants as do_replies
 use Rattle.sync_types.specs.declared.pool_call.PoolCallReply.TheVariants as pool_replies
 use Rattle.protocols.specs.declared.pool.PoolOutcome.{PoolOutcome}
+use Rattle.protocols.specs.Spelling.{CallAnswer}
 use Rattle.run_record.specs.OnceKind.{failure}
 
 -- of a lock, of a call that only returns, and of a function that runs once
@@ -31,3 +33,9 @@ pool_done outcome = replies.Pool pool_replies.Done
 -- of a once, where the call ran the function
 abbrev pub ran : ℤ → Reply ℕ
 ran sum = replies.Once (do_replies.Ran sum)
+
+-- of a part behind which another comes: its outcome, or the answer that ends the call, where it was a misuse or met a halt
+abbrev pub gone_on : {O P : Type 0} → CallAnswer O → Result O (CallAnswer P)
+gone_on (Done (Ok outcome)) = Ok outcome
+gone_on (Done (Err misuse)) = Err (Done (Err misuse))
+gone_on (Halted misuse) = Err (Halted misuse)

@@ -20,7 +20,8 @@ use Rattle.run_record.specs.Record.{ObjectEntry}
 use Rattle.thread_objects.specs.declared.pass.AnyPass.{AnyPass}
 use Rattle.thread_objects.specs.declared.pass.AnyPass.TheVariants as passes
 use Rattle.thread_objects.specs.Columns.{AreSeated, AreUntouched, AreParts}
-use Rattle.thread_objects.specs.Passes.{own_of, owns_of, own_as}
+use Rattle.thread_objects.specs.EachKind.{Kind}
+use Rattle.thread_objects.specs.Passes.{own_of, owns_of, own_as, own_in}
 use Rattle.thread_objects.specs.Seats.{IsSeat}
 use Rattle.thread_objects.proofs.ColumnLists.{in_front, added_at, fewer_by_one, got, got_none}
 
@@ -96,12 +97,6 @@ module _ {E R : Type 0} (event : E → ObjectEvent) (reply : R → ObjectReply) 
     pub owns_past : (worker : ℕ) → slice_get ps worker ≡ None → owns_of (map pass_as ps) worker ≡ []
     owns_past worker none = ap (λ (p : AnyPass N). own_of p) (got_none (map pass_as ps) worker passes.None (slice_get-map pass_as ps worker ∙ ap (λ (o : Option (Pass S N E R)). option_map pass_as o) none))
 
-    pub none_made : AreUntouched ps → (worker : ℕ) → owns_of (map pass_as ps) worker ≡ []
-    none_made untouched worker = by_case (slice_get_cases ps worker).1 where
-      by_case : ((x : Pass S N E R) × (worker < length ps) × (slice_get ps worker ≡ Some x) × (get_or ps worker x ≡ x)) ⊎ ((length ps ≤ worker) × (slice_get ps worker ≡ None)) → owns_of (map pass_as ps) worker ≡ []
-      by_case (inl (x, within, some, is)) = owns_at worker x some ∙ ap (λ (own : List (Entry E R)). lift own) (untouched worker x some)
-      by_case (inr (past, none)) = owns_past worker none
-
     parts_of : (next : S → ℕ → E → S × R) (halts : Bool) (frees takes : E → R → Bool) (start : S) (journal : List (Entry E R)) → IsWhole next halts frees takes start journal ps → AreParts (lift journal) (map pass_as ps)
     parts_of next halts frees takes start journal whole worker = by_case (slice_get_cases ps worker).1 where
       by_case : ((x : Pass S N E R) × (worker < length ps) × (slice_get ps worker ≡ Some x) × (get_or ps worker x ≡ x)) ⊎ ((length ps ≤ worker) × (slice_get ps worker ≡ None)) → owns_of (map pass_as ps) worker ≡ by worker (lift journal)
@@ -117,3 +112,10 @@ module _ {E R : Type 0} (event : E → ObjectEvent) (reply : R → ObjectReply) 
       is ∙ sym (halt_lifted None journal),
       parts_of next halts frees takes start journal whole,
     )
+
+module _ {S N E R W : Type 0} (kind : Kind S E R W) (pass_as : Pass S N E R → AnyPass N) (same : (pass : Pass S N E R) → own_of (pass_as pass) ≡ own_in kind pass) (ps : List (Pass S N E R)) where
+  pub none_made : AreUntouched ps → (worker : ℕ) → owns_of (map pass_as ps) worker ≡ []
+  none_made untouched worker = by_case (slice_get_cases ps worker).1 where
+    by_case : ((x : Pass S N E R) × (worker < length ps) × (slice_get ps worker ≡ Some x) × (get_or ps worker x ≡ x)) ⊎ ((length ps ≤ worker) × (slice_get ps worker ≡ None)) → owns_of (map pass_as ps) worker ≡ []
+    by_case (inl (x, within, some, is)) = owns_at kind.event kind.reply pass_as same ps worker x some ∙ ap (λ (own : List (Entry E R)). lift kind.event kind.reply own) (untouched worker x some)
+    by_case (inr (past, none)) = owns_past kind.event kind.reply pass_as same ps worker none

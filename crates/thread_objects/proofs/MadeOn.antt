@@ -19,7 +19,7 @@ use Rattle.thread_objects.proofs.ColumnLists.{got_none, there_is}
 module _ {N H : Type 0} (at : H → N → Type 0) (home : H) (workers count : ℕ) where
   count_in : (object : AnyObject N H) (column : AnyColumn N) → IsColumnOf at home workers count object column → length (passes_in column) ≡ count
   count_in objects.Shared (columns.None n) is = length-replicate n passes.None ∙ is
-  count_in (objects.Stop o) (columns.Stop ps) is = length-map ps.items passes.Stop ∙ is.0.sized
+  count_in (objects.Stop o) (columns.Stop ps) is = length-map ps.items passes.Stop ∙ is.0.0.sized
   count_in (objects.Mutex o) (columns.Mutex ps) is = length-map ps.items passes.Mutex ∙ is.0.sized
   count_in (objects.RwMutex o) (columns.RwMutex ps) is = length-map ps.items passes.RwMutex ∙ is.0.sized
   count_in (objects.Cond o) (columns.Cond ps) is = length-map ps.items passes.Cond ∙ is.0.sized

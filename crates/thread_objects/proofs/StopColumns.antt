@@ -56,20 +56,20 @@ module _ {N H : Type 0} (at : H → N → Type 0) (home : H) (workers count : �
   pub column_to : (object : AnyObject N H) (ps : Vec (Pass (Unit {0}) N NoEvent NoEvent)) → object ≡ objects.Stop o → Column ps → IsColumnOf at home workers count object (columns.Stop ps)
   column_to object ps is seated = subst (λ (x : AnyObject N H). IsColumnOf at home workers count x (columns.Stop ps)) (sym is) seated
 
-module _ {S N : Type 0} where
-  pub halting_with : (old new : List (Pass S N NoEvent NoEvent)) (last : Pass S N NoEvent NoEvent) → new ≡ old ++ last ∷ [] → AreHalting old → IsStops (own_as no_event no_reply last) → AreHalting new
-  halting_with old new last is all one worker pass here = by_case (added_at old last pass worker (subst (λ (xs : List (Pass S N NoEvent NoEvent)). slice_get xs worker ≡ Some pass) is here)) where
+module _ {N : Type 0} where
+  pub halting_with : (old new : List (Pass (Unit {0}) N NoEvent NoEvent)) (last : Pass (Unit {0}) N NoEvent NoEvent) → new ≡ old ++ last ∷ [] → AreHalting old → IsStops (own_as no_event no_reply last) → AreHalting new
+  halting_with old new last is all one worker pass here = by_case (added_at old last pass worker (subst (λ (xs : List (Pass (Unit {0}) N NoEvent NoEvent)). slice_get xs worker ≡ Some pass) is here)) where
     by_case : (slice_get old worker ≡ Some pass) ⊎ ((worker ≡ length old) × (last ≡ pass)) → IsStops (own_as no_event no_reply pass)
     by_case (inl before) = all worker pass before
-    by_case (inr behind) = subst (λ (p : Pass S N NoEvent NoEvent). IsStops (own_as no_event no_reply p)) behind.1 one
+    by_case (inr behind) = subst (λ (p : Pass (Unit {0}) N NoEvent NoEvent). IsStops (own_as no_event no_reply p)) behind.1 one
 
-  pub halting_same : (old new : List (Pass S N NoEvent NoEvent)) → SameOwn old new → AreHalting old → AreHalting new
+  pub halting_same : (old new : List (Pass (Unit {0}) N NoEvent NoEvent)) → SameOwn old new → AreHalting old → AreHalting new
   halting_same old new same all worker pass here = let was = same worker pass here in
       subst (λ (own : List (Entry NoEvent NoEvent)). IsStops (map (lifted no_event no_reply) own)) (sym was.2) (all worker was.0 was.1)
 
   -- where each worker's entries are halts, all are
-  pub stops_of : (pass_as : Pass S N NoEvent NoEvent → AnyPass N) → ((pass : Pass S N NoEvent NoEvent) → own_of (pass_as pass) ≡ own_as no_event no_reply pass) → (ps : List (Pass S N NoEvent NoEvent)) (journal : List ObjectEntry) → AreHalting ps → AreParts journal (map pass_as ps) → IsStops journal
+  pub stops_of : (pass_as : Pass (Unit {0}) N NoEvent NoEvent → AnyPass N) → ((pass : Pass (Unit {0}) N NoEvent NoEvent) → own_of (pass_as pass) ≡ own_as no_event no_reply pass) → (ps : List (Pass (Unit {0}) N NoEvent NoEvent)) (journal : List ObjectEntry) → AreHalting ps → AreParts journal (map pass_as ps) → IsStops journal
   stops_of pass_as same ps journal all parts = all_by IsHalted journal (λ c. All-same IsHalted (by c journal) (owns_of (map pass_as ps) c) (sym (parts c)) (by_case c (slice_get_cases ps c).1)) where
-    by_case : (c : ℕ) → ((x : Pass S N NoEvent NoEvent) × (c < length ps) × (slice_get ps c ≡ Some x) × (get_or ps c x ≡ x)) ⊎ ((length ps ≤ c) × (slice_get ps c ≡ None)) → IsStops (owns_of (map pass_as ps) c)
+    by_case : (c : ℕ) → ((x : Pass (Unit {0}) N NoEvent NoEvent) × (c < length ps) × (slice_get ps c ≡ Some x) × (get_or ps c x ≡ x)) ⊎ ((length ps ≤ c) × (slice_get ps c ≡ None)) → IsStops (owns_of (map pass_as ps) c)
     by_case c (inl (x, within, some, is)) = All-same IsHalted (owns_of (map pass_as ps) c) (own_as no_event no_reply x) (owns_at no_event no_reply pass_as same ps c x some) (all c x some)
     by_case c (inr (past, none)) = All-same IsHalted (owns_of (map pass_as ps) c) [] (owns_past no_event no_reply pass_as same ps c none) (All-nil IsHalted)

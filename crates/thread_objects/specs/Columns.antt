@@ -1,31 +1,11 @@
 -- All passes of one object, in order of worker. A kind is a line in each of these.
-use Rattle.std.specs.Prelude.{◌≡◌, ℕ, ◌≤◌, false, List, [], length, map, replicate, Some, slice_get, vec_capacity}
+use Rattle.std.specs.Global.{Vec}
+use Rattle.std.specs.Prelude.{◌≡◌, ℕ, ◌≤◌, List, [], length, map, replicate, Some, slice_get, vec_capacity}
 use Rattle.sync_model.specs.Journal.{by}
-use Rattle.mutex_core.specs.Edges as mutex_edges
-use Rattle.mutex_core.specs.MutexMachine as mutex
-use Rattle.pool_core.specs.Edges.{pool_releases, pool_acquires}
-use Rattle.pool_core.specs.PartMachine.{part_next}
-use Rattle.rw_core.specs.Edges as rw_edges
-use Rattle.rw_core.specs.RwMachine as rw
-use Rattle.wait_cores.specs.GroupEdges.{group_releases, group_acquires}
-use Rattle.wait_cores.specs.GroupMachine as group
-use Rattle.wait_cores.specs.GroupStanding.{waits_after}
-use Rattle.wait_cores.specs.NotifyEdges.{notify_releases, notify_acquires}
-use Rattle.wait_cores.specs.NotifyMachine as notify
-use Rattle.wait_cores.specs.OnceEdges.{once_releases, once_acquires}
-use Rattle.wait_cores.specs.OnceMachine as once
-use Rattle.protocols.specs.CondStages.{cond_stands, CondBegins}
-use Rattle.protocols.specs.GroupStages.{GroupBegins}
-use Rattle.protocols.specs.MutexStages.{mutex_stands, MutexBegins}
-use Rattle.protocols.specs.OnceStages.{once_stands, OnceBegins}
-use Rattle.protocols.specs.PoolStages.{pool_stands, PartBegins}
-use Rattle.protocols.specs.RwMutexStages.{rw_stands, RwMutexBegins}
 use Rattle.ruled_object.specs.declared.object.Object.{Object}
 use Rattle.ruled_object.specs.declared.pass.Pass.{Pass}
 use Rattle.ruled_object.specs.Passes.{number_of, own_by, callers_of, start_of, IsHomeOf}
 use Rattle.running.specs.Between.{IsBetween}
-use Rattle.run_record.specs.declared.entered.ObjectEvent.TheVariants as event
-use Rattle.run_record.specs.declared.entered.ObjectReply.TheVariants as reply
 use Rattle.run_record.specs.Journals.{FollowsFrom, IsStops}
 use Rattle.run_record.specs.Record.{ObjectEntry}
 use Rattle.thread_objects.specs.declared.column.AnyColumn.{AnyColumn}
@@ -35,8 +15,9 @@ use Rattle.thread_objects.specs.declared.object.AnyObject.TheVariants as objects
 use Rattle.thread_objects.specs.declared.pass.AnyPass.{AnyPass}
 use Rattle.thread_objects.specs.declared.pass.AnyPass.TheVariants as passes
 use Rattle.thread_objects.specs.declared.stop.NoEvent.{NoEvent}
-use Rattle.thread_objects.specs.Passes.{owns_of, own_as}
-use Rattle.thread_objects.specs.Stop.{StopBegins, stop_stands, no_event, no_reply}
+use Rattle.thread_objects.specs.EachKind.{Kind}
+use Rattle.thread_objects.specs.EachKind as kind
+use Rattle.thread_objects.specs.Passes.{owns_of, own_in}
 
 -- The object of so many workers began as such ones may, and its notes are of this home. These are the passes of its first workers, in order, each between two calls.
 pub record AreSeated {M N S E R H W : Type 0} (begins : ℕ → S → Type 0) (out : W) (move : W → E → R → W) (at : H → N → Type 0) (home : H) (workers count : ℕ) (object : Object M N S E R H) (passes : List (Pass S N E R)) : Type 0 where
@@ -52,8 +33,8 @@ module _ {S N E R : Type 0} where
   AreUntouched passes = (worker : ℕ) (pass : Pass S N E R) → slice_get passes worker ≡ Some pass → own_by pass ≡ []
 
 -- those whose pass is here did nothing on Stop but halt it
-abbrev pub AreHalting : {S N : Type 0} → List (Pass S N NoEvent NoEvent) → Type 0
-AreHalting {S} {N} passes = (worker : ℕ) (pass : Pass S N NoEvent NoEvent) → slice_get passes worker ≡ Some pass → IsStops (own_as no_event no_reply pass)
+abbrev pub AreHalting : {N : Type 0} → List (Pass (Unit {0}) N NoEvent NoEvent) → Type 0
+AreHalting {N} passes = (worker : ℕ) (pass : Pass (Unit {0}) N NoEvent NoEvent) → slice_get passes worker ≡ Some pass → IsStops (own_in kind.stop pass)
 
 module _ {N : Type 0} where
   -- the passes of the first workers
@@ -83,32 +64,40 @@ module _ {N : Type 0} where
   IsUntouched (columns.PoolPart ps) = AreUntouched ps.items
 
 module _ {N H : Type 0} (at : H → N → Type 0) (home : H) (workers count : ℕ) where
+  -- the same of an object of this kind, with room for the passes of all workers, in memory that is taken
+  abbrev pub ColumnOf : {M S E R W : Type 0} → Kind S E R W → Object M N S E R H → Vec (Pass S N E R) → Type 0
+  ColumnOf kind object passes = AreSeated kind.begins kind.out kind.stands at home workers count object passes.items × (workers ≤ vec_capacity passes)
+
   -- These are the passes of the object's first workers, so many of all. There is room for all, in memory that is taken.
   abbrev pub IsColumnOf : AnyObject N H → AnyColumn N → Type 0
   IsColumnOf objects.Shared (columns.None n) = n ≡ count
-  IsColumnOf (objects.Stop o) (columns.Stop ps) = AreSeated StopBegins tt stop_stands at home workers count o ps.items × (workers ≤ vec_capacity ps) × AreHalting ps.items
-  IsColumnOf (objects.Mutex o) (columns.Mutex ps) = AreSeated MutexBegins false mutex_stands at home workers count o ps.items × (workers ≤ vec_capacity ps)
-  IsColumnOf (objects.RwMutex o) (columns.RwMutex ps) = AreSeated RwMutexBegins false rw_stands at home workers count o ps.items × (workers ≤ vec_capacity ps)
-  IsColumnOf (objects.Cond o) (columns.Cond ps) = AreSeated CondBegins tt cond_stands at home workers count o ps.items × (workers ≤ vec_capacity ps)
-  IsColumnOf (objects.WaitGroup o) (columns.WaitGroup ps) = AreSeated GroupBegins false waits_after at home workers count o ps.items × (workers ≤ vec_capacity ps)
-  IsColumnOf (objects.Once o) (columns.Once ps) = AreSeated OnceBegins (false, false) once_stands at home workers count o ps.items × (workers ≤ vec_capacity ps)
-  IsColumnOf (objects.OnceFunc o) (columns.OnceFunc ps) = AreSeated OnceBegins (false, false) once_stands at home workers count o ps.items × (workers ≤ vec_capacity ps)
-  IsColumnOf (objects.OnceValue o) (columns.OnceValue ps) = AreSeated OnceBegins (false, false) once_stands at home workers count o ps.items × (workers ≤ vec_capacity ps)
-  IsColumnOf (objects.PoolPart o) (columns.PoolPart ps) = AreSeated PartBegins tt pool_stands at home workers count o ps.items × (workers ≤ vec_capacity ps)
+  IsColumnOf (objects.Stop o) (columns.Stop ps) = ColumnOf kind.stop o ps × AreHalting ps.items
+  IsColumnOf (objects.Mutex o) (columns.Mutex ps) = ColumnOf kind.mutex o ps
+  IsColumnOf (objects.RwMutex o) (columns.RwMutex ps) = ColumnOf kind.rw_mutex o ps
+  IsColumnOf (objects.Cond o) (columns.Cond ps) = ColumnOf kind.cond o ps
+  IsColumnOf (objects.WaitGroup o) (columns.WaitGroup ps) = ColumnOf kind.wait_group o ps
+  IsColumnOf (objects.Once o) (columns.Once ps) = ColumnOf kind.once o ps
+  IsColumnOf (objects.OnceFunc o) (columns.OnceFunc ps) = ColumnOf kind.once_func o ps
+  IsColumnOf (objects.OnceValue o) (columns.OnceValue ps) = ColumnOf kind.once_value o ps
+  IsColumnOf (objects.PoolPart o) (columns.PoolPart ps) = ColumnOf kind.pool_part o ps
   IsColumnOf object column = ⊥
+
+-- the entries follow the machine of an object of this kind from the state in which the object began, and keep the edge law
+abbrev pub JournalOf : {M N S E R H W : Type 0} → Kind S E R W → Object M N S E R H → List ObjectEntry → Type 0
+JournalOf kind object journal = FollowsFrom kind.event kind.reply kind.next kind.frees kind.takes (start_of object) journal
 
 -- the journal is one of the object: it follows the machine from the state in which the object began, and keeps the edge law
 abbrev pub IsJournalAt : {N H : Type 0} → AnyObject N H → List ObjectEntry → Type 0
 IsJournalAt objects.Shared journal = journal ≡ []
 IsJournalAt (objects.Stop o) journal = IsStops journal
-IsJournalAt (objects.Mutex o) journal = FollowsFrom event.Mutex reply.Mutex mutex.next (λ event reply. mutex_edges.releases reply) (λ event reply. mutex_edges.acquires reply) (start_of o) journal
-IsJournalAt (objects.RwMutex o) journal = FollowsFrom event.RwMutex reply.RwMutex rw.next (λ event reply. rw_edges.releases reply) (λ event reply. rw_edges.acquires reply) (start_of o) journal
-IsJournalAt (objects.Cond o) journal = FollowsFrom event.Cond reply.Cond notify.next notify_releases notify_acquires (start_of o) journal
-IsJournalAt (objects.WaitGroup o) journal = FollowsFrom event.WaitGroup reply.WaitGroup group.next group_releases group_acquires (start_of o) journal
-IsJournalAt (objects.Once o) journal = FollowsFrom event.Once reply.Once once.next once_releases once_acquires (start_of o) journal
-IsJournalAt (objects.OnceFunc o) journal = FollowsFrom event.OnceFunc reply.OnceFunc once.next once_releases once_acquires (start_of o) journal
-IsJournalAt (objects.OnceValue o) journal = FollowsFrom event.OnceValue reply.OnceValue once.next once_releases once_acquires (start_of o) journal
-IsJournalAt (objects.PoolPart o) journal = FollowsFrom event.Pool reply.Pool part_next pool_releases pool_acquires (start_of o) journal
+IsJournalAt (objects.Mutex o) journal = JournalOf kind.mutex o journal
+IsJournalAt (objects.RwMutex o) journal = JournalOf kind.rw_mutex o journal
+IsJournalAt (objects.Cond o) journal = JournalOf kind.cond o journal
+IsJournalAt (objects.WaitGroup o) journal = JournalOf kind.wait_group o journal
+IsJournalAt (objects.Once o) journal = JournalOf kind.once o journal
+IsJournalAt (objects.OnceFunc o) journal = JournalOf kind.once_func o journal
+IsJournalAt (objects.OnceValue o) journal = JournalOf kind.once_value o journal
+IsJournalAt (objects.PoolPart o) journal = JournalOf kind.pool_part o journal
 
 -- each worker's entries in the journal are those of its pass, and nobody else has any
 abbrev pub AreParts : {N : Type 0} → List ObjectEntry → List (AnyPass N) → Type 0

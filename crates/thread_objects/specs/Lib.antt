@@ -1,6 +1,7 @@
 pub mod AsDeclared
 pub mod Columns
 pub mod Desks
+pub mod EachKind
 pub mod Halting
 pub mod Kinds
 pub mod Passes

@@ -2,7 +2,7 @@
 ghost use Rattle.std.specs.Prelude.{◌≡◌};
 ghost use Rattle.run_record.specs.OnceKind.{failure};
 ghost use Rattle.run_record.specs.Parts.{with_outcome};
-ghost use Rattle.kind_calls.specs.Replies.{of_lock, relocked, returned, func_told, value_told, pool_done, ran};
+ghost use Rattle.kind_calls.specs.Replies.{of_lock, relocked, returned, func_told, value_told, pool_done, ran, gone_on};
 
 use protocols::PoolOutcome;
 use shared_calls::CallAnswer;
@@ -90,5 +90,16 @@ pub(crate) fn ran(answer: Answer<Result<i64, Misuse>>) -> CallAnswer
         Answer::Done(Ok(sum)) => Answer::Done(Ok(Reply::Once(DoReply::Ran(sum)))),
         Answer::Done(Err(misuse)) => Answer::Done(Err(misuse)),
         Answer::Halted(misuse) => Answer::Halted(misuse),
+    }
+}
+
+/// Of a part behind which another comes: its outcome. Where it was a misuse or met a halt, the call ends with that answer.
+pub(crate) fn gone_on<T>(answer: Answer<Result<T, Misuse>>) -> Result<T, CallAnswer>
+    ensures { result ≡ gone_on answer }
+{
+    match answer {
+        Answer::Done(Ok(outcome)) => Ok(outcome),
+        Answer::Done(Err(misuse)) => Err(Answer::Done(Err(misuse))),
+        Answer::Halted(misuse) => Err(Answer::Halted(misuse)),
     }
 }

@@ -14,7 +14,7 @@ returns-in-Stop-column-clause-column g c =
     let home = c.args.crew.now.home.now in
     let workers = c.args.crew.now.workers in
     let was = column_from g.N.Note.at home workers workers c.in-Stop.object c.args.object.now c.args.column.now c.in-Stop-column.passes c.in-Stop.is c.in-Stop-column.is c.requires.column in
-    column_to g.N.Note.at home workers workers c.in-Stop.object c.args.object.now c.first_of.new.passes c.in-Stop.is (c.first_of.ensures.seated, subst (λ room. workers ≤ room) (sym c.first_of.ensures.room) was.1, halting_same c.in-Stop-column.passes.items c.first_of.new.passes.items c.first_of.ensures.owns was.2)
+    column_to g.N.Note.at home workers workers c.in-Stop.object c.args.object.now c.first_of.new.passes c.in-Stop.is ((c.first_of.ensures.seated, subst (λ room. workers ≤ room) (sym c.first_of.ensures.room) was.0.1), halting_same c.in-Stop-column.passes.items c.first_of.new.passes.items c.first_of.ensures.owns was.1)
 
 pub returns-in-Stop-column-clause-history : goal.returns-in-Stop-column-clause-history
 returns-in-Stop-column-clause-history g c =
@@ -22,7 +22,7 @@ returns-in-Stop-column-clause-history g c =
     let workers = c.args.crew.now.workers in
     let was = column_from g.N.Note.at home workers workers c.in-Stop.object c.args.object.now c.args.column.now c.in-Stop-column.passes c.in-Stop.is c.in-Stop-column.is c.requires.column in
     let told = c.first_of.ensures.history no_event no_reply passes.Stop (λ pass. refl) in
-    history_at _ c.args.object.now (objects.Stop c.in-Stop.object) c.args.column.now (columns.Stop c.in-Stop-column.passes) c.in-Stop.is c.in-Stop-column.is (told.0, stops_of passes.Stop (λ pass. refl) c.in-Stop-column.passes.items told.0 was.2 told.3, told.2, told.3)
+    history_at _ c.args.object.now (objects.Stop c.in-Stop.object) c.args.column.now (columns.Stop c.in-Stop-column.passes) c.in-Stop.is c.in-Stop-column.is (told.0, stops_of passes.Stop (λ pass. refl) c.in-Stop-column.passes.items told.0 was.1 told.3, told.2, told.3)
 
 pub returns-in-Mutex-column-clause-history : goal.returns-in-Mutex-column-clause-history
 returns-in-Mutex-column-clause-history g c = history_at _ c.args.object.now (objects.Mutex c.in-Mutex.object) c.args.column.now (columns.Mutex c.in-Mutex-column.passes) c.in-Mutex.is c.in-Mutex-column.is (c.first_of-in-Mutex-column.ensures.history event.Mutex reply.Mutex passes.Mutex (λ pass. refl))
