@@ -109,6 +109,7 @@ where
     ensures gone { OnOk result (HaveGone S.Mark.at S.Mark.own S.Mark.front (S.home_of shared.now) workload.now objects.now (map (λ row. row.items) rows.items) callers.items
         (map (λ row. row.items) left.new.passes.items) left.new.callers.items left.new.replies.items) }
     ensures refused { result ≡ Err faults.StartRefused → Rose (P.faults spawner.old) (P.faults spawner.new) }
+    ensures stays { ¬ (result ≡ Err faults.StartRefused) → P.faults spawner.new ≡ P.faults spawner.old }
     ensures faults { P.faults spawner.old ≤ P.faults spawner.new }
     ensures ran { OnOk result (RoseBy workload.now.workers (P.ran spawner.old) (P.ran spawner.new)) }
     ensures rounds { P.rounds spawner.new ≤ P.rounds spawner.old + 1 }
@@ -157,6 +158,7 @@ where
     requires spare { HaveSpare S.Mark.own workload.now callers.items }
     ensures comes { IfOk result (λ done. HasRun S.Mark.at S.Mark.own S.Mark.front S.seen (S.home_of shared.now) workload.now done.0 done.1.items) }
     ensures refused { result ≡ Err faults.StartRefused → Rose (P.faults spawner.old) (P.faults spawner.new) }
+    ensures stays { ¬ (result ≡ Err faults.StartRefused) → P.faults spawner.new ≡ P.faults spawner.old }
     ensures faults { P.faults spawner.old ≤ P.faults spawner.new }
     ensures ran { IfOk result (λ done. RoseBy workload.now.workers (P.ran spawner.old) (P.ran spawner.new)) }
     ensures rounds { P.rounds spawner.new ≤ P.rounds spawner.old + 1 }
@@ -207,6 +209,7 @@ where
     requires spare { HaveSpare S.Mark.own workload.now callers.items }
     ensures comes { IfOk result (λ done. HasRun S.Mark.at S.Mark.own S.Mark.front S.seen (S.home_of shared.now) workload.now done.0 done.1.items) }
     ensures refused { result ≡ Err faults.StartRefused → Rose (P.faults spawner.old) (P.faults spawner.new) }
+    ensures stays { ¬ (result ≡ Err faults.StartRefused) → P.faults spawner.new ≡ P.faults spawner.old }
     ensures faults { P.faults spawner.old ≤ P.faults spawner.new }
     ensures ran { IfOk result (λ done. RoseBy workload.now.workers (P.ran spawner.old) (P.ran spawner.new)) }
     ensures rounds { P.rounds spawner.new ≤ P.rounds spawner.old + 1 }

@@ -39,6 +39,7 @@ where
     <M::Mark as Note>::Home: Sync,
     ensures explained { IfOk result (λ outcome. (r : Record) × Explains workload.now outcome r) }
     ensures refused { result ≡ Err faults.StartRefused → Rose (P.faults spawner.old) (P.faults spawner.new) }
+    ensures stays { ¬ (result ≡ Err faults.StartRefused) → P.faults spawner.new ≡ P.faults spawner.old }
     ensures faults { P.faults spawner.old ≤ P.faults spawner.new }
     ensures ran { IfOk result (λ outcome. RoseBy workload.now.workers (P.ran spawner.old) (P.ran spawner.new)) }
     ensures rounds { P.rounds spawner.new ≤ P.rounds spawner.old + 1 }
@@ -71,6 +72,7 @@ pub fn threaded<C: Clock + Sync, P: Spawner, G: Gate + Sync, R: Threads + Wait +
 ) -> Result<Outcome, RunFault>
     ensures explained { IfOk result (λ outcome. (r : Record) × Explains workload.now outcome r) }
     ensures refused { result ≡ Err faults.StartRefused → Rose (P.faults spawner.old) (P.faults spawner.new) }
+    ensures stays { ¬ (result ≡ Err faults.StartRefused) → P.faults spawner.new ≡ P.faults spawner.old }
     ensures faults { P.faults spawner.old ≤ P.faults spawner.new }
     ensures ran { IfOk result (λ outcome. RoseBy workload.now.workers (P.ran spawner.old) (P.ran spawner.new)) }
     ensures rounds { P.rounds spawner.new ≤ P.rounds spawner.old + 1 }
