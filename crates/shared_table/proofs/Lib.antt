@@ -10,3 +10,4 @@ pub mod Endings
 pub mod CursorNotes
 pub mod Prunings
 pub mod InsideGates
+pub mod Known

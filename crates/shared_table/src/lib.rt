@@ -8,6 +8,7 @@ mod copies;
 mod cursors;
 mod ends;
 mod kinds;
+pub mod laws;
 mod look_up;
 mod map_call;
 mod new;
