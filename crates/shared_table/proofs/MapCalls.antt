@@ -1,5 +1,5 @@
 -- A writer's way down to its key, and what its call leaves.
-use Rattle.std.proofs.Common.{◌≡◌, ℕ, suc, ◌<◌, Bool, true, false, MatchBool, length, Option, Some, None, refl, sym, ap, ◌∙◌, subst}
+use Rattle.std.proofs.Common.{◌≡◌, ℕ, suc, ◌<◌, Bool, true, false, MatchBool, [], length, Option, Some, None, refl, sym, ap, ◌∙◌, subst}
 use Rattle.atomic_table.specs.Table.{Me}
 use Rattle.sync_model.specs.declared.item.SharedCall.TheVariants as calls
 use Rattle.sync_model.specs.declared.item.SharedReply.TheVariants as replies
@@ -15,8 +15,8 @@ use Rattle.table_rule.specs.declared.view.View.{View}
 use Rattle.table_rule.specs.declared.view.Walk.{Walk}
 use Rattle.sync_types.specs.KeyCalls.{is_key_entry, key_reply}
 use Rattle.trie_nodes.specs.declared.slot.Slot.TheVariants.{Empty, Node, Entry}
-use Rattle.table_steps.specs.Making.{MadeCall}
-use Rattle.shared_table.specs.MapCalls.{IsWriting, IsEnd, IsReached}
+use Rattle.table_steps.specs.Pruning.{having_cut}
+use Rattle.shared_table.specs.MapCalls.{AnswersAndPrunes, MakesAndPrunes, IsWriting, IsEnd, IsReached}
 use Rattle.table_rule.specs.Shape.{start_of}
 use Rattle.table_rule.specs.Views.{with_item, paid, called_view, view_state}
 use Rattle.table_steps.specs.Walking.{standing, walk_at, given_by, HasWords, Answers, FindsIn, Settles, IsFree, OnWay, AtEntry}
@@ -110,20 +110,27 @@ pub writing_on : (k : Begin) (first me : Me (Unit {0}) View) (m : ℕ) (walk : O
 writing_on k first me m walk w is = subst (λ z. IsWriting k z m) (sym is) record { live = w.live; begin = w.begin; some = w.some; few = w.few; gate = w.gate; leaf = refl; lock = w.lock; upper = w.upper }
 
 -- and its call is as if it had stood nowhere
-pub answers_on : (m : ℕ) (call : MapCall ℕ) (reply : MapReply) (words : ℕ) (v u w : View) (walk : Option Walk) → u ≡ standing v walk None → Answers m call reply words None u w → Answers m call reply words None v w
-answers_on m call reply words v u w walk is a = let b = subst (λ z. Answers m call reply words None z w) is a in record { item = b.item; seen = b.seen; is = b.is; called = b.called }
+pub answers_on : (m : ℕ) (call : MapCall ℕ) (reply : MapReply) (words : ℕ) (v u w : View) (walk : Option Walk) → u ≡ standing v walk None → AnswersAndPrunes m call reply words u w → AnswersAndPrunes m call reply words v w
+answers_on m call reply words v u w walk is (cut, a) = let b = subst (λ z. Answers m call reply words None (having_cut z cut) w) is a in (cut, record { item = b.item; seen = b.seen; is = b.is; called = b.called })
+
+-- a call that was answered on its way cut off no node
+pub answers_alone : (m : ℕ) (call : MapCall ℕ) (reply : MapReply) (words : ℕ) (v w : View) → Answers m call reply words None v w → AnswersAndPrunes m call reply words v w
+answers_alone m call reply words v w a = ([], record { item = a.item; seen = a.seen; is = a.is; called = a.called })
 
 -- a call inside the gate, between coming in and going out
-pub made_between : (k : Begin) (m : ℕ) (call : MapCall ℕ) (reply : MapReply) (words : ℕ) (first : Me (Unit {0}) View) (inside before after : View) → IsFree k first → inside ≡ holding first.0 (Inside m) None None → Answers m call reply words None inside before → after ≡ holding before Outside None None → MadeCall m call reply words first.0 after
-made_between k m call reply words first inside before after free came made went =
-    let a = subst (λ z. Answers m call reply words None z before) came made in
+pub made_between : (k : Begin) (m : ℕ) (call : MapCall ℕ) (reply : MapReply) (words : ℕ) (first : Me (Unit {0}) View) (inside before after : View) → IsFree k first → inside ≡ holding first.0 (Inside m) None None → AnswersAndPrunes m call reply words inside before → after ≡ holding before Outside None None → MakesAndPrunes m call reply words first.0 after
+made_between k m call reply words first inside before after free came (cut, made) went =
+    let a = subst (λ z. Answers m call reply words None (having_cut z cut) before) came made in
     let idle = free.idle in
-    let v = first.0 in record {
-      item = a.item;
-      seen = a.seen;
-      is = went ∙ ap (λ z. holding z Outside None None) a.is ∙ (λ i. record (called_view v (paid (cost_of call) words (with_item v.owns a.item)) a.seen) { walk = sym idle.walk i; leaf = sym idle.leaf i; gate = sym idle.gate i; lock = sym idle.lock i; upper = sym idle.upper i });
-      called = subst (λ z. Called (start_of v.begin) (calls.Map m call) (replies.Map reply) (cost_of call) (view_state v) (view_state z)) (sym went) a.called;
-    }
+    let v = having_cut first.0 cut in (
+      cut,
+      record {
+        item = a.item;
+        seen = a.seen;
+        is = went ∙ ap (λ z. holding z Outside None None) a.is ∙ (λ i. record (called_view v (paid (cost_of call) words (with_item v.owns a.item)) a.seen) { walk = sym idle.walk i; leaf = sym idle.leaf i; gate = sym idle.gate i; lock = sym idle.lock i; upper = sym idle.upper i });
+        called = subst (λ z. Called (start_of v.begin) (calls.Map m call) (replies.Map reply) (cost_of call) (view_state v) (view_state z)) (sym went) a.called;
+      },
+    )
 
 -- a seat that knows no entry stands where it stands
 pub stands_first : (me : Me (Unit {0}) View) → me.0.leaf ≡ None → me ≡ (standing me.0 me.0.walk None, me.1)

@@ -1,12 +1,13 @@
 -- What the steps that prune a node come to, one after the other.
-use Rattle.std.proofs.Common.{◌≡◌, ◌≢◌, ℕ, suc, ◌+◌, ◌-◌, ◌<◌, ◌==◌, true, false, eq-eqb, ne_eqb, List, length, set, Option, Some, None, slice_index, ◌⊎◌, inl, inr, refl, sym, ap, ◌∙◌, subst, arith, length-set, get_or-set_same, get_or-set_other}
+use Rattle.std.proofs.Common.{◌≡◌, ◌≢◌, ℕ, suc, ◌+◌, ◌-◌, ◌<◌, ◌==◌, true, false, eq-eqb, ne_eqb, List, [], ◌∷◌, ◌++◌, length, set, Option, Some, None, slice_index, ◌⊎◌, inl, inr, refl, sym, ap, ◌∙◌, subst, arith, length-set, get_or-set_same, get_or-set_other, append_assoc}
 use Rattle.std.proofs.lemmas.Bool.{cases_eq}
 use Rattle.std.proofs.lemmas.Option.{same_Some}
 use Rattle.atomic_table.specs.Table.{Me}
 use Rattle.table_rule.specs.declared.begin.Begin.{Begin}
+use Rattle.table_rule.specs.declared.view.DeadNode.{DeadNode}
 use Rattle.table_rule.specs.declared.view.Lock.{Lock}
 use Rattle.table_rule.specs.declared.view.View.{View}
-use Rattle.table_steps.specs.Pruning.{marked, upper_lock, SeesSlot, LooksAtSlot, ReadsParent, TriedUpper, HoldsBoth, Marks, CutsOff}
+use Rattle.table_steps.specs.Pruning.{dead_node, having_cut, marked, upper_lock, SeesSlot, LooksAtSlot, ReadsParent, TriedUpper, HoldsBoth, Marks, CutsOff}
 use Rattle.shared_table.specs.Pruning.{knowing, LooksAtSlots, HoldsAt, NowHolds, HoldsInUse, HoldsToStay}
 use Rattle.trie_nodes.specs.Paths.{nibble}
 use Rattle.trie_nodes.specs.Plans.{HasOnlyEmptySlots, HasAFullSlot}
@@ -124,7 +125,7 @@ module _ (k : Begin) (first : Me (Unit {0}) View) (key node level : ℕ) (holds 
   pub holds_lock : (z : Lock) × (z.node ≡ node) × (z.empty ≡ 0) × Holds k first z
   holds_lock = (holds.lock, holds.at.1, holds.fresh, holds.holds)
 
-  pub stays_there : (words : List ℕ) (me : Me (Unit {0}) View) → ((z : Lock) → first.0.lock ≡ Some z → LooksAtSlots z words first me) → NowHolds node first me
+  pub stays_there : (words : List ℕ) (me : Me (Unit {0}) View) → ((z : Lock) → first.0.lock ≡ Some z → LooksAtSlots z words first me) → NowHolds node [] first me
   stays_there words me looked = let t = looked l locked in record { slots = t.slots; lock = knowing l t.empty t.found; node_is = holds.at.1; living = holds.holds.living; is = t.is; words = holds.words }
 
   -- it stays since it isn't empty: its parent's place isn't 0
@@ -150,7 +151,7 @@ module _ (k : Begin) (first : Me (Unit {0}) View) (key node level : ℕ) (holds 
   Marked me = (up : ℕ) × (me ≡ With (marked (knowing holds.lock 16 holds.lock.found)) (Some (upper_lock holds.lock up)))
 
   abbrev pub Cut : Me (Unit {0}) View → Type 0
-  Cut me = (up : ℕ) × (me ≡ With (upper_lock holds.lock up) None)
+  Cut me = (up : ℕ) × (me ≡ (having_cut (holding first.0 first.0.gate (Some (upper_lock holds.lock up)) None) (dead_node holds.lock ∷ []), first.1))
 
   module _ (words : List ℕ) (me : Me (Unit {0}) View) (looked : (z : Lock) → first.0.lock ≡ Some z → LooksAtSlots z words first me) (empty : HasOnlyEmptySlots words) where
     pub is_looked : Looked me
@@ -220,11 +221,18 @@ module _ (k : Begin) (first : Me (Unit {0}) View) (key node level : ℕ) (holds 
     )
 
     pub is_cut : (me after : Me (Unit {0}) View) → Marked me → CutsOff me after → Cut after
-    is_cut me after (up, is) told = let t = subst (λ m. CutsOff m after) is told in let e = t.1 (upper_lock l up) refl in (up, λ i. (e i, t.0 i))
+    is_cut me after (up, is) told = let t = subst (λ m. CutsOff m after) is told in let e = t.1 (marked (knowing l 16 l.found)) (upper_lock l up) refl refl in (up, λ i. (e i, t.0 i))
 
-    pub comes_up : (me : Me (Unit {0}) View) (parent : ℕ) → Cut me → parent ≡ holds.lock.up → HasWords first.0 parent 18 → NowHolds parent first me × HoldsAt k me key parent (level - 1)
+    pub comes_up : (me : Me (Unit {0}) View) (parent : ℕ) → Cut me → parent ≡ holds.lock.up → HasWords first.0 parent 18 → NowHolds parent (record { node = node; up = parent } ∷ []) first me × HoldsAt k me key parent (level - 1)
     comes_up me parent (up, is) parent_is has = let h = holds.holds in (
-      record { slots = ap (λ (m : Me (Unit {0}) View). m.1) is; lock = upper_lock l up; node_is = sym parent_is; living = refl; is = ap (λ (m : Me (Unit {0}) View). m.0) is; words = has },
+      record {
+        slots = ap (λ (m : Me (Unit {0}) View). m.1) is;
+        lock = upper_lock l up;
+        node_is = sym parent_is;
+        living = refl;
+        is = ap (λ (m : Me (Unit {0}) View). m.0) is ∙ (λ i. having_cut (holding first.0 first.0.gate (Some (upper_lock l up)) None) (record { node = holds.at.1 i; up = sym parent_is i } ∷ []));
+        words = has;
+      },
       subst (λ m. HoldsAt k m key parent (level - 1)) (sym is) record {
         lock = upper_lock l up;
         at = (holds.at.0, sym parent_is, ap (λ n. n - 1) same_level);
@@ -235,17 +243,17 @@ module _ (k : Begin) (first : Me (Unit {0}) View) (key node level : ℕ) (holds 
     )
 
 -- a seat that goes on from where it came to
-pub comes_on : (node next : ℕ) (first me after : Me (Unit {0}) View) → NowHolds node first me → NowHolds next me after → NowHolds next first after
-comes_on node next first me after one two = record {
+pub comes_on : (node next : ℕ) (cut more : List DeadNode) (first me after : Me (Unit {0}) View) → NowHolds node cut first me → NowHolds next more me after → NowHolds next (more ++ cut) first after
+comes_on node next cut more first me after one two = record {
   slots = two.slots ∙ one.slots;
   lock = two.lock;
   node_is = two.node_is;
   living = two.living;
-  is = two.is ∙ ap (λ v. holding v v.gate (Some two.lock) None) one.is;
+  is = two.is ∙ ap (λ v. having_cut (holding v v.gate (Some two.lock) None) more) one.is ∙ (λ i. record (holding first.0 first.0.gate (Some two.lock) None) { pruned = sym (append_assoc more cut first.0.pruned) i });
   words = subst (λ v. HasWords v next 18) one.is two.words;
 }
 
-pub comes_first : (k : Begin) (first : Me (Unit {0}) View) (key node level : ℕ) → HoldsAt k first key node level → NowHolds node first first
+pub comes_first : (k : Begin) (first : Me (Unit {0}) View) (key node level : ℕ) → HoldsAt k first key node level → NowHolds node [] first first
 comes_first k first key node level holds = record {
   slots = refl;
   lock = holds.lock;

@@ -1,16 +1,18 @@
 -- A call that writes a map: what it does to its key, what its seat saw under a node's lock, where its way down ended, and what it leaves.
-use Rattle.std.specs.Prelude.{◌≡◌, ℕ, ◌<◌, ◌≤◌, true, false, length, Option, Some, None, IsSome, MatchBool}
+use Rattle.std.specs.Prelude.{◌≡◌, ℕ, ◌<◌, ◌≤◌, true, false, List, length, Option, Some, None, IsSome, MatchBool}
 use Rattle.atomic_table.specs.Table.{Me}
 use Rattle.sync_types.specs.declared.map_object.MapCall.{MapCall}
 use Rattle.sync_types.specs.declared.map_object.MapReply.{MapReply}
 use Rattle.table_rule.specs.declared.begin.Begin.{Begin}
+use Rattle.table_rule.specs.declared.view.DeadNode.{DeadNode}
 use Rattle.table_rule.specs.declared.view.Gate.TheVariants.{Inside}
 use Rattle.table_rule.specs.declared.view.Leaf.{Leaf}
 use Rattle.table_rule.specs.declared.view.Lock.{Lock}
 use Rattle.table_rule.specs.declared.view.View.{View}
 use Rattle.table_rule.specs.declared.view.Walk.{Walk}
 use Rattle.sync_types.specs.KeyCalls.{is_key_entry, key_reply, key_after}
-use Rattle.table_steps.specs.Making.{leaf_value, IsLockAt, Makes}
+use Rattle.table_steps.specs.Making.{leaf_value, IsLockAt, MadeCall, Makes}
+use Rattle.table_steps.specs.Pruning.{having_cut}
 use Rattle.table_steps.specs.Walking.{standing, walk_at, HasWords, Answers}
 use Rattle.table_writes.specs.Drafts.{IsPoised}
 use Rattle.shared_table.specs.declared.changes.Change.{Change}
@@ -81,7 +83,15 @@ abbrev pub IsReached : MapCall ℕ → ℕ → ℕ → Reached → View → View
 IsReached call m key (Answered reply) before after = Answers m call reply 0 None before after
 IsReached call m key (Stands node level) before after = (after ≡ standing before (Some (walk_at m key node level (length before.seen))) None) × HasWords before node 18 × (level < 8)
 
+-- a seat made its call inside of a gate, and has cut off these nodes, which it left empty
+abbrev pub AnswersAndPrunes : ℕ → MapCall ℕ → MapReply → ℕ → View → View → Type 0
+AnswersAndPrunes m call reply words before after = (cut : List DeadNode) × Answers m call reply words None (having_cut before cut) after
+
+-- the same of a call from between two calls on
+abbrev pub MakesAndPrunes : ℕ → MapCall ℕ → MapReply → ℕ → View → View → Type 0
+MakesAndPrunes m call reply words before after = (cut : List DeadNode) × MadeCall m call reply words (having_cut before cut) after
+
 -- a seat made its call, or stands somewhere and has made none
 abbrev pub MayHaveMade : ℕ → MapCall ℕ → Option Paid → View → View → Type 0
 MayHaveMade m call None before after = (walk : Option Walk) × (after ≡ standing before walk None)
-MayHaveMade m call (Some paid) before after = Answers m call paid.reply paid.words None before after
+MayHaveMade m call (Some paid) before after = AnswersAndPrunes m call paid.reply paid.words before after

@@ -1,13 +1,15 @@
 -- A seat that prunes: what it knows of a node whose slots it looked at, and where it comes to.
-use Rattle.std.specs.Prelude.{◌≡◌, ◌≢◌, ◌⊎◌, ℕ, ◌-◌, ◌<◌, true, false, List, Option, Some, None, IsSome, slice_index}
+use Rattle.std.specs.Prelude.{◌≡◌, ◌≢◌, ◌⊎◌, ℕ, ◌-◌, ◌<◌, true, false, List, [], ◌∷◌, Option, Some, None, IsSome, slice_index}
 use Rattle.atomic_table.specs.Table.{Me}
 use Rattle.table_rule.specs.declared.begin.Begin.{Begin}
+use Rattle.table_rule.specs.declared.view.DeadNode.{DeadNode}
 use Rattle.table_rule.specs.declared.view.Lock.{Lock}
 use Rattle.table_rule.specs.declared.view.View.{View}
 use Rattle.sync_types.specs.declared.map_object.MapCall.{MapCall}
 use Rattle.sync_types.specs.KeyCalls.{is_key_entry, key_after}
 use Rattle.trie_nodes.specs.Plans.{HasOnlyEmptySlots, HasAFullSlot}
 use Rattle.table_steps.specs.Making.{IsLockAt}
+use Rattle.table_steps.specs.Pruning.{having_cut}
 use Rattle.table_steps.specs.Walking.{HasWords}
 use Rattle.table_steps.specs.Writing.{holding, Holds}
 
@@ -50,16 +52,16 @@ pub record HoldsAt (k : Begin) (me : Me (Unit {0}) View) (key node level : ℕ) 
   pub holds : Holds k me lock
   pub words : HasWords me.0 node 18
 
--- a seat holds the lock of a node, and else has what it had
-pub record NowHolds (node : ℕ) (before after : Me (Unit {0}) View) : Type 0 where
+-- a seat holds the lock of a node, has cut off these nodes, and else has what it had
+pub record NowHolds (node : ℕ) (cut : List DeadNode) (before after : Me (Unit {0}) View) : Type 0 where
   pub slots : after.1 ≡ before.1
   pub lock : Lock
   pub node_is : lock.node ≡ node
   pub living : lock.dead ≡ false
-  pub is : after.0 ≡ holding before.0 before.0.gate (Some lock) None
+  pub is : after.0 ≡ having_cut (holding before.0 before.0.gate (Some lock) None) cut
   pub words : HasWords before.0 node 18
 
 -- a node was cut off, and the seat holds the lock of its parent; or it stays, and the seat holds its lock still
 abbrev pub PrunesAt : Begin → ℕ → ℕ → ℕ → Option ℕ → Me (Unit {0}) View → Me (Unit {0}) View → Type 0
-PrunesAt k key node level None before after = NowHolds node before after
-PrunesAt k key node level (Some parent) before after = NowHolds parent before after × HoldsAt k after key parent (level - 1)
+PrunesAt k key node level None before after = NowHolds node [] before after
+PrunesAt k key node level (Some parent) before after = NowHolds parent (record { node = node; up = parent } ∷ []) before after × HoldsAt k after key parent (level - 1)

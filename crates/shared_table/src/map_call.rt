@@ -11,13 +11,13 @@ ghost use Rattle.sync_model.specs.declared.item.SharedReply.TheVariants as repli
 ghost use Rattle.sync_model.specs.Note.{SameHome};
 ghost use Rattle.sync_model.specs.Shared.{Called, cost_of, state_of};
 ghost use Rattle.shared_table.specs.Notes.{front_by, own_by, seen_by, IsNoteOf};
-ghost use Rattle.table_steps.specs.Making.{HasUnit, leaf_value, MadeCall, Publishes, StandsLocked};
+ghost use Rattle.table_steps.specs.Making.{HasUnit, leaf_value, Publishes, StandsLocked};
 ghost use Rattle.table_seats.specs.Seats.{begin_of, IsSeatOf};
 ghost use Rattle.table_writes.specs.Drafts.{IsPoised};
-ghost use Rattle.shared_table.specs.MapCalls.{IsEnd, IsReached, IsSight, IsWriting, MadeLocked, MayHaveMade, StillLocked};
+ghost use Rattle.shared_table.specs.MapCalls.{AnswersAndPrunes, IsEnd, IsReached, IsSight, IsWriting, MadeLocked, MakesAndPrunes, MayHaveMade, StillLocked};
 ghost use Rattle.sync_types.specs.KeyCalls.{key_after};
 ghost use Rattle.shared_table.specs.Tables.{maps_of, first_of};
-ghost use Rattle.table_steps.specs.Walking.{standing, walk_at, given_by, HasWords, Affords, IsFree, OnWay, AtEntry, IsUncounted, Answers};
+ghost use Rattle.table_steps.specs.Walking.{standing, walk_at, given_by, HasWords, Affords, IsFree, OnWay, AtEntry, IsUncounted};
 
 use crate::changes::{Change, reply_of};
 use crate::note::SharedNote;
@@ -356,7 +356,7 @@ impl SharedTable {
         requires map { map < maps_of self.now }
         requires caller { caller ≡ seat.old.me.0.number }
         ensures table { seat.new.table_id ≡ seat.old.table_id }
-        ensures made { (seat.new.me.1 ≡ seat.old.me.1) × Answers map call result.reply result.words None seat.old.me.0 seat.new.me.0 }
+        ensures made { (seat.new.me.1 ≡ seat.old.me.1) × AnswersAndPrunes map call result.reply result.words seat.old.me.0 seat.new.me.0 }
     {
         let backoff = Backoff::new();
         for _ in rt.forever() {
@@ -393,7 +393,7 @@ impl SharedTable {
         requires map { map < maps_of self.now }
         requires caller { caller ≡ seat.old.me.0.number }
         ensures table { seat.new.table_id ≡ seat.old.table_id }
-        ensures made { (seat.new.me.1 ≡ seat.old.me.1) × MadeCall map call result.reply result.words seat.old.me.0 seat.new.me.0 }
+        ensures made { (seat.new.me.1 ≡ seat.old.me.1) × MakesAndPrunes map call result.reply result.words seat.old.me.0 seat.new.me.0 }
         ensures room { HasRoomWithin seat.new.me.0 }
     {
         self.come_in(rt, seat, map);

@@ -35,6 +35,7 @@ first_view k = record {
   upper = None;
   gate = Outside;
   spot = None;
+  pruned = [];
 }
 
 -- what contracts see of the first caller that a seat stands for
@@ -122,7 +123,7 @@ longest xs ys = cond (nat_le (length xs) (length ys)) ys xs
 
 -- a seat that took in another: it knows what both knew, and stands for the callers of both
 abbrev pub joined : View → View → View
-joined v w = record v { seen = longest v.seen w.seen; heard = v.seen ∷ w.seen ∷ (v.heard ++ w.heard); front = most v.front w.front; owns = v.owns ++ w.owns }
+joined v w = record v { seen = longest v.seen w.seen; heard = v.seen ∷ w.seen ∷ (v.heard ++ w.heard); front = most v.front w.front; owns = v.owns ++ w.owns; pruned = v.pruned ++ w.pruned }
 
 -- a seat that was taken in
 abbrev pub spent : View
@@ -140,6 +141,7 @@ spent = record {
   upper = None;
   gate = Outside;
   spot = None;
+  pruned = [];
 }
 
 -- a seat looked at the whole history: what it had seen and heard are beginnings of it, and it is lawful with all callers' calls

@@ -1,11 +1,13 @@
 //! What the rule is for, in the words of whoever uses a table. Each law is the contract of a function that does nothing. They speak of
 //! any state of a table in which the rule holds (`Kept`): so it is at every moment, whatever the seats do.
-ghost use Rattle.std.specs.Prelude.{◌≡◌, ◌≢◌, ◌⊎◌, ℕ, suc, ◌+◌, ◌^◌, ◌<◌, ◌≤◌, true, false, Bool, Some, None, length, slice_index};
+ghost use Rattle.std.specs.Prelude.{◌≡◌, ◌≢◌, ◌⊎◌, ℕ, suc, ◌+◌, ◌^◌, ◌<◌, ◌≤◌, true, false, Bool, Contains, Some, None, length, slice_index};
 ghost use Rattle.sync_model.specs.SharedHistory.{value_at, contents_at, contents_after};
-ghost use Rattle.trie_nodes.specs.Layout.{slot_word, dead_word};
-ghost use Rattle.trie_nodes.specs.Nodes.{stands_for};
-ghost use Rattle.trie_nodes.specs.Paths.{route};
+ghost use Rattle.trie_nodes.specs.declared.slot.Slot.TheVariants.{Node};
+ghost use Rattle.trie_nodes.specs.Layout.{parent_word, slot_word, dead_word};
+ghost use Rattle.trie_nodes.specs.Nodes.{slot_at, stands_for};
+ghost use Rattle.trie_nodes.specs.Paths.{nibble, route};
 ghost use Rattle.table_rule.specs.declared.begin.Begin.{Begin};
+ghost use Rattle.table_rule.specs.declared.view.DeadNode.{DeadNode};
 ghost use Rattle.table_rule.specs.declared.view.Gate.TheVariants.{Inside, Closed};
 ghost use Rattle.table_rule.specs.declared.view.Leaf.{Leaf};
 ghost use Rattle.table_rule.specs.declared.view.View.{View};
@@ -41,6 +43,30 @@ pub fn a_dead_node_is_empty()
         → slice_index s.words (slot_word p slot) ≡ 0 }
     ensures nothing { (k : Begin) (s : TableState) (r : Kept k s) (p level key : ℕ) → r.shape.kind_of p ≡ 1 → slice_index s.words p ≡ dead_word
         → stands_for s.words k.seed level p key ≡ None }
+{
+    an_empty_node_stands_for_nothing();
+}
+
+/// A node that a seat has cut off never changes again, whatever the seats do: its lock word is that of a dead node, it names the parent
+/// that it had, and its slots are empty. So its 18 words are the same at any two moments (`same`), and it stands for nothing. It is
+/// cut off for ever: no root word names it, and no slot of a reachable node leads to it. That a seat forgets no node that it has cut
+/// off is a law of `table_steps`.
+pub fn a_node_that_was_cut_off_never_changes()
+    ensures lock { (k : Begin) (s : TableState) (r : Kept k s) (j : ℕ) (v : View) (d : DeadNode) → IsSeat s j v → Contains v.pruned d → slice_index s.words d.node ≡ dead_word }
+    ensures parent { (k : Begin) (s : TableState) (r : Kept k s) (j : ℕ) (v : View) (d : DeadNode) → IsSeat s j v → Contains v.pruned d → slice_index s.words (parent_word d.node) ≡ d.up }
+    ensures slots { (k : Begin) (s : TableState) (r : Kept k s) (j slot : ℕ) (v : View) (d : DeadNode) → IsSeat s j v → Contains v.pruned d → slot < 16
+        → slice_index s.words (slot_word d.node slot) ≡ 0 }
+    ensures same { (k : Begin) (s t : TableState) → Kept k s → Kept k t → (i j n : ℕ) (u v : View) (d : DeadNode) → IsSeat s i u → IsSeat t j v → Contains u.pruned d → Contains v.pruned d
+        → n < 18 → slice_index s.words (d.node + n) ≡ slice_index t.words (d.node + n) }
+    ensures nothing { (k : Begin) (s : TableState) (r : Kept k s) (j level key : ℕ) (v : View) (d : DeadNode) → IsSeat s j v → Contains v.pruned d
+        → stands_for s.words k.seed level d.node key ≡ None }
+    ensures cut_off { (k : Begin) (s : TableState) (r : Kept k s) (j : ℕ) (v : View) (d : DeadNode) → IsSeat s j v → Contains v.pruned d
+        → (moment : ℕ) × (r.shape.cut_of d.node ≡ Some moment) × (moment ≤ length r.log) }
+    ensures no_root { (k : Begin) (s : TableState) (r : Kept k s) (j m : ℕ) (v : View) (d : DeadNode) → IsSeat s j v → Contains v.pruned d → m < k.maps
+        → slice_index s.words (root_word k m) ≢ d.node }
+    ensures no_slot { (k : Begin) (s : TableState) (r : Kept k s) (j p level key : ℕ) (v : View) (d : DeadNode) → IsSeat s j v → Contains v.pruned d
+        → r.shape.kind_of p ≡ 1 → r.shape.cut_of p ≡ None → level < 8 → key < 2 ^ 32 → r.shape.path_of p ≡ route k.seed level key
+        → slot_at s.words p (nibble key k.seed level) ≢ Node d.node }
 {
     an_empty_node_stands_for_nothing();
 }

@@ -50,6 +50,13 @@ pub struct Lock {
     pub dead: bool,
 }
 
+/// A node that was cut off.
+pub struct DeadNode {
+    pub node: u64,
+    /// The place of its parent.
+    pub up: u64,
+}
+
 /// Where the cursor of a seat stands.
 pub struct Spot {
     /// The number of the call that began it.
@@ -96,4 +103,6 @@ pub struct View {
     pub upper: Option<Lock>,
     pub gate: Gate,
     pub spot: Option<Spot>,
+    /// The nodes that it has cut off, and that seats have which were taken in.
+    pub pruned: LinkedList<DeadNode>,
 }

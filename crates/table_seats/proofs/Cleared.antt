@@ -32,7 +32,7 @@ use Rattle.table_rule.specs.Rule.{TableState, Kept}
 use Rattle.table_rule.specs.Shape.{Shape, start_of}
 use Rattle.table_rule.specs.Views.{called_view, with_item, spend, spend_own, view_state}
 use Rattle.table_seats.proofs.Closing.{at_gate, not_inside}
-use Rattle.table_seats.proofs.Frames.{Later, Apart, room_on}
+use Rattle.table_seats.proofs.Frames.{Later, Apart, cut_on, room_on}
 use Rattle.table_seats.proofs.Ledgers.{longer, MayPlace, with_one, adds_one, lawful_after, history_on, grows_on, none_after, fits_after, called, first, contents_on}
 use Rattle.table_seats.proofs.Lists.{past_end}
 use Rattle.table_seats.proofs.Moves.{Keeps, moves}
@@ -164,6 +164,7 @@ module _ (k : Begin) (laws : HistoryLaws) (s : TableState) (r : Kept k s) (id : 
     steady = λ w e inside. absurd (none-some w (sym has.walk ∙ e));
     leaf = λ z e. absurd (none-some z (sym has.leaf ∙ e));
     spot = λ z e. absurd (none-some z (sym has.spot ∙ e));
+    pruned = λ d cut. cut_on k r.shape shape r.log (history_with r.log me.0.number item) s.words words later d (u.pruned d cut);
     room = rooms_after;
     gate = subst (AtGate k shape me.0.number) (sym has.gate) (gate.0, gate.1, gate.2);
     only = only_after;

@@ -111,7 +111,7 @@ module _ (k : Begin) (sh : Shape) (log : List SharedEntry) (ws : List ℕ) (p d 
   slot_now i none_there = elim (cases_eq i (slot_word p (nibble key k.seed d))) [ inl e ↦ ap (slice_index now) e ∙ here | inr ne ↦ same i ne ∙ none_there ]
 
   -- the shape
-  cut_here : (with_cut sh child (length log)).cut_of child ≡ Some (length log)
+  pub cut_here : (with_cut sh child (length log)).cut_of child ≡ Some (length log)
   cut_here = ap (λ b. cond b (Some (length log)) (sh.cut_of child)) (eq-eqb child child refl)
 
   -- a node that is reachable is another one, and was reachable

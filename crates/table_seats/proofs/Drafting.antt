@@ -21,7 +21,7 @@ use Rattle.table_rule.specs.Owed.{HasRoom, Locks, AtGate, Suits, HoldsLock}
 use Rattle.table_rule.specs.Rule.{TableState, Kept}
 use Rattle.table_rule.specs.Shape.{Shape}
 use Rattle.table_steps.specs.Writing.{with_word, Drafts}
-use Rattle.table_seats.proofs.Frames.{Later, walks_on, leaf_on, stands_on}
+use Rattle.table_seats.proofs.Frames.{Later, walks_on, leaf_on, cut_on, stands_on}
 use Rattle.table_seats.proofs.Outside.{with_inside, same, in_node, later_out, apart_out, fine_out}
 use Rattle.table_seats.proofs.Lists.{past_end}
 use Rattle.table_seats.proofs.Still.{still}
@@ -155,6 +155,7 @@ module _ (k : Begin) (laws : HistoryLaws) (s : TableState) (r : Kept k s) (id : 
     steady = λ w e gate. elim (u.steady w e gate) [ inl living ↦ inl living | inr d ↦ inr (later.dead w.node (u.walk w e).node d) ];
     leaf = λ l e. leaf_on k r.shape (with_inside r.shape r.shape.inside) r.log r.log s.words (set s.words (own.next + length own.draft) x) later l (u.leaf l e);
     spot = λ z e. stands_on k r.shape (with_inside r.shape r.shape.inside) r.log r.log s.words (set s.words (own.next + length own.draft) x) later laws r.calls r.calls (λ c. ([], sym (append-nil (r.calls c)))) z (u.spot z e);
+    pruned = λ d cut. cut_on k r.shape (with_inside r.shape r.shape.inside) r.log r.log s.words (set s.words (own.next + length own.draft) x) later d (u.pruned d cut);
     room = room_on;
     gate = same_gate v.gate u.gate;
     only = only_on;

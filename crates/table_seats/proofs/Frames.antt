@@ -10,6 +10,7 @@ use Rattle.table_rule.specs.declared.begin.Begin.{Begin}
 use Rattle.table_rule.specs.declared.view.Own.{Own}
 use Rattle.table_rule.specs.declared.view.Walk.{Walk}
 use Rattle.table_rule.specs.declared.view.Leaf.{Leaf}
+use Rattle.table_rule.specs.declared.view.DeadNode.{DeadNode}
 use Rattle.table_rule.specs.declared.view.Lock.{Lock}
 use Rattle.table_rule.specs.declared.view.Spot.{Spot}
 use Rattle.table_rule.specs.declared.view.Gate.{Gate}
@@ -19,7 +20,7 @@ use Rattle.table_seats.specs.Laws.{HistoryLaws}
 use Rattle.trie_nodes.specs.Layout.{parent_word, slot_word, dead_word}
 use Rattle.table_rule.specs.Layout.{heads}
 use Rattle.table_rule.specs.Ledger.{Fits}
-use Rattle.table_rule.specs.Owed.{Walks, IsLeaf, Locks, HasRoom, Stands, AtGate, Suits}
+use Rattle.table_rule.specs.Owed.{Walks, IsLeaf, IsCutOff, Locks, HasRoom, Stands, AtGate, Suits}
 use Rattle.table_rule.specs.Shape.{Shape, start_of, held_at, till, time}
 
 -- The history and the shape go on: nodes and entries stay what they are, a node that was cut off stays so, and one that is cut off now is cut off no earlier than now.
@@ -83,6 +84,16 @@ module _ (k : Begin) (sh new : Shape) (log log' : List SharedEntry) (ws ws' : Li
 
   pub leaf_on : (l : Leaf) → IsLeaf sh ws l → IsLeaf new ws' l
   leaf_on l r = record { entry = later.entry l.place r.entry; key = later.key l.place r.entry ∙ r.key; value = later.value l.place r.entry ∙ r.value }
+
+  -- a node that was cut off stays dead, and keeps its parent's place
+  pub cut_on : (d : DeadNode) → IsCutOff sh ws d → IsCutOff new ws' d
+  cut_on d r = record {
+    node = later.node d.node r.node;
+    moment = r.moment;
+    cut = later.cut d.node r.moment r.node r.cut;
+    word = later.dead d.node r.node r.word;
+    parent = later.parent d.node r.node ∙ r.parent;
+  }
 
   module _ (laws : HistoryLaws) (calls calls' : ℕ → List Item) (grows : Grows calls calls') where
     -- what was so at a moment is so
@@ -149,6 +160,7 @@ module _ (k : Begin) (sh new : Shape) (log log' : List SharedEntry) (ws ws' : Li
         steady = λ w is inside. stays w inside (r.walk w is) (r.steady w is inside);
         leaf = λ l is. leaf_on l (r.leaf l is);
         spot = λ s is. stands_on s (r.spot s is);
+        pruned = λ d has. cut_on d (r.pruned d has);
         room = λ i own at. room_on (v.number + i) (away i own at) own (r.room i own at);
         gate = gate_on v.number v.gate standing r.gate;
         only = λ m i own at inside. r.only m i own at (sym (apart.inside (v.number + i) m (away i own at)) ∙ inside);

@@ -1,5 +1,5 @@
 -- A table's own seats may make the steps that prune a node.
-use Rattle.std.proofs.Common.{◌≡◌, ℕ, suc, ◌+◌, ◌<◌, ◌==◌, true, false, Some, None, sym, ◌∙◌, subst, arith}
+use Rattle.std.proofs.Common.{◌≡◌, ℕ, suc, ◌+◌, ◌<◌, ◌==◌, true, false, [], ◌∷◌, Some, None, sym, ◌∙◌, subst, arith}
 use Rattle.std.proofs.lemmas.Option.{same_Some}
 use prog.Atomic.{either}
 use Rattle.atomic_table.specs.Table.{Me, Allows}
@@ -11,7 +11,7 @@ use Rattle.table_seats.specs.Laws.{HistoryLaws}
 use Rattle.trie_nodes.specs.Layout.{parent_word, slot_word, dead_word}
 use Rattle.trie_nodes.specs.Paths.{nibble}
 use Rattle.table_steps.specs.Making.{bare}
-use Rattle.table_steps.specs.Pruning.{marked, SeesSlot, LooksAtSlot, ReadsParent, TriedUpper, TriesUpper, HoldsBoth, Marks, CutsOff}
+use Rattle.table_steps.specs.Pruning.{dead_node, having_cut, marked, SeesSlot, LooksAtSlot, ReadsParent, TriedUpper, TriesUpper, HoldsBoth, Marks, CutsOff}
 use Rattle.table_rule.specs.Rule.{Kept}
 use Rattle.table_seats.specs.TrieLaws.{TrieLaws}
 use Rattle.table_steps.specs.Walking.{HasWords}
@@ -74,6 +74,6 @@ module _ (table : TableWords) (id : ℕ) (me : Me (Unit {0}) View) (word : ℕ) 
       let low = nibble_below u.key table.table.shared.key.seed u.level in
       subst (λ y. May table id me word (λ n. y) (λ found. CutsOff me)) (sym empty)
       (may table id me word (slot_word u.node (nibble u.key table.table.shared.key.seed u.level)) (λ n. 0) (λ found. CutsOff me) (omega arith) (omega arith)
-      (allows_then (Kept key) 0 id me (slot_word u.node (nibble u.key table.table.shared.key.seed u.level)) (λ n. 0) (λ found after. (after.1 ≡ me.1) × (after.0 ≡ holding me.0 me.0.gate (Some (bare u)) None)) (λ found. CutsOff me)
-      (λ n after told. (told.0, λ z e. subst (λ (y : Lock). after.0 ≡ holding me.0 me.0.gate (Some (bare y)) None) (same_Some u z (sym both.upper ∙ e)) told.1))
+      (allows_then (Kept key) 0 id me (slot_word u.node (nibble u.key table.table.shared.key.seed u.level)) (λ n. 0) (λ found after. (after.1 ≡ me.1) × (after.0 ≡ having_cut (holding me.0 me.0.gate (Some (bare u)) None) (dead_node l ∷ []))) (λ found. CutsOff me)
+      (λ n after told. (told.0, λ y z e f. told.1 ∙ (λ i. having_cut (holding me.0 me.0.gate (Some (bare (same_Some u z (sym both.upper ∙ f) i))) None) (dead_node (same_Some l y (sym both.lock ∙ e) i) ∷ []))))
       (cuts_off key laws tries id me l u both)))

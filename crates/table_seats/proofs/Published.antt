@@ -34,7 +34,7 @@ use Rattle.table_rule.specs.Shape.{Shape, start_of, Fine}
 use Rattle.table_seats.specs.TrieLaws.{TrieLaws}
 use Rattle.table_steps.specs.Units.{with_unit}
 use Rattle.table_rule.specs.Views.{called_view, spend_own, view_state}
-use Rattle.table_seats.proofs.Frames.{Later, Apart, room_on, stands_on}
+use Rattle.table_seats.proofs.Frames.{Later, Apart, cut_on, room_on, stands_on}
 use Rattle.table_seats.proofs.KeyCalls.{IsOn, ChangesKey, changes_key}
 use Rattle.table_seats.proofs.Ledgers.{longer, MayPlace, with_one, adds_one, lawful_after, history_on, grows_on, none_after, fits_after, called, first}
 use Rattle.table_seats.proofs.Lists.{past_end}
@@ -242,6 +242,7 @@ module _ (k : Begin) (laws : HistoryLaws) (tries : TrieLaws) (s : TableState) (r
         steady = λ w e gate. absurd (none-some w e);
         leaf = λ z e. absurd (none-some z e);
         spot = λ z e. stands_on k r.shape shape r.log (history_with r.log v.number item) s.words words later laws r.calls (with_one r.calls v.number item) grows z (u.spot z e);
+        pruned = λ d cut. cut_on k r.shape shape r.log (history_with r.log v.number item) s.words words later d (u.pruned d cut);
         room = rooms_after;
         gate = same_gate v.gate u.gate;
         only = only_after;

@@ -67,6 +67,7 @@ module _ (k : Begin) (s : TableState) (r : Kept k s) (id : ℕ) (v : View) (at_m
     steady = steady;
     leaf = leaves;
     spot = u.spot;
+    pruned = u.pruned;
     room = u.room;
     gate = u.gate;
     only = u.only;

@@ -1,7 +1,8 @@
 -- A seat that cuts off an empty node: it has looked at all slots under the node's lock, takes the lock of the node's parent too, marks the node dead, and empties the parent's slot.
-use Rattle.std.specs.Prelude.{◌≡◌, ℕ, suc, ◌-◌, ◌<◌, ◌==◌, Bool, true, false, length, Some, None, MatchBool}
+use Rattle.std.specs.Prelude.{◌≡◌, ℕ, suc, ◌-◌, ◌<◌, ◌==◌, Bool, true, false, List, [], ◌∷◌, ◌++◌, length, Some, None, MatchBool}
 use Rattle.atomic_table.specs.Table.{Me}
 use Rattle.table_rule.specs.declared.begin.Begin.{Begin}
+use Rattle.table_rule.specs.declared.view.DeadNode.{DeadNode}
 use Rattle.table_rule.specs.declared.view.Lock.{Lock}
 use Rattle.table_rule.specs.declared.view.View.{View}
 use Rattle.table_steps.specs.Making.{bare, found_lock}
@@ -58,6 +59,15 @@ pub record HoldsBoth (k : Begin) (me : Me (Unit {0}) View) (l u : Lock) (dead : 
 abbrev pub Marks : Me (Unit {0}) View → Me (Unit {0}) View → Type 0
 Marks before after = (after.1 ≡ before.1) × ((l : Lock) → before.0.lock ≡ Some l → after.0 ≡ holding before.0 before.0.gate (Some (marked l)) before.0.upper)
 
--- a seat emptied the parent's slot: it holds the parent's lock alone
+-- the dead node of a lock
+abbrev pub dead_node : Lock → DeadNode
+dead_node l = record { node = l.node; up = l.up }
+
+-- the view of a seat that has cut off these nodes too
+abbrev pub having_cut : View → List DeadNode → View
+having_cut v nodes = record v { pruned = nodes ++ v.pruned }
+
+-- a seat emptied the parent's slot: it holds the parent's lock alone, and has cut off the node
 abbrev pub CutsOff : Me (Unit {0}) View → Me (Unit {0}) View → Type 0
-CutsOff before after = (after.1 ≡ before.1) × ((u : Lock) → before.0.upper ≡ Some u → after.0 ≡ holding before.0 before.0.gate (Some (bare u)) None)
+CutsOff before after =
+    (after.1 ≡ before.1) × ((l u : Lock) → before.0.lock ≡ Some l → before.0.upper ≡ Some u → after.0 ≡ having_cut (holding before.0 before.0.gate (Some (bare u)) None) (dead_node l ∷ []))

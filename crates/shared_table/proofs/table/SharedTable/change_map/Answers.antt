@@ -8,5 +8,5 @@ make-made-requires-clause-unit g c = has_unit c.args.note.now _ c.requires.note.
 pub overflow_add-note : goal.overflow_add-note
 overflow_add-note g c =
     let small = next_small c.args.self.now c.args.note.now c.args.map c.args.call c.make-made.result.reply c.make-made.result.words c.make-made.new.seat.me.0 c.requires.note.0 c.requires.call.1
-    (has_unit c.args.note.now _ c.requires.note.1 c.requires.note.0.unwritten c.requires.call.1 c.requires.spare) c.make-made.ensures.made.1 c.make-made.ensures.room in
+    (has_unit c.args.note.now _ c.requires.note.1 c.requires.note.0.unwritten c.requires.call.1 c.requires.spare) c.make-made.ensures.made.1.0 c.make-made.ensures.made.1.1 c.make-made.ensures.room in
     search rules
