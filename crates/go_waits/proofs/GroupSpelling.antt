@@ -1,11 +1,9 @@
 -- The calls of a wait group's protocol, in the words of this crate.
-use Rattle.std.proofs.Common.{◌≡◌, ◌≢◌, inl, inr, ℕ, ℤ, false, List, [], ◌∷◌, ◌++◌, replicate, suc, Ok, Err, refl, sym, subst}
+use Rattle.std.proofs.Common.{◌≡◌, ◌≢◌, inl, inr, ℕ, ℤ, false, [], ◌∷◌, ◌++◌, replicate, suc, Ok, Err, refl, sym, subst}
 use Rattle.sync_model.specs.declared.answer.Answer.TheVariants.{Done, Halted}
-use Rattle.sync_model.specs.declared.journal.Deed.{Deed}
 use Rattle.sync_model.specs.declared.journal.Deed.TheVariants.{Event, Refused, Halt}
 use Rattle.wait_cores.specs.declared.group.GroupEvent.{GroupEvent}
 use Rattle.wait_cores.specs.declared.group.GroupEvent.TheVariants.{Add, Wait, Leave}
-use Rattle.wait_cores.specs.declared.group.GroupReply.{GroupReply}
 use Rattle.wait_cores.specs.declared.group.GroupReply.TheVariants as reply
 use Rattle.protocols.specs.declared.wait_group.GroupStage.TheVariants as stage
 use Rattle.protocols.specs.GroupStages.{group_event, group_meaning, group_gains}

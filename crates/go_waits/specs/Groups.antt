@@ -1,5 +1,5 @@
 -- What contracts see of a running WaitGroup and of the passes to it.
-use Rattle.std.specs.Prelude.{◌≡◌, ℕ, ℤ, pos, Bool, true, false, List, All, replicate}
+use Rattle.std.specs.Prelude.{◌≡◌, ℕ, ℤ, pos, true, false, List, All, replicate}
 use Rattle.sync_model.specs.declared.journal.Entry.{Entry}
 use Rattle.wait_cores.specs.declared.group.GroupEvent.{GroupEvent}
 use Rattle.wait_cores.specs.declared.group.GroupPlace.TheVariants.{Out}

@@ -1,5 +1,5 @@
 -- What a lock's calls have done when they return.
-use Rattle.std.proofs.Common.{◌≡◌, ℕ, Bool, true, false, List, [], Ok, Err, Result, refl, sym, ap, ◌∙◌, subst}
+use Rattle.std.proofs.Common.{◌≡◌, ℕ, Bool, true, List, [], Ok, Result, refl, sym, ap, subst}
 use Rattle.sync_types.specs.declared.call.Reply.{Reply}
 use Rattle.sync_types.specs.declared.call.Reply.TheVariants as replies
 use Rattle.sync_types.specs.declared.lock_call.LockReply.{LockReply}
@@ -23,7 +23,7 @@ use Rattle.run_record.specs.declared.entered.ObjectReply.TheVariants as reply
 use Rattle.run_record.specs.declared.made.Made.{Made}
 use Rattle.run_record.specs.MutexKind.{mutex_part, mutex_stage, mutex_call}
 use Rattle.run_record.specs.Returns.{IsOnce, EndsTaking, MutexReturns}
-use Rattle.run_record.proofs.Returning.{IsReadOff, read_off, one_event, last_event}
+use Rattle.run_record.proofs.Returning.{read_off, one_event, last_event}
 
 -- what a mutex's protocol keeps: a call takes in what was left by its last event, where it gains, and gives what it may
 pub record MutexLaws : Type 0 where

@@ -1,5 +1,5 @@
 -- What the calls of a once, and of functions that run once, have done when they return.
-use Rattle.std.proofs.Common.{◌≡◌, ◌⊎◌, inl, inr, ℕ, ℤ, Bool, true, false, List, [], ◌∷◌, ◌++◌, map, Result, Ok, Err, refl, sym, ap, ◌∙◌, subst, append-nil}
+use Rattle.std.proofs.Common.{◌≡◌, ◌⊎◌, inl, inr, ℕ, ℤ, true, List, [], ◌∷◌, ◌++◌, map, Result, Ok, refl, sym, ap, ◌∙◌, subst, append-nil}
 use Rattle.sync_types.specs.declared.atomic_object.AtomicCall.TheVariants.{Add}
 use Rattle.sync_types.specs.declared.atomic_object.AtomicReply.TheVariants.{Held}
 use Rattle.sync_types.specs.declared.atomic_object.Number.TheVariants.{Int64}
@@ -28,12 +28,12 @@ use Rattle.run_record.specs.declared.entered.ObjectEvent.TheVariants as event
 use Rattle.run_record.specs.declared.entered.ObjectReply.{ObjectReply}
 use Rattle.run_record.specs.declared.entered.ObjectReply.TheVariants as reply
 use Rattle.run_record.specs.declared.made.Made.{Made}
-use Rattle.run_record.specs.declared.made.Made.TheVariants.{Shared, Entered}
+use Rattle.run_record.specs.declared.made.Made.TheVariants.{Entered}
 use Rattle.run_record.specs.AtomicKind.{adds}
 use Rattle.run_record.specs.OnceKind.{goes_on_once, once_part, do_call, func_call, value_call, failure}
-use Rattle.run_record.specs.Parts.{Part, read_as, and_then, returns, lifted_deed, lifted, stages}
+use Rattle.run_record.specs.Parts.{Part, read_as, returns, lifted_deed, lifted, stages}
 use Rattle.run_record.specs.Returns.{IsOnce, Ran, WasTold, OnceReturns, OnceFuncReturns, OnceValueReturns}
-use Rattle.run_record.proofs.Returning.{IsReadOff, read_off, Goes, goes_on, Opens, opens, one_event}
+use Rattle.run_record.proofs.Returning.{read_off, goes_on, opens, one_event}
 use Rattle.run_record.proofs.TwoCalls.{one_place}
 
 -- what a once's protocol keeps: a call gives what it may

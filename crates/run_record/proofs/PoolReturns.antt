@@ -1,5 +1,5 @@
 -- What the calls of a pool have done when they return.
-use Rattle.std.proofs.Common.{◌≡◌, ◌≢◌, ◌⊎◌, inl, inr, ℕ, zero, suc, ◌+◌, ◌*◌, ◌%◌, ◌<◌, ◌≤◌, Bool, true, false, List, [], ◌∷◌, ◌++◌, length, map, Option, Some, None, slice_get, Ok, Err, refl, sym, ap, ◌∙◌, subst, arith, append-nil}
+use Rattle.std.proofs.Common.{◌≡◌, ◌≢◌, ◌⊎◌, inl, inr, ℕ, zero, suc, ◌+◌, ◌*◌, ◌%◌, ◌<◌, ◌≤◌, Bool, true, false, List, [], ◌∷◌, ◌++◌, length, Option, Some, None, slice_get, Ok, refl, sym, ap, ◌∙◌, subst, arith, append-nil}
 use Rattle.std.specs.Prelude.{nat_lt, if◌then◌else◌}
 use Rattle.std.specs.List.{range_with_len}
 use Rattle.std.specs.Option.{option_map}
@@ -29,11 +29,10 @@ use Rattle.run_record.specs.declared.entered.ObjectEvent.TheVariants as event
 use Rattle.run_record.specs.declared.entered.ObjectReply.TheVariants as reply
 use Rattle.run_record.specs.declared.made.Made.{Made}
 use Rattle.run_record.specs.declared.made.Made.TheVariants.{Entered}
-use Rattle.run_record.specs.Parts.{and_then, read_as, returns}
 use Rattle.run_record.specs.PoolKind.{pool_part, stage_of, found_or, part_of, found_by, looks_of, swept_by, pool_call}
 use Rattle.run_record.specs.Record.{ObjectEntry}
-use Rattle.run_record.specs.Returns.{IsOnce, Has, FoundNothing, TookLast, SweptAll, PoolReturns}
-use Rattle.run_record.proofs.Returning.{IsReadOff, read_off, Goes, goes_on, one_event}
+use Rattle.run_record.specs.Returns.{IsOnce, Has, PoolReturns}
+use Rattle.run_record.proofs.Returning.{read_off, goes_on, one_event}
 
 -- what a part answers where its event comes to this
 abbrev Says : PoolOutcome → PoolReply ℕ → Type 0

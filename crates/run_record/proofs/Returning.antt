@@ -1,5 +1,5 @@
 -- What the items of a call are when it returns, for calls on one object of whatever kind.
-use Rattle.std.proofs.Common.{◌≡◌, ℕ, Bool, true, false, List, [], ◌∷◌, ◌++◌, map, Option, Some, slice_get, Result, Ok, Err, refl, sym, ap, ◌∙◌, subst}
+use Rattle.std.proofs.Common.{◌≡◌, ℕ, Bool, true, List, [], ◌∷◌, ◌++◌, map, Some, slice_get, Result, Ok, Err, refl, sym, ap, ◌∙◌, subst}
 use Rattle.sync_types.specs.declared.call.Call.{Call}
 use Rattle.sync_types.specs.declared.call.Operation.{Operation}
 use Rattle.sync_types.specs.declared.call.Reply.{Reply}

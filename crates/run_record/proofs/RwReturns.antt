@@ -1,5 +1,5 @@
 -- What a reader/writer mutex's calls have done when they return.
-use Rattle.std.proofs.Common.{◌≡◌, ℕ, Bool, true, false, List, [], Ok, Err, Result, refl, sym, ap, ◌∙◌, subst}
+use Rattle.std.proofs.Common.{◌≡◌, ℕ, Bool, true, List, [], Ok, Result, refl, sym, ap, subst}
 use Rattle.sync_types.specs.declared.call.Reply.{Reply}
 use Rattle.sync_types.specs.declared.call.Reply.TheVariants as replies
 use Rattle.sync_types.specs.declared.lock_call.LockReply.{LockReply}
@@ -24,7 +24,7 @@ use Rattle.run_record.specs.declared.made.Made.{Made}
 use Rattle.run_record.specs.Parts.{stages}
 use Rattle.run_record.specs.RwMutexKind.{rw_mutex_stage, rw_mutex_call}
 use Rattle.run_record.specs.Returns.{IsOnce, EndsTaking, RwMutexReturns}
-use Rattle.run_record.proofs.Returning.{IsReadOff, read_off, one_event, first_event, last_event}
+use Rattle.run_record.proofs.Returning.{read_off, one_event, first_event, last_event}
 
 -- what a reader/writer mutex's protocol keeps
 pub record RwLaws : Type 0 where

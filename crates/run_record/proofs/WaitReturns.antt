@@ -1,9 +1,8 @@
 -- What the calls of conds and wait groups have done when they return.
-use Rattle.std.proofs.Common.{◌≡◌, ℕ, negsuc, Bool, true, false, List, [], ◌++◌, Ok, Err, refl, sym, ap, ◌∙◌, subst}
+use Rattle.std.proofs.Common.{◌≡◌, ℕ, List, [], ◌++◌, Ok, refl, sym, ap, ◌∙◌, subst}
 use Rattle.sync_types.specs.declared.call.Reply.{Reply}
 use Rattle.sync_types.specs.declared.call.Reply.TheVariants as replies
 use Rattle.sync_types.specs.declared.lock_call.LockReply.{LockReply}
-use Rattle.sync_types.specs.declared.misuse.Misuse.{Misuse}
 use Rattle.sync_types.specs.declared.wait_call.CondCall.{CondCall}
 use Rattle.sync_types.specs.declared.wait_call.CondCall.TheVariants as cond_calls
 use Rattle.sync_types.specs.declared.wait_call.WaitGroupCall.{WaitGroupCall}
@@ -33,10 +32,10 @@ use Rattle.run_record.specs.declared.made.Made.{Made}
 use Rattle.run_record.specs.CondKind.{cond_part, wait_part, cond_call}
 use Rattle.run_record.specs.MutexKind.{mutex_part}
 use Rattle.run_record.specs.Parts.{and_then, read_as, stages}
-use Rattle.run_record.specs.Returns.{IsOnce, EndsTaking, WaitReturns, CondReturns, WaitGroupReturns}
+use Rattle.run_record.specs.Returns.{IsOnce, CondReturns, WaitGroupReturns}
 use Rattle.run_record.specs.WaitGroupKind.{wait_group_stage, wait_group_call}
 use Rattle.run_record.proofs.LockReturns.{MutexLaws, mutex_unlocks, mutex_locks}
-use Rattle.run_record.proofs.Returning.{IsReadOff, read_off, Goes, goes_on, one_event, first_event, last_event}
+use Rattle.run_record.proofs.Returning.{read_off, goes_on, one_event, first_event, last_event}
 
 abbrev pub CondGains : Type 0
 CondGains = (stage : CondStage) (deeds : List (Deed NotifyEvent NotifyReply)) (outcome : Unit {0}) → Spells cond_event cond_meaning stage deeds (Done (Ok outcome)) → TakesInLast notify_acquires (cond_gains stage outcome) deeds

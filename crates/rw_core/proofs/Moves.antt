@@ -1,7 +1,7 @@
 -- An event moves callers as the table says.
-use Rattle.std.proofs.Common.{◌≡◌, ◌≢◌, ℕ, ◌+◌, ◌-◌, ◌<◌, ◌⊎◌, inl, inr, Bool, true, false, ◌||◌, List, [], ◌∷◌, ◌++◌, length, refl, ap, sym, subst, ◌∙◌, arith}
+use Rattle.std.proofs.Common.{◌≡◌, ◌≢◌, ℕ, ◌-◌, ◌<◌, ◌⊎◌, inl, inr, Bool, true, false, ◌||◌, List, [], ◌∷◌, ◌++◌, length, refl, ap, sym, subst, ◌∙◌, arith}
 use Rattle.std.specs.Prelude.{nat_lt, ◌==◌, not, cond, if◌then◌else◌}
-use Rattle.std.proofs.lemmas.Bool.{false≢true, eqb-true, eq-eqb}
+use Rattle.std.proofs.lemmas.Bool.{eqb-true, eq-eqb}
 use Rattle.std.proofs.lemmas.List.Folds.{list_any-append}
 use borrow.Author.Tests.{ltb-true}
 use Rattle.sync_types.specs.declared.misuse.Misuse.TheVariants.{RUnlockOfUnlockedRwMutex, UnlockOfUnlockedRwMutex}
@@ -13,8 +13,6 @@ use Rattle.mutex_core.specs.declared.place.Place.{Place as MutexPlace}
 use Rattle.mutex_core.specs.declared.place.Place.TheVariants as mutex_place
 use Rattle.mutex_core.specs.declared.reply.MutexReply.{MutexReply}
 use Rattle.mutex_core.specs.declared.reply.MutexReply.TheVariants as mutex_reply
-use Rattle.mutex_core.specs.declared.reply.Arrival.TheVariants as mutex_arrival
-use Rattle.mutex_core.specs.declared.reply.Resumption.TheVariants as mutex_resumption
 use Rattle.mutex_core.specs.declared.reply.Unlocking.TheVariants as mutex_unlocking
 use Rattle.rw_core.specs.declared.event.RwEvent.{RwEvent}
 use Rattle.rw_core.specs.declared.event.RwEvent.TheVariants as event
@@ -28,9 +26,9 @@ use Rattle.rw_core.specs.declared.reply.Unlocking.TheVariants as unlocking
 use Rattle.rw_core.specs.declared.writer.Writer.{Writer}
 use Rattle.rw_core.specs.declared.writer.Writer.TheVariants as writer
 use Rattle.rw_core.specs.Moves.{MovesOther, MovesOwn}
-use Rattle.rw_core.specs.RwMachine.{State, is_among, without, is_announced, is_holding, waits_as, place_at, one_more, place_of, still, read_arrived, read_tried, last_read, read_unlocked, write_arrived, write_resumed, write_tried, write_unlocked, at_place, next, places_of, IsValid}
+use Rattle.rw_core.specs.RwMachine.{State, is_among, without, is_announced, is_holding, waits_as, place_at, one_more, place_of, still, read_arrived, read_tried, last_read, read_unlocked, write_arrived, write_resumed, write_tried, write_unlocked, at_place, next, IsValid}
 use Rattle.rw_core.proofs.Callers.{times_in-present, once-same}
-use Rattle.rw_core.proofs.Inner.{Keeps, Joins, Parts, IsInFlight, arrive-cases, try-cases, woken-cases}
+use Rattle.rw_core.proofs.Inner.{IsInFlight, arrive-cases, try-cases, woken-cases}
 use Rattle.rw_core.proofs.Places.{IsInner, out-inner, woken-inner, handed-inner, mutex-out, mutex-woken, mutex-handed}
 use Rattle.rw_core.proofs.Standing.{no, unlocked-waits, holding-waits, none-absent, not_once, nowhere-out, at_place-shifts, ShiftsBy}
 use Rattle.rw_core.proofs.Validity.{out-nowhere}

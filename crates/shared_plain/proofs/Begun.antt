@@ -21,7 +21,7 @@ use Rattle.shared_plain.specs.CursorsStand.{Stands}
 use Rattle.shared_plain.specs.Marks.{holding, own_by, KeepsOwn}
 use Rattle.shared_plain.specs.PlainHistory.{Step, items_by}
 use Rattle.shared_plain.specs.Plains.{maps_of}
-use Rattle.shared_plain.specs.Staying.{spot_one_more, stays}
+use Rattle.shared_plain.specs.Staying.{spot_one_more}
 use Rattle.shared_plain.specs.Walks.{spot_behind, spot_next, spot_of, StandsAt}
 use Rattle.shared_plain.proofs.FirstCallers.{within, at_last}
 use Rattle.shared_plain.proofs.Orders.{unmade}

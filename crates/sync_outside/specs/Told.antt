@@ -1,5 +1,5 @@
 -- What a thread did with its job once it was told whether to do it.
-use Rattle.std.specs.Prelude.{◌≡◌, ℕ, Bool, true, false, List, [], ◌∷◌, ◌++◌}
+use Rattle.std.specs.Prelude.{◌≡◌, Bool, true, false, List, [], ◌∷◌, ◌++◌}
 use Rattle.sync_outside.specs.declared.starting.Fate.{Fate}
 use Rattle.sync_outside.specs.declared.starting.Fate.TheVariants.{Done, Kept}
 

@@ -1,4 +1,4 @@
-use Rattle.std.proofs.Common.{◌≡◌, true, false, refl}
+use Rattle.std.proofs.Common.{◌≡◌, true, refl}
 use Rattle.std.proofs.lemmas.Bool.{false≢true}
 use Rattle.rw_core.specs.declared.event.RwEvent.TheVariants.{Leave}
 use Rattle.rw_core.specs.declared.reply.RwReply.{RwReply}

@@ -1,4 +1,4 @@
-use Rattle.std.proofs.Common.{rules, ◌≡◌, List, ◌∷◌, [], ◌++◌, All, Some, sym, subst}
+use Rattle.std.proofs.Common.{rules, ◌≡◌, List, All, Some, sym, subst}
 use Rattle.std.proofs.lemmas.List.Elements.{All-pop, All-push}
 use Rattle.sync_outside.proofs.Threads.{start_one}
 use Rattle.sync_outside.proofs.starting.begin_each.Goals as goal

@@ -1,4 +1,4 @@
-use Rattle.std.proofs.Common.{◌≡◌, ◌++◌, take, ◌-◌, length}
+use Rattle.std.proofs.Common.{◌≡◌, take, ◌-◌, length}
 use Rattle.sync_types.specs.declared.atomic_object.AtomicReply.{AtomicReply}
 use Rattle.sync_types.specs.declared.map_object.MapReply.{MapReply}
 use Rattle.sync_model.specs.declared.item.SharedReply.TheVariants as replies

@@ -1,4 +1,4 @@
-use Rattle.std.proofs.Common.{◌≡◌, sym, ◌∙◌, rules}
+use Rattle.std.proofs.Common.{sym, ◌∙◌, rules}
 use Rattle.wait_cores.proofs.GroupLemmas.{same_after_leaving, left_to}
 use Rattle.wait_cores.proofs.group.GroupCore.leave.Goals as goal
 use Rattle.wait_cores.proofs.group.GroupCore.leave.Goals.{then-reused, else-reused}

@@ -1,4 +1,4 @@
-use Rattle.std.proofs.Common.{◌≡◌, List, replicate, sym, ap, ◌∙◌, rules}
+use Rattle.std.proofs.Common.{◌≡◌, replicate, sym, ap, ◌∙◌, rules}
 use Rattle.std.specs.List.{list_any}
 use Rattle.wait_cores.specs.declared.group.GroupPlace.TheVariants.{Out}
 use Rattle.wait_cores.specs.GroupMachine.{is_waiting}
