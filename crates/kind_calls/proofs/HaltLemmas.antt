@@ -12,6 +12,7 @@ use Rattle.sync_model.specs.Shared.{items_of}
 use Rattle.sync_types.specs.declared.misuse.Misuse.{Misuse}
 use Rattle.workload.specs.declared.object.ObjectKind.{ObjectKind}
 use Rattle.workload.specs.declared.object.ObjectKind.TheVariants as kinds
+use Rattle.workload.specs.declared.object.ObjectWord.TheVariants as words
 use Rattle.workload.specs.declared.object.ObjectLine.{ObjectLine}
 use Rattle.workload.specs.Plan.{Plan}
 use Rattle.run_record.specs.declared.made.Made.{Made}
@@ -24,7 +25,7 @@ use Rattle.thread_objects.specs.declared.object.AnyObject.{AnyObject}
 use Rattle.thread_objects.specs.declared.object.AnyObject.TheVariants as objects
 use Rattle.thread_objects.specs.AsDeclared.{IsDeclared}
 use Rattle.thread_objects.specs.Halting.{Halts, AreHalted}
-use Rattle.thread_objects.specs.Kinds.{IsStop, IsPoolPart}
+use Rattle.thread_objects.specs.Kinds.{HasWord, IsStop}
 use Rattle.kind_calls.specs.Halting.{halted_one, halted_at, halted_from, halted_with_stop, entered_on, halting, HaltsAll}
 use Rattle.kind_calls.proofs.Working.{Stays, Joins, Counts, rests}
 
@@ -110,34 +111,18 @@ line_at (x ∷ lines) (suc place) below = line_at lines place (omega arith)
 module _ {N H : Type 0} where
   -- Stop, and a part of a pool, can be halted
   pub halts_stop : (number : ℕ) (object : AnyObject N H) → IsStop object → halted_one number object ≡ number ∷ []
-  halts_stop number (objects.Stop o) is = refl
-  halts_stop number object is = absurd is
+  halts_stop number objects.Shared is = absurd is
+  halts_stop number object is = refl
 
-  pub halts_part : (number : ℕ) (object : AnyObject N H) → IsPoolPart object → halted_one number object ≡ number ∷ []
-  halts_part number (objects.PoolPart o) is = refl
-  halts_part number object is = absurd is
+  pub halts_part : (number : ℕ) (object : AnyObject N H) → HasWord words.Pool object → halted_one number object ≡ number ∷ []
+  halts_part number objects.Shared is = absurd is
+  halts_part number object is = refl
 
   -- of an object that is no pool itself is halted, if it can be
   pub halts_declared : (at : H → N → Type 0) (home : H) (plan : Plan) (place : ℕ) (kind : ObjectKind) (object : AnyObject N H) → (kind ≡ kinds.Pool → ⊥) → IsDeclared at home plan place kind object → halted_one (object_number place) object ≡ halted_at plan place kind
-  halts_declared at home plan place kinds.Map objects.Shared apart is = refl
-  halts_declared at home plan place kinds.Map object apart is = absurd is
-  halts_declared at home plan place (kinds.Atomic type) objects.Shared apart is = refl
-  halts_declared at home plan place (kinds.Atomic type) object apart is = absurd is
-  halts_declared at home plan place kinds.Mutex (objects.Mutex o) apart is = refl
-  halts_declared at home plan place kinds.Mutex object apart is = absurd is
-  halts_declared at home plan place kinds.RwMutex (objects.RwMutex o) apart is = refl
-  halts_declared at home plan place kinds.RwMutex object apart is = absurd is
-  halts_declared at home plan place (kinds.Cond mutex) (objects.Cond o) apart is = refl
-  halts_declared at home plan place (kinds.Cond mutex) object apart is = absurd is
-  halts_declared at home plan place (kinds.WaitGroup start) (objects.WaitGroup o) apart is = refl
-  halts_declared at home plan place (kinds.WaitGroup start) object apart is = absurd is
-  halts_declared at home plan place (kinds.Once atomic delta) (objects.Once o) apart is = refl
-  halts_declared at home plan place (kinds.Once atomic delta) object apart is = absurd is
-  halts_declared at home plan place (kinds.OnceFunc code) (objects.OnceFunc o) apart is = refl
-  halts_declared at home plan place (kinds.OnceFunc code) object apart is = absurd is
-  halts_declared at home plan place (kinds.OnceValue value) (objects.OnceValue o) apart is = refl
-  halts_declared at home plan place (kinds.OnceValue value) object apart is = absurd is
   halts_declared at home plan place kinds.Pool object apart is = absurd (apart refl)
+  halts_declared at home plan place kind objects.Shared apart is = search
+  halts_declared at home plan place kind object apart is = search
 
 module _ {K : Type 0} (owner : K → Option Holding) (front : K → List ℕ) (note : K) (counted : IsCounted (owner note) (front note)) (number : ℕ) (misuse : Misuse) (old new : List ObjectEntry) where
   abbrev at : List ObjectEntry → Desk

@@ -11,7 +11,8 @@ use Rattle.thread_objects.specs.declared.object.AnyObject.{AnyObject}
 use Rattle.thread_objects.specs.declared.pass.AnyPass.{AnyPass}
 use Rattle.thread_objects.specs.declared.pass.AnyPass.TheVariants as passes
 use Rattle.thread_objects.specs.Desks.{AreSeats}
-use Rattle.thread_objects.specs.Passes.{IsSeatAt, own_of, owns_of}
+use Rattle.thread_objects.specs.ByKind.{own_of}
+use Rattle.thread_objects.specs.Passes.{IsSeatAt, owns_of}
 use Rattle.shared_calls.specs.Working.{Works, desk_at, desk_with}
 use Rattle.kind_calls.proofs.Working.{among}
 

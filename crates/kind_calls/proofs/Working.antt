@@ -23,7 +23,7 @@ use Rattle.run_record.specs.declared.made.Made.TheVariants.{Entered}
 use Rattle.run_record.specs.Parts.{Part, lifted, stages, read_as, with_outcome, and_then, GoesOn}
 use Rattle.run_record.specs.Record.{ObjectEntry, shared_in, entries_in}
 use Rattle.shared_calls.specs.Working.{Desk, Rises, CountsOwn, Moves, Works, alone, number_in, desk_with, desk_at}
-use Rattle.thread_objects.specs.Passes.{own_as}
+use Rattle.thread_objects.specs.EachKind.{own_as}
 use Rattle.kind_calls.specs.Replies.{gone_on}
 
 -- what `shared_calls::laws` says of what a worker makes: nothing, some items and then others, and how many calls its note counts

@@ -2,11 +2,12 @@
 ghost use Rattle.std.specs.Prelude.{ℕ, ◌≡◌, true, false};
 ghost use Rattle.mutex_core.specs.MutexMachine.{State};
 ghost use Rattle.protocols.specs.MutexStages.{mutex_allows};
+ghost use Rattle.workload.specs.declared.object.ObjectWord.TheVariants as words;
 ghost use Rattle.ruled_object.specs.Growth.{KeepsNote};
 ghost use Rattle.run_record.specs.CondKind.{cond_part};
 ghost use Rattle.run_record.specs.MutexKind.{mutex_part};
 ghost use Rattle.thread_objects.specs.Desks.{AreSeats, IsObjectAt};
-ghost use Rattle.thread_objects.specs.Kinds.{IsMutex, IsCond};
+ghost use Rattle.thread_objects.specs.Kinds.{HasWord};
 ghost use Rattle.thread_objects.specs.Passes.{owns_of};
 ghost use Rattle.shared_calls.specs.Working.{Works, desk_with};
 
@@ -29,7 +30,7 @@ pub(crate) fn mutex_at<N: Note, C: Clock, R: Wait>(
     number: usize,
     stage: MutexStage,
 ) -> Answer<Result<LockReply, Misuse>>
-    requires kind { IsObjectAt IsMutex objects.now number }
+    requires kind { IsObjectAt (HasWord words.Mutex) objects.now number }
     requires seats { AreSeats N.at worker.now.at.home.now worker.now.workers worker.now.number objects.now passes.old }
     requires note { N.at worker.now.at.home.now note.old }
     requires allowed { (start : State) → mutex_allows start false stage ≡ true }
@@ -52,7 +53,7 @@ pub(crate) fn cond_at<N: Note, C: Clock, R: Wait>(
     number: usize,
     stage: CondStage,
 ) -> Answer<Result<(), Misuse>>
-    requires kind { IsObjectAt IsCond objects.now number }
+    requires kind { IsObjectAt (HasWord words.Cond) objects.now number }
     requires seats { AreSeats N.at worker.now.at.home.now worker.now.workers worker.now.number objects.now passes.old }
     requires note { N.at worker.now.at.home.now note.old }
     ensures seats { AreSeats N.at worker.now.at.home.now worker.now.workers worker.now.number objects.now passes.new }

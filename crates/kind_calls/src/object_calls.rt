@@ -1,5 +1,6 @@
 //! Calls on one object that isn't shared, by its kind.
 ghost use Rattle.std.specs.Prelude.{◌≡◌, ℕ, ◌+◌, ◌<◌, true, length};
+ghost use Rattle.workload.specs.declared.object.ObjectWord.TheVariants as words;
 ghost use Rattle.ruled_object.specs.Growth.{KeepsNote};
 ghost use Rattle.workload.specs.Plan.{Plan, has_call};
 ghost use Rattle.run_record.specs.Calls.{call_on};
@@ -7,8 +8,9 @@ ghost use Rattle.run_record.specs.CondKind.{wait_part};
 ghost use Rattle.run_record.specs.Record.{object_number};
 ghost use Rattle.kind_calls.specs.Alone.{IsAlone};
 ghost use Rattle.thread_objects.specs.Desks.{AreSeats, IsObjectAt};
-ghost use Rattle.thread_objects.specs.Kinds.{IsCond, IsMutex, IsOfKind};
-ghost use Rattle.thread_objects.specs.Passes.{IsSeatAt, own_of, owns_of};
+ghost use Rattle.thread_objects.specs.Kinds.{HasWord, IsOfKind};
+ghost use Rattle.thread_objects.specs.ByKind.{own_of};
+ghost use Rattle.thread_objects.specs.Passes.{IsSeatAt, owns_of};
 ghost use Rattle.shared_calls.specs.Working.{Works, desk_at, desk_with};
 
 use crate::kinds::cond::notify;
@@ -110,8 +112,8 @@ pub fn wait_at<N: Note, C: Clock, R: Wait>(
     place: usize,
     mutex: usize,
 ) -> CallAnswer
-    requires cond { IsObjectAt IsCond objects.now (object_number place) }
-    requires mutex { IsObjectAt IsMutex objects.now (object_number mutex) }
+    requires cond { IsObjectAt (HasWord words.Cond) objects.now (object_number place) }
+    requires mutex { IsObjectAt (HasWord words.Mutex) objects.now (object_number mutex) }
     requires room { (place + 1 < length objects.now) × (mutex + 1 < length objects.now) }
     requires seats { AreSeats N.at worker.now.at.home.now worker.now.workers worker.now.number objects.now passes.old }
     requires note { N.at worker.now.at.home.now note.old }

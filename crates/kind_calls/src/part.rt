@@ -8,7 +8,7 @@ ghost use Rattle.run_record.specs.declared.entered.ObjectReply.{ObjectReply};
 ghost use Rattle.run_record.specs.Parts.{stages};
 ghost use Rattle.thread_objects.specs.Seats.{IsSeat};
 ghost use Rattle.shared_calls.specs.Working.{Works, desk_at};
-ghost use Rattle.thread_objects.specs.Passes.{own_as};
+ghost use Rattle.thread_objects.specs.EachKind.{own_as};
 
 use object_word::Worded;
 use protocols::Protocol;

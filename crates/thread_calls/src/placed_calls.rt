@@ -10,6 +10,7 @@ ghost use Rattle.sync_model.specs.Shared.{cost_of, IsCallerAt, items_of};
 ghost use Rattle.sync_types.specs.declared.atomic_object.AtomicKind.{AtomicKind};
 ghost use Rattle.sync_types.specs.declared.atomic_object.AtomicKind.TheVariants as types;
 ghost use Rattle.workload.specs.declared.object.ObjectKind.TheVariants as kinds;
+ghost use Rattle.workload.specs.declared.object.ObjectWord.TheVariants as words;
 ghost use Rattle.workload.specs.Draft.{all_keys, is_map_call};
 ghost use Rattle.workload.specs.Keys.{keys_in};
 ghost use Rattle.run_record.specs.AtomicKind.{atomic_call};
@@ -20,7 +21,7 @@ ghost use Rattle.run_record.specs.OnceKind.{do_call};
 ghost use Rattle.run_record.specs.Record.{ObjectEntry, object_number};
 ghost use Rattle.thread_objects.specs.Desks.{AreSeats, IsObjectAt};
 ghost use Rattle.shared_calls.specs.GivenUp.{MakesOnly, ShowedTooMany, AnsweredAmiss};
-ghost use Rattle.thread_objects.specs.Kinds.{IsOnce};
+ghost use Rattle.thread_objects.specs.Kinds.{HasWord};
 ghost use Rattle.thread_objects.specs.Passes.{owns_of};
 ghost use Rattle.thread_objects.specs.AsDeclared.{IsAt};
 ghost use Rattle.thread_calls.specs.Sites.{IsSite};
@@ -123,7 +124,7 @@ pub(crate) fn once_at<S: Shared, C: Clock, R: Wait>(
 ) -> Option<CallAnswer>
     requires site { IsSite S.Mark.at worker.now.at.home.now site.now.workload.now (S.maps site.now.shared.now) (S.kinds site.now.shared.now) (S.takes site.now.shared.now) site.now.objects.now site.now.numbers.now }
     requires homes { S.home_of site.now.shared.now ≡ worker.now.at.home.now }
-    requires once { IsObjectAt IsOnce site.now.objects.now (object_number place) }
+    requires once { IsObjectAt (HasWord words.Once) site.now.objects.now (object_number place) }
     requires room { place + 1 < length site.now.objects.now }
     requires atomic { IsAt site.now.workload.now atomic (kinds.Atomic types.Int64) }
     requires caller { IsCallerAt S.Mark.at S.Mark.own worker.now.at.home.now caller.old }

@@ -6,22 +6,22 @@ use Rattle.sync_model.specs.declared.journal.Deed.{Deed}
 use Rattle.sync_model.specs.declared.journal.Deed.TheVariants.{Event, Refused, Halt}
 use Rattle.sync_model.specs.declared.journal.Entry.{Entry}
 use Rattle.sync_types.specs.declared.misuse.Misuse.{Misuse}
-use Rattle.sync_model.specs.Journal.{by, halt_next, halt_after, halt_of, Follows}
+use Rattle.sync_model.specs.Journal.{by, halt_next, halt_after, halt_of}
 use Rattle.ruled_object.specs.declared.object.Object.{Object}
 use Rattle.ruled_object.specs.declared.pass.Pass.{Pass}
 use Rattle.ruled_object.specs.Gathered.{IsWhole, SameOwn}
-use Rattle.ruled_object.specs.Passes.{number_of, own_by}
+use Rattle.ruled_object.specs.Passes.{number_of, own_by, start_of}
 use Rattle.running.specs.Between.{IsBetween, AreAllBetween}
 use Rattle.run_record.specs.declared.entered.ObjectEvent.{ObjectEvent}
 use Rattle.run_record.specs.declared.entered.ObjectReply.{ObjectReply}
-use Rattle.run_record.specs.Journals.{FollowsFrom}
 use Rattle.run_record.specs.Parts.{lifted, lifted_deed}
 use Rattle.run_record.specs.Record.{ObjectEntry}
 use Rattle.thread_objects.specs.declared.pass.AnyPass.{AnyPass}
 use Rattle.thread_objects.specs.declared.pass.AnyPass.TheVariants as passes
-use Rattle.thread_objects.specs.Columns.{AreSeated, AreUntouched, AreParts}
-use Rattle.thread_objects.specs.EachKind.{Kind}
-use Rattle.thread_objects.specs.Passes.{own_of, owns_of, own_as, own_in}
+use Rattle.thread_objects.specs.Columns.{AreSeated, AreUntouched, AreParts, IsHistoryIn, JournalOf}
+use Rattle.thread_objects.specs.EachKind.{Kind, own_as, own_in}
+use Rattle.thread_objects.specs.ByKind.{own_of}
+use Rattle.thread_objects.specs.Passes.{owns_of}
 use Rattle.thread_objects.specs.Seats.{IsSeat}
 use Rattle.thread_objects.proofs.ColumnLists.{in_front, added_at, fewer_by_one, got, got_none}
 
@@ -68,9 +68,26 @@ module _ {S N E R : Type 0} (next : S → ℕ → E → S × R) (halts : Bool) (
     by_case (inl (x, within, some, is)) = (x, some, after.owns i pass here ∙ sym (before.owns i x some))
     by_case (inr (past, none)) = absurd (omega (arith, past, sized, slice_get_within new i pass here))
 
+-- a journal that is such a one, with this first halt, in which each worker's entries are those of its pass
+pub record IsTold {N : Type 0} (is : List ObjectEntry → Type 0) (first : Option Misuse) (all : List (AnyPass N)) : Type 0 where
+  pub journal : List ObjectEntry
+  pub of : is journal
+  pub halted : first ≡ halt_of journal
+  pub parts : AreParts journal all
+
+module _ {S N E R : Type 0} (pass_as : Pass S N E R → AnyPass N) (ps : List (Pass S N E R)) (worker : ℕ) where
+  as_got : (pass : Pass S N E R) → slice_get ps worker ≡ Some pass → get_or (map pass_as ps) worker passes.None ≡ pass_as pass
+  as_got pass here = got (map pass_as ps) worker (pass_as pass) passes.None (slice_get-map pass_as ps worker ∙ ap (λ (o : Option (Pass S N E R)). option_map pass_as o) here)
+
+  as_none : slice_get ps worker ≡ None → get_or (map pass_as ps) worker passes.None ≡ passes.None
+  as_none none = got_none (map pass_as ps) worker passes.None (slice_get-map pass_as ps worker ∙ ap (λ (o : Option (Pass S N E R)). option_map pass_as o) none)
+
 module _ {E R : Type 0} (event : E → ObjectEvent) (reply : R → ObjectReply) where
   abbrev lift : List (Entry E R) → List ObjectEntry
   lift own = map (lifted event reply) own
+
+  pub none_lifted : (own : List (Entry E R)) → own ≡ [] → lift own ≡ []
+  none_lifted own none = ap (λ (xs : List (Entry E R)). lift xs) none
 
   halt_next_lifted : (h : Option Misuse) (d : Deed E R) → halt_next h (lifted_deed event reply d) ≡ halt_next h d
   halt_next_lifted (Some m) d = refl
@@ -92,10 +109,10 @@ module _ {E R : Type 0} (event : E → ObjectEvent) (reply : R → ObjectReply) 
   module _ {S N : Type 0} (pass_as : Pass S N E R → AnyPass N) (same : (pass : Pass S N E R) → own_of (pass_as pass) ≡ own_as event reply pass) (ps : List (Pass S N E R)) where
     -- what the worker of a pass made, and of nobody's
     pub owns_at : (worker : ℕ) (pass : Pass S N E R) → slice_get ps worker ≡ Some pass → owns_of (map pass_as ps) worker ≡ lift (own_by pass)
-    owns_at worker pass here = ap (λ (p : AnyPass N). own_of p) (got (map pass_as ps) worker (pass_as pass) passes.None (slice_get-map pass_as ps worker ∙ ap (λ (o : Option (Pass S N E R)). option_map pass_as o) here)) ∙ same pass
+    owns_at worker pass here = ap (λ (p : AnyPass N). own_of p) (as_got pass_as ps worker pass here) ∙ same pass
 
     pub owns_past : (worker : ℕ) → slice_get ps worker ≡ None → owns_of (map pass_as ps) worker ≡ []
-    owns_past worker none = ap (λ (p : AnyPass N). own_of p) (got_none (map pass_as ps) worker passes.None (slice_get-map pass_as ps worker ∙ ap (λ (o : Option (Pass S N E R)). option_map pass_as o) none))
+    owns_past worker none = ap (λ (p : AnyPass N). own_of p) (as_none pass_as ps worker none)
 
     parts_of : (next : S → ℕ → E → S × R) (halts : Bool) (frees takes : E → R → Bool) (start : S) (journal : List (Entry E R)) → IsWhole next halts frees takes start journal ps → AreParts (lift journal) (map pass_as ps)
     parts_of next halts frees takes start journal whole worker = by_case (slice_get_cases ps worker).1 where
@@ -103,19 +120,22 @@ module _ {E R : Type 0} (event : E → ObjectEvent) (reply : R → ObjectReply) 
       by_case (inl (x, within, some, is)) = owns_at worker x some ∙ ap (λ (own : List (Entry E R)). lift own) (whole.owns worker x some) ∙ sym (by_lifted worker journal)
       by_case (inr (past, none)) = owns_past worker none ∙ sym (by_lifted worker journal ∙ ap (λ (own : List (Entry E R)). lift own) (whole.callers worker past))
 
-    -- the journal of all that the passes' workers did
-    pub told_as : (next : S → ℕ → E → S × R) (halts : Bool) (frees takes : E → R → Bool) (start : S) (journal : List (Entry E R)) (result : Option Misuse) → halts ≡ true → result ≡ halt_of journal → IsWhole next halts frees takes start journal ps
-        → (told : List ObjectEntry) × FollowsFrom event reply next frees takes start told × (result ≡ halt_of told) × AreParts told (map pass_as ps)
-    told_as next halts frees takes start journal result does is whole = (
-      lift journal,
-      (journal, refl, subst (λ (b : Bool). Follows next b start None journal) does whole.follows, whole.edges),
-      is ∙ sym (halt_lifted None journal),
-      parts_of next halts frees takes start journal whole,
-    )
+-- the journal of all that the passes' workers did
+pub told_of : {M S N E R H W : Type 0} (is : List ObjectEntry → Type 0) (first : Option Misuse) (pass_as : Pass S N E R → AnyPass N) (ps : List (Pass S N E R)) (kind : Kind S E R W) (object : Object M N S E R H)
+    → IsHistoryIn kind object first ps
+    → ((pass : Pass S N E R) → own_of (pass_as pass) ≡ own_in kind pass)
+    → ((journal : List ObjectEntry) → JournalOf kind object journal → is journal)
+    → IsTold is first (map pass_as ps)
+told_of is first pass_as ps kind object history same such = let h = history.of in record {
+  journal = lift kind.event kind.reply h.journal;
+  of = such (lift kind.event kind.reply h.journal) (h.journal, refl, h.whole.follows, h.whole.edges);
+  halted = h.halted ∙ sym (halt_lifted kind.event kind.reply None h.journal);
+  parts = parts_of kind.event kind.reply pass_as same ps kind.next true kind.frees kind.takes (start_of object) h.journal h.whole;
+}
 
-module _ {S N E R W : Type 0} (kind : Kind S E R W) (pass_as : Pass S N E R → AnyPass N) (same : (pass : Pass S N E R) → own_of (pass_as pass) ≡ own_in kind pass) (ps : List (Pass S N E R)) where
-  pub none_made : AreUntouched ps → (worker : ℕ) → owns_of (map pass_as ps) worker ≡ []
-  none_made untouched worker = by_case (slice_get_cases ps worker).1 where
-    by_case : ((x : Pass S N E R) × (worker < length ps) × (slice_get ps worker ≡ Some x) × (get_or ps worker x ≡ x)) ⊎ ((length ps ≤ worker) × (slice_get ps worker ≡ None)) → owns_of (map pass_as ps) worker ≡ []
-    by_case (inl (x, within, some, is)) = owns_at kind.event kind.reply pass_as same ps worker x some ∙ ap (λ (own : List (Entry E R)). lift kind.event kind.reply own) (untouched worker x some)
-    by_case (inr (past, none)) = owns_past kind.event kind.reply pass_as same ps worker none
+-- where nobody made an entry of this kind, nobody made one
+pub none_made : {S N E R : Type 0} (pass_as : Pass S N E R → AnyPass N) (ps : List (Pass S N E R)) → AreUntouched ps → ((pass : Pass S N E R) → own_by pass ≡ [] → own_of (pass_as pass) ≡ []) → (worker : ℕ) → owns_of (map pass_as ps) worker ≡ []
+none_made {S} {N} {E} {R} pass_as ps untouched none worker = by_case (slice_get_cases ps worker).1 where
+  by_case : ((x : Pass S N E R) × (worker < length ps) × (slice_get ps worker ≡ Some x) × (get_or ps worker x ≡ x)) ⊎ ((length ps ≤ worker) × (slice_get ps worker ≡ None)) → owns_of (map pass_as ps) worker ≡ []
+  by_case (inl (x, within, some, is)) = ap (λ (p : AnyPass N). own_of p) (as_got pass_as ps worker x some) ∙ none x (untouched worker x some)
+  by_case (inr (past, none)) = ap (λ (p : AnyPass N). own_of p) (as_none pass_as ps worker none)

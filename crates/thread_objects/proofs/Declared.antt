@@ -1,8 +1,9 @@
 -- Objects that are as the workload declares them.
-use Rattle.std.proofs.Common.{ℕ, ◌+◌, ◌<◌, List, length, subst, arith}
+use Rattle.std.proofs.Common.{ℕ, ◌+◌, ◌<◌, List, length, refl, subst, arith}
 use Rattle.std.proofs.lemmas.Option.{slice_get_within}
 use Rattle.workload.specs.declared.object.ObjectKind.{ObjectKind}
 use Rattle.workload.specs.declared.object.ObjectKind.TheVariants as kinds
+use Rattle.workload.specs.declared.object.ObjectWord.TheVariants as words
 use Rattle.workload.specs.Plan.{Plan}
 use Rattle.run_record.specs.Objects.{first_part, object_count}
 use Rattle.run_record.specs.Record.{stop, object_number}
@@ -10,22 +11,14 @@ use Rattle.thread_objects.specs.declared.object.AnyObject.{AnyObject}
 use Rattle.thread_objects.specs.declared.object.AnyObject.TheVariants as those
 use Rattle.thread_objects.specs.AsDeclared.{AreDeclared, IsAt, IsDeclared, IsPartOf, IsStopOf}
 use Rattle.thread_objects.specs.Desks.{IsObjectAt}
-use Rattle.thread_objects.specs.Kinds.{IsStop, IsPoolPart, IsOfKind}
+use Rattle.thread_objects.specs.Kinds.{HasWord, IsStop, IsOfKind}
 use Rattle.thread_objects.proofs.ColumnLists.{there_is}
 
 module _ {N H : Type 0} (at : H → N → Type 0) (home : H) (plan : Plan) where
   of_kind : (place : ℕ) (kind : ObjectKind) (object : AnyObject N H) → IsDeclared at home plan place kind object → IsOfKind kind object
   of_kind place kinds.Map object is = tt
-  of_kind place (kinds.Atomic type) object is = tt
-  of_kind place kinds.Mutex (those.Mutex o) is = tt
-  of_kind place kinds.RwMutex (those.RwMutex o) is = tt
-  of_kind place (kinds.Cond mutex) (those.Cond o) is = tt
-  of_kind place (kinds.WaitGroup start) (those.WaitGroup o) is = tt
-  of_kind place (kinds.Once atomic delta) (those.Once o) is = tt
-  of_kind place (kinds.OnceFunc code) (those.OnceFunc o) is = tt
-  of_kind place (kinds.OnceValue value) (those.OnceValue o) is = tt
-  of_kind place kinds.Pool object is = tt
-  of_kind place kind object is = absurd is
+  of_kind place kind those.Shared is = search
+  of_kind place kind object is = search refl
 
   stop_of : (object : AnyObject N H) → IsStopOf at home plan.workers object → IsStop object
   stop_of (those.Stop o) is = tt
@@ -47,13 +40,13 @@ module _ {N H : Type 0} (at : H → N → Type 0) (home : H) (plan : Plan) where
         let object = there_is all (object_number place) has_room in
         (object.0, object.1, subst (λ (k : ObjectKind). IsOfKind k object.0) is.2 (of_kind place is.0.kind object.0 (declared.each place is.0 object.0 is.1 object.1)))
 
-  part_of : (place : ℕ) (object : AnyObject N H) → IsPartOf at home plan place object → IsPoolPart object
-  part_of place (those.PoolPart o) is = tt
+  part_of : (place : ℕ) (object : AnyObject N H) → IsPartOf at home plan place object → HasWord words.Pool object
+  part_of place (those.PoolPart o) is = refl
   part_of place object is = absurd is
 
   -- the object with a part's number is a part of a pool
   pub part_at : (all : List (AnyObject N H)) (place part : ℕ) → AreDeclared at home plan all → IsAt plan place kinds.Pool → part < plan.workers → first_part plan place + part < object_count plan
-      → (first_part plan place + part < length all) × IsObjectAt IsPoolPart all (first_part plan place + part)
+      → (first_part plan place + part < length all) × IsObjectAt (HasWord words.Pool) all (first_part plan place + part)
   part_at all place part declared is below room =
       let within : first_part plan place + part < length all = omega (arith, room, declared.count) in
       let object = there_is all (first_part plan place + part) within in

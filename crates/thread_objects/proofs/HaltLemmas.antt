@@ -11,7 +11,7 @@ use Rattle.run_record.specs.declared.entered.ObjectEvent.{ObjectEvent}
 use Rattle.run_record.specs.declared.entered.ObjectReply.{ObjectReply}
 use Rattle.run_record.specs.Parts.{lifted, lifted_deed}
 use Rattle.thread_objects.specs.Halting.{Halts}
-use Rattle.thread_objects.specs.Passes.{own_as}
+use Rattle.thread_objects.specs.EachKind.{own_as}
 
 module _ {S N E R : Type 0} (event : E → ObjectEvent) (reply : R → ObjectReply) where
   pub halted_as : (misuse : Misuse) (front : List ℕ) (old new : Pass S N E R) (e : Entry E R) → own_by new ≡ own_by old ++ e ∷ [] → e.deed ≡ Halt misuse → e.front ≡ front → Halts misuse front (own_as event reply old) (own_as event reply new)

@@ -7,7 +7,7 @@ pub mod HaltLemmas
 pub mod Histories
 pub mod KindsFit
 pub mod MadeOn
-pub mod NewColumns
 pub mod RowSteps
+pub mod SameKinds
 pub mod StopColumns
 pub mod Telling

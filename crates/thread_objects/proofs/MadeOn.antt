@@ -1,5 +1,5 @@
 -- Who made what, by the columns before and after a row was dealt.
-use Rattle.std.proofs.Common.{◌≡◌, ◌⊎◌, inl, inr, ℕ, ◌<◌, ◌≤◌, Bool, true, false, ◌==◌, cond, List, [], ◌∷◌, ◌++◌, length, get_or, Some, slice_get, refl, sym, ap, ◌∙◌, subst, arith, length-append}
+use Rattle.std.proofs.Common.{◌≡◌, ◌⊎◌, inl, inr, ℕ, ◌<◌, ◌≤◌, Bool, true, false, ◌==◌, cond, List, [], ◌∷◌, ◌++◌, length, map, get_or, Some, slice_get, refl, sym, ap, ◌∙◌, subst, arith, length-append}
 use Rattle.std.proofs.lemmas.Bool.{cases_lt, eqb-true, eq-eqb, false≢true}
 use Rattle.std.proofs.lemmas.List.{length-map, length-replicate, get_or_append_left}
 use Rattle.std.proofs.Math.Seq.{get_or-append_seam}
@@ -11,24 +11,20 @@ use Rattle.thread_objects.specs.declared.object.AnyObject.{AnyObject}
 use Rattle.thread_objects.specs.declared.object.AnyObject.TheVariants as objects
 use Rattle.thread_objects.specs.declared.pass.AnyPass.{AnyPass}
 use Rattle.thread_objects.specs.declared.pass.AnyPass.TheVariants as passes
-use Rattle.thread_objects.specs.Columns.{IsColumnOf, passes_in}
-use Rattle.thread_objects.specs.Passes.{own_of, owns_of}
+use Rattle.thread_objects.specs.ByKind.{own_of, passes_in}
+use Rattle.thread_objects.specs.Columns.{IsColumnOf}
+use Rattle.thread_objects.specs.Passes.{owns_of}
 use Rattle.thread_objects.specs.Rows.{AreColumns, AreDealt, made_on}
 use Rattle.thread_objects.proofs.ColumnLists.{got_none, there_is}
+
+sized_map : {A B : Type 0} (f : A → B) (xs : List A) (n : ℕ) → length xs ≡ n → length (map f xs) ≡ n
+sized_map f xs n is = length-map xs f ∙ is
 
 module _ {N H : Type 0} (at : H → N → Type 0) (home : H) (workers count : ℕ) where
   count_in : (object : AnyObject N H) (column : AnyColumn N) → IsColumnOf at home workers count object column → length (passes_in column) ≡ count
   count_in objects.Shared (columns.None n) is = length-replicate n passes.None ∙ is
-  count_in (objects.Stop o) (columns.Stop ps) is = length-map ps.items passes.Stop ∙ is.0.0.sized
-  count_in (objects.Mutex o) (columns.Mutex ps) is = length-map ps.items passes.Mutex ∙ is.0.sized
-  count_in (objects.RwMutex o) (columns.RwMutex ps) is = length-map ps.items passes.RwMutex ∙ is.0.sized
-  count_in (objects.Cond o) (columns.Cond ps) is = length-map ps.items passes.Cond ∙ is.0.sized
-  count_in (objects.WaitGroup o) (columns.WaitGroup ps) is = length-map ps.items passes.WaitGroup ∙ is.0.sized
-  count_in (objects.Once o) (columns.Once ps) is = length-map ps.items passes.Once ∙ is.0.sized
-  count_in (objects.OnceFunc o) (columns.OnceFunc ps) is = length-map ps.items passes.OnceFunc ∙ is.0.sized
-  count_in (objects.OnceValue o) (columns.OnceValue ps) is = length-map ps.items passes.OnceValue ∙ is.0.sized
-  count_in (objects.PoolPart o) (columns.PoolPart ps) is = length-map ps.items passes.PoolPart ∙ is.0.sized
-  count_in object column is = absurd is
+  count_in object (columns.None n) is = search
+  count_in object column is = search (sized_map)
 
 module _ {N : Type 0} where
   past_end : (ps : List (AnyPass N)) (n : ℕ) → length ps ≤ n → owns_of ps n ≡ []

@@ -10,7 +10,8 @@ use Rattle.thread_objects.specs.declared.column.AnyColumn.TheVariants as columns
 use Rattle.thread_objects.specs.declared.object.AnyObject.{AnyObject}
 use Rattle.thread_objects.specs.declared.pass.AnyPass.{AnyPass}
 use Rattle.thread_objects.specs.declared.pass.AnyPass.TheVariants as passes
-use Rattle.thread_objects.specs.Columns.{IsColumnOf, passes_in}
+use Rattle.thread_objects.specs.ByKind.{passes_in}
+use Rattle.thread_objects.specs.Columns.{IsColumnOf}
 use Rattle.thread_objects.specs.Passes.{IsSeatAt}
 use Rattle.thread_objects.specs.Rows.{AreColumns}
 use Rattle.thread_objects.proofs.ColumnLists.{added_at, set_other, got}

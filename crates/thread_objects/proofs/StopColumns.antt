@@ -1,5 +1,5 @@
 -- Stop: its workers do nothing on it but halt it.
-use Rattle.std.proofs.Common.{◌≡◌, ◌⊎◌, inl, inr, ℕ, ◌<◌, ◌≤◌, List, [], ◌∷◌, ◌++◌, length, map, get_or, Some, None, slice_get, sym, subst}
+use Rattle.std.proofs.Common.{◌≡◌, ◌⊎◌, inl, inr, ℕ, ◌<◌, ◌≤◌, List, [], ◌∷◌, ◌++◌, length, map, get_or, Option, Some, None, slice_get, sym, subst}
 use Rattle.std.specs.Global.{Vec}
 use Rattle.std.proofs.lemmas.List.Elements.{All-nil, All-same, All-push}
 use Rattle.std.proofs.lemmas.Option.{slice_get_cases}
@@ -23,11 +23,13 @@ use Rattle.thread_objects.specs.declared.stop.NoEvent.{NoEvent}
 use Rattle.thread_objects.specs.declared.stop.StopCore.{StopCore}
 use Rattle.thread_objects.specs.Columns.{AreHalting, AreParts, IsColumnOf}
 use Rattle.thread_objects.specs.Halting.{Halts}
-use Rattle.thread_objects.specs.Passes.{own_of, owns_of, IsSeatAt, own_as}
+use Rattle.thread_objects.specs.ByKind.{own_of}
+use Rattle.thread_objects.specs.EachKind.{own_as}
+use Rattle.thread_objects.specs.Passes.{owns_of, IsSeatAt}
 use Rattle.thread_objects.specs.Seats.{IsSeat}
 use Rattle.thread_objects.specs.Stop.{StopBegins, stop_stands, no_event, no_reply}
 use Rattle.thread_objects.proofs.ColumnLists.{added_at, all_by}
-use Rattle.thread_objects.proofs.ColumnLemmas.{owns_at, owns_past}
+use Rattle.thread_objects.proofs.ColumnLemmas.{IsTold, owns_at, owns_past}
 
 abbrev IsHalted : ObjectEntry → Type 0
 IsHalted entry = (misuse : Misuse) × (entry.deed ≡ Halt misuse)
@@ -73,3 +75,7 @@ module _ {N : Type 0} where
     by_case : (c : ℕ) → ((x : Pass (Unit {0}) N NoEvent NoEvent) × (c < length ps) × (slice_get ps c ≡ Some x) × (get_or ps c x ≡ x)) ⊎ ((length ps ≤ c) × (slice_get ps c ≡ None)) → IsStops (owns_of (map pass_as ps) c)
     by_case c (inl (x, within, some, is)) = All-same IsHalted (owns_of (map pass_as ps) c) (own_as no_event no_reply x) (owns_at no_event no_reply pass_as same ps c x some) (all c x some)
     by_case c (inr (past, none)) = All-same IsHalted (owns_of (map pass_as ps) c) [] (owns_past no_event no_reply pass_as same ps c none) (All-nil IsHalted)
+
+  -- and so its journal is one of Stop
+  pub stops_told : (pass_as : Pass (Unit {0}) N NoEvent NoEvent → AnyPass N) → ((pass : Pass (Unit {0}) N NoEvent NoEvent) → own_of (pass_as pass) ≡ own_as no_event no_reply pass) → (ps : List (Pass (Unit {0}) N NoEvent NoEvent)) (first : Option Misuse) {is : List ObjectEntry → Type 0} → AreHalting ps → IsTold is first (map pass_as ps) → IsTold IsStops first (map pass_as ps)
+  stops_told pass_as same ps first all told = record { journal = told.journal; of = stops_of pass_as same ps told.journal all told.parts; halted = told.halted; parts = told.parts }

@@ -14,11 +14,12 @@ use Rattle.thread_objects.specs.declared.column.AnyColumn.{AnyColumn}
 use Rattle.thread_objects.specs.declared.column.AnyColumn.TheVariants as columns
 use Rattle.thread_objects.specs.declared.object.AnyObject.{AnyObject}
 use Rattle.thread_objects.specs.AsDeclared.{AreDeclared}
-use Rattle.thread_objects.specs.Columns.{AreParts, IsJournalAt, passes_in}
+use Rattle.thread_objects.specs.ByKind.{passes_in}
+use Rattle.thread_objects.specs.Columns.{AreParts, IsJournalAt}
 use Rattle.thread_objects.specs.Rows.{AreJournals, made_on}
+use Rattle.thread_objects.proofs.ColumnLemmas.{IsTold}
 use Rattle.thread_objects.proofs.ColumnLists.{got, got_none, there_is}
 use Rattle.thread_objects.proofs.DeclaredJournals.{of_declared, of_part, of_stop}
-use Rattle.thread_objects.proofs.Histories.{History}
 
 module _ {N H : Type 0} (objects : List (AnyObject N H)) (all : List (AnyColumn N)) where
   -- the journals of the first objects, by the columns that were there at the start
@@ -38,25 +39,25 @@ module _ {N H : Type 0} (objects : List (AnyObject N H)) (all : List (AnyColumn 
       let same_column : column ≡ those = sym (got all n column column there) ∙ got all n those column at_column in
       (subst (λ (o : AnyObject N H). IsJournalAt o journal) (sym same_object) is, subst (λ (c : AnyColumn N). AreParts journal (passes_in c)) (sym same_column) parts)
 
-  pub told_first : (result : Option Misuse) (known : AnyObject N H) (those : AnyColumn N) → slice_get objects 0 ≡ Some known → slice_get all 0 ≡ Some those → History result known those → ToldTo result 1
+  pub told_first : (result : Option Misuse) (known : AnyObject N H) (those : AnyColumn N) → slice_get objects 0 ≡ Some known → slice_get all 0 ≡ Some those → IsTold (IsJournalAt known) result (passes_in those) → ToldTo result 1
   told_first result known those at_object at_column history = record {
-    journals = history.0 ∷ [];
+    journals = history.journal ∷ [];
     count = refl;
-    stops = history.2;
+    stops = history.halted;
     each = λ n object column before here there. let e : n ≡ 0 = omega (arith, before) in
-        subst (λ (k : ℕ). IsJournalAt object (get_or (history.0 ∷ []) k []) × AreParts (get_or (history.0 ∷ []) k []) (passes_in column)) (sym e)
-        (told_by 0 known those history.0 at_object at_column history.1 history.3 object column (subst (λ (k : ℕ). slice_get objects k ≡ Some object) e here) (subst (λ (k : ℕ). slice_get all k ≡ Some column) e there));
+        subst (λ (k : ℕ). IsJournalAt object (get_or (history.journal ∷ []) k []) × AreParts (get_or (history.journal ∷ []) k []) (passes_in column)) (sym e)
+        (told_by 0 known those history.journal at_object at_column history.of history.parts object column (subst (λ (k : ℕ). slice_get objects k ≡ Some object) e here) (subst (λ (k : ℕ). slice_get all k ≡ Some column) e there));
   }
 
-  module _ (stopped result : Option Misuse) (i : ℕ) (known : AnyObject N H) (those : AnyColumn N) (some : 0 < i) (told : ToldTo stopped i) (at_object : slice_get objects i ≡ Some known) (at_column : slice_get all i ≡ Some those) (history : History result known those) where
+  module _ (stopped result : Option Misuse) (i : ℕ) (known : AnyObject N H) (those : AnyColumn N) (some : 0 < i) (told : ToldTo stopped i) (at_object : slice_get objects i ≡ Some known) (at_column : slice_get all i ≡ Some those) (history : IsTold (IsJournalAt known) result (passes_in those)) where
     abbrev more : List (List ObjectEntry)
-    more = told.journals ++ history.0 ∷ []
+    more = told.journals ++ history.journal ∷ []
 
     stays : (n : ℕ) → n < length told.journals → get_or more n [] ≡ get_or told.journals n []
-    stays n within = get_or_append_left told.journals (history.0 ∷ []) [] n within
+    stays n within = get_or_append_left told.journals (history.journal ∷ []) [] n within
 
-    last : get_or more i [] ≡ history.0
-    last = subst (λ (k : ℕ). get_or more k [] ≡ history.0) told.count (get_or-append_seam told.journals history.0 [] [])
+    last : get_or more i [] ≡ history.journal
+    last = subst (λ (k : ℕ). get_or more k [] ≡ history.journal) told.count (get_or-append_seam told.journals history.journal [] [])
 
     abbrev At : (object : AnyObject N H) (column : AnyColumn N) → List ObjectEntry → Type 0
     At object column journal = IsJournalAt object journal × AreParts journal (passes_in column)
@@ -67,13 +68,13 @@ module _ {N H : Type 0} (objects : List (AnyObject N H)) (all : List (AnyColumn 
     by_case n object column here there (inr (past, none)) before =
         let e : n ≡ i = omega (arith, past, told.count, before) in
         subst (λ (k : ℕ). At object column (get_or more k [])) (sym e) (subst (At object column) (sym last)
-        (told_by i known those history.0 at_object at_column history.1 history.3 object column (subst (λ (k : ℕ). slice_get objects k ≡ Some object) e here) (subst (λ (k : ℕ). slice_get all k ≡ Some column) e there)))
+        (told_by i known those history.journal at_object at_column history.of history.parts object column (subst (λ (k : ℕ). slice_get objects k ≡ Some object) e here) (subst (λ (k : ℕ). slice_get all k ≡ Some column) e there)))
 
     -- and of one more
     pub told_more : ToldTo stopped (i + 1)
     told_more = record {
       journals = more;
-      count = length-append told.journals (history.0 ∷ []) ∙ ap (λ n. n + 1) told.count;
+      count = length-append told.journals (history.journal ∷ []) ∙ ap (λ n. n + 1) told.count;
       stops = told.stops ∙ ap (λ (j : List ObjectEntry). halt_of j) (sym (stays 0 (omega (arith, some, told.count))));
       each = λ n object column before here there. by_case n object column here there (slice_get_cases told.journals n).1 before;
     }

@@ -1,10 +1,6 @@
--- Objects as the workload declares them. A kind is a line here.
-use Rattle.std.specs.Prelude.{◌≡◌, ℕ, ◌+◌, ◌<◌, List, length, Some, slice_get}
-use Rattle.mutex_core.specs.MutexMachine as mutex
+-- Objects as the workload declares them.
+use Rattle.std.specs.Prelude.{◌≡◌, ℕ, ◌+◌, ◌<◌, List, length, MatchOption, Some, slice_get}
 use Rattle.pool_core.specs.PartMachine.{part_start}
-use Rattle.rw_core.specs.RwMachine as rw
-use Rattle.wait_cores.specs.NotifyMachine as notify
-use Rattle.wait_cores.specs.OnceMachine as once
 use Rattle.workload.specs.declared.object.ObjectKind.{ObjectKind}
 use Rattle.workload.specs.declared.object.ObjectKind.TheVariants as kinds
 use Rattle.workload.specs.declared.object.ObjectLine.{ObjectLine}
@@ -14,9 +10,9 @@ use Rattle.ruled_object.specs.declared.object.Object.{Object}
 use Rattle.ruled_object.specs.Passes.{callers_of, start_of, IsHomeOf}
 use Rattle.run_record.specs.Objects.{first_part, object_count}
 use Rattle.run_record.specs.Record.{stop, object_number}
-use Rattle.run_record.specs.WaitGroupKind.{group_start}
 use Rattle.thread_objects.specs.declared.object.AnyObject.{AnyObject}
 use Rattle.thread_objects.specs.declared.object.AnyObject.TheVariants as objects
+use Rattle.thread_objects.specs.ByKind.{of_object}
 
 -- the workload declares an object of this kind at the place
 abbrev pub IsAt : Plan → ℕ → ObjectKind → Type 0
@@ -28,25 +24,25 @@ pub record Began {M N S E R H : Type 0} (at : H → N → Type 0) (home : H) (wo
   pub begun : start_of object ≡ start
   pub homed : IsHomeOf at object home
 
+-- nothing is here for it: a map or an atomic, or a pool beside its parts
+abbrev pub IsElsewhere : ObjectKind → Type 0
+IsElsewhere kinds.Map = Unit {0}
+IsElsewhere (kinds.Atomic type) = Unit {0}
+IsElsewhere kinds.Pool = Unit {0}
+IsElsewhere kind = ⊥
+
 module _ {N H : Type 0} (at : H → N → Type 0) (home : H) where
   -- it is Stop, of so many workers
   abbrev pub IsStopOf : ℕ → AnyObject N H → Type 0
-  IsStopOf workers (objects.Stop o) = Began at home workers tt o
-  IsStopOf workers object = ⊥
+  IsStopOf workers object = of_object (record { shared = ⊥; stop = λ o. Began at home workers tt o; each = λ kind o. ⊥ }) object
 
   -- it is what the workload declares at this place: of this kind, and as it begins. Maps and atomics are shared as one, which isn't here, and of a pool there are only the parts
   abbrev pub IsDeclared : Plan → ℕ → ObjectKind → AnyObject N H → Type 0
-  IsDeclared plan place kinds.Map objects.Shared = Unit {0}
-  IsDeclared plan place (kinds.Atomic type) objects.Shared = Unit {0}
-  IsDeclared plan place kinds.Mutex (objects.Mutex o) = Began at home plan.workers (mutex.start plan.workers) o
-  IsDeclared plan place kinds.RwMutex (objects.RwMutex o) = Began at home plan.workers (rw.start plan.workers) o
-  IsDeclared plan place (kinds.Cond mutex) (objects.Cond o) = Began at home plan.workers (notify.start plan.workers) o
-  IsDeclared plan place (kinds.WaitGroup counter) (objects.WaitGroup o) = Began at home plan.workers (group_start plan.workers counter) o
-  IsDeclared plan place (kinds.Once atomic delta) (objects.Once o) = Began at home plan.workers (once.start plan.workers) o
-  IsDeclared plan place (kinds.OnceFunc code) (objects.OnceFunc o) = Began at home plan.workers (once.start plan.workers) o
-  IsDeclared plan place (kinds.OnceValue value) (objects.OnceValue o) = Began at home plan.workers (once.start plan.workers) o
-  IsDeclared plan place kinds.Pool objects.Shared = Unit {0}
-  IsDeclared plan place kind object = ⊥
+  IsDeclared plan place declared object = of_object (record {
+    shared = IsElsewhere declared;
+    stop = λ o. ⊥;
+    each = λ kind o. MatchOption (kind.starts plan.workers declared) ⊥ (λ start. Began at home plan.workers start o);
+  }) object
 
   -- it is a part of the pool that the workload declares at this place, as it begins: it has room for all items that the scripts put into the pool
   abbrev pub IsPartOf : Plan → ℕ → AnyObject N H → Type 0

@@ -14,7 +14,8 @@ use Rattle.thread_objects.specs.declared.column.AnyColumn.TheVariants as columns
 use Rattle.thread_objects.specs.declared.object.AnyObject.{AnyObject}
 use Rattle.thread_objects.specs.declared.pass.AnyPass.{AnyPass}
 use Rattle.thread_objects.specs.declared.pass.AnyPass.TheVariants as passes
-use Rattle.thread_objects.specs.Columns.{IsColumnOf, passes_in}
+use Rattle.thread_objects.specs.ByKind.{passes_in}
+use Rattle.thread_objects.specs.Columns.{IsColumnOf}
 use Rattle.thread_objects.specs.Passes.{owns_of}
 
 -- one column for each object, by its number, each with the passes of so many workers, the first ones

@@ -1,6 +1,7 @@
 //! Dealing the passes of an object to its workers, and collecting them.
 ghost use Rattle.std.specs.Prelude.{◌≡◌, ◌+◌, ◌<◌, [], ◌∷◌, ◌++◌};
-ghost use Rattle.thread_objects.specs.Columns.{IsColumnOf, passes_in};
+ghost use Rattle.thread_objects.specs.ByKind.{passes_in};
+ghost use Rattle.thread_objects.specs.Columns.{IsColumnOf};
 ghost use Rattle.thread_objects.specs.Passes.{IsSeatAt};
 
 use crate::by_kind::{arms, by_kind};

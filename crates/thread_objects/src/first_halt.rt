@@ -1,8 +1,5 @@
 //! The first halt of an object, once its workers have ended.
-ghost use Rattle.std.specs.Prelude.{◌≡◌, List};
-ghost use Rattle.sync_model.specs.Journal.{halt_of};
-ghost use Rattle.run_record.specs.Record.{ObjectEntry};
-ghost use Rattle.thread_objects.specs.Columns.{AreParts, IsColumnOf, IsJournalAt, passes_in};
+ghost use Rattle.thread_objects.specs.Columns.{IsColumnOf, IsFirstHalt};
 
 use crate::by_kind::{arms, by_kind};
 use crate::column::AnyColumn;
@@ -21,7 +18,7 @@ pub(crate) fn first_halt<N: Note>(
 ) -> Option<Misuse>
     requires column { IsColumnOf N.at crew.now.home.now crew.now.workers crew.now.workers object.now column.old }
     ensures column { IsColumnOf N.at crew.now.home.now crew.now.workers crew.now.workers object.now column.new }
-    ensures history { (journal : List ObjectEntry) × IsJournalAt object.now journal × (result ≡ halt_of journal) × AreParts journal (passes_in column.old) }
+    ensures history { IsFirstHalt object.now column.old result }
 {
     by_kind!(
         object,

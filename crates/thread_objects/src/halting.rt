@@ -2,8 +2,10 @@
 ghost use Rattle.std.specs.Prelude.{IsTrue};
 ghost use Rattle.run_record.specs.declared.entered.ObjectEvent.{ObjectEvent};
 ghost use Rattle.run_record.specs.declared.entered.ObjectReply.{ObjectReply};
+ghost use Rattle.thread_objects.specs.ByKind.{own_of};
+ghost use Rattle.thread_objects.specs.EachKind.{own_as};
 ghost use Rattle.thread_objects.specs.Halting.{Halts, AreHalted};
-ghost use Rattle.thread_objects.specs.Passes.{IsSeatAt, own_of, own_as};
+ghost use Rattle.thread_objects.specs.Passes.{IsSeatAt};
 ghost use Rattle.thread_objects.specs.Seats.{IsSeat};
 
 use crate::by_kind::{arms, by_kind};

@@ -4,7 +4,8 @@ ghost use Rattle.workload.specs.declared.object.ObjectLine.{ObjectLine};
 ghost use Rattle.workload.specs.Draft.{is_kind};
 ghost use Rattle.run_record.specs.WaitGroupKind.{group_start};
 ghost use Rattle.thread_objects.specs.AsDeclared.{IsDeclared, IsPartOf, IsStopOf};
-ghost use Rattle.thread_objects.specs.Columns.{IsColumnOf, IsUntouched, passes_in};
+ghost use Rattle.thread_objects.specs.ByKind.{passes_in};
+ghost use Rattle.thread_objects.specs.Columns.{IsColumnOf, IsUntouched};
 ghost use Rattle.thread_objects.specs.Passes.{owns_of};
 
 use crate::column::AnyColumn;
@@ -61,7 +62,7 @@ fn make_kind<N: Note>(
     requires kind { is_kind kind ≡ true }
     ensures declared { IfOk result (λ made. IsDeclared N.at crew.now.home.now _workload.now _place kind made.0) }
     ensures column { IfOk result (λ made. IsColumnOf N.at crew.now.home.now crew.now.workers crew.now.workers made.0 made.1) }
-    ensures untouched { IfOk result (λ made. IsUntouched made.1) }
+    ensures untouched { IfOk result (λ made. IsUntouched made.0 made.1) }
 {
     match kind {
         ObjectKind::Map => Ok((AnyObject::Shared, AnyColumn::None(crew.workers))),

@@ -1,17 +1,10 @@
 //! The passes of one object, of one kind.
-ghost use Rattle.std.specs.Prelude.{◌≡◌, ℕ, ◌+◌, ◌<◌, ◌≤◌, [], ◌∷◌, ◌++◌, List, map, IsTrue, IfOk, Some, slice_get, vec_capacity};
-ghost use Rattle.sync_model.specs.Journal.{halt_of};
+ghost use Rattle.std.specs.Prelude.{◌≡◌, ℕ, ◌+◌, ◌<◌, ◌≤◌, [], ◌∷◌, ◌++◌, IsTrue, IfOk, Some, slice_get, vec_capacity};
 ghost use Rattle.ruled_object.specs.declared.pass.Pass.{Pass};
 ghost use Rattle.ruled_object.specs.Gathered.{SameOwn};
 ghost use Rattle.ruled_object.specs.Passes.{start_of};
-ghost use Rattle.run_record.specs.declared.entered.ObjectEvent.{ObjectEvent};
-ghost use Rattle.run_record.specs.declared.entered.ObjectReply.{ObjectReply};
-ghost use Rattle.run_record.specs.Journals.{FollowsFrom};
-ghost use Rattle.run_record.specs.Record.{ObjectEntry};
-ghost use Rattle.thread_objects.specs.declared.pass.AnyPass.{AnyPass};
 ghost use Rattle.thread_objects.specs.AsDeclared.{Began};
-ghost use Rattle.thread_objects.specs.Columns.{AreSeated, AreUntouched, AreParts};
-ghost use Rattle.thread_objects.specs.Passes.{own_of, own_as};
+ghost use Rattle.thread_objects.specs.Columns.{AreSeated, AreUntouched, IsHistoryOf};
 ghost use Rattle.thread_objects.specs.Seats.{IsSeat};
 
 use crate::crew::Crew;
@@ -90,9 +83,7 @@ pub(crate) fn first_of<P: Protocol + Worded, N: Note>(
     ensures seated { AreSeated P.begins P.out P.stands N.at _crew.now.home.now _crew.now.workers _crew.now.workers object.now passes.new.items }
     ensures room { vec_capacity passes.new ≡ vec_capacity passes.old }
     ensures owns { SameOwn passes.old.items passes.new.items }
-    ensures history { (event : P.Event → ObjectEvent) (reply : P.Reply → ObjectReply) (pass_as : Pass P.State N P.Event P.Reply → AnyPass N)
-        → ((pass : Pass P.State N P.Event P.Reply) → own_of (pass_as pass) ≡ own_as event reply pass)
-        → (journal : List ObjectEntry) × FollowsFrom event reply P.next P.frees P.takes (start_of object.now) journal × (result ≡ halt_of journal) × AreParts journal (map pass_as passes.old.items) }
+    ensures history { IsHistoryOf P.next P.frees P.takes (start_of object.now) result passes.old.items }
 {
     running::first_halt(object, passes)
 }

@@ -13,7 +13,8 @@ use Rattle.thread_objects.specs.declared.column.AnyColumn.{AnyColumn}
 use Rattle.thread_objects.specs.declared.column.AnyColumn.TheVariants as columns
 use Rattle.thread_objects.specs.declared.object.AnyObject.{AnyObject}
 use Rattle.thread_objects.specs.AsDeclared.{IsStopOf, IsDeclared, IsPartOf, AreDeclared}
-use Rattle.thread_objects.specs.Columns.{IsColumnOf, passes_in}
+use Rattle.thread_objects.specs.ByKind.{passes_in}
+use Rattle.thread_objects.specs.Columns.{IsColumnOf}
 use Rattle.thread_objects.specs.Passes.{owns_of}
 use Rattle.thread_objects.specs.Rows.{AreColumns, made_on}
 use Rattle.thread_runner.specs.Dealing.{AreMade, MadeNothingFrom}

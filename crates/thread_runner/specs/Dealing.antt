@@ -11,7 +11,8 @@ use Rattle.thread_objects.specs.declared.column.AnyColumn.{AnyColumn}
 use Rattle.thread_objects.specs.declared.object.AnyObject.{AnyObject}
 use Rattle.thread_objects.specs.declared.pass.AnyPass.{AnyPass}
 use Rattle.thread_objects.specs.AsDeclared.{IsStopOf, IsDeclared, IsPartOf}
-use Rattle.thread_objects.specs.Columns.{IsColumnOf, passes_in}
+use Rattle.thread_objects.specs.ByKind.{passes_in}
+use Rattle.thread_objects.specs.Columns.{IsColumnOf}
 use Rattle.thread_objects.specs.Desks.{AreSeats}
 use Rattle.thread_objects.specs.Passes.{owns_of}
 use Rattle.thread_objects.specs.Rows.{made_on}

@@ -1,11 +1,13 @@
 //! The calls of a cond.
 ghost use Rattle.std.specs.Prelude.{ℕ};
+ghost use Rattle.workload.specs.declared.object.ObjectWord.TheVariants as words;
 ghost use Rattle.ruled_object.specs.Growth.{KeepsNote};
 ghost use Rattle.run_record.specs.CondKind.{cond_part};
 ghost use Rattle.run_record.specs.Parts.{read_as};
 ghost use Rattle.kind_calls.specs.Replies.{returned};
-ghost use Rattle.thread_objects.specs.Kinds.{IsCond};
-ghost use Rattle.thread_objects.specs.Passes.{IsSeatAt, own_of};
+ghost use Rattle.thread_objects.specs.Kinds.{HasWord};
+ghost use Rattle.thread_objects.specs.ByKind.{own_of};
+ghost use Rattle.thread_objects.specs.Passes.{IsSeatAt};
 ghost use Rattle.shared_calls.specs.Working.{Works, desk_at};
 
 use super::replies::returned;
@@ -27,7 +29,7 @@ pub(crate) fn part_of_cond<N: Note, C: Clock, R: Wait>(
     note: &mut N,
     stage: CondStage,
 ) -> Answer<Result<(), Misuse>>
-    requires kind { IsCond object.now }
+    requires kind { HasWord words.Cond object.now }
     requires seat { IsSeatAt N.at worker.now.at.home.now worker.now.workers worker.now.number object.now pass.old }
     requires note { N.at worker.now.at.home.now note.old }
     ensures seat { IsSeatAt N.at worker.now.at.home.now worker.now.workers worker.now.number object.now pass.new }
@@ -52,7 +54,7 @@ pub(crate) fn notify<N: Note, C: Clock, R: Wait>(
     note: &mut N,
     stage: CondStage,
 ) -> CallAnswer
-    requires kind { IsCond object.now }
+    requires kind { HasWord words.Cond object.now }
     requires seat { IsSeatAt N.at worker.now.at.home.now worker.now.workers worker.now.number object.now pass.old }
     requires note { N.at worker.now.at.home.now note.old }
     ensures seat { IsSeatAt N.at worker.now.at.home.now worker.now.workers worker.now.number object.now pass.new }

@@ -4,6 +4,7 @@ ghost use Rattle.sync_types.specs.declared.atomic_object.AtomicCall.TheVariants.
 ghost use Rattle.sync_types.specs.declared.atomic_object.Number.TheVariants.{Int64};
 ghost use Rattle.sync_model.specs.Note.{SameHome};
 ghost use Rattle.sync_model.specs.Shared.{IsAtomicCall, IsCallerAt, items_of};
+ghost use Rattle.workload.specs.declared.object.ObjectWord.TheVariants as words;
 ghost use Rattle.workload.specs.Plan.{Plan};
 ghost use Rattle.protocols.specs.OnceStages.{once_stands, OnceBegins};
 ghost use Rattle.run_record.specs.declared.entered.ObjectEvent.TheVariants as event;
@@ -14,8 +15,10 @@ ghost use Rattle.shared_calls.specs.GivenUp.{MakesOnly, AnsweredAmiss};
 ghost use Rattle.shared_calls.specs.Spending.{Spends};
 ghost use Rattle.shared_calls.specs.Working.{Works, desk_at, desk_with};
 ghost use Rattle.thread_objects.specs.Desks.{AreSeats, IsObjectAt};
-ghost use Rattle.thread_objects.specs.Kinds.{IsOnce};
-ghost use Rattle.thread_objects.specs.Passes.{IsSeatAt, own_of, owns_of, own_as};
+ghost use Rattle.thread_objects.specs.Kinds.{HasWord};
+ghost use Rattle.thread_objects.specs.ByKind.{own_of};
+ghost use Rattle.thread_objects.specs.EachKind.{own_as};
+ghost use Rattle.thread_objects.specs.Passes.{IsSeatAt, owns_of};
 ghost use Rattle.thread_objects.specs.Seats.{IsSeat};
 
 use super::once::{begin, end, ended};
@@ -89,7 +92,7 @@ fn do_any<S: Shared, C: Clock, R: Wait>(
     atomic: u32,
     delta: i64,
 ) -> Option<CallAnswer>
-    requires kind { IsOnce object.now }
+    requires kind { HasWord words.Once object.now }
     requires seat { IsSeatAt S.Mark.at worker.now.at.home.now worker.now.workers worker.now.number object.now pass.old }
     requires caller { IsCallerAt S.Mark.at S.Mark.own (S.home_of shared.now) caller.old }
     requires note { S.Mark.at worker.now.at.home.now caller.old.note }
@@ -125,7 +128,7 @@ pub fn do_at<S: Shared, C: Clock, R: Wait>(
     atomic: u32,
     delta: i64,
 ) -> Option<CallAnswer>
-    requires kind { IsObjectAt IsOnce objects.now number }
+    requires kind { IsObjectAt (HasWord words.Once) objects.now number }
     requires seats { AreSeats S.Mark.at worker.now.at.home.now worker.now.workers worker.now.number objects.now passes.old }
     requires caller { IsCallerAt S.Mark.at S.Mark.own (S.home_of shared.now) caller.old }
     requires note { S.Mark.at worker.now.at.home.now caller.old.note }

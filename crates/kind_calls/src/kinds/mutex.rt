@@ -2,10 +2,12 @@
 ghost use Rattle.std.specs.Prelude.{◌≡◌, ℕ, true, false};
 ghost use Rattle.mutex_core.specs.MutexMachine.{State};
 ghost use Rattle.protocols.specs.MutexStages.{mutex_allows};
+ghost use Rattle.workload.specs.declared.object.ObjectWord.TheVariants as words;
 ghost use Rattle.ruled_object.specs.Growth.{KeepsNote};
 ghost use Rattle.run_record.specs.MutexKind.{mutex_part, mutex_stage, mutex_call};
-ghost use Rattle.thread_objects.specs.Kinds.{IsMutex};
-ghost use Rattle.thread_objects.specs.Passes.{IsSeatAt, own_of};
+ghost use Rattle.thread_objects.specs.Kinds.{HasWord};
+ghost use Rattle.thread_objects.specs.ByKind.{own_of};
+ghost use Rattle.thread_objects.specs.Passes.{IsSeatAt};
 ghost use Rattle.shared_calls.specs.Working.{Works, desk_at};
 
 use super::replies::lock_reply;
@@ -39,7 +41,7 @@ pub(crate) fn part_of_mutex<N: Note, C: Clock, R: Wait>(
     note: &mut N,
     stage: MutexStage,
 ) -> Answer<Result<LockReply, Misuse>>
-    requires kind { IsMutex object.now }
+    requires kind { HasWord words.Mutex object.now }
     requires seat { IsSeatAt N.at worker.now.at.home.now worker.now.workers worker.now.number object.now pass.old }
     requires note { N.at worker.now.at.home.now note.old }
     requires allowed { (start : State) → mutex_allows start false stage ≡ true }
@@ -65,7 +67,7 @@ pub(crate) fn call_mutex<N: Note, C: Clock, R: Wait>(
     note: &mut N,
     call: MutexCall,
 ) -> CallAnswer
-    requires kind { IsMutex object.now }
+    requires kind { HasWord words.Mutex object.now }
     requires seat { IsSeatAt N.at worker.now.at.home.now worker.now.workers worker.now.number object.now pass.old }
     requires note { N.at worker.now.at.home.now note.old }
     ensures seat { IsSeatAt N.at worker.now.at.home.now worker.now.workers worker.now.number object.now pass.new }

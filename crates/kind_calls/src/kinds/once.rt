@@ -5,14 +5,17 @@ ghost use Rattle.wait_cores.specs.declared.once.OnceEvent.{OnceEvent};
 ghost use Rattle.wait_cores.specs.declared.once.OnceReply.{OnceReply};
 ghost use Rattle.protocols.specs.declared.once.OnceStage.TheVariants as stage;
 ghost use Rattle.protocols.specs.OnceStages.{once_event, once_meaning, once_stands, once_left, once_gives, OnceBegins};
+ghost use Rattle.workload.specs.declared.object.ObjectWord.TheVariants as words;
 ghost use Rattle.ruled_object.specs.Growth.{KeepsNote};
 ghost use Rattle.running.specs.Calls.{IsGiven, left_in};
 ghost use Rattle.run_record.specs.declared.entered.ObjectEvent.{ObjectEvent};
 ghost use Rattle.run_record.specs.declared.entered.ObjectReply.{ObjectReply};
 ghost use Rattle.run_record.specs.OnceKind.{once_part, func_call, value_call};
 ghost use Rattle.run_record.specs.Parts.{returns, stages, with_outcome};
-ghost use Rattle.thread_objects.specs.Kinds.{IsOnceFunc, IsOnceValue};
-ghost use Rattle.thread_objects.specs.Passes.{IsSeatAt, own_of, own_as};
+ghost use Rattle.thread_objects.specs.Kinds.{HasWord};
+ghost use Rattle.thread_objects.specs.ByKind.{own_of};
+ghost use Rattle.thread_objects.specs.EachKind.{own_as};
+ghost use Rattle.thread_objects.specs.Passes.{IsSeatAt};
 ghost use Rattle.thread_objects.specs.Seats.{IsSeat, IsStanding};
 ghost use Rattle.shared_calls.specs.Working.{Works, desk_at};
 
@@ -120,7 +123,7 @@ pub(crate) fn call_func<N: Note, C: Clock, R: Wait>(
     note: &mut N,
     value: u32,
 ) -> CallAnswer
-    requires kind { IsOnceFunc object.now }
+    requires kind { HasWord words.OnceFunc object.now }
     requires seat { IsSeatAt N.at worker.now.at.home.now worker.now.workers worker.now.number object.now pass.old }
     requires note { N.at worker.now.at.home.now note.old }
     ensures seat { IsSeatAt N.at worker.now.at.home.now worker.now.workers worker.now.number object.now pass.new }
@@ -145,7 +148,7 @@ pub(crate) fn call_value<N: Note, C: Clock, R: Wait>(
     note: &mut N,
     value: u64,
 ) -> CallAnswer
-    requires kind { IsOnceValue object.now }
+    requires kind { HasWord words.OnceValue object.now }
     requires seat { IsSeatAt N.at worker.now.at.home.now worker.now.workers worker.now.number object.now pass.old }
     requires note { N.at worker.now.at.home.now note.old }
     ensures seat { IsSeatAt N.at worker.now.at.home.now worker.now.workers worker.now.number object.now pass.new }

@@ -5,12 +5,14 @@ ghost use Rattle.sync_types.specs.declared.misuse.Misuse.{Misuse};
 ghost use Rattle.protocols.specs.declared.pool.PoolOutcome.{PoolOutcome};
 ghost use Rattle.pool_core.specs.Looks.{look};
 ghost use Rattle.protocols.specs.PoolStages.{pool_event, pool_gives, look_gives};
+ghost use Rattle.workload.specs.declared.object.ObjectWord.TheVariants as words;
 ghost use Rattle.ruled_object.specs.Growth.{KeepsNote};
 ghost use Rattle.running.specs.Calls.{IsGiven};
 ghost use Rattle.run_record.specs.PoolKind.{pool_part, pool_call, part_of, found_by, swept_by, looks_of, stage_of};
 ghost use Rattle.thread_objects.specs.Desks.{AreSeats, IsObjectAt};
-ghost use Rattle.thread_objects.specs.Kinds.{IsPoolPart};
-ghost use Rattle.thread_objects.specs.Passes.{IsSeatAt, own_of, owns_of};
+ghost use Rattle.thread_objects.specs.Kinds.{HasWord};
+ghost use Rattle.thread_objects.specs.ByKind.{own_of};
+ghost use Rattle.thread_objects.specs.Passes.{IsSeatAt, owns_of};
 ghost use Rattle.kind_calls.specs.PoolParts.{ArePartsAt};
 ghost use Rattle.shared_calls.specs.Working.{Works, desk_at, desk_with};
 
@@ -66,7 +68,7 @@ fn part_of_pool<N: Note, C: Clock, R: Wait>(
     note: &mut N,
     stage: PoolStage,
 ) -> Answer<Result<PoolOutcome, Misuse>>
-    requires kind { IsPoolPart object.now }
+    requires kind { HasWord words.Pool object.now }
     requires seat { IsSeatAt N.at worker.now.at.home.now worker.now.workers worker.now.number object.now pass.old }
     requires note { N.at worker.now.at.home.now note.old }
     ensures seat { IsSeatAt N.at worker.now.at.home.now worker.now.workers worker.now.number object.now pass.new }
@@ -93,7 +95,7 @@ fn part_at<N: Note, C: Clock, R: Wait>(
     number: usize,
     stage: PoolStage,
 ) -> Answer<Result<PoolOutcome, Misuse>>
-    requires kind { IsObjectAt IsPoolPart objects.now number }
+    requires kind { IsObjectAt (HasWord words.Pool) objects.now number }
     requires seats { AreSeats N.at worker.now.at.home.now worker.now.workers worker.now.number objects.now passes.old }
     requires note { N.at worker.now.at.home.now note.old }
     ensures seats { AreSeats N.at worker.now.at.home.now worker.now.workers worker.now.number objects.now passes.new }

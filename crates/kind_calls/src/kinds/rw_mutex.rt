@@ -2,11 +2,13 @@
 ghost use Rattle.std.specs.Prelude.{◌≡◌, ℕ, true, false};
 ghost use Rattle.rw_core.specs.RwMachine.{State};
 ghost use Rattle.protocols.specs.RwMutexStages.{rw_allows};
+ghost use Rattle.workload.specs.declared.object.ObjectWord.TheVariants as words;
 ghost use Rattle.ruled_object.specs.Growth.{KeepsNote};
 ghost use Rattle.run_record.specs.RwMutexKind.{rw_mutex_stage, rw_mutex_call};
 ghost use Rattle.kind_calls.specs.Parts.{rw_mutex_part};
-ghost use Rattle.thread_objects.specs.Kinds.{IsRwMutex};
-ghost use Rattle.thread_objects.specs.Passes.{IsSeatAt, own_of};
+ghost use Rattle.thread_objects.specs.Kinds.{HasWord};
+ghost use Rattle.thread_objects.specs.ByKind.{own_of};
+ghost use Rattle.thread_objects.specs.Passes.{IsSeatAt};
 ghost use Rattle.shared_calls.specs.Working.{Works, desk_at};
 
 use super::replies::lock_reply;
@@ -43,7 +45,7 @@ pub(crate) fn part_of_rw_mutex<N: Note, C: Clock, R: Wait>(
     note: &mut N,
     stage: RwMutexStage,
 ) -> Answer<Result<LockReply, Misuse>>
-    requires kind { IsRwMutex object.now }
+    requires kind { HasWord words.RwMutex object.now }
     requires seat { IsSeatAt N.at worker.now.at.home.now worker.now.workers worker.now.number object.now pass.old }
     requires note { N.at worker.now.at.home.now note.old }
     requires allowed { (start : State) → rw_allows start false stage ≡ true }
@@ -69,7 +71,7 @@ pub(crate) fn call_rw_mutex<N: Note, C: Clock, R: Wait>(
     note: &mut N,
     call: RwMutexCall,
 ) -> CallAnswer
-    requires kind { IsRwMutex object.now }
+    requires kind { HasWord words.RwMutex object.now }
     requires seat { IsSeatAt N.at worker.now.at.home.now worker.now.workers worker.now.number object.now pass.old }
     requires note { N.at worker.now.at.home.now note.old }
     ensures seat { IsSeatAt N.at worker.now.at.home.now worker.now.workers worker.now.number object.now pass.new }

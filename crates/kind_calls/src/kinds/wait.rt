@@ -1,8 +1,9 @@
 //! `wait` on a cond: parts on two objects, the cond and its mutex.
+ghost use Rattle.workload.specs.declared.object.ObjectWord.TheVariants as words;
 ghost use Rattle.ruled_object.specs.Growth.{KeepsNote};
 ghost use Rattle.run_record.specs.CondKind.{wait_part};
 ghost use Rattle.thread_objects.specs.Desks.{AreSeats, IsObjectAt};
-ghost use Rattle.thread_objects.specs.Kinds.{IsMutex, IsCond};
+ghost use Rattle.thread_objects.specs.Kinds.{HasWord};
 ghost use Rattle.thread_objects.specs.Passes.{owns_of};
 ghost use Rattle.shared_calls.specs.Working.{Works, desk_with};
 
@@ -26,8 +27,8 @@ pub(crate) fn wait<N: Note, C: Clock, R: Wait>(
     cond: usize,
     mutex: usize,
 ) -> CallAnswer
-    requires cond { IsObjectAt IsCond objects.now cond }
-    requires mutex { IsObjectAt IsMutex objects.now mutex }
+    requires cond { IsObjectAt (HasWord words.Cond) objects.now cond }
+    requires mutex { IsObjectAt (HasWord words.Mutex) objects.now mutex }
     requires seats { AreSeats N.at worker.now.at.home.now worker.now.workers worker.now.number objects.now passes.old }
     requires note { N.at worker.now.at.home.now note.old }
     ensures seats { AreSeats N.at worker.now.at.home.now worker.now.workers worker.now.number objects.now passes.new }

@@ -2,11 +2,13 @@
 ghost use Rattle.std.specs.Prelude.{◌≡◌, ℕ, true, false};
 ghost use Rattle.wait_cores.specs.GroupMachine.{GroupState};
 ghost use Rattle.protocols.specs.GroupStages.{group_allows};
+ghost use Rattle.workload.specs.declared.object.ObjectWord.TheVariants as words;
 ghost use Rattle.ruled_object.specs.Growth.{KeepsNote};
 ghost use Rattle.run_record.specs.WaitGroupKind.{wait_group_stage, wait_group_call};
 ghost use Rattle.kind_calls.specs.Parts.{group_part};
-ghost use Rattle.thread_objects.specs.Kinds.{IsWaitGroup};
-ghost use Rattle.thread_objects.specs.Passes.{IsSeatAt, own_of};
+ghost use Rattle.thread_objects.specs.Kinds.{HasWord};
+ghost use Rattle.thread_objects.specs.ByKind.{own_of};
+ghost use Rattle.thread_objects.specs.Passes.{IsSeatAt};
 ghost use Rattle.shared_calls.specs.Working.{Works, desk_at};
 
 use super::replies::returned;
@@ -40,7 +42,7 @@ pub(crate) fn part_of_group<N: Note, C: Clock, R: Wait>(
     note: &mut N,
     stage: GroupStage,
 ) -> Answer<Result<(), Misuse>>
-    requires kind { IsWaitGroup object.now }
+    requires kind { HasWord words.WaitGroup object.now }
     requires seat { IsSeatAt N.at worker.now.at.home.now worker.now.workers worker.now.number object.now pass.old }
     requires note { N.at worker.now.at.home.now note.old }
     requires allowed { (start : GroupState) → group_allows start false stage ≡ true }
@@ -66,7 +68,7 @@ pub(crate) fn call_group<N: Note, C: Clock, R: Wait>(
     note: &mut N,
     call: WaitGroupCall,
 ) -> CallAnswer
-    requires kind { IsWaitGroup object.now }
+    requires kind { HasWord words.WaitGroup object.now }
     requires seat { IsSeatAt N.at worker.now.at.home.now worker.now.workers worker.now.number object.now pass.old }
     requires note { N.at worker.now.at.home.now note.old }
     ensures seat { IsSeatAt N.at worker.now.at.home.now worker.now.workers worker.now.number object.now pass.new }

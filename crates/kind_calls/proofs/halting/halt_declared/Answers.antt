@@ -2,9 +2,10 @@ use Rattle.std.proofs.Common.{◌≡◌, ℕ, ◌+◌, ◌-◌, ◌<◌, ◌≤�
 use Rattle.std.proofs.lemmas.Option.{same_Some, slice_get-get_or}
 use Rattle.workload.specs.declared.object.ObjectKind.{ObjectKind}
 use Rattle.workload.specs.declared.object.ObjectLine.{ObjectLine}
+use Rattle.workload.specs.declared.object.ObjectWord.TheVariants as words
 use Rattle.run_record.specs.Objects.{first_part, is_pool}
 use Rattle.thread_objects.specs.Desks.{IsObjectAt}
-use Rattle.thread_objects.specs.Kinds.{IsPoolPart}
+use Rattle.thread_objects.specs.Kinds.{HasWord}
 use Rattle.kind_calls.specs.Halting.{halted_at}
 use Rattle.kind_calls.proofs.HaltLemmas.{halts_as, halts_declared, no_pool, pool_halted}
 use Rattle.kind_calls.proofs.halting.halt_declared.Goals as goal
@@ -23,7 +24,7 @@ halt_parts-requires-clause-parts g c = λ part below.
     let here = get_or c.objects-lines.result.now c.args.place c.index-lines-place.result in
     let at = line_here c.objects-lines.result.now plan.objects c.args.place c.index-lines-place.result c.objects-lines.ensures.objects c.requires.place in
     let found = c.objects_are_of_their_kinds.ensures.parts c.args.worker.now.at.home.now plan c.args.objects.now c.args.place part c.requires.declared (here, at, c.in-Pool.is) (omega (arith, below, c.requires.workers)) in
-    subst (λ (n : ℕ). IsObjectAt IsPoolPart c.args.objects.now (n + part)) (sym c.requires.first) found.1
+    subst (λ (n : ℕ). IsObjectAt (HasWord words.Pool) c.args.objects.now (n + part)) (sym c.requires.first) found.1
 
 pub halt_parts-requires-clause-room : goal.halt_parts-requires-clause-room
 halt_parts-requires-clause-room g c =

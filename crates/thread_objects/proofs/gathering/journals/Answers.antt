@@ -2,6 +2,7 @@ use Rattle.std.proofs.Common.{◌≡◌, ◌<◌, length, refl, sym, ◌∙◌, 
 use Rattle.std.proofs.lemmas.List.{length-set}
 use Rattle.std.proofs.lemmas.Option.{slice_get-get_or, slice_get_read}
 use Rattle.thread_objects.proofs.ColumnLists.{set_other}
+use Rattle.thread_objects.proofs.Histories.{history_of}
 use Rattle.thread_objects.proofs.Telling.{ToldTo, told_first, told_more, are_journals, are_parts}
 use Rattle.thread_objects.proofs.gathering.journals.Goals as goal
 
@@ -11,8 +12,11 @@ loop-number-init g c =
     let columns = c.args.columns.now in
     let within : 0 < length objects = omega (arith, c.requires.declared.count) in
     let inside : 0 < length columns = omega (arith, within, c.requires.columns.sized) in
+    let at_object = slice_get_read objects (length objects) 0 c.index-objects-0.result refl within c.index-objects-0.is in
+    let at_column = slice_get-get_or columns 0 c.index-columns-0.result inside in
     record {
-      told = told_first objects columns c.first_halt-stopped.result c.index-objects-0.result _ (slice_get_read objects (length objects) 0 c.index-objects-0.result refl within c.index-objects-0.is) (slice_get-get_or columns 0 c.index-columns-0.result inside) c.first_halt-stopped.ensures.history;
+      told = told_first objects columns c.first_halt-stopped.result c.index-objects-0.result _ at_object at_column
+          (history_of g.N.Note.at c.args.crew.now.home.now c.args.crew.now.workers _ _ _ (c.requires.columns.each 0 c.index-objects-0.result _ at_object at_column) c.first_halt-stopped.ensures.history);
       some = omega arith;
       sized = length-set columns 0 _;
       rest = λ n beyond. set_other columns 0 n _ (λ e. absurd (omega (arith, e, beyond)));
@@ -35,11 +39,11 @@ loop-number-preserved g c =
     let so_far = c.loop-number.invariant in
     let within : number < length objects = c.loop-number-test.true in
     let inside : number < length columns = omega (arith, within, c.requires.columns.sized, so_far.sized) in
+    let at_object = slice_get_read objects (length objects) number c.index-objects-number.result refl within c.index-objects-number.is in
+    let at_column = sym (so_far.rest number (omega arith)) ∙ slice_get-get_or columns number c.index-columns-number.result inside in
     record {
-      told = told_more objects c.args.columns.now c.first_halt-stopped.result c.first_halt.result number c.index-objects-number.result _ so_far.some so_far.told
-          (slice_get_read objects (length objects) number c.index-objects-number.result refl within c.index-objects-number.is)
-          (sym (so_far.rest number (omega arith)) ∙ slice_get-get_or columns number c.index-columns-number.result inside)
-          c.first_halt.ensures.history;
+      told = told_more objects c.args.columns.now c.first_halt-stopped.result c.first_halt.result number c.index-objects-number.result _ so_far.some so_far.told at_object at_column
+          (history_of g.N.Note.at c.args.crew.now.home.now c.args.crew.now.workers _ _ _ (c.requires.columns.each number c.index-objects-number.result _ at_object at_column) c.first_halt.ensures.history);
       some = omega arith;
       sized = length-set columns number _ ∙ so_far.sized;
       rest = λ n beyond. set_other columns number n _ (λ e. absurd (omega (arith, e, beyond))) ∙ so_far.rest n (omega (arith, beyond));

@@ -2,7 +2,7 @@ use Rattle.std.proofs.Common.{◌≡◌, ◌<◌, true, length, List, [], sym, a
 use Rattle.std.proofs.lemmas.Option.{slice_get-get_or}
 use Rattle.workload.specs.declared.object.ObjectLine.{ObjectLine}
 use Rattle.workload.specs.Readable.{may_declare}
-use Rattle.thread_objects.proofs.NewColumns.{nothing_made}
+use Rattle.thread_objects.proofs.Histories.{nothing_made}
 use Rattle.thread_objects.proofs.KindsFit.{kind_fits}
 use Rattle.thread_objects.proofs.making.make_object.Goals as goal
 
@@ -14,4 +14,4 @@ make_kind-requires-clause-kind g c =
     kind_fits [] objects c.args.place _ (subst (λ (xs : List ObjectLine). may_declare [] xs ≡ true) (sym is) c.workers-workers.ensures.readable.objects) (slice_get-get_or objects c.args.place c.index-objects-place.result within)
 
 pub returns-clause-untouched : goal.returns-clause-untouched
-returns-clause-untouched g c = nothing_made c.in_ok-object.column c.in_ok-object.ensures.untouched
+returns-clause-untouched g c = nothing_made c.in_ok-object.object c.in_ok-object.column c.in_ok-object.ensures.untouched

@@ -3,7 +3,7 @@ use Rattle.std.proofs.lemmas.List.{length-set}
 use Rattle.std.proofs.lemmas.Option.{slice_get-get_or, slice_get_read}
 use Rattle.thread_objects.specs.declared.pass.AnyPass.{AnyPass}
 use Rattle.thread_objects.specs.declared.pass.AnyPass.TheVariants as passes
-use Rattle.thread_objects.specs.Columns.{passes_in}
+use Rattle.thread_objects.specs.ByKind.{passes_in}
 use Rattle.thread_objects.proofs.ColumnLists.{got, set_other}
 use Rattle.thread_objects.proofs.MadeOn.{made_with}
 use Rattle.thread_objects.proofs.RowSteps.{WentTo, put_more, columns_of, pass_at}

@@ -1,11 +1,11 @@
-use Rattle.std.proofs.Common.{List, sym, ◌∙◌, subst}
+use Rattle.std.proofs.Common.{Bool, List, sym, ◌∙◌, subst}
 use Rattle.ruled_object.specs.declared.pass.Pass.{Pass}
 use Rattle.ruled_object.specs.Gathered.{IsWhole, SameOwn}
 use Rattle.ruled_object.specs.Passes.{start_of}
 use Rattle.running.specs.Between.{AreAllBetween}
 use Rattle.thread_objects.specs.Columns.{AreSeated}
 use Rattle.thread_objects.proofs.ColumnLists.{written}
-use Rattle.thread_objects.proofs.ColumnLemmas.{all_of, seated_again, same_own, told_as}
+use Rattle.thread_objects.proofs.ColumnLemmas.{all_of, seated_again, same_own}
 use Rattle.thread_objects.proofs.seated.first_of.Goals as goal
 
 pub first_halt-requires : goal.first_halt-requires
@@ -26,6 +26,10 @@ returns-clause-owns g c =
     (same_own g.P.Machine.next g.P.Machine.HALTS g.P.Machine.frees g.P.Machine.takes _ c.deref_mut.result.now c.first_halt.new.passes h.0 c.first_halt.ensures.passes.1.count h.2 h.3.whole))
 
 pub returns-clause-history : goal.returns-clause-history
-returns-clause-history g c = λ event reply pass_as same. let h = c.first_halt.ensures.history in
-    told_as event reply pass_as same c.args.passes.now.items g.P.Machine.next g.P.Machine.HALTS g.P.Machine.frees g.P.Machine.takes (start_of c.args.object.now) h.0 _ c.requires.halts h.1
-    (subst (λ (old : List (Pass g.row.P-State.Denot g.row.N.Denot g.row.P-Event.Denot g.row.P-Reply.Denot)). IsWhole g.P.Machine.next g.P.Machine.HALTS g.P.Machine.frees g.P.Machine.takes (start_of c.args.object.now) h.0 old) c.deref_mut.ensures.value h.2)
+returns-clause-history g c = let h = c.first_halt.ensures.history in
+    record {
+      journal = h.0;
+      whole = subst (λ (halts : Bool). IsWhole g.P.Machine.next halts g.P.Machine.frees g.P.Machine.takes (start_of c.args.object.now) h.0 c.args.passes.now.items) c.requires.halts
+          (subst (λ (old : List (Pass g.row.P-State.Denot g.row.N.Denot g.row.P-Event.Denot g.row.P-Reply.Denot)). IsWhole g.P.Machine.next g.P.Machine.HALTS g.P.Machine.frees g.P.Machine.takes (start_of c.args.object.now) h.0 old) c.deref_mut.ensures.value h.2);
+      halted = h.1;
+    }

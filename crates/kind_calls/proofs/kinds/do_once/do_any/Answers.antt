@@ -3,7 +3,7 @@ use Rattle.std.specs.Int.{w64}
 use Rattle.std.proofs.lemmas.Option.{IfSome_then}
 use Rattle.run_record.specs.OnceKind.{do_call}
 use Rattle.thread_objects.specs.declared.pass.AnyPass.{AnyPass}
-use Rattle.thread_objects.specs.Passes.{own_of}
+use Rattle.thread_objects.specs.ByKind.{own_of}
 use Rattle.kind_calls.proofs.Working.{part_as, same_own}
 use Rattle.kind_calls.proofs.kinds.do_once.do_any.Goals as goal
 

@@ -16,7 +16,7 @@ use Rattle.run_record.specs.Parts.{stages, with_outcome}
 use Rattle.shared_calls.specs.GivenUp.{AnsweredAmiss}
 use Rattle.shared_calls.specs.Working.{alone}
 use Rattle.kind_calls.specs.Replies.{ran}
-use Rattle.thread_objects.specs.Passes.{own_as}
+use Rattle.thread_objects.specs.EachKind.{own_as}
 use Rattle.kind_calls.proofs.OnceParts.{stopped, had}
 use Rattle.kind_calls.proofs.OnceParts as once
 use Rattle.kind_calls.proofs.Working.{answers_as, part_as}

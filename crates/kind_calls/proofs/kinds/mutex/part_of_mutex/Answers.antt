@@ -4,7 +4,7 @@ use Rattle.run_record.specs.declared.entered.ObjectEvent.TheVariants as event
 use Rattle.run_record.specs.declared.entered.ObjectReply.TheVariants as reply
 use Rattle.run_record.specs.MutexKind.{mutex_part}
 use Rattle.thread_objects.specs.declared.pass.AnyPass.{AnyPass}
-use Rattle.thread_objects.specs.Passes.{own_of}
+use Rattle.thread_objects.specs.ByKind.{own_of}
 use Rattle.kind_calls.proofs.Working.{same_own}
 use Rattle.kind_calls.proofs.kinds.mutex.part_of_mutex.Goals as goal
 

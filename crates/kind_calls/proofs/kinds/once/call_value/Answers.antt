@@ -3,7 +3,7 @@ use Rattle.run_record.specs.declared.entered.ObjectEvent.TheVariants as event
 use Rattle.run_record.specs.declared.entered.ObjectReply.TheVariants as reply
 use Rattle.run_record.specs.OnceKind.{value_call}
 use Rattle.thread_objects.specs.declared.pass.AnyPass.{AnyPass}
-use Rattle.thread_objects.specs.Passes.{own_of}
+use Rattle.thread_objects.specs.ByKind.{own_of}
 use Rattle.kind_calls.specs.Replies.{value_told}
 use Rattle.kind_calls.proofs.Working.{same_own, answers_as}
 use Rattle.kind_calls.proofs.kinds.once.call_value.Goals as goal

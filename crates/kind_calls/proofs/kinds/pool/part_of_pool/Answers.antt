@@ -3,7 +3,7 @@ use Rattle.run_record.specs.declared.entered.ObjectEvent.TheVariants as event
 use Rattle.run_record.specs.declared.entered.ObjectReply.TheVariants as reply
 use Rattle.run_record.specs.PoolKind.{pool_part}
 use Rattle.thread_objects.specs.declared.pass.AnyPass.{AnyPass}
-use Rattle.thread_objects.specs.Passes.{own_of}
+use Rattle.thread_objects.specs.ByKind.{own_of}
 use Rattle.kind_calls.proofs.Working.{same_own}
 use Rattle.kind_calls.proofs.kinds.pool.part_of_pool.Goals as goal
 

@@ -4,7 +4,7 @@ use Rattle.run_record.specs.declared.entered.ObjectEvent.TheVariants as event
 use Rattle.run_record.specs.declared.entered.ObjectReply.TheVariants as reply
 use Rattle.kind_calls.specs.Parts.{rw_mutex_part}
 use Rattle.thread_objects.specs.declared.pass.AnyPass.{AnyPass}
-use Rattle.thread_objects.specs.Passes.{own_of}
+use Rattle.thread_objects.specs.ByKind.{own_of}
 use Rattle.kind_calls.proofs.Working.{same_own}
 use Rattle.kind_calls.proofs.kinds.rw_mutex.part_of_rw_mutex.Goals as goal
 
