@@ -1,4 +1,3 @@
-pub mod ByKind
 pub mod HaltLemmas
 pub mod OnceParts
 pub mod PoolLooks

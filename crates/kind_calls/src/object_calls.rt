@@ -48,28 +48,29 @@ fn call_object<N: Note, C: Clock, R: Wait>(
     ensures works { (plan : Plan) (before place : ℕ)
         → Works (call_on plan worker.now.number before place kind operation.now) (desk_at N.own N.front (object_number place) (own_of pass.old) note.old) result (desk_at N.own N.front (object_number place) (own_of pass.new) note.new) }
 {
-    match operation {
-        Operation::Mutex(call) => call_mutex(rt, worker, object, pass, note, *call),
-        Operation::RwMutex(call) => call_rw_mutex(rt, worker, object, pass, note, *call),
-        Operation::Cond(call) => match call {
-            CondCall::Signal => notify(rt, worker, object, pass, note, CondStage::Signal),
-            CondCall::Broadcast => notify(rt, worker, object, pass, note, CondStage::Broadcast),
-            CondCall::Wait => unreachable!(),
-        },
-        Operation::WaitGroup(call) => call_group(rt, worker, object, pass, note, *call),
-        Operation::OnceFunc => match kind {
-            ObjectKind::OnceFunc { code } => call_func(rt, worker, object, pass, note, code),
-            _ => unreachable!(),
-        },
-        Operation::OnceValue => match kind {
-            ObjectKind::OnceValue { value } => call_value(rt, worker, object, pass, note, value),
-            _ => unreachable!(),
-        },
-        Operation::Pool(_call) => unreachable!(),
-        Operation::Map(_call) => unreachable!(),
-        Operation::Range => unreachable!(),
-        Operation::Atomic(_call) => unreachable!(),
-        Operation::Once => unreachable!(),
+    match (kind, operation) {
+        (ObjectKind::Mutex, Operation::Mutex(call)) => {
+            call_mutex(rt, worker, object, pass, note, *call)
+        }
+        (ObjectKind::RwMutex, Operation::RwMutex(call)) => {
+            call_rw_mutex(rt, worker, object, pass, note, *call)
+        }
+        (ObjectKind::Cond { .. }, Operation::Cond(CondCall::Signal)) => {
+            notify(rt, worker, object, pass, note, CondStage::Signal)
+        }
+        (ObjectKind::Cond { .. }, Operation::Cond(CondCall::Broadcast)) => {
+            notify(rt, worker, object, pass, note, CondStage::Broadcast)
+        }
+        (ObjectKind::WaitGroup { .. }, Operation::WaitGroup(call)) => {
+            call_group(rt, worker, object, pass, note, *call)
+        }
+        (ObjectKind::OnceFunc { code }, Operation::OnceFunc) => {
+            call_func(rt, worker, object, pass, note, code)
+        }
+        (ObjectKind::OnceValue { value }, Operation::OnceValue) => {
+            call_value(rt, worker, object, pass, note, value)
+        }
+        _ => unreachable!(),
     }
 }
 

@@ -14,14 +14,7 @@ use Rattle.run_record.specs.Objects.{is_map, types_of}
 one_of_both : (kind : ObjectKind) → length (types_of kind) + cond (is_map kind) 1 0 ≤ 1
 one_of_both kinds.Map = omega arith
 one_of_both (kinds.Atomic type) = omega arith
-one_of_both kinds.Mutex = omega arith
-one_of_both kinds.RwMutex = omega arith
-one_of_both (kinds.Cond mutex) = omega arith
-one_of_both (kinds.WaitGroup start) = omega arith
-one_of_both (kinds.Once atomic delta) = omega arith
-one_of_both (kinds.OnceFunc code) = omega arith
-one_of_both (kinds.OnceValue value) = omega arith
-one_of_both kinds.Pool = omega arith
+one_of_both kind = omega arith
 
 -- each object is an atomic, a map, or neither
 pub atomics_and_maps : (objects : List ObjectLine) → length (flat_map (λ object. types_of object.kind) objects) + count_by (λ object. is_map object.kind) objects ≤ length objects

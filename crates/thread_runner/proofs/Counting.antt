@@ -58,15 +58,7 @@ map_room others o map joins =
 
 map_or_not : (kind : ObjectKind) → (kind ≡ kinds.Map) ⊎ (is_map kind ≡ false)
 map_or_not kinds.Map = inl refl
-map_or_not (kinds.Atomic type) = inr refl
-map_or_not kinds.Mutex = inr refl
-map_or_not kinds.RwMutex = inr refl
-map_or_not (kinds.Cond mutex) = inr refl
-map_or_not (kinds.WaitGroup start) = inr refl
-map_or_not (kinds.Once atomic delta) = inr refl
-map_or_not (kinds.OnceFunc code) = inr refl
-map_or_not (kinds.OnceValue value) = inr refl
-map_or_not kinds.Pool = inr refl
+map_or_not kind = inr refl
 
 one_more : (others : List ObjectLine) (o : ObjectLine) → may_join others o ≡ true → maps_in others ≤ 16 → maps_in (others ++ o ∷ []) ≤ 16
 one_more others o joins few =
