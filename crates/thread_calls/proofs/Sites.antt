@@ -29,7 +29,7 @@ use Rattle.run_record.specs.AtomicKind.{atomic_call}
 use Rattle.run_record.specs.Limits.{IsCallOf, atomic_types}
 use Rattle.run_record.specs.MapKind.{map_call, range_call}
 use Rattle.run_record.specs.OnceKind.{do_call}
-use Rattle.run_record.specs.Objects.{is_map, is_atomic, types_of, map_number, atomic_number}
+use Rattle.run_record.specs.Objects.{is_map, is_atomic, types_of, atomic_number}
 use Rattle.thread_objects.specs.AsDeclared.{IsAt}
 use Rattle.shared_calls.specs.PlacedCalls.{placed_map}
 use Rattle.thread_calls.specs.Sites.{AreNumbers, AreShared, number_at}

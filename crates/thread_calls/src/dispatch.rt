@@ -142,13 +142,7 @@ fn call_at<S: Shared, C: Clock, R: Wait>(
             first_part_of(site, place),
             *call,
         )),
-        Operation::Cond(CondCall::Signal)
-        | Operation::Cond(CondCall::Broadcast)
-        | Operation::Mutex(_)
-        | Operation::RwMutex(_)
-        | Operation::WaitGroup(_)
-        | Operation::OnceFunc
-        | Operation::OnceValue => Some(object_at(
+        _ => Some(object_at(
             rt,
             worker,
             site.objects,

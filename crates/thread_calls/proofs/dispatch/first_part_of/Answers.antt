@@ -1,7 +1,7 @@
-use Rattle.std.proofs.Common.{◌≡◌, ℕ, ◌+◌, ◌*◌, ◌<◌, List, length, ap, ◌∙◌, arith}
+use Rattle.std.proofs.Common.{◌*◌, List, length, ap, ◌∙◌, arith}
 use Rattle.workload.specs.declared.object.ObjectKind.TheVariants.{Pool}
 use Rattle.workload.specs.declared.object.ObjectLine.{ObjectLine}
-use Rattle.run_record.specs.Objects.{first_part, object_count, pool_number}
+use Rattle.run_record.specs.Objects.{pool_number}
 use Rattle.thread_calls.proofs.Sites.{number_is}
 use Rattle.thread_calls.proofs.dispatch.first_part_of.Goals as goal
 
