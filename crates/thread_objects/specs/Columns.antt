@@ -40,7 +40,7 @@ module _ {S N E R : Type 0} where
     pub whole : IsWhole next true frees takes start journal passes
     pub halted : first ≡ halt_of journal
 
--- the same of an object of this kind
+-- The same of an object of this kind, which it names: so whoever has it knows which kind it is.
 pub record IsHistoryIn {M N S E R H W : Type 0} (kind : Kind S E R W) (object : Object M N S E R H) (first : Option Misuse) (passes : List (Pass S N E R)) : Type 0 where
   pub of : IsHistoryOf kind.next kind.frees kind.takes (start_of object) first passes
 
@@ -59,7 +59,7 @@ AreNone count (columns.None n) = n ≡ count
 AreNone count column = ⊥
 
 module _ {N H : Type 0} (at : H → N → Type 0) (home : H) (workers count : ℕ) where
-  -- the same of an object of this kind, with room for the passes of all workers, in memory that is taken
+  -- these are the passes of the first workers to an object of this kind, with room for those of all, in memory that is taken
   abbrev pub ColumnOf : {M S E R W : Type 0} → Kind S E R W → Object M N S E R H → Vec (Pass S N E R) → Type 0
   ColumnOf kind object passes = AreSeated kind.begins kind.out kind.stands at home workers count object passes.items × (workers ≤ vec_capacity passes)
 

@@ -12,20 +12,20 @@ use Rattle.run_record.specs.Record.{ObjectEntry}
 use Rattle.thread_objects.specs.declared.column.AnyColumn.{AnyColumn}
 use Rattle.thread_objects.specs.declared.pass.AnyPass.{AnyPass}
 
--- A kind: the word of the lines that declare its objects; the state in which an object begins that a workload of so many workers declares so, if it is one of this kind; the states in which its objects may begin; where a caller stands between two calls, and after an event of its own; its machine; which events release and which acquire; its events and answers among those of all kinds; and a pass and a column, if they are of this kind.
+-- A kind, whose objects have states S, events E and answers R, and whose callers stand at a W.
 pub record Kind (S E R W : Type 0) : Type 1 where
-  pub word : Option ObjectWord
-  pub starts : ℕ → ObjectKind → Option S
-  pub begins : ℕ → S → Type 0
-  pub out : W
-  pub stands : W → E → R → W
-  pub next : S → ℕ → E → S × R
-  pub frees : E → R → Bool
-  pub takes : E → R → Bool
-  pub event : E → ObjectEvent
-  pub reply : R → ObjectReply
-  pub pass : {N : Type 0} → AnyPass N → Option (Pass S N E R)
-  pub column : {N : Type 0} → AnyColumn N → Option (Vec (Pass S N E R))
+  pub word : Option ObjectWord  -- of the lines that declare its objects
+  pub starts : ℕ → ObjectKind → Option S  -- the state in which an object begins that a workload of so many workers declares so, if it is of this kind
+  pub begins : ℕ → S → Type 0  -- the states in which an object of so many callers may begin
+  pub out : W  -- where a caller stands between two calls
+  pub stands : W → E → R → W  -- and where after an event of its own
+  pub next : S → ℕ → E → S × R  -- the machine
+  pub frees : E → R → Bool  -- which events release
+  pub takes : E → R → Bool  -- which acquire
+  pub event : E → ObjectEvent  -- its events among those of all kinds
+  pub reply : R → ObjectReply  -- and its answers
+  pub pass : {N : Type 0} → AnyPass N → Option (Pass S N E R)  -- a pass, if it is to such an object
+  pub column : {N : Type 0} → AnyColumn N → Option (Vec (Pass S N E R))  -- a column's passes, if they are to one
 
 -- a pass's entries, as those of whatever kind's
 abbrev pub own_as : {S N E R : Type 0} → (E → ObjectEvent) → (R → ObjectReply) → Pass S N E R → List ObjectEntry
