@@ -1,4 +1,5 @@
 pub mod GivenUp
+pub mod Laws
 pub mod PlacedCalls
 pub mod Spending
 pub mod Working

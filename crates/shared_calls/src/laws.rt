@@ -2,14 +2,15 @@
 ghost use Rattle.std.specs.Prelude.{◌≡◌, ℕ, ◌+◌, ◌<◌, List, [], ◌++◌, length, take, Option, Some, slice_get, slice_index, IsSome};
 ghost use Rattle.sync_model.specs.declared.item.Item.{Item};
 ghost use Rattle.sync_model.specs.Front.{AtLeast};
-ghost use Rattle.sync_model.specs.Note.{Holding, IsCounted};
+ghost use Rattle.sync_model.specs.Note.{Holding};
 ghost use Rattle.sync_model.specs.Shared.{items_of};
 ghost use Rattle.workload.specs.Plan.{Plan};
 ghost use Rattle.run_record.specs.Limits.{IsCallOf};
 ghost use Rattle.run_record.specs.Record.{shared_in, front_of};
 ghost use Rattle.shared_calls.specs.GivenUp.{MakesOnly};
+ghost use Rattle.shared_calls.specs.Laws.{Stays, Joins, Counts};
 ghost use Rattle.shared_calls.specs.Spending.{Spends};
-ghost use Rattle.shared_calls.specs.Working.{Desk, Moves, number_in};
+ghost use Rattle.shared_calls.specs.Working.{Desk, Moves};
 
 use run_record::Made;
 use sync_model::Note;
@@ -17,8 +18,8 @@ use sync_model::Note;
 /// A worker that makes nothing stays at its desk. What it makes from one desk to another, and then to a third, it makes from
 /// the first one to the third: what it makes first comes before, its calls on maps and atomics too.
 pub fn moves()
-    ensures none { (desk : Desk) → Moves desk [] desk }
-    ensures joined { (old between new : Desk) (earlier later : List Made) → Moves old earlier between → Moves between later new → Moves old (earlier ++ later) new }
+    ensures none { Stays }
+    ensures joined { Joins }
     ensures shared { (earlier later : List Made) → shared_in (earlier ++ later) ≡ shared_in earlier ++ shared_in later }
 {}
 
@@ -35,7 +36,7 @@ pub fn a_worker_knows_its_own_calls()
 
 /// A note that counts all its holder's calls on maps and atomics has their number as its holder's own.
 pub fn a_note_counts_its_calls()
-    ensures { (own : Option Holding) (front : List ℕ) (worker : ℕ) → IsCounted own front → number_in own ≡ Some worker → slice_index front worker ≡ length (items_of own) }
+    ensures { Counts }
 {}
 
 /// Of its spare entries a caller uses none while its note holds what it held, and by calls one after the other what each of them

@@ -22,7 +22,7 @@ ghost use Rattle.shared_calls.specs.Working.{Works, desk_with};
 
 use crate::placed_calls::{atomic_at, map_at, once_at, range_at};
 use crate::site::Site;
-use kind_calls::{call_pool, object_at, wait_at};
+use object_calls::{call_pool, object_at, wait_at};
 use run_record::laws::numbers::parts_have_numbers_of_their_own;
 use shared_calls::CallAnswer;
 use std::sync::Wait;

@@ -30,7 +30,7 @@ ghost use Rattle.shared_calls.specs.Working.{Works, desk_with};
 
 use crate::numbering::numbered;
 use crate::site::Site;
-use kind_calls::do_at;
+use object_calls::do_at;
 use shared_calls::{CallAnswer, call_atomic, call_map, call_range};
 use std::sync::Wait;
 use sync_model::{Caller, Shared};

@@ -3,11 +3,12 @@ pub mod ColumnLists
 pub mod Declared
 pub mod DeclaredJournals
 pub mod GroupStart
-pub mod HaltLemmas
 pub mod Histories
 pub mod KindsFit
 pub mod MadeOn
+pub mod OnceParts
 pub mod RowSteps
 pub mod SameKinds
 pub mod StopColumns
 pub mod Telling
+pub mod Working

@@ -13,6 +13,7 @@ use Rattle.run_record.specs.Record.{stop, object_number}
 use Rattle.thread_objects.specs.declared.object.AnyObject.{AnyObject}
 use Rattle.thread_objects.specs.declared.object.AnyObject.TheVariants as objects
 use Rattle.thread_objects.specs.ByKind.{of_object}
+use Rattle.thread_objects.specs.EachKind.{Kind}
 
 -- the workload declares an object of this kind at the place
 abbrev pub IsAt : Plan → ℕ → ObjectKind → Type 0
@@ -23,6 +24,10 @@ pub record Began {M N S E R H : Type 0} (at : H → N → Type 0) (home : H) (wo
   pub callers : callers_of object ≡ workers
   pub begun : start_of object ≡ start
   pub homed : IsHomeOf at object home
+
+-- the same of an object of this kind, where it is one of the kind that is declared so, and as such ones begin
+abbrev pub BeganAs : {M N S E R W H : Type 0} → Kind S E R W → (H → N → Type 0) → H → ℕ → ObjectKind → Object M N S E R H → Type 0
+BeganAs kind at home workers declared object = MatchOption (kind.starts workers declared) ⊥ (λ start. Began at home workers start object)
 
 -- nothing is here for it: a map or an atomic, or a pool beside its parts
 abbrev pub IsElsewhere : ObjectKind → Type 0
@@ -41,7 +46,7 @@ module _ {N H : Type 0} (at : H → N → Type 0) (home : H) where
   IsDeclared plan place declared object = of_object (record {
     shared = IsElsewhere declared;
     stop = λ o. ⊥;
-    each = λ kind o. MatchOption (kind.starts plan.workers declared) ⊥ (λ start. Began at home plan.workers start o);
+    each = λ kind o. BeganAs kind at home plan.workers declared o;
   }) object
 
   -- it is a part of the pool that the workload declares at this place, as it begins: it has room for all items that the scripts put into the pool

@@ -8,12 +8,14 @@ use Rattle.thread_objects.specs.declared.object.AnyObject.{AnyObject}
 use Rattle.thread_objects.specs.declared.object.AnyObject.TheVariants as objects
 use Rattle.thread_objects.specs.declared.pass.AnyPass.{AnyPass}
 use Rattle.thread_objects.specs.declared.pass.AnyPass.TheVariants as passes
-use Rattle.thread_objects.specs.declared.stop.NoEvent.{NoEvent}
-use Rattle.thread_objects.specs.declared.stop.StopCore.{StopCore}
+use Rattle.object_parts.specs.declared.stop.NoEvent.{NoEvent}
+use Rattle.object_parts.specs.declared.stop.StopCore.{StopCore}
 use Rattle.thread_objects.specs.CondKind.{cond}
 use Rattle.thread_objects.specs.EachKind.{Kind, own_in}
 use Rattle.thread_objects.specs.MutexKind.{mutex}
-use Rattle.thread_objects.specs.OnceKinds.{once, once_func, once_value}
+use Rattle.thread_objects.specs.OnceFuncKind.{once_func}
+use Rattle.thread_objects.specs.OnceKind.{once}
+use Rattle.thread_objects.specs.OnceValueKind.{once_value}
 use Rattle.thread_objects.specs.PoolPartKind.{pool_part}
 use Rattle.thread_objects.specs.RwMutexKind.{rw_mutex}
 use Rattle.thread_objects.specs.StopKind.{stop}

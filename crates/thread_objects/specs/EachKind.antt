@@ -1,14 +1,13 @@
 -- What is a kind's own.
 use Rattle.std.specs.Global.{Vec}
-use Rattle.std.specs.Prelude.{ℕ, Bool, List, Option, map}
+use Rattle.std.specs.Prelude.{ℕ, Bool, List, Option}
 use Rattle.workload.specs.declared.object.ObjectKind.{ObjectKind}
 use Rattle.workload.specs.declared.object.ObjectWord.{ObjectWord}
 use Rattle.ruled_object.specs.declared.pass.Pass.{Pass}
-use Rattle.ruled_object.specs.Passes.{own_by}
 use Rattle.run_record.specs.declared.entered.ObjectEvent.{ObjectEvent}
 use Rattle.run_record.specs.declared.entered.ObjectReply.{ObjectReply}
-use Rattle.run_record.specs.Parts.{lifted}
 use Rattle.run_record.specs.Record.{ObjectEntry}
+use Rattle.object_parts.specs.Own.{own_as}
 use Rattle.thread_objects.specs.declared.column.AnyColumn.{AnyColumn}
 use Rattle.thread_objects.specs.declared.pass.AnyPass.{AnyPass}
 
@@ -27,10 +26,6 @@ pub record Kind (S E R W : Type 0) : Type 1 where
   pub pass : {N : Type 0} → AnyPass N → Option (Pass S N E R)  -- a pass, if it is to such an object
   pub column : {N : Type 0} → AnyColumn N → Option (Vec (Pass S N E R))  -- a column's passes, if they are to one
 
--- a pass's entries, as those of whatever kind's
-abbrev pub own_as : {S N E R : Type 0} → (E → ObjectEvent) → (R → ObjectReply) → Pass S N E R → List ObjectEntry
-own_as event reply pass = map (lifted event reply) (own_by pass)
-
--- the same of a pass to an object of this kind
+-- the entries of a pass to an object of this kind, as those of whatever kind's
 abbrev pub own_in : {S N E R W : Type 0} → Kind S E R W → Pass S N E R → List ObjectEntry
 own_in kind pass = own_as kind.event kind.reply pass

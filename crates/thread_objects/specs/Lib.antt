@@ -1,3 +1,4 @@
+pub mod Alone
 pub mod AsDeclared
 pub mod ByKind
 pub mod Columns
@@ -7,12 +8,13 @@ pub mod EachKind
 pub mod Halting
 pub mod Kinds
 pub mod MutexKind
+pub mod OnceFuncKind
+pub mod OnceKind
 pub mod OnceKinds
+pub mod OnceValueKind
 pub mod Passes
 pub mod PoolPartKind
 pub mod Rows
 pub mod RwMutexKind
-pub mod Seats
-pub mod Stop
 pub mod StopKind
 pub mod WaitGroupKind

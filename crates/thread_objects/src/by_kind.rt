@@ -1,11 +1,38 @@
 //! Going on by the kind of an object.
 
+/// The one list of the kinds that a workload declares: it is put before what the named macro is called with.
+macro_rules! with_kinds {
+    ($then:ident $($all:tt)*) => {
+        $then!([Mutex RwMutex Cond WaitGroup Once OnceFunc OnceValue] $($all)*)
+    };
+}
+
 /// Goes on with an object of whatever kind, and with what other enums of the kinds hold of it: with both as they are of that kind, and
-/// by the first expression with a map or an atomic. Where an enum is named last, what comes of it is of that kind again. All kinds
-/// stand in this one list.
+/// by the first expression with a map or an atomic. Where an enum is named last, what comes of it is of that kind again.
 macro_rules! by_kind {
     ($($all:tt)*) => {
-        arms!([Stop Mutex RwMutex Cond WaitGroup Once OnceFunc OnceValue PoolPart] $($all)*)
+        with_kinds!(all_kinds $($all)*)
+    };
+}
+
+/// Goes on with an object of a kind that a workload declares, and with a pass that is one to it.
+macro_rules! by_declared_kind {
+    ($($all:tt)*) => {
+        with_kinds!(declared_arms $($all)*)
+    };
+}
+
+/// Makes an object that is declared so and the passes to it, of one of these kinds, and by the first expression what is no such object.
+macro_rules! make_by_kind {
+    ($($all:tt)*) => {
+        with_kinds!(making_arms $($all)*)
+    };
+}
+
+/// The kinds that a workload declares, and those that it doesn't: Stop, and a part of a pool.
+macro_rules! all_kinds {
+    ([$($kind:ident)*] $($all:tt)*) => {
+        arms!([Stop $($kind)* PoolPart] $($all)*)
     };
 }
 
@@ -43,5 +70,39 @@ macro_rules! arms {
     };
 }
 
+/// The same, where an object of no other kind can be.
+macro_rules! declared_arms {
+    ([$($kind:ident)*] $object:expr, $pass:expr, |$o:ident, $p:ident| $go:expr) => {
+        match $object {
+            $(AnyObject::$kind($o) => match $pass {
+                AnyPass::$kind($p) => $go,
+                _ => unreachable!(),
+            },)*
+            _ => unreachable!(),
+        }
+    };
+}
+
+/// One arm for each of these kinds, by how an object is declared.
+macro_rules! making_arms {
+    ([$($kind:ident)*] $declared:expr, $shared:expr, $made:expr) => {
+        match $declared {
+            $(ObjectKind::$kind { .. } => {
+                let (object, passes) = $made;
+                Ok((AnyObject::$kind(object), AnyColumn::$kind(passes)))
+            })*
+            ObjectKind::Map => Ok($shared),
+            ObjectKind::Atomic(_type) => Ok($shared),
+            ObjectKind::Pool => Ok($shared),
+        }
+    };
+}
+
+pub(crate) use all_kinds;
 pub(crate) use arms;
+pub(crate) use by_declared_kind;
 pub(crate) use by_kind;
+pub(crate) use declared_arms;
+pub(crate) use make_by_kind;
+pub(crate) use making_arms;
+pub(crate) use with_kinds;

@@ -4,7 +4,7 @@ ghost use Rattle.thread_objects.specs.ByKind.{passes_in};
 ghost use Rattle.thread_objects.specs.Columns.{IsColumnOf};
 ghost use Rattle.thread_objects.specs.Passes.{IsSeatAt};
 
-use crate::by_kind::{arms, by_kind};
+use crate::by_kind::{all_kinds, arms, by_kind, with_kinds};
 use crate::column::AnyColumn;
 use crate::crew::Crew;
 use crate::object::AnyObject;

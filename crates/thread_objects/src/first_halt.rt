@@ -1,7 +1,7 @@
 //! The first halt of an object, once its workers have ended.
 ghost use Rattle.thread_objects.specs.Columns.{IsColumnOf, IsFirstHalt};
 
-use crate::by_kind::{arms, by_kind};
+use crate::by_kind::{all_kinds, arms, by_kind, with_kinds};
 use crate::column::AnyColumn;
 use crate::crew::Crew;
 use crate::object::AnyObject;

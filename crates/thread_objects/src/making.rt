@@ -1,23 +1,23 @@
 //! Making the objects of a run.
-ghost use Rattle.std.specs.Prelude.{◌≡◌, ℕ, ◌<◌, ◌≤◌, true, [], length, IfOk, Some, slice_get};
+ghost use Rattle.std.specs.Prelude.{◌≡◌, ℕ, ◌<◌, ◌≤◌, true, [], length, IfOk, Some, slice_get, vec_capacity};
 ghost use Rattle.workload.specs.declared.object.ObjectLine.{ObjectLine};
 ghost use Rattle.workload.specs.Draft.{is_kind};
-ghost use Rattle.run_record.specs.WaitGroupKind.{group_start};
-ghost use Rattle.thread_objects.specs.AsDeclared.{IsDeclared, IsPartOf, IsStopOf};
+ghost use Rattle.workload.specs.Plan.{word_of};
+ghost use Rattle.thread_objects.specs.AsDeclared.{BeganAs, IsDeclared, IsPartOf, IsStopOf};
 ghost use Rattle.thread_objects.specs.ByKind.{passes_in};
-ghost use Rattle.thread_objects.specs.Columns.{IsColumnOf, IsUntouched};
+ghost use Rattle.thread_objects.specs.Columns.{AreSeated, AreUntouched, IsColumnOf, IsUntouched};
 ghost use Rattle.thread_objects.specs.Passes.{owns_of};
 
+use crate::by_kind::{make_by_kind, making_arms, with_kinds};
 use crate::column::AnyColumn;
 use crate::crew::Crew;
+use crate::kind::DeclaredKind;
 use crate::object::AnyObject;
 use crate::seated::begin;
-use mutex_core::MutexCore;
 use pool_core::PartCore;
-use rw_core::RwCore;
+use ruled_object::{Object, PassOf};
 use std::alloc::{AllocError, Global};
 use sync_model::Note;
-use wait_cores::{GroupCore, NotifyCore, OnceCore};
 use workload::{ObjectKind, Workload};
 
 /// Stop, and a pass of each worker to it. It keeps `note` for what halts leave, which is nothing. No other call takes memory.
@@ -36,15 +36,25 @@ pub fn make_stop<N: Note>(
     Ok((AnyObject::Stop(object), AnyColumn::Stop(passes)))
 }
 
-// A wait group whose counter is this at the start.
-fn new_group(alloc: Global, workers: u32, start: u32) -> Result<GroupCore, AllocError>
-    requires workers { (0 < workers) × (workers ≤ 64) }
-    requires start { start ≤ 10000 }
-    ensures { IfOk result (λ core. core ≡ group_start workers start) }
+// An object of a kind that is declared so, as it begins, and a pass of each worker to it.
+fn make_declared<K: DeclaredKind, N: Note>(
+    alloc: Global,
+    crew: &Crew<N>,
+    declared: ObjectKind,
+    note: N,
+) -> Result<(Object<K, N>, Vec<PassOf<K, N>>), AllocError>
+    requires workers { (0 < crew.now.workers) × (crew.now.workers ≤ 64) }
+    requires home { N.at crew.now.home.now note }
+    requires ranged { is_kind declared ≡ true }
+    requires word { K.kind.word ≡ Some (word_of declared) }
+    ensures object { IfOk result (λ made. BeganAs K.kind N.at crew.now.home.now crew.now.workers declared made.0) }
+    ensures passes { IfOk result (λ made. AreSeated K.begins K.out K.stands N.at crew.now.home.now crew.now.workers crew.now.workers made.0 made.1.items) }
+    ensures room { IfOk result (λ made. crew.now.workers ≤ vec_capacity made.1) }
+    ensures untouched { IfOk result (λ made. AreUntouched made.1.items) }
 {
-    let mut core = GroupCore::new(alloc, workers)?;
-    let _added = core.add(start as i32);
-    Ok(core)
+    let start = K::start(alloc, crew.workers, declared)?;
+    let (object, passes) = begin(alloc, crew, start, note)?;
+    Ok((object, passes))
 }
 
 // An object of this kind.
@@ -64,46 +74,11 @@ fn make_kind<N: Note>(
     ensures column { IfOk result (λ made. IsColumnOf N.at crew.now.home.now crew.now.workers crew.now.workers made.0 made.1) }
     ensures untouched { IfOk result (λ made. IsUntouched made.0 made.1) }
 {
-    match kind {
-        ObjectKind::Map => Ok((AnyObject::Shared, AnyColumn::None(crew.workers))),
-        ObjectKind::Atomic(_type) => Ok((AnyObject::Shared, AnyColumn::None(crew.workers))),
-        ObjectKind::Mutex => {
-            let core = MutexCore::new(alloc, crew.workers)?;
-            let (object, passes) = begin(alloc, crew, core, note)?;
-            Ok((AnyObject::Mutex(object), AnyColumn::Mutex(passes)))
-        }
-        ObjectKind::RwMutex => {
-            let core = RwCore::new(alloc, crew.workers)?;
-            let (object, passes) = begin(alloc, crew, core, note)?;
-            Ok((AnyObject::RwMutex(object), AnyColumn::RwMutex(passes)))
-        }
-        ObjectKind::Cond { .. } => {
-            let core = NotifyCore::new(alloc, crew.workers)?;
-            let (object, passes) = begin(alloc, crew, core, note)?;
-            Ok((AnyObject::Cond(object), AnyColumn::Cond(passes)))
-        }
-        ObjectKind::WaitGroup { start } => {
-            let core = new_group(alloc, crew.workers, start)?;
-            let (object, passes) = begin(alloc, crew, core, note)?;
-            Ok((AnyObject::WaitGroup(object), AnyColumn::WaitGroup(passes)))
-        }
-        ObjectKind::Once { .. } => {
-            let core = OnceCore::new(alloc, crew.workers)?;
-            let (object, passes) = begin(alloc, crew, core, note)?;
-            Ok((AnyObject::Once(object), AnyColumn::Once(passes)))
-        }
-        ObjectKind::OnceFunc { .. } => {
-            let core = OnceCore::new(alloc, crew.workers)?;
-            let (object, passes) = begin(alloc, crew, core, note)?;
-            Ok((AnyObject::OnceFunc(object), AnyColumn::OnceFunc(passes)))
-        }
-        ObjectKind::OnceValue { .. } => {
-            let core = OnceCore::new(alloc, crew.workers)?;
-            let (object, passes) = begin(alloc, crew, core, note)?;
-            Ok((AnyObject::OnceValue(object), AnyColumn::OnceValue(passes)))
-        }
-        ObjectKind::Pool => Ok((AnyObject::Shared, AnyColumn::None(crew.workers))),
-    }
+    make_by_kind!(
+        kind,
+        (AnyObject::Shared, AnyColumn::None(crew.workers)),
+        make_declared(alloc, crew, kind, note)?
+    )
 }
 
 /// The object that the workload declares at this place, as it begins, and a pass of each worker to it. It keeps `note` for

@@ -17,7 +17,7 @@ ghost use Rattle.thread_calls.specs.Sites.{IsSite, AreRooms, cost_of_calls, rang
 ghost use Rattle.shared_calls.specs.Working.{Desk, Works, Moves, desk_with};
 ghost use Rattle.thread_runner.specs.DidLines.{DidLine, IsFresh};
 
-use kind_calls::halt_all;
+use object_calls::halt_all;
 use shared_calls::laws::moves;
 use std::sync::Wait;
 use sync_model::{Answer, Caller, Note, Shared};

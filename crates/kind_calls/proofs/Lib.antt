@@ -1,5 +1,0 @@
-pub mod HaltLemmas
-pub mod OnceParts
-pub mod PoolLooks
-pub mod Slots
-pub mod Working

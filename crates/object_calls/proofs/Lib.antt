@@ -1,0 +1,4 @@
+pub mod HaltLemmas
+pub mod PoolLooks
+pub mod Slots
+pub mod Working

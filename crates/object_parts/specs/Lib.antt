@@ -1,0 +1,5 @@
+pub mod Halting
+pub mod Own
+pub mod Replies
+pub mod Seats
+pub mod Stop

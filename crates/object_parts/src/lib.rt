@@ -1,0 +1,19 @@
+//! What a worker does at one object, whatever its machine: a part of a call, in the words of the record that explains a run, and a
+//! halt. And the machine of Stop, on which a misuse ends the run.
+#![tactic(auto)]
+
+mod halting;
+mod once;
+mod parts;
+mod replies;
+mod stop;
+mod worker;
+
+pub use halting::halt_one;
+pub use once::{begin, end};
+pub use parts::part;
+pub use replies::{
+    func_reply, gone_on, lock_reply, locked_again, pool_done, ran, returned, value_reply,
+};
+pub use stop::{NoEvent, StopCore};
+pub use worker::Worker;

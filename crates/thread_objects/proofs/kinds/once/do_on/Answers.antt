@@ -1,0 +1,85 @@
+use Rattle.std.proofs.Common.{◌≡◌, ℕ, ℤ, Option, None, Ok, subst, sym, ap, ◌∙◌, to_z, of_z, rules}
+use Rattle.std.specs.Int.{w64}
+use Rattle.std.specs.Prelude.{IfNone}
+use Rattle.sync_model.specs.declared.answer.Answer.TheVariants.{Done}
+use Rattle.sync_model.specs.Note.{Holding}
+use Rattle.sync_model.specs.Shared.{items_of}
+use Rattle.sync_types.specs.declared.call.Reply.{Reply}
+use Rattle.sync_types.specs.declared.call.Reply.TheVariants as replies
+use Rattle.sync_types.specs.declared.once_call.DoReply.TheVariants as do_replies
+use Rattle.protocols.specs.OnceStages.{once_event, once_meaning}
+use Rattle.protocols.specs.Spelling.{CallAnswer}
+use Rattle.run_record.specs.AtomicKind.{adds}
+use Rattle.run_record.specs.declared.entered.ObjectEvent.TheVariants as event
+use Rattle.run_record.specs.declared.entered.ObjectReply.TheVariants as reply
+use Rattle.run_record.specs.Parts.{stages, with_outcome}
+use Rattle.shared_calls.specs.GivenUp.{AnsweredAmiss}
+use Rattle.shared_calls.specs.Working.{alone}
+use Rattle.object_parts.specs.Replies.{ran}
+use Rattle.object_parts.specs.Own.{own_as}
+use Rattle.thread_objects.proofs.OnceParts.{stopped, had}
+use Rattle.thread_objects.proofs.OnceParts as once
+use Rattle.thread_objects.proofs.Working.{answers_as, part_as}
+use Rattle.thread_objects.proofs.kinds.once.do_on.Goals as goal
+
+none_of : {X : Type 0} (o : Option X) {P : Type 0} → o ≡ None → IfNone o P → P
+none_of {X} o {P} is holds = subst (λ (r : Option X). IfNone r P) is holds
+
+abbrev found : ℤ → Reply ℕ
+found kept = replies.Once do_replies.Done
+
+pub returns-in-Halted-clause-works : goal.returns-in-Halted-clause-works
+returns-in-Halted-clause-works g c = λ number. stopped c.moves.ensures.none c.moves.ensures.joined (stages event.Once reply.Once once_event once_meaning number) (adds c.args.atomic c.args.delta) ran found _ _ c.in-Halted.misuse (c.in-Halted.ensures.works event.Once reply.Once number)
+
+pub returns-in-Done-Ok-Already-clause-works : goal.returns-in-Done-Ok-Already-clause-works
+returns-in-Done-Ok-Already-clause-works g c = λ number.
+    let given = rw c.in-Done-Ok-Already.field-0-is at c.in-Done-Ok-Already.ensures.works in
+    let did = rw c.in-Done-Ok-Already.field-0-0-is at given in
+    had c.moves.ensures.none c.moves.ensures.joined (stages event.Once reply.Once once_event once_meaning number) (adds c.args.atomic c.args.delta) ran found _ _ c.in-Done-Ok-Already._kept (did event.Once reply.Once number)
+
+pub returns-in-Some-clause-works : goal.returns-in-Some-clause-works
+returns-in-Some-clause-works g c = λ number.
+    let given = rw c.in-Done-Ok-Run.field-0-is at c.in-Done-Ok-Run.ensures.works in
+    let did = rw c.in-Done-Ok-Run.field-0-0-is at given in
+    let sum = to_z w64 (of_z w64 c.in-Some.sum) in
+    let fits : to_z w64 (of_z w64 c.args.delta) ≡ c.args.delta = search rules in
+    let same : sum ≡ c.in-Some.sum = search rules in
+    let added = c.in-Some.ensures.works (alone number (own_as event.Once reply.Once c.begin.new.pass)) in
+    let inner = answers_as _ _ _ (Done (Ok c.in-Some.sum)) (Done (Ok sum)) (ap (λ (s : ℤ). Done (Ok s)) same) (part_as (λ (d : ℤ). adds c.args.atomic d) c.args.delta _ _ _ _ (sym fits) added) in
+    answers_as _ _ _ _ _ (c.ran.ensures ∙ ap (λ (a : CallAnswer ℤ). with_outcome ran a) c.ended.ensures)
+    (once.ran c.moves.ensures.none c.moves.ensures.joined (stages event.Once reply.Once once_event once_meaning number) (adds c.args.atomic c.args.delta) ran found _ _ _ _ sum c.end-answer.result (did event.Once reply.Once number) inner (c.end-answer.ensures.works event.Once reply.Once number))
+
+pub returns-in-Halted-clause-spends : goal.returns-in-Halted-clause-spends
+returns-in-Halted-clause-spends g c = c.what_calls_spend.ensures.none c.args.caller.now.note c.begin.new.note c.begin.ensures.note.kept c.requires.caller.1
+
+pub returns-in-Done-Ok-Already-clause-spends : goal.returns-in-Done-Ok-Already-clause-spends
+returns-in-Done-Ok-Already-clause-spends g c = c.what_calls_spend.ensures.none c.args.caller.now.note c.begin.new.note c.begin.ensures.note.kept c.requires.caller.1
+
+pub returns-in-Some-clause-spends : goal.returns-in-Some-clause-spends
+returns-in-Some-clause-spends g c =
+    let law = c.what_calls_spend.ensures in
+    let begun = law.none c.args.caller.now.note c.begin.new.note c.begin.ensures.note.kept c.requires.caller.1 in
+    let added = law.joined 0 0 _ _ _ begun c.add_int64.ensures.spends in
+    law.joined 0 0 _ _ _ added (law.none c.add_int64.new.caller.note c.end-answer.new.note c.end-answer.ensures.note.kept (law.held 0 _ _ added))
+
+pub returns-in-Halted-clause-calls : goal.returns-in-Halted-clause-calls
+returns-in-Halted-clause-calls g c = λ plan same. c.which_calls_are_made.ensures.none plan _ _ c.begin.ensures.note.kept
+
+pub returns-in-Done-Err-clause-calls : goal.returns-in-Done-Err-clause-calls
+returns-in-Done-Err-clause-calls g c = λ plan same. c.which_calls_are_made.ensures.none plan _ _ c.begin.ensures.note.kept
+
+pub returns-in-Done-Ok-Already-clause-calls : goal.returns-in-Done-Ok-Already-clause-calls
+returns-in-Done-Ok-Already-clause-calls g c = λ plan same. c.which_calls_are_made.ensures.none plan _ _ c.begin.ensures.note.kept
+
+pub returns-in-Some-clause-calls : goal.returns-in-Some-clause-calls
+returns-in-Some-clause-calls g c = λ plan same.
+    let law = c.which_calls_are_made.ensures in
+    law.joined plan _ _ _ (law.joined plan _ _ _ (law.none plan _ _ c.begin.ensures.note.kept) (c.add_int64.ensures.calls plan same)) (law.none plan _ _ c.end-answer.ensures.note.kept)
+
+pub returns-in-None-clause-calls : goal.returns-in-None-clause-calls
+returns-in-None-clause-calls g c = λ plan same.
+    let law = c.which_calls_are_made.ensures in
+    law.joined plan _ _ _ (law.joined plan _ _ _ (law.none plan _ _ c.begin.ensures.note.kept) (c.add_int64.ensures.calls plan same)) (law.none plan _ _ c.end.ensures.note.kept)
+
+pub returns-in-None-clause-amiss : goal.returns-in-None-clause-amiss
+returns-in-None-clause-amiss g c = subst (λ (o : Option Holding). AnsweredAmiss (items_of o)) (sym c.end.ensures.note.kept) (none_of c.add_int64.result c.in-None.is c.add_int64.ensures.amiss)

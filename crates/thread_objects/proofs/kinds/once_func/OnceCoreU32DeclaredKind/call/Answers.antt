@@ -1,0 +1,10 @@
+use Rattle.run_record.specs.declared.entered.ObjectEvent.TheVariants as event
+use Rattle.run_record.specs.declared.entered.ObjectReply.TheVariants as reply
+use Rattle.run_record.specs.Record.{object_number}
+use Rattle.object_parts.specs.Replies.{func_told}
+use Rattle.thread_objects.proofs.Working.{answers_as}
+use Rattle.thread_objects.proofs.kinds.once_func.OnceCoreU32DeclaredKind.call.Goals as goal
+
+pub returns-in-OnceFunc-OnceFunc-clause-works : goal.returns-in-OnceFunc-OnceFunc-clause-works
+returns-in-OnceFunc-OnceFunc-clause-works g c = λ plan before place.
+    rw (c.in-OnceFunc-OnceFunc.is-0, c.in-OnceFunc-OnceFunc.is-1) (answers_as _ _ _ _ _ c.func_reply.ensures (c.kept-answer.ensures.works event.OnceFunc reply.OnceFunc (object_number place) func_told))

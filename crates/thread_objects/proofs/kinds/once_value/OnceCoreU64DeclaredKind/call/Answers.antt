@@ -1,0 +1,10 @@
+use Rattle.run_record.specs.declared.entered.ObjectEvent.TheVariants as event
+use Rattle.run_record.specs.declared.entered.ObjectReply.TheVariants as reply
+use Rattle.run_record.specs.Record.{object_number}
+use Rattle.object_parts.specs.Replies.{value_told}
+use Rattle.thread_objects.proofs.Working.{answers_as}
+use Rattle.thread_objects.proofs.kinds.once_value.OnceCoreU64DeclaredKind.call.Goals as goal
+
+pub returns-in-OnceValue-OnceValue-clause-works : goal.returns-in-OnceValue-OnceValue-clause-works
+returns-in-OnceValue-OnceValue-clause-works g c = λ plan before place.
+    rw (c.in-OnceValue-OnceValue.is-0, c.in-OnceValue-OnceValue.is-1) (answers_as _ _ _ _ _ c.value_reply.ensures (c.kept-answer.ensures.works event.OnceValue reply.OnceValue (object_number place) value_told))

@@ -1,0 +1,60 @@
+//! A mutex: how it begins, and the calls on it.
+ghost use Rattle.std.specs.Prelude.{◌≡◌, true, false};
+ghost use Rattle.mutex_core.specs.MutexMachine.{State};
+ghost use Rattle.protocols.specs.MutexStages.{mutex_allows};
+ghost use Rattle.run_record.specs.MutexKind.{mutex_stage};
+ghost use Rattle.thread_objects.specs.MutexKind.{mutex};
+
+use crate::kind::DeclaredKind;
+use mutex_core::MutexCore;
+use object_parts::{Worker, lock_reply, part};
+use protocols::MutexStage;
+use ruled_object::{Object, PassOf};
+use shared_calls::CallAnswer;
+use std::alloc::{AllocError, Global};
+use std::sync::Wait;
+use sync_model::Note;
+use sync_outside::Clock;
+use sync_types::{MutexCall, Operation};
+use workload::ObjectKind;
+
+// The stage that a call begins with.
+fn stage_of(call: MutexCall) -> MutexStage
+    ensures stage { result ≡ mutex_stage call }
+    ensures allowed { (start : State) → mutex_allows start false result ≡ true }
+{
+    match call {
+        MutexCall::Lock => MutexStage::Lock,
+        MutexCall::Unlock => MutexStage::Unlock,
+        MutexCall::TryLock => MutexStage::TryLock,
+    }
+}
+
+impl DeclaredKind for MutexCore {
+    ghost kind = { mutex };
+
+    fn start(alloc: Global, workers: u32, declared: ObjectKind) -> Result<MutexCore, AllocError> {
+        match declared {
+            ObjectKind::Mutex => MutexCore::new(alloc, workers),
+            _ => unreachable!(),
+        }
+    }
+
+    fn call<N: Note, C: Clock, R: Wait>(
+        rt: &R,
+        worker: &Worker<N, C>,
+        object: &Object<MutexCore, N>,
+        pass: &mut PassOf<MutexCore, N>,
+        note: &mut N,
+        declared: ObjectKind,
+        operation: &Operation,
+    ) -> Option<CallAnswer> {
+        match (declared, operation) {
+            (ObjectKind::Mutex, Operation::Mutex(call)) => {
+                let answer = part(rt, worker, object, pass, note, stage_of(*call));
+                Some(lock_reply(answer))
+            }
+            _ => None,
+        }
+    }
+}

@@ -1,0 +1,68 @@
+//! What a once and the functions made by `OnceFunc` and `OnceValue` have in common: one caller runs the function, and all come to what it
+//! came to.
+ghost use Rattle.std.specs.Prelude.{◌≡◌, ℕ, false};
+ghost use Rattle.sync_types.specs.declared.call.Reply.{Reply};
+ghost use Rattle.wait_cores.specs.declared.once.OnceEvent.{OnceEvent};
+ghost use Rattle.wait_cores.specs.declared.once.OnceReply.{OnceReply};
+ghost use Rattle.protocols.specs.OnceStages.{once_event, once_meaning, once_stands, OnceBegins};
+ghost use Rattle.ruled_object.specs.Growth.{KeepsNote};
+ghost use Rattle.run_record.specs.declared.entered.ObjectEvent.{ObjectEvent};
+ghost use Rattle.run_record.specs.declared.entered.ObjectReply.{ObjectReply};
+ghost use Rattle.run_record.specs.OnceKind.{once_part};
+ghost use Rattle.run_record.specs.Parts.{returns, stages, with_outcome};
+ghost use Rattle.shared_calls.specs.Working.{Works, desk_at};
+ghost use Rattle.object_parts.specs.Own.{own_as};
+ghost use Rattle.object_parts.specs.Seats.{IsSeat};
+
+use object_parts::{Worker, begin, end};
+use protocols::OnceOutcome;
+use ruled_object::{Object, PassOf};
+use shared_calls::laws::moves;
+use std::sync::Wait;
+use sync_model::{Answer, Note};
+use sync_outside::Clock;
+use sync_types::Misuse;
+use wait_cores::OnceCore;
+
+// What a call comes to that ended the function with this.
+pub(super) fn ended<T: Copy>(
+    answer: Answer<Result<OnceOutcome<T>, Misuse>>,
+    value: T,
+) -> Answer<Result<T, Misuse>>
+    ensures { result ≡ with_outcome (λ outcome. value) answer }
+{
+    match answer {
+        Answer::Done(Ok(_outcome)) => Answer::Done(Ok(value)),
+        Answer::Done(Err(misuse)) => Answer::Done(Err(misuse)),
+        Answer::Halted(misuse) => Answer::Halted(misuse),
+    }
+}
+
+// What the function comes to, which gives this value: the first call runs it, and later ones have what it came to. It may wait
+// for the caller that runs it.
+pub(super) fn kept<T: Copy, N: Note, C: Clock, R: Wait>(
+    rt: &R,
+    worker: &Worker<N, C>,
+    once: &Object<OnceCore<T>, N>,
+    pass: &mut PassOf<OnceCore<T>, N>,
+    note: &mut N,
+    value: T,
+) -> Answer<Result<T, Misuse>>
+    requires seat { IsSeat OnceBegins (false, false) once_stands N.at worker.now.at.home.now worker.now.workers worker.now.number once.now pass.old }
+    requires note { N.at worker.now.at.home.now note.old }
+    ensures seat { IsSeat OnceBegins (false, false) once_stands N.at worker.now.at.home.now worker.now.workers worker.now.number once.now pass.new }
+    ensures note { KeepsNote N.at N.own N.front note.old note.new }
+    ensures works { (event : OnceEvent T → ObjectEvent) (reply : OnceReply T → ObjectReply) (number : ℕ) (told : T → Reply ℕ)
+        → Works (once_part (stages event reply once_event once_meaning number) (returns value) told told) (desk_at N.own N.front number (own_as event reply pass.old) note.old) (with_outcome told result) (desk_at N.own N.front number (own_as event reply pass.new) note.new) }
+{
+    moves();
+    match begin(rt, worker, once, pass, note) {
+        Answer::Halted(misuse) => Answer::Halted(misuse),
+        Answer::Done(Err(misuse)) => Answer::Done(Err(misuse)),
+        Answer::Done(Ok(OnceOutcome::Already(kept))) => Answer::Done(Ok(kept)),
+        Answer::Done(Ok(OnceOutcome::Run)) => {
+            ended(end(rt, worker, once, pass, note, value), value)
+        }
+        Answer::Done(Ok(OnceOutcome::Ended)) => unreachable!(),
+    }
+}
