@@ -1,2 +1,3 @@
 pub mod Halting
 pub mod PoolParts
+pub mod Replies

@@ -8,15 +8,17 @@ ghost use Rattle.protocols.specs.PoolStages.{pool_event, pool_gives, look_gives}
 ghost use Rattle.workload.specs.declared.object.ObjectWord.TheVariants as words;
 ghost use Rattle.ruled_object.specs.Growth.{KeepsNote};
 ghost use Rattle.running.specs.Calls.{IsGiven};
+ghost use Rattle.run_record.specs.Parts.{with_outcome};
 ghost use Rattle.run_record.specs.PoolKind.{pool_part, pool_call, part_of, found_by, swept_by, looks_of, stage_of};
 ghost use Rattle.thread_objects.specs.Desks.{AreSeats, IsObjectAt};
 ghost use Rattle.thread_objects.specs.Kinds.{HasWord};
 ghost use Rattle.thread_objects.specs.ByKind.{own_of};
 ghost use Rattle.thread_objects.specs.Passes.{IsSeatAt, owns_of};
 ghost use Rattle.object_calls.specs.PoolParts.{ArePartsAt};
+ghost use Rattle.object_calls.specs.Replies.{pool_done};
 ghost use Rattle.shared_calls.specs.Working.{Works, desk_at, desk_with};
 
-use object_parts::{part, pool_done};
+use object_parts::part;
 use protocols::{PoolOutcome, PoolStage};
 use shared_calls::CallAnswer;
 use shared_calls::laws::moves;
@@ -25,6 +27,17 @@ use sync_model::{Answer, Note};
 use sync_outside::Clock;
 use sync_types::{Misuse, PoolCall, PoolCallReply, Reply};
 use thread_objects::{AnyObject, AnyPass, Worker};
+
+// What a put into a pool answers, and a sweep.
+fn pool_done(answer: Answer<Result<PoolOutcome, Misuse>>) -> CallAnswer
+    ensures { result ≡ with_outcome pool_done answer }
+{
+    match answer {
+        Answer::Done(Ok(_outcome)) => Answer::Done(Ok(Reply::Pool(PoolCallReply::Done))),
+        Answer::Done(Err(misuse)) => Answer::Done(Err(misuse)),
+        Answer::Halted(misuse) => Answer::Halted(misuse),
+    }
+}
 
 // Which look of a get this is. It is at the worker's own part, at the shared items of another, or among the victims of a part.
 fn look_stage(worker: u32, workers: u32, number: u64) -> PoolStage

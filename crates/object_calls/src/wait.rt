@@ -1,21 +1,36 @@
 //! `wait` on a cond: parts on two objects, the cond and its mutex.
+ghost use Rattle.std.specs.Prelude.{◌≡◌};
 ghost use Rattle.workload.specs.declared.object.ObjectWord.TheVariants as words;
 ghost use Rattle.ruled_object.specs.Growth.{KeepsNote};
 ghost use Rattle.run_record.specs.CondKind.{wait_part};
+ghost use Rattle.run_record.specs.Parts.{with_outcome};
+ghost use Rattle.object_calls.specs.Replies.{relocked};
 ghost use Rattle.thread_objects.specs.Desks.{AreSeats, IsObjectAt};
 ghost use Rattle.thread_objects.specs.Kinds.{HasWord};
 ghost use Rattle.thread_objects.specs.Passes.{owns_of};
 ghost use Rattle.shared_calls.specs.Working.{Works, desk_with};
 
 use crate::desk::{cond_at, mutex_at};
-use object_parts::{gone_on, locked_again};
+use object_parts::gone_on;
 use protocols::{CondStage, MutexStage};
 use shared_calls::CallAnswer;
 use shared_calls::laws::moves;
 use std::sync::Wait;
-use sync_model::Note;
+use sync_model::{Answer, Note};
 use sync_outside::Clock;
+use sync_types::{LockReply, Misuse, Reply};
 use thread_objects::{AnyObject, AnyPass, Worker};
+
+// What a `wait` answers, whose mutex is locked again.
+fn locked_again(answer: Answer<Result<LockReply, Misuse>>) -> CallAnswer
+    ensures { result ≡ with_outcome relocked answer }
+{
+    match answer {
+        Answer::Done(Ok(_outcome)) => Answer::Done(Ok(Reply::Returned)),
+        Answer::Done(Err(misuse)) => Answer::Done(Err(misuse)),
+        Answer::Halted(misuse) => Answer::Halted(misuse),
+    }
+}
 
 /// Takes a ticket of the cond, unlocks its mutex, leaves the cond once the ticket is notified, and locks the mutex again.
 pub(crate) fn wait<N: Note, C: Clock, R: Wait>(

@@ -3,17 +3,13 @@
 #![tactic(auto)]
 
 mod halting;
-mod once;
 mod parts;
 mod replies;
 mod stop;
 mod worker;
 
 pub use halting::halt_one;
-pub use once::{begin, end};
-pub use parts::part;
-pub use replies::{
-    func_reply, gone_on, lock_reply, locked_again, pool_done, ran, returned, value_reply,
-};
+pub use parts::{part, part_from};
+pub use replies::{gone_on, lock_reply, returned};
 pub use stop::{NoEvent, StopCore};
 pub use worker::Worker;

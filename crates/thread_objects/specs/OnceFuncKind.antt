@@ -1,6 +1,8 @@
 -- What is the own of a function made by `OnceFunc`.
 use Rattle.std.specs.Global.{Vec}
 use Rattle.std.specs.Prelude.{ℕ, Bool, Option, Some, None}
+use Rattle.sync_types.specs.declared.call.Reply.{Reply}
+use Rattle.sync_types.specs.declared.call.Reply.TheVariants as reply_of
 use Rattle.wait_cores.specs.declared.once.OnceEvent.{OnceEvent}
 use Rattle.wait_cores.specs.declared.once.OnceReply.{OnceReply}
 use Rattle.wait_cores.specs.OnceMachine.{OnceState, start}
@@ -10,6 +12,7 @@ use Rattle.workload.specs.declared.object.ObjectWord.TheVariants as words
 use Rattle.ruled_object.specs.declared.pass.Pass.{Pass}
 use Rattle.run_record.specs.declared.entered.ObjectEvent.TheVariants as events
 use Rattle.run_record.specs.declared.entered.ObjectReply.TheVariants as replies
+use Rattle.run_record.specs.OnceKind.{failure}
 use Rattle.thread_objects.specs.declared.column.AnyColumn.{AnyColumn}
 use Rattle.thread_objects.specs.declared.column.AnyColumn.TheVariants as columns
 use Rattle.thread_objects.specs.declared.pass.AnyPass.{AnyPass}
@@ -34,3 +37,7 @@ once_func_column column = None
 
 abbrev pub once_func : Kind (OnceState ℕ) (OnceEvent ℕ) (OnceReply ℕ) (Bool × Bool)
 once_func = of_onces words.OnceFunc once_func_starts events.OnceFunc replies.OnceFunc (λ N pass. once_func_pass pass) (λ N column. once_func_column column)
+
+-- what a call replies, where the function came to this code
+abbrev pub func_told : ℕ → Reply ℕ
+func_told kept = reply_of.OnceFunc (failure kept)

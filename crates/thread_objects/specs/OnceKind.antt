@@ -1,6 +1,9 @@
 -- What is a once's own.
 use Rattle.std.specs.Global.{Vec}
 use Rattle.std.specs.Prelude.{ℕ, ℤ, Bool, Option, Some, None}
+use Rattle.sync_types.specs.declared.call.Reply.{Reply}
+use Rattle.sync_types.specs.declared.call.Reply.TheVariants as reply_of
+use Rattle.sync_types.specs.declared.once_call.DoReply.TheVariants as do_replies
 use Rattle.wait_cores.specs.declared.once.OnceEvent.{OnceEvent}
 use Rattle.wait_cores.specs.declared.once.OnceReply.{OnceReply}
 use Rattle.wait_cores.specs.OnceMachine.{OnceState, start}
@@ -34,3 +37,7 @@ once_column column = None
 
 abbrev pub once : Kind (OnceState ℤ) (OnceEvent ℤ) (OnceReply ℤ) (Bool × Bool)
 once = of_onces words.Once once_starts events.Once replies.Once (λ N pass. once_pass pass) (λ N column. once_column column)
+
+-- what a call replies that ran the function
+abbrev pub ran : ℤ → Reply ℕ
+ran sum = reply_of.Once (do_replies.Ran sum)

@@ -1,6 +1,8 @@
 -- What is the own of a function made by `OnceValue`.
 use Rattle.std.specs.Global.{Vec}
 use Rattle.std.specs.Prelude.{ℕ, Bool, Option, Some, None}
+use Rattle.sync_types.specs.declared.call.Reply.{Reply}
+use Rattle.sync_types.specs.declared.call.Reply.TheVariants as reply_of
 use Rattle.wait_cores.specs.declared.once.OnceEvent.{OnceEvent}
 use Rattle.wait_cores.specs.declared.once.OnceReply.{OnceReply}
 use Rattle.wait_cores.specs.OnceMachine.{OnceState, start}
@@ -34,3 +36,7 @@ once_value_column column = None
 
 abbrev pub once_value : Kind (OnceState ℕ) (OnceEvent ℕ) (OnceReply ℕ) (Bool × Bool)
 once_value = of_onces words.OnceValue once_value_starts events.OnceValue replies.OnceValue (λ N pass. once_value_pass pass) (λ N column. once_value_column column)
+
+-- what a call replies, where the function came to this value
+abbrev pub value_told : ℕ → Reply ℕ
+value_told kept = reply_of.OnceValue kept

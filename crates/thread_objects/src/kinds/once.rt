@@ -11,21 +11,22 @@ ghost use Rattle.run_record.specs.declared.entered.ObjectEvent.TheVariants as ev
 ghost use Rattle.run_record.specs.declared.entered.ObjectReply.TheVariants as reply;
 ghost use Rattle.run_record.specs.Limits.{IsCallOf, atomic_types};
 ghost use Rattle.run_record.specs.OnceKind.{do_call};
+ghost use Rattle.run_record.specs.Parts.{with_outcome};
 ghost use Rattle.shared_calls.specs.GivenUp.{MakesOnly, AnsweredAmiss};
 ghost use Rattle.shared_calls.specs.Spending.{Spends};
 ghost use Rattle.shared_calls.specs.Working.{Works, desk_at};
 ghost use Rattle.thread_objects.specs.Kinds.{HasWord};
-ghost use Rattle.thread_objects.specs.OnceKind.{once};
+ghost use Rattle.thread_objects.specs.OnceKind.{once, ran};
 ghost use Rattle.thread_objects.specs.ByKind.{own_of};
 ghost use Rattle.object_parts.specs.Own.{own_as};
 ghost use Rattle.thread_objects.specs.Passes.{IsSeatAt};
 ghost use Rattle.object_parts.specs.Seats.{IsSeat};
 
-use super::once_parts::ended;
+use super::once_parts::{begin, end, ended};
 use crate::kind::DeclaredKind;
 use crate::object::AnyObject;
 use crate::pass::AnyPass;
-use object_parts::{Worker, begin, end, ran};
+use object_parts::Worker;
 use protocols::OnceOutcome;
 use ruled_object::{Object, PassOf};
 use shared_calls::laws::{moves, what_calls_spend, which_calls_are_made};
@@ -34,7 +35,7 @@ use std::alloc::{AllocError, Global};
 use std::sync::Wait;
 use sync_model::{Answer, Caller, Note, Shared};
 use sync_outside::Clock;
-use sync_types::{DoReply, Operation, Reply};
+use sync_types::{DoReply, Misuse, Operation, Reply};
 use wait_cores::OnceCore;
 use workload::ObjectKind;
 
@@ -62,6 +63,17 @@ impl DeclaredKind for OnceCore<i64> {
         _operation: &Operation,
     ) -> Option<CallAnswer> {
         None
+    }
+}
+
+// What a call answers that ran the function.
+fn ran(answer: Answer<Result<i64, Misuse>>) -> CallAnswer
+    ensures { result ≡ with_outcome ran answer }
+{
+    match answer {
+        Answer::Done(Ok(sum)) => Answer::Done(Ok(Reply::Once(DoReply::Ran(sum)))),
+        Answer::Done(Err(misuse)) => Answer::Done(Err(misuse)),
+        Answer::Halted(misuse) => Answer::Halted(misuse),
     }
 }
 

@@ -1,18 +1,39 @@
 //! A function made by `OnceFunc`, which fails with a code, or succeeds where it is 0: how it begins, and the calls of it.
-ghost use Rattle.thread_objects.specs.OnceFuncKind.{once_func};
+ghost use Rattle.std.specs.Prelude.{◌≡◌};
+ghost use Rattle.run_record.specs.OnceKind.{failure};
+ghost use Rattle.run_record.specs.Parts.{with_outcome};
+ghost use Rattle.thread_objects.specs.OnceFuncKind.{once_func, func_told};
 
 use super::once_parts::kept;
 use crate::kind::DeclaredKind;
-use object_parts::{Worker, func_reply};
+use object_parts::Worker;
 use ruled_object::{Object, PassOf};
 use shared_calls::CallAnswer;
 use std::alloc::{AllocError, Global};
 use std::sync::Wait;
-use sync_model::Note;
+use sync_model::{Answer, Note};
 use sync_outside::Clock;
-use sync_types::Operation;
+use sync_types::{Misuse, Operation, Reply};
 use wait_cores::OnceCore;
 use workload::ObjectKind;
+
+// What a call answers, where the function came to this code: 0 stands for no failure.
+fn func_reply(answer: Answer<Result<u32, Misuse>>) -> CallAnswer
+    ensures { result ≡ with_outcome func_told answer }
+{
+    match answer {
+        Answer::Done(Ok(code)) => Answer::Done(Ok(Reply::OnceFunc(failure_of(code)))),
+        Answer::Done(Err(misuse)) => Answer::Done(Err(misuse)),
+        Answer::Halted(misuse) => Answer::Halted(misuse),
+    }
+}
+
+// The failure that a code stands for.
+fn failure_of(code: u32) -> Option<u32>
+    ensures { result ≡ failure code }
+{
+    if code == 0 { None } else { Some(code) }
+}
 
 impl DeclaredKind for OnceCore<u32> {
     ghost kind = { once_func };

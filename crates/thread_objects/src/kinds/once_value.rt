@@ -1,18 +1,31 @@
 //! A function made by `OnceValue`, which gives a value: how it begins, and the calls of it.
-ghost use Rattle.thread_objects.specs.OnceValueKind.{once_value};
+ghost use Rattle.std.specs.Prelude.{◌≡◌};
+ghost use Rattle.run_record.specs.Parts.{with_outcome};
+ghost use Rattle.thread_objects.specs.OnceValueKind.{once_value, value_told};
 
 use super::once_parts::kept;
 use crate::kind::DeclaredKind;
-use object_parts::{Worker, value_reply};
+use object_parts::Worker;
 use ruled_object::{Object, PassOf};
 use shared_calls::CallAnswer;
 use std::alloc::{AllocError, Global};
 use std::sync::Wait;
-use sync_model::Note;
+use sync_model::{Answer, Note};
 use sync_outside::Clock;
-use sync_types::Operation;
+use sync_types::{Misuse, Operation, Reply};
 use wait_cores::OnceCore;
 use workload::ObjectKind;
+
+// What a call answers, where the function came to this value.
+fn value_reply(answer: Answer<Result<u64, Misuse>>) -> CallAnswer
+    ensures { result ≡ with_outcome value_told answer }
+{
+    match answer {
+        Answer::Done(Ok(value)) => Answer::Done(Ok(Reply::OnceValue(value))),
+        Answer::Done(Err(misuse)) => Answer::Done(Err(misuse)),
+        Answer::Halted(misuse) => Answer::Halted(misuse),
+    }
+}
 
 impl DeclaredKind for OnceCore<u64> {
     ghost kind = { once_value };

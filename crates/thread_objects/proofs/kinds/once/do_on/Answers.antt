@@ -15,7 +15,7 @@ use Rattle.run_record.specs.declared.entered.ObjectReply.TheVariants as reply
 use Rattle.run_record.specs.Parts.{stages, with_outcome}
 use Rattle.shared_calls.specs.GivenUp.{AnsweredAmiss}
 use Rattle.shared_calls.specs.Working.{alone}
-use Rattle.object_parts.specs.Replies.{ran}
+use Rattle.thread_objects.specs.OnceKind.{ran}
 use Rattle.object_parts.specs.Own.{own_as}
 use Rattle.thread_objects.proofs.OnceParts.{stopped, had}
 use Rattle.thread_objects.proofs.OnceParts as once

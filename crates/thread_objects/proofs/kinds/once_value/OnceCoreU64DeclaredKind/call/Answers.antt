@@ -1,7 +1,7 @@
 use Rattle.run_record.specs.declared.entered.ObjectEvent.TheVariants as event
 use Rattle.run_record.specs.declared.entered.ObjectReply.TheVariants as reply
 use Rattle.run_record.specs.Record.{object_number}
-use Rattle.object_parts.specs.Replies.{value_told}
+use Rattle.thread_objects.specs.OnceValueKind.{value_told}
 use Rattle.thread_objects.proofs.Working.{answers_as}
 use Rattle.thread_objects.proofs.kinds.once_value.OnceCoreU64DeclaredKind.call.Goals as goal
 
