@@ -2,7 +2,7 @@
 
 /// The one list of the kinds that a workload declares: it is put before what the named macro is called with.
 macro_rules! with_kinds {
-    ($then:ident $($all:tt)*) => {
+    ($then:ident, $($all:tt)*) => {
         $then!([Mutex RwMutex Cond WaitGroup Once OnceFunc OnceValue] $($all)*)
     };
 }
@@ -11,21 +11,7 @@ macro_rules! with_kinds {
 /// by the first expression with a map or an atomic. Where an enum is named last, what comes of it is of that kind again.
 macro_rules! by_kind {
     ($($all:tt)*) => {
-        with_kinds!(all_kinds $($all)*)
-    };
-}
-
-/// Goes on with an object of a kind that a workload declares, and with a pass that is one to it.
-macro_rules! by_declared_kind {
-    ($($all:tt)*) => {
-        with_kinds!(declared_arms $($all)*)
-    };
-}
-
-/// Makes an object that is declared so and the passes to it, of one of these kinds, and by the first expression what is no such object.
-macro_rules! make_by_kind {
-    ($($all:tt)*) => {
-        with_kinds!(making_arms $($all)*)
+        with_kinds!(all_kinds, $($all)*)
     };
 }
 
@@ -70,7 +56,7 @@ macro_rules! arms {
     };
 }
 
-/// The same, where an object of no other kind can be.
+/// One arm for each kind that a workload declares: goes on with an object and with a pass to it. No other object can be there.
 macro_rules! declared_arms {
     ([$($kind:ident)*] $object:expr, $pass:expr, |$o:ident, $p:ident| $go:expr) => {
         match $object {
@@ -83,7 +69,7 @@ macro_rules! declared_arms {
     };
 }
 
-/// One arm for each of these kinds, by how an object is declared.
+/// The same, by how an object is declared: makes it and the passes to it, and what is none of these kinds by the first expression.
 macro_rules! making_arms {
     ([$($kind:ident)*] $declared:expr, $shared:expr, $made:expr) => {
         match $declared {
@@ -100,9 +86,7 @@ macro_rules! making_arms {
 
 pub(crate) use all_kinds;
 pub(crate) use arms;
-pub(crate) use by_declared_kind;
 pub(crate) use by_kind;
 pub(crate) use declared_arms;
-pub(crate) use make_by_kind;
 pub(crate) use making_arms;
 pub(crate) use with_kinds;

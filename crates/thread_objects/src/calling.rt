@@ -11,7 +11,7 @@ ghost use Rattle.thread_objects.specs.EachKind.{own_in};
 ghost use Rattle.thread_objects.specs.Kinds.{IsOfKind};
 ghost use Rattle.thread_objects.specs.Passes.{IsSeatAt, SeatOf};
 
-use crate::by_kind::{by_declared_kind, declared_arms, with_kinds};
+use crate::by_kind::{declared_arms, with_kinds};
 use crate::kind::DeclaredKind;
 use crate::object::AnyObject;
 use crate::pass::AnyPass;
@@ -68,7 +68,8 @@ pub fn call_any<N: Note, C: Clock, R: Wait>(
     ensures works { (plan : Plan) (before place : ℕ)
         → Works (call_on plan worker.now.number before place declared operation.now) (desk_at N.own N.front (object_number place) (own_of pass.old) note.old) result (desk_at N.own N.front (object_number place) (own_of pass.new) note.new) }
 {
-    by_declared_kind!(
+    with_kinds!(
+        declared_arms,
         object,
         pass,
         |object, pass| call_one(rt, worker, object, pass, note, declared, operation)

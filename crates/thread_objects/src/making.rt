@@ -8,7 +8,7 @@ ghost use Rattle.thread_objects.specs.ByKind.{passes_in};
 ghost use Rattle.thread_objects.specs.Columns.{AreSeated, AreUntouched, IsColumnOf, IsUntouched};
 ghost use Rattle.thread_objects.specs.Passes.{owns_of};
 
-use crate::by_kind::{make_by_kind, making_arms, with_kinds};
+use crate::by_kind::{making_arms, with_kinds};
 use crate::column::AnyColumn;
 use crate::crew::Crew;
 use crate::kind::DeclaredKind;
@@ -74,7 +74,8 @@ fn make_kind<N: Note>(
     ensures column { IfOk result (λ made. IsColumnOf N.at crew.now.home.now crew.now.workers crew.now.workers made.0 made.1) }
     ensures untouched { IfOk result (λ made. IsUntouched made.0 made.1) }
 {
-    make_by_kind!(
+    with_kinds!(
+        making_arms,
         kind,
         (AnyObject::Shared, AnyColumn::None(crew.workers)),
         make_declared(alloc, crew, kind, note)?
