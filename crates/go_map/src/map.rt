@@ -1,5 +1,5 @@
 //! Maps, as `sync.Map` has them.
-ghost use Rattle.std.specs.Prelude.{◌≡◌, ◌+◌, ◌<◌, ◌≤◌, ◌^◌, Some, None, MatchOption};
+ghost use Rattle.std.specs.Prelude.{◌≡◌, ◌+◌, ◌<◌, ◌≤◌, ◌^◌, Some, MatchOption};
 ghost use Rattle.sync_types.specs.SequentialMap.{map_key};
 ghost use Rattle.sync_model.specs.Shared.{IsCallerAt, cost_of};
 ghost use Rattle.shared_table.specs.Notes.{own_by, IsNoteOf};

@@ -1,5 +1,5 @@
 //! All passes of a pool as a table: a row for each caller, with its passes to the parts, and so a column for each part.
-ghost use Rattle.std.specs.Prelude.{◌≡◌, ℕ, ◌<◌, ◌==◌, ◌&&◌, ◌||◌, nat_lt, cond, length, Some, slice_get};
+ghost use Rattle.std.specs.Prelude.{◌≡◌, ℕ, ◌<◌, cond, length};
 ghost use Rattle.go_pool.specs.Parts.{cell};
 ghost use Rattle.go_pool.specs.Tables.{IsSquare, KeepsRows, crosses, is_corner};
 

@@ -1,6 +1,5 @@
 //! One event at one part of a pool.
-ghost use Rattle.std.specs.Prelude.{◌≡◌, ◌<◌, true, false};
-ghost use Rattle.pool_core.specs.PartMachine.{part_next, part_start};
+ghost use Rattle.std.specs.Prelude.{◌≡◌, ◌<◌, false};
 ghost use Rattle.protocols.specs.PoolStages.{pool_event, pool_meaning, pool_moment, pool_gives, pool_gains};
 ghost use Rattle.protocols.specs.Spelling.{Spells, AreTimely};
 ghost use Rattle.ruled_object.specs.Growth.{KeepsNote};

@@ -1,5 +1,5 @@
 -- What a status says of what was done and what was written.
-use Rattle.std.proofs.Common.{◌≡◌, ◌⊎◌, inl, inr, ◌+◌, ◌-◌, ◌^◌, ◌<◌, ◌≤◌, ℕ, List, [], ◌∷◌, ◌++◌, ◌∙◌, length, take, min, Option, Some, refl, sym, ap, subst, arith, length-append, length-take}
+use Rattle.std.proofs.Common.{◌≡◌, ◌⊎◌, inl, inr, ◌+◌, ◌-◌, ◌^◌, ◌<◌, ◌≤◌, ℕ, List, [], ◌∷◌, ◌++◌, ◌∙◌, length, min, Option, Some, refl, ap, arith, length-append, length-take}
 use Rattle.sync_outside.specs.Bytes.{Appends}
 use Rattle.sync_outside.specs.Faults.{RoseBy}
 use Rattle.sync_types.specs.declared.outcome.Outcome.{Outcome}

@@ -1,5 +1,5 @@
 //! What the words of the command ask for.
-ghost use Rattle.std.specs.Prelude.{◌≡◌, IfOk, IsErrOf, OnOk, map, string_bytes};
+ghost use Rattle.std.specs.Prelude.{IfOk, IsErrOf, OnOk, map, string_bytes};
 ghost use Rattle.command_line.specs.declared.matching.WordsFault.TheVariants as words_faults;
 ghost use Rattle.gosync_call.specs.Command.{Asks, AreRefused};
 

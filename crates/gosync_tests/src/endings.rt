@@ -1,5 +1,4 @@
 //! How a run ends: misuses and deadlocks, and the status and the line of each end.
-ghost use Rattle.std.specs.Prelude.{◌≡◌};
 
 use crate::rows::{BY_BOTH, Row, STEP, USAGE, comes_out};
 use gosync_call::{Ending, Fault, Status, Unread, say};

@@ -1,5 +1,4 @@
 //! What is refused: texts, words and names of files, and texts at their limits.
-ghost use Rattle.std.specs.Prelude.{◌≡◌};
 
 use crate::rows::{BY_BOTH, Row, STEP, TWO_CALLS, USAGE, comes_out, run_on};
 use std::test::Fail;

@@ -1,5 +1,4 @@
 //! Runs by schedule: what each call of each kind of object answers, and what is left.
-ghost use Rattle.std.specs.Prelude.{◌≡◌};
 
 use crate::rows::{STEP, TWO_CALLS, first_other};
 use std::test::Fail;

@@ -1,5 +1,4 @@
 //! Runs with threads.
-ghost use Rattle.std.specs.Prelude.{◌≡◌};
 
 use crate::endings::MISUSES;
 use crate::rows::{Row, STEP, TWO_CALLS, comes_out, first_other, matches_row, run_by, run_through};

@@ -1,5 +1,5 @@
 //! Calls on maps and atomics that callers share, in the place of a pair.
-ghost use Rattle.std.specs.Prelude.{◌<◌, ◌≤◌};
+ghost use Rattle.std.specs.Prelude.{◌<◌};
 
 use crate::fresh::Fresh;
 use crate::map_and_int::{KEYS, MapAndInt};

@@ -1,5 +1,4 @@
 //! `RwMutex`, both ways: a lock and an unlock of a reader, and of a writer.
-ghost use Rattle.std.specs.Prelude.{All, IfOk};
 ghost use Rattle.go_locks.specs.RwMutexes.{IsPassOfRwMutex};
 
 use crate::fresh::FreshNote;

@@ -1,5 +1,5 @@
 -- The passes of a new mutex have all their calls left.
-use Rattle.std.proofs.Common.{◌≡◌, ℕ, false, List}
+use Rattle.std.proofs.Common.{false, List}
 use Rattle.std.proofs.lemmas.Option.{slice_get-get_or}
 use Rattle.mutex_core.specs.declared.event.MutexEvent.{MutexEvent}
 use Rattle.mutex_core.specs.declared.reply.MutexReply.{MutexReply}

@@ -1,5 +1,4 @@
 //! Sources, sinks, clocks, threads and gates: the fakes, and the real ones where they can be told.
-ghost use Rattle.std.specs.Prelude.{◌≡◌};
 
 use std::alloc::{AllocError, Global};
 use std::sync::atomic::{AtomicU64, Ordering};

@@ -1,5 +1,5 @@
 //! Calls by two threads, and what is there when both have ended.
-ghost use Rattle.std.specs.Prelude.{◌≡◌, ℕ, ◌<◌, ◌∷◌, []};
+ghost use Rattle.std.specs.Prelude.{◌≡◌, ◌<◌, ◌∷◌, []};
 ghost use Rattle.std.specs.Thread.{IsSync};
 ghost use Rattle.sync_types.specs.declared.atomic_object.AtomicKind.TheVariants.{Int64};
 ghost use Rattle.sync_model.specs.Shared.{IsHeldBy};

@@ -1,5 +1,5 @@
 -- That a pass is one of a pool is a fact with one proof at most, so that a struct may keep it in a ghost field.
-use Rattle.std.specs.Prelude.{ℕ, true, List, [], ◌∷◌, Option}
+use Rattle.std.specs.Prelude.{ℕ, true, [], ◌∷◌, Option}
 use mathlib.Core.HLevel.{×_prop, Unit-prop}
 use denote.Struct.Props.{props}
 use Rattle.sync_types.specs.declared.misuse.Misuse.{Misuse}

@@ -11,7 +11,7 @@ use prog.Atomic.{either}
 use lib.ListN.{get_elem?}
 use lib.Seq.{set-get_or}
 use Rattle.std.proofs.Math.Nat.{lt_of_not-le}
-use Rattle.atomic_table.specs.Table.{State, Me, keeps, stepped, Allows, Enters, Splits, Joins, opening, Final, Seen}
+use Rattle.atomic_table.specs.Table.{State, keeps, stepped, Allows, Enters, Splits, Joins, opening, Final, Seen}
 use Rattle.atomic_table.specs.Table as table
 use Rattle.atomic_table.proofs.Lists.{at_set, at_snoc, set_here, set_else, set_again, at_longer}
 use Rattle.sync_model.specs.declared.journal.Entry.{Entry}

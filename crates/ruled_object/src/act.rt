@@ -1,5 +1,5 @@
 //! What a seat that has the word does to the cell, which stays where it lies.
-ghost use Rattle.std.specs.Prelude.{◌≡◌, ◌<◌, ◌^◌, ℕ, [], false, true, length, None, IsTrue, IfNone, IfSome};
+ghost use Rattle.std.specs.Prelude.{◌≡◌, ◌<◌, ◌^◌, ℕ, false, length, None, IsTrue, IfNone, IfSome};
 ghost use Rattle.sync_model.specs.declared.journal.Deed.TheVariants.{Event, Halt};
 ghost use Rattle.sync_model.specs.Front.{AtLeast};
 ghost use Rattle.sync_model.specs.Journal.{is_such};

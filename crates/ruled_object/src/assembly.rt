@@ -1,6 +1,6 @@
 //! Passes that lie inside callers of the layers above, looked at together. `first_halt` does the same for passes that lie
 //! side by side: bring each caller's pass, look at all, and hand each its pass back.
-ghost use Rattle.std.specs.Prelude.{◌≡◌, ℕ, ◌+◌, ◌<◌, List, [], ◌∷◌, ◌++◌, Some, length, slice_get};
+ghost use Rattle.std.specs.Prelude.{◌≡◌, ◌+◌, ◌<◌, List, [], ◌∷◌, ◌++◌, Some, length, slice_get};
 ghost use Rattle.sync_model.specs.declared.journal.Entry.{Entry};
 ghost use Rattle.sync_model.specs.Journal.{halt_of};
 ghost use Rattle.ruled_object.specs.declared.pass.Pass.{Pass};

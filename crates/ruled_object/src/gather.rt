@@ -1,5 +1,5 @@
 //! Passes that are brought together in one seat, and dealt out again.
-ghost use Rattle.std.specs.Prelude.{◌≡◌, ℕ, ◌+◌, ◌<◌, ◌≤◌, [], Some, length, slice_get};
+ghost use Rattle.std.specs.Prelude.{◌≡◌, ℕ, ◌+◌, ◌<◌, [], Some, length, slice_get};
 ghost use Rattle.ruled_object.specs.declared.view.Stage.TheVariants.{Idle};
 ghost use Rattle.ruled_object.specs.Gathered.{AreAllPasses, SamePasses, SameTurns, HaveCounted, Gathered, Dealing, IsDealt};
 ghost use Rattle.ruled_object.specs.Passes.{IsPassOf, SamePass, callers_of, number_of, turns_of};

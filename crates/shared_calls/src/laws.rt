@@ -1,5 +1,5 @@
 //! What holds of what a worker makes. Each law is the contract of a function that does nothing.
-ghost use Rattle.std.specs.Prelude.{◌≡◌, ℕ, ◌+◌, ◌<◌, List, [], ◌++◌, length, take, Option, Some, slice_get, slice_index, IsSome};
+ghost use Rattle.std.specs.Prelude.{◌≡◌, ℕ, ◌+◌, ◌<◌, List, ◌++◌, length, take, Option, Some, slice_get, slice_index, IsSome};
 ghost use Rattle.sync_model.specs.declared.item.Item.{Item};
 ghost use Rattle.sync_model.specs.Front.{AtLeast};
 ghost use Rattle.sync_model.specs.Note.{Holding};

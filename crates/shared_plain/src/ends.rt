@@ -1,5 +1,5 @@
 //! What the maps and atomics contain when all calls have returned.
-ghost use Rattle.std.specs.Prelude.{◌≡◌, ◌<◌, ◌≤◌, List, [], IfOk, length, map, slice_get, vec_capacity};
+ghost use Rattle.std.specs.Prelude.{◌≡◌, ◌<◌, ◌≤◌, IfOk, length, map};
 ghost use Rattle.sync_types.specs.SequentialAtomic.{kind_of};
 ghost use Rattle.sync_model.specs.SharedHistory.{first_contents};
 ghost use Rattle.sync_model.specs.Shared.{AreAllCallers};

@@ -1,5 +1,4 @@
 //! What callers do to the maps and atomics, and what is answered.
-ghost use Rattle.std.specs.Prelude.{◌≡◌};
 
 use sync_model::SharedReply;
 use sync_types::{AtomicCall, MapCall};

@@ -1,5 +1,5 @@
 //! The machine whose callers share maps and atomics.
-ghost use Rattle.std.specs.Prelude.{◌≡◌, false};
+ghost use Rattle.std.specs.Prelude.{false};
 ghost use Rattle.shared_plain.specs.PlainMachine.{next};
 
 use crate::event::{Answered, Event};

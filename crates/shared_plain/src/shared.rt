@@ -1,6 +1,5 @@
 //! Plain maps and atomics are shared ones: each call takes the turn of their object, and its place is where it gives the turn
 //! back.
-ghost use Rattle.std.specs.Prelude.{◌≡◌};
 ghost use Rattle.shared_plain.specs.CursorsStand.{Stands};
 ghost use Rattle.shared_plain.specs.Marks.{seen_of};
 ghost use Rattle.shared_plain.specs.Plains.{caller_count, kinds_of, maps_of, Takes};

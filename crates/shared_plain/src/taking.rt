@@ -2,7 +2,7 @@
 ghost use Rattle.std.specs.Prelude.{◌≡◌, true};
 ghost use Rattle.sync_model.specs.Shared.{IsMapCall};
 ghost use Rattle.shared_plain.specs.Fits.{is_taken, is_in_range};
-ghost use Rattle.shared_plain.specs.Plains.{keys_of, Takes};
+ghost use Rattle.shared_plain.specs.Plains.{Takes};
 
 use crate::plain::Plain;
 use sync_types::MapCall;

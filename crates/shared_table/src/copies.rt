@@ -1,6 +1,6 @@
 //! Copies of notes, and their merging, by splitting and joining seats. Both cost a load of one word or two, and wait for
 //! nobody.
-ghost use Rattle.std.specs.Prelude.{◌≡◌, ℕ, None};
+ghost use Rattle.std.specs.Prelude.{◌≡◌, None};
 ghost use Rattle.sync_model.specs.Front.{AtLeast};
 ghost use Rattle.sync_model.specs.Journal.{Begins};
 ghost use Rattle.sync_model.specs.Note.{SameHome};

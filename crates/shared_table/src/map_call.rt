@@ -1,6 +1,6 @@
 //! A call that writes a map: in by the map's gate, down to the node whose slot for the key has no node, its lock, a second look, one
 //! write, and out again.
-ghost use Rattle.std.specs.Prelude.{◌≡◌, ℕ, ◌<◌, ◌≤◌, ◌^◌, Some, None, IsSome, MatchBool, MatchOption, length};
+ghost use Rattle.std.specs.Prelude.{◌≡◌, ℕ, ◌<◌, ◌≤◌, Some, None, IsSome, MatchBool, MatchOption, length};
 ghost use Rattle.table_rule.specs.declared.view.Gate.TheVariants.{Inside};
 ghost use Rattle.table_rule.specs.declared.view.Walk.{Walk};
 ghost use Rattle.table_steps.specs.Writing.{holding, lock_at, IsWriter, HasRoomWithin};
@@ -17,7 +17,7 @@ ghost use Rattle.table_writes.specs.Drafts.{IsPoised};
 ghost use Rattle.shared_table.specs.MapCalls.{AnswersAndPrunes, IsEnd, IsReached, IsSight, IsWriting, MadeLocked, MakesAndPrunes, MayHaveMade, StillLocked};
 ghost use Rattle.sync_types.specs.KeyCalls.{key_after};
 ghost use Rattle.shared_table.specs.Tables.{maps_of, first_of};
-ghost use Rattle.table_steps.specs.Walking.{standing, walk_at, given_by, HasWords, Affords, IsFree, OnWay, AtEntry, IsUncounted};
+ghost use Rattle.table_steps.specs.Walking.{standing, walk_at, given_by, HasWords, Affords, IsFree, AtEntry, IsUncounted};
 
 use crate::changes::{Change, reply_of};
 use crate::note::SharedNote;

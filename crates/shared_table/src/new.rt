@@ -1,5 +1,5 @@
 //! New tables.
-ghost use Rattle.std.specs.Prelude.{◌≡◌, ◌+◌, ◌^◌, ◌<◌, ◌≤◌, true, [], IfOk, length, sum};
+ghost use Rattle.std.specs.Prelude.{◌≡◌, ◌+◌, ◌<◌, ◌≤◌, [], IfOk, length, sum};
 ghost use Rattle.table_seats.specs.Seats.{begin_of, IsSeatOf};
 ghost use Rattle.shared_table.specs.NewCallers.{AreNewCallers};
 ghost use Rattle.shared_table.specs.Tables.{kinds_of, maps_of, caller_count, seed_of};

@@ -1,6 +1,6 @@
 //! Operations on the words of atomics. Each is one atomic step on one word, waits for nobody, and can't be refused. It is a
 //! call of its caller, placed at that step.
-ghost use Rattle.std.specs.Prelude.{◌≡◌, IsSome};
+ghost use Rattle.std.specs.Prelude.{IsSome};
 ghost use Rattle.sync_model.specs.Note.{SameHome};
 ghost use Rattle.shared_table.specs.Notes.{own_by, IsNoteOf, IsOperationOn, Operated};
 ghost use Rattle.table_rule.specs.WordSteps.{word_after};

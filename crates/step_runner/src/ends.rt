@@ -1,8 +1,8 @@
 //! What the objects hold when every script has ended.
-ghost use Rattle.std.specs.Prelude.{◌≡◌, ℕ, ◌++◌, map, IfOk, OnOk};
+ghost use Rattle.std.specs.Prelude.{◌≡◌, ◌++◌, map, IfOk, OnOk};
 ghost use Rattle.std.specs.List.{flat_map};
 ghost use Rattle.sync_types.specs.Ends.{number_end, pair_ends};
-ghost use Rattle.workload.specs.Keys.{keys_in, key_number};
+ghost use Rattle.workload.specs.Keys.{key_number};
 ghost use Rattle.step_runner.specs.Ends.{numbers_from, maps_from, scheduled_ends};
 
 use crate::numbering::number_of;

@@ -1,7 +1,7 @@
 //! Replies with the numbers of keys in place of their names.
 ghost use Rattle.std.specs.Prelude.{◌≡◌, map, IfOk};
 ghost use Rattle.sync_types.specs.Outcome.{with_keys_renamed};
-ghost use Rattle.workload.specs.Keys.{keys_in, key_number};
+ghost use Rattle.workload.specs.Keys.{key_number};
 ghost use Rattle.step_runner.specs.Ends.{numbered};
 
 use std::alloc::{AllocError, Global};

@@ -1,9 +1,9 @@
 //! The stage that a worker's call is at, by where the worker stands at the object: none, where it waits and
 //! isn't told to go on. With it, what an outcome makes of the call.
-ghost use Rattle.std.specs.Prelude.{◌≡◌, ◌*◌, ◌<◌, ◌≤◌, List};
+ghost use Rattle.std.specs.Prelude.{◌≡◌, ◌*◌, ◌<◌, ◌≤◌};
 ghost use Rattle.pool_core.specs.Looks.{look};
 ghost use Rattle.run_record.specs.PoolKind.{stage_of};
-ghost use Rattle.step_turns.specs.Due.{mutex_due, rw_due, locked, group_due, returned, cond_due, cond_answer, once_due, ran_or};
+ghost use Rattle.step_turns.specs.Due.{mutex_due, rw_due, locked, group_due, returned, cond_due, cond_answer, once_due};
 ghost use Rattle.step_turns.specs.Stages.{answer_by};
 
 use crate::answer::Answer;

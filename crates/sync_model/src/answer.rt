@@ -1,5 +1,4 @@
 //! What a call on a shared object answers.
-ghost use Rattle.std.specs.Prelude.{◌≡◌};
 
 use sync_types::Misuse;
 

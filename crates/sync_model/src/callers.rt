@@ -1,5 +1,5 @@
 //! Sets of callers.
-ghost use Rattle.std.specs.Prelude.{◌≡◌, ◌≢◌, ℕ, ◌<◌, ◌↔◌, IfSome, IfNone};
+ghost use Rattle.std.specs.Prelude.{◌≢◌, ℕ, ◌<◌, ◌↔◌, IfSome, IfNone};
 ghost use Rattle.sync_model.specs.Callers.{Has};
 
 use std::marker::Model;

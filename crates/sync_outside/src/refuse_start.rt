@@ -1,6 +1,6 @@
 //! A spawner that refuses a start.
 ghost use Rattle.std.specs.Prelude.{◌≡◌, ◌≤◌};
-ghost use Rattle.sync_outside.specs.Faults.{Rose, RoseBy, raised};
+ghost use Rattle.sync_outside.specs.Faults.{Rose, RoseBy};
 ghost use Rattle.sync_outside.specs.Starts.{Refusing, no_starts, after_refusal, after_done, admitted_before};
 
 use crate::spawner::Spawner;

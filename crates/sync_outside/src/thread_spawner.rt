@@ -1,6 +1,6 @@
 //! Threads of the machine.
 ghost use Rattle.std.specs.Prelude.{◌≡◌, ◌≤◌};
-ghost use Rattle.sync_outside.specs.Faults.{Rose, RoseBy, raised};
+ghost use Rattle.sync_outside.specs.Faults.{Rose, RoseBy};
 ghost use Rattle.sync_outside.specs.Starts.{Starts, no_starts, after_refusal, after_done};
 
 use crate::spawner::Spawner;

@@ -2,7 +2,7 @@
 ghost use Rattle.std.specs.Prelude.{◌≡◌, ◌<◌, ◌≤◌, length, None, IfOk, OnOk, OnErr};
 ghost use Rattle.std.specs.Io.KnownBytes.{WriteAppends};
 ghost use Rattle.std.specs.Io.KnownBytes as known;
-ghost use Rattle.sync_outside.specs.Bytes.{Appends, AppendsFront};
+ghost use Rattle.sync_outside.specs.Bytes.{Appends};
 ghost use Rattle.sync_outside.specs.Faults.{Rose, count_after};
 ghost use Rattle.system_io.specs.System.{AppendsSome};
 

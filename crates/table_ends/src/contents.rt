@@ -1,7 +1,6 @@
 //! What an atomic holds, and what a key of a map has.
 ghost use Rattle.std.specs.Prelude.{◌≡◌, ◌+◌, ◌<◌, ◌≤◌, length, slice_get};
 ghost use Rattle.std.specs.Mem.Slots.{slots_items, slots_len, IsFull};
-ghost use Rattle.sync_model.specs.SharedHistory.{value_at};
 ghost use Rattle.table_ends.specs.EndContents.{contents_of};
 ghost use Rattle.table_ends.specs.EndWords.{contents_in, IsTableRow};
 

@@ -1,5 +1,5 @@
 //! Walks through a map's nodes: down the path of one key, and through all slots.
-ghost use Rattle.std.specs.Prelude.{◌≡◌, ℕ, ◌+◌, ◌^◌, ◌<◌, ◌≤◌, ◌++◌, All, length, slice_index, vec_len, vec_capacity};
+ghost use Rattle.std.specs.Prelude.{◌≡◌, ◌+◌, ◌^◌, ◌<◌, ◌≤◌, ◌++◌, All, length, slice_index, vec_len, vec_capacity};
 ghost use Rattle.sync_model.specs.SharedHistory.{value_at};
 ghost use Rattle.trie_nodes.specs.Nodes.{entry_value, stands_for};
 ghost use Rattle.trie_nodes.specs.Walks.{pairs_within};

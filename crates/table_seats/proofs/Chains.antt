@@ -31,7 +31,7 @@ use Rattle.table_seats.proofs.Published as published
 use Rattle.table_seats.proofs.Publishing as publishing
 use Rattle.table_seats.proofs.Sites as sites
 use Rattle.table_seats.proofs.Stores as stores
-use Rattle.table_seats.proofs.Stores.{test_off, own_value, other_value, none_or_some, entry_place}
+use Rattle.table_seats.proofs.Stores.{test_off, none_or_some, entry_place}
 use Rattle.table_seats.proofs.Units as units
 
 module _ (k : Begin) (laws : HistoryLaws) (tries : TrieLaws) (s : TableState) (r : Kept k s) (id : ℕ) (v : View) (at_me : get_elem? s.views id ≡ some v) (own : Own) (owns : List Own) (l : Lock) (m word nodes : ℕ) (ready : published.IsReady k v own owns l m word nodes)

@@ -2,11 +2,11 @@
 //! empty root into the map's root word, and opens the gate. Lookups go on all the while, in the new nodes or in the old ones.
 ghost use Rattle.std.specs.Prelude.{◌≡◌, ◌<◌, true, false, None, MatchBool};
 ghost use Rattle.table_rule.specs.declared.view.Gate.TheVariants.{Outside, Closed};
-ghost use Rattle.table_steps.specs.Clearing.{HasClosed, Closes, LooksInside, Clears};
+ghost use Rattle.table_steps.specs.Clearing.{HasClosed, Clears};
 ghost use Rattle.table_steps.specs.Making.{HasUnit};
 ghost use Rattle.table_seats.specs.Seats.{begin_of, IsSeatOf};
 ghost use Rattle.table_steps.specs.Walking.{IsFree};
-ghost use Rattle.table_steps.specs.Writing.{holding, GoesOut, HasRoomWithin};
+ghost use Rattle.table_steps.specs.Writing.{holding, HasRoomWithin};
 
 use crate::laws::history_laws;
 use crate::words::TableWords;

@@ -1,7 +1,7 @@
 //! The reads of a seat on its way to a key: a map's root word, then a slot in each node on the key's path, and the words of an
 //! entry. None of them waits. Each takes a counter, which rises by one for each look at a word. A load can make no other reading
 //! step: those that nobody counts ask for a seat that is inside of a gate, or has a cursor, and a load's seat has neither.
-ghost use Rattle.std.specs.Prelude.{◌≡◌, ◌+◌, ◌<◌, ◌≤◌, ◌^◌, Some, length};
+ghost use Rattle.std.specs.Prelude.{◌≡◌, ◌+◌, ◌<◌, ◌^◌, Some, length};
 ghost use Rattle.sync_types.specs.SequentialMap.{map_key};
 ghost use Rattle.sync_model.specs.Shared.{cost_of};
 ghost use Rattle.table_rule.specs.declared.view.Leaf.{Leaf};

@@ -1,5 +1,5 @@
 //! New tables.
-ghost use Rattle.std.specs.Prelude.{◌≡◌, ◌+◌, ◌^◌, ◌<◌, ◌≤◌, [], IfOk, sum};
+ghost use Rattle.std.specs.Prelude.{◌≡◌, ◌+◌, ◌^◌, ◌<◌, [], IfOk, sum};
 ghost use Rattle.table_seats.specs.Blank.{IsBlank};
 ghost use Rattle.table_rule.specs.Layout.{first_room, IsBegin};
 ghost use Rattle.table_seats.specs.Seats.{begin_of, IsSeatOf};

@@ -2,7 +2,7 @@
 //! parent, marks the node dead, and empties the parent's slot. The parent's lock is the one that it holds then.
 ghost use Rattle.std.specs.Prelude.{◌≡◌, ◌<◌, true, false, Some};
 ghost use Rattle.table_rule.specs.declared.view.Lock.{Lock};
-ghost use Rattle.table_steps.specs.Pruning.{LooksAtSlot, ReadsParent, TriedUpper, TriesUpper, HoldsBoth, Marks, CutsOff};
+ghost use Rattle.table_steps.specs.Pruning.{LooksAtSlot, ReadsParent, TriedUpper, HoldsBoth, Marks, CutsOff};
 ghost use Rattle.table_seats.specs.Seats.{begin_of, IsSeatOf};
 ghost use Rattle.table_steps.specs.Walking.{HasWords};
 ghost use Rattle.table_steps.specs.Writing.{Holds};

@@ -1,6 +1,6 @@
 //! The steps of a call that writes a map, up to the write: coming in by the map's gate, taking the lock of a node, reading a
 //! slot under it, writing a word of the own room, giving the lock back, and going out.
-ghost use Rattle.std.specs.Prelude.{◌≡◌, ℕ, ◌+◌, ◌<◌, ◌≤◌, true, List, Some, None, MatchBool, length};
+ghost use Rattle.std.specs.Prelude.{◌≡◌, ℕ, ◌+◌, ◌<◌, List, Some, None, MatchBool, length};
 ghost use Rattle.table_rule.specs.declared.view.Gate.TheVariants.{Outside, Inside};
 ghost use Rattle.table_rule.specs.declared.view.Lock.{Lock};
 ghost use Rattle.table_rule.specs.declared.view.Own.{Own};
@@ -11,7 +11,7 @@ ghost use Rattle.table_steps.specs.Walking.{standing, walk_at, HasWords, Affords
 ghost use Rattle.sync_types.specs.SequentialMap.{map_key};
 ghost use Rattle.sync_model.specs.Shared.{cost_of};
 ghost use Rattle.table_steps.specs.Making.{StandsLocked, LooksHeld};
-ghost use Rattle.table_steps.specs.Writing.{holding, lock_at, IsWriter, TriesLock, Holds, Unlocks, ComesIn, IsInside, GoesOut, HasRoomWithin, drafted, Drafts, HasDraft};
+ghost use Rattle.table_steps.specs.Writing.{holding, lock_at, IsWriter, Holds, IsInside, HasRoomWithin, drafted, HasDraft};
 
 use crate::laws::history_laws;
 use crate::words::TableWords;

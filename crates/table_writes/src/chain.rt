@@ -1,5 +1,5 @@
 //! The words of a chain, as a call drafts them.
-ghost use Rattle.std.specs.Prelude.{◌≡◌, ℕ, ◌+◌, ◌*◌, ◌<◌, ◌≤◌, ◌^◌};
+ghost use Rattle.std.specs.Prelude.{◌≡◌, ◌+◌, ◌*◌, ◌<◌, ◌≤◌, ◌^◌};
 ghost use Rattle.trie_nodes.specs.Plans.{last_slots};
 ghost use Rattle.table_steps.specs.Units.{link_at, link_slots, link_word, unit_word};
 

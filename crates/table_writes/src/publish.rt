@@ -1,6 +1,6 @@
 //! What a call that changes a map adds. It is drafted in its caller's room, where nobody sees it. One write to a slot, under its
 //! node's lock, then shows it.
-ghost use Rattle.std.specs.Prelude.{◌≡◌, ◌≢◌, ℕ, ◌+◌, ◌*◌, ◌<◌, List, Some, None};
+ghost use Rattle.std.specs.Prelude.{◌≡◌, ◌≢◌, ◌+◌, ◌*◌, ◌<◌, List, Some, None};
 ghost use Rattle.table_rule.specs.declared.view.Own.{Own};
 ghost use Rattle.sync_types.specs.KeyCalls.{key_after};
 ghost use Rattle.table_steps.specs.Making.{leaf_value, HasNoOther, Publishes};

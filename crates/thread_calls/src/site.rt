@@ -1,5 +1,5 @@
 //! What the workers of a run share.
-ghost use Rattle.std.specs.Prelude.{◌≡◌, ◌+◌, ◌<◌, ◌≤◌, ◌^◌, cond, IfOk};
+ghost use Rattle.std.specs.Prelude.{◌≡◌, ◌+◌, ◌<◌, ◌^◌, cond, IfOk};
 ghost use Rattle.run_record.specs.Objects.{is_map, is_atomic, is_pool};
 ghost use Rattle.thread_calls.specs.Sites.{AreNumbers, kind_number};
 

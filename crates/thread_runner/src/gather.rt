@@ -1,5 +1,5 @@
 //! What the workers of a run leave, once all have ended.
-ghost use Rattle.std.specs.Prelude.{◌≡◌, ◌≤◌, length, map, IfOk, vec_len, vec_capacity, []};
+ghost use Rattle.std.specs.Prelude.{◌≡◌, ◌≤◌, map, IfOk, vec_len, vec_capacity, []};
 
 use crate::job::Gone;
 use std::alloc::{AllocError, Global};

@@ -1,5 +1,5 @@
 //! The keys of a workload in byte order of their names.
-ghost use Rattle.std.specs.Prelude.{◌≡◌, ℕ, List, ◌<◌, ◌≤◌, ◌^◌, Some, Contains, length, map, slice_get, IfOk};
+ghost use Rattle.std.specs.Prelude.{◌≡◌, ℕ, List, ◌<◌, ◌^◌, Some, Contains, length, map, slice_get, IfOk};
 ghost use Rattle.std.specs.FinMap.{entries, get};
 ghost use Rattle.workload.specs.Keys.{keys_in, key_number, key_name};
 ghost use Rattle.sync_model.specs.EndsByName.{AreInNameOrder};

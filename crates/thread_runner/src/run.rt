@@ -1,5 +1,5 @@
 //! A run of a workload by threads, over any shared maps and atomics.
-ghost use Rattle.std.specs.Prelude.{◌≡◌, ◌≤◌, ◌+◌, IfOk, IfErr, OnOk, List, Err, [], true, map, vec_capacity};
+ghost use Rattle.std.specs.Prelude.{◌≡◌, ◌≤◌, ◌+◌, IfOk, IfErr, OnOk, List, Err, [], map, vec_capacity};
 ghost use Rattle.sync_model.specs.Shared.{AreAllCallers};
 ghost use Rattle.sync_outside.specs.Faults.{Rose, RoseBy};
 ghost use Rattle.thread_objects.specs.AsDeclared.{AreDeclared};

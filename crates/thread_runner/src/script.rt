@@ -1,20 +1,15 @@
 //! A worker's script, call by call.
-ghost use Rattle.std.specs.Prelude.{◌≡◌, ℕ, ◌<◌, ◌≤◌, ◌^◌, List, [], ◌∷◌, ◌++◌, ◌⊎◌, get_or, length, Some, slice_get, vec_len, All, Ok, Err};
+ghost use Rattle.std.specs.Prelude.{◌≡◌, ℕ, ◌<◌, ◌≤◌, ◌^◌, [], ◌⊎◌, get_or, length, Some, vec_len, All, Ok, Err};
 ghost use Rattle.std.specs.Option.{ForSome};
-ghost use Rattle.sync_model.specs.Note.{SameHome, Holding};
 ghost use Rattle.sync_model.specs.Shared.{IsCallerAt, IsHeldBy, items_of};
 ghost use Rattle.workload.specs.Keys.{keys_in};
-ghost use Rattle.workload.specs.Plan.{is_on};
-ghost use Rattle.run_record.specs.declared.made.Made.{Made};
-ghost use Rattle.run_record.specs.Calls.{SpellsCall};
 ghost use Rattle.run_record.specs.Limits.{IsCallOf};
-ghost use Rattle.run_record.specs.Lines.{Line, IsHalt};
-ghost use Rattle.run_record.specs.Record.{ObjectEntry};
+ghost use Rattle.run_record.specs.Lines.{Line};
 ghost use Rattle.thread_objects.specs.Desks.{AreSeats};
 ghost use Rattle.shared_calls.specs.GivenUp.{GaveUp};
 ghost use Rattle.thread_objects.specs.Passes.{owns_of};
 ghost use Rattle.thread_calls.specs.Sites.{IsSite, AreRooms, cost_of_calls, ranges_in_calls};
-ghost use Rattle.shared_calls.specs.Working.{Desk, Works, Moves, desk_with};
+ghost use Rattle.shared_calls.specs.Working.{desk_with};
 ghost use Rattle.thread_runner.specs.DidLines.{DidLine, IsFresh};
 
 use object_calls::halt_all;

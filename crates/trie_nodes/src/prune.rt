@@ -1,5 +1,5 @@
 //! The plan of a pruning: a node below a root that has become empty is cut off from its parent.
-ghost use Rattle.std.specs.Prelude.{◌≡◌, ◌≢◌, ◌↔◌, ℕ, ◌+◌, ◌-◌, ◌<◌, ◌⊎◌, List, length, slice_index, IsTrue, IsFalse, IsSome, IsNone, IfSome};
+ghost use Rattle.std.specs.Prelude.{◌≡◌, ◌≢◌, ◌↔◌, ℕ, ◌+◌, ◌-◌, ◌<◌, ◌⊎◌, List, slice_index, IsTrue, IsFalse, IsSome, IsNone, IfSome};
 ghost use Rattle.trie_nodes.specs.Paths.{nibble};
 ghost use Rattle.trie_nodes.specs.Nodes.{stands_for};
 ghost use Rattle.trie_nodes.specs.Plans.{Prunes, HasOnlyEmptySlots, HasAFullSlot};

@@ -1,5 +1,5 @@
 //! The keys of a workload, by number.
-ghost use Rattle.std.specs.Prelude.{◌≡◌, ◌≤◌, [], length, IfOk, OnOk};
+ghost use Rattle.std.specs.Prelude.{◌≡◌, ◌≤◌, [], length, IfOk};
 ghost use Rattle.std.specs.List.{flat_map};
 ghost use Rattle.workload.specs.Draft.{keys_of, all_keys, distinct_count};
 ghost use Rattle.workload.specs.Keys.{with_name, with_names, keys_in, number_in, key_name};

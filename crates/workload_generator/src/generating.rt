@@ -1,12 +1,12 @@
 //! The text of the workload that a seed gives.
-ghost use Rattle.std.specs.Prelude.{◌≡◌, ◌∷◌, ◌++◌, [], IfOk, OnOk};
+ghost use Rattle.std.specs.Prelude.{◌≡◌, ◌++◌, IfOk, OnOk};
 ghost use Rattle.std.specs.Fmt.{decimal};
 ghost use Rattle.rand_core.specs.Steps.{first_words};
 ghost use Rattle.rand_pcg.specs.Lcg.{advance};
 ghost use Rattle.rand_pcg.specs.Pcg.{multiplier_64, pcg32};
 ghost use Rattle.workload.specs.Reads.{Reads};
-ghost use Rattle.workload_generator.specs.Generated.{key_of, drawn, generated_plan, generated_text};
-ghost use Rattle.workload_generator.specs.Written.{call_text, round_text, rounds_text, worker_text, workers_text, written_text};
+ghost use Rattle.workload_generator.specs.Generated.{key_of, generated_plan, generated_text};
+ghost use Rattle.workload_generator.specs.Written.{call_text, round_text, rounds_text, worker_text, workers_text};
 
 use itoa::Buffer;
 use rand_core::utils::NextWord;

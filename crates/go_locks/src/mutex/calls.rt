@@ -2,7 +2,6 @@
 ghost use Rattle.std.specs.Prelude.{◌≡◌, ◌≢◌, ◌<◌, true};
 ghost use Rattle.sync_types.specs.declared.misuse.Misuse.{Misuse};
 ghost use Rattle.sync_model.specs.declared.answer.Answer.TheVariants.{Done, Halted};
-ghost use Rattle.mutex_core.specs.declared.event.MutexEvent.{MutexEvent};
 ghost use Rattle.mutex_core.specs.Edges.{acquires, releases};
 ghost use Rattle.mutex_core.specs.MutexMachine.{next};
 ghost use Rattle.mutex_core.specs.Word.{is_uncontended};

@@ -1,5 +1,5 @@
 //! Callers of a new table, and calls that they make as long as they have room.
-ghost use Rattle.std.specs.Prelude.{◌≡◌, ◌<◌, IfSome, All};
+ghost use Rattle.std.specs.Prelude.{◌<◌, IfSome, All};
 ghost use Rattle.sync_model.specs.Shared.{IsCallerAt};
 ghost use Rattle.shared_table.specs.Notes.{own_by, IsNoteOf};
 ghost use Rattle.shared_table.specs.Tables.{maps_of};

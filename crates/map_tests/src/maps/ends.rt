@@ -1,5 +1,5 @@
 //! What a table contains at the end.
-ghost use Rattle.std.specs.Prelude.{◌≡◌, ◌<◌, ◌^◌};
+ghost use Rattle.std.specs.Prelude.{◌<◌};
 ghost use Rattle.sync_model.specs.Shared.{AreAllCallers, IsHeldBy};
 ghost use Rattle.shared_table.specs.Notes.{own_by, IsNoteOf};
 ghost use Rattle.shared_table.specs.Tables.{caller_count, maps_of};

@@ -1,5 +1,5 @@
 //! What stands before the return of a wait, by the journals of conds and wait groups.
-ghost use Rattle.std.specs.Prelude.{◌≡◌, ℕ, ◌<◌, ℤ, negsuc, List, ◌∷◌, ◌++◌, Some, Ok, slice_get};
+ghost use Rattle.std.specs.Prelude.{◌≡◌, ℕ, ◌<◌, negsuc, List, ◌∷◌, ◌++◌, Some, Ok, slice_get};
 ghost use Rattle.sync_model.specs.Front.{AtLeast};
 ghost use Rattle.wait_cores.specs.GroupLaws as group;
 ghost use Rattle.wait_cores.specs.NotifyLaws as notify;

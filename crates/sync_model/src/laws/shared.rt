@@ -7,7 +7,7 @@ ghost use Rattle.sync_types.specs.SequentialMap.{map_after, map_key};
 ghost use Rattle.sync_types.specs.SequentialAtomic.{zero_of, atomic_reply, is_atomic_entry};
 ghost use Rattle.sync_model.specs.Front.{AtLeast};
 ghost use Rattle.sync_model.specs.SharedHistory.{Contents, first_contents, value_at, contents_at};
-ghost use Rattle.sync_model.specs.SharedCalls.{Knows, IsStep, WasSo, Lawful};
+ghost use Rattle.sync_model.specs.SharedCalls.{Knows, IsStep, Lawful};
 ghost use Rattle.sync_model.specs.Shared.{values_of, cost_of};
 ghost use Rattle.sync_model.specs.SharedLaws.{LeaveKey, LeaveAtomic, value_by, number_by};
 

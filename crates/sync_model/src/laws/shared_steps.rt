@@ -1,5 +1,5 @@
 //! How a lawful history of shared maps and atomics goes on, for those who keep one.
-ghost use Rattle.std.specs.Prelude.{◌≡◌, ◌≢◌, ℕ, ◌+◌, ◌<◌, ◌≤◌, true, false, List, [], ◌∷◌, ◌++◌, length, Option, Some, slice_get, slice_index};
+ghost use Rattle.std.specs.Prelude.{◌≡◌, ◌≢◌, ℕ, ◌+◌, ◌<◌, ◌≤◌, true, false, List, [], ◌∷◌, ◌++◌, length, Option, Some, slice_get};
 ghost use Rattle.sync_model.specs.Front.{AtLeast};
 ghost use Rattle.sync_model.specs.Journal.{Begins};
 ghost use Rattle.sync_model.specs.SharedHistory.{Contents, contents_after, contents_at, shared_after, is_entry, IsReply, IsLegal, entries_by, marked_in, history_with};

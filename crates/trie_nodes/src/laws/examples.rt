@@ -1,5 +1,5 @@
 //! Laws of a worked row of words: keys 0 and 16, which go together at the root and part at level 1.
-ghost use Rattle.std.specs.Prelude.{◌≡◌, ◌≢◌, ℕ, Some, None};
+ghost use Rattle.std.specs.Prelude.{◌≡◌, Some, None};
 ghost use Rattle.trie_nodes.specs.Nodes.{stands_for};
 ghost use Rattle.trie_nodes.specs.Plans.{Expands, Prunes};
 ghost use Rattle.trie_nodes.specs.Examples.{one_key, two_keys, expansion_to_two, no_keys, no_nodes, empty_node, pruning_to_none};

@@ -1,5 +1,5 @@
 //! Laws of what a node stands for.
-ghost use Rattle.std.specs.Prelude.{◌≡◌, ◌≢◌, ℕ, suc, ◌+◌, ◌<◌, ◌≤◌, ◌==◌, if◌then◌else◌, Bool, IsTrue, List, Option, Some, None, slice_index};
+ghost use Rattle.std.specs.Prelude.{◌≡◌, ◌≢◌, ℕ, suc, ◌<◌, ◌≤◌, ◌==◌, if◌then◌else◌, Bool, IsTrue, List, Option, Some, None, slice_index};
 ghost use Rattle.trie_nodes.specs.Layout.{slot_word, key_word, value_word};
 ghost use Rattle.trie_nodes.specs.Paths.{nibble};
 ghost use Rattle.trie_nodes.specs.Nodes.{slot_at, entry_value, slot_value, Belongs, ChangesSlot, IsFreeFor, stands_for, Shows};

@@ -1,5 +1,5 @@
 //! Laws of the paths of keys.
-ghost use Rattle.std.specs.Prelude.{◌≡◌, ◌≢◌, ◌↔◌, ℕ, ◌<◌, ◌≤◌, ◌^◌, length};
+ghost use Rattle.std.specs.Prelude.{◌≡◌, ◌≢◌, ℕ, ◌<◌, ◌≤◌, ◌^◌, length};
 ghost use Rattle.trie_nodes.specs.Paths.{nibble, route};
 
 /// A path has one nibble of each level, which is one of a node's 16 slots.

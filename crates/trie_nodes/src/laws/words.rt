@@ -1,5 +1,5 @@
 //! Laws of the words: no two things share one.
-ghost use Rattle.std.specs.Prelude.{◌≡◌, ◌≢◌, ◌⊎◌, ℕ, ◌+◌, ◌*◌, ◌^◌, ◌<◌, ◌≤◌, List, slice_index};
+ghost use Rattle.std.specs.Prelude.{◌≡◌, ◌≢◌, ◌⊎◌, ℕ, ◌+◌, ◌*◌, ◌^◌, ◌<◌, ◌≤◌};
 ghost use Rattle.trie_nodes.specs.Layout.{atomic_word, root_word, gate_word, heads, first_root, first_room, unit_words, lock_word, parent_word, slot_word, key_word, value_word, held_word, dead_word};
 ghost use Rattle.trie_nodes.specs.Slots.{word_of_slot, slot_in};
 

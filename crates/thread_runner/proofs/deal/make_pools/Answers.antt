@@ -1,8 +1,5 @@
-use Rattle.std.proofs.Common.{◌≡◌, ◌+◌, length, refl, sym, ap, ◌∙◌, subst, arith, rules}
-use Rattle.std.proofs.lemmas.Option.{slice_get_read}
-use Rattle.workload.specs.declared.object.ObjectLine.{ObjectLine}
+use Rattle.std.proofs.Common.{◌≡◌, length, ap, ◌∙◌, subst, arith, rules}
 use Rattle.run_record.specs.Objects.{first_part, object_count}
-use Rattle.thread_objects.specs.AsDeclared.{IsAt}
 use Rattle.thread_runner.specs.Dealing.{AreMade}
 use Rattle.thread_runner.proofs.deal.make_pools.Goals as goal
 

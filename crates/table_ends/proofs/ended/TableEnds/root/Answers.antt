@@ -1,4 +1,4 @@
-use Rattle.std.proofs.Common.{◌≡◌, ◌+◌, ◌*◌, ◌<◌, ◌^◌, length, slice_index, sym, ap, ◌∙◌, subst, arith}
+use Rattle.std.proofs.Common.{◌≡◌, ◌<◌, ◌^◌, length, slice_index, sym, ap, ◌∙◌, subst, arith}
 use Rattle.trie_nodes.specs.Layout.{root_word}
 use Rattle.table_ends.specs.EndContents.{words_of}
 use Rattle.table_ends.proofs.Contained.{root_small}
