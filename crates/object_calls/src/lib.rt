@@ -8,6 +8,6 @@ mod halting;
 mod pool;
 mod wait;
 
-pub use by_number::{do_at, object_at, wait_at};
+pub use by_number::{object_at, wait_at};
 pub use halting::halt_all;
 pub use pool::call_pool;

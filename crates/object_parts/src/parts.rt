@@ -1,5 +1,6 @@
 //! A part of a call, in the words of the record.
-ghost use Rattle.std.specs.Prelude.{◌≡◌, ℕ, true};
+ghost use Rattle.std.specs.Prelude.{◌≡◌, ℕ, true, IsSome};
+ghost use Rattle.workload.specs.Plan.{Plan};
 ghost use Rattle.ruled_object.specs.Growth.{KeepsNote};
 ghost use Rattle.ruled_object.specs.Passes.{own_by, start_of};
 ghost use Rattle.ruled_object.specs.Standing.{stand_by};
@@ -8,6 +9,7 @@ ghost use Rattle.run_record.specs.declared.entered.ObjectEvent.{ObjectEvent};
 ghost use Rattle.run_record.specs.declared.entered.ObjectReply.{ObjectReply};
 ghost use Rattle.run_record.specs.Parts.{stages};
 ghost use Rattle.object_parts.specs.Seats.{IsSeat, IsStanding};
+ghost use Rattle.shared_calls.specs.Calling.{HasCalled};
 ghost use Rattle.shared_calls.specs.Working.{Works, desk_at};
 ghost use Rattle.object_parts.specs.Own.{own_as};
 
@@ -16,7 +18,7 @@ use object_word::Worded;
 use protocols::Protocol;
 use ruled_object::{Object, PassOf};
 use running::call_within;
-use shared_calls::laws::a_note_counts_its_calls;
+use shared_calls::laws::{a_note_counts_its_calls, what_a_call_leaves};
 use std::sync::Wait;
 use sync_model::{Answer, Note};
 use sync_outside::Clock;
@@ -38,11 +40,13 @@ pub fn part<P: Protocol + Worded, N: Note, C: Clock, R: Wait>(
     requires returns { (outcome : P.Outcome) → P.left outcome ≡ P.out }
     ensures seat { IsSeat P.begins P.out P.stands N.at worker.now.at.home.now worker.now.workers worker.now.number object.now pass.new }
     ensures note { KeepsNote N.at N.own N.front note.old note.new }
+    ensures called { (plan : Plan) → IsSome (N.own note.old) → HasCalled N.at N.own plan 0 note.old note.new }
     ensures gives { IsGiven (P.gives stage) result }
     ensures works { (event : P.Event → ObjectEvent) (reply : P.Reply → ObjectReply) (number : ℕ)
         → Works (stages event reply P.event P.meaning number stage) (desk_at N.own N.front number (own_as event reply pass.old) note.old) result (desk_at N.own N.front number (own_as event reply pass.new) note.new) }
 {
     a_note_counts_its_calls();
+    what_a_call_leaves::<N>();
     call_within(object, rt, &worker.at, pass, note, stage)
 }
 

@@ -1,3 +1,5 @@
+pub mod Calling
+pub mod Catalog
 pub mod GivenUp
 pub mod Laws
 pub mod PlacedCalls

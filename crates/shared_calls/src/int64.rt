@@ -4,16 +4,22 @@ ghost use Rattle.sync_model.specs.declared.answer.Answer.TheVariants.{Done};
 ghost use Rattle.sync_model.specs.Note.{SameHome};
 ghost use Rattle.sync_model.specs.Shared.{IsAtomicCall, IsCallerAt, items_of};
 ghost use Rattle.sync_types.specs.declared.atomic_object.AtomicCall.TheVariants.{Add};
+ghost use Rattle.sync_types.specs.declared.atomic_object.AtomicKind.TheVariants as types;
 ghost use Rattle.sync_types.specs.declared.atomic_object.AtomicReply.TheVariants.{Held};
 ghost use Rattle.sync_types.specs.declared.atomic_object.Number.TheVariants.{Int64};
+ghost use Rattle.workload.specs.declared.object.ObjectKind.TheVariants.{Atomic};
 ghost use Rattle.workload.specs.Plan.{Plan};
 ghost use Rattle.run_record.specs.AtomicKind.{adds};
 ghost use Rattle.run_record.specs.Limits.{IsCallOf, atomic_types};
+ghost use Rattle.run_record.specs.Objects.{atomic_number};
 ghost use Rattle.run_record.specs.Record.{ObjectEntry};
-ghost use Rattle.shared_calls.specs.GivenUp.{MakesOnly, AnsweredAmiss};
+ghost use Rattle.shared_calls.specs.Calling.{HasCalled};
+ghost use Rattle.shared_calls.specs.Catalog.{HasAtomics, IsAt};
+ghost use Rattle.shared_calls.specs.GivenUp.{MakesOnly, AnsweredAmiss, GaveUp};
 ghost use Rattle.shared_calls.specs.Spending.{Spends};
 ghost use Rattle.shared_calls.specs.Working.{Works, desk_with};
 
+use crate::catalog::Catalog;
 use std::sync::Wait;
 use sync_model::{Caller, Shared};
 use sync_types::{AtomicCall, AtomicReply, Number};
@@ -34,8 +40,8 @@ fn int64_in(reply: AtomicReply) -> Option<i64>
     }
 }
 
-/// Adds to an int64, and answers the sum. It may wait for other callers. `None`, where it is answered by another number.
-pub fn add_int64<S: Shared, R: Wait>(
+// Adds to an int64, and answers the sum. `None`, where it is answered by another number.
+fn add_int64<S: Shared, R: Wait>(
     rt: &R,
     shared: &S,
     caller: &mut Caller<S::Mark>,
@@ -53,4 +59,26 @@ pub fn add_int64<S: Shared, R: Wait>(
 {
     let operand = Number::Int64(delta);
     int64_in(shared.atomic_call(rt, caller, atomic, AtomicCall::Add { operand }))
+}
+
+/// Adds to the int64 at a place among the workload's objects, and answers the sum. It may wait for other callers. `None`, where
+/// it is answered by another number. It never is where every call on an atomic is of the atomic's type; a single call doesn't
+/// know that of the others.
+pub fn add_at<S: Shared, R: Wait>(
+    rt: &R,
+    catalog: &Catalog<S>,
+    caller: &mut Caller<S::Mark>,
+    place: usize,
+    delta: i64,
+) -> Option<i64>
+    requires atomics { HasAtomics catalog.now.workload.now (S.kinds catalog.now.shared.now) catalog.now.numbers.now }
+    requires place { IsAt catalog.now.workload.now place (Atomic types.Int64) }
+    requires caller { IsCallerAt S.Mark.at S.Mark.own (S.home_of catalog.now.shared.now) caller.old }
+    ensures called { HasCalled S.Mark.at S.Mark.own catalog.now.workload.now 0 caller.old.note caller.new.note }
+    ensures given_up { IfNone result (GaveUp catalog.now.workload.now (items_of (S.Mark.own caller.new.note))) }
+    ensures works { IfSome result (λ sum. (owns : ℕ → List ObjectEntry)
+        → Works (adds (atomic_number catalog.now.workload.now.objects place) delta) (desk_with S.Mark.own S.Mark.front owns caller.old.note) (Done (Ok sum)) (desk_with S.Mark.own S.Mark.front owns caller.new.note)) }
+{
+    let int64 = catalog.numbers[place];
+    add_int64(rt, catalog.shared, caller, int64, delta)
 }

@@ -2,11 +2,12 @@
 ghost use Rattle.std.specs.Prelude.{◌≡◌, ℕ, ◌+◌, ◌<◌, List, ◌++◌, length, take, Option, Some, slice_get, slice_index, IsSome};
 ghost use Rattle.sync_model.specs.declared.item.Item.{Item};
 ghost use Rattle.sync_model.specs.Front.{AtLeast};
-ghost use Rattle.sync_model.specs.Note.{Holding};
+ghost use Rattle.sync_model.specs.Note.{Holding, SameHome};
 ghost use Rattle.sync_model.specs.Shared.{items_of};
 ghost use Rattle.workload.specs.Plan.{Plan};
 ghost use Rattle.run_record.specs.Limits.{IsCallOf};
 ghost use Rattle.run_record.specs.Record.{shared_in, front_of};
+ghost use Rattle.shared_calls.specs.Calling.{HasCalled};
 ghost use Rattle.shared_calls.specs.GivenUp.{MakesOnly};
 ghost use Rattle.shared_calls.specs.Laws.{Stays, Joins, Counts};
 ghost use Rattle.shared_calls.specs.Spending.{Spends};
@@ -52,4 +53,11 @@ pub fn what_calls_spend<N: Note>()
 pub fn which_calls_are_made()
     ensures none { (plan : Plan) (old new : Option Holding) → new ≡ old → MakesOnly (IsCallOf plan) (items_of old) (items_of new) }
     ensures joined { (plan : Plan) (old between new : List Item) → MakesOnly (IsCallOf plan) old between → MakesOnly (IsCallOf plan) between new → MakesOnly (IsCallOf plan) old new }
+{}
+
+/// A caller makes nothing while its note holds what it held and is of the same home. What it makes by one part of a call and then
+/// by another, it makes by both together.
+pub fn what_a_call_leaves<N: Note>()
+    ensures none { (plan : Plan) (old new : N) → SameHome N.at old new → N.own new ≡ N.own old → IsSome (N.own old) → HasCalled N.at N.own plan 0 old new }
+    ensures joined { (plan : Plan) (cost more : ℕ) (old between new : N) → HasCalled N.at N.own plan cost old between → HasCalled N.at N.own plan more between new → HasCalled N.at N.own plan (cost + more) old new }
 {}

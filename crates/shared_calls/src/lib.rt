@@ -3,12 +3,14 @@
 #![tactic(auto)]
 
 mod answer;
+mod catalog;
 mod int64;
 pub mod laws;
 mod placed_calls;
 mod range;
 
 pub use answer::CallAnswer;
-pub use int64::add_int64;
+pub use catalog::Catalog;
+pub use int64::add_at;
 pub use placed_calls::{call_atomic, call_map};
 pub use range::call_range;

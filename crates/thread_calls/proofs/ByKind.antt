@@ -22,7 +22,7 @@ use Rattle.run_record.specs.MapKind.{map_call, range_call}
 use Rattle.run_record.specs.Objects.{map_number, atomic_number, first_part}
 use Rattle.run_record.specs.PoolKind.{pool_call}
 use Rattle.run_record.specs.Calls.{call_on, call_at, SpellsCall}
-use Rattle.thread_objects.specs.AsDeclared.{IsAt}
+use Rattle.shared_calls.specs.Catalog.{IsAt}
 use Rattle.shared_calls.specs.Working.{Desk, Works}
 
 -- an object that has a pool's call is a pool

@@ -1,21 +1,16 @@
 -- What a site says of the object at a place.
-use Rattle.std.proofs.Common.{◌≡◌, ℕ, zero, suc, ◌+◌, ◌<◌, ◌^◌, ℤ, pos, negsuc, true, false, cond, List, [], ◌∷◌, ◌++◌, length, take, Option, Some, None, slice_get, slice_index, refl, sym, ap, ◌∙◌, subst, arith}
-use Rattle.std.specs.Int.{w64}
-use Rattle.std.specs.Prelude.{FitsSigned}
+use Rattle.std.proofs.Common.{◌≡◌, ℕ, zero, suc, ◌+◌, ◌<◌, true, false, cond, List, [], ◌∷◌, ◌++◌, length, take, Option, Some, None, slice_get, slice_index, refl, sym, ap, ◌∙◌, subst, arith}
 use Rattle.std.specs.List.{flat_map}
 use Rattle.std.proofs.lemmas.List.Sums.{sum_by-append, sum_by-take-le}
 use Rattle.std.proofs.lemmas.Option.{slice_get_within, same_Some, none-some}
 use Rattle.sync_types.specs.declared.atomic_object.AtomicCall.{AtomicCall}
-use Rattle.sync_types.specs.declared.atomic_object.AtomicCall.TheVariants.{Add}
 use Rattle.sync_types.specs.declared.atomic_object.AtomicKind.{AtomicKind}
-use Rattle.sync_types.specs.declared.atomic_object.AtomicKind.TheVariants.{Int64}
-use Rattle.sync_types.specs.declared.atomic_object.Number.TheVariants as numbers
 use Rattle.sync_types.specs.declared.call.Reply.{Reply}
 use Rattle.sync_model.specs.declared.item.SharedCall.TheVariants as calls
 use Rattle.sync_types.specs.declared.map_object.MapCall.{MapCall}
 use Rattle.sync_types.specs.declared.map_object.MapCall.TheVariants.{Load, Store, LoadOrStore, LoadAndDelete, Delete, Swap, CompareAndSwap, CompareAndDelete, Clear}
 use Rattle.sync_types.specs.Renaming.{renamed_call}
-use Rattle.sync_types.specs.SequentialAtomic.{is_atomic_call, is_signed}
+use Rattle.sync_types.specs.SequentialAtomic.{is_atomic_call}
 use Rattle.sync_model.specs.Shared.{IsAtomicCall, cost_of}
 use Rattle.protocols.specs.Spelling.{CallAnswer}
 use Rattle.workload.specs.declared.object.ObjectKind.{ObjectKind}
@@ -24,13 +19,12 @@ use Rattle.workload.specs.declared.object.ObjectLine.{ObjectLine}
 use Rattle.workload.specs.Keys.{key_number}
 use Rattle.workload.specs.Plan.{Plan, is_target, refers}
 use Rattle.std.specs.Option.{option_map_or}
-use Rattle.std.proofs.lemmas.Bool.{false≢true, lt-ltb}
+use Rattle.std.proofs.lemmas.Bool.{false≢true}
 use Rattle.run_record.specs.AtomicKind.{atomic_call}
 use Rattle.run_record.specs.Limits.{IsCallOf, atomic_types}
 use Rattle.run_record.specs.MapKind.{map_call, range_call}
-use Rattle.run_record.specs.OnceKind.{do_call}
 use Rattle.run_record.specs.Objects.{is_map, is_atomic, types_of, atomic_number}
-use Rattle.thread_objects.specs.AsDeclared.{IsAt}
+use Rattle.shared_calls.specs.Catalog.{HasAtomics, IsAt}
 use Rattle.shared_calls.specs.PlacedCalls.{placed_map}
 use Rattle.thread_calls.specs.Sites.{AreNumbers, AreShared, number_at}
 use Rattle.shared_calls.specs.Working.{Desk, Works}
@@ -84,6 +78,15 @@ module _ (plan : Plan) (place : ℕ) (numbers : List ℕ) (numbered : AreNumbers
       has = has;
     }
 
+-- the numbers of a workload's atomics, and their types
+pub has_atomics : (plan : Plan) (maps : ℕ) (types : List AtomicKind) (takes : ℕ → Type 0) (numbers : List ℕ) → AreShared plan maps types takes → AreNumbers plan.objects numbers → HasAtomics plan types numbers
+has_atomics plan maps types takes numbers shared numbered = record {
+  all = shared.all_types;
+  within = λ place type is. has_number plan place numbers numbered (kinds.Atomic type) is;
+  number = λ place type is. number_is plan place numbers numbered (kinds.Atomic type) is;
+  type = λ place type is. ap (λ (l : List AtomicKind). slice_get l (atomic_number plan.objects place)) shared.all_types ∙ types_at plan.objects place is.0 type is.1 is.2;
+}
+
 -- a map's call by number is the record's call
 pub placed_as : (keys : List (List ℕ)) (m n : ℕ) (by_number : MapCall ℕ) (call : MapCall (List ℕ)) (old new : Desk) (answer : CallAnswer (Reply ℕ)) → n ≡ m → by_number ≡ renamed_call (key_number keys) call → Works (placed_map n by_number) old answer new → Works (map_call keys m call) old answer new
 placed_as keys m n by_number call old new answer at is works = subst (λ (k : ℕ). Works (placed_map k (renamed_call (key_number keys) call)) old answer new) at (subst (λ (c : MapCall ℕ). Works (placed_map n c) old answer new) is works)
@@ -92,17 +95,9 @@ pub atomic_as : (m n : ℕ) (call : AtomicCall) (old new : Desk) (answer : CallA
 atomic_as m n call old new answer at works = subst (λ (k : ℕ). Works (atomic_call k call) old answer new) at works
 
 module _ (old new : Desk) (answer : CallAnswer (Reply ℕ)) where
-  -- the same range, and the same call of a once, by other names of their numbers
+  -- the same range, by other names of its numbers
   pub range_as : (keys names : List (List ℕ)) (m n before : ℕ) → names ≡ keys → n ≡ m → Works (range_call names n before) old answer new → Works (range_call keys m before) old answer new
   range_as keys names m n before same at works = subst (λ (k : ℕ). Works (range_call keys k before) old answer new) at (subst (λ (l : List (List ℕ)). Works (range_call l n before) old answer new) same works)
-
-  pub once_as : (object m n : ℕ) (amount delta : ℤ) → n ≡ m → delta ≡ amount → Works (do_call object n delta) old answer new → Works (do_call object m amount) old answer new
-  once_as object m n amount delta at same works = subst (λ (k : ℕ). Works (do_call object k amount) old answer new) at (subst (λ (d : ℤ). Works (do_call object n d) old answer new) same works)
-
--- an int64 takes an amount that fits it
-pub takes_amount : (delta amount : ℤ) → FitsSigned w64 delta → amount ≡ delta → is_atomic_call Int64 (Add (numbers.Int64 amount)) ≡ true
-takes_amount (pos n) amount fits is = ap (λ (z : ℤ). is_signed (2 ^ 63) z) is ∙ lt-ltb n (2 ^ 63) fits.sfits
-takes_amount (negsuc n) amount fits is = ap (λ (z : ℤ). is_signed (2 ^ 63) z) is ∙ lt-ltb n (2 ^ 63) fits.sfits
 
 -- the object to which a cond refers
 mutex_kind : (mutex : ℕ) (kind : ObjectKind) → is_target (kinds.Cond mutex) kind ≡ true → kind ≡ kinds.Mutex

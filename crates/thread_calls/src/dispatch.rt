@@ -16,11 +16,11 @@ ghost use Rattle.thread_objects.specs.Desks.{AreSeats};
 ghost use Rattle.shared_calls.specs.GivenUp.{GaveUp, MakesOnly};
 ghost use Rattle.thread_objects.specs.Passes.{owns_of};
 ghost use Rattle.thread_calls.specs.Sites.{AreNumbers, AreRooms, IsScripted, IsSite, operation_cost, operation_ranges, cost_of_call, ranges_in_call};
-ghost use Rattle.thread_objects.specs.AsDeclared.{IsAt};
+ghost use Rattle.shared_calls.specs.Catalog.{IsAt};
 ghost use Rattle.shared_calls.specs.Spending.{Spends};
 ghost use Rattle.shared_calls.specs.Working.{Works, desk_with};
 
-use crate::placed_calls::{atomic_at, map_at, once_at, range_at};
+use crate::placed_calls::{atomic_at, map_at, range_at};
 use crate::site::Site;
 use object_calls::{call_pool, object_at, wait_at};
 use run_record::laws::numbers::parts_have_numbers_of_their_own;
@@ -61,16 +61,16 @@ fn part_behind(objects: usize, pools: u32, workers: u32) -> usize
 
 // The number of the object that is part 0 of the pool at a place.
 fn first_part_of<S: Shared>(site: &Site<S>, place: usize) -> usize
-    requires numbered { AreNumbers site.now.workload.now.objects site.now.numbers.now }
-    requires room { object_count site.now.workload.now ≤ length site.now.objects.now }
-    requires place { IsAt site.now.workload.now place Pool }
-    ensures { result ≡ first_part site.now.workload.now place }
+    requires numbered { AreNumbers site.now.catalog.workload.now.objects site.now.catalog.numbers.now }
+    requires room { object_count site.now.catalog.workload.now ≤ length site.now.objects.now }
+    requires place { IsAt site.now.catalog.workload.now place Pool }
+    ensures { result ≡ first_part site.now.catalog.workload.now place }
 {
     parts_have_numbers_of_their_own();
-    let workers = site.workload.workers();
+    let workers = site.catalog.workload.workers();
     let _count = site.objects.len();
-    let pools = site.numbers[place];
-    let lines = site.workload.objects();
+    let pools = site.catalog.numbers[place];
+    let lines = site.catalog.workload.objects();
     part_behind(lines.len(), pools, workers)
 }
 
@@ -86,28 +86,28 @@ fn call_at<S: Shared, C: Clock, R: Wait>(
     kind: ObjectKind,
     operation: &Operation,
 ) -> Option<CallAnswer>
-    requires site { IsSite S.Mark.at worker.now.at.home.now site.now.workload.now (S.maps site.now.shared.now) (S.kinds site.now.shared.now) (S.takes site.now.shared.now) site.now.objects.now site.now.numbers.now }
-    requires homes { S.home_of site.now.shared.now ≡ worker.now.at.home.now }
-    requires workers { site.now.workload.now.workers ≡ worker.now.workers }
+    requires site { IsSite S.Mark.at worker.now.at.home.now site.now.catalog.workload.now (S.maps site.now.catalog.shared.now) (S.kinds site.now.catalog.shared.now) (S.takes site.now.catalog.shared.now) site.now.objects.now site.now.catalog.numbers.now }
+    requires homes { S.home_of site.now.catalog.shared.now ≡ worker.now.at.home.now }
+    requires workers { site.now.catalog.workload.now.workers ≡ worker.now.workers }
     requires own { worker.now.number < worker.now.workers }
-    requires place { IsAt site.now.workload.now place kind }
+    requires place { IsAt site.now.catalog.workload.now place kind }
     requires call { has_call kind operation.now ≡ true }
-    requires reference { refers site.now.workload.now.objects kind ≡ true }
+    requires reference { refers site.now.catalog.workload.now.objects kind ≡ true }
     requires ranged { is_operation operation.now ≡ true }
-    requires keys { (name : List ℕ) → list_any (bytes_eq name) (operation_keys operation.now) ≡ true → list_any (bytes_eq name) (all_keys site.now.workload.now.scripts) ≡ true }
+    requires keys { (name : List ℕ) → list_any (bytes_eq name) (operation_keys operation.now) ≡ true → list_any (bytes_eq name) (all_keys site.now.catalog.workload.now.scripts) ≡ true }
     requires caller { IsCallerAt S.Mark.at S.Mark.own worker.now.at.home.now caller.old }
     requires spare { ForSome (S.Mark.own caller.old.note) (λ holding. operation_cost operation.now ≤ holding.spare) }
     requires seats { AreSeats S.Mark.at worker.now.at.home.now worker.now.workers worker.now.number site.now.objects.now passes.old }
-    requires rooms { AreRooms (length (keys_in site.now.workload.now.scripts)) rooms.old.items }
+    requires rooms { AreRooms (length (keys_in site.now.catalog.workload.now.scripts)) rooms.old.items }
     requires enough { operation_ranges operation.now ≤ vec_len rooms.old }
     ensures seats { AreSeats S.Mark.at worker.now.at.home.now worker.now.workers worker.now.number site.now.objects.now passes.new }
     ensures home { SameHome S.Mark.at caller.old.note caller.new.note }
     ensures spends { Spends S.Mark.own (operation_cost operation.now) caller.old.note caller.new.note }
-    ensures rooms { AreRooms (length (keys_in site.now.workload.now.scripts)) rooms.new.items }
+    ensures rooms { AreRooms (length (keys_in site.now.catalog.workload.now.scripts)) rooms.new.items }
     ensures left { vec_len rooms.old ≤ vec_len rooms.new + operation_ranges operation.now }
-    ensures calls { MakesOnly (IsCallOf site.now.workload.now) (items_of (S.Mark.own caller.old.note)) (items_of (S.Mark.own caller.new.note)) }
-    ensures given_up { IfNone result (GaveUp site.now.workload.now (items_of (S.Mark.own caller.new.note))) }
-    ensures works { IfSome result (λ answer. Works (call_on site.now.workload.now worker.now.number (length (items_of (S.Mark.own caller.old.note))) place kind operation.now)
+    ensures calls { MakesOnly (IsCallOf site.now.catalog.workload.now) (items_of (S.Mark.own caller.old.note)) (items_of (S.Mark.own caller.new.note)) }
+    ensures given_up { IfNone result (GaveUp site.now.catalog.workload.now (items_of (S.Mark.own caller.new.note))) }
+    ensures works { IfSome result (λ answer. Works (call_on site.now.catalog.workload.now worker.now.number (length (items_of (S.Mark.own caller.old.note))) place kind operation.now)
         (desk_with S.Mark.own S.Mark.front (owns_of passes.old) caller.old.note) answer (desk_with S.Mark.own S.Mark.front (owns_of passes.new) caller.new.note)) }
 {
     objects_are_of_their_kinds::<S::Mark>();
@@ -115,12 +115,6 @@ fn call_at<S: Shared, C: Clock, R: Wait>(
         Operation::Map(call) => Some(map_at(rt, site, caller, place, call)),
         Operation::Atomic(call) => Some(atomic_at(rt, site, caller, place, *call)),
         Operation::Range => range_at(rt, site, caller, place, take_room(rooms)),
-        Operation::Once => match kind {
-            ObjectKind::Once { atomic, delta } => {
-                once_at(rt, site, worker, caller, passes, place, atomic, delta)
-            }
-            _ => unreachable!(),
-        },
         Operation::Cond(CondCall::Wait) => match kind {
             ObjectKind::Cond { mutex } => Some(wait_at(
                 rt,
@@ -142,22 +136,23 @@ fn call_at<S: Shared, C: Clock, R: Wait>(
             first_part_of(site, place),
             *call,
         )),
-        _ => Some(object_at(
+        _ => object_at(
             rt,
             worker,
+            &site.catalog,
+            caller,
             site.objects,
             passes,
-            &mut caller.note,
             place,
             kind,
             operation,
-        )),
+        ),
     }
 }
 
-/// Makes a call of the worker's script. It may wait for other workers. `None` comes only of a `range` that shows more pairs than
-/// the workload has keys, and of a once whose int64 answers by a number of another type. Neither can be: what all workers did
-/// shows it, once they have ended.
+/// Makes a call of the worker's script. It may wait for other workers. `None`, where it has seen what can't be, and gives the call
+/// up: a `range` that shows more pairs than the workload has keys, or an int64 that answers by a number of another type. What all
+/// workers did shows that neither was, once they have ended.
 pub fn make_call<S: Shared, C: Clock, R: Wait>(
     rt: &R,
     site: &Site<S>,
@@ -167,27 +162,27 @@ pub fn make_call<S: Shared, C: Clock, R: Wait>(
     rooms: &mut Vec<BoundedSeq<(u32, u64)>>,
     call: &Call,
 ) -> Option<CallAnswer>
-    requires site { IsSite S.Mark.at worker.now.at.home.now site.now.workload.now (S.maps site.now.shared.now) (S.kinds site.now.shared.now) (S.takes site.now.shared.now) site.now.objects.now site.now.numbers.now }
-    requires homes { S.home_of site.now.shared.now ≡ worker.now.at.home.now }
-    requires workers { site.now.workload.now.workers ≡ worker.now.workers }
-    requires call { IsScripted site.now.workload.now worker.now.number call.now }
+    requires site { IsSite S.Mark.at worker.now.at.home.now site.now.catalog.workload.now (S.maps site.now.catalog.shared.now) (S.kinds site.now.catalog.shared.now) (S.takes site.now.catalog.shared.now) site.now.objects.now site.now.catalog.numbers.now }
+    requires homes { S.home_of site.now.catalog.shared.now ≡ worker.now.at.home.now }
+    requires workers { site.now.catalog.workload.now.workers ≡ worker.now.workers }
+    requires call { IsScripted site.now.catalog.workload.now worker.now.number call.now }
     requires caller { IsCallerAt S.Mark.at S.Mark.own worker.now.at.home.now caller.old }
     requires spare { ForSome (S.Mark.own caller.old.note) (λ holding. cost_of_call call.now ≤ holding.spare) }
     requires seats { AreSeats S.Mark.at worker.now.at.home.now worker.now.workers worker.now.number site.now.objects.now passes.old }
-    requires rooms { AreRooms (length (keys_in site.now.workload.now.scripts)) rooms.old.items }
+    requires rooms { AreRooms (length (keys_in site.now.catalog.workload.now.scripts)) rooms.old.items }
     requires enough { ranges_in_call call.now ≤ vec_len rooms.old }
     ensures seats { AreSeats S.Mark.at worker.now.at.home.now worker.now.workers worker.now.number site.now.objects.now passes.new }
     ensures caller { IsCallerAt S.Mark.at S.Mark.own worker.now.at.home.now caller.new }
     ensures spends { Spends S.Mark.own (cost_of_call call.now) caller.old.note caller.new.note }
-    ensures rooms { AreRooms (length (keys_in site.now.workload.now.scripts)) rooms.new.items }
+    ensures rooms { AreRooms (length (keys_in site.now.catalog.workload.now.scripts)) rooms.new.items }
     ensures left { vec_len rooms.old ≤ vec_len rooms.new + ranges_in_call call.now }
-    ensures calls { MakesOnly (IsCallOf site.now.workload.now) (items_of (S.Mark.own caller.old.note)) (items_of (S.Mark.own caller.new.note)) }
-    ensures given_up { IfNone result (GaveUp site.now.workload.now (items_of (S.Mark.own caller.new.note))) }
-    ensures works { IfSome result (λ answer. Works (SpellsCall site.now.workload.now worker.now.number (length (items_of (S.Mark.own caller.old.note))) call.now)
+    ensures calls { MakesOnly (IsCallOf site.now.catalog.workload.now) (items_of (S.Mark.own caller.old.note)) (items_of (S.Mark.own caller.new.note)) }
+    ensures given_up { IfNone result (GaveUp site.now.catalog.workload.now (items_of (S.Mark.own caller.new.note))) }
+    ensures works { IfSome result (λ answer. Works (SpellsCall site.now.catalog.workload.now worker.now.number (length (items_of (S.Mark.own caller.old.note))) call.now)
         (desk_with S.Mark.own S.Mark.front (owns_of passes.old) caller.old.note) answer (desk_with S.Mark.own S.Mark.front (owns_of passes.new) caller.new.note)) }
 {
-    let _workers = site.workload.workers();
-    let kind = kind_at(site.workload, call.object);
+    let _workers = site.catalog.workload.workers();
+    let kind = kind_at(site.catalog.workload, call.object);
     let operation = &call.operation;
     call_at(
         rt,

@@ -1,5 +1,5 @@
 //! Calls on the map or the atomic at a place among the workload's objects.
-ghost use Rattle.std.specs.Prelude.{◌≡◌, ℕ, ◌+◌, ◌<◌, ◌≤◌, true, List, [], length, IfSome, IfNone, Some};
+ghost use Rattle.std.specs.Prelude.{◌≡◌, ℕ, ◌≤◌, true, List, [], length, IfSome, IfNone, Some};
 ghost use Rattle.std.specs.List.{list_any};
 ghost use Rattle.std.specs.Option.{ForSome};
 ghost use Rattle.std.specs.Str.{bytes_eq};
@@ -8,35 +8,26 @@ ghost use Rattle.sync_types.specs.SequentialAtomic.{is_atomic_call};
 ghost use Rattle.sync_types.specs.SequentialMap.{map_key};
 ghost use Rattle.sync_model.specs.Shared.{cost_of, IsCallerAt, items_of};
 ghost use Rattle.sync_types.specs.declared.atomic_object.AtomicKind.{AtomicKind};
-ghost use Rattle.sync_types.specs.declared.atomic_object.AtomicKind.TheVariants as types;
 ghost use Rattle.workload.specs.declared.object.ObjectKind.TheVariants as kinds;
-ghost use Rattle.workload.specs.declared.object.ObjectWord.TheVariants as words;
 ghost use Rattle.workload.specs.Draft.{all_keys, is_map_call};
 ghost use Rattle.workload.specs.Keys.{keys_in};
 ghost use Rattle.run_record.specs.AtomicKind.{atomic_call};
 ghost use Rattle.run_record.specs.Limits.{IsCallOf};
 ghost use Rattle.run_record.specs.MapKind.{map_call, range_call};
 ghost use Rattle.run_record.specs.Objects.{map_number, atomic_number};
-ghost use Rattle.run_record.specs.OnceKind.{do_call};
-ghost use Rattle.run_record.specs.Record.{ObjectEntry, object_number};
-ghost use Rattle.thread_objects.specs.Desks.{AreSeats, IsObjectAt};
-ghost use Rattle.shared_calls.specs.GivenUp.{MakesOnly, ShowedTooMany, AnsweredAmiss};
-ghost use Rattle.thread_objects.specs.Kinds.{HasWord};
-ghost use Rattle.thread_objects.specs.Passes.{owns_of};
-ghost use Rattle.thread_objects.specs.AsDeclared.{IsAt};
+ghost use Rattle.run_record.specs.Record.{ObjectEntry};
+ghost use Rattle.shared_calls.specs.GivenUp.{MakesOnly, ShowedTooMany};
+ghost use Rattle.shared_calls.specs.Catalog.{IsAt};
 ghost use Rattle.thread_calls.specs.Sites.{IsSite};
 ghost use Rattle.shared_calls.specs.Spending.{Spends};
 ghost use Rattle.shared_calls.specs.Working.{Works, desk_with};
 
 use crate::numbering::numbered;
 use crate::site::Site;
-use object_calls::do_at;
 use shared_calls::{CallAnswer, call_atomic, call_map, call_range};
 use std::sync::Wait;
 use sync_model::{Caller, Shared};
-use sync_outside::Clock;
 use sync_types::{AtomicCall, BoundedSeq, MapCall, Name};
-use thread_objects::{AnyPass, Worker};
 use workload::laws::keys_are_numbered_by_first_appearance;
 
 /// Makes a call on the map at a place. It may wait for other callers.
@@ -47,21 +38,21 @@ pub(crate) fn map_at<S: Shared, R: Wait>(
     place: usize,
     call: &MapCall<Name>,
 ) -> CallAnswer
-    requires site { IsSite S.Mark.at (S.home_of site.now.shared.now) site.now.workload.now (S.maps site.now.shared.now) (S.kinds site.now.shared.now) (S.takes site.now.shared.now) site.now.objects.now site.now.numbers.now }
-    requires place { IsAt site.now.workload.now place kinds.Map }
-    requires caller { IsCallerAt S.Mark.at S.Mark.own (S.home_of site.now.shared.now) caller.old }
+    requires site { IsSite S.Mark.at (S.home_of site.now.catalog.shared.now) site.now.catalog.workload.now (S.maps site.now.catalog.shared.now) (S.kinds site.now.catalog.shared.now) (S.takes site.now.catalog.shared.now) site.now.objects.now site.now.catalog.numbers.now }
+    requires place { IsAt site.now.catalog.workload.now place kinds.Map }
+    requires caller { IsCallerAt S.Mark.at S.Mark.own (S.home_of site.now.catalog.shared.now) caller.old }
     requires call { is_map_call call.now ≡ true }
-    requires key { (name : List ℕ) → map_key call.now ≡ Some name → list_any (bytes_eq name) (all_keys site.now.workload.now.scripts) ≡ true }
+    requires key { (name : List ℕ) → map_key call.now ≡ Some name → list_any (bytes_eq name) (all_keys site.now.catalog.workload.now.scripts) ≡ true }
     requires spare { ForSome (S.Mark.own caller.old.note) (λ holding. cost_of call.now ≤ holding.spare) }
     ensures home { SameHome S.Mark.at caller.old.note caller.new.note }
     ensures spends { Spends S.Mark.own (cost_of call.now) caller.old.note caller.new.note }
-    ensures calls { MakesOnly (IsCallOf site.now.workload.now) (items_of (S.Mark.own caller.old.note)) (items_of (S.Mark.own caller.new.note)) }
-    ensures works { (owns : ℕ → List ObjectEntry) → Works (map_call (keys_in site.now.workload.now.scripts) (map_number site.now.workload.now.objects place) call.now) (desk_with S.Mark.own S.Mark.front owns caller.old.note) result (desk_with S.Mark.own S.Mark.front owns caller.new.note) }
+    ensures calls { MakesOnly (IsCallOf site.now.catalog.workload.now) (items_of (S.Mark.own caller.old.note)) (items_of (S.Mark.own caller.new.note)) }
+    ensures works { (owns : ℕ → List ObjectEntry) → Works (map_call (keys_in site.now.catalog.workload.now.scripts) (map_number site.now.catalog.workload.now.objects place) call.now) (desk_with S.Mark.own S.Mark.front owns caller.old.note) result (desk_with S.Mark.own S.Mark.front owns caller.new.note) }
 {
     keys_are_numbered_by_first_appearance();
-    let map = site.numbers[place];
-    let by_number = numbered(site.workload.keys(), call);
-    call_map(rt, site.shared, caller, map, by_number)
+    let map = site.catalog.numbers[place];
+    let by_number = numbered(site.catalog.workload.keys(), call);
+    call_map(rt, site.catalog.shared, caller, map, by_number)
 }
 
 /// Makes a call on the atomic at a place. It may wait for other callers.
@@ -72,16 +63,16 @@ pub(crate) fn atomic_at<S: Shared, R: Wait>(
     place: usize,
     call: AtomicCall,
 ) -> CallAnswer
-    requires site { IsSite S.Mark.at (S.home_of site.now.shared.now) site.now.workload.now (S.maps site.now.shared.now) (S.kinds site.now.shared.now) (S.takes site.now.shared.now) site.now.objects.now site.now.numbers.now }
-    requires place { (kind : AtomicKind) × IsAt site.now.workload.now place (kinds.Atomic kind) × (is_atomic_call kind call ≡ true) }
-    requires caller { IsCallerAt S.Mark.at S.Mark.own (S.home_of site.now.shared.now) caller.old }
+    requires site { IsSite S.Mark.at (S.home_of site.now.catalog.shared.now) site.now.catalog.workload.now (S.maps site.now.catalog.shared.now) (S.kinds site.now.catalog.shared.now) (S.takes site.now.catalog.shared.now) site.now.objects.now site.now.catalog.numbers.now }
+    requires place { (kind : AtomicKind) × IsAt site.now.catalog.workload.now place (kinds.Atomic kind) × (is_atomic_call kind call ≡ true) }
+    requires caller { IsCallerAt S.Mark.at S.Mark.own (S.home_of site.now.catalog.shared.now) caller.old }
     ensures home { SameHome S.Mark.at caller.old.note caller.new.note }
     ensures spends { Spends S.Mark.own 0 caller.old.note caller.new.note }
-    ensures calls { MakesOnly (IsCallOf site.now.workload.now) (items_of (S.Mark.own caller.old.note)) (items_of (S.Mark.own caller.new.note)) }
-    ensures works { (owns : ℕ → List ObjectEntry) → Works (atomic_call (atomic_number site.now.workload.now.objects place) call) (desk_with S.Mark.own S.Mark.front owns caller.old.note) result (desk_with S.Mark.own S.Mark.front owns caller.new.note) }
+    ensures calls { MakesOnly (IsCallOf site.now.catalog.workload.now) (items_of (S.Mark.own caller.old.note)) (items_of (S.Mark.own caller.new.note)) }
+    ensures works { (owns : ℕ → List ObjectEntry) → Works (atomic_call (atomic_number site.now.catalog.workload.now.objects place) call) (desk_with S.Mark.own S.Mark.front owns caller.old.note) result (desk_with S.Mark.own S.Mark.front owns caller.new.note) }
 {
-    let atomic = site.numbers[place];
-    call_atomic(rt, site.shared, caller, atomic, call)
+    let atomic = site.catalog.numbers[place];
+    call_atomic(rt, site.catalog.shared, caller, atomic, call)
 }
 
 /// Shows all keys of the map at a place with their values. It may wait for other callers. The list has room for all keys of the
@@ -93,56 +84,19 @@ pub(crate) fn range_at<S: Shared, R: Wait>(
     place: usize,
     room: BoundedSeq<(u32, u64)>,
 ) -> Option<CallAnswer>
-    requires site { IsSite S.Mark.at (S.home_of site.now.shared.now) site.now.workload.now (S.maps site.now.shared.now) (S.kinds site.now.shared.now) (S.takes site.now.shared.now) site.now.objects.now site.now.numbers.now }
-    requires place { IsAt site.now.workload.now place kinds.Map }
-    requires caller { IsCallerAt S.Mark.at S.Mark.own (S.home_of site.now.shared.now) caller.old }
+    requires site { IsSite S.Mark.at (S.home_of site.now.catalog.shared.now) site.now.catalog.workload.now (S.maps site.now.catalog.shared.now) (S.kinds site.now.catalog.shared.now) (S.takes site.now.catalog.shared.now) site.now.objects.now site.now.catalog.numbers.now }
+    requires place { IsAt site.now.catalog.workload.now place kinds.Map }
+    requires caller { IsCallerAt S.Mark.at S.Mark.own (S.home_of site.now.catalog.shared.now) caller.old }
     requires empty { room.items ≡ [] }
-    requires room { length (keys_in site.now.workload.now.scripts) ≤ room.room }
+    requires room { length (keys_in site.now.catalog.workload.now.scripts) ≤ room.room }
     ensures home { SameHome S.Mark.at caller.old.note caller.new.note }
     ensures spends { Spends S.Mark.own 0 caller.old.note caller.new.note }
-    ensures calls { MakesOnly (IsCallOf site.now.workload.now) (items_of (S.Mark.own caller.old.note)) (items_of (S.Mark.own caller.new.note)) }
-    ensures many { IfNone result (ShowedTooMany (length (keys_in site.now.workload.now.scripts)) (items_of (S.Mark.own caller.new.note))) }
+    ensures calls { MakesOnly (IsCallOf site.now.catalog.workload.now) (items_of (S.Mark.own caller.old.note)) (items_of (S.Mark.own caller.new.note)) }
+    ensures many { IfNone result (ShowedTooMany (length (keys_in site.now.catalog.workload.now.scripts)) (items_of (S.Mark.own caller.new.note))) }
     ensures works { IfSome result (λ answer. (owns : ℕ → List ObjectEntry)
-        → Works (range_call (keys_in site.now.workload.now.scripts) (map_number site.now.workload.now.objects place) (length (items_of (S.Mark.own caller.old.note)))) (desk_with S.Mark.own S.Mark.front owns caller.old.note) answer (desk_with S.Mark.own S.Mark.front owns caller.new.note)) }
+        → Works (range_call (keys_in site.now.catalog.workload.now.scripts) (map_number site.now.catalog.workload.now.objects place) (length (items_of (S.Mark.own caller.old.note)))) (desk_with S.Mark.own S.Mark.front owns caller.old.note) answer (desk_with S.Mark.own S.Mark.front owns caller.new.note)) }
 {
-    let map = site.numbers[place];
-    let names = site.workload.keys().names();
-    call_range(rt, site.shared, caller, map, names, room)
-}
-
-/// `do` on the once at a place, whose function adds an amount to the int64 at that one. `None`, where that answers by a number of
-/// another type.
-pub(crate) fn once_at<S: Shared, C: Clock, R: Wait>(
-    rt: &R,
-    site: &Site<S>,
-    worker: &Worker<S::Mark, C>,
-    caller: &mut Caller<S::Mark>,
-    passes: &mut [AnyPass<S::Mark>],
-    place: usize,
-    atomic: usize,
-    delta: i64,
-) -> Option<CallAnswer>
-    requires site { IsSite S.Mark.at worker.now.at.home.now site.now.workload.now (S.maps site.now.shared.now) (S.kinds site.now.shared.now) (S.takes site.now.shared.now) site.now.objects.now site.now.numbers.now }
-    requires homes { S.home_of site.now.shared.now ≡ worker.now.at.home.now }
-    requires once { IsObjectAt (HasWord words.Once) site.now.objects.now (object_number place) }
-    requires room { place + 1 < length site.now.objects.now }
-    requires atomic { IsAt site.now.workload.now atomic (kinds.Atomic types.Int64) }
-    requires caller { IsCallerAt S.Mark.at S.Mark.own worker.now.at.home.now caller.old }
-    requires seats { AreSeats S.Mark.at worker.now.at.home.now worker.now.workers worker.now.number site.now.objects.now passes.old }
-    ensures seats { AreSeats S.Mark.at worker.now.at.home.now worker.now.workers worker.now.number site.now.objects.now passes.new }
-    ensures home { SameHome S.Mark.at caller.old.note caller.new.note }
-    ensures spends { Spends S.Mark.own 0 caller.old.note caller.new.note }
-    ensures calls { MakesOnly (IsCallOf site.now.workload.now) (items_of (S.Mark.own caller.old.note)) (items_of (S.Mark.own caller.new.note)) }
-    ensures amiss { IfNone result (AnsweredAmiss (items_of (S.Mark.own caller.new.note))) }
-    ensures works { IfSome result (λ answer. Works (do_call (object_number place) (atomic_number site.now.workload.now.objects atomic) delta)
-        (desk_with S.Mark.own S.Mark.front (owns_of passes.old) caller.old.note) answer (desk_with S.Mark.own S.Mark.front (owns_of passes.new) caller.new.note)) }
-{
-    let _count = site.objects.len();
-    let int64 = site.numbers[atomic];
-    let number = place + 1;
-    let shared = site.shared;
-    let objects = site.objects;
-    do_at(
-        rt, worker, shared, caller, objects, passes, number, int64, delta,
-    )
+    let map = site.catalog.numbers[place];
+    let names = site.catalog.workload.keys().names();
+    call_range(rt, site.catalog.shared, caller, map, names, room)
 }

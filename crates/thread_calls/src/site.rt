@@ -3,6 +3,7 @@ ghost use Rattle.std.specs.Prelude.{◌≡◌, ◌+◌, ◌<◌, ◌^◌, cond, 
 ghost use Rattle.run_record.specs.Objects.{is_map, is_atomic, is_pool};
 ghost use Rattle.thread_calls.specs.Sites.{AreNumbers, kind_number};
 
+use shared_calls::Catalog;
 use std::alloc::{AllocError, Global};
 use sync_model::Shared;
 use thread_objects::AnyObject;
@@ -11,14 +12,10 @@ use workload::{ObjectKind, Workload};
 /// What all workers of a run share.
 #[derive(Drop)]
 pub struct Site<'a, S: Shared> {
-    /// The workload that is run.
-    pub workload: &'a Workload,
-    /// Its maps and atomics.
-    pub shared: &'a S,
-    /// Stop, behind it the workload's objects in order of declaration, and behind these the parts of its pools.
+    /// The workload that is run, and its maps and atomics.
+    pub catalog: Catalog<'a, S>,
+    /// Stop, behind it the workload's other objects in order of declaration, and behind these the parts of its pools.
     pub objects: &'a [AnyObject<S::Mark>],
-    /// The number of each map among the maps, of each atomic among the atomics, and of each pool among the pools, by place.
-    pub numbers: &'a [u32],
 }
 
 // The number of an object of this kind behind so many maps, atomics and pools, which counts it among them.

@@ -6,10 +6,11 @@ use Rattle.workload.specs.declared.object.ObjectKind.TheVariants as kinds
 use Rattle.workload.specs.declared.object.ObjectWord.TheVariants as words
 use Rattle.workload.specs.Plan.{Plan}
 use Rattle.run_record.specs.Objects.{first_part, object_count}
+use Rattle.shared_calls.specs.Catalog.{IsAt}
 use Rattle.run_record.specs.Record.{stop, object_number}
 use Rattle.thread_objects.specs.declared.object.AnyObject.{AnyObject}
 use Rattle.thread_objects.specs.declared.object.AnyObject.TheVariants as those
-use Rattle.thread_objects.specs.AsDeclared.{AreDeclared, IsAt, IsDeclared, IsPartOf, IsStopOf}
+use Rattle.thread_objects.specs.AsDeclared.{AreDeclared, IsDeclared, IsPartOf, IsStopOf}
 use Rattle.thread_objects.specs.Desks.{IsObjectAt}
 use Rattle.thread_objects.specs.Kinds.{HasWord, IsStop, IsOfKind}
 use Rattle.thread_objects.proofs.ColumnLists.{there_is}

@@ -1,4 +1,4 @@
--- Which calls are made on one object that isn't shared.
+-- Which calls are made on one object, and on no other one but maps and atomics.
 use Rattle.std.specs.Prelude.{◌≡◌, true}
 use Rattle.sync_types.specs.declared.call.Operation.{Operation}
 use Rattle.sync_types.specs.declared.call.Operation.TheVariants as operations
@@ -6,16 +6,15 @@ use Rattle.sync_types.specs.declared.wait_call.CondCall.TheVariants as cond_call
 use Rattle.workload.specs.declared.object.ObjectKind.{ObjectKind}
 use Rattle.workload.specs.Plan.{has_call}
 
--- maps and atomics are shared, a cond's `wait` is on its mutex too, a once adds to an atomic, and a pool is as many objects as it has parts
+-- maps and atomics are shared as one, a cond's `wait` is on its mutex too, and a pool is as many objects as it has parts
 abbrev pub IsAlone : Operation → Type 0
 IsAlone (operations.Map call) = ⊥
 IsAlone operations.Range = ⊥
 IsAlone (operations.Atomic call) = ⊥
 IsAlone (operations.Cond cond_calls.Wait) = ⊥
-IsAlone operations.Once = ⊥
 IsAlone (operations.Pool call) = ⊥
 IsAlone operation = Unit {0}
 
--- an object that is declared so has the call, which is on that object alone
+-- an object that is declared so has the call, which is such a one
 abbrev pub IsCallAlone : ObjectKind → Operation → Type 0
 IsCallAlone declared operation = IsAlone operation × (has_call declared operation ≡ true)

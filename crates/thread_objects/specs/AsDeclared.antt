@@ -15,10 +15,6 @@ use Rattle.thread_objects.specs.declared.object.AnyObject.TheVariants as objects
 use Rattle.thread_objects.specs.ByKind.{of_object}
 use Rattle.thread_objects.specs.EachKind.{Kind}
 
--- the workload declares an object of this kind at the place
-abbrev pub IsAt : Plan → ℕ → ObjectKind → Type 0
-IsAt plan place kind = (line : ObjectLine) × (slice_get plan.objects place ≡ Some line) × (line.kind ≡ kind)
-
 -- the object has so many callers, began in this state, and its notes are of this home
 pub record Began {M N S E R H : Type 0} (at : H → N → Type 0) (home : H) (workers : ℕ) (start : S) (object : Object M N S E R H) : Type 0 where
   pub callers : callers_of object ≡ workers

@@ -1,77 +1,61 @@
 //! Calls on one object of whatever kind.
-ghost use Rattle.std.specs.Prelude.{◌≡◌, ℕ, Some};
-ghost use Rattle.workload.specs.Plan.{Plan, word_of};
-ghost use Rattle.ruled_object.specs.Growth.{KeepsNote};
+ghost use Rattle.std.specs.Prelude.{◌≡◌, ℕ, true, IfSome, IfNone};
+ghost use Rattle.sync_model.specs.Shared.{IsCallerAt, items_of};
+ghost use Rattle.workload.specs.Plan.{refers};
 ghost use Rattle.run_record.specs.Calls.{call_on};
 ghost use Rattle.run_record.specs.Record.{object_number};
+ghost use Rattle.shared_calls.specs.Calling.{HasCalled};
+ghost use Rattle.shared_calls.specs.Catalog.{HasAtomics};
+ghost use Rattle.shared_calls.specs.GivenUp.{GaveUp};
 ghost use Rattle.shared_calls.specs.Working.{Works, desk_at};
 ghost use Rattle.thread_objects.specs.Alone.{IsCallAlone};
 ghost use Rattle.thread_objects.specs.ByKind.{own_of};
-ghost use Rattle.thread_objects.specs.EachKind.{own_in};
 ghost use Rattle.thread_objects.specs.Kinds.{IsOfKind};
-ghost use Rattle.thread_objects.specs.Passes.{IsSeatAt, SeatOf};
+ghost use Rattle.thread_objects.specs.Passes.{IsSeatAt};
 
 use crate::by_kind::{declared_arms, with_kinds};
 use crate::kind::DeclaredKind;
 use crate::object::AnyObject;
 use crate::pass::AnyPass;
 use object_parts::Worker;
-use ruled_object::{Object, PassOf};
-use shared_calls::CallAnswer;
+use shared_calls::{CallAnswer, Catalog};
 use std::sync::Wait;
-use sync_model::Note;
+use sync_model::{Caller, Shared};
 use sync_outside::Clock;
 use sync_types::Operation;
 use workload::ObjectKind;
 
-// Makes a call on an object of one kind, which is declared so, and on no other one.
-fn call_one<K: DeclaredKind, N: Note, C: Clock, R: Wait>(
+/// Makes a call on an object that is declared so, and on no other one but maps and atomics. It may wait for other workers. `None`,
+/// where it gives the call up, since it has seen what can't be.
+pub fn call_any<S: Shared, C: Clock, R: Wait>(
     rt: &R,
-    worker: &Worker<N, C>,
-    object: &Object<K, N>,
-    pass: &mut PassOf<K, N>,
-    note: &mut N,
+    worker: &Worker<S::Mark, C>,
+    catalog: &Catalog<S>,
+    caller: &mut Caller<S::Mark>,
+    object: &AnyObject<S::Mark>,
+    pass: &mut AnyPass<S::Mark>,
     declared: ObjectKind,
     operation: &Operation,
-) -> CallAnswer
-    requires alone { IsCallAlone declared operation.now }
-    requires word { K.kind.word ≡ Some (word_of declared) }
-    requires seat { SeatOf N.at worker.now.at.home.now worker.now.workers worker.now.number K.kind object.now pass.old }
-    requires note { N.at worker.now.at.home.now note.old }
-    ensures seat { SeatOf N.at worker.now.at.home.now worker.now.workers worker.now.number K.kind object.now pass.new }
-    ensures note { KeepsNote N.at N.own N.front note.old note.new }
-    ensures works { (plan : Plan) (before place : ℕ)
-        → Works (call_on plan worker.now.number before place declared operation.now) (desk_at N.own N.front (object_number place) (own_in K.kind pass.old) note.old) result (desk_at N.own N.front (object_number place) (own_in K.kind pass.new) note.new) }
-{
-    match K::call(rt, worker, object, pass, note, declared, operation) {
-        Some(answer) => answer,
-        None => unreachable!(),
-    }
-}
-
-/// Makes a call on an object that is declared so, and on no other one. It may wait for other workers.
-pub fn call_any<N: Note, C: Clock, R: Wait>(
-    rt: &R,
-    worker: &Worker<N, C>,
-    object: &AnyObject<N>,
-    pass: &mut AnyPass<N>,
-    note: &mut N,
-    declared: ObjectKind,
-    operation: &Operation,
-) -> CallAnswer
+) -> Option<CallAnswer>
     requires alone { IsCallAlone declared operation.now }
     requires kind { IsOfKind declared object.now }
-    requires seat { IsSeatAt N.at worker.now.at.home.now worker.now.workers worker.now.number object.now pass.old }
-    requires note { N.at worker.now.at.home.now note.old }
-    ensures seat { IsSeatAt N.at worker.now.at.home.now worker.now.workers worker.now.number object.now pass.new }
-    ensures note { KeepsNote N.at N.own N.front note.old note.new }
-    ensures works { (plan : Plan) (before place : ℕ)
-        → Works (call_on plan worker.now.number before place declared operation.now) (desk_at N.own N.front (object_number place) (own_of pass.old) note.old) result (desk_at N.own N.front (object_number place) (own_of pass.new) note.new) }
+    requires reference { refers catalog.now.workload.now.objects declared ≡ true }
+    requires atomics { HasAtomics catalog.now.workload.now (S.kinds catalog.now.shared.now) catalog.now.numbers.now }
+    requires seat { IsSeatAt S.Mark.at worker.now.at.home.now worker.now.workers worker.now.number object.now pass.old }
+    requires caller { IsCallerAt S.Mark.at S.Mark.own (S.home_of catalog.now.shared.now) caller.old }
+    requires note { S.Mark.at worker.now.at.home.now caller.old.note }
+    ensures seat { IsSeatAt S.Mark.at worker.now.at.home.now worker.now.workers worker.now.number object.now pass.new }
+    ensures called { HasCalled S.Mark.at S.Mark.own catalog.now.workload.now 0 caller.old.note caller.new.note }
+    ensures given_up { IfNone result (GaveUp catalog.now.workload.now (items_of (S.Mark.own caller.new.note))) }
+    ensures works { IfSome result (λ answer. (before place : ℕ)
+        → Works (call_on catalog.now.workload.now worker.now.number before place declared operation.now) (desk_at S.Mark.own S.Mark.front (object_number place) (own_of pass.old) caller.old.note) answer (desk_at S.Mark.own S.Mark.front (object_number place) (own_of pass.new) caller.new.note)) }
 {
     with_kinds!(
         declared_arms,
         object,
         pass,
-        |object, pass| call_one(rt, worker, object, pass, note, declared, operation)
+        |object, pass| DeclaredKind::call(
+            rt, worker, catalog, caller, object, pass, declared, operation
+        )
     )
 }

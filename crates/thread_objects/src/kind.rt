@@ -1,10 +1,13 @@
 //! What the code of a kind is.
 ghost use Rattle.std.specs.Prelude.{◌≡◌, ℕ, ◌<◌, ◌≤◌, true, Some, IfOk, IfSome, IfNone};
 ghost use Rattle.workload.specs.Draft.{is_kind};
-ghost use Rattle.workload.specs.Plan.{Plan, word_of};
-ghost use Rattle.ruled_object.specs.Growth.{KeepsNote};
+ghost use Rattle.workload.specs.Plan.{refers, word_of};
+ghost use Rattle.sync_model.specs.Shared.{IsCallerAt, items_of};
 ghost use Rattle.run_record.specs.Calls.{call_on};
 ghost use Rattle.run_record.specs.Record.{object_number};
+ghost use Rattle.shared_calls.specs.Calling.{HasCalled};
+ghost use Rattle.shared_calls.specs.Catalog.{HasAtomics};
+ghost use Rattle.shared_calls.specs.GivenUp.{GaveUp};
 ghost use Rattle.shared_calls.specs.Working.{Works, desk_at};
 ghost use Rattle.thread_objects.specs.Alone.{IsCallAlone};
 ghost use Rattle.thread_objects.specs.EachKind.{Kind, own_in};
@@ -14,10 +17,10 @@ use object_parts::Worker;
 use object_word::Worded;
 use protocols::Protocol;
 use ruled_object::{Object, PassOf};
-use shared_calls::CallAnswer;
+use shared_calls::{CallAnswer, Catalog};
 use std::alloc::{AllocError, Global};
 use std::sync::Wait;
-use sync_model::Note;
+use sync_model::{Caller, Shared};
 use sync_outside::Clock;
 use sync_types::Operation;
 use workload::ObjectKind;
@@ -37,23 +40,28 @@ pub(crate) trait DeclaredKind: Protocol + Worded {
         ensures starts { IfOk result (λ start. kind.starts workers declared ≡ Some start) }
         ensures begins { IfOk result (λ start. Self.begins workers start) };
 
-    /// Makes a call on an object that is declared so. It may wait. `None` comes exactly where it is no call on such an object
-    /// alone, and nothing is done then.
-    fn call<N: Note, C: Clock, R: Wait>(
+    /// Makes a call on an object that is declared so, which has it. It may be on maps and atomics too, and may wait. `None`, where it
+    /// gives the call up, since it has seen what can't be.
+    fn call<S: Shared, C: Clock, R: Wait>(
         rt: &R,
-        worker: &Worker<N, C>,
-        object: &Object<Self, N>,
-        pass: &mut PassOf<Self, N>,
-        note: &mut N,
+        worker: &Worker<S::Mark, C>,
+        catalog: &Catalog<S>,
+        caller: &mut Caller<S::Mark>,
+        object: &Object<Self, S::Mark>,
+        pass: &mut PassOf<Self, S::Mark>,
         declared: ObjectKind,
         operation: &Operation,
     ) -> Option<CallAnswer>
-        requires seat { SeatOf N.at worker.now.at.home.now worker.now.workers worker.now.number kind object.now pass.old }
-        requires note { N.at worker.now.at.home.now note.old }
-        ensures seat { SeatOf N.at worker.now.at.home.now worker.now.workers worker.now.number kind object.now pass.new }
-        ensures note { KeepsNote N.at N.own N.front note.old note.new }
-        ensures none { IfNone result (IsCallAlone declared operation.now → kind.word ≡ Some (word_of declared) → ⊥) }
-        ensures untouched { IfNone result ((pass.new ≡ pass.old) × (note.new ≡ note.old)) }
-        ensures works { IfSome result (λ answer. (plan : Plan) (before place : ℕ)
-            → Works (call_on plan worker.now.number before place declared operation.now) (desk_at N.own N.front (object_number place) (own_in kind pass.old) note.old) answer (desk_at N.own N.front (object_number place) (own_in kind pass.new) note.new)) };
+        requires alone { IsCallAlone declared operation.now }
+        requires word { kind.word ≡ Some (word_of declared) }
+        requires reference { refers catalog.now.workload.now.objects declared ≡ true }
+        requires atomics { HasAtomics catalog.now.workload.now (S.kinds catalog.now.shared.now) catalog.now.numbers.now }
+        requires seat { SeatOf S.Mark.at worker.now.at.home.now worker.now.workers worker.now.number kind object.now pass.old }
+        requires caller { IsCallerAt S.Mark.at S.Mark.own (S.home_of catalog.now.shared.now) caller.old }
+        requires note { S.Mark.at worker.now.at.home.now caller.old.note }
+        ensures seat { SeatOf S.Mark.at worker.now.at.home.now worker.now.workers worker.now.number kind object.now pass.new }
+        ensures called { HasCalled S.Mark.at S.Mark.own catalog.now.workload.now 0 caller.old.note caller.new.note }
+        ensures given_up { IfNone result (GaveUp catalog.now.workload.now (items_of (S.Mark.own caller.new.note))) }
+        ensures works { IfSome result (λ answer. (before place : ℕ)
+            → Works (call_on catalog.now.workload.now worker.now.number before place declared operation.now) (desk_at S.Mark.own S.Mark.front (object_number place) (own_in kind pass.old) caller.old.note) answer (desk_at S.Mark.own S.Mark.front (object_number place) (own_in kind pass.new) caller.new.note)) };
 }

@@ -1,7 +1,7 @@
 //! The kinds of objects, a file each: how one begins, and the calls on one.
 mod cond;
 mod mutex;
-pub mod once;
+mod once;
 mod once_func;
 mod once_parts;
 mod once_value;

@@ -25,7 +25,6 @@ pub use column::AnyColumn;
 pub use crew::Crew;
 pub use gathering::journals;
 pub use halting::halt_any;
-pub use kinds::once::do_any;
 pub use making::{make_object, make_part, make_stop};
 pub use object::AnyObject;
 pub use object_parts::Worker;

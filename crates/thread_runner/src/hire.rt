@@ -5,6 +5,7 @@ ghost use Rattle.workload.specs.Keys.{keys_in};
 ghost use Rattle.thread_calls.specs.Sites.{AreRooms, ranges_in_calls};
 
 use crate::job::Job;
+use shared_calls::Catalog;
 use std::alloc::{AllocError, Global};
 use sync_model::{Caller, Shared};
 use sync_outside::{At, Clock, Gate};
@@ -49,7 +50,7 @@ pub(crate) fn hire<'a, S: Shared, C: Clock, G: Gate>(
     ensures numbers { IfOk result (λ jobs. map (λ job. job.worker.number) jobs.items ≡ range_with_len 0 (vec_len jobs)) }
     ensures callers { IfOk result (λ jobs. map (λ job. job.caller) jobs.items ≡ callers.items) }
     ensures passes { IfOk result (λ jobs. map (λ job. job.passes.items) jobs.items ≡ map (λ passes. passes.items) dealt.items) }
-    ensures site { IfOk result (λ jobs. All (λ job. (job.site.workload.now ≡ workload.now) × (job.site.shared.now ≡ shared.now) × (job.site.objects.now ≡ objects.now) × (job.site.numbers.now ≡ numbers.now)) jobs.items) }
+    ensures site { IfOk result (λ jobs. All (λ job. (job.site.catalog.workload.now ≡ workload.now) × (job.site.catalog.shared.now ≡ shared.now) × (job.site.objects.now ≡ objects.now) × (job.site.catalog.numbers.now ≡ numbers.now)) jobs.items) }
     ensures at { IfOk result (λ jobs. All (λ job. (job.worker.at.home.now ≡ S.home_of shared.now) × (job.worker.workers ≡ workload.now.workers)) jobs.items) }
     ensures replies { IfOk result (λ jobs. All (λ job. (job.replies.items ≡ []) × (length (get_or workload.now.scripts job.worker.number []) ≤ job.replies.room)) jobs.items) }
     ensures rooms { IfOk result (λ jobs. All (λ job. AreRooms (length (keys_in workload.now.scripts)) job.rooms.items × (ranges_in_calls (get_or workload.now.scripts job.worker.number []) ≤ vec_len job.rooms)) jobs.items) }
@@ -64,10 +65,12 @@ pub(crate) fn hire<'a, S: Shared, C: Clock, G: Gate>(
         let rooms = rooms_of(alloc, script, keys)?;
         jobs.push_reserved(Job {
             site: Site {
-                workload,
-                shared,
+                catalog: Catalog {
+                    workload,
+                    shared,
+                    numbers,
+                },
                 objects,
-                numbers,
             },
             worker: Worker {
                 at: At {

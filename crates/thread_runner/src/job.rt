@@ -43,11 +43,11 @@ where
 
     type Out = Gone<S::Mark>;
 
-    ghost ready = { λ job. IsSite S.Mark.at job.worker.at.home.now job.site.workload.now (S.maps job.site.shared.now) (S.kinds job.site.shared.now) (S.takes job.site.shared.now) job.site.objects.now job.site.numbers.now
-        × (job.site.workload.now.workers ≡ job.worker.workers) × (S.home_of job.site.shared.now ≡ job.worker.at.home.now)
-        × IsReady S.Mark.at S.Mark.own S.Mark.front job.worker.at.home.now job.site.workload.now job.site.objects.now job.worker.number job.passes.items job.caller job.replies job.rooms.items };
+    ghost ready = { λ job. IsSite S.Mark.at job.worker.at.home.now job.site.catalog.workload.now (S.maps job.site.catalog.shared.now) (S.kinds job.site.catalog.shared.now) (S.takes job.site.catalog.shared.now) job.site.objects.now job.site.catalog.numbers.now
+        × (job.site.catalog.workload.now.workers ≡ job.worker.workers) × (S.home_of job.site.catalog.shared.now ≡ job.worker.at.home.now)
+        × IsReady S.Mark.at S.Mark.own S.Mark.front job.worker.at.home.now job.site.catalog.workload.now job.site.objects.now job.worker.number job.passes.items job.caller job.replies job.rooms.items };
 
-    ghost gives = { λ job gone. HasGone S.Mark.at S.Mark.own S.Mark.front job.worker.at.home.now job.site.workload.now job.site.objects.now job.worker.number job.passes.items job.caller gone.passes.items gone.caller gone.replies };
+    ghost gives = { λ job gone. HasGone S.Mark.at S.Mark.own S.Mark.front job.worker.at.home.now job.site.catalog.workload.now job.site.objects.now job.worker.number job.passes.items job.caller gone.passes.items gone.caller gone.replies };
 
     fn work<R: Wait>(self, rt: &R) -> Gone<S::Mark> {
         let Job {

@@ -34,28 +34,28 @@ pub(crate) fn run_script<S: Shared, C: Clock, G: Gate, R: Wait>(
     replies: &mut BoundedSeq<Reply<u32>>,
     rooms: &mut Vec<BoundedSeq<(u32, u64)>>,
 )
-    requires number { worker.now.number < site.now.workload.now.workers }
-    requires site { IsSite S.Mark.at worker.now.at.home.now site.now.workload.now (S.maps site.now.shared.now) (S.kinds site.now.shared.now) (S.takes site.now.shared.now) site.now.objects.now site.now.numbers.now }
-    requires homes { S.home_of site.now.shared.now ≡ worker.now.at.home.now }
-    requires workers { site.now.workload.now.workers ≡ worker.now.workers }
+    requires number { worker.now.number < site.now.catalog.workload.now.workers }
+    requires site { IsSite S.Mark.at worker.now.at.home.now site.now.catalog.workload.now (S.maps site.now.catalog.shared.now) (S.kinds site.now.catalog.shared.now) (S.takes site.now.catalog.shared.now) site.now.objects.now site.now.catalog.numbers.now }
+    requires homes { S.home_of site.now.catalog.shared.now ≡ worker.now.at.home.now }
+    requires workers { site.now.catalog.workload.now.workers ≡ worker.now.workers }
     requires seats { AreSeats S.Mark.at worker.now.at.home.now worker.now.workers worker.now.number site.now.objects.now passes.old }
     requires caller { IsCallerAt S.Mark.at S.Mark.own worker.now.at.home.now caller.old }
-    requires spare { ForSome (S.Mark.own caller.old.note) (λ holding. cost_of_calls (get_or site.now.workload.now.scripts worker.now.number []) ≤ holding.spare) }
+    requires spare { ForSome (S.Mark.own caller.old.note) (λ holding. cost_of_calls (get_or site.now.catalog.workload.now.scripts worker.now.number []) ≤ holding.spare) }
     requires fresh { IsFresh worker.now.number (desk_with S.Mark.own S.Mark.front (owns_of passes.old) caller.old.note) }
-    requires few { length (get_or site.now.workload.now.scripts worker.now.number []) < 2 ^ 32 }
-    requires rooms { AreRooms (length (keys_in site.now.workload.now.scripts)) rooms.old.items }
-    requires enough { ranges_in_calls (get_or site.now.workload.now.scripts worker.now.number []) ≤ vec_len rooms.old }
-    requires replies { (replies.old.items ≡ []) × (length (get_or site.now.workload.now.scripts worker.now.number []) ≤ replies.old.room) }
+    requires few { length (get_or site.now.catalog.workload.now.scripts worker.now.number []) < 2 ^ 32 }
+    requires rooms { AreRooms (length (keys_in site.now.catalog.workload.now.scripts)) rooms.old.items }
+    requires enough { ranges_in_calls (get_or site.now.catalog.workload.now.scripts worker.now.number []) ≤ vec_len rooms.old }
+    requires replies { (replies.old.items ≡ []) × (length (get_or site.now.catalog.workload.now.scripts worker.now.number []) ≤ replies.old.room) }
     ensures seats { AreSeats S.Mark.at worker.now.at.home.now worker.now.workers worker.now.number site.now.objects.now passes.new }
     ensures caller { IsCallerAt S.Mark.at S.Mark.own worker.now.at.home.now caller.new }
     ensures held { (c : ℕ) → IsHeldBy c (S.Mark.own caller.old.note) → IsHeldBy c (S.Mark.own caller.new.note) }
-    ensures calls { All (λ x. IsCallOf site.now.workload.now x.call) (items_of (S.Mark.own caller.new.note)) }
-    ensures line { ((line : Line) × DidLine site.now.workload.now worker.now.number (get_or site.now.workload.now.scripts worker.now.number []) replies.new.items
+    ensures calls { All (λ x. IsCallOf site.now.catalog.workload.now x.call) (items_of (S.Mark.own caller.new.note)) }
+    ensures line { ((line : Line) × DidLine site.now.catalog.workload.now worker.now.number (get_or site.now.catalog.workload.now.scripts worker.now.number []) replies.new.items
         (desk_with S.Mark.own S.Mark.front (owns_of passes.old) caller.old.note) (desk_with S.Mark.own S.Mark.front (owns_of passes.new) caller.new.note) line)
-        ⊎ GaveUp site.now.workload.now (items_of (S.Mark.own caller.new.note)) }
+        ⊎ GaveUp site.now.catalog.workload.now (items_of (S.Mark.own caller.new.note)) }
 {
     moves();
-    let script = site.workload.script(worker.number);
+    let script = site.catalog.workload.script(worker.number);
     for index in 0..script.len() {
         gate.before(rt, worker.number, index as u32);
         let answer = make_call(rt, site, worker, caller, passes, rooms, &script[index]);
@@ -67,7 +67,7 @@ pub(crate) fn run_script<S: Shared, C: Clock, G: Gate, R: Wait>(
                 halt_all(
                     rt,
                     worker,
-                    site.workload,
+                    site.catalog.workload,
                     site.objects,
                     passes,
                     &caller.note,

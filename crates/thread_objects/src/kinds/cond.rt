@@ -5,10 +5,10 @@ use crate::kind::DeclaredKind;
 use object_parts::{Worker, part, returned};
 use protocols::CondStage;
 use ruled_object::{Object, PassOf};
-use shared_calls::CallAnswer;
+use shared_calls::{CallAnswer, Catalog};
 use std::alloc::{AllocError, Global};
 use std::sync::Wait;
-use sync_model::Note;
+use sync_model::{Caller, Shared};
 use sync_outside::Clock;
 use sync_types::{CondCall, Operation};
 use wait_cores::NotifyCore;
@@ -24,28 +24,43 @@ impl DeclaredKind for NotifyCore {
         }
     }
 
-    fn call<N: Note, C: Clock, R: Wait>(
+    fn call<S: Shared, C: Clock, R: Wait>(
         rt: &R,
-        worker: &Worker<N, C>,
-        object: &Object<NotifyCore, N>,
-        pass: &mut PassOf<NotifyCore, N>,
-        note: &mut N,
+        worker: &Worker<S::Mark, C>,
+        _catalog: &Catalog<S>,
+        caller: &mut Caller<S::Mark>,
+        object: &Object<NotifyCore, S::Mark>,
+        pass: &mut PassOf<NotifyCore, S::Mark>,
         declared: ObjectKind,
         operation: &Operation,
     ) -> Option<CallAnswer> {
         match (declared, operation) {
             (ObjectKind::Cond { .. }, Operation::Cond(call)) => match call {
                 CondCall::Signal => {
-                    let answer = part(rt, worker, object, pass, note, CondStage::Signal);
+                    let answer = part(
+                        rt,
+                        worker,
+                        object,
+                        pass,
+                        &mut caller.note,
+                        CondStage::Signal,
+                    );
                     Some(returned(answer))
                 }
                 CondCall::Broadcast => {
-                    let answer = part(rt, worker, object, pass, note, CondStage::Broadcast);
+                    let answer = part(
+                        rt,
+                        worker,
+                        object,
+                        pass,
+                        &mut caller.note,
+                        CondStage::Broadcast,
+                    );
                     Some(returned(answer))
                 }
-                CondCall::Wait => None,
+                CondCall::Wait => unreachable!(),
             },
-            _ => None,
+            _ => unreachable!(),
         }
     }
 }

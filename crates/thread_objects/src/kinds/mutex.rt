@@ -10,10 +10,10 @@ use mutex_core::MutexCore;
 use object_parts::{Worker, lock_reply, part};
 use protocols::MutexStage;
 use ruled_object::{Object, PassOf};
-use shared_calls::CallAnswer;
+use shared_calls::{CallAnswer, Catalog};
 use std::alloc::{AllocError, Global};
 use std::sync::Wait;
-use sync_model::Note;
+use sync_model::{Caller, Shared};
 use sync_outside::Clock;
 use sync_types::{MutexCall, Operation};
 use workload::ObjectKind;
@@ -40,21 +40,22 @@ impl DeclaredKind for MutexCore {
         }
     }
 
-    fn call<N: Note, C: Clock, R: Wait>(
+    fn call<S: Shared, C: Clock, R: Wait>(
         rt: &R,
-        worker: &Worker<N, C>,
-        object: &Object<MutexCore, N>,
-        pass: &mut PassOf<MutexCore, N>,
-        note: &mut N,
+        worker: &Worker<S::Mark, C>,
+        _catalog: &Catalog<S>,
+        caller: &mut Caller<S::Mark>,
+        object: &Object<MutexCore, S::Mark>,
+        pass: &mut PassOf<MutexCore, S::Mark>,
         declared: ObjectKind,
         operation: &Operation,
     ) -> Option<CallAnswer> {
         match (declared, operation) {
             (ObjectKind::Mutex, Operation::Mutex(call)) => {
-                let answer = part(rt, worker, object, pass, note, stage_of(*call));
+                let answer = part(rt, worker, object, pass, &mut caller.note, stage_of(*call));
                 Some(lock_reply(answer))
             }
-            _ => None,
+            _ => unreachable!(),
         }
     }
 }

@@ -8,10 +8,10 @@ use super::once_parts::kept;
 use crate::kind::DeclaredKind;
 use object_parts::Worker;
 use ruled_object::{Object, PassOf};
-use shared_calls::CallAnswer;
+use shared_calls::{CallAnswer, Catalog};
 use std::alloc::{AllocError, Global};
 use std::sync::Wait;
-use sync_model::{Answer, Note};
+use sync_model::{Answer, Caller, Shared};
 use sync_outside::Clock;
 use sync_types::{Misuse, Operation, Reply};
 use wait_cores::OnceCore;
@@ -49,21 +49,22 @@ impl DeclaredKind for OnceCore<u32> {
         }
     }
 
-    fn call<N: Note, C: Clock, R: Wait>(
+    fn call<S: Shared, C: Clock, R: Wait>(
         rt: &R,
-        worker: &Worker<N, C>,
-        object: &Object<OnceCore<u32>, N>,
-        pass: &mut PassOf<OnceCore<u32>, N>,
-        note: &mut N,
+        worker: &Worker<S::Mark, C>,
+        _catalog: &Catalog<S>,
+        caller: &mut Caller<S::Mark>,
+        object: &Object<OnceCore<u32>, S::Mark>,
+        pass: &mut PassOf<OnceCore<u32>, S::Mark>,
         declared: ObjectKind,
         operation: &Operation,
     ) -> Option<CallAnswer> {
         match (declared, operation) {
             (ObjectKind::OnceFunc { code }, Operation::OnceFunc) => {
-                let answer = kept(rt, worker, object, pass, note, code);
+                let answer = kept(rt, worker, object, pass, &mut caller.note, code);
                 Some(func_reply(answer))
             }
-            _ => None,
+            _ => unreachable!(),
         }
     }
 }

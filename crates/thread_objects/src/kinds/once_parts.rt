@@ -1,9 +1,10 @@
 //! What a once and the functions made by `OnceFunc` and `OnceValue` have in common: one caller runs the function, and all come to what it
 //! came to.
-ghost use Rattle.std.specs.Prelude.{◌≡◌, ℕ, false, true};
+ghost use Rattle.std.specs.Prelude.{◌≡◌, ℕ, false, true, IsSome};
 ghost use Rattle.sync_types.specs.declared.call.Reply.{Reply};
 ghost use Rattle.wait_cores.specs.declared.once.OnceEvent.{OnceEvent};
 ghost use Rattle.wait_cores.specs.declared.once.OnceReply.{OnceReply};
+ghost use Rattle.workload.specs.Plan.{Plan};
 ghost use Rattle.protocols.specs.declared.once.OnceStage.TheVariants as stage;
 ghost use Rattle.protocols.specs.OnceStages.{once_event, once_meaning, once_stands, once_left, once_gives, OnceBegins};
 ghost use Rattle.ruled_object.specs.Growth.{KeepsNote};
@@ -12,6 +13,7 @@ ghost use Rattle.run_record.specs.declared.entered.ObjectEvent.{ObjectEvent};
 ghost use Rattle.run_record.specs.declared.entered.ObjectReply.{ObjectReply};
 ghost use Rattle.run_record.specs.OnceKind.{once_part};
 ghost use Rattle.run_record.specs.Parts.{returns, stages, with_outcome};
+ghost use Rattle.shared_calls.specs.Calling.{HasCalled};
 ghost use Rattle.shared_calls.specs.Working.{Works, desk_at};
 ghost use Rattle.object_parts.specs.Own.{own_as};
 ghost use Rattle.object_parts.specs.Seats.{IsSeat, IsStanding};
@@ -19,7 +21,7 @@ ghost use Rattle.object_parts.specs.Seats.{IsSeat, IsStanding};
 use object_parts::{Worker, part_from};
 use protocols::{OnceOutcome, OnceStage};
 use ruled_object::{Object, PassOf};
-use shared_calls::laws::moves;
+use shared_calls::laws::{moves, what_a_call_leaves};
 use std::sync::Wait;
 use sync_model::{Answer, Note};
 use sync_outside::Clock;
@@ -91,11 +93,12 @@ pub(super) fn kept<T: Copy, N: Note, C: Clock, R: Wait>(
     requires seat { IsSeat OnceBegins (false, false) once_stands N.at worker.now.at.home.now worker.now.workers worker.now.number once.now pass.old }
     requires note { N.at worker.now.at.home.now note.old }
     ensures seat { IsSeat OnceBegins (false, false) once_stands N.at worker.now.at.home.now worker.now.workers worker.now.number once.now pass.new }
-    ensures note { KeepsNote N.at N.own N.front note.old note.new }
+    ensures called { (plan : Plan) → IsSome (N.own note.old) → HasCalled N.at N.own plan 0 note.old note.new }
     ensures works { (event : OnceEvent T → ObjectEvent) (reply : OnceReply T → ObjectReply) (number : ℕ) (told : T → Reply ℕ)
         → Works (once_part (stages event reply once_event once_meaning number) (returns value) told told) (desk_at N.own N.front number (own_as event reply pass.old) note.old) (with_outcome told result) (desk_at N.own N.front number (own_as event reply pass.new) note.new) }
 {
     moves();
+    what_a_call_leaves::<N>();
     match begin(rt, worker, once, pass, note) {
         Answer::Halted(misuse) => Answer::Halted(misuse),
         Answer::Done(Err(misuse)) => Answer::Done(Err(misuse)),

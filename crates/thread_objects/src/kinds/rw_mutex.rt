@@ -10,10 +10,10 @@ use object_parts::{Worker, lock_reply, part};
 use protocols::RwMutexStage;
 use ruled_object::{Object, PassOf};
 use rw_core::RwCore;
-use shared_calls::CallAnswer;
+use shared_calls::{CallAnswer, Catalog};
 use std::alloc::{AllocError, Global};
 use std::sync::Wait;
-use sync_model::Note;
+use sync_model::{Caller, Shared};
 use sync_outside::Clock;
 use sync_types::{Operation, RwMutexCall};
 use workload::ObjectKind;
@@ -43,21 +43,22 @@ impl DeclaredKind for RwCore {
         }
     }
 
-    fn call<N: Note, C: Clock, R: Wait>(
+    fn call<S: Shared, C: Clock, R: Wait>(
         rt: &R,
-        worker: &Worker<N, C>,
-        object: &Object<RwCore, N>,
-        pass: &mut PassOf<RwCore, N>,
-        note: &mut N,
+        worker: &Worker<S::Mark, C>,
+        _catalog: &Catalog<S>,
+        caller: &mut Caller<S::Mark>,
+        object: &Object<RwCore, S::Mark>,
+        pass: &mut PassOf<RwCore, S::Mark>,
         declared: ObjectKind,
         operation: &Operation,
     ) -> Option<CallAnswer> {
         match (declared, operation) {
             (ObjectKind::RwMutex, Operation::RwMutex(call)) => {
-                let answer = part(rt, worker, object, pass, note, stage_of(*call));
+                let answer = part(rt, worker, object, pass, &mut caller.note, stage_of(*call));
                 Some(lock_reply(answer))
             }
-            _ => None,
+            _ => unreachable!(),
         }
     }
 }

@@ -9,10 +9,10 @@ use crate::kind::DeclaredKind;
 use object_parts::{Worker, part, returned};
 use protocols::GroupStage;
 use ruled_object::{Object, PassOf};
-use shared_calls::CallAnswer;
+use shared_calls::{CallAnswer, Catalog};
 use std::alloc::{AllocError, Global};
 use std::sync::Wait;
-use sync_model::Note;
+use sync_model::{Caller, Shared};
 use sync_outside::Clock;
 use sync_types::{Operation, WaitGroupCall};
 use wait_cores::GroupCore;
@@ -51,21 +51,22 @@ impl DeclaredKind for GroupCore {
         }
     }
 
-    fn call<N: Note, C: Clock, R: Wait>(
+    fn call<S: Shared, C: Clock, R: Wait>(
         rt: &R,
-        worker: &Worker<N, C>,
-        object: &Object<GroupCore, N>,
-        pass: &mut PassOf<GroupCore, N>,
-        note: &mut N,
+        worker: &Worker<S::Mark, C>,
+        _catalog: &Catalog<S>,
+        caller: &mut Caller<S::Mark>,
+        object: &Object<GroupCore, S::Mark>,
+        pass: &mut PassOf<GroupCore, S::Mark>,
         declared: ObjectKind,
         operation: &Operation,
     ) -> Option<CallAnswer> {
         match (declared, operation) {
             (ObjectKind::WaitGroup { .. }, Operation::WaitGroup(call)) => {
-                let answer = part(rt, worker, object, pass, note, stage_of(*call));
+                let answer = part(rt, worker, object, pass, &mut caller.note, stage_of(*call));
                 Some(returned(answer))
             }
-            _ => None,
+            _ => unreachable!(),
         }
     }
 }

@@ -3,10 +3,10 @@ use Rattle.workload.specs.declared.object.ObjectKind.TheVariants as kinds
 use Rattle.thread_objects.specs.Passes.{owns_of}
 use Rattle.thread_calls.proofs.ByKind.{of_pool, on_map, on_atomic, on_pool, on_range}
 use Rattle.thread_calls.proofs.ScriptCalls.{key_among}
-use Rattle.thread_calls.proofs.Sites.{mutex_of}
+use Rattle.thread_calls.proofs.Sites.{has_atomics, mutex_of}
 use Rattle.std.proofs.Common.{ℕ, ◌-◌, sym, subst, arith}
 use Rattle.workload.specs.declared.object.ObjectKind.{ObjectKind}
-use Rattle.thread_objects.specs.AsDeclared.{IsAt}
+use Rattle.shared_calls.specs.Catalog.{IsAt}
 use Rattle.object_calls.specs.PoolParts.{ArePartsAt}
 use Rattle.thread_calls.proofs.dispatch.call_at.Goals as goal
 
@@ -14,34 +14,31 @@ pub map_at-requires-clause-key : goal.map_at-requires-clause-key
 map_at-requires-clause-key g c = λ name at. c.requires.keys name (key_among c.args.operation.now c.in-Map.call name c.in-Map.is at)
 
 pub wait_at-requires-clause-cond : goal.wait_at-requires-clause-cond
-wait_at-requires-clause-cond g c = c.objects_are_of_their_kinds.ensures.kind c.args.worker.now.at.home.now c.args.site.now.workload.now c.args.site.now.objects.now c.args.place (kinds.Cond c.in-Cond.mutex) c.requires.site.declared (subst (λ (k : ObjectKind). IsAt c.args.site.now.workload.now c.args.place k) c.in-Cond.is c.requires.place)
+wait_at-requires-clause-cond g c = c.objects_are_of_their_kinds.ensures.kind c.args.worker.now.at.home.now c.args.site.now.catalog.workload.now c.args.site.now.objects.now c.args.place (kinds.Cond c.in-Cond.mutex) c.requires.site.declared (subst (λ (k : ObjectKind). IsAt c.args.site.now.catalog.workload.now c.args.place k) c.in-Cond.is c.requires.place)
 
 pub wait_at-requires-clause-mutex : goal.wait_at-requires-clause-mutex
-wait_at-requires-clause-mutex g c = c.objects_are_of_their_kinds.ensures.kind c.args.worker.now.at.home.now c.args.site.now.workload.now c.args.site.now.objects.now c.in-Cond.mutex kinds.Mutex c.requires.site.declared (mutex_of c.args.site.now.workload.now c.args.kind c.in-Cond.mutex c.in-Cond.is c.requires.reference)
+wait_at-requires-clause-mutex g c = c.objects_are_of_their_kinds.ensures.kind c.args.worker.now.at.home.now c.args.site.now.catalog.workload.now c.args.site.now.objects.now c.in-Cond.mutex kinds.Mutex c.requires.site.declared (mutex_of c.args.site.now.catalog.workload.now c.args.kind c.in-Cond.mutex c.in-Cond.is c.requires.reference)
 
 pub wait_at-requires-clause-room : goal.wait_at-requires-clause-room
-wait_at-requires-clause-room g c = (c.objects_are_of_their_kinds.ensures.there c.args.worker.now.at.home.now c.args.site.now.workload.now c.args.site.now.objects.now c.args.place c.args.kind c.requires.site.declared c.requires.place, c.objects_are_of_their_kinds.ensures.there c.args.worker.now.at.home.now c.args.site.now.workload.now c.args.site.now.objects.now c.in-Cond.mutex kinds.Mutex c.requires.site.declared (mutex_of c.args.site.now.workload.now c.args.kind c.in-Cond.mutex c.in-Cond.is c.requires.reference))
+wait_at-requires-clause-room g c = (c.objects_are_of_their_kinds.ensures.there c.args.worker.now.at.home.now c.args.site.now.catalog.workload.now c.args.site.now.objects.now c.args.place c.args.kind c.requires.site.declared c.requires.place, c.objects_are_of_their_kinds.ensures.there c.args.worker.now.at.home.now c.args.site.now.catalog.workload.now c.args.site.now.objects.now c.in-Cond.mutex kinds.Mutex c.requires.site.declared (mutex_of c.args.site.now.catalog.workload.now c.args.kind c.in-Cond.mutex c.in-Cond.is c.requires.reference))
 
 pub object_at-requires-clause-kind : goal.object_at-requires-clause-kind
-object_at-requires-clause-kind g c = c.objects_are_of_their_kinds.ensures.kind c.args.worker.now.at.home.now c.args.site.now.workload.now c.args.site.now.objects.now c.args.place c.args.kind c.requires.site.declared c.requires.place
+object_at-requires-clause-kind g c = c.objects_are_of_their_kinds.ensures.kind c.args.worker.now.at.home.now c.args.site.now.catalog.workload.now c.args.site.now.objects.now c.args.place c.args.kind c.requires.site.declared c.requires.place
 
 pub object_at-requires-clause-room : goal.object_at-requires-clause-room
-object_at-requires-clause-room g c = c.objects_are_of_their_kinds.ensures.there c.args.worker.now.at.home.now c.args.site.now.workload.now c.args.site.now.objects.now c.args.place c.args.kind c.requires.site.declared c.requires.place
+object_at-requires-clause-room g c = c.objects_are_of_their_kinds.ensures.there c.args.worker.now.at.home.now c.args.site.now.catalog.workload.now c.args.site.now.objects.now c.args.place c.args.kind c.requires.site.declared c.requires.place
+
+pub object_at-requires-clause-atomics : goal.object_at-requires-clause-atomics
+object_at-requires-clause-atomics g c = has_atomics c.args.site.now.catalog.workload.now _ _ _ _ c.requires.site.shared c.requires.site.numbered
 
 pub returns-in-Map-clause-works : goal.returns-in-Map-clause-works
-returns-in-Map-clause-works g c = on_map c.args.site.now.workload.now c.args.worker.now.number _ c.args.place _ _ _ c.args.kind c.args.operation.now c.requires.call c.in-Map.call c.in-Map.is (c.map_at.ensures.works (owns_of c.args.passes.now))
+returns-in-Map-clause-works g c = on_map c.args.site.now.catalog.workload.now c.args.worker.now.number _ c.args.place _ _ _ c.args.kind c.args.operation.now c.requires.call c.in-Map.call c.in-Map.is (c.map_at.ensures.works (owns_of c.args.passes.now))
 
 pub returns-in-Atomic-clause-works : goal.returns-in-Atomic-clause-works
-returns-in-Atomic-clause-works g c = on_atomic c.args.site.now.workload.now c.args.worker.now.number _ c.args.place _ _ _ c.args.kind c.args.operation.now c.requires.call c.in-Atomic.call c.in-Atomic.is (c.atomic_at.ensures.works (owns_of c.args.passes.now))
-
-pub once_at-requires-clause-once : goal.once_at-requires-clause-once
-once_at-requires-clause-once g c = c.objects_are_of_their_kinds.ensures.kind c.args.worker.now.at.home.now c.args.site.now.workload.now c.args.site.now.objects.now c.args.place (kinds.Once c.in-Once-kind.atomic c.in-Once-kind.delta) c.requires.site.declared (subst (λ (k : ObjectKind). IsAt c.args.site.now.workload.now c.args.place k) c.in-Once-kind.is c.requires.place)
-
-pub once_at-requires-clause-room : goal.once_at-requires-clause-room
-once_at-requires-clause-room g c = c.objects_are_of_their_kinds.ensures.there c.args.worker.now.at.home.now c.args.site.now.workload.now c.args.site.now.objects.now c.args.place c.args.kind c.requires.site.declared c.requires.place
+returns-in-Atomic-clause-works g c = on_atomic c.args.site.now.catalog.workload.now c.args.worker.now.number _ c.args.place _ _ _ c.args.kind c.args.operation.now c.requires.call c.in-Atomic.call c.in-Atomic.is (c.atomic_at.ensures.works (owns_of c.args.passes.now))
 
 pub returns-in-Range-clause-works : goal.returns-in-Range-clause-works
-returns-in-Range-clause-works g c = IfSome_then c.range_at.result c.range_at.ensures.works (λ answer works. on_range c.args.site.now.workload.now c.args.worker.now.number _ c.args.place _ _ answer c.args.kind c.args.operation.now c.requires.call c.in-Range.is (works (owns_of c.args.passes.now)))
+returns-in-Range-clause-works g c = IfSome_then c.range_at.result c.range_at.ensures.works (λ answer works. on_range c.args.site.now.catalog.workload.now c.args.worker.now.number _ c.args.place _ _ answer c.args.kind c.args.operation.now c.requires.call c.in-Range.is (works (owns_of c.args.passes.now)))
 
 pub returns-in-Range-clause-rooms : goal.returns-in-Range-clause-rooms
 returns-in-Range-clause-rooms g c = c.take_room.ensures.rooms _ c.requires.rooms
@@ -50,11 +47,11 @@ pub first_part_of-requires-clause-room : goal.first_part_of-requires-clause-room
 first_part_of-requires-clause-room g c = omega (arith, c.requires.site.declared.count)
 
 pub first_part_of-requires-clause-place : goal.first_part_of-requires-clause-place
-first_part_of-requires-clause-place g c = subst (λ (k : ObjectKind). IsAt c.args.site.now.workload.now c.args.place k) (of_pool c.args.kind c.args.operation.now c.in-Pool.call c.requires.call c.in-Pool.is) c.requires.place
+first_part_of-requires-clause-place g c = subst (λ (k : ObjectKind). IsAt c.args.site.now.catalog.workload.now c.args.place k) (of_pool c.args.kind c.args.operation.now c.in-Pool.call c.requires.call c.in-Pool.is) c.requires.place
 
 pub call_pool-requires-clause-parts : goal.call_pool-requires-clause-parts
 call_pool-requires-clause-parts g c =
-    let plan = c.args.site.now.workload.now in
+    let plan = c.args.site.now.catalog.workload.now in
     let objects = c.args.site.now.objects.now in
     let is = subst (λ (k : ObjectKind). IsAt plan c.args.place k) (of_pool c.args.kind c.args.operation.now c.in-Pool.call c.requires.call c.in-Pool.is) c.requires.place in
     subst (λ (first : ℕ). ArePartsAt objects first c.args.worker.now.workers) (sym c.first_part_of.ensures)
@@ -62,11 +59,11 @@ call_pool-requires-clause-parts g c =
 
 pub call_pool-requires-clause-room : goal.call_pool-requires-clause-room
 call_pool-requires-clause-room g c =
-    let plan = c.args.site.now.workload.now in
+    let plan = c.args.site.now.catalog.workload.now in
     let objects = c.args.site.now.objects.now in
     let is = subst (λ (k : ObjectKind). IsAt plan c.args.place k) (of_pool c.args.kind c.args.operation.now c.in-Pool.call c.requires.call c.in-Pool.is) c.requires.place in
     let last = (c.objects_are_of_their_kinds.ensures.parts c.args.worker.now.at.home.now plan objects c.args.place (plan.workers - 1) c.requires.site.declared is (omega (arith, c.requires.own, c.requires.workers))).0 in
     omega (arith, last, c.first_part_of.ensures, c.requires.own, c.requires.workers)
 
 pub returns-in-Pool-clause-works : goal.returns-in-Pool-clause-works
-returns-in-Pool-clause-works g c = on_pool c.args.site.now.workload.now c.args.worker.now.number _ c.args.place _ _ _ c.args.kind c.args.operation.now c.requires.call c.in-Pool.call c.args.worker.now.workers c.first_part_of.result c.requires.workers c.first_part_of.ensures c.in-Pool.is c.call_pool.ensures.works
+returns-in-Pool-clause-works g c = on_pool c.args.site.now.catalog.workload.now c.args.worker.now.number _ c.args.place _ _ _ c.args.kind c.args.operation.now c.requires.call c.in-Pool.call c.args.worker.now.workers c.first_part_of.result c.requires.workers c.first_part_of.ensures c.in-Pool.is c.call_pool.ensures.works

@@ -7,9 +7,9 @@ use Rattle.thread_calls.proofs.dispatch.first_part_of.Goals as goal
 
 pub part_behind-requires : goal.part_behind-requires
 part_behind-requires g c =
-    let plan = c.args.site.now.workload.now in
+    let plan = c.args.site.now.catalog.workload.now in
     let is = c.requires.place in
-    let at = number_is plan c.args.place c.args.site.now.numbers.now c.requires.numbered Pool c.requires.place in
+    let at = number_is plan c.args.place c.args.site.now.catalog.numbers.now c.requires.numbered Pool c.requires.place in
     let product = ap (λ n. n * c.workers-workers.result) at ∙ ap (λ n. pool_number plan.objects c.args.place * n) c.workers-workers.ensures.workers in
     let some = c.workers-workers.ensures.readable.some_workers in
     let within = c.parts_have_numbers_of_their_own.ensures.within plan c.args.place 0 is.0 is.1 is.2 some in
@@ -17,7 +17,7 @@ part_behind-requires g c =
 
 pub returns : goal.returns
 returns g c =
-    let plan = c.args.site.now.workload.now in
-    let at = number_is plan c.args.place c.args.site.now.numbers.now c.requires.numbered Pool c.requires.place in
+    let plan = c.args.site.now.catalog.workload.now in
+    let at = number_is plan c.args.place c.args.site.now.catalog.numbers.now c.requires.numbered Pool c.requires.place in
     let product = ap (λ n. n * c.workers-workers.result) at ∙ ap (λ n. pool_number plan.objects c.args.place * n) c.workers-workers.ensures.workers in
     omega (arith, product, c.part_behind.ensures, ap (λ (xs : List ObjectLine). length xs) c.objects-lines.ensures.objects)

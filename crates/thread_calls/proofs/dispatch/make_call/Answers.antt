@@ -8,31 +8,31 @@ use Rattle.thread_calls.proofs.dispatch.make_call.Goals as goal
 
 pub kind_at-kind-requires : goal.kind_at-kind-requires
 kind_at-kind-requires g c =
-    let plan = c.args.site.now.workload.now in
+    let plan = c.args.site.now.catalog.workload.now in
     let call = c.args.call.now in
     let line = line_of plan.objects call (on_object plan c.args.worker.now.number call c.requires.call c.workers-workers.ensures.valid) in
     slice_get_within plan.objects call.object line.0 line.1
 
 pub call_at-requires-clause-call : goal.call_at-requires-clause-call
 call_at-requires-clause-call g c =
-    let plan = c.args.site.now.workload.now in
+    let plan = c.args.site.now.catalog.workload.now in
     let call = c.args.call.now in
     kind_has plan c.args.worker.now.number 0 call _ c.kind_at-kind.ensures (on_object plan c.args.worker.now.number call c.requires.call c.workers-workers.ensures.valid)
 
 pub call_at-requires-clause-reference : goal.call_at-requires-clause-reference
 call_at-requires-clause-reference g c =
-    let plan = c.args.site.now.workload.now in
+    let plan = c.args.site.now.catalog.workload.now in
     let is = c.kind_at-kind.ensures in
     ap (λ (k : ObjectKind). refers plan.objects k) (sym is.2) ∙ refers_at plan c.args.call.now.object is.0 c.workers-workers.ensures.valid is.1
 
 pub call_at-requires-clause-ranged : goal.call_at-requires-clause-ranged
-call_at-requires-clause-ranged g c = in_range c.args.site.now.workload.now c.args.worker.now.number c.args.call.now c.requires.call c.workers-workers.ensures.readable
+call_at-requires-clause-ranged g c = in_range c.args.site.now.catalog.workload.now c.args.worker.now.number c.args.call.now c.requires.call c.workers-workers.ensures.readable
 
 pub call_at-requires-clause-keys : goal.call_at-requires-clause-keys
-call_at-requires-clause-keys g c = λ name any. keys_are_known c.args.site.now.workload.now c.args.worker.now.number c.args.call.now c.requires.call name any
+call_at-requires-clause-keys g c = λ name any. keys_are_known c.args.site.now.catalog.workload.now c.args.worker.now.number c.args.call.now c.requires.call name any
 
 pub returns-clause-works : goal.returns-clause-works
-returns-clause-works g c = spells_if c.args.site.now.workload.now c.args.worker.now.number _ c.args.call.now _ c.kind_at-kind.ensures _ _ c.call_at.result c.call_at.ensures.works
+returns-clause-works g c = spells_if c.args.site.now.catalog.workload.now c.args.worker.now.number _ c.args.call.now _ c.kind_at-kind.ensures _ _ c.call_at.result c.call_at.ensures.works
 
 pub call_at-requires-clause-own : goal.call_at-requires-clause-own
-call_at-requires-clause-own g c = omega (arith, worker_within c.args.site.now.workload.now c.args.worker.now.number c.args.call.now c.requires.call c.workers-workers.ensures.valid, c.requires.workers)
+call_at-requires-clause-own g c = omega (arith, worker_within c.args.site.now.catalog.workload.now c.args.worker.now.number c.args.call.now c.requires.call c.workers-workers.ensures.valid, c.requires.workers)

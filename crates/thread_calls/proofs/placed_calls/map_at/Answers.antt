@@ -11,15 +11,15 @@ use Rattle.thread_calls.proofs.placed_calls.map_at.Goals as goal
 
 pub call_map-requires-clause-map : goal.call_map-requires-clause-map
 call_map-requires-clause-map g c =
-    let plan = c.args.site.now.workload.now in
-    map_within plan c.args.place c.args.site.now.numbers.now c.requires.site.numbered _ _ _ c.requires.site.shared _ c.requires.place refl
+    let plan = c.args.site.now.catalog.workload.now in
+    map_within plan c.args.place c.args.site.now.catalog.numbers.now c.requires.site.numbered _ _ _ c.requires.site.shared _ c.requires.place refl
 
 pub call_map-requires-clause-call : goal.call_map-requires-clause-call
 call_map-requires-clause-call g c =
-    let scripts = c.args.site.now.workload.now.scripts in
+    let scripts = c.args.site.now.catalog.workload.now.scripts in
     let keys = keys_in scripts in
     let law = c.keys_are_numbered_by_first_appearance.ensures in
-    let takes = g.S.Shared.takes c.args.site.now.shared.now in
+    let takes = g.S.Shared.takes c.args.site.now.catalog.shared.now in
     let call = c.args.call.now in
     let is = c.numbered-by_number.ensures ∙ ap (λ (names : List (List ℕ)). renamed_call (key_number names) call) c.keys.ensures in
     subst (λ (by_number : MapCall ℕ). IsMapCall takes by_number) (sym is)
@@ -27,14 +27,14 @@ call_map-requires-clause-call g c =
 
 pub returns-clause-works : goal.returns-clause-works
 returns-clause-works g c = λ owns.
-    let plan = c.args.site.now.workload.now in
+    let plan = c.args.site.now.catalog.workload.now in
     let call = c.args.call.now in
     let is = c.numbered-by_number.ensures ∙ ap (λ (names : List (List ℕ)). renamed_call (key_number names) call) c.keys.ensures in
-    placed_as (keys_in plan.scripts) _ _ _ call _ _ _ (number_is plan c.args.place c.args.site.now.numbers.now c.requires.site.numbered kinds.Map c.requires.place) is (c.call_map.ensures.works owns)
+    placed_as (keys_in plan.scripts) _ _ _ call _ _ _ (number_is plan c.args.place c.args.site.now.catalog.numbers.now c.requires.site.numbered kinds.Map c.requires.place) is (c.call_map.ensures.works owns)
 
 pub returns-clause-calls : goal.returns-clause-calls
 returns-clause-calls g c =
-    let plan = c.args.site.now.workload.now in
+    let plan = c.args.site.now.catalog.workload.now in
     let keys = keys_in plan.scripts in
     let law = c.keys_are_numbered_by_first_appearance.ensures in
     let call = c.args.call.now in

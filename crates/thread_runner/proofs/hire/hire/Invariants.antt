@@ -13,7 +13,7 @@ invariant-loop-caller g l = record {
   numbers : map (λ job. job.worker.number) l.jobs.items ≡ range_with_len 0 (length l.yielded);
   callers : map (λ job. job.caller) l.jobs.items ≡ map (λ pair. pair.0) l.yielded;
   passes : map (λ job. job.passes.items) l.jobs.items ≡ map (λ pair. pair.1.items) l.yielded;
-  site : All (λ job. (job.site.workload.now ≡ l.fn.workload) × (job.site.shared.now ≡ l.fn.shared) × (job.site.objects.now ≡ l.fn.objects) × (job.site.numbers.now ≡ l.fn.numbers)) l.jobs.items;
+  site : All (λ job. (job.site.catalog.workload.now ≡ l.fn.workload) × (job.site.catalog.shared.now ≡ l.fn.shared) × (job.site.objects.now ≡ l.fn.objects) × (job.site.catalog.numbers.now ≡ l.fn.numbers)) l.jobs.items;
   at : All (λ job. (job.worker.at.home.now ≡ g.S.Shared.home_of l.fn.shared) × (job.worker.workers ≡ l.fn.workload.workers)) l.jobs.items;
   replies : All (λ job. (job.replies.items ≡ []) × (length (get_or l.fn.workload.scripts job.worker.number []) ≤ job.replies.room)) l.jobs.items;
   rooms : All (λ job. AreRooms (length (keys_in l.fn.workload.scripts)) job.rooms.items × (ranges_in_calls (get_or l.fn.workload.scripts job.worker.number []) ≤ vec_len job.rooms)) l.jobs.items;

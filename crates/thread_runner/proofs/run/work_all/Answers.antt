@@ -40,10 +40,10 @@ start_all-requires-after_bounds g c κs within k d low =
     let replies = made.replies k d low in
     let rooms = made.rooms k d low in
     let Site : g.row.S-Mark-Home.Denot → Plan → g.row.S.Denot → List (AnyObject g.row.S-Mark.Denot g.row.S-Mark-Home.Denot) → List ℕ → Type 0 = λ h p s o n. IsSite mark.at h p (g.S.Shared.maps s) (g.S.Shared.kinds s) (g.S.Shared.takes s) o n in
-    let is_site : Site job.worker.at.home.now job.site.workload.now job.site.shared.now job.site.objects.now job.site.numbers.now =
-    subst (λ n. Site job.worker.at.home.now job.site.workload.now job.site.shared.now job.site.objects.now n) (sym site.3)
-    (subst (λ o. Site job.worker.at.home.now job.site.workload.now job.site.shared.now o c.args.numbers.now) (sym site.2)
-    (subst (λ s. Site job.worker.at.home.now job.site.workload.now s objects c.args.numbers.now) (sym site.1)
+    let is_site : Site job.worker.at.home.now job.site.catalog.workload.now job.site.catalog.shared.now job.site.objects.now job.site.catalog.numbers.now =
+    subst (λ n. Site job.worker.at.home.now job.site.catalog.workload.now job.site.catalog.shared.now job.site.objects.now n) (sym site.3)
+    (subst (λ o. Site job.worker.at.home.now job.site.catalog.workload.now job.site.catalog.shared.now o c.args.numbers.now) (sym site.2)
+    (subst (λ s. Site job.worker.at.home.now job.site.catalog.workload.now s objects c.args.numbers.now) (sym site.1)
     (subst (λ p. Site job.worker.at.home.now p shared objects c.args.numbers.now) (sym site.0)
     (subst (λ h. Site h plan shared objects c.args.numbers.now) (sym at.0) c.requires.site)))) in
     let room : length (get_or plan.scripts k []) ≤ job.replies.room = subst (λ s. length s ≤ job.replies.room) by_place replies.1 in
@@ -51,9 +51,9 @@ start_all-requires-after_bounds g c κs within k d low =
     let enough : ranges_in_calls (get_or plan.scripts k []) ≤ length job.rooms.items = subst (λ n. ranges_in_calls (get_or plan.scripts k []) ≤ n) rooms_len (subst (λ s. ranges_in_calls s ≤ vec_len job.rooms) by_place rooms.1) in
     let ready = ready_at mark.at mark.own mark.front home plan objects rows c.args.callers.items c.requires.rows c.requires.callers c.requires.unused c.requires.spare k job.passes.items job.caller job.replies job.rooms.items at_row at_caller few replies.0 room rooms.0 enough in
     let Ready : g.row.S-Mark-Home.Denot → Plan → List (AnyObject g.row.S-Mark.Denot g.row.S-Mark-Home.Denot) → ℕ → Type 0 = λ h p o n. IsReady mark.at mark.own mark.front h p o n job.passes.items job.caller job.replies job.rooms.items in
-    let is_ready : Ready job.worker.at.home.now job.site.workload.now job.site.objects.now job.worker.number =
-    subst (λ n. Ready job.worker.at.home.now job.site.workload.now job.site.objects.now n) (sym number)
-    (subst (λ o. Ready job.worker.at.home.now job.site.workload.now o k) (sym site.2)
+    let is_ready : Ready job.worker.at.home.now job.site.catalog.workload.now job.site.objects.now job.worker.number =
+    subst (λ n. Ready job.worker.at.home.now job.site.catalog.workload.now job.site.objects.now n) (sym number)
+    (subst (λ o. Ready job.worker.at.home.now job.site.catalog.workload.now o k) (sym site.2)
     (subst (λ p. Ready job.worker.at.home.now p objects k) (sym site.0)
     (subst (λ h. Ready h plan objects k) (sym at.0) ready))) in
     (is_site, ap (λ (p : Plan). p.workers) site.0 ∙ sym at.1, ap g.S.Shared.home_of site.1 ∙ sym at.0, is_ready)
@@ -89,8 +89,8 @@ returns-in-Done-clause-gone g c =
     let at = made.at k job low in
     let Gone-by : g.row.S-Mark-Home.Denot → Plan → List (AnyObject g.row.S-Mark.Denot g.row.S-Mark-Home.Denot) → Type 0 = λ h p b. HasGone mark.at mark.own mark.front h p b job.worker.number job.passes.items job.caller o.passes.items o.caller o.replies in
     subst (λ h. Gone-by h plan objects) (sym (ap (λ j. j.worker.at.home.now) is) ∙ at.0)
-    (subst (λ p. Gone-by job.worker.at.home.now p objects) (sym (ap (λ j. j.site.workload.now) is) ∙ site.0)
-    (subst (λ b. Gone-by job.worker.at.home.now job.site.workload.now b) (sym (ap (λ j. j.site.objects.now) is) ∙ site.2) it))) in
+    (subst (λ p. Gone-by job.worker.at.home.now p objects) (sym (ap (λ j. j.site.catalog.workload.now) is) ∙ site.0)
+    (subst (λ b. Gone-by job.worker.at.home.now job.site.catalog.workload.now b) (sym (ap (λ j. j.site.objects.now) is) ∙ site.2) it))) in
     let passes_now = map (λ o. o.passes.items) gone in
     let callers_now = map (λ o. o.caller) gone in
     let replies_now = map (λ o. o.replies) gone in

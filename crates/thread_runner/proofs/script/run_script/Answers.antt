@@ -21,7 +21,7 @@ use Rattle.thread_runner.proofs.script.run_script.Goals as goal
 pub loop-index-init : goal.loop-index-init
 loop-index-init g c =
     let mark = g.S.Mark.Note in
-    let plan = c.args.site.now.workload.now in
+    let plan = c.args.site.now.catalog.workload.now in
     let script = get_or plan.scripts c.args.worker.now.number [] in
     let start = desk_with mark.own mark.front (owns_of c.args.passes.now) c.args.caller.now.note in
     record {
@@ -40,7 +40,7 @@ loop-index-init g c =
 pub returns-in-Some-Done-Err-clause-line : goal.returns-in-Some-Done-Err-clause-line
 returns-in-Some-Done-Err-clause-line g c =
     let mark = g.S.Mark.Note in
-    let plan = c.args.site.now.workload.now in
+    let plan = c.args.site.now.catalog.workload.now in
     let number = c.args.worker.now.number in
     let script = get_or plan.scripts number [] in
     let start = desk_with mark.own mark.front (owns_of c.args.passes.now) c.args.caller.now.note in
@@ -58,7 +58,7 @@ returns-in-Some-Done-Err-clause-line g c =
 pub returns-in-Some-Halted-clause-line : goal.returns-in-Some-Halted-clause-line
 returns-in-Some-Halted-clause-line g c =
     let mark = g.S.Mark.Note in
-    let plan = c.args.site.now.workload.now in
+    let plan = c.args.site.now.catalog.workload.now in
     let number = c.args.worker.now.number in
     let script = get_or plan.scripts number [] in
     let start = desk_with mark.own mark.front (owns_of c.args.passes.now) c.args.caller.now.note in
@@ -73,7 +73,7 @@ returns-in-Some-Halted-clause-line g c =
 pub loop-index-preserved : goal.loop-index-preserved
 loop-index-preserved g c =
     let mark = g.S.Mark.Note in
-    let plan = c.args.site.now.workload.now in
+    let plan = c.args.site.now.catalog.workload.now in
     let number = c.args.worker.now.number in
     let script = get_or plan.scripts number [] in
     let start = desk_with mark.own mark.front (owns_of c.args.passes.now) c.args.caller.now.note in
@@ -100,7 +100,7 @@ loop-index-preserved g c =
 pub returns-clause-line : goal.returns-clause-line
 returns-clause-line g c =
     let mark = g.S.Mark.Note in
-    let plan = c.args.site.now.workload.now in
+    let plan = c.args.site.now.catalog.workload.now in
     let number = c.args.worker.now.number in
     let script = get_or plan.scripts number [] in
     let start = desk_with mark.own mark.front (owns_of c.args.passes.now) c.args.caller.now.note in
@@ -124,10 +124,10 @@ pub returns-in-None-clause-line : goal.returns-in-None-clause-line
 returns-in-None-clause-line g c = inr (of_none c.make_call-answer.result _ c.in-None.is c.make_call-answer.ensures.given_up)
 
 pub returns-in-None-clause-calls : goal.returns-in-None-clause-calls
-returns-in-None-clause-calls g c = all_behind c.args.site.now.workload.now _ _ c.loop-index.invariant.calls c.make_call-answer.ensures.calls
+returns-in-None-clause-calls g c = all_behind c.args.site.now.catalog.workload.now _ _ c.loop-index.invariant.calls c.make_call-answer.ensures.calls
 
 pub returns-in-Some-Done-Err-clause-calls : goal.returns-in-Some-Done-Err-clause-calls
-returns-in-Some-Done-Err-clause-calls g c = all_behind c.args.site.now.workload.now _ _ c.loop-index.invariant.calls c.make_call-answer.ensures.calls
+returns-in-Some-Done-Err-clause-calls g c = all_behind c.args.site.now.catalog.workload.now _ _ c.loop-index.invariant.calls c.make_call-answer.ensures.calls
 
 pub returns-in-Some-Halted-clause-calls : goal.returns-in-Some-Halted-clause-calls
-returns-in-Some-Halted-clause-calls g c = all_behind c.args.site.now.workload.now _ _ c.loop-index.invariant.calls c.make_call-answer.ensures.calls
+returns-in-Some-Halted-clause-calls g c = all_behind c.args.site.now.catalog.workload.now _ _ c.loop-index.invariant.calls c.make_call-answer.ensures.calls

@@ -7,6 +7,6 @@ use Rattle.thread_runner.proofs.script.run_script.Given as goal
 abbrev pub invariant-loop-index : goal.invariant-loop-index
 invariant-loop-index g l =
     let mark = g.S.Mark.Note in
-    let plan = l.fn.site.workload.now in
+    let plan = l.fn.site.catalog.workload.now in
     AtCall mark.at mark.own mark.front l.fn.worker.at.home.now plan l.fn.worker.workers l.fn.worker.number l.fn.site.objects.now (get_or plan.scripts l.fn.worker.number []) l.fn.replies.room
     (desk_with mark.own mark.front (owns_of l.fn.passes) l.fn.caller.note) l.fn.caller.note l.index l.passes l.caller l.replies l.rooms.items

@@ -12,8 +12,9 @@ use Rattle.protocols.specs.Spelling.{CallAnswer}
 use Rattle.run_record.specs.AtomicKind.{adds}
 use Rattle.run_record.specs.declared.entered.ObjectEvent.TheVariants as event
 use Rattle.run_record.specs.declared.entered.ObjectReply.TheVariants as reply
+use Rattle.run_record.specs.Objects.{atomic_number}
 use Rattle.run_record.specs.Parts.{stages, with_outcome}
-use Rattle.shared_calls.specs.GivenUp.{AnsweredAmiss}
+use Rattle.shared_calls.specs.GivenUp.{GaveUp}
 use Rattle.shared_calls.specs.Working.{alone}
 use Rattle.thread_objects.specs.OnceKind.{ran}
 use Rattle.object_parts.specs.Own.{own_as}
@@ -29,57 +30,54 @@ abbrev found : ℤ → Reply ℕ
 found kept = replies.Once do_replies.Done
 
 pub returns-in-Halted-clause-works : goal.returns-in-Halted-clause-works
-returns-in-Halted-clause-works g c = λ number. stopped c.moves.ensures.none c.moves.ensures.joined (stages event.Once reply.Once once_event once_meaning number) (adds c.args.atomic c.args.delta) ran found _ _ c.in-Halted.misuse (c.in-Halted.ensures.works event.Once reply.Once number)
+returns-in-Halted-clause-works g c = λ number.
+    let atomic = atomic_number c.args.catalog.now.workload.now.objects c.args.place in
+    stopped c.moves.ensures.none c.moves.ensures.joined (stages event.Once reply.Once once_event once_meaning number) (adds atomic c.args.delta) ran found _ _ c.in-Halted.misuse (c.in-Halted.ensures.works event.Once reply.Once number)
 
 pub returns-in-Done-Ok-Already-clause-works : goal.returns-in-Done-Ok-Already-clause-works
 returns-in-Done-Ok-Already-clause-works g c = λ number.
+    let atomic = atomic_number c.args.catalog.now.workload.now.objects c.args.place in
     let given = rw c.in-Done-Ok-Already.field-0-is at c.in-Done-Ok-Already.ensures.works in
     let did = rw c.in-Done-Ok-Already.field-0-0-is at given in
-    had c.moves.ensures.none c.moves.ensures.joined (stages event.Once reply.Once once_event once_meaning number) (adds c.args.atomic c.args.delta) ran found _ _ c.in-Done-Ok-Already._kept (did event.Once reply.Once number)
+    had c.moves.ensures.none c.moves.ensures.joined (stages event.Once reply.Once once_event once_meaning number) (adds atomic c.args.delta) ran found _ _ c.in-Done-Ok-Already._kept (did event.Once reply.Once number)
 
 pub returns-in-Some-clause-works : goal.returns-in-Some-clause-works
 returns-in-Some-clause-works g c = λ number.
+    let atomic = atomic_number c.args.catalog.now.workload.now.objects c.args.place in
     let given = rw c.in-Done-Ok-Run.field-0-is at c.in-Done-Ok-Run.ensures.works in
     let did = rw c.in-Done-Ok-Run.field-0-0-is at given in
     let sum = to_z w64 (of_z w64 c.in-Some.sum) in
     let fits : to_z w64 (of_z w64 c.args.delta) ≡ c.args.delta = search rules in
     let same : sum ≡ c.in-Some.sum = search rules in
     let added = c.in-Some.ensures.works (alone number (own_as event.Once reply.Once c.begin.new.pass)) in
-    let inner = answers_as _ _ _ (Done (Ok c.in-Some.sum)) (Done (Ok sum)) (ap (λ (s : ℤ). Done (Ok s)) same) (part_as (λ (d : ℤ). adds c.args.atomic d) c.args.delta _ _ _ _ (sym fits) added) in
+    let inner = answers_as _ _ _ (Done (Ok c.in-Some.sum)) (Done (Ok sum)) (ap (λ (s : ℤ). Done (Ok s)) same) (part_as (λ (d : ℤ). adds atomic d) c.args.delta _ _ _ _ (sym fits) added) in
     answers_as _ _ _ _ _ (c.ran.ensures ∙ ap (λ (a : CallAnswer ℤ). with_outcome ran a) c.ended.ensures)
-    (once.ran c.moves.ensures.none c.moves.ensures.joined (stages event.Once reply.Once once_event once_meaning number) (adds c.args.atomic c.args.delta) ran found _ _ _ _ sum c.end-answer.result (did event.Once reply.Once number) inner (c.end-answer.ensures.works event.Once reply.Once number))
+    (once.ran c.moves.ensures.none c.moves.ensures.joined (stages event.Once reply.Once once_event once_meaning number) (adds atomic c.args.delta) ran found _ _ _ _ sum c.end-answer.result (did event.Once reply.Once number) inner (c.end-answer.ensures.works event.Once reply.Once number))
 
-pub returns-in-Halted-clause-spends : goal.returns-in-Halted-clause-spends
-returns-in-Halted-clause-spends g c = c.what_calls_spend.ensures.none c.args.caller.now.note c.begin.new.note c.begin.ensures.note.kept c.requires.caller.1
+pub returns-in-Halted-clause-called : goal.returns-in-Halted-clause-called
+returns-in-Halted-clause-called g c = c.what_a_call_leaves.ensures.none c.args.catalog.now.workload.now _ _ c.begin.ensures.note.home c.begin.ensures.note.kept c.requires.caller.1
 
-pub returns-in-Done-Ok-Already-clause-spends : goal.returns-in-Done-Ok-Already-clause-spends
-returns-in-Done-Ok-Already-clause-spends g c = c.what_calls_spend.ensures.none c.args.caller.now.note c.begin.new.note c.begin.ensures.note.kept c.requires.caller.1
+pub returns-in-Done-Err-clause-called : goal.returns-in-Done-Err-clause-called
+returns-in-Done-Err-clause-called g c = c.what_a_call_leaves.ensures.none c.args.catalog.now.workload.now _ _ c.begin.ensures.note.home c.begin.ensures.note.kept c.requires.caller.1
 
-pub returns-in-Some-clause-spends : goal.returns-in-Some-clause-spends
-returns-in-Some-clause-spends g c =
-    let law = c.what_calls_spend.ensures in
-    let begun = law.none c.args.caller.now.note c.begin.new.note c.begin.ensures.note.kept c.requires.caller.1 in
-    let added = law.joined 0 0 _ _ _ begun c.add_int64.ensures.spends in
-    law.joined 0 0 _ _ _ added (law.none c.add_int64.new.caller.note c.end-answer.new.note c.end-answer.ensures.note.kept (law.held 0 _ _ added))
+pub returns-in-Done-Ok-Already-clause-called : goal.returns-in-Done-Ok-Already-clause-called
+returns-in-Done-Ok-Already-clause-called g c = c.what_a_call_leaves.ensures.none c.args.catalog.now.workload.now _ _ c.begin.ensures.note.home c.begin.ensures.note.kept c.requires.caller.1
 
-pub returns-in-Halted-clause-calls : goal.returns-in-Halted-clause-calls
-returns-in-Halted-clause-calls g c = λ plan same. c.which_calls_are_made.ensures.none plan _ _ c.begin.ensures.note.kept
+pub returns-in-Some-clause-called : goal.returns-in-Some-clause-called
+returns-in-Some-clause-called g c =
+    let plan = c.args.catalog.now.workload.now in
+    let law = c.what_a_call_leaves.ensures in
+    let begun = law.none plan _ _ c.begin.ensures.note.home c.begin.ensures.note.kept c.requires.caller.1 in
+    let ended = law.none plan _ _ c.end-answer.ensures.note.home c.end-answer.ensures.note.kept (c.what_calls_spend.ensures.held 0 _ _ c.add_at.ensures.called.spends) in
+    law.joined plan 0 0 _ _ _ (law.joined plan 0 0 _ _ _ begun c.add_at.ensures.called) ended
 
-pub returns-in-Done-Err-clause-calls : goal.returns-in-Done-Err-clause-calls
-returns-in-Done-Err-clause-calls g c = λ plan same. c.which_calls_are_made.ensures.none plan _ _ c.begin.ensures.note.kept
+pub returns-in-None-clause-called : goal.returns-in-None-clause-called
+returns-in-None-clause-called g c =
+    let plan = c.args.catalog.now.workload.now in
+    let law = c.what_a_call_leaves.ensures in
+    let begun = law.none plan _ _ c.begin.ensures.note.home c.begin.ensures.note.kept c.requires.caller.1 in
+    let ended = law.none plan _ _ c.end.ensures.note.home c.end.ensures.note.kept (c.what_calls_spend.ensures.held 0 _ _ c.add_at.ensures.called.spends) in
+    law.joined plan 0 0 _ _ _ (law.joined plan 0 0 _ _ _ begun c.add_at.ensures.called) ended
 
-pub returns-in-Done-Ok-Already-clause-calls : goal.returns-in-Done-Ok-Already-clause-calls
-returns-in-Done-Ok-Already-clause-calls g c = λ plan same. c.which_calls_are_made.ensures.none plan _ _ c.begin.ensures.note.kept
-
-pub returns-in-Some-clause-calls : goal.returns-in-Some-clause-calls
-returns-in-Some-clause-calls g c = λ plan same.
-    let law = c.which_calls_are_made.ensures in
-    law.joined plan _ _ _ (law.joined plan _ _ _ (law.none plan _ _ c.begin.ensures.note.kept) (c.add_int64.ensures.calls plan same)) (law.none plan _ _ c.end-answer.ensures.note.kept)
-
-pub returns-in-None-clause-calls : goal.returns-in-None-clause-calls
-returns-in-None-clause-calls g c = λ plan same.
-    let law = c.which_calls_are_made.ensures in
-    law.joined plan _ _ _ (law.joined plan _ _ _ (law.none plan _ _ c.begin.ensures.note.kept) (c.add_int64.ensures.calls plan same)) (law.none plan _ _ c.end.ensures.note.kept)
-
-pub returns-in-None-clause-amiss : goal.returns-in-None-clause-amiss
-returns-in-None-clause-amiss g c = subst (λ (o : Option Holding). AnsweredAmiss (items_of o)) (sym c.end.ensures.note.kept) (none_of c.add_int64.result c.in-None.is c.add_int64.ensures.amiss)
+pub returns-in-None-clause-given_up : goal.returns-in-None-clause-given_up
+returns-in-None-clause-given_up g c = subst (λ (o : Option Holding). GaveUp c.args.catalog.now.workload.now (items_of o)) (sym c.end.ensures.note.kept) (none_of c.add_at.result c.in-None.is c.add_at.ensures.given_up)

@@ -1,4 +1,4 @@
-use Rattle.std.proofs.Common.{refl, ap}
+use Rattle.std.proofs.Common.{refl, ap, ◌∙◌}
 use Rattle.protocols.specs.OnceStages.{once_event, once_meaning}
 use Rattle.protocols.specs.Spelling.{CallAnswer}
 use Rattle.run_record.specs.Parts.{returns, stages, with_outcome}
@@ -22,3 +22,9 @@ returns-in-Done-Ok-Run-clause-works g c = λ event reply number told.
     let value = c.args.value in
     let part = stages event reply once_event once_meaning number in
     answers_as _ _ _ _ _ (ap (λ (a : CallAnswer _). with_outcome told a) c.ended.ensures) (ran c.moves.ensures.none c.moves.ensures.joined part (returns value) told told _ _ _ _ value c.end.result (did event reply number) (rests c.moves.ensures.none (returns value) _ _ (refl, refl)) (c.end.ensures.works event reply number))
+
+pub returns-in-Done-Ok-Run-clause-called : goal.returns-in-Done-Ok-Run-clause-called
+returns-in-Done-Ok-Run-clause-called g c = λ plan some.
+    let first = c.begin.ensures.note in
+    let last = c.end.ensures.note in
+    c.what_a_call_leaves.ensures.none plan _ _ (λ home at. last.home home (first.home home at)) (last.kept ∙ first.kept) some
