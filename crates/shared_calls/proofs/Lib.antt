@@ -1,3 +1,4 @@
+pub mod Finding
 pub mod Knowing
 pub mod Moving
 pub mod OnlyCalls

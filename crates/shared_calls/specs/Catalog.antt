@@ -1,4 +1,4 @@
--- A workload's maps and atomics, by their places among its objects.
+-- A workload's atomics, by their places among its objects.
 use Rattle.std.specs.Prelude.{◌≡◌, ℕ, ◌<◌, List, length, Some, slice_get, slice_index}
 use Rattle.sync_types.specs.declared.atomic_object.AtomicKind.{AtomicKind}
 use Rattle.workload.specs.declared.object.ObjectKind.{ObjectKind}

@@ -15,7 +15,7 @@ ghost use Rattle.run_record.specs.Objects.{atomic_number};
 ghost use Rattle.run_record.specs.Record.{ObjectEntry};
 ghost use Rattle.shared_calls.specs.Calling.{HasCalled};
 ghost use Rattle.shared_calls.specs.Catalog.{HasAtomics, IsAt};
-ghost use Rattle.shared_calls.specs.GivenUp.{MakesOnly, AnsweredAmiss, GaveUp};
+ghost use Rattle.shared_calls.specs.GivenUp.{MakesOnly, AnsweredAmiss};
 ghost use Rattle.shared_calls.specs.Spending.{Spends};
 ghost use Rattle.shared_calls.specs.Working.{Works, desk_with};
 
@@ -75,7 +75,7 @@ pub fn add_at<S: Shared, R: Wait>(
     requires place { IsAt catalog.now.workload.now place (Atomic types.Int64) }
     requires caller { IsCallerAt S.Mark.at S.Mark.own (S.home_of catalog.now.shared.now) caller.old }
     ensures called { HasCalled S.Mark.at S.Mark.own catalog.now.workload.now 0 caller.old.note caller.new.note }
-    ensures given_up { IfNone result (GaveUp catalog.now.workload.now (items_of (S.Mark.own caller.new.note))) }
+    ensures amiss { IfNone result (AnsweredAmiss (items_of (S.Mark.own caller.new.note))) }
     ensures works { IfSome result (λ sum. (owns : ℕ → List ObjectEntry)
         → Works (adds (atomic_number catalog.now.workload.now.objects place) delta) (desk_with S.Mark.own S.Mark.front owns caller.old.note) (Done (Ok sum)) (desk_with S.Mark.own S.Mark.front owns caller.new.note)) }
 {

@@ -1,13 +1,18 @@
 //! What holds of what a worker makes. Each law is the contract of a function that does nothing.
-ghost use Rattle.std.specs.Prelude.{◌≡◌, ℕ, ◌+◌, ◌<◌, List, ◌++◌, length, take, Option, Some, slice_get, slice_index, IsSome};
+ghost use Rattle.std.specs.Prelude.{◌≡◌, ℕ, ◌+◌, ◌<◌, true, List, ◌++◌, length, take, Option, Some, slice_get, slice_index, IsSome};
+ghost use Rattle.sync_types.specs.declared.atomic_object.AtomicCall.{AtomicCall};
+ghost use Rattle.sync_types.specs.declared.atomic_object.AtomicKind.{AtomicKind};
+ghost use Rattle.sync_types.specs.SequentialAtomic.{is_atomic_call};
 ghost use Rattle.sync_model.specs.declared.item.Item.{Item};
 ghost use Rattle.sync_model.specs.Front.{AtLeast};
 ghost use Rattle.sync_model.specs.Note.{Holding, SameHome};
-ghost use Rattle.sync_model.specs.Shared.{items_of};
+ghost use Rattle.sync_model.specs.Shared.{IsAtomicCall, items_of};
+ghost use Rattle.workload.specs.declared.object.ObjectKind.TheVariants.{Atomic};
 ghost use Rattle.workload.specs.Plan.{Plan};
 ghost use Rattle.run_record.specs.Limits.{IsCallOf};
 ghost use Rattle.run_record.specs.Record.{shared_in, front_of};
 ghost use Rattle.shared_calls.specs.Calling.{HasCalled};
+ghost use Rattle.shared_calls.specs.Catalog.{HasAtomics, IsAt};
 ghost use Rattle.shared_calls.specs.GivenUp.{MakesOnly};
 ghost use Rattle.shared_calls.specs.Laws.{Stays, Joins, Counts};
 ghost use Rattle.shared_calls.specs.Spending.{Spends};
@@ -60,4 +65,10 @@ pub fn which_calls_are_made()
 pub fn what_a_call_leaves<N: Note>()
     ensures none { (plan : Plan) (old new : N) → SameHome N.at old new → N.own new ≡ N.own old → IsSome (N.own old) → HasCalled N.at N.own plan 0 old new }
     ensures joined { (plan : Plan) (cost more : ℕ) (old between new : N) → HasCalled N.at N.own plan cost old between → HasCalled N.at N.own plan more between new → HasCalled N.at N.own plan (cost + more) old new }
+{}
+
+/// An atomic that is found by the place where it is declared has every call of its type.
+pub fn an_atomic_is_found_by_its_place()
+    ensures { (plan : Plan) (types : List AtomicKind) (numbers : List ℕ) (place : ℕ) (type : AtomicKind) (call : AtomicCall)
+        → HasAtomics plan types numbers → IsAt plan place (Atomic type) → is_atomic_call type call ≡ true → (place < length numbers) × IsAtomicCall types (slice_index numbers place) call }
 {}

@@ -12,5 +12,5 @@ mod range;
 pub use answer::CallAnswer;
 pub use catalog::Catalog;
 pub use int64::add_at;
-pub use placed_calls::{call_atomic, call_map};
+pub use placed_calls::{atomic_at, call_map};
 pub use range::call_range;

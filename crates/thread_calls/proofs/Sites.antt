@@ -3,15 +3,12 @@ use Rattle.std.proofs.Common.{◌≡◌, ℕ, zero, suc, ◌+◌, ◌<◌, true,
 use Rattle.std.specs.List.{flat_map}
 use Rattle.std.proofs.lemmas.List.Sums.{sum_by-append, sum_by-take-le}
 use Rattle.std.proofs.lemmas.Option.{slice_get_within, same_Some, none-some}
-use Rattle.sync_types.specs.declared.atomic_object.AtomicCall.{AtomicCall}
 use Rattle.sync_types.specs.declared.atomic_object.AtomicKind.{AtomicKind}
 use Rattle.sync_types.specs.declared.call.Reply.{Reply}
-use Rattle.sync_model.specs.declared.item.SharedCall.TheVariants as calls
 use Rattle.sync_types.specs.declared.map_object.MapCall.{MapCall}
 use Rattle.sync_types.specs.declared.map_object.MapCall.TheVariants.{Load, Store, LoadOrStore, LoadAndDelete, Delete, Swap, CompareAndSwap, CompareAndDelete, Clear}
 use Rattle.sync_types.specs.Renaming.{renamed_call}
-use Rattle.sync_types.specs.SequentialAtomic.{is_atomic_call}
-use Rattle.sync_model.specs.Shared.{IsAtomicCall, cost_of}
+use Rattle.sync_model.specs.Shared.{cost_of}
 use Rattle.protocols.specs.Spelling.{CallAnswer}
 use Rattle.workload.specs.declared.object.ObjectKind.{ObjectKind}
 use Rattle.workload.specs.declared.object.ObjectKind.TheVariants as kinds
@@ -20,8 +17,6 @@ use Rattle.workload.specs.Keys.{key_number}
 use Rattle.workload.specs.Plan.{Plan, is_target, refers}
 use Rattle.std.specs.Option.{option_map_or}
 use Rattle.std.proofs.lemmas.Bool.{false≢true}
-use Rattle.run_record.specs.AtomicKind.{atomic_call}
-use Rattle.run_record.specs.Limits.{IsCallOf, atomic_types}
 use Rattle.run_record.specs.MapKind.{map_call, range_call}
 use Rattle.run_record.specs.Objects.{is_map, is_atomic, types_of, atomic_number}
 use Rattle.shared_calls.specs.Catalog.{HasAtomics, IsAt}
@@ -71,13 +66,6 @@ module _ (plan : Plan) (place : ℕ) (numbers : List ℕ) (numbered : AreNumbers
         let one : ◌≡◌ {A = ℕ} (cond (is_map is.0.kind) 1 0) 1 = ap (λ (k : ObjectKind). cond (is_map k) 1 0) is.2 in
         omega (arith, at ∙ number_is kinds.Map is, shared.all_maps, one_more is_map plan.objects place is.0 is.1, one, sum_by-take-le (λ (o : ObjectLine). cond (is_map o.kind) 1 0) plan.objects (place + 1))
 
-    pub atomic_fits : (n : ℕ) (kind : AtomicKind) (call : AtomicCall) → IsAt plan place (kinds.Atomic kind) → is_atomic_call kind call ≡ true → n ≡ slice_index numbers place → IsAtomicCall types n call
-    atomic_fits n kind call is has at = record {
-      kind = kind;
-      at = ap (λ (k : ℕ). slice_get types k) (at ∙ number_is (kinds.Atomic kind) is) ∙ ap (λ (l : List AtomicKind). slice_get l (atomic_number plan.objects place)) shared.all_types ∙ types_at plan.objects place is.0 kind is.1 is.2;
-      has = has;
-    }
-
 -- the numbers of a workload's atomics, and their types
 pub has_atomics : (plan : Plan) (maps : ℕ) (types : List AtomicKind) (takes : ℕ → Type 0) (numbers : List ℕ) → AreShared plan maps types takes → AreNumbers plan.objects numbers → HasAtomics plan types numbers
 has_atomics plan maps types takes numbers shared numbered = record {
@@ -90,9 +78,6 @@ has_atomics plan maps types takes numbers shared numbered = record {
 -- a map's call by number is the record's call
 pub placed_as : (keys : List (List ℕ)) (m n : ℕ) (by_number : MapCall ℕ) (call : MapCall (List ℕ)) (old new : Desk) (answer : CallAnswer (Reply ℕ)) → n ≡ m → by_number ≡ renamed_call (key_number keys) call → Works (placed_map n by_number) old answer new → Works (map_call keys m call) old answer new
 placed_as keys m n by_number call old new answer at is works = subst (λ (k : ℕ). Works (placed_map k (renamed_call (key_number keys) call)) old answer new) at (subst (λ (c : MapCall ℕ). Works (placed_map n c) old answer new) is works)
-
-pub atomic_as : (m n : ℕ) (call : AtomicCall) (old new : Desk) (answer : CallAnswer (Reply ℕ)) → n ≡ m → Works (atomic_call n call) old answer new → Works (atomic_call m call) old answer new
-atomic_as m n call old new answer at works = subst (λ (k : ℕ). Works (atomic_call k call) old answer new) at works
 
 module _ (old new : Desk) (answer : CallAnswer (Reply ℕ)) where
   -- the same range, by other names of its numbers
@@ -110,7 +95,3 @@ mutex_line mutex (Some line) is = (line, refl, mutex_kind mutex line.kind is)
 
 pub mutex_of : (plan : Plan) (kind : ObjectKind) (mutex : ℕ) → kind ≡ kinds.Cond mutex → refers plan.objects kind ≡ true → IsAt plan mutex kinds.Mutex
 mutex_of plan kind mutex is refer = mutex_line mutex (slice_get plan.objects mutex) (ap (λ (k : ObjectKind). refers plan.objects k) (sym is) ∙ refer)
-
--- a call that the atomics of these types have, which are the workload's
-pub of_types : (plan : Plan) (types : List AtomicKind) (a : ℕ) (call : AtomicCall) → types ≡ atomic_types plan → IsAtomicCall types a call → IsCallOf plan (calls.Atomic a call)
-of_types plan types a call same has = subst (λ (t : List AtomicKind). IsAtomicCall t a call) same has

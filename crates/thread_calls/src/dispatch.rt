@@ -20,11 +20,11 @@ ghost use Rattle.shared_calls.specs.Catalog.{IsAt};
 ghost use Rattle.shared_calls.specs.Spending.{Spends};
 ghost use Rattle.shared_calls.specs.Working.{Works, desk_with};
 
-use crate::placed_calls::{atomic_at, map_at, range_at};
+use crate::placed_calls::{map_at, range_at};
 use crate::site::Site;
 use object_calls::{call_pool, object_at, wait_at};
 use run_record::laws::numbers::parts_have_numbers_of_their_own;
-use shared_calls::CallAnswer;
+use shared_calls::{CallAnswer, atomic_at};
 use std::sync::Wait;
 use sync_model::{Caller, Shared};
 use sync_outside::Clock;
@@ -113,7 +113,7 @@ fn call_at<S: Shared, C: Clock, R: Wait>(
     objects_are_of_their_kinds::<S::Mark>();
     match operation {
         Operation::Map(call) => Some(map_at(rt, site, caller, place, call)),
-        Operation::Atomic(call) => Some(atomic_at(rt, site, caller, place, *call)),
+        Operation::Atomic(call) => Some(atomic_at(rt, &site.catalog, caller, place, *call)),
         Operation::Range => range_at(rt, site, caller, place, take_room(rooms)),
         Operation::Cond(CondCall::Wait) => match kind {
             ObjectKind::Cond { mutex } => Some(wait_at(

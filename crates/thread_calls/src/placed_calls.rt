@@ -1,20 +1,17 @@
-//! Calls on the map or the atomic at a place among the workload's objects.
+//! Calls on the map at a place among the workload's objects.
 ghost use Rattle.std.specs.Prelude.{◌≡◌, ℕ, ◌≤◌, true, List, [], length, IfSome, IfNone, Some};
 ghost use Rattle.std.specs.List.{list_any};
 ghost use Rattle.std.specs.Option.{ForSome};
 ghost use Rattle.std.specs.Str.{bytes_eq};
 ghost use Rattle.sync_model.specs.Note.{SameHome};
-ghost use Rattle.sync_types.specs.SequentialAtomic.{is_atomic_call};
 ghost use Rattle.sync_types.specs.SequentialMap.{map_key};
 ghost use Rattle.sync_model.specs.Shared.{cost_of, IsCallerAt, items_of};
-ghost use Rattle.sync_types.specs.declared.atomic_object.AtomicKind.{AtomicKind};
-ghost use Rattle.workload.specs.declared.object.ObjectKind.TheVariants as kinds;
+ghost use Rattle.workload.specs.declared.object.ObjectKind.TheVariants.{Map};
 ghost use Rattle.workload.specs.Draft.{all_keys, is_map_call};
 ghost use Rattle.workload.specs.Keys.{keys_in};
-ghost use Rattle.run_record.specs.AtomicKind.{atomic_call};
 ghost use Rattle.run_record.specs.Limits.{IsCallOf};
 ghost use Rattle.run_record.specs.MapKind.{map_call, range_call};
-ghost use Rattle.run_record.specs.Objects.{map_number, atomic_number};
+ghost use Rattle.run_record.specs.Objects.{map_number};
 ghost use Rattle.run_record.specs.Record.{ObjectEntry};
 ghost use Rattle.shared_calls.specs.GivenUp.{MakesOnly, ShowedTooMany};
 ghost use Rattle.shared_calls.specs.Catalog.{IsAt};
@@ -24,10 +21,10 @@ ghost use Rattle.shared_calls.specs.Working.{Works, desk_with};
 
 use crate::numbering::numbered;
 use crate::site::Site;
-use shared_calls::{CallAnswer, call_atomic, call_map, call_range};
+use shared_calls::{CallAnswer, call_map, call_range};
 use std::sync::Wait;
 use sync_model::{Caller, Shared};
-use sync_types::{AtomicCall, BoundedSeq, MapCall, Name};
+use sync_types::{BoundedSeq, MapCall, Name};
 use workload::laws::keys_are_numbered_by_first_appearance;
 
 /// Makes a call on the map at a place. It may wait for other callers.
@@ -39,7 +36,7 @@ pub(crate) fn map_at<S: Shared, R: Wait>(
     call: &MapCall<Name>,
 ) -> CallAnswer
     requires site { IsSite S.Mark.at (S.home_of site.now.catalog.shared.now) site.now.catalog.workload.now (S.maps site.now.catalog.shared.now) (S.kinds site.now.catalog.shared.now) (S.takes site.now.catalog.shared.now) site.now.objects.now site.now.catalog.numbers.now }
-    requires place { IsAt site.now.catalog.workload.now place kinds.Map }
+    requires place { IsAt site.now.catalog.workload.now place Map }
     requires caller { IsCallerAt S.Mark.at S.Mark.own (S.home_of site.now.catalog.shared.now) caller.old }
     requires call { is_map_call call.now ≡ true }
     requires key { (name : List ℕ) → map_key call.now ≡ Some name → list_any (bytes_eq name) (all_keys site.now.catalog.workload.now.scripts) ≡ true }
@@ -55,26 +52,6 @@ pub(crate) fn map_at<S: Shared, R: Wait>(
     call_map(rt, site.catalog.shared, caller, map, by_number)
 }
 
-/// Makes a call on the atomic at a place. It may wait for other callers.
-pub(crate) fn atomic_at<S: Shared, R: Wait>(
-    rt: &R,
-    site: &Site<S>,
-    caller: &mut Caller<S::Mark>,
-    place: usize,
-    call: AtomicCall,
-) -> CallAnswer
-    requires site { IsSite S.Mark.at (S.home_of site.now.catalog.shared.now) site.now.catalog.workload.now (S.maps site.now.catalog.shared.now) (S.kinds site.now.catalog.shared.now) (S.takes site.now.catalog.shared.now) site.now.objects.now site.now.catalog.numbers.now }
-    requires place { (kind : AtomicKind) × IsAt site.now.catalog.workload.now place (kinds.Atomic kind) × (is_atomic_call kind call ≡ true) }
-    requires caller { IsCallerAt S.Mark.at S.Mark.own (S.home_of site.now.catalog.shared.now) caller.old }
-    ensures home { SameHome S.Mark.at caller.old.note caller.new.note }
-    ensures spends { Spends S.Mark.own 0 caller.old.note caller.new.note }
-    ensures calls { MakesOnly (IsCallOf site.now.catalog.workload.now) (items_of (S.Mark.own caller.old.note)) (items_of (S.Mark.own caller.new.note)) }
-    ensures works { (owns : ℕ → List ObjectEntry) → Works (atomic_call (atomic_number site.now.catalog.workload.now.objects place) call) (desk_with S.Mark.own S.Mark.front owns caller.old.note) result (desk_with S.Mark.own S.Mark.front owns caller.new.note) }
-{
-    let atomic = site.catalog.numbers[place];
-    call_atomic(rt, site.catalog.shared, caller, atomic, call)
-}
-
 /// Shows all keys of the map at a place with their values. It may wait for other callers. The list has room for all keys of the
 /// workload; `None`, once more pairs than that are shown.
 pub(crate) fn range_at<S: Shared, R: Wait>(
@@ -85,7 +62,7 @@ pub(crate) fn range_at<S: Shared, R: Wait>(
     room: BoundedSeq<(u32, u64)>,
 ) -> Option<CallAnswer>
     requires site { IsSite S.Mark.at (S.home_of site.now.catalog.shared.now) site.now.catalog.workload.now (S.maps site.now.catalog.shared.now) (S.kinds site.now.catalog.shared.now) (S.takes site.now.catalog.shared.now) site.now.objects.now site.now.catalog.numbers.now }
-    requires place { IsAt site.now.catalog.workload.now place kinds.Map }
+    requires place { IsAt site.now.catalog.workload.now place Map }
     requires caller { IsCallerAt S.Mark.at S.Mark.own (S.home_of site.now.catalog.shared.now) caller.old }
     requires empty { room.items ≡ [] }
     requires room { length (keys_in site.now.catalog.workload.now.scripts) ≤ room.room }

@@ -34,28 +34,15 @@ impl DeclaredKind for NotifyCore {
         declared: ObjectKind,
         operation: &Operation,
     ) -> Option<CallAnswer> {
+        let note = &mut caller.note;
         match (declared, operation) {
             (ObjectKind::Cond { .. }, Operation::Cond(call)) => match call {
                 CondCall::Signal => {
-                    let answer = part(
-                        rt,
-                        worker,
-                        object,
-                        pass,
-                        &mut caller.note,
-                        CondStage::Signal,
-                    );
+                    let answer = part(rt, worker, object, pass, note, CondStage::Signal);
                     Some(returned(answer))
                 }
                 CondCall::Broadcast => {
-                    let answer = part(
-                        rt,
-                        worker,
-                        object,
-                        pass,
-                        &mut caller.note,
-                        CondStage::Broadcast,
-                    );
+                    let answer = part(rt, worker, object, pass, note, CondStage::Broadcast);
                     Some(returned(answer))
                 }
                 CondCall::Wait => unreachable!(),

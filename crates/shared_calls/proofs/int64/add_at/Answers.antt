@@ -1,4 +1,4 @@
-use Rattle.std.proofs.Common.{◌≡◌, ℕ, ℤ, pos, negsuc, ◌^◌, true, Ok, slice_get, inr, sym, ap, ◌∙◌, subst, to_z, of_z, rules}
+use Rattle.std.proofs.Common.{◌≡◌, ℕ, ℤ, pos, negsuc, ◌^◌, true, Ok, sym, ap, ◌∙◌, subst, to_z, of_z, rules}
 use Rattle.std.specs.Int.{w64}
 use Rattle.std.specs.Prelude.{FitsSigned}
 use Rattle.std.proofs.lemmas.Bool.{lt-ltb}
@@ -11,7 +11,7 @@ use Rattle.sync_model.specs.declared.answer.Answer.TheVariants.{Done}
 use Rattle.protocols.specs.Spelling.{CallAnswer}
 use Rattle.run_record.specs.AtomicKind.{adds}
 use Rattle.shared_calls.specs.Working.{Desk, Works}
-use Rattle.shared_calls.proofs.OnlyCalls.{IfNone_then}
+use Rattle.shared_calls.proofs.Finding.{atomic_has}
 use Rattle.shared_calls.proofs.int64.add_at.Goals as goal
 
 -- an int64 takes an amount that fits it
@@ -29,17 +29,10 @@ bounds-catalog-place g c = c.requires.atomics.within c.args.place Int64 c.requir
 pub add_int64-requires-clause-call : goal.add_int64-requires-clause-call
 add_int64-requires-clause-call g c =
     let fits : to_z w64 (of_z w64 c.args.delta) ≡ c.args.delta = search rules in
-    record {
-      kind = Int64;
-      at = ap (λ (n : ℕ). slice_get (g.S.Shared.kinds c.args.catalog.now.shared.now) n) (c.requires.atomics.number c.args.place Int64 c.requires.place) ∙ c.requires.atomics.type c.args.place Int64 c.requires.place;
-      has = takes_amount c.args.delta (to_z w64 (of_z w64 c.args.delta)) c.ranges.delta fits;
-    }
+    atomic_has c.args.catalog.now.workload.now (g.S.Shared.kinds c.args.catalog.now.shared.now) c.args.catalog.now.numbers.now c.args.place Int64 _ c.requires.atomics c.requires.place (takes_amount c.args.delta (to_z w64 (of_z w64 c.args.delta)) c.ranges.delta fits)
 
 pub returns-clause-called : goal.returns-clause-called
 returns-clause-called g c = record { home = c.add_int64.ensures.home; spends = c.add_int64.ensures.spends; calls = c.add_int64.ensures.calls c.args.catalog.now.workload.now (sym c.requires.atomics.all) }
-
-pub returns-clause-given_up : goal.returns-clause-given_up
-returns-clause-given_up g c = IfNone_then c.add_int64.result c.add_int64.ensures.amiss (λ amiss. inr amiss)
 
 pub returns-clause-works : goal.returns-clause-works
 returns-clause-works g c =

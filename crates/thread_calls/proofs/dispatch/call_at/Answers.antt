@@ -28,6 +28,9 @@ object_at-requires-clause-kind g c = c.objects_are_of_their_kinds.ensures.kind c
 pub object_at-requires-clause-room : goal.object_at-requires-clause-room
 object_at-requires-clause-room g c = c.objects_are_of_their_kinds.ensures.there c.args.worker.now.at.home.now c.args.site.now.catalog.workload.now c.args.site.now.objects.now c.args.place c.args.kind c.requires.site.declared c.requires.place
 
+pub atomic_at-requires-clause-atomics : goal.atomic_at-requires-clause-atomics
+atomic_at-requires-clause-atomics g c = has_atomics c.args.site.now.catalog.workload.now _ _ _ _ c.requires.site.shared c.requires.site.numbered
+
 pub object_at-requires-clause-atomics : goal.object_at-requires-clause-atomics
 object_at-requires-clause-atomics g c = has_atomics c.args.site.now.catalog.workload.now _ _ _ _ c.requires.site.shared c.requires.site.numbered
 

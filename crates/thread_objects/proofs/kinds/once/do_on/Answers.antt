@@ -1,4 +1,4 @@
-use Rattle.std.proofs.Common.{◌≡◌, ℕ, ℤ, Option, None, Ok, subst, sym, ap, ◌∙◌, to_z, of_z, rules}
+use Rattle.std.proofs.Common.{◌≡◌, ℕ, ℤ, Option, None, Ok, inr, subst, sym, ap, ◌∙◌, to_z, of_z, rules}
 use Rattle.std.specs.Int.{w64}
 use Rattle.std.specs.Prelude.{IfNone}
 use Rattle.sync_model.specs.declared.answer.Answer.TheVariants.{Done}
@@ -80,4 +80,4 @@ returns-in-None-clause-called g c =
     law.joined plan 0 0 _ _ _ (law.joined plan 0 0 _ _ _ begun c.add_at.ensures.called) ended
 
 pub returns-in-None-clause-given_up : goal.returns-in-None-clause-given_up
-returns-in-None-clause-given_up g c = subst (λ (o : Option Holding). GaveUp c.args.catalog.now.workload.now (items_of o)) (sym c.end.ensures.note.kept) (none_of c.add_at.result c.in-None.is c.add_at.ensures.given_up)
+returns-in-None-clause-given_up g c = subst (λ (o : Option Holding). GaveUp c.args.catalog.now.workload.now (items_of o)) (sym c.end.ensures.note.kept) (inr (none_of c.add_at.result c.in-None.is c.add_at.ensures.amiss))
