@@ -8,7 +8,7 @@ ghost use Rattle.mutex_core.specs.Word.{is_uncontended, told_by, word_of};
 use crate::event::MutexEvent;
 use crate::mutex::MutexCore;
 use crate::reply::MutexReply;
-use object_word::Worded;
+use sync_model::Worded;
 
 impl Worded for MutexCore {
     const TELLS: bool = true;

@@ -7,12 +7,11 @@ ghost use Rattle.object_parts.specs.Own.{own_as};
 ghost use Rattle.object_parts.specs.Seats.{IsSeat};
 
 use crate::worker::Worker;
-use object_word::Worded;
 use protocols::Protocol;
 use ruled_object::{Object, PassOf};
 use running::halt;
 use std::sync::Wait;
-use sync_model::Note;
+use sync_model::{Note, Worded};
 use sync_outside::Clock;
 use sync_types::Misuse;
 

@@ -14,13 +14,12 @@ ghost use Rattle.shared_calls.specs.Working.{Works, desk_at};
 ghost use Rattle.object_parts.specs.Own.{own_as};
 
 use crate::worker::Worker;
-use object_word::Worded;
 use protocols::Protocol;
 use ruled_object::{Object, PassOf};
 use running::call_within;
 use shared_calls::laws::{a_note_counts_its_calls, what_a_call_leaves};
 use std::sync::Wait;
-use sync_model::{Answer, Note};
+use sync_model::{Answer, Note, Worded};
 use sync_outside::Clock;
 use sync_types::Misuse;
 

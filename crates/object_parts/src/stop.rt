@@ -3,9 +3,8 @@ ghost use Rattle.std.specs.Prelude.{true, false, None};
 ghost use Rattle.protocols.specs.declared.step.Step.TheVariants.{Never};
 ghost use Rattle.object_parts.specs.Stop.{StopBegins};
 
-use object_word::Worded;
 use protocols::{Protocol, Step};
-use sync_model::Machine;
+use sync_model::{Machine, Worded};
 
 /// The event that a machine must have. Nobody may make it on Stop, and it changes nothing.
 #[derive(Clone, Copy, Debug, Drop)]

@@ -7,11 +7,10 @@ ghost use Rattle.pool_core.specs.PoolParts.{take_tail, take_victim, reply_of_loo
 use crate::part::Part;
 use crate::pool::PoolCore;
 use crate::pool_event::{PoolEvent, PoolReply};
-use object_word::Worded;
 use std::alloc::{AllocError, Global};
 use std::marker::Model;
 use std::mem;
-use sync_model::Machine;
+use sync_model::{Machine, Worded};
 
 /// The state of one part: its items in the primary generation, and those among the victims.
 #[derive(Debug, Drop)]

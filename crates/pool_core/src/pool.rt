@@ -6,11 +6,10 @@ ghost use Rattle.pool_core.specs.PoolMachine.{start, next, callers_of};
 
 use crate::part::Part;
 use crate::pool_event::{PoolEvent, PoolPut, PoolReply};
-use object_word::Worded;
 use std::alloc::{AllocError, Global};
 use std::marker::Model;
 use std::mem;
-use sync_model::Machine;
+use sync_model::{Machine, Worded};
 
 /// The state of a pool: the parts of the primary generation and those of the victims, one of each for every caller.
 #[derive(Debug, Drop)]

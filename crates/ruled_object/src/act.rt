@@ -13,8 +13,7 @@ ghost use Rattle.ruled_object.specs.Steps.{counted, HasCell, IsSameSeat};
 use crate::object::Object;
 use crate::pass::PassOf;
 use crate::turn::{SLOT, SeatOf};
-use object_word::Worded;
-use sync_model::{Answer, Callers, Note};
+use sync_model::{Answer, Callers, Note, Worded};
 use sync_types::Misuse;
 
 impl<M: Worded, N: Note> Object<M, N> {

@@ -15,9 +15,8 @@ use crate::rule::Silent;
 use crate::turn::SeatOf;
 use crate::view::View;
 use atomic_table::Seat;
-use object_word::Worded;
 use std::marker::Brand;
-use sync_model::{MAX_CALLERS, Machine, Note};
+use sync_model::{MAX_CALLERS, Machine, Note, Worded};
 use sync_types::Misuse;
 
 /// What the passes know that were brought together, and how often each took the turn. Who has it can hand them back.

@@ -12,10 +12,9 @@ ghost use Rattle.ruled_object.specs.Passes.{start_of, turns_of, IsHomeOf, IsPass
 use crate::cell::deed;
 use crate::object::Object;
 use crate::pass::PassOf;
-use object_word::Worded;
 use std::marker::Brand;
 use std::sync::Wait;
-use sync_model::{Answer, Deed, Note};
+use sync_model::{Answer, Deed, Note, Worded};
 use sync_types::Misuse;
 
 impl<M: Worded, N: Note> Object<M, N> {

@@ -6,8 +6,7 @@ ghost use Rattle.sync_model.specs.Journal.{is_such};
 ghost use Rattle.sync_model.specs.Note.{SameHome};
 ghost use Rattle.ruled_object.specs.Cells.{deed_of, Acts};
 
-use object_word::Worded;
-use sync_model::{Answer, Callers, Deed, Machine, Note};
+use sync_model::{Answer, Callers, Deed, Machine, Note, Worded};
 use sync_types::Misuse;
 
 /// The machine's state, the misuse that halted the object, and what the releasing events left.

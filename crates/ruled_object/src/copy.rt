@@ -8,9 +8,8 @@ ghost use Rattle.ruled_object.specs.Passes.{seen_by, start_of, turns_of, SamePas
 use crate::object::Object;
 use crate::pass::{Pass, PassOf};
 use crate::rule::Gather;
-use object_word::Worded;
 use std::marker::Brand;
-use sync_model::Note;
+use sync_model::{Note, Worded};
 
 impl<M: Worded, N: Note> Object<M, N> {
     /// A copy of a pass, or of a copy. It has seen as much of the history as the pass has, keeps the number, holds nobody's

@@ -10,9 +10,8 @@ use crate::object::Object;
 use crate::pass::PassOf;
 use crate::rule::Silent;
 use crate::turn::{SLOT, WORD};
-use object_word::Worded;
 use std::marker::Brand;
-use sync_model::Note;
+use sync_model::{Note, Worded};
 use sync_types::Misuse;
 
 impl<M: Worded, N: Note> Object<M, N> {

@@ -9,10 +9,9 @@ use crate::object::Object;
 use crate::pass::PassOf;
 use crate::rule::{Come, Deal, Gather};
 use crate::turn::{SeatOf, WORD};
-use object_word::Worded;
 use std::marker::Brand;
 use std::mem;
-use sync_model::Note;
+use sync_model::{Note, Worded};
 
 impl<M: Worded, N: Note> Object<M, N> {
     // A seat that knows nothing and stands for nobody.

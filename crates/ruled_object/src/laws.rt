@@ -16,8 +16,7 @@ ghost use Rattle.ruled_object.specs.Standing.{stand_next, stand_from};
 ghost use Rattle.ruled_object.specs.Turns.{HaveTaken, IsOut, TurnTells};
 
 use crate::new::MAX_CALLS;
-use object_word::Worded;
-use sync_model::{MAX_CALLERS, Note};
+use sync_model::{MAX_CALLERS, Note, Worded};
 
 /// What several calls of one caller add to the history. No call adds nothing; what two calls add, one after the other,
 /// they add together; and of several entries the last one tells whether a halt was met.

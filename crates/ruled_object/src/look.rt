@@ -11,9 +11,8 @@ use crate::rule::Origin;
 use crate::turn::{SeatOf, WORD};
 use crate::view::View;
 use atomic_table::{Play, Split};
-use object_word::Worded;
 use std::marker::PhantomData;
-use sync_model::Note;
+use sync_model::{Note, Worded};
 
 /// A new seat has seen what another has, which stays as it is.
 pub(crate) struct Copied;

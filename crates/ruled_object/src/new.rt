@@ -10,10 +10,9 @@ use crate::pass::{Pass, PassOf};
 use crate::rule::{Begin, Make, Silent};
 use crate::turn::{SLOT, SeatOf, WORD};
 use atomic_table::Table;
-use object_word::{HELD, Worded};
 use std::alloc::{AllocError, Global};
 use std::thread::Parker;
-use sync_model::{MAX_CALLERS, Note};
+use sync_model::{HELD, MAX_CALLERS, Note, Worded};
 
 /// The most calls that a pass is good for.
 pub const MAX_CALLS: u64 = 1_000_000;

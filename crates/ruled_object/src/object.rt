@@ -5,10 +5,9 @@ use crate::cell::Cell;
 use crate::rule::{Begin, Turns};
 use crate::view::View;
 use atomic_table::Table;
-use object_word::Worded;
 use std::alloc::Global;
 use std::thread::Parker;
-use sync_model::Note;
+use sync_model::{Note, Worded};
 
 /// One machine, shared by its callers. Who has the word works on the cell where it lies.
 #[derive(Drop)]

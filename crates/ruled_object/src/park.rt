@@ -3,9 +3,8 @@ ghost use Rattle.ruled_object.specs.Passes.{IsPassOf};
 
 use crate::object::Object;
 use crate::pass::PassOf;
-use object_word::Worded;
 use std::sync::Wait;
-use sync_model::{Callers, Note};
+use sync_model::{Callers, Note, Worded};
 
 impl<M: Worded, N: Note> Object<M, N> {
     /// Sleeps until the pass's caller is woken. A wake-up that came before is kept, one at most.

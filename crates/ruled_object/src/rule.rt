@@ -8,9 +8,8 @@ ghost use Rattle.ruled_object.specs.Steps.{first_view, blank, made, deepened, ra
 use crate::cell::Cell;
 use crate::view::View;
 use atomic_table::{Join, Play, Split, TableRule};
-use object_word::Worded;
 use std::marker::{Brand, PhantomData};
-use sync_model::Note;
+use sync_model::{Note, Worded};
 
 /// How an object began.
 #[derive(Drop)]

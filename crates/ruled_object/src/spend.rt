@@ -5,8 +5,7 @@ ghost use Rattle.ruled_object.specs.Passes.{left_of, own_by, IsOneLess, IsPassOf
 
 use crate::object::Object;
 use crate::pass::PassOf;
-use object_word::Worded;
-use sync_model::Note;
+use sync_model::{Note, Worded};
 
 impl<M: Worded, N: Note> Object<M, N> {
     /// Takes one off the calls that are left. It makes no step, and adds nothing to the history.

@@ -9,10 +9,9 @@ use crate::object::Object;
 use crate::rule::{Deepen, Give, Origin, Raise, Take, TakeRest, Told};
 use crate::view::View;
 use atomic_table::Seat;
-use object_word::{HELD, Worded};
 use std::sync::Wait;
 use std::thread;
-use sync_model::{Deed, Machine, Note};
+use sync_model::{Deed, HELD, Machine, Note, Worded};
 
 /// A seat at the table of an object.
 pub(crate) type SeatOf<M, N> = Seat<

@@ -7,9 +7,8 @@ ghost use Rattle.ruled_object.specs.Passes.{own_by, seen_by, start_of, turns_of,
 
 use crate::object::Object;
 use crate::pass::PassOf;
-use object_word::Worded;
 use std::marker::Brand;
-use sync_model::Note;
+use sync_model::{Note, Worded};
 
 impl<M: Worded, N: Note> Object<M, N> {
     /// What the word says just now, whoever has it. Where its bit of value 2^63 isn't set, it tells of the state that the

@@ -3,11 +3,10 @@ ghost use Rattle.std.specs.Prelude.{◌≡◌, ◌<◌, ◌≤◌, All, IfOk};
 ghost use Rattle.ruled_object.specs.Passes.{callers_of, start_of, turns_of, IsHomeOf};
 ghost use Rattle.running.specs.Between.{AreNewBetween};
 
-use object_word::Worded;
 use protocols::Protocol;
 use ruled_object::{MAX_CALLS, Object, PassOf};
 use std::alloc::{AllocError, Global};
-use sync_model::{MAX_CALLERS, Note};
+use sync_model::{MAX_CALLERS, Note, Worded};
 
 /// An object whose machine begins in this state, and the passes of its callers in order of number, each good for `calls`
 /// calls and between two of them, with no turn taken. It keeps `note` for what releasing events leave. No other call takes

@@ -10,12 +10,11 @@ ghost use Rattle.protocols.specs.Spelling.{Spells, AreTimely};
 ghost use Rattle.running.specs.Calls.{Did, IsGiven, left_in, has_gained};
 
 use crate::stage::make;
-use object_word::Worded;
 use protocols::{Protocol, Step};
 use ruled_object::laws::{growth, notes_are_kept, turns_needed};
 use ruled_object::{Object, PassOf};
 use std::sync::Wait;
-use sync_model::{Answer, Note};
+use sync_model::{Answer, Note, Worded};
 use sync_outside::{At, Clock};
 use sync_types::Misuse;
 

@@ -8,12 +8,11 @@ ghost use Rattle.ruled_object.specs.Passes.{own_by, start_of, Adds, IsPassOf, Sa
 ghost use Rattle.ruled_object.specs.Standing.{stand_by};
 ghost use Rattle.running.specs.Between.{AreAllBetween};
 
-use object_word::Worded;
 use protocols::Protocol;
 use ruled_object::laws::standing;
 use ruled_object::{Object, PassOf};
 use std::sync::Wait;
-use sync_model::Note;
+use sync_model::{Note, Worded};
 use sync_types::Misuse;
 
 /// Halts the object by a misuse, and wakes all who sleep: from then on each event is answered `Halted`. The first halt is

@@ -7,13 +7,12 @@ ghost use Rattle.protocols.specs.Spelling.{IsEventOf};
 ghost use Rattle.protocols.specs.Steps.{IsAt};
 ghost use Rattle.running.specs.Stages.{MadeStage, MayCome, StandsOn, acquires_by};
 
-use object_word::Worded;
 use protocols::{Protocol, Step};
 use ruled_object::laws::standing;
 use ruled_object::{Object, PassOf};
 use std::sync::Wait;
 use sync_model::laws::journals::journal_is_log;
-use sync_model::{Answer, Note};
+use sync_model::{Answer, Note, Worded};
 use sync_outside::{At, Clock};
 
 // The stage's event, at the moment that the clock shows where the event carries one.

@@ -8,8 +8,7 @@ use crate::event::RwEvent;
 use crate::place::Place;
 use crate::reply::{Arrival, Resumption, RwReply, Unlocking};
 use crate::rw::RwCore;
-use object_word::Worded;
-use sync_model::{Callers, Machine};
+use sync_model::{Callers, Machine, Worded};
 
 /// After Go's memory model, an unlock that isn't a misuse, of a reader or of a writer, synchronizes
 /// before each later event that completes a lock: the one by which the lock is acquired at once or after

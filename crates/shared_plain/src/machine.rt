@@ -4,8 +4,7 @@ ghost use Rattle.shared_plain.specs.PlainMachine.{next};
 
 use crate::event::{Answered, Event};
 use crate::state::PlainState;
-use object_word::Worded;
-use sync_model::Machine;
+use sync_model::{Machine, Worded};
 
 /// Maps and atomics, which no misuse halts. What their callers know of one another's calls is what they have seen of the
 /// history, so no event hands a note on.

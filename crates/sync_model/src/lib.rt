@@ -13,6 +13,7 @@ pub mod machine;
 pub mod no_note;
 pub mod note;
 pub mod shared;
+pub mod word;
 
 pub use answer::Answer;
 pub use caller::{Caller, CallerNote};
@@ -24,3 +25,4 @@ pub use machine::Machine;
 pub use no_note::NoNote;
 pub use note::Note;
 pub use shared::Shared;
+pub use word::{HELD, Worded};

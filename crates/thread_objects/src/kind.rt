@@ -14,13 +14,12 @@ ghost use Rattle.thread_objects.specs.EachKind.{Kind, own_in};
 ghost use Rattle.thread_objects.specs.Passes.{SeatOf};
 
 use object_parts::Worker;
-use object_word::Worded;
 use protocols::Protocol;
 use ruled_object::{Object, PassOf};
 use shared_calls::{CallAnswer, Catalog};
 use std::alloc::{AllocError, Global};
 use std::sync::Wait;
-use sync_model::{Caller, Shared};
+use sync_model::{Caller, Shared, Worded};
 use sync_outside::Clock;
 use sync_types::Operation;
 use workload::ObjectKind;

@@ -8,11 +8,10 @@ ghost use Rattle.thread_objects.specs.Columns.{AreSeated, AreUntouched, IsHistor
 ghost use Rattle.object_parts.specs.Seats.{IsSeat};
 
 use crate::crew::Crew;
-use object_word::Worded;
 use protocols::Protocol;
 use ruled_object::{Object, PassOf};
 use std::alloc::{AllocError, Global};
-use sync_model::Note;
+use sync_model::{Note, Worded};
 use sync_types::Misuse;
 
 /// An object that begins in this state, and a pass of each worker. The workers make one long call each, as passes count calls,

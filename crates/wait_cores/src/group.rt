@@ -4,10 +4,9 @@ ghost use Rattle.std.specs.List.{list_any};
 ghost use Rattle.wait_cores.specs.GroupEdges.{group_releases, group_acquires};
 ghost use Rattle.wait_cores.specs.GroupMachine.{start, next, callers_of, place_of, reply_of_wait, reply_of_result, is_reused, is_waiting, released};
 
-use object_word::Worded;
 use std::alloc::{AllocError, Global};
 use std::marker::Model;
-use sync_model::{Callers, Machine};
+use sync_model::{Callers, Machine, Worded};
 use sync_types::Misuse;
 
 /// The highest counter, 2^31 - 1.

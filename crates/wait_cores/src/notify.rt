@@ -3,10 +3,9 @@ ghost use Rattle.std.specs.Prelude.{◌≡◌, ℕ, ◌<◌, ◌≤◌, true, If
 ghost use Rattle.wait_cores.specs.NotifyEdges.{notify_releases, notify_acquires};
 ghost use Rattle.wait_cores.specs.NotifyMachine.{start, next, callers_of, place_of};
 
-use object_word::Worded;
 use std::alloc::{AllocError, Global};
 use std::marker::Model;
-use sync_model::{Callers, Machine};
+use sync_model::{Callers, Machine, Worded};
 
 /// What a caller does at a cond.
 #[derive(Clone, Copy, Debug, PartialEq, Eq)]

@@ -3,10 +3,9 @@ ghost use Rattle.std.specs.Prelude.{◌≡◌, ◌<◌, ◌≤◌, true, IfOk};
 ghost use Rattle.wait_cores.specs.OnceEdges.{once_releases, once_acquires};
 ghost use Rattle.wait_cores.specs.OnceMachine.{start, next, callers_of, place_of, runner_of, reply_of};
 
-use object_word::Worded;
 use std::alloc::{AllocError, Global};
 use std::marker::Model;
-use sync_model::{Callers, Machine};
+use sync_model::{Callers, Machine, Worded};
 
 /// What a caller does at a once whose function comes to a `T`.
 #[derive(Clone, Copy, Debug, PartialEq, Eq)]

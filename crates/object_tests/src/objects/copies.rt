@@ -3,10 +3,9 @@
 ghost use Rattle.object_tests.specs.Both.{AreBoth};
 
 use super::machines::{Counter, Fragile, duo, knows};
-use object_word::Worded;
 use ruled_object::{Object, PassOf};
 use std::test::Fail;
-use sync_model::{Answer, FrontNote};
+use sync_model::{Answer, FrontNote, Worded};
 use sync_types::Misuse;
 
 // A caller with its pass, and a note of its own.

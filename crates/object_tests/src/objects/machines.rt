@@ -4,10 +4,9 @@ ghost use Rattle.object_tests.specs.Both.{AreBoth};
 ghost use Rattle.ruled_object.specs.Gathered.{AreAllPasses};
 ghost use Rattle.ruled_object.specs.Passes.{callers_of};
 
-use object_word::Worded;
 use ruled_object::{Object, PassOf};
 use std::alloc::{AllocError, Global};
-use sync_model::{Callers, FrontNote, Machine};
+use sync_model::{Callers, FrontNote, Machine, Worded};
 
 /// A counter that is never halted. An event adds its number, and answers the sum; one that adds nothing acquires, and
 /// each other one releases.

@@ -5,7 +5,7 @@
 //! is then older than the word, and `refresh` brings it up to date before it is used.
 ghost use Rattle.std.specs.Prelude.{◌≡◌, ℕ, ◌<◌, ◌^◌, Bool, true, false, IfSome, IfNone};
 
-use sync_model::Machine;
+use crate::machine::Machine;
 
 /// The bit of the word that is set while a caller has it.
 pub const HELD: u64 = 0x8000_0000_0000_0000;
