@@ -12,3 +12,5 @@ pub mod SharedEntries
 pub mod SharedUses
 pub mod MapValues
 mod EndNames
+mod LastEntry
+mod Tellers

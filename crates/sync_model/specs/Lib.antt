@@ -9,3 +9,4 @@ pub mod Shared
 pub mod SharedCalls
 pub mod SharedHistory
 pub mod SharedLaws
+pub mod Told

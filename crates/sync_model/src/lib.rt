@@ -12,7 +12,9 @@ pub mod laws;
 pub mod machine;
 pub mod no_note;
 pub mod note;
+pub mod reads;
 pub mod shared;
+pub mod told;
 pub mod word;
 
 pub use answer::Answer;

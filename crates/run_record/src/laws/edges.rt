@@ -3,7 +3,7 @@ ghost use Rattle.std.specs.Prelude.{◌≡◌, ℕ, ◌<◌, ◌≤◌, true, Li
 ghost use Rattle.sync_model.specs.Journal.{is_such};
 ghost use Rattle.sync_model.specs.SharedLaws.{LeaveKey};
 ghost use Rattle.workload.specs.Plan.{Plan};
-ghost use Rattle.shared_laws.specs.Told.{FindsItOrALater};
+ghost use Rattle.sync_model.specs.Told.{FindsItOrALater};
 ghost use Rattle.mutex_core.specs.Edges as mutex;
 ghost use Rattle.run_record.specs.Edges.{frees, takes};
 ghost use Rattle.run_record.specs.Explains.{IsRecordOf};
@@ -13,13 +13,13 @@ ghost use Rattle.run_record.specs.Record.{Record, ObjectEntry, journal_of, list_
 use crate::entered::{ObjectEvent, ObjectReply};
 use crate::made::Made;
 use mutex_core::{MutexEvent, MutexReply};
-use shared_laws::reads::a_load_behind_a_store_finds_it_or_a_later_one;
 use sync_model::Deed;
 use sync_model::item::{Item, SharedCall, SharedEntry, SharedReply};
 use sync_model::laws::shared::{
     a_call_lies_behind_what_its_caller_knew, a_callers_calls_are_in_order,
     a_load_finds_the_last_store, each_entry_is_a_call,
 };
+use sync_model::reads::a_load_behind_a_store_finds_it_or_a_later_one;
 use sync_types::map_object::{MapCall, MapReply};
 
 /// An edge makes known. Whoever acquires at an object knows from then on what the worker of an earlier releasing event had done:

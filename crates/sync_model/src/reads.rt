@@ -2,10 +2,10 @@
 ghost use Rattle.std.specs.Prelude.{◌≡◌, ℕ, ◌<◌, List, length, Some, slice_get};
 ghost use Rattle.sync_model.specs.SharedHistory.{Contents};
 ghost use Rattle.sync_model.specs.SharedCalls.{Lawful};
-ghost use Rattle.shared_laws.specs.Told.{FindsItOrALater};
+ghost use Rattle.sync_model.specs.Told.{FindsItOrALater};
 
-use sync_model::laws::shared::{a_load_finds_the_last_store, each_entry_is_a_call};
-use sync_model::{Item, SharedCall, SharedEntry};
+use crate::item::{Item, SharedCall, SharedEntry};
+use crate::laws::shared::{a_load_finds_the_last_store, each_entry_is_a_call};
 use sync_types::MapCall;
 
 /// A load that lies behind a store of its key finds that store, or a later entry on the key: never an older one, and never the

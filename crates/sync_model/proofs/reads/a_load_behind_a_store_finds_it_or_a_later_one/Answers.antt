@@ -2,8 +2,8 @@ use Rattle.std.proofs.Common.{◌∷◌, ◌++◌, ap, ◌∙◌, subst}
 use Rattle.sync_model.specs.declared.item.SharedEntry.{SharedEntry}
 use Rattle.sync_model.specs.SharedCalls.{Lawful}
 use Rattle.sync_model.specs.SharedLaws.{is_on_key}
-use Rattle.shared_laws.proofs.LastEntry.{store_on_key, last_before}
-use Rattle.shared_laws.proofs.reads.a_load_behind_a_store_finds_it_or_a_later_one.Goals as goal
+use Rattle.sync_model.proofs.LastEntry.{store_on_key, last_before}
+use Rattle.sync_model.proofs.reads.a_load_behind_a_store_finds_it_or_a_later_one.Goals as goal
 
 pub returns : goal.returns
 returns c start history calls k d i j m key value store load lawful at_store at_load stores loads there below =

@@ -6,12 +6,15 @@ ghost use Rattle.sync_model.specs.Note.{SameHome, IsCounted};
 ghost use Rattle.sync_model.specs.Shared.{CallerState, Called, IsCallerAt, items_of, state_of};
 ghost use Rattle.sync_model.specs.SharedCalls.{Lawful};
 ghost use Rattle.sync_model.specs.SharedHistory.{Contents, first_contents};
-ghost use Rattle.shared_laws.specs.Told.{AreIn, FindsItOrALater, HearsOfAStore};
+ghost use Rattle.sync_model.specs.Told.{AreIn, FindsItOrALater, HearsOfAStore};
 
+use crate::caller::Caller;
+use crate::item::{Item, SharedCall, SharedEntry, SharedReply};
+use crate::laws::shared::{a_call_lies_behind_what_its_caller_knew, each_entry_is_a_call};
+use crate::note::Note;
 use crate::reads::a_load_behind_a_store_finds_it_or_a_later_one;
+use crate::shared::Shared;
 use std::sync::Wait;
-use sync_model::laws::shared::{a_call_lies_behind_what_its_caller_knew, each_entry_is_a_call};
-use sync_model::{Caller, Item, Note, Shared, SharedCall, SharedEntry, SharedReply};
 use sync_types::{MapCall, MapReply};
 
 /// What was told lies before. Where a caller's front is at least that of another's note, as after a merge of its copy, each call

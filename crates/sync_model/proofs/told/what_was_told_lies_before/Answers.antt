@@ -1,6 +1,6 @@
 use Rattle.std.proofs.Common.{length}
-use Rattle.shared_laws.proofs.Tellers.{own_at, called_at, counts, holder_of}
-use Rattle.shared_laws.proofs.told.what_was_told_lies_before.Goals as goal
+use Rattle.sync_model.proofs.Tellers.{own_at, called_at, counts, holder_of}
+use Rattle.sync_model.proofs.told.what_was_told_lies_before.Goals as goal
 
 pub returns-clause-below : goal.returns-clause-below
 returns-clause-below c start history calls teller old new i cost known call reply called lawful are_told are counted least at entry =

@@ -8,8 +8,8 @@ use Rattle.sync_model.specs.Front.{AtLeast}
 use Rattle.sync_model.specs.Note.{Holding, IsCounted}
 use Rattle.sync_model.specs.Shared.{CallerState, Called, items_of}
 use Rattle.sync_model.specs.SharedHistory.{Contents}
-use Rattle.shared_laws.specs.Told.{AreIn}
-use Rattle.shared_laws.proofs.LastEntry.{get_left, get_mid}
+use Rattle.sync_model.specs.Told.{AreIn}
+use Rattle.sync_model.proofs.LastEntry.{get_left, get_mid}
 
 -- a call of a holder is one of its calls among all
 pub own_at : (calls : ℕ → List Item) (state : CallerState) (holding : Holding) (i : ℕ) (x : Item) → state.own ≡ Some holding → AreIn state calls → slice_get holding.items i ≡ Some x → slice_get (calls holding.number) i ≡ Some x

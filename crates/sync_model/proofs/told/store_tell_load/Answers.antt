@@ -7,8 +7,8 @@ use Rattle.sync_types.specs.declared.map_object.MapCall.TheVariants.{Load}
 use Rattle.sync_model.specs.Front.{AtLeast}
 use Rattle.sync_model.specs.Shared.{state_of, items_of}
 use Rattle.sync_model.specs.SharedHistory.{first_contents}
-use Rattle.shared_laws.proofs.Tellers.{made, made_at, still_counted}
-use Rattle.shared_laws.proofs.told.store_tell_load.Goals as goal
+use Rattle.sync_model.proofs.Tellers.{made, made_at, still_counted}
+use Rattle.sync_model.proofs.told.store_tell_load.Goals as goal
 
 pub returns-clause-hears : goal.returns-clause-hears
 returns-clause-hears g c =

@@ -1,2 +1,0 @@
-mod LastEntry
-mod Tellers
