@@ -8,11 +8,10 @@ ghost use Rattle.sync_model.specs.Shared.{Called, IsCallerAt, state_of};
 ghost use Rattle.shared_table.specs.Notes.{front_by, own_by, seen_by, IsNoteOf};
 ghost use Rattle.shared_table.specs.Tables.{kinds_of, first_of};
 
-use go_atomic::laws::steps_on_words;
-use go_atomic::{of_word, to_word};
 use shared_table::{SharedNote, SharedTable, WordStep};
 use sync_model::{Caller, SharedCall, SharedReply};
-use sync_types::{AtomicCall, AtomicKind, AtomicReply};
+use sync_types::laws::words::steps_on_words;
+use sync_types::{AtomicCall, AtomicKind, AtomicReply, of_word, to_word};
 
 /// Makes a call on atomic number `atomic`, which is of this type. It is one atomic step on the atomic's word, where it is
 /// placed; it waits for nobody, can't be refused, and takes no memory.

@@ -3,3 +3,5 @@ pub mod MapLemmas
 mod RenamingLemmas
 pub mod AtomicLemmas
 mod Names
+pub mod WordLemmas
+pub mod WordSteps

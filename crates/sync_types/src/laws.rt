@@ -6,3 +6,4 @@ pub mod maps;
 pub mod names;
 pub mod renaming;
 pub mod replies;
+pub mod words;

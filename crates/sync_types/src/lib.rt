@@ -17,6 +17,7 @@ pub mod pool_call;
 pub mod seq;
 pub mod value;
 pub mod wait_call;
+pub mod word;
 
 pub use atomic_object::{AtomicCall, AtomicKind, AtomicReply, Number};
 pub use bounded_seq::BoundedSeq;
@@ -32,3 +33,4 @@ pub use pool_call::{PoolCall, PoolCallReply};
 pub use seq::Seq;
 pub use value::MAX_VALUE;
 pub use wait_call::{CondCall, WaitGroupCall};
+pub use word::{and_word, of_word, or_word, sum_word, to_word};

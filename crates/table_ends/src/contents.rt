@@ -6,9 +6,8 @@ ghost use Rattle.table_ends.specs.EndWords.{contents_in, IsTableRow};
 
 use crate::ended::TableEnds;
 use atomic_table::Closed;
-use go_atomic::of_word;
 use std::alloc::Global;
-use sync_types::{AtomicKind, Number, Seq};
+use sync_types::{AtomicKind, Number, Seq, of_word};
 
 impl TableEnds {
     /// A table's words, which stand for atomics of these types and for so many maps, whose keys are hashed with the seed.

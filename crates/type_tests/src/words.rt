@@ -1,7 +1,6 @@
 //! Words of numbers at both ends of their types, and sums and bits of them.
-use go_atomic::{and_word, of_word, or_word, sum_word, to_word};
 use std::test::Fail;
-use sync_types::{AtomicKind, Number};
+use sync_types::{AtomicKind, Number, and_word, of_word, or_word, sum_word, to_word};
 
 #[test]
 fn numbers_stand_in_their_words(rt: HostRuntime) -> Result<(), Fail> {

@@ -4,7 +4,7 @@ ghost use Rattle.std.specs.Prelude.{◌≡◌, true};
 ghost use Rattle.sync_types.specs.SequentialAtomic.{has_bits, is_of, kind_of, atomic_after};
 ghost use Rattle.sync_types.specs.WordLayout.{word_of, is_word, number_in};
 
-use sync_types::{AtomicCall, AtomicKind, Number};
+use crate::atomic_object::{AtomicCall, AtomicKind, Number};
 
 /// The word of a number.
 pub fn to_word(number: Number) -> u64

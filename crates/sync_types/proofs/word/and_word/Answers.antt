@@ -1,8 +1,8 @@
 use Rattle.std.proofs.Common.{◌≡◌, true, bit_and, ap, subst, ◌∙◌}
 use Rattle.sync_types.specs.WordLayout.{is_word}
 use Rattle.sync_types.specs.SequentialAtomic.{kind_of}
-use Rattle.go_atomic.proofs.WordLemmas.{is_word-bitwise, and_bitwise, both_word}
-use Rattle.go_atomic.proofs.word.and_word.Goals as goal
+use Rattle.sync_types.proofs.WordLemmas.{is_word-bitwise, and_bitwise, both_word}
+use Rattle.sync_types.proofs.word.and_word.Goals as goal
 
 pub returns-clause-next : goal.returns-clause-next
 returns-clause-next c =

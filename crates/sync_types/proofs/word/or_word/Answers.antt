@@ -1,8 +1,8 @@
 use Rattle.std.proofs.Common.{◌≡◌, true, bit_or, ap, subst, ◌∙◌}
 use Rattle.sync_types.specs.WordLayout.{is_word}
 use Rattle.sync_types.specs.SequentialAtomic.{kind_of}
-use Rattle.go_atomic.proofs.WordLemmas.{is_word-bitwise, or_bitwise, either_word}
-use Rattle.go_atomic.proofs.word.or_word.Goals as goal
+use Rattle.sync_types.proofs.WordLemmas.{is_word-bitwise, or_bitwise, either_word}
+use Rattle.sync_types.proofs.word.or_word.Goals as goal
 
 pub returns-clause-next : goal.returns-clause-next
 returns-clause-next c =

@@ -1,5 +1,5 @@
-use Rattle.go_atomic.proofs.WordSteps.{read, added, both_bits, either_bits, compared}
-use Rattle.go_atomic.proofs.laws.steps_on_words.Goals as goal
+use Rattle.sync_types.proofs.WordSteps.{read, added, both_bits, either_bits, compared}
+use Rattle.sync_types.proofs.laws.words.steps_on_words.Goals as goal
 
 pub returns-clause-read : goal.returns-clause-read
 returns-clause-read c = read

@@ -14,7 +14,7 @@ use Rattle.sync_types.specs.declared.atomic_object.Number.{Number}
 use Rattle.sync_types.specs.declared.atomic_object.Number.TheVariants.{Int32, Int64, Uint32, Uint64, Bool as Truth}
 use Rattle.sync_types.specs.SequentialAtomic.{is_signed, has_bits, is_of, is_same, sum, bits_of_both, bits_of_either}
 use Rattle.sync_types.specs.WordLayout.{word_of, is_word, number_in}
-use Rattle.go_atomic.proofs.WordLemmas.{IsBitwise, is_high, high_is, is_high-shl, below, high, is_word-bitwise, and_bitwise, or_bitwise}
+use Rattle.sync_types.proofs.WordLemmas.{IsBitwise, is_high, high_is, is_high-shl, below, high, is_word-bitwise, and_bitwise, or_bitwise}
 
 fits32 : (z : ℤ) → is_signed (2 ^ 31) z ≡ true → FitsSigned w32 z
 fits32 (pos n) e = record { sfits = ltb-true n (2 ^ 31) e }
