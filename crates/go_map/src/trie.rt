@@ -9,7 +9,7 @@ ghost use Rattle.go_map.specs.Maps.{MakesCall};
 ghost use Rattle.go_map.specs.Tries.{kinds_in, maps_in, count_in, Takes, Stands, stays};
 
 use crate::map::Map;
-use shared_atomics::atomic_call;
+use go_atomic::atomic_call;
 use shared_table::{SharedNote, SharedTable, Steps, TableCursor};
 use std::marker::Brand;
 use std::sync::Wait;

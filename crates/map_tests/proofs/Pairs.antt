@@ -9,7 +9,7 @@ use Rattle.shared_table.specs.declared.note.SharedNote.{SharedNote}
 use Rattle.shared_table.specs.declared.table.SharedTable.{SharedTable}
 use Rattle.shared_table.specs.NewCallers.{AreNewCallers}
 use Rattle.shared_table.specs.Notes.{own_by, IsNoteOf}
-use Rattle.shared_atomics.specs.Typed.{MakesCall}
+use Rattle.go_atomic.specs.Typed.{MakesCall}
 
 some_is : (own : Option Holding) (h : Holding) → own ≡ Some h → IsSome own
 some_is own h e = subst (λ (o : Option Holding). IsSome o) (sym e) refl

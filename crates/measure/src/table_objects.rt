@@ -6,8 +6,8 @@ ghost use Rattle.shared_table.specs.Notes.{own_by, IsNoteOf};
 ghost use Rattle.shared_table.specs.Tables.{kinds_of, maps_of};
 
 use crate::map_and_int::MapAndInt;
+use go_atomic::Int64 as WordInt64;
 use go_map::Map;
-use shared_atomics::Int64 as WordInt64;
 use shared_table::{SharedNote, SharedTable, Steps};
 use std::alloc::{AllocError, Global};
 use std::marker::Brand;

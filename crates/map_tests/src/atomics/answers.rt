@@ -2,7 +2,7 @@
 ghost use Rattle.map_tests.specs.Pairs.{ArePair};
 
 use super::pair::Pair;
-use shared_atomics::{Bool, Int32, Uint64};
+use go_atomic::{Bool, Int32, Uint64};
 use shared_table::{SharedNote, SharedTable};
 use std::test::Fail;
 use sync_model::{Caller, Note};

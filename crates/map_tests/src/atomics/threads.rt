@@ -6,7 +6,7 @@ ghost use Rattle.shared_table.specs.Notes.{own_by, IsNoteOf};
 ghost use Rattle.shared_table.specs.Tables.{kinds_of};
 
 use super::pair::Pair;
-use shared_atomics::Int64;
+use go_atomic::Int64;
 use shared_table::{SharedNote, SharedTable};
 use std::test::Fail;
 use std::thread::{Threads, join};

@@ -4,7 +4,7 @@ ghost use Rattle.sync_types.specs.declared.atomic_object.Number.{Number};
 ghost use Rattle.sync_model.specs.Shared.{IsCallerAt};
 ghost use Rattle.shared_table.specs.Notes.{own_by, IsNoteOf};
 ghost use Rattle.shared_table.specs.Tables.{kinds_of};
-ghost use Rattle.shared_atomics.specs.Typed.{MakesCall};
+ghost use Rattle.go_atomic.specs.Typed.{MakesCall};
 
 use crate::call::atomic_call;
 use crate::value::{AtomicBits, AtomicValue};

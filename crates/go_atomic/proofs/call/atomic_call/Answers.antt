@@ -1,7 +1,7 @@
 use Rattle.std.proofs.Common.{◌≡◌, true, subst}
 use Rattle.sync_types.specs.SequentialAtomic.{is_atomic_call}
-use Rattle.shared_atomics.proofs.Steps.{both, exchanges, swapped}
-use Rattle.shared_atomics.proofs.call.atomic_call.Goals as goal
+use Rattle.go_atomic.proofs.Steps.{both, exchanges, swapped}
+use Rattle.go_atomic.proofs.call.atomic_call.Goals as goal
 
 pub operate-found-requires-in-CompareAndSwap-clause-operation : goal.operate-found-requires-in-CompareAndSwap-clause-operation
 operate-found-requires-in-CompareAndSwap-clause-operation c =
