@@ -5,7 +5,7 @@ use Rattle.sync_model.specs.declared.answer.Answer.TheVariants.{Done, Halted}
 use Rattle.sync_types.specs.declared.lock_call.LockReply.{LockReply}
 use Rattle.sync_types.specs.declared.lock_call.LockReply.TheVariants as outcome
 use Rattle.protocols.specs.Spelling.{CallAnswer}
-use Rattle.running.specs.Calls.{has_gained}
+use Rattle.call_loop.specs.Calls.{has_gained}
 use Rattle.go_locks.specs.MutexAnswers.{lock_answer, try_answer}
 
 -- a lock that is halted gains nothing

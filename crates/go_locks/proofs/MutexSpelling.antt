@@ -22,7 +22,7 @@ use Rattle.protocols.specs.declared.mutex.MutexStage.TheVariants as stage
 use Rattle.protocols.specs.MutexStages.{mutex_event, mutex_moment, mutex_meaning}
 use Rattle.protocols.specs.Spelling.{CallAnswer, Spells, IsTimely, AreTimely}
 use Rattle.protocols.specs.Steps.{IsAt}
-use Rattle.running.specs.Calls as running
+use Rattle.call_loop.specs.Calls as running
 use Rattle.go_locks.specs.Calls.{Did}
 use Rattle.go_locks.specs.MutexAnswers.{lock_of, try_of, unlock_of, lock_answer, try_answer, unlock_answer}
 use Rattle.go_locks.specs.MutexCalls.{MutexDeed, Waits, queued, requeued, still, Locks, at_once, refused, acquired, halted, Tries, tried, Unlocks, unlocked, answer_of, IsTimed, IsClocked, AreClocked}

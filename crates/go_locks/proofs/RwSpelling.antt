@@ -24,7 +24,7 @@ use Rattle.protocols.specs.declared.rw_mutex.RwMutexStage.TheVariants as stage
 use Rattle.protocols.specs.RwMutexStages.{rw_event, rw_moment, rw_meaning, try_meaning, unlock_meaning}
 use Rattle.protocols.specs.Spelling.{CallAnswer, Rest, Spells, IsTimely, AreTimely}
 use Rattle.protocols.specs.Steps.{IsAt}
-use Rattle.running.specs.Calls as running
+use Rattle.call_loop.specs.Calls as running
 use Rattle.go_locks.specs.Calls.{Did}
 use Rattle.go_locks.specs.MutexAnswers.{lock_of, try_of, unlock_of, lock_answer, try_answer, unlock_answer}
 use Rattle.go_locks.specs.RwCalls.{RwDeed, WriteWaits, queued, requeued, announced, unwoken, ungranted, WriteLocks, at_once, refused, acquired, granted, halted_woken, halted_leaving, ReadWaits, unadmitted, ReadLocks, admitted, halted, Tries, tried, Unlocks, unlocked, answer_of, IsTimed, IsClocked, AreClocked}

@@ -5,7 +5,7 @@ use Rattle.sync_model.specs.declared.answer.Answer.{Answer}
 use Rattle.sync_types.specs.declared.lock_call.LockReply.{LockReply}
 use Rattle.sync_types.specs.declared.lock_call.LockReply.TheVariants as outcome
 use Rattle.protocols.specs.Spelling.{CallAnswer}
-use Rattle.running.specs.Calls.{told}
+use Rattle.call_loop.specs.Calls.{told}
 
 -- a lock answers nothing more
 abbrev pub lock_of : Result LockReply Misuse → (Unit {0})

@@ -7,7 +7,7 @@ use Rattle.mutex_core.specs.MutexMachine.{State}
 use Rattle.protocols.specs.MutexStages.{mutex_stands}
 use Rattle.ruled_object.specs.declared.pass.Pass.{Pass}
 use Rattle.ruled_object.specs.Passes.{left_of, seen_by, own_by, callers_of, start_of, IsHomeOf}
-use Rattle.running.specs.Between.{IsBetween, AreAllBetween}
+use Rattle.call_loop.specs.Between.{IsBetween, AreAllBetween}
 use Rattle.go_locks.specs.declared.mutex.Mutex.{Mutex}
 
 -- the journal of a running Mutex, the earliest entry first

@@ -7,7 +7,7 @@ use Rattle.rw_core.specs.RwMachine.{State}
 use Rattle.protocols.specs.RwMutexStages.{rw_stands}
 use Rattle.ruled_object.specs.declared.pass.Pass.{Pass}
 use Rattle.ruled_object.specs.Passes.{left_of, seen_by, own_by, callers_of, start_of, IsHomeOf}
-use Rattle.running.specs.Between.{IsBetween, AreAllBetween}
+use Rattle.call_loop.specs.Between.{IsBetween, AreAllBetween}
 use Rattle.go_locks.specs.declared.rw_mutex.RwMutex.{RwMutex}
 
 -- the journal of a running RWMutex, the earliest entry first

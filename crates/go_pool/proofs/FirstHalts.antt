@@ -19,7 +19,7 @@ use Rattle.ruled_object.specs.declared.object.Object.{Object}
 use Rattle.ruled_object.specs.Gathered as gathered
 use Rattle.ruled_object.specs.Growth as growth
 use Rattle.ruled_object.specs.Passes as object
-use Rattle.running.specs.Between.{AreAllBetween}
+use Rattle.call_loop.specs.Between.{AreAllBetween}
 use Rattle.go_pool.specs.declared.pass.PoolPass.{PoolPass}
 use Rattle.go_pool.specs.declared.pool.Pool.{Pool}
 use Rattle.go_pool.specs.Halting.{HaltsAt, AreColumnsOf, AreToldOf, AreTold, AreColumns, IsTold}

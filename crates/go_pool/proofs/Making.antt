@@ -14,7 +14,7 @@ use Rattle.pool_core.specs.PartMachine.{PartState, part_start, part_next}
 use Rattle.protocols.specs.PoolStages.{pool_stands}
 use Rattle.ruled_object.specs.declared.object.Object.{Object}
 use Rattle.ruled_object.specs.Passes as object
-use Rattle.running.specs.Between.{AreNewBetween}
+use Rattle.call_loop.specs.Between.{AreNewBetween}
 use Rattle.go_pool.specs.declared.pass.PoolPass.{PoolPass}
 use Rattle.go_pool.specs.declared.pool.Pool.{Pool}
 use Rattle.go_pool.specs.Parts.{PartPass, PartJournal, AreParts, AreOfHome, pass_at, cell}

@@ -17,7 +17,7 @@ use Rattle.protocols.specs.declared.pool.PoolStage.{PoolStage}
 use Rattle.protocols.specs.declared.pool.PoolStage.TheVariants as stage
 use Rattle.protocols.specs.PoolStages.{pool_event, pool_moment, look_meaning, pool_meaning, pool_gains}
 use Rattle.protocols.specs.Spelling.{CallAnswer, Rest, Spells, AreTimely}
-use Rattle.running.specs.Calls.{told, retold, IsGiven, has_gained}
+use Rattle.call_loop.specs.Calls.{told, retold, IsGiven, has_gained}
 use Rattle.go_pool.specs.declared.pass.PoolPass.{PoolPass}
 use Rattle.go_pool.specs.declared.pool.Pool.{Pool}
 use Rattle.go_pool.specs.AtParts.{DidAt}

@@ -2,7 +2,7 @@
 use Rattle.std.specs.Prelude.{◌≡◌, ℕ, true, List, Some, set}
 use Rattle.sync_model.specs.declared.answer.Answer.{Answer}
 use Rattle.pool_core.specs.PartMachine.{part_start, part_next}
-use Rattle.running.specs.Calls as running
+use Rattle.call_loop.specs.Calls as running
 use Rattle.go_pool.specs.declared.pass.PoolPass.{PoolPass}
 use Rattle.go_pool.specs.declared.pool.Pool.{Pool}
 use Rattle.go_pool.specs.Parts.{PartPass, pass_at}

@@ -10,7 +10,7 @@ use Rattle.protocols.specs.PoolStages.{pool_stands}
 use Rattle.ruled_object.specs.declared.object.Object.{Object}
 use Rattle.ruled_object.specs.Gathered as gathered
 use Rattle.ruled_object.specs.Passes as object
-use Rattle.running.specs.Between.{AreAllBetween}
+use Rattle.call_loop.specs.Between.{AreAllBetween}
 use Rattle.go_pool.specs.declared.pass.PoolPass.{PoolPass}
 use Rattle.go_pool.specs.declared.pool.Pool.{Pool}
 use Rattle.go_pool.specs.Parts.{PoolEntry, PartPass, PartJournal, pass_at}

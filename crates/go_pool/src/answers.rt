@@ -1,6 +1,6 @@
 //! What a pool's calls answer, by what its protocol gives.
 ghost use Rattle.std.specs.Prelude.{◌≡◌};
-ghost use Rattle.running.specs.Calls.{told};
+ghost use Rattle.call_loop.specs.Calls.{told};
 ghost use Rattle.go_pool.specs.PoolAnswers.{look_of, put_of, sweep_of};
 
 use pool_core::PoolPut;

@@ -3,7 +3,7 @@ ghost use Rattle.std.specs.Prelude.{◌≡◌, ◌<◌, ◌==◌, cond};
 ghost use Rattle.sync_model.specs.declared.journal.Deed.TheVariants.{Halt};
 ghost use Rattle.sync_model.specs.Journal.{halt_of as first_in};
 ghost use Rattle.protocols.specs.PoolStages.{pool_stands};
-ghost use Rattle.running.specs.Between.{AreAllBetween};
+ghost use Rattle.call_loop.specs.Between.{AreAllBetween};
 ghost use Rattle.go_pool.specs.Halting.{HaltsAt, AreColumns, AreTold, IsTold};
 ghost use Rattle.go_pool.specs.Parts.{PartJournal};
 ghost use Rattle.go_pool.specs.Pools.{PoolEntry, Journal, AreAllPasses, IsPassOf, IsWhole, IsSeen, Adds, SamePass, SamePasses, halt_of, parts_of};
@@ -63,7 +63,7 @@ impl<N: Note> Pool<N> {
     {
         let object = &self.parts[part as usize];
         let seat = &mut pass.parts[part as usize];
-        running::halt(object, rt, seat, note, misuse);
+        call_loop::halt(object, rt, seat, note, misuse);
     }
 
     // The misuse of the first halt of part 0, where each row has all passes to a part.
@@ -94,5 +94,5 @@ fn first_of<N: Note>(part: &Object<PartCore, N>, passes: &mut Vec<PartPass<N>>) 
     ensures between { AreAllBetween tt pool_stands part.now passes.new.items }
     ensures told { (journal : PartJournal) × (result ≡ first_in journal) × IsTold part.now journal passes.old.items passes.new.items }
 {
-    running::first_halt(part, passes)
+    call_loop::first_halt(part, passes)
 }

@@ -3,13 +3,13 @@ ghost use Rattle.std.specs.Prelude.{◌≡◌, ◌<◌, false};
 ghost use Rattle.protocols.specs.PoolStages.{pool_event, pool_meaning, pool_moment, pool_gives, pool_gains};
 ghost use Rattle.protocols.specs.Spelling.{Spells, AreTimely};
 ghost use Rattle.ruled_object.specs.Growth.{KeepsNote};
-ghost use Rattle.running.specs.Calls.{IsGiven, has_gained};
+ghost use Rattle.call_loop.specs.Calls.{IsGiven, has_gained};
 ghost use Rattle.go_pool.specs.AtParts.{DidAt};
 ghost use Rattle.go_pool.specs.Pools.{parts_of, IsHomeOf, IsPassOf, SamePass};
 
 use crate::pool::{Pool, PoolPass};
+use call_loop::call_within;
 use protocols::{PoolOutcome, PoolStage};
-use running::call_within;
 use std::sync::Wait;
 use sync_model::{Answer, Note};
 use sync_outside::{At, Clock};

@@ -5,7 +5,7 @@ ghost use Rattle.pool_core.specs.PartMachine.{part_start};
 ghost use Rattle.protocols.specs.PoolStages.{pool_stands};
 ghost use Rattle.ruled_object.specs.Passes.{callers_of, start_of};
 ghost use Rattle.ruled_object.specs.Passes as object;
-ghost use Rattle.running.specs.Between.{AreNewBetween};
+ghost use Rattle.call_loop.specs.Between.{AreNewBetween};
 ghost use Rattle.go_pool.specs.Parts.{AreParts};
 
 use crate::columns::transpose;
@@ -97,6 +97,6 @@ fn new_part<N: Note>(
 {
     let core = PartCore::new(alloc, room)?;
     let own = note.copy(home);
-    let (object, passes) = running::new(alloc, callers, 0, core, own)?;
+    let (object, passes) = call_loop::new(alloc, callers, 0, core, own)?;
     Ok((object, passes))
 }

@@ -4,7 +4,7 @@ use Rattle.sync_model.specs.declared.answer.Answer.TheVariants.{Done, Halted}
 use Rattle.sync_model.specs.declared.journal.Deed.{Deed}
 use Rattle.ruled_object.specs.Growth.{Placed, MeetsHalt}
 use Rattle.protocols.specs.Spelling.{CallAnswer}
-use Rattle.running.specs.Calls.{has_gained}
+use Rattle.call_loop.specs.Calls.{has_gained}
 use Rattle.go_waits.specs.Answers.{done_answer}
 
 -- what a caller may make that is between two calls

@@ -14,7 +14,7 @@ use Rattle.protocols.specs.declared.cond.CondStage.TheVariants as stage
 use Rattle.protocols.specs.declared.step.Step.{Step}
 use Rattle.protocols.specs.CondStages.{cond_event, cond_moment, cond_meaning, cond_gains, at_once_meaning}
 use Rattle.protocols.specs.Spelling.{CallAnswer, Spells, Rest, AreTimely}
-use Rattle.running.specs.Calls as running
+use Rattle.call_loop.specs.Calls as running
 use Rattle.go_locks.specs.Calls.{Did}
 use Rattle.go_waits.specs.Answers.{done_answer}
 use Rattle.go_waits.specs.CondCalls.{NotifyDeeds, Makes, Leaves}

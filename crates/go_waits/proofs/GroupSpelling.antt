@@ -8,7 +8,7 @@ use Rattle.wait_cores.specs.declared.group.GroupReply.TheVariants as reply
 use Rattle.protocols.specs.declared.wait_group.GroupStage.TheVariants as stage
 use Rattle.protocols.specs.GroupStages.{group_event, group_meaning, group_gains}
 use Rattle.protocols.specs.Spelling.{CallAnswer, Spells}
-use Rattle.running.specs.Calls.{has_gained}
+use Rattle.call_loop.specs.Calls.{has_gained}
 use Rattle.go_waits.specs.GroupCalls.{GroupDeeds, Adds, Waits}
 use Rattle.go_waits.proofs.Calling.{ends, once_more}
 

@@ -23,7 +23,7 @@ use Rattle.protocols.specs.declared.once.OnceOutcome.TheVariants as outcome
 use Rattle.protocols.specs.declared.once.OnceStage.TheVariants as stage
 use Rattle.protocols.specs.OnceStages.{once_event, once_meaning, once_stands, once_left, once_gives, once_gains}
 use Rattle.protocols.specs.Spelling.{CallAnswer, Spells}
-use Rattle.running.specs.Calls.{IsGiven, left_in, has_gained}
+use Rattle.call_loop.specs.Calls.{IsGiven, left_in, has_gained}
 use Rattle.go_waits.specs.declared.once.Once.{Once}
 use Rattle.go_waits.specs.declared.once_begun.OnceBegun.{OnceBegun}
 use Rattle.go_waits.specs.declared.once_begun.OnceBegun.TheVariants.{Run, Already}

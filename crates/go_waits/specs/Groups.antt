@@ -11,7 +11,7 @@ use Rattle.ruled_object.specs.declared.pass.Pass.{Pass}
 use Rattle.ruled_object.specs.Gathered as gathered
 use Rattle.ruled_object.specs.Growth.{Placed, Grows, IsLawful}
 use Rattle.ruled_object.specs.Passes as object
-use Rattle.running.specs.Between.{IsBetween, AreAllBetween, AreNewBetween}
+use Rattle.call_loop.specs.Between.{IsBetween, AreAllBetween, AreNewBetween}
 use Rattle.go_waits.specs.declared.group.WaitGroup.{WaitGroup}
 
 -- an entry of a group's journal

@@ -12,7 +12,7 @@ use Rattle.ruled_object.specs.Growth.{Placed, Grows, IsLawful}
 use Rattle.ruled_object.specs.Passes as object
 use Rattle.ruled_object.specs.Standing.{stand_by}
 use Rattle.protocols.specs.OnceStages.{once_stands}
-use Rattle.running.specs.Between.{IsBetween, AreAllBetween, AreNewBetween}
+use Rattle.call_loop.specs.Between.{IsBetween, AreAllBetween, AreNewBetween}
 use Rattle.go_waits.specs.declared.once.Once.{Once}
 
 -- an entry of a once's journal

@@ -2,7 +2,7 @@
 ghost use Rattle.std.specs.Prelude.{◌≡◌};
 ghost use Rattle.protocols.specs.declared.once.OnceStage.TheVariants.{Begin};
 ghost use Rattle.protocols.specs.OnceStages.{once_gives};
-ghost use Rattle.running.specs.Calls.{IsGiven};
+ghost use Rattle.call_loop.specs.Calls.{IsGiven};
 ghost use Rattle.go_waits.specs.Answers.{done_answer, IsBegunBy};
 
 use crate::once_begun::{OnceBegun, Running};

@@ -7,7 +7,7 @@ ghost use Rattle.pool_core.specs.Looks.{look};
 ghost use Rattle.protocols.specs.PoolStages.{pool_event, pool_gives, look_gives};
 ghost use Rattle.workload.specs.declared.object.ObjectWord.TheVariants as words;
 ghost use Rattle.ruled_object.specs.Growth.{KeepsNote};
-ghost use Rattle.running.specs.Calls.{IsGiven};
+ghost use Rattle.call_loop.specs.Calls.{IsGiven};
 ghost use Rattle.run_record.specs.Parts.{with_outcome};
 ghost use Rattle.run_record.specs.PoolKind.{pool_part, pool_call, part_of, found_by, swept_by, looks_of, stage_of};
 ghost use Rattle.thread_objects.specs.Desks.{AreSeats, IsObjectAt};

@@ -12,7 +12,7 @@ use Rattle.ruled_object.specs.declared.pass.Pass.{Pass}
 use Rattle.ruled_object.specs.Growth.{Placed, entries_of, deeds_of, KeepsNote}
 use Rattle.protocols.specs.declared.step.Step.{Step}
 use Rattle.protocols.specs.Spelling.{CallAnswer, Spells}
-use Rattle.running.specs.Calls.{Did}
+use Rattle.call_loop.specs.Calls.{Did}
 use Rattle.run_record.specs.declared.entered.ObjectEvent.{ObjectEvent}
 use Rattle.run_record.specs.declared.entered.ObjectReply.{ObjectReply}
 use Rattle.run_record.specs.declared.made.Made.{Made}

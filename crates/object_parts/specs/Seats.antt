@@ -4,7 +4,7 @@ use Rattle.ruled_object.specs.declared.object.Object.{Object}
 use Rattle.ruled_object.specs.declared.pass.Pass.{Pass}
 use Rattle.ruled_object.specs.Passes.{number_of, own_by, callers_of, start_of, IsHomeOf, IsPassOf}
 use Rattle.ruled_object.specs.Standing.{stand_by}
-use Rattle.running.specs.Between.{IsBetween}
+use Rattle.call_loop.specs.Between.{IsBetween}
 
 -- The object of so many workers began as such ones may, and its notes are of this home. It is the pass to it of the worker with this number, who is between two calls.
 pub record IsSeat {M N S E R H W : Type 0} (begins : ℕ → S → Type 0) (out : W) (move : W → E → R → W) (at : H → N → Type 0) (home : H) (workers worker : ℕ) (object : Object M N S E R H) (pass : Pass S N E R) : Type 0 where

@@ -7,9 +7,9 @@ ghost use Rattle.object_parts.specs.Own.{own_as};
 ghost use Rattle.object_parts.specs.Seats.{IsSeat};
 
 use crate::worker::Worker;
+use call_loop::halt;
 use protocols::Protocol;
 use ruled_object::{Object, PassOf};
-use running::halt;
 use std::sync::Wait;
 use sync_model::{Note, Worded};
 use sync_outside::Clock;

@@ -7,7 +7,7 @@ use Rattle.mutex_core.specs.MutexMachine.{State}
 use Rattle.ruled_object.specs.declared.object.Object.{Object}
 use Rattle.ruled_object.specs.declared.pass.Pass.{Pass}
 use Rattle.protocols.specs.MutexStages.{mutex_stands}
-use Rattle.running.specs.Between.{AreNewBetween}
+use Rattle.call_loop.specs.Between.{AreNewBetween}
 use Rattle.object_tests.specs.Fresh.{AreFresh}
 
 pub all_fresh : {M N H : Type 0} (lock : Object M N State MutexEvent MutexReply H) (passes : List (Pass State N MutexEvent MutexReply)) → AreNewBetween false mutex_stands lock 1000000 passes → AreFresh lock passes

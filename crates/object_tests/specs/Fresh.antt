@@ -7,7 +7,7 @@ use Rattle.ruled_object.specs.declared.object.Object.{Object}
 use Rattle.ruled_object.specs.declared.pass.Pass.{Pass}
 use Rattle.ruled_object.specs.Passes.{left_of, callers_of, start_of}
 use Rattle.protocols.specs.MutexStages.{mutex_stands, MutexBegins}
-use Rattle.running.specs.Between.{IsBetween}
+use Rattle.call_loop.specs.Between.{IsBetween}
 
 module _ {M N H : Type 0} where
   -- a mutex that began unlocked

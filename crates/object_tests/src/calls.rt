@@ -3,10 +3,10 @@ ghost use Rattle.std.specs.Prelude.{◌≡◌, ◌<◌, ◌≤◌, ◌+◌, IfOk
 ghost use Rattle.std.specs.Thread.{IsSync};
 ghost use Rattle.object_tests.specs.Fresh.{IsLock, IsFresh, AreFresh};
 
+use call_loop::{call, new};
 use mutex_core::MutexCore;
 use protocols::MutexStage;
 use ruled_object::{MAX_CALLS, Object, PassOf};
-use running::{call, new};
 use std::alloc::{AllocError, Global};
 use std::sync::Wait;
 use std::sync::atomic::{AtomicU64, Ordering};

@@ -11,7 +11,7 @@ use Rattle.ruled_object.specs.declared.object.Object.{Object}
 use Rattle.ruled_object.specs.declared.pass.Pass.{Pass}
 use Rattle.ruled_object.specs.Gathered.{IsWhole, SameOwn}
 use Rattle.ruled_object.specs.Passes.{number_of, own_by, start_of}
-use Rattle.running.specs.Between.{IsBetween, AreAllBetween}
+use Rattle.call_loop.specs.Between.{IsBetween, AreAllBetween}
 use Rattle.run_record.specs.declared.entered.ObjectEvent.{ObjectEvent}
 use Rattle.run_record.specs.declared.entered.ObjectReply.{ObjectReply}
 use Rattle.run_record.specs.Parts.{lifted, lifted_deed}

@@ -8,7 +8,7 @@ use Rattle.ruled_object.specs.declared.object.Object.{Object}
 use Rattle.ruled_object.specs.declared.pass.Pass.{Pass}
 use Rattle.ruled_object.specs.Gathered.{IsWhole}
 use Rattle.ruled_object.specs.Passes.{number_of, own_by, callers_of, start_of, IsHomeOf}
-use Rattle.running.specs.Between.{IsBetween}
+use Rattle.call_loop.specs.Between.{IsBetween}
 use Rattle.run_record.specs.Journals.{FollowsFrom, IsStops}
 use Rattle.run_record.specs.Record.{ObjectEntry}
 use Rattle.thread_objects.specs.declared.column.AnyColumn.{AnyColumn}

@@ -30,7 +30,7 @@ pub(crate) fn begin<P: Protocol + Worded, N: Note>(
     ensures room { IfOk result (λ made. crew.now.workers ≤ vec_capacity made.1) }
     ensures untouched { IfOk result (λ made. AreUntouched made.1.items) }
 {
-    let (object, passes) = running::new(alloc, crew.workers, 0, start, note)?;
+    let (object, passes) = call_loop::new(alloc, crew.workers, 0, start, note)?;
     Ok((object, passes))
 }
 
@@ -84,5 +84,5 @@ pub(crate) fn first_of<P: Protocol + Worded, N: Note>(
     ensures owns { SameOwn passes.old.items passes.new.items }
     ensures history { IsHistoryOf P.next P.frees P.takes (start_of object.now) result passes.old.items }
 {
-    running::first_halt(object, passes)
+    call_loop::first_halt(object, passes)
 }

@@ -13,8 +13,8 @@ ghost use Rattle.go_locks.specs.MutexCalls.{Locks, Tries, Unlocks, AreClocked};
 
 use super::{Mutex, MutexPass};
 use crate::answers::{locked, tried, unlocked};
+use call_loop::call;
 use protocols::MutexStage;
-use running::call;
 use std::sync::Wait;
 use sync_model::{Answer, Note};
 use sync_outside::{At, Clock};

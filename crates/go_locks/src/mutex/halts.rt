@@ -27,7 +27,7 @@ impl<N: Note> Mutex<N> {
             × Adds next true (λ event reply. releases reply) (λ event reply. acquires reply) (mutex_start self.now) pass.old e pass.new
             × (e.deed ≡ Halt misuse) × (e.front ≡ N.front note.now) }
     {
-        running::halt(&self.object, rt, pass, note, misuse);
+        call_loop::halt(&self.object, rt, pass, note, misuse);
     }
 
     /// The misuse of the journal's first halt, and `None` exactly where there is none. It takes all passes, so that no
@@ -43,6 +43,6 @@ impl<N: Note> Mutex<N> {
             × IsWhole next true (λ event reply. releases reply) (λ event reply. acquires reply) (mutex_start self.now) journal passes.old
             × IsSeen next true (λ event reply. releases reply) (λ event reply. acquires reply) (mutex_start self.now) journal passes.new }
     {
-        running::first_halt(&self.object, passes)
+        call_loop::first_halt(&self.object, passes)
     }
 }

@@ -26,7 +26,7 @@ impl<N: Note> Mutex<N> {
         ensures turns { IfOk result (λ made. All (λ pass. turns_of pass ≡ 0) made.1.items) }
     {
         let core = MutexCore::new(alloc, callers)?;
-        let (object, passes) = running::new(alloc, callers, calls, core, note)?;
+        let (object, passes) = call_loop::new(alloc, callers, calls, core, note)?;
         Ok((Mutex { object }, passes))
     }
 }

@@ -13,8 +13,8 @@ ghost use Rattle.go_locks.specs.MutexCalls.{Locks, Unlocks, AreClocked};
 
 use super::{Mutex, MutexPass};
 use crate::answers::{locked, unlocked};
+use call_loop::call_within;
 use protocols::MutexStage;
-use running::call_within;
 use std::sync::Wait;
 use sync_model::{Answer, Note};
 use sync_outside::{At, Clock};

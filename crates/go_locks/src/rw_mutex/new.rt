@@ -24,7 +24,7 @@ impl<N: Note> RwMutex<N> {
         ensures passes { IfOk result (λ made. AreNewOfRwMutex made.0 calls made.1.items) }
     {
         let core = RwCore::new(alloc, callers)?;
-        let (object, passes) = running::new(alloc, callers, calls, core, note)?;
+        let (object, passes) = call_loop::new(alloc, callers, calls, core, note)?;
         Ok((RwMutex { object }, passes))
     }
 }

@@ -13,8 +13,8 @@ ghost use Rattle.go_locks.specs.RwCalls.{WriteLocks, Tries, Unlocks, AreClocked}
 
 use super::{RwMutex, RwPass};
 use crate::answers::{locked, tried, unlocked};
+use call_loop::call;
 use protocols::RwMutexStage;
-use running::call;
 use std::sync::Wait;
 use sync_model::{Answer, Note};
 use sync_outside::{At, Clock};

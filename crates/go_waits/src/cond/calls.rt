@@ -8,8 +8,8 @@ ghost use Rattle.go_waits.specs.Conds.{IsHomeOf, IsPassOf, IsCondLawful};
 
 use super::{Cond, CondPass};
 use crate::answers::done;
+use call_loop::call;
 use protocols::CondStage;
-use running::call;
 use std::sync::Wait;
 use sync_model::{Answer, Note};
 use sync_outside::{At, Clock};

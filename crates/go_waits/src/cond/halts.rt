@@ -19,7 +19,7 @@ impl<N: Note> Cond<N> {
         ensures pass { IsPassOf self.now pass.new × SamePass pass.old pass.new }
         ensures entry { (e : CondMade) × CondHalts self.now pass.old e pass.new × (e.deed ≡ Halt misuse) × (e.front ≡ N.front note.now) }
     {
-        running::halt(&self.object, rt, pass, note, misuse);
+        call_loop::halt(&self.object, rt, pass, note, misuse);
     }
 
     /// The misuse of the first halt, and `None` exactly where there was none. It takes all passes, so that no call is under

@@ -10,10 +10,10 @@ ghost use Rattle.go_waits.specs.Conds.{MutexPass, IsHomeOf, IsPassOf, IsCondLawf
 
 use super::{Cond, CondPass};
 use crate::answers::done;
+use call_loop::{call, call_within};
 use go_locks::{Mutex, MutexPass};
 use protocols::CondStage;
 use ruled_object::laws::notes_are_kept;
-use running::{call, call_within};
 use std::sync::Wait;
 use sync_model::{Answer, Note};
 use sync_outside::{At, Clock};

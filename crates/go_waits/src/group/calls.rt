@@ -9,8 +9,8 @@ ghost use Rattle.go_waits.specs.GroupCalls.{Adds, Waits};
 ghost use Rattle.go_waits.specs.Groups.{GroupGrows, IsHomeOf, IsPassOf, IsGroupLawful};
 
 use super::{GroupPass, WaitGroup};
+use call_loop::call;
 use protocols::GroupStage;
-use running::call;
 use std::sync::Wait;
 use sync_model::{Answer, Note};
 use sync_outside::{At, Clock};

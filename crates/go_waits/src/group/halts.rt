@@ -19,7 +19,7 @@ impl<N: Note> WaitGroup<N> {
         ensures pass { IsPassOf self.now pass.new × SamePass pass.old pass.new }
         ensures entry { (e : GroupMade) × GroupHalts self.now pass.old e pass.new × (e.deed ≡ Halt misuse) × (e.front ≡ N.front note.now) }
     {
-        running::halt(&self.object, rt, pass, note, misuse);
+        call_loop::halt(&self.object, rt, pass, note, misuse);
     }
 
     /// The misuse of the first halt, and `None` exactly where there was none. It takes all passes, so that no call is under
@@ -31,6 +31,6 @@ impl<N: Note> WaitGroup<N> {
         ensures seen { (journal : GroupJournal) × IsGroupSeen self.now journal passes.new }
         ensures one_journal { (journal : GroupJournal) × (result ≡ halt_of journal) × IsGroupWhole self.now journal passes.old × IsGroupSeen self.now journal passes.new }
     {
-        running::first_halt(&self.object, passes)
+        call_loop::first_halt(&self.object, passes)
     }
 }

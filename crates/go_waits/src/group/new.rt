@@ -29,7 +29,7 @@ impl<N: Note> WaitGroup<N> {
     {
         let mut core = GroupCore::new(alloc, callers)?;
         let _started = core.add(start);
-        let (object, passes) = running::new(alloc, callers, calls, core, note)?;
+        let (object, passes) = call_loop::new(alloc, callers, calls, core, note)?;
         Ok((WaitGroup { object }, passes))
     }
 }

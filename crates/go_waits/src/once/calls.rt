@@ -12,8 +12,8 @@ ghost use Rattle.go_waits.specs.Onces.{OnceGrows, IsHomeOf, IsPassOf, IsRunnerOf
 use super::{Once, OncePass};
 use crate::answers::{begun, done};
 use crate::once_begun::{OnceBegun, Running};
+use call_loop::{call, call_within};
 use protocols::OnceStage;
-use running::{call, call_within};
 use std::sync::Wait;
 use sync_model::laws::journals::journal_is_log;
 use sync_model::{Answer, Note};

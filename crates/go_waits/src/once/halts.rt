@@ -19,7 +19,7 @@ impl<T: Copy, N: Note> Once<T, N> {
         ensures pass { IsPassOf self.now pass.new × SamePass pass.old pass.new }
         ensures entry { (e : OnceMade T) × OnceHalts self.now pass.old e pass.new × (e.deed ≡ Halt misuse) × (e.front ≡ N.front note.now) }
     {
-        running::halt(&self.object, rt, pass, note, misuse);
+        call_loop::halt(&self.object, rt, pass, note, misuse);
     }
 
     /// The misuse of the first halt, and `None` exactly where there was none. It takes all passes, so that no call is under
@@ -31,6 +31,6 @@ impl<T: Copy, N: Note> Once<T, N> {
         ensures seen { (journal : OnceJournal T) × IsOnceSeen self.now journal passes.new }
         ensures one_journal { (journal : OnceJournal T) × (result ≡ halt_of journal) × IsOnceWhole self.now journal passes.old × IsOnceSeen self.now journal passes.new }
     {
-        running::first_halt(&self.object, passes)
+        call_loop::first_halt(&self.object, passes)
     }
 }

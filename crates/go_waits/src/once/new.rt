@@ -24,7 +24,7 @@ impl<T: Copy, N: Note> Once<T, N> {
         ensures passes { IfOk result (λ made. AreNew made.0 calls made.1.items) }
     {
         let core = OnceCore::new(alloc, callers)?;
-        let (object, passes) = running::new(alloc, callers, calls, core, note)?;
+        let (object, passes) = call_loop::new(alloc, callers, calls, core, note)?;
         Ok((Once { object }, passes))
     }
 }

@@ -8,7 +8,7 @@ ghost use Rattle.workload.specs.Plan.{Plan};
 ghost use Rattle.protocols.specs.declared.once.OnceStage.TheVariants as stage;
 ghost use Rattle.protocols.specs.OnceStages.{once_event, once_meaning, once_stands, once_left, once_gives, OnceBegins};
 ghost use Rattle.ruled_object.specs.Growth.{KeepsNote};
-ghost use Rattle.running.specs.Calls.{IsGiven, left_in};
+ghost use Rattle.call_loop.specs.Calls.{IsGiven, left_in};
 ghost use Rattle.run_record.specs.declared.entered.ObjectEvent.{ObjectEvent};
 ghost use Rattle.run_record.specs.declared.entered.ObjectReply.{ObjectReply};
 ghost use Rattle.run_record.specs.OnceKind.{once_part};

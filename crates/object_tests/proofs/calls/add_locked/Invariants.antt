@@ -1,7 +1,7 @@
 use Rattle.std.proofs.Common.{◌≡◌, ◌+◌, ◌*◌, false}
 use Rattle.ruled_object.specs.Passes.{left_of}
 use Rattle.protocols.specs.MutexStages.{mutex_stands}
-use Rattle.running.specs.Between.{IsBetween}
+use Rattle.call_loop.specs.Between.{IsBetween}
 use Rattle.object_tests.proofs.calls.add_locked.Given as goal
 
 abbrev pub invariant-loop-round : goal.invariant-loop-round

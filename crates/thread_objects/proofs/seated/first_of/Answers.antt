@@ -2,7 +2,7 @@ use Rattle.std.proofs.Common.{Bool, List, sym, ◌∙◌, subst}
 use Rattle.ruled_object.specs.declared.pass.Pass.{Pass}
 use Rattle.ruled_object.specs.Gathered.{IsWhole, SameOwn}
 use Rattle.ruled_object.specs.Passes.{start_of}
-use Rattle.running.specs.Between.{AreAllBetween}
+use Rattle.call_loop.specs.Between.{AreAllBetween}
 use Rattle.thread_objects.specs.Columns.{AreSeated}
 use Rattle.thread_objects.proofs.ColumnLists.{written}
 use Rattle.thread_objects.proofs.ColumnLemmas.{all_of, seated_again, same_own}

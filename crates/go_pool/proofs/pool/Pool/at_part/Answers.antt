@@ -4,7 +4,7 @@ use Rattle.pool_core.specs.PartMachine.{PartState, part_next}
 use Rattle.protocols.specs.PoolStages.{pool_event, pool_meaning, pool_moment}
 use Rattle.protocols.specs.Spelling.{Spells, AreTimely}
 use Rattle.ruled_object.specs.Growth.{IsLawful}
-use Rattle.running.specs.Calls as running
+use Rattle.call_loop.specs.Calls as running
 use Rattle.go_pool.proofs.Seats.{read_at, pass_used}
 use Rattle.go_pool.proofs.pool.Pool.at_part.Goals as goal
 

@@ -1,7 +1,7 @@
 use Rattle.std.proofs.Common.{◌≡◌, ◌<◌, Some, length, refl, ◌∙◌, subst, arith, rules}
 use Rattle.std.specs.List.{slice_get, slice_index_or}
 use Rattle.protocols.specs.PoolStages.{pool_stands}
-use Rattle.running.specs.Between.{AreAllBetween}
+use Rattle.call_loop.specs.Between.{AreAllBetween}
 use Rattle.go_pool.proofs.FirstHalts.{none_told, told_on}
 use Rattle.go_pool.proofs.Seats.{read_at}
 use Rattle.go_pool.proofs.TableSteps.{same_rows}

@@ -3,7 +3,7 @@ use Rattle.pool_core.specs.PartLaws.{about}
 use Rattle.protocols.specs.PoolStages.{pool_event}
 use Rattle.pool_core.specs.Looks.{look}
 use Rattle.pool_core.specs.PoolParts.{reply_of_look}
-use Rattle.running.specs.Calls.{told}
+use Rattle.call_loop.specs.Calls.{told}
 use Rattle.go_pool.specs.Pools.{parts_of, number_of}
 use Rattle.go_pool.specs.PoolAnswers.{look_of}
 use Rattle.go_pool.proofs.PoolGrowth.{did_single}

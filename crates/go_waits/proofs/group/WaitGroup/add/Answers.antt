@@ -4,7 +4,7 @@ use Rattle.std.proofs.lemmas.Int.{to_z-of_z}
 use Rattle.ruled_object.specs.Growth.{deeds_of}
 use Rattle.protocols.specs.declared.wait_group.GroupStage.TheVariants as stage
 use Rattle.protocols.specs.GroupStages.{group_allows, group_gains}
-use Rattle.running.specs.Calls.{left_out}
+use Rattle.call_loop.specs.Calls.{left_out}
 use Rattle.go_waits.specs.GroupCalls.{Adds}
 use Rattle.go_waits.specs.Groups.{start_of}
 use Rattle.go_waits.proofs.Calling.{allowed, gains_nothing}

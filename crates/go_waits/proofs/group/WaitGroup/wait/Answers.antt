@@ -1,7 +1,7 @@
 use Rattle.std.proofs.Common.{false, refl, ◌∙◌}
 use Rattle.protocols.specs.declared.wait_group.GroupStage.TheVariants as stage
 use Rattle.protocols.specs.GroupStages.{group_allows}
-use Rattle.running.specs.Calls.{left_out}
+use Rattle.call_loop.specs.Calls.{left_out}
 use Rattle.go_waits.specs.Groups.{start_of}
 use Rattle.go_waits.proofs.Calling.{allowed}
 use Rattle.go_waits.proofs.GroupSpelling.{waits_by, wait_gains}

@@ -5,7 +5,7 @@ use Rattle.ruled_object.specs.declared.object.Object.{Object}
 use Rattle.ruled_object.specs.declared.pass.Pass.{Pass}
 use Rattle.ruled_object.specs.Gathered.{AreNew}
 use Rattle.ruled_object.specs.Standing.{stand_by}
-use Rattle.running.specs.Between.{AreNewBetween}
+use Rattle.call_loop.specs.Between.{AreNewBetween}
 
 pub if_ok : {A F : Type 0} (P Q : A → Type 0) (r : Result A F) → ((a : A) → P a → Q a) → IfOk r P → IfOk r Q
 if_ok P Q (Ok a) then_so is = then_so a is

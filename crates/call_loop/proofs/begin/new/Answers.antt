@@ -1,7 +1,7 @@
 use Rattle.ruled_object.specs.Gathered.{AreNew}
-use Rattle.running.specs.Between.{AreNewBetween}
-use Rattle.running.proofs.Fresh.{if_ok, new_between}
-use Rattle.running.proofs.begin.new.Goals as goal
+use Rattle.call_loop.specs.Between.{AreNewBetween}
+use Rattle.call_loop.proofs.Fresh.{if_ok, new_between}
+use Rattle.call_loop.proofs.begin.new.Goals as goal
 
 pub returns-clause-passes : goal.returns-clause-passes
 returns-clause-passes g c =

@@ -1,5 +1,5 @@
-use Rattle.running.proofs.Fronts as fronts
-use Rattle.running.proofs.laws.fronts_rise.Goals as goal
+use Rattle.call_loop.proofs.Fronts as fronts
+use Rattle.call_loop.proofs.laws.fronts_rise.Goals as goal
 
 pub returns-clause-any_two : goal.returns-clause-any_two
 returns-clause-any_two g c from to entries i j earlier later = fronts.any_two from to entries i j earlier later

@@ -5,7 +5,7 @@ ghost use Rattle.ruled_object.specs.Passes.{own_by, callers_of, start_of, IsHome
 ghost use Rattle.ruled_object.specs.Standing.{stand_by};
 ghost use Rattle.protocols.specs.Spelling.{IsEventOf};
 ghost use Rattle.protocols.specs.Steps.{IsAt};
-ghost use Rattle.running.specs.Stages.{MadeStage, MayCome, StandsOn, acquires_by};
+ghost use Rattle.call_loop.specs.Stages.{MadeStage, MayCome, StandsOn, acquires_by};
 
 use protocols::{Protocol, Step};
 use ruled_object::laws::standing;

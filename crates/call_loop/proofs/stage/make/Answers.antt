@@ -6,9 +6,9 @@ use Rattle.ruled_object.specs.Growth.{Makes}
 use Rattle.ruled_object.specs.Passes.{callers_of, number_of, own_by, start_of}
 use Rattle.ruled_object.specs.Standing.{stand_by}
 use Rattle.protocols.specs.Steps.{IsExpected, LeadsOn}
-use Rattle.running.specs.Stages.{acquires_by}
-use Rattle.running.proofs.Stands.{comes, quiet, stand_on}
-use Rattle.running.proofs.stage.make.Goals as goal
+use Rattle.call_loop.specs.Stages.{acquires_by}
+use Rattle.call_loop.proofs.Stands.{comes, quiet, stand_on}
+use Rattle.call_loop.proofs.stage.make.Goals as goal
 
 pub returns-in-Done-clause-expected : goal.returns-in-Done-clause-expected
 returns-in-Done-clause-expected g c =

@@ -2,8 +2,8 @@ use Rattle.std.proofs.Common.{◌≡◌, true}
 use Rattle.ruled_object.specs.Growth.{KeepsNote}
 use Rattle.ruled_object.specs.Passes.{own_by, start_of, IsPassOf, SamePass}
 use Rattle.ruled_object.specs.Standing.{stand_by}
-use Rattle.running.proofs.SoFar.{SoFar}
-use Rattle.running.proofs.calls.go_on.Given as goal
+use Rattle.call_loop.proofs.SoFar.{SoFar}
+use Rattle.call_loop.proofs.calls.go_on.Given as goal
 
 abbrev pub invariant-loop : goal.invariant-loop
 invariant-loop g l =

@@ -1,7 +1,7 @@
 //! A new object.
 ghost use Rattle.std.specs.Prelude.{◌≡◌, ◌<◌, ◌≤◌, All, IfOk};
 ghost use Rattle.ruled_object.specs.Passes.{callers_of, start_of, turns_of, IsHomeOf};
-ghost use Rattle.running.specs.Between.{AreNewBetween};
+ghost use Rattle.call_loop.specs.Between.{AreNewBetween};
 
 use protocols::Protocol;
 use ruled_object::{MAX_CALLS, Object, PassOf};

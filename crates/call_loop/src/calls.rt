@@ -7,7 +7,7 @@ ghost use Rattle.ruled_object.specs.Growth.{IsLawful, KeepsNote, NeedsNoTurn};
 ghost use Rattle.ruled_object.specs.Passes.{own_by, left_of, callers_of, start_of, IsHomeOf, IsOneLess, IsPassOf, SamePass};
 ghost use Rattle.ruled_object.specs.Standing.{stand_by};
 ghost use Rattle.protocols.specs.Spelling.{Spells, AreTimely};
-ghost use Rattle.running.specs.Calls.{Did, IsGiven, left_in, has_gained};
+ghost use Rattle.call_loop.specs.Calls.{Did, IsGiven, left_in, has_gained};
 
 use crate::stage::make;
 use protocols::{Protocol, Step};

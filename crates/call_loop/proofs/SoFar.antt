@@ -11,8 +11,8 @@ use Rattle.protocols.specs.declared.step.Step.{Step}
 use Rattle.protocols.specs.declared.step.Step.TheVariants.{Finished, Misused, Waits, Next, Never}
 use Rattle.protocols.specs.Spelling.{CallAnswer, Rest, IsEventOf, Spells, IsTimely, AreTimely}
 use Rattle.protocols.specs.Steps.{IsAt, KeepsResults, GainsAtItsEnd, LeadsOn}
-use Rattle.running.specs.Calls.{Did, has_gained}
-use Rattle.running.specs.Stages.{meant, MadeStage, StandsOn, acquires_by}
+use Rattle.call_loop.specs.Calls.{Did, has_gained}
+use Rattle.call_loop.specs.Stages.{meant, MadeStage, StandsOn, acquires_by}
 
 module _ {E R : Type 0} where
   deeds_on : (es : List (Placed E R)) (p : Placed E R) (rest : List (Deed E R)) → deeds_of (es ++ p ∷ []) ++ rest ≡ deeds_of es ++ p.entry.deed ∷ rest

@@ -1,6 +1,6 @@
 use Rattle.std.proofs.Common.{ap, ◌∙◌}
 use Rattle.ruled_object.specs.Standing.{stand_by}
-use Rattle.running.proofs.halts.first_halt.Goals as goal
+use Rattle.call_loop.proofs.halts.first_halt.Goals as goal
 
 pub first_halt-requires : goal.first_halt-requires
 first_halt-requires g c = record { count = c.requires.count; each = λ i pass at. ((c.requires.each i pass at).0.of, (c.requires.each i pass at).1) }

@@ -2,8 +2,8 @@ use Rattle.std.proofs.Common.{ap, ◌∙◌, refl, [], ◌∷◌, arith}
 use Rattle.sync_model.specs.declared.answer.Answer.TheVariants.{Done}
 use Rattle.ruled_object.specs.Passes.{start_of}
 use Rattle.protocols.specs.declared.step.Step.TheVariants.{Waits, Next}
-use Rattle.running.proofs.SoFar.{some_entries, went_on}
-use Rattle.running.proofs.calls.call_within.Goals as goal
+use Rattle.call_loop.proofs.SoFar.{some_entries, went_on}
+use Rattle.call_loop.proofs.calls.call_within.Goals as goal
 
 pub returns-in-Done-Waits-clause-events : goal.returns-in-Done-Waits-clause-events
 returns-in-Done-Waits-clause-events g c = (went_on g.P.Machine.next g.P.Machine.HALTS (start_of c.args.object.now) g.P.Protocol.event g.P.Protocol.moment g.P.Protocol.meaning (g.C.Clock.shows c.args.at.now.clock.now) g.P.Protocol.gives g.P.Protocol.gains c.args.stage c.args.pass.now c.make.new.pass c.go_on.new.pass (g.N.Note.front c.args.note.now) (g.N.Note.front c.make.new.note) (g.N.Note.front c.go_on.new.note) c.in-Done-Waits.later c.make.result (Waits c.in-Done-Waits.later) c.go_on.result (c.growth.ensures.both (start_of c.args.object.now)) (λ r. c.laws.ensures.gives c.args.stage r) (λ r. (g.P.Machine.takes (g.P.Protocol.event c.args.stage 0) r, c.laws.ensures.gains c.args.stage 0 r)) (c.growth.ensures.nothing (start_of c.args.object.now) c.args.pass.now (g.N.Note.front c.args.note.now)) c.make.ensures.made c.make.ensures.no_edge (c.in-Done-Waits.is ∙ ap Done c.in-Done-Waits.field-0-is) refl c.go_on.ensures.events c.go_on.ensures.no_edge).0

@@ -6,7 +6,7 @@ ghost use Rattle.sync_model.specs.Journal.{halt_of};
 ghost use Rattle.ruled_object.specs.Gathered.{SamePasses, IsWhole, IsSeen};
 ghost use Rattle.ruled_object.specs.Passes.{own_by, start_of, Adds, IsPassOf, SamePass};
 ghost use Rattle.ruled_object.specs.Standing.{stand_by};
-ghost use Rattle.running.specs.Between.{AreAllBetween};
+ghost use Rattle.call_loop.specs.Between.{AreAllBetween};
 
 use protocols::Protocol;
 use ruled_object::laws::standing;

@@ -3,8 +3,8 @@ use Rattle.sync_model.specs.declared.answer.Answer.TheVariants.{Done, Halted}
 use Rattle.ruled_object.specs.Passes.{own_by, start_of}
 use Rattle.ruled_object.specs.Standing.{stand_by}
 use Rattle.protocols.specs.declared.step.Step.TheVariants.{Finished, Misused, Waits, Next}
-use Rattle.running.proofs.SoFar.{begun, leads_on, on_by, ends_at}
-use Rattle.running.proofs.calls.go_on.Goals as goal
+use Rattle.call_loop.proofs.SoFar.{begun, leads_on, on_by, ends_at}
+use Rattle.call_loop.proofs.calls.go_on.Goals as goal
 
 pub loop-init : goal.loop-init
 loop-init g c =

@@ -17,7 +17,7 @@ use Rattle.protocols.specs.declared.step.Step.TheVariants.{Finished, Misused, Wa
 use Rattle.protocols.specs.Spelling.{IsEventOf}
 use Rattle.protocols.specs.Stands as stands
 use Rattle.protocols.specs.Steps.{IsExpected, GainsAtItsEnd}
-use Rattle.running.specs.Stages.{acquires_by}
+use Rattle.call_loop.specs.Stages.{acquires_by}
 
 module _ {E R : Type 0} where
   halt_stays : (m : Misuse) (xs : List (Entry E R)) → halt_after (Some m) xs ≡ Some m
