@@ -9,7 +9,7 @@ ghost use Rattle.workload.specs.Words.{turn_word, kind_parameters, spelled};
 ghost use Rattle.workload.specs.declared.line.Line.TheVariants as Line;
 ghost use Rattle.workload.specs.Reads.{Reads};
 ghost use Rattle.workload.specs.Canonical.{text_line, call_line, object_line, reference_name, script_lines, eights, canonical_lines, canonical, behind_spaces, lines_text};
-ghost use Rattle.workload_words.specs.Numbers.{numbers_in};
+ghost use Rattle.workload_text.specs.Numbers.{numbers_in};
 
 use std::alloc::{AllocError, Global};
 use sync_types::{Call, Number, Operation};
@@ -17,7 +17,7 @@ use workload::keyword::Keyword;
 use workload::laws::{canonical_reads, schedules_go_by_eights};
 use workload::object::name_at;
 use workload::{ObjectKind, ObjectLine, Turn, Workload};
-use workload_words::{Numbers, operands_of, verb};
+use workload_text::{Numbers, operands_of, verb};
 
 /// Writes the word that a line begins with.
 fn put_keyword(text: &mut Vec<u8>, keyword: Keyword) -> Result<(), AllocError>

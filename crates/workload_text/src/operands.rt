@@ -4,7 +4,7 @@ ghost use Rattle.std.specs.Fmt.{decimal};
 ghost use Rattle.std.specs.Option.{option_to_list, option_copied};
 ghost use Rattle.workload.specs.NumberWords.{number_word};
 ghost use Rattle.workload.specs.CallWords.{map_values, atomic_numbers, group_operands, pool_operands, operands_of};
-ghost use Rattle.workload_words.specs.Numbers.{numbers_in};
+ghost use Rattle.workload_text.specs.Numbers.{numbers_in};
 
 use sync_types::{AtomicCall, MapCall, Name, Number, Operation, PoolCall, WaitGroupCall};
 
