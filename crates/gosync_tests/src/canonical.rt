@@ -1,7 +1,7 @@
 //! The canonical text of a workload.
 use std::test::Fail;
-use workload_printer::print;
 use workload_reader::parse;
+use workload_text::print;
 
 const CANONICAL_TEXTS: [(&[u8], &[u8]); 8] = [
     (

@@ -3,6 +3,8 @@
 
 pub mod call;
 pub mod operands;
+pub mod printing;
 
 pub use call::verb;
 pub use operands::{Numbers, operands_of};
+pub use printing::print;

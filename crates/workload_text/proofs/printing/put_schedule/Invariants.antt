@@ -1,7 +1,7 @@
 use Rattle.std.proofs.Common.{◌≡◌, ◌++◌, map, length}
 use Rattle.workload.specs.declared.line.Line.TheVariants as lines
 use Rattle.workload.specs.Canonical.{eights, lines_text}
-use Rattle.workload_printer.proofs.printing.put_schedule.Given as goal
+use Rattle.workload_text.proofs.printing.put_schedule.Given as goal
 
 abbrev pub invariant-loop-rest : goal.invariant-loop-rest
 invariant-loop-rest l =

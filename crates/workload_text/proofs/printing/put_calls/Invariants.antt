@@ -1,6 +1,6 @@
 use Rattle.std.proofs.Common.{◌≡◌, ◌++◌, drop, map}
 use Rattle.workload.specs.Canonical.{call_line, lines_text}
-use Rattle.workload_printer.proofs.printing.put_calls.Given as goal
+use Rattle.workload_text.proofs.printing.put_calls.Given as goal
 
 abbrev pub invariant-loop-call : goal.invariant-loop-call
 invariant-loop-call l =

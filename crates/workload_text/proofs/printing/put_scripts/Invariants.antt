@@ -1,6 +1,6 @@
 use Rattle.std.proofs.Common.{◌≡◌, ◌++◌, drop}
 use Rattle.workload.specs.Canonical.{script_lines, lines_text}
-use Rattle.workload_printer.proofs.printing.put_scripts.Given as goal
+use Rattle.workload_text.proofs.printing.put_scripts.Given as goal
 
 abbrev pub invariant-loop-worker : goal.invariant-loop-worker
 invariant-loop-worker l =

@@ -2,8 +2,8 @@ use Rattle.std.proofs.Common.{◌++◌, map, drop, ap, ◌∙◌}
 use Rattle.std.proofs.lemmas.List.{drop_all}
 use Rattle.workload.specs.Words.{turn_word}
 use Rattle.workload.specs.Canonical.{behind_spaces}
-use Rattle.workload_printer.proofs.PrintLemmas.{close_line}
-use Rattle.workload_printer.proofs.printing.put_turns.Goals as goal
+use Rattle.workload_text.proofs.PrintLemmas.{close_line}
+use Rattle.workload_text.proofs.printing.put_turns.Goals as goal
 
 pub returns : goal.returns
 returns c =

@@ -1,7 +1,7 @@
 use Rattle.std.proofs.Common.{◌≡◌, ◌++◌, drop, map}
 use Rattle.workload.specs.Words.{turn_word}
 use Rattle.workload.specs.Canonical.{behind_spaces}
-use Rattle.workload_printer.proofs.printing.put_turns.Given as goal
+use Rattle.workload_text.proofs.printing.put_turns.Given as goal
 
 abbrev pub invariant-loop-turn : goal.invariant-loop-turn
 invariant-loop-turn l =

@@ -11,13 +11,14 @@ ghost use Rattle.workload.specs.Reads.{Reads};
 ghost use Rattle.workload.specs.Canonical.{text_line, call_line, object_line, reference_name, script_lines, eights, canonical_lines, canonical, behind_spaces, lines_text};
 ghost use Rattle.workload_text.specs.Numbers.{numbers_in};
 
+use crate::call::verb;
+use crate::operands::{Numbers, operands_of};
 use std::alloc::{AllocError, Global};
 use sync_types::{Call, Number, Operation};
 use workload::keyword::Keyword;
 use workload::laws::{canonical_reads, schedules_go_by_eights};
 use workload::object::name_at;
 use workload::{ObjectKind, ObjectLine, Turn, Workload};
-use workload_text::{Numbers, operands_of, verb};
 
 /// Writes the word that a line begins with.
 fn put_keyword(text: &mut Vec<u8>, keyword: Keyword) -> Result<(), AllocError>

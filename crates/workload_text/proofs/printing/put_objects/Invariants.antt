@@ -1,6 +1,6 @@
 use Rattle.std.proofs.Common.{◌≡◌, ◌++◌, drop, map}
 use Rattle.workload.specs.Canonical.{object_line, lines_text}
-use Rattle.workload_printer.proofs.printing.put_objects.Given as goal
+use Rattle.workload_text.proofs.printing.put_objects.Given as goal
 
 abbrev pub invariant-loop-object : goal.invariant-loop-object
 invariant-loop-object l =

@@ -1,6 +1,6 @@
 use Rattle.std.proofs.Common.{rules, take, drop, ap, ◌∙◌}
-use Rattle.workload_printer.proofs.PrintLemmas.{schedule_more}
-use Rattle.workload_printer.proofs.printing.put_schedule.Goals as goal
+use Rattle.workload_text.proofs.PrintLemmas.{schedule_more}
+use Rattle.workload_text.proofs.printing.put_schedule.Goals as goal
 
 pub loop-rest-preserved : goal.loop-rest-preserved
 loop-rest-preserved c =

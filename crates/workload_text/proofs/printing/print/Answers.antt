@@ -2,7 +2,7 @@ use Rattle.std.proofs.Common.{◌++◌, sym, ap, subst, ◌∙◌}
 use Rattle.workload.specs.Words.{first_spelled}
 use Rattle.workload.specs.Reads.{Reads}
 use Rattle.workload.specs.Canonical.{text_line, lines_text, canonical_lines}
-use Rattle.workload_printer.proofs.printing.print.Goals as goal
+use Rattle.workload_text.proofs.printing.print.Goals as goal
 
 pub returns-clause-read : goal.returns-clause-read
 returns-clause-read c =

@@ -1,6 +1,0 @@
-//! How a workload is printed: its canonical text.
-#![tactic(auto)]
-
-pub mod printing;
-
-pub use printing::print;
