@@ -13,7 +13,7 @@ use std::alloc::Global;
 use sync_outside::Sources;
 use workload::laws::read_or_refused;
 use workload::{ParseFault, Workload};
-use workload_reader::parse;
+use workload_text::parse;
 
 /// Each place and number in a workload is in range.
 pub fn is_in_range(workload: &Workload)

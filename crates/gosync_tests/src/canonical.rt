@@ -1,7 +1,6 @@
 //! The canonical text of a workload.
 use std::test::Fail;
-use workload_reader::parse;
-use workload_text::print;
+use workload_text::{parse, print};
 
 const CANONICAL_TEXTS: [(&[u8], &[u8]); 8] = [
     (

@@ -6,7 +6,7 @@ use std::alloc::{AllocError, Global};
 use workload::laws::{one_reading, read_or_refused};
 use workload::{ParseFault, Workload};
 use workload_generator::generate;
-use workload_reader::parse;
+use workload_text::parse;
 
 /// The workload that a seed gives: its text is made, and then read as any other text.
 ///

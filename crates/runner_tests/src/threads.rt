@@ -10,7 +10,7 @@ use sync_outside::{
 use sync_types::{Outcome, Report};
 use thread_runner::{RunFault, threaded};
 use workload::Workload;
-use workload_reader::parse;
+use workload_text::parse;
 
 // What the maps and atomics of a run are.
 #[derive(Clone, Copy, Debug)]

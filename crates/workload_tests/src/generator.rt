@@ -4,7 +4,7 @@ use std::test::Fail;
 use sync_types::{AtomicCall, ByName, Call, Number, Operation, map_object};
 use workload::Workload;
 use workload_generator::generate;
-use workload_reader::parse;
+use workload_text::parse;
 
 // What a thread comes to, and how many calls it made.
 #[derive(Clone, Copy, Debug, PartialEq, Eq)]

@@ -3,7 +3,7 @@ use std::alloc::Global;
 use std::test::Fail;
 use sync_types::AtomicKind;
 use workload::{ObjectKind, ParseFault, Reason, Turn, Workload};
-use workload_reader::parse;
+use workload_text::parse;
 
 // The fault of a text: its line and its reason, or None where it is read.
 fn fault_of(alloc: Global, text: &[u8]) -> Result<Option<(u32, Reason)>, Fail> {

@@ -7,7 +7,7 @@ use sync_types::{
     Report,
 };
 use workload::keys::key_name;
-use workload_reader::parse;
+use workload_text::parse;
 
 fn push_number(alloc: Global, text: &mut String, number: Number) -> Result<(), AllocError> {
     let word = match number {

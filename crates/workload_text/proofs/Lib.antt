@@ -1,1 +1,5 @@
 mod PrintLemmas
+mod CheckLemmas
+mod Digits
+mod LineLemmas
+mod ReadLemmas

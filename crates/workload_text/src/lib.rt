@@ -2,9 +2,17 @@
 #![tactic(auto)]
 
 pub mod call;
+pub mod call_reading;
+pub mod number;
+pub mod object_reading;
 pub mod operands;
+pub mod parsing;
 pub mod printing;
+pub mod reading;
+pub mod text;
+pub mod word_reading;
 
 pub use call::verb;
 pub use operands::{Numbers, operands_of};
+pub use parsing::parse;
 pub use printing::print;

@@ -1,4 +1,0 @@
-mod CheckLemmas
-mod Digits
-mod LineLemmas
-mod ReadLemmas

@@ -1,0 +1,119 @@
+//! A whole text.
+ghost use Rattle.std.specs.Prelude.{◌≡◌, ◌+◌, ◌-◌, ◌≤◌, ◌∷◌, true, max, map, length, MatchResult, IfOk, IfErr, None, Some};
+ghost use Rattle.workload.specs.Lines.{lines_of, words_of, is_significant};
+ghost use Rattle.workload.specs.Checks.{checks_of, word_checks};
+ghost use Rattle.workload_text.specs.LineResult.{IsFault, IsSound, IsUnsound};
+ghost use Rattle.workload.specs.Reads.{Continues, IsRead, ReadsOn, Reads, IsFirstFault, fault_at, IsFaultOf};
+ghost use Rattle.workload.specs.declared.limits.TheConstants.{MAX_INPUT};
+
+use crate::reading::{read_line, read_workers};
+use crate::text::{is_clean, is_short, is_significant, split_line, words_of};
+use std::alloc::Global;
+use workload::draft::Draft;
+use workload::fault::{LineFault, ParseFault};
+use workload::limits::MAX_INPUT;
+use workload::reason::Reason;
+use workload::workload::Workload;
+
+/// The draft behind a significant line: its first word and the others.
+fn take_words(
+    alloc: Global,
+    before: Option<Draft>,
+    word: &[u8],
+    arguments: &[&[u8]],
+) -> Result<Option<Draft>, LineFault>
+    ensures { MatchResult result (Continues before (word.now ∷ map (λ word. word.now) arguments.now)) (IsFault (word_checks before (word.now ∷ map (λ word. word.now) arguments.now))) }
+{
+    match before {
+        None => {
+            let workers = read_workers(word, arguments)?;
+            Ok(Some(Draft::start(alloc, workers)?))
+        }
+        Some(draft) => {
+            let line = read_line(alloc, &draft, word, arguments)?;
+            Ok(Some(draft.with_line(alloc, line)?))
+        }
+    }
+}
+
+/// Whether a line is significant, where it has no fault of its own, whatever stands before it.
+fn check_line(line: &[u8]) -> Result<bool, LineFault>
+    ensures { MatchResult result (IsSound line.now) (IsUnsound line.now) }
+{
+    if !is_short(line) {
+        return Err(LineFault::Refused(Reason::LineTooLong));
+    }
+    if !is_clean(line) {
+        return Err(LineFault::Refused(Reason::BadByte));
+    }
+    Ok(is_significant(line))
+}
+
+/// The draft behind a significant line.
+fn take_line(alloc: Global, before: Option<Draft>, line: &[u8]) -> Result<Option<Draft>, LineFault>
+    requires { IsSound line.now true }
+    ensures { MatchResult result (IsRead before line.now) (IsFault (checks_of before line.now)) }
+{
+    let words = words_of(alloc, line)?;
+    let Some((word, arguments)) = words.split_first() else {
+        return Ok(before);
+    };
+    take_words(alloc, before, word, arguments)
+}
+
+/// The fault of the text that a fault of its line is.
+fn at_line(line: u32, fault: LineFault) -> ParseFault
+    ensures { result ≡ fault_at line fault }
+{
+    match fault {
+        LineFault::Refused(reason) => ParseFault::Refused { line, reason },
+        LineFault::Memory => ParseFault::Memory,
+    }
+}
+
+/// The draft of all lines of a text, of which there is none where no line is significant.
+fn read_lines(alloc: Global, bytes: &[u8]) -> Result<Draft, ParseFault>
+    requires { length bytes.now ≤ MAX_INPUT }
+    ensures { MatchResult result (λ draft. ReadsOn (lines_of bytes.now) None draft.plan) (IsFirstFault (lines_of bytes.now)) }
+{
+    let mut draft = None;
+    let mut next: u32 = 1;
+    let mut rest = bytes;
+    while !rest.is_empty() {
+        let (line, behind) = split_line(rest);
+        match check_line(line) {
+            Err(unsound) => return Err(at_line(next, unsound)),
+            Ok(false) => {}
+            Ok(true) => match take_line(alloc, draft, line) {
+                Ok(after) => draft = after,
+                Err(fault) => return Err(at_line(next, fault)),
+            },
+        }
+        next += 1;
+        rest = behind;
+    }
+    match draft {
+        Some(draft) => Ok(draft),
+        None => Err(ParseFault::Refused {
+            line: (next - 1).max(1),
+            reason: Reason::NoWorkersLine,
+        }),
+    }
+}
+
+/// Reads a workload text.
+///
+/// The text is split at line feeds; a blank line and one whose first word begins with `#` say nothing.
+/// An `Err` is the first fault: the least line, and in it the first check that fails.
+pub fn parse(alloc: Global, bytes: &[u8]) -> Result<Workload, ParseFault>
+    ensures read { IfOk result (Reads bytes.now) }
+    ensures refused { IfErr result (IsFaultOf bytes.now) }
+{
+    if bytes.len() > MAX_INPUT {
+        return Err(ParseFault::Refused {
+            line: 0,
+            reason: Reason::InputTooLong,
+        });
+    }
+    Ok(read_lines(alloc, bytes)?.finish(alloc)?)
+}

@@ -1,0 +1,199 @@
+//! One line, read after those before it.
+ghost use Rattle.std.specs.Prelude.{◌≡◌, ◌<◌, true, map, MatchResult, None};
+ghost use Rattle.std.specs.Fmt.{decimal};
+ghost use Rattle.workload.specs.Words.{turn_word};
+ghost use Rattle.workload.specs.Draft.{is_item, keys_of};
+ghost use Rattle.workload.specs.Checks.{worker_checks, item_checks, ranges_in, limit_checks, first_failing};
+ghost use Rattle.workload_text.specs.LineResult.{IsFault, IsTurns, IsWorkers, IsLineOf, IsLine};
+
+use crate::call_reading::read_operation;
+use crate::number::{is_number, number};
+use crate::object_reading::{parameter_count, read_kind};
+use crate::word_reading::read_name;
+use std::alloc::Global;
+use sync_types::{Call, MAX_VALUE, Seq};
+use workload::draft::Draft;
+use workload::fault::LineFault;
+use workload::keyword::{Keyword, Verb, read_keyword};
+use workload::laws::{calls_pass_their_checks, checks_go_in_order, keywords};
+use workload::limits::{MAX_CALLS, MAX_KEYS, MAX_RANGES, MAX_TURNS, MAX_WORKERS};
+use workload::line::Line;
+use workload::object::{ObjectLine, ObjectWord};
+use workload::reason::Reason;
+use workload::turn::Turn;
+
+/// The number of a worker of whom there are so many.
+fn read_worker(workers: u32, word: &[u8]) -> Result<u32, LineFault>
+    ensures { MatchResult result (λ worker. (decimal worker ≡ word.now) × (worker < workers) × (first_failing (worker_checks workers word.now) ≡ None)) (IsFault (worker_checks workers word.now)) }
+{
+    if !is_number(word) {
+        return Err(LineFault::Refused(Reason::BadNumber));
+    }
+    match number(word, u64::from(u32::MAX)) {
+        Some(worker) if worker < u64::from(workers) => Ok(worker as u32),
+        _ => Err(LineFault::Refused(Reason::NoSuchWorker)),
+    }
+}
+
+/// An item of the schedule.
+fn read_turn(workers: u32, word: &[u8]) -> Result<Turn, LineFault>
+    ensures { MatchResult result (λ turn. (turn_word turn ≡ word.now) × (is_item workers turn ≡ true) × (first_failing (item_checks workers word.now) ≡ None)) (IsFault (item_checks workers word.now)) }
+{
+    match word.split_first() {
+        None => Err(LineFault::Refused(Reason::BadNumber)),
+        Some((first, moment)) => {
+            if *first == b'@' {
+                match number(moment, MAX_VALUE) {
+                    None => Err(LineFault::Refused(Reason::BadNumber)),
+                    Some(moment) => Ok(Turn::Moment(moment)),
+                }
+            } else {
+                Ok(Turn::Worker(read_worker(workers, word)?))
+            }
+        }
+    }
+}
+
+/// Whether one more call is within the limits.
+fn check_limits(draft: &Draft, verb: Verb, call: &Call) -> Result<(), LineFault>
+    ensures { MatchResult result (λ _. first_failing (limit_checks draft.now (keys_of call.now) (ranges_in verb)) ≡ None) (IsFault (limit_checks draft.now (keys_of call.now) (ranges_in verb))) }
+{
+    let ranges = match verb {
+        Verb::Range => draft.ranges().saturating_add(1),
+        _ => draft.ranges(),
+    };
+    if draft.calls() >= MAX_CALLS || draft.keys_with_call(call) > MAX_KEYS || ranges > MAX_RANGES {
+        return Err(LineFault::Refused(Reason::LimitReached));
+    }
+    Ok(())
+}
+
+/// A call of the worker named last.
+fn read_call(
+    alloc: Global,
+    draft: &Draft,
+    verb: Verb,
+    arguments: &[&[u8]],
+) -> Result<Line, LineFault>
+    ensures { IsLineOf draft.now (Keyword.Call verb) (map (λ word. word.now) arguments.now) result }
+{
+    checks_go_in_order();
+    calls_pass_their_checks();
+    if !draft.is_in_worker() {
+        return Err(LineFault::Refused(Reason::CallOutsideWorker));
+    }
+    let Some((name, words)) = arguments.split_first() else {
+        return Err(LineFault::Refused(Reason::WrongNumberOfWords));
+    };
+    let object = read_name(alloc, name)?;
+    let Some(found) = draft.declared(name) else {
+        return Err(LineFault::Refused(Reason::UnknownName));
+    };
+    let operation = read_operation(alloc, found.kind.word(), verb, words)?;
+    let call = Call {
+        object: found.place,
+        operation,
+    };
+    check_limits(draft, verb, &call)?;
+    Ok(Line::Call(object, call))
+}
+
+/// A line that declares an object.
+fn read_object(
+    alloc: Global,
+    draft: &Draft,
+    word: ObjectWord,
+    arguments: &[&[u8]],
+) -> Result<Line, LineFault>
+    ensures { IsLineOf draft.now (Keyword.Object word) (map (λ word. word.now) arguments.now) result }
+{
+    checks_go_in_order();
+    let Some((name, words)) = arguments.split_first() else {
+        return Err(LineFault::Refused(Reason::WrongNumberOfWords));
+    };
+    if words.len() != parameter_count(word) {
+        return Err(LineFault::Refused(Reason::WrongNumberOfWords));
+    }
+    let object = read_name(alloc, name)?;
+    if draft.declared(name).is_some() {
+        return Err(LineFault::Refused(Reason::NameTaken));
+    }
+    let (kind, reference) = read_kind(alloc, draft, word, words)?;
+    if !draft.has_room_for(word) {
+        return Err(LineFault::Refused(Reason::LimitReached));
+    }
+    Ok(Line::Object(ObjectLine { name: object, kind }, reference))
+}
+
+/// A line that says whose calls follow.
+fn read_worker_line(draft: &Draft, arguments: &[&[u8]]) -> Result<Line, LineFault>
+    ensures { IsLineOf draft.now Keyword.Worker (map (λ word. word.now) arguments.now) result }
+{
+    let [worker] = arguments else {
+        return Err(LineFault::Refused(Reason::WrongNumberOfWords));
+    };
+    Ok(Line::Worker(read_worker(draft.workers(), worker)?))
+}
+
+/// The items of a `schedule` line.
+fn read_turns(alloc: Global, workers: u32, words: &[&[u8]]) -> Result<Seq<Turn>, LineFault>
+    ensures { IsTurns workers (map (λ word. word.now) words.now) result }
+{
+    checks_go_in_order();
+    let mut turns = Seq::new(alloc);
+    for word in words {
+        turns.push(read_turn(workers, word)?)?;
+    }
+    Ok(turns)
+}
+
+/// A `schedule` line.
+fn read_schedule(alloc: Global, draft: &Draft, arguments: &[&[u8]]) -> Result<Line, LineFault>
+    ensures { IsLineOf draft.now Keyword.Schedule (map (λ word. word.now) arguments.now) result }
+{
+    checks_go_in_order();
+    if arguments.is_empty() {
+        return Err(LineFault::Refused(Reason::WrongNumberOfWords));
+    }
+    let turns = read_turns(alloc, draft.workers(), arguments)?;
+    if draft.turns().saturating_add(turns.len()) > MAX_TURNS {
+        return Err(LineFault::Refused(Reason::LimitReached));
+    }
+    Ok(Line::Schedule(turns))
+}
+
+/// A line behind the first significant one: its first word and the others.
+pub fn read_line(
+    alloc: Global,
+    draft: &Draft,
+    word: &[u8],
+    arguments: &[&[u8]],
+) -> Result<Line, LineFault>
+    ensures { IsLine draft.now word.now (map (λ word. word.now) arguments.now) result }
+{
+    keywords();
+    match read_keyword(word) {
+        None => Err(LineFault::Refused(Reason::UnknownWord)),
+        Some(Keyword::Workers) => Err(LineFault::Refused(Reason::NameTaken)),
+        Some(Keyword::Object(word)) => read_object(alloc, draft, word, arguments),
+        Some(Keyword::Worker) => read_worker_line(draft, arguments),
+        Some(Keyword::Schedule) => read_schedule(alloc, draft, arguments),
+        Some(Keyword::Call(verb)) => read_call(alloc, draft, verb, arguments),
+    }
+}
+
+/// The first significant line, which gives the number of workers.
+pub fn read_workers(word: &[u8], arguments: &[&[u8]]) -> Result<u32, LineFault>
+    ensures { IsWorkers word.now (map (λ word. word.now) arguments.now) result }
+{
+    if word != Keyword::Workers.text() {
+        return Err(LineFault::Refused(Reason::NoWorkersLine));
+    }
+    let [workers] = arguments else {
+        return Err(LineFault::Refused(Reason::WrongNumberOfWords));
+    };
+    match number(workers, MAX_WORKERS) {
+        Some(workers) if workers > 0 => Ok(workers as u32),
+        _ => Err(LineFault::Refused(Reason::BadNumber)),
+    }
+}

@@ -1,0 +1,78 @@
+//! The words of a line that stand for one thing.
+ghost use Rattle.std.specs.Prelude.{◌≡◌, ◌∷◌, [], ◌≤◌, true, map, MatchResult, Some, None};
+ghost use Rattle.std.specs.Fmt.{decimal, signed_decimal};
+ghost use Rattle.sync_types.specs.Name.{is_name};
+ghost use Rattle.sync_types.specs.SequentialAtomic.{is_of};
+ghost use Rattle.workload.specs.NumberWords.{is_number_to, is_amount_word, is_number_word, number_word};
+ghost use Rattle.workload.specs.Plan.{is_amount};
+ghost use Rattle.workload.specs.Checks.{operand_check};
+ghost use Rattle.workload_text.specs.LineResult.{IsFault, IsOperands};
+ghost use Rattle.sync_types.specs.declared.value.TheConstants.{MAX_VALUE};
+
+use crate::number::{amount, atomic_number, number};
+use std::alloc::Global;
+use sync_types::name::is_name;
+use sync_types::{AtomicKind, MAX_VALUE, Name, Number};
+use workload::fault::LineFault;
+use workload::keyword::Operand;
+use workload::reason::Reason;
+
+/// The name that a word is.
+pub fn read_name(alloc: Global, word: &[u8]) -> Result<Name, LineFault>
+    ensures { MatchResult result (λ name. (is_name word.now ≡ true) × (name ≡ word.now)) (IsFault ((is_name word.now, Reason.BadName) ∷ [])) }
+{
+    if !is_name(word) {
+        return Err(LineFault::Refused(Reason::BadName));
+    }
+    Ok(Name::from_bytes(alloc, word)?)
+}
+
+/// A value of a map.
+pub fn read_value(word: &[u8]) -> Result<u64, LineFault>
+    ensures { MatchResult result (λ value. (decimal value ≡ word.now) × (value ≤ MAX_VALUE) × (is_number_to MAX_VALUE word.now ≡ true)) (IsFault (operand_check Operand.Value word.now ∷ [])) }
+{
+    match number(word, MAX_VALUE) {
+        None => Err(LineFault::Refused(Reason::BadNumber)),
+        Some(value) => Ok(value),
+    }
+}
+
+/// A number of an atomic of this type.
+pub fn read_number(kind: AtomicKind, word: &[u8]) -> Result<Number, LineFault>
+    ensures { MatchResult result (λ n. (number_word n ≡ word.now) × (is_of kind n ≡ true) × (is_number_word kind word.now ≡ true)) (IsFault (operand_check (Operand.Number kind) word.now ∷ [])) }
+{
+    match atomic_number(kind, word) {
+        None => Err(LineFault::Refused(Reason::BadNumber)),
+        Some(number) => Ok(number),
+    }
+}
+
+/// An amount.
+pub fn read_amount(word: &[u8]) -> Result<i32, LineFault>
+    ensures { MatchResult result (λ amount. (signed_decimal amount ≡ word.now) × (is_amount amount ≡ true) × (is_amount_word word.now ≡ true)) (IsFault ((is_amount_word word.now, Reason.BadNumber) ∷ [])) }
+{
+    match amount(word) {
+        None => Err(LineFault::Refused(Reason::BadNumber)),
+        Some(amount) => Ok(amount),
+    }
+}
+
+/// A number of an object's line, which is at most `most`.
+pub fn read_number_to(most: u64, word: &[u8]) -> Result<u64, LineFault>
+    ensures { MatchResult result (λ n. (decimal n ≡ word.now) × (n ≤ most) × (is_number_to most word.now ≡ true)) (IsFault ((is_number_to most word.now, Reason.BadNumber) ∷ [])) }
+{
+    match number(word, most) {
+        None => Err(LineFault::Refused(Reason::BadNumber)),
+        Some(number) => Ok(number),
+    }
+}
+
+/// No operands.
+pub fn read_none(words: &[&[u8]]) -> Result<(), LineFault>
+    ensures { IsOperands (λ _. map (λ word. word.now) words.now ≡ []) [] (map (λ word. word.now) words.now) result }
+{
+    let [] = words else {
+        return Err(LineFault::Refused(Reason::WrongNumberOfWords));
+    };
+    Ok(())
+}
