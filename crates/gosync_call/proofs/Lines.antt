@@ -8,7 +8,7 @@ use Rattle.std.proofs.Common.{inl, inr}
 use Rattle.std.proofs.Math.Dec.{ltb}
 use Rattle.std.proofs.lemmas.Bool.{eqb-true, lt-ltb, ltb-true, cases_lt}
 use Rattle.workload.specs.Plan.{Plan, is_valid}
-use Rattle.report_lines.specs.ReportLines.{completed_line}
+use Rattle.workload_text.specs.ReportLines.{completed_line}
 use Rattle.gosync_call.specs.ReportText.{calls_text, workers_text}
 
 -- no replies are left

@@ -11,7 +11,7 @@ use Rattle.sync_types.specs.declared.call.Call.{Call}
 use Rattle.sync_types.specs.declared.call.Reply.{Reply}
 use Rattle.sync_types.specs.declared.outcome.End.{End}
 use Rattle.workload.specs.Plan.{Plan}
-use Rattle.report_lines.specs.ReportLines.{completed_line, end_line}
+use Rattle.workload_text.specs.ReportLines.{completed_line, end_line}
 use Rattle.gosync_call.specs.ReportText.{calls_text, ends_text, workers_text}
 use Rattle.gosync_call.specs.Shown.{AreReplies, Shows}
 

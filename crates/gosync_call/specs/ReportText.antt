@@ -8,7 +8,7 @@ use Rattle.sync_types.specs.declared.outcome.End.{End}
 use Rattle.sync_types.specs.Outcome.{left_by}
 use Rattle.sync_types.specs.declared.outcome.Outcome.{Outcome}
 use Rattle.sync_types.specs.declared.outcome.Outcome.TheVariants as outcomes
-use Rattle.report_lines.specs.ReportLines.{completed_line, end_line}
+use Rattle.workload_text.specs.ReportLines.{completed_line, end_line}
 
 -- a worker's completed calls, from an index on: as many of its script as there are replies
 abbrev pub calls_text : Plan → ℕ → ℕ → List Call → List (Reply ℕ) → List ℕ

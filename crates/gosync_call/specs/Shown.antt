@@ -5,7 +5,7 @@ use Rattle.sync_types.specs.declared.call.Call.{Call}
 use Rattle.sync_types.specs.declared.call.Reply.{Reply}
 use Rattle.sync_types.specs.declared.outcome.End.{End}
 use Rattle.workload.specs.Plan.{Plan}
-use Rattle.report_lines.specs.ReportLines.{completed_line, end_line}
+use Rattle.workload_text.specs.ReportLines.{completed_line, end_line}
 
 -- no worker completed more calls than its script has
 abbrev pub AreReplies : List (List Call) → List (List (Reply ℕ)) → Type 0

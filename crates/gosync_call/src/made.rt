@@ -7,8 +7,8 @@ ghost use Rattle.gosync_call.specs.MadeText.{are_short, lines_of, totals_text};
 
 use itoa::Buffer;
 use made_run::Totals;
-use report_lines::{push, push_word};
 use sync_outside::{Failed, Sink};
+use workload_text::{push, push_word};
 
 /// The room of the buffer of a line, in bytes: a word of at most 8, a space, a number of at most 40, and a line feed.
 pub const TOTAL_ROOM: usize = 64;

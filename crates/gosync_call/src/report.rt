@@ -10,10 +10,10 @@ ghost use Rattle.gosync_call.specs.declared.status.Fault.TheVariants as faults;
 ghost use Rattle.gosync_call.specs.ReportText.{calls_text, workers_text, ends_text, report_text};
 
 use crate::status::{Ending, Fault};
-use report_lines::{LINE_ROOM, set_completed_line, set_end_line};
 use sync_outside::{Failed, Sink};
 use sync_types::{End, Outcome, Reply, Seq};
 use workload::Workload;
+use workload_text::{LINE_ROOM, set_completed_line, set_end_line};
 
 /// Writes the completed calls of a worker: as many of its script as there are replies.
 fn write_calls<O: Sink>(

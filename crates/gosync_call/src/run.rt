@@ -7,7 +7,6 @@ ghost use Rattle.gosync_call.specs.declared.status.Fault.TheVariants as faults;
 
 use crate::report::report_run;
 use crate::status::{Ending, Fault};
-use report_lines::LINE_ROOM;
 use run_record::laws::limits::a_range_shows_no_key_twice;
 use std::alloc::Global;
 use std::sync::Wait;
@@ -16,6 +15,7 @@ use sync_outside::{Clock, Gate, Sink, Spawner};
 use thread_runner::{RunFault, threaded};
 use workload::Workload;
 use workload::laws::keys_are_numbered_by_first_appearance;
+use workload_text::LINE_ROOM;
 
 /// Makes the calls of a workload with a thread for each worker, and writes the report. All memory is taken before the first
 /// start, but what a start takes itself.

@@ -13,11 +13,11 @@ ghost use Rattle.gosync_call.specs.declared.status.Fault.TheVariants as faults;
 use crate::read::read_workload;
 use crate::report::report_run;
 use crate::status::{Ending, Fault, Status};
-use report_lines::LINE_ROOM;
 use std::alloc::Global;
 use step_runner::stepped;
 use sync_outside::{Sink, Sources};
 use workload::Workload;
+use workload_text::LINE_ROOM;
 
 /// Runs a workload by its schedule and writes the report.
 fn run_by_schedule<O: Sink>(

@@ -3,3 +3,4 @@ mod CheckLemmas
 mod Digits
 mod LineLemmas
 mod ReadLemmas
+pub mod CallWords

@@ -1,2 +1,4 @@
 pub mod Numbers
 pub mod LineResult
+pub mod Adding
+pub mod ReportLines

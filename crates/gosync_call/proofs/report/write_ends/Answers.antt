@@ -4,7 +4,7 @@ use Rattle.sync_types.specs.declared.atomic_object.Number.TheVariants.{Int32}
 use Rattle.sync_types.specs.declared.outcome.End.{End}
 use Rattle.sync_types.specs.declared.outcome.End.TheVariants.{Number}
 use Rattle.sync_outside.specs.Bytes.{Appends, AppendsFront}
-use Rattle.report_lines.specs.ReportLines.{end_line}
+use Rattle.workload_text.specs.ReportLines.{end_line}
 use Rattle.gosync_call.specs.ReportText.{ends_text}
 use Rattle.gosync_call.proofs.Lines.{drop_item}
 use Rattle.gosync_call.proofs.Writing.{goes_on, goes_cut, on_err}

@@ -1,6 +1,6 @@
 use Rattle.std.proofs.Common.{◌≤◌, drop}
 use Rattle.std.specs.Vec.{vec_capacity}
-use Rattle.report_lines.specs.declared.line.TheConstants.{LINE_ROOM}
+use Rattle.workload_text.specs.declared.line.TheConstants.{LINE_ROOM}
 use Rattle.gosync_call.specs.ReportText.{ends_text}
 use Rattle.gosync_call.proofs.Writing.{Goes}
 use Rattle.gosync_call.proofs.report.write_ends.Given as goal

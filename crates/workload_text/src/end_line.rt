@@ -1,6 +1,6 @@
 //! The line of a value that an object holds at the end.
 ghost use Rattle.std.specs.Prelude.{◌≡◌, ◌≤◌, vec_capacity};
-ghost use Rattle.report_lines.specs.ReportLines.{end_line};
+ghost use Rattle.workload_text.specs.ReportLines.{end_line};
 
 use crate::line::{LINE_ROOM, push, push_atomic_word, push_word};
 use sync_types::{End, Number};

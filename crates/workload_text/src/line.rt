@@ -2,8 +2,8 @@
 ghost use Rattle.std.specs.Prelude.{◌+◌, ◌∷◌, length};
 ghost use Rattle.std.specs.Fmt.{decimal, signed_decimal};
 ghost use Rattle.workload.specs.NumberWords.{number_word};
-ghost use Rattle.report_lines.specs.Adding.{Adds, HasRoom};
-ghost use Rattle.report_lines.specs.ReportLines.{truth_text};
+ghost use Rattle.workload_text.specs.Adding.{Adds, HasRoom};
+ghost use Rattle.workload_text.specs.ReportLines.{truth_text};
 
 use itoa::Buffer;
 use sync_types::Number;

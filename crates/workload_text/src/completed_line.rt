@@ -2,7 +2,7 @@
 ghost use Rattle.std.specs.Prelude.{◌≡◌, ◌≤◌, true, vec_capacity};
 ghost use Rattle.workload.specs.declared.limits.TheConstants.{MAX_KEYS};
 ghost use Rattle.sync_types.specs.Outcome.{has_pairs_to};
-ghost use Rattle.report_lines.specs.ReportLines.{completed_line};
+ghost use Rattle.workload_text.specs.ReportLines.{completed_line};
 
 use crate::call_words::push_call;
 use crate::line::{LINE_ROOM, push, push_number};

@@ -5,14 +5,15 @@ ghost use Rattle.workload.specs.NumberWords.{number_word};
 ghost use Rattle.workload.specs.CallWords.{verb_of, operands_of};
 ghost use Rattle.workload.specs.Canonical.{behind_spaces};
 ghost use Rattle.workload_text.specs.Numbers.{numbers_in};
-ghost use Rattle.report_lines.specs.Adding.{Adds, HasRoom};
-ghost use Rattle.report_lines.specs.ReportLines.{call_words};
+ghost use Rattle.workload_text.specs.Adding.{Adds, HasRoom};
+ghost use Rattle.workload_text.specs.ReportLines.{call_words};
 
+use crate::call::verb;
 use crate::line::{push_atomic_word, push_word};
+use crate::operands::{Numbers, operands_of};
 use sync_types::{Call, Operation};
 use workload::ObjectLine;
 use workload::object::name_at;
-use workload_text::{Numbers, operands_of, verb};
 
 /// The most bytes that the words of a call have in a line: a word of up to 9 bytes, two names and two
 /// numbers, each behind a space.

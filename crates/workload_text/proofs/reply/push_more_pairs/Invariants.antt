@@ -1,8 +1,8 @@
 use Rattle.std.proofs.Common.{◌≡◌, ◌+◌, ◌*◌, ◌≤◌, ◌++◌, map, drop}
 use Rattle.std.specs.Vec.{vec_len, vec_capacity}
 use Rattle.workload.specs.Canonical.{behind_spaces}
-use Rattle.report_lines.specs.ReportLines.{pair_text}
-use Rattle.report_lines.proofs.reply.push_more_pairs.Given as goal
+use Rattle.workload_text.specs.ReportLines.{pair_text}
+use Rattle.workload_text.proofs.reply.push_more_pairs.Given as goal
 
 abbrev pub invariant-loop-pair : goal.invariant-loop-pair
 invariant-loop-pair l = record {
