@@ -12,7 +12,7 @@ use Rattle.sync_model.specs.SharedHistory.{Contents}
 use Rattle.sync_model.specs.Shared.{CallerState, Called}
 use Rattle.sync_types.specs.SequentialAtomic.{is_of, is_same, atomic_reply}
 use Rattle.sync_types.specs.WordLayout.{word_of, is_word, number_in}
-use Rattle.table_steps.specs.Operations.{IsOperation}
+use Rattle.table_rule.specs.Operations.{IsOperation}
 
 pub both : (a b : Bool) → (a && b) ≡ true → (a ≡ true) × (b ≡ true)
 both true b e = (refl, e)

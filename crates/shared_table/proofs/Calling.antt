@@ -17,7 +17,7 @@ use Rattle.shared_table.specs.declared.table.SharedTable.{SharedTable}
 use Rattle.table_rule.specs.declared.view.Own.{Own}
 use Rattle.table_rule.specs.declared.view.View.{View}
 use Rattle.shared_table.specs.Notes.{IsNoteOf, IsOperationOn}
-use Rattle.table_steps.specs.Operations.{PlacesCall, Operates}
+use Rattle.table_rule.specs.Operations.{PlacesCall, Operates}
 use Rattle.table_rule.specs.Views.{held_in, with_item, called_view, IsIdle}
 
 pub some_own : (n : ℕ) (owns : List Own) → IsSome (held_in n owns) → 0 < length owns

@@ -7,8 +7,8 @@ use Rattle.table_rule.specs.declared.view.Lock.{Lock}
 use Rattle.table_rule.specs.declared.view.View.{View}
 use Rattle.table_rule.specs.declared.view.Walk.{Walk}
 use Rattle.trie_nodes.specs.declared.slot.Slot.TheVariants.{Entry}
-use Rattle.table_steps.specs.Making.{FindsHeld}
-use Rattle.table_steps.specs.Walking.{standing, given_by, Answers, FindsIn}
+use Rattle.table_rule.specs.Making.{FindsHeld}
+use Rattle.table_rule.specs.Walking.{standing, given_by, Answers, FindsIn}
 
 -- it found an entry
 pub found_gate : (call : MapCall ℕ) (w : Walk) (place : ℕ) (v u : View) → FindsIn call w (Entry place) v u → u.gate ≡ v.gate

@@ -15,12 +15,12 @@ use Rattle.table_rule.specs.declared.view.View.{View}
 use Rattle.table_rule.specs.declared.view.Walk.{Walk}
 use Rattle.sync_types.specs.KeyCalls.{is_key_entry, key_reply}
 use Rattle.trie_nodes.specs.declared.slot.Slot.TheVariants.{Empty, Node, Entry}
-use Rattle.table_steps.specs.Pruning.{having_cut}
+use Rattle.table_rule.specs.Pruning.{having_cut}
 use Rattle.shared_table.specs.MapCalls.{AnswersAndPrunes, MakesAndPrunes, IsWriting, IsEnd, IsReached}
 use Rattle.table_rule.specs.Shape.{start_of}
 use Rattle.table_rule.specs.Views.{with_item, paid, called_view, view_state}
-use Rattle.table_steps.specs.Walking.{standing, walk_at, given_by, HasWords, Answers, FindsIn, Settles, IsFree, OnWay, AtEntry}
-use Rattle.table_steps.specs.Writing.{holding}
+use Rattle.table_rule.specs.Walking.{standing, walk_at, given_by, HasWords, Answers, FindsIn, Settles, IsFree, OnWay, AtEntry}
+use Rattle.table_rule.specs.Writing.{holding}
 use Rattle.shared_table.proofs.Walks.{IsAt}
 
 module _ (k : Begin) (first : Me (Unit {0}) View) (m key : ℕ) (writing : IsWriting k first m) where

@@ -15,11 +15,11 @@ use Rattle.table_rule.specs.declared.view.Own.{Own}
 use Rattle.table_rule.specs.declared.view.View.{View}
 use Rattle.trie_nodes.specs.Layout.{unit_words}
 use Rattle.table_rule.specs.Layout.{size_of}
-use Rattle.table_steps.specs.Making.{HasUnit, MadeCall}
-use Rattle.table_steps.specs.Pruning.{having_cut}
+use Rattle.table_rule.specs.Making.{HasUnit, MadeCall}
+use Rattle.table_rule.specs.Pruning.{having_cut}
 use Rattle.shared_table.specs.Notes.{own_by, IsNoteOf}
 use Rattle.table_rule.specs.Views.{held_in, with_item, paid, spend, next_in, spare_in, IsIdle}
-use Rattle.table_steps.specs.Writing.{HasRoomWithin}
+use Rattle.table_rule.specs.Writing.{HasRoomWithin}
 use Rattle.shared_table.proofs.Calling.{some_own}
 
 -- a caller that can pay has a unit of room

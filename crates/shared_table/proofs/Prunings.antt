@@ -7,12 +7,12 @@ use Rattle.table_rule.specs.declared.begin.Begin.{Begin}
 use Rattle.table_rule.specs.declared.view.DeadNode.{DeadNode}
 use Rattle.table_rule.specs.declared.view.Lock.{Lock}
 use Rattle.table_rule.specs.declared.view.View.{View}
-use Rattle.table_steps.specs.Pruning.{dead_node, having_cut, marked, upper_lock, SeesSlot, LooksAtSlot, ReadsParent, TriedUpper, HoldsBoth, Marks, CutsOff}
+use Rattle.table_rule.specs.Pruning.{dead_node, having_cut, marked, upper_lock, SeesSlot, LooksAtSlot, ReadsParent, TriedUpper, HoldsBoth, Marks, CutsOff}
 use Rattle.shared_table.specs.Pruning.{knowing, LooksAtSlots, HoldsAt, NowHolds, HoldsInUse, HoldsToStay}
 use Rattle.trie_nodes.specs.Paths.{nibble}
 use Rattle.trie_nodes.specs.Plans.{HasOnlyEmptySlots, HasAFullSlot}
-use Rattle.table_steps.specs.Walking.{HasWords}
-use Rattle.table_steps.specs.Writing.{holding, Holds}
+use Rattle.table_rule.specs.Walking.{HasWords}
+use Rattle.table_rule.specs.Writing.{holding, Holds}
 
 -- a seat has looked at so many slots of the node whose lock it holds, all of them empty, and has these words of the node
 pub record LooksOn (first me : Me (Unit {0}) View) (words : List ℕ) (slot : ℕ) : Type 0 where

@@ -20,13 +20,13 @@ use Rattle.trie_nodes.specs.Layout.{unit_words}
 use Rattle.trie_nodes.specs.Paths.{nibble, route}
 use Rattle.trie_nodes.specs.Slots.{slot_in}
 use Rattle.table_rule.specs.Layout.{size_of}
-use Rattle.table_steps.specs.Making.{leaf_value, HasLeaf, found_lock, Makes, bare, Publishes, StandsLocked, FindsHeld, HasUnit}
+use Rattle.table_rule.specs.Making.{leaf_value, HasLeaf, found_lock, Makes, bare, Publishes, StandsLocked, FindsHeld, HasUnit}
 use Rattle.table_writes.specs.Drafts.{IsPoised}
 use Rattle.shared_table.specs.MapCalls.{StillLocked, IsPoisedAt, MadeLocked}
 use Rattle.table_rule.specs.Shape.{start_of}
 use Rattle.table_rule.specs.Views.{MayPay, view_state}
-use Rattle.table_steps.specs.Walking.{standing, walk_at, given_by, HasWords, Answers, IsAlong, Affords, AtEntry}
-use Rattle.table_steps.specs.Writing.{holding, lock_at}
+use Rattle.table_rule.specs.Walking.{standing, walk_at, given_by, HasWords, Answers, IsAlong, Affords, AtEntry}
+use Rattle.table_rule.specs.Writing.{holding, lock_at}
 
 -- a caller with a unit of room can pay
 pub unit_pays : (owns : List Own) (next cost : ℕ) → HasUnit owns next → cost ≡ 1 → Affords cost owns

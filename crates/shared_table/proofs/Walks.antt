@@ -14,10 +14,10 @@ use Rattle.table_rule.specs.declared.view.Leaf.{Leaf}
 use Rattle.table_rule.specs.declared.view.View.{View}
 use Rattle.table_rule.specs.declared.view.Walk.{Walk}
 use Rattle.trie_nodes.specs.declared.slot.Slot.TheVariants.{Empty, Node, Entry}
-use Rattle.table_steps.specs.Operations.{PlacesCall}
+use Rattle.table_rule.specs.Operations.{PlacesCall}
 use Rattle.table_rule.specs.Shape.{start_of}
 use Rattle.table_rule.specs.Views.{with_item, called_view, view_state}
-use Rattle.table_steps.specs.Walking.{standing, walk_at, given_by, HasWords, Answers, FindsIn, IsFree, OnWay, AtEntry}
+use Rattle.table_rule.specs.Walking.{standing, walk_at, given_by, HasWords, Answers, FindsIn, IsFree, OnWay, AtEntry}
 use Rattle.shared_table.specs.Notes.{own_by, IsNoteOf}
 use Rattle.table_seats.specs.Seats.{begin_of}
 use Rattle.shared_table.proofs.Calling.{some_own}

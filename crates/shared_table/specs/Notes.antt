@@ -14,7 +14,7 @@ use Rattle.sync_types.specs.WordLayout.{is_word, number_in}
 use Rattle.shared_table.specs.declared.note.SharedNote.{SharedNote}
 use Rattle.shared_table.specs.declared.table.SharedTable.{SharedTable}
 use Rattle.table_rule.specs.declared.view.Own.{Own}
-use Rattle.table_steps.specs.Operations.{IsOperation}
+use Rattle.table_rule.specs.Operations.{IsOperation}
 use Rattle.shared_table.specs.Tables.{kinds_of, caller_count, first_of}
 use Rattle.table_seats.specs.Seats.{begin_of, IsSeatOf}
 use Rattle.table_rule.specs.Views.{held_in, IsIdle}

@@ -8,10 +8,10 @@ use Rattle.table_rule.specs.declared.view.View.{View}
 use Rattle.sync_types.specs.declared.map_object.MapCall.{MapCall}
 use Rattle.sync_types.specs.KeyCalls.{is_key_entry, key_after}
 use Rattle.trie_nodes.specs.Plans.{HasOnlyEmptySlots, HasAFullSlot}
-use Rattle.table_steps.specs.Making.{IsLockAt}
-use Rattle.table_steps.specs.Pruning.{having_cut}
-use Rattle.table_steps.specs.Walking.{HasWords}
-use Rattle.table_steps.specs.Writing.{holding, Holds}
+use Rattle.table_rule.specs.Making.{IsLockAt}
+use Rattle.table_rule.specs.Pruning.{having_cut}
+use Rattle.table_rule.specs.Walking.{HasWords}
+use Rattle.table_rule.specs.Writing.{holding, Holds}
 
 -- a lock under which so many of the first slots are known to be empty, and this of one slot
 abbrev pub knowing : Lock → ℕ → Option (ℕ × ℕ) → Lock

@@ -10,11 +10,11 @@ ghost use Rattle.sync_types.specs.declared.map_object.MapReply.TheVariants.{Done
 ghost use Rattle.sync_model.specs.Note.{SameHome};
 ghost use Rattle.sync_model.specs.Shared.{Called, state_of};
 ghost use Rattle.table_rule.specs.declared.view.Gate.TheVariants.{Closed};
-ghost use Rattle.table_steps.specs.Clearing.{HasClosed};
-ghost use Rattle.table_steps.specs.Making.{HasUnit, MadeCall};
+ghost use Rattle.table_rule.specs.Clearing.{HasClosed};
+ghost use Rattle.table_rule.specs.Making.{HasUnit, MadeCall};
 ghost use Rattle.table_seats.specs.Seats.{begin_of, IsSeatOf};
-ghost use Rattle.table_steps.specs.Walking.{IsFree};
-ghost use Rattle.table_steps.specs.Writing.{holding, HasRoomWithin};
+ghost use Rattle.table_rule.specs.Walking.{IsFree};
+ghost use Rattle.table_rule.specs.Writing.{holding, HasRoomWithin};
 ghost use Rattle.shared_table.specs.Notes.{front_by, own_by, seen_by, IsNoteOf};
 ghost use Rattle.shared_table.specs.Tables.{maps_of, first_of};
 

@@ -7,9 +7,9 @@ ghost use Rattle.sync_types.specs.declared.map_object.MapReply.TheVariants.{Foun
 ghost use Rattle.sync_model.specs.Note.{SameHome};
 ghost use Rattle.sync_model.specs.Shared.{Called, state_of};
 ghost use Rattle.table_rule.specs.declared.view.Leaf.{Leaf};
-ghost use Rattle.table_steps.specs.Operations.{PlacesCall};
+ghost use Rattle.table_rule.specs.Operations.{PlacesCall};
 ghost use Rattle.table_seats.specs.Seats.{begin_of, IsSeatOf};
-ghost use Rattle.table_steps.specs.Walking.{standing, given_by, HasWords, IsFree, AtEntry};
+ghost use Rattle.table_rule.specs.Walking.{standing, given_by, HasWords, IsFree, AtEntry};
 ghost use Rattle.shared_table.specs.Notes.{front_by, own_by, seen_by, IsNoteOf};
 ghost use Rattle.shared_table.specs.Tables.{maps_of, first_of};
 

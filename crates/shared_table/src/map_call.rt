@@ -3,7 +3,7 @@
 ghost use Rattle.std.specs.Prelude.{◌≡◌, ℕ, ◌<◌, ◌≤◌, Some, None, IsSome, MatchBool, MatchOption, length};
 ghost use Rattle.table_rule.specs.declared.view.Gate.TheVariants.{Inside};
 ghost use Rattle.table_rule.specs.declared.view.Walk.{Walk};
-ghost use Rattle.table_steps.specs.Writing.{holding, lock_at, IsWriter, HasRoomWithin};
+ghost use Rattle.table_rule.specs.Writing.{holding, lock_at, IsWriter, HasRoomWithin};
 ghost use Rattle.sync_types.specs.SequentialMap.{map_key};
 ghost use Rattle.std.specs.Option.{ForSome};
 ghost use Rattle.sync_model.specs.declared.item.SharedCall.TheVariants as calls;
@@ -11,13 +11,13 @@ ghost use Rattle.sync_model.specs.declared.item.SharedReply.TheVariants as repli
 ghost use Rattle.sync_model.specs.Note.{SameHome};
 ghost use Rattle.sync_model.specs.Shared.{Called, cost_of, state_of};
 ghost use Rattle.shared_table.specs.Notes.{front_by, own_by, seen_by, IsNoteOf};
-ghost use Rattle.table_steps.specs.Making.{HasUnit, leaf_value, Publishes, StandsLocked};
+ghost use Rattle.table_rule.specs.Making.{HasUnit, leaf_value, Publishes, StandsLocked};
 ghost use Rattle.table_seats.specs.Seats.{begin_of, IsSeatOf};
 ghost use Rattle.table_writes.specs.Drafts.{IsPoised};
 ghost use Rattle.shared_table.specs.MapCalls.{AnswersAndPrunes, IsEnd, IsReached, IsSight, IsWriting, MadeLocked, MakesAndPrunes, MayHaveMade, StillLocked};
 ghost use Rattle.sync_types.specs.KeyCalls.{key_after};
 ghost use Rattle.shared_table.specs.Tables.{maps_of, first_of};
-ghost use Rattle.table_steps.specs.Walking.{standing, walk_at, given_by, HasWords, Affords, IsFree, AtEntry, IsUncounted};
+ghost use Rattle.table_rule.specs.Walking.{standing, walk_at, given_by, HasWords, Affords, IsFree, AtEntry, IsUncounted};
 
 use crate::changes::{Change, reply_of};
 use crate::note::SharedNote;

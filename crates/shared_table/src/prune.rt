@@ -4,10 +4,10 @@ ghost use Rattle.table_rule.specs.declared.view.DeadNode.{DeadNode};
 ghost use Rattle.table_rule.specs.declared.view.Lock.{Lock};
 ghost use Rattle.shared_table.specs.Pruning.{LooksAtSlots, HoldsAt, HoldsInUse, HoldsToStay, NeverRemoves, NowHolds, PrunesAt};
 ghost use Rattle.sync_types.specs.SequentialMap.{map_key};
-ghost use Rattle.table_steps.specs.Pruning.{having_cut, TriedUpper};
+ghost use Rattle.table_rule.specs.Pruning.{having_cut, TriedUpper};
 ghost use Rattle.table_seats.specs.Seats.{begin_of, IsSeatOf};
-ghost use Rattle.table_steps.specs.Walking.{standing, HasWords};
-ghost use Rattle.table_steps.specs.Writing.{holding, Holds};
+ghost use Rattle.table_rule.specs.Walking.{standing, HasWords};
+ghost use Rattle.table_rule.specs.Writing.{holding, Holds};
 
 use crate::changes::may_remove;
 use crate::table::SharedTable;

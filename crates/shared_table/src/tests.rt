@@ -5,7 +5,7 @@ ghost use Rattle.sync_model.specs.Shared.{IsCallerAt};
 ghost use Rattle.shared_table.specs.Notes.{own_by, IsNoteOf};
 ghost use Rattle.shared_table.specs.Tables.{maps_of};
 ghost use Rattle.table_seats.specs.Seats.{begin_of, IsSeatOf};
-ghost use Rattle.table_steps.specs.Walking.{IsFree};
+ghost use Rattle.table_rule.specs.Walking.{IsFree};
 
 mod prunes;
 

@@ -14,13 +14,13 @@ use Rattle.table_rule.specs.declared.view.Spot.{Spot}
 use Rattle.table_rule.specs.declared.view.View.{View}
 use Rattle.trie_nodes.specs.declared.place.Place.{Place}
 use Rattle.trie_nodes.specs.PlaceLists.{nodes_of, slots_of}
-use Rattle.table_steps.specs.Cursors.{Sweeps, IsCursorOf, mounted, unmounted, cursor_seat}
-use Rattle.table_steps.specs.Operations.{PlacesCall}
+use Rattle.table_rule.specs.Cursors.{Sweeps, IsCursorOf, mounted, unmounted, cursor_seat}
+use Rattle.table_rule.specs.Operations.{PlacesCall}
 use Rattle.table_cursors.specs.Ranging.{moved, showing, ShowsNext, AreWithin, IsRanging, IsCursor, RangesOn}
 use Rattle.table_rule.specs.Shape.{start_of}
 use Rattle.table_seats.specs.Seats.{begin_of, IsSeatOf}
 use Rattle.table_rule.specs.Views.{held_in, view_state}
-use Rattle.table_steps.specs.Walking.{HasWords, IsFree}
+use Rattle.table_rule.specs.Walking.{HasWords, IsFree}
 use Rattle.table_cursors.proofs.Ranged.{let_go, looks_then, one_more, one_step}
 
 -- its seat took in the cursor's

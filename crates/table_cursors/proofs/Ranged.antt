@@ -14,9 +14,9 @@ use Rattle.sync_model.specs.SharedHistory.{Contents}
 use Rattle.table_rule.specs.declared.view.Own.{Own}
 use Rattle.table_rule.specs.declared.view.Spot.{Spot}
 use Rattle.table_rule.specs.declared.view.View.{View}
-use Rattle.table_steps.specs.Cursors.{Sweeps, IsCursorOf, unmounted}
+use Rattle.table_rule.specs.Cursors.{Sweeps, IsCursorOf, unmounted}
 use Rattle.table_cursors.specs.CursorStays.{old_step, still_at, still_step}
-use Rattle.table_steps.specs.Operations.{PlacesCall}
+use Rattle.table_rule.specs.Operations.{PlacesCall}
 use Rattle.table_cursors.specs.Ranging.{showing}
 use Rattle.table_rule.specs.Views.{held_in, called_view, with_item, view_state, Looks}
 

@@ -11,10 +11,10 @@ use Rattle.trie_nodes.specs.declared.place.Place.{Place}
 use Rattle.trie_nodes.specs.declared.slot.Slot.TheVariants.{Node}
 use Rattle.trie_nodes.specs.PlaceLists.{nodes_of, slots_of}
 use Rattle.trie_nodes.specs.Places.{but_last, last_of}
-use Rattle.table_steps.specs.Cursors.{at_spot, SweepsIn, StandsIn}
+use Rattle.table_rule.specs.Cursors.{at_spot, SweepsIn, StandsIn}
 use Rattle.table_cursors.specs.CursorStays.{old_or_last}
 use Rattle.table_cursors.specs.Ranging.{moved, ShowsNext, MovesTo, AreWithin, IsRanging}
-use Rattle.table_steps.specs.Walking.{HasWords}
+use Rattle.table_rule.specs.Walking.{HasWords}
 
 -- a list is its front and its last
 apart : (l : List ℕ) → 0 < length l → l ≡ but_last l ++ last_of l ∷ []

@@ -16,11 +16,11 @@ use Rattle.table_rule.specs.declared.view.Spot.{Spot}
 use Rattle.table_rule.specs.declared.view.View.{View}
 use Rattle.trie_nodes.specs.declared.place.Place.{Place}
 use Rattle.trie_nodes.specs.PlaceLists.{nodes_of, slots_of}
-use Rattle.table_steps.specs.Cursors.{at_spot, Sweeps, Sweeping, IsCursorOf}
-use Rattle.table_steps.specs.Operations.{PlacesCall}
+use Rattle.table_rule.specs.Cursors.{at_spot, Sweeps, Sweeping, IsCursorOf}
+use Rattle.table_rule.specs.Operations.{PlacesCall}
 use Rattle.table_seats.specs.Seats.{begin_of, IsSeatOf}
 use Rattle.table_rule.specs.Views.{view_state, Looks}
-use Rattle.table_steps.specs.Walking.{HasWords}
+use Rattle.table_rule.specs.Walking.{HasWords}
 
 -- where a cursor stands that has come to this place
 abbrev pub moved : Spot → Place → Spot

@@ -7,3 +7,11 @@ pub mod Rule
 pub mod Views
 pub mod WordSteps
 pub mod LawWords
+pub mod Units
+pub mod Operations
+pub mod Walking
+pub mod Writing
+pub mod Cursors
+pub mod Making
+pub mod Clearing
+pub mod Pruning

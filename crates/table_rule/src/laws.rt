@@ -18,6 +18,8 @@ ghost use Rattle.table_rule.specs.Rule.{TableState, Kept};
 ghost use Rattle.table_rule.specs.Shape.{start_of};
 ghost use Rattle.table_rule.specs.Views.{IsIdle};
 
+pub mod steps;
+
 use sync_model::laws::shared_steps::histories_go_on;
 use trie_nodes::laws::nodes::{
     an_empty_node_stands_for_nothing, nodes_stand_for_what_their_slots_show,

@@ -3,9 +3,18 @@
 #![tactic(auto)]
 
 pub mod begin;
+pub mod clearing;
+pub mod copies;
+pub mod cursors;
 pub mod laws;
+pub mod lookup;
+pub mod operations;
+pub mod pruning;
+pub mod publish;
+pub mod subject;
 pub mod view;
 pub mod word_step;
+pub mod writing;
 
 pub use begin::Begin;
 pub use view::{Leaf, View};

@@ -24,7 +24,7 @@ use Rattle.table_rule.specs.Owed.{Locks}
 use Rattle.table_rule.specs.Rule.{TableState, Kept}
 use Rattle.table_rule.specs.Shape.{Shape, start_of, held_at, time, IsBelow, ShowsAt, Fine}
 use Rattle.table_seats.specs.TrieLaws.{TrieLaws}
-use Rattle.table_steps.specs.Units.{link_at, with_unit, link_slots, link_word, unit_word}
+use Rattle.table_rule.specs.Units.{link_at, with_unit, link_slots, link_word, unit_word}
 use Rattle.table_seats.proofs.KeyCalls.{IsOn, ChangesKey}
 use Rattle.table_seats.proofs.Outside.{nibble_below}
 use Rattle.table_seats.proofs.Published as published

@@ -21,12 +21,12 @@ use Rattle.table_rule.specs.declared.begin.Begin.{Begin}
 use Rattle.table_rule.specs.declared.view.Gate.TheVariants.{Inside, Closed}
 use Rattle.table_rule.specs.declared.view.Own.{Own}
 use Rattle.table_rule.specs.declared.view.View.{View}
-use Rattle.table_steps.specs.Clearing.{HasClosed, Clears}
+use Rattle.table_rule.specs.Clearing.{HasClosed, Clears}
 use Rattle.sync_model.specs.EndsOfHistory.{HasKeysBelow}
 use Rattle.table_seats.specs.Laws.{HistoryLaws}
 use Rattle.table_rule.specs.Layout.{root_word, callers_of}
 use Rattle.table_rule.specs.Ledger.{Owned, Fits}
-use Rattle.table_steps.specs.Making.{HasUnit, MadeCall}
+use Rattle.table_rule.specs.Making.{HasUnit, MadeCall}
 use Rattle.table_rule.specs.Owed.{HasRoom, AtGate, Suits, HoldsLock}
 use Rattle.table_rule.specs.Rule.{TableState, Kept}
 use Rattle.table_rule.specs.Shape.{Shape, start_of}

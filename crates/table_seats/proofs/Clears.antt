@@ -5,12 +5,12 @@ use Rattle.atomic_table.specs.Table.{Me}
 use Rattle.table_rule.specs.declared.begin.Begin.{Begin}
 use Rattle.table_seats.specs.declared.words.TableWords.{TableWords}
 use Rattle.table_rule.specs.declared.view.View.{View}
-use Rattle.table_steps.specs.Clearing.{HasClosed, Closes, LooksInside, Clears as ClearsMap}
+use Rattle.table_rule.specs.Clearing.{HasClosed, Closes, LooksInside, Clears as ClearsMap}
 use Rattle.table_seats.specs.Laws.{HistoryLaws}
 use Rattle.table_rule.specs.Layout.{root_word, gate_word}
-use Rattle.table_steps.specs.Making.{HasUnit}
-use Rattle.table_steps.specs.Walking.{IsFree}
-use Rattle.table_steps.specs.Writing.{GoesOut}
+use Rattle.table_rule.specs.Making.{HasUnit}
+use Rattle.table_rule.specs.Walking.{IsFree}
+use Rattle.table_rule.specs.Writing.{GoesOut}
 use Rattle.table_seats.proofs.Cleared.{clears}
 use Rattle.table_seats.proofs.Closing.{closes, looks_inside, opens}
 use Rattle.table_seats.proofs.Stepping.{May, may}

@@ -13,7 +13,7 @@ use Rattle.table_rule.specs.declared.view.Gate.{Gate}
 use Rattle.table_rule.specs.declared.view.Gate.TheVariants.{Outside, Inside, Closed}
 use Rattle.table_rule.specs.declared.view.Own.{Own}
 use Rattle.table_rule.specs.declared.view.View.{View}
-use Rattle.table_steps.specs.Clearing.{HasClosed, Closes, SeesAlone, LooksInside}
+use Rattle.table_rule.specs.Clearing.{HasClosed, Closes, SeesAlone, LooksInside}
 use Rattle.table_rule.specs.Gates.{count_below, closed_bit, Gated}
 use Rattle.table_seats.specs.Laws.{HistoryLaws}
 use Rattle.trie_nodes.specs.Layout.{unit_words}
@@ -21,8 +21,8 @@ use Rattle.table_rule.specs.Layout.{root_word, gate_word, heads, callers_of, siz
 use Rattle.table_rule.specs.Owed.{AtGate}
 use Rattle.table_rule.specs.Rule.{TableState, Kept}
 use Rattle.table_rule.specs.Shape.{Shape, Fine}
-use Rattle.table_steps.specs.Walking.{IsFree}
-use Rattle.table_steps.specs.Writing.{holding, GoesOut}
+use Rattle.table_rule.specs.Walking.{IsFree}
+use Rattle.table_rule.specs.Writing.{holding, GoesOut}
 use Rattle.table_seats.proofs.Frames.{Later, Apart}
 use Rattle.table_seats.proofs.Gating.{free, behind, no_root, no_gate, gate_within, closed_large, open_at, tries}
 use Rattle.table_seats.proofs.Outside.{same, later_out, apart_out, fine_out}

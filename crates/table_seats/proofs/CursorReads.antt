@@ -7,12 +7,12 @@ use Rattle.table_rule.specs.declared.view.Spot.{Spot}
 use Rattle.table_rule.specs.declared.view.View.{View}
 use Rattle.trie_nodes.specs.Layout.{slot_word}
 use Rattle.trie_nodes.specs.Slots.{slot_in}
-use Rattle.table_steps.specs.Cursors.{BeginsCursor, SweepsSlot, GoesUp, ShowsNone, Sweeping, StandsIn}
+use Rattle.table_rule.specs.Cursors.{BeginsCursor, SweepsSlot, GoesUp, ShowsNone, Sweeping, StandsIn}
 use Rattle.table_seats.specs.Laws.{HistoryLaws}
 use Rattle.table_rule.specs.Layout.{root_word, size_of}
 use Rattle.table_rule.specs.Rule.{Kept}
 use Rattle.table_seats.specs.SweepLaws.{SweepLaws}
-use Rattle.table_steps.specs.Walking.{HasWords}
+use Rattle.table_rule.specs.Walking.{HasWords}
 use Rattle.table_seats.proofs.CursorSteps.{sweeps_slot, moves_up, shows_none}
 use Rattle.table_seats.proofs.Mounting.{begins_cursor}
 

@@ -18,7 +18,7 @@ use Rattle.table_rule.specs.declared.begin.Begin.{Begin}
 use Rattle.table_rule.specs.declared.view.Leaf.{Leaf}
 use Rattle.table_rule.specs.declared.view.Spot.{Spot}
 use Rattle.table_rule.specs.declared.view.View.{View}
-use Rattle.table_steps.specs.Cursors.{at_spot, behind, behind_shown, down_in, up_from, Sweeps, SweepsIn, SweepsSlot, GoesUp, ShowsNone, Sweeping, StandsIn}
+use Rattle.table_rule.specs.Cursors.{at_spot, behind, behind_shown, down_in, up_from, Sweeps, SweepsIn, SweepsSlot, GoesUp, ShowsNone, Sweeping, StandsIn}
 use Rattle.table_seats.specs.Laws.{HistoryLaws}
 use Rattle.table_rule.specs.Layout.{size_of, callers_of, IsBegin}
 use Rattle.table_rule.specs.Ledger.{Owned, Fits}
@@ -26,7 +26,7 @@ use Rattle.table_rule.specs.Owed.{IsLeaf, Stands}
 use Rattle.table_rule.specs.Rule.{TableState, Kept}
 use Rattle.table_rule.specs.Shape.{start_of, time}
 use Rattle.table_seats.specs.SweepLaws.{SweepLaws}
-use Rattle.table_steps.specs.Walking.{HasWords}
+use Rattle.table_rule.specs.Walking.{HasWords}
 use Rattle.table_seats.proofs.Ledgers.{longer, first}
 use Rattle.table_seats.proofs.Sweeping.{here, till_end, empty_passed, entry_of, own_key, not_shown, own_value, entry_passed, goes_down, goes_up, all_passed}
 use Rattle.table_seats.proofs.Swept.{kept_there, view_after, kept_swept, sweeps}

@@ -15,15 +15,15 @@ use Rattle.table_rule.specs.declared.view.View.{View}
 use Rattle.table_seats.specs.Laws.{HistoryLaws}
 use Rattle.trie_nodes.specs.Layout.{slot_word, dead_word}
 use Rattle.trie_nodes.specs.Paths.{nibble, route}
-use Rattle.table_steps.specs.Making.{bare}
+use Rattle.table_rule.specs.Making.{bare}
 use Rattle.table_rule.specs.Layout.{callers_of}
 use Rattle.table_rule.specs.Ledger.{Fits}
 use Rattle.table_rule.specs.Owed.{IsCutOff, Locks, AtGate, Suits}
-use Rattle.table_steps.specs.Pruning.{dead_node, having_cut, HoldsBoth}
+use Rattle.table_rule.specs.Pruning.{dead_node, having_cut, HoldsBoth}
 use Rattle.table_rule.specs.Rule.{TableState, Kept}
 use Rattle.table_rule.specs.Shape.{Shape}
 use Rattle.table_seats.specs.TrieLaws.{TrieLaws}
-use Rattle.table_steps.specs.Writing.{holding}
+use Rattle.table_rule.specs.Writing.{holding}
 use Rattle.table_seats.proofs.Cutting.{with_cut, Stub, fine_cut, gates_cut, later_cut, steady_cut, apart_cut, room_cut, cut_off, lock_same, parent_same, cut_here, other_reachable, was_reachable}
 use Rattle.table_seats.proofs.Frames.{Later}
 use Rattle.table_seats.proofs.LockWords.{by_first, same_map}

@@ -20,7 +20,7 @@ use Rattle.table_rule.specs.Ledger.{Owned, Fits}
 use Rattle.table_rule.specs.Owed.{HasRoom, Locks, AtGate, Suits, HoldsLock}
 use Rattle.table_rule.specs.Rule.{TableState, Kept}
 use Rattle.table_rule.specs.Shape.{Shape}
-use Rattle.table_steps.specs.Writing.{with_word, Drafts}
+use Rattle.table_rule.specs.Writing.{with_word, Drafts}
 use Rattle.table_seats.proofs.Frames.{Later, walks_on, leaf_on, cut_on, stands_on}
 use Rattle.table_seats.proofs.Outside.{with_inside, same, in_node, later_out, apart_out, fine_out}
 use Rattle.table_seats.proofs.Lists.{past_end}

@@ -18,8 +18,8 @@ use Rattle.trie_nodes.specs.Layout.{unit_words}
 use Rattle.table_rule.specs.Layout.{root_word, gate_word, callers_of, size_of}
 use Rattle.table_rule.specs.Owed.{AtGate}
 use Rattle.table_rule.specs.Rule.{TableState, Kept}
-use Rattle.table_steps.specs.Walking.{IsFree}
-use Rattle.table_steps.specs.Writing.{holding, ComesIn, IsInside, GoesOut}
+use Rattle.table_rule.specs.Walking.{IsFree}
+use Rattle.table_rule.specs.Writing.{holding, ComesIn, IsInside, GoesOut}
 use Rattle.table_seats.proofs.Frames.{Later}
 use Rattle.table_seats.proofs.Outside.{with_inside, same, later_out, apart_out, fine_out}
 use Rattle.table_seats.proofs.Quiet.{kept_standing}

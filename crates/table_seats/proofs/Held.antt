@@ -22,11 +22,11 @@ use Rattle.trie_nodes.specs.Layout.{slot_word, unit_words}
 use Rattle.trie_nodes.specs.Paths.{nibble}
 use Rattle.trie_nodes.specs.Slots.{slot_in}
 use Rattle.table_rule.specs.Layout.{size_of}
-use Rattle.table_steps.specs.Making.{found_lock, StandsLocked, FindsHeld, LooksHeld}
+use Rattle.table_rule.specs.Making.{found_lock, StandsLocked, FindsHeld, LooksHeld}
 use Rattle.table_rule.specs.Rule.{TableState, Kept}
 use Rattle.table_rule.specs.Views.{with_item, paid}
-use Rattle.table_steps.specs.Walking.{standing, given_by, Answers, FindsIn, Settles, Affords}
-use Rattle.table_steps.specs.Writing.{holding, lock_at, Holds}
+use Rattle.table_rule.specs.Walking.{standing, given_by, Answers, FindsIn, Settles, Affords}
+use Rattle.table_rule.specs.Writing.{holding, lock_at, Holds}
 use Rattle.table_seats.proofs.KeyCalls.{IsOn}
 use Rattle.table_seats.proofs.Locking.{kept_found}
 use Rattle.table_seats.proofs.Lists.{set_here}

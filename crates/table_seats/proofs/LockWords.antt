@@ -20,7 +20,7 @@ use Rattle.table_rule.specs.Ledger.{Fits}
 use Rattle.table_rule.specs.Owed.{Locks, HoldsLock, AtGate, Suits}
 use Rattle.table_rule.specs.Rule.{TableState, Kept}
 use Rattle.table_rule.specs.Shape.{Shape}
-use Rattle.table_steps.specs.Writing.{holding}
+use Rattle.table_rule.specs.Writing.{holding}
 use Rattle.table_seats.proofs.Frames.{Later}
 use Rattle.table_seats.proofs.Holding.{with_holder, holder_of, other_holder, here, behind, other_node, gates_hold, later_hold, apart_hold, fine_hold, room_hold}
 use Rattle.table_seats.proofs.Quiet.{later_same, apart_same, kept_standing}

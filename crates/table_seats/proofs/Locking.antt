@@ -14,12 +14,12 @@ use Rattle.table_rule.specs.declared.view.View.{View}
 use Rattle.table_rule.specs.declared.view.Walk.{Walk}
 use Rattle.table_seats.specs.Laws.{HistoryLaws}
 use Rattle.trie_nodes.specs.Layout.{parent_word, slot_word, dead_word}
-use Rattle.table_steps.specs.Making.{found_lock}
+use Rattle.table_rule.specs.Making.{found_lock}
 use Rattle.table_rule.specs.Owed.{Locks}
 use Rattle.table_rule.specs.Rule.{TableState, Kept}
 use Rattle.table_rule.specs.Layout.{callers_of}
-use Rattle.table_steps.specs.Walking.{standing}
-use Rattle.table_steps.specs.Writing.{holding, lock_at, IsWriter, TriedLock, TriesLock, Holds, Unlocks}
+use Rattle.table_rule.specs.Walking.{standing}
+use Rattle.table_rule.specs.Writing.{holding, lock_at, IsWriter, TriedLock, TriesLock, Holds, Unlocks}
 use Rattle.table_seats.proofs.Holding.{with_holder, holder_of, other_holder}
 use Rattle.table_seats.proofs.LockWords.{IsReachable, not_dead, few, suits_held, kept_as, holds_taken, kept_taken, kept_knowing, kept_idle, by_first, knows_taken}
 use Rattle.table_seats.proofs.Still.{fits_holding, suits_nowhere, fits_nowhere, KnowsLocks, holds_none, holds_one}

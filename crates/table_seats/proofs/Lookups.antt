@@ -29,7 +29,7 @@ use Rattle.table_rule.specs.Owed.{Walks, IsLeaf}
 use Rattle.table_rule.specs.Rule.{TableState, Kept}
 use Rattle.table_rule.specs.Shape.{start_of, held_at, till, time, IsBelow}
 use Rattle.table_rule.specs.Views.{MayPay}
-use Rattle.table_steps.specs.Walking.{standing, walk_at, HasWords, Enters, Answers, IsAlong, FindsIn, LooksIn, Affords, ReadsKey, KeepsValue, ReadsValue}
+use Rattle.table_rule.specs.Walking.{standing, walk_at, HasWords, Enters, Answers, IsAlong, FindsIn, LooksIn, Affords, ReadsKey, KeepsValue, ReadsValue}
 use Rattle.table_seats.proofs.KeyCalls.{IsOn}
 use Rattle.table_seats.proofs.Ledgers.{longer}
 use Rattle.table_seats.proofs.Placed.{view_after, kept_quiet, answers}

@@ -22,12 +22,12 @@ use Rattle.trie_nodes.specs.Layout.{slot_word}
 use Rattle.trie_nodes.specs.Nodes.{Shows, entry_value}
 use Rattle.trie_nodes.specs.Paths.{nibble}
 use Rattle.trie_nodes.specs.Slots.{slot_in}
-use Rattle.table_steps.specs.Making.{leaf_value, HasLeaf, Sees, Removes, Stores, Expands, Makes, MayPublish, bare, used_in, Publishes}
+use Rattle.table_rule.specs.Making.{leaf_value, HasLeaf, Sees, Removes, Stores, Expands, Makes, MayPublish, bare, used_in, Publishes}
 use Rattle.table_rule.specs.Owed.{Locks}
 use Rattle.table_rule.specs.Rule.{TableState, Kept}
 use Rattle.table_rule.specs.Shape.{start_of, held_at, till, time, IsBelow, ShowsAt, Fine}
 use Rattle.table_seats.specs.TrieLaws.{TrieLaws}
-use Rattle.table_steps.specs.Units.{with_unit}
+use Rattle.table_rule.specs.Units.{with_unit}
 use Rattle.table_rule.specs.Views.{with_item, paid, spend, called_view, view_state}
 use Rattle.table_seats.proofs.Chains as chains
 use Rattle.table_seats.proofs.Published as published

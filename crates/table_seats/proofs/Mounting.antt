@@ -13,7 +13,7 @@ use Rattle.table_rule.specs.declared.view.Gate.TheVariants.{Outside}
 use Rattle.table_rule.specs.declared.view.Own.{Own}
 use Rattle.table_rule.specs.declared.view.Spot.{Spot}
 use Rattle.table_rule.specs.declared.view.View.{View}
-use Rattle.table_steps.specs.Cursors.{first_spot, Sweeps, BeginsCursor, mounted, unmounted, cursor_seat}
+use Rattle.table_rule.specs.Cursors.{first_spot, Sweeps, BeginsCursor, mounted, unmounted, cursor_seat}
 use Rattle.table_seats.specs.Laws.{HistoryLaws}
 use Rattle.table_rule.specs.Layout.{root_word, callers_of}
 use Rattle.table_rule.specs.Ledger.{Fits}

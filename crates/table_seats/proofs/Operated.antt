@@ -10,9 +10,9 @@ use Rattle.table_seats.specs.declared.words.TableWords.{TableWords}
 use Rattle.table_rule.specs.declared.word_step.WordStep.{WordStep}
 use Rattle.table_rule.specs.declared.word_step.WordStep.TheVariants.{CompareExchange}
 use Rattle.table_seats.specs.Laws.{HistoryLaws}
-use Rattle.table_steps.specs.Operations.{IsOperation, Operates}
+use Rattle.table_rule.specs.Operations.{IsOperation, Operates}
 use Rattle.table_rule.specs.Rule.{Kept}
-use Rattle.table_steps.specs.Walking.{IsFree}
+use Rattle.table_rule.specs.Walking.{IsFree}
 use Rattle.table_rule.specs.WordSteps.{word_after}
 use Rattle.table_seats.proofs.Operating.{operates}
 

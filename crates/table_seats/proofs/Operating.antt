@@ -24,7 +24,7 @@ use Rattle.table_seats.specs.Laws.{HistoryLaws}
 use Rattle.trie_nodes.specs.Layout.{atomic_word}
 use Rattle.table_rule.specs.Layout.{callers_of}
 use Rattle.table_rule.specs.Ledger.{Owned, Fits}
-use Rattle.table_steps.specs.Operations.{IsOperation, PlacesCall, Operates}
+use Rattle.table_rule.specs.Operations.{IsOperation, PlacesCall, Operates}
 use Rattle.table_rule.specs.Owed.{HasRoom, Suits, HoldsLock}
 use Rattle.table_rule.specs.Rule.{TableState, Kept}
 use Rattle.table_rule.specs.Shape.{start_of, IsNumber}

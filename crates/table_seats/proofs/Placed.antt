@@ -19,7 +19,7 @@ use Rattle.table_rule.specs.Owed.{IsLeaf}
 use Rattle.table_rule.specs.Rule.{TableState, Kept}
 use Rattle.table_rule.specs.Shape.{start_of}
 use Rattle.table_rule.specs.Views.{called_view, with_item, paid, MayPay}
-use Rattle.table_steps.specs.Walking.{standing, Answers}
+use Rattle.table_rule.specs.Walking.{standing, Answers}
 use Rattle.table_seats.proofs.Ledgers.{MayPlace}
 use Rattle.table_seats.proofs.Placing.{placed_item, paid_first}
 use Rattle.table_seats.proofs.Placing as placing

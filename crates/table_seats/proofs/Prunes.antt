@@ -10,12 +10,12 @@ use Rattle.table_rule.specs.declared.view.View.{View}
 use Rattle.table_seats.specs.Laws.{HistoryLaws}
 use Rattle.trie_nodes.specs.Layout.{parent_word, slot_word, dead_word}
 use Rattle.trie_nodes.specs.Paths.{nibble}
-use Rattle.table_steps.specs.Making.{bare}
-use Rattle.table_steps.specs.Pruning.{dead_node, having_cut, marked, SeesSlot, LooksAtSlot, ReadsParent, TriedUpper, TriesUpper, HoldsBoth, Marks, CutsOff}
+use Rattle.table_rule.specs.Making.{bare}
+use Rattle.table_rule.specs.Pruning.{dead_node, having_cut, marked, SeesSlot, LooksAtSlot, ReadsParent, TriedUpper, TriesUpper, HoldsBoth, Marks, CutsOff}
 use Rattle.table_rule.specs.Rule.{Kept}
 use Rattle.table_seats.specs.TrieLaws.{TrieLaws}
-use Rattle.table_steps.specs.Walking.{HasWords}
-use Rattle.table_steps.specs.Writing.{holding, Holds}
+use Rattle.table_rule.specs.Walking.{HasWords}
+use Rattle.table_rule.specs.Writing.{holding, Holds}
 use Rattle.table_seats.proofs.Cuts.{cuts_off}
 use Rattle.table_seats.proofs.Outside.{nibble_below}
 use Rattle.table_seats.proofs.UpperLocks.{looks_at_slot, reads_parent, tries_upper, marks}

@@ -32,7 +32,7 @@ use Rattle.table_rule.specs.Owed.{HasRoom, Locks, AtGate, Suits, HoldsLock}
 use Rattle.table_rule.specs.Rule.{TableState, Kept}
 use Rattle.table_rule.specs.Shape.{Shape, start_of, Fine}
 use Rattle.table_seats.specs.TrieLaws.{TrieLaws}
-use Rattle.table_steps.specs.Units.{with_unit}
+use Rattle.table_rule.specs.Units.{with_unit}
 use Rattle.table_rule.specs.Views.{called_view, spend_own, view_state}
 use Rattle.table_seats.proofs.Frames.{Later, Apart, cut_on, room_on, stands_on}
 use Rattle.table_seats.proofs.KeyCalls.{IsOn, ChangesKey, changes_key}

@@ -19,7 +19,7 @@ use Rattle.table_seats.specs.Laws.{HistoryLaws}
 use Rattle.table_rule.specs.Layout.{root_word, gate_word, heads}
 use Rattle.table_rule.specs.Shape.{Shape, start_of, held_at, till, time, IsNumber, IsNode, IsEntry, IsBelow, ShowsAt, Fine}
 use Rattle.table_seats.specs.TrieLaws.{TrieLaws}
-use Rattle.table_steps.specs.Units.{link_at, with_unit}
+use Rattle.table_rule.specs.Units.{link_at, with_unit}
 use Rattle.table_seats.proofs.Frames.{Later, Apart}
 use Rattle.table_seats.proofs.KeyCalls.{ChangesKey}
 use Rattle.table_seats.proofs.Ledgers.{longer}

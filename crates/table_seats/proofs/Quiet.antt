@@ -16,7 +16,7 @@ use Rattle.table_rule.specs.Ledger.{Fits}
 use Rattle.table_rule.specs.Owed.{Walks, IsLeaf, Suits}
 use Rattle.table_rule.specs.Rule.{TableState, Kept}
 use Rattle.table_rule.specs.Shape.{Shape}
-use Rattle.table_steps.specs.Walking.{standing}
+use Rattle.table_rule.specs.Walking.{standing}
 use Rattle.table_seats.proofs.Frames.{Later, Apart}
 use Rattle.table_seats.proofs.Moves.{with_view}
 

@@ -13,7 +13,7 @@ use Rattle.trie_nodes.specs.Paths.{nibble}
 use Rattle.trie_nodes.specs.Slots.{slot_in}
 use Rattle.table_rule.specs.Layout.{root_word, size_of}
 use Rattle.table_rule.specs.Rule.{Kept}
-use Rattle.table_steps.specs.Walking.{HasWords, Enters, MayEnter, LooksIn, Affords, ReadsKey, KeepsValue, ReadsValue, OnWay, AtEntry}
+use Rattle.table_rule.specs.Walking.{HasWords, Enters, MayEnter, LooksIn, Affords, ReadsKey, KeepsValue, ReadsValue, OnWay, AtEntry}
 use Rattle.table_seats.proofs.KeyCalls.{IsOn}
 use Rattle.table_seats.proofs.Lookups.{enters, looks_in, reads_key, keeps_value, reads_value}
 use Rattle.table_seats.proofs.Stepping.{may}

@@ -8,10 +8,10 @@ use Rattle.table_rule.specs.declared.view.View.{View}
 use Rattle.table_seats.specs.declared.words.TableWords.{TableWords}
 use Rattle.table_seats.specs.Laws.{HistoryLaws}
 use Rattle.table_rule.specs.Layout.{size_of}
-use Rattle.table_steps.specs.Making.{used_in, IsLockAt, MayPublish, Publishes}
+use Rattle.table_rule.specs.Making.{used_in, IsLockAt, MayPublish, Publishes}
 use Rattle.table_rule.specs.Rule.{Kept}
 use Rattle.table_seats.specs.TrieLaws.{TrieLaws}
-use Rattle.table_steps.specs.Walking.{HasWords}
+use Rattle.table_rule.specs.Walking.{HasWords}
 use Rattle.trie_nodes.specs.Layout.{slot_word}
 use Rattle.trie_nodes.specs.Paths.{nibble}
 use Rattle.table_seats.proofs.Makes.{publishes}

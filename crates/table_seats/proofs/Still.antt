@@ -19,8 +19,8 @@ use Rattle.table_rule.specs.Layout.{callers_of}
 use Rattle.table_rule.specs.Ledger.{Owned, Fits}
 use Rattle.trie_nodes.specs.Layout.{dead_word}
 use Rattle.table_rule.specs.Owed.{HasRoom, Locks, HoldsLock, AtGate, Suits}
-use Rattle.table_steps.specs.Walking.{standing}
-use Rattle.table_steps.specs.Writing.{holding}
+use Rattle.table_rule.specs.Walking.{standing}
+use Rattle.table_rule.specs.Writing.{holding}
 use Rattle.table_rule.specs.Rule.{TableState, Kept}
 use Rattle.table_rule.specs.Shape.{Shape, Fine}
 use Rattle.table_seats.proofs.Frames.{Later, Apart, walks_on, leaf_on, cut_on, stands_on}

@@ -14,7 +14,7 @@ use Rattle.table_rule.specs.declared.view.Leaf.{Leaf}
 use Rattle.table_rule.specs.declared.view.Own.{Own}
 use Rattle.table_rule.specs.declared.view.Spot.{Spot}
 use Rattle.table_rule.specs.declared.view.View.{View}
-use Rattle.table_steps.specs.Cursors.{at_spot, Sweeps}
+use Rattle.table_rule.specs.Cursors.{at_spot, Sweeps}
 use Rattle.table_seats.specs.Laws.{HistoryLaws}
 use Rattle.table_rule.specs.Layout.{callers_of}
 use Rattle.table_rule.specs.Ledger.{Fits}

@@ -4,7 +4,7 @@ use Rattle.std.proofs.lemmas.Slice.Eq.{bytes_eq-Decides}
 use Rattle.trie_nodes.specs.Paths.{route}
 use Rattle.table_rule.specs.Shape.{Shape}
 use Rattle.table_seats.specs.TrieLaws.{TrieLaws}
-use Rattle.table_steps.specs.Units.{link_at, in_entry, in_links, link_of, is_link, is_link_path, with_unit}
+use Rattle.table_rule.specs.Units.{link_at, in_entry, in_links, link_of, is_link, is_link_path, with_unit}
 
 pub both_true : (a b : Bool) → (a && b) ≡ true → (a ≡ true) × (b ≡ true)
 both_true true b e = (refl, e)

@@ -16,11 +16,11 @@ use Rattle.table_seats.specs.Laws.{HistoryLaws}
 use Rattle.trie_nodes.specs.Layout.{parent_word, slot_word, dead_word}
 use Rattle.trie_nodes.specs.Paths.{nibble, route}
 use Rattle.table_rule.specs.Owed.{Locks, Suits}
-use Rattle.table_steps.specs.Making.{found_lock}
-use Rattle.table_steps.specs.Pruning.{with_empty, upper_lock, marked, SeesSlot, TriedUpper, HoldsBoth}
+use Rattle.table_rule.specs.Making.{found_lock}
+use Rattle.table_rule.specs.Pruning.{with_empty, upper_lock, marked, SeesSlot, TriedUpper, HoldsBoth}
 use Rattle.table_rule.specs.Rule.{TableState, Kept}
-use Rattle.table_steps.specs.Walking.{HasWords}
-use Rattle.table_steps.specs.Writing.{holding, Holds}
+use Rattle.table_rule.specs.Walking.{HasWords}
+use Rattle.table_rule.specs.Writing.{holding, Holds}
 use Rattle.table_seats.proofs.Lookups.{has_words}
 use Rattle.table_seats.proofs.LockWords.{IsReachable, not_dead, few, locks_off, after_lock, lock_word_is, kept_held, holds_taken, holds_beside, kept_taken, kept_knowing, kept_idle, by_first, knows_taken, knows_held}
 use Rattle.table_seats.proofs.Holding.{with_holder, holder_of}

@@ -16,10 +16,10 @@ use Rattle.trie_nodes.specs.Layout.{slot_word}
 use Rattle.trie_nodes.specs.Paths.{nibble}
 use Rattle.trie_nodes.specs.Slots.{slot_in}
 use Rattle.table_rule.specs.Layout.{gate_word, size_of}
-use Rattle.table_steps.specs.Making.{StandsLocked, LooksHeld}
+use Rattle.table_rule.specs.Making.{StandsLocked, LooksHeld}
 use Rattle.table_rule.specs.Rule.{Kept}
-use Rattle.table_steps.specs.Walking.{HasWords, Affords, IsFree}
-use Rattle.table_steps.specs.Writing.{IsWriter, TriesLock, Holds, Unlocks, ComesIn, IsInside, GoesOut, Drafts, HasDraft}
+use Rattle.table_rule.specs.Walking.{HasWords, Affords, IsFree}
+use Rattle.table_rule.specs.Writing.{IsWriter, TriesLock, Holds, Unlocks, ComesIn, IsInside, GoesOut, Drafts, HasDraft}
 use Rattle.table_seats.proofs.Drafting.{drafts, drafts_zero}
 use Rattle.table_seats.proofs.Gating.{comes_in, goes_out}
 use Rattle.table_seats.proofs.Held.{looks_held}

@@ -2,20 +2,20 @@
 //! empty root into the map's root word, and opens the gate. Lookups go on all the while, in the new nodes or in the old ones.
 ghost use Rattle.std.specs.Prelude.{◌≡◌, ◌<◌, true, false, None, MatchBool};
 ghost use Rattle.table_rule.specs.declared.view.Gate.TheVariants.{Outside, Closed};
-ghost use Rattle.table_steps.specs.Clearing.{HasClosed, Clears};
-ghost use Rattle.table_steps.specs.Making.{HasUnit};
+ghost use Rattle.table_rule.specs.Clearing.{HasClosed, Clears};
+ghost use Rattle.table_rule.specs.Making.{HasUnit};
 ghost use Rattle.table_seats.specs.Seats.{begin_of, IsSeatOf};
-ghost use Rattle.table_steps.specs.Walking.{IsFree};
-ghost use Rattle.table_steps.specs.Writing.{holding, HasRoomWithin};
+ghost use Rattle.table_rule.specs.Walking.{IsFree};
+ghost use Rattle.table_rule.specs.Writing.{holding, HasRoomWithin};
 
 use crate::laws::history_laws;
 use crate::words::TableWords;
 use atomic_table::Seat;
 use std::marker::Brand;
 use std::sync::Wait;
+use table_rule::clearing::{Close, LookInside, Open, WriteRoot};
+use table_rule::subject::Way;
 use table_rule::view::View;
-use table_steps::clearing::{Close, LookInside, Open, WriteRoot};
-use table_steps::subject::Way;
 
 // The word of a gate that is closed, where no writer is inside.
 const CLOSED: u64 = 1 << 32;

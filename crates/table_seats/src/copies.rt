@@ -8,8 +8,8 @@ ghost use Rattle.table_rule.specs.Views.{copied, dealt, joined, kept, IsIdle, Lo
 use crate::laws::history_laws;
 use crate::words::TableWords;
 use atomic_table::Seat;
+use table_rule::copies::{Copied, Deal, Gather, Look};
 use table_rule::view::View;
-use table_steps::copies::{Copied, Deal, Gather, Look};
 
 // The word that a look reads: it is always 0.
 pub(crate) const ZERO: usize = 0;

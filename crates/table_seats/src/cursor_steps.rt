@@ -3,19 +3,19 @@
 ghost use Rattle.std.specs.Prelude.{◌≡◌, ℕ, ◌<◌, true, List, [], ◌∷◌, ◌++◌, length};
 ghost use Rattle.table_rule.specs.declared.view.Gate.TheVariants.{Outside};
 ghost use Rattle.table_rule.specs.declared.view.Spot.{Spot};
-ghost use Rattle.table_steps.specs.Cursors.{mounted, unmounted, cursor_seat, BeginsCursor, SweepsSlot, GoesUp, ShowsNone, Sweeping, StandsIn};
+ghost use Rattle.table_rule.specs.Cursors.{mounted, unmounted, cursor_seat, BeginsCursor, SweepsSlot, GoesUp, ShowsNone, Sweeping, StandsIn};
 ghost use Rattle.table_seats.specs.SweepLaws.{SweepLaws};
 ghost use Rattle.table_seats.specs.Seats.{begin_of, IsSeatOf};
-ghost use Rattle.table_steps.specs.Walking.{HasWords};
+ghost use Rattle.table_rule.specs.Walking.{HasWords};
 
 use crate::copies::ZERO;
 use crate::laws::history_laws;
 use crate::words::TableWords;
 use atomic_table::Seat;
 use std::marker::Brand;
+use table_rule::cursors::{BeginCursor, Mount, Rise, ShowNone, Sweep, Unmount};
+use table_rule::subject::Way;
 use table_rule::view::View;
-use table_steps::cursors::{BeginCursor, Mount, Rise, ShowNone, Sweep, Unmount};
-use table_steps::subject::Way;
 use trie_nodes::Slot;
 use trie_nodes::laws::order::a_walk_passes_each_key_once;
 use trie_nodes::laws::paths::{a_path_has_a_slot_of_each_level, each_slot_has_a_key};

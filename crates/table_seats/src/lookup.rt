@@ -6,7 +6,7 @@ ghost use Rattle.sync_types.specs.SequentialMap.{map_key};
 ghost use Rattle.sync_model.specs.Shared.{cost_of};
 ghost use Rattle.table_rule.specs.declared.view.Leaf.{Leaf};
 ghost use Rattle.table_seats.specs.Seats.{begin_of, IsSeatOf};
-ghost use Rattle.table_steps.specs.Walking.{standing, walk_at, HasWords, Enters, MayEnter, FindsIn, Affords, OnWay, AtEntry, IsUncounted};
+ghost use Rattle.table_rule.specs.Walking.{standing, walk_at, HasWords, Enters, MayEnter, FindsIn, Affords, OnWay, AtEntry, IsUncounted};
 
 use crate::laws::history_laws;
 use crate::steps::Steps;
@@ -15,9 +15,9 @@ use atomic_table::Seat;
 use std::marker::Brand;
 use std::sync::ledger::Ledger;
 use sync_types::MapCall;
+use table_rule::lookup::{Enter, KeepValue, LookIn, ReadKey, ReadValue};
+use table_rule::subject::{Making, Way};
 use table_rule::view::{Leaf, View};
-use table_steps::lookup::{Enter, KeepValue, LookIn, ReadKey, ReadValue};
-use table_steps::subject::{Making, Way};
 use trie_nodes::layout::{key_word, slot_word, value_word};
 use trie_nodes::{Slot, nibble};
 

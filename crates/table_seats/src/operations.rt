@@ -1,9 +1,9 @@
 //! Operations on the words of atomics.
 ghost use Rattle.std.specs.Prelude.{◌≡◌, Some, slice_get};
 ghost use Rattle.sync_types.specs.declared.atomic_object.AtomicKind.{AtomicKind};
-ghost use Rattle.table_steps.specs.Operations.{IsOperation, Operates};
+ghost use Rattle.table_rule.specs.Operations.{IsOperation, Operates};
 ghost use Rattle.table_seats.specs.Seats.{begin_of, IsSeatOf};
-ghost use Rattle.table_steps.specs.Walking.{IsFree};
+ghost use Rattle.table_rule.specs.Walking.{IsFree};
 ghost use Rattle.table_rule.specs.WordSteps.{word_after};
 
 use crate::laws::history_laws;
@@ -11,10 +11,10 @@ use crate::words::TableWords;
 use atomic_table::Seat;
 use std::marker::Brand;
 use sync_types::AtomicCall;
+use table_rule::operations::Operate;
+use table_rule::subject::Operation;
 use table_rule::view::View;
 use table_rule::word_step::WordStep;
-use table_steps::operations::Operate;
-use table_steps::subject::Operation;
 
 impl TableWords {
     /// A seat makes an operation on an atomic's word, in one atomic step, and tells the word as it was before. The step places

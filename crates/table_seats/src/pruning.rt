@@ -2,17 +2,17 @@
 //! parent, marks the node dead, and empties the parent's slot. The parent's lock is the one that it holds then.
 ghost use Rattle.std.specs.Prelude.{◌≡◌, ◌<◌, true, false, Some};
 ghost use Rattle.table_rule.specs.declared.view.Lock.{Lock};
-ghost use Rattle.table_steps.specs.Pruning.{LooksAtSlot, ReadsParent, TriedUpper, HoldsBoth, Marks, CutsOff};
+ghost use Rattle.table_rule.specs.Pruning.{LooksAtSlot, ReadsParent, TriedUpper, HoldsBoth, Marks, CutsOff};
 ghost use Rattle.table_seats.specs.Seats.{begin_of, IsSeatOf};
-ghost use Rattle.table_steps.specs.Walking.{HasWords};
-ghost use Rattle.table_steps.specs.Writing.{Holds};
+ghost use Rattle.table_rule.specs.Walking.{HasWords};
+ghost use Rattle.table_rule.specs.Writing.{Holds};
 ghost use Rattle.trie_nodes.specs.Paths.{nibble};
 
 use crate::laws::{history_laws, trie_laws};
 use crate::words::TableWords;
 use atomic_table::Seat;
+use table_rule::pruning::{CutOff, LookAtSlot, Mark, ReadParent, TryUpper};
 use table_rule::view::View;
-use table_steps::pruning::{CutOff, LookAtSlot, Mark, ReadParent, TryUpper};
 use trie_nodes::Slot;
 use trie_nodes::layout::{DEAD, FREE, held_word, lock_word, parent_word, slot_word};
 

@@ -1,18 +1,18 @@
 //! The write of a call that changes a map: one write to a slot, under its node's lock, shows what its caller has drafted.
 ghost use Rattle.std.specs.Prelude.{◌≡◌, ◌<◌};
 ghost use Rattle.table_rule.specs.declared.view.Lock.{Lock};
-ghost use Rattle.table_steps.specs.Making.{used_in, IsLockAt, MayPublish, Publishes};
+ghost use Rattle.table_rule.specs.Making.{used_in, IsLockAt, MayPublish, Publishes};
 ghost use Rattle.table_seats.specs.Seats.{begin_of, IsSeatOf};
-ghost use Rattle.table_steps.specs.Walking.{HasWords};
+ghost use Rattle.table_rule.specs.Walking.{HasWords};
 
 use crate::laws::{history_laws, trie_laws};
 use crate::words::TableWords;
 use atomic_table::Seat;
 use std::marker::Brand;
 use sync_types::MapCall;
+use table_rule::publish::Publish;
+use table_rule::subject::Making;
 use table_rule::view::View;
-use table_steps::publish::Publish;
-use table_steps::subject::Making;
 use trie_nodes::layout::slot_word;
 use trie_nodes::nibble;
 

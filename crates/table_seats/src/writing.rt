@@ -7,11 +7,11 @@ ghost use Rattle.table_rule.specs.declared.view.Own.{Own};
 ghost use Rattle.table_rule.specs.declared.view.Walk.{Walk};
 ghost use Rattle.table_rule.specs.Layout.{size_of};
 ghost use Rattle.table_seats.specs.Seats.{begin_of, IsSeatOf};
-ghost use Rattle.table_steps.specs.Walking.{standing, walk_at, HasWords, Affords, IsFree, IsUncounted};
+ghost use Rattle.table_rule.specs.Walking.{standing, walk_at, HasWords, Affords, IsFree, IsUncounted};
 ghost use Rattle.sync_types.specs.SequentialMap.{map_key};
 ghost use Rattle.sync_model.specs.Shared.{cost_of};
-ghost use Rattle.table_steps.specs.Making.{StandsLocked, LooksHeld};
-ghost use Rattle.table_steps.specs.Writing.{holding, lock_at, IsWriter, Holds, IsInside, HasRoomWithin, drafted, HasDraft};
+ghost use Rattle.table_rule.specs.Making.{StandsLocked, LooksHeld};
+ghost use Rattle.table_rule.specs.Writing.{holding, lock_at, IsWriter, Holds, IsInside, HasRoomWithin, drafted, HasDraft};
 
 use crate::laws::history_laws;
 use crate::words::TableWords;
@@ -19,9 +19,9 @@ use atomic_table::Seat;
 use std::marker::Brand;
 use std::sync::Wait;
 use sync_types::MapCall;
+use table_rule::subject::{Making, Way};
 use table_rule::view::View;
-use table_steps::subject::{Making, Way};
-use table_steps::writing::{ComeIn, Draft, DraftZero, GoOut, LookHeld, TryLock, Unlock};
+use table_rule::writing::{ComeIn, Draft, DraftZero, GoOut, LookHeld, TryLock, Unlock};
 use trie_nodes::layout::{DEAD, FREE, held_word, lock_word, slot_word};
 use trie_nodes::{Slot, nibble};
 

@@ -22,12 +22,12 @@ use Rattle.trie_nodes.specs.Paths.{route}
 use Rattle.trie_nodes.specs.Plans.{IsExpansion}
 use Rattle.trie_nodes.specs.Slots.{word_of_slot}
 use Rattle.table_rule.specs.Layout.{size_of}
-use Rattle.table_steps.specs.Making.{used_in, leaf_value, Sees, HasNoOther, Removes, Stores, Expands, MayPublish, bare, Publishes, IsLockAt}
+use Rattle.table_rule.specs.Making.{used_in, leaf_value, Sees, HasNoOther, Removes, Stores, Expands, MayPublish, bare, Publishes, IsLockAt}
 use Rattle.table_writes.specs.Drafts.{IsPoised, with_draft, Drafted}
 use Rattle.table_rule.specs.Shape.{start_of}
-use Rattle.table_steps.specs.Units.{link_at, unit_word}
+use Rattle.table_rule.specs.Units.{link_at, unit_word}
 use Rattle.table_rule.specs.Views.{held_in, with_item, paid, spend, called_view, view_state}
-use Rattle.table_steps.specs.Writing.{with_word, drafted, HasDraft}
+use Rattle.table_rule.specs.Writing.{with_word, drafted, HasDraft}
 
 -- the slot may become empty
 pub may_remove : (k : Begin) (v : View) (call : MapCall ℕ) (m key node level next x : ℕ) → (p : IsPoised k v call m key node level next) → key_after call (leaf_value v.leaf key) ≡ None → HasNoOther v.leaf key → x ≡ 0

@@ -10,7 +10,7 @@ use Rattle.table_rule.specs.declared.view.Own.{Own}
 use Rattle.table_rule.specs.declared.view.View.{View}
 use Rattle.trie_nodes.specs.declared.slot.Slot.{Slot}
 use Rattle.sync_types.specs.KeyCalls.{is_key_entry}
-use Rattle.table_steps.specs.Making.{leaf_value, IsLockAt, Sees}
+use Rattle.table_rule.specs.Making.{leaf_value, IsLockAt, Sees}
 
 -- a seat that has drafted nothing knows, under the lock of a node, that its call is an entry of the history
 pub record IsPoised (k : Begin) (v : View) (call : MapCall ℕ) (m key node level next : ℕ) : Type 0 where

@@ -1,7 +1,7 @@
 //! The words of a chain, as a call drafts them.
 ghost use Rattle.std.specs.Prelude.{◌≡◌, ◌+◌, ◌*◌, ◌<◌, ◌≤◌, ◌^◌};
 ghost use Rattle.trie_nodes.specs.Plans.{last_slots};
-ghost use Rattle.table_steps.specs.Units.{link_at, link_slots, link_word, unit_word};
+ghost use Rattle.table_rule.specs.Units.{link_at, link_slots, link_word, unit_word};
 
 use trie_nodes::{Expansion, Slot, nibble};
 

@@ -3,11 +3,11 @@
 ghost use Rattle.std.specs.Prelude.{◌≡◌, ◌≢◌, ◌+◌, ◌*◌, ◌<◌, List, Some, None};
 ghost use Rattle.table_rule.specs.declared.view.Own.{Own};
 ghost use Rattle.sync_types.specs.KeyCalls.{key_after};
-ghost use Rattle.table_steps.specs.Making.{leaf_value, HasNoOther, Publishes};
+ghost use Rattle.table_rule.specs.Making.{leaf_value, HasNoOther, Publishes};
 ghost use Rattle.table_seats.specs.Seats.{begin_of, IsSeatOf};
-ghost use Rattle.table_steps.specs.Units.{unit_word};
-ghost use Rattle.table_steps.specs.Walking.{HasWords};
-ghost use Rattle.table_steps.specs.Writing.{HasDraft};
+ghost use Rattle.table_rule.specs.Units.{unit_word};
+ghost use Rattle.table_rule.specs.Walking.{HasWords};
+ghost use Rattle.table_rule.specs.Writing.{HasDraft};
 ghost use Rattle.table_writes.specs.Drafts.{IsPoised, Drafted};
 
 use crate::chain::Chain;

@@ -2,9 +2,9 @@
 ghost use Rattle.std.specs.Prelude.{◌≡◌, ◌<◌, ◌≤◌, IsSome, length};
 ghost use Rattle.shared_table.specs.Notes.{own_by, IsNoteOf};
 ghost use Rattle.shared_table.specs.Tables.{maps_of};
-ghost use Rattle.table_steps.specs.Making.{HasUnit};
+ghost use Rattle.table_rule.specs.Making.{HasUnit};
 ghost use Rattle.table_seats.specs.Seats.{begin_of, IsSeatOf};
-ghost use Rattle.table_steps.specs.Walking.{IsFree};
+ghost use Rattle.table_rule.specs.Walking.{IsFree};
 
 use super::{store_one, take};
 use crate::map_call::Reached;

@@ -1,6 +1,6 @@
 use Rattle.std.proofs.Common.{length, inl, ap, ◌∙◌}
 use Rattle.table_rule.specs.declared.view.View.{View}
-use Rattle.table_steps.specs.Walking.{walk_at}
+use Rattle.table_rule.specs.Walking.{walk_at}
 use Rattle.shared_table.proofs.InsideGates.{found_gate}
 use Rattle.shared_table.proofs.table.SharedTable.descend.Goals as goal
 

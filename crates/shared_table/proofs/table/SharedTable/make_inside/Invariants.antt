@@ -1,6 +1,6 @@
 use Rattle.std.proofs.Common.{◌≡◌, Option, None}
 use Rattle.table_rule.specs.declared.view.Walk.{Walk}
-use Rattle.table_steps.specs.Walking.{standing}
+use Rattle.table_rule.specs.Walking.{standing}
 use Rattle.shared_table.proofs.table.SharedTable.make_inside.Given as goal
 
 abbrev pub invariant-loop : goal.invariant-loop

@@ -1,6 +1,6 @@
 use Rattle.std.proofs.Common.{◌-◌, refl, sym, ap, ◌∙◌, subst}
 use Rattle.shared_table.specs.Pruning.{PrunesAt}
-use Rattle.table_steps.specs.Walking.{HasWords}
+use Rattle.table_rule.specs.Walking.{HasWords}
 use Rattle.trie_nodes.specs.Paths.{nibble}
 use Rattle.shared_table.proofs.Prunings.{holds_lock, stays_there, is_looked, parent_is, parent_words, in_use, may_take, is_taken, may_mark_it, is_marked, may_cut_it, is_cut, comes_up}
 use Rattle.shared_table.proofs.table.SharedTable.prune_at.Goals as goal

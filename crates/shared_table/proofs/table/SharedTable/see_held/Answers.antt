@@ -1,8 +1,8 @@
 use Rattle.std.proofs.Common.{Some, length, inl, sym, ap, ◌∙◌}
 use Rattle.shared_table.proofs.InsideGates.{held_gate}
-use Rattle.table_steps.specs.Writing.{lock_at}
+use Rattle.table_rule.specs.Writing.{lock_at}
 use Rattle.trie_nodes.specs.Paths.{nibble}
-use Rattle.table_steps.specs.Walking.{walk_at}
+use Rattle.table_rule.specs.Walking.{walk_at}
 use Rattle.table_seats.specs.Seats.{begin_of}
 use Rattle.shared_table.proofs.Sights.{unit_pays, sees_below, sees_empty, knows_entry, sees_entry, sight_same}
 use Rattle.shared_table.proofs.table.SharedTable.see_held.Goals as goal

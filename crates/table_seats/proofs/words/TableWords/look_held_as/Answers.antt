@@ -1,5 +1,5 @@
 use Rattle.std.proofs.Common.{length}
-use Rattle.table_steps.specs.Walking.{walk_at}
+use Rattle.table_rule.specs.Walking.{walk_at}
 use Rattle.table_seats.proofs.Writes.{may_look_held}
 use Rattle.table_seats.proofs.words.TableWords.look_held_as.Goals as goal
 

@@ -1,10 +1,10 @@
 //! The step of a call on an atomic.
-ghost use Rattle.table_steps.specs.Operations.{Operates};
+ghost use Rattle.table_rule.specs.Operations.{Operates};
 
 use crate::subject::Operation;
+use crate::view::View;
 use atomic_table::Play;
 use std::marker::PhantomData;
-use table_rule::view::View;
 
 /// A seat makes an operation on an atomic's word. This step places the call of the seat's first caller.
 pub struct Operate<O> {

@@ -1,11 +1,11 @@
 //! The steps of a seat that clears a map.
-ghost use Rattle.table_steps.specs.Clearing.{Closes, LooksInside, Clears};
-ghost use Rattle.table_steps.specs.Writing.{GoesOut};
+ghost use Rattle.table_rule.specs.Clearing.{Closes, LooksInside, Clears};
+ghost use Rattle.table_rule.specs.Writing.{GoesOut};
 
 use crate::subject::Way;
+use crate::view::View;
 use atomic_table::Play;
 use std::marker::PhantomData;
-use table_rule::view::View;
 
 /// A seat closes the gate of a map.
 pub struct Close<W> {

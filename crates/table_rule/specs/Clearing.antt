@@ -6,8 +6,8 @@ use Rattle.sync_types.specs.declared.map_object.MapReply.TheVariants.{Done}
 use Rattle.table_rule.specs.declared.begin.Begin.{Begin}
 use Rattle.table_rule.specs.declared.view.Gate.TheVariants.{Closed}
 use Rattle.table_rule.specs.declared.view.View.{View}
-use Rattle.table_steps.specs.Making.{MadeCall}
-use Rattle.table_steps.specs.Writing.{holding}
+use Rattle.table_rule.specs.Making.{MadeCall}
+use Rattle.table_rule.specs.Writing.{holding}
 
 -- a seat has closed the gate of a map; it knows that no writer is inside, or doesn't know. It stands nowhere, and holds no lock
 pub record HasClosed (k : Begin) (me : Me (Unit {0}) View) (m : ℕ) (alone : Bool) : Type 0 where

@@ -5,9 +5,9 @@ use Rattle.table_rule.specs.declared.begin.Begin.{Begin}
 use Rattle.table_rule.specs.declared.view.DeadNode.{DeadNode}
 use Rattle.table_rule.specs.declared.view.Lock.{Lock}
 use Rattle.table_rule.specs.declared.view.View.{View}
-use Rattle.table_steps.specs.Making.{bare, found_lock}
-use Rattle.table_steps.specs.Walking.{HasWords}
-use Rattle.table_steps.specs.Writing.{holding}
+use Rattle.table_rule.specs.Making.{bare, found_lock}
+use Rattle.table_rule.specs.Walking.{HasWords}
+use Rattle.table_rule.specs.Writing.{holding}
 
 -- one more of the first slots is known to be empty
 abbrev pub with_empty : Lock → Lock

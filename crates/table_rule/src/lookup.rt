@@ -1,11 +1,11 @@
 //! The reads of a seat on its way to a key.
-ghost use Rattle.table_steps.specs.Walking.{Enters, LooksIn, ReadsKey, KeepsValue, ReadsValue};
+ghost use Rattle.table_rule.specs.Walking.{Enters, LooksIn, ReadsKey, KeepsValue, ReadsValue};
 ghost use Rattle.trie_nodes.specs.Slots.{slot_in};
 
 use crate::subject::{Making, Way};
+use crate::view::View;
 use atomic_table::Play;
 use std::marker::PhantomData;
-use table_rule::view::View;
 
 /// A seat reads the root word of a map.
 pub struct Enter<W> {

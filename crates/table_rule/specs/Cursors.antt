@@ -19,7 +19,7 @@ use Rattle.trie_nodes.specs.declared.slot.Slot.TheVariants.{Empty, Node, Entry}
 use Rattle.trie_nodes.specs.Places.{bump, but_last}
 use Rattle.table_rule.specs.Shape.{start_of}
 use Rattle.table_rule.specs.Views.{made_by, copied, with_item, called_view, view_state, Looks}
-use Rattle.table_steps.specs.Walking.{HasWords}
+use Rattle.table_rule.specs.Walking.{HasWords}
 
 -- the view of a seat whose cursor stands here, and that knows this entry
 abbrev pub at_spot : View → Option Spot → Option Leaf → View

@@ -1,10 +1,10 @@
 //! The write of a call that changes a map.
-ghost use Rattle.table_steps.specs.Making.{used_in, Publishes};
+ghost use Rattle.table_rule.specs.Making.{used_in, Publishes};
 
 use crate::subject::Making;
+use crate::view::View;
 use atomic_table::Play;
 use std::marker::PhantomData;
-use table_rule::view::View;
 
 /// A seat writes a slot of the node whose lock it holds. This step places the call of the seat's first caller.
 pub struct Publish<C> {

@@ -1,8 +1,8 @@
 //! The steps of a seat that cuts off an empty node.
-ghost use Rattle.table_steps.specs.Pruning.{LooksAtSlot, ReadsParent, TriesUpper, Marks, CutsOff};
+ghost use Rattle.table_rule.specs.Pruning.{LooksAtSlot, ReadsParent, TriesUpper, Marks, CutsOff};
 
+use crate::view::View;
 use atomic_table::Play;
-use table_rule::view::View;
 
 /// A seat looks at a slot of the node whose lock it holds.
 pub struct LookAtSlot;

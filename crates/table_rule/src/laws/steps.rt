@@ -12,13 +12,13 @@ ghost use Rattle.table_rule.specs.declared.view.Spot.{Spot};
 ghost use Rattle.table_rule.specs.declared.view.View.{View};
 ghost use Rattle.table_rule.specs.declared.view.Walk.{Walk};
 ghost use Rattle.table_rule.specs.Views.{copied, dealt, kept, joined, next_in, IsIdle, Looks};
-ghost use Rattle.table_steps.specs.Clearing.{TriedClose, SeesAlone, Clears};
-ghost use Rattle.table_steps.specs.Cursors.{cursor_seat, mounted, unmounted, BeginsCursor, GoesUp, ShowsNone, SweepsIn};
-ghost use Rattle.table_steps.specs.Making.{used_in, FindsHeld, Publishes};
-ghost use Rattle.table_steps.specs.Operations.{Operates};
-ghost use Rattle.table_steps.specs.Pruning.{dead_node, CutsOff, Marks, ReadsParent, SeesSlot, TriedUpper};
-ghost use Rattle.table_steps.specs.Walking.{Enters, FindsIn, IsUncounted, KeepsValue, ReadsKey, ReadsValue};
-ghost use Rattle.table_steps.specs.Writing.{CameIn, Drafts, GoesOut, TriedLock, Unlocks};
+ghost use Rattle.table_rule.specs.Clearing.{TriedClose, SeesAlone, Clears};
+ghost use Rattle.table_rule.specs.Cursors.{cursor_seat, mounted, unmounted, BeginsCursor, GoesUp, ShowsNone, SweepsIn};
+ghost use Rattle.table_rule.specs.Making.{used_in, FindsHeld, Publishes};
+ghost use Rattle.table_rule.specs.Operations.{Operates};
+ghost use Rattle.table_rule.specs.Pruning.{dead_node, CutsOff, Marks, ReadsParent, SeesSlot, TriedUpper};
+ghost use Rattle.table_rule.specs.Walking.{Enters, FindsIn, IsUncounted, KeepsValue, ReadsKey, ReadsValue};
+ghost use Rattle.table_rule.specs.Writing.{CameIn, Drafts, GoesOut, TriedLock, Unlocks};
 ghost use Rattle.trie_nodes.specs.declared.slot.Slot.{Slot};
 
 /// Nobody counts the reads of a seat that is inside of a gate, or has a cursor. A load's seat never is such a one: no seat is between two

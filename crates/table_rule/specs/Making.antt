@@ -26,10 +26,10 @@ use Rattle.trie_nodes.specs.Slots.{word_of_slot, slot_in}
 use Rattle.sync_types.specs.KeyCalls.{is_key_entry, key_reply, key_after}
 use Rattle.table_rule.specs.Layout.{size_of}
 use Rattle.table_rule.specs.Shape.{start_of}
-use Rattle.table_steps.specs.Units.{link_at, unit_word}
+use Rattle.table_rule.specs.Units.{link_at, unit_word}
 use Rattle.table_rule.specs.Views.{with_item, paid, called_view, view_state}
-use Rattle.table_steps.specs.Walking.{given_by, FindsIn}
-use Rattle.table_steps.specs.Writing.{holding, lock_at, HasRoomWithin}
+use Rattle.table_rule.specs.Walking.{given_by, FindsIn}
+use Rattle.table_rule.specs.Writing.{holding, lock_at, HasRoomWithin}
 
 -- what a slot gives a key, by the entry in it, if there is one
 abbrev pub leaf_value : Option Leaf → ℕ → Option ℕ

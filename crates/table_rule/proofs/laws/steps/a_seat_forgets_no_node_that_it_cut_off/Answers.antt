@@ -1,6 +1,6 @@
 use Rattle.std.proofs.Common.{ap}
 use Rattle.table_rule.specs.declared.view.View.{View}
-use Rattle.table_steps.proofs.laws.a_seat_forgets_no_node_that_it_cut_off.Goals as goal
+use Rattle.table_rule.proofs.laws.steps.a_seat_forgets_no_node_that_it_cut_off.Goals as goal
 
 pub returns-clause-publishes : goal.returns-clause-publishes
 returns-clause-publishes c = λ m call words l before after locked told. ap (λ (v : View). v.pruned) (told.1 l locked).is

@@ -10,7 +10,7 @@ use Rattle.table_rule.specs.declared.view.View.{View}
 use Rattle.table_rule.specs.declared.view.Walk.{Walk}
 use Rattle.trie_nodes.specs.Layout.{unit_words}
 use Rattle.table_rule.specs.Layout.{size_of}
-use Rattle.table_steps.specs.Walking.{standing}
+use Rattle.table_rule.specs.Walking.{standing}
 
 -- the view of a seat that stands to a gate so, and holds these locks
 abbrev pub holding : View → Gate → Option Lock → Option Lock → View

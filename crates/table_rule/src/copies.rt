@@ -2,8 +2,8 @@
 ghost use Rattle.std.specs.Prelude.{◌≡◌};
 ghost use Rattle.table_rule.specs.Views.{copied, dealt, kept, joined, spent, Looks};
 
+use crate::view::View;
 use atomic_table::{Join, Play, Split};
-use table_rule::view::View;
 
 /// A seat looks at the whole history.
 pub struct Look;

@@ -2,7 +2,7 @@ use Rattle.std.proofs.Common.{ℕ, List, ap, ◌∙◌}
 use Rattle.table_rule.specs.declared.view.Own.{Own}
 use Rattle.table_rule.specs.declared.view.View.{View}
 use Rattle.table_rule.specs.Views.{next_in, paid, with_item}
-use Rattle.table_steps.proofs.laws.a_call_uses_the_words_that_it_shows.Goals as goal
+use Rattle.table_rule.proofs.laws.steps.a_call_uses_the_words_that_it_shows.Goals as goal
 
 pub returns-clause-write : goal.returns-clause-write
 returns-clause-write c = λ m call words l own owns before after costs locked is published.

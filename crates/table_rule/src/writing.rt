@@ -1,14 +1,14 @@
 //! The steps of a seat that writes a map, up to the write.
 ghost use Rattle.std.specs.Prelude.{◌≡◌, Some};
 ghost use Rattle.table_rule.specs.declared.view.Walk.{Walk};
-ghost use Rattle.table_steps.specs.Making.{LooksHeld};
-ghost use Rattle.table_steps.specs.Writing.{TriesLock, Unlocks, ComesIn, GoesOut, Drafts};
+ghost use Rattle.table_rule.specs.Making.{LooksHeld};
+ghost use Rattle.table_rule.specs.Writing.{TriesLock, Unlocks, ComesIn, GoesOut, Drafts};
 ghost use Rattle.trie_nodes.specs.Slots.{slot_in};
 
 use crate::subject::{Making, Way};
+use crate::view::View;
 use atomic_table::Play;
 use std::marker::PhantomData;
-use table_rule::view::View;
 
 /// A seat comes in as a writer of a map.
 pub struct ComeIn<W> {

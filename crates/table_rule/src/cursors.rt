@@ -1,12 +1,12 @@
 //! The steps of a cursor over a map.
-ghost use Rattle.table_steps.specs.Cursors.{mounted, unmounted, cursor_seat, BeginsCursor, SweepsSlot, GoesUp, ShowsNone};
+ghost use Rattle.table_rule.specs.Cursors.{mounted, unmounted, cursor_seat, BeginsCursor, SweepsSlot, GoesUp, ShowsNone};
 ghost use Rattle.table_rule.specs.Views.{spent};
 ghost use Rattle.trie_nodes.specs.Slots.{slot_in};
 
 use crate::subject::Way;
+use crate::view::View;
 use atomic_table::{Join, Play, Split};
 use std::marker::PhantomData;
-use table_rule::view::View;
 
 /// A seat begins a cursor at the root of a map.
 pub struct BeginCursor<W> {

@@ -1,8 +1,0 @@
-pub mod Units
-pub mod Operations
-pub mod Walking
-pub mod Writing
-pub mod Cursors
-pub mod Making
-pub mod Clearing
-pub mod Pruning
