@@ -22,7 +22,7 @@ use Rattle.trie_nodes.specs.declared.slot.Slot.TheVariants.{Empty, Node, Entry}
 use Rattle.trie_nodes.specs.Nodes.{slot_at, stands_for, Shows}
 use Rattle.trie_nodes.specs.Paths.{nibble, route}
 use Rattle.trie_nodes.specs.Walks.{ShowsMap, ArePairsOf}
-use Rattle.table_ends.specs.EndWords.{root_in, pairs_in, map_in, number_of, contents_in, IsTableRow}
+use Rattle.table_seats.specs.EndWords.{root_in, pairs_in, map_in, number_of, contents_in, IsTableRow}
 use Rattle.table_rule.specs.declared.begin.Begin.{Begin}
 use Rattle.table_seats.specs.EndLaws.{EndLaws}
 use Rattle.sync_model.specs.EndsOfHistory.{HasKeysBelow}

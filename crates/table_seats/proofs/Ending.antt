@@ -3,7 +3,7 @@ use Rattle.std.proofs.Common.{◌≡◌, ℕ, ◌^◌, true, sym, ◌∙◌, ap,
 use mathlib.Core.Option.{some}
 use lib.ListN.{get_elem?}
 use Rattle.sync_model.specs.SharedHistory.{contents_after}
-use Rattle.table_ends.specs.EndWords.{contents_in}
+use Rattle.table_seats.specs.EndWords.{contents_in}
 use Rattle.table_rule.specs.declared.begin.Begin.{Begin}
 use Rattle.table_rule.specs.declared.view.View.{View}
 use Rattle.table_seats.specs.EndLaws.{EndLaws}

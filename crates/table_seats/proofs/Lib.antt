@@ -52,3 +52,8 @@ pub mod Cutting
 pub mod UpperLocks
 pub mod Cuts
 pub mod Prunes
+pub mod Readings
+pub mod SlotPairs
+pub mod Contained
+pub mod Sorting
+pub mod Zips

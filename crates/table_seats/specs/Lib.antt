@@ -4,3 +4,5 @@ pub mod EndLaws
 pub mod SweepLaws
 pub mod Seats
 pub mod Blank
+pub mod EndWords
+pub mod EndContents

@@ -1,16 +1,16 @@
 //! What the maps and atomics contain when no seat makes a step any more.
 ghost use Rattle.std.specs.Prelude.{◌≡◌, ◌^◌, ◌<◌, true, length, map};
 ghost use Rattle.sync_types.specs.SequentialAtomic.{kind_of};
-ghost use Rattle.table_ends.specs.EndContents.{contents_of};
+ghost use Rattle.table_seats.specs.EndContents.{contents_of};
 ghost use Rattle.table_seats.specs.EndLaws.{EndLaws};
 ghost use Rattle.sync_model.specs.EndsOfHistory.{HasKeysBelow};
 ghost use Rattle.table_seats.specs.Seats.{begin_of, EndsAt, IsSeatOf};
 
+use crate::ended::TableEnds;
 use crate::laws::history_laws;
 use crate::words::TableWords;
 use atomic_table::Seat;
 use sync_model::laws::shared_steps::maps_and_atomics_stay;
-use table_ends::TableEnds;
 use table_rule::begin::Begin;
 use table_rule::view::View;
 use trie_nodes::laws::nodes::nodes_stand_for_what_their_slots_show;

@@ -3,8 +3,10 @@
 #![tactic(auto)]
 
 mod clearing;
+mod contents;
 mod copies;
 mod cursor_steps;
+pub mod ended;
 mod ends;
 mod kinds;
 pub mod laws;
@@ -12,13 +14,18 @@ mod lookup;
 mod map_words;
 mod new;
 mod operations;
+mod pairs;
 mod pruning;
 mod publish;
+mod report;
 pub mod rule;
 pub mod steps;
+mod walk;
+mod word;
 pub mod words;
 mod writing;
 
+pub use ended::TableEnds;
 pub use steps::Steps;
 pub use table_rule::{Begin, Leaf, View, WordStep};
 pub use words::TableWords;

@@ -2,7 +2,7 @@ use Rattle.std.proofs.Common.{◌^◌, ℕ, List, length, map, sym, ap, ◌∙�
 use Rattle.std.specs.Mem.Slots.{slots_items}
 use Rattle.sync_types.specs.SequentialAtomic.{kind_of}
 use Rattle.sync_model.specs.SharedHistory.{Contents}
-use Rattle.table_ends.specs.EndWords.{contents_in, IsTableRow}
+use Rattle.table_seats.specs.EndWords.{contents_in, IsTableRow}
 use Rattle.table_rule.specs.declared.begin.Begin.{Begin}
 use Rattle.sync_model.specs.EndsOfHistory.{HasKeysBelow}
 use Rattle.table_seats.specs.Seats.{EndsAt}

@@ -1,2 +1,0 @@
-pub mod EndWords
-pub mod EndContents
