@@ -11,7 +11,7 @@ use Rattle.sync_model.specs.Note.{IsCounted, SameHome}
 use Rattle.sync_types.specs.SequentialAtomic.{atomic_reply}
 use Rattle.sync_types.specs.WordLayout.{number_in}
 use Rattle.table_rule.specs.declared.begin.Begin.{Begin}
-use Rattle.table_seats.specs.Seats.{begin_of}
+use Rattle.table_words.specs.Seats.{begin_of}
 use Rattle.shared_table.specs.declared.note.SharedNote.{SharedNote}
 use Rattle.shared_table.specs.declared.table.SharedTable.{SharedTable}
 use Rattle.table_rule.specs.declared.view.Own.{Own}

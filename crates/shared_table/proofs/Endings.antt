@@ -10,7 +10,7 @@ use Rattle.sync_model.specs.SharedCalls.{Lawful}
 use Rattle.sync_model.specs.SharedHistory.{Contents, contents_after}
 use Rattle.table_rule.specs.declared.view.View.{View}
 use Rattle.table_rule.specs.Layout.{callers_of}
-use Rattle.table_seats.specs.Seats.{EndsAt}
+use Rattle.table_words.specs.Seats.{EndsAt}
 use Rattle.table_rule.specs.Shape.{start_of}
 use Rattle.table_rule.specs.Views.{held_in}
 use Rattle.shared_table.specs.declared.note.SharedNote.{SharedNote}

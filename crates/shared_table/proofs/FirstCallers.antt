@@ -10,7 +10,7 @@ use Rattle.sync_model.specs.declared.caller.Caller.{Caller}
 use Rattle.sync_model.specs.Note.{IsCounted}
 use Rattle.trie_nodes.specs.Layout.{unit_words}
 use Rattle.table_rule.specs.declared.begin.Begin.{Begin}
-use Rattle.table_seats.specs.Seats.{IsSeatOf, begin_of}
+use Rattle.table_words.specs.Seats.{IsSeatOf, begin_of}
 use Rattle.shared_table.specs.declared.note.SharedNote.{SharedNote}
 use Rattle.shared_table.specs.declared.table.SharedTable.{SharedTable}
 use Rattle.table_rule.specs.declared.view.Own.{Own}

@@ -10,7 +10,7 @@ use Rattle.sync_model.specs.Note.{Holding, IsCounted}
 use Rattle.sync_model.specs.Shared.{IsCallerAt}
 use Rattle.sync_model.specs.SharedCalls.{Lawful}
 use Rattle.table_rule.specs.declared.begin.Begin.{Begin}
-use Rattle.table_seats.specs.Seats.{begin_of}
+use Rattle.table_words.specs.Seats.{begin_of}
 use Rattle.shared_table.specs.declared.note.SharedNote.{SharedNote}
 use Rattle.shared_table.specs.declared.table.SharedTable.{SharedTable}
 use Rattle.table_rule.specs.declared.view.Own.{Own}

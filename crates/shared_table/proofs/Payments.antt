@@ -7,7 +7,7 @@ use Rattle.sync_types.specs.declared.map_object.MapReply.{MapReply}
 use Rattle.sync_model.specs.Note.{IsCounted}
 use Rattle.sync_model.specs.Shared.{cost_of}
 use Rattle.table_rule.specs.declared.begin.Begin.{Begin}
-use Rattle.table_seats.specs.Seats.{begin_of}
+use Rattle.table_words.specs.Seats.{begin_of}
 use Rattle.shared_table.specs.declared.note.SharedNote.{SharedNote}
 use Rattle.shared_table.specs.declared.table.SharedTable.{SharedTable}
 use Rattle.table_rule.specs.declared.view.DeadNode.{DeadNode}

@@ -13,7 +13,7 @@ use Rattle.sync_model.specs.Note.{Holding, IsCounted}
 use Rattle.sync_model.specs.Shared.{IsHeldBy, items_of, AreAllCallers, calls_of, SameCalls, Settled}
 use Rattle.sync_model.specs.SharedCalls.{Lawful}
 use Rattle.sync_model.specs.SharedHistory.{Contents}
-use Rattle.table_seats.specs.Seats.{IsSeatOf}
+use Rattle.table_words.specs.Seats.{IsSeatOf}
 use Rattle.shared_table.specs.declared.note.SharedNote.{SharedNote}
 use Rattle.shared_table.specs.declared.table.SharedTable.{SharedTable}
 use Rattle.table_rule.specs.declared.view.Own.{Own}

@@ -19,7 +19,7 @@ use Rattle.table_rule.specs.Shape.{start_of}
 use Rattle.table_rule.specs.Views.{with_item, called_view, view_state}
 use Rattle.table_rule.specs.Walking.{standing, walk_at, given_by, HasWords, Answers, FindsIn, IsFree, OnWay, AtEntry}
 use Rattle.shared_table.specs.Notes.{own_by, IsNoteOf}
-use Rattle.table_seats.specs.Seats.{begin_of}
+use Rattle.table_words.specs.Seats.{begin_of}
 use Rattle.shared_table.proofs.Calling.{some_own}
 
 -- a note's seat may begin a walk

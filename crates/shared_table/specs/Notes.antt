@@ -16,7 +16,7 @@ use Rattle.shared_table.specs.declared.table.SharedTable.{SharedTable}
 use Rattle.table_rule.specs.declared.view.Own.{Own}
 use Rattle.table_rule.specs.Operations.{IsOperation}
 use Rattle.shared_table.specs.Tables.{kinds_of, caller_count, first_of}
-use Rattle.table_seats.specs.Seats.{begin_of, IsSeatOf}
+use Rattle.table_words.specs.Seats.{begin_of, IsSeatOf}
 use Rattle.table_rule.specs.Views.{held_in, IsIdle}
 
 -- for each caller the number of its shared calls that are known

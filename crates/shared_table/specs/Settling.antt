@@ -8,7 +8,7 @@ use Rattle.shared_table.specs.declared.table.SharedTable.{SharedTable}
 use Rattle.table_rule.specs.declared.view.Own.{Own}
 use Rattle.table_rule.specs.declared.view.View.{View}
 use Rattle.shared_table.specs.Notes.{front_by, seen_by}
-use Rattle.table_seats.specs.Seats.{begin_of, IsSeatOf}
+use Rattle.table_words.specs.Seats.{begin_of, IsSeatOf}
 use Rattle.table_rule.specs.Views.{next_in, spare_in, dealt, IsIdle}
 
 -- it is the same caller's note, with the same room, whatever its seat knows

@@ -4,7 +4,7 @@ use Rattle.sync_types.specs.declared.atomic_object.AtomicKind.{AtomicKind}
 use Rattle.sync_model.specs.SharedHistory.{Contents}
 use Rattle.shared_table.specs.declared.table.SharedTable.{SharedTable}
 use Rattle.table_rule.specs.Layout.{callers_of}
-use Rattle.table_seats.specs.Seats.{begin_of}
+use Rattle.table_words.specs.Seats.{begin_of}
 use Rattle.table_rule.specs.Shape.{start_of}
 
 -- the types of the atomics, by number

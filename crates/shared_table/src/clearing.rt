@@ -12,7 +12,7 @@ ghost use Rattle.sync_model.specs.Shared.{Called, state_of};
 ghost use Rattle.table_rule.specs.declared.view.Gate.TheVariants.{Closed};
 ghost use Rattle.table_rule.specs.Clearing.{HasClosed};
 ghost use Rattle.table_rule.specs.Making.{HasUnit, MadeCall};
-ghost use Rattle.table_seats.specs.Seats.{begin_of, IsSeatOf};
+ghost use Rattle.table_words.specs.Seats.{begin_of, IsSeatOf};
 ghost use Rattle.table_rule.specs.Walking.{IsFree};
 ghost use Rattle.table_rule.specs.Writing.{holding, HasRoomWithin};
 ghost use Rattle.shared_table.specs.Notes.{front_by, own_by, seen_by, IsNoteOf};
@@ -23,7 +23,7 @@ use crate::table::SharedTable;
 use atomic_table::Seat;
 use crossbeam_utils::Backoff;
 use std::sync::Wait;
-use table_seats::View;
+use table_words::View;
 use trie_nodes::layout::NODE_WORDS;
 
 impl SharedTable {

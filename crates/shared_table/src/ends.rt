@@ -5,7 +5,7 @@ ghost use Rattle.sync_model.specs.declared.item.SharedEntry.{SharedEntry};
 ghost use Rattle.sync_model.specs.Shared.{AreAllCallers, calls_of};
 ghost use Rattle.sync_model.specs.SharedCalls.{Lawful};
 ghost use Rattle.sync_model.specs.SharedHistory.{contents_after};
-ghost use Rattle.table_seats.specs.EndContents.{contents_of};
+ghost use Rattle.table_words.specs.EndContents.{contents_of};
 ghost use Rattle.sync_model.specs.EndsOfHistory.{AreEnds, HasKeysBelow};
 ghost use Rattle.shared_table.specs.Notes.{own_by, seen_by, IsNoteOf};
 ghost use Rattle.shared_table.specs.Tables.{caller_count, first_of, kinds_of, maps_of};
@@ -15,7 +15,7 @@ use crate::table::SharedTable;
 use sync_model::Caller;
 use sync_model::laws::shared::the_calls_determine_the_history;
 use sync_model::laws::shared_steps::one_more_call_keeps_the_law;
-use table_seats::TableEnds;
+use table_words::TableEnds;
 
 impl SharedTable {
     /// Ends the maps and atomics, with all their callers in order of number, and gives what they contain after the whole

@@ -22,7 +22,7 @@ pub use new::{MAX_OBJECTS, MAX_UNITS};
 pub use note::SharedNote;
 pub use table::SharedTable;
 pub use table_cursors::TableCursor;
-pub use table_seats::{Begin, Steps, WordStep};
+pub use table_words::{Begin, Steps, WordStep};
 
 #[cfg(test)]
 mod tests;

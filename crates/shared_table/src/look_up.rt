@@ -8,7 +8,7 @@ ghost use Rattle.sync_model.specs.Note.{SameHome};
 ghost use Rattle.sync_model.specs.Shared.{Called, state_of};
 ghost use Rattle.table_rule.specs.declared.view.Leaf.{Leaf};
 ghost use Rattle.table_rule.specs.Operations.{PlacesCall};
-ghost use Rattle.table_seats.specs.Seats.{begin_of, IsSeatOf};
+ghost use Rattle.table_words.specs.Seats.{begin_of, IsSeatOf};
 ghost use Rattle.table_rule.specs.Walking.{standing, given_by, HasWords, IsFree, AtEntry};
 ghost use Rattle.shared_table.specs.Notes.{front_by, own_by, seen_by, IsNoteOf};
 ghost use Rattle.shared_table.specs.Tables.{maps_of, first_of};
@@ -18,7 +18,7 @@ use crate::table::SharedTable;
 use atomic_table::Seat;
 use std::sync::ledger::Ledger;
 use sync_types::MapCall;
-use table_seats::{Steps, View};
+use table_words::{Steps, View};
 use trie_nodes::{LEVELS, Slot};
 
 impl SharedTable {

@@ -1,6 +1,6 @@
 //! New tables.
 ghost use Rattle.std.specs.Prelude.{◌≡◌, ◌+◌, ◌<◌, ◌≤◌, [], IfOk, length, sum};
-ghost use Rattle.table_seats.specs.Seats.{begin_of, IsSeatOf};
+ghost use Rattle.table_words.specs.Seats.{begin_of, IsSeatOf};
 ghost use Rattle.shared_table.specs.NewCallers.{AreNewCallers};
 ghost use Rattle.shared_table.specs.Tables.{kinds_of, maps_of, caller_count, seed_of};
 ghost use Rattle.table_rule.specs.Views.{first_view};
@@ -11,7 +11,7 @@ use atomic_table::Seat;
 use std::alloc::{AllocError, Global};
 use sync_model::{Caller, MAX_CALLERS};
 use sync_types::{AtomicKind, Seq};
-use table_seats::{Begin, TableWords, View};
+use table_words::{Begin, TableWords, View};
 
 /// The most maps and atomics, together, of a table.
 pub const MAX_OBJECTS: u32 = 1_000;

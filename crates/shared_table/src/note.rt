@@ -3,7 +3,7 @@ ghost use Rattle.std.specs.Prelude.{◌≡◌};
 ghost use Rattle.table_rule.specs.Views.{spare_in, next_in};
 
 use atomic_table::Seat;
-use table_seats::View;
+use table_words::View;
 
 /// What a caller knows of all shared calls, and the words of the table that it may still use for entries and nodes.
 #[derive(Drop)]

@@ -8,7 +8,7 @@ ghost use Rattle.table_rule.specs.WordSteps.{word_after};
 use crate::note::SharedNote;
 use crate::table::SharedTable;
 use sync_types::AtomicCall;
-use table_seats::WordStep;
+use table_words::WordStep;
 
 impl SharedTable {
     /// Makes a call on an atomic, as an atomic step on the atomic's word, and tells the word as it was before. The step makes

@@ -5,7 +5,7 @@ ghost use Rattle.table_rule.specs.declared.view.Lock.{Lock};
 ghost use Rattle.shared_table.specs.Pruning.{LooksAtSlots, HoldsAt, HoldsInUse, HoldsToStay, NeverRemoves, NowHolds, PrunesAt};
 ghost use Rattle.sync_types.specs.SequentialMap.{map_key};
 ghost use Rattle.table_rule.specs.Pruning.{having_cut, TriedUpper};
-ghost use Rattle.table_seats.specs.Seats.{begin_of, IsSeatOf};
+ghost use Rattle.table_words.specs.Seats.{begin_of, IsSeatOf};
 ghost use Rattle.table_rule.specs.Walking.{standing, HasWords};
 ghost use Rattle.table_rule.specs.Writing.{holding, Holds};
 
@@ -15,7 +15,7 @@ use atomic_table::Seat;
 use crossbeam_utils::Backoff;
 use std::sync::Wait;
 use sync_types::MapCall;
-use table_seats::View;
+use table_words::View;
 use trie_nodes::layout::SLOTS;
 use trie_nodes::pruning;
 

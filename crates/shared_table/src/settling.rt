@@ -7,7 +7,7 @@ ghost use Rattle.shared_table.specs.declared.note.SharedNote.{SharedNote};
 ghost use Rattle.shared_table.specs.Notes.{front_by, own_by, seen_by, IsNoteOf};
 ghost use Rattle.shared_table.specs.Settling.{IsSameCaller, AreSameCallers, Gathered, MayTake, IsBack};
 ghost use Rattle.shared_table.specs.Tables.{caller_count, first_of};
-ghost use Rattle.table_seats.specs.Seats.{IsSeatOf};
+ghost use Rattle.table_words.specs.Seats.{IsSeatOf};
 ghost use Rattle.table_rule.specs.Views.{copied, dealt, joined, kept, next_in, spare_in, IsIdle};
 
 use crate::note::SharedNote;
@@ -16,7 +16,7 @@ use atomic_table::Seat;
 use std::mem;
 use sync_model::Caller;
 use sync_model::laws::shared_steps::one_more_call_keeps_the_law;
-use table_seats::View;
+use table_words::View;
 
 impl SharedTable {
     /// Lets all callers see the whole history. It makes no shared call, takes all callers, in order of number, so that none

@@ -1,8 +1,8 @@
 //! Maps and atomics in one row of words.
 ghost use Rattle.table_rule.specs.Layout.{IsBegin};
-ghost use Rattle.table_seats.specs.Seats.{begin_of};
+ghost use Rattle.table_words.specs.Seats.{begin_of};
 
-use table_seats::TableWords;
+use table_words::TableWords;
 
 /// Maps and typed atomics, which their callers share. Each lies in words that change in single atomic steps, under one
 /// rule.

@@ -4,7 +4,7 @@ ghost use Rattle.std.specs.Prelude.{◌≡◌, ◌<◌, IfSome, IsSome, All};
 ghost use Rattle.sync_model.specs.Shared.{IsCallerAt};
 ghost use Rattle.shared_table.specs.Notes.{own_by, IsNoteOf};
 ghost use Rattle.shared_table.specs.Tables.{maps_of};
-ghost use Rattle.table_seats.specs.Seats.{begin_of, IsSeatOf};
+ghost use Rattle.table_words.specs.Seats.{begin_of, IsSeatOf};
 ghost use Rattle.table_rule.specs.Walking.{IsFree};
 
 mod prunes;
@@ -18,7 +18,7 @@ use std::sync::ledger::{Blank, Ledger};
 use std::test::Fail;
 use sync_model::{Caller, CallerNote};
 use sync_types::MapCall;
-use table_seats::{Steps, View};
+use table_words::{Steps, View};
 use trie_nodes::Slot;
 
 // The last of some callers.

@@ -7,7 +7,7 @@ use Rattle.sync_model.specs.declared.item.SharedReply.TheVariants as replies
 use Rattle.sync_model.specs.Shared.{items_of}
 use Rattle.table_rule.specs.declared.begin.Begin.{Begin}
 use Rattle.table_cursors.specs.declared.cursor.TableCursor.{TableCursor}
-use Rattle.table_seats.specs.declared.words.TableWords.{TableWords}
+use Rattle.table_words.specs.declared.words.TableWords.{TableWords}
 use Rattle.table_rule.specs.declared.view.Gate.TheVariants.{Outside}
 use Rattle.table_rule.specs.declared.view.Own.{Own}
 use Rattle.table_rule.specs.declared.view.Spot.{Spot}
@@ -18,7 +18,7 @@ use Rattle.table_rule.specs.Cursors.{Sweeps, IsCursorOf, mounted, unmounted, cur
 use Rattle.table_rule.specs.Operations.{PlacesCall}
 use Rattle.table_cursors.specs.Ranging.{moved, showing, ShowsNext, AreWithin, IsRanging, IsCursor, RangesOn}
 use Rattle.table_rule.specs.Shape.{start_of}
-use Rattle.table_seats.specs.Seats.{begin_of, IsSeatOf}
+use Rattle.table_words.specs.Seats.{begin_of, IsSeatOf}
 use Rattle.table_rule.specs.Views.{held_in, view_state}
 use Rattle.table_rule.specs.Walking.{HasWords, IsFree}
 use Rattle.table_cursors.proofs.Ranged.{let_go, looks_then, one_more, one_step}

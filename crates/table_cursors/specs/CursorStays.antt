@@ -6,7 +6,7 @@ use Rattle.sync_model.specs.declared.item.Item.{Item}
 use Rattle.sync_model.specs.declared.item.SharedCall.TheVariants.{Next}
 use Rattle.sync_model.specs.SharedCalls.{IsStep}
 use Rattle.table_cursors.specs.declared.cursor.TableCursor.{TableCursor}
-use Rattle.table_seats.specs.declared.words.TableWords.{TableWords}
+use Rattle.table_words.specs.declared.words.TableWords.{TableWords}
 use Rattle.table_cursors.specs.Ranging.{IsCursor}
 
 pub still_at : {A : Type 0} (xs : List A) (z x : A) (i : ℕ) → slice_get xs i ≡ Some x → slice_get (xs ++ z ∷ []) i ≡ Some x

@@ -11,14 +11,14 @@ use Rattle.table_rule.specs.declared.begin.Begin.{Begin}
 use Rattle.table_cursors.specs.declared.cursor.TableCursor.{TableCursor}
 use Rattle.table_cursors.specs.declared.cursor.Move.{Move}
 use Rattle.table_cursors.specs.declared.cursor.Move.TheVariants.{On, Shown}
-use Rattle.table_seats.specs.declared.words.TableWords.{TableWords}
+use Rattle.table_words.specs.declared.words.TableWords.{TableWords}
 use Rattle.table_rule.specs.declared.view.Spot.{Spot}
 use Rattle.table_rule.specs.declared.view.View.{View}
 use Rattle.trie_nodes.specs.declared.place.Place.{Place}
 use Rattle.trie_nodes.specs.PlaceLists.{nodes_of, slots_of}
 use Rattle.table_rule.specs.Cursors.{at_spot, Sweeps, Sweeping, IsCursorOf}
 use Rattle.table_rule.specs.Operations.{PlacesCall}
-use Rattle.table_seats.specs.Seats.{begin_of, IsSeatOf}
+use Rattle.table_words.specs.Seats.{begin_of, IsSeatOf}
 use Rattle.table_rule.specs.Views.{view_state, Looks}
 use Rattle.table_rule.specs.Walking.{HasWords}
 

@@ -5,7 +5,7 @@ ghost use Rattle.sync_model.specs.declared.item.SharedCall.TheVariants as calls;
 ghost use Rattle.sync_model.specs.declared.item.SharedReply.TheVariants as replies;
 ghost use Rattle.sync_model.specs.Shared.{items_of};
 ghost use Rattle.table_rule.specs.declared.view.Spot.{Spot};
-ghost use Rattle.table_seats.specs.Seats.{begin_of, IsSeatOf};
+ghost use Rattle.table_words.specs.Seats.{begin_of, IsSeatOf};
 ghost use Rattle.table_rule.specs.Views.{made_by, view_state};
 ghost use Rattle.table_rule.specs.Walking.{IsFree};
 ghost use Rattle.table_cursors.specs.Ranging.{AreWithin, IsRanging, MovesTo, ShowsNext, HasPassedAll, IsCursor, RangesOn};
@@ -14,7 +14,7 @@ ghost use Rattle.trie_nodes.specs.Places.{last_of, steps_left};
 
 use atomic_table::Seat;
 use std::mem;
-use table_seats::{TableWords, View};
+use table_words::{TableWords, View};
 use trie_nodes::{Place, SLOTS, Slot};
 
 /// A walk over the keys of a map. Between two steps it has a seat of its own, which keeps what the walk knows of the nodes where it

@@ -4,7 +4,7 @@ ghost use Rattle.std.specs.Prelude.{◌≡◌, ◌≢◌, ◌+◌, ◌*◌, ◌<
 ghost use Rattle.table_rule.specs.declared.view.Own.{Own};
 ghost use Rattle.sync_types.specs.KeyCalls.{key_after};
 ghost use Rattle.table_rule.specs.Making.{leaf_value, HasNoOther, Publishes};
-ghost use Rattle.table_seats.specs.Seats.{begin_of, IsSeatOf};
+ghost use Rattle.table_words.specs.Seats.{begin_of, IsSeatOf};
 ghost use Rattle.table_rule.specs.Units.{unit_word};
 ghost use Rattle.table_rule.specs.Walking.{HasWords};
 ghost use Rattle.table_rule.specs.Writing.{HasDraft};
@@ -13,7 +13,7 @@ ghost use Rattle.table_writes.specs.Drafts.{IsPoised, Drafted};
 use crate::chain::Chain;
 use atomic_table::Seat;
 use sync_types::MapCall;
-use table_seats::{Leaf, TableWords, View};
+use table_words::{Leaf, TableWords, View};
 use trie_nodes::laws::paths::the_paths_of_different_keys_part;
 use trie_nodes::{Slot, expansion};
 

@@ -3,7 +3,7 @@ ghost use Rattle.std.specs.Prelude.{◌≡◌, ◌<◌, ◌≤◌, IsSome, lengt
 ghost use Rattle.shared_table.specs.Notes.{own_by, IsNoteOf};
 ghost use Rattle.shared_table.specs.Tables.{maps_of};
 ghost use Rattle.table_rule.specs.Making.{HasUnit};
-ghost use Rattle.table_seats.specs.Seats.{begin_of, IsSeatOf};
+ghost use Rattle.table_words.specs.Seats.{begin_of, IsSeatOf};
 ghost use Rattle.table_rule.specs.Walking.{IsFree};
 
 use super::{store_one, take};
@@ -15,7 +15,7 @@ use std::sync::Wait;
 use std::test::Fail;
 use sync_model::CallerNote;
 use sync_types::{MapCall, MapReply};
-use table_seats::View;
+use table_words::View;
 
 // The paths of these keys part at the last nibble.
 const NEAR: u32 = 0;

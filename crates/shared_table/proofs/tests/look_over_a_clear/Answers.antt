@@ -1,5 +1,5 @@
 use Rattle.std.proofs.Common.{refl}
-use Rattle.table_seats.specs.Seats.{begin_of}
+use Rattle.table_words.specs.Seats.{begin_of}
 use Rattle.shared_table.proofs.Walks.{on_way, words_there}
 use Rattle.shared_table.proofs.tests.look_over_a_clear.Goals as goal
 

@@ -1,5 +1,5 @@
 use Rattle.std.proofs.Common.{refl, ◌∙◌, arith}
-use Rattle.table_seats.specs.Seats.{begin_of}
+use Rattle.table_words.specs.Seats.{begin_of}
 use Rattle.table_writes.proofs.Poised.{may_draft_on, none_drafted, one_drafted}
 use Rattle.table_writes.proofs.publish.draft_chain.Goals as goal
 

@@ -1,4 +1,4 @@
-use Rattle.table_seats.specs.Seats.{begin_of}
+use Rattle.table_words.specs.Seats.{begin_of}
 use Rattle.table_writes.proofs.Poised.{shown_none}
 use Rattle.table_writes.proofs.publish.remove.Goals as goal
 

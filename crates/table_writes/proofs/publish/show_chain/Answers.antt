@@ -1,6 +1,6 @@
 use Rattle.std.proofs.Common.{rules, ◌+◌, ◌*◌, ◌^◌, ◌<◌, sym, subst, arith}
 use Rattle.table_rule.specs.Making.{Publishes}
-use Rattle.table_seats.specs.Seats.{begin_of}
+use Rattle.table_words.specs.Seats.{begin_of}
 use Rattle.table_writes.proofs.Poised.{entry_along, chain_fits, chain_may, shown}
 use Rattle.table_writes.proofs.publish.show_chain.Goals as goal
 

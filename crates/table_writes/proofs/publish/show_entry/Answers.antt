@@ -1,4 +1,4 @@
-use Rattle.table_seats.specs.Seats.{begin_of}
+use Rattle.table_words.specs.Seats.{begin_of}
 use Rattle.table_writes.proofs.Poised.{second_room, entry_may, entry_told}
 use Rattle.table_writes.proofs.publish.show_entry.Goals as goal
 

@@ -1,5 +1,5 @@
 use Rattle.std.proofs.Common.{◌≡◌, ℕ, ◌≤◌, slice_get}
-use Rattle.table_seats.specs.Seats.{IsSeatOf}
+use Rattle.table_words.specs.Seats.{IsSeatOf}
 use Rattle.shared_table.specs.Settling.{AreSameCallers, Gathered}
 use Rattle.shared_table.proofs.table.SharedTable.bring_all.Given as goal
 

@@ -2,7 +2,7 @@ use Rattle.std.proofs.Common.{List, length, ap, ◌∙◌, subst}
 use Rattle.sync_model.specs.declared.caller.Caller.{Caller}
 use Rattle.sync_model.specs.Shared.{calls_of}
 use Rattle.sync_model.specs.SharedHistory.{contents_after}
-use Rattle.table_seats.specs.EndContents.{contents_of}
+use Rattle.table_words.specs.EndContents.{contents_of}
 use Rattle.shared_table.specs.declared.note.SharedNote.{SharedNote}
 use Rattle.shared_table.specs.Notes.{own_by}
 use Rattle.shared_table.specs.Settling.{Gathered}

@@ -1,7 +1,7 @@
 use Rattle.std.proofs.Common.{rules, ◌≡◌, ℕ, ◌+◌, ◌*◌, ◌<◌, ◌^◌, [], ⊎_elim, length, drop, sum, get_or, slice_get, slice_index, refl, sym, ap, ◌∙◌, subst, arith}
 use Rattle.std.proofs.lemmas.Option.{none-some}
 use Rattle.table_rule.specs.declared.view.View.{View}
-use Rattle.table_seats.specs.Seats.{begin_of}
+use Rattle.table_words.specs.Seats.{begin_of}
 use Rattle.shared_table.specs.Dealing.{left_view, IsNewCaller}
 use Rattle.table_rule.specs.Views.{spare_in, dealt, kept, IsIdle}
 use Rattle.shared_table.proofs.FirstCallers.{left_idle, some_left, kept_left, room_left, fits_left, is_new, ghosts_are, all_new, item_on, one_longer}

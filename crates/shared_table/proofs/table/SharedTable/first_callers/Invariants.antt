@@ -1,6 +1,6 @@
 use Rattle.std.proofs.Common.{◌≡◌, ℕ, ◌+◌, ◌*◌, ◌≤◌, [], Some, length, drop, sum, slice_get, vec_len, vec_capacity}
 use Rattle.trie_nodes.specs.Layout.{unit_words}
-use Rattle.table_seats.specs.Seats.{IsSeatOf, begin_of}
+use Rattle.table_words.specs.Seats.{IsSeatOf, begin_of}
 use Rattle.shared_table.specs.Dealing.{left_view, IsNewCaller}
 use Rattle.table_rule.specs.Layout.{size_of}
 use Rattle.shared_table.proofs.table.SharedTable.first_callers.Given as goal

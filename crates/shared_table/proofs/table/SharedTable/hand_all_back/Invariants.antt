@@ -1,6 +1,6 @@
 use Rattle.std.proofs.Common.{◌≡◌, ℕ, ◌<◌, ◌≤◌, [], Some, slice_get}
 use Rattle.sync_model.specs.declared.caller.Caller.{Caller}
-use Rattle.table_seats.specs.Seats.{IsSeatOf}
+use Rattle.table_words.specs.Seats.{IsSeatOf}
 use Rattle.shared_table.specs.declared.note.SharedNote.{SharedNote}
 use Rattle.shared_table.specs.Settling.{AreSameCallers, IsBack, after_first}
 use Rattle.shared_table.proofs.table.SharedTable.hand_all_back.Given as goal

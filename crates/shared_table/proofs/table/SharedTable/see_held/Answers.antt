@@ -3,7 +3,7 @@ use Rattle.shared_table.proofs.InsideGates.{held_gate}
 use Rattle.table_rule.specs.Writing.{lock_at}
 use Rattle.trie_nodes.specs.Paths.{nibble}
 use Rattle.table_rule.specs.Walking.{walk_at}
-use Rattle.table_seats.specs.Seats.{begin_of}
+use Rattle.table_words.specs.Seats.{begin_of}
 use Rattle.shared_table.proofs.Sights.{unit_pays, sees_below, sees_empty, knows_entry, sees_entry, sight_same}
 use Rattle.shared_table.proofs.table.SharedTable.see_held.Goals as goal
 

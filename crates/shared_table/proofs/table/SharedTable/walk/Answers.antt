@@ -1,5 +1,5 @@
 use Rattle.std.proofs.Common.{refl, ◌∙◌, subst, arith}
-use Rattle.table_seats.specs.Seats.{begin_of}
+use Rattle.table_words.specs.Seats.{begin_of}
 use Rattle.shared_table.proofs.Walks.{IsAt, on_way, words_there, goes_on, finds_none, at_entry, finds}
 use Rattle.shared_table.proofs.table.SharedTable.walk.Goals as goal
 

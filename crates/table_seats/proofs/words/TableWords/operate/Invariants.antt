@@ -1,4 +1,0 @@
-use Rattle.table_seats.proofs.words.TableWords.operate.Given as goal
-
-abbrev pub ghosts-operate_as : goal.ghosts-operate_as
-ghosts-operate_as a = record { atomic = a.atomic; call = a._call }

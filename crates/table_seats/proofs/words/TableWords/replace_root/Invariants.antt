@@ -1,4 +1,0 @@
-use Rattle.table_seats.proofs.words.TableWords.replace_root.Given as goal
-
-abbrev pub ghosts-replace_root_as : goal.ghosts-replace_root_as
-ghosts-replace_root_as a = record { map = a.map; key = 0 }

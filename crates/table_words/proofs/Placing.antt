@@ -1,0 +1,162 @@
+-- A call that is no entry is placed. No word changes, and its seat goes elsewhere.
+use Rattle.std.proofs.Common.{◌≡◌, ℕ, zero, suc, ◌+◌, true, false, List, [], ◌∷◌, ◌++◌, length, set, Option, Some, None, slice_get, slice_index, ◌⊎◌, refl, sym, ap, ◌∙◌, subst, arith, Bool}
+use Rattle.std.proofs.lemmas.Option.{same_Some}
+use mathlib.Core.Option.{some}
+use lib.ListN.{get_elem?}
+use Rattle.sync_model.specs.declared.item.Item.{Item}
+use Rattle.sync_model.specs.declared.item.SharedCall.{SharedCall}
+use Rattle.sync_model.specs.declared.item.SharedReply.{SharedReply}
+use Rattle.sync_model.specs.SharedCalls.{Grows}
+use Rattle.sync_model.specs.Shared.{Called}
+use Rattle.table_rule.specs.declared.begin.Begin.{Begin}
+use Rattle.table_rule.specs.declared.view.Gate.TheVariants.{Inside, Closed}
+use Rattle.table_rule.specs.declared.view.Leaf.{Leaf}
+use Rattle.table_rule.specs.declared.view.Own.{Own}
+use Rattle.table_rule.specs.declared.view.View.{View}
+use Rattle.table_rule.specs.declared.view.Spot.{Spot}
+use Rattle.table_rule.specs.declared.view.Walk.{Walk}
+use Rattle.table_words.specs.Laws.{HistoryLaws}
+use Rattle.trie_nodes.specs.Layout.{dead_word}
+use Rattle.table_rule.specs.Layout.{callers_of}
+use Rattle.table_rule.specs.Ledger.{Owned, Fits}
+use Rattle.table_rule.specs.Owed.{Walks, IsLeaf, HasRoom, Stands, Suits, HoldsLock}
+use Rattle.table_rule.specs.Rule.{TableState, Kept}
+use Rattle.table_rule.specs.Shape.{Shape, start_of}
+use Rattle.table_rule.specs.Views.{called_view, paid, paid_own, MayPay, view_state, Looks}
+use Rattle.table_words.proofs.Frames.{suits_on, stands_on}
+use Rattle.table_words.proofs.Ledgers.{MayPlace, with_one, adds_one, lawful_after, grows_on, none_after, fits_after, called, first}
+use Rattle.table_words.proofs.Looking.{looks_so}
+use Rattle.table_words.proofs.Moves.{Keeps, moves}
+use Rattle.table_words.proofs.Quiet.{later_same, apart_same}
+
+-- what a call leaves to its caller
+pub paid_first : (cost : ℕ) (own : Own) (owns : List Own) → paid cost 0 (own ∷ owns) ≡ paid_own cost 0 own ∷ owns
+paid_first zero own owns = refl
+paid_first (suc cost) own owns = refl
+
+paid_items : (cost : ℕ) (own : Own) → (paid_own cost 0 own).items ≡ own.items
+paid_items zero own = refl
+paid_items (suc cost) own = refl
+
+paid_spare : (cost : ℕ) (own : Own) → MayPay cost own → (paid_own cost 0 own).spare + cost ≡ own.spare
+paid_spare zero own pays = omega arith
+paid_spare (suc cost) own pays = let one = pays.0 in let some_left = pays.1 in omega arith
+
+pub paid_room : (k : Begin) (sh : Shape) (ws : List ℕ) (c cost : ℕ) (own : Own) (items : List Item) → MayPay cost own → HasRoom k sh ws c own → HasRoom k sh ws c (paid_own cost 0 (record own { items = items }))
+paid_room k sh ws c zero own items pays h = record { lies = h.lies; within = h.within; mine = h.mine; unused = h.unused; words = h.words }
+paid_room k sh ws c (suc cost) own items pays h =
+    let some_left = pays.1 in let lies = h.lies in let within = h.within in record {
+      lies = omega arith;
+      within = omega arith;
+      mine = λ i below. let at : own.next + 0 + i ≡ own.next + i = omega arith in ap sh.area_of at ∙ h.mine i (omega arith);
+      unused = λ i below. let at : own.next + 0 + i ≡ own.next + i = omega arith in ap sh.part_of at ∙ h.unused i (omega arith);
+      words = λ i below. let at : own.next + 0 + i ≡ own.next + i = omega arith in ap (slice_index ws) at ∙ h.words i (omega arith) ∙ ap (λ d. slice_index d i) pays.2;
+    }
+
+-- the call as its caller's list has it
+abbrev pub placed_item : SharedCall → SharedReply → ℕ → List ℕ → Item
+placed_item call reply place front = record { call = call; reply = reply; place = place; entry = false; front = front }
+
+module _ (k : Begin) (laws : HistoryLaws) (s : TableState) (r : Kept k s) (id : ℕ) (v : View) (at_me : get_elem? s.views id ≡ some v) (live : v.live ≡ true) (own : Own) (owns : List Own) (is : v.owns ≡ own ∷ owns)
+    (call : SharedCall) (reply : SharedReply) (place : ℕ) (may : MayPlace k laws r.log r.calls v own (placed_item call reply place v.front)) (cost : ℕ) (pays : MayPay cost own)
+    (walk : Option Walk) (walks : (w : Walk) → walk ≡ Some w → Walks k r.shape r.log w) (steady : (w : Walk) → walk ≡ Some w → v.gate ≡ Inside w.map → (r.shape.cut_of w.node ≡ None) ⊎ (slice_index s.words w.node ≡ dead_word))
+    (leaf : Option Leaf) (leaves : (l : Leaf) → leaf ≡ Some l → IsLeaf r.shape s.words l) (spot : Option Spot) (stands : (z : Spot) → spot ≡ Some z → Stands k r.shape r.log r.calls z) where
+  fits : Fits (callers_of k) r.log r.calls r.claim id v
+  fits = r.fits id v at_me live
+
+  abbrev item : Item
+  item = placed_item call reply place v.front
+
+  abbrev own_after : Own
+  own_after = paid_own cost 0 (record own { items = own.items ++ item ∷ [] })
+
+  abbrev pub view_after : View
+  view_after = record (called_view v (own_after ∷ owns) r.log) { walk = walk; leaf = leaf; spot = spot }
+
+  grows : Grows r.calls (with_one r.calls v.number item)
+  grows = grows_on k laws r.log r.calls (callers_of k) r.claim id r.lawful v own owns is fits item may
+
+  owned : Owned (callers_of k) r.calls r.claim id v.front v.number own
+  owned = first k laws r.log r.calls (callers_of k) r.claim id r.lawful v own owns is fits
+
+  suits_same : Suits k r.shape r.log (with_one r.calls v.number item) s.words v
+  suits_same = suits_on k r.shape r.shape r.log r.log s.words s.words (later_same r.shape r.log s.words) laws r.calls (with_one r.calls v.number item) grows (callers_of k) (apart_same k (callers_of k) r.shape s.words) v
+      (λ i own at e. let below = (fits.owns i own at).below in absurd (omega arith)) (r.suits id v at_me live)
+
+  suits_after : Suits k r.shape r.log (with_one r.calls v.number item) s.words view_after
+  suits_after = let u = suits_same in record {
+    begin = u.begin;
+    walk = walks;
+    steady = steady;
+    leaf = leaves;
+    spot = λ z e. stands_on k r.shape r.shape r.log r.log s.words s.words (later_same r.shape r.log s.words) laws r.calls (with_one r.calls v.number item) grows z (stands z e);
+    pruned = u.pruned;
+    room = room_after u.room;
+    gate = u.gate;
+    only = λ m i o at inside. only_after u.only m i o at inside;
+    holder = λ p i o at reach held. holder_after p u.holder i o at reach held;
+    closer = λ m i o at closed. closer_after m u.closer i o at closed;
+    lock = u.lock;
+    upper = u.upper;
+    nobody = λ e. absurd (let ne : suc (length owns) ≡ 0 = e in omega arith);
+  }
+    where
+      first_is : slice_get v.owns 0 ≡ Some own
+      first_is = ap (λ l. slice_get l 0) is
+
+      room_after : ((i : ℕ) (o : Own) → slice_get v.owns i ≡ Some o → HasRoom k r.shape s.words (v.number + i) o) → (i : ℕ) (o : Own) → slice_get (own_after ∷ owns) i ≡ Some o → HasRoom k r.shape s.words (v.number + i) o
+      room_after rooms zero o at = let h = rooms 0 own first_is in
+          subst (HasRoom k r.shape s.words (v.number + 0)) (same_Some own_after o at) (paid_room k r.shape s.words (v.number + 0) cost own (own.items ++ item ∷ []) pays h)
+      room_after rooms (suc i) o at = rooms (suc i) o (ap (λ l. slice_get l (suc i)) is ∙ at)
+
+      only_after : ((m i : ℕ) (o : Own) → slice_get v.owns i ≡ Some o → r.shape.inside m (v.number + i) ≡ true → v.gate ≡ Inside m) → (m i : ℕ) (o : Own) → slice_get (own_after ∷ owns) i ≡ Some o → r.shape.inside m (v.number + i) ≡ true → v.gate ≡ Inside m
+      only_after only m zero o at inside = only m 0 own first_is inside
+      only_after only m (suc i) o at inside = only m (suc i) o (ap (λ l. slice_get l (suc i)) is ∙ at) inside
+
+      holder_after : (p : ℕ) → ((p i : ℕ) (o : Own) → slice_get v.owns i ≡ Some o → r.shape.cut_of p ≡ None → r.shape.held_by p ≡ suc (v.number + i) → HoldsLock v p)
+          → (i : ℕ) (o : Own) → slice_get (own_after ∷ owns) i ≡ Some o → r.shape.cut_of p ≡ None → r.shape.held_by p ≡ suc (v.number + i) → HoldsLock view_after p
+      holder_after p holder zero o at reach held = holder p 0 own first_is reach held
+      holder_after p holder (suc i) o at reach held = holder p (suc i) o (ap (λ l. slice_get l (suc i)) is ∙ at) reach held
+
+      closer_after : (m : ℕ) → ((m i : ℕ) (o : Own) → slice_get v.owns i ≡ Some o → r.shape.closed_by m ≡ suc (v.number + i) → (alone : Bool) × (v.gate ≡ Closed m alone))
+          → (i : ℕ) (o : Own) → slice_get (own_after ∷ owns) i ≡ Some o → r.shape.closed_by m ≡ suc (v.number + i) → (alone : Bool) × (v.gate ≡ Closed m alone)
+      closer_after m closer zero o at closed = closer m 0 own first_is closed
+      closer_after m closer (suc i) o at closed = closer m (suc i) o (ap (λ l. slice_get l (suc i)) is ∙ at) closed
+
+  fits_now : Fits (callers_of k) r.log (with_one r.calls v.number item) r.claim id view_after
+  fits_now = let f = fits_after k laws r.log r.calls (callers_of k) r.claim id r.lawful v own owns is fits item may own_after (paid_items cost (record own { items = own.items ++ item ∷ [] })) in record { seen = f.seen; heard = f.heard; long = f.long; front = f.front; owns = f.owns }
+
+  keeps_placed : Keeps k s r id v.number s.words view_after
+  keeps_placed = record {
+    log = r.log;
+    calls = with_one r.calls v.number item;
+    shape = r.shape;
+    mine = owned.claimed;
+    lawful = lawful_after k laws r.log r.calls (callers_of k) r.claim id r.lawful v own owns is fits item may;
+    none_else = none_after k laws r.log r.calls (callers_of k) r.claim id r.lawful v own owns is fits item may r.none_else;
+    keys = r.keys;
+    fine = r.fine;
+    gates = r.gates;
+    later = later_same r.shape r.log s.words;
+    apart = apart_same k v.number r.shape s.words;
+    grows = grows;
+    others = (adds_one r.calls v.number item).others;
+    fits = fits_now;
+    suits = suits_after;
+  }
+
+  pub kept_placed : Kept k record { words = s.words; homes = s.homes; views = set s.views id view_after }
+  kept_placed = moves k laws s r id v.number s.words view_after keeps_placed
+
+  pays_on : (cost : ℕ) → MayPay cost own → MayPay cost (record own { items = own.items ++ item ∷ [] })
+  pays_on zero pays = tt
+  pays_on (suc cost) pays = pays
+
+  pub is_called : v.begin ≡ k → Called (start_of v.begin) call reply cost (view_state v) (view_state view_after)
+  is_called begin = subst (λ b. Called (start_of b) call reply cost (view_state v) (view_state view_after)) (sym begin)
+      (called k laws r.log r.calls (callers_of k) r.claim id r.lawful v own owns is fits item may own_after (paid_items cost (record own { items = own.items ++ item ∷ [] })) cost (paid_spare cost (record own { items = own.items ++ item ∷ [] }) (pays_on cost pays)))
+
+  -- the seat has then seen the whole history
+  pub looks_then : v.begin ≡ k → Looks view_after view_after
+  looks_then begin = looks_so k r.log (with_one r.calls v.number item) r.claim id view_after (lawful_after k laws r.log r.calls (callers_of k) r.claim id r.lawful v own owns is fits item may)
+      (none_after k laws r.log r.calls (callers_of k) r.claim id r.lawful v own owns is fits item may r.none_else) fits_now begin
