@@ -11,3 +11,4 @@ pub mod CursorNotes
 pub mod Prunings
 pub mod InsideGates
 pub mod Known
+pub mod Poised

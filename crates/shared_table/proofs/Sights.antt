@@ -21,7 +21,7 @@ use Rattle.trie_nodes.specs.Paths.{nibble, route}
 use Rattle.trie_nodes.specs.Slots.{slot_in}
 use Rattle.table_rule.specs.Layout.{size_of}
 use Rattle.table_rule.specs.Making.{leaf_value, HasLeaf, found_lock, Makes, bare, Publishes, StandsLocked, FindsHeld, HasUnit}
-use Rattle.table_writes.specs.Drafts.{IsPoised}
+use Rattle.shared_table.specs.Drafts.{IsPoised}
 use Rattle.shared_table.specs.MapCalls.{StillLocked, IsPoisedAt, MadeLocked}
 use Rattle.table_rule.specs.Shape.{start_of}
 use Rattle.table_rule.specs.Views.{MayPay, view_state}

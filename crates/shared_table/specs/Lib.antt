@@ -6,3 +6,4 @@ pub mod Dealing
 pub mod Counted
 pub mod MapCalls
 pub mod Pruning
+pub mod Drafts

@@ -14,7 +14,7 @@ use Rattle.sync_types.specs.KeyCalls.{is_key_entry, key_reply, key_after}
 use Rattle.table_rule.specs.Making.{leaf_value, IsLockAt, MadeCall, Makes}
 use Rattle.table_rule.specs.Pruning.{having_cut}
 use Rattle.table_rule.specs.Walking.{standing, walk_at, HasWords, Answers}
-use Rattle.table_writes.specs.Drafts.{IsPoised}
+use Rattle.shared_table.specs.Drafts.{IsPoised}
 use Rattle.shared_table.specs.declared.changes.Change.{Change}
 use Rattle.shared_table.specs.declared.changes.Change.TheVariants.{Keep, Put, Remove}
 use Rattle.shared_table.specs.declared.map_call.Paid.{Paid}

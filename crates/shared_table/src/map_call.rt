@@ -13,7 +13,7 @@ ghost use Rattle.sync_model.specs.Shared.{Called, cost_of, state_of};
 ghost use Rattle.shared_table.specs.Notes.{front_by, own_by, seen_by, IsNoteOf};
 ghost use Rattle.table_rule.specs.Making.{HasUnit, leaf_value, Publishes, StandsLocked};
 ghost use Rattle.table_words.specs.Seats.{begin_of, IsSeatOf};
-ghost use Rattle.table_writes.specs.Drafts.{IsPoised};
+ghost use Rattle.shared_table.specs.Drafts.{IsPoised};
 ghost use Rattle.shared_table.specs.MapCalls.{AnswersAndPrunes, IsEnd, IsReached, IsSight, IsWriting, MadeLocked, MakesAndPrunes, MayHaveMade, StillLocked};
 ghost use Rattle.sync_types.specs.KeyCalls.{key_after};
 ghost use Rattle.shared_table.specs.Tables.{maps_of, first_of};
@@ -21,13 +21,13 @@ ghost use Rattle.table_rule.specs.Walking.{standing, walk_at, given_by, HasWords
 
 use crate::changes::{Change, reply_of};
 use crate::note::SharedNote;
+use crate::publish::{remove, show_chain, show_entry};
 use crate::table::SharedTable;
 use atomic_table::Seat;
 use crossbeam_utils::Backoff;
 use std::sync::Wait;
 use sync_types::{MapCall, MapReply};
 use table_words::{Leaf, View};
-use table_writes::{remove, show_chain, show_entry};
 use trie_nodes::layout::ENTRY_WORDS;
 use trie_nodes::{LEVELS, Slot};
 

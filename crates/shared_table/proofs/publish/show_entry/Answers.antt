@@ -1,6 +1,6 @@
 use Rattle.table_words.specs.Seats.{begin_of}
-use Rattle.table_writes.proofs.Poised.{second_room, entry_may, entry_told}
-use Rattle.table_writes.proofs.publish.show_entry.Goals as goal
+use Rattle.shared_table.proofs.Poised.{second_room, entry_may, entry_told}
+use Rattle.shared_table.proofs.publish.show_entry.Goals as goal
 
 pub draft-requires-2-clause-room : goal.draft-requires-2-clause-room
 draft-requires-2-clause-room c =

@@ -1,8 +1,8 @@
 use Rattle.std.proofs.Common.{rules, ◌+◌, ◌*◌, ◌^◌, ◌<◌, sym, subst, arith}
 use Rattle.table_rule.specs.Making.{Publishes}
 use Rattle.table_words.specs.Seats.{begin_of}
-use Rattle.table_writes.proofs.Poised.{entry_along, chain_fits, chain_may, shown}
-use Rattle.table_writes.proofs.publish.show_chain.Goals as goal
+use Rattle.shared_table.proofs.Poised.{entry_along, chain_fits, chain_may, shown}
+use Rattle.shared_table.proofs.publish.show_chain.Goals as goal
 
 pub overflow_cast-other : goal.overflow_cast-other
 overflow_cast-other c = let small : c.args.other.now.key < 2 ^ 32 = (entry_along (begin_of c.args.words.now) c.args.seat.now.me.0 c.args.call c.args.map c.args.key c.args.node c.args.level c.args.next c.requires.poised c.args.other.now c.requires.other.0).0 in search rules

@@ -1,7 +1,7 @@
 use Rattle.std.proofs.Common.{◌≡◌}
-use Rattle.table_writes.specs.Drafts.{Drafted}
+use Rattle.shared_table.specs.Drafts.{Drafted}
 use Rattle.table_rule.specs.Units.{unit_word}
-use Rattle.table_writes.proofs.publish.draft_chain.Given as goal
+use Rattle.shared_table.proofs.publish.draft_chain.Given as goal
 
 abbrev pub invariant-loop-index : goal.invariant-loop-index
 invariant-loop-index l = record {

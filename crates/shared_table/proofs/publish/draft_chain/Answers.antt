@@ -1,7 +1,7 @@
 use Rattle.std.proofs.Common.{refl, ◌∙◌, arith}
 use Rattle.table_words.specs.Seats.{begin_of}
-use Rattle.table_writes.proofs.Poised.{may_draft_on, none_drafted, one_drafted}
-use Rattle.table_writes.proofs.publish.draft_chain.Goals as goal
+use Rattle.shared_table.proofs.Poised.{may_draft_on, none_drafted, one_drafted}
+use Rattle.shared_table.proofs.publish.draft_chain.Goals as goal
 
 pub draft-requires-clause-room : goal.draft-requires-clause-room
 draft-requires-clause-room c =

@@ -23,7 +23,7 @@ use Rattle.trie_nodes.specs.Plans.{IsExpansion}
 use Rattle.trie_nodes.specs.Slots.{word_of_slot}
 use Rattle.table_rule.specs.Layout.{size_of}
 use Rattle.table_rule.specs.Making.{used_in, leaf_value, Sees, HasNoOther, Removes, Stores, Expands, MayPublish, bare, Publishes, IsLockAt}
-use Rattle.table_writes.specs.Drafts.{IsPoised, with_draft, Drafted}
+use Rattle.shared_table.specs.Drafts.{IsPoised, with_draft, Drafted}
 use Rattle.table_rule.specs.Shape.{start_of}
 use Rattle.table_rule.specs.Units.{link_at, unit_word}
 use Rattle.table_rule.specs.Views.{held_in, with_item, paid, spend, called_view, view_state}

@@ -8,7 +8,7 @@ ghost use Rattle.table_words.specs.Seats.{begin_of, IsSeatOf};
 ghost use Rattle.table_rule.specs.Units.{unit_word};
 ghost use Rattle.table_rule.specs.Walking.{HasWords};
 ghost use Rattle.table_rule.specs.Writing.{HasDraft};
-ghost use Rattle.table_writes.specs.Drafts.{IsPoised, Drafted};
+ghost use Rattle.shared_table.specs.Drafts.{IsPoised, Drafted};
 
 use crate::chain::Chain;
 use atomic_table::Seat;
