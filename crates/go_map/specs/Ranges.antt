@@ -11,7 +11,7 @@ use Rattle.sync_model.specs.SharedCalls.{KeepsRange}
 use Rattle.shared_table.specs.declared.note.SharedNote.{SharedNote}
 use Rattle.shared_table.specs.declared.table.SharedTable.{SharedTable}
 use Rattle.shared_table.specs.Notes.{front_by, own_by, seen_by, IsNoteOf, IsLawfulFor}
-use Rattle.table_cursors.specs.Ranging.{IsCursor}
+use Rattle.shared_table.specs.Ranging.{IsCursor}
 use Rattle.shared_table.specs.Tables.{first_of}
 use Rattle.go_map.specs.declared.cursor.Cursor.{Cursor}
 

@@ -3,9 +3,9 @@ use Rattle.std.specs.Prelude.{◌≢◌, ℕ, ◌^◌, ◌<◌, List, [], ◌∷
 use Rattle.sync_types.specs.declared.atomic_object.AtomicKind.{AtomicKind}
 use Rattle.sync_model.specs.declared.item.Item.{Item}
 use Rattle.sync_model.specs.declared.item.SharedCall.TheVariants.{Next}
-use Rattle.table_cursors.specs.declared.cursor.TableCursor.{TableCursor}
-use Rattle.table_cursors.specs.CursorStays as still
-use Rattle.table_cursors.specs.Ranging.{IsCursor}
+use Rattle.shared_table.specs.declared.cursor.TableCursor.{TableCursor}
+use Rattle.shared_table.specs.CursorStays as still
+use Rattle.shared_table.specs.Ranging.{IsCursor}
 use Rattle.shared_table.specs.Tables.{kinds_of, maps_of, caller_count}
 use Rattle.go_map.specs.declared.trie.Trie.{Trie}
 

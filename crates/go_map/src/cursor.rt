@@ -4,7 +4,7 @@ ghost use Rattle.sync_model.specs.declared.item.SharedCall.TheVariants as calls;
 ghost use Rattle.sync_model.specs.declared.item.SharedReply.TheVariants as replies;
 ghost use Rattle.sync_model.specs.Shared.{IsCallerAt};
 ghost use Rattle.shared_table.specs.Notes.{own_by, IsNoteOf};
-ghost use Rattle.table_cursors.specs.Ranging.{HasPassedAll};
+ghost use Rattle.shared_table.specs.Ranging.{HasPassedAll};
 ghost use Rattle.go_map.specs.Ranges.{MakesStep, calls_by, KeepsRangeLaw, StandsFor};
 
 use crate::map::Map;

@@ -11,9 +11,9 @@ use Rattle.sync_model.specs.Shared.{Called, IsCallerAt, state_of}
 use Rattle.sync_model.specs.SharedHistory.{Contents}
 use Rattle.shared_table.specs.declared.note.SharedNote.{SharedNote}
 use Rattle.shared_table.specs.declared.table.SharedTable.{SharedTable}
-use Rattle.table_cursors.specs.CursorStays as still
+use Rattle.shared_table.specs.CursorStays as still
 use Rattle.shared_table.specs.Notes.{front_by, own_by, seen_by, IsNoteOf}
-use Rattle.table_cursors.specs.Ranging.{IsCursor}
+use Rattle.shared_table.specs.Ranging.{IsCursor}
 use Rattle.go_map.specs.declared.cursor.Cursor.{Cursor}
 use Rattle.go_map.specs.Maps.{MakesCall}
 use Rattle.go_map.specs.Ranges.{MakesStep, StandsFor}

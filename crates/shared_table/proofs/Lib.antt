@@ -12,3 +12,7 @@ pub mod Prunings
 pub mod InsideGates
 pub mod Known
 pub mod Poised
+pub mod Ranges
+pub mod Ranged
+pub mod CursorBegins
+pub mod CursorNexts

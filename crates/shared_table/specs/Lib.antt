@@ -7,3 +7,5 @@ pub mod Counted
 pub mod MapCalls
 pub mod Pruning
 pub mod Drafts
+pub mod Ranging
+pub mod CursorStays

@@ -5,13 +5,13 @@ ghost use Rattle.sync_model.specs.declared.item.SharedCall.TheVariants as calls;
 ghost use Rattle.sync_model.specs.declared.item.SharedReply.TheVariants as replies;
 ghost use Rattle.sync_model.specs.Note.{SameHome};
 ghost use Rattle.sync_model.specs.Shared.{Called, state_of};
-ghost use Rattle.table_cursors.specs.Ranging.{HasPassedAll, IsCursor};
+ghost use Rattle.shared_table.specs.Ranging.{HasPassedAll, IsCursor};
 ghost use Rattle.shared_table.specs.Notes.{front_by, own_by, seen_by, IsNoteOf, IsLawfulFor};
 ghost use Rattle.shared_table.specs.Tables.{maps_of, first_of};
 
+use crate::cursor::TableCursor;
 use crate::note::SharedNote;
 use crate::table::SharedTable;
-use table_cursors::TableCursor;
 
 impl SharedTable {
     /// Begins a cursor over a map, at the map's root.

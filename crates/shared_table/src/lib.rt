@@ -18,14 +18,15 @@ mod prune;
 mod settling;
 pub mod table;
 
+pub use cursor::TableCursor;
 pub use new::{MAX_OBJECTS, MAX_UNITS};
 pub use note::SharedNote;
 pub use publish::{remove, show_chain, show_entry};
 pub use table::SharedTable;
-pub use table_cursors::TableCursor;
 pub use table_words::{Begin, Steps, WordStep};
 
 mod chain;
+pub mod cursor;
 mod publish;
 #[cfg(test)]
 mod tests;

@@ -3,7 +3,7 @@ use Rattle.sync_model.specs.declared.item.SharedCall.TheVariants as calls
 use Rattle.sync_model.specs.declared.item.SharedReply.TheVariants as replies
 use Rattle.table_rule.specs.declared.view.View.{View}
 use Rattle.shared_table.specs.Notes.{own_by}
-use Rattle.table_cursors.specs.Ranging.{IsCursor}
+use Rattle.shared_table.specs.Ranging.{IsCursor}
 use Rattle.table_rule.specs.Views.{view_state}
 use Rattle.shared_table.proofs.Calling.{note_on}
 use Rattle.shared_table.proofs.CursorNotes.{of_holder, holder_of}

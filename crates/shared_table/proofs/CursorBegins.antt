@@ -7,19 +7,19 @@ use Rattle.sync_model.specs.declared.item.SharedCall.TheVariants as calls
 use Rattle.sync_model.specs.declared.item.SharedReply.TheVariants as replies
 use Rattle.sync_model.specs.Shared.{items_of}
 use Rattle.table_rule.specs.declared.begin.Begin.{Begin}
-use Rattle.table_cursors.specs.declared.cursor.TableCursor.{TableCursor}
+use Rattle.shared_table.specs.declared.cursor.TableCursor.{TableCursor}
 use Rattle.table_words.specs.declared.words.TableWords.{TableWords}
 use Rattle.table_rule.specs.declared.view.Own.{Own}
 use Rattle.table_rule.specs.declared.view.Spot.{Spot}
 use Rattle.table_rule.specs.declared.view.View.{View}
 use Rattle.trie_nodes.specs.PlaceLists.{nodes_of, slots_of}
 use Rattle.table_rule.specs.Cursors.{first_spot, Sweeps, BeginsCursor, IsCursorOf, unmounted, cursor_seat}
-use Rattle.table_cursors.specs.Ranging.{RangesOn}
+use Rattle.shared_table.specs.Ranging.{RangesOn}
 use Rattle.table_rule.specs.Shape.{start_of}
 use Rattle.table_words.specs.Seats.{begin_of, IsSeatOf}
 use Rattle.table_rule.specs.Views.{held_in, view_state, made_by}
 use Rattle.table_rule.specs.Walking.{HasWords, IsFree}
-use Rattle.table_cursors.proofs.Ranged.{let_go, looks_then, one_more, at_end, not_yet}
+use Rattle.shared_table.proofs.Ranged.{let_go, looks_then, one_more, at_end, not_yet}
 
 -- a caller's seat has begun a cursor
 module _ (words : TableWords) (old mid new : Me (Unit {0}) View) (root m : ℕ) (cursor : TableCursor) (free : IsFree (begin_of words) old) (begun : BeginsCursor m old root mid)

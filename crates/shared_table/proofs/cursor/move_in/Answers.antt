@@ -1,5 +1,5 @@
-use Rattle.table_cursors.proofs.Ranges.{stands_in, words_in, words_down}
-use Rattle.table_cursors.proofs.cursor.move_in.Goals as goal
+use Rattle.shared_table.proofs.Ranges.{stands_in, words_in, words_down}
+use Rattle.shared_table.proofs.cursor.move_in.Goals as goal
 
 pub sweep-requires-clause-cursor : goal.sweep-requires-clause-cursor
 sweep-requires-clause-cursor c =

@@ -6,7 +6,7 @@ use Rattle.sync_model.specs.declared.item.SharedCall.TheVariants as calls
 use Rattle.sync_model.specs.declared.item.SharedReply.TheVariants as replies
 use Rattle.sync_model.specs.Shared.{items_of}
 use Rattle.table_rule.specs.declared.begin.Begin.{Begin}
-use Rattle.table_cursors.specs.declared.cursor.TableCursor.{TableCursor}
+use Rattle.shared_table.specs.declared.cursor.TableCursor.{TableCursor}
 use Rattle.table_words.specs.declared.words.TableWords.{TableWords}
 use Rattle.table_rule.specs.declared.view.Gate.TheVariants.{Outside}
 use Rattle.table_rule.specs.declared.view.Own.{Own}
@@ -16,12 +16,12 @@ use Rattle.trie_nodes.specs.declared.place.Place.{Place}
 use Rattle.trie_nodes.specs.PlaceLists.{nodes_of, slots_of}
 use Rattle.table_rule.specs.Cursors.{Sweeps, IsCursorOf, mounted, unmounted, cursor_seat}
 use Rattle.table_rule.specs.Operations.{PlacesCall}
-use Rattle.table_cursors.specs.Ranging.{moved, showing, ShowsNext, AreWithin, IsRanging, IsCursor, RangesOn}
+use Rattle.shared_table.specs.Ranging.{moved, showing, ShowsNext, AreWithin, IsRanging, IsCursor, RangesOn}
 use Rattle.table_rule.specs.Shape.{start_of}
 use Rattle.table_words.specs.Seats.{begin_of, IsSeatOf}
 use Rattle.table_rule.specs.Views.{held_in, view_state}
 use Rattle.table_rule.specs.Walking.{HasWords, IsFree}
-use Rattle.table_cursors.proofs.Ranged.{let_go, looks_then, one_more, one_step}
+use Rattle.shared_table.proofs.Ranged.{let_go, looks_then, one_more, one_step}
 
 -- its seat took in the cursor's
 pub taken_in : (first mid me : Me (Unit {0}) View) (cursor held : Seat (Unit {0}) View) → mid ≡ (unmounted first.0, first.1) → held ≡ cursor → me ≡ (mounted mid.0 held.me.0, mid.1) → me ≡ (mounted (unmounted first.0) cursor.me.0, first.1)

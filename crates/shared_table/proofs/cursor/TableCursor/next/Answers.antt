@@ -1,6 +1,6 @@
 use Rattle.std.proofs.Common.{◌∙◌, refl}
-use Rattle.table_cursors.proofs.CursorNexts.{taken_in, ranging, outside, steps}
-use Rattle.table_cursors.proofs.cursor.TableCursor.next.Goals as goal
+use Rattle.shared_table.proofs.CursorNexts.{taken_in, ranging, outside, steps}
+use Rattle.shared_table.proofs.cursor.TableCursor.next.Goals as goal
 
 -- the seat when it has taken in the cursor's
 pub step-shown-requires-clause-cursor : goal.step-shown-requires-clause-cursor

@@ -8,9 +8,9 @@ use Rattle.sync_model.specs.declared.item.SharedReply.{SharedReply}
 use Rattle.sync_model.specs.declared.item.SharedReply.TheVariants as replies
 use Rattle.sync_model.specs.Shared.{items_of}
 use Rattle.table_rule.specs.declared.begin.Begin.{Begin}
-use Rattle.table_cursors.specs.declared.cursor.TableCursor.{TableCursor}
-use Rattle.table_cursors.specs.declared.cursor.Move.{Move}
-use Rattle.table_cursors.specs.declared.cursor.Move.TheVariants.{On, Shown}
+use Rattle.shared_table.specs.declared.cursor.TableCursor.{TableCursor}
+use Rattle.shared_table.specs.declared.cursor.Move.{Move}
+use Rattle.shared_table.specs.declared.cursor.Move.TheVariants.{On, Shown}
 use Rattle.table_words.specs.declared.words.TableWords.{TableWords}
 use Rattle.table_rule.specs.declared.view.Spot.{Spot}
 use Rattle.table_rule.specs.declared.view.View.{View}

@@ -1,6 +1,6 @@
 use Rattle.std.proofs.Common.{◌∙◌}
-use Rattle.table_cursors.proofs.CursorBegins.{begins}
-use Rattle.table_cursors.proofs.cursor.TableCursor.begin.Goals as goal
+use Rattle.shared_table.proofs.CursorBegins.{begins}
+use Rattle.shared_table.proofs.cursor.TableCursor.begin.Goals as goal
 
 pub returns-clause-begun : goal.returns-clause-begun
 returns-clause-begun c =

@@ -1,8 +1,8 @@
 use Rattle.std.proofs.Common.{◌≡◌, ◌≢◌, length, ◌∙◌, arith}
 use Rattle.trie_nodes.specs.PlaceLists.{slots_of}
 use Rattle.trie_nodes.specs.Places.{last_of}
-use Rattle.table_cursors.proofs.Ranges.{below_root, words_up}
-use Rattle.table_cursors.proofs.cursor.move_on.Goals as goal
+use Rattle.shared_table.proofs.Ranges.{below_root, words_up}
+use Rattle.shared_table.proofs.cursor.move_on.Goals as goal
 
 pub rise-requires-clause-cursor : goal.rise-requires-clause-cursor
 rise-requires-clause-cursor c =

@@ -5,9 +5,9 @@ use Rattle.std.proofs.lemmas.Option.{none-some, same_Some}
 use Rattle.sync_model.specs.declared.item.Item.{Item}
 use Rattle.sync_model.specs.declared.item.SharedCall.TheVariants.{Next}
 use Rattle.sync_model.specs.SharedCalls.{IsStep}
-use Rattle.table_cursors.specs.declared.cursor.TableCursor.{TableCursor}
+use Rattle.shared_table.specs.declared.cursor.TableCursor.{TableCursor}
 use Rattle.table_words.specs.declared.words.TableWords.{TableWords}
-use Rattle.table_cursors.specs.Ranging.{IsCursor}
+use Rattle.shared_table.specs.Ranging.{IsCursor}
 
 pub still_at : {A : Type 0} (xs : List A) (z x : A) (i : ℕ) → slice_get xs i ≡ Some x → slice_get (xs ++ z ∷ []) i ≡ Some x
 still_at [] z x i at = absurd (none-some x at)

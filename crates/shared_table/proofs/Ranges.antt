@@ -4,7 +4,7 @@ use Rattle.std.proofs.lemmas.Bool.{cases_eq}
 use Rattle.std.proofs.lemmas.Option.{none-some, same_Some}
 use Rattle.atomic_table.specs.Table.{Me}
 use Rattle.table_rule.specs.declared.begin.Begin.{Begin}
-use Rattle.table_cursors.specs.declared.cursor.Move.TheVariants.{On}
+use Rattle.shared_table.specs.declared.cursor.Move.TheVariants.{On}
 use Rattle.table_rule.specs.declared.view.Spot.{Spot}
 use Rattle.table_rule.specs.declared.view.View.{View}
 use Rattle.trie_nodes.specs.declared.place.Place.{Place}
@@ -12,8 +12,8 @@ use Rattle.trie_nodes.specs.declared.slot.Slot.TheVariants.{Node}
 use Rattle.trie_nodes.specs.PlaceLists.{nodes_of, slots_of}
 use Rattle.trie_nodes.specs.Places.{but_last, last_of}
 use Rattle.table_rule.specs.Cursors.{at_spot, SweepsIn, StandsIn}
-use Rattle.table_cursors.specs.CursorStays.{old_or_last}
-use Rattle.table_cursors.specs.Ranging.{moved, ShowsNext, MovesTo, AreWithin, IsRanging}
+use Rattle.shared_table.specs.CursorStays.{old_or_last}
+use Rattle.shared_table.specs.Ranging.{moved, ShowsNext, MovesTo, AreWithin, IsRanging}
 use Rattle.table_rule.specs.Walking.{HasWords}
 
 -- a list is its front and its last

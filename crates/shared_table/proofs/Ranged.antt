@@ -15,9 +15,9 @@ use Rattle.table_rule.specs.declared.view.Own.{Own}
 use Rattle.table_rule.specs.declared.view.Spot.{Spot}
 use Rattle.table_rule.specs.declared.view.View.{View}
 use Rattle.table_rule.specs.Cursors.{Sweeps, IsCursorOf, unmounted}
-use Rattle.table_cursors.specs.CursorStays.{old_step, still_at, still_step}
+use Rattle.shared_table.specs.CursorStays.{old_step, still_at, still_step}
 use Rattle.table_rule.specs.Operations.{PlacesCall}
-use Rattle.table_cursors.specs.Ranging.{showing}
+use Rattle.shared_table.specs.Ranging.{showing}
 use Rattle.table_rule.specs.Views.{held_in, called_view, with_item, view_state, Looks}
 
 -- a caller's seat let its cursor go when its call was placed: it is as after any other call

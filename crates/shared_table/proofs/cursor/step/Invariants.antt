@@ -1,8 +1,8 @@
 use Rattle.std.proofs.Common.{◌≡◌}
 use Rattle.trie_nodes.specs.PlaceLists.{slots_of}
 use Rattle.trie_nodes.specs.Places.{steps_left}
-use Rattle.table_cursors.proofs.Ranges.{IsOn}
-use Rattle.table_cursors.proofs.cursor.step.Given as goal
+use Rattle.shared_table.proofs.Ranges.{IsOn}
+use Rattle.shared_table.proofs.cursor.step.Given as goal
 
 abbrev pub invariant-loop-shown : goal.invariant-loop-shown
 invariant-loop-shown l = record {

@@ -1,7 +1,7 @@
 use Rattle.std.proofs.Common.{◌∙◌}
-use Rattle.table_cursors.proofs.Ranges.{ranging_on, steps}
-use Rattle.table_cursors.specs.Ranging.{moved}
-use Rattle.table_cursors.proofs.cursor.step.Goals as goal
+use Rattle.shared_table.proofs.Ranges.{ranging_on, steps}
+use Rattle.shared_table.specs.Ranging.{moved}
+use Rattle.shared_table.proofs.cursor.step.Goals as goal
 
 pub move_on-requires-clause-cursor : goal.move_on-requires-clause-cursor
 move_on-requires-clause-cursor c =

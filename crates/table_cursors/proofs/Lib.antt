@@ -1,4 +1,0 @@
-pub mod Ranges
-pub mod Ranged
-pub mod CursorBegins
-pub mod CursorNexts

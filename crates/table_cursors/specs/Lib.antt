@@ -1,2 +1,0 @@
-pub mod Ranging
-pub mod CursorStays
