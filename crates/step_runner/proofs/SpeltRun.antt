@@ -31,10 +31,10 @@ use Rattle.step_turns.specs.Objects.{new_object, kind_of, EachAt}
 use Rattle.step_turns.specs.Ready.{IsReady}
 use Rattle.step_turns.specs.Stands.{IsOutAt, IsOutBut, waits_at}
 use Rattle.step_turns.specs.Turns.{turn_at}
-use Rattle.step_spelling.specs.Left.{left_at}
-use Rattle.step_spelling.specs.Recorded.{recorded_reply, recorded}
-use Rattle.step_spelling.specs.Tells.{Tells}
-use Rattle.step_spelling.specs.Within.{IsIdle, IsWithin, StandsBehind}
+use Rattle.step_turns.specs.Left.{left_at}
+use Rattle.step_turns.specs.Recorded.{recorded_reply, recorded}
+use Rattle.step_turns.specs.Tells.{Tells}
+use Rattle.step_turns.specs.Within.{IsIdle, IsWithin, StandsBehind}
 use Rattle.step_runner.specs.declared.step.Step.{Step}
 use Rattle.step_runner.specs.declared.step.Step.TheVariants as steps
 use Rattle.step_runner.specs.RunItems.{made_by, unless_ended, all_made}

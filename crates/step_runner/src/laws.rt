@@ -46,7 +46,7 @@ ghost use Rattle.step_runner.specs.Turns.{next_call, turn_of, items_of, after_it
 ghost use Rattle.step_runner.specs.Forms.{all_have_forms, has_forms};
 ghost use Rattle.step_runner.specs.Computed.{rounds_of, all_rounds, turns};
 
-use step_spelling::laws::{
+use step_turns::laws::spelling::{
     calls_are_entered_whole, items_are_their_workers, turns_spell_their_calls,
 };
 use step_turns::laws::{

@@ -22,3 +22,20 @@ mod Writes
 pub mod OthersStand
 pub mod OwnStands
 pub mod ObjectsStand
+mod SpellingAtObjects
+mod Callers
+mod CondSpelled
+mod Entered
+mod GoesOn
+mod SpellingMachineLaws
+mod MutexSpelled
+mod OthersAt
+mod OthersKeep
+mod OwnAt
+mod PlacedSpelled
+mod PoolSpelled
+mod RwSides
+mod RwSpelled
+mod Spelled
+mod TurnOwn
+mod WaitSpelled

@@ -17,3 +17,7 @@ pub mod ReplyForm
 pub mod Stages
 pub mod Stands
 pub mod Turns
+pub mod Left
+pub mod Recorded
+pub mod Tells
+pub mod Within

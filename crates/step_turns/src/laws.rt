@@ -25,6 +25,8 @@ ghost use Rattle.step_turns.specs.ReplyForm.{HasForm};
 ghost use Rattle.step_turns.specs.Stands.{IsOutAt, IsOutBut, waits_at, waits_behind};
 ghost use Rattle.step_turns.specs.Turns.{turn_at};
 
+pub mod spelling;
+
 use sync_types::Name;
 use sync_types::laws::atomics::calls_keep_the_type;
 use sync_types::laws::replies::replies_have_their_form;

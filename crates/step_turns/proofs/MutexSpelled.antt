@@ -33,12 +33,12 @@ use Rattle.step_turns.specs.declared.answer.Answer.TheVariants as answers
 use Rattle.step_turns.specs.Due.{mutex_due, locked}
 use Rattle.step_turns.specs.Items.{stage_items}
 use Rattle.step_turns.specs.Stages.{outcome_of, make, answer_by}
-use Rattle.step_spelling.specs.Left.{mutex_waits, mutex_left}
-use Rattle.step_spelling.specs.Recorded.{recorded_reply, recorded}
-use Rattle.step_spelling.specs.Tells.{Tells}
+use Rattle.step_turns.specs.Left.{mutex_waits, mutex_left}
+use Rattle.step_turns.specs.Recorded.{recorded_reply, recorded}
+use Rattle.step_turns.specs.Tells.{Tells}
 use Rattle.step_turns.specs.MachinesStand.{MutexStands}
-use Rattle.step_spelling.proofs.MachineLaws.{no, may}
-use Rattle.step_spelling.proofs.Spelled.{event_made, Continues, stage_tells}
+use Rattle.step_turns.proofs.SpellingMachineLaws.{no, may}
+use Rattle.step_turns.proofs.Spelled.{event_made, Continues, stage_tells}
 
 module _ (law : MutexStands) (plan : Plan) (place worker moment : ℕ) where
   module _ (f : LockReply → Reply (List ℕ)) (reply : LockReply → Reply ℕ) (reads : (outcome : LockReply) → recorded_reply plan (f outcome) ≡ reply outcome) (left : Bool → Part (Reply ℕ))

@@ -18,8 +18,8 @@ use Rattle.run_record.specs.declared.made.Made.TheVariants.{Entered}
 use Rattle.workload.specs.Plan.{Plan}
 use Rattle.step_turns.specs.declared.answer.Answer.TheVariants as answers
 use Rattle.step_turns.specs.Stages.{outcome_of, answer_by}
-use Rattle.step_spelling.specs.Recorded.{recorded_reply}
-use Rattle.step_spelling.specs.Tells.{Tells}
+use Rattle.step_turns.specs.Recorded.{recorded_reply}
+use Rattle.step_turns.specs.Tells.{Tells}
 
 module _ {G O E R : Type 0} (event : E → ObjectEvent) (answer : R → ObjectReply) (event_of : G → ℕ → E) (meaning : G → R → Step G O) (object worker : ℕ) where
   abbrev from : G → Part O

@@ -67,11 +67,11 @@ use Rattle.step_turns.specs.declared.object_state.ObjectState.{ObjectState}
 use Rattle.step_turns.specs.declared.object_state.ObjectState.TheVariants as states
 use Rattle.step_turns.specs.Objects.{kind_of}
 use Rattle.step_turns.specs.Ready.{IsReady}
-use Rattle.step_spelling.specs.Left.{mutex_waits, rw_waits, rw_later, mutex_left, rw_left, group_left, cond_left, once_left, left_on, left_on_both, left_at}
-use Rattle.step_spelling.proofs.AtObjects.{left_alone, left_referring}
-use Rattle.step_spelling.proofs.PlacedSpelled.{places}
-use Rattle.step_spelling.proofs.Spelled.{refused}
-use Rattle.step_spelling.proofs.TurnOwn.{Pair, only_pairs, cond_refers, once_refers}
+use Rattle.step_turns.specs.Left.{mutex_waits, rw_waits, rw_later, mutex_left, rw_left, group_left, cond_left, once_left, left_on, left_on_both, left_at}
+use Rattle.step_turns.proofs.SpellingAtObjects.{left_alone, left_referring}
+use Rattle.step_turns.proofs.PlacedSpelled.{places}
+use Rattle.step_turns.proofs.Spelled.{refused}
+use Rattle.step_turns.proofs.TurnOwn.{Pair, only_pairs, cond_refers, once_refers}
 
 -- some items spell it
 abbrev pub CanBe : {O : Type 0} → Part O → Type 0

@@ -9,7 +9,7 @@ use Rattle.run_record.specs.Parts.{Part}
 use Rattle.run_record.specs.declared.made.Made.{Made}
 use Rattle.step_turns.specs.declared.answer.Answer.{Answer}
 use Rattle.step_turns.specs.declared.answer.Answer.TheVariants as answers
-use Rattle.step_spelling.specs.Recorded.{recorded_reply}
+use Rattle.step_turns.specs.Recorded.{recorded_reply}
 
 -- No event makes no item. One after which the call has not returned leaves what is left then: with any items that spell that, the turn's spell what was left before.
 -- One that completes the call or is a misuse spells all that was left, and the reply is read off the items

@@ -1,5 +1,5 @@
-use Rattle.step_spelling.proofs.Callers.{by_itself, by_no_other}
-use Rattle.step_spelling.proofs.laws.items_are_their_workers.Goals as goal
+use Rattle.step_turns.proofs.Callers.{by_itself, by_no_other}
+use Rattle.step_turns.proofs.laws.spelling.items_are_their_workers.Goals as goal
 
 pub returns-clause-own : goal.returns-clause-own
 returns-clause-own c worker moment call objects = by_itself call worker moment objects

@@ -1,6 +1,6 @@
-use Rattle.step_spelling.proofs.Entered.{Begins, new_idle, entered}
-use Rattle.step_spelling.proofs.GoesOn.{left_can}
-use Rattle.step_spelling.proofs.laws.calls_are_entered_whole.Goals as goal
+use Rattle.step_turns.proofs.Entered.{Begins, new_idle, entered}
+use Rattle.step_turns.proofs.GoesOn.{left_can}
+use Rattle.step_turns.proofs.laws.spelling.calls_are_entered_whole.Goals as goal
 
 abbrev begins : goal.After-knows_where_it_stands-4 → Begins
 begins c = record {

@@ -12,8 +12,8 @@ use Rattle.step_turns.specs.declared.object_state.ObjectState.{ObjectState}
 use Rattle.step_turns.specs.Items.{items_on, items_on_both, items_by, items_at}
 use Rattle.step_turns.specs.Objects.{kind_of, EachAt}
 use Rattle.step_turns.specs.Turns.{turn_on, turn_on_both, with_object, with_both, turn_by, turn_at}
-use Rattle.step_spelling.specs.Left.{left_on, left_on_both, left_beside, left_by, left_found, left_at}
-use Rattle.step_spelling.specs.Within.{StandsOn, StandsOnBoth, StandsBeside, StandsBy, StandsFound}
+use Rattle.step_turns.specs.Left.{left_on, left_on_both, left_beside, left_by, left_found, left_at}
+use Rattle.step_turns.specs.Within.{StandsOn, StandsOnBoth, StandsBeside, StandsBy, StandsFound}
 
 -- ---- lists of objects
 

@@ -17,12 +17,12 @@ ghost use Rattle.step_turns.specs.Objects.{new_object, kind_of, EachAt};
 ghost use Rattle.step_turns.specs.Ready.{IsReady};
 ghost use Rattle.step_turns.specs.Stands.{IsOutBut, waits_at};
 ghost use Rattle.step_turns.specs.Turns.{turn_at};
-ghost use Rattle.step_spelling.specs.Left.{left_at};
-ghost use Rattle.step_spelling.specs.Recorded.{recorded};
-ghost use Rattle.step_spelling.specs.Tells.{Tells};
-ghost use Rattle.step_spelling.specs.Within.{IsIdle, IsWithin, StandsBehind};
+ghost use Rattle.step_turns.specs.Left.{left_at};
+ghost use Rattle.step_turns.specs.Recorded.{recorded};
+ghost use Rattle.step_turns.specs.Tells.{Tells};
+ghost use Rattle.step_turns.specs.Within.{IsIdle, IsWithin, StandsBehind};
 
-use step_turns::laws::{machines_tell_where_callers_stand, turns_keep_kinds_and_machines};
+use crate::laws::{machines_tell_where_callers_stand, turns_keep_kinds_and_machines};
 use workload::laws::keys_are_numbered_by_first_appearance;
 
 /// The items of a worker's turn spell what was left of its call, up to what is left behind the turn. So a turn that completes the

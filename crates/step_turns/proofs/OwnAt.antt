@@ -20,13 +20,13 @@ use Rattle.step_turns.specs.Objects.{kind_of, EachAt}
 use Rattle.step_turns.specs.Ready.{IsReady}
 use Rattle.step_turns.specs.Stands.{may_wait, waits_at, IsOutAt, IsOutBut}
 use Rattle.step_turns.specs.Turns.{turn_on, turn_on_both, turn_at}
-use Rattle.step_spelling.specs.Left.{left_on, left_on_both, left_at}
-use Rattle.step_spelling.specs.Recorded.{recorded}
-use Rattle.step_spelling.specs.Tells.{Tells}
-use Rattle.step_spelling.specs.Within.{IsIdle, StandsOn, StandsOnBoth, IsWithin, StandsBehind}
-use Rattle.step_spelling.proofs.AtObjects.{set_there, set_other, each_but, apart, turn_alone, items_alone, turn_referring, items_referring, left_alone, left_referring, stands_alone, stands_referring}
-use Rattle.step_spelling.proofs.MachineLaws.{Laws}
-use Rattle.step_spelling.proofs.TurnOwn.{BehindOn, turn_own, BehindBoth, both_own}
+use Rattle.step_turns.specs.Left.{left_on, left_on_both, left_at}
+use Rattle.step_turns.specs.Recorded.{recorded}
+use Rattle.step_turns.specs.Tells.{Tells}
+use Rattle.step_turns.specs.Within.{IsIdle, StandsOn, StandsOnBoth, IsWithin, StandsBehind}
+use Rattle.step_turns.proofs.SpellingAtObjects.{set_there, set_other, each_but, apart, turn_alone, items_alone, turn_referring, items_referring, left_alone, left_referring, stands_alone, stands_referring}
+use Rattle.step_turns.proofs.SpellingMachineLaws.{Laws}
+use Rattle.step_turns.proofs.TurnOwn.{BehindOn, turn_own, BehindBoth, both_own}
 
 -- what the law of turns says of kinds
 abbrev pub KindsKept : Type 0

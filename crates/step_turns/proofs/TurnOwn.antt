@@ -53,17 +53,17 @@ use Rattle.step_turns.specs.MapKeys.{HasObjectKeysIn}
 use Rattle.step_turns.specs.Objects.{kind_of, IsMachineOf}
 use Rattle.step_turns.specs.Stands.{may_wait, IsOutAt}
 use Rattle.step_turns.specs.Turns.{once_made, turn_on, turn_on_both}
-use Rattle.step_spelling.specs.Left.{left_on, left_on_both}
-use Rattle.step_spelling.specs.Recorded.{recorded, made_shared, shared_calls, recorded_event, made_on}
-use Rattle.step_spelling.specs.Tells.{Tells}
-use Rattle.step_spelling.specs.Within.{IsIdle, IsOutOfOnce, StandsAtOnce, StandsOn, StandsOnBoth}
-use Rattle.step_spelling.proofs.CondSpelled.{CondBehind, CondStandsAt, cond_tells}
-use Rattle.step_spelling.proofs.MachineLaws.{Laws}
-use Rattle.step_spelling.proofs.MutexSpelled.{mutex_tells}
-use Rattle.step_spelling.proofs.PlacedSpelled.{places, range_sorted}
-use Rattle.step_spelling.proofs.PoolSpelled.{pool_whole, whole_tells}
-use Rattle.step_spelling.proofs.RwSpelled.{rw_tells, stands_fit, stands_on}
-use Rattle.step_spelling.proofs.WaitSpelled.{GroupBehind, group_tells, OnceBehind, before_end, due_made, once_tells}
+use Rattle.step_turns.specs.Left.{left_on, left_on_both}
+use Rattle.step_turns.specs.Recorded.{recorded, made_shared, shared_calls, recorded_event, made_on}
+use Rattle.step_turns.specs.Tells.{Tells}
+use Rattle.step_turns.specs.Within.{IsIdle, IsOutOfOnce, StandsAtOnce, StandsOn, StandsOnBoth}
+use Rattle.step_turns.proofs.CondSpelled.{CondBehind, CondStandsAt, cond_tells}
+use Rattle.step_turns.proofs.SpellingMachineLaws.{Laws}
+use Rattle.step_turns.proofs.MutexSpelled.{mutex_tells}
+use Rattle.step_turns.proofs.PlacedSpelled.{places, range_sorted}
+use Rattle.step_turns.proofs.PoolSpelled.{pool_whole, whole_tells}
+use Rattle.step_turns.proofs.RwSpelled.{rw_tells, stands_fit, stands_on}
+use Rattle.step_turns.proofs.WaitSpelled.{GroupBehind, group_tells, OnceBehind, before_end, due_made, once_tells}
 
 -- where the worker stands behind its turn, at the call's object
 abbrev pub BehindOn : Operation → ℕ → Answer → ObjectState → Type 0

@@ -21,7 +21,7 @@ use Rattle.rw_core.specs.declared.place.Place.TheVariants as rw_place
 use Rattle.rw_core.specs.declared.reply.RwReply.{RwReply}
 use Rattle.rw_core.specs.declared.writer.Writer.{Writer}
 use Rattle.rw_core.specs.declared.writer.Writer.TheVariants as writer
-use Rattle.step_spelling.specs.Within.{IsNoReader, IsNoWriter}
+use Rattle.step_turns.specs.Within.{IsNoReader, IsNoWriter}
 use Rattle.step_turns.specs.MachinesStand.{MutexStands}
 
 -- ---- lists of callers

@@ -42,11 +42,11 @@ use Rattle.step_turns.specs.declared.object_state.ObjectState.TheVariants as sta
 use Rattle.step_turns.specs.Objects.{new_object, kind_of, EachAt}
 use Rattle.step_turns.specs.Ready.{IsReady}
 use Rattle.step_turns.specs.Stands.{IsOutAt, IsOutBut}
-use Rattle.step_spelling.specs.Left.{mutex_waits, rw_waits, mutex_left, rw_left, group_left, cond_left, once_left, left_on, left_on_both, left_at}
-use Rattle.step_spelling.specs.Within.{IsIdle, StandsOn, StandsOnBoth, IsWithin}
-use Rattle.step_spelling.proofs.AtObjects.{left_alone, left_referring, stands_alone, stands_referring}
-use Rattle.step_spelling.proofs.RwSides.{out_sides}
-use Rattle.step_spelling.proofs.TurnOwn.{Pair, only_pairs, cond_refers, once_refers}
+use Rattle.step_turns.specs.Left.{mutex_waits, rw_waits, mutex_left, rw_left, group_left, cond_left, once_left, left_on, left_on_both, left_at}
+use Rattle.step_turns.specs.Within.{IsIdle, StandsOn, StandsOnBoth, IsWithin}
+use Rattle.step_turns.proofs.SpellingAtObjects.{left_alone, left_referring, stands_alone, stands_referring}
+use Rattle.step_turns.proofs.RwSides.{out_sides}
+use Rattle.step_turns.proofs.TurnOwn.{Pair, only_pairs, cond_refers, once_refers}
 
 -- ---- a new object
 

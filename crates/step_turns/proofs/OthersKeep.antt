@@ -53,12 +53,12 @@ use Rattle.step_turns.specs.Due.{mutex_due, rw_due, group_due, cond_due, once_du
 use Rattle.step_turns.specs.Objects.{IsMachineOf}
 use Rattle.step_turns.specs.Stages.{make}
 use Rattle.step_turns.specs.Turns.{once_made, turn_on, turn_on_both}
-use Rattle.step_spelling.specs.Left.{mutex_waits, rw_waits, mutex_left, rw_left, group_left, cond_left, once_left, left_on, left_on_both}
-use Rattle.step_spelling.specs.Within.{IsIdle, StandsAtRw, StandsAtOnce, StandsOn, StandsOnBoth}
+use Rattle.step_turns.specs.Left.{mutex_waits, rw_waits, mutex_left, rw_left, group_left, cond_left, once_left, left_on, left_on_both}
+use Rattle.step_turns.specs.Within.{IsIdle, StandsAtRw, StandsAtOnce, StandsOn, StandsOnBoth}
 use Rattle.step_turns.specs.MachinesStand.{MutexStands, OnceStands}
-use Rattle.step_spelling.proofs.MachineLaws.{Laws, no}
-use Rattle.step_spelling.proofs.RwSides.{reads_after, writes_after, ApartFor}
-use Rattle.step_spelling.proofs.TurnOwn.{Pair}
+use Rattle.step_turns.proofs.SpellingMachineLaws.{Laws, no}
+use Rattle.step_turns.proofs.RwSides.{reads_after, writes_after, ApartFor}
+use Rattle.step_turns.proofs.TurnOwn.{Pair}
 
 -- ---- what another's event leaves as it was
 

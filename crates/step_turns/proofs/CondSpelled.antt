@@ -46,13 +46,13 @@ use Rattle.step_turns.specs.declared.answer.Answer.TheVariants as answers
 use Rattle.step_turns.specs.Due.{cond_due, cond_answer, waited}
 use Rattle.step_turns.specs.Items.{stage_items}
 use Rattle.step_turns.specs.Stages.{outcome_of, make, answer_by}
-use Rattle.step_spelling.specs.Left.{mutex_waits, cond_left}
-use Rattle.step_spelling.specs.Recorded.{recorded}
-use Rattle.step_spelling.specs.Tells.{Tells}
+use Rattle.step_turns.specs.Left.{mutex_waits, cond_left}
+use Rattle.step_turns.specs.Recorded.{recorded}
+use Rattle.step_turns.specs.Tells.{Tells}
 use Rattle.step_turns.specs.MachinesStand.{MutexStands, CondStands}
-use Rattle.step_spelling.proofs.MachineLaws.{no, may}
-use Rattle.step_spelling.proofs.MutexSpelled.{mutex_made}
-use Rattle.step_spelling.proofs.Spelled.{event_made, says}
+use Rattle.step_turns.proofs.SpellingMachineLaws.{no, may}
+use Rattle.step_turns.proofs.MutexSpelled.{mutex_made}
+use Rattle.step_turns.proofs.Spelled.{event_made, says}
 
 -- ---- whether a worker has a ticket, by its place
 

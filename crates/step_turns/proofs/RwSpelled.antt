@@ -36,14 +36,14 @@ use Rattle.step_turns.specs.Due.{rw_due, locked}
 use Rattle.step_turns.specs.Items.{tries_first, stage_items}
 use Rattle.step_turns.specs.Stands.{may_wait}
 use Rattle.step_turns.specs.Stages.{outcome_of, make, answer_by}
-use Rattle.step_spelling.specs.Left.{rw_waits, rw_later, rw_left}
-use Rattle.step_spelling.specs.Recorded.{recorded}
-use Rattle.step_spelling.specs.Tells.{Tells}
-use Rattle.step_spelling.specs.Within.{StandsAtRw}
+use Rattle.step_turns.specs.Left.{rw_waits, rw_later, rw_left}
+use Rattle.step_turns.specs.Recorded.{recorded}
+use Rattle.step_turns.specs.Tells.{Tells}
+use Rattle.step_turns.specs.Within.{StandsAtRw}
 use Rattle.step_turns.specs.MachinesStand.{MutexStands, RwStands}
-use Rattle.step_spelling.proofs.MachineLaws.{no, may}
-use Rattle.step_spelling.proofs.RwSides.{reads_after, writes_after, WriterPlace, ReaderPlace, no_reader, no_writer}
-use Rattle.step_spelling.proofs.Spelled.{event_made, Continues, says, stage_tells}
+use Rattle.step_turns.proofs.SpellingMachineLaws.{no, may}
+use Rattle.step_turns.proofs.RwSides.{reads_after, writes_after, WriterPlace, ReaderPlace, no_reader, no_writer}
+use Rattle.step_turns.proofs.Spelled.{event_made, Continues, says, stage_tells}
 
 -- where the worker may stand within the call
 abbrev pub RwFits : RwMutexCall → RwPlace → Type 0

@@ -1,8 +1,8 @@
 use Rattle.step_turns.specs.Turns.{turn_at}
-use Rattle.step_spelling.proofs.MachineLaws.{Laws}
-use Rattle.step_spelling.proofs.OthersAt.{all_same, all_idle, call_kept}
-use Rattle.step_spelling.proofs.OwnAt.{own_at}
-use Rattle.step_spelling.proofs.laws.turns_spell_their_calls.Goals as goal
+use Rattle.step_turns.proofs.SpellingMachineLaws.{Laws}
+use Rattle.step_turns.proofs.OthersAt.{all_same, all_idle, call_kept}
+use Rattle.step_turns.proofs.OwnAt.{own_at}
+use Rattle.step_turns.proofs.laws.spelling.turns_spell_their_calls.Goals as goal
 
 abbrev laws : goal.After-keys_are_numbered_by_first_appearance → Laws
 laws c = record {

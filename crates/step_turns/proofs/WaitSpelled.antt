@@ -45,13 +45,13 @@ use Rattle.step_turns.specs.declared.answer.Answer.TheVariants as answers
 use Rattle.step_turns.specs.Due.{group_due, returned, once_due, ran_or}
 use Rattle.step_turns.specs.Items.{stage_items}
 use Rattle.step_turns.specs.Stages.{outcome_of, make, answer_by}
-use Rattle.step_spelling.specs.Left.{group_left, once_left}
-use Rattle.step_spelling.specs.Recorded.{recorded_reply, recorded}
-use Rattle.step_spelling.specs.Tells.{Tells}
-use Rattle.step_spelling.specs.Within.{IsOutOfOnce, StandsAtGroup, StandsAtOnce}
+use Rattle.step_turns.specs.Left.{group_left, once_left}
+use Rattle.step_turns.specs.Recorded.{recorded_reply, recorded}
+use Rattle.step_turns.specs.Tells.{Tells}
+use Rattle.step_turns.specs.Within.{IsOutOfOnce, StandsAtGroup, StandsAtOnce}
 use Rattle.step_turns.specs.MachinesStand.{GroupStands, OnceStands}
-use Rattle.step_spelling.proofs.MachineLaws.{no, may}
-use Rattle.step_spelling.proofs.Spelled.{event_made, Continues, says, stage_tells}
+use Rattle.step_turns.proofs.SpellingMachineLaws.{no, may}
+use Rattle.step_turns.proofs.Spelled.{event_made, Continues, says, stage_tells}
 
 -- ---- a wait group
 

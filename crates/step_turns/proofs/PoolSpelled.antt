@@ -39,10 +39,10 @@ use Rattle.step_turns.specs.Due.{looks_of}
 use Rattle.step_turns.specs.Items.{unless_found, look_items, pool_items}
 use Rattle.step_turns.specs.PoolTurn.{found_or, found_by, pool_step, item_of}
 use Rattle.step_turns.specs.Stages.{outcome_of}
-use Rattle.step_spelling.specs.Recorded.{recorded_reply, recorded, recorded_pool_event}
-use Rattle.step_spelling.specs.Tells.{Tells}
-use Rattle.step_spelling.proofs.MachineLaws.{PoolKeeps, no}
-use Rattle.step_spelling.proofs.Spelled.{event_made, says}
+use Rattle.step_turns.specs.Recorded.{recorded_reply, recorded, recorded_pool_event}
+use Rattle.step_turns.specs.Tells.{Tells}
+use Rattle.step_turns.proofs.SpellingMachineLaws.{PoolKeeps, no}
+use Rattle.step_turns.proofs.Spelled.{event_made, says}
 
 -- ---- what a part answers
 

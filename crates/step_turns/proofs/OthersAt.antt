@@ -13,13 +13,13 @@ use Rattle.step_turns.specs.declared.object_state.ObjectState.{ObjectState}
 use Rattle.step_turns.specs.Objects.{kind_of, EachAt}
 use Rattle.step_turns.specs.Ready.{IsReady}
 use Rattle.step_turns.specs.Turns.{turn_on, turn_on_both, turn_at}
-use Rattle.step_spelling.specs.Left.{left_at}
-use Rattle.step_spelling.specs.Within.{IsIdle, IsWithin}
-use Rattle.step_spelling.proofs.AtObjects.{set_there, set_other, apart, turn_alone, turn_referring, left_alone, left_referring, stands_alone, stands_referring}
-use Rattle.step_spelling.proofs.MachineLaws.{Laws}
-use Rattle.step_spelling.proofs.OthersKeep.{Same, same_self, turn_same, both_same, left_same, left_both_same, idle_same, stands_same, both_stands_same}
-use Rattle.step_spelling.proofs.OwnAt.{same_kind}
-use Rattle.step_spelling.proofs.TurnOwn.{only_pairs}
+use Rattle.step_turns.specs.Left.{left_at}
+use Rattle.step_turns.specs.Within.{IsIdle, IsWithin}
+use Rattle.step_turns.proofs.SpellingAtObjects.{set_there, set_other, apart, turn_alone, turn_referring, left_alone, left_referring, stands_alone, stands_referring}
+use Rattle.step_turns.proofs.SpellingMachineLaws.{Laws}
+use Rattle.step_turns.proofs.OthersKeep.{Same, same_self, turn_same, both_same, left_same, left_both_same, idle_same, stands_same, both_stands_same}
+use Rattle.step_turns.proofs.OwnAt.{same_kind}
+use Rattle.step_turns.proofs.TurnOwn.{only_pairs}
 
 -- the object at each place is the same to a worker
 abbrev SameAt : ℕ → Option ObjectState → Option ObjectState → Type 0

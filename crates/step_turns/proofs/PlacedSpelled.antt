@@ -20,8 +20,8 @@ use Rattle.workload.specs.Draft.{all_keys}
 use Rattle.workload.specs.Keys.{keys_in, key_number, key_name}
 use Rattle.workload.specs.Plan.{Plan}
 use Rattle.step_turns.specs.MapKeys.{is_among, HasKeysIn}
-use Rattle.step_spelling.specs.Recorded.{made_shared}
-use Rattle.step_spelling.proofs.MachineLaws.{KeysNamed}
+use Rattle.step_turns.specs.Recorded.{made_shared}
+use Rattle.step_turns.proofs.SpellingMachineLaws.{KeysNamed}
 
 -- calls as a record has them
 abbrev pub item_shared : SharedCall × SharedReply → Item

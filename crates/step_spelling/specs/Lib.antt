@@ -1,4 +1,0 @@
-pub mod Left
-pub mod Recorded
-pub mod Tells
-pub mod Within
