@@ -16,14 +16,14 @@ use Rattle.workload.specs.Puts.{puts_at}
 use Rattle.workload.specs.declared.object.ObjectKind.{ObjectKind}
 use Rattle.workload.specs.declared.object.ObjectLine.{ObjectLine}
 use Rattle.workload.specs.declared.turn.Turn.{Turn}
-use Rattle.step_turns.specs.declared.answer.Answer.{Answer}
-use Rattle.step_turns.specs.declared.answer.Answer.TheVariants as answers
-use Rattle.step_turns.specs.declared.object_state.ObjectState.{ObjectState}
-use Rattle.step_turns.specs.Objects.{new_object, kind_of}
-use Rattle.step_turns.specs.Ready.{IsReady}
-use Rattle.step_turns.specs.ReplyForm.{HasForm}
-use Rattle.step_turns.specs.Stands.{waits_at, IsOutAt, IsOutBut, waits_behind}
-use Rattle.step_turns.specs.Turns.{turn_at}
+use Rattle.step_runner.specs.declared.turns.answer.Answer.{Answer}
+use Rattle.step_runner.specs.declared.turns.answer.Answer.TheVariants as answers
+use Rattle.step_runner.specs.declared.turns.object_state.ObjectState.{ObjectState}
+use Rattle.step_runner.specs.Objects.{new_object, kind_of}
+use Rattle.step_runner.specs.Ready.{IsReady}
+use Rattle.step_runner.specs.ReplyForm.{HasForm}
+use Rattle.step_runner.specs.Stands.{waits_at, IsOutAt, IsOutBut, waits_behind}
+use Rattle.step_runner.specs.OneTurns.{turn_at}
 use Rattle.step_runner.specs.Computed.{whole_run, outcome_of, turns}
 use Rattle.step_runner.specs.Forms.{have_forms, all_have_forms, has_forms}
 use Rattle.step_runner.specs.State.{State, start, with_reply, IsStateOf}

@@ -18,3 +18,44 @@ mod SpeltTurns
 mod StartLemmas
 mod TurnLemmas
 pub mod FormLemmas
+mod AtObjects
+mod CallAt
+mod CallOthers
+mod CallOwn
+mod AtomicTypes
+mod CompletesLemmas
+mod DueLemmas
+mod GrantedLemmas
+mod ItemLogs
+mod KeyLemmas
+mod MachineLaws
+mod Makes
+mod NewObjects
+mod ObjectKeeps
+mod ObjectUses
+mod PairLemmas
+mod PlacedLemmas
+mod PoolLooks
+mod RangeLemmas
+mod RoomLemmas
+mod Writes
+pub mod OthersStand
+pub mod OwnStands
+pub mod ObjectsStand
+mod SpellingAtObjects
+mod Callers
+mod CondSpelled
+mod Entered
+mod GoesOn
+mod SpellingMachineLaws
+mod MutexSpelled
+mod OthersAt
+mod OthersKeep
+mod OwnAt
+mod PlacedSpelled
+mod PoolSpelled
+mod RwSides
+mod RwSpelled
+mod Spelled
+mod TurnOwn
+mod WaitSpelled

@@ -6,17 +6,17 @@ use Rattle.sync_types.specs.declared.call.Call.{Call}
 use Rattle.workload.specs.declared.turn.Turn.{Turn}
 use Rattle.workload.specs.declared.turn.Turn.TheVariants as items
 use Rattle.workload.specs.Plan.{Plan}
-use Rattle.step_turns.specs.declared.answer.Answer.{Answer}
-use Rattle.step_turns.specs.declared.answer.Answer.TheVariants as answers
-use Rattle.step_turns.specs.Completes.{takes_one_turn, IsCompleted}
-use Rattle.step_turns.specs.Ready.{IsReady}
-use Rattle.step_turns.specs.Turns.{turn_at}
+use Rattle.step_runner.specs.declared.turns.answer.Answer.{Answer}
+use Rattle.step_runner.specs.declared.turns.answer.Answer.TheVariants as answers
+use Rattle.step_runner.specs.Completes.{takes_one_turn, IsCompleted}
+use Rattle.step_runner.specs.Ready.{IsReady}
+use Rattle.step_runner.specs.OneTurns.{turn_at}
 use Rattle.step_runner.specs.declared.step.Step.{Step}
 use Rattle.step_runner.specs.declared.step.Step.TheVariants as steps
 use Rattle.sync_types.specs.declared.outcome.Report.{Report}
 use Rattle.sync_types.specs.declared.outcome.Outcome.{Outcome}
 use Rattle.sync_types.specs.declared.outcome.Outcome.TheVariants as outcomes
-use Rattle.step_turns.specs.declared.object_state.ObjectState.{ObjectState}
+use Rattle.step_runner.specs.declared.turns.object_state.ObjectState.{ObjectState}
 use Rattle.step_runner.specs.Outcomes.{rounds, is_misused, StepsTo}
 use Rattle.step_runner.specs.State.{State, start, IsStateOf}
 use Rattle.step_runner.specs.Turns.{next_call, turn_of, item_of, with_event, and_then, items_of}

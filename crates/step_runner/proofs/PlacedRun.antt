@@ -4,12 +4,12 @@ use Rattle.std.specs.Option.{option_map_or}
 use Rattle.std.proofs.lemmas.List.{get_or-set_same}
 use Rattle.sync_types.specs.declared.call.Call.{Call}
 use Rattle.workload.specs.Plan.{Plan}
-use Rattle.step_turns.specs.declared.answer.Answer.{Answer}
-use Rattle.step_turns.specs.declared.object_state.ObjectState.{ObjectState}
-use Rattle.step_turns.specs.Items.{items_at}
-use Rattle.step_turns.specs.PlacedCalls as turns
-use Rattle.step_turns.specs.Ready.{IsReady}
-use Rattle.step_turns.specs.Turns.{turn_at}
+use Rattle.step_runner.specs.declared.turns.answer.Answer.{Answer}
+use Rattle.step_runner.specs.declared.turns.object_state.ObjectState.{ObjectState}
+use Rattle.step_runner.specs.Items.{items_at}
+use Rattle.step_runner.specs.PlacedCalls as turns
+use Rattle.step_runner.specs.Ready.{IsReady}
+use Rattle.step_runner.specs.OneTurns.{turn_at}
 use Rattle.step_runner.specs.declared.step.Step.{Step}
 use Rattle.step_runner.specs.RunItems.{IsAnswered}
 use Rattle.step_runner.specs.State.{State, IsStateOf}

@@ -15,13 +15,13 @@ use Rattle.pool_core.specs.declared.pool_event.PoolReply.TheVariants as pool_rep
 use Rattle.workload.specs.declared.object.ObjectKind.{ObjectKind}
 use Rattle.workload.specs.declared.turn.Turn.{Turn}
 use Rattle.workload.specs.Plan.{Plan}
-use Rattle.step_turns.specs.declared.answer.Answer.{Answer}
-use Rattle.step_turns.specs.declared.answer.Answer.TheVariants as answers
-use Rattle.step_turns.specs.declared.object_state.ObjectState.{ObjectState}
-use Rattle.step_turns.specs.declared.object_state.ObjectState.TheVariants as states
-use Rattle.step_turns.specs.Objects.{new_object, EachAt}
-use Rattle.step_turns.specs.PoolRoom.{put_of, HasRoomFor, left_behind}
-use Rattle.step_turns.specs.Turns.{turn_at}
+use Rattle.step_runner.specs.declared.turns.answer.Answer.{Answer}
+use Rattle.step_runner.specs.declared.turns.answer.Answer.TheVariants as answers
+use Rattle.step_runner.specs.declared.turns.object_state.ObjectState.{ObjectState}
+use Rattle.step_runner.specs.declared.turns.object_state.ObjectState.TheVariants as states
+use Rattle.step_runner.specs.Objects.{new_object, EachAt}
+use Rattle.step_runner.specs.PoolRoom.{put_of, HasRoomFor, left_behind}
+use Rattle.step_runner.specs.OneTurns.{turn_at}
 use Rattle.workload.specs.Puts.{is_put_at, puts_at}
 use Rattle.step_runner.specs.State.{State, start, with_reply, IsStateOf}
 use Rattle.step_runner.specs.Turns.{next_call, turn_of, after_items}

@@ -13,15 +13,15 @@ use Rattle.workload.specs.declared.limits.TheConstants.{MAX_KEYS}
 use Rattle.workload.specs.Plan.{Plan}
 use Rattle.workload.specs.Draft.{keys_of, all_keys, distinct_count}
 use Rattle.workload.specs.Readable.{IsReadable}
-use Rattle.step_turns.specs.declared.answer.Answer.{Answer}
-use Rattle.step_turns.specs.declared.answer.Answer.TheVariants as answers
-use Rattle.step_turns.specs.declared.object_state.ObjectState.{ObjectState}
-use Rattle.step_turns.specs.MapKeys.{AreAmong, HasObjectKeysIn}
-use Rattle.step_turns.specs.Objects.{new_object, EachAt}
+use Rattle.step_runner.specs.declared.turns.answer.Answer.{Answer}
+use Rattle.step_runner.specs.declared.turns.answer.Answer.TheVariants as answers
+use Rattle.step_runner.specs.declared.turns.object_state.ObjectState.{ObjectState}
+use Rattle.step_runner.specs.MapKeys.{AreAmong, HasObjectKeysIn}
+use Rattle.step_runner.specs.Objects.{new_object, EachAt}
 use Rattle.sync_types.specs.Outcome.{has_pairs_to, shows_to}
 use Rattle.workload.specs.Keys.{keys_in, key_number}
-use Rattle.step_turns.specs.Pairs.{ShowsTo}
-use Rattle.step_turns.specs.Turns.{turn_at}
+use Rattle.step_runner.specs.Pairs.{ShowsTo}
+use Rattle.step_runner.specs.OneTurns.{turn_at}
 use Rattle.step_runner.specs.declared.step.Step.TheVariants as steps
 use Rattle.sync_types.specs.declared.outcome.Ending.{Ending}
 use Rattle.sync_types.specs.declared.outcome.Ending.TheVariants as endings

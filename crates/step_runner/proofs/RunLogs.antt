@@ -10,14 +10,14 @@ use Rattle.workload.specs.declared.turn.Turn.{Turn}
 use Rattle.workload.specs.declared.turn.Turn.TheVariants as items
 use Rattle.workload.specs.Plan.{Plan}
 use Rattle.workload.specs.Puts.{puts_at}
-use Rattle.step_turns.specs.declared.answer.Answer.{Answer}
-use Rattle.step_turns.specs.declared.answer.Answer.TheVariants as answers
-use Rattle.step_turns.specs.declared.object_state.ObjectState.{ObjectState}
-use Rattle.step_turns.specs.LeadsTo.{on_object, LeadsTo}
-use Rattle.step_turns.specs.Items.{Item, items_at}
-use Rattle.step_turns.specs.Objects.{new_object, kind_of}
-use Rattle.step_turns.specs.Ready.{IsReady}
-use Rattle.step_turns.specs.Turns.{turn_at}
+use Rattle.step_runner.specs.declared.turns.answer.Answer.{Answer}
+use Rattle.step_runner.specs.declared.turns.answer.Answer.TheVariants as answers
+use Rattle.step_runner.specs.declared.turns.object_state.ObjectState.{ObjectState}
+use Rattle.step_runner.specs.LeadsTo.{on_object, LeadsTo}
+use Rattle.step_runner.specs.Items.{Item, items_at}
+use Rattle.step_runner.specs.Objects.{new_object, kind_of}
+use Rattle.step_runner.specs.Ready.{IsReady}
+use Rattle.step_runner.specs.OneTurns.{turn_at}
 use Rattle.step_runner.specs.declared.step.Step.{Step}
 use Rattle.step_runner.specs.declared.step.Step.TheVariants as steps
 use Rattle.step_runner.specs.Ends.{scheduled_ends}

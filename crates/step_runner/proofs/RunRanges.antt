@@ -4,13 +4,13 @@ use Rattle.sync_types.specs.declared.call.Call.{Call}
 use Rattle.workload.specs.declared.object.ObjectKind.{ObjectKind}
 use Rattle.workload.specs.declared.turn.Turn.{Turn}
 use Rattle.workload.specs.Plan.{Plan}
-use Rattle.step_turns.specs.declared.answer.Answer.{Answer}
-use Rattle.step_turns.specs.declared.answer.Answer.TheVariants as answers
-use Rattle.step_turns.specs.declared.object_state.ObjectState.{ObjectState}
-use Rattle.step_turns.specs.AtomicRange.{IsInRange}
-use Rattle.step_turns.specs.Objects.{new_object, EachAt}
-use Rattle.step_turns.specs.Ready.{IsReady}
-use Rattle.step_turns.specs.Turns.{turn_at}
+use Rattle.step_runner.specs.declared.turns.answer.Answer.{Answer}
+use Rattle.step_runner.specs.declared.turns.answer.Answer.TheVariants as answers
+use Rattle.step_runner.specs.declared.turns.object_state.ObjectState.{ObjectState}
+use Rattle.step_runner.specs.AtomicRange.{IsInRange}
+use Rattle.step_runner.specs.Objects.{new_object, EachAt}
+use Rattle.step_runner.specs.Ready.{IsReady}
+use Rattle.step_runner.specs.OneTurns.{turn_at}
 use Rattle.workload.specs.Puts.{puts_at}
 use Rattle.step_runner.specs.State.{State, start, IsStateOf}
 use Rattle.step_runner.specs.Turns.{turn_of, after_items}

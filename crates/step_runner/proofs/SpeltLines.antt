@@ -11,8 +11,8 @@ use Rattle.run_record.specs.Lines.{SpeltCall, AreSpelt}
 use Rattle.run_record.specs.Record.{shared_in}
 use Rattle.run_record.specs.declared.made.Made.{Made}
 use Rattle.run_record.specs.declared.made.Made.TheVariants.{Shared, Entered}
-use Rattle.step_turns.specs.Items.{Item}
-use Rattle.step_turns.specs.Recorded.{recorded_item, recorded}
+use Rattle.step_runner.specs.Items.{Item}
+use Rattle.step_runner.specs.Recorded.{recorded_item, recorded}
 
 -- the calls on maps and atomics of one list behind another
 pub shared-append : (one two : List Made) → shared_in (one ++ two) ≡ shared_in one ++ shared_in two

@@ -15,8 +15,8 @@ use Rattle.workload.specs.Plan.{Plan}
 use Rattle.run_record.specs.Explains.{AreLines}
 use Rattle.run_record.specs.Lines.{Line, script_of, items_of, replies_of, IsLineOf}
 use Rattle.run_record.specs.Record.{Record}
-use Rattle.step_turns.specs.Items.{Item}
-use Rattle.step_turns.specs.Recorded.{recorded_reply}
+use Rattle.step_runner.specs.Items.{Item}
+use Rattle.step_runner.specs.Recorded.{recorded_reply}
 use Rattle.step_runner.specs.declared.step.Step.{Step}
 use Rattle.step_runner.specs.Ends.{numbered}
 use Rattle.step_runner.specs.Outcomes.{rounds, StepsTo}

@@ -21,20 +21,20 @@ use Rattle.run_record.specs.Calls.{SpellsCall}
 use Rattle.run_record.specs.Lines.{SpeltCall, whole, misused, unfinished, IsHalt, AreSpelt}
 use Rattle.run_record.specs.Record.{shared_in}
 use Rattle.run_record.specs.declared.made.Made.{Made}
-use Rattle.step_turns.specs.declared.answer.Answer.{Answer}
-use Rattle.step_turns.specs.declared.answer.Answer.TheVariants as answers
-use Rattle.step_turns.specs.declared.object_state.ObjectState.{ObjectState}
-use Rattle.step_turns.specs.Items.{Item, items_at}
-use Rattle.step_turns.specs.MapKeys.{HasObjectKeysIn}
-use Rattle.step_turns.specs.ObjectLeft.{object_left, UsesBy}
-use Rattle.step_turns.specs.Objects.{new_object, kind_of, EachAt}
-use Rattle.step_turns.specs.Ready.{IsReady}
-use Rattle.step_turns.specs.Stands.{IsOutAt, IsOutBut, waits_at}
-use Rattle.step_turns.specs.Turns.{turn_at}
-use Rattle.step_turns.specs.Left.{left_at}
-use Rattle.step_turns.specs.Recorded.{recorded_reply, recorded}
-use Rattle.step_turns.specs.Tells.{Tells}
-use Rattle.step_turns.specs.Within.{IsIdle, IsWithin, StandsBehind}
+use Rattle.step_runner.specs.declared.turns.answer.Answer.{Answer}
+use Rattle.step_runner.specs.declared.turns.answer.Answer.TheVariants as answers
+use Rattle.step_runner.specs.declared.turns.object_state.ObjectState.{ObjectState}
+use Rattle.step_runner.specs.Items.{Item, items_at}
+use Rattle.step_runner.specs.MapKeys.{HasObjectKeysIn}
+use Rattle.step_runner.specs.ObjectLeft.{object_left, UsesBy}
+use Rattle.step_runner.specs.Objects.{new_object, kind_of, EachAt}
+use Rattle.step_runner.specs.Ready.{IsReady}
+use Rattle.step_runner.specs.Stands.{IsOutAt, IsOutBut, waits_at}
+use Rattle.step_runner.specs.OneTurns.{turn_at}
+use Rattle.step_runner.specs.Left.{left_at}
+use Rattle.step_runner.specs.Recorded.{recorded_reply, recorded}
+use Rattle.step_runner.specs.Tells.{Tells}
+use Rattle.step_runner.specs.Within.{IsIdle, IsWithin, StandsBehind}
 use Rattle.step_runner.specs.declared.step.Step.{Step}
 use Rattle.step_runner.specs.declared.step.Step.TheVariants as steps
 use Rattle.step_runner.specs.RunItems.{made_by, unless_ended, all_made}

@@ -5,8 +5,8 @@ use Rattle.sync_types.specs.declared.call.Reply.{Reply}
 use Rattle.workload.specs.declared.object.ObjectKind.{ObjectKind}
 use Rattle.workload.specs.declared.object.ObjectLine.{ObjectLine}
 use Rattle.workload.specs.Plan.{Plan, is_valid}
-use Rattle.step_turns.specs.declared.object_state.ObjectState.{ObjectState}
-use Rattle.step_turns.specs.Objects.{new_object, kind_of, IsMachineOf, EachAt}
+use Rattle.step_runner.specs.declared.turns.object_state.ObjectState.{ObjectState}
+use Rattle.step_runner.specs.Objects.{new_object, kind_of, IsMachineOf, EachAt}
 use Rattle.workload.specs.Puts.{puts_at}
 use Rattle.step_runner.specs.State.{start, new_objects, IsStateOf}
 

@@ -13,13 +13,13 @@ use Rattle.sync_types.specs.declared.misuse.Misuse.{Misuse}
 use Rattle.workload.specs.declared.object.ObjectKind.{ObjectKind}
 use Rattle.workload.specs.declared.object.ObjectLine.{ObjectLine}
 use Rattle.workload.specs.Plan.{Plan, has_call, is_on, is_target, is_turn, is_valid, reference_of, refers}
-use Rattle.step_turns.specs.declared.answer.Answer.{Answer}
-use Rattle.step_turns.specs.declared.answer.Answer.TheVariants as answers
-use Rattle.step_turns.specs.declared.object_state.ObjectState.{ObjectState}
-use Rattle.step_turns.specs.ObjectLeft.{object_left, UsesBy}
-use Rattle.step_turns.specs.Objects.{kind_of, IsMachineOf, EachAt}
-use Rattle.step_turns.specs.Ready.{HasTarget, IsReady}
-use Rattle.step_turns.specs.Turns.{turn_at}
+use Rattle.step_runner.specs.declared.turns.answer.Answer.{Answer}
+use Rattle.step_runner.specs.declared.turns.answer.Answer.TheVariants as answers
+use Rattle.step_runner.specs.declared.turns.object_state.ObjectState.{ObjectState}
+use Rattle.step_runner.specs.ObjectLeft.{object_left, UsesBy}
+use Rattle.step_runner.specs.Objects.{kind_of, IsMachineOf, EachAt}
+use Rattle.step_runner.specs.Ready.{HasTarget, IsReady}
+use Rattle.step_runner.specs.OneTurns.{turn_at}
 use Rattle.step_runner.specs.declared.step.Step.{Step}
 use Rattle.step_runner.specs.declared.step.Step.TheVariants as steps
 use Rattle.step_runner.specs.State.{State, with_reply, IsStateOf}

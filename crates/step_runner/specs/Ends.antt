@@ -12,8 +12,8 @@ use Rattle.sync_types.specs.Ends as ends
 use Rattle.sync_types.specs.Outcome.{with_keys_renamed}
 use Rattle.workload.specs.Keys.{keys_in, key_number}
 use Rattle.workload.specs.Plan.{Plan}
-use Rattle.step_turns.specs.declared.object_state.ObjectState.{ObjectState}
-use Rattle.step_turns.specs.declared.object_state.ObjectState.TheVariants as states
+use Rattle.step_runner.specs.declared.turns.object_state.ObjectState.{ObjectState}
+use Rattle.step_runner.specs.declared.turns.object_state.ObjectState.TheVariants as states
 use Rattle.step_runner.specs.State.{State}
 
 -- the number of an object at a place: only an atomic has one

@@ -1,7 +1,7 @@
 -- What is left to do in a run: a number that each event lowers.
 use Rattle.std.specs.Prelude.{ℕ, ◌+◌, ◌-◌, ◌*◌, length, sum_by}
 use Rattle.workload.specs.Plan.{Plan}
-use Rattle.step_turns.specs.ObjectLeft.{object_left}
+use Rattle.step_runner.specs.ObjectLeft.{object_left}
 use Rattle.step_runner.specs.State.{State}
 
 -- how many calls aren't completed, all workers together

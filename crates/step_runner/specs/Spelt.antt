@@ -12,8 +12,8 @@ use Rattle.workload.specs.declared.turn.Turn.TheVariants as items
 use Rattle.run_record.specs.Lines.{SpeltCall, LineEnd, whole, misused, unfinished, Line, script_of, items_of, replies_of, IsLineOf}
 use Rattle.run_record.specs.Record.{shared_in}
 use Rattle.run_record.specs.declared.made.Made.{Made}
-use Rattle.step_turns.specs.Items.{Item}
-use Rattle.step_turns.specs.Recorded.{recorded_reply, recorded}
+use Rattle.step_runner.specs.Items.{Item}
+use Rattle.step_runner.specs.Recorded.{recorded_reply, recorded}
 use Rattle.step_runner.specs.declared.step.Step.{Step}
 use Rattle.step_runner.specs.declared.step.Step.TheVariants as steps
 use Rattle.step_runner.specs.CallTurns.{stands_before}

@@ -6,10 +6,10 @@ use Rattle.sync_types.specs.declared.call.Call.{Call}
 use Rattle.workload.specs.declared.turn.Turn.{Turn}
 use Rattle.workload.specs.declared.turn.Turn.TheVariants as items
 use Rattle.workload.specs.Plan.{Plan}
-use Rattle.step_turns.specs.declared.answer.Answer.{Answer}
-use Rattle.step_turns.specs.declared.answer.Answer.TheVariants as answers
-use Rattle.step_turns.specs.declared.object_state.ObjectState.{ObjectState}
-use Rattle.step_turns.specs.Turns.{turn_at}
+use Rattle.step_runner.specs.declared.turns.answer.Answer.{Answer}
+use Rattle.step_runner.specs.declared.turns.answer.Answer.TheVariants as answers
+use Rattle.step_runner.specs.declared.turns.object_state.ObjectState.{ObjectState}
+use Rattle.step_runner.specs.OneTurns.{turn_at}
 use Rattle.step_runner.specs.declared.step.Step.{Step}
 use Rattle.step_runner.specs.declared.step.Step.TheVariants as steps
 use Rattle.step_runner.specs.State.{State, with_reply, with_moment}

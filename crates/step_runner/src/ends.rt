@@ -6,8 +6,8 @@ ghost use Rattle.workload.specs.Keys.{key_number};
 ghost use Rattle.step_runner.specs.Ends.{numbers_from, maps_from, scheduled_ends};
 
 use crate::numbering::number_of;
+use crate::turns::ObjectState;
 use std::alloc::{AllocError, Global};
-use step_turns::ObjectState;
 use sync_types::{ByName, End, Seq};
 use workload::{Keys, Workload};
 

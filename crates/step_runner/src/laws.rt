@@ -24,11 +24,11 @@ ghost use Rattle.workload.specs.Plan.{Plan, is_valid};
 ghost use Rattle.run_record.specs.Explains.{AreLines};
 ghost use Rattle.run_record.specs.Lines.{Line};
 ghost use Rattle.run_record.specs.Record.{Record};
-ghost use Rattle.step_turns.specs.declared.object_state.ObjectState.{ObjectState};
-ghost use Rattle.step_turns.specs.declared.object_state.ObjectState.TheVariants as states;
-ghost use Rattle.step_turns.specs.Completes.{takes_one_turn};
-ghost use Rattle.step_turns.specs.PlacedCalls.{is_placed};
-ghost use Rattle.step_turns.specs.Objects.{kind_of, IsMachineOf};
+ghost use Rattle.step_runner.specs.declared.turns.object_state.ObjectState.{ObjectState};
+ghost use Rattle.step_runner.specs.declared.turns.object_state.ObjectState.TheVariants as states;
+ghost use Rattle.step_runner.specs.Completes.{takes_one_turn};
+ghost use Rattle.step_runner.specs.PlacedCalls.{is_placed};
+ghost use Rattle.step_runner.specs.Objects.{kind_of, IsMachineOf};
 ghost use Rattle.sync_types.specs.Outcome.{has_pairs_to};
 ghost use Rattle.step_runner.specs.declared.step.Step.TheVariants as steps;
 ghost use Rattle.sync_types.specs.declared.outcome.Report.{Report};
@@ -46,10 +46,10 @@ ghost use Rattle.step_runner.specs.Turns.{next_call, turn_of, items_of, after_it
 ghost use Rattle.step_runner.specs.Forms.{all_have_forms, has_forms};
 ghost use Rattle.step_runner.specs.Computed.{rounds_of, all_rounds, turns};
 
-use step_turns::laws::spelling::{
+use crate::turns::laws::spelling::{
     calls_are_entered_whole, items_are_their_workers, turns_spell_their_calls,
 };
-use step_turns::laws::{
+use crate::turns::laws::{
     a_placed_call_is_one_item, few_turns_are_left_of_a_call, items_lead_from_turn_to_turn,
     maps_keep_to_the_keys_of_calls, numbers_stay_in_range, pools_have_room,
     some_calls_take_one_turn, turns_keep_kinds_and_machines, turns_use_something_up,

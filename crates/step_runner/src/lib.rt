@@ -9,6 +9,8 @@ pub mod run;
 pub mod state;
 pub mod step;
 pub mod turn;
+pub mod turns;
 
 pub use run::stepped;
 pub use step::Step;
+pub use turns::{Answer, ObjectState, Taker, take_turn_at};

@@ -15,8 +15,8 @@ use crate::numbering::number_all;
 use crate::state::State;
 use crate::step::Step;
 use crate::turn::{next_call, take_turn};
+use crate::turns::laws::maps_keep_to_the_keys_of_calls;
 use std::alloc::{AllocError, Global};
-use step_turns::laws::maps_keep_to_the_keys_of_calls;
 use sync_types::{Ending, Outcome, Report, Seq};
 use workload::{Turn, Workload};
 

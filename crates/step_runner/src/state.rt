@@ -6,9 +6,9 @@ ghost use Rattle.step_runner.specs.Turns.{settled};
 
 use crate::laws;
 use crate::step::Step;
+use crate::turns::{Answer, ObjectState};
 use std::alloc::{AllocError, Global};
 use std::marker::Model;
-use step_turns::{Answer, ObjectState};
 use sync_types::{Name, Reply, Seq};
 use workload::Workload;
 
@@ -23,7 +23,7 @@ pub struct State {
 impl Model for State {
     ghost use Rattle.std.specs.Coded.{codes};
     ghost use Rattle.step_runner.specs.State.{State};
-    ghost use Rattle.step_turns.specs.contracts.object_state.ObjectState as object;
+    ghost use Rattle.step_runner.specs.contracts.turns.object_state.ObjectState as object;
 
     ghost Value = { State };
 

@@ -7,8 +7,8 @@ ghost use Rattle.step_runner.specs.Turns.{next_call, turn_of};
 use crate::laws;
 use crate::state::State;
 use crate::step::Step;
+use crate::turns::{Taker, take_turn_at};
 use std::alloc::{AllocError, Global};
-use step_turns::{Taker, take_turn_at};
 use sync_types::Call;
 use workload::Workload;
 

@@ -1,6 +1,6 @@
 use Rattle.std.proofs.Common.{arith}
 use Rattle.workload.specs.Draft.{all_keys, distinct_count}
-use Rattle.step_turns.specs.declared.object_state.ObjectState.TheVariants as states
+use Rattle.step_runner.specs.declared.turns.object_state.ObjectState.TheVariants as states
 use Rattle.step_runner.proofs.RunKeys.{Keys, items_keys}
 use Rattle.step_runner.proofs.laws.keys_are_those_of_calls.Goals as goal
 

@@ -1,4 +1,4 @@
-use Rattle.step_turns.specs.declared.object_state.ObjectState.TheVariants as states
+use Rattle.step_runner.specs.declared.turns.object_state.ObjectState.TheVariants as states
 use Rattle.step_runner.proofs.RunRanges.{in_range}
 use Rattle.step_runner.proofs.laws.objects_keep_their_kinds.Goals as goal
 

@@ -1,0 +1,40 @@
+-- A call of a map or an atomic is made whole in its one item, which has its reply.
+use Rattle.std.proofs.Common.{◌≡◌, ℕ, true, List, Some, refl, sym, subst}
+use Rattle.sync_types.specs.declared.call.Call.{Call}
+use Rattle.sync_types.specs.declared.call.Operation.{Operation}
+use Rattle.sync_types.specs.declared.call.Operation.TheVariants as operations
+use Rattle.workload.specs.declared.object.ObjectKind.{ObjectKind}
+use Rattle.workload.specs.declared.object.ObjectKind.TheVariants as kinds
+use Rattle.workload.specs.Plan.{has_call, reference_of}
+use Rattle.step_runner.specs.declared.turns.object_state.ObjectState.{ObjectState}
+use Rattle.step_runner.specs.declared.turns.object_state.ObjectState.TheVariants as states
+use Rattle.step_runner.specs.Items.{Item, items_on, items_at}
+use Rattle.step_runner.specs.Objects.{kind_of}
+use Rattle.step_runner.specs.PlacedCalls.{is_placed, IsAnswered}
+use Rattle.step_runner.specs.Ready.{IsReady}
+use Rattle.step_runner.specs.OneTurns.{turn_on, turn_at}
+use Rattle.step_runner.proofs.AtObjects.{at_ready}
+use Rattle.step_runner.proofs.CallAt.{items_alone}
+
+on_answered : (operation : Operation) (worker moment object : ℕ) (o : ObjectState) → is_placed operation ≡ true → has_call (kind_of o) operation ≡ true
+    → IsAnswered (record { object = object; operation = operation }) worker (items_on operation worker moment object o) (turn_on operation worker moment o).1
+on_answered (operations.Map call) worker moment object (states.Map m) one has = (_, refl, refl)
+on_answered operations.Range worker moment object (states.Map m) one has = (_, refl, refl)
+on_answered (operations.Atomic call) worker moment object (states.Atomic number) one has = (_, refl, refl)
+on_answered operation worker moment object o one has = absurd cc
+
+-- an object that refers to another one has no such call
+none_refers : (kind : ObjectKind) (operation : Operation) (other : ℕ) → reference_of kind ≡ Some other → has_call kind operation ≡ true → is_placed operation ≡ true → ⊥
+none_refers (kinds.Cond place) (operations.Cond call) other some has one = cc
+none_refers (kinds.Cond place) operation other some has one = cc
+none_refers (kinds.Once place delta) operations.Once other some has one = cc
+none_refers (kinds.Once place delta) operation other some has one = cc
+none_refers kind operation other some has one = cc
+
+pub at_answered : (workers worker : ℕ) (call : Call) (moment : ℕ) (objects : List ObjectState) → IsReady workers worker call objects → is_placed call.operation ≡ true
+    → IsAnswered call worker (items_at call worker moment objects) (turn_at call worker moment objects).1
+at_answered workers worker call moment objects r one = at_ready (λ y. IsAnswered call worker (items_at call worker moment objects) y.1) workers worker call moment objects r
+    (λ st.
+    subst (λ (made : List Item). IsAnswered call worker made (turn_on call.operation worker moment r.object).1) (sym (items_alone call worker moment objects r.object st.at st.none))
+    (on_answered call.operation worker moment call.object r.object one st.has))
+    (λ other target st. absurd (none_refers (kind_of r.object) call.operation other st.some st.has one))

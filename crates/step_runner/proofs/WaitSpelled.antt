@@ -1,0 +1,290 @@
+-- A turn at a wait group, and at a once, spells its stage.
+use Rattle.std.proofs.Common.{◌≡◌, ◌≢◌, ℕ, ◌<◌, Bool, true, false, List, [], ◌∷◌, ◌++◌, refl, sym, ap, ◌∙◌, subst}
+use Rattle.std.specs.Prelude.{Result, Ok, slice_get, unwrap_or, Option, Some, None}
+use Rattle.sync_model.specs.declared.answer.Answer.TheVariants.{Done}
+use Rattle.sync_types.specs.declared.call.Reply.{Reply}
+use Rattle.sync_types.specs.declared.call.Reply.TheVariants as replies
+use Rattle.sync_types.specs.declared.wait_call.WaitGroupCall.{WaitGroupCall}
+use Rattle.sync_types.specs.declared.wait_call.WaitGroupCall.TheVariants as group_calls
+use Rattle.wait_cores.specs.GroupMachine as group
+use Rattle.wait_cores.specs.GroupStanding as group_standing
+use Rattle.wait_cores.specs.OnceMachine as once
+use Rattle.wait_cores.specs.OnceStanding as once_standing
+use Rattle.wait_cores.specs.declared.group.GroupPlace.{GroupPlace}
+use Rattle.wait_cores.specs.declared.group.GroupPlace.TheVariants as group_place
+use Rattle.wait_cores.specs.declared.group.GroupReply.{GroupReply}
+use Rattle.wait_cores.specs.declared.group.GroupReply.TheVariants as group_reply
+use Rattle.wait_cores.specs.declared.once.OnceEvent.{OnceEvent}
+use Rattle.wait_cores.specs.declared.once.OncePlace.{OncePlace}
+use Rattle.wait_cores.specs.declared.once.OncePlace.TheVariants as once_place
+use Rattle.wait_cores.specs.declared.once.OnceProgress.{OnceProgress}
+use Rattle.wait_cores.specs.declared.once.OnceProgress.TheVariants.{NotRun, Running, Ended as HasEnded}
+use Rattle.wait_cores.specs.declared.once.OnceReply.{OnceReply}
+use Rattle.wait_cores.specs.declared.once.OnceReply.TheVariants as once_reply
+use Rattle.protocols.specs.GroupStages.{group_event, group_meaning}
+use Rattle.protocols.specs.OnceStages.{once_event, once_meaning}
+use Rattle.protocols.specs.Spelling.{CallAnswer}
+use Rattle.protocols.specs.declared.once.OnceOutcome.{OnceOutcome}
+use Rattle.protocols.specs.declared.once.OnceOutcome.TheVariants.{Run, Already, Ended}
+use Rattle.protocols.specs.declared.once.OnceStage.{OnceStage}
+use Rattle.protocols.specs.declared.once.OnceStage.TheVariants as once_stage
+use Rattle.protocols.specs.declared.wait_group.GroupStage.{GroupStage}
+use Rattle.protocols.specs.declared.wait_group.GroupStage.TheVariants as group_stage
+use Rattle.protocols.specs.declared.step.Step.{Step}
+use Rattle.protocols.specs.declared.step.Step.TheVariants.{Finished, Waits}
+use Rattle.run_record.specs.Parts.{Part, read_as, stages}
+use Rattle.run_record.specs.Record.{object_number}
+use Rattle.run_record.specs.declared.entered.ObjectEvent.{ObjectEvent}
+use Rattle.run_record.specs.declared.entered.ObjectEvent.TheVariants as events
+use Rattle.run_record.specs.declared.entered.ObjectReply.{ObjectReply}
+use Rattle.run_record.specs.declared.entered.ObjectReply.TheVariants as answered
+use Rattle.run_record.specs.declared.made.Made.{Made}
+use Rattle.workload.specs.Plan.{Plan}
+use Rattle.step_runner.specs.declared.turns.answer.Answer.{Answer}
+use Rattle.step_runner.specs.declared.turns.answer.Answer.TheVariants as answers
+use Rattle.step_runner.specs.Due.{group_due, returned, once_due, ran_or}
+use Rattle.step_runner.specs.Items.{stage_items}
+use Rattle.step_runner.specs.Stages.{outcome_of, make, answer_by}
+use Rattle.step_runner.specs.Left.{group_left, once_left}
+use Rattle.step_runner.specs.Recorded.{recorded_reply, recorded}
+use Rattle.step_runner.specs.Tells.{Tells}
+use Rattle.step_runner.specs.Within.{IsOutOfOnce, StandsAtGroup, StandsAtOnce}
+use Rattle.step_runner.specs.MachinesStand.{GroupStands, OnceStands}
+use Rattle.step_runner.proofs.SpellingMachineLaws.{no, may}
+use Rattle.step_runner.proofs.Spelled.{event_made, Continues, says, stage_tells}
+
+-- ---- a wait group
+
+-- what an answer leaves of where the worker stood
+abbrev pub GroupBehind : WaitGroupCall → ℕ → group.GroupState → Answer → Type 0
+GroupBehind call x g answers.Still = StandsAtGroup call x g
+GroupBehind call x g answers.Unfinished = StandsAtGroup call x g
+GroupBehind call x g (answers.Completed reply) = group_standing.waits_at g x ≡ false
+GroupBehind call x g (answers.Misused misuse) = Unit {0}
+
+module _ (law : GroupStands) (plan : Plan) (place worker moment : ℕ) where
+  abbrev GroupGoes : WaitGroupCall → Bool → Step GroupStage (Unit {0}) → Type 0
+  GroupGoes call waits step =
+      Continues events.WaitGroup answered.WaitGroup group_event group_meaning (object_number place) worker plan (λ done. replies.Returned) (λ done. replies.Returned) (λ done. refl) (group_left (object_number place) call waits) step
+
+  abbrev GroupTells : WaitGroupCall → GroupStage → Bool → group.GroupState → GroupReply → Type 0
+  GroupTells call stage w n r =
+      Tells plan (read_as (λ done. replies.Returned) (stages events.WaitGroup answered.WaitGroup group_event group_meaning (object_number place) stage)) (group_left (object_number place) call (group_standing.waits_at n worker))
+      (event_made events.WaitGroup answered.WaitGroup group_event group_meaning (object_number place) worker (group_event stage moment) r ∷ []) (answer_by returned (outcome_of (group_meaning stage r)))
+      × GroupBehind call worker n (answer_by returned (outcome_of (group_meaning stage r)))
+
+  abbrev Fits : WaitGroupCall → GroupStage → Bool → Type 0
+  Fits call (group_stage.Add delta) w = w ≡ false
+  Fits call group_stage.Done w = w ≡ false
+  Fits call group_stage.Wait w = (call ≡ group_calls.Wait) × (w ≡ false)
+  Fits call group_stage.Leave w = call ≡ group_calls.Wait
+
+  group_stage_tells : (call : WaitGroupCall) (stage : GroupStage) (n : group.GroupState) (r : GroupReply) → GroupGoes call (group_standing.waits_at n worker) (group_meaning stage r)
+      → Tells plan (read_as (λ done. replies.Returned) (stages events.WaitGroup answered.WaitGroup group_event group_meaning (object_number place) stage)) (group_left (object_number place) call (group_standing.waits_at n worker))
+      (event_made events.WaitGroup answered.WaitGroup group_event group_meaning (object_number place) worker (group_event stage moment) r ∷ []) (answer_by returned (outcome_of (group_meaning stage r)))
+  group_stage_tells call stage n r goes =
+      stage_tells events.WaitGroup answered.WaitGroup group_event group_meaning (object_number place) worker plan (λ done. replies.Returned) (λ done. replies.Returned) (λ done. refl) stage moment r (group_left (object_number place) call (group_standing.waits_at n worker)) goes
+
+  -- a wait that was queued leaves later
+  waits_on : (n : group.GroupState) → group_standing.waits_at n worker ≡ true → (rest : List Made) (given : CallAnswer (Reply ℕ)) → group_left (object_number place) group_calls.Wait (group_standing.waits_at n worker) rest given
+      → read_as (λ done. replies.Returned) (stages events.WaitGroup answered.WaitGroup group_event group_meaning (object_number place) group_stage.Leave) rest given
+  waits_on n waits rest given l = subst (λ (b : Bool). group_left (object_number place) group_calls.Wait b rest given) waits l
+
+  group_by : (call : WaitGroupCall) (stage : GroupStage) (w : Bool) (n : group.GroupState) (r : GroupReply) → Fits call stage w → group_standing.answers w (group_event stage moment) r ≡ true → r ≢ group_reply.Still
+      → group_standing.waits_at n worker ≡ group_standing.waits_after w (group_event stage moment) r → GroupTells call stage w n r
+  group_by call (group_stage.Add delta) w n group_reply.Done fits is made at = (group_stage_tells call (group_stage.Add delta) n group_reply.Done tt, at ∙ fits)
+  group_by call (group_stage.Add delta) w n (group_reply.Misused misuse) fits is made at = (group_stage_tells call (group_stage.Add delta) n (group_reply.Misused misuse) tt, tt)
+  group_by call (group_stage.Add delta) w n r fits is made at = no is
+  group_by call group_stage.Done w n group_reply.Done fits is made at = (group_stage_tells call group_stage.Done n group_reply.Done tt, at ∙ fits)
+  group_by call group_stage.Done w n (group_reply.Misused misuse) fits is made at = (group_stage_tells call group_stage.Done n (group_reply.Misused misuse) tt, tt)
+  group_by call group_stage.Done w n r fits is made at = no is
+  group_by call group_stage.Wait true n r fits is made at = no (sym fits.1)
+  group_by call group_stage.Wait false n group_reply.Done fits is made at = (group_stage_tells call group_stage.Wait n group_reply.Done tt, at)
+  group_by group_calls.Wait group_stage.Wait false n group_reply.Queued fits is made at = (group_stage_tells group_calls.Wait group_stage.Wait n group_reply.Queued (waits_on n at), tt)
+  group_by (group_calls.Add delta) group_stage.Wait false n group_reply.Queued fits is made at = let e = fits.0 in absurd cc
+  group_by group_calls.Done group_stage.Wait false n group_reply.Queued fits is made at = let e = fits.0 in absurd cc
+  group_by call group_stage.Wait false n r fits is made at = no is
+  group_by call group_stage.Leave w n group_reply.Done fits is made at = (group_stage_tells call group_stage.Leave n group_reply.Done tt, at)
+  group_by call group_stage.Leave w n (group_reply.Misused misuse) fits is made at = (group_stage_tells call group_stage.Leave n (group_reply.Misused misuse) tt, tt)
+  group_by call group_stage.Leave w n group_reply.Still fits is made at = absurd (made refl)
+  group_by call group_stage.Leave w n r fits is made at = no is
+
+  group_made : (call : WaitGroupCall) (stage : GroupStage) (g : group.GroupState) → Fits call stage (group_standing.waits_at g worker) → worker < group.callers_of g
+      → group_standing.is_needed (group_event stage moment) (group.place_of g worker) ≡ true
+      → let n = group.next g worker (group_event stage moment) in GroupTells call stage (group_standing.waits_at g worker) n.0 n.1
+  group_made call stage g fits below needed =
+      let e = group_event stage moment in
+      let n = group.next g worker e in
+      group_by call stage (group_standing.waits_at g worker) n.0 n.1 fits (law.uses.answers g worker e below)
+      (law.uses.made g worker e (may worker (group.callers_of g) (group_standing.is_needed e (group.place_of g worker)) below needed)) (law.own g worker e)
+
+  abbrev GroupTurn : ℕ → WaitGroupCall → GroupPlace → group.GroupState → Type 0
+  GroupTurn before call p g =
+      let made = make group.next group_event group_meaning worker moment (group_due call p) g in
+      Tells plan (group_left (object_number place) call (group_standing.is_in p)) (group_left (object_number place) call (group_standing.waits_at made.0 worker))
+      (recorded plan before (stage_items events.WaitGroup answered.WaitGroup group.next group_event worker moment place (group_due call p) g)) (answer_by returned made.1)
+      × GroupBehind call worker made.0 (answer_by returned made.1)
+
+  pub group_tells : (before : ℕ) (call : WaitGroupCall) (p : GroupPlace) (g : group.GroupState) → group.place_of g worker ≡ p → StandsAtGroup call worker g → worker < group.callers_of g → GroupTurn before call p g
+  group_tells before (group_calls.Add delta) p g at stands below = group_made (group_calls.Add delta) (group_stage.Add delta) g stands below refl
+  group_tells before group_calls.Done p g at stands below = group_made group_calls.Done group_stage.Done g stands below refl
+  group_tells before group_calls.Wait group_place.Out g at stands below =
+      group_made group_calls.Wait group_stage.Wait g (refl, ap group_standing.is_in at) below (ap (group_standing.is_needed (group_event group_stage.Wait moment)) at)
+  group_tells before group_calls.Wait group_place.Waiting g at stands below = (refl, stands)
+  group_tells before group_calls.Wait group_place.Released g at stands below =
+      group_made group_calls.Wait group_stage.Leave g refl below (ap (group_standing.is_needed (group_event group_stage.Leave moment)) at)
+
+-- ---- a once
+
+abbrev pub once_waits : OncePlace → Bool
+once_waits once_place.Out = false
+once_waits once_place.Waiting = true
+once_waits once_place.Released = true
+
+module _ {T : Type 0} where
+  abbrev pub OnceBehind : ℕ → once.OnceState T → Answer → Type 0
+  OnceBehind x o answers.Still = StandsAtOnce x o
+  OnceBehind x o answers.Unfinished = StandsAtOnce x o
+  OnceBehind x o (answers.Completed reply) = IsOutOfOnce o x
+  OnceBehind x o (answers.Misused misuse) = Unit {0}
+
+  waits_in : (progress : OnceProgress T) (w : Option Bool) → unwrap_or w false ≡ once_waits (once.place_in progress w)
+  waits_in progress None = refl
+  waits_in progress (Some false) = refl
+  waits_in NotRun (Some true) = refl
+  waits_in (Running runner) (Some true) = refl
+  waits_in (HasEnded kept) (Some true) = refl
+
+  -- it waits by its place
+  pub waits_where : (o : once.OnceState T) (x : ℕ) → once_standing.waits_at o x ≡ once_waits (once.place_of o x)
+  waits_where o x = waits_in o.progress (slice_get o.waits x)
+
+-- what the function does comes before its end
+abbrev pub before_end : {T : Type 0} → List Made → Result (OnceOutcome T) Answer → List Made
+before_end ended (Ok Ended) = ended
+before_end ended made = []
+
+-- the event of the stage that is due, in a record
+abbrev pub due_made : {T : Type 0} → (OnceEvent T → ObjectEvent) → (OnceReply T → ObjectReply) → ℕ → ℕ → ℕ → Option (OnceStage T) → once.OnceState T → List Made
+due_made event answer place worker moment None o = []
+due_made event answer place worker moment (Some stage) o = event_made event answer once_event once_meaning (object_number place) worker (once_event stage moment) (once.next o worker (once_event stage moment)).1 ∷ []
+
+module _ {T : Type 0} (event : OnceEvent T → ObjectEvent) (answer : OnceReply T → ObjectReply) (law : OnceStands T) (plan : Plan) (place worker moment : ℕ) (function : Part T) (ran returned : T → Reply ℕ) (value : T)
+    (ran_reply : Reply (List ℕ)) (had : T → Reply (List ℕ)) (reads_ran : recorded_reply plan ran_reply ≡ ran value) (reads_had : (kept : T) → recorded_reply plan (had kept) ≡ returned kept)
+    (ended : List Made) (is_run : function ended (Done (Ok value))) where
+  abbrev part : OnceStage T → Part (OnceOutcome T)
+  part stage = stages event answer once_event once_meaning (object_number place) stage
+
+  abbrev left : Bool → Bool → Part (Reply ℕ)
+  left runs waits = once_left part function ran returned runs waits
+
+  abbrev made_of : OnceStage T → OnceReply T → Made
+  made_of stage r = event_made event answer once_event once_meaning (object_number place) worker (once_event stage moment) r
+
+  said : (stage : OnceStage T) (r : OnceReply T) (outcome : OnceOutcome T) → once_meaning stage r ≡ Finished outcome → part stage (made_of stage r ∷ []) (Done (Ok outcome))
+  said stage r outcome is = says event answer once_event once_meaning (object_number place) worker stage moment r (Finished outcome) is
+
+  abbrev OnceTells : OnceStage T → Bool → Bool → once.OnceState T → OnceReply T → Type 0
+  OnceTells stage runs w n r =
+      Tells plan (left runs w) (left (once_standing.runs_at n worker) (once_standing.waits_at n worker)) (before_end ended (outcome_of (once_meaning stage r)) ++ made_of stage r ∷ []) (answer_by (ran_or ran_reply had) (outcome_of (once_meaning stage r)))
+      × OnceBehind worker n (answer_by (ran_or ran_reply had) (outcome_of (once_meaning stage r)))
+
+  abbrev At : once.OnceState T → Bool → Bool → OnceReply T → Type 0
+  At n runs w r = (once_standing.runs_at n worker ≡ once_standing.runs_after runs r) × (once_standing.waits_at n worker ≡ once_standing.waits_after w r)
+
+  new_left : (n : once.OnceState T) (runs w : Bool) → once_standing.runs_at n worker ≡ runs → once_standing.waits_at n worker ≡ w → (rest : List Made) (given : CallAnswer (Reply ℕ))
+      → left (once_standing.runs_at n worker) (once_standing.waits_at n worker) rest given → left runs w rest given
+  new_left n runs w is waits rest given l = subst (λ (b : Bool). left b w rest given) is (subst (λ (b : Bool). left (once_standing.runs_at n worker) b rest given) waits l)
+
+  clash : {A : Type 0} (b : Bool) → b ≡ false → b ≡ true → A
+  clash b is other = no (sym is ∙ other)
+
+  begin_tells : (n : once.OnceState T) (r : OnceReply T) → once_standing.answers_begin false r ≡ true → At n false false r → OnceTells once_stage.Begin false false n r
+  begin_tells n once_reply.Run is at = (
+    λ rest given l. (made_of once_stage.Begin once_reply.Run ∷ [], rest, Done (Ok Run), refl, said once_stage.Begin once_reply.Run Run refl, new_left n true false at.0 at.1 rest given l),
+    λ runs. at.1,
+  )
+  begin_tells n (once_reply.Done kept) is at = (
+    (made_of once_stage.Begin (once_reply.Done kept) ∷ [], [], Done (Ok (Already kept)), refl, said once_stage.Begin (once_reply.Done kept) (Already kept) refl, (refl, ap (λ (y : Reply ℕ). Done (Ok y)) (reads_had kept))),
+    (at.1, at.0),
+  )
+  begin_tells n once_reply.Queued is at = (
+    λ rest given l.
+        let y = new_left n false true at.0 at.1 rest given l in (
+          made_of once_stage.Begin once_reply.Queued ∷ y.0,
+          y.1,
+          y.2,
+          ap (λ (l : List Made). made_of once_stage.Begin once_reply.Queued ∷ l) y.3,
+          says event answer once_event once_meaning (object_number place) worker once_stage.Begin moment once_reply.Queued (Waits once_stage.Leave) refl y.0 y.2 y.4,
+          y.5,
+        ),
+    λ runs. clash (once_standing.runs_at n worker) at.0 runs,
+  )
+  begin_tells n r is at = no is
+
+  end_tells : (n : once.OnceState T) (r : OnceReply T) → once_standing.answers_end true r ≡ true → At n true false r → OnceTells (once_stage.End value) true false n r
+  end_tells n once_reply.Ended is at = (
+    (ended, made_of (once_stage.End value) once_reply.Ended ∷ [], Done (Ok value), refl, is_run, (Done (Ok Ended), said (once_stage.End value) once_reply.Ended Ended refl, ap (λ (y : Reply ℕ). Done (Ok y)) reads_ran)),
+    (at.1, at.0),
+  )
+  end_tells n r is at = no is
+
+  leave_tells : (n : once.OnceState T) (r : OnceReply T) → once_standing.answers_leaving r ≡ true → r ≢ once_reply.Still → At n false true r → OnceTells once_stage.Leave false true n r
+  leave_tells n (once_reply.Left kept) is made at = (
+    (made_of once_stage.Leave (once_reply.Left kept) ∷ [], [], Done (Ok (Already kept)), refl, said once_stage.Leave (once_reply.Left kept) (Already kept) refl, (refl, ap (λ (y : Reply ℕ). Done (Ok y)) (reads_had kept))),
+    (at.1, at.0),
+  )
+  leave_tells n once_reply.Still is made at = absurd (made refl)
+  leave_tells n r is made at = no is
+
+  abbrev OnceTurn : Bool → OncePlace → once.OnceState T → Type 0
+  OnceTurn runs p o =
+      let made = make once.next once_event once_meaning worker moment (once_due value runs p) o in
+      Tells plan (left runs (once_waits p)) (left (once_standing.runs_at made.0 worker) (once_standing.waits_at made.0 worker)) (before_end ended made.1 ++ due_made event answer place worker moment (once_due value runs p) o) (answer_by (ran_or ran_reply had) made.1)
+      × OnceBehind worker made.0 (answer_by (ran_or ran_reply had) made.1)
+
+  moved : (stage : OnceStage T) (o : once.OnceState T) (runs w : Bool) → once_standing.runs_at o worker ≡ runs → once_standing.waits_at o worker ≡ w
+      → let n = once.next o worker (once_event stage moment) in At n.0 runs w n.1
+  moved stage o runs w is waits =
+      let n = once.next o worker (once_event stage moment) in (
+        law.own_run o worker (once_event stage moment) ∙ ap (λ (b : Bool). once_standing.runs_after b n.1) is,
+        law.own_wait o worker (once_event stage moment) ∙ ap (λ (b : Bool). once_standing.waits_after b n.1) waits,
+      )
+
+  is_answered : (stage : OnceStage T) (o : once.OnceState T) (runs w : Bool) → once_standing.runs_at o worker ≡ runs → once_standing.waits_at o worker ≡ w → worker < once.callers_of o
+      → once_standing.answers w runs (once_event stage moment) (once.next o worker (once_event stage moment)).1 ≡ true
+  is_answered stage o runs w is waits below =
+      let r = (once.next o worker (once_event stage moment)).1 in
+      subst (λ (b : Bool). once_standing.answers w b (once_event stage moment) r ≡ true) is
+      (subst (λ (b : Bool). once_standing.answers b (once_standing.runs_at o worker) (once_event stage moment) r ≡ true) waits (law.uses.answers o worker (once_event stage moment) below))
+
+  once_by : (runs : Bool) (p : OncePlace) (o : once.OnceState T) → once_standing.runs_at o worker ≡ runs → once.place_of o worker ≡ p → StandsAtOnce worker o → worker < once.callers_of o → OnceTurn runs p o
+  once_by true once_place.Out o is at stands below =
+      let waits = waits_where o worker ∙ ap once_waits at in
+      let n = once.next o worker (once_event (once_stage.End value) moment) in
+      end_tells n.0 n.1 (is_answered (once_stage.End value) o true false is waits below) (moved (once_stage.End value) o true false is waits)
+  once_by false once_place.Out o is at stands below =
+      let waits = waits_where o worker ∙ ap once_waits at in
+      let n = once.next o worker (once_event once_stage.Begin moment) in
+      begin_tells n.0 n.1 (is_answered once_stage.Begin o false false is waits below) (moved once_stage.Begin o false false is waits)
+  once_by runs once_place.Waiting o is at stands below = (refl, stands)
+  once_by true once_place.Released o is at stands below = let waits = waits_where o worker ∙ ap once_waits at in absurd (clash (once_standing.waits_at o worker) (stands is) waits)
+  once_by false once_place.Released o is at stands below =
+      let waits = waits_where o worker ∙ ap once_waits at in
+      let e = once_event once_stage.Leave moment in
+      let n = once.next o worker e in
+      leave_tells n.0 n.1 (is_answered once_stage.Leave o false true is waits below)
+      (law.uses.made o worker e (may worker (once.callers_of o) (once_standing.is_needed e (once.place_of o worker) (once_standing.runs_at o worker)) below (ap (λ (p : OncePlace). once_standing.is_needed e p (once_standing.runs_at o worker)) at)))
+      (moved once_stage.Leave o false true is waits)
+
+  pub once_tells : (o : once.OnceState T) → StandsAtOnce worker o → worker < once.callers_of o
+      → let due = once_due value (once_standing.runs_at o worker) (once.place_of o worker) in
+      let made = make once.next once_event once_meaning worker moment due o in
+      Tells plan (left (once_standing.runs_at o worker) (once_standing.waits_at o worker)) (left (once_standing.runs_at made.0 worker) (once_standing.waits_at made.0 worker)) (before_end ended made.1 ++ due_made event answer place worker moment due o) (answer_by (ran_or ran_reply had) made.1)
+      × OnceBehind worker made.0 (answer_by (ran_or ran_reply had) made.1)
+  once_tells o stands below =
+      let due = once_due value (once_standing.runs_at o worker) (once.place_of o worker) in
+      let made = make once.next once_event once_meaning worker moment due o in
+      subst (λ (b : Bool). Tells plan (left (once_standing.runs_at o worker) b) (left (once_standing.runs_at made.0 worker) (once_standing.waits_at made.0 worker)) (before_end ended made.1 ++ due_made event answer place worker moment due o) (answer_by (ran_or ran_reply had) made.1)
+      × OnceBehind worker made.0 (answer_by (ran_or ran_reply had) made.1)) (sym (waits_where o worker))
+      (once_by (once_standing.runs_at o worker) (once.place_of o worker) o refl refl stands below)

@@ -1,0 +1,27 @@
+-- Which calls are completed in their first turn.
+use Rattle.std.specs.Prelude.{Bool, true, false}
+use Rattle.sync_types.specs.declared.call.Operation.{Operation}
+use Rattle.sync_types.specs.declared.call.Operation.TheVariants as operations
+use Rattle.step_runner.specs.declared.turns.answer.Answer.{Answer}
+use Rattle.step_runner.specs.declared.turns.answer.Answer.TheVariants as answers
+
+-- whether an operation is one of a map, an atomic or a pool
+abbrev pub takes_one_turn : Operation → Bool
+takes_one_turn (operations.Map call) = true
+takes_one_turn operations.Range = true
+takes_one_turn (operations.Atomic call) = true
+takes_one_turn (operations.Mutex call) = false
+takes_one_turn (operations.RwMutex call) = false
+takes_one_turn (operations.Cond call) = false
+takes_one_turn (operations.WaitGroup call) = false
+takes_one_turn operations.Once = false
+takes_one_turn operations.OnceFunc = false
+takes_one_turn operations.OnceValue = false
+takes_one_turn (operations.Pool call) = true
+
+-- the turn completes its call
+abbrev pub IsCompleted : Answer → Type 0
+IsCompleted answers.Still = ⊥
+IsCompleted answers.Unfinished = ⊥
+IsCompleted (answers.Completed reply) = Unit {0}
+IsCompleted (answers.Misused misuse) = ⊥

@@ -1,0 +1,19 @@
+//! What one turn of a worker does at the objects of a run, whatever the workload: what an object holds,
+//! how it begins, and what a turn makes of it and answers.
+
+pub mod answer;
+pub mod due;
+pub mod laws;
+pub mod lock_turn;
+pub mod object_state;
+pub mod once_turn;
+pub mod plain_turn;
+pub mod pool_turn;
+pub mod stages;
+pub mod turn;
+pub mod wait_turn;
+
+pub use answer::Answer;
+pub use object_state::ObjectState;
+pub use stages::Taker;
+pub use turn::take_turn_at;

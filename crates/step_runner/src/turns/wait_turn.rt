@@ -1,0 +1,71 @@
+//! The turns of a worker that stands before a call of a wait group or of a cond.
+ghost use Rattle.std.specs.Prelude.{◌≡◌, ℕ, ◌<◌};
+ghost use Rattle.mutex_core.specs.MutexMachine as mutex_machine;
+ghost use Rattle.sync_types.specs.declared.call.Operation.TheVariants as operations;
+ghost use Rattle.wait_cores.specs.GroupMachine as group_machine;
+ghost use Rattle.wait_cores.specs.NotifyMachine as notify_machine;
+ghost use Rattle.step_runner.specs.declared.turns.object_state.ObjectState.TheVariants as states;
+ghost use Rattle.step_runner.specs.OneTurns.{turn_on, turn_on_both};
+
+use crate::turns::answer::Answer;
+use crate::turns::due::{cond_answer, cond_due, group_due, returned};
+use crate::turns::object_state::ObjectState;
+use crate::turns::stages::{Taker, make};
+use mutex_core::MutexCore;
+use sync_types::{CondCall, Reply, WaitGroupCall};
+use wait_cores::{GroupCore, NotifyCore};
+
+/// Takes a turn before a call of a wait group.
+pub(crate) fn take_wait_group_turn(
+    object: &mut ObjectState,
+    call: WaitGroupCall,
+    taker: Taker,
+) -> Answer
+    requires { (g : group_machine.GroupState) (first : ℕ) → object.old ≡ states.WaitGroup g first → taker.worker < group_machine.callers_of g }
+    ensures { turn_on (operations.WaitGroup call) taker.worker taker.moment object.old ≡ (object.new, result) }
+{
+    match object {
+        ObjectState::WaitGroup { group, .. } => {
+            let due = group_due(call, group.place(taker.worker));
+            returned(make::<GroupCore>(due, group, taker))
+        }
+        _ => Answer::Still,
+    }
+}
+
+/// Takes a turn before a call of a cond with this mutex. What the stage at the cond comes to is not looked
+/// at: a ticket, a signal and a broadcast are made at once, and only a notified worker leaves.
+fn take_turn_by_call(
+    cond: &mut NotifyCore,
+    mutex: &mut MutexCore,
+    call: CondCall,
+    taker: Taker,
+) -> Answer
+    requires at_cond { taker.worker < notify_machine.callers_of cond.old }
+    requires at_mutex { taker.worker < mutex.old.callers }
+    ensures { (place : ℕ) → turn_on_both (operations.Cond call) taker.worker taker.moment (states.Cond cond.old place) (states.Mutex mutex.old) ≡ ((states.Cond cond.new place, states.Mutex mutex.new), result) }
+{
+    let due = cond_due(call, mutex.place(taker.worker), cond.place(taker.worker));
+    let _made = make::<NotifyCore>(due.0, cond, taker);
+    cond_answer(call, due.1, make::<MutexCore>(due.1, mutex, taker))
+}
+
+/// Takes a turn before a call of a cond, whose mutex the target is.
+pub(crate) fn take_cond_turn(
+    object: &mut ObjectState,
+    target: &mut ObjectState,
+    call: CondCall,
+    taker: Taker,
+) -> Answer
+    requires at_cond { (c : notify_machine.NotifyState) (place : ℕ) → object.old ≡ states.Cond c place → taker.worker < notify_machine.callers_of c }
+    requires at_mutex { (m : mutex_machine.State) → target.old ≡ states.Mutex m → taker.worker < m.callers }
+    ensures { turn_on_both (operations.Cond call) taker.worker taker.moment object.old target.old ≡ ((object.new, target.new), result) }
+{
+    match object {
+        ObjectState::Cond { cond, .. } => match target {
+            ObjectState::Mutex(mutex) => take_turn_by_call(cond, mutex, call, taker),
+            _ => Answer::Still,
+        },
+        _ => Answer::Still,
+    }
+}
