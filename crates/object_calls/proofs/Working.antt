@@ -8,8 +8,8 @@ use Rattle.sync_model.specs.Note.{Holding}
 use Rattle.protocols.specs.Spelling.{CallAnswer}
 use Rattle.run_record.specs.Parts.{Part, read_as, with_outcome, and_then, GoesOn}
 use Rattle.run_record.specs.Record.{ObjectEntry, entries_in}
-use Rattle.shared_calls.specs.Laws.{Stays, Joins}
-use Rattle.shared_calls.specs.Working.{Desk, Works, desk_with, desk_at}
+use Rattle.object_parts.specs.Laws.{Stays, Joins}
+use Rattle.object_parts.specs.Working.{Desk, Works, desk_with, desk_at}
 use Rattle.object_parts.specs.Replies.{gone_on}
 
 -- a part whose outcome is read as something

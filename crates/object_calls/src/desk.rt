@@ -10,7 +10,7 @@ ghost use Rattle.thread_objects.specs.Desks.{AreSeats, IsObjectAt};
 ghost use Rattle.thread_objects.specs.ByKind.{own_of};
 ghost use Rattle.thread_objects.specs.Kinds.{HasWord};
 ghost use Rattle.thread_objects.specs.Passes.{IsSeatAt, owns_of};
-ghost use Rattle.shared_calls.specs.Working.{Works, desk_at, desk_with};
+ghost use Rattle.object_parts.specs.Working.{Works, desk_at, desk_with};
 
 use object_parts::part;
 use protocols::{CondStage, MutexStage};

@@ -16,12 +16,11 @@ ghost use Rattle.thread_objects.specs.ByKind.{own_of};
 ghost use Rattle.thread_objects.specs.Passes.{IsSeatAt, owns_of};
 ghost use Rattle.object_calls.specs.PoolParts.{ArePartsAt};
 ghost use Rattle.object_calls.specs.Replies.{pool_done};
-ghost use Rattle.shared_calls.specs.Working.{Works, desk_at, desk_with};
+ghost use Rattle.object_parts.specs.Working.{Works, desk_at, desk_with};
 
-use object_parts::part;
+use object_parts::laws::moves;
+use object_parts::{CallAnswer, part};
 use protocols::{PoolOutcome, PoolStage};
-use shared_calls::CallAnswer;
-use shared_calls::laws::moves;
 use std::sync::Wait;
 use sync_model::{Answer, Note};
 use sync_outside::Clock;

@@ -8,13 +8,12 @@ ghost use Rattle.object_calls.specs.Replies.{relocked};
 ghost use Rattle.thread_objects.specs.Desks.{AreSeats, IsObjectAt};
 ghost use Rattle.thread_objects.specs.Kinds.{HasWord};
 ghost use Rattle.thread_objects.specs.Passes.{owns_of};
-ghost use Rattle.shared_calls.specs.Working.{Works, desk_with};
+ghost use Rattle.object_parts.specs.Working.{Works, desk_with};
 
 use crate::desk::{cond_at, mutex_at};
-use object_parts::gone_on;
+use object_parts::laws::moves;
+use object_parts::{CallAnswer, gone_on};
 use protocols::{CondStage, MutexStage};
-use shared_calls::CallAnswer;
-use shared_calls::laws::moves;
 use std::sync::Wait;
 use sync_model::{Answer, Note};
 use sync_outside::Clock;

@@ -19,8 +19,8 @@ use Rattle.run_record.specs.declared.made.Made.{Made}
 use Rattle.run_record.specs.declared.made.Made.TheVariants.{Entered}
 use Rattle.run_record.specs.Parts.{lifted, stages}
 use Rattle.run_record.specs.Record.{ObjectEntry, shared_in, entries_in}
-use Rattle.shared_calls.specs.Laws.{Counts}
-use Rattle.shared_calls.specs.Working.{Rises, CountsOwn, Works, alone, number_in, desk_at}
+use Rattle.object_parts.specs.Laws.{Counts}
+use Rattle.object_parts.specs.Working.{Rises, CountsOwn, Works, alone, number_in, desk_at}
 use Rattle.object_parts.specs.Own.{own_as}
 
 module _ {E R : Type 0} where

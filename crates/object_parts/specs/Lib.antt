@@ -3,3 +3,10 @@ pub mod Own
 pub mod Replies
 pub mod Seats
 pub mod Stop
+pub mod Calling
+pub mod Catalog
+pub mod GivenUp
+pub mod Laws
+pub mod PlacedCalls
+pub mod Spending
+pub mod Working

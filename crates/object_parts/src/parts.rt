@@ -9,15 +9,15 @@ ghost use Rattle.run_record.specs.declared.entered.ObjectEvent.{ObjectEvent};
 ghost use Rattle.run_record.specs.declared.entered.ObjectReply.{ObjectReply};
 ghost use Rattle.run_record.specs.Parts.{stages};
 ghost use Rattle.object_parts.specs.Seats.{IsSeat, IsStanding};
-ghost use Rattle.shared_calls.specs.Calling.{HasCalled};
-ghost use Rattle.shared_calls.specs.Working.{Works, desk_at};
+ghost use Rattle.object_parts.specs.Calling.{HasCalled};
+ghost use Rattle.object_parts.specs.Working.{Works, desk_at};
 ghost use Rattle.object_parts.specs.Own.{own_as};
 
+use crate::laws::{a_note_counts_its_calls, what_a_call_leaves};
 use crate::worker::Worker;
 use call_loop::call_within;
 use protocols::Protocol;
 use ruled_object::{Object, PassOf};
-use shared_calls::laws::{a_note_counts_its_calls, what_a_call_leaves};
 use std::sync::Wait;
 use sync_model::{Answer, Note, Worded};
 use sync_outside::Clock;

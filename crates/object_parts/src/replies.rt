@@ -3,7 +3,7 @@ ghost use Rattle.std.specs.Prelude.{◌≡◌};
 ghost use Rattle.run_record.specs.Parts.{with_outcome};
 ghost use Rattle.object_parts.specs.Replies.{of_lock, returned, gone_on};
 
-use shared_calls::CallAnswer;
+use crate::answer::CallAnswer;
 use sync_model::Answer;
 use sync_types::{LockReply, Misuse, Reply};
 

@@ -5,7 +5,7 @@ ghost use Rattle.workload.specs.Keys.{keys_in};
 ghost use Rattle.thread_calls.specs.Sites.{AreRooms, ranges_in_calls};
 
 use crate::job::Job;
-use shared_calls::Catalog;
+use object_parts::Catalog;
 use std::alloc::{AllocError, Global};
 use sync_model::{Caller, Shared};
 use sync_outside::{At, Clock, Gate};

@@ -6,14 +6,14 @@ ghost use Rattle.workload.specs.Keys.{keys_in};
 ghost use Rattle.run_record.specs.Limits.{IsCallOf};
 ghost use Rattle.run_record.specs.Lines.{Line};
 ghost use Rattle.thread_objects.specs.Desks.{AreSeats};
-ghost use Rattle.shared_calls.specs.GivenUp.{GaveUp};
+ghost use Rattle.object_parts.specs.GivenUp.{GaveUp};
 ghost use Rattle.thread_objects.specs.Passes.{owns_of};
 ghost use Rattle.thread_calls.specs.Sites.{IsSite, AreRooms, cost_of_calls, ranges_in_calls};
-ghost use Rattle.shared_calls.specs.Working.{desk_with};
+ghost use Rattle.object_parts.specs.Working.{desk_with};
 ghost use Rattle.thread_runner.specs.DidLines.{DidLine, IsFresh};
 
 use object_calls::halt_all;
-use shared_calls::laws::moves;
+use object_parts::laws::moves;
 use std::sync::Wait;
 use sync_model::{Answer, Caller, Note, Shared};
 use sync_outside::{Clock, Gate};

@@ -2,10 +2,9 @@
 ghost use Rattle.thread_objects.specs.CondKind.{cond};
 
 use crate::kind::DeclaredKind;
-use object_parts::{Worker, part, returned};
+use object_parts::{CallAnswer, Catalog, Worker, part, returned};
 use protocols::CondStage;
 use ruled_object::{Object, PassOf};
-use shared_calls::{CallAnswer, Catalog};
 use std::alloc::{AllocError, Global};
 use std::sync::Wait;
 use sync_model::{Caller, Shared};

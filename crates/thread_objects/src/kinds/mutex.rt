@@ -7,10 +7,9 @@ ghost use Rattle.thread_objects.specs.MutexKind.{mutex};
 
 use crate::kind::DeclaredKind;
 use mutex_core::MutexCore;
-use object_parts::{Worker, lock_reply, part};
+use object_parts::{CallAnswer, Catalog, Worker, lock_reply, part};
 use protocols::MutexStage;
 use ruled_object::{Object, PassOf};
-use shared_calls::{CallAnswer, Catalog};
 use std::alloc::{AllocError, Global};
 use std::sync::Wait;
 use sync_model::{Caller, Shared};

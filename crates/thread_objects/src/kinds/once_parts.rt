@@ -13,15 +13,15 @@ ghost use Rattle.run_record.specs.declared.entered.ObjectEvent.{ObjectEvent};
 ghost use Rattle.run_record.specs.declared.entered.ObjectReply.{ObjectReply};
 ghost use Rattle.run_record.specs.OnceKind.{once_part};
 ghost use Rattle.run_record.specs.Parts.{returns, stages, with_outcome};
-ghost use Rattle.shared_calls.specs.Calling.{HasCalled};
-ghost use Rattle.shared_calls.specs.Working.{Works, desk_at};
+ghost use Rattle.object_parts.specs.Calling.{HasCalled};
+ghost use Rattle.object_parts.specs.Working.{Works, desk_at};
 ghost use Rattle.object_parts.specs.Own.{own_as};
 ghost use Rattle.object_parts.specs.Seats.{IsSeat, IsStanding};
 
+use object_parts::laws::{moves, what_a_call_leaves};
 use object_parts::{Worker, part_from};
 use protocols::{OnceOutcome, OnceStage};
 use ruled_object::{Object, PassOf};
-use shared_calls::laws::{moves, what_a_call_leaves};
 use std::sync::Wait;
 use sync_model::{Answer, Note};
 use sync_outside::Clock;

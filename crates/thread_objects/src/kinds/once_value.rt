@@ -5,9 +5,8 @@ ghost use Rattle.thread_objects.specs.OnceValueKind.{once_value, value_told};
 
 use super::once_parts::kept;
 use crate::kind::DeclaredKind;
-use object_parts::Worker;
+use object_parts::{CallAnswer, Catalog, Worker};
 use ruled_object::{Object, PassOf};
-use shared_calls::{CallAnswer, Catalog};
 use std::alloc::{AllocError, Global};
 use std::sync::Wait;
 use sync_model::{Answer, Caller, Shared};

@@ -6,11 +6,10 @@ ghost use Rattle.run_record.specs.RwMutexKind.{rw_mutex_stage};
 ghost use Rattle.thread_objects.specs.RwMutexKind.{rw_mutex};
 
 use crate::kind::DeclaredKind;
-use object_parts::{Worker, lock_reply, part};
+use object_parts::{CallAnswer, Catalog, Worker, lock_reply, part};
 use protocols::RwMutexStage;
 use ruled_object::{Object, PassOf};
 use rw_core::RwCore;
-use shared_calls::{CallAnswer, Catalog};
 use std::alloc::{AllocError, Global};
 use std::sync::Wait;
 use sync_model::{Caller, Shared};

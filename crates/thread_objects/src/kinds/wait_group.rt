@@ -6,10 +6,9 @@ ghost use Rattle.run_record.specs.WaitGroupKind.{group_start, wait_group_stage};
 ghost use Rattle.thread_objects.specs.WaitGroupKind.{wait_group};
 
 use crate::kind::DeclaredKind;
-use object_parts::{Worker, part, returned};
+use object_parts::{CallAnswer, Catalog, Worker, part, returned};
 use protocols::GroupStage;
 use ruled_object::{Object, PassOf};
-use shared_calls::{CallAnswer, Catalog};
 use std::alloc::{AllocError, Global};
 use std::sync::Wait;
 use sync_model::{Caller, Shared};
