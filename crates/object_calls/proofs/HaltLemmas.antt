@@ -20,15 +20,15 @@ use Rattle.run_record.specs.declared.made.Made.TheVariants.{Shared, Entered}
 use Rattle.run_record.specs.Lines.{IsHalt}
 use Rattle.run_record.specs.Objects.{first_part, is_pool}
 use Rattle.run_record.specs.Record.{ObjectEntry, stop, object_number}
-use Rattle.object_parts.specs.Working.{Desk, Works, desk_at}
+use Rattle.thread_objects.specs.Working.{Desk, Works, desk_at}
 use Rattle.thread_objects.specs.declared.object.AnyObject.{AnyObject}
 use Rattle.thread_objects.specs.declared.object.AnyObject.TheVariants as objects
 use Rattle.thread_objects.specs.AsDeclared.{IsDeclared}
-use Rattle.object_parts.specs.Halting.{Halts}
+use Rattle.thread_objects.specs.HaltOne.{Halts}
 use Rattle.thread_objects.specs.Halting.{AreHalted}
 use Rattle.thread_objects.specs.Kinds.{HasWord, IsStop}
 use Rattle.object_calls.specs.Halting.{halted_one, halted_at, halted_from, halted_with_stop, entered_on, halting, HaltsAll}
-use Rattle.object_parts.specs.Laws.{Stays, Joins, Counts}
+use Rattle.thread_objects.specs.Laws.{Stays, Joins, Counts}
 use Rattle.object_calls.proofs.Working.{rests}
 
 -- halts one after the other

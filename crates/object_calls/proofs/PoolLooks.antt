@@ -17,8 +17,8 @@ use Rattle.protocols.specs.declared.pool.PoolStage.TheVariants.{Sweep}
 use Rattle.protocols.specs.Spelling.{CallAnswer}
 use Rattle.run_record.specs.Parts.{returns}
 use Rattle.run_record.specs.PoolKind.{pool_part, part_of, found_or, found_by, looks_of, stage_of, swept_by}
-use Rattle.object_parts.specs.Working.{Desk, Works}
-use Rattle.object_parts.specs.Laws.{Stays, Joins}
+use Rattle.thread_objects.specs.Working.{Desk, Works}
+use Rattle.thread_objects.specs.Laws.{Stays, Joins}
 use Rattle.object_calls.proofs.Working.{rests, halted_first, went_first}
 
 -- an event's stage is made at the part that the event is about

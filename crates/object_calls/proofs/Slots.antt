@@ -13,7 +13,7 @@ use Rattle.thread_objects.specs.declared.pass.AnyPass.TheVariants as passes
 use Rattle.thread_objects.specs.Desks.{AreSeats}
 use Rattle.thread_objects.specs.ByKind.{own_of}
 use Rattle.thread_objects.specs.Passes.{IsSeatAt, owns_of}
-use Rattle.object_parts.specs.Working.{Works, desk_at, desk_with}
+use Rattle.thread_objects.specs.Working.{Works, desk_at, desk_with}
 use Rattle.object_calls.proofs.Working.{among}
 
 module _ {N : Type 0} (all : List (AnyPass N)) (number : ℕ) (d is : AnyPass N) (within : number < length all) where

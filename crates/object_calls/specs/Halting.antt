@@ -16,7 +16,7 @@ use Rattle.run_record.specs.declared.made.Made.{Made}
 use Rattle.run_record.specs.declared.made.Made.TheVariants.{Shared, Entered}
 use Rattle.thread_objects.specs.declared.object.AnyObject.{AnyObject}
 use Rattle.thread_objects.specs.declared.object.AnyObject.TheVariants as objects
-use Rattle.object_parts.specs.Working.{Desk, Moves}
+use Rattle.thread_objects.specs.Working.{Desk, Moves}
 
 -- the number of an object, where it can be halted
 abbrev pub halted_one : {N H : Type 0} → ℕ → AnyObject N H → List ℕ

@@ -7,22 +7,21 @@ ghost use Rattle.ruled_object.specs.Growth.{KeepsNote};
 ghost use Rattle.run_record.specs.Calls.{call_on};
 ghost use Rattle.run_record.specs.CondKind.{wait_part};
 ghost use Rattle.run_record.specs.Record.{object_number};
-ghost use Rattle.object_parts.specs.Calling.{HasCalled};
-ghost use Rattle.object_parts.specs.Catalog.{HasAtomics};
-ghost use Rattle.object_parts.specs.GivenUp.{GaveUp};
-ghost use Rattle.object_parts.specs.Working.{Works, desk_with};
+ghost use Rattle.thread_objects.specs.Calling.{HasCalled};
+ghost use Rattle.thread_objects.specs.Catalog.{HasAtomics};
+ghost use Rattle.thread_objects.specs.GivenUp.{GaveUp};
+ghost use Rattle.thread_objects.specs.Working.{Works, desk_with};
 ghost use Rattle.thread_objects.specs.Alone.{IsCallAlone};
 ghost use Rattle.thread_objects.specs.Desks.{AreSeats, IsObjectAt};
 ghost use Rattle.thread_objects.specs.Kinds.{HasWord, IsOfKind};
 ghost use Rattle.thread_objects.specs.Passes.{owns_of};
 
 use crate::wait::wait;
-use object_parts::{CallAnswer, Catalog};
 use std::sync::Wait;
 use sync_model::{Caller, Note, Shared};
 use sync_outside::Clock;
 use sync_types::Operation;
-use thread_objects::{AnyObject, AnyPass, Worker, call_any};
+use thread_objects::{AnyObject, AnyPass, CallAnswer, Catalog, Worker, call_any};
 use workload::ObjectKind;
 
 /// Makes a call on the object at a place among the workload's objects, which is of this kind, and on no other one but maps and

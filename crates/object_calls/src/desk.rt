@@ -10,15 +10,14 @@ ghost use Rattle.thread_objects.specs.Desks.{AreSeats, IsObjectAt};
 ghost use Rattle.thread_objects.specs.ByKind.{own_of};
 ghost use Rattle.thread_objects.specs.Kinds.{HasWord};
 ghost use Rattle.thread_objects.specs.Passes.{IsSeatAt, owns_of};
-ghost use Rattle.object_parts.specs.Working.{Works, desk_at, desk_with};
+ghost use Rattle.thread_objects.specs.Working.{Works, desk_at, desk_with};
 
-use object_parts::part;
 use protocols::{CondStage, MutexStage};
 use std::sync::Wait;
 use sync_model::{Answer, Note};
 use sync_outside::Clock;
 use sync_types::{LockReply, Misuse};
-use thread_objects::{AnyObject, AnyPass, Worker};
+use thread_objects::{AnyObject, AnyPass, Worker, part};
 
 // Makes a part of a call on a mutex, which may wait.
 fn part_of_mutex<N: Note, C: Clock, R: Wait>(

@@ -4,20 +4,20 @@ ghost use Rattle.std.specs.List.{range_with_len};
 ghost use Rattle.sync_model.specs.declared.answer.Answer.TheVariants.{Done};
 ghost use Rattle.workload.specs.declared.object.ObjectLine.{ObjectLine};
 ghost use Rattle.run_record.specs.Objects.{first_part};
-ghost use Rattle.object_parts.specs.Working.{Works, desk_with};
+ghost use Rattle.thread_objects.specs.Working.{Works, desk_with};
 ghost use Rattle.thread_objects.specs.AsDeclared.{AreDeclared};
 ghost use Rattle.thread_objects.specs.Desks.{AreSeats};
 ghost use Rattle.thread_objects.specs.Passes.{owns_of};
 ghost use Rattle.object_calls.specs.Halting.{HaltsAll, halted_at, halted_one, halting};
 ghost use Rattle.object_calls.specs.PoolParts.{ArePartsAt};
 
-use object_parts::laws::{a_note_counts_its_calls, moves};
 use run_record::laws::numbers::parts_have_numbers_of_their_own;
 use std::sync::Wait;
 use sync_model::Note;
 use sync_outside::Clock;
 use sync_types::Misuse;
 use thread_objects::laws::{objects_are_of_their_kinds, stop_is_the_first_object};
+use thread_objects::parts::laws::{a_note_counts_its_calls, moves};
 use thread_objects::{AnyObject, AnyPass, Worker, halt_any};
 use workload::{ObjectKind, Workload};
 

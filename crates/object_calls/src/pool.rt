@@ -16,16 +16,15 @@ ghost use Rattle.thread_objects.specs.ByKind.{own_of};
 ghost use Rattle.thread_objects.specs.Passes.{IsSeatAt, owns_of};
 ghost use Rattle.object_calls.specs.PoolParts.{ArePartsAt};
 ghost use Rattle.object_calls.specs.Replies.{pool_done};
-ghost use Rattle.object_parts.specs.Working.{Works, desk_at, desk_with};
+ghost use Rattle.thread_objects.specs.Working.{Works, desk_at, desk_with};
 
-use object_parts::laws::moves;
-use object_parts::{CallAnswer, part};
 use protocols::{PoolOutcome, PoolStage};
 use std::sync::Wait;
 use sync_model::{Answer, Note};
 use sync_outside::Clock;
 use sync_types::{Misuse, PoolCall, PoolCallReply, Reply};
-use thread_objects::{AnyObject, AnyPass, Worker};
+use thread_objects::parts::laws::moves;
+use thread_objects::{AnyObject, AnyPass, CallAnswer, Worker, part};
 
 // What a put into a pool answers, and a sweep.
 fn pool_done(answer: Answer<Result<PoolOutcome, Misuse>>) -> CallAnswer

@@ -8,17 +8,16 @@ ghost use Rattle.object_calls.specs.Replies.{relocked};
 ghost use Rattle.thread_objects.specs.Desks.{AreSeats, IsObjectAt};
 ghost use Rattle.thread_objects.specs.Kinds.{HasWord};
 ghost use Rattle.thread_objects.specs.Passes.{owns_of};
-ghost use Rattle.object_parts.specs.Working.{Works, desk_with};
+ghost use Rattle.thread_objects.specs.Working.{Works, desk_with};
 
 use crate::desk::{cond_at, mutex_at};
-use object_parts::laws::moves;
-use object_parts::{CallAnswer, gone_on};
 use protocols::{CondStage, MutexStage};
 use std::sync::Wait;
 use sync_model::{Answer, Note};
 use sync_outside::Clock;
 use sync_types::{LockReply, Misuse, Reply};
-use thread_objects::{AnyObject, AnyPass, Worker};
+use thread_objects::parts::laws::moves;
+use thread_objects::{AnyObject, AnyPass, CallAnswer, Worker, gone_on};
 
 // What a `wait` answers, whose mutex is locked again.
 fn locked_again(answer: Answer<Result<LockReply, Misuse>>) -> CallAnswer

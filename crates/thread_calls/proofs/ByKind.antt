@@ -22,8 +22,8 @@ use Rattle.run_record.specs.MapKind.{map_call, range_call}
 use Rattle.run_record.specs.Objects.{map_number, atomic_number, first_part}
 use Rattle.run_record.specs.PoolKind.{pool_call}
 use Rattle.run_record.specs.Calls.{call_on, call_at, SpellsCall}
-use Rattle.object_parts.specs.Catalog.{IsAt}
-use Rattle.object_parts.specs.Working.{Desk, Works}
+use Rattle.thread_objects.specs.Catalog.{IsAt}
+use Rattle.thread_objects.specs.Working.{Desk, Works}
 
 -- an object that has a pool's call is a pool
 pool_kind : (kind : ObjectKind) (call : PoolCall) → has_call kind (operations.Pool call) ≡ true → kind ≡ kinds.Pool

@@ -19,10 +19,10 @@ use Rattle.std.specs.Option.{option_map_or}
 use Rattle.std.proofs.lemmas.Bool.{false≢true}
 use Rattle.run_record.specs.MapKind.{map_call, range_call}
 use Rattle.run_record.specs.Objects.{is_map, is_atomic, types_of, atomic_number}
-use Rattle.object_parts.specs.Catalog.{HasAtomics, IsAt}
-use Rattle.object_parts.specs.PlacedCalls.{placed_map}
+use Rattle.thread_objects.specs.Catalog.{HasAtomics, IsAt}
+use Rattle.thread_objects.specs.PlacedCalls.{placed_map}
 use Rattle.thread_calls.specs.Sites.{AreNumbers, AreShared, number_at}
-use Rattle.object_parts.specs.Working.{Desk, Works}
+use Rattle.thread_objects.specs.Working.{Desk, Works}
 use Rattle.thread_calls.proofs.Numbers.{one_more}
 
 -- the number of a call costs nothing

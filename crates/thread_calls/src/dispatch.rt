@@ -13,24 +13,23 @@ ghost use Rattle.run_record.specs.Calls.{SpellsCall, call_on};
 ghost use Rattle.run_record.specs.Limits.{IsCallOf};
 ghost use Rattle.run_record.specs.Objects.{first_part, object_count};
 ghost use Rattle.thread_objects.specs.Desks.{AreSeats};
-ghost use Rattle.object_parts.specs.GivenUp.{GaveUp, MakesOnly};
+ghost use Rattle.thread_objects.specs.GivenUp.{GaveUp, MakesOnly};
 ghost use Rattle.thread_objects.specs.Passes.{owns_of};
 ghost use Rattle.thread_calls.specs.Sites.{AreNumbers, AreRooms, IsScripted, IsSite, operation_cost, operation_ranges, cost_of_call, ranges_in_call};
-ghost use Rattle.object_parts.specs.Catalog.{IsAt};
-ghost use Rattle.object_parts.specs.Spending.{Spends};
-ghost use Rattle.object_parts.specs.Working.{Works, desk_with};
+ghost use Rattle.thread_objects.specs.Catalog.{IsAt};
+ghost use Rattle.thread_objects.specs.Spending.{Spends};
+ghost use Rattle.thread_objects.specs.Working.{Works, desk_with};
 
 use crate::placed_calls::{map_at, range_at};
 use crate::site::Site;
 use object_calls::{call_pool, object_at, wait_at};
-use object_parts::{CallAnswer, atomic_at};
 use run_record::laws::numbers::parts_have_numbers_of_their_own;
 use std::sync::Wait;
 use sync_model::{Caller, Shared};
 use sync_outside::Clock;
 use sync_types::{BoundedSeq, Call, CondCall, Operation};
 use thread_objects::laws::objects_are_of_their_kinds;
-use thread_objects::{AnyPass, Worker};
+use thread_objects::{AnyPass, CallAnswer, Worker, atomic_at};
 use workload::{ObjectKind, Workload};
 
 // Of which kind the object at a place is.

@@ -13,18 +13,18 @@ ghost use Rattle.run_record.specs.Limits.{IsCallOf};
 ghost use Rattle.run_record.specs.MapKind.{map_call, range_call};
 ghost use Rattle.run_record.specs.Objects.{map_number};
 ghost use Rattle.run_record.specs.Record.{ObjectEntry};
-ghost use Rattle.object_parts.specs.GivenUp.{MakesOnly, ShowedTooMany};
-ghost use Rattle.object_parts.specs.Catalog.{IsAt};
+ghost use Rattle.thread_objects.specs.GivenUp.{MakesOnly, ShowedTooMany};
+ghost use Rattle.thread_objects.specs.Catalog.{IsAt};
 ghost use Rattle.thread_calls.specs.Sites.{IsSite};
-ghost use Rattle.object_parts.specs.Spending.{Spends};
-ghost use Rattle.object_parts.specs.Working.{Works, desk_with};
+ghost use Rattle.thread_objects.specs.Spending.{Spends};
+ghost use Rattle.thread_objects.specs.Working.{Works, desk_with};
 
 use crate::numbering::numbered;
 use crate::site::Site;
-use object_parts::{CallAnswer, call_map, call_range};
 use std::sync::Wait;
 use sync_model::{Caller, Shared};
 use sync_types::{BoundedSeq, MapCall, Name};
+use thread_objects::{CallAnswer, call_map, call_range};
 use workload::laws::keys_are_numbered_by_first_appearance;
 
 /// Makes a call on the map at a place. It may wait for other callers.

@@ -3,10 +3,9 @@ ghost use Rattle.std.specs.Prelude.{◌≡◌, ◌+◌, ◌<◌, ◌^◌, cond, 
 ghost use Rattle.run_record.specs.Objects.{is_map, is_atomic, is_pool};
 ghost use Rattle.thread_calls.specs.Sites.{AreNumbers, kind_number};
 
-use object_parts::Catalog;
 use std::alloc::{AllocError, Global};
 use sync_model::Shared;
-use thread_objects::AnyObject;
+use thread_objects::{AnyObject, Catalog};
 use workload::{ObjectKind, Workload};
 
 /// What all workers of a run share.

@@ -19,11 +19,11 @@ use Rattle.run_record.specs.Record.{ObjectEntry}
 use Rattle.thread_objects.specs.declared.pass.AnyPass.{AnyPass}
 use Rattle.thread_objects.specs.declared.pass.AnyPass.TheVariants as passes
 use Rattle.thread_objects.specs.Columns.{AreSeated, AreUntouched, AreParts, IsHistoryIn, JournalOf}
-use Rattle.object_parts.specs.Own.{own_as}
+use Rattle.thread_objects.specs.Own.{own_as}
 use Rattle.thread_objects.specs.EachKind.{Kind, own_in}
 use Rattle.thread_objects.specs.ByKind.{own_of}
 use Rattle.thread_objects.specs.Passes.{owns_of}
-use Rattle.object_parts.specs.Seats.{IsSeat}
+use Rattle.thread_objects.specs.Seats.{IsSeat}
 use Rattle.thread_objects.proofs.ColumnLists.{in_front, added_at, fewer_by_one, got, got_none}
 
 module _ {M N S E R H W : Type 0} (begins : ℕ → S → Type 0) (out : W) (move : W → E → R → W) (at : H → N → Type 0) (home : H) (workers : ℕ) (object : Object M N S E R H) where

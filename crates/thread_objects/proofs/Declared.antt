@@ -6,7 +6,7 @@ use Rattle.workload.specs.declared.object.ObjectKind.TheVariants as kinds
 use Rattle.workload.specs.declared.object.ObjectWord.TheVariants as words
 use Rattle.workload.specs.Plan.{Plan}
 use Rattle.run_record.specs.Objects.{first_part, object_count}
-use Rattle.object_parts.specs.Catalog.{IsAt}
+use Rattle.thread_objects.specs.Catalog.{IsAt}
 use Rattle.run_record.specs.Record.{stop, object_number}
 use Rattle.thread_objects.specs.declared.object.AnyObject.{AnyObject}
 use Rattle.thread_objects.specs.declared.object.AnyObject.TheVariants as those

@@ -12,3 +12,12 @@ pub mod SameKinds
 pub mod StopColumns
 pub mod Telling
 pub mod Working
+pub mod HaltLemmas
+pub mod PartWorking
+pub mod Finding
+pub mod Knowing
+pub mod Moving
+pub mod OnlyCalls
+pub mod Ranging
+pub mod SharedParts
+pub mod Spending

@@ -10,8 +10,8 @@ use Rattle.protocols.specs.declared.once.OnceStage.TheVariants as stage
 use Rattle.protocols.specs.Spelling.{CallAnswer}
 use Rattle.run_record.specs.OnceKind.{once_part, goes_on_once}
 use Rattle.run_record.specs.Parts.{Part, read_as, with_outcome}
-use Rattle.object_parts.specs.Working.{Desk, Works}
-use Rattle.object_parts.specs.Laws.{Stays, Joins}
+use Rattle.thread_objects.specs.Working.{Desk, Works}
+use Rattle.thread_objects.specs.Laws.{Stays, Joins}
 use Rattle.thread_objects.proofs.Working.{reads, rests, works_on}
 
 told_once : {O T U : Type 0} (told : T → U) (value : T) (given : CallAnswer O) → with_outcome told (with_outcome (λ outcome. value) given) ≡ with_outcome (λ outcome. told value) given

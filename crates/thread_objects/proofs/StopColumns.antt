@@ -19,15 +19,15 @@ use Rattle.thread_objects.specs.declared.object.AnyObject.{AnyObject}
 use Rattle.thread_objects.specs.declared.object.AnyObject.TheVariants as objects
 use Rattle.thread_objects.specs.declared.pass.AnyPass.{AnyPass}
 use Rattle.thread_objects.specs.declared.pass.AnyPass.TheVariants as passes
-use Rattle.object_parts.specs.declared.stop.NoEvent.{NoEvent}
-use Rattle.object_parts.specs.declared.stop.StopCore.{StopCore}
+use Rattle.thread_objects.specs.declared.parts.stop.NoEvent.{NoEvent}
+use Rattle.thread_objects.specs.declared.parts.stop.StopCore.{StopCore}
 use Rattle.thread_objects.specs.Columns.{AreHalting, AreParts, IsColumnOf}
-use Rattle.object_parts.specs.Halting.{Halts}
+use Rattle.thread_objects.specs.HaltOne.{Halts}
 use Rattle.thread_objects.specs.ByKind.{own_of}
-use Rattle.object_parts.specs.Own.{own_as}
+use Rattle.thread_objects.specs.Own.{own_as}
 use Rattle.thread_objects.specs.Passes.{owns_of, IsSeatAt}
-use Rattle.object_parts.specs.Seats.{IsSeat}
-use Rattle.object_parts.specs.Stop.{StopBegins, stop_stands, no_event, no_reply}
+use Rattle.thread_objects.specs.Seats.{IsSeat}
+use Rattle.thread_objects.specs.Stop.{StopBegins, stop_stands, no_event, no_reply}
 use Rattle.thread_objects.proofs.ColumnLists.{added_at, all_by}
 use Rattle.thread_objects.proofs.ColumnLemmas.{IsTold, owns_at, owns_past}
 

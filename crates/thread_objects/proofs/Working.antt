@@ -4,8 +4,8 @@ use Rattle.sync_model.specs.Note.{Holding}
 use Rattle.protocols.specs.Spelling.{CallAnswer}
 use Rattle.run_record.specs.Parts.{Part, read_as, with_outcome, and_then, GoesOn}
 use Rattle.run_record.specs.Record.{ObjectEntry}
-use Rattle.object_parts.specs.Laws.{Stays, Joins}
-use Rattle.object_parts.specs.Working.{Desk, Works, desk_at}
+use Rattle.thread_objects.specs.Laws.{Stays, Joins}
+use Rattle.thread_objects.specs.Working.{Desk, Works, desk_at}
 
 -- a part whose outcome is read as something
 pub reads : {O P : Type 0} (f : O → P) (part : Part O) (old new : Desk) (given : CallAnswer O) (answer : CallAnswer P) → answer ≡ with_outcome f given → Works part old given new → Works (read_as f part) old answer new

@@ -8,8 +8,8 @@ use Rattle.thread_objects.specs.declared.object.AnyObject.{AnyObject}
 use Rattle.thread_objects.specs.declared.object.AnyObject.TheVariants as objects
 use Rattle.thread_objects.specs.declared.pass.AnyPass.{AnyPass}
 use Rattle.thread_objects.specs.declared.pass.AnyPass.TheVariants as passes
-use Rattle.object_parts.specs.declared.stop.NoEvent.{NoEvent}
-use Rattle.object_parts.specs.declared.stop.StopCore.{StopCore}
+use Rattle.thread_objects.specs.declared.parts.stop.NoEvent.{NoEvent}
+use Rattle.thread_objects.specs.declared.parts.stop.StopCore.{StopCore}
 use Rattle.thread_objects.specs.CondKind.{cond}
 use Rattle.thread_objects.specs.EachKind.{Kind, own_in}
 use Rattle.thread_objects.specs.MutexKind.{mutex}

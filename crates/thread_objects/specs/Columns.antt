@@ -15,7 +15,7 @@ use Rattle.thread_objects.specs.declared.column.AnyColumn.{AnyColumn}
 use Rattle.thread_objects.specs.declared.column.AnyColumn.TheVariants as columns
 use Rattle.thread_objects.specs.declared.object.AnyObject.{AnyObject}
 use Rattle.thread_objects.specs.declared.pass.AnyPass.{AnyPass}
-use Rattle.object_parts.specs.declared.stop.NoEvent.{NoEvent}
+use Rattle.thread_objects.specs.declared.parts.stop.NoEvent.{NoEvent}
 use Rattle.thread_objects.specs.ByKind.{of_object}
 use Rattle.thread_objects.specs.EachKind.{Kind, own_in}
 use Rattle.thread_objects.specs.Passes.{owns_of}

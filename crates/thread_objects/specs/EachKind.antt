@@ -7,7 +7,7 @@ use Rattle.ruled_object.specs.declared.pass.Pass.{Pass}
 use Rattle.run_record.specs.declared.entered.ObjectEvent.{ObjectEvent}
 use Rattle.run_record.specs.declared.entered.ObjectReply.{ObjectReply}
 use Rattle.run_record.specs.Record.{ObjectEntry}
-use Rattle.object_parts.specs.Own.{own_as}
+use Rattle.thread_objects.specs.Own.{own_as}
 use Rattle.thread_objects.specs.declared.column.AnyColumn.{AnyColumn}
 use Rattle.thread_objects.specs.declared.pass.AnyPass.{AnyPass}
 

@@ -2,7 +2,7 @@
 use Rattle.std.specs.Prelude.{◌≡◌, ℕ, List}
 use Rattle.sync_types.specs.declared.misuse.Misuse.{Misuse}
 use Rattle.run_record.specs.Record.{ObjectEntry}
-use Rattle.object_parts.specs.Halting.{Halts}
+use Rattle.thread_objects.specs.HaltOne.{Halts}
 use Rattle.thread_objects.specs.declared.object.AnyObject.{AnyObject}
 use Rattle.thread_objects.specs.declared.object.AnyObject.TheVariants as objects
 

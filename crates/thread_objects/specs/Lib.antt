@@ -18,3 +18,15 @@ pub mod Rows
 pub mod RwMutexKind
 pub mod StopKind
 pub mod WaitGroupKind
+pub mod HaltOne
+pub mod Own
+pub mod Replies
+pub mod Seats
+pub mod Stop
+pub mod Calling
+pub mod Catalog
+pub mod GivenUp
+pub mod Laws
+pub mod PlacedCalls
+pub mod Spending
+pub mod Working

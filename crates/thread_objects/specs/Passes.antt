@@ -9,7 +9,7 @@ use Rattle.thread_objects.specs.declared.pass.AnyPass.{AnyPass}
 use Rattle.thread_objects.specs.declared.pass.AnyPass.TheVariants as passes
 use Rattle.thread_objects.specs.ByKind.{of_object, own_of}
 use Rattle.thread_objects.specs.EachKind.{Kind, own_in}
-use Rattle.object_parts.specs.Seats.{IsSeat}
+use Rattle.thread_objects.specs.Seats.{IsSeat}
 use Rattle.thread_objects.specs.StopKind.{stop}
 
 -- the entries that a worker with these passes made on each object

@@ -6,9 +6,9 @@ use Rattle.thread_objects.specs.declared.column.AnyColumn.{AnyColumn}
 use Rattle.thread_objects.specs.declared.column.AnyColumn.TheVariants as columns
 use Rattle.thread_objects.specs.declared.pass.AnyPass.{AnyPass}
 use Rattle.thread_objects.specs.declared.pass.AnyPass.TheVariants as passes
-use Rattle.object_parts.specs.declared.stop.NoEvent.{NoEvent}
+use Rattle.thread_objects.specs.declared.parts.stop.NoEvent.{NoEvent}
 use Rattle.thread_objects.specs.EachKind.{Kind}
-use Rattle.object_parts.specs.Stop.{StopBegins, stop_stands, no_event, no_reply}
+use Rattle.thread_objects.specs.Stop.{StopBegins, stop_stands, no_event, no_reply}
 
 -- the pass, if it is one to Stop
 abbrev pub stop_pass : {N : Type 0} → AnyPass N → Option (Pass (Unit {0}) N NoEvent NoEvent)

@@ -1,6 +1,6 @@
 //! All passes of one object of a run, in order of worker.
+use crate::parts::StopCore;
 use mutex_core::MutexCore;
-use object_parts::StopCore;
 use pool_core::PartCore;
 use ruled_object::PassOf;
 use rw_core::RwCore;

@@ -5,8 +5,8 @@ ghost use Rattle.thread_objects.specs.Passes.{IsSeatAt};
 
 use crate::by_kind::{all_kinds, arms, by_kind, with_kinds};
 use crate::object::AnyObject;
+use crate::parts::{Worker, halt_one};
 use crate::pass::AnyPass;
-use object_parts::{Worker, halt_one};
 use std::sync::Wait;
 use sync_model::Note;
 use sync_outside::Clock;

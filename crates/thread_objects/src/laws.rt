@@ -8,7 +8,7 @@ ghost use Rattle.workload.specs.Plan.{Plan};
 ghost use Rattle.run_record.specs.Calls.{IsJournalOf};
 ghost use Rattle.run_record.specs.Objects.{first_part};
 ghost use Rattle.run_record.specs.Record.{ObjectEntry, stop, object_number};
-ghost use Rattle.object_parts.specs.Catalog.{IsAt};
+ghost use Rattle.thread_objects.specs.Catalog.{IsAt};
 ghost use Rattle.thread_objects.specs.AsDeclared.{AreDeclared, IsDeclared};
 ghost use Rattle.thread_objects.specs.ByKind.{passes_in};
 ghost use Rattle.thread_objects.specs.Columns.{IsColumnOf, IsJournalAt};

@@ -16,6 +16,7 @@ mod kinds;
 pub mod laws;
 mod making;
 mod object;
+pub mod parts;
 mod pass;
 mod rows;
 mod seated;
@@ -27,6 +28,9 @@ pub use gathering::journals;
 pub use halting::halt_any;
 pub use making::{make_object, make_part, make_stop};
 pub use object::AnyObject;
-pub use object_parts::Worker;
+pub use parts::{
+    CallAnswer, Catalog, NoEvent, StopCore, Worker, add_at, atomic_at, call_map, call_range,
+    gone_on, halt_one, lock_reply, part, part_from, returned,
+};
 pub use pass::AnyPass;
 pub use rows::{deal_row, put_row};

@@ -1,6 +1,6 @@
 //! The objects of a run.
+use crate::parts::StopCore;
 use mutex_core::MutexCore;
-use object_parts::StopCore;
 use pool_core::PartCore;
 use ruled_object::Object;
 use rw_core::RwCore;

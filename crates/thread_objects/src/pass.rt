@@ -1,6 +1,6 @@
 //! The passes of one worker.
+use crate::parts::StopCore;
 use mutex_core::MutexCore;
-use object_parts::StopCore;
 use pool_core::PartCore;
 use ruled_object::PassOf;
 use rw_core::RwCore;

@@ -5,7 +5,7 @@ ghost use Rattle.ruled_object.specs.Gathered.{SameOwn};
 ghost use Rattle.ruled_object.specs.Passes.{start_of};
 ghost use Rattle.thread_objects.specs.AsDeclared.{Began};
 ghost use Rattle.thread_objects.specs.Columns.{AreSeated, AreUntouched, IsHistoryOf};
-ghost use Rattle.object_parts.specs.Seats.{IsSeat};
+ghost use Rattle.thread_objects.specs.Seats.{IsSeat};
 
 use crate::crew::Crew;
 use protocols::Protocol;

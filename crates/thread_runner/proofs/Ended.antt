@@ -25,10 +25,10 @@ use Rattle.run_record.specs.Record.{ObjectEntry}
 use Rattle.thread_objects.specs.declared.object.AnyObject.{AnyObject}
 use Rattle.thread_objects.specs.declared.pass.AnyPass.{AnyPass}
 use Rattle.thread_objects.specs.Desks.{AreSeats}
-use Rattle.object_parts.specs.GivenUp.{GaveUp}
+use Rattle.thread_objects.specs.GivenUp.{GaveUp}
 use Rattle.thread_objects.specs.Passes.{owns_of}
 use Rattle.thread_objects.specs.Rows.{AreJournals}
-use Rattle.object_parts.specs.Working.{Desk, desk_with, number_in}
+use Rattle.thread_objects.specs.Working.{Desk, desk_with, number_in}
 use Rattle.thread_runner.specs.AllGone.{HaveGone}
 use Rattle.thread_runner.specs.Dealing.{AreRows}
 use Rattle.thread_runner.specs.DidLines.{DidLine, IsFresh}

@@ -12,7 +12,7 @@ use Rattle.workload.specs.Plan.{Plan}
 use Rattle.run_record.specs.Explains.{AreLines, IsRecordOf, HasEnded}
 use Rattle.run_record.specs.Lines.{Line, whole, HaltsStop}
 use Rattle.run_record.specs.Record.{Record, ObjectEntry, stop, journal_of}
-use Rattle.object_parts.specs.Working.{Desk}
+use Rattle.thread_objects.specs.Working.{Desk}
 use Rattle.thread_runner.specs.Runs.{IsExplained, ends_after}
 use Rattle.thread_runner.proofs.Joining.{AllDone, Knowing, SameLists, is_record, are_lines, have_ended, halt_stop, joined, joined_calls}
 

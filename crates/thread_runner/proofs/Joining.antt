@@ -16,7 +16,7 @@ use Rattle.run_record.specs.Explains.{AreLines, IsRecordOf, HasEnded}
 use Rattle.run_record.specs.Lines.{Line, script_of, items_of, replies_of, HaltsStop}
 use Rattle.run_record.specs.Objects.{contents_of}
 use Rattle.run_record.specs.Record.{Record, ObjectEntry, journal_of, list_of, shared_in, entries_in, calls_of, front_of}
-use Rattle.object_parts.specs.Working.{Desk, Moves}
+use Rattle.thread_objects.specs.Working.{Desk, Moves}
 use Rattle.thread_runner.specs.DidLines.{DidLine, IsFresh}
 use Rattle.thread_objects.specs.Rows.{AreJournals}
 use Rattle.thread_runner.proofs.ItemLists.{mapped_at, mapped_past, mapped_is}

@@ -15,7 +15,7 @@ use Rattle.run_record.specs.declared.made.Made.TheVariants.{Entered}
 use Rattle.run_record.specs.Calls.{SpellsCall}
 use Rattle.run_record.specs.Lines.{Line, LineEnd, SpeltCall, whole, misused, halted, unfinished, AreSpelt, IsHalt}
 use Rattle.run_record.specs.Record.{ObjectEntry, stop, shared_in}
-use Rattle.object_parts.specs.Working.{Desk, Moves, Works}
+use Rattle.thread_objects.specs.Working.{Desk, Moves, Works}
 use Rattle.thread_runner.specs.DidLines.{DidLine, Went}
 use Rattle.thread_runner.proofs.ItemLists.{first_is}
 

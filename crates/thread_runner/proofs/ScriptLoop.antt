@@ -18,11 +18,11 @@ use Rattle.run_record.specs.Limits.{IsCallOf}
 use Rattle.thread_objects.specs.declared.object.AnyObject.{AnyObject}
 use Rattle.thread_objects.specs.declared.pass.AnyPass.{AnyPass}
 use Rattle.thread_objects.specs.Desks.{AreSeats}
-use Rattle.object_parts.specs.GivenUp.{MakesOnly}
+use Rattle.thread_objects.specs.GivenUp.{MakesOnly}
 use Rattle.thread_objects.specs.Passes.{owns_of}
-use Rattle.object_parts.specs.Spending.{Spends}
+use Rattle.thread_objects.specs.Spending.{Spends}
 use Rattle.thread_calls.specs.Sites.{AreRooms, cost_of_call, cost_of_calls, ranges_in_call, ranges_in_calls}
-use Rattle.object_parts.specs.Working.{Desk, desk_with}
+use Rattle.thread_objects.specs.Working.{Desk, desk_with}
 use Rattle.thread_runner.specs.DidLines.{Went}
 
 -- a worker's caller is still its own behind a call

@@ -6,7 +6,7 @@ use Rattle.sync_types.specs.declared.call.Reply.{Reply}
 use Rattle.workload.specs.Plan.{Plan}
 use Rattle.run_record.specs.Explains.{HasEnded}
 use Rattle.run_record.specs.Lines.{Line, SpeltCall, script_of, items_of, replies_of, HaltsStop, AreSpelt, IsLineOf}
-use Rattle.object_parts.specs.Working.{Desk, Moves}
+use Rattle.thread_objects.specs.Working.{Desk, Moves}
 
 -- the line is what the worker did, who has ended: it is the record's line of the worker's script, the replies are those of the calls that were completed, and its items are all that the worker made
 pub record DidLine (plan : Plan) (worker : ℕ) (script : List Call) (replies : List (Reply ℕ)) (old new : Desk) (line : Line) : Type 0 where

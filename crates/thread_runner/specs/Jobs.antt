@@ -13,10 +13,10 @@ use Rattle.run_record.specs.Lines.{Line}
 use Rattle.thread_objects.specs.declared.object.AnyObject.{AnyObject}
 use Rattle.thread_objects.specs.declared.pass.AnyPass.{AnyPass}
 use Rattle.thread_objects.specs.Desks.{AreSeats}
-use Rattle.object_parts.specs.GivenUp.{GaveUp}
+use Rattle.thread_objects.specs.GivenUp.{GaveUp}
 use Rattle.thread_objects.specs.Passes.{owns_of}
 use Rattle.thread_calls.specs.Sites.{AreRooms, cost_of_calls, ranges_in_calls}
-use Rattle.object_parts.specs.Working.{desk_with}
+use Rattle.thread_objects.specs.Working.{desk_with}
 use Rattle.thread_runner.specs.DidLines.{DidLine, IsFresh}
 
 module _ {N H : Type 0} (at : H → N → Type 0) (own : N → Option Holding) (front : N → List ℕ) (home : H) (plan : Plan) (objects : List (AnyObject N H)) (worker : ℕ) where

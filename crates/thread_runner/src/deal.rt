@@ -4,7 +4,7 @@ ghost use Rattle.sync_model.specs.Note.{SameHome};
 ghost use Rattle.run_record.specs.Objects.{first_part, object_count};
 ghost use Rattle.run_record.specs.Record.{object_number};
 ghost use Rattle.thread_objects.specs.AsDeclared.{AreDeclared};
-ghost use Rattle.object_parts.specs.Catalog.{IsAt};
+ghost use Rattle.thread_objects.specs.Catalog.{IsAt};
 ghost use Rattle.thread_objects.specs.Desks.{AreSeats};
 ghost use Rattle.thread_objects.specs.Passes.{owns_of};
 ghost use Rattle.thread_objects.specs.Rows.{AreColumns, made_on};

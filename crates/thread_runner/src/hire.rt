@@ -5,13 +5,12 @@ ghost use Rattle.workload.specs.Keys.{keys_in};
 ghost use Rattle.thread_calls.specs.Sites.{AreRooms, ranges_in_calls};
 
 use crate::job::Job;
-use object_parts::Catalog;
 use std::alloc::{AllocError, Global};
 use sync_model::{Caller, Shared};
 use sync_outside::{At, Clock, Gate};
 use sync_types::{BoundedSeq, Call, Operation};
 use thread_calls::Site;
-use thread_objects::{AnyObject, AnyPass, Worker};
+use thread_objects::{AnyObject, AnyPass, Catalog, Worker};
 use workload::Workload;
 
 // Room for the pairs of each `range` of a script, which shows at most all keys, so many.

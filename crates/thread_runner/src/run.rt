@@ -15,7 +15,6 @@ use crate::deal::{collect, deal, make_objects_by};
 use crate::fault::RunFault;
 use crate::gather::Left;
 use crate::hire::hire;
-use object_parts::laws::a_worker_knows_its_own_calls;
 use run_record::laws::endings::stop_says_how_a_run_ended;
 use run_record::laws::limits::{a_range_shows_no_key_but_the_workloads, an_int64_answers_an_int64};
 use std::alloc::Global;
@@ -26,6 +25,7 @@ use sync_model::{Caller, Note, Shared};
 use sync_outside::{Clock, Gate, Spawner, Started};
 use sync_types::{Outcome, Report, Seq};
 use thread_calls::numbers_of;
+use thread_objects::parts::laws::a_worker_knows_its_own_calls;
 use thread_objects::{AnyColumn, AnyObject, AnyPass, Crew, journals};
 use workload::Workload;
 

@@ -6,19 +6,19 @@ ghost use Rattle.workload.specs.Keys.{keys_in};
 ghost use Rattle.run_record.specs.Limits.{IsCallOf};
 ghost use Rattle.run_record.specs.Lines.{Line};
 ghost use Rattle.thread_objects.specs.Desks.{AreSeats};
-ghost use Rattle.object_parts.specs.GivenUp.{GaveUp};
+ghost use Rattle.thread_objects.specs.GivenUp.{GaveUp};
 ghost use Rattle.thread_objects.specs.Passes.{owns_of};
 ghost use Rattle.thread_calls.specs.Sites.{IsSite, AreRooms, cost_of_calls, ranges_in_calls};
-ghost use Rattle.object_parts.specs.Working.{desk_with};
+ghost use Rattle.thread_objects.specs.Working.{desk_with};
 ghost use Rattle.thread_runner.specs.DidLines.{DidLine, IsFresh};
 
 use object_calls::halt_all;
-use object_parts::laws::moves;
 use std::sync::Wait;
 use sync_model::{Answer, Caller, Note, Shared};
 use sync_outside::{Clock, Gate};
 use sync_types::{BoundedSeq, Reply};
 use thread_calls::{Site, make_call};
+use thread_objects::parts::laws::moves;
 use thread_objects::{AnyPass, Worker};
 
 /// Makes the calls of a worker's script in order, with the gate before and behind each. A misuse halts Stop, and then every

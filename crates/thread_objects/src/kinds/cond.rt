@@ -2,7 +2,7 @@
 ghost use Rattle.thread_objects.specs.CondKind.{cond};
 
 use crate::kind::DeclaredKind;
-use object_parts::{CallAnswer, Catalog, Worker, part, returned};
+use crate::parts::{CallAnswer, Catalog, Worker, part, returned};
 use protocols::CondStage;
 use ruled_object::{Object, PassOf};
 use std::alloc::{AllocError, Global};

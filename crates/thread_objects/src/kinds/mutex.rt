@@ -6,8 +6,8 @@ ghost use Rattle.run_record.specs.MutexKind.{mutex_stage};
 ghost use Rattle.thread_objects.specs.MutexKind.{mutex};
 
 use crate::kind::DeclaredKind;
+use crate::parts::{CallAnswer, Catalog, Worker, lock_reply, part};
 use mutex_core::MutexCore;
-use object_parts::{CallAnswer, Catalog, Worker, lock_reply, part};
 use protocols::MutexStage;
 use ruled_object::{Object, PassOf};
 use std::alloc::{AllocError, Global};

@@ -9,18 +9,18 @@ ghost use Rattle.run_record.specs.declared.entered.ObjectReply.TheVariants as re
 ghost use Rattle.run_record.specs.Objects.{atomic_number};
 ghost use Rattle.run_record.specs.OnceKind.{do_call};
 ghost use Rattle.run_record.specs.Parts.{with_outcome};
-ghost use Rattle.object_parts.specs.Calling.{HasCalled};
-ghost use Rattle.object_parts.specs.Catalog.{HasAtomics, IsAt};
-ghost use Rattle.object_parts.specs.GivenUp.{GaveUp};
-ghost use Rattle.object_parts.specs.Working.{Works, desk_at};
+ghost use Rattle.thread_objects.specs.Calling.{HasCalled};
+ghost use Rattle.thread_objects.specs.Catalog.{HasAtomics, IsAt};
+ghost use Rattle.thread_objects.specs.GivenUp.{GaveUp};
+ghost use Rattle.thread_objects.specs.Working.{Works, desk_at};
 ghost use Rattle.thread_objects.specs.OnceKind.{once, ran};
-ghost use Rattle.object_parts.specs.Own.{own_as};
-ghost use Rattle.object_parts.specs.Seats.{IsSeat};
+ghost use Rattle.thread_objects.specs.Own.{own_as};
+ghost use Rattle.thread_objects.specs.Seats.{IsSeat};
 
 use super::once_parts::{begin, end, ended};
 use crate::kind::DeclaredKind;
-use object_parts::laws::{moves, what_a_call_leaves, what_calls_spend};
-use object_parts::{CallAnswer, Catalog, Worker, add_at};
+use crate::parts::laws::{moves, what_a_call_leaves, what_calls_spend};
+use crate::parts::{CallAnswer, Catalog, Worker, add_at};
 use protocols::OnceOutcome;
 use ruled_object::{Object, PassOf};
 use std::alloc::{AllocError, Global};

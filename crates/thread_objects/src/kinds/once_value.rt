@@ -5,7 +5,7 @@ ghost use Rattle.thread_objects.specs.OnceValueKind.{once_value, value_told};
 
 use super::once_parts::kept;
 use crate::kind::DeclaredKind;
-use object_parts::{CallAnswer, Catalog, Worker};
+use crate::parts::{CallAnswer, Catalog, Worker};
 use ruled_object::{Object, PassOf};
 use std::alloc::{AllocError, Global};
 use std::sync::Wait;

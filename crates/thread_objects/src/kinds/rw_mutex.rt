@@ -6,7 +6,7 @@ ghost use Rattle.run_record.specs.RwMutexKind.{rw_mutex_stage};
 ghost use Rattle.thread_objects.specs.RwMutexKind.{rw_mutex};
 
 use crate::kind::DeclaredKind;
-use object_parts::{CallAnswer, Catalog, Worker, lock_reply, part};
+use crate::parts::{CallAnswer, Catalog, Worker, lock_reply, part};
 use protocols::RwMutexStage;
 use ruled_object::{Object, PassOf};
 use rw_core::RwCore;

@@ -6,7 +6,7 @@ ghost use Rattle.run_record.specs.WaitGroupKind.{group_start, wait_group_stage};
 ghost use Rattle.thread_objects.specs.WaitGroupKind.{wait_group};
 
 use crate::kind::DeclaredKind;
-use object_parts::{CallAnswer, Catalog, Worker, part, returned};
+use crate::parts::{CallAnswer, Catalog, Worker, part, returned};
 use protocols::GroupStage;
 use ruled_object::{Object, PassOf};
 use std::alloc::{AllocError, Global};

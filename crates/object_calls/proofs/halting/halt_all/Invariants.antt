@@ -1,7 +1,7 @@
 use Rattle.std.proofs.Common.{◌≡◌, take, Ok}
 use Rattle.sync_model.specs.declared.answer.Answer.TheVariants.{Done}
 use Rattle.run_record.specs.Objects.{first_part}
-use Rattle.object_parts.specs.Working.{Works, desk_with}
+use Rattle.thread_objects.specs.Working.{Works, desk_with}
 use Rattle.thread_objects.specs.Desks.{AreSeats}
 use Rattle.thread_objects.specs.Passes.{owns_of}
 use Rattle.object_calls.specs.Halting.{halted_with_stop, halting}

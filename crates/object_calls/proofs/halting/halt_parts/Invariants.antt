@@ -1,7 +1,7 @@
 use Rattle.std.proofs.Common.{Ok}
 use Rattle.std.specs.List.{range_with_len}
 use Rattle.sync_model.specs.declared.answer.Answer.TheVariants.{Done}
-use Rattle.object_parts.specs.Working.{Works, desk_with}
+use Rattle.thread_objects.specs.Working.{Works, desk_with}
 use Rattle.thread_objects.specs.Desks.{AreSeats}
 use Rattle.thread_objects.specs.Passes.{owns_of}
 use Rattle.object_calls.specs.Halting.{halting}

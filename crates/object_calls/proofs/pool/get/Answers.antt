@@ -2,7 +2,7 @@ use Rattle.std.proofs.Common.{◌*◌, ◌<◌, arith, rules, Ok}
 use Rattle.sync_model.specs.declared.answer.Answer.TheVariants.{Done, Halted}
 use Rattle.protocols.specs.declared.pool.PoolOutcome.TheVariants.{Item, Nothing}
 use Rattle.thread_objects.specs.Passes.{owns_of}
-use Rattle.object_parts.specs.Working.{Desk, desk_with}
+use Rattle.thread_objects.specs.Working.{Desk, desk_with}
 use Rattle.object_calls.proofs.PoolLooks.{looked_by, looked_on, took, halted, found_none}
 use Rattle.object_calls.proofs.pool.get.Goals as goal
 

@@ -1,6 +1,6 @@
 use Rattle.std.proofs.Common.{arith, rules}
 use Rattle.thread_objects.specs.Passes.{owns_of}
-use Rattle.object_parts.specs.Working.{Desk, desk_with}
+use Rattle.thread_objects.specs.Working.{Desk, desk_with}
 use Rattle.object_calls.proofs.PoolLooks.{swept_on, sweep_halted, swept_all}
 use Rattle.object_calls.proofs.pool.sweep.Goals as goal
 

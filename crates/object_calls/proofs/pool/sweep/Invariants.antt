@@ -1,7 +1,7 @@
 use Rattle.ruled_object.specs.Growth.{KeepsNote}
 use Rattle.thread_objects.specs.Desks.{AreSeats}
 use Rattle.thread_objects.specs.Passes.{owns_of}
-use Rattle.object_parts.specs.Working.{desk_with}
+use Rattle.thread_objects.specs.Working.{desk_with}
 use Rattle.object_calls.proofs.PoolLooks.{SweepsAll}
 use Rattle.object_calls.proofs.pool.sweep.Given as goal
 

@@ -6,7 +6,7 @@ use Rattle.thread_calls.proofs.ScriptCalls.{key_among}
 use Rattle.thread_calls.proofs.Sites.{has_atomics, mutex_of}
 use Rattle.std.proofs.Common.{ℕ, ◌-◌, sym, subst, arith}
 use Rattle.workload.specs.declared.object.ObjectKind.{ObjectKind}
-use Rattle.object_parts.specs.Catalog.{IsAt}
+use Rattle.thread_objects.specs.Catalog.{IsAt}
 use Rattle.object_calls.specs.PoolParts.{ArePartsAt}
 use Rattle.thread_calls.proofs.dispatch.call_at.Goals as goal
 

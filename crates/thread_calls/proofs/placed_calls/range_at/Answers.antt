@@ -1,6 +1,6 @@
 use Rattle.std.specs.Prelude.{IfNone}
 use Rattle.sync_model.specs.Shared.{items_of}
-use Rattle.object_parts.specs.GivenUp.{ShowedTooMany}
+use Rattle.thread_objects.specs.GivenUp.{ShowedTooMany}
 use Rattle.std.proofs.Common.{ℕ, ◌≤◌, List, length, refl, sym, subst, ◌∙◌}
 use Rattle.std.proofs.lemmas.Option.{IfSome_then}
 use Rattle.workload.specs.declared.object.ObjectKind.TheVariants as kinds

@@ -1,4 +1,4 @@
-use Rattle.object_parts.specs.Stop.{no_event, no_reply}
+use Rattle.thread_objects.specs.Stop.{no_event, no_reply}
 use Rattle.thread_objects.proofs.StopColumns.{halts_more, seat_from, seat_to}
 use Rattle.thread_objects.proofs.halting.halt_any.Goals as goal
 

@@ -1,6 +1,6 @@
 use Rattle.std.proofs.Common.{get_or, []}
 use Rattle.thread_objects.specs.Passes.{owns_of}
-use Rattle.object_parts.specs.Working.{desk_with}
+use Rattle.thread_objects.specs.Working.{desk_with}
 use Rattle.thread_runner.proofs.ScriptLoop.{AtCall}
 use Rattle.thread_runner.proofs.script.run_script.Given as goal
 

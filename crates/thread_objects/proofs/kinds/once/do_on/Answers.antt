@@ -14,10 +14,10 @@ use Rattle.run_record.specs.declared.entered.ObjectEvent.TheVariants as event
 use Rattle.run_record.specs.declared.entered.ObjectReply.TheVariants as reply
 use Rattle.run_record.specs.Objects.{atomic_number}
 use Rattle.run_record.specs.Parts.{stages, with_outcome}
-use Rattle.object_parts.specs.GivenUp.{GaveUp}
-use Rattle.object_parts.specs.Working.{alone}
+use Rattle.thread_objects.specs.GivenUp.{GaveUp}
+use Rattle.thread_objects.specs.Working.{alone}
 use Rattle.thread_objects.specs.OnceKind.{ran}
-use Rattle.object_parts.specs.Own.{own_as}
+use Rattle.thread_objects.specs.Own.{own_as}
 use Rattle.thread_objects.proofs.OnceParts.{stopped, had}
 use Rattle.thread_objects.proofs.OnceParts as once
 use Rattle.thread_objects.proofs.Working.{answers_as, part_as}

@@ -4,9 +4,9 @@ use Rattle.sync_types.specs.declared.call.Reply.{Reply}
 use Rattle.thread_objects.specs.declared.pass.AnyPass.{AnyPass}
 use Rattle.thread_objects.specs.Desks.{AreSeats}
 use Rattle.sync_model.specs.Shared.{items_of}
-use Rattle.object_parts.specs.GivenUp.{GaveUp}
+use Rattle.thread_objects.specs.GivenUp.{GaveUp}
 use Rattle.thread_objects.specs.Passes.{owns_of}
-use Rattle.object_parts.specs.Working.{desk_with}
+use Rattle.thread_objects.specs.Working.{desk_with}
 use Rattle.run_record.specs.Lines.{Line}
 use Rattle.thread_runner.specs.DidLines.{DidLine}
 use Rattle.thread_runner.specs.Jobs.{HasGone}

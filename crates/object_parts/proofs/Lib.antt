@@ -1,9 +1,0 @@
-pub mod HaltLemmas
-pub mod Working
-pub mod Finding
-pub mod Knowing
-pub mod Moving
-pub mod OnlyCalls
-pub mod Ranging
-pub mod SharedParts
-pub mod Spending

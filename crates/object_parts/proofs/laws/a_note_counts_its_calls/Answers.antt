@@ -1,5 +1,0 @@
-use Rattle.object_parts.proofs.Moving.{counted_of}
-use Rattle.object_parts.proofs.laws.a_note_counts_its_calls.Goals as goal
-
-pub returns : goal.returns
-returns c own front worker counted is = counted_of own front counted worker is

@@ -1,5 +1,0 @@
-use Rattle.object_parts.proofs.Working.{did_works}
-use Rattle.object_parts.proofs.parts.part_from.Goals as goal
-
-pub returns-clause-works : goal.returns-clause-works
-returns-clause-works g c = λ event reply number. did_works _ _ _ _ _ _ _ _ _ c.a_note_counts_its_calls.ensures event reply number _ _ _ _ _ _ g.met.N.Note.counted _ c.requires.note c.call_within.ensures.note c.call_within.ensures.events
