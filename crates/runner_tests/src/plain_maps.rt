@@ -4,7 +4,7 @@ ghost use Rattle.shared_plain.specs.Marks.{own_by, IsMarkOf};
 ghost use Rattle.shared_plain.specs.Plains.{caller_count, kinds_of, maps_of, Takes};
 ghost use Rattle.shared_plain.specs.Settling.{room_of};
 ghost use Rattle.sync_model.specs.Shared.{AreAllCallers};
-ghost use Rattle.thread_calls.specs.Sites.{AreShared};
+ghost use Rattle.thread_runner.specs.Sites.{AreShared};
 ghost use Rattle.thread_runner.specs.EndsPlans.{HaveMadeNone, HaveSpare};
 
 use shared_plain::{EndsRoom, Mark, Plain, PlainState};

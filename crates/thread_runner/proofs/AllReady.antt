@@ -13,7 +13,7 @@ use Rattle.workload.specs.Keys.{keys_in}
 use Rattle.workload.specs.Plan.{Plan, is_on, is_turn, refers, is_valid}
 use Rattle.thread_objects.specs.declared.object.AnyObject.{AnyObject}
 use Rattle.thread_objects.specs.declared.pass.AnyPass.{AnyPass}
-use Rattle.thread_calls.specs.Sites.{AreRooms, ranges_in_calls}
+use Rattle.thread_runner.specs.Sites.{AreRooms, ranges_in_calls}
 use Rattle.thread_runner.specs.AllGone.{HaveGone}
 use Rattle.thread_runner.specs.Dealing.{AreRows}
 use Rattle.thread_runner.specs.EndsPlans.{HaveMadeNone, HaveSpare}

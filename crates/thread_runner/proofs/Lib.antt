@@ -13,3 +13,7 @@ pub mod Ended
 pub mod SameCallers
 pub mod AllReady
 pub mod Costs
+pub mod ByKind
+pub mod Numbers
+pub mod ScriptCalls
+pub mod Sites

@@ -6,7 +6,7 @@ use Rattle.sync_model.specs.declared.caller.Caller.{Caller}
 use Rattle.sync_model.specs.Note.{Holding, SameHome}
 use Rattle.sync_model.specs.Shared.{AreAllCallers, IsHeldBy, items_of}
 use Rattle.workload.specs.Plan.{Plan}
-use Rattle.thread_calls.specs.Sites.{cost_of_calls}
+use Rattle.thread_runner.specs.Sites.{cost_of_calls}
 use Rattle.thread_runner.specs.Dealing.{SameNotes}
 use Rattle.thread_runner.specs.EndsPlans.{HaveMadeNone, HaveSpare}
 

@@ -21,7 +21,7 @@ use Rattle.thread_objects.specs.Desks.{AreSeats}
 use Rattle.thread_objects.specs.GivenUp.{MakesOnly}
 use Rattle.thread_objects.specs.Passes.{owns_of}
 use Rattle.thread_objects.specs.Spending.{Spends}
-use Rattle.thread_calls.specs.Sites.{AreRooms, cost_of_call, cost_of_calls, ranges_in_call, ranges_in_calls}
+use Rattle.thread_runner.specs.Sites.{AreRooms, cost_of_call, cost_of_calls, ranges_in_call, ranges_in_calls}
 use Rattle.thread_objects.specs.Working.{Desk, desk_with}
 use Rattle.thread_runner.specs.DidLines.{Went}
 

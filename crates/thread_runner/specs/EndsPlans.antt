@@ -9,7 +9,7 @@ use Rattle.workload.specs.Keys.{keys_in, key_number, key_name}
 use Rattle.workload.specs.Plan.{Plan}
 use Rattle.run_record.specs.Objects.{is_map, is_atomic, places_from}
 use Rattle.sync_model.specs.EndsByName.{AreInNameOrder}
-use Rattle.thread_calls.specs.Sites.{cost_of_calls}
+use Rattle.thread_runner.specs.Sites.{cost_of_calls}
 
 module _ {N : Type 0} (own : N → Option Holding) where
   -- no caller has made a call

@@ -15,7 +15,7 @@ use Rattle.thread_objects.specs.declared.pass.AnyPass.{AnyPass}
 use Rattle.thread_objects.specs.Desks.{AreSeats}
 use Rattle.thread_objects.specs.GivenUp.{GaveUp}
 use Rattle.thread_objects.specs.Passes.{owns_of}
-use Rattle.thread_calls.specs.Sites.{AreRooms, cost_of_calls, ranges_in_calls}
+use Rattle.thread_runner.specs.Sites.{AreRooms, cost_of_calls, ranges_in_calls}
 use Rattle.thread_objects.specs.Working.{desk_with}
 use Rattle.thread_runner.specs.DidLines.{DidLine, IsFresh}
 

@@ -4,3 +4,4 @@ pub mod EndsPlans
 pub mod Jobs
 pub mod Runs
 pub mod AllGone
+pub mod Sites

@@ -2,7 +2,7 @@
 ghost use Rattle.std.specs.Prelude.{◌≡◌, ℕ, ◌+◌, ◌<◌, ◌≤◌, ◌^◌, ◌++◌, ◌∷◌, [], cond, length, get_or, slice_index, count_by, IfOk, OnOk};
 ghost use Rattle.std.specs.List.{flat_map};
 ghost use Rattle.run_record.specs.Objects.{is_map, is_atomic, is_pool, places_from, types_of};
-ghost use Rattle.thread_calls.specs.Sites.{cost_of_call, cost_of_calls};
+ghost use Rattle.thread_runner.specs.Sites.{cost_of_call, cost_of_calls};
 
 use std::alloc::{AllocError, Global};
 use sync_types::{AtomicKind, Call, MapCall, Operation};

@@ -2,14 +2,14 @@
 ghost use Rattle.std.specs.Prelude.{◌≡◌, ◌<◌, ◌≤◌, All, IfOk, [], length, map, get_or, vec_len};
 ghost use Rattle.std.specs.List.{range_with_len};
 ghost use Rattle.workload.specs.Keys.{keys_in};
-ghost use Rattle.thread_calls.specs.Sites.{AreRooms, ranges_in_calls};
+ghost use Rattle.thread_runner.specs.Sites.{AreRooms, ranges_in_calls};
 
 use crate::job::Job;
+use crate::site::Site;
 use std::alloc::{AllocError, Global};
 use sync_model::{Caller, Shared};
 use sync_outside::{At, Clock, Gate};
 use sync_types::{BoundedSeq, Call, Operation};
-use thread_calls::Site;
 use thread_objects::{AnyObject, AnyPass, Catalog, Worker};
 use workload::Workload;
 

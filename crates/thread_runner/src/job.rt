@@ -2,11 +2,11 @@
 ghost use Rattle.std.specs.Prelude.{◌≡◌};
 
 use crate::script::run_script;
+use crate::site::Site;
 use std::sync::Wait;
 use sync_model::{Caller, Note, Shared};
 use sync_outside::{Clock, Gate, Work};
 use sync_types::{BoundedSeq, Reply, Seq};
-use thread_calls::Site;
 use thread_objects::{AnyPass, Worker};
 
 /// A worker, with all that its script takes.
@@ -38,7 +38,7 @@ where
     <S::Mark as Note>::Home: Sync,
 {
     ghost use Rattle.std.specs.Prelude.{◌≡◌};
-    ghost use Rattle.thread_calls.specs.Sites.{IsSite};
+    ghost use Rattle.thread_runner.specs.Sites.{IsSite};
     ghost use Rattle.thread_runner.specs.Jobs.{IsReady, HasGone};
 
     type Out = Gone<S::Mark>;

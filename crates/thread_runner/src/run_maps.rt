@@ -7,7 +7,7 @@ ghost use Rattle.sync_model.specs.SharedCalls.{Lawful};
 ghost use Rattle.sync_model.specs.SharedHistory.{contents_after, first_contents};
 ghost use Rattle.run_record.specs.Explains.{Explains};
 ghost use Rattle.run_record.specs.Record.{Record};
-ghost use Rattle.thread_calls.specs.Sites.{AreShared};
+ghost use Rattle.thread_runner.specs.Sites.{AreShared};
 ghost use Rattle.thread_runner.specs.EndsPlans.{HaveMadeNone, HaveSpare, IsEndsPlan};
 ghost use Rattle.thread_runner.specs.Runs.{HasRun};
 

@@ -8,16 +8,17 @@ ghost use Rattle.run_record.specs.Lines.{Line};
 ghost use Rattle.thread_objects.specs.Desks.{AreSeats};
 ghost use Rattle.thread_objects.specs.GivenUp.{GaveUp};
 ghost use Rattle.thread_objects.specs.Passes.{owns_of};
-ghost use Rattle.thread_calls.specs.Sites.{IsSite, AreRooms, cost_of_calls, ranges_in_calls};
+ghost use Rattle.thread_runner.specs.Sites.{IsSite, AreRooms, cost_of_calls, ranges_in_calls};
 ghost use Rattle.thread_objects.specs.Working.{desk_with};
 ghost use Rattle.thread_runner.specs.DidLines.{DidLine, IsFresh};
 
+use crate::dispatch::make_call;
+use crate::site::Site;
 use object_calls::halt_all;
 use std::sync::Wait;
 use sync_model::{Answer, Caller, Note, Shared};
 use sync_outside::{Clock, Gate};
 use sync_types::{BoundedSeq, Reply};
-use thread_calls::{Site, make_call};
 use thread_objects::parts::laws::moves;
 use thread_objects::{AnyPass, Worker};
 

@@ -1,5 +1,5 @@
 use Rattle.std.proofs.Common.{◌≡◌, ◌≤◌, take}
-use Rattle.thread_calls.specs.Sites.{cost_of_calls}
+use Rattle.thread_runner.specs.Sites.{cost_of_calls}
 use Rattle.thread_runner.proofs.counts.script_cost.Given as goal
 
 abbrev pub invariant-loop-call : goal.invariant-loop-call

@@ -1,5 +1,5 @@
 use Rattle.std.proofs.Common.{◌≡◌, ℕ, ◌<◌, ◌≤◌, [], length, get_or, slice_index}
-use Rattle.thread_calls.specs.Sites.{cost_of_calls}
+use Rattle.thread_runner.specs.Sites.{cost_of_calls}
 use Rattle.thread_runner.proofs.counts.spares.Given as goal
 
 abbrev pub invariant-loop-worker : goal.invariant-loop-worker

@@ -5,7 +5,7 @@ use Rattle.std.proofs.lemmas.Iterator.Adapters.{YieldsList-from_vec}
 use Rattle.std.proofs.lemmas.Iterator.Consumers.{YieldsList-turn, YieldsList-end}
 use Rattle.std.proofs.lemmas.List.{length_push, map_push}
 use Rattle.workload.specs.Keys.{keys_in}
-use Rattle.thread_calls.specs.Sites.{AreRooms, ranges_in_calls}
+use Rattle.thread_runner.specs.Sites.{AreRooms, ranges_in_calls}
 use Rattle.thread_runner.proofs.Hiring.{all_firsts, all_seconds, sized, mapped_more, all_more, counted_more}
 use Rattle.thread_runner.proofs.hire.hire.Goals as goal
 

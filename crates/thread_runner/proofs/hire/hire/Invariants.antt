@@ -3,7 +3,7 @@ use Rattle.std.proofs.Common.{◌≡◌, ◌≤◌, [], length, map, get_or, All
 use Rattle.std.specs.Prelude.{vec_len, vec_capacity}
 use Rattle.std.specs.List.{range_with_len}
 use Rattle.workload.specs.Keys.{keys_in}
-use Rattle.thread_calls.specs.Sites.{AreRooms, ranges_in_calls}
+use Rattle.thread_runner.specs.Sites.{AreRooms, ranges_in_calls}
 use Rattle.thread_runner.proofs.hire.hire.Given as goal
 
 abbrev pub invariant-loop-caller : goal.invariant-loop-caller

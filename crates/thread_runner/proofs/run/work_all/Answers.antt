@@ -9,7 +9,7 @@ use Rattle.sync_outside.specs.Faults.{RoseBy}
 use Rattle.workload.specs.Plan.{Plan}
 use Rattle.thread_objects.specs.declared.object.AnyObject.{AnyObject}
 use Rattle.thread_objects.specs.declared.pass.AnyPass.{AnyPass}
-use Rattle.thread_calls.specs.Sites.{IsSite, ranges_in_calls}
+use Rattle.thread_runner.specs.Sites.{IsSite, ranges_in_calls}
 use Rattle.thread_runner.specs.AllGone.{HaveGone}
 use Rattle.thread_runner.specs.Jobs.{IsReady, HasGone}
 use Rattle.thread_runner.proofs.AllReady.{ready_at, have_gone, number_at_place, one_script_each, zipped_long}

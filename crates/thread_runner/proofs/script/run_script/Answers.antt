@@ -11,7 +11,7 @@ use Rattle.protocols.specs.Spelling.{CallAnswer}
 use Rattle.run_record.specs.Calls.{SpellsCall}
 use Rattle.run_record.specs.Limits.{IsCallOf}
 use Rattle.thread_objects.specs.Passes.{owns_of}
-use Rattle.thread_calls.specs.Sites.{cost_of_call, ranges_in_call}
+use Rattle.thread_runner.specs.Sites.{cost_of_call, ranges_in_call}
 use Rattle.thread_objects.specs.Working.{Works, desk_with}
 use Rattle.thread_runner.specs.DidLines.{Went}
 use Rattle.thread_runner.proofs.ScriptLoop.{after_call, all_behind, held_behind, of_some, of_none}

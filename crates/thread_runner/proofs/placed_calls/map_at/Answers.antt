@@ -5,9 +5,9 @@ use Rattle.sync_types.specs.Renaming.{renamed_call}
 use Rattle.sync_model.specs.Shared.{IsMapCall}
 use Rattle.workload.specs.Keys.{keys_in, key_number}
 use Rattle.workload.specs.declared.object.ObjectKind.TheVariants as kinds
-use Rattle.thread_calls.proofs.Sites.{number_is, map_within, placed_as}
-use Rattle.thread_calls.proofs.ScriptCalls.{number_within, numbered_fits}
-use Rattle.thread_calls.proofs.placed_calls.map_at.Goals as goal
+use Rattle.thread_runner.proofs.Sites.{number_is, map_within, placed_as}
+use Rattle.thread_runner.proofs.ScriptCalls.{number_within, numbered_fits}
+use Rattle.thread_runner.proofs.placed_calls.map_at.Goals as goal
 
 pub call_map-requires-clause-map : goal.call_map-requires-clause-map
 call_map-requires-clause-map g c =

@@ -14,7 +14,7 @@ use Rattle.workload.specs.Draft.{count_of, count_together, limit_of, is_kind, de
 use Rattle.workload.specs.Plan.{word_of, refers}
 use Rattle.workload.specs.Readable.{may_join, may_declare}
 use Rattle.run_record.specs.Objects.{is_map, is_atomic, is_pool, map_number, atomic_number, pool_number}
-use Rattle.thread_calls.specs.Sites.{kind_number, number_at}
+use Rattle.thread_runner.specs.Sites.{kind_number, number_at}
 
 -- an object that may be declared keeps the limit of its word
 room_of : (others : List ObjectLine) (o : ObjectLine) → may_join others o ≡ true → count_of (word_of o.kind) others < limit_of (word_of o.kind)

@@ -15,7 +15,7 @@ ghost use Rattle.run_record.specs.Objects.{map_number};
 ghost use Rattle.run_record.specs.Record.{ObjectEntry};
 ghost use Rattle.thread_objects.specs.GivenUp.{MakesOnly, ShowedTooMany};
 ghost use Rattle.thread_objects.specs.Catalog.{IsAt};
-ghost use Rattle.thread_calls.specs.Sites.{IsSite};
+ghost use Rattle.thread_runner.specs.Sites.{IsSite};
 ghost use Rattle.thread_objects.specs.Spending.{Spends};
 ghost use Rattle.thread_objects.specs.Working.{Works, desk_with};
 

@@ -1,14 +1,14 @@
 use Rattle.std.proofs.lemmas.Option.{IfSome_then}
 use Rattle.workload.specs.declared.object.ObjectKind.TheVariants as kinds
 use Rattle.thread_objects.specs.Passes.{owns_of}
-use Rattle.thread_calls.proofs.ByKind.{of_pool, on_map, on_atomic, on_pool, on_range}
-use Rattle.thread_calls.proofs.ScriptCalls.{key_among}
-use Rattle.thread_calls.proofs.Sites.{has_atomics, mutex_of}
+use Rattle.thread_runner.proofs.ByKind.{of_pool, on_map, on_atomic, on_pool, on_range}
+use Rattle.thread_runner.proofs.ScriptCalls.{key_among}
+use Rattle.thread_runner.proofs.Sites.{has_atomics, mutex_of}
 use Rattle.std.proofs.Common.{ℕ, ◌-◌, sym, subst, arith}
 use Rattle.workload.specs.declared.object.ObjectKind.{ObjectKind}
 use Rattle.thread_objects.specs.Catalog.{IsAt}
 use Rattle.object_calls.specs.PoolParts.{ArePartsAt}
-use Rattle.thread_calls.proofs.dispatch.call_at.Goals as goal
+use Rattle.thread_runner.proofs.dispatch.call_at.Goals as goal
 
 pub map_at-requires-clause-key : goal.map_at-requires-clause-key
 map_at-requires-clause-key g c = λ name at. c.requires.keys name (key_among c.args.operation.now c.in-Map.call name c.in-Map.is at)

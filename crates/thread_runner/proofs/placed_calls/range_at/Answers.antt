@@ -5,8 +5,8 @@ use Rattle.std.proofs.Common.{ℕ, ◌≤◌, List, length, refl, sym, subst, �
 use Rattle.std.proofs.lemmas.Option.{IfSome_then}
 use Rattle.workload.specs.declared.object.ObjectKind.TheVariants as kinds
 use Rattle.workload.specs.Keys.{keys_in}
-use Rattle.thread_calls.proofs.Sites.{map_within, number_is, range_as}
-use Rattle.thread_calls.proofs.placed_calls.range_at.Goals as goal
+use Rattle.thread_runner.proofs.Sites.{map_within, number_is, range_as}
+use Rattle.thread_runner.proofs.placed_calls.range_at.Goals as goal
 
 pub call_range-requires-clause-map : goal.call_range-requires-clause-map
 call_range-requires-clause-map g c = map_within c.args.site.now.catalog.workload.now c.args.place c.args.site.now.catalog.numbers.now c.requires.site.numbered _ _ _ c.requires.site.shared _ c.requires.place refl

@@ -1,7 +1,7 @@
 //! What the workers of a run share.
 ghost use Rattle.std.specs.Prelude.{◌≡◌, ◌+◌, ◌<◌, ◌^◌, cond, IfOk};
 ghost use Rattle.run_record.specs.Objects.{is_map, is_atomic, is_pool};
-ghost use Rattle.thread_calls.specs.Sites.{AreNumbers, kind_number};
+ghost use Rattle.thread_runner.specs.Sites.{AreNumbers, kind_number};
 
 use std::alloc::{AllocError, Global};
 use sync_model::Shared;

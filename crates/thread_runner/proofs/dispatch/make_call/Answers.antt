@@ -2,9 +2,9 @@ use Rattle.std.proofs.Common.{sym, ap, ◌∙◌, arith}
 use Rattle.std.proofs.lemmas.Option.{slice_get_within}
 use Rattle.workload.specs.declared.object.ObjectKind.{ObjectKind}
 use Rattle.workload.specs.Plan.{refers}
-use Rattle.thread_calls.proofs.ByKind.{kind_has, line_of, spells_if}
-use Rattle.thread_calls.proofs.ScriptCalls.{worker_within, in_range, keys_are_known, on_object, refers_at}
-use Rattle.thread_calls.proofs.dispatch.make_call.Goals as goal
+use Rattle.thread_runner.proofs.ByKind.{kind_has, line_of, spells_if}
+use Rattle.thread_runner.proofs.ScriptCalls.{worker_within, in_range, keys_are_known, on_object, refers_at}
+use Rattle.thread_runner.proofs.dispatch.make_call.Goals as goal
 
 pub kind_at-kind-requires : goal.kind_at-kind-requires
 kind_at-kind-requires g c =

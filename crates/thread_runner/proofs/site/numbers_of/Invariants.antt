@@ -1,8 +1,8 @@
 use Rattle.std.proofs.Common.{◌≡◌, ℕ, ◌<◌, length, Some, slice_get, slice_index}
 use Rattle.run_record.specs.Objects.{map_number, atomic_number, pool_number}
 use Rattle.workload.specs.declared.object.ObjectLine.{ObjectLine}
-use Rattle.thread_calls.specs.Sites.{number_at}
-use Rattle.thread_calls.proofs.site.numbers_of.Given as goal
+use Rattle.thread_runner.specs.Sites.{number_at}
+use Rattle.thread_runner.proofs.site.numbers_of.Given as goal
 
 abbrev pub invariant-loop-object : goal.invariant-loop-object
 invariant-loop-object l = record {

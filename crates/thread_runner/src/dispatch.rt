@@ -15,7 +15,7 @@ ghost use Rattle.run_record.specs.Objects.{first_part, object_count};
 ghost use Rattle.thread_objects.specs.Desks.{AreSeats};
 ghost use Rattle.thread_objects.specs.GivenUp.{GaveUp, MakesOnly};
 ghost use Rattle.thread_objects.specs.Passes.{owns_of};
-ghost use Rattle.thread_calls.specs.Sites.{AreNumbers, AreRooms, IsScripted, IsSite, operation_cost, operation_ranges, cost_of_call, ranges_in_call};
+ghost use Rattle.thread_runner.specs.Sites.{AreNumbers, AreRooms, IsScripted, IsSite, operation_cost, operation_ranges, cost_of_call, ranges_in_call};
 ghost use Rattle.thread_objects.specs.Catalog.{IsAt};
 ghost use Rattle.thread_objects.specs.Spending.{Spends};
 ghost use Rattle.thread_objects.specs.Working.{Works, desk_with};

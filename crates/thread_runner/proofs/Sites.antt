@@ -21,9 +21,9 @@ use Rattle.run_record.specs.MapKind.{map_call, range_call}
 use Rattle.run_record.specs.Objects.{is_map, is_atomic, types_of, atomic_number}
 use Rattle.thread_objects.specs.Catalog.{HasAtomics, IsAt}
 use Rattle.thread_objects.specs.PlacedCalls.{placed_map}
-use Rattle.thread_calls.specs.Sites.{AreNumbers, AreShared, number_at}
+use Rattle.thread_runner.specs.Sites.{AreNumbers, AreShared, number_at}
 use Rattle.thread_objects.specs.Working.{Desk, Works}
-use Rattle.thread_calls.proofs.Numbers.{one_more}
+use Rattle.thread_runner.proofs.Numbers.{one_more}
 
 -- the number of a call costs nothing
 pub same_cost : {K L : Type 0} (rename : K → L) (call : MapCall K) → cost_of (renamed_call rename call) ≡ cost_of call

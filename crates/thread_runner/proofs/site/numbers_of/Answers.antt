@@ -4,9 +4,9 @@ use Rattle.std.proofs.lemmas.Option.{slice_get_read, slice_get_within}
 use Rattle.run_record.specs.Objects.{is_map, is_atomic, is_pool}
 use Rattle.workload.specs.declared.object.ObjectLine.{ObjectLine}
 use Rattle.workload.specs.Readable.{may_declare}
-use Rattle.thread_calls.specs.Sites.{AreNumbers}
-use Rattle.thread_calls.proofs.Numbers.{few_maps, few_atomics, few_pools, one_more, numbered, same_number, number_of}
-use Rattle.thread_calls.proofs.site.numbers_of.Goals as goal
+use Rattle.thread_runner.specs.Sites.{AreNumbers}
+use Rattle.thread_runner.proofs.Numbers.{few_maps, few_atomics, few_pools, one_more, numbered, same_number, number_of}
+use Rattle.thread_runner.proofs.site.numbers_of.Goals as goal
 
 pub next_number-requires-clause-maps : goal.next_number-requires-clause-maps
 next_number-requires-clause-maps c =

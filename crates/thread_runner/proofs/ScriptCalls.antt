@@ -23,7 +23,7 @@ use Rattle.workload.specs.Draft.{all_keys, is_call, is_map_call, is_value, keys_
 use Rattle.workload.specs.Keys.{number_in, key_number}
 use Rattle.workload.specs.Plan.{Plan, is_on, is_turn, refers, is_valid}
 use Rattle.workload.specs.Readable.{IsReadable}
-use Rattle.thread_calls.specs.Sites.{IsScripted}
+use Rattle.thread_runner.specs.Sites.{IsScripted}
 
 or_first : (a b : Bool) → a ≡ true → (a || b) ≡ true
 or_first true b is = refl

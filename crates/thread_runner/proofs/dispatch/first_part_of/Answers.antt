@@ -2,8 +2,8 @@ use Rattle.std.proofs.Common.{◌*◌, List, length, ap, ◌∙◌, arith}
 use Rattle.workload.specs.declared.object.ObjectKind.TheVariants.{Pool}
 use Rattle.workload.specs.declared.object.ObjectLine.{ObjectLine}
 use Rattle.run_record.specs.Objects.{pool_number}
-use Rattle.thread_calls.proofs.Sites.{number_is}
-use Rattle.thread_calls.proofs.dispatch.first_part_of.Goals as goal
+use Rattle.thread_runner.proofs.Sites.{number_is}
+use Rattle.thread_runner.proofs.dispatch.first_part_of.Goals as goal
 
 pub part_behind-requires : goal.part_behind-requires
 part_behind-requires g c =

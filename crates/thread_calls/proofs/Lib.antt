@@ -1,4 +1,0 @@
-pub mod ByKind
-pub mod Numbers
-pub mod ScriptCalls
-pub mod Sites
