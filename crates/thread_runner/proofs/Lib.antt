@@ -17,3 +17,7 @@ pub mod ByKind
 pub mod Numbers
 pub mod ScriptCalls
 pub mod Sites
+pub mod HaltLemmas
+pub mod PoolLooks
+pub mod Slots
+pub mod Working

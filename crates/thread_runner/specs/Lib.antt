@@ -5,3 +5,6 @@ pub mod Jobs
 pub mod Runs
 pub mod AllGone
 pub mod Sites
+pub mod Halting
+pub mod PoolParts
+pub mod Replies

@@ -20,9 +20,10 @@ ghost use Rattle.thread_objects.specs.Catalog.{IsAt};
 ghost use Rattle.thread_objects.specs.Spending.{Spends};
 ghost use Rattle.thread_objects.specs.Working.{Works, desk_with};
 
+use crate::by_number::{object_at, wait_at};
 use crate::placed_calls::{map_at, range_at};
+use crate::pool::call_pool;
 use crate::site::Site;
-use object_calls::{call_pool, object_at, wait_at};
 use run_record::laws::numbers::parts_have_numbers_of_their_own;
 use std::sync::Wait;
 use sync_model::{Caller, Shared};

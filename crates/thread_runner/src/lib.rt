@@ -1,27 +1,35 @@
 //! Running a workload's workers in threads.
 #![tactic(auto)]
 
+mod by_number;
 mod counts;
 mod deal;
+mod desk;
 mod dispatch;
 mod ends_plan;
 pub mod fault;
 mod gather;
+mod halting;
 mod hire;
 mod job;
 mod key_order;
 mod numbering;
 mod placed_calls;
+mod pool;
 mod run;
 mod run_maps;
 mod script;
 mod site;
 mod trie_maps;
+mod wait;
 mod whole_run;
 
+pub use by_number::{object_at, wait_at};
 pub use counts::{atomic_kinds, map_count, spares};
 pub use dispatch::make_call;
 pub use fault::RunFault;
+pub use halting::halt_all;
+pub use pool::call_pool;
 pub use run::threaded_over;
 pub use site::{Site, numbers_of};
 pub use whole_run::threaded;

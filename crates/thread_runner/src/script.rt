@@ -13,8 +13,8 @@ ghost use Rattle.thread_objects.specs.Working.{desk_with};
 ghost use Rattle.thread_runner.specs.DidLines.{DidLine, IsFresh};
 
 use crate::dispatch::make_call;
+use crate::halting::halt_all;
 use crate::site::Site;
-use object_calls::halt_all;
 use std::sync::Wait;
 use sync_model::{Answer, Caller, Note, Shared};
 use sync_outside::{Clock, Gate};

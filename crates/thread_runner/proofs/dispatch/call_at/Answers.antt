@@ -7,7 +7,7 @@ use Rattle.thread_runner.proofs.Sites.{has_atomics, mutex_of}
 use Rattle.std.proofs.Common.{ℕ, ◌-◌, sym, subst, arith}
 use Rattle.workload.specs.declared.object.ObjectKind.{ObjectKind}
 use Rattle.thread_objects.specs.Catalog.{IsAt}
-use Rattle.object_calls.specs.PoolParts.{ArePartsAt}
+use Rattle.thread_runner.specs.PoolParts.{ArePartsAt}
 use Rattle.thread_runner.proofs.dispatch.call_at.Goals as goal
 
 pub map_at-requires-clause-key : goal.map_at-requires-clause-key

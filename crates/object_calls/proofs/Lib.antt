@@ -1,4 +1,0 @@
-pub mod HaltLemmas
-pub mod PoolLooks
-pub mod Slots
-pub mod Working

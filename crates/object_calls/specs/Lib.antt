@@ -1,3 +1,0 @@
-pub mod Halting
-pub mod PoolParts
-pub mod Replies

@@ -1,0 +1,14 @@
+use Rattle.std.proofs.Common.{Ok}
+use Rattle.std.specs.List.{range_with_len}
+use Rattle.sync_model.specs.declared.answer.Answer.TheVariants.{Done}
+use Rattle.thread_objects.specs.Working.{Works, desk_with}
+use Rattle.thread_objects.specs.Desks.{AreSeats}
+use Rattle.thread_objects.specs.Passes.{owns_of}
+use Rattle.thread_runner.specs.Halting.{halting}
+use Rattle.thread_runner.proofs.halting.halt_parts.Given as goal
+
+abbrev pub invariant-loop-part : goal.invariant-loop-part
+invariant-loop-part g l = record {
+  seats : AreSeats g.N.Note.at l.worker.at.home.now l.worker.workers l.worker.number l.objects l.passes;
+  halted : Works (halting l.misuse (range_with_len l.first l.part)) (desk_with g.N.Note.own g.N.Note.front (owns_of l.fn.passes) l.note) (Done (Ok tt)) (desk_with g.N.Note.own g.N.Note.front (owns_of l.passes) l.note);
+}
