@@ -17,9 +17,9 @@ use Rattle.sync_model.specs.SharedHistory.{map_at, number_at, contents_after}
 use Rattle.workload.specs.declared.object.ObjectLine.{ObjectLine}
 use Rattle.workload.specs.Keys.{keys_in, key_number}
 use Rattle.run_record.specs.Objects.{is_map, is_atomic, types_of, map_number, atomic_number, places_from, contents_of, named, ends_in}
-use Rattle.workload_generator.specs.Generated.{generated_plan}
+use Rattle.made_workload.specs.Generated.{generated_plan}
 use Rattle.workload.specs.OwnMaps.{union_of, NamedMap}
-use Rattle.workload_generator.specs.Summary.{Summary, summary, summary_of, numbered, summary_text}
+use Rattle.made_workload.specs.Summary.{Summary, summary, summary_of, numbered, summary_text}
 use Rattle.generated_runs.specs.Runs.{ends_of_seed, number_in, is_key, value_in, five_lines}
 use Rattle.generated_runs.proofs.Rounds.{objects_are}
 

@@ -20,7 +20,7 @@ use Rattle.workload.specs.Draft.{keys_of, operation_keys}
 use Rattle.run_laws.specs.Adds.{is_add, IsOnlyAddedTo}
 use Rattle.run_laws.specs.Locks.{has_plain_objects, keeps_lock, KeepsItsLocks}
 use Rattle.run_laws.specs.Owners.{is_on_name, uses_key, AreApart}
-use Rattle.workload_generator.specs.Generated.{in_twos, key_of, drawn_for, round, script_by, generated_objects, generated_plan}
+use Rattle.made_workload.specs.Generated.{in_twos, key_of, drawn_for, round, script_by, generated_objects, generated_plan}
 
 pub objects_are : (seed : ℕ) → (generated_plan seed).objects ≡ generated_objects
 unfolding generated_plan

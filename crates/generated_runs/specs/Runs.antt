@@ -6,9 +6,9 @@ use Rattle.sync_types.specs.declared.outcome.End.{End}
 use Rattle.sync_types.specs.declared.outcome.End.TheVariants as ends
 use Rattle.sync_types.specs.declared.outcome.Report.{Report}
 use Rattle.workload.specs.Keys.{keys_in, key_number}
-use Rattle.workload_generator.specs.Generated.{generated_plan}
+use Rattle.made_workload.specs.Generated.{generated_plan}
 use Rattle.workload.specs.OwnMaps.{union_of}
-use Rattle.workload_generator.specs.Summary.{summary, numbered}
+use Rattle.made_workload.specs.Summary.{summary, numbered}
 
 -- what the objects hold at the end: the int64, at place 1, the sum of all amounts, and the map, at place 2, the union of the workers' maps, in the order of the keys
 abbrev pub ends_of_seed : ℕ → List End

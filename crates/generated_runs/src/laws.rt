@@ -2,10 +2,11 @@
 ghost use Rattle.std.specs.Prelude.{◌≡◌, ℕ, length, sum_by};
 ghost use Rattle.run_record.specs.Explains.{Explains};
 ghost use Rattle.run_record.specs.Record.{Record};
-ghost use Rattle.workload_generator.specs.Generated.{generated_plan};
-ghost use Rattle.workload_generator.specs.Summary.{summary, summary_text};
+ghost use Rattle.made_workload.specs.Generated.{generated_plan};
+ghost use Rattle.made_workload.specs.Summary.{summary, summary_text};
 ghost use Rattle.generated_runs.specs.Runs.{ends_of_seed, five_lines};
 
+use made_workload::laws::{keys_tell_their_workers, summary_of_a_seed, workload_of_a_seed};
 use run_laws::adds::an_int64_holds_the_sum_of_all_adds;
 use run_laws::ends::calls_leave_as_many_maps_and_atomics;
 use run_laws::locks::an_orderly_workload_is_never_misused;
@@ -13,7 +14,6 @@ use run_laws::owners::a_map_is_the_union_of_its_workers_maps;
 use run_record::laws::endings::a_run_that_is_done_answers_each_call;
 use sync_types::laws::atomics::sums_in_range_are_exact;
 use sync_types::{Outcome, Report};
-use workload_generator::laws::{keys_tell_their_workers, summary_of_a_seed, workload_of_a_seed};
 
 /// No run of a seed's workload is misused: in each round its worker alone unlocks what it locked. So each run that returns is
 /// Done.

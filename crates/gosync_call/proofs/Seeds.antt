@@ -12,8 +12,8 @@ use Rattle.sync_types.specs.declared.outcome.Report.{Report}
 use Rattle.sync_outside.specs.Bytes.{Appends, AppendsFront}
 use Rattle.sync_outside.specs.Faults.{RoseBy}
 use Rattle.workload.specs.Plan.{Plan}
-use Rattle.workload_generator.specs.Generated.{generated_plan}
-use Rattle.workload_generator.specs.Summary.{numbered, summary, summary_text}
+use Rattle.made_workload.specs.Generated.{generated_plan}
+use Rattle.made_workload.specs.Summary.{numbered, summary, summary_text}
 use Rattle.gosync_call.specs.Made.{IsMade, IsUnmade}
 use Rattle.gosync_call.specs.MadeText.{totals_text}
 use Rattle.gosync_call.specs.declared.status.Fault.{Fault}

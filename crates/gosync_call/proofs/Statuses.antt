@@ -5,7 +5,7 @@ use Rattle.sync_outside.specs.Faults.{RoseBy}
 use Rattle.sync_types.specs.declared.outcome.Outcome.{Outcome}
 use Rattle.workload.specs.Plan.{Plan}
 use Rattle.workload.specs.declared.limits.TheConstants.{MAX_INPUT}
-use Rattle.workload_generator.specs.Summary.{summary, summary_text}
+use Rattle.made_workload.specs.Summary.{summary, summary_text}
 use Rattle.gosync_call.specs.ComesTo.{ComesTo}
 use Rattle.gosync_call.specs.Front.{IsOfAllBytes, IsUnstarted}
 use Rattle.gosync_call.specs.Input.{IsWhollyRead}

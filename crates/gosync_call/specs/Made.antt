@@ -2,7 +2,7 @@
 use Rattle.std.specs.Prelude.{◌≡◌, ℕ, List, Option}
 use Rattle.sync_outside.specs.Bytes.{Appends, AppendsFront}
 use Rattle.sync_outside.specs.Faults.{RoseBy}
-use Rattle.workload_generator.specs.Summary.{summary, summary_text}
+use Rattle.made_workload.specs.Summary.{summary, summary_text}
 use Rattle.gosync_call.specs.declared.status.Status.{Status}
 use Rattle.gosync_call.specs.declared.status.Status.TheVariants as statuses
 use Rattle.gosync_call.specs.declared.status.Ending.TheVariants as endings

@@ -3,7 +3,7 @@ use Rattle.std.specs.Prelude.{ℕ, Bool, nat_le, List, [], ◌∷◌, length, co
 use Rattle.std.specs.List.{flat_map, list_all}
 use Rattle.std.specs.Borrow.{Bor}
 use Rattle.made_run.specs.declared.totals.Totals.{Totals}
-use Rattle.workload_generator.specs.Summary.{numbered}
+use Rattle.made_workload.specs.Summary.{numbered}
 
 -- lines of a word and a number each
 abbrev pub lines_of : List (Bor (List ℕ) × ℕ) → List ℕ

@@ -2,7 +2,7 @@
 ghost use Rattle.std.specs.Prelude.{◌≡◌, ◌≤◌, true, length, OnOk, OnErr, vec_capacity};
 ghost use Rattle.sync_outside.specs.Bytes.{Appends, AppendsFront};
 ghost use Rattle.sync_outside.specs.Faults.{Rose};
-ghost use Rattle.workload_generator.specs.Summary.{numbered};
+ghost use Rattle.made_workload.specs.Summary.{numbered};
 ghost use Rattle.gosync_call.specs.MadeText.{are_short, lines_of, totals_text};
 
 use itoa::Buffer;

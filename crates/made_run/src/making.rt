@@ -1,11 +1,11 @@
 //! The workload that a seed gives.
 ghost use Rattle.std.specs.Prelude.{◌≡◌, IfOk};
-ghost use Rattle.workload_generator.specs.Generated.{generated_plan};
+ghost use Rattle.made_workload.specs.Generated.{generated_plan};
 
+use made_workload::generate;
 use std::alloc::{AllocError, Global};
 use workload::laws::{one_reading, read_or_refused};
 use workload::{ParseFault, Workload};
-use workload_generator::generate;
 use workload_text::parse;
 
 /// The workload that a seed gives: its text is made, and then read as any other text.

@@ -6,7 +6,7 @@ ghost use Rattle.workload.specs.Plan.{Plan};
 ghost use Rattle.workload.specs.Reads.{IsRefused, Reads};
 ghost use Rattle.workload.specs.declared.limits.TheConstants.{MAX_INPUT};
 ghost use Rattle.workload.specs.declared.reason.Reason.{Reason};
-ghost use Rattle.workload_generator.specs.Summary.{summary, summary_text};
+ghost use Rattle.made_workload.specs.Summary.{summary, summary_text};
 ghost use Rattle.step_runner.specs.Outcomes.{StepsTo};
 ghost use Rattle.gosync_call.specs.ComesTo.{ComesTo};
 ghost use Rattle.gosync_call.specs.Front.{IsOfAllBytes, IsUnstarted};

@@ -1,7 +1,7 @@
 use Rattle.std.proofs.Common.{subst}
 use Rattle.sync_types.specs.declared.outcome.Outcome.{Outcome}
 use Rattle.run_record.specs.Explains.{Explains}
-use Rattle.workload_generator.specs.Generated.{generated_plan}
+use Rattle.made_workload.specs.Generated.{generated_plan}
 use Rattle.generated_runs.proofs.laws.a_run_of_a_seed_tells_its_summary.Goals as goal
 
 pub returns : goal.returns

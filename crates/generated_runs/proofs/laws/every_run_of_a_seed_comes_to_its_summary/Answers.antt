@@ -10,9 +10,9 @@ use Rattle.sync_model.specs.SharedHistory.{map_at, number_at, contents_after}
 use Rattle.workload.specs.Draft.{call_count}
 use Rattle.workload.specs.Keys.{keys_in}
 use Rattle.run_record.specs.Objects.{contents_of, named}
-use Rattle.workload_generator.specs.Generated.{generated_plan}
+use Rattle.made_workload.specs.Generated.{generated_plan}
 use Rattle.workload.specs.OwnMaps.{union_of}
-use Rattle.workload_generator.specs.Summary.{Summary, summary}
+use Rattle.made_workload.specs.Summary.{Summary, summary}
 use Rattle.generated_runs.proofs.Amounts.{total_after}
 use Rattle.generated_runs.proofs.EndsOfRuns.{first_number, first_map, ends_are, lines_are}
 use Rattle.generated_runs.proofs.Rounds.{script_of_worker, scripts_are, only_adds, plain, apart, int64_at, map_is_at}

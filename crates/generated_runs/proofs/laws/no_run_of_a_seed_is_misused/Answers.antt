@@ -1,4 +1,4 @@
-use Rattle.workload_generator.specs.Generated.{generated_plan}
+use Rattle.made_workload.specs.Generated.{generated_plan}
 use Rattle.generated_runs.proofs.Rounds.{keeps}
 use Rattle.generated_runs.proofs.laws.no_run_of_a_seed_is_misused.Goals as goal
 

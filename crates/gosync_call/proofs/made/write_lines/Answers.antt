@@ -1,6 +1,6 @@
 use Rattle.std.proofs.Common.{ℕ, ◌+◌, List, [], Bor, drop, get_or, ap, subst, ◌∙◌, arith}
 use Rattle.sync_outside.specs.Bytes.{Appends, AppendsFront}
-use Rattle.workload_generator.specs.Summary.{numbered}
+use Rattle.made_workload.specs.Summary.{numbered}
 use Rattle.gosync_call.specs.MadeText.{lines_of}
 use Rattle.gosync_call.proofs.Lines.{drop_item}
 use Rattle.gosync_call.proofs.MadeLines.{short_at}

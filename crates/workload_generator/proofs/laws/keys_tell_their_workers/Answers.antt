@@ -1,8 +1,0 @@
-use Rattle.workload_generator.proofs.Keys.{key_begins, key_apart}
-use Rattle.workload_generator.proofs.laws.keys_tell_their_workers.Goals as goal
-
-pub returns-clause-begins : goal.returns-clause-begins
-returns-clause-begins c = key_begins
-
-pub returns-clause-apart : goal.returns-clause-apart
-returns-clause-apart c = key_apart
