@@ -15,8 +15,8 @@ ghost use Rattle.gosync_call.specs.declared.status.Status.TheVariants as statuse
 use crate::made::{TOTAL_ROOM, write_totals};
 use crate::message::say_run;
 use crate::status::{Ending, Fault, Status};
-use generated_runs::laws::a_run_of_a_seed_tells_its_summary;
 use made_run::{made_workload, totals_of};
+use made_workload::laws::runs::a_run_of_a_seed_tells_its_summary;
 use std::alloc::Global;
 use std::sync::Wait;
 use std::thread::Threads;

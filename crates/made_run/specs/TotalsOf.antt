@@ -1,7 +1,7 @@
 -- What a run of a made workload comes to.
 use Rattle.std.specs.Prelude.{sum_by, count_by, length}
 use Rattle.sync_types.specs.declared.outcome.Report.{Report}
-use Rattle.generated_runs.specs.Runs.{number_in, is_key, value_in}
+use Rattle.made_workload.specs.Runs.{number_in, is_key, value_in}
 use Rattle.made_run.specs.declared.totals.Totals.{Totals}
 
 -- what a run that left this behind comes to

@@ -1,6 +1,6 @@
 //! Sums over what a run left behind.
 ghost use Rattle.std.specs.Prelude.{◌≡◌, length, sum_by, count_by};
-ghost use Rattle.generated_runs.specs.Runs.{number_in, is_key, value_in};
+ghost use Rattle.made_workload.specs.Runs.{number_in, is_key, value_in};
 
 use sync_types::{End, Number, Reply, Seq};
 

@@ -11,3 +11,6 @@ mod Totals
 mod Bounds
 mod Lines
 mod WrittenText
+mod Amounts
+mod EndsOfRuns
+mod RunRounds

@@ -14,6 +14,8 @@ ghost use Rattle.made_workload.specs.Written.{written_text};
 ghost use Rattle.workload.specs.OwnMaps.{map_of, union_of};
 ghost use Rattle.made_workload.specs.Summary.{Summary, summary, summary_of, summary_text};
 
+pub mod runs;
+
 /// The text of a seed is the canonical text of its workload, which is these lines.
 pub fn text_is_canonical()
     ensures canonical { (seed : ℕ) → generated_text seed ≡ canonical (generated_plan seed) }

@@ -1,6 +1,6 @@
 use Rattle.std.proofs.Common.{◌≡◌, ◌*◌, ◌^◌, ◌≤◌, take}
 use Rattle.std.specs.Prelude.{count_by}
-use Rattle.generated_runs.specs.Runs.{is_key}
+use Rattle.made_workload.specs.Runs.{is_key}
 use Rattle.made_run.proofs.sums.keys_in.Given as goal
 
 abbrev pub invariant-loop-end : goal.invariant-loop-end

@@ -1,6 +1,6 @@
 use Rattle.std.proofs.Common.{◌≡◌, ◌*◌, ◌^◌, ◌≤◌, take}
 use Rattle.std.specs.Prelude.{sum_by}
-use Rattle.generated_runs.specs.Runs.{number_in}
+use Rattle.made_workload.specs.Runs.{number_in}
 use Rattle.made_run.proofs.sums.total_in.Given as goal
 
 abbrev pub invariant-loop-end : goal.invariant-loop-end

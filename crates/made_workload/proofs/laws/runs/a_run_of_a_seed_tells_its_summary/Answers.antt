@@ -2,7 +2,7 @@ use Rattle.std.proofs.Common.{subst}
 use Rattle.sync_types.specs.declared.outcome.Outcome.{Outcome}
 use Rattle.run_record.specs.Explains.{Explains}
 use Rattle.made_workload.specs.Generated.{generated_plan}
-use Rattle.generated_runs.proofs.laws.a_run_of_a_seed_tells_its_summary.Goals as goal
+use Rattle.made_workload.proofs.laws.runs.a_run_of_a_seed_tells_its_summary.Goals as goal
 
 pub returns : goal.returns
 returns c seed outcome r explains =

@@ -13,10 +13,10 @@ use Rattle.run_record.specs.Objects.{contents_of, named}
 use Rattle.made_workload.specs.Generated.{generated_plan}
 use Rattle.workload.specs.OwnMaps.{union_of}
 use Rattle.made_workload.specs.Summary.{Summary, summary}
-use Rattle.generated_runs.proofs.Amounts.{total_after}
-use Rattle.generated_runs.proofs.EndsOfRuns.{first_number, first_map, ends_are, lines_are}
-use Rattle.generated_runs.proofs.Rounds.{script_of_worker, scripts_are, only_adds, plain, apart, int64_at, map_is_at}
-use Rattle.generated_runs.proofs.laws.every_run_of_a_seed_comes_to_its_summary.Goals as goal
+use Rattle.made_workload.proofs.Amounts.{total_after}
+use Rattle.made_workload.proofs.EndsOfRuns.{first_number, first_map, ends_are, lines_are}
+use Rattle.made_workload.proofs.RunRounds.{script_of_worker, scripts_are, only_adds, plain, apart, int64_at, map_is_at}
+use Rattle.made_workload.proofs.laws.runs.every_run_of_a_seed_comes_to_its_summary.Goals as goal
 
 workers_are : (seed : ℕ) (replies : List (List (Reply ℕ))) → map length replies ≡ map length (generated_plan seed).scripts → length replies ≡ 8
 workers_are seed replies answered = sym (length-map replies length) ∙ (ap (λ (l : List ℕ). length l) answered ∙ (length-map (generated_plan seed).scripts length

@@ -20,8 +20,8 @@ use Rattle.run_record.specs.Objects.{is_map, is_atomic, types_of, map_number, at
 use Rattle.made_workload.specs.Generated.{generated_plan}
 use Rattle.workload.specs.OwnMaps.{union_of, NamedMap}
 use Rattle.made_workload.specs.Summary.{Summary, summary, summary_of, numbered, summary_text}
-use Rattle.generated_runs.specs.Runs.{ends_of_seed, number_in, is_key, value_in, five_lines}
-use Rattle.generated_runs.proofs.Rounds.{objects_are}
+use Rattle.made_workload.specs.Runs.{ends_of_seed, number_in, is_key, value_in, five_lines}
+use Rattle.made_workload.proofs.RunRounds.{objects_are}
 
 -- a list of one
 one_item : {A : Type 0} (xs : List A) (d : A) → length xs ≡ 1 → xs ≡ get_or xs 0 d ∷ []

@@ -4,9 +4,9 @@ ghost use Rattle.run_record.specs.Explains.{Explains};
 ghost use Rattle.run_record.specs.Record.{Record};
 ghost use Rattle.made_workload.specs.Generated.{generated_plan};
 ghost use Rattle.made_workload.specs.Summary.{summary, summary_text};
-ghost use Rattle.generated_runs.specs.Runs.{ends_of_seed, five_lines};
+ghost use Rattle.made_workload.specs.Runs.{ends_of_seed, five_lines};
 
-use made_workload::laws::{keys_tell_their_workers, summary_of_a_seed, workload_of_a_seed};
+use crate::laws::{keys_tell_their_workers, summary_of_a_seed, workload_of_a_seed};
 use run_laws::adds::an_int64_holds_the_sum_of_all_adds;
 use run_laws::ends::calls_leave_as_many_maps_and_atomics;
 use run_laws::locks::an_orderly_workload_is_never_misused;

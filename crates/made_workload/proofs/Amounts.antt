@@ -13,7 +13,7 @@ use Rattle.workload.specs.Draft.{call_count}
 use Rattle.run_laws.specs.Adds.{amount_of, amounts_at, after_adds}
 use Rattle.made_workload.specs.Generated.{in_twos, drawn_for, round, generated_plan}
 use Rattle.made_workload.specs.Summary as alone
-use Rattle.generated_runs.proofs.Rounds.{script_of_worker, scripts_are}
+use Rattle.made_workload.proofs.RunRounds.{script_of_worker, scripts_are}
 
 -- the amount that a call adds, and those of a script
 abbrev pub added : Call → ℕ

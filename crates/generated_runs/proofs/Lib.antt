@@ -1,3 +1,0 @@
-mod Amounts
-mod EndsOfRuns
-mod Rounds
