@@ -3,7 +3,7 @@ use Rattle.std.proofs.Common.{◌≡◌, ◌∙◌, ℕ, List, [], ◌∷◌, �
 use Rattle.std.specs.List.{flat_map}
 use Rattle.std.specs.Prelude.{count_by, sum_by, length}
 use Rattle.made_workload.specs.Runs.{five_lines, is_key, number_in, value_in}
-use Rattle.made_run.specs.TotalsOf.{totals_of}
+use Rattle.made_workload.specs.TotalsOf.{totals_of}
 use Rattle.run_record.specs.Explains.{Explains}
 use Rattle.run_record.specs.Record.{Record}
 use Rattle.sync_types.specs.declared.outcome.Outcome.{Outcome}

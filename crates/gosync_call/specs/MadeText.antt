@@ -2,7 +2,7 @@
 use Rattle.std.specs.Prelude.{ℕ, Bool, nat_le, List, [], ◌∷◌, length, codes}
 use Rattle.std.specs.List.{flat_map, list_all}
 use Rattle.std.specs.Borrow.{Bor}
-use Rattle.made_run.specs.declared.totals.Totals.{Totals}
+use Rattle.made_workload.specs.declared.totals.Totals.{Totals}
 use Rattle.made_workload.specs.Summary.{numbered}
 
 -- lines of a word and a number each

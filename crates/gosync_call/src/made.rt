@@ -6,7 +6,7 @@ ghost use Rattle.made_workload.specs.Summary.{numbered};
 ghost use Rattle.gosync_call.specs.MadeText.{are_short, lines_of, totals_text};
 
 use itoa::Buffer;
-use made_run::Totals;
+use made_workload::Totals;
 use sync_outside::{Failed, Sink};
 use workload_text::{push, push_word};
 

@@ -5,7 +5,7 @@ ghost use Rattle.sync_outside.specs.Faults.{Rose};
 ghost use Rattle.gosync_call.specs.Front.{IsUnstarted};
 ghost use Rattle.sync_types.specs.declared.outcome.Outcome.TheVariants as outcomes;
 ghost use Rattle.sync_types.specs.declared.outcome.Report.{Report};
-ghost use Rattle.made_run.specs.TotalsOf.{totals_of};
+ghost use Rattle.made_workload.specs.TotalsOf.{totals_of};
 ghost use Rattle.gosync_call.specs.Made.{IsMade, IsUnmade, MakesTo};
 ghost use Rattle.gosync_call.specs.MadeText.{totals_text};
 ghost use Rattle.gosync_call.specs.Messages.{message_of, WritesOut};
@@ -15,8 +15,8 @@ ghost use Rattle.gosync_call.specs.declared.status.Status.TheVariants as statuse
 use crate::made::{TOTAL_ROOM, write_totals};
 use crate::message::say_run;
 use crate::status::{Ending, Fault, Status};
-use made_run::{made_workload, totals_of};
 use made_workload::laws::runs::a_run_of_a_seed_tells_its_summary;
+use made_workload::{made_workload, totals_of};
 use std::alloc::Global;
 use std::sync::Wait;
 use std::thread::Threads;

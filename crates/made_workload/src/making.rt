@@ -2,7 +2,7 @@
 ghost use Rattle.std.specs.Prelude.{◌≡◌, IfOk};
 ghost use Rattle.made_workload.specs.Generated.{generated_plan};
 
-use made_workload::generate;
+use crate::generating::generate;
 use std::alloc::{AllocError, Global};
 use workload::laws::{one_reading, read_or_refused};
 use workload::{ParseFault, Workload};

@@ -2,7 +2,7 @@
 use Rattle.std.specs.Prelude.{sum_by, count_by, length}
 use Rattle.sync_types.specs.declared.outcome.Report.{Report}
 use Rattle.made_workload.specs.Runs.{number_in, is_key, value_in}
-use Rattle.made_run.specs.declared.totals.Totals.{Totals}
+use Rattle.made_workload.specs.declared.totals.Totals.{Totals}
 
 -- what a run that left this behind comes to
 abbrev pub totals_of : Report → Totals

@@ -1,6 +1,6 @@
 //! What a run of a made workload comes to.
 ghost use Rattle.std.specs.Prelude.{◌≡◌};
-ghost use Rattle.made_run.specs.TotalsOf.{totals_of};
+ghost use Rattle.made_workload.specs.TotalsOf.{totals_of};
 
 use crate::sums::{keys_in, reply_count, total_in, values_in};
 use sync_types::Report;
