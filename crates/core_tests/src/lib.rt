@@ -3,8 +3,18 @@
 #![tactic(auto)]
 
 #[cfg(test)]
+mod mutex;
+#[cfg(test)]
 mod notes;
 #[cfg(test)]
 mod plain;
+#[cfg(test)]
+mod pool;
+#[cfg(test)]
+mod rows;
+#[cfg(test)]
+mod rw_mutex;
+#[cfg(test)]
+mod waits;
 #[cfg(test)]
 mod words;
