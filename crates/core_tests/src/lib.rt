@@ -3,9 +3,15 @@
 #![tactic(auto)]
 
 #[cfg(test)]
+mod calls;
+#[cfg(test)]
 mod mutex;
 #[cfg(test)]
 mod notes;
+#[cfg(test)]
+mod objects;
+#[cfg(test)]
+mod outside;
 #[cfg(test)]
 mod plain;
 #[cfg(test)]
