@@ -14,5 +14,6 @@ mod packed;
 mod rw_mutex;
 #[cfg(test)]
 mod threads;
+mod waits;
 #[cfg(test)]
 mod wake_ups;

@@ -1,4 +1,4 @@
-use Rattle.wait_tests.proofs.setup.until.Given as goal
+use Rattle.library_tests.proofs.waits.setup.until.Given as goal
 
 abbrev pub invariant-loop : goal.invariant-loop
 invariant-loop g l = record {

@@ -1,6 +1,6 @@
 //! Onces for the tests, and their callers.
 ghost use Rattle.std.specs.Prelude.{◌≡◌, ◌<◌, ◌≤◌, ◌+◌, IfOk, All, vec_len};
-ghost use Rattle.wait_tests.specs.Fresh.{IsFresh, AreFresh};
+ghost use Rattle.library_tests.specs.Fresh.{IsFresh, AreFresh};
 ghost use Rattle.go_waits.specs.OnceValues.{once_of, function_of};
 ghost use Rattle.go_waits.specs.Onces.{IsPassOf};
 

@@ -1,6 +1,5 @@
 //! What the tests show of Cond, WaitGroup and Once for threads, by public calls. They stand in a crate of their own so
 //! that `go_waits` is proved once.
-#![tactic(auto)]
 
 #[cfg(test)]
 mod cond_alone;

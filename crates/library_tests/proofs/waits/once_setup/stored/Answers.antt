@@ -1,7 +1,7 @@
 use Rattle.std.proofs.Common.{◌∙◌}
 use Rattle.go_waits.specs.OnceValues.{once_of}
-use Rattle.wait_tests.proofs.FreshPasses.{fresh}
-use Rattle.wait_tests.proofs.once_setup.stored.Goals as goal
+use Rattle.library_tests.proofs.FreshPasses.{fresh}
+use Rattle.library_tests.proofs.waits.once_setup.stored.Goals as goal
 
 pub returns-clause-passes : goal.returns-clause-passes
 returns-clause-passes g c =
