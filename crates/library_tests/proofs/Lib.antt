@@ -1,1 +1,2 @@
 mod FreshPasses
+mod Written

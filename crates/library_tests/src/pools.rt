@@ -1,6 +1,5 @@
 //! What the tests show of the Pool for threads, by public calls. They stand in a crate of their own so that `go_pool` is
 //! proved once.
-#![tactic(auto)]
 
 #[cfg(test)]
 mod one_thread;

@@ -1,7 +1,7 @@
 //! Pools for the tests, and their callers.
 ghost use Rattle.std.specs.Prelude.{◌≡◌, ◌<◌, ◌≤◌, IfOk};
 ghost use Rattle.std.proofs.Props.{props};
-ghost use Rattle.pool_tests.specs.PassProps.{follows_prop};
+ghost use Rattle.library_tests.specs.PassProps.{follows_prop};
 ghost use Rattle.go_pool.specs.Pools.{parts_of, ArePasses, IsPassOf};
 
 use go_pool::{Pool, PoolGet, PoolPass};

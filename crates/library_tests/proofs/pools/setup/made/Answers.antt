@@ -1,8 +1,8 @@
 use Rattle.std.proofs.Common.{sym, ◌∙◌, subst}
 use Rattle.std.proofs.lemmas.Option.{slice_get-get_or}
 use Rattle.go_pool.specs.Pools.{ArePasses, AreAllPasses}
-use Rattle.pool_tests.proofs.Written.{written}
-use Rattle.pool_tests.proofs.setup.made.Goals as goal
+use Rattle.library_tests.proofs.Written.{written}
+use Rattle.library_tests.proofs.pools.setup.made.Goals as goal
 
 pub first_halt-requires : goal.first_halt-requires
 first_halt-requires c = subst (AreAllPasses _) (sym c.deref_mut.ensures.value) c.in_ok-pool.ensures.passes.all
