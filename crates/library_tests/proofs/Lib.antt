@@ -1,2 +1,4 @@
 mod FreshPasses
 mod Written
+mod Beside
+mod FirstCallers

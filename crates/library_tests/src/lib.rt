@@ -10,6 +10,7 @@ mod mutex;
 mod one_thread;
 #[cfg(test)]
 mod packed;
+mod plain;
 mod pools;
 #[cfg(test)]
 mod rw_mutex;

@@ -1,6 +1,5 @@
 //! What the tests show of the plain maps and atomics that callers share, by public calls. They stand in a crate of their
 //! own so that `shared_plain` is proved once.
-#![tactic(auto)]
 
 #[cfg(test)]
 mod callers;

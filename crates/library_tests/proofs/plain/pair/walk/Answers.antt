@@ -1,7 +1,7 @@
 use Rattle.std.proofs.Common.{length, refl, sym, subst}
 use Rattle.std.specs.Option.{IsSome}
-use Rattle.plain_tests.proofs.Beside.{beside_stands}
-use Rattle.plain_tests.proofs.pair.walk.Goals as goal
+use Rattle.library_tests.proofs.Beside.{beside_stands}
+use Rattle.library_tests.proofs.plain.pair.walk.Goals as goal
 
 pub next-first-requires-clause-cursor : goal.next-first-requires-clause-cursor
 next-first-requires-clause-cursor g c =

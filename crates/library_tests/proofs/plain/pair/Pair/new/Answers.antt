@@ -1,6 +1,6 @@
 use Rattle.std.proofs.Common.{◌≡◌, [], ◌∷◌, ◌++◌, length, slice_get, ap, ◌∙◌}
-use Rattle.plain_tests.proofs.FirstCallers.{is_caller, within, at_last}
-use Rattle.plain_tests.proofs.pair.Pair.new.Goals as goal
+use Rattle.library_tests.proofs.FirstCallers.{is_caller, within, at_last}
+use Rattle.library_tests.proofs.plain.pair.Pair.new.Goals as goal
 
 pub returns : goal.returns
 returns c =

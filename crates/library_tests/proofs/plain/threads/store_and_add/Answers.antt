@@ -1,5 +1,5 @@
-use Rattle.plain_tests.proofs.FirstCallers.{held_on}
-use Rattle.plain_tests.proofs.threads.store_and_add.Goals as goal
+use Rattle.library_tests.proofs.FirstCallers.{held_on}
+use Rattle.library_tests.proofs.plain.threads.store_and_add.Goals as goal
 
 pub returns-then-spare-gt0 : goal.returns-then-spare-gt0
 returns-then-spare-gt0 g c =

@@ -1,6 +1,6 @@
 use Rattle.std.proofs.Common.{[], ◌∷◌, ◌++◌, ap, ◌∙◌}
-use Rattle.plain_tests.proofs.FirstCallers.{two_held}
-use Rattle.plain_tests.proofs.threads.the_end_has_what_both_threads_did.Goals as goal
+use Rattle.library_tests.proofs.FirstCallers.{two_held}
+use Rattle.library_tests.proofs.plain.threads.the_end_has_what_both_threads_did.Goals as goal
 
 pub store_beside-first-requires-clause-first : goal.store_beside-first-requires-clause-first
 store_beside-first-requires-clause-first g c lts =

@@ -1,6 +1,6 @@
 use Rattle.std.proofs.Common.{sym, subst}
 use Rattle.std.specs.Option.{IsSome}
-use Rattle.plain_tests.proofs.pair.Pair.tell_second.Goals as goal
+use Rattle.library_tests.proofs.plain.pair.Pair.tell_second.Goals as goal
 
 pub returns : goal.returns
 returns c =

@@ -4,7 +4,7 @@ ghost use Rattle.sync_types.specs.declared.atomic_object.AtomicKind.TheVariants 
 ghost use Rattle.sync_model.specs.Shared.{IsCallerAt, IsMapCall};
 ghost use Rattle.shared_plain.specs.Marks.{own_by, IsMarkOf};
 ghost use Rattle.shared_plain.specs.Plains.{kinds_of, maps_of, Takes};
-ghost use Rattle.plain_tests.specs.Pairs.{ArePair};
+ghost use Rattle.library_tests.specs.Pairs.{ArePair};
 
 use shared_plain::state::has_call;
 use shared_plain::{Mark, Plain};

@@ -1,2 +1,0 @@
-mod Beside
-mod FirstCallers
