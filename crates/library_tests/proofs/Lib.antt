@@ -2,3 +2,7 @@ mod FreshPasses
 mod Written
 mod Beside
 mod FirstCallers
+mod AllCallers
+mod Callers
+mod Pairs
+mod Walkers

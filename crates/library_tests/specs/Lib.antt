@@ -1,3 +1,5 @@
 pub mod Fresh
 pub mod PassProps
 pub mod Pairs
+pub mod MapPairs
+pub mod Walking

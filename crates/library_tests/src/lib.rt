@@ -4,6 +4,7 @@
 
 #[cfg(test)]
 mod made;
+mod maps;
 #[cfg(test)]
 mod mutex;
 #[cfg(test)]

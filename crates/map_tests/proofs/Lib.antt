@@ -1,4 +1,0 @@
-mod AllCallers
-mod Callers
-mod Pairs
-mod Walkers
