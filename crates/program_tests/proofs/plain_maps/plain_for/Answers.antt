@@ -3,7 +3,7 @@ use Rattle.std.proofs.lemmas.Option.{slice_get_within, same_Some}
 use Rattle.sync_model.specs.Note.{Holding}
 use Rattle.sync_model.specs.Shared.{items_of}
 use Rattle.workload.specs.Keys.{keys_in}
-use Rattle.runner_tests.proofs.plain_maps.plain_for.Goals as goal
+use Rattle.program_tests.proofs.plain_maps.plain_for.Goals as goal
 
 pub overflow_cast-keys : goal.overflow_cast-keys
 overflow_cast-keys c =
