@@ -4,5 +4,6 @@
 
 #[cfg(test)]
 mod plain_maps;
+mod program;
 #[cfg(test)]
 mod threads;

@@ -1,5 +1,5 @@
 //! Faults, one at a time: each open and read, each write of the report, and each of the one line.
-use crate::rows::{COND_CALLS, Row, STEP, TWO_CALLS, comes_out, comes_out_on};
+use crate::program::rows::{COND_CALLS, Row, STEP, TWO_CALLS, comes_out, comes_out_on};
 use std::test::Fail;
 
 // The calls on the source are its open, its reads, of which this text takes two, and the read that finds

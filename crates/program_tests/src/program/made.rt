@@ -1,5 +1,5 @@
 //! Workloads that are made.
-use crate::rows::{Row, STEP, USAGE, comes_out, matches_row, run_on, run_through};
+use crate::program::rows::{Row, STEP, USAGE, comes_out, matches_row, run_on, run_through};
 use std::test::Fail;
 use sync_outside::{HoldGate, OpenGate, RefuseStart, ThreadSpawner};
 

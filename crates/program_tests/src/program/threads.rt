@@ -1,7 +1,9 @@
 //! Runs with threads.
 
-use crate::endings::MISUSES;
-use crate::rows::{Row, STEP, TWO_CALLS, comes_out, first_other, matches_row, run_by, run_through};
+use crate::program::endings::MISUSES;
+use crate::program::rows::{
+    Row, STEP, TWO_CALLS, comes_out, first_other, matches_row, run_by, run_through,
+};
 use std::sync::atomic::{AtomicU64, Ordering};
 use std::test::Fail;
 use sync_outside::{Clock, HoldGate, OpenGate, RefuseStart, ThreadSpawner};
@@ -121,7 +123,7 @@ fn a_run_reads_its_own_clock(rt: HostRuntime) -> Result<(), Fail> {
     };
     let made = Row {
         words: "gosync make 7",
-        report: crate::made::LINES,
+        report: crate::program::made::LINES,
         ..RUN
     };
     for row in &[locked, made] {

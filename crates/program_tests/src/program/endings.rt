@@ -1,6 +1,6 @@
 //! How a run ends: misuses and deadlocks, and the status and the line of each end.
 
-use crate::rows::{BY_BOTH, Row, STEP, USAGE, comes_out};
+use crate::program::rows::{BY_BOTH, Row, STEP, USAGE, comes_out};
 use gosync_call::{Ending, Fault, Status, Unread, say};
 use std::test::Fail;
 use sync_outside::MemSink;

@@ -1,6 +1,6 @@
 //! What is refused: texts, words and names of files, and texts at their limits.
 
-use crate::rows::{BY_BOTH, Row, STEP, TWO_CALLS, USAGE, comes_out, run_on};
+use crate::program::rows::{BY_BOTH, Row, STEP, TWO_CALLS, USAGE, comes_out, run_on};
 use std::test::Fail;
 
 const LIMITS: [(&str, &str, u32, u8, usize, &str); 4] = [

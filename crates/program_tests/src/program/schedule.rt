@@ -1,6 +1,6 @@
 //! Runs by schedule: what each call of each kind of object answers, and what is left.
 
-use crate::rows::{STEP, TWO_CALLS, first_other};
+use crate::program::rows::{STEP, TWO_CALLS, first_other};
 use std::test::Fail;
 
 const RUNS: [(&str, &str); 5] = [
