@@ -6,9 +6,9 @@ use Rattle.made_workload.specs.Runs.{five_lines, is_key, number_in, value_in}
 use Rattle.made_workload.specs.TotalsOf.{totals_of}
 use Rattle.run_record.specs.Explains.{Explains}
 use Rattle.run_record.specs.Record.{Record}
-use Rattle.sync_types.specs.declared.outcome.Outcome.{Outcome}
-use Rattle.sync_types.specs.declared.outcome.Outcome.TheVariants as outcomes
-use Rattle.sync_types.specs.declared.outcome.Report.{Report}
+use Rattle.script_calls.specs.declared.outcome.Outcome.{Outcome}
+use Rattle.script_calls.specs.declared.outcome.Outcome.TheVariants as outcomes
+use Rattle.script_calls.specs.declared.outcome.Report.{Report}
 use Rattle.sync_outside.specs.Bytes.{Appends, AppendsFront}
 use Rattle.sync_outside.specs.Faults.{RoseBy}
 use Rattle.workload.specs.Plan.{Plan}

@@ -7,9 +7,9 @@ use Rattle.std.proofs.lemmas.List.{length-map}
 use Rattle.std.proofs.lemmas.List.Folds.{flat_map-map}
 use Rattle.std.proofs.lemmas.List.Sums.{sum_by-cons}
 use Rattle.std.proofs.lemmas.Option.{slice_get-map}
-use Rattle.sync_types.specs.declared.call.Call.{Call}
-use Rattle.sync_types.specs.declared.call.Reply.{Reply}
-use Rattle.sync_types.specs.declared.outcome.End.{End}
+use Rattle.script_calls.specs.declared.call.Call.{Call}
+use Rattle.script_calls.specs.declared.call.Reply.{Reply}
+use Rattle.sync_types.specs.declared.end.End.{End}
 use Rattle.workload.specs.Plan.{Plan}
 use Rattle.workload_text.specs.ReportLines.{completed_line, end_line}
 use Rattle.gosync_call.specs.ReportText.{calls_text, ends_text, workers_text}

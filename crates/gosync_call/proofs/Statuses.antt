@@ -2,7 +2,7 @@
 use Rattle.std.proofs.Common.{◌≡◌, ◌⊎◌, inl, inr, ◌+◌, ◌-◌, ◌^◌, ◌<◌, ◌≤◌, ℕ, List, [], ◌∷◌, ◌++◌, ◌∙◌, length, min, Option, Some, refl, ap, arith, length-append, length-take}
 use Rattle.sync_outside.specs.Bytes.{Appends}
 use Rattle.sync_outside.specs.Faults.{RoseBy}
-use Rattle.sync_types.specs.declared.outcome.Outcome.{Outcome}
+use Rattle.script_calls.specs.declared.outcome.Outcome.{Outcome}
 use Rattle.workload.specs.Plan.{Plan}
 use Rattle.workload.specs.declared.limits.TheConstants.{MAX_INPUT}
 use Rattle.made_workload.specs.Summary.{summary, summary_text}

@@ -2,7 +2,7 @@
 -- this outcome. Where the run is the one by its schedule, that is `StepsTo`.
 use Rattle.std.specs.Prelude.{◌≡◌, ℕ, true, List, Option}
 use Rattle.sync_outside.specs.Bytes.{Appends, AppendsFront}
-use Rattle.sync_types.specs.declared.outcome.Outcome.{Outcome}
+use Rattle.script_calls.specs.declared.outcome.Outcome.{Outcome}
 use Rattle.workload.specs.Plan.{Plan, is_valid}
 use Rattle.workload.specs.Reads.{Reads, IsRefused}
 use Rattle.gosync_call.specs.declared.status.Status.{Status}

@@ -12,7 +12,7 @@
 --   misused, and the misuse is the first that halted it (`Agrees`).
 use Rattle.std.specs.Prelude.{◌≡◌, ℕ, List, Option, Some, slice_get}
 use Rattle.sync_outside.specs.Faults.{RoseBy}
-use Rattle.sync_types.specs.declared.outcome.Outcome.{Outcome}
+use Rattle.script_calls.specs.declared.outcome.Outcome.{Outcome}
 use Rattle.sync_types.specs.declared.misuse.Misuse.{Misuse}
 use Rattle.workload.specs.Plan.{Plan}
 use Rattle.run_record.specs.Record.{Record}

@@ -5,8 +5,8 @@ use Rattle.sync_outside.specs.Faults.{Rose}
 use Rattle.std.specs.Fmt.{decimal}
 use Rattle.sync_types.specs.Misuse.{text_of}
 use Rattle.workload.specs.Reason.{reason_text}
-use Rattle.sync_types.specs.declared.outcome.Outcome.{Outcome}
-use Rattle.sync_types.specs.declared.outcome.Outcome.TheVariants as outcomes
+use Rattle.script_calls.specs.declared.outcome.Outcome.{Outcome}
+use Rattle.script_calls.specs.declared.outcome.Outcome.TheVariants as outcomes
 use Rattle.gosync_call.specs.declared.status.Status.{Status}
 use Rattle.gosync_call.specs.declared.status.Status.TheVariants as statuses
 use Rattle.gosync_call.specs.declared.status.Ending.{Ending}

@@ -1,13 +1,13 @@
 -- The report: a line for each completed call, worker by worker, and then, where every script has ended, a line for each value that an object holds.
 use Rattle.std.specs.Prelude.{ℕ, ◌+◌, List, [], ◌∷◌, ◌++◌}
 use Rattle.std.specs.List.{flat_map}
-use Rattle.sync_types.specs.declared.call.Call.{Call}
-use Rattle.sync_types.specs.declared.call.Reply.{Reply}
+use Rattle.script_calls.specs.declared.call.Call.{Call}
+use Rattle.script_calls.specs.declared.call.Reply.{Reply}
 use Rattle.workload.specs.Plan.{Plan}
-use Rattle.sync_types.specs.declared.outcome.End.{End}
-use Rattle.sync_types.specs.Outcome.{left_by}
-use Rattle.sync_types.specs.declared.outcome.Outcome.{Outcome}
-use Rattle.sync_types.specs.declared.outcome.Outcome.TheVariants as outcomes
+use Rattle.sync_types.specs.declared.end.End.{End}
+use Rattle.script_calls.specs.Outcome.{left_by}
+use Rattle.script_calls.specs.declared.outcome.Outcome.{Outcome}
+use Rattle.script_calls.specs.declared.outcome.Outcome.TheVariants as outcomes
 use Rattle.workload_text.specs.ReportLines.{completed_line, end_line}
 
 -- a worker's completed calls, from an index on: as many of its script as there are replies

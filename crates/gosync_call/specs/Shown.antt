@@ -1,9 +1,9 @@
 -- What a report shows, line by line. Laws alone speak of it.
 use Rattle.std.specs.Prelude.{◌≡◌, ℕ, ◌+◌, ◌≤◌, List, [], length, get_or, take, sum_by, Some, slice_get}
 use Rattle.std.specs.List.{flat_map}
-use Rattle.sync_types.specs.declared.call.Call.{Call}
-use Rattle.sync_types.specs.declared.call.Reply.{Reply}
-use Rattle.sync_types.specs.declared.outcome.End.{End}
+use Rattle.script_calls.specs.declared.call.Call.{Call}
+use Rattle.script_calls.specs.declared.call.Reply.{Reply}
+use Rattle.sync_types.specs.declared.end.End.{End}
 use Rattle.workload.specs.Plan.{Plan}
 use Rattle.workload_text.specs.ReportLines.{completed_line, end_line}
 

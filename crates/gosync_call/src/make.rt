@@ -3,8 +3,8 @@ ghost use Rattle.std.specs.Prelude.{◌≡◌, ◌≤◌, ◌+◌, [], IfErr, Ma
 ghost use Rattle.sync_outside.specs.Bytes.{Appends, AppendsFront};
 ghost use Rattle.sync_outside.specs.Faults.{Rose};
 ghost use Rattle.gosync_call.specs.Front.{IsUnstarted};
-ghost use Rattle.sync_types.specs.declared.outcome.Outcome.TheVariants as outcomes;
-ghost use Rattle.sync_types.specs.declared.outcome.Report.{Report};
+ghost use Rattle.script_calls.specs.declared.outcome.Outcome.TheVariants as outcomes;
+ghost use Rattle.script_calls.specs.declared.outcome.Report.{Report};
 ghost use Rattle.made_workload.specs.TotalsOf.{totals_of};
 ghost use Rattle.gosync_call.specs.Made.{IsMade, IsUnmade, MakesTo};
 ghost use Rattle.gosync_call.specs.MadeText.{totals_text};
@@ -17,11 +17,11 @@ use crate::message::say_run;
 use crate::status::{Ending, Fault, Status};
 use made_workload::laws::runs::a_run_of_a_seed_tells_its_summary;
 use made_workload::{made_workload, totals_of};
+use script_calls::{Outcome, Report};
 use std::alloc::Global;
 use std::sync::Wait;
 use std::thread::Threads;
 use sync_outside::{Clock, Gate, Sink, Spawner};
-use sync_types::{Outcome, Report};
 use thread_runner::{RunFault, threaded};
 
 /// Writes the five lines of what the run of a made workload left behind.

@@ -1,7 +1,7 @@
 //! The program: its words, its file, its outputs and its status.
 ghost use Rattle.std.specs.Prelude.{◌≡◌, ◌⊎◌, ◌+◌, ◌≤◌, ℕ, List, Some, map, string_bytes};
 ghost use Rattle.sync_outside.specs.Faults.{Rose};
-ghost use Rattle.sync_types.specs.declared.outcome.Outcome.{Outcome};
+ghost use Rattle.script_calls.specs.declared.outcome.Outcome.{Outcome};
 ghost use Rattle.workload.specs.declared.limits.TheConstants.{MAX_INPUT};
 ghost use Rattle.workload.specs.Plan.{Plan};
 ghost use Rattle.workload.specs.Reads.{Reads};

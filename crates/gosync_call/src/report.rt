@@ -4,14 +4,15 @@ ghost use Rattle.std.specs.List.{list_all};
 ghost use Rattle.sync_outside.specs.Bytes.{Appends, AppendsFront};
 ghost use Rattle.sync_outside.specs.Faults.{Rose};
 ghost use Rattle.workload.specs.declared.limits.TheConstants.{MAX_KEYS};
-ghost use Rattle.sync_types.specs.Outcome.{has_pairs_to, shows_to};
+ghost use Rattle.script_calls.specs.Outcome.{has_pairs_to, shows_to};
 ghost use Rattle.gosync_call.specs.Messages.{ending_of};
 ghost use Rattle.gosync_call.specs.declared.status.Fault.TheVariants as faults;
 ghost use Rattle.gosync_call.specs.ReportText.{calls_text, workers_text, ends_text, report_text};
 
 use crate::status::{Ending, Fault};
+use script_calls::{Outcome, Reply};
 use sync_outside::{Failed, Sink};
-use sync_types::{End, Outcome, Reply, Seq};
+use sync_types::{End, Seq};
 use workload::Workload;
 use workload_text::{LINE_ROOM, set_completed_line, set_end_line};
 

@@ -8,9 +8,9 @@ use Rattle.std.proofs.lemmas.List.Sums.{sum-map, sum_by-cons}
 use Rattle.sync_types.specs.declared.atomic_object.Number.{Number}
 use Rattle.sync_types.specs.declared.atomic_object.Number.TheVariants.{Int64, Bool as Truth}
 use Rattle.sync_model.specs.declared.item.SharedEntry.{SharedEntry}
-use Rattle.sync_types.specs.declared.outcome.End.{End}
-use Rattle.sync_types.specs.declared.outcome.End.TheVariants as ends
-use Rattle.sync_types.specs.declared.outcome.Report.{Report}
+use Rattle.sync_types.specs.declared.end.End.{End}
+use Rattle.sync_types.specs.declared.end.End.TheVariants as ends
+use Rattle.script_calls.specs.declared.outcome.Report.{Report}
 use Rattle.sync_types.specs.Ends.{ends_of}
 use Rattle.sync_types.specs.SequentialAtomic.{zero_of}
 use Rattle.sync_model.specs.SharedHistory.{map_at, number_at, contents_after}

@@ -8,9 +8,9 @@ use Rattle.std.proofs.lemmas.Bool.{false≢true, cases_Bool, and_parts, or_cases
 use Rattle.std.proofs.lemmas.List.Folds.{list_any-append}
 use Rattle.std.proofs.lemmas.Option.{none-some, same_Some, slice_get_within}
 use Rattle.sync_types.specs.declared.atomic_object.AtomicKind.TheVariants as types
-use Rattle.sync_types.specs.declared.call.Call.{Call}
-use Rattle.sync_types.specs.declared.call.Operation.{Operation}
-use Rattle.sync_types.specs.declared.call.Operation.TheVariants as operations
+use Rattle.script_calls.specs.declared.call.Call.{Call}
+use Rattle.script_calls.specs.declared.call.Operation.{Operation}
+use Rattle.script_calls.specs.declared.call.Operation.TheVariants as operations
 use Rattle.sync_types.specs.declared.map_object.MapCall.TheVariants.{Load, Store, Delete}
 use Rattle.sync_types.specs.SequentialMap.{map_key}
 use Rattle.workload.specs.declared.object.ObjectKind.{ObjectKind}

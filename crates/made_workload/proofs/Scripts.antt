@@ -4,7 +4,7 @@ use Rattle.std.specs.List.{list_all, flat_map, count_by}
 use Rattle.std.specs.Option.{option_to_list}
 use Rattle.std.proofs.lemmas.Bool.{lt-ltb, le-leb, ltb-true}
 use Rattle.std.proofs.lemmas.List.Folds.{list_all-append}
-use Rattle.sync_types.specs.declared.call.Call.{Call}
+use Rattle.script_calls.specs.declared.call.Call.{Call}
 use Rattle.sync_types.specs.declared.map_object.MapCall.TheVariants.{Load, Store, Delete}
 use Rattle.sync_types.specs.declared.value.TheConstants.{MAX_VALUE}
 use Rattle.sync_types.specs.Name.{is_name}

@@ -2,9 +2,9 @@
 use Rattle.std.specs.Prelude.{ℕ, pos, Bool, true, false, List, ◌∷◌, ◌++◌, map, length, sum_by, count_by, codes}
 use Rattle.std.specs.FinMap.{entries}
 use Rattle.sync_types.specs.declared.atomic_object.Number.TheVariants.{Int64}
-use Rattle.sync_types.specs.declared.outcome.End.{End}
-use Rattle.sync_types.specs.declared.outcome.End.TheVariants as ends
-use Rattle.sync_types.specs.declared.outcome.Report.{Report}
+use Rattle.sync_types.specs.declared.end.End.{End}
+use Rattle.sync_types.specs.declared.end.End.TheVariants as ends
+use Rattle.script_calls.specs.declared.outcome.Report.{Report}
 use Rattle.workload.specs.Keys.{keys_in, key_number}
 use Rattle.made_workload.specs.Generated.{generated_plan}
 use Rattle.workload.specs.OwnMaps.{union_of}

@@ -1,6 +1,6 @@
 -- What a run of a made workload comes to.
 use Rattle.std.specs.Prelude.{sum_by, count_by, length}
-use Rattle.sync_types.specs.declared.outcome.Report.{Report}
+use Rattle.script_calls.specs.declared.outcome.Report.{Report}
 use Rattle.made_workload.specs.Runs.{number_in, is_key, value_in}
 use Rattle.made_workload.specs.declared.totals.Totals.{Totals}
 

@@ -2,7 +2,8 @@
 ghost use Rattle.std.specs.Prelude.{◌≡◌, length, sum_by, count_by};
 ghost use Rattle.made_workload.specs.Runs.{number_in, is_key, value_in};
 
-use sync_types::{End, Number, Reply, Seq};
+use script_calls::Reply;
+use sync_types::{End, Number, Seq};
 
 /// How many replies there are.
 pub fn reply_count(replies: &[Seq<Reply<u32>>]) -> u128

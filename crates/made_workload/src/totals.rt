@@ -3,7 +3,7 @@ ghost use Rattle.std.specs.Prelude.{◌≡◌};
 ghost use Rattle.made_workload.specs.TotalsOf.{totals_of};
 
 use crate::sums::{keys_in, reply_count, total_in, values_in};
-use sync_types::Report;
+use script_calls::Report;
 
 /// What a run of a made workload comes to, in numbers. Each is a sum of numbers of 64 bits, so none wraps.
 #[derive(Clone, Copy, Debug, PartialEq, Eq)]

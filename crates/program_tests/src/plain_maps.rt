@@ -7,13 +7,14 @@ ghost use Rattle.sync_model.specs.Shared.{AreAllCallers};
 ghost use Rattle.thread_runner.specs.Sites.{AreShared};
 ghost use Rattle.thread_runner.specs.EndsPlans.{HaveMadeNone, HaveSpare};
 
+use script_calls::{Outcome, Report};
 use shared_plain::{EndsRoom, Mark, Plain, PlainState};
 use std::alloc::{AllocError, Global};
 use std::sync::Wait;
 use std::thread::Threads;
 use sync_model::Caller;
 use sync_outside::{Clock, Gate, Spawner};
-use sync_types::{ByName, End, Outcome, Report, Seq};
+use sync_types::{ByName, End, Seq};
 use thread_runner::{RunFault, atomic_kinds, map_count, spares, threaded_over};
 use workload::laws::keys_are_numbered_by_first_appearance;
 use workload::{ObjectKind, Workload};

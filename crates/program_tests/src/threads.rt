@@ -1,5 +1,6 @@
 //! Runs of workloads by threads.
 use crate::plain_maps::threaded_plain;
+use script_calls::{Outcome, Report};
 use std::alloc::{AllocError, Global};
 use std::sync::Wait;
 use std::test::Fail;
@@ -7,7 +8,6 @@ use std::thread::Threads;
 use sync_outside::{
     Clock, Gate, HoldGate, MemClock, OpenGate, RefuseStart, Spawner, SystemClock, ThreadSpawner,
 };
-use sync_types::{Outcome, Report};
 use thread_runner::{RunFault, threaded};
 use workload::Workload;
 use workload_text::parse;

@@ -10,7 +10,7 @@ use Rattle.std.proofs.lemmas.List.Sorted.{sum_by-IsPermutation}
 use Rattle.sync_types.specs.declared.atomic_object.AtomicKind.TheVariants as kinds
 use Rattle.sync_types.specs.declared.atomic_object.Number.{Number}
 use Rattle.sync_types.specs.declared.atomic_object.Number.TheVariants.{Int64}
-use Rattle.sync_types.specs.declared.call.Call.{Call}
+use Rattle.script_calls.specs.declared.call.Call.{Call}
 use Rattle.sync_types.specs.SequentialAtomic.{sum, zero_of}
 use Rattle.run_laws.specs.Adds.{amount_of, amounts_at, after_adds}
 

@@ -10,13 +10,13 @@ use Rattle.std.specs.Str.{bytes_eq}
 use Rattle.std.proofs.lemmas.Bool.{cases_Bool}
 use Rattle.std.proofs.lemmas.List.{length-replicate, get_or-replicate}
 use Rattle.std.proofs.lemmas.Option.{none-some, same_Some, slice_get-map}
-use Rattle.sync_types.specs.declared.call.Call.{Call}
+use Rattle.script_calls.specs.declared.call.Call.{Call}
 use Rattle.sync_model.specs.declared.item.Item.{Item}
 use Rattle.sync_model.specs.declared.item.SharedCall.{SharedCall}
 use Rattle.sync_model.specs.declared.item.SharedEntry.{SharedEntry}
 use Rattle.sync_types.specs.declared.map_object.MapCall.{MapCall}
-use Rattle.sync_types.specs.declared.outcome.Outcome.TheVariants.{Done}
-use Rattle.sync_types.specs.declared.outcome.Report.{Report}
+use Rattle.script_calls.specs.declared.outcome.Outcome.TheVariants.{Done}
+use Rattle.script_calls.specs.declared.outcome.Report.{Report}
 use Rattle.sync_types.specs.SequentialMap.{map_after, is_map_entry}
 use Rattle.sync_model.specs.SharedHistory.{value_at, contents_after}
 use Rattle.sync_model.specs.SharedLaws.{is_on_key}

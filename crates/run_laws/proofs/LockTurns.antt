@@ -4,9 +4,9 @@ use Rattle.std.specs.Prelude.{◌&&◌, not, count_by}
 use Rattle.std.specs.List.{list_any}
 use Rattle.std.proofs.lemmas.Bool.{false≢true, and_parts, eq-eqb}
 use Rattle.std.proofs.lemmas.List.Sums.{sum_by-cons}
-use Rattle.sync_types.specs.declared.call.Call.{Call}
-use Rattle.sync_types.specs.declared.call.Operation.{Operation}
-use Rattle.sync_types.specs.declared.call.Operation.TheVariants as operations
+use Rattle.script_calls.specs.declared.call.Call.{Call}
+use Rattle.script_calls.specs.declared.call.Operation.{Operation}
+use Rattle.script_calls.specs.declared.call.Operation.TheVariants as operations
 use Rattle.sync_types.specs.declared.lock_call.MutexCall.TheVariants.{Lock, Unlock, TryLock}
 use Rattle.run_laws.specs.Locks.{is_in_turn, keeps_lock, is_lock, is_unlock, locks_at, unlocks_at}
 use Rattle.run_laws.proofs.LockLines.{comes_in_turn, next_held, keeps_on}

@@ -8,8 +8,9 @@ ghost use Rattle.run_record.specs.Objects.{contents_of, atomic_number};
 ghost use Rattle.run_record.specs.Record.{Record};
 ghost use Rattle.run_laws.specs.Adds.{IsOnlyAddedTo, amounts_at, after_adds};
 
+use script_calls::{Outcome, Report};
 use sync_model::laws::shared::each_entry_is_a_call;
-use sync_types::{AtomicKind, End, Outcome, Report};
+use sync_types::{AtomicKind, End};
 use workload::{ObjectKind, ObjectLine};
 
 /// An int64 that is only added to holds, after a run that is done, what the int64 of one thread holds after all adds of all

@@ -1,12 +1,13 @@
 //! How the workers of a run end. Each law is the contract of a function that does nothing.
 ghost use Rattle.std.specs.Prelude.{◌≡◌, ◌⊎◌, ℕ, ◌<◌, [], length, get_or, Some, slice_get};
-ghost use Rattle.sync_types.specs.Outcome.{left_by};
+ghost use Rattle.script_calls.specs.Outcome.{left_by};
 ghost use Rattle.workload.specs.Plan.{Plan};
 ghost use Rattle.run_record.specs.Explains.{Explains};
 ghost use Rattle.run_record.specs.Lines.{Line, misused, halted};
 ghost use Rattle.run_record.specs.Record.{Record};
 
-use sync_types::{Misuse, Outcome};
+use script_calls::Outcome;
+use sync_types::Misuse;
 
 /// A worker that doesn't reply to each call of its script has met a misuse, or a halt: it didn't stop by itself.
 pub fn each_worker_has_ended()

@@ -7,9 +7,10 @@ ghost use Rattle.run_record.specs.Objects.{contents_of, map_number, atomic_numbe
 ghost use Rattle.run_record.specs.Record.{Record};
 
 use run_record::laws::limits::maps_end_with_the_workloads_keys;
+use script_calls::{Outcome, Report};
 use sync_model::SharedEntry;
 use sync_model::laws::ends::maps_by_name_have_the_same_values;
-use sync_types::{AtomicKind, End, Number, Outcome, Report};
+use sync_types::{AtomicKind, End, Number};
 use workload::laws::keys_are_numbered_by_first_appearance;
 use workload::{ObjectKind, ObjectLine};
 

@@ -1,7 +1,7 @@
 //! Locks that are kept. Each law is the contract of a function that does nothing.
 ghost use Rattle.std.specs.Prelude.{◌≡◌, ◌≢◌, ℕ, ◌+◌, ◌==◌, true, false, List, ◌∷◌, ◌++◌, count_by};
 ghost use Rattle.std.specs.List.{list_any};
-ghost use Rattle.sync_types.specs.declared.call.Call.{Call};
+ghost use Rattle.script_calls.specs.declared.call.Call.{Call};
 ghost use Rattle.workload.specs.Plan.{Plan};
 ghost use Rattle.run_record.specs.Explains.{Explains};
 ghost use Rattle.run_record.specs.Record.{Record};
@@ -9,7 +9,8 @@ ghost use Rattle.run_laws.specs.Locks.{keeps_lock, locks_at, unlocks_at, KeepsIt
 
 use mutex_core::laws::validity;
 use run_record::laws::endings::a_run_is_done_unless_it_was_misused;
-use sync_types::{MutexCall, Operation, Outcome, Report};
+use script_calls::{Operation, Outcome, Report};
+use sync_types::MutexCall;
 
 /// A worker that keeps to its lock has locked the mutex once more than it has unlocked it wherever it unlocks it, and as often
 /// wherever it locks it. It tries nothing. And each worker does keep to it that locks it, makes other calls, and unlocks it, again

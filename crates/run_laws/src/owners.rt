@@ -3,7 +3,7 @@ ghost use Rattle.std.specs.Prelude.{◌≡◌, ℕ, true, List, Some, slice_get}
 ghost use Rattle.std.specs.List.{list_any};
 ghost use Rattle.std.specs.Str.{bytes_eq};
 ghost use Rattle.std.specs.FinMap.{get};
-ghost use Rattle.sync_types.specs.declared.call.Call.{Call};
+ghost use Rattle.script_calls.specs.declared.call.Call.{Call};
 ghost use Rattle.sync_model.specs.SharedHistory.{contents_after, map_at, value_at};
 ghost use Rattle.workload.specs.Draft.{all_keys};
 ghost use Rattle.workload.specs.Keys.{keys_in, key_number};
@@ -15,9 +15,9 @@ ghost use Rattle.run_laws.specs.Locks.{has_plain_objects};
 ghost use Rattle.workload.specs.OwnMaps.{map_of, union_of};
 ghost use Rattle.run_laws.specs.Owners.{AreApart, IsOwnedBy};
 
+use script_calls::{Outcome, Report};
 use sync_model::laws::shared::{a_callers_calls_are_in_order, each_entry_is_a_call};
 use sync_types::laws::maps::only_entries_change;
-use sync_types::{Outcome, Report};
 use workload::laws::keys_are_numbered_by_first_appearance;
 use workload::{ObjectKind, ObjectLine};
 

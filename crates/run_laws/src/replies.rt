@@ -15,8 +15,9 @@ ghost use Rattle.run_record.specs.OnceKind.{failure};
 ghost use Rattle.run_record.specs.Record.{Record, list_of};
 
 use run_record::Made;
+use script_calls::{Call, Operation, Reply};
 use sync_model::{Answer, Item, SharedCall};
-use sync_types::{AtomicCall, AtomicKind, Call, MapCall, Operation, Reply};
+use sync_types::{AtomicCall, AtomicKind, MapCall};
 use workload::{ObjectKind, ObjectLine};
 
 /// A call on a map is one placed call, of its own map and by the number of its key, and replies what the map of one thread replies at

@@ -1,7 +1,7 @@
 -- What the items of each call of a workload are.
 use Rattle.std.proofs.Common.{ℕ, ℤ, List}
-use Rattle.sync_types.specs.declared.call.Call.{Call}
-use Rattle.sync_types.specs.declared.call.Reply.TheVariants as replies
+use Rattle.script_calls.specs.declared.call.Call.{Call}
+use Rattle.script_calls.specs.declared.call.Reply.TheVariants as replies
 use Rattle.sync_model.specs.declared.journal.Deed.{Deed}
 use Rattle.protocols.specs.CondStages.{cond_event, cond_meaning}
 use Rattle.protocols.specs.GroupStages.{group_event, group_meaning}

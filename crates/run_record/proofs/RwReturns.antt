@@ -1,7 +1,7 @@
 -- What a reader/writer mutex's calls have done when they return.
 use Rattle.std.proofs.Common.{◌≡◌, ℕ, Bool, true, List, [], Ok, Result, refl, sym, ap, subst}
-use Rattle.sync_types.specs.declared.call.Reply.{Reply}
-use Rattle.sync_types.specs.declared.call.Reply.TheVariants as replies
+use Rattle.script_calls.specs.declared.call.Reply.{Reply}
+use Rattle.script_calls.specs.declared.call.Reply.TheVariants as replies
 use Rattle.sync_types.specs.declared.lock_call.LockReply.{LockReply}
 use Rattle.sync_types.specs.declared.lock_call.LockReply.TheVariants as outcome
 use Rattle.sync_types.specs.declared.lock_call.RwMutexCall.{RwMutexCall}

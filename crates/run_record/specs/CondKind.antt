@@ -1,7 +1,7 @@
 -- The calls of a cond and its journal in a record.
 use Rattle.std.specs.Prelude.{ℕ, List}
-use Rattle.sync_types.specs.declared.call.Reply.{Reply}
-use Rattle.sync_types.specs.declared.call.Reply.TheVariants as replies
+use Rattle.script_calls.specs.declared.call.Reply.{Reply}
+use Rattle.script_calls.specs.declared.call.Reply.TheVariants as replies
 use Rattle.sync_types.specs.declared.wait_call.CondCall.{CondCall}
 use Rattle.sync_types.specs.declared.wait_call.CondCall.TheVariants as calls
 use Rattle.wait_cores.specs.NotifyMachine.{next, start}

@@ -1,10 +1,10 @@
 -- When a record explains the outcome of a run of a workload.
 use Rattle.std.specs.Prelude.{◌≡◌, ℕ, ◌+◌, ◌<◌, ◌≤◌, List, [], map, length, take, All, Some, slice_get, slice_index}
-use Rattle.sync_types.specs.declared.outcome.Outcome.{Outcome}
-use Rattle.sync_types.specs.declared.outcome.Outcome.TheVariants.{Done, Misused, Deadlocked}
+use Rattle.script_calls.specs.declared.outcome.Outcome.{Outcome}
+use Rattle.script_calls.specs.declared.outcome.Outcome.TheVariants.{Done, Misused, Deadlocked}
 use Rattle.sync_model.specs.Front.{AtLeast}
 use Rattle.sync_model.specs.Journal.{by, halt_of}
-use Rattle.sync_types.specs.Outcome.{left_by}
+use Rattle.script_calls.specs.Outcome.{left_by}
 use Rattle.sync_model.specs.SharedCalls.{Lawful}
 use Rattle.sync_model.specs.SharedHistory.{contents_after}
 use Rattle.workload.specs.declared.object.ObjectKind.TheVariants.{Pool}

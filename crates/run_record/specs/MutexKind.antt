@@ -1,7 +1,7 @@
 -- The calls of a mutex and its journal in a record.
 use Rattle.std.specs.Prelude.{ℕ, List}
-use Rattle.sync_types.specs.declared.call.Reply.{Reply}
-use Rattle.sync_types.specs.declared.call.Reply.TheVariants as replies
+use Rattle.script_calls.specs.declared.call.Reply.{Reply}
+use Rattle.script_calls.specs.declared.call.Reply.TheVariants as replies
 use Rattle.sync_types.specs.declared.lock_call.LockReply.{LockReply}
 use Rattle.sync_types.specs.declared.lock_call.MutexCall.{MutexCall}
 use Rattle.sync_types.specs.declared.lock_call.MutexCall.TheVariants as calls

@@ -5,7 +5,7 @@ use Rattle.std.specs.Ordering.{nat_cmp}
 use Rattle.std.specs.Cmp.Lexicographic.{slice_cmp}
 use Rattle.std.specs.FinMap.{FinMap, entries, from_entries}
 use Rattle.sync_types.specs.declared.atomic_object.AtomicKind.{AtomicKind}
-use Rattle.sync_types.specs.declared.outcome.End.{End}
+use Rattle.sync_types.specs.declared.end.End.{End}
 use Rattle.sync_types.specs.Ends.{ends_of}
 use Rattle.sync_model.specs.SharedHistory.{Contents, first_contents}
 use Rattle.workload.specs.declared.object.ObjectKind.{ObjectKind}

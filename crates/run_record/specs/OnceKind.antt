@@ -1,7 +1,7 @@
 -- The calls of a once, and of functions made by `OnceFunc` and `OnceValue`, and their journals in a record.
 use Rattle.std.specs.Prelude.{ℕ, ℤ, ◌==◌, if◌then◌else◌, List, Option, Some, None}
-use Rattle.sync_types.specs.declared.call.Reply.{Reply}
-use Rattle.sync_types.specs.declared.call.Reply.TheVariants as replies
+use Rattle.script_calls.specs.declared.call.Reply.{Reply}
+use Rattle.script_calls.specs.declared.call.Reply.TheVariants as replies
 use Rattle.sync_types.specs.declared.once_call.DoReply.TheVariants as do_replies
 use Rattle.wait_cores.specs.OnceMachine.{next, start}
 use Rattle.wait_cores.specs.OnceEdges.{once_releases, once_acquires}

@@ -1,8 +1,8 @@
 -- The calls of a pool and the journals of its parts in a record. Each part is an object of its own, and a worker's own part is that of its number.
 use Rattle.std.specs.Prelude.{ℕ, ◌+◌, ◌*◌, List, [], ◌∷◌, map, unwrap_or}
 use Rattle.std.specs.List.{range_with_len}
-use Rattle.sync_types.specs.declared.call.Reply.{Reply}
-use Rattle.sync_types.specs.declared.call.Reply.TheVariants as replies
+use Rattle.script_calls.specs.declared.call.Reply.{Reply}
+use Rattle.script_calls.specs.declared.call.Reply.TheVariants as replies
 use Rattle.sync_types.specs.declared.pool_call.PoolCall.{PoolCall}
 use Rattle.sync_types.specs.declared.pool_call.PoolCall.TheVariants as calls
 use Rattle.sync_types.specs.declared.pool_call.PoolCallReply.TheVariants as pool_replies

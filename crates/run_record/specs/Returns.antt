@@ -3,8 +3,8 @@ use Rattle.std.specs.Prelude.{◌≡◌, ◌≢◌, ◌⊎◌, ℕ, ℤ, ◌+◌
 use Rattle.sync_types.specs.declared.atomic_object.AtomicCall.TheVariants.{Add}
 use Rattle.sync_types.specs.declared.atomic_object.AtomicReply.TheVariants.{Held}
 use Rattle.sync_types.specs.declared.atomic_object.Number.TheVariants.{Int64}
-use Rattle.sync_types.specs.declared.call.Reply.{Reply}
-use Rattle.sync_types.specs.declared.call.Reply.TheVariants as replies
+use Rattle.script_calls.specs.declared.call.Reply.{Reply}
+use Rattle.script_calls.specs.declared.call.Reply.TheVariants as replies
 use Rattle.sync_types.specs.declared.lock_call.LockReply.TheVariants as lock_replies
 use Rattle.sync_types.specs.declared.lock_call.MutexCall.{MutexCall}
 use Rattle.sync_types.specs.declared.lock_call.MutexCall.TheVariants as mutex_calls

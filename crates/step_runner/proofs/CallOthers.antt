@@ -4,8 +4,8 @@ use Rattle.std.specs.Prelude.{ℤ, ◌||◌, if◌then◌else◌}
 use Rattle.std.specs.Int.{w64, int_wrapping_add}
 use Rattle.sync_types.specs.declared.atomic_object.Number.{Number}
 use Rattle.sync_types.specs.declared.atomic_object.Number.TheVariants.{Int64}
-use Rattle.sync_types.specs.declared.call.Operation.{Operation}
-use Rattle.sync_types.specs.declared.call.Operation.TheVariants as operations
+use Rattle.script_calls.specs.declared.call.Operation.{Operation}
+use Rattle.script_calls.specs.declared.call.Operation.TheVariants as operations
 use Rattle.mutex_core.specs.MutexMachine as mutex
 use Rattle.mutex_core.specs.Moves as mutex_moves
 use Rattle.mutex_core.specs.declared.event.MutexEvent.{MutexEvent}

@@ -2,16 +2,16 @@
 use Rattle.std.proofs.Common.{◌≡◌, ℕ, zero, suc, ◌+◌, ◌<◌, Bool, true, false, [], ◌++◌, map, length, refl, sym, ap, ◌∙◌, subst, arith}
 use Rattle.std.specs.Prelude.{if◌then◌else◌}
 use Rattle.sync_types.specs.declared.misuse.Misuse.{Misuse}
-use Rattle.sync_types.specs.declared.outcome.Outcome.{Outcome}
-use Rattle.sync_types.specs.Outcome.{with_keys_renamed}
+use Rattle.script_calls.specs.declared.outcome.Outcome.{Outcome}
+use Rattle.script_calls.specs.Outcome.{with_keys_renamed}
 use Rattle.workload.specs.Keys.{keys_in, key_number}
 use Rattle.workload.specs.Plan.{Plan}
 use Rattle.step_runner.specs.declared.step.Step.{Step}
 use Rattle.step_runner.specs.declared.step.Step.TheVariants as steps
-use Rattle.sync_types.specs.declared.outcome.Ending.{Ending}
-use Rattle.sync_types.specs.declared.outcome.Ending.TheVariants as endings
-use Rattle.sync_types.specs.declared.outcome.Report.{Report}
-use Rattle.sync_types.specs.declared.outcome.Outcome.TheVariants as outcomes
+use Rattle.script_calls.specs.declared.outcome.Ending.{Ending}
+use Rattle.script_calls.specs.declared.outcome.Ending.TheVariants as endings
+use Rattle.script_calls.specs.declared.outcome.Report.{Report}
+use Rattle.script_calls.specs.declared.outcome.Outcome.TheVariants as outcomes
 use Rattle.step_runner.specs.LeftToDo.{left_to_do}
 use Rattle.step_runner.specs.Outcomes.{rounds, is_misused, Reaches, IsDone, IsMisused, IsDeadlocked, StepsTo}
 use Rattle.step_runner.specs.State.{State, start, IsStateOf}

@@ -8,11 +8,11 @@ use Rattle.sync_model.specs.declared.answer.Answer.TheVariants.{Done, Halted}
 use Rattle.sync_types.specs.declared.atomic_object.AtomicCall.TheVariants.{Add}
 use Rattle.sync_types.specs.declared.atomic_object.AtomicReply.TheVariants as atomic_replies
 use Rattle.sync_types.specs.declared.atomic_object.Number.TheVariants.{Int64}
-use Rattle.sync_types.specs.declared.call.Call.{Call}
-use Rattle.sync_types.specs.declared.call.Operation.{Operation}
-use Rattle.sync_types.specs.declared.call.Operation.TheVariants as operations
-use Rattle.sync_types.specs.declared.call.Reply.{Reply}
-use Rattle.sync_types.specs.declared.call.Reply.TheVariants as replies
+use Rattle.script_calls.specs.declared.call.Call.{Call}
+use Rattle.script_calls.specs.declared.call.Operation.{Operation}
+use Rattle.script_calls.specs.declared.call.Operation.TheVariants as operations
+use Rattle.script_calls.specs.declared.call.Reply.{Reply}
+use Rattle.script_calls.specs.declared.call.Reply.TheVariants as replies
 use Rattle.sync_model.specs.declared.item.SharedCall.TheVariants as calls
 use Rattle.sync_model.specs.declared.item.SharedReply.TheVariants as shared
 use Rattle.sync_types.specs.declared.lock_call.MutexCall.{MutexCall}

@@ -3,9 +3,9 @@ use Rattle.std.proofs.Common.{◌≡◌, ℕ, ◌&&◌, List, [], ◌∷◌, map
 use Rattle.std.specs.Prelude.{nat_le}
 use Rattle.std.specs.List.{list_all}
 use Rattle.std.proofs.lemmas.List.{length-map}
-use Rattle.sync_types.specs.declared.call.Reply.{Reply}
-use Rattle.sync_types.specs.declared.call.Reply.TheVariants as replies
-use Rattle.sync_types.specs.Outcome.{with_keys_renamed, has_pairs_to}
+use Rattle.script_calls.specs.declared.call.Reply.{Reply}
+use Rattle.script_calls.specs.declared.call.Reply.TheVariants as replies
+use Rattle.script_calls.specs.Outcome.{with_keys_renamed, has_pairs_to}
 
 -- there are as many replies
 pub same_numbers : {A B : Type 0} (f : A → B) (lists : List (List A)) → map length (map (map f) lists) ≡ map length lists

@@ -10,8 +10,8 @@ use Rattle.sync_types.specs.SequentialAtomic.{atomic_reply}
 use Rattle.sync_types.specs.declared.atomic_object.Number.{Number}
 use Rattle.sync_types.specs.declared.atomic_object.Number.TheVariants.{Int64}
 use Rattle.sync_types.specs.declared.atomic_object.AtomicCall.{AtomicCall}
-use Rattle.sync_types.specs.declared.call.Operation.{Operation}
-use Rattle.sync_types.specs.declared.call.Operation.TheVariants as operations
+use Rattle.script_calls.specs.declared.call.Operation.{Operation}
+use Rattle.script_calls.specs.declared.call.Operation.TheVariants as operations
 use Rattle.sync_types.specs.declared.map_object.MapCall.{MapCall}
 use Rattle.mutex_core.specs.MutexMachine as mutex
 use Rattle.mutex_core.specs.Moves as mutex_moves

@@ -3,13 +3,13 @@ use Rattle.std.proofs.Common.{◌≡◌, ℕ, ◌*◌, ◌<◌, Bool, true, fals
 use Rattle.std.specs.Prelude.{ℤ, if◌then◌else◌, Result}
 use Rattle.std.specs.Int.{w64, int_wrapping_add}
 use Rattle.std.proofs.lemmas.Bool.{eq-eqb}
-use Rattle.sync_types.specs.Replies.{is_reply_to}
+use Rattle.script_calls.specs.Replies.{is_reply_to}
 use Rattle.sync_types.specs.declared.atomic_object.Number.{Number}
 use Rattle.sync_types.specs.declared.atomic_object.Number.TheVariants.{Int64}
-use Rattle.sync_types.specs.declared.call.Operation.{Operation}
-use Rattle.sync_types.specs.declared.call.Operation.TheVariants as operations
-use Rattle.sync_types.specs.declared.call.Reply.{Reply}
-use Rattle.sync_types.specs.declared.call.Reply.TheVariants as replies
+use Rattle.script_calls.specs.declared.call.Operation.{Operation}
+use Rattle.script_calls.specs.declared.call.Operation.TheVariants as operations
+use Rattle.script_calls.specs.declared.call.Reply.{Reply}
+use Rattle.script_calls.specs.declared.call.Reply.TheVariants as replies
 use Rattle.sync_types.specs.declared.lock_call.LockReply.{LockReply}
 use Rattle.sync_types.specs.declared.lock_call.LockReply.TheVariants as lock_replies
 use Rattle.sync_types.specs.declared.lock_call.MutexCall.{MutexCall}

@@ -2,7 +2,7 @@
 use Rattle.std.proofs.Common.{◌≡◌, ℕ, ◌<◌, true, List, [], ◌∷◌, ◌++◌, get_or, length, Option, Some, refl, ap, ◌∙◌, arith}
 use Rattle.std.specs.Option.{option_map_or}
 use Rattle.std.proofs.lemmas.List.{get_or-set_same}
-use Rattle.sync_types.specs.declared.call.Call.{Call}
+use Rattle.script_calls.specs.declared.call.Call.{Call}
 use Rattle.workload.specs.Plan.{Plan}
 use Rattle.step_runner.specs.declared.turns.answer.Answer.{Answer}
 use Rattle.step_runner.specs.declared.turns.object_state.ObjectState.{ObjectState}

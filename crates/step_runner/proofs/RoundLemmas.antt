@@ -5,15 +5,15 @@ use Rattle.std.specs.List.{list_all, range_with_len}
 use Rattle.std.specs.Option.{option_map_or}
 use Rattle.std.proofs.lemmas.Bool.{eqb-true, eqb-false, ltb-true, ltb-false}
 use Rattle.std.proofs.lemmas.Option.{slice_get_past, slice_get_cases}
-use Rattle.sync_types.specs.declared.call.Call.{Call}
-use Rattle.sync_types.specs.declared.call.Reply.{Reply}
+use Rattle.script_calls.specs.declared.call.Call.{Call}
+use Rattle.script_calls.specs.declared.call.Reply.{Reply}
 use Rattle.workload.specs.declared.turn.Turn.{Turn}
 use Rattle.workload.specs.declared.turn.Turn.TheVariants as items
 use Rattle.workload.specs.Plan.{Plan}
 use Rattle.step_runner.specs.declared.step.Step.{Step}
 use Rattle.step_runner.specs.declared.step.Step.TheVariants as steps
-use Rattle.sync_types.specs.declared.outcome.Ending.{Ending}
-use Rattle.sync_types.specs.declared.outcome.Ending.TheVariants as endings
+use Rattle.script_calls.specs.declared.outcome.Ending.{Ending}
+use Rattle.script_calls.specs.declared.outcome.Ending.TheVariants as endings
 use Rattle.step_runner.specs.LeftToDo.{left_to_do}
 use Rattle.step_runner.specs.State.{State, with_moment, IsStateOf}
 use Rattle.step_runner.specs.OneTurns.{turn_at}

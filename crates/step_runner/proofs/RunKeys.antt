@@ -5,8 +5,8 @@ use Rattle.std.specs.List.{list_all, list_any, flat_map}
 use Rattle.std.specs.Str.{bytes_eq}
 use Rattle.std.specs.Option.{option_map_or}
 use Rattle.std.proofs.lemmas.List.Folds.{list_any-append}
-use Rattle.sync_types.specs.declared.call.Call.{Call}
-use Rattle.sync_types.specs.declared.call.Reply.{Reply}
+use Rattle.script_calls.specs.declared.call.Call.{Call}
+use Rattle.script_calls.specs.declared.call.Reply.{Reply}
 use Rattle.workload.specs.declared.object.ObjectKind.{ObjectKind}
 use Rattle.workload.specs.declared.turn.Turn.{Turn}
 use Rattle.workload.specs.declared.limits.TheConstants.{MAX_KEYS}
@@ -18,13 +18,13 @@ use Rattle.step_runner.specs.declared.turns.answer.Answer.TheVariants as answers
 use Rattle.step_runner.specs.declared.turns.object_state.ObjectState.{ObjectState}
 use Rattle.step_runner.specs.MapKeys.{AreAmong, HasObjectKeysIn}
 use Rattle.step_runner.specs.Objects.{new_object, EachAt}
-use Rattle.sync_types.specs.Outcome.{has_pairs_to, shows_to}
+use Rattle.script_calls.specs.Outcome.{has_pairs_to, shows_to}
 use Rattle.workload.specs.Keys.{keys_in, key_number}
 use Rattle.step_runner.specs.Pairs.{ShowsTo}
 use Rattle.step_runner.specs.OneTurns.{turn_at}
 use Rattle.step_runner.specs.declared.step.Step.TheVariants as steps
-use Rattle.sync_types.specs.declared.outcome.Ending.{Ending}
-use Rattle.sync_types.specs.declared.outcome.Ending.TheVariants as endings
+use Rattle.script_calls.specs.declared.outcome.Ending.{Ending}
+use Rattle.script_calls.specs.declared.outcome.Ending.TheVariants as endings
 use Rattle.workload.specs.Puts.{puts_at}
 use Rattle.step_runner.specs.State.{State, start}
 use Rattle.step_runner.specs.Ends.{numbered}

@@ -9,8 +9,8 @@ use Rattle.step_runner.specs.declared.step.Step.{Step}
 use Rattle.step_runner.specs.declared.step.Step.TheVariants as steps
 use Rattle.step_runner.specs.LeftToDo.{left_to_do}
 use Rattle.step_runner.specs.Outcomes.{is_misused}
-use Rattle.sync_types.specs.declared.outcome.Ending.{Ending}
-use Rattle.sync_types.specs.declared.outcome.Ending.TheVariants as endings
+use Rattle.script_calls.specs.declared.outcome.Ending.{Ending}
+use Rattle.script_calls.specs.declared.outcome.Ending.TheVariants as endings
 use Rattle.step_runner.specs.State.{State, start, with_moment, IsStateOf}
 use Rattle.step_runner.specs.Turns.{turn_of, item_of, with_event, and_then, items_of, round, has_ended}
 use Rattle.step_runner.specs.Computed.{behind_round, rounds_of, behind_schedule, whole_run}

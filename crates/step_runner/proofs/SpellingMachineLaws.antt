@@ -4,7 +4,7 @@ use Rattle.std.specs.Prelude.{length, nat_lt}
 use Rattle.std.specs.List.{list_any}
 use Rattle.std.specs.Str.{bytes_eq}
 use Rattle.std.proofs.lemmas.Bool.{lt-ltb}
-use Rattle.sync_types.specs.declared.call.Call.{Call}
+use Rattle.script_calls.specs.declared.call.Call.{Call}
 use Rattle.pool_core.specs.PoolMachine as pool
 use Rattle.pool_core.specs.declared.pool_event.PoolEvent.{PoolEvent}
 use Rattle.step_runner.specs.MachinesStand.{MachinesStand}

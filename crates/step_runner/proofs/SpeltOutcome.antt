@@ -3,12 +3,12 @@ use Rattle.std.proofs.Common.{◌≡◌, ℕ, zero, suc, ◌+◌, ◌≤◌, Lis
 use Rattle.std.specs.Prelude.{slice_get}
 use Rattle.std.specs.List.{range_with_len}
 use Rattle.std.proofs.lemmas.List.{length-map}
-use Rattle.sync_types.specs.declared.call.Reply.{Reply}
+use Rattle.script_calls.specs.declared.call.Reply.{Reply}
 use Rattle.sync_types.specs.declared.misuse.Misuse.{Misuse}
-use Rattle.sync_types.specs.declared.outcome.Outcome.{Outcome}
-use Rattle.sync_types.specs.declared.outcome.Outcome.TheVariants as outcomes
-use Rattle.sync_types.specs.declared.outcome.Report.{Report}
-use Rattle.sync_types.specs.Outcome.{left_by}
+use Rattle.script_calls.specs.declared.outcome.Outcome.{Outcome}
+use Rattle.script_calls.specs.declared.outcome.Outcome.TheVariants as outcomes
+use Rattle.script_calls.specs.declared.outcome.Report.{Report}
+use Rattle.script_calls.specs.Outcome.{left_by}
 use Rattle.workload.specs.declared.turn.Turn.{Turn}
 use Rattle.workload.specs.Draft.{all_keys, distinct_count}
 use Rattle.workload.specs.Plan.{Plan}

@@ -1,8 +1,8 @@
 -- The stage that a worker's call is at, by where the worker stands at the object: none, where it waits and isn't told to go on. With it, what an outcome makes of the call.
 use Rattle.std.specs.Prelude.{ℕ, Bool, true, false, List, map, Option, Some, None, Result}
 use Rattle.std.specs.List.{range_with_len}
-use Rattle.sync_types.specs.declared.call.Reply.{Reply}
-use Rattle.sync_types.specs.declared.call.Reply.TheVariants as replies
+use Rattle.script_calls.specs.declared.call.Reply.{Reply}
+use Rattle.script_calls.specs.declared.call.Reply.TheVariants as replies
 use Rattle.sync_types.specs.declared.lock_call.LockReply.{LockReply}
 use Rattle.sync_types.specs.declared.lock_call.MutexCall.{MutexCall}
 use Rattle.sync_types.specs.declared.lock_call.RwMutexCall.{RwMutexCall}

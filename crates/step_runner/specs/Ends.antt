@@ -4,12 +4,12 @@ use Rattle.std.specs.Ordering.{nat_cmp}
 use Rattle.std.specs.Cmp.Lexicographic.{slice_cmp}
 use Rattle.std.specs.FinMap.{FinMap}
 use Rattle.sync_types.specs.declared.atomic_object.Number.{Number}
-use Rattle.sync_types.specs.declared.call.Reply.{Reply}
-use Rattle.sync_types.specs.declared.outcome.End.{End}
-use Rattle.sync_types.specs.declared.outcome.Report.{Report}
+use Rattle.script_calls.specs.declared.call.Reply.{Reply}
+use Rattle.sync_types.specs.declared.end.End.{End}
+use Rattle.script_calls.specs.declared.outcome.Report.{Report}
 use Rattle.sync_types.specs.Ends.{FinalContents}
 use Rattle.sync_types.specs.Ends as ends
-use Rattle.sync_types.specs.Outcome.{with_keys_renamed}
+use Rattle.script_calls.specs.Outcome.{with_keys_renamed}
 use Rattle.workload.specs.Keys.{keys_in, key_number}
 use Rattle.workload.specs.Plan.{Plan}
 use Rattle.step_runner.specs.declared.turns.object_state.ObjectState.{ObjectState}

@@ -1,10 +1,10 @@
 -- That each reply has the form of its call's replies.
 use Rattle.std.specs.Prelude.{Bool, true, false, ◌&&◌, List, [], ◌∷◌}
-use Rattle.sync_types.specs.Outcome.{left_by}
-use Rattle.sync_types.specs.Replies.{is_reply_to}
-use Rattle.sync_types.specs.declared.call.Call.{Call}
-use Rattle.sync_types.specs.declared.call.Reply.{Reply}
-use Rattle.sync_types.specs.declared.outcome.Outcome.{Outcome}
+use Rattle.script_calls.specs.Outcome.{left_by}
+use Rattle.script_calls.specs.Replies.{is_reply_to}
+use Rattle.script_calls.specs.declared.call.Call.{Call}
+use Rattle.script_calls.specs.declared.call.Reply.{Reply}
+use Rattle.script_calls.specs.declared.outcome.Outcome.{Outcome}
 use Rattle.workload.specs.Plan.{Plan}
 
 -- the replies are to the first of these calls, one each

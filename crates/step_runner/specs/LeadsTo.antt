@@ -9,10 +9,10 @@ use Rattle.sync_model.specs.Log.{Entry, after, Follows}
 use Rattle.sync_types.specs.SequentialAtomic.{atomic_reply, atomic_after}
 use Rattle.sync_types.specs.SequentialMap.{map_reply, map_after}
 use Rattle.sync_types.specs.declared.atomic_object.Number.{Number}
-use Rattle.sync_types.specs.declared.call.Operation.{Operation}
-use Rattle.sync_types.specs.declared.call.Operation.TheVariants as operations
-use Rattle.sync_types.specs.declared.call.Reply.{Reply}
-use Rattle.sync_types.specs.declared.call.Reply.TheVariants as replies
+use Rattle.script_calls.specs.declared.call.Operation.{Operation}
+use Rattle.script_calls.specs.declared.call.Operation.TheVariants as operations
+use Rattle.script_calls.specs.declared.call.Reply.{Reply}
+use Rattle.script_calls.specs.declared.call.Reply.TheVariants as replies
 use Rattle.mutex_core.specs.MutexMachine as mutex
 use Rattle.rw_core.specs.RwMachine as rw
 use Rattle.wait_cores.specs.NotifyMachine as notify

@@ -1,10 +1,10 @@
 -- What is left of a call to be spelt, by where its worker stands.
 use Rattle.std.specs.Prelude.{ℕ, Bool, true, false, List, Option, Some, None, slice_get}
-use Rattle.sync_types.specs.declared.call.Call.{Call}
-use Rattle.sync_types.specs.declared.call.Operation.{Operation}
-use Rattle.sync_types.specs.declared.call.Operation.TheVariants as operations
-use Rattle.sync_types.specs.declared.call.Reply.{Reply}
-use Rattle.sync_types.specs.declared.call.Reply.TheVariants as replies
+use Rattle.script_calls.specs.declared.call.Call.{Call}
+use Rattle.script_calls.specs.declared.call.Operation.{Operation}
+use Rattle.script_calls.specs.declared.call.Operation.TheVariants as operations
+use Rattle.script_calls.specs.declared.call.Reply.{Reply}
+use Rattle.script_calls.specs.declared.call.Reply.TheVariants as replies
 use Rattle.sync_types.specs.declared.lock_call.MutexCall.{MutexCall}
 use Rattle.sync_types.specs.declared.lock_call.RwMutexCall.{RwMutexCall}
 use Rattle.sync_types.specs.declared.lock_call.RwMutexCall.TheVariants as rw_calls

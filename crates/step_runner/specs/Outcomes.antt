@@ -5,9 +5,9 @@ use Rattle.workload.specs.declared.turn.Turn.{Turn}
 use Rattle.workload.specs.Plan.{Plan}
 use Rattle.step_runner.specs.declared.step.Step.{Step}
 use Rattle.step_runner.specs.declared.step.Step.TheVariants as steps
-use Rattle.sync_types.specs.declared.outcome.Report.{Report}
-use Rattle.sync_types.specs.declared.outcome.Outcome.{Outcome}
-use Rattle.sync_types.specs.declared.outcome.Outcome.TheVariants as outcomes
+use Rattle.script_calls.specs.declared.outcome.Report.{Report}
+use Rattle.script_calls.specs.declared.outcome.Outcome.{Outcome}
+use Rattle.script_calls.specs.declared.outcome.Outcome.TheVariants as outcomes
 use Rattle.step_runner.specs.State.{State, start}
 use Rattle.step_runner.specs.Turns.{items_of, round, has_ended}
 use Rattle.step_runner.specs.Ends.{scheduled_ends, left_in}

@@ -1,6 +1,6 @@
 -- How many pairs a `range` shows.
 use Rattle.std.specs.Prelude.{◌≡◌, ℕ, true}
-use Rattle.sync_types.specs.Outcome.{has_pairs_to}
+use Rattle.script_calls.specs.Outcome.{has_pairs_to}
 use Rattle.step_runner.specs.declared.turns.answer.Answer.{Answer}
 use Rattle.step_runner.specs.declared.turns.answer.Answer.TheVariants as answers
 

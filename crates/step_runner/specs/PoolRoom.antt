@@ -1,6 +1,6 @@
 -- That a pool has room for puts.
 use Rattle.std.specs.Prelude.{◌≡◌, ℕ, ◌+◌, ◌-◌, ◌≤◌, if◌then◌else◌, List, length, slice_get, Some}
-use Rattle.sync_types.specs.declared.call.Call.{Call}
+use Rattle.script_calls.specs.declared.call.Call.{Call}
 use Rattle.pool_core.specs.PoolParts.{PoolPart}
 use Rattle.pool_core.specs.PoolMachine as pool
 use Rattle.workload.specs.Puts.{is_put_at}

@@ -1,7 +1,7 @@
 -- That a reply has the form of its call's replies.
 use Rattle.std.specs.Prelude.{◌≡◌, true}
-use Rattle.sync_types.specs.Replies.{is_reply_to}
-use Rattle.sync_types.specs.declared.call.Operation.{Operation}
+use Rattle.script_calls.specs.Replies.{is_reply_to}
+use Rattle.script_calls.specs.declared.call.Operation.{Operation}
 use Rattle.step_runner.specs.declared.turns.answer.Answer.{Answer}
 use Rattle.step_runner.specs.declared.turns.answer.Answer.TheVariants as answers
 

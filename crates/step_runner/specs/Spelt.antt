@@ -1,11 +1,11 @@
 -- How the items of a run fall into the calls of its scripts, in the words of a record.
 use Rattle.std.specs.Prelude.{◌≡◌, ℕ, ◌==◌, ◌&&◌, if◌then◌else◌, List, [], ◌∷◌, ◌++◌, map, filter, take, length, get_or, slice_get, Option, Some, None}
 use Rattle.std.specs.List.{range_with_len, flat_map}
-use Rattle.sync_types.specs.declared.call.Call.{Call}
-use Rattle.sync_types.specs.declared.call.Reply.{Reply}
+use Rattle.script_calls.specs.declared.call.Call.{Call}
+use Rattle.script_calls.specs.declared.call.Reply.{Reply}
 use Rattle.sync_types.specs.declared.misuse.Misuse.{Misuse}
-use Rattle.sync_types.specs.declared.outcome.Outcome.{Outcome}
-use Rattle.sync_types.specs.Outcome.{left_by}
+use Rattle.script_calls.specs.declared.outcome.Outcome.{Outcome}
+use Rattle.script_calls.specs.Outcome.{left_by}
 use Rattle.workload.specs.Plan.{Plan}
 use Rattle.workload.specs.declared.turn.Turn.{Turn}
 use Rattle.workload.specs.declared.turn.Turn.TheVariants as items

@@ -1,9 +1,9 @@
 -- At which mutex a worker stands while its call isn't completed.
 use Rattle.std.specs.Prelude.{◌≡◌, ℕ, Bool, true, false, if◌then◌else◌, List, slice_get, unwrap_or, Option, Some, None}
 use Rattle.std.specs.Option.{option_map_or}
-use Rattle.sync_types.specs.declared.call.Call.{Call}
-use Rattle.sync_types.specs.declared.call.Operation.{Operation}
-use Rattle.sync_types.specs.declared.call.Operation.TheVariants as operations
+use Rattle.script_calls.specs.declared.call.Call.{Call}
+use Rattle.script_calls.specs.declared.call.Operation.{Operation}
+use Rattle.script_calls.specs.declared.call.Operation.TheVariants as operations
 use Rattle.sync_types.specs.declared.lock_call.MutexCall.TheVariants as mutex_calls
 use Rattle.sync_types.specs.declared.lock_call.RwMutexCall.TheVariants as rw_calls
 use Rattle.sync_types.specs.declared.wait_call.CondCall.TheVariants as cond_calls

@@ -2,7 +2,7 @@
 use Rattle.std.specs.Prelude.{◌≡◌, List, [], ◌++◌, Ok, Err}
 use Rattle.std.specs.Prelude.{ℕ}
 use Rattle.sync_model.specs.declared.answer.Answer.TheVariants.{Done}
-use Rattle.sync_types.specs.declared.call.Reply.{Reply}
+use Rattle.script_calls.specs.declared.call.Reply.{Reply}
 use Rattle.protocols.specs.Spelling.{CallAnswer}
 use Rattle.workload.specs.Plan.{Plan}
 use Rattle.run_record.specs.Parts.{Part}

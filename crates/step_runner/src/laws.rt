@@ -6,8 +6,8 @@ ghost use Rattle.std.specs.Ordering.{nat_cmp};
 ghost use Rattle.std.specs.Cmp.Lexicographic.{slice_cmp};
 ghost use Rattle.std.specs.FinMap.{FinMap, contains_key};
 ghost use Rattle.sync_types.specs.declared.atomic_object.Number.{Number};
-ghost use Rattle.sync_types.specs.declared.call.Call.{Call};
-ghost use Rattle.sync_types.specs.declared.call.Operation.TheVariants as operations;
+ghost use Rattle.script_calls.specs.declared.call.Call.{Call};
+ghost use Rattle.script_calls.specs.declared.call.Operation.TheVariants as operations;
 ghost use Rattle.sync_types.specs.declared.misuse.Misuse.{Misuse};
 ghost use Rattle.sync_types.specs.declared.pool_call.PoolCall.{PoolCall};
 ghost use Rattle.sync_types.specs.SequentialAtomic as atomics;
@@ -29,11 +29,11 @@ ghost use Rattle.step_runner.specs.declared.turns.object_state.ObjectState.TheVa
 ghost use Rattle.step_runner.specs.Completes.{takes_one_turn};
 ghost use Rattle.step_runner.specs.PlacedCalls.{is_placed};
 ghost use Rattle.step_runner.specs.Objects.{kind_of, IsMachineOf};
-ghost use Rattle.sync_types.specs.Outcome.{has_pairs_to};
+ghost use Rattle.script_calls.specs.Outcome.{has_pairs_to};
 ghost use Rattle.step_runner.specs.declared.step.Step.TheVariants as steps;
-ghost use Rattle.sync_types.specs.declared.outcome.Report.{Report};
-ghost use Rattle.sync_types.specs.declared.outcome.Outcome.{Outcome};
-ghost use Rattle.sync_types.specs.declared.outcome.Outcome.TheVariants as outcomes;
+ghost use Rattle.script_calls.specs.declared.outcome.Report.{Report};
+ghost use Rattle.script_calls.specs.declared.outcome.Outcome.{Outcome};
+ghost use Rattle.script_calls.specs.declared.outcome.Outcome.TheVariants as outcomes;
 ghost use Rattle.step_runner.specs.CallTurns.{advances, requeues, wakes, count_turns};
 ghost use Rattle.step_runner.specs.Ends.{scheduled_ends};
 ghost use Rattle.step_runner.specs.LeftToDo.{left_to_do};
@@ -55,8 +55,8 @@ use crate::turns::laws::{
     some_calls_take_one_turn, turns_keep_kinds_and_machines, turns_use_something_up,
     workers_stand_in_their_calls,
 };
+use script_calls::laws as form;
 use sync_types::Name;
-use sync_types::laws::replies as form;
 use workload::laws::keys_are_numbered_by_first_appearance;
 
 /// What is true of the state in which a run begins stays true with each turn, and so at every moment:

@@ -1,11 +1,12 @@
 //! Replies with the numbers of keys in place of their names.
 ghost use Rattle.std.specs.Prelude.{◌≡◌, map, IfOk};
-ghost use Rattle.sync_types.specs.Outcome.{with_keys_renamed};
+ghost use Rattle.script_calls.specs.Outcome.{with_keys_renamed};
 ghost use Rattle.workload.specs.Keys.{key_number};
 ghost use Rattle.step_runner.specs.Ends.{numbered};
 
+use script_calls::Reply;
 use std::alloc::{AllocError, Global};
-use sync_types::{Name, Reply, Seq};
+use sync_types::{Name, Seq};
 use workload::{Keys, Workload};
 
 /// The number of a key, or 0 for a name that is none.

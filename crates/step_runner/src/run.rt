@@ -1,6 +1,6 @@
 //! The run of a workload by its schedule.
 ghost use Rattle.std.specs.Prelude.{◌≡◌, true, IfOk};
-ghost use Rattle.sync_types.specs.Outcome.{shows_to};
+ghost use Rattle.script_calls.specs.Outcome.{shows_to};
 ghost use Rattle.workload.specs.declared.limits.TheConstants.{MAX_KEYS};
 ghost use Rattle.workload.specs.Plan.{is_turn};
 ghost use Rattle.step_runner.specs.Forms.{has_forms};
@@ -16,8 +16,9 @@ use crate::state::State;
 use crate::step::Step;
 use crate::turn::{next_call, take_turn};
 use crate::turns::laws::maps_keep_to_the_keys_of_calls;
+use script_calls::{Ending, Outcome, Report};
 use std::alloc::{AllocError, Global};
-use sync_types::{Ending, Outcome, Report, Seq};
+use sync_types::Seq;
 use workload::{Turn, Workload};
 
 /// Takes an item of the schedule. A moment sets the clock, which is no event.

@@ -7,9 +7,10 @@ ghost use Rattle.step_runner.specs.Turns.{settled};
 use crate::laws;
 use crate::step::Step;
 use crate::turns::{Answer, ObjectState};
+use script_calls::Reply;
 use std::alloc::{AllocError, Global};
 use std::marker::Model;
-use sync_types::{Name, Reply, Seq};
+use sync_types::{Name, Seq};
 use workload::Workload;
 
 /// The clock's moment, the objects, and for each worker the replies to its calls so far.

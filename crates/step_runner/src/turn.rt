@@ -8,8 +8,8 @@ use crate::laws;
 use crate::state::State;
 use crate::step::Step;
 use crate::turns::{Taker, take_turn_at};
+use script_calls::Call;
 use std::alloc::{AllocError, Global};
-use sync_types::Call;
 use workload::Workload;
 
 /// The call before which a worker stands, unless its script has ended.

@@ -15,8 +15,8 @@ use Rattle.std.proofs.lemmas.List.Elements.{All-contains, All-from_recursion, re
 use Rattle.std.proofs.lemmas.Map.Keys.{sorted_head, sorted_tail}
 use Rattle.std.specs.FinMap.{FinMap, empty, get, get-entries, entries, entries_sorted, get-from_entries, from_sorted, entries-from_sorted, get-from_sorted, find, is_sorted, same_map, nat_cmp-IsAntisymmetric, slice_cmp-IsAntisymmetric}
 use Rattle.std.specs.FinMap.Entries.{below_all}
-use Rattle.sync_types.specs.declared.outcome.End.{End}
-use Rattle.sync_types.specs.declared.outcome.End.TheVariants as ends
+use Rattle.sync_types.specs.declared.end.End.{End}
+use Rattle.sync_types.specs.declared.end.End.TheVariants as ends
 use Rattle.sync_types.specs.Ends.{number_end, pair_ends}
 use Rattle.sync_model.specs.SharedHistory.{Contents}
 use Rattle.sync_model.specs.EndsOfHistory.{pair_ends_by, ends_by}

@@ -4,8 +4,8 @@ use Rattle.std.specs.List.{flat_map}
 use Rattle.std.specs.declared.cmp.Ordering.{Ordering}
 use Rattle.std.specs.FinMap.{FinMap, entries}
 use Rattle.sync_types.specs.declared.atomic_object.Number.{Number}
-use Rattle.sync_types.specs.declared.outcome.End.{End}
-use Rattle.sync_types.specs.declared.outcome.End.TheVariants as ends
+use Rattle.sync_types.specs.declared.end.End.{End}
+use Rattle.sync_types.specs.declared.end.End.TheVariants as ends
 
 -- the numbers of the atomics and the maps, each with its object's place, in order of declaration; keys of any type, in an order
 pub record FinalContents (K : Type 0) (R : K → K → Ordering) : Type 0 where

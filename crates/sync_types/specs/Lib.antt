@@ -5,7 +5,6 @@ pub mod KeyCalls
 pub mod MapLaws
 pub mod Misuse
 pub mod Name
-pub mod Outcome
 pub mod Renaming
 pub mod Replies
 pub mod SequentialAtomic

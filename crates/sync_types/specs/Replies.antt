@@ -1,9 +1,5 @@
--- Which replies each call may have, by the table of `sync` and `sync/atomic`.
+-- The forms of the replies of each kind of object, by the table of `sync` and `sync/atomic`.
 use Rattle.std.specs.Prelude.{Bool, true, false}
-use Rattle.sync_types.specs.declared.call.Operation.{Operation}
-use Rattle.sync_types.specs.declared.call.Operation.TheVariants as operations
-use Rattle.sync_types.specs.declared.call.Reply.{Reply}
-use Rattle.sync_types.specs.declared.call.Reply.TheVariants as replies
 use Rattle.sync_types.specs.declared.map_object.MapCall.{MapCall}
 use Rattle.sync_types.specs.declared.map_object.MapCall.TheVariants as map_calls
 use Rattle.sync_types.specs.declared.map_object.MapReply.{MapReply}
@@ -110,18 +106,3 @@ abbrev pub pool_form : PoolCall → PoolCallReply → Bool
 pool_form (pool_calls.Put item) reply = is_pool_done reply
 pool_form pool_calls.Get reply = is_item reply
 pool_form pool_calls.Sweep reply = is_pool_done reply
-
--- whether a reply has the form of its call's replies
-abbrev pub is_reply_to : {K : Type 0} → Operation → Reply K → Bool
-is_reply_to (operations.Map call) (replies.Map reply) = map_form call reply
-is_reply_to operations.Range (replies.Pairs pairs) = true
-is_reply_to (operations.Atomic call) (replies.Atomic reply) = atomic_form call reply
-is_reply_to (operations.Mutex call) (replies.Lock reply) = mutex_form call reply
-is_reply_to (operations.RwMutex call) (replies.Lock reply) = rw_mutex_form call reply
-is_reply_to (operations.Cond call) replies.Returned = true
-is_reply_to (operations.WaitGroup call) replies.Returned = true
-is_reply_to operations.Once (replies.Once reply) = true
-is_reply_to operations.OnceFunc (replies.OnceFunc code) = true
-is_reply_to operations.OnceValue (replies.OnceValue value) = true
-is_reply_to (operations.Pool call) (replies.Pool reply) = pool_form call reply
-is_reply_to operation reply = false

@@ -1,8 +1,9 @@
 //! The texts of three seeds, and what one thread comes to that makes their calls.
 use made_workload::generate;
+use script_calls::{Call, Operation};
 use std::alloc::Global;
 use std::test::Fail;
-use sync_types::{AtomicCall, ByName, Call, Number, Operation, map_object};
+use sync_types::{AtomicCall, ByName, Number, map_object};
 use workload::Workload;
 use workload_text::parse;
 

@@ -1,11 +1,9 @@
 //! Runs by schedule: what each call answers, and what is left.
+use script_calls::{Outcome, Reply, Report};
 use std::alloc::{AllocError, Global};
 use std::test::Fail;
 use step_runner::stepped;
-use sync_types::{
-    AtomicReply, DoReply, End, LockReply, MapReply, Name, Number, Outcome, PoolCallReply, Reply,
-    Report,
-};
+use sync_types::{AtomicReply, DoReply, End, LockReply, MapReply, Name, Number, PoolCallReply};
 use workload::keys::key_name;
 use workload_text::parse;
 

@@ -1,7 +1,7 @@
 -- Which calls are made on one object, and on no other one but maps and atomics.
 use Rattle.std.specs.Prelude.{◌≡◌, true}
-use Rattle.sync_types.specs.declared.call.Operation.{Operation}
-use Rattle.sync_types.specs.declared.call.Operation.TheVariants as operations
+use Rattle.script_calls.specs.declared.call.Operation.{Operation}
+use Rattle.script_calls.specs.declared.call.Operation.TheVariants as operations
 use Rattle.sync_types.specs.declared.wait_call.CondCall.TheVariants as cond_calls
 use Rattle.workload.specs.declared.object.ObjectKind.{ObjectKind}
 use Rattle.workload.specs.Plan.{has_call}

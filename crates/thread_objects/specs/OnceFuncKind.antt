@@ -1,8 +1,8 @@
 -- What is the own of a function made by `OnceFunc`.
 use Rattle.std.specs.Global.{Vec}
 use Rattle.std.specs.Prelude.{ℕ, Bool, Option, Some, None}
-use Rattle.sync_types.specs.declared.call.Reply.{Reply}
-use Rattle.sync_types.specs.declared.call.Reply.TheVariants as reply_of
+use Rattle.script_calls.specs.declared.call.Reply.{Reply}
+use Rattle.script_calls.specs.declared.call.Reply.TheVariants as reply_of
 use Rattle.wait_cores.specs.declared.once.OnceEvent.{OnceEvent}
 use Rattle.wait_cores.specs.declared.once.OnceReply.{OnceReply}
 use Rattle.wait_cores.specs.OnceMachine.{OnceState, start}

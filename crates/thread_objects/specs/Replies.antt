@@ -1,8 +1,8 @@
 -- What calls of a workload reply, of the kinds that reply alike.
 use Rattle.std.specs.Prelude.{ℕ, Result, Ok, Err}
 use Rattle.sync_model.specs.declared.answer.Answer.TheVariants.{Done, Halted}
-use Rattle.sync_types.specs.declared.call.Reply.{Reply}
-use Rattle.sync_types.specs.declared.call.Reply.TheVariants as replies
+use Rattle.script_calls.specs.declared.call.Reply.{Reply}
+use Rattle.script_calls.specs.declared.call.Reply.TheVariants as replies
 use Rattle.sync_types.specs.declared.lock_call.LockReply.{LockReply}
 use Rattle.protocols.specs.Spelling.{CallAnswer}
 

@@ -18,10 +18,10 @@ use crate::kind::DeclaredKind;
 use crate::object::AnyObject;
 use crate::parts::{CallAnswer, Catalog, Worker};
 use crate::pass::AnyPass;
+use script_calls::Operation;
 use std::sync::Wait;
 use sync_model::{Caller, Shared};
 use sync_outside::Clock;
-use sync_types::Operation;
 use workload::ObjectKind;
 
 /// Makes a call on an object that is declared so, and on no other one but maps and atomics. It may wait for other workers. `None`,

@@ -16,11 +16,11 @@ ghost use Rattle.thread_objects.specs.Passes.{SeatOf};
 use crate::parts::{CallAnswer, Catalog, Worker};
 use protocols::Protocol;
 use ruled_object::{Object, PassOf};
+use script_calls::Operation;
 use std::alloc::{AllocError, Global};
 use std::sync::Wait;
 use sync_model::{Caller, Shared, Worded};
 use sync_outside::Clock;
-use sync_types::Operation;
 use workload::ObjectKind;
 
 /// A kind of object that a workload declares and that is one object of a run: how it begins, and a worker's calls on it. What

@@ -4,7 +4,7 @@ use Rattle.std.specs.Prelude.{All}
 use Rattle.std.proofs.lemmas.Bool.{cases_lt}
 use Rattle.std.proofs.lemmas.List.Elements.{All-nil}
 use Rattle.std.proofs.lemmas.Option.{none-some, same_Some, slice_get_cases, slice_get_within, slice_get-get_or, get_or_from_slice_get}
-use Rattle.sync_types.specs.declared.call.Reply.{Reply}
+use Rattle.script_calls.specs.declared.call.Reply.{Reply}
 use Rattle.sync_model.specs.declared.caller.Caller.{Caller}
 use Rattle.sync_types.specs.declared.atomic_object.AtomicCall.TheVariants.{Add}
 use Rattle.sync_types.specs.declared.atomic_object.AtomicReply.TheVariants.{Held}

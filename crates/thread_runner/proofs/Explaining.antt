@@ -1,12 +1,12 @@
 -- The record of a run explains what the run comes to.
 use Rattle.std.proofs.Common.{◌≡◌, ℕ, List, [], get_or, Some, None, slice_get, All, refl}
-use Rattle.sync_types.specs.declared.call.Reply.{Reply}
+use Rattle.script_calls.specs.declared.call.Reply.{Reply}
 use Rattle.sync_model.specs.declared.item.Item.{Item}
 use Rattle.sync_model.specs.declared.item.SharedEntry.{SharedEntry}
 use Rattle.sync_types.specs.declared.misuse.Misuse.{Misuse}
-use Rattle.sync_types.specs.declared.outcome.Outcome.{Outcome}
-use Rattle.sync_types.specs.declared.outcome.Outcome.TheVariants.{Done, Misused}
-use Rattle.sync_types.specs.declared.outcome.Report.{Report}
+use Rattle.script_calls.specs.declared.outcome.Outcome.{Outcome}
+use Rattle.script_calls.specs.declared.outcome.Outcome.TheVariants.{Done, Misused}
+use Rattle.script_calls.specs.declared.outcome.Report.{Report}
 use Rattle.sync_model.specs.Journal.{halt_of}
 use Rattle.workload.specs.Plan.{Plan}
 use Rattle.run_record.specs.Explains.{AreLines, IsRecordOf, HasEnded}

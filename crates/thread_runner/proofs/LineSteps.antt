@@ -4,8 +4,8 @@ use Rattle.std.specs.List.{flat_map}
 use Rattle.std.proofs.lemmas.List.{append-nil, append_assoc, take-append-drop, take_all, map_push, length-append}
 use Rattle.std.proofs.lemmas.Option.{none-some}
 use Rattle.sync_model.specs.declared.answer.Answer.TheVariants.{Done, Halted}
-use Rattle.sync_types.specs.declared.call.Call.{Call}
-use Rattle.sync_types.specs.declared.call.Reply.{Reply}
+use Rattle.script_calls.specs.declared.call.Call.{Call}
+use Rattle.script_calls.specs.declared.call.Reply.{Reply}
 use Rattle.sync_model.specs.declared.item.Item.{Item}
 use Rattle.sync_model.specs.declared.journal.Deed.TheVariants.{Halt}
 use Rattle.sync_types.specs.declared.misuse.Misuse.{Misuse}

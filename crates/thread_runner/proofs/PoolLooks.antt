@@ -2,8 +2,8 @@
 use Rattle.std.proofs.Common.{◌≡◌, ℕ, ◌+◌, ◌-◌, ◌*◌, ◌<◌, suc, List, [], ◌∷◌, map, Ok, refl, sym, ap, ◌∙◌, subst, arith}
 use Rattle.std.specs.List.{range_with_len}
 use Rattle.sync_model.specs.declared.answer.Answer.TheVariants.{Done, Halted}
-use Rattle.sync_types.specs.declared.call.Reply.{Reply}
-use Rattle.sync_types.specs.declared.call.Reply.TheVariants as replies
+use Rattle.script_calls.specs.declared.call.Reply.{Reply}
+use Rattle.script_calls.specs.declared.call.Reply.TheVariants as replies
 use Rattle.sync_types.specs.declared.misuse.Misuse.{Misuse}
 use Rattle.sync_types.specs.declared.pool_call.PoolCallReply.TheVariants as pool_replies
 use Rattle.pool_core.specs.declared.pool_event.PoolEvent.{PoolEvent}

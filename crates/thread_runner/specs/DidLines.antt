@@ -1,8 +1,8 @@
 -- What a worker did of its script, from its first call to its end.
 use Rattle.std.specs.Prelude.{◌≡◌, ℕ, List, [], map, take, Some}
 use Rattle.std.specs.List.{flat_map}
-use Rattle.sync_types.specs.declared.call.Call.{Call}
-use Rattle.sync_types.specs.declared.call.Reply.{Reply}
+use Rattle.script_calls.specs.declared.call.Call.{Call}
+use Rattle.script_calls.specs.declared.call.Reply.{Reply}
 use Rattle.workload.specs.Plan.{Plan}
 use Rattle.run_record.specs.Explains.{HasEnded}
 use Rattle.run_record.specs.Lines.{Line, SpeltCall, script_of, items_of, replies_of, HaltsStop, AreSpelt, IsLineOf}

@@ -2,7 +2,7 @@
 use Rattle.std.specs.Prelude.{◌≡◌, ℕ, ◌+◌, ◌*◌, ◌<◌, ◌≤◌, List, [], Contains, Option, Some, length, get_or, slice_get}
 use Rattle.std.specs.Option.{ForSome}
 use Rattle.sync_model.specs.declared.caller.Caller.{Caller}
-use Rattle.sync_types.specs.declared.outcome.End.{End}
+use Rattle.sync_types.specs.declared.end.End.{End}
 use Rattle.sync_model.specs.Note.{Holding}
 use Rattle.sync_model.specs.Shared.{items_of}
 use Rattle.workload.specs.Keys.{keys_in, key_number, key_name}

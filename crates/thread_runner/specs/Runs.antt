@@ -3,11 +3,11 @@ use Rattle.std.specs.Prelude.{◌≡◌, ℕ, List, [], Option}
 use Rattle.sync_model.specs.declared.caller.Caller.{Caller}
 use Rattle.sync_model.specs.declared.item.Item.{Item}
 use Rattle.sync_model.specs.declared.item.SharedEntry.{SharedEntry}
-use Rattle.sync_types.specs.declared.outcome.End.{End}
-use Rattle.sync_types.specs.declared.outcome.Outcome.{Outcome}
-use Rattle.sync_types.specs.declared.outcome.Outcome.TheVariants.{Done, Misused, Deadlocked}
+use Rattle.sync_types.specs.declared.end.End.{End}
+use Rattle.script_calls.specs.declared.outcome.Outcome.{Outcome}
+use Rattle.script_calls.specs.declared.outcome.Outcome.TheVariants.{Done, Misused, Deadlocked}
 use Rattle.sync_model.specs.Note.{Holding}
-use Rattle.sync_types.specs.Outcome.{left_by}
+use Rattle.script_calls.specs.Outcome.{left_by}
 use Rattle.sync_model.specs.Shared.{AreAllCallers, Settled}
 use Rattle.sync_model.specs.Shared as shared
 use Rattle.sync_model.specs.SharedHistory.{contents_after}

@@ -17,10 +17,10 @@ ghost use Rattle.thread_objects.specs.Kinds.{HasWord, IsOfKind};
 ghost use Rattle.thread_objects.specs.Passes.{owns_of};
 
 use crate::wait::wait;
+use script_calls::Operation;
 use std::sync::Wait;
 use sync_model::{Caller, Note, Shared};
 use sync_outside::Clock;
-use sync_types::Operation;
 use thread_objects::{AnyObject, AnyPass, CallAnswer, Catalog, Worker, call_any};
 use workload::ObjectKind;
 

@@ -4,8 +4,9 @@ ghost use Rattle.std.specs.List.{flat_map};
 ghost use Rattle.run_record.specs.Objects.{is_map, is_atomic, is_pool, places_from, types_of};
 ghost use Rattle.thread_runner.specs.Sites.{cost_of_call, cost_of_calls};
 
+use script_calls::{Call, Operation};
 use std::alloc::{AllocError, Global};
-use sync_types::{AtomicKind, Call, MapCall, Operation};
+use sync_types::{AtomicKind, MapCall};
 use workload::{ObjectKind, Workload};
 
 // Whether an object of this kind is a map.

@@ -2,9 +2,10 @@
 ghost use Rattle.std.specs.Prelude.{◌≡◌, ◌≤◌, map, IfOk, vec_len, vec_capacity, []};
 
 use crate::job::Gone;
+use script_calls::Reply;
 use std::alloc::{AllocError, Global};
 use sync_model::Caller;
-use sync_types::{BoundedSeq, Reply, Seq};
+use sync_types::{BoundedSeq, Seq};
 use thread_objects::AnyPass;
 
 /// What the workers leave, in order of number.

@@ -6,10 +6,11 @@ ghost use Rattle.thread_runner.specs.Sites.{AreRooms, ranges_in_calls};
 
 use crate::job::Job;
 use crate::site::Site;
+use script_calls::{Call, Operation};
 use std::alloc::{AllocError, Global};
 use sync_model::{Caller, Shared};
 use sync_outside::{At, Clock, Gate};
-use sync_types::{BoundedSeq, Call, Operation};
+use sync_types::BoundedSeq;
 use thread_objects::{AnyObject, AnyPass, Catalog, Worker};
 use workload::Workload;
 

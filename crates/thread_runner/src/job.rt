@@ -3,10 +3,11 @@ ghost use Rattle.std.specs.Prelude.{◌≡◌};
 
 use crate::script::run_script;
 use crate::site::Site;
+use script_calls::Reply;
 use std::sync::Wait;
 use sync_model::{Caller, Note, Shared};
 use sync_outside::{Clock, Gate, Work};
-use sync_types::{BoundedSeq, Reply, Seq};
+use sync_types::{BoundedSeq, Seq};
 use thread_objects::{AnyPass, Worker};
 
 /// A worker, with all that its script takes.

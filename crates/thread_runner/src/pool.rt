@@ -19,10 +19,11 @@ ghost use Rattle.thread_runner.specs.Replies.{pool_done};
 ghost use Rattle.thread_objects.specs.Working.{Works, desk_at, desk_with};
 
 use protocols::{PoolOutcome, PoolStage};
+use script_calls::Reply;
 use std::sync::Wait;
 use sync_model::{Answer, Note};
 use sync_outside::Clock;
-use sync_types::{Misuse, PoolCall, PoolCallReply, Reply};
+use sync_types::{Misuse, PoolCall, PoolCallReply};
 use thread_objects::parts::laws::moves;
 use thread_objects::{AnyObject, AnyPass, CallAnswer, Worker, part};
 

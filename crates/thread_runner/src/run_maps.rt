@@ -13,10 +13,11 @@ ghost use Rattle.thread_runner.specs.Runs.{HasRun};
 
 use crate::ends_plan::EndsPlan;
 use run_record::laws::limits::maps_end_with_the_workloads_keys;
+use script_calls::{Outcome, Report};
 use std::alloc::{AllocError, Global};
 use sync_model::laws::ends::ends_are_in_name_order;
 use sync_model::{Caller, Shared};
-use sync_types::{End, Outcome, Report, Seq};
+use sync_types::{End, Seq};
 use workload::Workload;
 
 /// Maps and atomics that a run makes before its start, and takes apart once all workers have ended.

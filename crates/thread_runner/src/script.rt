@@ -15,10 +15,11 @@ ghost use Rattle.thread_runner.specs.DidLines.{DidLine, IsFresh};
 use crate::dispatch::make_call;
 use crate::halting::halt_all;
 use crate::site::Site;
+use script_calls::Reply;
 use std::sync::Wait;
 use sync_model::{Answer, Caller, Note, Shared};
 use sync_outside::{Clock, Gate};
-use sync_types::{BoundedSeq, Reply};
+use sync_types::BoundedSeq;
 use thread_objects::parts::laws::moves;
 use thread_objects::{AnyPass, Worker};
 

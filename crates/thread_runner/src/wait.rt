@@ -12,10 +12,11 @@ ghost use Rattle.thread_objects.specs.Working.{Works, desk_with};
 
 use crate::desk::{cond_at, mutex_at};
 use protocols::{CondStage, MutexStage};
+use script_calls::Reply;
 use std::sync::Wait;
 use sync_model::{Answer, Note};
 use sync_outside::Clock;
-use sync_types::{LockReply, Misuse, Reply};
+use sync_types::{LockReply, Misuse};
 use thread_objects::parts::laws::moves;
 use thread_objects::{AnyObject, AnyPass, CallAnswer, Worker, gone_on};
 

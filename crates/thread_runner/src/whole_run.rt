@@ -10,12 +10,12 @@ use crate::fault::RunFault;
 use crate::run::threaded_over;
 use crate::run_maps::{RunMaps, finish};
 use go_map::Trie;
+use script_calls::Outcome;
 use std::alloc::Global;
 use std::sync::Wait;
 use std::thread::Threads;
 use sync_model::Note;
 use sync_outside::{Clock, Gate, Spawner};
-use sync_types::Outcome;
 use workload::Workload;
 
 // The run over these maps and atomics, whatever they are.

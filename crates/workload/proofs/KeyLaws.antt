@@ -6,7 +6,7 @@ use Rattle.std.specs.Option.{option_map_or}
 use Rattle.std.specs.Str.{bytes_eq}
 use Rattle.std.proofs.lemmas.Option.{slice_get_within, get_or_from_slice_get}
 use Rattle.std.proofs.lemmas.Slice.Eq.{bytes_eq-Decides}
-use Rattle.sync_types.specs.declared.call.Call.{Call}
+use Rattle.script_calls.specs.declared.call.Call.{Call}
 use Rattle.workload.specs.Draft.{all_keys}
 use Rattle.workload.specs.Keys.{with_name, with_names, keys_in, number_in, key_number, key_name}
 use Rattle.workload.proofs.KeyNumbers.{some_found, position_push, any_names, any_name, eq_self, longer_name}

@@ -9,7 +9,7 @@ use Rattle.std.specs.FinMap.{FinMap, get, insert, len, len-empty, len-insert, fr
 use Rattle.std.proofs.lemmas.List.Folds.{list_any-append}
 use Rattle.std.proofs.lemmas.Slice.Eq.{bytes_eq-Decides}
 use Rattle.std.proofs.lemmas.Map.Text.{is_eq-slice_cmp}
-use Rattle.sync_types.specs.declared.call.Call.{Call}
+use Rattle.script_calls.specs.declared.call.Call.{Call}
 use Rattle.workload.specs.Draft.{keys_of, all_keys, distinct_count}
 use Rattle.workload.specs.Index.{marks, with_keys}
 

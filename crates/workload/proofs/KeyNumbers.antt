@@ -9,7 +9,7 @@ use Rattle.std.specs.FinMap.{FinMap, get}
 use Rattle.std.proofs.lemmas.List.Folds.{list_any-append}
 use Rattle.std.proofs.lemmas.Slice.Eq.{bytes_eq-Decides}
 use Rattle.std.proofs.Math.Seq.{drop-cons}
-use Rattle.sync_types.specs.declared.call.Call.{Call}
+use Rattle.script_calls.specs.declared.call.Call.{Call}
 use Rattle.workload.specs.Draft.{keys_of, all_keys, distinct_count}
 use Rattle.workload.specs.Keys.{with_name, with_names, keys_in, number_in}
 use Rattle.workload.proofs.KeyLemmas.{distinct_same}

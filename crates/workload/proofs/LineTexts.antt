@@ -23,9 +23,9 @@ use Rattle.sync_types.specs.declared.wait_call.WaitGroupCall.{WaitGroupCall}
 use Rattle.sync_types.specs.declared.wait_call.WaitGroupCall.TheVariants as group_calls
 use Rattle.sync_types.specs.declared.pool_call.PoolCall.{PoolCall}
 use Rattle.sync_types.specs.declared.pool_call.PoolCall.TheVariants as pool_calls
-use Rattle.sync_types.specs.declared.call.Call.{Call}
-use Rattle.sync_types.specs.declared.call.Operation.{Operation}
-use Rattle.sync_types.specs.declared.call.Operation.TheVariants as operations
+use Rattle.script_calls.specs.declared.call.Call.{Call}
+use Rattle.script_calls.specs.declared.call.Operation.{Operation}
+use Rattle.script_calls.specs.declared.call.Operation.TheVariants as operations
 use Rattle.sync_types.specs.declared.map_object.MapCall.{MapCall}
 use Rattle.sync_types.specs.declared.map_object.MapCall.TheVariants as map_calls
 use Rattle.workload.specs.declared.keyword.Verb.{Verb}

@@ -1,8 +1,8 @@
 -- How many items the scripts put into a pool.
 use Rattle.std.specs.Prelude.{ℕ, Bool, true, false, ◌&&◌, ◌==◌, List, count_by, sum_by}
-use Rattle.sync_types.specs.declared.call.Call.{Call}
-use Rattle.sync_types.specs.declared.call.Operation.{Operation}
-use Rattle.sync_types.specs.declared.call.Operation.TheVariants as operations
+use Rattle.script_calls.specs.declared.call.Call.{Call}
+use Rattle.script_calls.specs.declared.call.Operation.{Operation}
+use Rattle.script_calls.specs.declared.call.Operation.TheVariants as operations
 use Rattle.sync_types.specs.declared.pool_call.PoolCall.TheVariants as pool_calls
 
 -- whether an operation puts an item into a pool

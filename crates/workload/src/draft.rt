@@ -13,9 +13,10 @@ use crate::line::Line;
 use crate::object::{Declared, ObjectLine, ObjectWord};
 use crate::turn::Turn;
 use crate::workload::Workload;
+use script_calls::{Call, Operation};
 use std::alloc::{AllocError, Global};
 use std::marker::Model;
-use sync_types::{ByName, Call, Name, Operation, Seq};
+use sync_types::{ByName, Name, Seq};
 
 /// The workload that the lines so far say, the worker whose calls follow, and tables of the names
 /// and keys, so that no look-up scans a list.

@@ -6,9 +6,10 @@ ghost use Rattle.workload.specs.Keys.{with_name, with_names, keys_in, number_in,
 ghost use Rattle.workload.specs.declared.limits.TheConstants.{MAX_KEYS};
 
 use crate::draft::call_key;
+use script_calls::Call;
 use std::alloc::{AllocError, Global};
 use std::marker::Model;
-use sync_types::{ByName, Call, Name, Seq};
+use sync_types::{ByName, Name, Seq};
 
 /// Names, each with a number: its place among them, from 0. No two of them are the same.
 #[derive(Debug, Drop)]

@@ -10,8 +10,8 @@ ghost use Rattle.workload.specs.Checks.{Check, first_failing, form_of, form_word
 ghost use Rattle.workload.specs.Draft.{all_keys, distinct_count, is_operation, is_range_operation, operation_keys};
 ghost use Rattle.workload.specs.Keys.{keys_in, number_in, key_number, key_name};
 ghost use Rattle.workload.specs.Readable.{IsReadable};
-ghost use Rattle.sync_types.specs.declared.call.Call.{Call};
-ghost use Rattle.sync_types.specs.declared.call.Operation.{Operation};
+ghost use Rattle.script_calls.specs.declared.call.Call.{Call};
+ghost use Rattle.script_calls.specs.declared.call.Operation.{Operation};
 ghost use Rattle.workload.specs.KeywordWords.{keyword_at, keyword_word};
 ghost use Rattle.workload.specs.NumberWords.{is_number, number_of};
 ghost use Rattle.workload.specs.declared.keyword.Keyword.{Keyword};

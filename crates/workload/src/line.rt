@@ -1,7 +1,8 @@
 //! What one line of a text says.
 use crate::object::ObjectLine;
 use crate::turn::Turn;
-use sync_types::{Call, Name, Seq};
+use script_calls::Call;
+use sync_types::{Name, Seq};
 
 /// What a line behind the `workers` line says.
 #[derive(Debug, Drop)]

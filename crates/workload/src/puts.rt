@@ -3,7 +3,8 @@ ghost use Rattle.std.specs.Prelude.{◌≡◌, ◌≤◌, count_by, length, sum_
 ghost use Rattle.workload.specs.Puts.{is_put, is_put_at, puts_at};
 ghost use Rattle.workload.specs.declared.limits.TheConstants.{MAX_CALLS};
 
-use sync_types::{Call, Operation, PoolCall, Seq};
+use script_calls::{Call, Operation};
+use sync_types::{PoolCall, Seq};
 
 /// Whether an operation puts an item into a pool.
 fn is_put(operation: &Operation) -> bool

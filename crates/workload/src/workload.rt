@@ -9,8 +9,9 @@ use crate::keys::Keys;
 use crate::object::ObjectLine;
 use crate::puts::puts_at;
 use crate::turn::Turn;
+use script_calls::Call;
 use std::marker::Model;
-use sync_types::{Call, Seq};
+use sync_types::Seq;
 
 /// Workers, objects, a script for each worker and a schedule. Each number in it is in range: a call's
 /// object is there and has the call, and a turn's worker is there. The keys of its calls have numbers.

@@ -3,7 +3,7 @@ use Rattle.std.specs.Prelude.{◌≡◌, Bool, ◌++◌, ◌<◌, ◌≤◌, map
 use Rattle.std.specs.Option.{option_to_list}
 use Rattle.sync_types.specs.Name.{is_name}
 use Rattle.std.specs.List.{list_all, flat_map}
-use Rattle.sync_types.specs.declared.call.Operation.{Operation}
+use Rattle.script_calls.specs.declared.call.Operation.{Operation}
 use Rattle.workload.specs.declared.fault.LineFault.{LineFault}
 use Rattle.workload.specs.declared.fault.LineFault.TheVariants as faults
 use Rattle.workload.specs.declared.keyword.Keyword.{Keyword}

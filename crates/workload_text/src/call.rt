@@ -2,8 +2,9 @@
 ghost use Rattle.std.specs.Prelude.{◌≡◌};
 ghost use Rattle.workload.specs.CallWords.{map_verb, atomic_verb, mutex_verb, rw_mutex_verb, cond_verb, group_verb, pool_verb, verb_of};
 
+use script_calls::Operation;
 use sync_types::{
-    AtomicCall, CondCall, MapCall, MutexCall, Name, Operation, PoolCall, RwMutexCall, WaitGroupCall,
+    AtomicCall, CondCall, MapCall, MutexCall, Name, PoolCall, RwMutexCall, WaitGroupCall,
 };
 use workload::keyword::Verb;
 

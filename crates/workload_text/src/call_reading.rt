@@ -10,10 +10,11 @@ ghost use Rattle.sync_types.specs.declared.value.TheConstants.{MAX_VALUE};
 ghost use Rattle.workload_text.specs.LineResult.{IsFault, IsOperands, IsCall};
 
 use crate::word_reading::{read_amount, read_name, read_none, read_number, read_value};
+use script_calls::Operation;
 use std::alloc::Global;
 use sync_types::{
-    AtomicCall, AtomicKind, CondCall, MAX_VALUE, MapCall, MutexCall, Name, Number, Operation,
-    PoolCall, RwMutexCall, WaitGroupCall,
+    AtomicCall, AtomicKind, CondCall, MAX_VALUE, MapCall, MutexCall, Name, Number, PoolCall,
+    RwMutexCall, WaitGroupCall,
 };
 use workload::fault::LineFault;
 use workload::keyword::{Operand, Verb};

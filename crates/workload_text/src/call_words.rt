@@ -11,7 +11,7 @@ ghost use Rattle.workload_text.specs.ReportLines.{call_words};
 use crate::call::verb;
 use crate::line::{push_atomic_word, push_word};
 use crate::operands::{Numbers, operands_of};
-use sync_types::{Call, Operation};
+use script_calls::{Call, Operation};
 use workload::ObjectLine;
 use workload::object::name_at;
 

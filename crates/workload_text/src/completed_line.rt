@@ -1,13 +1,13 @@
 //! The line of a completed call: `WORKER.INDEX CALL -> REPLY`.
 ghost use Rattle.std.specs.Prelude.{◌≡◌, ◌≤◌, true, vec_capacity};
 ghost use Rattle.workload.specs.declared.limits.TheConstants.{MAX_KEYS};
-ghost use Rattle.sync_types.specs.Outcome.{has_pairs_to};
+ghost use Rattle.script_calls.specs.Outcome.{has_pairs_to};
 ghost use Rattle.workload_text.specs.ReportLines.{completed_line};
 
 use crate::call_words::push_call;
 use crate::line::{LINE_ROOM, push, push_number};
 use crate::reply::push_reply;
-use sync_types::{Call, Reply};
+use script_calls::{Call, Reply};
 use workload::Workload;
 
 /// Makes the line of a completed call.

@@ -6,7 +6,8 @@ ghost use Rattle.workload.specs.NumberWords.{number_word};
 ghost use Rattle.workload.specs.CallWords.{map_values, atomic_numbers, group_operands, pool_operands, operands_of};
 ghost use Rattle.workload_text.specs.Numbers.{numbers_in};
 
-use sync_types::{AtomicCall, MapCall, Name, Number, Operation, PoolCall, WaitGroupCall};
+use script_calls::Operation;
+use sync_types::{AtomicCall, MapCall, Name, Number, PoolCall, WaitGroupCall};
 
 /// The numbers of a call, in order. A value of a map and an item of a pool are of the type `Uint64` here,
 /// and an amount for a wait group is of `Int32`.

@@ -13,8 +13,9 @@ ghost use Rattle.workload_text.specs.Numbers.{numbers_in};
 
 use crate::call::verb;
 use crate::operands::{Numbers, operands_of};
+use script_calls::{Call, Operation};
 use std::alloc::{AllocError, Global};
-use sync_types::{Call, Number, Operation};
+use sync_types::Number;
 use workload::keyword::Keyword;
 use workload::laws::{canonical_reads, schedules_go_by_eights};
 use workload::object::name_at;

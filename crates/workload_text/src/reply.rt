@@ -1,13 +1,14 @@
 //! A reply in a line of the report.
 ghost use Rattle.std.specs.Prelude.{◌≡◌, ◌*◌, ◌≤◌, true, length, map};
 ghost use Rattle.workload.specs.declared.limits.TheConstants.{MAX_KEYS};
-ghost use Rattle.sync_types.specs.Outcome.{has_pairs_to};
+ghost use Rattle.script_calls.specs.Outcome.{has_pairs_to};
 ghost use Rattle.workload.specs.Canonical.{behind_spaces};
 ghost use Rattle.workload_text.specs.Adding.{Adds, HasRoom};
 ghost use Rattle.workload_text.specs.ReportLines.{map_reply_text, pair_text, pairs_text, atomic_reply_text, lock_reply_text, once_reply_text, once_func_reply_text, pool_reply_text, reply_text};
 
 use crate::line::{push, push_atomic_number, push_number, push_signed, push_truth};
-use sync_types::{AtomicReply, DoReply, LockReply, MapReply, Name, PoolCallReply, Reply};
+use script_calls::Reply;
+use sync_types::{AtomicReply, DoReply, LockReply, MapReply, Name, PoolCallReply};
 use workload::keys::key_name;
 
 /// The most bytes of a reply: 4,096 pairs, each of a key of 32 bytes, `=`, a value of 20 digits, and a

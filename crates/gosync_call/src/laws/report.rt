@@ -1,8 +1,8 @@
 //! What it means that a report was written.
 ghost use Rattle.std.specs.Prelude.{[]};
 ghost use Rattle.sync_types.specs.declared.misuse.Misuse.{Misuse};
-ghost use Rattle.sync_types.specs.declared.outcome.Outcome.TheVariants as outcomes;
-ghost use Rattle.sync_types.specs.declared.outcome.Report.{Report};
+ghost use Rattle.script_calls.specs.declared.outcome.Outcome.TheVariants as outcomes;
+ghost use Rattle.script_calls.specs.declared.outcome.Report.{Report};
 ghost use Rattle.workload.specs.Plan.{Plan};
 ghost use Rattle.gosync_call.specs.ReportText.{report_text};
 ghost use Rattle.gosync_call.specs.Shown.{AreReplies, Shows};

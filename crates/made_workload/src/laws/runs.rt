@@ -12,8 +12,8 @@ use run_laws::ends::calls_leave_as_many_maps_and_atomics;
 use run_laws::locks::an_orderly_workload_is_never_misused;
 use run_laws::owners::a_map_is_the_union_of_its_workers_maps;
 use run_record::laws::endings::a_run_that_is_done_answers_each_call;
+use script_calls::{Outcome, Report};
 use sync_types::laws::atomics::sums_in_range_are_exact;
-use sync_types::{Outcome, Report};
 
 /// No run of a seed's workload is misused: in each round its worker alone unlocks what it locked. So each run that returns is
 /// Done.

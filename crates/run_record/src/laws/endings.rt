@@ -10,8 +10,9 @@ use mutex_core::MutexCore;
 use pool_core::PoolCore;
 use protocols::laws::endings;
 use rw_core::RwCore;
+use script_calls::{Outcome, Report};
 use sync_model::Deed;
-use sync_types::{Misuse, Outcome, Report};
+use sync_types::Misuse;
 use wait_cores::{GroupCore, NotifyCore, OnceCore};
 
 /// Each halt is by a worker whose list ends in the misuse by which it halts.

@@ -1,6 +1,6 @@
 //! What calls on maps and atomics can't come to where all of them are a workload's.
 ghost use Rattle.std.specs.Prelude.{◌≡◌, ℕ, ℤ, ◌<◌, ◌≤◌, true, List, length, All, Some, slice_get};
-ghost use Rattle.sync_types.specs.Outcome.{shows_to};
+ghost use Rattle.script_calls.specs.Outcome.{shows_to};
 ghost use Rattle.sync_model.specs.SharedCalls.{Lawful};
 ghost use Rattle.sync_model.specs.SharedHistory.{contents_after, value_at};
 ghost use Rattle.workload.specs.Keys.{keys_in};
@@ -10,11 +10,12 @@ ghost use Rattle.run_record.specs.Limits.{IsCallOf, HasShown};
 ghost use Rattle.run_record.specs.Objects.{contents_of};
 ghost use Rattle.run_record.specs.Record.{Record};
 
+use script_calls::Outcome;
 use sync_model::item::{Item, SharedCall, SharedEntry, SharedReply};
 use sync_model::laws::shared::{a_range_shows_each_key_once_and_misses_none, each_entry_is_a_call};
 use sync_types::laws::atomics::calls_keep_the_type;
 use sync_types::laws::maps::{calls_leave_other_keys, only_a_clear_has_no_key};
-use sync_types::{AtomicCall, AtomicReply, Number, Outcome};
+use sync_types::{AtomicCall, AtomicReply, Number};
 use workload::laws::keys_are_numbered_by_first_appearance;
 
 /// A `range` shows no more pairs than the workload has keys: a map never has another key, and no key is shown twice.

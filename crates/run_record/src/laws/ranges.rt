@@ -8,9 +8,9 @@ ghost use Rattle.run_record.specs.Ranges.{ShowsWhatWasThere};
 ghost use Rattle.run_record.specs.Record.{Record, list_of, shared_in};
 
 use crate::made::Made;
+use script_calls::{Call, Operation, Reply};
 use sync_model::Answer;
 use sync_model::laws::shared::a_callers_calls_are_in_order;
-use sync_types::{Call, Operation, Reply};
 use workload::{ObjectKind, ObjectLine};
 
 /// A range replies what was in its map while it went on: each pair that it shows stood there at some moment, behind all that its

@@ -12,10 +12,9 @@ use mutex_core::MutexCore;
 use pool_core::laws::looks_everywhere;
 use protocols::laws::{calls_gain_at_their_end, calls_give_what_they_may};
 use rw_core::RwCore;
+use script_calls::{Call, Operation, Reply};
 use sync_model::Answer;
-use sync_types::{
-    Call, CondCall, MutexCall, Operation, PoolCall, Reply, RwMutexCall, WaitGroupCall,
-};
+use sync_types::{CondCall, MutexCall, PoolCall, RwMutexCall, WaitGroupCall};
 use wait_cores::{GroupCore, NotifyCore, OnceCore};
 use workload::{ObjectKind, ObjectLine};
 

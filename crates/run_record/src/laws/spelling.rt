@@ -5,8 +5,9 @@ ghost use Rattle.run_record.specs.Calls.{SpellsCall};
 ghost use Rattle.run_record.specs.Objects.{atomic_number};
 
 use crate::made::Made;
+use script_calls::{Call, Operation, Reply};
 use sync_model::{Answer, Item, SharedCall, SharedReply};
-use sync_types::{AtomicCall, AtomicReply, Call, DoReply, Number, Operation, Reply};
+use sync_types::{AtomicCall, AtomicReply, DoReply, Number};
 use workload::{ObjectKind, ObjectLine};
 
 /// A `do` that ran its once's function added once, between the events that begin and end it, and answers the sum.

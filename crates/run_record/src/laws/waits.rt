@@ -14,10 +14,11 @@ ghost use Rattle.run_record.specs.Waits.{IsOnCond, IsOnGroup, WasNotified, IsNot
 use crate::entered::{ObjectEvent, ObjectReply};
 use crate::laws::edges::a_list_keeps_the_order_of_its_journals;
 use crate::made::Made;
+use script_calls::{Call, Operation, Outcome, Reply};
 use sync_model::Answer;
 use sync_model::laws::journals::journal_is_log;
 use sync_model::laws::logs::logs_go_on;
-use sync_types::{Call, CondCall, Operation, Outcome, Reply};
+use sync_types::CondCall;
 use wait_cores::{GroupCore, GroupEvent, GroupReply, NotifyCore, NotifyEvent};
 use workload::{ObjectKind, ObjectLine};
 

@@ -1,5 +1,6 @@
 //! What a turn means for a call.
-use sync_types::{Misuse, Name, Reply};
+use script_calls::Reply;
+use sync_types::{Misuse, Name};
 
 /// What a turn means for the call before which its worker stands.
 #[derive(Debug, Drop)]

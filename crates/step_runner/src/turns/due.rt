@@ -10,7 +10,8 @@ use crate::turns::answer::Answer;
 use mutex_core::Place as MutexPlace;
 use protocols::{CondStage, GroupStage, MutexStage, OnceStage, PoolStage, RwMutexStage};
 use rw_core::Place as RwPlace;
-use sync_types::{CondCall, LockReply, MutexCall, Reply, RwMutexCall, WaitGroupCall};
+use script_calls::Reply;
+use sync_types::{CondCall, LockReply, MutexCall, RwMutexCall, WaitGroupCall};
 use wait_cores::{GroupPlace, NotifyPlace, OncePlace};
 
 /// Of a call of a mutex: its first stage where the worker is out, and the going on where it was woken or

@@ -1,6 +1,6 @@
 //! What a turn keeps at the objects of a run, whatever the workload, and what it uses up.
 ghost use Rattle.std.specs.Prelude.{◌≡◌, ◌≢◌, ℕ, ◌<◌, ◌≤◌, true, false, List, [], ◌++◌, Option, Some, map, slice_get, sum_by};
-ghost use Rattle.sync_types.specs.declared.call.Call.{Call};
+ghost use Rattle.script_calls.specs.declared.call.Call.{Call};
 ghost use Rattle.pool_core.specs.PoolMachine as pool;
 ghost use Rattle.pool_core.specs.declared.pool_event.PoolEvent.{PoolEvent};
 ghost use Rattle.pool_core.specs.declared.pool_event.PoolReply.{PoolReply};
@@ -27,9 +27,9 @@ ghost use Rattle.step_runner.specs.OneTurns.{turn_at};
 
 pub mod spelling;
 
+use script_calls::laws::replies_have_their_form;
 use sync_types::Name;
 use sync_types::laws::atomics::calls_keep_the_type;
-use sync_types::laws::replies::replies_have_their_form;
 
 /// An object begins as one of its kind, with a machine that is ready for the workers' turns. A turn keeps
 /// the kind of each object, and leaves each machine ready.

@@ -2,7 +2,7 @@
 //! `OnceValue`.
 ghost use Rattle.std.specs.Prelude.{◌≡◌, ℕ, ℤ, ◌<◌};
 ghost use Rattle.std.specs.Int.{w64, int_wrapping_add};
-ghost use Rattle.sync_types.specs.declared.call.Operation.TheVariants as operations;
+ghost use Rattle.script_calls.specs.declared.call.Operation.TheVariants as operations;
 ghost use Rattle.wait_cores.specs.OnceMachine as machine;
 ghost use Rattle.wait_cores.specs.OnceStanding.{runs_at};
 ghost use Rattle.run_record.specs.OnceKind.{failure};
@@ -14,7 +14,8 @@ use crate::turns::due::once_due;
 use crate::turns::object_state::ObjectState;
 use crate::turns::stages::{Taker, make};
 use protocols::OnceOutcome;
-use sync_types::{DoReply, Number, Reply};
+use script_calls::Reply;
+use sync_types::{DoReply, Number};
 use wait_cores::OnceCore;
 
 /// Whether the worker runs the function.

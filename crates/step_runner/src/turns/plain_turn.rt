@@ -2,7 +2,7 @@
 ghost use Rattle.std.specs.Prelude.{◌≡◌, true, IfOk};
 ghost use Rattle.sync_types.specs.SequentialAtomic.{is_atomic_call};
 ghost use Rattle.sync_types.specs.declared.atomic_object.AtomicKind.{AtomicKind};
-ghost use Rattle.sync_types.specs.declared.call.Operation.TheVariants as operations;
+ghost use Rattle.script_calls.specs.declared.call.Operation.TheVariants as operations;
 ghost use Rattle.workload.specs.declared.object.ObjectKind.TheVariants as kinds;
 ghost use Rattle.step_runner.specs.Objects.{kind_of};
 ghost use Rattle.step_runner.specs.OneTurns.{turn_on};
@@ -10,8 +10,9 @@ ghost use Rattle.step_runner.specs.OneTurns.{turn_on};
 use crate::turns::answer::Answer;
 use crate::turns::object_state::ObjectState;
 use crate::turns::stages::Taker;
+use script_calls::Reply;
 use std::alloc::{AllocError, Global};
-use sync_types::{AtomicCall, MapCall, Name, Reply, atomic_object, map_object};
+use sync_types::{AtomicCall, MapCall, Name, atomic_object, map_object};
 
 /// Makes a call on a map, which is completed in this turn.
 pub(crate) fn take_map_turn(

@@ -1,7 +1,7 @@
 //! The turn of a worker that stands before a call of a pool: the whole call.
 ghost use Rattle.std.specs.Prelude.{◌≡◌, ℕ, ◌*◌, ◌<◌, ◌≤◌};
 ghost use Rattle.pool_core.specs.PoolMachine as machine;
-ghost use Rattle.sync_types.specs.declared.call.Operation.TheVariants as operations;
+ghost use Rattle.script_calls.specs.declared.call.Operation.TheVariants as operations;
 ghost use Rattle.step_runner.specs.declared.turns.object_state.ObjectState.TheVariants as states;
 ghost use Rattle.step_runner.specs.Due.{looks_of};
 ghost use Rattle.step_runner.specs.PoolTurn.{looked, found_by, pool_step};
@@ -13,7 +13,8 @@ use crate::turns::object_state::ObjectState;
 use crate::turns::stages::{Taker, make};
 use pool_core::PoolCore;
 use protocols::{PoolOutcome, PoolStage};
-use sync_types::{PoolCall, PoolCallReply, Reply};
+use script_calls::Reply;
+use sync_types::{PoolCall, PoolCallReply};
 
 /// Makes a look, and takes the item that it finds.
 fn look(pool: &mut PoolCore, taker: Taker, stage: PoolStage) -> Option<u64>

@@ -14,9 +14,10 @@ use crate::turns::plain_turn::{take_atomic_turn, take_map_turn, take_range_turn}
 use crate::turns::pool_turn::take_pool_turn;
 use crate::turns::stages::Taker;
 use crate::turns::wait_turn::{take_cond_turn, take_wait_group_turn};
+use script_calls::{Call, Operation};
 use std::alloc::{AllocError, Global};
 use std::mem;
-use sync_types::{Call, Number, Operation};
+use sync_types::Number;
 
 /// Takes a turn of a worker that stands before a call of this operation, at the call's object and by its
 /// kind, where that object refers to no other.

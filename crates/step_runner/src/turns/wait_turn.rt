@@ -1,7 +1,7 @@
 //! The turns of a worker that stands before a call of a wait group or of a cond.
 ghost use Rattle.std.specs.Prelude.{◌≡◌, ℕ, ◌<◌};
 ghost use Rattle.mutex_core.specs.MutexMachine as mutex_machine;
-ghost use Rattle.sync_types.specs.declared.call.Operation.TheVariants as operations;
+ghost use Rattle.script_calls.specs.declared.call.Operation.TheVariants as operations;
 ghost use Rattle.wait_cores.specs.GroupMachine as group_machine;
 ghost use Rattle.wait_cores.specs.NotifyMachine as notify_machine;
 ghost use Rattle.step_runner.specs.declared.turns.object_state.ObjectState.TheVariants as states;
@@ -12,7 +12,8 @@ use crate::turns::due::{cond_answer, cond_due, group_due, returned};
 use crate::turns::object_state::ObjectState;
 use crate::turns::stages::{Taker, make};
 use mutex_core::MutexCore;
-use sync_types::{CondCall, Reply, WaitGroupCall};
+use script_calls::Reply;
+use sync_types::{CondCall, WaitGroupCall};
 use wait_cores::{GroupCore, NotifyCore};
 
 /// Takes a turn before a call of a wait group.

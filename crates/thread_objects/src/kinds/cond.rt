@@ -5,11 +5,12 @@ use crate::kind::DeclaredKind;
 use crate::parts::{CallAnswer, Catalog, Worker, part, returned};
 use protocols::CondStage;
 use ruled_object::{Object, PassOf};
+use script_calls::Operation;
 use std::alloc::{AllocError, Global};
 use std::sync::Wait;
 use sync_model::{Caller, Shared};
 use sync_outside::Clock;
-use sync_types::{CondCall, Operation};
+use sync_types::CondCall;
 use wait_cores::NotifyCore;
 use workload::ObjectKind;
 

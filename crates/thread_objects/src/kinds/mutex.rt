@@ -10,11 +10,12 @@ use crate::parts::{CallAnswer, Catalog, Worker, lock_reply, part};
 use mutex_core::MutexCore;
 use protocols::MutexStage;
 use ruled_object::{Object, PassOf};
+use script_calls::Operation;
 use std::alloc::{AllocError, Global};
 use std::sync::Wait;
 use sync_model::{Caller, Shared};
 use sync_outside::Clock;
-use sync_types::{MutexCall, Operation};
+use sync_types::MutexCall;
 use workload::ObjectKind;
 
 // The stage that a call begins with.

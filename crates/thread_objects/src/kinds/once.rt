@@ -23,11 +23,12 @@ use crate::parts::laws::{moves, what_a_call_leaves, what_calls_spend};
 use crate::parts::{CallAnswer, Catalog, Worker, add_at};
 use protocols::OnceOutcome;
 use ruled_object::{Object, PassOf};
+use script_calls::{Operation, Reply};
 use std::alloc::{AllocError, Global};
 use std::sync::Wait;
 use sync_model::{Answer, Caller, Shared};
 use sync_outside::Clock;
-use sync_types::{DoReply, Misuse, Operation, Reply};
+use sync_types::{DoReply, Misuse};
 use wait_cores::OnceCore;
 use workload::ObjectKind;
 

@@ -8,11 +8,12 @@ use super::once_parts::kept;
 use crate::kind::DeclaredKind;
 use crate::parts::{CallAnswer, Catalog, Worker};
 use ruled_object::{Object, PassOf};
+use script_calls::{Operation, Reply};
 use std::alloc::{AllocError, Global};
 use std::sync::Wait;
 use sync_model::{Answer, Caller, Shared};
 use sync_outside::Clock;
-use sync_types::{Misuse, Operation, Reply};
+use sync_types::Misuse;
 use wait_cores::OnceCore;
 use workload::ObjectKind;
 

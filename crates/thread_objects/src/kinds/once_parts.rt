@@ -1,7 +1,7 @@
 //! What a once and the functions made by `OnceFunc` and `OnceValue` have in common: one caller runs the function, and all come to what it
 //! came to.
 ghost use Rattle.std.specs.Prelude.{◌≡◌, ℕ, false, true, IsSome};
-ghost use Rattle.sync_types.specs.declared.call.Reply.{Reply};
+ghost use Rattle.script_calls.specs.declared.call.Reply.{Reply};
 ghost use Rattle.wait_cores.specs.declared.once.OnceEvent.{OnceEvent};
 ghost use Rattle.wait_cores.specs.declared.once.OnceReply.{OnceReply};
 ghost use Rattle.workload.specs.Plan.{Plan};

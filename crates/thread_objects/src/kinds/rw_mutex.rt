@@ -10,11 +10,12 @@ use crate::parts::{CallAnswer, Catalog, Worker, lock_reply, part};
 use protocols::RwMutexStage;
 use ruled_object::{Object, PassOf};
 use rw_core::RwCore;
+use script_calls::Operation;
 use std::alloc::{AllocError, Global};
 use std::sync::Wait;
 use sync_model::{Caller, Shared};
 use sync_outside::Clock;
-use sync_types::{Operation, RwMutexCall};
+use sync_types::RwMutexCall;
 use workload::ObjectKind;
 
 // The stage that a call begins with.

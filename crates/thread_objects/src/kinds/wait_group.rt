@@ -9,11 +9,12 @@ use crate::kind::DeclaredKind;
 use crate::parts::{CallAnswer, Catalog, Worker, part, returned};
 use protocols::GroupStage;
 use ruled_object::{Object, PassOf};
+use script_calls::Operation;
 use std::alloc::{AllocError, Global};
 use std::sync::Wait;
 use sync_model::{Caller, Shared};
 use sync_outside::Clock;
-use sync_types::{Operation, WaitGroupCall};
+use sync_types::WaitGroupCall;
 use wait_cores::GroupCore;
 use workload::ObjectKind;
 

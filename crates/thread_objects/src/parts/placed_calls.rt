@@ -21,9 +21,10 @@ ghost use Rattle.thread_objects.specs.Working.{Works, desk_with};
 
 use crate::parts::answer::CallAnswer;
 use crate::parts::catalog::Catalog;
+use script_calls::Reply;
 use std::sync::Wait;
 use sync_model::{Answer, Caller, Shared};
-use sync_types::{AtomicCall, MapCall, Reply};
+use sync_types::{AtomicCall, MapCall};
 
 /// Makes a call on the atomic at a place among the workload's objects, which is of a type that has the call. It may wait for other
 /// callers.

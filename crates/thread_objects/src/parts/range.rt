@@ -17,10 +17,11 @@ ghost use Rattle.thread_objects.specs.Spending.{Spends};
 ghost use Rattle.thread_objects.specs.Working.{Works, desk_with};
 
 use crate::parts::answer::CallAnswer;
+use script_calls::Reply;
 use std::cmp::Ordering;
 use std::sync::Wait;
 use sync_model::{Answer, Caller, Shared};
-use sync_types::{BoundedSeq, Name, Reply, Seq};
+use sync_types::{BoundedSeq, Name, Seq};
 use workload::keys::key_name;
 
 // Sorts pairs by the bytes of their keys, in place.

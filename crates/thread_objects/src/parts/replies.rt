@@ -4,8 +4,9 @@ ghost use Rattle.run_record.specs.Parts.{with_outcome};
 ghost use Rattle.thread_objects.specs.Replies.{of_lock, returned, gone_on};
 
 use crate::parts::answer::CallAnswer;
+use script_calls::Reply;
 use sync_model::Answer;
-use sync_types::{LockReply, Misuse, Reply};
+use sync_types::{LockReply, Misuse};
 
 /// Of a lock.
 pub fn lock_reply(answer: Answer<Result<LockReply, Misuse>>) -> CallAnswer

@@ -1,6 +1,6 @@
 use Rattle.std.proofs.Common.{Some, refl, subst}
 use Rattle.sync_outside.specs.Bytes.{AppendsFront}
-use Rattle.sync_types.specs.declared.outcome.Outcome.{Outcome}
+use Rattle.script_calls.specs.declared.outcome.Outcome.{Outcome}
 use Rattle.workload.specs.Plan.{Plan}
 use Rattle.run_record.specs.Explains.{Explains}
 use Rattle.run_record.specs.Record.{Record}

@@ -2,7 +2,7 @@ use Rattle.std.proofs.Common.{length, sym, ap, subst, ◌∙◌, arith}
 use Rattle.std.proofs.lemmas.Bool.{ltb-true}
 use Rattle.sync_outside.specs.Bytes.{Appends, AppendsFront}
 use Rattle.workload.specs.declared.limits.TheConstants.{MAX_KEYS}
-use Rattle.sync_types.specs.Outcome.{has_pairs_to}
+use Rattle.script_calls.specs.Outcome.{has_pairs_to}
 use Rattle.gosync_call.specs.ReportText.{calls_text}
 use Rattle.gosync_call.proofs.Lines.{all_at, calls_next}
 use Rattle.gosync_call.proofs.Writing.{goes_on, goes_cut, on_err}

@@ -1,8 +1,8 @@
 use Rattle.std.proofs.Common.{◌+◌, drop, get_or, ap, subst, ◌∙◌, arith}
 use Rattle.std.specs.Prelude.{pos}
 use Rattle.sync_types.specs.declared.atomic_object.Number.TheVariants.{Int32}
-use Rattle.sync_types.specs.declared.outcome.End.{End}
-use Rattle.sync_types.specs.declared.outcome.End.TheVariants.{Number}
+use Rattle.sync_types.specs.declared.end.End.{End}
+use Rattle.sync_types.specs.declared.end.End.TheVariants.{Number}
 use Rattle.sync_outside.specs.Bytes.{Appends, AppendsFront}
 use Rattle.workload_text.specs.ReportLines.{end_line}
 use Rattle.gosync_call.specs.ReportText.{ends_text}

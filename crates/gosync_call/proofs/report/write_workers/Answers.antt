@@ -4,7 +4,7 @@ use Rattle.std.proofs.Math.ListN.{drop_of_length-le}
 use Rattle.sync_outside.specs.Bytes.{Appends, AppendsFront}
 use Rattle.std.specs.List.{list_all}
 use Rattle.workload.specs.declared.limits.TheConstants.{MAX_KEYS}
-use Rattle.sync_types.specs.Outcome.{has_pairs_to}
+use Rattle.script_calls.specs.Outcome.{has_pairs_to}
 use Rattle.gosync_call.specs.ReportText.{calls_text}
 use Rattle.gosync_call.proofs.Lines.{all_at, not_below, scripts_are, workers_next, workers_none}
 use Rattle.gosync_call.proofs.Writing.{goes_on, goes_cut, goes_end, on_err}

@@ -1,7 +1,7 @@
 use Rattle.std.proofs.Common.{◌≡◌, refl}
-use Rattle.sync_types.specs.declared.outcome.Outcome.{Outcome}
-use Rattle.sync_types.specs.declared.outcome.Outcome.TheVariants.{Done, Misused, Deadlocked}
-use Rattle.sync_types.specs.declared.outcome.Report.{Report}
+use Rattle.script_calls.specs.declared.outcome.Outcome.{Outcome}
+use Rattle.script_calls.specs.declared.outcome.Outcome.TheVariants.{Done, Misused, Deadlocked}
+use Rattle.script_calls.specs.declared.outcome.Report.{Report}
 use Rattle.run_record.specs.Explains.{Explains}
 use Rattle.run_laws.proofs.Orderly.{nobody_misuses}
 use Rattle.run_laws.proofs.locks.an_orderly_workload_is_never_misused.Goals as goal

@@ -1,5 +1,5 @@
 use Rattle.std.proofs.Common.{Ok}
-use Rattle.sync_types.specs.declared.call.Operation.TheVariants as operations
+use Rattle.script_calls.specs.declared.call.Operation.TheVariants as operations
 use Rattle.sync_model.specs.declared.answer.Answer.TheVariants.{Done}
 use Rattle.workload.specs.declared.object.ObjectKind.TheVariants as kinds
 use Rattle.run_record.specs.Objects.{map_number, atomic_number}

@@ -1,5 +1,5 @@
 use Rattle.std.proofs.Common.{◌≡◌, ◌++◌, map}
-use Rattle.sync_types.specs.declared.outcome.End.TheVariants.{Pair}
+use Rattle.sync_types.specs.declared.end.End.TheVariants.{Pair}
 use Rattle.workload.specs.Keys.{key_number}
 use Rattle.step_runner.proofs.ends.push_map.Given as goal
 

@@ -1,5 +1,5 @@
 use Rattle.std.proofs.Common.{◌≡◌, map}
-use Rattle.sync_types.specs.Outcome.{with_keys_renamed}
+use Rattle.script_calls.specs.Outcome.{with_keys_renamed}
 use Rattle.workload.specs.Keys.{key_number}
 use Rattle.step_runner.proofs.numbering.number_replies.Given as goal
 

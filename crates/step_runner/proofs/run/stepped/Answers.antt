@@ -1,9 +1,9 @@
 use Rattle.std.proofs.Common.{◌≡◌, true, sym, subst, ap, ◌∙◌}
 use Rattle.std.specs.Prelude.{IfOk}
 use Rattle.std.proofs.lemmas.Result.{IfOk-weaker}
-use Rattle.sync_types.specs.declared.outcome.Ending.{Ending}
-use Rattle.sync_types.specs.declared.outcome.Outcome.{Outcome}
-use Rattle.sync_types.specs.Outcome.{shows_to}
+use Rattle.script_calls.specs.declared.outcome.Ending.{Ending}
+use Rattle.script_calls.specs.declared.outcome.Outcome.{Outcome}
+use Rattle.script_calls.specs.Outcome.{shows_to}
 use Rattle.workload.specs.declared.limits.TheConstants.{MAX_KEYS}
 use Rattle.step_runner.specs.Forms.{has_forms}
 use Rattle.step_runner.specs.Outcomes.{StepsTo}

@@ -1,8 +1,8 @@
 //! What the items of a turn spell of its call, in the words of a record. It is said with what is left of the call to be spelt, by
 //! where its worker stands.
 ghost use Rattle.std.specs.Prelude.{◌≡◌, ◌≢◌, ℕ, ◌+◌, ◌==◌, None, List, [], filter, map, length};
-ghost use Rattle.sync_types.specs.declared.call.Call.{Call};
-ghost use Rattle.sync_types.specs.declared.call.Reply.{Reply};
+ghost use Rattle.script_calls.specs.declared.call.Call.{Call};
+ghost use Rattle.script_calls.specs.declared.call.Reply.{Reply};
 ghost use Rattle.protocols.specs.Spelling.{CallAnswer};
 ghost use Rattle.workload.specs.declared.object.ObjectKind.{ObjectKind};
 ghost use Rattle.workload.specs.Draft.{all_keys};

@@ -2,10 +2,10 @@ use Rattle.std.proofs.Common.{◌≡◌, ℕ, ◌<◌, ◌≤◌, ◌++◌, List
 use Rattle.std.specs.Prelude.{count_by}
 use Rattle.std.proofs.lemmas.List.{take-append-le, take_all}
 use Rattle.sync_model.specs.declared.caller.Caller.{Caller}
-use Rattle.sync_types.specs.declared.outcome.Outcome.{Outcome}
-use Rattle.sync_types.specs.declared.outcome.Outcome.TheVariants.{Done, Misused}
-use Rattle.sync_types.specs.declared.outcome.Report.{Report}
-use Rattle.sync_types.specs.Outcome.{left_by}
+use Rattle.script_calls.specs.declared.outcome.Outcome.{Outcome}
+use Rattle.script_calls.specs.declared.outcome.Outcome.TheVariants.{Done, Misused}
+use Rattle.script_calls.specs.declared.outcome.Report.{Report}
+use Rattle.script_calls.specs.Outcome.{left_by}
 use Rattle.sync_model.specs.Shared.{AreAllCallers, SameCalls, Settled, calls_of}
 use Rattle.sync_model.specs.SharedHistory.{first_contents}
 use Rattle.run_record.specs.Objects.{is_map, contents_of}

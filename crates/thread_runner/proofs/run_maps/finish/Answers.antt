@@ -1,8 +1,8 @@
 use Rattle.std.proofs.Common.{◌≡◌, ℕ, ◌++◌, List, count_by, sym, ap, ◌∙◌, subst}
 use Rattle.sync_types.specs.declared.atomic_object.AtomicKind.{AtomicKind}
-use Rattle.sync_types.specs.declared.outcome.End.{End}
-use Rattle.sync_types.specs.declared.outcome.Outcome.{Outcome}
-use Rattle.sync_types.specs.declared.outcome.Outcome.TheVariants.{Done}
+use Rattle.sync_types.specs.declared.end.End.{End}
+use Rattle.script_calls.specs.declared.outcome.Outcome.{Outcome}
+use Rattle.script_calls.specs.declared.outcome.Outcome.TheVariants.{Done}
 use Rattle.sync_model.specs.declared.item.SharedEntry.{SharedEntry}
 use Rattle.sync_model.specs.EndsByName.{HasKeysAmong, ends_by_name}
 use Rattle.sync_model.specs.EndsOfHistory.{ends_by}

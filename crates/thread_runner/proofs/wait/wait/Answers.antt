@@ -1,6 +1,6 @@
 use Rattle.std.proofs.Common.{ℕ, sym, ◌∙◌}
-use Rattle.sync_types.specs.declared.call.Reply.{Reply}
-use Rattle.sync_types.specs.declared.call.Reply.TheVariants as replies
+use Rattle.script_calls.specs.declared.call.Reply.{Reply}
+use Rattle.script_calls.specs.declared.call.Reply.TheVariants as replies
 use Rattle.protocols.specs.declared.cond.CondStage.TheVariants as stage
 use Rattle.protocols.specs.declared.mutex.MutexStage.TheVariants as mutex_stage
 use Rattle.run_record.specs.CondKind.{cond_part}

@@ -1,5 +1,5 @@
 use Rattle.std.proofs.Common.{subst}
-use Rattle.sync_types.specs.declared.outcome.Outcome.{Outcome}
+use Rattle.script_calls.specs.declared.outcome.Outcome.{Outcome}
 use Rattle.run_record.specs.Explains.{Explains}
 use Rattle.made_workload.specs.Generated.{generated_plan}
 use Rattle.made_workload.proofs.laws.runs.a_run_of_a_seed_tells_its_summary.Goals as goal

@@ -1,7 +1,7 @@
 use Rattle.std.proofs.Common.{◌≡◌, Bool, true, false, sym, ap, ◌∙◌, subst}
 use Rattle.std.proofs.lemmas.Bool.{false≢true}
 use Rattle.std.proofs.lemmas.Option.{slice_get_within, get_or_from_slice_get}
-use Rattle.sync_types.specs.declared.outcome.Outcome.TheVariants.{Misused}
+use Rattle.script_calls.specs.declared.outcome.Outcome.TheVariants.{Misused}
 use Rattle.run_record.specs.Lines.{LineEnd, whole, misused, halted, unfinished, Line}
 use Rattle.run_record.proofs.laws.endings.a_run_is_done_unless_it_was_misused.Goals as goal
 

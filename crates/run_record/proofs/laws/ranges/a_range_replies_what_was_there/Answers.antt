@@ -1,6 +1,6 @@
 use Rattle.std.proofs.Common.{length, Ok}
-use Rattle.sync_types.specs.declared.call.Operation.TheVariants as operations
-use Rattle.sync_types.specs.declared.call.Reply.TheVariants as replies
+use Rattle.script_calls.specs.declared.call.Operation.TheVariants as operations
+use Rattle.script_calls.specs.declared.call.Reply.TheVariants as replies
 use Rattle.sync_model.specs.declared.answer.Answer.TheVariants.{Done}
 use Rattle.workload.specs.declared.object.ObjectKind.TheVariants as kinds
 use Rattle.run_record.specs.Objects.{contents_of, map_number}

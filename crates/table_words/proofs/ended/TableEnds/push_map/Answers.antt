@@ -1,7 +1,7 @@
 use Rattle.std.proofs.Common.{◌++◌, [], ◌∷◌, ℕ, get_or, take, Option, vec_len, vec_capacity, sym, ap, ◌∙◌, arith, append_assoc}
 use Rattle.std.specs.Option.{option_map}
-use Rattle.sync_types.specs.declared.outcome.End.{End}
-use Rattle.sync_types.specs.declared.outcome.End.TheVariants as ends
+use Rattle.sync_types.specs.declared.end.End.{End}
+use Rattle.sync_types.specs.declared.end.End.TheVariants as ends
 use Rattle.sync_model.specs.SharedHistory.{map_at}
 use Rattle.table_words.specs.EndContents.{contents_of}
 use Rattle.sync_model.specs.EndsOfHistory.{pair_end, pair_ends_by}

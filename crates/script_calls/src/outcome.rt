@@ -1,8 +1,8 @@
 //! What a run of a workload comes to, by schedule or with threads.
-use crate::atomic_object::Number;
 use crate::call::Reply;
-use crate::misuse::Misuse;
-use crate::seq::Seq;
+use sync_types::end::End;
+use sync_types::misuse::Misuse;
+use sync_types::seq::Seq;
 
 /// How a run ends.
 #[derive(Clone, Copy, Debug, PartialEq, Eq)]
@@ -13,16 +13,6 @@ pub enum Ending {
     Misused(Misuse),
     /// Nobody could make an event while a script had calls left. Only a run by schedule sees that it is so: threads wait.
     Deadlocked,
-}
-
-/// A value that an object holds at the end.
-#[derive(Clone, Copy, Debug, Drop)]
-pub enum End {
-    /// The number of an atomic, which is named by its place among the workload's objects.
-    Number { object: usize, number: Number },
-    /// A key that is there in a map, which is named by its place among the workload's objects, with its value. The key is
-    /// named by its number among the workload's keys.
-    Pair { object: usize, key: u32, value: u64 },
 }
 
 /// What a run leaves behind. Keys have their numbers among the workload's keys.

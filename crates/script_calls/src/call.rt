@@ -1,12 +1,12 @@
 //! The calls that a script makes, by kind of object.
-use crate::atomic_object::{AtomicCall, AtomicReply};
-use crate::lock_call::{LockReply, MutexCall, RwMutexCall};
-use crate::map_object::{MapCall, MapReply};
-use crate::name::Name;
-use crate::once_call::DoReply;
-use crate::pool_call::{PoolCall, PoolCallReply};
-use crate::seq::Seq;
-use crate::wait_call::{CondCall, WaitGroupCall};
+use sync_types::atomic_object::{AtomicCall, AtomicReply};
+use sync_types::lock_call::{LockReply, MutexCall, RwMutexCall};
+use sync_types::map_object::{MapCall, MapReply};
+use sync_types::name::Name;
+use sync_types::once_call::DoReply;
+use sync_types::pool_call::{PoolCall, PoolCallReply};
+use sync_types::seq::Seq;
+use sync_types::wait_call::{CondCall, WaitGroupCall};
 
 /// A call on an object.
 #[derive(Debug, Drop)]

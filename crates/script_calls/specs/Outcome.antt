@@ -1,11 +1,11 @@
 -- What a run leaves behind, and how many pairs its replies show.
 use Rattle.std.specs.Prelude.{ℕ, Bool, true, nat_le, map, length}
 use Rattle.std.specs.List.{list_all}
-use Rattle.sync_types.specs.declared.call.Reply.{Reply}
-use Rattle.sync_types.specs.declared.call.Reply.TheVariants as replies
-use Rattle.sync_types.specs.declared.outcome.Report.{Report}
-use Rattle.sync_types.specs.declared.outcome.Outcome.{Outcome}
-use Rattle.sync_types.specs.declared.outcome.Outcome.TheVariants as outcomes
+use Rattle.script_calls.specs.declared.call.Reply.{Reply}
+use Rattle.script_calls.specs.declared.call.Reply.TheVariants as replies
+use Rattle.script_calls.specs.declared.outcome.Report.{Report}
+use Rattle.script_calls.specs.declared.outcome.Outcome.{Outcome}
+use Rattle.script_calls.specs.declared.outcome.Outcome.TheVariants as outcomes
 
 -- a reply with other names for keys, which only that of a `range` has
 abbrev pub with_keys_renamed : {K L : Type 0} → (K → L) → Reply K → Reply L
