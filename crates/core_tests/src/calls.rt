@@ -13,8 +13,9 @@ use std::sync::atomic::{AtomicU64, Ordering};
 use std::test::Fail;
 use std::thread::{Threads, join};
 use sync_model::{Answer, FrontNote};
-use sync_outside::{At, Clock, MemClock, SystemClock};
+use sync_outside::{At, Clock, MemClock};
 use sync_types::{LockReply, Misuse};
+use system_io::SystemClock;
 
 type Lock = Object<MutexCore, FrontNote>;
 
@@ -110,7 +111,7 @@ fn four_threads_lose_no_increment(rt: HostRuntime) -> Result<(), Fail> {
         || add_beside(&rt, &lock, &clock, zero, one, &number, 10_000),
         || add_beside(&rt, &lock, &clock, two, three, &number, 10_000),
     );
-    assert_eq!(rt; number.load(Ordering::SeqCst), 40_000);
+    assert!(rt; number.load(Ordering::SeqCst) == 40_000);
     Ok(())
 }
 
@@ -127,6 +128,6 @@ fn only_a_stage_with_a_moment_reads_the_clock(rt: HostRuntime) -> Result<(), Fai
     call(&lock, &rt, &at, &mut pass, &mut note, MutexStage::Lock);
     call(&lock, &rt, &at, &mut pass, &mut note, MutexStage::Unlock);
     call(&lock, &rt, &at, &mut pass, &mut note, MutexStage::TryLock);
-    assert_eq!(rt; clock.now(), 20);
+    assert!(rt; clock.now() == 20);
     Ok(())
 }

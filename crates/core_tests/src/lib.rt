@@ -7,6 +7,8 @@ mod calls;
 #[cfg(test)]
 mod mutex;
 #[cfg(test)]
+mod nodes;
+#[cfg(test)]
 mod notes;
 #[cfg(test)]
 mod objects;
@@ -20,6 +22,8 @@ mod pool;
 mod rows;
 #[cfg(test)]
 mod rw_mutex;
+#[cfg(test)]
+mod streams;
 #[cfg(test)]
 mod waits;
 #[cfg(test)]

@@ -43,28 +43,28 @@ fn counts(note: &FrontNote) -> (u32, u32, u32, u32) {
 #[test]
 fn a_note_takes_in_the_greater_of_two_counts(rt: HostRuntime) -> Result<(), Fail> {
     let (first, second) = two_notes();
-    assert_eq!(rt; counts(&merged(&(), first, second)), (5, 7, 0, 2));
+    assert!(rt; counts(&merged(&(), first, second)) == (5, 7, 0, 2));
     let (first, second) = two_notes();
     let (note, other) = taken_in(&(), first, second);
-    assert_eq!(rt; counts(&note), (5, 7, 0, 2));
-    assert_eq!(rt; counts(&other), (2, 7, 0, 2));
+    assert!(rt; counts(&note) == (5, 7, 0, 2));
+    assert!(rt; counts(&other) == (2, 7, 0, 2));
     Ok(())
 }
 
 #[test]
 fn an_empty_note_is_merged_and_taken_in(rt: HostRuntime) -> Result<(), Fail> {
     let (note, _other) = taken_in(&(), merged(&(), NoNote, NoNote), NoNote);
-    assert_eq!(rt; size_of_val(&note), 0);
+    assert!(rt; size_of_val(&note) == 0);
     Ok(())
 }
 
 #[test]
 fn callers_are_taken_from_the_lowest_on(rt: HostRuntime) -> Result<(), Fail> {
     let mut callers = Callers::nobody().with(63).with(5).with(0).with(5).with(64);
-    assert_eq!(rt; callers.take_first(), Some(0));
-    assert_eq!(rt; callers.take_first(), Some(5));
-    assert_eq!(rt; callers.take_first(), Some(63));
-    assert_eq!(rt; callers.take_first(), None);
-    assert_eq!(rt; Callers::nobody().take_first(), None);
+    assert!(rt; callers.take_first() == Some(0));
+    assert!(rt; callers.take_first() == Some(5));
+    assert!(rt; callers.take_first() == Some(63));
+    assert!(rt; callers.take_first() == None);
+    assert!(rt; Callers::nobody().take_first() == None);
     Ok(())
 }

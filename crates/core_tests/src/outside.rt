@@ -9,8 +9,9 @@ use std::thread::Threads;
 use sync_model::FrontNote;
 use sync_outside::{
     At, Clock, Failed, Gate, HoldGate, MemClock, MemFile, MemSink, MemSources, OpenFault, OpenGate,
-    RefuseStart, Sink, Sources, Spawner, StartCounts, Started, SystemClock, ThreadSpawner, Work,
+    RefuseStart, Sink, Sources, Spawner, StartCounts, Started, ThreadSpawner, Work,
 };
+use system_io::SystemClock;
 
 // All bytes under a name, read four at a time, or the fault that came.
 fn whole<S: Sources>(
@@ -67,15 +68,14 @@ fn sources_in_memory_give_bytes_in_order_and_fail_at_their_calls(
         let mut source = two_files(rt.alloc(), failing)?;
         let got = whole(rt.alloc(), &mut source, name)?;
         match want {
-            Some(bytes) => assert_eq!(rt; got.as_deref(), Ok(bytes), "{name}"),
+            Some(bytes) => assert!(rt; got.as_deref() == Ok(bytes), "{name}"),
             None => assert!(rt; got.is_err(), "{name}"),
         }
     }
     let mut source = two_files(rt.alloc(), &[3])?;
     assert!(rt; whole(rt.alloc(), &mut source, "digits")?.is_err());
-    assert_eq!(rt;
-        whole(rt.alloc(), &mut source, "digits")?.as_deref(),
-        Ok(b"0123456789".as_slice())
+    assert!(rt;
+        whole(rt.alloc(), &mut source, "digits")?.as_deref() == Ok(b"0123456789".as_slice())
     );
     Ok(())
 }
@@ -104,8 +104,8 @@ fn sinks_in_memory_take_whole_pieces_or_nothing(rt: HostRuntime) -> Result<(), F
         for piece in [b"ab".as_slice(), b"cd", b"ef", b"g"] {
             let _ = written(&mut sink, piece);
         }
-        assert_eq!(rt; sink.as_bytes(), want);
-        assert_eq!(rt; sink.faults(), faults);
+        assert!(rt; sink.as_bytes() == want);
+        assert!(rt; sink.faults() == faults);
     }
     Ok(())
 }
@@ -114,14 +114,14 @@ fn sinks_in_memory_take_whole_pieces_or_nothing(rt: HostRuntime) -> Result<(), F
 fn clocks_show_their_moments(rt: HostRuntime) -> Result<(), Fail> {
     let clock = MemClock::new(Vec::from_slice(rt.alloc(), &[5, 9, 7])?);
     let (first, second) = thread::join(&rt, || clock.now(), || clock.now());
-    assert_eq!(rt; (first.min(second), first.max(second)), (5, 9));
-    assert_eq!(rt; (clock.now(), clock.now(), clock.now()), (7, 7, 7));
+    assert!(rt; (first.min(second), first.max(second)) == (5, 9));
+    assert!(rt; (clock.now(), clock.now(), clock.now()) == (7, 7, 7));
     let at: At<FrontNote, MemClock> = At {
         home: &(),
         clock: &clock,
     };
-    assert_eq!(rt; moment(at.clock), 7);
-    assert_eq!(rt; MemClock::new(Vec::new(rt.alloc())).now(), 0);
+    assert!(rt; moment(at.clock) == 7);
+    assert!(rt; MemClock::new(Vec::new(rt.alloc())).now() == 0);
 
     let machine = SystemClock::new(&rt);
     let (first, second) = thread::join(&rt, || machine.now(), || machine.now());
@@ -202,17 +202,17 @@ fn jobs_that_wait_for_one_another_are_done_or_all_come_back(rt: HostRuntime) -> 
         let (is_done, numbers) = match exchanged(&rt, rt.alloc(), &mut spawner)? {
             Started::Done(results) => (true, results),
             Started::Refused(back) => (false, back),
-            Started::Memory => return Err(Fail::from(AllocError)),
+            Started::Memory => return Err(Fail::from(AllocError))
         };
         let want: [u64; 2] = if is_done { [5, 3] } else { [3, 5] };
-        assert_eq!(rt; numbers.as_slice(), want.as_slice(), "{refused}");
-        assert_eq!(rt; numbers_of(spawner.counts()), counts, "{refused}");
+        assert!(rt; numbers.as_slice() == want.as_slice(), "{refused}");
+        assert!(rt; numbers_of(spawner.counts()) == counts, "{refused}");
     }
     let mut machine = ThreadSpawner::new();
     for round in 1..3_u64 {
         let started = exchanged(&rt, rt.alloc(), &mut machine)?;
         assert!(rt; matches!(started, Started::Done(_)), "{round}");
-        assert_eq!(rt; numbers_of(machine.counts()), (0, 2 * round, round));
+        assert!(rt; numbers_of(machine.counts()) == (0, 2 * round, round));
     }
     Ok(())
 }
@@ -266,14 +266,14 @@ fn a_gate_holds_one_call_until_the_other_was_answered(rt: HostRuntime) -> Result
     for (held, want) in [(0, [1, 0]), (1, [0, 1])] {
         let gate = HoldGate::new(held);
         let got = found(&rt, rt.alloc(), &gate)?;
-        assert_eq!(rt; got.as_slice(), want.as_slice(), "{held}");
-        assert_eq!(rt; (gate.answered(), gate.has_given_up()), (2, false));
+        assert!(rt; got.as_slice() == want.as_slice(), "{held}");
+        assert!(rt; (gate.answered(), gate.has_given_up()) == (2, false));
     }
     let gate = HoldGate::new(2);
     let free = found(&rt, rt.alloc(), &gate)?;
     assert!(rt; free.contains(&0) && free.contains(&1));
-    assert_eq!(rt; (gate.answered(), gate.has_given_up()), (2, false));
-    assert_eq!(rt; found(&rt, rt.alloc(), &OpenGate)?.len(), 2);
+    assert!(rt; (gate.answered(), gate.has_given_up()) == (2, false));
+    assert!(rt; found(&rt, rt.alloc(), &OpenGate)?.len() == 2);
 
     let alone = HoldGate::new(0);
     alone.before(&rt, 1, 0);
@@ -308,12 +308,9 @@ fn any_number_of_jobs_is_done(rt: HostRuntime) -> Result<(), Fail> {
         let jobs = adding(rt.alloc(), count, &shared)?;
         let done = match ThreadSpawner::new().start_all(&rt, rt.alloc(), jobs) {
             Started::Done(results) => results.len(),
-            Started::Refused(_) | Started::Memory => usize::MAX,
+            Started::Refused(_) | Started::Memory => usize::MAX
         };
-        assert_eq!(rt;
-            (done, shared.load(Ordering::SeqCst)),
-            (count as usize, u64::from(count))
-        );
+        assert!(rt; (done, shared.load(Ordering::SeqCst)) == (count as usize, u64::from(count)));
     }
     Ok(())
 }
@@ -325,8 +322,8 @@ fn no_job_works_where_the_last_start_is_refused(rt: HostRuntime) -> Result<(), F
     let jobs = adding(rt.alloc(), 32, &shared)?;
     let back = match RefuseStart::new(32).start_all(&rt, rt.alloc(), jobs) {
         Started::Refused(back) => back.len(),
-        Started::Done(_) | Started::Memory => 0,
+        Started::Done(_) | Started::Memory => 0
     };
-    assert_eq!(rt; (back, shared.load(Ordering::SeqCst)), (32, 0));
+    assert!(rt; (back, shared.load(Ordering::SeqCst)) == (32, 0));
     Ok(())
 }

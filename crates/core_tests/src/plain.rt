@@ -26,9 +26,9 @@ const NAMES: [(&[u8], bool); 8] = [
 #[test]
 fn names_keep_their_bytes(rt: HostRuntime) -> Result<(), Fail> {
     let name = Name::from_bytes(rt.alloc(), b"a_2")?;
-    assert_eq!(rt; name.as_bytes(), b"a_2".as_slice());
+    assert!(rt; name.as_bytes() == b"a_2".as_slice());
     for &(bytes, wanted) in &NAMES {
-        assert_eq!(rt; name::is_name(bytes), wanted, "{bytes:?}");
+        assert!(rt; name::is_name(bytes) == wanted, "{bytes:?}");
     }
     Ok(())
 }
@@ -36,14 +36,14 @@ fn names_keep_their_bytes(rt: HostRuntime) -> Result<(), Fail> {
 #[test]
 fn tables_by_name_are_in_the_order_of_bytes(rt: HostRuntime) -> Result<(), Fail> {
     let mut table = ByName::new(rt.alloc());
-    assert_eq!(rt; table.len(), 0);
+    assert!(rt; table.len() == 0);
     table.insert(rt.alloc(), b"b", 1)?;
     table.insert(rt.alloc(), b"ab", 2)?;
     table.insert(rt.alloc(), b"b", 3)?;
     table.insert(rt.alloc(), b"a", 4)?;
-    assert_eq!(rt; table.len(), 3);
-    assert_eq!(rt; table.get(b"b"), Some(3));
-    assert_eq!(rt; table.get(b"c"), None);
+    assert!(rt; table.len() == 3);
+    assert!(rt; table.get(b"b") == Some(3));
+    assert!(rt; table.get(b"c") == None);
     let mut text = String::new(rt.alloc());
     let entries = table.entries(rt.alloc())?;
     for (name, value) in entries.as_slice() {
@@ -51,12 +51,12 @@ fn tables_by_name_are_in_the_order_of_bytes(rt: HostRuntime) -> Result<(), Fail>
         let words = format!(in rt.alloc(); "{name}={value} ")?;
         text.push_str(&words)?;
     }
-    assert_eq!(rt; text.as_str(), "a=4 ab=2 b=3 ");
-    assert_eq!(rt; table.remove(b"ab"), Some(2));
-    assert_eq!(rt; table.remove(b"ab"), None);
-    assert_eq!(rt; table.len(), 2);
+    assert!(rt; text.as_str() == "a=4 ab=2 b=3 ");
+    assert!(rt; table.remove(b"ab") == Some(2));
+    assert!(rt; table.remove(b"ab") == None);
+    assert!(rt; table.len() == 2);
     table.clear();
-    assert_eq!(rt; table.len(), 0);
+    assert!(rt; table.len() == 0);
     Ok(())
 }
 
@@ -67,7 +67,7 @@ fn lists_grow_at_their_ends(rt: HostRuntime) -> Result<(), Fail> {
     first.push(1)?;
     assert!(rt; !first.is_empty());
     first.extend_from_slice(&[2, 3])?;
-    assert_eq!(rt; first.as_slice(), [1, 2, 3].as_slice());
+    assert!(rt; first.as_slice() == [1, 2, 3].as_slice());
     let first = Seq::from_vec(first.into_vec());
     let mut lists = Seq::new(rt.alloc());
     lists.push(first)?;
@@ -75,9 +75,9 @@ fn lists_grow_at_their_ends(rt: HostRuntime) -> Result<(), Fail> {
     lists.push_at(0, 4)?;
     lists.push_at(1, 5)?;
     let wanted: [&[u8]; 2] = [&[1, 2, 3, 4], &[5]];
-    assert_eq!(rt; lists.len(), 2);
+    assert!(rt; lists.len() == 2);
     for (list, wanted) in lists.as_slice().iter().zip(wanted) {
-        assert_eq!(rt; list.as_slice(), wanted);
+        assert!(rt; list.as_slice() == wanted);
     }
     Ok(())
 }
@@ -85,15 +85,15 @@ fn lists_grow_at_their_ends(rt: HostRuntime) -> Result<(), Fail> {
 #[test]
 fn a_bounded_list_is_filled_to_its_room(rt: HostRuntime) -> Result<(), Fail> {
     let mut list = BoundedSeq::with_room(rt.alloc(), 3)?;
-    assert_eq!(rt; list.room(), 3);
+    assert!(rt; list.room() == 3);
     list.push(7);
     list.push(8);
     list.push(9);
-    assert_eq!(rt; list.room(), 3);
-    assert_eq!(rt; list.as_slice(), [7, 8, 9].as_slice());
+    assert!(rt; list.room() == 3);
+    assert!(rt; list.as_slice() == [7, 8, 9].as_slice());
     let mut longer = list.into_seq();
     longer.push(10)?;
-    assert_eq!(rt; longer.as_slice(), [7, 8, 9, 10].as_slice());
+    assert!(rt; longer.as_slice() == [7, 8, 9, 10].as_slice());
     Ok(())
 }
 
@@ -213,7 +213,7 @@ fn each_call_of_a_map_but_clear_has_its_key(rt: HostRuntime) -> Result<(), Fail>
     for word in words {
         let call = call_of(rt.alloc(), word)?;
         let key = call.key().map(Name::as_bytes);
-        assert_eq!(rt; key, Some(b"k".as_slice()), "{word:?}");
+        assert!(rt; key == Some(b"k".as_slice()), "{word:?}");
     }
     let call = call_of(rt.alloc(), b"clear")?;
     assert!(rt; call.key().is_none());
@@ -266,8 +266,8 @@ fn atomic_calls_answer_and_change_as_their_table_says(rt: HostRuntime) -> Result
         ),
     ];
     for ((reply, number), wanted, left) in table {
-        assert_eq!(rt; reply, wanted);
-        assert_eq!(rt; number, left);
+        assert!(rt; reply == wanted);
+        assert!(rt; number == left);
     }
     Ok(())
 }
@@ -311,7 +311,7 @@ fn sums_wrap_at_the_ends_of_each_type(rt: HostRuntime) -> Result<(), Fail> {
         ),
     ];
     for (sum, wanted) in table {
-        assert_eq!(rt; sum, Some(wanted));
+        assert!(rt; sum == Some(wanted));
     }
     Ok(())
 }
@@ -335,8 +335,8 @@ fn a_bool_is_swapped_and_compared(rt: HostRuntime) -> Result<(), Fail> {
         (made(yes, Load), Held(yes), yes),
     ];
     for ((reply, number), wanted, left) in table {
-        assert_eq!(rt; reply, wanted);
-        assert_eq!(rt; number, left);
+        assert!(rt; reply == wanted);
+        assert!(rt; number == left);
     }
     Ok(())
 }

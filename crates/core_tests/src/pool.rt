@@ -26,7 +26,7 @@ const ROOM: [Row<PoolEvent<u64>, PoolReply<u64>>; 16] = [
 #[test]
 fn keeps_to_its_room(rt: HostRuntime) -> Result<(), Fail> {
     let mut pool = PoolCore::new(rt.alloc(), 1, 1)?;
-    assert_eq!(rt; first_other::<PoolCore>(&mut pool, &ROOM), None);
+    assert!(rt; first_other::<PoolCore>(&mut pool, &ROOM) == None);
     Ok(())
 }
 
@@ -47,7 +47,7 @@ const PRIVATE_ITEMS: [Row<PoolEvent<u64>, PoolReply<u64>>; 11] = [
 #[test]
 fn leaves_private_items(rt: HostRuntime) -> Result<(), Fail> {
     let mut pool = PoolCore::new(rt.alloc(), 2, 2)?;
-    assert_eq!(rt; first_other::<PoolCore>(&mut pool, &PRIVATE_ITEMS), None);
+    assert!(rt; first_other::<PoolCore>(&mut pool, &PRIVATE_ITEMS) == None);
     Ok(())
 }
 
@@ -100,9 +100,9 @@ fn looks_in_order(rt: HostRuntime) -> Result<(), Fail> {
             }
         }
         for item in items {
-            assert_eq!(rt; get(&mut pool, parts), Some(item), "by {parts:?}");
+            assert!(rt; get(&mut pool, parts) == Some(item), "by {parts:?}");
         }
-        assert_eq!(rt; get(&mut pool, parts), None, "by {parts:?}");
+        assert!(rt; get(&mut pool, parts) == None, "by {parts:?}");
     }
     Ok(())
 }
@@ -119,6 +119,6 @@ const EDGES: [EdgeRow<PoolEvent<u64>, PoolReply<u64>>; 6] = [
 #[test]
 fn edges_of_a_pool(rt: HostRuntime) -> Result<(), Fail> {
     let mut pool = PoolCore::new(rt.alloc(), 1, 0)?;
-    assert_eq!(rt; first_other_edge::<PoolCore>(&mut pool, &EDGES), None);
+    assert!(rt; first_other_edge::<PoolCore>(&mut pool, &EDGES) == None);
     Ok(())
 }

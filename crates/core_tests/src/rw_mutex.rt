@@ -76,11 +76,11 @@ const HELD_BACK: [Row; 9] = [
 #[test]
 fn a_waiting_writer_holds_back_new_readers(rt: HostRuntime) -> Result<(), Fail> {
     let mut lock = RwCore::new(rt.alloc(), 4)?;
-    assert_eq!(rt; first_other(&mut lock, &HELD_BACK[..5]), None);
-    assert_eq!(rt; place(&lock, 1), Place::Granted);
-    assert_eq!(rt; first_other(&mut lock, &HELD_BACK[5..7]), None);
-    assert_eq!(rt; place(&lock, 2), Place::Admitted);
-    assert_eq!(rt; first_other(&mut lock, &HELD_BACK[7..]), None);
+    assert!(rt; first_other(&mut lock, &HELD_BACK[..5]) == None);
+    assert!(rt; place(&lock, 1) == Place::Granted);
+    assert!(rt; first_other(&mut lock, &HELD_BACK[5..7]) == None);
+    assert!(rt; place(&lock, 2) == Place::Admitted);
+    assert!(rt; first_other(&mut lock, &HELD_BACK[7..]) == None);
     Ok(())
 }
 
@@ -142,8 +142,8 @@ const AT_THE_INNER_MUTEX: [Row; 12] = [
 #[test]
 fn writers_queue_at_the_inner_mutex(rt: HostRuntime) -> Result<(), Fail> {
     let mut lock = RwCore::new(rt.alloc(), 3)?;
-    assert_eq!(rt; first_other(&mut lock, &AT_THE_INNER_MUTEX), None);
-    assert_eq!(rt; place(&lock, 2), Place::Granted);
+    assert!(rt; first_other(&mut lock, &AT_THE_INNER_MUTEX) == None);
+    assert!(rt; place(&lock, 2) == Place::Granted);
     Ok(())
 }
 
@@ -213,7 +213,7 @@ const EDGES: [EdgeRow; 12] = [
 #[test]
 fn unlocks_release_and_what_completes_a_lock_acquires(rt: HostRuntime) -> Result<(), Fail> {
     let mut lock = RwCore::new(rt.alloc(), 3)?;
-    assert_eq!(rt; first_other_edge::<RwCore>(&mut lock, &EDGES), None);
+    assert!(rt; first_other_edge::<RwCore>(&mut lock, &EDGES) == None);
     assert!(rt; halts::<RwCore>());
     Ok(())
 }
@@ -241,6 +241,6 @@ const LET_ON: [WakeRow; 15] = [
 #[test]
 fn an_unlock_lets_those_go_on_who_have_the_lock(rt: HostRuntime) -> Result<(), Fail> {
     let mut lock = RwCore::new(rt.alloc(), 5)?;
-    assert_eq!(rt; first_other_wake::<RwCore>(&mut lock, &LET_ON), None);
+    assert!(rt; first_other_wake::<RwCore>(&mut lock, &LET_ON) == None);
     Ok(())
 }

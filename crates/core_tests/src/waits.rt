@@ -29,7 +29,7 @@ const IN_ORDER: [Row<NotifyEvent, NotifyReply>; 13] = [
 #[test]
 fn notifies_in_order(rt: HostRuntime) -> Result<(), Fail> {
     let mut cond = NotifyCore::new(rt.alloc(), 3)?;
-    assert_eq!(rt; first_other::<NotifyCore>(&mut cond, &IN_ORDER), None);
+    assert!(rt; first_other::<NotifyCore>(&mut cond, &IN_ORDER) == None);
     Ok(())
 }
 
@@ -71,7 +71,7 @@ const COUNTS: [Row<GroupEvent, GroupReply>; 17] = [
 #[test]
 fn counts_and_releases(rt: HostRuntime) -> Result<(), Fail> {
     let mut group = GroupCore::new(rt.alloc(), 2)?;
-    assert_eq!(rt; first_other::<GroupCore>(&mut group, &COUNTS), None);
+    assert!(rt; first_other::<GroupCore>(&mut group, &COUNTS) == None);
     Ok(())
 }
 
@@ -92,17 +92,17 @@ const ONE_RUN: [Row<OnceEvent<u64>, OnceReply<u64>>; 11] = [
 #[test]
 fn runs_once(rt: HostRuntime) -> Result<(), Fail> {
     let mut once = OnceCore::new(rt.alloc(), 2)?;
-    assert_eq!(rt; first_other::<OnceCore<u64>>(&mut once, &ONE_RUN), None);
+    assert!(rt; (first_other::<OnceCore<u64>>(&mut once, &ONE_RUN)) == None);
     Ok(())
 }
 
 #[test]
 fn waits_for_itself(rt: HostRuntime) -> Result<(), Fail> {
     let mut once = OnceCore::new(rt.alloc(), 1)?;
-    assert_eq!(rt; once.step(0, OnceEvent::Begin), OnceReply::<u64>::Run);
-    assert_eq!(rt; once.runner(), Some(0));
-    assert_eq!(rt; once.step(0, OnceEvent::Begin), OnceReply::Queued);
-    assert_eq!(rt; once.step(0, OnceEvent::Leave), OnceReply::Still);
+    assert!(rt; once.step(0, OnceEvent::Begin) == OnceReply::<u64>::Run);
+    assert!(rt; once.runner() == Some(0));
+    assert!(rt; once.step(0, OnceEvent::Begin) == OnceReply::Queued);
+    assert!(rt; once.step(0, OnceEvent::Leave) == OnceReply::Still);
     Ok(())
 }
 
@@ -117,10 +117,7 @@ const COND_EDGES: [EdgeRow<NotifyEvent, NotifyReply>; 5] = [
 #[test]
 fn edges_of_a_cond(rt: HostRuntime) -> Result<(), Fail> {
     let mut cond = NotifyCore::new(rt.alloc(), 1)?;
-    assert_eq!(rt;
-        first_other_edge::<NotifyCore>(&mut cond, &COND_EDGES),
-        None
-    );
+    assert!(rt; first_other_edge::<NotifyCore>(&mut cond, &COND_EDGES) == None);
     Ok(())
 }
 
@@ -143,10 +140,7 @@ const GROUP_EDGES: [EdgeRow<GroupEvent, GroupReply>; 7] = [
 #[test]
 fn edges_of_a_wait_group(rt: HostRuntime) -> Result<(), Fail> {
     let mut group = GroupCore::new(rt.alloc(), 1)?;
-    assert_eq!(rt;
-        first_other_edge::<GroupCore>(&mut group, &GROUP_EDGES),
-        None
-    );
+    assert!(rt; first_other_edge::<GroupCore>(&mut group, &GROUP_EDGES) == None);
     Ok(())
 }
 
@@ -162,10 +156,7 @@ const ONCE_EDGES: [EdgeRow<OnceEvent<u64>, OnceReply<u64>>; 6] = [
 #[test]
 fn edges_of_a_once(rt: HostRuntime) -> Result<(), Fail> {
     let mut once = OnceCore::new(rt.alloc(), 1)?;
-    assert_eq!(rt;
-        first_other_edge::<OnceCore<u64>>(&mut once, &ONCE_EDGES),
-        None
-    );
+    assert!(rt; (first_other_edge::<OnceCore<u64>>(&mut once, &ONCE_EDGES)) == None);
     Ok(())
 }
 
@@ -184,10 +175,7 @@ const GROUP_LETS_ON: [WakeRow<GroupEvent>; 9] = [
 #[test]
 fn an_addition_that_comes_to_0_lets_those_go_on_who_wait(rt: HostRuntime) -> Result<(), Fail> {
     let mut group = GroupCore::new(rt.alloc(), 4)?;
-    assert_eq!(rt;
-        first_other_wake::<GroupCore>(&mut group, &GROUP_LETS_ON),
-        None
-    );
+    assert!(rt; first_other_wake::<GroupCore>(&mut group, &GROUP_LETS_ON) == None);
     Ok(())
 }
 
@@ -208,10 +196,7 @@ const COND_LETS_ON: [WakeRow<NotifyEvent>; 11] = [
 #[test]
 fn a_signal_lets_one_go_on_and_a_broadcast_all(rt: HostRuntime) -> Result<(), Fail> {
     let mut cond = NotifyCore::new(rt.alloc(), 4)?;
-    assert_eq!(rt;
-        first_other_wake::<NotifyCore>(&mut cond, &COND_LETS_ON),
-        None
-    );
+    assert!(rt; first_other_wake::<NotifyCore>(&mut cond, &COND_LETS_ON) == None);
     Ok(())
 }
 
@@ -228,9 +213,6 @@ const ONCE_LETS_ON: [WakeRow<OnceEvent<u64>>; 7] = [
 #[test]
 fn the_end_of_the_function_lets_those_go_on_who_wait(rt: HostRuntime) -> Result<(), Fail> {
     let mut once = OnceCore::new(rt.alloc(), 4)?;
-    assert_eq!(rt;
-        first_other_wake::<OnceCore<u64>>(&mut once, &ONCE_LETS_ON),
-        None
-    );
+    assert!(rt; (first_other_wake::<OnceCore<u64>>(&mut once, &ONCE_LETS_ON)) == None);
     Ok(())
 }

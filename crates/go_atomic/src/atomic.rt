@@ -55,7 +55,8 @@ impl<'a, V: AtomicValue> Atomic<'a, V> {
     /// `Load`: what it holds.
     pub fn load(&self, caller: &mut Caller<SharedNote>) -> V
         requires { IsCallerAt IsNoteOf own_by self.now.table.now caller.old }
-        ensures { MakesCall self.now.table.now self.now.number AtomicCall.Load (AtomicReply.Held (V.of result)) caller.old.note caller.new.note }
+        ensures caller { IsCallerAt IsNoteOf own_by self.now.table.now caller.new }
+        ensures called { MakesCall self.now.table.now self.now.number AtomicCall.Load (AtomicReply.Held (V.of result)) caller.old.note caller.new.note }
     {
         let reply = atomic_call(self.table, caller, self.number, V::kind(), AtomicCall::Load);
         V::of_number(number_in(reply))
@@ -64,7 +65,8 @@ impl<'a, V: AtomicValue> Atomic<'a, V> {
     /// `Store`: it holds this.
     pub fn store(&self, caller: &mut Caller<SharedNote>, value: V)
         requires { IsCallerAt IsNoteOf own_by self.now.table.now caller.old }
-        ensures { MakesCall self.now.table.now self.now.number (AtomicCall.Store (V.of value)) AtomicReply.Done caller.old.note caller.new.note }
+        ensures caller { IsCallerAt IsNoteOf own_by self.now.table.now caller.new }
+        ensures called { MakesCall self.now.table.now self.now.number (AtomicCall.Store (V.of value)) AtomicReply.Done caller.old.note caller.new.note }
     {
         let value = value.to_number();
         let call = AtomicCall::Store { value };
@@ -74,7 +76,8 @@ impl<'a, V: AtomicValue> Atomic<'a, V> {
     /// `Swap`: it holds this, and what it held is answered.
     pub fn swap(&self, caller: &mut Caller<SharedNote>, value: V) -> V
         requires { IsCallerAt IsNoteOf own_by self.now.table.now caller.old }
-        ensures { MakesCall self.now.table.now self.now.number (AtomicCall.Swap (V.of value)) (AtomicReply.Held (V.of result)) caller.old.note caller.new.note }
+        ensures caller { IsCallerAt IsNoteOf own_by self.now.table.now caller.new }
+        ensures called { MakesCall self.now.table.now self.now.number (AtomicCall.Swap (V.of value)) (AtomicReply.Held (V.of result)) caller.old.note caller.new.note }
     {
         let value = value.to_number();
         let call = AtomicCall::Swap { value };
@@ -85,7 +88,8 @@ impl<'a, V: AtomicValue> Atomic<'a, V> {
     /// `CompareAndSwap`: it holds `new`, where it held `old`, and whether it did is answered.
     pub fn compare_and_swap(&self, caller: &mut Caller<SharedNote>, old: V, new: V) -> bool
         requires { IsCallerAt IsNoteOf own_by self.now.table.now caller.old }
-        ensures { MakesCall self.now.table.now self.now.number (AtomicCall.CompareAndSwap (V.of old) (V.of new)) (AtomicReply.Compared result) caller.old.note caller.new.note }
+        ensures caller { IsCallerAt IsNoteOf own_by self.now.table.now caller.new }
+        ensures called { MakesCall self.now.table.now self.now.number (AtomicCall.CompareAndSwap (V.of old) (V.of new)) (AtomicReply.Compared result) caller.old.note caller.new.note }
     {
         let old = old.to_number();
         let new = new.to_number();
@@ -99,7 +103,8 @@ impl<'a, V: AtomicBits> Atomic<'a, V> {
     /// `Add`: adds, wrapping at the ends of the type's range, and answers the sum.
     pub fn add(&self, caller: &mut Caller<SharedNote>, operand: V) -> V
         requires { IsCallerAt IsNoteOf own_by self.now.table.now caller.old }
-        ensures { MakesCall self.now.table.now self.now.number (AtomicCall.Add (V.of operand)) (AtomicReply.Held (V.of result)) caller.old.note caller.new.note }
+        ensures caller { IsCallerAt IsNoteOf own_by self.now.table.now caller.new }
+        ensures called { MakesCall self.now.table.now self.now.number (AtomicCall.Add (V.of operand)) (AtomicReply.Held (V.of result)) caller.old.note caller.new.note }
     {
         V::has_bits();
         let operand = operand.to_number();
@@ -111,7 +116,8 @@ impl<'a, V: AtomicBits> Atomic<'a, V> {
     /// `And`: keeps the bits that the operand has too, and answers what it held.
     pub fn and(&self, caller: &mut Caller<SharedNote>, operand: V) -> V
         requires { IsCallerAt IsNoteOf own_by self.now.table.now caller.old }
-        ensures { MakesCall self.now.table.now self.now.number (AtomicCall.And (V.of operand)) (AtomicReply.Held (V.of result)) caller.old.note caller.new.note }
+        ensures caller { IsCallerAt IsNoteOf own_by self.now.table.now caller.new }
+        ensures called { MakesCall self.now.table.now self.now.number (AtomicCall.And (V.of operand)) (AtomicReply.Held (V.of result)) caller.old.note caller.new.note }
     {
         V::has_bits();
         let operand = operand.to_number();
@@ -123,7 +129,8 @@ impl<'a, V: AtomicBits> Atomic<'a, V> {
     /// `Or`: adds the bits that the operand has, and answers what it held.
     pub fn or(&self, caller: &mut Caller<SharedNote>, operand: V) -> V
         requires { IsCallerAt IsNoteOf own_by self.now.table.now caller.old }
-        ensures { MakesCall self.now.table.now self.now.number (AtomicCall.Or (V.of operand)) (AtomicReply.Held (V.of result)) caller.old.note caller.new.note }
+        ensures caller { IsCallerAt IsNoteOf own_by self.now.table.now caller.new }
+        ensures called { MakesCall self.now.table.now self.now.number (AtomicCall.Or (V.of operand)) (AtomicReply.Held (V.of result)) caller.old.note caller.new.note }
     {
         V::has_bits();
         let operand = operand.to_number();

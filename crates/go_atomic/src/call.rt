@@ -26,6 +26,7 @@ pub fn atomic_call(
     requires caller { IsCallerAt IsNoteOf own_by table.now caller.old }
     requires kind { slice_get (kinds_of table.now) atomic ≡ Some kind }
     requires call { is_atomic_call kind call ≡ true }
+    ensures caller { IsCallerAt IsNoteOf own_by table.now caller.new }
     ensures form { atomic_form call result ≡ true }
     ensures held { (number : Number) → result ≡ AtomicReply.Held number → is_of kind number ≡ true }
     ensures home { SameHome IsNoteOf caller.old.note caller.new.note }

@@ -6,6 +6,7 @@ ghost use Rattle.mutex_core.specs.MutexMachine.{start};
 mod calls;
 mod halts;
 mod new;
+mod renew;
 mod within;
 mod word;
 

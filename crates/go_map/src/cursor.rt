@@ -24,6 +24,7 @@ impl Cursor {
     /// Begins a walk over the map.
     pub fn begin(map: &Map, caller: &mut Caller<SharedNote>) -> Self
         requires { IsCallerAt IsNoteOf own_by map.now.table.now caller.old }
+        ensures caller { IsCallerAt IsNoteOf own_by map.now.table.now caller.new }
         ensures called { MakesStep map.now.table.now (calls.Begin map.now.number) replies.Begun caller.old.note caller.new.note }
         ensures stands { StandsFor map.now.table.now result map.now.number (calls_by caller.old.note) caller.new.note }
     {
@@ -41,6 +42,7 @@ impl Cursor {
     pub fn next(&mut self, map: &Map, caller: &mut Caller<SharedNote>) -> Option<(u32, u64)>
         requires caller { IsCallerAt IsNoteOf own_by map.now.table.now caller.old }
         requires cursor { (begin : ℕ) × StandsFor map.now.table.now self.old map.now.number begin caller.old.note }
+        ensures caller { IsCallerAt IsNoteOf own_by map.now.table.now caller.new }
         ensures called { (begin : ℕ) → StandsFor map.now.table.now self.old map.now.number begin caller.old.note
             → MakesStep map.now.table.now (calls.Next begin) (replies.Shown result) caller.old.note caller.new.note }
         ensures stands { (begin : ℕ) → StandsFor map.now.table.now self.old map.now.number begin caller.old.note

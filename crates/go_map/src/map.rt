@@ -45,6 +45,7 @@ impl<'a> Map<'a> {
         steps: &mut Steps<L>,
     ) -> Option<u64>
         requires { IsCallerAt IsNoteOf own_by self.now.table.now caller.old }
+        ensures caller { IsCallerAt IsNoteOf own_by self.now.table.now caller.new }
         ensures called { MakesCall self.now.table.now self.now.number (MapCall.Load key) (MapReply.Found result) caller.old.note caller.new.note }
         ensures cost { steps.new ≤ steps.old + 11 }
         ensures least { MatchOption result (steps.old + 2 ≤ steps.new) (λ value. steps.old + 4 ≤ steps.new) }
@@ -64,6 +65,7 @@ impl<'a> Map<'a> {
         requires caller { IsCallerAt IsNoteOf own_by self.now.table.now caller.old }
         requires spare { HasSpare caller.old.note }
         requires call { (map_key call ≡ Some key) × (cost_of call ≡ 1) }
+        ensures caller { IsCallerAt IsNoteOf own_by self.now.table.now caller.new }
         ensures called { MakesCall self.now.table.now self.now.number call result caller.old.note caller.new.note }
     {
         self.table
@@ -75,6 +77,7 @@ impl<'a> Map<'a> {
         requires caller { IsCallerAt IsNoteOf own_by self.now.table.now caller.old }
         requires spare { HasSpare caller.old.note }
         requires value { value < 2 ^ 63 }
+        ensures caller { IsCallerAt IsNoteOf own_by self.now.table.now caller.new }
         ensures called { MakesCall self.now.table.now self.now.number (MapCall.Store key value) MapReply.Done caller.old.note caller.new.note }
     {
         self.change(rt, caller, key, MapCall::Store { key, value });
@@ -91,6 +94,7 @@ impl<'a> Map<'a> {
         requires caller { IsCallerAt IsNoteOf own_by self.now.table.now caller.old }
         requires spare { HasSpare caller.old.note }
         requires value { value < 2 ^ 63 }
+        ensures caller { IsCallerAt IsNoteOf own_by self.now.table.now caller.new }
         ensures called { MakesCall self.now.table.now self.now.number (MapCall.Swap key value) (MapReply.Found result) caller.old.note caller.new.note }
     {
         found_in(self.change(rt, caller, key, MapCall::Swap { key, value }))
@@ -107,6 +111,7 @@ impl<'a> Map<'a> {
         requires caller { IsCallerAt IsNoteOf own_by self.now.table.now caller.old }
         requires spare { HasSpare caller.old.note }
         requires value { value < 2 ^ 63 }
+        ensures caller { IsCallerAt IsNoteOf own_by self.now.table.now caller.new }
         ensures called { MakesCall self.now.table.now self.now.number (MapCall.LoadOrStore key value) (MapReply.Settled result.0 result.1) caller.old.note caller.new.note }
     {
         settled_in(self.change(rt, caller, key, MapCall::LoadOrStore { key, value }))
@@ -121,6 +126,7 @@ impl<'a> Map<'a> {
     ) -> Option<u64>
         requires caller { IsCallerAt IsNoteOf own_by self.now.table.now caller.old }
         requires spare { HasSpare caller.old.note }
+        ensures caller { IsCallerAt IsNoteOf own_by self.now.table.now caller.new }
         ensures called { MakesCall self.now.table.now self.now.number (MapCall.LoadAndDelete key) (MapReply.Found result) caller.old.note caller.new.note }
     {
         found_in(self.change(rt, caller, key, MapCall::LoadAndDelete { key }))
@@ -130,6 +136,7 @@ impl<'a> Map<'a> {
     pub fn delete<R: Wait>(&self, rt: &R, caller: &mut Caller<SharedNote>, key: u32)
         requires caller { IsCallerAt IsNoteOf own_by self.now.table.now caller.old }
         requires spare { HasSpare caller.old.note }
+        ensures caller { IsCallerAt IsNoteOf own_by self.now.table.now caller.new }
         ensures called { MakesCall self.now.table.now self.now.number (MapCall.Delete key) MapReply.Done caller.old.note caller.new.note }
     {
         self.change(rt, caller, key, MapCall::Delete { key });
@@ -147,6 +154,7 @@ impl<'a> Map<'a> {
         requires caller { IsCallerAt IsNoteOf own_by self.now.table.now caller.old }
         requires spare { HasSpare caller.old.note }
         requires value { (old < 2 ^ 63) × (new < 2 ^ 63) }
+        ensures caller { IsCallerAt IsNoteOf own_by self.now.table.now caller.new }
         ensures called { MakesCall self.now.table.now self.now.number (MapCall.CompareAndSwap key old new) (MapReply.Compared result) caller.old.note caller.new.note }
     {
         compared_in(self.change(rt, caller, key, MapCall::CompareAndSwap { key, old, new }))
@@ -163,6 +171,7 @@ impl<'a> Map<'a> {
         requires caller { IsCallerAt IsNoteOf own_by self.now.table.now caller.old }
         requires spare { HasSpare caller.old.note }
         requires value { old < 2 ^ 63 }
+        ensures caller { IsCallerAt IsNoteOf own_by self.now.table.now caller.new }
         ensures called { MakesCall self.now.table.now self.now.number (MapCall.CompareAndDelete key old) (MapReply.Compared result) caller.old.note caller.new.note }
     {
         compared_in(self.change(rt, caller, key, MapCall::CompareAndDelete { key, old }))
@@ -174,6 +183,7 @@ impl<'a> Map<'a> {
     pub fn clear<R: Wait>(&self, rt: &R, caller: &mut Caller<SharedNote>)
         requires caller { IsCallerAt IsNoteOf own_by self.now.table.now caller.old }
         requires spare { HasSpare caller.old.note }
+        ensures caller { IsCallerAt IsNoteOf own_by self.now.table.now caller.new }
         ensures called { MakesCall self.now.table.now self.now.number MapCall.Clear MapReply.Done caller.old.note caller.new.note }
     {
         self.table.clear_map(rt, &mut caller.note, self.number);

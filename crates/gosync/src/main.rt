@@ -8,8 +8,8 @@ use gosync_call::{Status, Unread, gosync, say};
 use std::env;
 use std::io::ErrorKind;
 use std::process::ExitCode;
-use sync_outside::{OpenGate, SystemClock, ThreadSpawner};
-use system_io::{SystemSources, WriterSink};
+use sync_outside::{OpenGate, ThreadSpawner};
+use system_io::{SystemClock, SystemSources, WriterSink};
 
 /// The words of the command line. Those that aren't UTF-8 aren't taken.
 fn words_of(rt: &HostRuntime) -> Result<Vec<String>, Status> {

@@ -36,9 +36,9 @@ fn two_callers_by_turns_and_a_halt(rt: HostRuntime) -> Result<(), Fail> {
         } else {
             one.make(&rt, &clock, call)
         };
-        assert_eq!(rt; (came_to, one.known()), (made, known), "{call:?}");
+        assert!(rt; (came_to, one.known()) == (made, known), "{call:?}");
     }
-    assert_eq!(rt; (zero.left(), one.left()), (999_995, 999_996));
+    assert!(rt; (zero.left(), one.left()) == (999_995, 999_996));
     Ok(())
 }
 
@@ -85,7 +85,7 @@ fn readers_share_and_keep_a_writer_out(rt: HostRuntime) -> Result<(), Fail> {
         } else {
             one.make(&rt, &clock, call)
         };
-        assert_eq!(rt; (came_to, one.known()), (made, known), "{call:?}");
+        assert!(rt; (came_to, one.known()) == (made, known), "{call:?}");
     }
     Ok(())
 }
@@ -105,7 +105,7 @@ fn the_first_halt_is_found(rt: HostRuntime) -> Result<(), Fail> {
         for &misuse in halts {
             only.make(&rt, &clock, mutex::Call::Halt(misuse));
         }
-        assert_eq!(rt; only.first_halt(rt.alloc())?, first);
+        assert!(rt; only.first_halt(rt.alloc())? == first);
     }
     Ok(())
 }
@@ -121,7 +121,7 @@ fn the_first_halt_of_a_reader_writer_lock_is_found(rt: HostRuntime) -> Result<()
         for &misuse in halts {
             only.make(&rt, &clock, rw_mutex::Call::Halt(misuse));
         }
-        assert_eq!(rt; only.first_halt(rt.alloc())?, first);
+        assert!(rt; only.first_halt(rt.alloc())? == first);
     }
     Ok(())
 }
@@ -131,14 +131,11 @@ fn a_new_lock_has_a_pass_for_each_caller(rt: HostRuntime) -> Result<(), Fail> {
     for callers in [1, 2, 64] {
         let (_mutex, passes) = Mutex::new(rt.alloc(), callers, 7, knows(0))?;
         let (_lock, rw_passes) = RwMutex::new(rt.alloc(), callers, MAX_CALLS, knows(0))?;
-        assert_eq!(rt;
-            (passes.len(), rw_passes.len()),
-            (callers as usize, callers as usize)
-        );
+        assert!(rt; (passes.len(), rw_passes.len()) == (callers as usize, callers as usize));
         let mut number = 0;
         for (pass, rw_pass) in passes.iter().zip(rw_passes.iter()) {
-            assert_eq!(rt; (pass.number(), pass.left()), (number, 7));
-            assert_eq!(rt; (rw_pass.number(), rw_pass.left()), (number, MAX_CALLS));
+            assert!(rt; (pass.number(), pass.left()) == (number, 7));
+            assert!(rt; (rw_pass.number(), rw_pass.left()) == (number, MAX_CALLS));
             number = number.wrapping_add(1);
         }
     }
@@ -162,8 +159,8 @@ fn parts_of_a_longer_call_take_off_one(rt: HostRuntime) -> Result<(), Fail> {
     let mut only = mutex::Member::last(&lock, 1, &mut passes, knows(0)).expect(&rt, "a pass");
     let clock = MemClock::new(Vec::new(rt.alloc()));
     for &(call, made) in &PARTS {
-        assert_eq!(rt; only.make(&rt, &clock, call), made, "{call:?}");
+        assert!(rt; only.make(&rt, &clock, call) == made, "{call:?}");
     }
-    assert_eq!(rt; only.left(), 999_999);
+    assert!(rt; only.left() == 999_999);
     Ok(())
 }

@@ -31,9 +31,9 @@ fn uncontended_rounds_take_no_turn(rt: HostRuntime) -> Result<(), Fail> {
     let mut caller = Member::last(&lock, 2, &mut passes, knows(0)).expect(&rt, "a pass");
     let clock = MemClock::new(Vec::new(rt.alloc()));
     let before = caller.turns();
-    assert_eq!(rt; rounds(&rt, &clock, &mut caller, 1_000), 1_000);
-    assert_eq!(rt; caller.turns(), before);
-    assert_eq!(rt; caller.word(), 0);
+    assert!(rt; rounds(&rt, &clock, &mut caller, 1_000) == 1_000);
+    assert!(rt; caller.turns() == before);
+    assert!(rt; caller.word() == 0);
     Ok(())
 }
 
@@ -216,19 +216,13 @@ fn loses_at<R: Threads + Wait + Sync>(
 // More than a millisecond after its arrival caller 1 starves: the mutex is handed to it, and a try fails.
 #[test]
 fn a_starving_loser_is_handed_the_mutex(rt: HostRuntime) -> Result<(), Fail> {
-    assert_eq!(rt;
-        loses_at(&rt, rt.alloc(), 1_000_001, 21, false)?,
-        (0, 2, 3, 2)
-    );
+    assert!(rt; loses_at(&rt, rt.alloc(), 1_000_001, 21, false)? == (0, 2, 3, 2));
     Ok(())
 }
 
 // After a millisecond itself it doesn't, and a try takes the mutex.
 #[test]
 fn a_loser_that_does_not_starve_loses_again(rt: HostRuntime) -> Result<(), Fail> {
-    assert_eq!(rt;
-        loses_at(&rt, rt.alloc(), 1_000_000, 17, true)?,
-        (0, 2, 3, 2)
-    );
+    assert!(rt; loses_at(&rt, rt.alloc(), 1_000_000, 17, true)? == (0, 2, 3, 2));
     Ok(())
 }

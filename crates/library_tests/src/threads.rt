@@ -7,8 +7,9 @@ use std::sync::Wait;
 use std::sync::atomic::{AtomicU64, Ordering};
 use std::test::Fail;
 use std::thread::{Threads, join};
-use sync_outside::{Clock, MemClock, SystemClock};
+use sync_outside::{Clock, MemClock};
 use sync_types::Misuse;
+use system_io::SystemClock;
 
 // Reads the number and stores one more. Two callers that do this at once lose one of the two.
 fn add_one(number: &AtomicU64) {
@@ -59,7 +60,7 @@ fn each_arrival_reads_the_clock(rt: HostRuntime) -> Result<(), Fail> {
     let clock = MemClock::new(Vec::from_slice(rt.alloc(), &[1, 2, 3, 4, 5, 6, 7, 8])?);
     let number = AtomicU64::new(0);
     add_beside(&rt, &clock, zero, one, &number, 2);
-    assert_eq!(rt; number.load(Ordering::SeqCst), 4);
+    assert!(rt; number.load(Ordering::SeqCst) == 4);
     // Four arrivals took four moments, and each going on took one more.
     assert!(rt; clock.now() > 4);
     Ok(())
@@ -79,7 +80,7 @@ fn four_threads_lose_no_increment(rt: HostRuntime) -> Result<(), Fail> {
         || add_beside(&rt, &clock, zero, one, &number, 10_000),
         || add_beside(&rt, &clock, two, three, &number, 10_000),
     );
-    assert_eq!(rt; number.load(Ordering::SeqCst), 40_000);
+    assert!(rt; number.load(Ordering::SeqCst) == 40_000);
     Ok(())
 }
 
@@ -161,9 +162,9 @@ fn readers_see_whole_writes(rt: HostRuntime) -> Result<(), Fail> {
         || write_beside(&rt, &clock, zero, one, &numbers),
         || write_beside(&rt, &clock, two, three, &numbers),
     );
-    assert_eq!(rt; numbers.first.load(Ordering::SeqCst), 10_000);
-    assert_eq!(rt; numbers.second.load(Ordering::SeqCst), 10_000);
-    assert_eq!(rt; numbers.torn.load(Ordering::SeqCst), 0);
+    assert!(rt; numbers.first.load(Ordering::SeqCst) == 10_000);
+    assert!(rt; numbers.second.load(Ordering::SeqCst) == 10_000);
+    assert!(rt; numbers.torn.load(Ordering::SeqCst) == 0);
     Ok(())
 }
 
@@ -205,6 +206,6 @@ fn a_halt_ends_the_wait_of_three(rt: HostRuntime) -> Result<(), Fail> {
         || make_beside(&rt, &clock, zero, three, HALT, mutex::Call::Lock),
     );
     let halted = Made::Halted(Misuse::WaitGroupReused);
-    assert_eq!(rt; (both.0, both.1, last.1), (halted, halted, halted));
+    assert!(rt; (both.0, both.1, last.1) == (halted, halted, halted));
     Ok(())
 }

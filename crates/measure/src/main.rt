@@ -34,7 +34,8 @@ use std::sync::Wait;
 use std::thread::Threads;
 use std::{env, io, rt};
 use sync_model::{FrontNote, NoNote};
-use sync_outside::{Clock, SystemClock};
+use sync_outside::Clock;
+use system_io::SystemClock;
 
 /// What is printed where the words aren't taken.
 const USAGE: &str = "usage: measure WHAT HOW NOTES CLOCK CALLERS ROUNDS
@@ -108,7 +109,7 @@ fn main(rt: HostRuntime) -> io::Result<ExitCode> {
     };
     let tenths = match plan.reads {
         Reads::Machine => with_clock(&rt, rt.alloc(), &SystemClock::new(&rt), plan)?,
-        Reads::Standing => with_clock(&rt, rt.alloc(), &StandingClock, plan)?,
+        Reads::Standing => with_clock(&rt, rt.alloc(), &StandingClock, plan)?
     };
     println!(rt; "{}.{}", tenths / 10, tenths % 10)?;
     Ok(ExitCode::SUCCESS)

@@ -8,7 +8,8 @@ use std::alloc::{AllocError, Global};
 use std::rt;
 use std::sync::Wait;
 use std::thread::{Threads, map_indices, map_vec};
-use sync_outside::{Clock, SystemClock};
+use sync_outside::Clock;
+use system_io::SystemClock;
 
 /// How many nanoseconds a caller takes for so many pairs.
 fn time_of<M: Measured, C: Clock, R: Wait + rt::Clock>(
@@ -84,7 +85,7 @@ pub fn measure<M: Measured, C: Clock + Sync, R: Threads + Wait + rt::Clock + Syn
 ) -> Result<u64, AllocError> {
     let time = match plan.how {
         How::Own(threads) => apart::<M, C, R>(rt, alloc, clock, plan, threads)?,
-        How::Shared(threads) => shared::<M, C, R>(rt, alloc, clock, plan, threads)?,
+        How::Shared(threads) => shared::<M, C, R>(rt, alloc, clock, plan, threads)?
     };
     Ok(time.saturating_mul(10) / u64::from(plan.rounds))
 }

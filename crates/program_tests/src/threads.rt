@@ -6,8 +6,9 @@ use std::sync::Wait;
 use std::test::Fail;
 use std::thread::Threads;
 use sync_outside::{
-    Clock, Gate, HoldGate, MemClock, OpenGate, RefuseStart, Spawner, SystemClock, ThreadSpawner,
+    Clock, Gate, HoldGate, MemClock, OpenGate, RefuseStart, Spawner, ThreadSpawner,
 };
+use system_io::SystemClock;
 use thread_runner::{RunFault, threaded};
 use workload::Workload;
 use workload_text::parse;
@@ -254,7 +255,7 @@ fn a_gate_decides_who_comes_first(rt: HostRuntime) -> Result<(), Fail> {
     for &(held, text, want) in &HELD {
         let gate = HoldGate::new(held);
         let got = told_through(&rt, rt.alloc(), text, &gate)?;
-        assert_eq!(rt; got.as_str(), want, "{held}");
+        assert!(rt; got.as_str() == want, "{held}");
         assert!(rt; !gate.has_given_up(), "{held}");
     }
     Ok(())
@@ -268,7 +269,7 @@ fn a_gate_is_passed_before_and_after_each_call(rt: HostRuntime) -> Result<(), Fa
     ] {
         let gate = HoldGate::new(2);
         told_through(&rt, rt.alloc(), text, &gate)?;
-        assert_eq!(rt; gate.answered(), answered, "{text}");
+        assert!(rt; gate.answered() == answered, "{text}");
     }
     Ok(())
 }
@@ -317,7 +318,7 @@ fn a_misuse_ends_all_who_wait(rt: HostRuntime) -> Result<(), Fail> {
     for &(text, want) in &MISUSES {
         let gate = HoldGate::new(1);
         let got = told_through(&rt, rt.alloc(), text, &gate)?;
-        assert_eq!(rt; got.as_str(), want, "{text}");
+        assert!(rt; got.as_str() == want, "{text}");
         assert!(rt; !gate.has_given_up(), "{text}");
     }
     Ok(())
@@ -376,10 +377,10 @@ fn a_start_that_is_refused_ends_the_run(rt: HostRuntime) -> Result<(), Fail> {
             &mut spawner,
             &OpenGate,
         )?;
-        assert_eq!(rt; got.as_str(), want, "{refused}");
+        assert!(rt; got.as_str() == want, "{refused}");
         let counts = spawner.counts();
         let counted = (counts.faults(), counts.ran(), counts.rounds());
-        assert_eq!(rt; counted, numbers, "{refused}");
+        assert!(rt; counted == numbers, "{refused}");
     }
     let mut spawner = RefuseStart::new(2);
     let got = told_of(
@@ -391,6 +392,6 @@ fn a_start_that_is_refused_ends_the_run(rt: HostRuntime) -> Result<(), Fail> {
         &mut spawner,
         &OpenGate,
     )?;
-    assert_eq!(rt; got.as_str(), "refused");
+    assert!(rt; got.as_str() == "refused");
     Ok(())
 }

@@ -5,6 +5,7 @@ pub mod Growth
 pub mod Looks
 pub mod Notes
 pub mod Passes
+pub mod Renewals
 pub mod Rule
 pub mod Standing
 pub mod Steps

@@ -14,6 +14,7 @@ mod new;
 pub mod object;
 mod park;
 pub mod pass;
+mod renew;
 pub mod rule;
 mod spend;
 mod turn;

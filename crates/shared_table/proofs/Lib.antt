@@ -1,3 +1,4 @@
+pub mod AllCallers
 pub mod Sights
 pub mod Walks
 pub mod MapCalls

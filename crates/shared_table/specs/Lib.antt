@@ -9,3 +9,4 @@ pub mod Pruning
 pub mod Drafts
 pub mod Ranging
 pub mod CursorStays
+pub mod CallerProps

@@ -1,6 +1,8 @@
 //! New tables.
-ghost use Rattle.std.specs.Prelude.{◌≡◌, ◌+◌, ◌<◌, ◌≤◌, [], IfOk, length, sum};
+ghost use Rattle.std.specs.Prelude.{◌≡◌, ◌+◌, ◌<◌, ◌≤◌, [], All, IfOk, length, sum};
 ghost use Rattle.table_words.specs.Seats.{begin_of, IsSeatOf};
+ghost use Rattle.sync_model.specs.Shared.{IsCallerAt};
+ghost use Rattle.shared_table.specs.Notes.{own_by, IsNoteOf};
 ghost use Rattle.shared_table.specs.NewCallers.{AreNewCallers};
 ghost use Rattle.shared_table.specs.Tables.{kinds_of, maps_of, caller_count, seed_of};
 ghost use Rattle.table_rule.specs.Views.{first_view};
@@ -35,6 +37,7 @@ impl SharedTable {
         requires units { sum spare.now ≤ MAX_UNITS }
         ensures table { IfOk result (λ made. (kinds_of made.0 ≡ kinds.now) × (maps_of made.0 ≡ maps) × (seed_of made.0 ≡ seed) × (caller_count made.0 ≡ length spare.now)) }
         ensures callers { IfOk result (λ made. AreNewCallers made.0 spare.now made.1.items) }
+        ensures each { IfOk result (λ made. All (IsCallerAt IsNoteOf own_by made.0) made.1.items) }
     {
         let begin = Begin {
             kinds: Seq::from_vec(Vec::from_slice(alloc, kinds)?),

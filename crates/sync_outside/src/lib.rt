@@ -21,7 +21,6 @@ pub mod sources;
 pub mod spawner;
 pub mod start_counts;
 mod starting;
-pub mod system_clock;
 pub mod thread_spawner;
 pub mod work;
 
@@ -41,6 +40,5 @@ pub use sink::Sink;
 pub use sources::Sources;
 pub use spawner::{Spawner, Started};
 pub use start_counts::StartCounts;
-pub use system_clock::SystemClock;
 pub use thread_spawner::ThreadSpawner;
 pub use work::Work;

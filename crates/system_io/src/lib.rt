@@ -1,12 +1,11 @@
-//! The real files and streams, behind the traits of `sync_outside`: what a program reads and writes. They tell
-//! nothing of their bytes.
+//! The real files, streams and clock, behind the traits of `sync_outside`. What they read, write and show is trusted: no clause
+//! tells their bytes or moments.
 #![tactic(auto)]
 
+pub mod system_clock;
 pub mod system_sources;
 pub mod writer_sink;
 
+pub use system_clock::SystemClock;
 pub use system_sources::SystemSources;
 pub use writer_sink::WriterSink;
-
-#[cfg(test)]
-mod tests;

@@ -144,7 +144,7 @@ impl<R: Files + Input> Sources for SystemSources<'_, R> {
 }
 
 /// Reads once. A read that a signal cut short is tried again.
-pub(crate) fn read_once<I: Read>(input: &mut I, buf: &mut [u8]) -> Result<usize, Failed>
+pub fn read_once<I: Read>(input: &mut I, buf: &mut [u8]) -> Result<usize, Failed>
     ensures fits { IfOk result (λ n. n ≤ length buf.old) }
     ensures bytes { ReadConsumes (I.remaining input.old) (I.remaining input.new) result buf.new }
 {

@@ -100,8 +100,8 @@ fn seeds_come_to_their_summaries(rt: HostRuntime) -> Result<(), Fail> {
     let alloc = rt.alloc();
     for (seed, expected) in SUMMARIES {
         let workload = read_back(alloc, seed)?;
-        assert_eq!(rt; workload.workers(), 8);
-        assert_eq!(rt; run_by_one(alloc, &workload)?, expected);
+        assert!(rt; workload.workers() == 8);
+        assert!(rt; run_by_one(alloc, &workload)? == expected);
     }
     Ok(())
 }
@@ -109,7 +109,7 @@ fn seeds_come_to_their_summaries(rt: HostRuntime) -> Result<(), Fail> {
 #[test]
 fn the_text_of_seed_7_begins_and_ends_so(rt: HostRuntime) -> Result<(), Fail> {
     let text = generate(rt.alloc(), 7)?;
-    assert_eq!(rt; text.len(), 191_634);
+    assert!(rt; text.len() == 191_634);
     assert!(rt;
         text.starts_with(
             b"workers 8\nmutex m\nint64 total\nmap t\nworker 0\nlock m\nadd total 449\nunlock m\nload t k0_14\nlock m\nadd total 135\nunlock m\ndelete t k0_15\nlock m\nadd total 764\nunlock m\nstore t k0_27 3070294\n"

@@ -130,9 +130,8 @@ const REFUSED: [(&[u8], u32, Reason); 54] = [
 #[test]
 fn each_check_refuses_what_fails_it(rt: HostRuntime) -> Result<(), Fail> {
     for &(text, line, reason) in &REFUSED {
-        assert_eq!(rt;
-            fault_of(rt.alloc(), text)?,
-            Some((line, reason)),
+        assert!(rt;
+            fault_of(rt.alloc(), text)? == Some((line, reason)),
             "at {text:?}"
         );
     }
@@ -155,7 +154,7 @@ const READ: [&[u8]; 10] = [
 #[test]
 fn what_keeps_the_limits_is_read(rt: HostRuntime) -> Result<(), Fail> {
     for &text in &READ {
-        assert_eq!(rt; fault_of(rt.alloc(), text)?, None, "at {text:?}");
+        assert!(rt; fault_of(rt.alloc(), text)? == None, "at {text:?}");
     }
     Ok(())
 }
@@ -216,9 +215,8 @@ fn each_operand_is_refused_past_its_range(rt: HostRuntime) -> Result<(), Fail> {
         text.extend_from_slice(kind)?;
         text.extend_from_slice(b" a\nworker 0\n")?;
         text.extend_from_slice(call)?;
-        assert_eq!(rt;
-            fault_of(rt.alloc(), &text)?,
-            Some((4, Reason::BadNumber)),
+        assert!(rt;
+            fault_of(rt.alloc(), &text)? == Some((4, Reason::BadNumber)),
             "at {text:?}"
         );
     }
@@ -301,7 +299,7 @@ fn each_kind_of_object_has_its_calls(rt: HostRuntime) -> Result<(), Fail> {
         text.extend_from_slice(b" a\nworker 0\n")?;
         text.extend_from_slice(call)?;
         let fault = fault_of(rt.alloc(), &text)?.map(|(_, reason)| reason);
-        assert_eq!(rt; fault, reason, "at {text:?}");
+        assert!(rt; fault == reason, "at {text:?}");
     }
     Ok(())
 }
@@ -363,7 +361,7 @@ fn each_object_line_has_its_words(rt: HostRuntime) -> Result<(), Fail> {
         text.extend_from_slice(b"workers 1\nmutex m\nrwmutex w\nint64 a\nint32 b\n")?;
         text.extend_from_slice(line)?;
         let fault = fault_of(rt.alloc(), &text)?;
-        assert_eq!(rt; fault, reason.map(|reason| (6, reason)), "at {text:?}");
+        assert!(rt; fault == reason.map(|reason| (6, reason)), "at {text:?}");
     }
     Ok(())
 }
@@ -425,7 +423,7 @@ fn each_waiting_object_has_its_calls(rt: HostRuntime) -> Result<(), Fail> {
         )?;
         text.extend_from_slice(call)?;
         let fault = fault_of(rt.alloc(), &text)?;
-        assert_eq!(rt; fault, reason.map(|reason| (11, reason)), "at {text:?}");
+        assert!(rt; fault == reason.map(|reason| (11, reason)), "at {text:?}");
     }
     Ok(())
 }
@@ -480,13 +478,13 @@ fn limits_on_the_other_objects(rt: HostRuntime) -> Result<(), Fail> {
             text.extend_from_slice(number.to_string(rt.alloc())?.as_bytes())?;
             text.extend_from_slice(rest)?;
         }
-        assert_eq!(rt; fault_of(rt.alloc(), &text)?, None, "at {kind:?}");
+        assert!(rt; fault_of(rt.alloc(), &text)? == None, "at {kind:?}");
         text.push(b'\n')?;
         text.extend_from_slice(kind)?;
         text.extend_from_slice(b" o")?;
         text.extend_from_slice(rest)?;
         let fault = fault_of(rt.alloc(), &text)?;
-        assert_eq!(rt; fault, Some((36, Reason::LimitReached)), "at {kind:?}");
+        assert!(rt; fault == Some((36, Reason::LimitReached)), "at {kind:?}");
     }
     Ok(())
 }
@@ -530,7 +528,7 @@ fn limits_on_objects_and_ranges(rt: HostRuntime) -> Result<(), Fail> {
     for &(kind, objects, ranges, line) in &MANY {
         let text = text_of_many(rt.alloc(), kind, objects, ranges)?;
         let fault = fault_of(rt.alloc(), &text)?;
-        assert_eq!(rt; fault, line.map(|line| (line, Reason::LimitReached)));
+        assert!(rt; fault == line.map(|line| (line, Reason::LimitReached)));
     }
     Ok(())
 }

@@ -19,6 +19,3 @@ pub use place::Place;
 pub use plan::{Expansion, Pruning};
 pub use prune::pruning;
 pub use slot::Slot;
-
-#[cfg(test)]
-mod tests;

@@ -21,21 +21,15 @@ fn a_copy_is_merged_into_the_other_pass(rt: HostRuntime) -> Result<(), Fail> {
     let mut note = knows(0);
     object.call(&rt, &(), &mut first, &mut note, 1);
     let mut copy = object.copy(&mut first);
-    assert_eq!(rt; (copy.number(), copy.left()), (0, 0));
-    assert_eq!(rt; (first.number(), first.left()), (0, 3));
+    assert!(rt; (copy.number(), copy.left()) == (0, 0));
+    assert!(rt; (first.number(), first.left()) == (0, 3));
     let again = object.copy(&mut copy);
     object.merge(&mut copy, again);
     object.merge(&mut second, copy);
-    assert_eq!(rt; (second.number(), second.left()), (1, 3));
+    assert!(rt; (second.number(), second.left()) == (1, 3));
     // Both passes go on.
-    assert_eq!(rt;
-        object.call(&rt, &(), &mut second, &mut note, 2),
-        Answer::Done(8)
-    );
-    assert_eq!(rt;
-        object.call(&rt, &(), &mut first, &mut note, 4),
-        Answer::Done(12)
-    );
+    assert!(rt; object.call(&rt, &(), &mut second, &mut note, 2) == Answer::Done(8));
+    assert!(rt; object.call(&rt, &(), &mut first, &mut note, 4) == Answer::Done(12));
     Ok(())
 }
 
@@ -69,15 +63,12 @@ fn callers_are_looked_at_together(rt: HostRuntime) -> Result<(), Fail> {
         note: knows(0),
     };
     object.call(&rt, &(), &mut one.pass, &mut one.note, 3);
-    assert_eq!(rt; look_at_both(&object, &mut one, &mut other), None);
+    assert!(rt; look_at_both(&object, &mut one, &mut other) == None);
     let answer = object.call(&rt, &(), &mut other.pass, &mut other.note, 4);
-    assert_eq!(rt; answer, Answer::Done(7));
+    assert!(rt; answer == Answer::Done(7));
     object.halt(&rt, &mut one.pass, &one.note, Misuse::WaitGroupReused);
-    assert_eq!(rt;
-        look_at_both(&object, &mut one, &mut other),
-        Some(Misuse::WaitGroupReused)
-    );
+    assert!(rt; look_at_both(&object, &mut one, &mut other) == Some(Misuse::WaitGroupReused));
     let answer = object.call(&rt, &(), &mut other.pass, &mut other.note, 4);
-    assert_eq!(rt; answer, Answer::Halted(Misuse::WaitGroupReused));
+    assert!(rt; answer == Answer::Halted(Misuse::WaitGroupReused));
     Ok(())
 }

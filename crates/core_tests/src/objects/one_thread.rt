@@ -23,12 +23,12 @@ fn a_counter_answers_each_event_in_order(rt: HostRuntime) -> Result<(), Fail> {
         } else {
             object.call(&rt, &(), &mut second, &mut other, event)
         };
-        assert_eq!(rt; answer, Answer::Done(sum), "after {event}");
-        assert_eq!(rt; other.count(0), known, "after {event}");
+        assert!(rt; answer == Answer::Done(sum), "after {event}");
+        assert!(rt; other.count(0) == known, "after {event}");
     }
     let passes = all_of(rt.alloc(), &object, first, second)?;
     let sum: u64 = object.finish(passes);
-    assert_eq!(rt; sum, 7);
+    assert!(rt; sum == 7);
     Ok(())
 }
 
@@ -40,14 +40,11 @@ fn the_first_halt_is_kept(rt: HostRuntime) -> Result<(), Fail> {
     object.halt(&rt, &mut second, &note, Misuse::NegativeWaitGroupCounter);
     object.halt(&rt, &mut first, &note, Misuse::WaitGroupReused);
     let answer = object.call(&rt, &(), &mut first, &mut note, 4);
-    assert_eq!(rt; answer, Answer::Halted(Misuse::NegativeWaitGroupCounter));
+    assert!(rt; answer == Answer::Halted(Misuse::NegativeWaitGroupCounter));
     let mut passes = all_of(rt.alloc(), &object, first, second)?;
-    assert_eq!(rt;
-        object.first_halt(&mut passes),
-        Some(Misuse::NegativeWaitGroupCounter)
-    );
+    assert!(rt; object.first_halt(&mut passes) == Some(Misuse::NegativeWaitGroupCounter));
     let sum: u64 = object.finish(passes);
-    assert_eq!(rt; sum, 3);
+    assert!(rt; sum == 3);
     Ok(())
 }
 
@@ -56,13 +53,13 @@ fn no_halt_is_none_and_calls_go_on(rt: HostRuntime) -> Result<(), Fail> {
     let (object, first, second) = duo::<Fragile>(rt.alloc(), 0)?;
     let mut note = knows(0);
     let mut passes = all_of(rt.alloc(), &object, first, second)?;
-    assert_eq!(rt; object.first_halt(&mut passes), None);
+    assert!(rt; object.first_halt(&mut passes) == None);
     let (mut first, mut second) = both_of(&object, passes);
     object.call(&rt, &(), &mut second, &mut note, 2);
     object.call(&rt, &(), &mut first, &mut note, 4);
     let passes = all_of(rt.alloc(), &object, first, second)?;
     let sum: u64 = object.finish(passes);
-    assert_eq!(rt; sum, 6);
+    assert!(rt; sum == 6);
     Ok(())
 }
 
@@ -72,11 +69,11 @@ fn the_word_at_rest_tells_of_a_mutex(rt: HostRuntime) -> Result<(), Fail> {
     let (object, first, second) = duo::<MutexCore>(rt.alloc(), core)?;
     let mut note = knows(0);
     let mut passes = all_of(rt.alloc(), &object, first, second)?;
-    assert_eq!(rt; object.word_at_rest(&mut passes), 0);
+    assert!(rt; object.word_at_rest(&mut passes) == 0);
     let (mut first, second) = both_of(&object, passes);
     object.call(&rt, &(), &mut first, &mut note, MutexEvent::Try);
     let mut passes = all_of(rt.alloc(), &object, first, second)?;
-    assert_eq!(rt; object.word_at_rest(&mut passes), 1);
+    assert!(rt; object.word_at_rest(&mut passes) == 1);
     // Who waits took the turn, and counts it still.
     let (first, mut second) = both_of(&object, passes);
     object.call(
@@ -89,7 +86,7 @@ fn the_word_at_rest_tells_of_a_mutex(rt: HostRuntime) -> Result<(), Fail> {
     let mut passes = all_of(rt.alloc(), &object, first, second)?;
     object.word_at_rest(&mut passes);
     let (first, second) = both_of(&object, passes);
-    assert_eq!(rt; (first.turns(), second.turns()), (0, 1));
+    assert!(rt; (first.turns(), second.turns()) == (0, 1));
     Ok(())
 }
 
@@ -97,7 +94,7 @@ fn the_word_at_rest_tells_of_a_mutex(rt: HostRuntime) -> Result<(), Fail> {
 fn a_pass_counts_its_calls_down(rt: HostRuntime) -> Result<(), Fail> {
     let (object, mut pass, _) = duo::<Counter>(rt.alloc(), 0)?;
     for left in [3, 2, 1] {
-        assert_eq!(rt; (pass.number(), pass.left()), (0, left));
+        assert!(rt; (pass.number(), pass.left()) == (0, left));
         object.spend(&mut pass);
     }
     Ok(())

@@ -131,7 +131,7 @@ fn map_calls_of_two_callers_are_answered_in_order(rt: HostRuntime) -> Result<(),
         );
     }
     // Every call but a load took a spare entry.
-    assert_eq!(rt; pair.spare(), (11, 10));
+    assert!(rt; pair.spare() == (11, 10));
     Ok(())
 }
 
@@ -214,9 +214,8 @@ const ATOMIC_CALLS: [(Who, AtomicCall, AtomicReply); 10] = [
 fn atomic_calls_of_two_callers_are_answered_in_order(rt: HostRuntime) -> Result<(), Fail> {
     let mut pair = Pair::new(rt.alloc(), 0)?.expect(&rt, "two callers");
     for &(who, call, reply) in &ATOMIC_CALLS {
-        assert_eq!(rt;
-            pair.on_atomic(&rt, who, call),
-            Some(reply),
+        assert!(rt;
+            pair.on_atomic(&rt, who, call) == Some(reply),
             "{who:?} at {call:?}"
         );
     }
@@ -234,9 +233,9 @@ fn a_copy_of_a_note_is_nobodys_and_is_merged(rt: HostRuntime) -> Result<(), Fail
             "{value}"
         );
         // The copy keeps the number, and has no spare entry.
-        assert_eq!(rt; pair.tell_second(), (0, 0));
-        assert_eq!(rt; pair.numbers(), (0, 1));
+        assert!(rt; pair.tell_second() == (0, 0));
+        assert!(rt; pair.numbers() == (0, 1));
     }
-    assert_eq!(rt; pair.spare(), (1, 2));
+    assert!(rt; pair.spare() == (1, 2));
     Ok(())
 }

@@ -22,7 +22,7 @@ fn a_cursor_goes_on_beside_other_calls(rt: HostRuntime) -> Result<(), Fail> {
         pair.on_map(&rt, Who::First, 0, MapCall::Store { key: 1, value: 5 });
         pair.on_map(&rt, Who::Second, 0, MapCall::Store { key: 3, value: 6 });
         let steps = pair.walk(&rt, between);
-        assert_eq!(rt; steps, Some((Some((1, 5)), wanted)), "{between:?}");
+        assert!(rt; steps == Some((Some((1, 5)), wanted)), "{between:?}");
     }
     Ok(())
 }
@@ -34,10 +34,10 @@ fn new_maps_and_atomics_end_empty(rt: HostRuntime) -> Result<(), Fail> {
     let room = EndsRoom::new(rt.alloc(), 2)?;
     plain.settle(&mut callers);
     let held = plain.ends(callers, room);
-    assert_eq!(rt; held.number(0), Some(Number::Bool(false)));
-    assert_eq!(rt; held.number(1), Some(Number::Uint64(0)));
-    assert_eq!(rt; held.number(2), None);
-    assert_eq!(rt; held.next_pair(1, 0), None);
+    assert!(rt; held.number(0) == Some(Number::Bool(false)));
+    assert!(rt; held.number(1) == Some(Number::Uint64(0)));
+    assert!(rt; held.number(2) == None);
+    assert!(rt; held.next_pair(1, 0) == None);
     Ok(())
 }
 
@@ -84,10 +84,10 @@ fn ends_stand_in_the_order_of_the_keys(rt: HostRuntime) -> Result<(), Fail> {
     ];
     let mut ends = Vec::with_capacity(rt.alloc(), 8)?;
     state.push_ends(&[4, 1], &[0, 3], &[2, 0, 1], &mut ends);
-    assert_eq!(rt; ends.len(), 5);
+    assert!(rt; ends.len() == 5);
     for (end, wanted) in ends.iter().zip(wanted) {
         let wanted = format!(in rt.alloc(); "{:?}", wanted)?;
-        assert_eq!(rt; format!(in rt.alloc(); "{:?}", end)?, wanted);
+        assert!(rt; format!(in rt.alloc(); "{:?}", end)? == wanted);
     }
     Ok(())
 }

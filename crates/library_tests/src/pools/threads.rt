@@ -132,6 +132,6 @@ fn a_caller_in_another_thread_meets_the_halt(rt: HostRuntime) -> Result<(), Fail
     let second = Caller::last(&pool, 2, &mut passes, knows(0)).expect(&rt, "a pass");
     let first = Caller::last(&pool, 2, &mut passes, knows(0)).expect(&rt, "a pass");
     let misuse = halted_beside(&rt, first, second);
-    assert_eq!(rt; misuse, Some(Misuse::WaitGroupReused));
+    assert!(rt; misuse == Some(Misuse::WaitGroupReused));
     Ok(())
 }

@@ -259,9 +259,9 @@ fn two_producers_and_two_consumers_share_a_buffer(rt: HostRuntime) -> Result<(),
         || produce_beside(&rt, first, second),
         || produce_beside(&rt, third, fourth),
     );
-    assert_eq!(rt; (one, other), ((true, true), (true, true)));
-    assert_eq!(rt; buffer.faults.load(Ordering::SeqCst), 0);
-    assert_eq!(rt; buffer.held.load(Ordering::SeqCst), 0);
+    assert!(rt; (one, other) == ((true, true), (true, true)));
+    assert!(rt; buffer.faults.load(Ordering::SeqCst) == 0);
+    assert!(rt; buffer.held.load(Ordering::SeqCst) == 0);
     Ok(())
 }
 
@@ -298,6 +298,6 @@ fn a_caller_that_waits_at_a_cond_meets_the_halt(rt: HostRuntime) -> Result<(), F
         &rt, "passes",
     );
     let made = halted_beside(&rt, waits, halts);
-    assert_eq!(rt; made, Made::Halted(Misuse::WaitGroupReused));
+    assert!(rt; made == Made::Halted(Misuse::WaitGroupReused));
     Ok(())
 }

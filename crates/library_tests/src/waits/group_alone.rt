@@ -14,15 +14,14 @@ fn a_counter_stays_within_its_range(rt: HostRuntime) -> Result<(), Fail> {
         (-2147483647, Ok(())),
         (-1, Err(misuse)),
     ] {
-        assert_eq!(rt;
-            member.add(&rt, delta),
-            Some(Answer::Done(answer)),
+        assert!(rt;
+            member.add(&rt, delta) == Some(Answer::Done(answer)),
             "add {delta}"
         );
     }
-    assert_eq!(rt; member.wait(&rt), Some(Answer::Done(Ok(()))));
-    assert_eq!(rt; member.done(&rt), Some(Answer::Done(Err(misuse))));
-    assert_eq!(rt; member.wait(&rt), None);
+    assert!(rt; member.wait(&rt) == Some(Answer::Done(Ok(()))));
+    assert!(rt; member.done(&rt) == Some(Answer::Done(Err(misuse))));
+    assert!(rt; member.wait(&rt) == None);
     Ok(())
 }
 
@@ -31,11 +30,11 @@ fn a_done_synchronizes_before_the_return_of_a_wait(rt: HostRuntime) -> Result<()
     let (group, mut passes) = group(rt.alloc(), 2, 3, 2)?;
     let mut waits = Member::last(&group, 2, &mut passes, knows(0)).expect(&rt, "a pass");
     let mut ends = Member::last(&group, 2, &mut passes, knows(7)).expect(&rt, "a pass");
-    assert_eq!(rt; ends.done(&rt), Some(Answer::Done(Ok(()))));
-    assert_eq!(rt; ends.add(&rt, -1), Some(Answer::Done(Ok(()))));
-    assert_eq!(rt; waits.known(), 0);
-    assert_eq!(rt; waits.wait(&rt), Some(Answer::Done(Ok(()))));
-    assert_eq!(rt; waits.known(), 7);
+    assert!(rt; ends.done(&rt) == Some(Answer::Done(Ok(()))));
+    assert!(rt; ends.add(&rt, -1) == Some(Answer::Done(Ok(()))));
+    assert!(rt; waits.known() == 0);
+    assert!(rt; waits.wait(&rt) == Some(Answer::Done(Ok(()))));
+    assert!(rt; waits.known() == 7);
     Ok(())
 }
 
@@ -46,12 +45,9 @@ fn a_halt_ends_the_group(rt: HostRuntime) -> Result<(), Fail> {
     let halted = Answer::Halted(Misuse::WaitGroupReused);
     member.halt(&rt, Misuse::WaitGroupReused);
     member.halt(&rt, Misuse::NegativeWaitGroupCounter);
-    assert_eq!(rt; member.add(&rt, 1), Some(halted));
-    assert_eq!(rt; member.done(&rt), Some(halted));
-    assert_eq!(rt; member.wait(&rt), Some(halted));
-    assert_eq!(rt;
-        member.first_halt(rt.alloc())?,
-        Some(Misuse::WaitGroupReused)
-    );
+    assert!(rt; member.add(&rt, 1) == Some(halted));
+    assert!(rt; member.done(&rt) == Some(halted));
+    assert!(rt; member.wait(&rt) == Some(halted));
+    assert!(rt; member.first_halt(rt.alloc())? == Some(Misuse::WaitGroupReused));
     Ok(())
 }

@@ -42,7 +42,7 @@ fn nobody_passes_the_barrier_before_all_have_come(rt: HostRuntime) -> Result<(),
     let second = Member::last(&group, 2, &mut passes, knows(0)).expect(&rt, "a pass");
     let first = Member::last(&group, 2, &mut passes, knows(0)).expect(&rt, "a pass");
     let counted = AtomicU64::new(0);
-    assert_eq!(rt; two_meet(&rt, &counted, first, second), (Some(2), Some(2)));
+    assert!(rt; two_meet(&rt, &counted, first, second) == (Some(2), Some(2)));
     Ok(())
 }
 
@@ -70,6 +70,6 @@ fn a_caller_that_waits_meets_the_halt(rt: HostRuntime) -> Result<(), Fail> {
     let second = Member::last(&group, 2, &mut passes, knows(0)).expect(&rt, "a pass");
     let first = Member::last(&group, 2, &mut passes, knows(0)).expect(&rt, "a pass");
     let answer = halted_beside(&rt, first, second);
-    assert_eq!(rt; answer, Some(Answer::Halted(Misuse::WaitGroupReused)));
+    assert!(rt; answer == Some(Answer::Halted(Misuse::WaitGroupReused)));
     Ok(())
 }

@@ -18,11 +18,11 @@ fn a_function_that_fails_is_called_once(rt: HostRuntime) -> Result<(), Fail> {
     let mut first = last_stored(&function, &mut passes);
     let mut note = knows(0);
     let failed = Answer::Done(Err(3));
-    assert_eq!(rt; function.call(&rt, &HERE, &mut first, &mut note), failed);
-    assert_eq!(rt; function.call(&rt, &HERE, &mut second, &mut note), failed);
-    assert_eq!(rt; function.call(&rt, &HERE, &mut first, &mut note), failed);
-    assert_eq!(rt; runs.load(Ordering::SeqCst), 1);
-    assert_eq!(rt; (first.left(), second.left()), (999_998, 999_999));
+    assert!(rt; function.call(&rt, &HERE, &mut first, &mut note) == failed);
+    assert!(rt; function.call(&rt, &HERE, &mut second, &mut note) == failed);
+    assert!(rt; function.call(&rt, &HERE, &mut first, &mut note) == failed);
+    assert!(rt; runs.load(Ordering::SeqCst) == 1);
+    assert!(rt; (first.left(), second.left()) == (999_998, 999_999));
     Ok(())
 }
 
@@ -31,14 +31,8 @@ fn a_pair_of_values_is_kept(rt: HostRuntime) -> Result<(), Fail> {
     let (value, mut passes) = stored(rt.alloc(), 1, || -> (u64, u64) { (4, 5) })?;
     let mut only = last_stored(&value, &mut passes);
     let mut note = knows(0);
-    assert_eq!(rt;
-        value.call(&rt, &HERE, &mut only, &mut note),
-        Answer::Done((4, 5))
-    );
-    assert_eq!(rt;
-        value.call(&rt, &HERE, &mut only, &mut note),
-        Answer::Done((4, 5))
-    );
+    assert!(rt; value.call(&rt, &HERE, &mut only, &mut note) == Answer::Done((4, 5)));
+    assert!(rt; value.call(&rt, &HERE, &mut only, &mut note) == Answer::Done((4, 5)));
     Ok(())
 }
 
@@ -48,11 +42,11 @@ fn the_end_synchronizes_before_the_return_of_each_call(rt: HostRuntime) -> Resul
     let mut second = Runner::last(&once, &mut passes, knows(0)).expect(&rt, "a pass");
     let mut first = Runner::last(&once, &mut passes, knows(7)).expect(&rt, "a pass");
     let ran = first.run(&rt, || -> Result<(), u32> { Err(3) });
-    assert_eq!(rt; ran, Some(Answer::Done(OnceRun::Ran(Err(3)))));
-    assert_eq!(rt; second.known(), 0);
+    assert!(rt; ran == Some(Answer::Done(OnceRun::Ran(Err(3)))));
+    assert!(rt; second.known() == 0);
     let again = second.run(&rt, || -> Result<(), u32> { Ok(()) });
-    assert_eq!(rt; again, Some(Answer::Done(OnceRun::Already)));
-    assert_eq!(rt; second.known(), 7);
+    assert!(rt; again == Some(Answer::Done(OnceRun::Already)));
+    assert!(rt; second.known() == 7);
     Ok(())
 }
 
@@ -63,7 +57,7 @@ fn a_halt_ends_the_once(rt: HostRuntime) -> Result<(), Fail> {
     only.halt(&rt, Misuse::WaitGroupReused);
     only.halt(&rt, Misuse::NegativeWaitGroupCounter);
     let answer = only.run(&rt, || -> Result<(), u32> { Ok(()) });
-    assert_eq!(rt; answer, Some(Answer::Halted(Misuse::WaitGroupReused)));
+    assert!(rt; answer == Some(Answer::Halted(Misuse::WaitGroupReused)));
     Ok(())
 }
 
@@ -72,9 +66,9 @@ fn a_halt_ends_the_stored_function(rt: HostRuntime) -> Result<(), Fail> {
     let (function, mut passes) = stored(rt.alloc(), 1, || -> u64 { 4 })?;
     let mut only = last_stored(&function, &mut passes);
     function.halt(&rt, &mut only, &knows(0), Misuse::WaitGroupReused);
-    assert_eq!(rt;
-        function.call(&rt, &HERE, &mut only, &mut knows(0)),
-        Answer::Halted(Misuse::WaitGroupReused)
+    assert!(rt;
+        function.call(&rt, &HERE, &mut only, &mut knows(0))
+            == Answer::Halted(Misuse::WaitGroupReused)
     );
     Ok(())
 }
@@ -82,6 +76,6 @@ fn a_halt_ends_the_stored_function(rt: HostRuntime) -> Result<(), Fail> {
 #[test]
 fn no_halt_of_a_stored_function_is_found_where_none_was(rt: HostRuntime) -> Result<(), Fail> {
     let (function, mut passes) = OnceValue::new(rt.alloc(), 1, 0, || -> u64 { 4 }, knows(0))?;
-    assert_eq!(rt; function.first_halt(&mut passes), None);
+    assert!(rt; function.first_halt(&mut passes) == None);
     Ok(())
 }

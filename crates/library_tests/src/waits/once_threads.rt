@@ -64,8 +64,8 @@ fn one_of_four_threads_runs_the_function_and_wakes_the_others(rt: HostRuntime) -
         || two_race(&rt, &counted, third, fourth),
     );
     let found = [left.0, left.1, right.0, right.1];
-    assert_eq!(rt; (count(&found, RAN), count(&found, ALREADY)), (1, 3));
-    assert_eq!(rt; counted.load(Ordering::SeqCst), 1);
+    assert!(rt; (count(&found, RAN), count(&found, ALREADY)) == (1, 3));
+    assert!(rt; counted.load(Ordering::SeqCst) == 1);
     Ok(())
 }
 
@@ -120,7 +120,7 @@ fn a_caller_that_finds_the_function_run_finds_what_it_did(rt: HostRuntime) -> Re
     let second = Runner::last(&once, &mut passes, knows(0)).expect(&rt, "a pass");
     let first = Runner::last(&once, &mut passes, knows(0)).expect(&rt, "a pass");
     let (ran, found) = marked_beside(&rt, first, second);
-    assert_eq!(rt; (ran, found), (RAN, (ALREADY, 1)));
+    assert!(rt; (ran, found) == (RAN, (ALREADY, 1)));
     Ok(())
 }
 
@@ -148,6 +148,6 @@ fn callers_that_wait_and_run_meet_the_halt(rt: HostRuntime) -> Result<(), Fail> 
     let waits = Runner::last(&once, &mut passes, knows(0)).expect(&rt, "a pass");
     let mut runs = Runner::last(&once, &mut passes, knows(0)).expect(&rt, "a pass");
     let met = runs.run_around(&rt, || halted_beside(&rt, waits, halts));
-    assert_eq!(rt; met, Some((true, Answer::Halted(Misuse::WaitGroupReused))));
+    assert!(rt; met == Some((true, Answer::Halted(Misuse::WaitGroupReused))));
     Ok(())
 }

@@ -47,7 +47,7 @@ fn one_done_wakes_all_who_wait(rt: HostRuntime) -> Result<(), Fail> {
         || done_late(&rt, third),
     );
     let fine = Some(Answer::Done(Ok(())));
-    assert_eq!(rt; (both.0, both.1, done), (fine, fine, fine));
+    assert!(rt; (both.0, both.1, done) == (fine, fine, fine));
     Ok(())
 }
 
@@ -113,7 +113,7 @@ fn a_broadcast_wakes_all_who_wait_and_a_signal_one(rt: HostRuntime) -> Result<()
             || two_wait_counted(&rt, &waiting, first, second),
             || notify_two(&rt, &waiting, third, at_once),
         );
-        assert_eq!(rt; both, (Made::Done, Made::Done));
+        assert!(rt; both == (Made::Done, Made::Done));
     }
     Ok(())
 }

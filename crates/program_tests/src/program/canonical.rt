@@ -39,7 +39,7 @@ fn the_canonical_text(rt: HostRuntime) -> Result<(), Fail> {
     for &(text, canonical) in &CANONICAL_TEXTS {
         let workload = parse(rt.alloc(), text).ok().ok_or("the text is read")?;
         let printed = print(rt.alloc(), &workload)?;
-        assert_eq!(rt; printed.as_slice(), canonical, "at {text:?}");
+        assert!(rt; printed.as_slice() == canonical, "at {text:?}");
     }
     Ok(())
 }

@@ -1,5 +1,6 @@
 use Rattle.std.proofs.Common.{◌≡◌, true, subst}
 use Rattle.sync_types.specs.SequentialAtomic.{is_atomic_call}
+use Rattle.go_atomic.proofs.Callers.{stays}
 use Rattle.go_atomic.proofs.Steps.{both, exchanges, swapped}
 use Rattle.go_atomic.proofs.call.atomic_call.Goals as goal
 
@@ -21,3 +22,24 @@ returns-in-CompareAndSwap-clause-called c =
     let found = c.operate-found-in-CompareAndSwap.result in
     let told = c.operate-found-in-CompareAndSwap.ensures.called c.args.kind c.requires.kind in
     swapped _ c.args.atomic c.args.call c.args.kind arm.old arm.new c.to_word-old.result found _ _ arm.is c.to_word-old.ensures.word (c.steps_on_words.ensures.compared c.args.kind found arm.old told.0 fits.0) told.1
+
+pub returns-in-Load-clause-caller : goal.returns-in-Load-clause-caller
+returns-in-Load-clause-caller c = stays c.args.table.now _ _ _ c.args.caller.now.note c.operate-found.new.note c.requires.caller.0 c.operate-found.ensures.home (c.operate-found.ensures.called c.args.kind c.requires.kind).1
+
+pub returns-in-Store-clause-caller : goal.returns-in-Store-clause-caller
+returns-in-Store-clause-caller c = stays c.args.table.now _ _ _ c.args.caller.now.note c.operate.new.note c.requires.caller.0 c.operate.ensures.home (c.operate.ensures.called c.args.kind c.requires.kind).1
+
+pub returns-in-Swap-clause-caller : goal.returns-in-Swap-clause-caller
+returns-in-Swap-clause-caller c = stays c.args.table.now _ _ _ c.args.caller.now.note c.operate-found-in-Swap.new.note c.requires.caller.0 c.operate-found-in-Swap.ensures.home (c.operate-found-in-Swap.ensures.called c.args.kind c.requires.kind).1
+
+pub returns-in-Add-clause-caller : goal.returns-in-Add-clause-caller
+returns-in-Add-clause-caller c = stays c.args.table.now _ _ _ c.args.caller.now.note c.operate-found-in-Add.new.note c.requires.caller.0 c.operate-found-in-Add.ensures.home (c.operate-found-in-Add.ensures.called c.args.kind c.requires.kind).1
+
+pub returns-in-And-clause-caller : goal.returns-in-And-clause-caller
+returns-in-And-clause-caller c = stays c.args.table.now _ _ _ c.args.caller.now.note c.operate-found-in-And.new.note c.requires.caller.0 c.operate-found-in-And.ensures.home (c.operate-found-in-And.ensures.called c.args.kind c.requires.kind).1
+
+pub returns-in-Or-clause-caller : goal.returns-in-Or-clause-caller
+returns-in-Or-clause-caller c = stays c.args.table.now _ _ _ c.args.caller.now.note c.operate-found-in-Or.new.note c.requires.caller.0 c.operate-found-in-Or.ensures.home (c.operate-found-in-Or.ensures.called c.args.kind c.requires.kind).1
+
+pub returns-in-CompareAndSwap-clause-caller : goal.returns-in-CompareAndSwap-clause-caller
+returns-in-CompareAndSwap-clause-caller c = stays c.args.table.now _ _ _ c.args.caller.now.note c.operate-found-in-CompareAndSwap.new.note c.requires.caller.0 c.operate-found-in-CompareAndSwap.ensures.home (c.operate-found-in-CompareAndSwap.ensures.called c.args.kind c.requires.kind).1

@@ -53,16 +53,16 @@ fn stored_keys_are_there_at_the_end(rt: HostRuntime) -> Result<(), Fail> {
     let (table, mut callers) = SharedTable::new(rt.alloc(), &[], 2, 0, &[4])?;
     assert!(&rt; store_all(&rt, &table, &mut callers, &KEYS));
     let ends = table.ends(callers);
-    assert_eq!(rt; ends.value(1, 0), Some(1));
-    assert_eq!(rt; ends.value(1, 268_435_456), Some(2));
-    assert_eq!(rt; ends.value(1, 17), None);
-    assert_eq!(rt; ends.value(0, 0), None);
+    assert!(rt; ends.value(1, 0) == Some(1));
+    assert!(rt; ends.value(1, 268_435_456) == Some(2));
+    assert!(rt; ends.value(1, 17) == None);
+    assert!(rt; ends.value(0, 0) == None);
     let mut pairs = Vec::with_capacity(rt.alloc(), 4)?;
-    assert_eq!(rt; ends.count(1), 4);
+    assert!(rt; ends.count(1) == 4);
     if ends.count(1) <= pairs.capacity() as u64 {
         ends.pairs(1, &mut pairs);
     }
-    assert_eq!(rt; pairs.len(), 4);
+    assert!(rt; pairs.len() == 4);
     for (pair, wanted) in pairs
         .iter()
         .zip([(0, 1), (1, 3), (16, 4), (268_435_456, 2)])
@@ -78,11 +78,11 @@ fn new_maps_and_atomics_end_empty(rt: HostRuntime) -> Result<(), Fail> {
     let (table, mut callers) = SharedTable::new(rt.alloc(), &kinds, 2, 7, &[1, 1])?;
     table.settle(&mut callers);
     let ends = table.ends(callers);
-    assert_eq!(rt; ends.number(0), Some(Number::Bool(false)));
-    assert_eq!(rt; ends.number(1), Some(Number::Uint64(0)));
-    assert_eq!(rt; ends.number(2), None);
-    assert_eq!(rt; ends.value(1, 268_435_456), None);
-    assert_eq!(rt; ends.count(0), 0);
+    assert!(rt; ends.number(0) == Some(Number::Bool(false)));
+    assert!(rt; ends.number(1) == Some(Number::Uint64(0)));
+    assert!(rt; ends.number(2) == None);
+    assert!(rt; ends.value(1, 268_435_456) == None);
+    assert!(rt; ends.count(0) == 0);
     Ok(())
 }
 
@@ -114,10 +114,10 @@ fn ends_stand_in_the_order_of_their_objects_and_keys(rt: HostRuntime) -> Result<
     ];
     let mut list = Vec::with_capacity(rt.alloc(), 8)?;
     ends.push_ends(&[4, 1], &[0, 3], &[16, 2, 0], &mut list);
-    assert_eq!(rt; list.len(), 4);
+    assert!(rt; list.len() == 4);
     for (end, wanted) in list.iter().zip(wanted) {
         let wanted = format!(in rt.alloc(); "{:?}", wanted)?;
-        assert_eq!(rt; format!(in rt.alloc(); "{:?}", end)?, wanted);
+        assert!(rt; format!(in rt.alloc(); "{:?}", end)? == wanted);
     }
     Ok(())
 }

@@ -134,7 +134,7 @@ fn four_threads_share_a_map_and_a_key(rt: HostRuntime) -> Result<(), Fail> {
     let ((mut one, _), _) = work_four(&rt, &table, one, two, three, four);
     let values = load_each::<_, Brand>(&rt, &table, &mut one, [3, 19, 35, 51, 67], Blank::new(1));
     let last = Some(999);
-    assert_eq!(rt; values, [None, last, last, last, last]);
+    assert!(rt; values == [None, last, last, last, last]);
     Ok(())
 }
 

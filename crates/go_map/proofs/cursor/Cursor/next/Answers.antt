@@ -1,3 +1,4 @@
+use Rattle.go_map.proofs.Callers.{stays}
 use Rattle.go_map.proofs.RangeLaw.{keeps_range}
 use Rattle.go_map.proofs.cursor.Cursor.next.Goals as goal
 
@@ -12,3 +13,6 @@ returns-clause-range c begin stands =
     let called = c.next_of_cursor.ensures.called c.args.map.now.number begin stands in
     keeps_range c.args.map.now.table.now c.next_of_cursor.new.cursor c.args.map.now.number begin c.next_of_cursor.new.note called.becomes called.own_new c.next_of_cursor.ensures.lawful
     (c.next_of_cursor.ensures.stands c.args.map.now.number begin stands)
+
+pub returns-clause-caller : goal.returns-clause-caller
+returns-clause-caller c = stays c.args.map.now.table.now _ _ _ c.args.caller.now.note c.next_of_cursor.new.note c.requires.caller.0 c.next_of_cursor.ensures.home (c.next_of_cursor.ensures.called c.args.map.now.number c.requires.cursor.0 c.requires.cursor.1)

@@ -1,4 +1,5 @@
 use Rattle.std.proofs.Common.{rules, ℕ, ◌<◌, ◌≤◌, List, length, sum, sym, ◌∙◌, subst}
+use Rattle.shared_table.proofs.AllCallers.{all_callers}
 use Rattle.shared_table.proofs.table.SharedTable.new.Goals as goal
 
 pub new-requires : goal.new-requires
@@ -13,3 +14,6 @@ new-requires c =
         units = subst (λ (l : List ℕ). sum l ≤ 1000000) (sym spares) c.requires.units;
       };
     }
+
+pub returns-clause-each : goal.returns-clause-each
+returns-clause-each c = all_callers _ _ c.in_ok-callers.callers.items c.in_ok-callers.ensures

@@ -1,7 +1,7 @@
 //! The machine's clock.
-use crate::clock::Clock;
 use std::rt;
 use std::time::Duration;
+use sync_outside::Clock;
 
 /// The nanoseconds since the clock was made, by the machine's monotonic clock.
 ///

@@ -1,9 +1,9 @@
-use crate::system_sources::read_once;
-use crate::{SystemSources, WriterSink};
 use std::io::{Error, ErrorKind, Read, Write};
 use std::test::Fail;
 use std::{env, fs, io};
 use sync_outside::{Failed, Sink, Sources};
+use system_io::system_sources::read_once;
+use system_io::{SystemSources, WriterSink};
 
 // What the first read of a name gives, or `None` where a call failed.
 fn read_first<S: Sources>(source: &mut S, name: &str, buf: &mut [u8]) -> Option<usize> {
@@ -19,20 +19,17 @@ fn system_sources_read_files_and_count_their_faults(rt: HostRuntime) -> Result<(
     let mut source = SystemSources::new(&rt);
     let mut buf = [0; 6];
     source.open(path.as_str())?;
-    assert_eq!(rt; source.read(&mut buf), Ok(6));
-    assert_eq!(rt; buf, *b"012345");
-    assert_eq!(rt; source.read(&mut buf), Ok(4));
-    assert_eq!(rt; buf, *b"678945");
-    assert_eq!(rt; source.read(&mut buf), Ok(0));
+    assert!(rt; source.read(&mut buf) == Ok(6));
+    assert!(rt; buf == *b"012345");
+    assert!(rt; source.read(&mut buf) == Ok(4));
+    assert!(rt; buf == *b"678945");
+    assert!(rt; source.read(&mut buf) == Ok(0));
     fs::remove_file(&rt, path.as_str())?;
-    assert_eq!(rt; (source.open_faults(), source.read_faults()), (0, 0));
+    assert!(rt; (source.open_faults(), source.read_faults()) == (0, 0));
 
     assert!(rt; read_first(&mut source, path.as_str(), &mut buf).is_none());
     assert!(rt; read_first(&mut source, "/", &mut buf).is_none());
-    assert_eq!(rt;
-        source.open_faults().saturating_add(source.read_faults()),
-        2
-    );
+    assert!(rt; source.open_faults().saturating_add(source.read_faults()) == 2);
     Ok(())
 }
 
@@ -70,7 +67,7 @@ fn an_interrupted_read_is_tried_again_and_a_failed_one_is_not(rt: HostRuntime) -
     };
     let mut buf = [0; 4];
     for wanted in [Ok(3), Err(Failed), Ok(2), Ok(0)] {
-        assert_eq!(rt; read_once(&mut script, &mut buf), wanted);
+        assert!(rt; read_once(&mut script, &mut buf) == wanted);
     }
     Ok(())
 }
@@ -114,13 +111,13 @@ fn a_writer_gets_whole_pieces_by_short_writes(rt: HostRuntime) -> Result<(), Fai
             fails,
         };
         let mut sink = WriterSink::new(&mut slow);
-        assert_eq!(rt; sink.write(b"hello"), Ok(()));
-        assert_eq!(rt; sink.write(b"world"), Err(Failed));
-        assert_eq!(rt; sink.write(b""), Ok(()));
-        assert_eq!(rt; sink.write(b"!"), Err(Failed));
-        assert_eq!(rt; sink.faults(), 2);
+        assert!(rt; sink.write(b"hello") == Ok(()));
+        assert!(rt; sink.write(b"world") == Err(Failed));
+        assert!(rt; sink.write(b"") == Ok(()));
+        assert!(rt; sink.write(b"!") == Err(Failed));
+        assert!(rt; sink.faults() == 2);
         drop(sink);
-        assert_eq!(rt; slow.bytes.as_slice(), b"hellowor".as_slice());
+        assert!(rt; slow.bytes.as_slice() == b"hellowor".as_slice());
     }
     Ok(())
 }

@@ -136,12 +136,12 @@ fn a_load_reads_11_words_along_a_chain_and_4_when_it_is_pruned(
 ) -> Result<(), Fail> {
     let mut row: Row = [0; 277];
     row[ROOT_WORD] = ROOT;
-    assert_eq!(rt; load(&row, FIRST), (None, 2));
+    assert!(rt; load(&row, FIRST) == (None, 2));
 
     write_entry(&mut row, FIRST_ENTRY, FIRST, 1);
     put_slot(&mut row, ROOT, 0, 2 * FIRST_ENTRY + 1);
-    assert_eq!(rt; load(&row, FIRST), (Some(1), 4));
-    assert_eq!(rt; load(&row, SECOND), (None, 4));
+    assert!(rt; load(&row, FIRST) == (Some(1), 4));
+    assert!(rt; load(&row, SECOND) == (None, 4));
 
     let Some(plan) = planned(FIRST, SECOND, SEED, 1) else {
         assert!(rt; false);
@@ -149,29 +149,29 @@ fn a_load_reads_11_words_along_a_chain_and_4_when_it_is_pruned(
     };
     write_entry(&mut row, SECOND_ENTRY, SECOND, 2);
     expand(&mut row, plan);
-    assert_eq!(rt; load(&row, FIRST), (Some(1), 11));
-    assert_eq!(rt; load(&row, SECOND), (Some(2), 11));
+    assert!(rt; load(&row, FIRST) == (Some(1), 11));
+    assert!(rt; load(&row, SECOND) == (Some(2), 11));
 
     // both are deleted, which leaves an empty chain
     let last = CHAIN + 18 * 6;
     put_slot(&mut row, last, 0, 0);
     put_slot(&mut row, last, 1, 0);
-    assert_eq!(rt; load(&row, FIRST), (None, 9));
+    assert!(rt; load(&row, FIRST) == (None, 9));
     write_entry(&mut row, FIRST_ENTRY, FIRST, 9);
     put_slot(&mut row, last, 0, 2 * FIRST_ENTRY + 1);
-    assert_eq!(rt; load(&row, FIRST), (Some(9), 11));
+    assert!(rt; load(&row, FIRST) == (Some(9), 11));
 
     // no node is cut off while an entry stands in the last one
     for level in 1..8 {
         prune(&mut row, FIRST, level);
     }
-    assert_eq!(rt; load(&row, FIRST), (Some(9), 11));
+    assert!(rt; load(&row, FIRST) == (Some(9), 11));
     put_slot(&mut row, last, 0, 0);
     for up in 0..7 {
         prune(&mut row, FIRST, 7 - up);
     }
-    assert_eq!(rt; load(&row, FIRST), (None, 2));
+    assert!(rt; load(&row, FIRST) == (None, 2));
     put_slot(&mut row, ROOT, 0, 2 * FIRST_ENTRY + 1);
-    assert_eq!(rt; load(&row, FIRST), (Some(9), 4));
+    assert!(rt; load(&row, FIRST) == (Some(9), 4));
     Ok(())
 }

@@ -2,9 +2,9 @@
 mod pruned;
 mod walked;
 
-use super::*;
-use crate::layout::{held_word, key_word, lock_word, parent_word, slot_word, value_word};
 use std::test::Fail;
+use trie_nodes::layout::{held_word, key_word, lock_word, parent_word, slot_word, value_word};
+use trie_nodes::*;
 
 // a key, a seed, the key's path
 const PATHS: [(u32, u32, [u32; 8]); 6] = [
@@ -20,9 +20,8 @@ const PATHS: [(u32, u32, [u32; 8]); 6] = [
 fn paths_are_nibbles_of_key_and_seed(rt: HostRuntime) -> Result<(), Fail> {
     for (key, seed, path) in PATHS {
         for level in 0..8 {
-            assert_eq!(rt;
-                nibble(key, seed, level),
-                path[level as usize],
+            assert!(rt;
+                nibble(key, seed, level) == path[level as usize],
                 "{key} at {level}"
             );
         }
@@ -59,13 +58,12 @@ fn a_chain_goes_as_far_as_both_paths(rt: HostRuntime) -> Result<(), Fail> {
             held_slot,
             key_slot,
         };
-        assert_eq!(rt;
-            planned(held, key, seed, level),
-            Some(plan),
+        assert!(rt;
+            planned(held, key, seed, level) == Some(plan),
             "{held} and {key} at {level}"
         );
     }
-    assert_eq!(rt; planned(0, 1, 0, 1), None);
+    assert!(rt; planned(0, 1, 0, 1) == None);
     Ok(())
 }
 
@@ -81,8 +79,8 @@ const SLOTS_OF_WORDS: [(u64, Slot); 6] = [
 #[test]
 fn words_say_what_a_slot_holds(rt: HostRuntime) -> Result<(), Fail> {
     for (word, slot) in SLOTS_OF_WORDS {
-        assert_eq!(rt; Slot::of_word(word), slot, "{word}");
-        assert_eq!(rt; Slot::of_word(word).to_word(), word, "{word}");
+        assert!(rt; Slot::of_word(word) == slot, "{word}");
+        assert!(rt; Slot::of_word(word).to_word() == word, "{word}");
     }
     Ok(())
 }
@@ -114,8 +112,8 @@ fn each_thing_has_its_words(rt: HostRuntime) -> Result<(), Fail> {
         (held_word(2) as usize, 3),
     ];
     for (word, wanted) in table {
-        assert_eq!(rt; word, wanted);
+        assert!(rt; word == wanted);
     }
-    assert_eq!(rt; DEAD, 4_294_967_296);
+    assert!(rt; DEAD == 4_294_967_296);
     Ok(())
 }
