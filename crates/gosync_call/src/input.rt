@@ -13,7 +13,7 @@ use workload::MAX_INPUT;
 const CHUNK: usize = 4_096;
 
 /// Why the bytes of a file were not read.
-#[derive(Clone, Copy, Debug)]
+#[derive(Clone, Copy)]
 pub enum InputFault {
     /// The file can't be opened, or a read failed.
     Failed,

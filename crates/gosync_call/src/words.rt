@@ -7,7 +7,7 @@ use command_line::{Subcommand, WordsFault, matched, seed_of};
 use std::alloc::Global;
 
 /// How the workload of a file is run.
-#[derive(Clone, Copy, Debug, PartialEq, Eq)]
+#[derive(Clone, Copy, PartialEq, Eq)]
 pub enum Mode {
     /// By its schedule, on one thread.
     Step,
@@ -16,7 +16,7 @@ pub enum Mode {
 }
 
 /// What the words ask for.
-#[derive(Clone, Copy, Debug)]
+#[derive(Clone, Copy)]
 pub enum Request<'a> {
     /// To run the workload of this file.
     File(Mode, &'a str),

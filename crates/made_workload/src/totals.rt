@@ -6,7 +6,7 @@ use crate::sums::{keys_in, reply_count, total_in, values_in};
 use script_calls::Report;
 
 /// What a run of a made workload comes to, in numbers. Each is a sum of numbers of 64 bits, so none wraps.
-#[derive(Clone, Copy, Debug, PartialEq, Eq)]
+#[derive(Clone, Copy, PartialEq, Eq)]
 pub struct Totals {
     /// How many workers there were.
     pub workers: u128,

@@ -2,7 +2,7 @@
 ghost use Rattle.std.specs.Prelude.{◌<◌, ◌≤◌};
 
 /// The object, and the pair of calls on it.
-#[derive(Clone, Copy, Debug, PartialEq, Eq)]
+#[derive(Clone, Copy, PartialEq, Eq)]
 pub enum What {
     /// A mutex's `lock` and `unlock`.
     Mutex,
@@ -23,7 +23,7 @@ pub enum What {
 }
 
 /// The call on a shared map or atomic.
-#[derive(Clone, Copy, Debug, PartialEq, Eq)]
+#[derive(Clone, Copy, PartialEq, Eq)]
 pub enum Call {
     /// One load of a map.
     Load,
@@ -75,7 +75,7 @@ fn of_word<T: Copy>(word: &str, rows: &[(&str, T)]) -> Option<T> {
 }
 
 /// How many threads call, each as one caller.
-#[derive(Clone, Copy, Debug, PartialEq, Eq)]
+#[derive(Clone, Copy, PartialEq, Eq)]
 pub enum How {
     /// So many threads, each on an object of its own.
     Own(usize),
@@ -106,7 +106,7 @@ impl How {
 }
 
 /// The notes of the callers.
-#[derive(Clone, Copy, Debug, PartialEq, Eq)]
+#[derive(Clone, Copy, PartialEq, Eq)]
 pub enum Notes {
     /// `FrontNote`: 64 counts.
     Front,
@@ -118,7 +118,7 @@ pub enum Notes {
 const NOTES: [(&str, Notes); 2] = [("front", Notes::Front), ("empty", Notes::Empty)];
 
 /// The clock that the calls read.
-#[derive(Clone, Copy, Debug, PartialEq, Eq)]
+#[derive(Clone, Copy, PartialEq, Eq)]
 pub enum Reads {
     /// The machine's clock.
     Machine,
@@ -130,7 +130,7 @@ pub enum Reads {
 const CLOCKS: [(&str, Reads); 2] = [("machine", Reads::Machine), ("standing", Reads::Standing)];
 
 /// One measurement.
-#[derive(Clone, Copy, Debug, PartialEq, Eq)]
+#[derive(Clone, Copy, PartialEq, Eq)]
 pub struct Plan {
     pub what: What,
     pub how: How,

@@ -1,7 +1,7 @@
 //! What a caller can do at a mutex.
 
 /// One step of a caller at a mutex. Moments are nanoseconds.
-#[derive(Clone, Copy, Debug, PartialEq, Eq)]
+#[derive(Clone, Copy, PartialEq, Eq)]
 pub enum MutexEvent {
     /// `Lock` begins at the moment `now`.
     Arrive { now: u64 },

@@ -16,7 +16,7 @@ use sync_types::Misuse;
 
 /// A mutex of some callers, as a value that each event changes. Who has locked it isn't kept, so
 /// another caller may unlock it.
-#[derive(Debug, Drop)]
+#[derive(Drop)]
 pub struct MutexCore {
     callers: u32,
     locked: bool,

@@ -1,7 +1,7 @@
 //! Where a caller is at a mutex.
 
 /// A caller's place. Who has the mutex isn't kept: its holder is `Out`.
-#[derive(Clone, Copy, Debug, PartialEq, Eq)]
+#[derive(Clone, Copy, PartialEq, Eq)]
 pub enum Place {
     /// It doesn't wait.
     Out,

@@ -3,7 +3,7 @@
 use sync_types::Misuse;
 
 /// The answer to an arrival.
-#[derive(Clone, Copy, Debug, PartialEq, Eq)]
+#[derive(Clone, Copy, PartialEq, Eq)]
 pub enum Arrival {
     /// The caller has the mutex.
     Acquired,
@@ -12,7 +12,7 @@ pub enum Arrival {
 }
 
 /// The answer to a waiter that goes on.
-#[derive(Clone, Copy, Debug, PartialEq, Eq)]
+#[derive(Clone, Copy, PartialEq, Eq)]
 pub enum Resumption {
     /// The caller has the mutex.
     Acquired,
@@ -21,7 +21,7 @@ pub enum Resumption {
 }
 
 /// The answer to an unlock.
-#[derive(Clone, Copy, Debug, PartialEq, Eq)]
+#[derive(Clone, Copy, PartialEq, Eq)]
 pub enum Unlocking {
     /// Nobody was told.
     Free,
@@ -34,7 +34,7 @@ pub enum Unlocking {
 }
 
 /// The answer to an event.
-#[derive(Clone, Copy, Debug, PartialEq, Eq)]
+#[derive(Clone, Copy, PartialEq, Eq)]
 pub enum MutexReply {
     /// To an arrival.
     Arrived(Arrival),

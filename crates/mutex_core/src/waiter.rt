@@ -19,7 +19,7 @@ ghost use Rattle.std.specs.Prelude.{◌≡◌};
 pub const STARVATION_THRESHOLD: u64 = 1_000_000;
 
 /// A caller that waits.
-#[derive(Clone, Copy, Debug, PartialEq, Eq)]
+#[derive(Clone, Copy, PartialEq, Eq)]
 pub struct Waiter {
     /// Its number.
     pub caller: u32,
@@ -30,7 +30,7 @@ pub struct Waiter {
 }
 
 /// Who is between an unlock and the event by which it goes on: at most one.
-#[derive(Clone, Copy, Debug, PartialEq, Eq)]
+#[derive(Clone, Copy, PartialEq, Eq)]
 pub enum Flight {
     /// Nobody is.
     Nobody,

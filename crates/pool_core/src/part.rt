@@ -8,7 +8,7 @@ use std::collections::VecDeque;
 use std::marker::Model;
 
 /// A private item and at most `room` shared ones, the head first.
-#[derive(Debug, Drop)]
+#[derive(Drop)]
 pub struct Part {
     room: u32,
     private: Option<u64>,

@@ -13,7 +13,7 @@ use std::mem;
 use sync_model::{Machine, Worded};
 
 /// The state of one part: its items in the primary generation, and those among the victims.
-#[derive(Debug, Drop)]
+#[derive(Drop)]
 pub struct PartCore {
     primary: Part,
     victims: Part,

@@ -12,7 +12,7 @@ use std::mem;
 use sync_model::{Machine, Worded};
 
 /// The state of a pool: the parts of the primary generation and those of the victims, one of each for every caller.
-#[derive(Debug, Drop)]
+#[derive(Drop)]
 pub struct PoolCore {
     primary: Vec<Part>,
     victims: Vec<Part>,

@@ -3,7 +3,7 @@ ghost use Rattle.std.specs.Prelude.{◌≡◌};
 ghost use Rattle.pool_core.specs.PoolParts.{reply_of_put, reply_of_look};
 
 /// What a caller does at a pool of items of a type `X`.
-#[derive(Clone, Copy, Debug, PartialEq, Eq)]
+#[derive(Clone, Copy, PartialEq, Eq)]
 pub enum PoolEvent<X> {
     /// Puts an item into its part.
     Put(X),
@@ -19,7 +19,7 @@ pub enum PoolEvent<X> {
 }
 
 /// What an event at a pool answers.
-#[derive(Clone, Copy, Debug, PartialEq, Eq)]
+#[derive(Clone, Copy, PartialEq, Eq)]
 pub enum PoolReply<X> {
     /// The item that was put is kept.
     Kept,
@@ -36,7 +36,7 @@ pub enum PoolReply<X> {
 }
 
 /// Whether an item that was put is kept.
-#[derive(Clone, Copy, Debug, PartialEq, Eq)]
+#[derive(Clone, Copy, PartialEq, Eq)]
 pub enum PoolPut {
     /// The pool has it.
     Kept,

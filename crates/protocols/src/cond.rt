@@ -8,7 +8,7 @@ use wait_cores::laws::notify::answers_its_callers;
 use wait_cores::{NotifyCore, NotifyEvent, NotifyReply};
 
 /// One event of a call on a cond's list of waiters.
-#[derive(Clone, Copy, Debug, Drop)]
+#[derive(Clone, Copy, Drop)]
 pub enum CondStage {
     /// A `Wait` begins: the caller takes a ticket.
     Ticket,

@@ -8,7 +8,7 @@ use mutex_core::{Arrival, MutexCore, MutexEvent, MutexReply, Resumption, Unlocki
 use sync_types::LockReply;
 
 /// One event of a call on a mutex.
-#[derive(Clone, Copy, Debug, Drop)]
+#[derive(Clone, Copy, Drop)]
 pub enum MutexStage {
     /// `Lock` arrives.
     Lock,

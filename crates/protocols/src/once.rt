@@ -8,7 +8,7 @@ use wait_cores::laws::once::knows_where_it_stands;
 use wait_cores::{OnceCore, OnceEvent, OnceReply};
 
 /// One event of a call on a once.
-#[derive(Clone, Copy, Debug, Drop)]
+#[derive(Clone, Copy, Drop)]
 pub enum OnceStage<T> {
     /// A caller comes.
     Begin,
@@ -19,7 +19,7 @@ pub enum OnceStage<T> {
 }
 
 /// What a call on a once comes to.
-#[derive(Clone, Copy, Debug, Drop)]
+#[derive(Clone, Copy, Drop)]
 pub enum OnceOutcome<T> {
     /// The caller is to run the function, and then to end it.
     Run,

@@ -8,7 +8,7 @@ use pool_core::laws::answers_its_callers;
 use pool_core::{PoolCore, PoolEvent, PoolReply};
 
 /// One event of a call on a pool.
-#[derive(Clone, Copy, Debug, Drop)]
+#[derive(Clone, Copy, Drop)]
 pub enum PoolStage {
     /// `Put` of this item.
     Put(u64),
@@ -23,7 +23,7 @@ pub enum PoolStage {
 }
 
 /// What a call on a pool comes to.
-#[derive(Clone, Copy, Debug, Drop)]
+#[derive(Clone, Copy, Drop)]
 pub enum PoolOutcome {
     /// The pool has the item.
     Kept,

@@ -8,7 +8,7 @@ use rw_core::{Arrival, Resumption, RwCore, RwEvent, RwReply, Unlocking, laws};
 use sync_types::LockReply;
 
 /// One event of a call on a reader/writer mutex.
-#[derive(Clone, Copy, Debug, Drop)]
+#[derive(Clone, Copy, Drop)]
 pub enum RwMutexStage {
     /// `Lock` arrives.
     Lock,

@@ -2,7 +2,7 @@
 use sync_types::Misuse;
 
 /// What the answer to a stage's event means for the call, whose stages are of a type `G` and whose outcomes of a type `O`.
-#[derive(Clone, Copy, Debug, Drop)]
+#[derive(Clone, Copy, Drop)]
 pub enum Step<G, O> {
     /// The call is done, with this outcome.
     Finished(O),

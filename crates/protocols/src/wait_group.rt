@@ -9,7 +9,7 @@ use wait_cores::laws::group::knows_where_it_stands;
 use wait_cores::{GroupCore, GroupEvent, GroupReply};
 
 /// One event of a call on a wait group.
-#[derive(Clone, Copy, Debug, Drop)]
+#[derive(Clone, Copy, Drop)]
 pub enum GroupStage {
     /// `Add` of this number.
     Add(i32),

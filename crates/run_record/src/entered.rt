@@ -5,7 +5,7 @@ use rw_core::{RwEvent, RwReply};
 use wait_cores::{GroupEvent, GroupReply, NotifyEvent, NotifyReply, OnceEvent, OnceReply};
 
 /// An event on an object. A map and an atomic have none: their calls stand in the shared history.
-#[derive(Clone, Copy, Debug)]
+#[derive(Clone, Copy)]
 pub enum ObjectEvent {
     Mutex(MutexEvent),
     RwMutex(RwEvent),
@@ -21,7 +21,7 @@ pub enum ObjectEvent {
 }
 
 /// What an object answers to an event.
-#[derive(Clone, Copy, Debug)]
+#[derive(Clone, Copy)]
 pub enum ObjectReply {
     Mutex(MutexReply),
     RwMutex(RwReply),

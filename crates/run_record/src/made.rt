@@ -4,7 +4,7 @@ use sync_model::item::Item;
 use sync_model::journal::Entry;
 
 /// One item in the list of what a worker made.
-#[derive(Debug, Drop)]
+#[derive(Drop)]
 pub enum Made {
     /// A call on a map or an atomic, or a step of a cursor.
     Shared(Item),

@@ -1,7 +1,7 @@
 //! What a caller can do at a reader/writer lock.
 
 /// One step of a caller at a reader/writer lock. Moments are nanoseconds.
-#[derive(Clone, Copy, Debug, PartialEq, Eq)]
+#[derive(Clone, Copy, PartialEq, Eq)]
 pub enum RwEvent {
     /// `RLock` begins.
     ReadArrive,

@@ -1,7 +1,7 @@
 //! Where a caller is at a reader/writer lock.
 
 /// A caller's place. Who has the lock isn't kept: a holder whose wait has ended is `Out`.
-#[derive(Clone, Copy, Debug, PartialEq, Eq)]
+#[derive(Clone, Copy, PartialEq, Eq)]
 pub enum Place {
     /// It doesn't wait.
     Out,

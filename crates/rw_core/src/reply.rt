@@ -2,7 +2,7 @@
 use sync_types::Misuse;
 
 /// The answer to an arrival.
-#[derive(Clone, Copy, Debug, PartialEq, Eq)]
+#[derive(Clone, Copy, PartialEq, Eq)]
 pub enum Arrival {
     /// The caller has the lock.
     Acquired,
@@ -11,7 +11,7 @@ pub enum Arrival {
 }
 
 /// The answer to a writer that goes on.
-#[derive(Clone, Copy, Debug, PartialEq, Eq)]
+#[derive(Clone, Copy, PartialEq, Eq)]
 pub enum Resumption {
     /// The caller has the lock.
     Acquired,
@@ -22,7 +22,7 @@ pub enum Resumption {
 }
 
 /// The answer to an unlock.
-#[derive(Clone, Copy, Debug, PartialEq, Eq)]
+#[derive(Clone, Copy, PartialEq, Eq)]
 pub enum Unlocking {
     /// The lock was given back.
     Done,
@@ -31,7 +31,7 @@ pub enum Unlocking {
 }
 
 /// The answer to an event.
-#[derive(Clone, Copy, Debug, PartialEq, Eq)]
+#[derive(Clone, Copy, PartialEq, Eq)]
 pub enum RwReply {
     /// To an arrival, of a reader or of a writer.
     Arrived(Arrival),

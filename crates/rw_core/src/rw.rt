@@ -18,7 +18,7 @@ use sync_types::Misuse;
 
 /// A reader/writer lock of some callers, as a value that each event changes. Who holds it isn't kept,
 /// so another caller may unlock it.
-#[derive(Debug, Drop)]
+#[derive(Drop)]
 pub struct RwCore {
     callers: u32,
     readers: u64,

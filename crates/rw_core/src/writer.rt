@@ -1,7 +1,7 @@
 //! The writer that keeps newcomers from reading.
 
 /// The announced writer: the one that has the inner mutex.
-#[derive(Clone, Copy, Debug, PartialEq, Eq)]
+#[derive(Clone, Copy, PartialEq, Eq)]
 pub enum Writer {
     /// There is none.
     Nobody,

@@ -9,7 +9,7 @@ use sync_types::seq::Seq;
 use sync_types::wait_call::{CondCall, WaitGroupCall};
 
 /// A call on an object.
-#[derive(Debug, Drop)]
+#[derive(Drop)]
 pub struct Call {
     /// The place of the object among the workload's objects.
     pub object: usize,
@@ -17,7 +17,7 @@ pub struct Call {
 }
 
 /// What a call asks of its object.
-#[derive(Debug, Drop)]
+#[derive(Drop)]
 pub enum Operation {
     /// A call on a map.
     Map(MapCall<Name>),
@@ -44,7 +44,7 @@ pub enum Operation {
 }
 
 /// What a call answers, where keys are of a type `K`: a name, or a number among the workload's keys.
-#[derive(Debug, Drop)]
+#[derive(Drop)]
 pub enum Reply<K> {
     /// The reply of a map.
     Map(MapReply),

@@ -16,7 +16,7 @@ pub enum Ending {
 }
 
 /// What a run leaves behind. Keys have their numbers among the workload's keys.
-#[derive(Debug, Drop)]
+#[derive(Drop)]
 pub struct Report {
     /// For each worker the replies to its completed calls, in the order of its script.
     pub replies: Seq<Seq<Reply<u32>>>,
@@ -25,7 +25,7 @@ pub struct Report {
 }
 
 /// How a run ends, with what it leaves behind.
-#[derive(Debug, Drop)]
+#[derive(Drop)]
 pub enum Outcome {
     /// Every script has ended.
     Done(Report),

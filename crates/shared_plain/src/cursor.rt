@@ -9,7 +9,7 @@ use sync_model::SharedReply;
 
 /// A walk over the keys of a map, as Go's `Range` makes it: each step shows the least key behind the last one shown that is
 /// there at the step.
-#[derive(Debug, Drop)]
+#[derive(Drop)]
 pub struct Cursor {
     pub(crate) map: u32,
     // The number of the call that began it, among all shared calls of its caller.

@@ -4,7 +4,7 @@ use sync_model::SharedReply;
 use sync_types::{AtomicCall, MapCall};
 
 /// A call on a map or an atomic, or a step of a cursor over a map.
-#[derive(Clone, Copy, Debug)]
+#[derive(Clone, Copy)]
 pub enum Event {
     /// A call on the map of this number.
     Map { map: u32, call: MapCall<u32> },
@@ -17,7 +17,7 @@ pub enum Event {
 }
 
 /// What an event answers, and whether it is an entry of the shared history.
-#[derive(Clone, Copy, Debug)]
+#[derive(Clone, Copy)]
 pub struct Answered {
     pub reply: SharedReply,
     pub entry: bool,

@@ -15,7 +15,7 @@ use sync_types::map_object::settled;
 use sync_types::{MapCall, MapReply};
 
 /// A map whose keys are the numbers below a limit. Contracts see a list with each key's value, if it has one.
-#[derive(Debug, Drop)]
+#[derive(Drop)]
 pub struct Slots {
     values: Vec<Option<u64>>,
 }

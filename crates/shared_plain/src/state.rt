@@ -14,7 +14,7 @@ use sync_types::atomic_object::apply;
 use sync_types::{AtomicCall, AtomicKind, AtomicReply, Number};
 
 /// So many maps, and an atomic of each of some types.
-#[derive(Debug, Drop)]
+#[derive(Drop)]
 pub struct PlainState {
     pub(crate) maps: Vec<Slots>,
     pub(crate) numbers: Vec<Number>,

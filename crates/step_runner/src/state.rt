@@ -14,7 +14,7 @@ use sync_types::{Name, Seq};
 use workload::Workload;
 
 /// The clock's moment, the objects, and for each worker the replies to its calls so far.
-#[derive(Debug, Drop)]
+#[derive(Drop)]
 pub struct State {
     pub(crate) moment: u64,
     pub(crate) objects: Vec<ObjectState>,

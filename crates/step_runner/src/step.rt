@@ -2,7 +2,7 @@
 use sync_types::Misuse;
 
 /// What a turn comes to, or several turns in order.
-#[derive(Clone, Copy, Debug, PartialEq, Eq)]
+#[derive(Clone, Copy, PartialEq, Eq)]
 pub enum Step {
     /// No event was made.
     Still,

@@ -6,7 +6,7 @@ use std::marker::Model;
 
 /// The callers of one object that an event lets go on, each by its number, 0 to 63. A caller that is left out sleeps on:
 /// no clause of a contract says who is to be in it, so tests do.
-#[derive(Clone, Copy, Debug)]
+#[derive(Clone, Copy)]
 pub struct Callers {
     bits: u64,
 }

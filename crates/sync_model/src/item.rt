@@ -3,7 +3,7 @@ use std::collections::LinkedList;
 use sync_types::{AtomicCall, AtomicReply, MapCall, MapReply};
 
 /// A shared call: a call on a map, whose keys are numbers, a step of a cursor over one, or a call on an atomic.
-#[derive(Clone, Copy, Debug)]
+#[derive(Clone, Copy)]
 pub enum SharedCall {
     /// A call on a map, named by its place among the maps.
     Map { map: u32, call: MapCall<u32> },
@@ -16,7 +16,7 @@ pub enum SharedCall {
 }
 
 /// What a shared call answers.
-#[derive(Clone, Copy, Debug)]
+#[derive(Clone, Copy)]
 pub enum SharedReply {
     /// The reply of a map.
     Map(MapReply),
@@ -30,7 +30,7 @@ pub enum SharedReply {
 
 /// One entry of the shared history, which is the order of all calls that set a map or an atomic, whoever made them. Which
 /// calls are entries, the one-thread objects say: a load never is one, and a store always.
-#[derive(Clone, Copy, Debug)]
+#[derive(Clone, Copy)]
 pub struct SharedEntry {
     /// The number of the caller who made it.
     pub caller: u32,
@@ -39,7 +39,7 @@ pub struct SharedEntry {
 }
 
 /// One shared call in the list of its caller.
-#[derive(Debug, Drop)]
+#[derive(Drop)]
 pub struct Item {
     pub call: SharedCall,
     pub reply: SharedReply,

@@ -4,7 +4,7 @@ use std::collections::LinkedList;
 use sync_types::Misuse;
 
 /// What one entry of a journal did.
-#[derive(Clone, Copy, Debug)]
+#[derive(Clone, Copy)]
 pub enum Deed<E, R> {
     /// The machine took the event, and replied.
     Event(E, R),
@@ -15,7 +15,7 @@ pub enum Deed<E, R> {
 }
 
 /// One entry of a journal.
-#[derive(Debug, Drop)]
+#[derive(Drop)]
 pub struct Entry<E, R> {
     /// The number of the caller who made it.
     pub caller: u32,

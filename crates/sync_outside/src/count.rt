@@ -5,7 +5,7 @@ ghost use Rattle.sync_outside.specs.Faults.{Rose, RoseBy, raised, raised_by};
 use std::marker::Model;
 
 /// How often something came. It stands still at 2^64 - 1.
-#[derive(Debug, Drop)]
+#[derive(Drop)]
 pub struct Count {
     count: u64,
 }

@@ -6,7 +6,7 @@ use std::marker::Model;
 
 /// The calls of a fake, counted from 1, of which those with the given numbers fail. The count stands
 /// still at 2^64 - 1.
-#[derive(Debug, Drop)]
+#[derive(Drop)]
 pub struct FailingCalls {
     failing: Vec<u64>,
     made: u64,

@@ -6,7 +6,7 @@ ghost use Rattle.sync_outside.specs.Memory.{File};
 use std::marker::Model;
 
 /// A name and the bytes under it.
-#[derive(Debug, Drop)]
+#[derive(Drop)]
 pub struct MemFile {
     name: String,
     bytes: Vec<u8>,

@@ -15,7 +15,7 @@ use std::marker::Model;
 ///
 /// The writes are counted from 1, and those with the given numbers fail, as does one past the room.
 /// A write that fails takes nothing.
-#[derive(Debug, Drop)]
+#[derive(Drop)]
 pub struct MemSink {
     bytes: Vec<u8>,
     calls: FailingCalls,

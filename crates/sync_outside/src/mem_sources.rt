@@ -18,7 +18,7 @@ use std::marker::Model;
 ///
 /// The calls of `open` and `read` are counted together, from 1, and those with the given numbers
 /// fail. An open of a name that isn't listed fails too, and raises the count of such names alone.
-#[derive(Debug, Drop)]
+#[derive(Drop)]
 pub struct MemSources {
     files: Vec<MemFile>,
     calls: FailingCalls,

@@ -3,7 +3,7 @@ use crate::gate::Gate;
 use std::sync::Wait;
 
 /// Lets each call pass at once.
-#[derive(Clone, Copy, Debug)]
+#[derive(Clone, Copy)]
 pub struct OpenGate;
 
 impl Gate for OpenGate {

@@ -10,7 +10,7 @@ use std::marker::Model;
 /// Threads of the machine, of which the start with a given number is refused.
 ///
 /// The starts of a call are counted from 1.
-#[derive(Debug, Drop)]
+#[derive(Drop)]
 pub struct RefuseStart {
     refused: usize,
     counts: StartCounts,

@@ -10,7 +10,7 @@ use std::sync::Wait;
 use std::thread::Threads;
 
 /// What became of jobs that were to be started together.
-#[derive(Debug, Drop)]
+#[derive(Drop)]
 pub enum Started<W, O> {
     /// Each job was done, and its result stands at the job's place.
     Done(Vec<O>),

@@ -7,7 +7,7 @@ use crate::count::Count;
 use std::marker::Model;
 
 /// How many starts were refused, how many jobs were done, and in how many calls.
-#[derive(Debug, Drop)]
+#[derive(Drop)]
 pub struct StartCounts {
     faults: Count,
     ran: Count,

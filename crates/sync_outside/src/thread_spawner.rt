@@ -8,7 +8,7 @@ use crate::start_counts::StartCounts;
 use std::marker::Model;
 
 /// Starts each job in a thread of the machine, the last job first.
-#[derive(Debug, Drop)]
+#[derive(Drop)]
 pub struct ThreadSpawner {
     counts: StartCounts,
 }

@@ -6,7 +6,7 @@ use std::alloc::{AllocError, Global};
 use std::marker::Model;
 
 /// A list of values in a `Vec` that has room for so many of them. Contracts see the values and the room.
-#[derive(Debug, Drop)]
+#[derive(Drop)]
 pub struct BoundedSeq<T> {
     items: Vec<T>,
     room: usize,

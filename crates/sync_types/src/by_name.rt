@@ -12,7 +12,7 @@ use std::collections::BTreeMap;
 use std::marker::Model;
 
 /// Values by name, in the byte order of the names. A contract sees the finite map.
-#[derive(Debug, Drop)]
+#[derive(Drop)]
 pub struct ByName<X> {
     entries: BTreeMap<Vec<u8>, X>,
 }

@@ -1,7 +1,7 @@
 //! What a call on a `sync.Once` answers, whose only call is `Do`.
 
 /// What `Do` answers.
-#[derive(Clone, Copy, Debug, Drop)]
+#[derive(Clone, Copy, Drop)]
 pub enum DoReply {
     /// This call ran the function, which added to an int64: the sum.
     Ran(i64),

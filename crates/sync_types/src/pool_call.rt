@@ -1,7 +1,7 @@
 //! The calls on a `sync.Pool`, and their replies.
 
 /// A call on a pool. Items are 0 to 2^63 - 1.
-#[derive(Clone, Copy, Debug, Drop)]
+#[derive(Clone, Copy, Drop)]
 pub enum PoolCall {
     /// `Put`: keeps an item for a later `Get`.
     Put(u64),
@@ -13,7 +13,7 @@ pub enum PoolCall {
 }
 
 /// What a call on a pool answers.
-#[derive(Clone, Copy, Debug, Drop)]
+#[derive(Clone, Copy, Drop)]
 pub enum PoolCallReply {
     /// The call is done, and says nothing more.
     Done,

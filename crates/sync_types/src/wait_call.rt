@@ -1,7 +1,7 @@
 //! The calls on objects to wait at: `sync.Cond` and `sync.WaitGroup`.
 
 /// A call on a cond.
-#[derive(Clone, Copy, Debug, Drop)]
+#[derive(Clone, Copy, Drop)]
 pub enum CondCall {
     /// `Wait`: gives the cond's mutex up, waits until it is notified, and locks the mutex again. Where the
     /// mutex isn't locked, it is a misuse.
@@ -13,7 +13,7 @@ pub enum CondCall {
 }
 
 /// A call on a wait group.
-#[derive(Clone, Copy, Debug, Drop)]
+#[derive(Clone, Copy, Drop)]
 pub enum WaitGroupCall {
     /// `Add`: adds this amount, -10,000 to 10,000, to the counter, and at 0 lets all go that wait. A
     /// counter below 0, or above 2^31 - 1, is a misuse.

@@ -1,7 +1,7 @@
 //! The atomic steps on the word of an atomic.
 
 /// One atomic step on a word of 64 bits. It tells the word as it was before.
-#[derive(Clone, Copy, Debug)]
+#[derive(Clone, Copy)]
 pub enum WordStep {
     /// Reads the word.
     Load,

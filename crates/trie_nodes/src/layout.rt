@@ -38,7 +38,7 @@ pub fn held_word(caller: u32) -> u64
 /// Where the words of the atomics and the maps stand, and where nodes and entries begin: word 0 is nobody's, then come the
 /// atomics, a word each, then for each map its root word and its gate word, each at some distance from all that stands before and
 /// behind it, then the nodes that are the maps' first roots, and last the room of the callers.
-#[derive(Clone, Copy, Debug, Drop, PartialEq, Eq)]
+#[derive(Clone, Copy, Drop, PartialEq, Eq)]
 pub struct Layout {
     /// How many atomics the table has.
     pub atomics: u32,

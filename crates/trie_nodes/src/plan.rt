@@ -2,7 +2,7 @@
 
 /// A chain of new nodes that takes the place of an entry in its slot. Each node but the last has the next one in the slot that it
 /// has for both keys, and nothing else. The last has both entries.
-#[derive(Clone, Copy, Debug, Drop, PartialEq, Eq)]
+#[derive(Clone, Copy, Drop, PartialEq, Eq)]
 pub struct Expansion {
     /// How many nodes the chain has, 1 to 7: one more than the nibbles that the two paths have in common from its first node on.
     pub nodes: u32,
@@ -13,7 +13,7 @@ pub struct Expansion {
 }
 
 /// The slot that is to be emptied, so that an empty node is cut off.
-#[derive(Clone, Copy, Debug, Drop, PartialEq, Eq)]
+#[derive(Clone, Copy, Drop, PartialEq, Eq)]
 pub struct Pruning {
     /// The place of the node's parent.
     pub parent: u64,

@@ -3,7 +3,7 @@ ghost use Rattle.std.specs.Prelude.{◌≡◌, ◌^◌, ◌<◌};
 ghost use Rattle.trie_nodes.specs.Slots.{word_of_slot, slot_in, place_of_slot};
 
 /// What a slot of a node holds. A place is the number of a node's or an entry's first word. It is never 0.
-#[derive(Clone, Copy, Debug, Drop, PartialEq, Eq)]
+#[derive(Clone, Copy, Drop, PartialEq, Eq)]
 pub enum Slot {
     /// Nothing: no key of this slot is there.
     Empty,

@@ -13,7 +13,7 @@ use sync_types::Misuse;
 pub const MAX_COUNTER: u32 = 2147483647;
 
 /// What a caller does at a wait group.
-#[derive(Clone, Copy, Debug, PartialEq, Eq)]
+#[derive(Clone, Copy, PartialEq, Eq)]
 pub enum GroupEvent {
     /// Adds to the counter, or takes from it.
     Add(i32),
@@ -24,7 +24,7 @@ pub enum GroupEvent {
 }
 
 /// What an event at a wait group answers.
-#[derive(Clone, Copy, Debug, PartialEq, Eq)]
+#[derive(Clone, Copy, PartialEq, Eq)]
 pub enum GroupReply {
     /// The event was made; of a wait, that it returned at once.
     Done,
@@ -37,7 +37,7 @@ pub enum GroupReply {
 }
 
 /// Where a caller stands at a wait group.
-#[derive(Clone, Copy, Debug, PartialEq, Eq)]
+#[derive(Clone, Copy, PartialEq, Eq)]
 pub enum GroupPlace {
     /// It doesn't wait.
     Out,
@@ -60,7 +60,7 @@ impl GroupPlace {
 }
 
 /// What `GroupCore::wait` answers.
-#[derive(Clone, Copy, Debug, PartialEq, Eq)]
+#[derive(Clone, Copy, PartialEq, Eq)]
 pub enum GroupWait {
     /// The counter is 0: the wait returned at once.
     Done,
@@ -91,7 +91,7 @@ impl From<Result<(), Misuse>> for GroupReply {
 }
 
 /// The state of a wait group: its counter, 0 to 2^31 - 1, and where each caller stands.
-#[derive(Debug, Drop)]
+#[derive(Drop)]
 pub struct GroupCore {
     counter: u32,
     places: Vec<GroupPlace>,

@@ -8,7 +8,7 @@ use std::marker::Model;
 use sync_model::{Callers, Machine, Worded};
 
 /// What a caller does at a cond.
-#[derive(Clone, Copy, Debug, PartialEq, Eq)]
+#[derive(Clone, Copy, PartialEq, Eq)]
 pub enum NotifyEvent {
     /// Takes the next ticket, to wait with it.
     Ticket,
@@ -21,7 +21,7 @@ pub enum NotifyEvent {
 }
 
 /// What an event at a cond answers.
-#[derive(Clone, Copy, Debug, PartialEq, Eq)]
+#[derive(Clone, Copy, PartialEq, Eq)]
 pub enum NotifyReply {
     /// The event was made.
     Done,
@@ -30,7 +30,7 @@ pub enum NotifyReply {
 }
 
 /// Where a caller stands at a cond.
-#[derive(Clone, Copy, Debug, PartialEq, Eq)]
+#[derive(Clone, Copy, PartialEq, Eq)]
 pub enum NotifyPlace {
     /// It has no ticket.
     Out,
@@ -41,7 +41,7 @@ pub enum NotifyPlace {
 }
 
 /// The state of a cond: the next ticket, how many are notified, and the ticket that each caller took last.
-#[derive(Debug, Drop)]
+#[derive(Drop)]
 pub struct NotifyCore {
     next_ticket: u64,
     notified: u64,

@@ -8,7 +8,7 @@ use std::marker::Model;
 use sync_model::{Callers, Machine, Worded};
 
 /// What a caller does at a once whose function comes to a `T`.
-#[derive(Clone, Copy, Debug, PartialEq, Eq)]
+#[derive(Clone, Copy, PartialEq, Eq)]
 pub enum OnceEvent<T> {
     /// Comes to have the function run.
     Begin,
@@ -19,7 +19,7 @@ pub enum OnceEvent<T> {
 }
 
 /// What an event at a once answers.
-#[derive(Clone, Copy, Debug, PartialEq, Eq)]
+#[derive(Clone, Copy, PartialEq, Eq)]
 pub enum OnceReply<T> {
     /// The caller is to run the function.
     Run,
@@ -36,7 +36,7 @@ pub enum OnceReply<T> {
 }
 
 /// How far a once has come.
-#[derive(Clone, Copy, Debug, PartialEq, Eq)]
+#[derive(Clone, Copy, PartialEq, Eq)]
 pub enum OnceProgress<T> {
     /// Nobody has begun the function.
     NotRun,
@@ -47,7 +47,7 @@ pub enum OnceProgress<T> {
 }
 
 /// Where a caller stands at a once.
-#[derive(Clone, Copy, Debug, PartialEq, Eq)]
+#[derive(Clone, Copy, PartialEq, Eq)]
 pub enum OncePlace {
     /// It doesn't wait.
     Out,
@@ -58,7 +58,7 @@ pub enum OncePlace {
 }
 
 /// What `OnceCore::begin` answers.
-#[derive(Clone, Copy, Debug, PartialEq, Eq)]
+#[derive(Clone, Copy, PartialEq, Eq)]
 pub enum Beginning<T> {
     /// The caller is to run the function.
     Run,
@@ -81,7 +81,7 @@ impl<T> From<Beginning<T>> for OnceReply<T> {
 }
 
 /// The state of a once, and who waits there.
-#[derive(Debug, Drop)]
+#[derive(Drop)]
 pub struct OnceCore<T> {
     progress: OnceProgress<T>,
     waits: Vec<bool>,

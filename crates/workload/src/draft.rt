@@ -20,7 +20,7 @@ use sync_types::{ByName, Name, Seq};
 
 /// The workload that the lines so far say, the worker whose calls follow, and tables of the names
 /// and keys, so that no look-up scans a list.
-#[derive(Debug, Drop)]
+#[derive(Drop)]
 pub struct Draft {
     workers: u32,
     objects: Seq<ObjectLine>,

@@ -12,7 +12,7 @@ use std::marker::Model;
 use sync_types::{ByName, Name, Seq};
 
 /// Names, each with a number: its place among them, from 0. No two of them are the same.
-#[derive(Debug, Drop)]
+#[derive(Drop)]
 pub struct Keys {
     names: Seq<Name>,
     numbers: ByName<u32>,

@@ -6,7 +6,7 @@ use crate::object::ObjectWord;
 use sync_types::AtomicKind;
 
 /// What a line's first word announces.
-#[derive(Clone, Copy, Debug, PartialEq, Eq)]
+#[derive(Clone, Copy, PartialEq, Eq)]
 pub enum Keyword {
     /// The number of workers, which the first line gives.
     Workers,
@@ -21,7 +21,7 @@ pub enum Keyword {
 }
 
 /// The word of a call, which objects of several kinds may have.
-#[derive(Clone, Copy, Debug, PartialEq, Eq)]
+#[derive(Clone, Copy, PartialEq, Eq)]
 pub enum Verb {
     Load,
     Store,
@@ -62,7 +62,7 @@ pub enum Verb {
 }
 
 /// What a word of a call behind the object's name stands for.
-#[derive(Clone, Copy, Debug, PartialEq, Eq)]
+#[derive(Clone, Copy, PartialEq, Eq)]
 pub enum Operand {
     /// A key of a map.
     Key,
@@ -75,7 +75,7 @@ pub enum Operand {
 }
 
 /// What a word of an object's line behind the object's name stands for.
-#[derive(Clone, Copy, Debug, PartialEq, Eq)]
+#[derive(Clone, Copy, PartialEq, Eq)]
 pub enum Parameter {
     /// A mutex that is declared before.
     Mutex,

@@ -5,7 +5,7 @@ use script_calls::Call;
 use sync_types::{Name, Seq};
 
 /// What a line behind the `workers` line says.
-#[derive(Debug, Drop)]
+#[derive(Drop)]
 pub enum Line {
     /// Declares an object, with the name of the object to which it refers, if it does.
     Object(ObjectLine, Option<Name>),

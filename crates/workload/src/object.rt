@@ -33,7 +33,7 @@ pub enum ObjectKind {
 
 /// The word that the line of an object begins with. Objects with one word have the same calls, and
 /// count together, as the atomics of all types do.
-#[derive(Clone, Copy, Debug, PartialEq, Eq)]
+#[derive(Clone, Copy, PartialEq, Eq)]
 pub enum ObjectWord {
     Map,
     Atomic(AtomicKind),
@@ -48,7 +48,7 @@ pub enum ObjectWord {
 }
 
 /// An object as a workload declares it.
-#[derive(Debug, Drop)]
+#[derive(Drop)]
 pub struct ObjectLine {
     /// The object's name, which no other object has.
     pub name: Name,
@@ -57,7 +57,7 @@ pub struct ObjectLine {
 }
 
 /// Where an object is declared, and what it is.
-#[derive(Clone, Copy, Debug)]
+#[derive(Clone, Copy)]
 pub struct Declared {
     /// The object's place in order of declaration, from 0.
     pub place: usize,

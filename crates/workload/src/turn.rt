@@ -1,7 +1,7 @@
 //! The items of a schedule.
 
 /// An item of a schedule.
-#[derive(Clone, Copy, Debug, PartialEq, Eq)]
+#[derive(Clone, Copy, PartialEq, Eq)]
 pub enum Turn {
     /// One turn of the worker with this number.
     Worker(u32),

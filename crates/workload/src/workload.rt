@@ -15,7 +15,7 @@ use sync_types::Seq;
 
 /// Workers, objects, a script for each worker and a schedule. Each number in it is in range: a call's
 /// object is there and has the call, and a turn's worker is there. The keys of its calls have numbers.
-#[derive(Debug, Drop)]
+#[derive(Drop)]
 pub struct Workload {
     workers: u32,
     objects: Seq<ObjectLine>,

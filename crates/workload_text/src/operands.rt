@@ -11,7 +11,7 @@ use sync_types::{AtomicCall, MapCall, Name, Number, PoolCall, WaitGroupCall};
 
 /// The numbers of a call, in order. A value of a map and an item of a pool are of the type `Uint64` here,
 /// and an amount for a wait group is of `Int32`.
-#[derive(Clone, Copy, Debug)]
+#[derive(Clone, Copy)]
 pub enum Numbers {
     /// The call has no number.
     Empty,

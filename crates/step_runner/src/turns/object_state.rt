@@ -13,7 +13,7 @@ use wait_cores::{GroupCore, GroupEvent, NotifyCore, OnceCore};
 use workload::ObjectKind;
 
 /// What an object holds between two turns, by its kind. The callers of a machine are the workers.
-#[derive(Debug, Drop)]
+#[derive(Drop)]
 pub enum ObjectState {
     /// The values of a map by its keys.
     Map(ByName<u64>),

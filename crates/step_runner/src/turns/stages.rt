@@ -6,7 +6,7 @@ use crate::turns::answer::Answer;
 use protocols::{Protocol, Step};
 
 /// Who takes a turn, and when.
-#[derive(Clone, Copy, Debug)]
+#[derive(Clone, Copy)]
 pub struct Taker {
     /// The number of the worker, which is below that of all workers.
     pub worker: u32,

@@ -7,7 +7,7 @@ use protocols::{Protocol, Step};
 use sync_model::{Machine, Worded};
 
 /// The event that a machine must have. Nobody may make it on Stop, and it changes nothing.
-#[derive(Clone, Copy, Debug, Drop)]
+#[derive(Clone, Copy, Drop)]
 pub struct NoEvent;
 
 /// The machine of Stop. Nothing is done on it but halts: the first one is the misuse that ends the run.
