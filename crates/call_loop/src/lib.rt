@@ -1,4 +1,5 @@
-//! The calls of an object that threads share, for every kind of object that has a protocol.
+//! The loop that makes a call on an object which threads share: event by event, as the protocol of its kind says, with waiting
+//! and misuse. It is written once, for every kind that has a protocol.
 #![tactic(auto)]
 
 mod begin;

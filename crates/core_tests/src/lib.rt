@@ -1,5 +1,5 @@
-//! What the tests show of the plain types, of notes and sets of callers, and of numbers in words: runs of their public
-//! calls. They stand in a crate of their own so that the crates that they try are proved once.
+//! Tests of what stands below Go's types: plain types, notes, words, the machines event by event, one machine shared by its
+//! callers, and the outside world's fakes.
 #![tactic(auto)]
 
 #[cfg(test)]

@@ -1,4 +1,4 @@
-//! The typed atomics of Go's `sync/atomic`, on the words of a shared table.
+//! The typed atomics of Go's `sync/atomic` for threads, on the words of a shared table.
 #![tactic(auto)]
 
 pub mod atomic;

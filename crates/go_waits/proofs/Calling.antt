@@ -1,4 +1,4 @@
--- What a call of `running` shows, in the words of this crate.
+-- What a call of `call_loop` shows, in the words of this crate.
 use Rattle.std.proofs.Common.{◌≡◌, ℕ, zero, suc, Bool, true, false, List, [], ◌∷◌, ◌++◌, replicate, Ok, Err, refl, sym, ap, subst}
 use Rattle.sync_model.specs.declared.answer.Answer.TheVariants.{Done, Halted}
 use Rattle.sync_model.specs.declared.journal.Deed.{Deed}

@@ -1,5 +1,5 @@
-//! What the tests show of the Mutex and the RWMutex for threads, by public calls. They stand in a crate of their own so
-//! that `go_locks` is proved once.
+//! Tests of Go's types for threads, by public calls: Mutex and RWMutex here, Cond, WaitGroup and Once in `waits`, Pool in
+//! `pools`, Map and the typed atomics in `maps`, and maps and atomics that take turns in `plain`.
 #![tactic(auto)]
 
 #[cfg(test)]

@@ -1,5 +1,4 @@
-//! What the tests show of the maps and atomics on words, by public calls. They stand in a crate of their own so that
-//! `go_map` and `shared_atomics` are proved once.
+//! Tests of Map and of the typed atomics, on the words of a shared table.
 
 #[cfg(test)]
 mod atomics;

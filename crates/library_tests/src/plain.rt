@@ -1,5 +1,4 @@
-//! What the tests show of the plain maps and atomics that callers share, by public calls. They stand in a crate of their
-//! own so that `shared_plain` is proved once.
+//! Tests of plain maps and atomics, whose callers take turns.
 
 #[cfg(test)]
 mod callers;

@@ -1,5 +1,4 @@
-//! What the tests show of the Pool for threads, by public calls. They stand in a crate of their own so that `go_pool` is
-//! proved once.
+//! Tests of Pool for threads.
 
 #[cfg(test)]
 mod one_thread;

@@ -1,5 +1,4 @@
-//! What the tests show of Cond, WaitGroup and Once for threads, by public calls. They stand in a crate of their own so
-//! that `go_waits` is proved once.
+//! Tests of Cond, WaitGroup and Once for threads.
 
 #[cfg(test)]
 mod cond_alone;

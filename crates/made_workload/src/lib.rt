@@ -1,4 +1,5 @@
-//! The workload that a seed gives, as text.
+//! The workload that a seed gives: its text, made call by call from the generator's numbers, the workload that is read from it, and
+//! the sums of what its run leaves behind.
 #![tactic(auto)]
 
 pub mod generating;

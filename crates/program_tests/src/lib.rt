@@ -1,5 +1,4 @@
-//! What the tests show of a run by threads, by public calls. They stand in a crate of their own so that `thread_runner` is proved
-//! once.
+//! Tests of a run by threads, and in `program` of the whole call `gosync`.
 #![tactic(auto)]
 
 #[cfg(test)]

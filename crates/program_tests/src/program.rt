@@ -1,5 +1,4 @@
-//! What the tests show of the call `gosync`, over sources, outputs, clocks and starts of threads in memory. They stand in a
-//! crate of their own so that `gosync_call` is proved once.
+//! Tests of the call `gosync`, over sources, outputs, clocks and starts of threads in memory.
 
 #[cfg(test)]
 mod canonical;

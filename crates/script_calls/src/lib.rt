@@ -1,4 +1,5 @@
-//! The calls of a script, what they answer, and what a run leaves behind.
+//! The calls that a worker's script makes, what they answer, and what a run leaves behind. A kind of object has a variant in
+//! each of the three.
 #![tactic(auto)]
 
 pub mod call;

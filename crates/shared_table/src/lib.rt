@@ -1,4 +1,5 @@
-//! One row of words that holds maps and atomics, shared by their callers.
+//! Maps and atomics in one row of words, shared by their callers: whole calls, each placed at one of its steps in one order of
+//! all, cursors over a map, and notes. A load waits for nobody.
 #![tactic(auto)]
 
 mod caller_note;

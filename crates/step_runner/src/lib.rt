@@ -1,5 +1,5 @@
-//! The run of a workload by its schedule, on one thread: which worker takes a turn when, and what the run
-//! comes to. What a turn does at the objects is the crate `step_turns`.
+//! The run of a workload by its schedule, on one thread: which worker takes a turn when, what a turn does at the objects
+//! (`turns`), and what the run comes to.
 #![tactic(auto)]
 
 pub mod ends;

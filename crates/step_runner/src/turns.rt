@@ -1,5 +1,5 @@
-//! What one turn of a worker does at the objects of a run, whatever the workload: what an object holds,
-//! how it begins, and what a turn makes of it and answers.
+//! What one turn of a worker does at the objects of a run, whatever the workload: what an object holds, how it begins, what a
+//! turn makes of it and answers, and which events of a call it spells.
 
 pub mod answer;
 pub mod due;

@@ -1,5 +1,5 @@
-//! What the layers that run in threads speak of: machines with their logs, notes, the journal of an object that
-//! callers share, and what shared maps and atomics promise.
+//! The model of objects that callers in threads share: machines and their logs, journals, the word that callers take turns by,
+//! notes, and what shared maps and atomics promise.
 #![tactic(auto)]
 
 pub mod answer;

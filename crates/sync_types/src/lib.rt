@@ -1,5 +1,5 @@
-//! The plain types that every layer speaks of: names, lists, the calls of each kind of object with their replies, the
-//! one-thread maps and atomics that say what a call answers, the words that hold an atomic, and what an object holds at the end.
+//! The plain types that every layer speaks of: names, lists and values, the calls of each kind of object with their replies,
+//! maps and atomics for one thread, which say what a call answers, and the 64-bit words that hold an atomic's number.
 #![tactic(auto)]
 
 pub mod atomic_object;

@@ -52,7 +52,7 @@ pub fn a_dead_node_is_empty()
 /// A node that a seat has cut off never changes again, whatever the seats do: its lock word is that of a dead node, it names the parent
 /// that it had, and its slots are empty. So its 18 words are the same at any two moments (`same`), and it stands for nothing. It is
 /// cut off for ever: no root word names it, and no slot of a reachable node leads to it. That a seat forgets no node that it has cut
-/// off is a law of `table_steps`.
+/// off is a law of its steps, in `steps`.
 pub fn a_node_that_was_cut_off_never_changes()
     ensures lock { (k : Begin) (s : TableState) (r : Kept k s) (j : ℕ) (v : View) (d : DeadNode) → IsSeat s j v → Contains v.pruned d → slice_index s.words d.node ≡ dead_word }
     ensures parent { (k : Begin) (s : TableState) (r : Kept k s) (j : ℕ) (v : View) (d : DeadNode) → IsSeat s j v → Contains v.pruned d → slice_index s.words (parent_word d.node) ≡ d.up }

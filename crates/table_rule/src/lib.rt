@@ -1,5 +1,6 @@
-//! One row of words that holds maps and atomics: what each word means at every moment, whatever its seats do, and what a seat knows.
-//! The rule stands in `specs/Rule.antt`. Which steps keep it is the matter of the layer above.
+//! The rule of one row of words that holds maps and atomics: what each word means at every moment, what a seat knows, and which
+//! atomic steps keep the rule, whatever all seats do. The rule stands in `specs/Rule.antt`. All but `Begin` and `Leaf` stands in
+//! proofs alone.
 #![tactic(auto)]
 
 pub mod begin;

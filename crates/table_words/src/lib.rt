@@ -1,5 +1,5 @@
-//! One row of words that holds maps and atomics, and the atomic steps that a seat makes on it. Which steps make a call is the
-//! matter of the layers above.
+//! The row of words itself: the atomic steps that a seat makes on it, each one move on one word, and what its maps and atomics
+//! contain when no seat makes a step any more. Which steps make a call is the matter of the layer above.
 #![tactic(auto)]
 
 mod clearing;

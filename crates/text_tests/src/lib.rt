@@ -1,6 +1,5 @@
-//! What the tests show of workloads: texts that are read and refused, the texts of three seeds, the words of the command
-//! line, and runs by schedule, by public calls. They stand in a crate of their own so that the crates that they try are
-//! proved once.
+//! Tests of workloads: texts that are read and refused, the texts of three seeds, the words of the command line, and runs by
+//! schedule.
 #![tactic(auto)]
 
 #[cfg(test)]

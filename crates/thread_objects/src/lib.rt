@@ -1,6 +1,6 @@
-//! The objects of a run of a workload in threads, whatever their kind, and the passes of its workers to them: made as the workload
-//! declares them, dealt to workers, collected, halted, and their journals told. And the calls of a worker on one of them, in the words of
-//! the record that explains a run. What is of a kind is a file of `kinds`.
+//! The objects of a run in threads, whatever their kind, and its workers' passes to them: made as the workload declares, dealt to
+//! workers, collected and halted. A worker's call on one of them is put in the words of the record that explains a run. What is
+//! of one kind alone is a file of `kinds`; what is of every kind is in `parts`.
 #![tactic(auto)]
 
 mod by_kind;

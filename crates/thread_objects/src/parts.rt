@@ -1,5 +1,5 @@
-//! What a worker does at one object, whatever its machine: a part of a call, in the words of the record that explains a run, and a
-//! halt. And the machine of Stop, on which a misuse ends the run.
+//! What a worker does at one object, whatever its kind: a part of a call, in the words of the record that explains a run, a call on
+//! a map or an atomic, and a halt. And Stop, the object on which a misuse ends the run.
 
 mod answer;
 mod catalog;

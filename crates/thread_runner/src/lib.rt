@@ -1,4 +1,5 @@
-//! Running a workload's workers in threads.
+//! The run of a workload with a thread for each worker: the threads are started with their passes and scripts, each makes its
+//! calls one after the other, and what they leave is gathered into the outcome, which a record explains.
 #![tactic(auto)]
 
 mod by_number;

@@ -1,4 +1,5 @@
-//! The words of a call in a workload's text: the one that says which call it is, and those of its operands.
+//! The text of a workload and of a run's report: reading and refusing a text line by line, printing a workload in its one
+//! canonical form, and the lines of a report.
 #![tactic(auto)]
 
 pub mod call;
