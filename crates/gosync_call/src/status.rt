@@ -17,7 +17,7 @@ pub enum Ending {
 }
 
 /// Why no workload is read from a file.
-#[derive(Clone, Copy, PartialEq, Eq)]
+#[derive(Clone, Copy, Debug, PartialEq, Eq)]
 pub enum Unread {
     /// The text isn't read: the line of its first fault, or 0 for the text as a whole, and the fault.
     NotAccepted { line: u32, reason: Reason },
@@ -28,7 +28,7 @@ pub enum Unread {
 }
 
 /// Why a workload that was read has no whole report.
-#[derive(Clone, Copy, PartialEq, Eq)]
+#[derive(Clone, Copy, Debug, PartialEq, Eq)]
 pub enum Fault {
     /// A write of the report failed. What was written is a first part of it.
     CannotWrite,

@@ -3,7 +3,7 @@ use script_calls::Reply;
 use sync_types::{Misuse, Name};
 
 /// What a turn means for the call before which its worker stands.
-#[derive(Debug, Drop)]
+#[derive(Drop)]
 pub enum Answer {
     /// The worker makes no event: it waits, and nobody has told it to go on.
     Still,
