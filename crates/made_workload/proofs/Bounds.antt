@@ -14,7 +14,7 @@ use Rattle.made_workload.specs.Generated.{key_of, script_by, drawn, drawn_for, i
 use Rattle.workload.specs.OwnMaps.{NamedMap, map_of}
 use Rattle.made_workload.specs.Summary.{summary}
 use Rattle.made_workload.proofs.Draws.{drawn_twos}
-use Rattle.made_workload.proofs.Totals.{round_amount, total_is}
+use Rattle.made_workload.proofs.RoundTotals.{round_amount, total_is}
 use Rattle.made_workload.proofs.Union.{entries_of, rounds_keep}
 
 -- a map with no key but some names has at most as many

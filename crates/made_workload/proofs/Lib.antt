@@ -7,7 +7,7 @@ mod Scripts
 mod Readable
 mod Keys
 mod Union
-mod Totals
+mod RoundTotals
 mod Bounds
 mod Lines
 mod WrittenText

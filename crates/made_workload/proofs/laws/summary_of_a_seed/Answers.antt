@@ -1,7 +1,7 @@
 use Rattle.std.proofs.Common.{refl}
 use Rattle.made_workload.specs.Summary.{summary}
 use Rattle.made_workload.proofs.Bounds.{keys_few, total_small}
-use Rattle.made_workload.proofs.Totals.{total_is}
+use Rattle.made_workload.proofs.RoundTotals.{total_is}
 use Rattle.made_workload.proofs.Union.{union_at, union_without}
 use Rattle.made_workload.proofs.laws.summary_of_a_seed.Goals as goal
 
