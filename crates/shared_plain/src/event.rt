@@ -17,7 +17,7 @@ pub enum Event {
 }
 
 /// What an event answers, and whether it is an entry of the shared history.
-#[derive(Clone, Copy)]
+#[derive(Clone, Copy, Debug)]
 pub struct Answered {
     pub reply: SharedReply,
     pub entry: bool,

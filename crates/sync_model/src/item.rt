@@ -16,7 +16,7 @@ pub enum SharedCall {
 }
 
 /// What a shared call answers.
-#[derive(Clone, Copy)]
+#[derive(Clone, Copy, Debug)]
 pub enum SharedReply {
     /// The reply of a map.
     Map(MapReply),

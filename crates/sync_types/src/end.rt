@@ -2,7 +2,7 @@
 use crate::atomic_object::Number;
 
 /// A value that an object holds at the end.
-#[derive(Clone, Copy, Drop)]
+#[derive(Clone, Copy, Debug, Drop)]
 pub enum End {
     /// The number of an atomic, which is named by its place among the workload's objects.
     Number { object: usize, number: Number },

@@ -257,7 +257,7 @@ const UNFIT: [Event; 6] = [
 fn what_does_not_fit_is_not_answered(rt: HostRuntime) -> Result<(), Fail> {
     let mut state = PlainState::new(rt.alloc(), 1, 2, &[AtomicKind::Bool])?;
     for &event in &UNFIT {
-        assert!(rt; state.step(event).is_none(), "at {event:?}");
+        assert!(rt; state.step(event).is_none());
     }
     assert!(rt; state.step(Event::Begin { map: 0 }).is_some());
     Ok(())
