@@ -6,6 +6,7 @@ ghost use Rattle.rw_core.specs.RwMachine.{start};
 mod halts;
 mod new;
 mod read;
+mod renew;
 mod write;
 
 use ruled_object::{Object, PassOf};
@@ -24,5 +25,8 @@ pub struct RwMutex<N: Note> {
     ghost begins: { start_of object ≡ start (callers_of object) },
 }
 
-/// The pass of one caller to an `RwMutex`.
+/// The pass of one caller to an `RwMutex`. It can be renewed as often as its caller likes.
+///
+/// The lock counts the readers that hold it, in 64 bits. A caller may read-lock again and again without an unlock; at 2^64 - 1 the
+/// count stands still.
 pub type RwPass<N> = PassOf<RwCore, N>;

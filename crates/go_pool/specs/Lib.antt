@@ -5,4 +5,5 @@ pub mod Items
 pub mod Parts
 pub mod PoolAnswers
 pub mod Pools
+pub mod Renewals
 pub mod Tables

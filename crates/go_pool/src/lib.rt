@@ -11,6 +11,7 @@ pub mod pass;
 pub mod pool;
 pub mod pool_get;
 mod put_and_sweep;
+mod renew;
 
 pub use pool::{Pool, PoolPass};
 pub use pool_get::PoolGet;

@@ -8,7 +8,8 @@ use ruled_object::PassOf;
 /// The pass of one caller to one part.
 pub type PartPass<N> = PassOf<PartCore, N>;
 
-/// The pass of one caller to a pool. It has a pass to each part, and goes where its caller goes.
+/// The pass of one caller to a pool. It has a pass to each part, and goes where its caller goes. It can be renewed as often as its
+/// caller likes: a pool counts nothing for ever.
 #[derive(Drop)]
 pub struct PoolPass<N> {
     pub(crate) number: u32,

@@ -5,6 +5,7 @@ ghost use Rattle.protocols.specs.CondStages.{CondBegins};
 mod calls;
 mod halts;
 mod new;
+mod renew;
 mod wait;
 
 use ruled_object::{Object, PassOf};
@@ -21,5 +22,8 @@ pub struct Cond<N: Note> {
     ghost begins: { CondBegins (callers_of object) (start_of object) },
 }
 
-/// The pass of one caller to a `Cond`.
+/// The pass of one caller to a `Cond`. It can be renewed as often as its caller likes.
+///
+/// The cond counts its tickets for ever, in 64 bits. At the last number the count stands still, and a ticket with that number is
+/// never notified: a run that took a ticket each nanosecond would need five hundred years to come there.
 pub type CondPass<N> = PassOf<NotifyCore, N>;

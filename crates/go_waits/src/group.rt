@@ -5,6 +5,7 @@ ghost use Rattle.protocols.specs.GroupStages.{GroupBegins};
 mod calls;
 mod halts;
 mod new;
+mod renew;
 
 pub use new::MAX_START;
 use ruled_object::{Object, PassOf};
@@ -21,5 +22,7 @@ pub struct WaitGroup<N: Note> {
     ghost begins: { GroupBegins (callers_of object) (start_of object) },
 }
 
-/// The pass of one caller to a `WaitGroup`.
+/// The pass of one caller to a `WaitGroup`. It can be renewed as often as its caller likes.
+///
+/// The group counts nothing for ever. Its counter is 0 to 2^31 - 1, and an `add` that would leave that range is a misuse.
 pub type GroupPass<N> = PassOf<GroupCore, N>;

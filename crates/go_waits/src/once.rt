@@ -5,6 +5,7 @@ ghost use Rattle.protocols.specs.OnceStages.{OnceBegins};
 mod calls;
 mod halts;
 mod new;
+mod renew;
 
 use ruled_object::{Object, PassOf};
 use sync_model::Note;
@@ -20,5 +21,5 @@ pub struct Once<T: Copy, N: Note> {
     ghost begins: { OnceBegins (callers_of object) (start_of object) },
 }
 
-/// The pass of one caller to a `Once`.
+/// The pass of one caller to a `Once`. It can be renewed as often as its caller likes: a once counts nothing.
 pub type OncePass<T, N> = PassOf<OnceCore<T>, N>;

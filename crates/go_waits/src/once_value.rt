@@ -14,6 +14,8 @@ ghost use Rattle.go_waits.specs.OnceCalls.{Gives, HasBegun, RunsOnce};
 ghost use Rattle.go_waits.specs.OnceValues.{once_of, function_of};
 ghost use Rattle.go_waits.specs.Onces.{OnceJournal, OnceMade, OncePass, callers_of, start_of, OnceGrows, OnceHalts, AreAllPasses, AreNew, IsHomeOf, IsPassOf, IsOnceLawful, IsOnceWhole, IsOnceSeen};
 
+mod renew;
+
 use crate::once::{Once, OncePass};
 use crate::once_begun::OnceBegun;
 use ruled_object::MAX_CALLS;
