@@ -13,7 +13,7 @@ use Rattle.step_runner.specs.declared.turns.answer.Answer.TheVariants as answers
 use Rattle.step_runner.specs.declared.turns.object_state.ObjectState.{ObjectState}
 use Rattle.step_runner.specs.Objects.{kind_of, IsMachineOf, EachAt}
 use Rattle.step_runner.specs.Ready.{IsReady}
-use Rattle.step_runner.specs.OneTurns.{turn_on, turn_on_both, with_object, with_both, turn_by, turn_at}
+use Rattle.step_runner.specs.TurnAtObjects.{turn_on, turn_on_both, with_object, with_both, turn_by, turn_at}
 use Rattle.step_runner.proofs.Writes.{get_other, set_past}
 
 no_self : (kind : ObjectKind) → is_target kind kind ≡ true → ⊥

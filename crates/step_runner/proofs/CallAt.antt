@@ -19,12 +19,12 @@ use Rattle.step_runner.specs.declared.turns.answer.Answer.{Answer}
 use Rattle.step_runner.specs.declared.turns.answer.Answer.TheVariants as answers
 use Rattle.step_runner.specs.declared.turns.object_state.ObjectState.{ObjectState}
 use Rattle.step_runner.specs.declared.turns.object_state.ObjectState.TheVariants as states
-use Rattle.step_runner.specs.OneCallTurns.{refers_to, mutex_left, rw_left, left_at, left_in, turns_left, TakesBy, mutex_told, rw_told, told_at, is_told, TellsOwn}
+use Rattle.step_runner.specs.TurnsLeft.{refers_to, mutex_left, rw_left, left_at, left_in, turns_left, TakesBy, mutex_told, rw_told, told_at, is_told, TellsOwn}
 use Rattle.step_runner.specs.Items.{Item, items_on, items_on_both, items_by, items_at, goes_back, unlocks}
 use Rattle.step_runner.specs.Objects.{kind_of}
 use Rattle.step_runner.specs.Ready.{IsReady}
 use Rattle.step_runner.specs.Stands.{IsOutAt}
-use Rattle.step_runner.specs.OneTurns.{turn_on, turn_on_both, with_object, with_both, turn_at}
+use Rattle.step_runner.specs.TurnAtObjects.{turn_on, turn_on_both, with_object, with_both, turn_at}
 use Rattle.step_runner.proofs.AtObjects.{Alone, Referring, at_ready}
 use Rattle.step_runner.specs.MachinesStand.{MachinesStand}
 use Rattle.step_runner.proofs.CallOthers.{Eases, same_eases, turn_eases, both_ease}

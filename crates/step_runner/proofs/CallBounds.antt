@@ -13,12 +13,12 @@ use Rattle.workload.specs.Puts.{puts_at}
 use Rattle.step_runner.specs.declared.turns.answer.Answer.{Answer}
 use Rattle.step_runner.specs.declared.turns.answer.Answer.TheVariants as answers
 use Rattle.step_runner.specs.declared.turns.object_state.ObjectState.{ObjectState}
-use Rattle.step_runner.specs.OneCallTurns.{refers_to, turns_left, TakesBy, told_at, is_told, TellsOwn}
+use Rattle.step_runner.specs.TurnsLeft.{refers_to, turns_left, TakesBy, told_at, is_told, TellsOwn}
 use Rattle.step_runner.specs.Items.{Item, items_at, goes_back, unlocks}
 use Rattle.step_runner.specs.Objects.{kind_of}
 use Rattle.step_runner.specs.Ready.{IsReady}
 use Rattle.step_runner.specs.Stands.{IsOutAt, IsOutBut}
-use Rattle.step_runner.specs.OneTurns.{turn_at}
+use Rattle.step_runner.specs.TurnAtObjects.{turn_at}
 use Rattle.step_runner.specs.declared.step.Step.{Step}
 use Rattle.step_runner.specs.declared.step.Step.TheVariants as steps
 use Rattle.step_runner.specs.CallTurns.{makes_event, stands_before, kinds_in, was_told, advances, requeues, wakes, one_if, behind, count_turns}

@@ -39,12 +39,12 @@ use Rattle.run_record.specs.declared.entered.ObjectEvent.TheVariants as events
 use Rattle.run_record.specs.declared.entered.ObjectReply.TheVariants as answered
 use Rattle.step_runner.specs.declared.turns.object_state.ObjectState.{ObjectState}
 use Rattle.step_runner.specs.declared.turns.object_state.ObjectState.TheVariants as states
-use Rattle.step_runner.specs.OneCallTurns.{mutex_left, rw_left, once_left, left_at, mutex_told, rw_told, told_at}
+use Rattle.step_runner.specs.TurnsLeft.{mutex_left, rw_left, once_left, left_at, mutex_told, rw_told, told_at}
 use Rattle.step_runner.specs.Due.{mutex_due, rw_due, group_due, cond_due, once_due}
 use Rattle.step_runner.specs.Items.{Item, entered, stage_items, items_on, items_on_both, is_unlock, unlocks}
 use Rattle.step_runner.specs.Objects.{IsMachineOf}
 use Rattle.step_runner.specs.Stages.{make}
-use Rattle.step_runner.specs.OneTurns.{once_made, turn_on, turn_on_both}
+use Rattle.step_runner.specs.TurnAtObjects.{once_made, turn_on, turn_on_both}
 use Rattle.step_runner.proofs.GrantedLemmas.{tries_unlock}
 use Rattle.step_runner.proofs.Makes.{make_moves}
 use Rattle.step_runner.specs.MachinesStand.{MutexStands, RwStands, OnceStands, MachinesStand}

@@ -41,7 +41,7 @@ use Rattle.step_runner.specs.Due.{mutex_due, rw_due, group_due, cond_due, once_d
 use Rattle.step_runner.specs.Items.{Item, stage_items, tries_first, unless_found, look_items, pool_items, items_on, add_items, sum_items, items_on_both, items_by, items_at}
 use Rattle.step_runner.specs.Objects.{kind_of}
 use Rattle.step_runner.specs.PoolTurn.{looked}
-use Rattle.step_runner.specs.OneTurns.{once_made}
+use Rattle.step_runner.specs.TurnAtObjects.{once_made}
 
 abbrev AllBy : ℕ → List Item → Type 0
 AllBy worker [] = Unit {0}

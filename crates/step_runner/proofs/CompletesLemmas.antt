@@ -16,7 +16,7 @@ use Rattle.step_runner.specs.Due.{looks_of}
 use Rattle.step_runner.specs.Objects.{kind_of}
 use Rattle.step_runner.specs.PoolTurn.{pool_step}
 use Rattle.step_runner.specs.Ready.{IsReady}
-use Rattle.step_runner.specs.OneTurns.{turn_on, turn_at}
+use Rattle.step_runner.specs.TurnAtObjects.{turn_on, turn_at}
 use Rattle.step_runner.proofs.AtObjects.{at_ready}
 use Rattle.step_runner.proofs.Makes.{found_answer}
 

@@ -44,7 +44,7 @@ use Rattle.step_runner.specs.Ready.{IsReady}
 use Rattle.step_runner.specs.Stands.{IsOutAt, IsOutBut}
 use Rattle.step_runner.specs.Left.{mutex_waits, rw_waits, mutex_left, rw_left, group_left, cond_left, once_left, left_on, left_on_both, left_at}
 use Rattle.step_runner.specs.Within.{IsIdle, StandsOn, StandsOnBoth, IsWithin}
-use Rattle.step_runner.proofs.SpellingAtObjects.{left_alone, left_referring, stands_alone, stands_referring}
+use Rattle.step_runner.proofs.SpeltAtObjects.{left_alone, left_referring, stands_alone, stands_referring}
 use Rattle.step_runner.proofs.RwSides.{out_sides}
 use Rattle.step_runner.proofs.TurnOwn.{Pair, only_pairs, cond_refers, once_refers}
 

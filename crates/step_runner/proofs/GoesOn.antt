@@ -68,7 +68,7 @@ use Rattle.step_runner.specs.declared.turns.object_state.ObjectState.TheVariants
 use Rattle.step_runner.specs.Objects.{kind_of}
 use Rattle.step_runner.specs.Ready.{IsReady}
 use Rattle.step_runner.specs.Left.{mutex_waits, rw_waits, rw_later, mutex_left, rw_left, group_left, cond_left, once_left, left_on, left_on_both, left_at}
-use Rattle.step_runner.proofs.SpellingAtObjects.{left_alone, left_referring}
+use Rattle.step_runner.proofs.SpeltAtObjects.{left_alone, left_referring}
 use Rattle.step_runner.proofs.PlacedSpelled.{places}
 use Rattle.step_runner.proofs.Spelled.{refused}
 use Rattle.step_runner.proofs.TurnOwn.{Pair, only_pairs, cond_refers, once_refers}

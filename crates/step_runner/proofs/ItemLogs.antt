@@ -50,7 +50,7 @@ use Rattle.step_runner.specs.Items.{Item, Deed, stage_items, tries_first, once_i
 use Rattle.step_runner.specs.PoolTurn.{looked, found_or, found_by, pool_step}
 use Rattle.step_runner.specs.Ready.{IsReady}
 use Rattle.step_runner.specs.Stages.{make}
-use Rattle.step_runner.specs.OneTurns.{once_made, turn_on, turn_on_both, number_after, turn_at}
+use Rattle.step_runner.specs.TurnAtObjects.{once_made, turn_on, turn_on_both, number_after, turn_at}
 use Rattle.step_runner.proofs.AtObjects.{at_ready}
 use Rattle.step_runner.proofs.CallAt.{items_alone, items_referring}
 use Rattle.step_runner.proofs.GrantedLemmas.{tries_come}

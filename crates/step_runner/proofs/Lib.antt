@@ -42,12 +42,12 @@ mod Writes
 pub mod OthersStand
 pub mod OwnStands
 pub mod ObjectsStand
-mod SpellingAtObjects
+mod SpeltAtObjects
 mod Callers
 mod CondSpelled
 mod Entered
 mod GoesOn
-mod SpellingMachineLaws
+mod SpellingLaws
 mod MutexSpelled
 mod OthersAt
 mod OthersKeep

@@ -38,7 +38,7 @@ use Rattle.step_runner.specs.declared.turns.answer.Answer.TheVariants as answers
 use Rattle.step_runner.specs.Due.{once_due}
 use Rattle.step_runner.specs.PoolTurn.{PoolStep, looked, found_or, found_by, pool_step}
 use Rattle.step_runner.specs.Stages.{outcome_of, make, answer_by}
-use Rattle.step_runner.specs.OneTurns.{once_made}
+use Rattle.step_runner.specs.TurnAtObjects.{once_made}
 use Rattle.step_runner.proofs.DueLemmas.{OfDue}
 
 module _ {S E R G O : Type 0} (next : S → ℕ → E → S × R) (event_of : G → ℕ → E) (meaning : G → R → Step G O) (worker moment : ℕ) where

@@ -29,7 +29,7 @@ use Rattle.step_runner.specs.Objects.{kind_of, IsMachineOf, EachAt}
 use Rattle.step_runner.specs.Due.{mutex_due, rw_due, group_due, cond_due}
 use Rattle.step_runner.specs.Ready.{IsReady}
 use Rattle.step_runner.specs.Stages.{make}
-use Rattle.step_runner.specs.OneTurns.{once_made, number_after, turn_on, turn_on_both, turn_at}
+use Rattle.step_runner.specs.TurnAtObjects.{once_made, number_after, turn_on, turn_on_both, turn_at}
 use Rattle.step_runner.proofs.AtObjects.{at_ready, each_set}
 use Rattle.step_runner.proofs.AtomicTypes.{after_type}
 use Rattle.step_runner.proofs.MachineLaws.{OnceLaw, Laws}

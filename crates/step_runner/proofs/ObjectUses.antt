@@ -77,7 +77,7 @@ use Rattle.step_runner.specs.Objects.{IsMachineOf}
 use Rattle.step_runner.specs.PoolTurn.{pool_step}
 use Rattle.step_runner.specs.Ready.{IsReady}
 use Rattle.step_runner.specs.Stages.{outcome_of, make, answer_by}
-use Rattle.step_runner.specs.OneTurns.{once_made, number_after, cond_turn, turn_on, turn_on_both, with_object, with_both, turn_at}
+use Rattle.step_runner.specs.TurnAtObjects.{once_made, number_after, cond_turn, turn_on, turn_on_both, with_object, with_both, turn_at}
 use Rattle.step_runner.proofs.AtObjects.{at_ready}
 use Rattle.step_runner.proofs.CompletesLemmas.{pool_completes}
 use Rattle.step_runner.proofs.DueLemmas.{OfDue, each_due, OnceAnswer, mutex_answer, mutex_answers, rw_answers, group_answers, once_answers}

@@ -15,7 +15,7 @@ use Rattle.step_runner.specs.Objects.{new_object, kind_of, EachAt}
 use Rattle.step_runner.specs.Ready.{IsReady}
 use Rattle.step_runner.specs.ReplyForm.{HasForm}
 use Rattle.step_runner.specs.Stands.{may_wait, waits_at, IsOutAt, IsOutBut, waits_behind}
-use Rattle.step_runner.specs.OneTurns.{turn_on, turn_on_both, with_object, with_both, turn_at}
+use Rattle.step_runner.specs.TurnAtObjects.{turn_on, turn_on_both, with_object, with_both, turn_at}
 use Rattle.step_runner.proofs.AtObjects.{Alone, Referring, at_ready}
 use Rattle.step_runner.proofs.OthersStand.{Stands, turn_other, both_other}
 use Rattle.step_runner.proofs.OwnStands.{OutAfter, turn_own, both_own}

@@ -12,11 +12,11 @@ use Rattle.step_runner.specs.declared.turns.answer.Answer.{Answer}
 use Rattle.step_runner.specs.declared.turns.object_state.ObjectState.{ObjectState}
 use Rattle.step_runner.specs.Objects.{kind_of, EachAt}
 use Rattle.step_runner.specs.Ready.{IsReady}
-use Rattle.step_runner.specs.OneTurns.{turn_on, turn_on_both, turn_at}
+use Rattle.step_runner.specs.TurnAtObjects.{turn_on, turn_on_both, turn_at}
 use Rattle.step_runner.specs.Left.{left_at}
 use Rattle.step_runner.specs.Within.{IsIdle, IsWithin}
-use Rattle.step_runner.proofs.SpellingAtObjects.{set_there, set_other, apart, turn_alone, turn_referring, left_alone, left_referring, stands_alone, stands_referring}
-use Rattle.step_runner.proofs.SpellingMachineLaws.{Laws}
+use Rattle.step_runner.proofs.SpeltAtObjects.{set_there, set_other, apart, turn_alone, turn_referring, left_alone, left_referring, stands_alone, stands_referring}
+use Rattle.step_runner.proofs.SpellingLaws.{Laws}
 use Rattle.step_runner.proofs.OthersKeep.{Same, same_self, turn_same, both_same, left_same, left_both_same, idle_same, stands_same, both_stands_same}
 use Rattle.step_runner.proofs.OwnAt.{same_kind}
 use Rattle.step_runner.proofs.TurnOwn.{only_pairs}

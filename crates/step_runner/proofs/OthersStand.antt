@@ -34,7 +34,7 @@ use Rattle.step_runner.specs.Due.{mutex_due, rw_due, cond_due}
 use Rattle.step_runner.specs.Objects.{IsMachineOf}
 use Rattle.step_runner.specs.Stages.{make}
 use Rattle.step_runner.specs.Stands.{IsOutAt}
-use Rattle.step_runner.specs.OneTurns.{turn_on, turn_on_both}
+use Rattle.step_runner.specs.TurnAtObjects.{turn_on, turn_on_both}
 use Rattle.step_runner.specs.MachinesStand.{MutexStands, RwStands}
 use Rattle.step_runner.proofs.Makes.{make_moves}
 

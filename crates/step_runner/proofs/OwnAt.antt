@@ -19,13 +19,13 @@ use Rattle.step_runner.specs.MapKeys.{HasObjectKeysIn}
 use Rattle.step_runner.specs.Objects.{kind_of, EachAt}
 use Rattle.step_runner.specs.Ready.{IsReady}
 use Rattle.step_runner.specs.Stands.{may_wait, waits_at, IsOutAt, IsOutBut}
-use Rattle.step_runner.specs.OneTurns.{turn_on, turn_on_both, turn_at}
+use Rattle.step_runner.specs.TurnAtObjects.{turn_on, turn_on_both, turn_at}
 use Rattle.step_runner.specs.Left.{left_on, left_on_both, left_at}
 use Rattle.step_runner.specs.Recorded.{recorded}
 use Rattle.step_runner.specs.Tells.{Tells}
 use Rattle.step_runner.specs.Within.{IsIdle, StandsOn, StandsOnBoth, IsWithin, StandsBehind}
-use Rattle.step_runner.proofs.SpellingAtObjects.{set_there, set_other, each_but, apart, turn_alone, items_alone, turn_referring, items_referring, left_alone, left_referring, stands_alone, stands_referring}
-use Rattle.step_runner.proofs.SpellingMachineLaws.{Laws}
+use Rattle.step_runner.proofs.SpeltAtObjects.{set_there, set_other, each_but, apart, turn_alone, items_alone, turn_referring, items_referring, left_alone, left_referring, stands_alone, stands_referring}
+use Rattle.step_runner.proofs.SpellingLaws.{Laws}
 use Rattle.step_runner.proofs.TurnOwn.{BehindOn, turn_own, BehindBoth, both_own}
 
 -- what the law of turns says of kinds

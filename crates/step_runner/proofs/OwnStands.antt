@@ -70,7 +70,7 @@ use Rattle.step_runner.specs.PoolTurn.{pool_step}
 use Rattle.step_runner.specs.ReplyForm.{HasForm}
 use Rattle.step_runner.specs.Stages.{outcome_of, answer_by}
 use Rattle.step_runner.specs.Stands.{may_wait, IsOutAt}
-use Rattle.step_runner.specs.OneTurns.{turned, once_made, cond_turn, turn_on, turn_on_both}
+use Rattle.step_runner.specs.TurnAtObjects.{turned, once_made, cond_turn, turn_on, turn_on_both}
 use Rattle.step_runner.proofs.DueLemmas.{OfDue, both_due, mutex_answer, mutex_answers, rw_answers}
 use Rattle.step_runner.proofs.Makes.{make_by, step_answer, make_answer, found_answer}
 use Rattle.step_runner.specs.MachinesStand.{MutexStands, RwStands}

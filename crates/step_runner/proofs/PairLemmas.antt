@@ -45,7 +45,7 @@ use Rattle.step_runner.specs.Objects.{new_object, EachAt}
 use Rattle.step_runner.specs.Pairs.{ShowsTo}
 use Rattle.step_runner.specs.PoolTurn.{pool_step}
 use Rattle.step_runner.specs.Stages.{answer_by}
-use Rattle.step_runner.specs.OneTurns.{once_made, turn_on, turn_on_both, turn_at}
+use Rattle.step_runner.specs.TurnAtObjects.{once_made, turn_on, turn_on_both, turn_at}
 use Rattle.step_runner.proofs.AtObjects.{each_set, at_any}
 use Rattle.step_runner.proofs.KeyLemmas.{empty_keys, call_keys, count_keys}
 use Rattle.step_runner.proofs.Makes.{make_answer, found_answer}

@@ -12,7 +12,7 @@ use Rattle.step_runner.specs.Items.{Item, items_on, items_at}
 use Rattle.step_runner.specs.Objects.{kind_of}
 use Rattle.step_runner.specs.PlacedCalls.{is_placed, IsAnswered}
 use Rattle.step_runner.specs.Ready.{IsReady}
-use Rattle.step_runner.specs.OneTurns.{turn_on, turn_at}
+use Rattle.step_runner.specs.TurnAtObjects.{turn_on, turn_at}
 use Rattle.step_runner.proofs.AtObjects.{at_ready}
 use Rattle.step_runner.proofs.CallAt.{items_alone}
 

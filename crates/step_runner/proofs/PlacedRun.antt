@@ -9,7 +9,7 @@ use Rattle.step_runner.specs.declared.turns.object_state.ObjectState.{ObjectStat
 use Rattle.step_runner.specs.Items.{items_at}
 use Rattle.step_runner.specs.PlacedCalls as turns
 use Rattle.step_runner.specs.Ready.{IsReady}
-use Rattle.step_runner.specs.OneTurns.{turn_at}
+use Rattle.step_runner.specs.TurnAtObjects.{turn_at}
 use Rattle.step_runner.specs.declared.step.Step.{Step}
 use Rattle.step_runner.specs.RunItems.{IsAnswered}
 use Rattle.step_runner.specs.State.{State, IsStateOf}

@@ -21,7 +21,7 @@ use Rattle.workload.specs.Keys.{keys_in, key_number, key_name}
 use Rattle.workload.specs.Plan.{Plan}
 use Rattle.step_runner.specs.MapKeys.{is_among, HasKeysIn}
 use Rattle.step_runner.specs.Recorded.{made_shared}
-use Rattle.step_runner.proofs.SpellingMachineLaws.{KeysNamed}
+use Rattle.step_runner.proofs.SpellingLaws.{KeysNamed}
 
 -- calls as a record has them
 abbrev pub item_shared : SharedCall × SharedReply → Item

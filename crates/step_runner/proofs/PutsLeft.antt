@@ -21,7 +21,7 @@ use Rattle.step_runner.specs.declared.turns.object_state.ObjectState.{ObjectStat
 use Rattle.step_runner.specs.declared.turns.object_state.ObjectState.TheVariants as states
 use Rattle.step_runner.specs.Objects.{new_object, EachAt}
 use Rattle.step_runner.specs.PoolRoom.{put_of, HasRoomFor, left_behind}
-use Rattle.step_runner.specs.OneTurns.{turn_at}
+use Rattle.step_runner.specs.TurnAtObjects.{turn_at}
 use Rattle.workload.specs.Puts.{is_put_at, puts_at}
 use Rattle.step_runner.specs.State.{State, start, with_reply, IsStateOf}
 use Rattle.step_runner.specs.Turns.{next_call, turn_of, after_items}

@@ -22,7 +22,7 @@ use Rattle.step_runner.specs.declared.turns.object_state.ObjectState.TheVariants
 use Rattle.step_runner.specs.AtomicRange.{IsInRange}
 use Rattle.step_runner.specs.Objects.{new_object, kind_of, EachAt}
 use Rattle.step_runner.specs.Ready.{IsReady}
-use Rattle.step_runner.specs.OneTurns.{once_made, turn_on, turn_on_both, turn_at}
+use Rattle.step_runner.specs.TurnAtObjects.{once_made, turn_on, turn_on_both, turn_at}
 use Rattle.step_runner.proofs.AtObjects.{each_set, at_ready}
 use Rattle.step_runner.proofs.AtomicTypes.{after_type, zero_type}
 use Rattle.step_runner.proofs.ObjectKeeps.{number_any}

@@ -31,7 +31,7 @@ use Rattle.step_runner.specs.declared.turns.object_state.ObjectState.TheVariants
 use Rattle.step_runner.specs.Objects.{new_object, EachAt}
 use Rattle.step_runner.specs.PoolRoom.{put_of, HavePartsRoom, HasPoolRoom, HasRoomFor, left_behind}
 use Rattle.step_runner.specs.PoolTurn.{PoolStep, pool_made, looked, found_or, found_by, pool_step}
-use Rattle.step_runner.specs.OneTurns.{turn_on, turn_on_both, turn_at}
+use Rattle.step_runner.specs.TurnAtObjects.{turn_on, turn_on_both, turn_at}
 use Rattle.step_runner.proofs.AtObjects.{each_set, at_any}
 
 -- ---- a part, and an event of the pool

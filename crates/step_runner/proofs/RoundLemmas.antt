@@ -16,7 +16,7 @@ use Rattle.script_calls.specs.declared.outcome.Ending.{Ending}
 use Rattle.script_calls.specs.declared.outcome.Ending.TheVariants as endings
 use Rattle.step_runner.specs.LeftToDo.{left_to_do}
 use Rattle.step_runner.specs.State.{State, with_moment, IsStateOf}
-use Rattle.step_runner.specs.OneTurns.{turn_at}
+use Rattle.step_runner.specs.TurnAtObjects.{turn_at}
 use Rattle.step_runner.specs.Turns.{next_call, settled_with, turn_of, and_then, items_of, round, has_ended}
 use Rattle.step_runner.specs.Computed.{behind_round, rounds_of, all_rounds}
 use Rattle.step_runner.proofs.TurnLemmas.{both, both_true, true_false, valid_scripts}

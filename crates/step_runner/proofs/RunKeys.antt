@@ -21,7 +21,7 @@ use Rattle.step_runner.specs.Objects.{new_object, EachAt}
 use Rattle.script_calls.specs.Outcome.{has_pairs_to, shows_to}
 use Rattle.workload.specs.Keys.{keys_in, key_number}
 use Rattle.step_runner.specs.Pairs.{ShowsTo}
-use Rattle.step_runner.specs.OneTurns.{turn_at}
+use Rattle.step_runner.specs.TurnAtObjects.{turn_at}
 use Rattle.step_runner.specs.declared.step.Step.TheVariants as steps
 use Rattle.script_calls.specs.declared.outcome.Ending.{Ending}
 use Rattle.script_calls.specs.declared.outcome.Ending.TheVariants as endings

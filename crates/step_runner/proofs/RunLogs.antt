@@ -17,7 +17,7 @@ use Rattle.step_runner.specs.LeadsTo.{on_object, LeadsTo}
 use Rattle.step_runner.specs.Items.{Item, items_at}
 use Rattle.step_runner.specs.Objects.{new_object, kind_of}
 use Rattle.step_runner.specs.Ready.{IsReady}
-use Rattle.step_runner.specs.OneTurns.{turn_at}
+use Rattle.step_runner.specs.TurnAtObjects.{turn_at}
 use Rattle.step_runner.specs.declared.step.Step.{Step}
 use Rattle.step_runner.specs.declared.step.Step.TheVariants as steps
 use Rattle.step_runner.specs.Ends.{scheduled_ends}

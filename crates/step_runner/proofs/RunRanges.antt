@@ -10,7 +10,7 @@ use Rattle.step_runner.specs.declared.turns.object_state.ObjectState.{ObjectStat
 use Rattle.step_runner.specs.AtomicRange.{IsInRange}
 use Rattle.step_runner.specs.Objects.{new_object, EachAt}
 use Rattle.step_runner.specs.Ready.{IsReady}
-use Rattle.step_runner.specs.OneTurns.{turn_at}
+use Rattle.step_runner.specs.TurnAtObjects.{turn_at}
 use Rattle.workload.specs.Puts.{puts_at}
 use Rattle.step_runner.specs.State.{State, start, IsStateOf}
 use Rattle.step_runner.specs.Turns.{turn_of, after_items}

@@ -30,7 +30,7 @@ use Rattle.step_runner.specs.ObjectLeft.{object_left, UsesBy}
 use Rattle.step_runner.specs.Objects.{new_object, kind_of, EachAt}
 use Rattle.step_runner.specs.Ready.{IsReady}
 use Rattle.step_runner.specs.Stands.{IsOutAt, IsOutBut, waits_at}
-use Rattle.step_runner.specs.OneTurns.{turn_at}
+use Rattle.step_runner.specs.TurnAtObjects.{turn_at}
 use Rattle.step_runner.specs.Left.{left_at}
 use Rattle.step_runner.specs.Recorded.{recorded_reply, recorded}
 use Rattle.step_runner.specs.Tells.{Tells}

@@ -19,7 +19,7 @@ use Rattle.step_runner.specs.declared.turns.object_state.ObjectState.{ObjectStat
 use Rattle.step_runner.specs.ObjectLeft.{object_left, UsesBy}
 use Rattle.step_runner.specs.Objects.{kind_of, IsMachineOf, EachAt}
 use Rattle.step_runner.specs.Ready.{HasTarget, IsReady}
-use Rattle.step_runner.specs.OneTurns.{turn_at}
+use Rattle.step_runner.specs.TurnAtObjects.{turn_at}
 use Rattle.step_runner.specs.declared.step.Step.{Step}
 use Rattle.step_runner.specs.declared.step.Step.TheVariants as steps
 use Rattle.step_runner.specs.State.{State, with_reply, IsStateOf}

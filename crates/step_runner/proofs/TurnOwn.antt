@@ -52,13 +52,13 @@ use Rattle.step_runner.specs.Items.{stage_items, add_items, items_on, items_on_b
 use Rattle.step_runner.specs.MapKeys.{HasObjectKeysIn}
 use Rattle.step_runner.specs.Objects.{kind_of, IsMachineOf}
 use Rattle.step_runner.specs.Stands.{may_wait, IsOutAt}
-use Rattle.step_runner.specs.OneTurns.{once_made, turn_on, turn_on_both}
+use Rattle.step_runner.specs.TurnAtObjects.{once_made, turn_on, turn_on_both}
 use Rattle.step_runner.specs.Left.{left_on, left_on_both}
 use Rattle.step_runner.specs.Recorded.{recorded, made_shared, shared_calls, recorded_event, made_on}
 use Rattle.step_runner.specs.Tells.{Tells}
 use Rattle.step_runner.specs.Within.{IsIdle, IsOutOfOnce, StandsAtOnce, StandsOn, StandsOnBoth}
 use Rattle.step_runner.proofs.CondSpelled.{CondBehind, CondStandsAt, cond_tells}
-use Rattle.step_runner.proofs.SpellingMachineLaws.{Laws}
+use Rattle.step_runner.proofs.SpellingLaws.{Laws}
 use Rattle.step_runner.proofs.MutexSpelled.{mutex_tells}
 use Rattle.step_runner.proofs.PlacedSpelled.{places, range_sorted}
 use Rattle.step_runner.proofs.PoolSpelled.{pool_whole, whole_tells}

@@ -5,7 +5,7 @@ use Rattle.workload.specs.declared.object.ObjectKind.{ObjectKind}
 use Rattle.workload.specs.declared.turn.Turn.{Turn}
 use Rattle.workload.specs.declared.turn.Turn.TheVariants as items
 use Rattle.workload.specs.Plan.{Plan}
-use Rattle.step_runner.specs.OneCallTurns.{is_told}
+use Rattle.step_runner.specs.TurnsLeft.{is_told}
 use Rattle.step_runner.specs.Items.{goes_back, unlocks}
 use Rattle.step_runner.specs.declared.step.Step.{Step}
 use Rattle.step_runner.specs.declared.step.Step.TheVariants as steps

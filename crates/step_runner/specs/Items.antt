@@ -54,7 +54,7 @@ use Rattle.step_runner.specs.declared.turns.object_state.ObjectState.TheVariants
 use Rattle.step_runner.specs.Due.{mutex_due, rw_due, group_due, cond_due, once_due, looks_of}
 use Rattle.step_runner.specs.Objects.{kind_of}
 use Rattle.step_runner.specs.PoolTurn.{looked}
-use Rattle.step_runner.specs.OneTurns.{once_made}
+use Rattle.step_runner.specs.TurnAtObjects.{once_made}
 
 -- what is done on an object: a call on a map or an atomic, with its reply, or an event of any other object, with its answer
 pub data Deed : Type 0 where

@@ -10,7 +10,7 @@ pub mod Spelt
 pub mod State
 pub mod Turns
 pub mod AtomicRange
-pub mod OneCallTurns
+pub mod TurnsLeft
 pub mod LeadsTo
 pub mod Completes
 pub mod Due
@@ -27,7 +27,7 @@ pub mod Ready
 pub mod ReplyForm
 pub mod Stages
 pub mod Stands
-pub mod OneTurns
+pub mod TurnAtObjects
 pub mod Left
 pub mod Recorded
 pub mod Tells

@@ -10,7 +10,7 @@ ghost use Rattle.step_runner.specs.MachinesStand.{MachinesStand};
 ghost use Rattle.step_runner.specs.declared.turns.object_state.ObjectState.{ObjectState};
 ghost use Rattle.step_runner.specs.declared.turns.object_state.ObjectState.TheVariants as states;
 ghost use Rattle.step_runner.specs.AtomicRange.{IsInRange};
-ghost use Rattle.step_runner.specs.OneCallTurns.{turns_left, TakesBy, told_at, is_told, TellsOwn};
+ghost use Rattle.step_runner.specs.TurnsLeft.{turns_left, TakesBy, told_at, is_told, TellsOwn};
 ghost use Rattle.step_runner.specs.LeadsTo.{on_object, LeadsTo};
 ghost use Rattle.step_runner.specs.Completes.{takes_one_turn, IsCompleted};
 ghost use Rattle.step_runner.specs.Items.{Item, items_at, goes_back, unlocks};
@@ -23,7 +23,7 @@ ghost use Rattle.step_runner.specs.PoolRoom.{put_of, HasRoomFor, left_behind};
 ghost use Rattle.step_runner.specs.Ready.{IsReady};
 ghost use Rattle.step_runner.specs.ReplyForm.{HasForm};
 ghost use Rattle.step_runner.specs.Stands.{IsOutAt, IsOutBut, waits_at, waits_behind};
-ghost use Rattle.step_runner.specs.OneTurns.{turn_at};
+ghost use Rattle.step_runner.specs.TurnAtObjects.{turn_at};
 
 pub mod spelling;
 

@@ -4,7 +4,7 @@ ghost use Rattle.mutex_core.specs.MutexMachine as mutex_machine;
 ghost use Rattle.rw_core.specs.RwMachine as rw_machine;
 ghost use Rattle.script_calls.specs.declared.call.Operation.TheVariants as operations;
 ghost use Rattle.step_runner.specs.declared.turns.object_state.ObjectState.TheVariants as states;
-ghost use Rattle.step_runner.specs.OneTurns.{turn_on};
+ghost use Rattle.step_runner.specs.TurnAtObjects.{turn_on};
 
 use crate::turns::answer::Answer;
 use crate::turns::due::{locked, mutex_due, rw_due};

@@ -6,7 +6,7 @@ ghost use Rattle.script_calls.specs.declared.call.Operation.TheVariants as opera
 ghost use Rattle.wait_cores.specs.OnceMachine as machine;
 ghost use Rattle.wait_cores.specs.OnceStanding.{runs_at};
 ghost use Rattle.run_record.specs.OnceKind.{failure};
-ghost use Rattle.step_runner.specs.OneTurns.{once_made, added, turn_on, turn_on_both};
+ghost use Rattle.step_runner.specs.TurnAtObjects.{once_made, added, turn_on, turn_on_both};
 ghost use Rattle.step_runner.specs.declared.turns.object_state.ObjectState.TheVariants as states;
 
 use crate::turns::answer::Answer;

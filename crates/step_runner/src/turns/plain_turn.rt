@@ -5,7 +5,7 @@ ghost use Rattle.sync_types.specs.declared.atomic_object.AtomicKind.{AtomicKind}
 ghost use Rattle.script_calls.specs.declared.call.Operation.TheVariants as operations;
 ghost use Rattle.workload.specs.declared.object.ObjectKind.TheVariants as kinds;
 ghost use Rattle.step_runner.specs.Objects.{kind_of};
-ghost use Rattle.step_runner.specs.OneTurns.{turn_on};
+ghost use Rattle.step_runner.specs.TurnAtObjects.{turn_on};
 
 use crate::turns::answer::Answer;
 use crate::turns::object_state::ObjectState;

@@ -5,7 +5,7 @@ ghost use Rattle.script_calls.specs.declared.call.Operation.TheVariants as opera
 ghost use Rattle.step_runner.specs.declared.turns.object_state.ObjectState.TheVariants as states;
 ghost use Rattle.step_runner.specs.Due.{looks_of};
 ghost use Rattle.step_runner.specs.PoolTurn.{looked, found_by, pool_step};
-ghost use Rattle.step_runner.specs.OneTurns.{turn_on};
+ghost use Rattle.step_runner.specs.TurnAtObjects.{turn_on};
 
 use crate::turns::answer::Answer;
 use crate::turns::due::look_due;

@@ -4,7 +4,7 @@ ghost use Rattle.workload.specs.Plan.{has_call, reference_of};
 ghost use Rattle.step_runner.specs.declared.turns.object_state.ObjectState.{ObjectState};
 ghost use Rattle.step_runner.specs.Objects.{IsMachineOf, kind_of};
 ghost use Rattle.step_runner.specs.Ready.{IsReady};
-ghost use Rattle.step_runner.specs.OneTurns.{turn_on, turn_on_both, with_both, turn_at};
+ghost use Rattle.step_runner.specs.TurnAtObjects.{turn_on, turn_on_both, with_both, turn_at};
 
 use crate::turns::answer::Answer;
 use crate::turns::lock_turn::{take_mutex_turn, take_rw_mutex_turn};

@@ -5,7 +5,7 @@ ghost use Rattle.script_calls.specs.declared.call.Operation.TheVariants as opera
 ghost use Rattle.wait_cores.specs.GroupMachine as group_machine;
 ghost use Rattle.wait_cores.specs.NotifyMachine as notify_machine;
 ghost use Rattle.step_runner.specs.declared.turns.object_state.ObjectState.TheVariants as states;
-ghost use Rattle.step_runner.specs.OneTurns.{turn_on, turn_on_both};
+ghost use Rattle.step_runner.specs.TurnAtObjects.{turn_on, turn_on_both};
 
 use crate::turns::answer::Answer;
 use crate::turns::due::{cond_answer, cond_due, group_due, returned};

@@ -5,7 +5,7 @@ use Rattle.std.proofs.lemmas.List.{with_items_is}
 use Rattle.std.proofs.lemmas.Result.{IfOk-weaker}
 use Rattle.step_runner.specs.declared.turns.object_state.ObjectState.{ObjectState}
 use Rattle.step_runner.specs.Ready.{IsReady}
-use Rattle.step_runner.specs.OneTurns.{turn_at}
+use Rattle.step_runner.specs.TurnAtObjects.{turn_at}
 use Rattle.step_runner.specs.declared.step.Step.{Step}
 use Rattle.step_runner.specs.State.{State, IsStateOf}
 use Rattle.step_runner.specs.Turns.{next_call, settled, turn_of}

@@ -16,7 +16,7 @@ ghost use Rattle.step_runner.specs.MapKeys.{HasObjectKeysIn};
 ghost use Rattle.step_runner.specs.Objects.{new_object, kind_of, EachAt};
 ghost use Rattle.step_runner.specs.Ready.{IsReady};
 ghost use Rattle.step_runner.specs.Stands.{IsOutBut, waits_at};
-ghost use Rattle.step_runner.specs.OneTurns.{turn_at};
+ghost use Rattle.step_runner.specs.TurnAtObjects.{turn_at};
 ghost use Rattle.step_runner.specs.Left.{left_at};
 ghost use Rattle.step_runner.specs.Recorded.{recorded};
 ghost use Rattle.step_runner.specs.Tells.{Tells};

@@ -3,7 +3,7 @@ use Rattle.std.specs.Prelude.{slice_get}
 use Rattle.step_runner.specs.declared.turns.object_state.ObjectState.{ObjectState}
 use Rattle.step_runner.specs.LeadsTo.{on_object}
 use Rattle.step_runner.specs.Items.{items_at}
-use Rattle.step_runner.specs.OneTurns.{turn_at}
+use Rattle.step_runner.specs.TurnAtObjects.{turn_at}
 use Rattle.step_runner.proofs.ItemLogs.{ComesAt, comes_nowhere, comes_on, at_comes}
 use Rattle.step_runner.proofs.turns.laws.items_lead_from_turn_to_turn.Goals as goal
 

@@ -7,7 +7,7 @@ use Rattle.sync_types.specs.declared.atomic_object.Number.TheVariants.{Int64}
 use Rattle.script_calls.specs.declared.call.Operation.TheVariants as operations
 use Rattle.step_runner.specs.declared.turns.object_state.ObjectState.{ObjectState}
 use Rattle.step_runner.specs.declared.turns.object_state.ObjectState.TheVariants as states
-use Rattle.step_runner.specs.OneTurns.{once_made, added, turn_on_both}
+use Rattle.step_runner.specs.TurnAtObjects.{once_made, added, turn_on_both}
 use Rattle.step_runner.proofs.turns.once_turn.take_once_turn.Goals as goal
 
 pub returns-in-Atomic-Int64 : goal.returns-in-Atomic-Int64

@@ -5,7 +5,7 @@ use Rattle.std.proofs.lemmas.Result.{IfOk-weaker}
 use Rattle.workload.specs.Plan.{reference_of}
 use Rattle.step_runner.specs.declared.turns.object_state.ObjectState.{ObjectState}
 use Rattle.step_runner.specs.Objects.{kind_of}
-use Rattle.step_runner.specs.OneTurns.{turn_on, turn_at, with_object}
+use Rattle.step_runner.specs.TurnAtObjects.{turn_on, turn_at, with_object}
 use Rattle.step_runner.proofs.AtObjects.{apart, turn_alone, turn_referring}
 use Rattle.step_runner.proofs.turns.turn.take_turn_at.Goals as goal
 

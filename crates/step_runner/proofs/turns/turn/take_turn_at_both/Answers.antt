@@ -1,6 +1,6 @@
 use Rattle.std.proofs.Common.{◌∙◌, ap, sym}
 use Rattle.step_runner.specs.declared.turns.object_state.ObjectState.{ObjectState}
-use Rattle.step_runner.specs.OneTurns.{turn_on_both}
+use Rattle.step_runner.specs.TurnAtObjects.{turn_on_both}
 use Rattle.step_runner.proofs.AtObjects.{set_aside}
 use Rattle.step_runner.proofs.turns.turn.take_turn_at_both.Goals as goal
 

@@ -2,7 +2,7 @@ use Rattle.std.proofs.Common.{ap, ◌∙◌}
 use Rattle.script_calls.specs.declared.call.Operation.TheVariants as operations
 use Rattle.step_runner.specs.declared.turns.object_state.ObjectState.{ObjectState}
 use Rattle.step_runner.specs.declared.turns.object_state.ObjectState.TheVariants as states
-use Rattle.step_runner.specs.OneTurns.{turn_on_both}
+use Rattle.step_runner.specs.TurnAtObjects.{turn_on_both}
 use Rattle.step_runner.proofs.turns.wait_turn.take_cond_turn.Goals as goal
 
 pub returns-in-Mutex : goal.returns-in-Mutex

@@ -1,5 +1,5 @@
-use Rattle.step_runner.specs.OneTurns.{turn_at}
-use Rattle.step_runner.proofs.SpellingMachineLaws.{Laws}
+use Rattle.step_runner.specs.TurnAtObjects.{turn_at}
+use Rattle.step_runner.proofs.SpellingLaws.{Laws}
 use Rattle.step_runner.proofs.OthersAt.{all_same, all_idle, call_kept}
 use Rattle.step_runner.proofs.OwnAt.{own_at}
 use Rattle.step_runner.proofs.turns.laws.spelling.turns_spell_their_calls.Goals as goal

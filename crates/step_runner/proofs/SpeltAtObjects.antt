@@ -11,7 +11,7 @@ use Rattle.step_runner.specs.declared.turns.answer.Answer.TheVariants as answers
 use Rattle.step_runner.specs.declared.turns.object_state.ObjectState.{ObjectState}
 use Rattle.step_runner.specs.Items.{items_on, items_on_both, items_by, items_at}
 use Rattle.step_runner.specs.Objects.{kind_of, EachAt}
-use Rattle.step_runner.specs.OneTurns.{turn_on, turn_on_both, with_object, with_both, turn_by, turn_at}
+use Rattle.step_runner.specs.TurnAtObjects.{turn_on, turn_on_both, with_object, with_both, turn_by, turn_at}
 use Rattle.step_runner.specs.Left.{left_on, left_on_both, left_beside, left_by, left_found, left_at}
 use Rattle.step_runner.specs.Within.{StandsOn, StandsOnBoth, StandsBeside, StandsBy, StandsFound}
 
