@@ -1,5 +1,5 @@
 //! Tests of what stands below Go's types: plain types, notes, words, the machines event by event, one machine shared by its
-//! callers, and the outside world's fakes.
+//! callers, the nodes of a trie, and the outside world, faked and real.
 #![tactic(auto)]
 
 #[cfg(test)]

@@ -1,6 +1,6 @@
-//! The outside world as a program meets it: what it reads, what it writes, what time it is, and who starts
-//! its threads. Each trait says when a call may fail; beside it stands a fake, and the real clock and starting of
-//! threads. The real files and streams are in `system_io`.
+//! The outside world as a program meets it: what it reads, what it writes, what time it is, and who starts its threads. Each
+//! trait says when a call may fail, and beside it stands a fake. The real starting of threads is here too; the real files,
+//! streams and clock are in `system_io`.
 #![tactic(auto)]
 
 pub mod at;
