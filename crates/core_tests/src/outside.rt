@@ -181,7 +181,7 @@ fn exchanged<P: Spawner, R: Threads + Wait + Sync>(
             }
             Ok(Started::Refused(numbers))
         }
-        Started::Memory => Ok(Started::Memory),
+        Started::Memory(_) => Err(AllocError),
     }
 }
 
@@ -202,7 +202,7 @@ fn jobs_that_wait_for_one_another_are_done_or_all_come_back(rt: HostRuntime) -> 
         let (is_done, numbers) = match exchanged(&rt, rt.alloc(), &mut spawner)? {
             Started::Done(results) => (true, results),
             Started::Refused(back) => (false, back),
-            Started::Memory => return Err(Fail::from(AllocError))
+            Started::Memory(_) => return Err(Fail::from(AllocError))
         };
         let want: [u64; 2] = if is_done { [5, 3] } else { [3, 5] };
         assert!(rt; numbers.as_slice() == want.as_slice(), "{refused}");
@@ -257,7 +257,7 @@ fn found<G: Gate + Sync, R: Threads + Wait + Sync>(
     }
     match ThreadSpawner::new().start_all(rt, alloc, jobs) {
         Started::Done(results) => Ok(results),
-        Started::Refused(_) | Started::Memory => Err(AllocError),
+        Started::Refused(_) | Started::Memory(_) => Err(AllocError),
     }
 }
 
@@ -308,7 +308,7 @@ fn any_number_of_jobs_is_done(rt: HostRuntime) -> Result<(), Fail> {
         let jobs = adding(rt.alloc(), count, &shared)?;
         let done = match ThreadSpawner::new().start_all(&rt, rt.alloc(), jobs) {
             Started::Done(results) => results.len(),
-            Started::Refused(_) | Started::Memory => usize::MAX
+            Started::Refused(_) | Started::Memory(_) => usize::MAX
         };
         assert!(rt; (done, shared.load(Ordering::SeqCst)) == (count as usize, u64::from(count)));
     }
@@ -322,7 +322,7 @@ fn no_job_works_where_the_last_start_is_refused(rt: HostRuntime) -> Result<(), F
     let jobs = adding(rt.alloc(), 32, &shared)?;
     let back = match RefuseStart::new(32).start_all(&rt, rt.alloc(), jobs) {
         Started::Refused(back) => back.len(),
-        Started::Done(_) | Started::Memory => 0
+        Started::Done(_) | Started::Memory(_) => 0
     };
     assert!(rt; (back, shared.load(Ordering::SeqCst)) == (32, 0));
     Ok(())

@@ -6,6 +6,7 @@
 pub mod at;
 pub mod clock;
 pub mod count;
+pub mod counted;
 mod failing_calls;
 pub mod fault;
 pub mod gate;
@@ -27,6 +28,7 @@ pub mod work;
 pub use at::At;
 pub use clock::Clock;
 pub use count::Count;
+pub use counted::{Refusal, Round};
 pub use fault::{Failed, OpenFault};
 pub use gate::Gate;
 pub use hold_gate::HoldGate;

@@ -1,7 +1,7 @@
 //! A sink in memory.
 ghost use Rattle.std.specs.Prelude.{◌≡◌, ◌-◌, ◌+◌, [], ◌≤◌, ◌↔◌, IsTrue, IsErr, IfOk, OnOk, OnErr, Some, vec_len, vec_capacity};
 ghost use Rattle.sync_outside.specs.Bytes.{Appends, AppendsFront};
-ghost use Rattle.sync_outside.specs.Faults.{Rose};
+ghost use Rattle.sync_outside.specs.Faults.{Rose, raised};
 ghost use Rattle.sync_outside.specs.Memory.{Taken, refuses, after_write};
 
 use crate::count::Count;
@@ -69,12 +69,15 @@ impl Sink for MemSink {
 
     ghost faults = { λ s. s.faults };
 
+    ghost writes = { λ s. s.calls.made };
+
     fn write(&mut self, piece: &[u8]) -> Result<(), Failed>
         // What every sink promises.
         ensures ok { OnOk result (Appends (Some self.old.bytes) (Some self.new.bytes) piece.now) }
         ensures err { OnErr result (AppendsFront (Some self.old.bytes) (Some self.new.bytes) piece.now) }
         ensures failed { OnErr result (Rose self.old.faults self.new.faults) }
         ensures faults { self.old.faults ≤ self.new.faults }
+        ensures writes { self.new.calls.made ≡ raised self.old.calls.made }
 
         // All that it does.
         ensures refused { IsErr result ↔ IsTrue (refuses self.old piece.now) }

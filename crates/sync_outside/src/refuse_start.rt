@@ -3,6 +3,7 @@ ghost use Rattle.std.specs.Prelude.{◌≡◌, ◌≤◌};
 ghost use Rattle.sync_outside.specs.Faults.{Rose, RoseBy};
 ghost use Rattle.sync_outside.specs.Starts.{Refusing, no_starts, after_refusal, after_done, admitted_before};
 
+use crate::counted::{Refusal, Round};
 use crate::spawner::Spawner;
 use crate::start_counts::StartCounts;
 use std::marker::Model;
@@ -57,7 +58,7 @@ impl Spawner for RefuseStart {
         }
     }
 
-    fn count_refusal(&mut self)
+    fn count_refusal(&mut self, _refusal: &Refusal)
         // What every spawner promises.
         ensures rose { Rose self.old.counts.faults self.new.counts.faults }
         ensures faults { self.old.counts.faults ≤ self.new.counts.faults }
@@ -68,13 +69,13 @@ impl Spawner for RefuseStart {
         self.counts.add_refusal();
     }
 
-    fn count_done(&mut self, jobs: u64)
+    fn count_done(&mut self, round: &Round)
         // What every spawner promises.
-        ensures ran { RoseBy jobs self.old.counts.ran self.new.counts.ran }
+        ensures ran { RoseBy round.now self.old.counts.ran self.new.counts.ran }
 
         // All that it does.
-        ensures after { self.new ≡ record self.old { counts = after_done jobs self.old.counts } }
+        ensures after { self.new ≡ record self.old { counts = after_done round.now self.old.counts } }
     {
-        self.counts.add_done(jobs);
+        self.counts.add_done(round.jobs());
     }
 }

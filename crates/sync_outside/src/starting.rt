@@ -39,6 +39,15 @@ impl<'a, W: Work> Promise<Told<'a, W, W::Out>> for JobOf<'a, W> {
     ghost kept_by = { λ p told. (told.token.of ≡ p.word.now.id) × Fares W.gives p.job.value told.token.value told.fate };
 }
 
+/// Stands where another word was heard than the one that was said, and waits for ever. Only the starter says a word, and it
+/// says one alone, so no call comes here; that can't be proved, since a lock doesn't say who wrote its value.
+fn never<R: Wait, T>(rt: &R) -> T {
+    for _ in rt.forever() {
+        thread::yield_now();
+    }
+    unreachable!()
+}
+
 /// Waits until the word is said.
 fn hear<'a, R: Wait>(rt: &R, word: &'a OnceLock<bool>) -> OnceToken<'a, bool>
     ensures { result.of ≡ word.now.id }
@@ -76,17 +85,16 @@ fn follow<'a, R: Wait, W: Work>(rt: &R, word: &'a OnceLock<bool>, job: W) -> Tol
 /// A thread that has a job.
 type Handle<'a, W> = PromisedHandle<Told<'a, W, <W as Work>::Out>, JobOf<'a, W>>;
 
-/// Starts a job. Where the start is refused, all threads are told to keep their jobs, and this one comes back
-/// too, unless somebody told them to go.
+/// Starts a job. Where the start is refused, all threads are told to keep their jobs, and this one comes back.
 fn begin<'s, E, R: Wait + Sync, W: Work + 's>(
     scope: &Scope<'s, E>,
     rt: &'s R,
     word: &'s OnceLock<bool>,
     job: W,
-) -> Result<Handle<'s, W>, Option<W>>
+) -> Result<Handle<'s, W>, W>
     requires { W.ready job }
     ensures runs { IfOk result (λ handle. (handle.promise.job.value ≡ job) × (handle.promise.word.now.id ≡ word.now.id)) }
-    ensures refused { IfErr result (λ back. IfSome back (λ kept. kept ≡ job)) }
+    ensures refused { IfErr result (λ back. back ≡ job) }
 {
     let promise = JobOf {
         job: Snapshot::of(&job),
@@ -103,8 +111,8 @@ fn begin<'s, E, R: Wait + Sync, W: Work + 's>(
             word.init(rt, || false);
             let Told { token: _, fate } = (refused.value)();
             match fate {
-                Fate::Kept(job) => Err(Some(job)),
-                Fate::Done(_result) => Err(None),
+                Fate::Kept(job) => Err(job),
+                Fate::Done(_result) => never(rt),
             }
         }
     }
@@ -122,7 +130,7 @@ fn push_within<T: Drop>(list: &mut Vec<T>, item: T)
 }
 
 /// Starts jobs, the last one first, each start up to the number that are let through. Answers the job whose
-/// start was refused, where it came back.
+/// start was refused.
 fn begin_each<'s, E, R: Wait + Sync, W: Work + 's>(
     scope: &Scope<'s, E>,
     rt: &'s R,
@@ -130,12 +138,12 @@ fn begin_each<'s, E, R: Wait + Sync, W: Work + 's>(
     jobs: &mut Vec<W>,
     handles: &mut Vec<Handle<'s, W>>,
     admitted: usize,
-) -> Result<(), Option<W>>
+) -> Result<(), W>
     requires ready { All W.ready jobs.old.items }
     requires none { handles.old.items ≡ [] }
     requires room { vec_len jobs.old ≤ vec_capacity handles.old }
     ensures begun { OnOk result (owed (λ h. h.promise.job.value) handles.new.items ≡ jobs.old.items) }
-    ensures refused { IfErr result (λ back. IfSome back (λ job. jobs.new.items ++ job ∷ owed (λ h. h.promise.job.value) handles.new.items ≡ jobs.old.items)) }
+    ensures refused { IfErr result (λ job. jobs.new.items ++ job ∷ owed (λ h. h.promise.job.value) handles.new.items ≡ jobs.old.items) }
     ensures hear { All (λ h. h.promise.word.now.id ≡ word.now.id) handles.new.items }
     ensures all { OnOk result ((vec_len jobs.new ≡ 0) × (vec_len handles.new ≡ vec_len jobs.old)) }
     ensures rest { OnErr result (vec_len jobs.new + 1 + vec_len handles.new ≡ vec_len jobs.old) }
@@ -144,11 +152,11 @@ fn begin_each<'s, E, R: Wait + Sync, W: Work + 's>(
 {
     while let Some(job) = jobs.pop() {
         if handles.len() >= admitted {
-            return Err(Some(job));
+            return Err(job);
         }
         match begin(scope, rt, word, job) {
             Ok(handle) => push_within(handles, handle),
-            Err(back) => return Err(back),
+            Err(job) => return Err(job),
         }
     }
     Ok(())
@@ -241,13 +249,13 @@ fn start_within<'s, E, R: Threads + Wait + Sync, W: Work + 's>(
     ensures admits { admitted < vec_len jobs → is_done result ≡ false }
 {
     let Ok(mut handles) = Vec::with_capacity(alloc, jobs.len()) else {
-        return Started::Memory;
+        return Started::Memory(jobs);
     };
     let Ok(results) = Vec::with_capacity(alloc, jobs.len()) else {
-        return Started::Memory;
+        return Started::Memory(jobs);
     };
     if jobs.reserve(0).is_err() {
-        return Started::Memory;
+        return Started::Memory(jobs);
     }
     match begin_each(scope, rt, word, &mut jobs, &mut handles, admitted) {
         Ok(()) => {
@@ -257,15 +265,14 @@ fn start_within<'s, E, R: Threads + Wait + Sync, W: Work + 's>(
             }
             Started::Refused(take_back(rt, &token, handles, jobs))
         }
-        Err(Some(job)) => {
+        Err(job) => {
             let token = word.init(rt, || false);
             if *word.value(&token) {
-                return Started::Memory;
+                return never(rt);
             }
             push_within(&mut jobs, job);
             Started::Refused(take_back(rt, &token, handles, jobs))
         }
-        Err(None) => Started::Memory,
     }
 }
 

@@ -3,6 +3,7 @@ ghost use Rattle.std.specs.Prelude.{◌≡◌, ◌≤◌};
 ghost use Rattle.sync_outside.specs.Faults.{Rose, RoseBy};
 ghost use Rattle.sync_outside.specs.Starts.{Starts, no_starts, after_refusal, after_done};
 
+use crate::counted::{Refusal, Round};
 use crate::spawner::Spawner;
 use crate::start_counts::StartCounts;
 use std::marker::Model;
@@ -50,7 +51,7 @@ impl Spawner for ThreadSpawner {
         starts
     }
 
-    fn count_refusal(&mut self)
+    fn count_refusal(&mut self, _refusal: &Refusal)
         // What every spawner promises.
         ensures rose { Rose self.old.faults self.new.faults }
         ensures faults { self.old.faults ≤ self.new.faults }
@@ -61,13 +62,13 @@ impl Spawner for ThreadSpawner {
         self.counts.add_refusal();
     }
 
-    fn count_done(&mut self, jobs: u64)
+    fn count_done(&mut self, round: &Round)
         // What every spawner promises.
-        ensures ran { RoseBy jobs self.old.ran self.new.ran }
+        ensures ran { RoseBy round.now self.old.ran self.new.ran }
 
         // All that it does.
-        ensures after { self.new ≡ after_done jobs self.old }
+        ensures after { self.new ≡ after_done round.now self.old }
     {
-        self.counts.add_done(jobs);
+        self.counts.add_done(round.jobs());
     }
 }

@@ -26,10 +26,11 @@ after_open (Err Memory) inputs = record inputs { is_open = false }
 abbrev pub after_read : {A E : Type 0} → Result A E → Inputs → Inputs
 after_read result inputs = record inputs { reads = raised inputs.reads; read_faults = count_after result inputs.read_faults }
 
--- a writer, and the count of faults
+-- a writer, and the counts of faults and of writes
 pub record Output (W : Type 0) : Type 0 where
   pub writer : W
   pub faults : ℕ
+  pub writes : ℕ
 
 -- where they are told, the bytes grew by a first part of text
 abbrev pub AppendsSome : Option (List ℕ) → Option (List ℕ) → List ℕ → Type 0

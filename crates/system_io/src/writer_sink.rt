@@ -3,7 +3,7 @@ ghost use Rattle.std.specs.Prelude.{◌≡◌, ◌<◌, ◌≤◌, length, None,
 ghost use Rattle.std.specs.Io.KnownBytes.{WriteAppends};
 ghost use Rattle.std.specs.Io.KnownBytes as known;
 ghost use Rattle.sync_outside.specs.Bytes.{Appends};
-ghost use Rattle.sync_outside.specs.Faults.{Rose, count_after};
+ghost use Rattle.sync_outside.specs.Faults.{Rose, raised, count_after};
 ghost use Rattle.system_io.specs.System.{AppendsSome};
 
 use std::io::{ErrorKind, Write};
@@ -15,6 +15,7 @@ use sync_outside::{Count, Failed, Sink};
 pub struct WriterSink<W> {
     writer: W,
     faults: Count,
+    writes: Count,
 }
 
 impl<W> Model for WriterSink<W> {
@@ -22,17 +23,18 @@ impl<W> Model for WriterSink<W> {
 
     ghost Value = { Output W };
 
-    ghost view = { λ s. record { writer = s.writer; faults = s.faults } };
+    ghost view = { λ s. record { writer = s.writer; faults = s.faults; writes = s.writes } };
 }
 
 impl<W: Write> WriterSink<W> {
     /// A sink that writes to this writer.
     pub fn new(writer: W) -> Self
-        ensures { result ≡ record { writer = writer; faults = 0 } }
+        ensures { result ≡ record { writer = writer; faults = 0; writes = 0 } }
     {
         WriterSink {
             writer,
             faults: Count::new(),
+            writes: Count::new(),
         }
     }
 
@@ -49,10 +51,13 @@ impl<W: Write> Sink for WriterSink<W> {
 
     ghost faults = { λ s. s.faults };
 
+    ghost writes = { λ s. s.writes };
+
     fn write(&mut self, piece: &[u8]) -> Result<(), Failed>
         // What every sink promises; of its bytes, which it doesn't tell, nothing is left to say.
         ensures failed { OnErr result (Rose self.old.faults self.new.faults) }
         ensures faults { self.old.faults ≤ self.new.faults }
+        ensures writes { self.new.writes ≡ raised self.old.writes }
 
         ensures counted { self.new.faults ≡ count_after result self.old.faults }
 
@@ -60,6 +65,7 @@ impl<W: Write> Sink for WriterSink<W> {
         ensures whole { OnOk result (known.Appends (W.contents self.old.writer) (W.contents self.new.writer) piece.now) }
         ensures front { OnErr result (AppendsSome (W.contents self.old.writer) (W.contents self.new.writer) piece.now) }
     {
+        self.writes.raise();
         let written = write_whole(&mut self.writer, piece);
         if written.is_err() {
             self.faults.raise();

@@ -121,7 +121,7 @@ where
         alloc, workload, shared, objects, numbers, clock, gate, callers, rows,
     )?;
     match spawner.start_all(rt, alloc, jobs) {
-        Started::Memory => Err(RunFault::Memory),
+        Started::Memory(_jobs) => Err(RunFault::Memory),
         Started::Refused(_jobs) => Err(RunFault::StartRefused),
         Started::Done(gone) => {
             left.gather(gone);
