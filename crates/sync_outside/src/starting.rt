@@ -1,5 +1,5 @@
 //! Jobs in threads of a scope, which wait until all are started.
-ghost use Rattle.std.specs.Prelude.{◌≡◌, ◌+◌, ◌<◌, ◌≤◌, [], ◌∷◌, ◌++◌, All, true, false, IfOk, IfErr, IfSome, OnOk, OnErr, vec_len, vec_capacity};
+ghost use Rattle.std.specs.Prelude.{◌≡◌, ◌+◌, ◌<◌, ◌≤◌, [], ◌∷◌, ◌++◌, All, true, false, IfOk, IfErr, IfSome, OnOk, OnErr, vec_len, vec_capacity, ⊥};
 ghost use Rattle.std.specs.List.{AllZip};
 ghost use Rattle.sync_outside.specs.Starts.{Becomes, is_done};
 ghost use Rattle.sync_outside.specs.Told.{Fares, owed};
@@ -41,7 +41,9 @@ impl<'a, W: Work> Promise<Told<'a, W, W::Out>> for JobOf<'a, W> {
 
 /// Stands where another word was heard than the one that was said, and waits for ever. Only the starter says a word, and it
 /// says one alone, so no call comes here; that can't be proved, since a lock doesn't say who wrote its value.
-fn never<R: Wait, T>(rt: &R) -> T {
+fn never<R: Wait, T>(rt: &R) -> T
+    ensures { ⊥ }
+{
     for _ in rt.forever() {
         thread::yield_now();
     }
