@@ -1,5 +1,5 @@
 //! Jobs in threads of a scope, which wait until all are started.
-ghost use Rattle.std.specs.Prelude.{◌≡◌, ◌+◌, ◌<◌, ◌≤◌, [], ◌∷◌, ◌++◌, All, true, false, IfOk, IfErr, IfSome, OnOk, OnErr, vec_len, vec_capacity, ⊥};
+ghost use Rattle.std.specs.Prelude.{◌≡◌, ◌+◌, ◌<◌, ◌≤◌, [], ◌∷◌, ◌++◌, All, true, false, IfOk, IfErr, IfSome, OnOk, OnErr, vec_len, vec_capacity};
 ghost use Rattle.std.specs.List.{AllZip};
 ghost use Rattle.sync_outside.specs.Starts.{Becomes, is_done};
 ghost use Rattle.sync_outside.specs.Told.{Fares, owed};
