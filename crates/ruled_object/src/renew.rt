@@ -7,8 +7,7 @@ ghost use Rattle.ruled_object.specs.Renewals.{IsRenewed};
 use crate::new::MAX_CALLS;
 use crate::object::Object;
 use crate::pass::PassOf;
-use sync_model::Worded;
-use sync_model::Note;
+use sync_model::{Note, Worded};
 
 impl<M: Worded, N: Note> Object<M, N> {
     /// Makes a pass good for so many calls from now on. It makes no step, and adds nothing to the history: no law rests on how
