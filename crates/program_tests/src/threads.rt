@@ -1,6 +1,6 @@
 //! Runs of workloads by threads.
 use crate::plain_maps::threaded_plain;
-use script_calls::{Outcome, Report};
+use script_calls::{Outcome, Reply, Report};
 use std::alloc::{AllocError, Global};
 use std::sync::Wait;
 use std::test::Fail;
@@ -8,6 +8,7 @@ use std::thread::Threads;
 use sync_outside::{
     Clock, Gate, HoldGate, MemClock, OpenGate, RefuseStart, Spawner, ThreadSpawner,
 };
+use sync_types::{DoReply, PoolCallReply};
 use system_io::SystemClock;
 use thread_runner::{RunFault, threaded};
 use workload::Workload;
@@ -36,13 +37,40 @@ fn run_of<C: Clock + Sync, P: Spawner, G: Gate + Sync, R: Threads + Wait + Sync>
     }
 }
 
+// A reply, in words.
+fn told_reply(alloc: Global, reply: &Reply<u32>) -> Result<String, AllocError> {
+    match reply {
+        Reply::Map(reply) => format!(in alloc; "Map({reply:?})"),
+        Reply::Pairs(pairs) => {
+            let pairs = pairs.as_slice();
+            format!(in alloc; "Pairs({pairs:?})")
+        }
+        Reply::Atomic(reply) => format!(in alloc; "Atomic({reply:?})"),
+        Reply::Lock(reply) => format!(in alloc; "Lock({reply:?})"),
+        Reply::Returned => String::from_str(alloc, "Returned"),
+        Reply::Once(DoReply::Ran(sum)) => format!(in alloc; "Once(Ran({sum}))"),
+        Reply::Once(DoReply::Done) => String::from_str(alloc, "Once(Done)"),
+        Reply::OnceFunc(code) => format!(in alloc; "OnceFunc({code:?})"),
+        Reply::OnceValue(value) => format!(in alloc; "OnceValue({value})"),
+        Reply::Pool(PoolCallReply::Put(item)) => format!(in alloc; "Pool(Put({item}))"),
+        Reply::Pool(PoolCallReply::Done) => String::from_str(alloc, "Pool(Done)"),
+        Reply::Pool(PoolCallReply::New) => String::from_str(alloc, "Pool(New)"),
+    }
+}
+
 // The replies of each worker, and what the objects hold at the end.
 fn told(alloc: Global, report: &Report) -> Result<String, AllocError> {
     let mut text = String::new(alloc);
     for replies in report.replies.as_slice() {
-        let answers = replies.as_slice();
-        let words = format!(in alloc; "{answers:?} ")?;
-        text.push_str(&words)?;
+        text.push_str("[")?;
+        for (place, reply) in replies.as_slice().iter().enumerate() {
+            if place > 0 {
+                text.push_str(", ")?;
+            }
+            let words = told_reply(alloc, reply)?;
+            text.push_str(&words)?;
+        }
+        text.push_str("] ")?;
     }
     let ends = report.ends.as_slice();
     let words = format!(in alloc; "{ends:?}")?;
@@ -118,7 +146,7 @@ const RUNS: [(&str, &str); 7] = [
     ),
     (
         "workers 1\nmap t\nworker 0\nlos t k 7\nlos t k 8\nrange t\nclear t\nrange t\n",
-        "[Map(Settled { value: 7, loaded: false }), Map(Settled { value: 7, loaded: true }), Pairs(Seq { items: [(0, 7)] }), Map(Done), Pairs(Seq { items: [] })] []",
+        "[Map(Settled { value: 7, loaded: false }), Map(Settled { value: 7, loaded: true }), Pairs([(0, 7)]), Map(Done), Pairs([])] []",
     ),
     (
         "workers 1\nint32 a\nworker 0\nadd a 1\nadd a -1\ncas a 0 1\n",
@@ -157,7 +185,7 @@ const KINDS: [(&str, &str); 15] = [
     // What others stored is shown, in byte order of the keys.
     (
         "workers 3\nmap t\nmap u\nwaitgroup g 2\nworker 0\nstore t b 1\nstore u z 9\ndone g\nworker 1\nstore t a 2\ndone g\nworker 2\nwait g\nrange t\nrange u\nclear t\nrange t\n",
-        "[Map(Done), Map(Done), Returned] [Map(Done), Returned] [Returned, Pairs(Seq { items: [(2, 2), (0, 1)] }), Pairs(Seq { items: [(1, 9)] }), Map(Done), Pairs(Seq { items: [] })] [Pair { object: 1, key: 1, value: 9 }]",
+        "[Map(Done), Map(Done), Returned] [Map(Done), Returned] [Returned, Pairs([(2, 2), (0, 1)]), Pairs([(1, 9)]), Map(Done), Pairs([])] [Pair { object: 1, key: 1, value: 9 }]",
     ),
     // Each type of atomic, at an end of its range.
     (
@@ -309,7 +337,7 @@ const MISUSES: [(&str, &str); 8] = [
     // Who calls only maps and atomics goes on to the end of the script.
     (
         "workers 2\nmap t\nint64 a\nmutex m\nworker 0\nstore t k 1\nload t k\nadd a 1\nrange t\nworker 1\nunlock m\n",
-        "[Map(Done), Map(Found(Some(1))), Atomic(Held(Int64(1))), Pairs(Seq { items: [(0, 1)] })] [] [] fatal error: sync: unlock of unlocked mutex",
+        "[Map(Done), Map(Found(Some(1))), Atomic(Held(Int64(1))), Pairs([(0, 1)])] [] [] fatal error: sync: unlock of unlocked mutex",
     ),
 ];
 
