@@ -13,11 +13,10 @@ use Rattle.workload.specs.Keys.{keys_in}
 use Rattle.workload.specs.Plan.{Plan, is_on, is_turn, refers, is_valid}
 use Rattle.thread_objects.specs.declared.object.AnyObject.{AnyObject}
 use Rattle.thread_objects.specs.declared.pass.AnyPass.{AnyPass}
-use Rattle.thread_runner.specs.Sites.{AreRooms, ranges_in_calls}
 use Rattle.thread_runner.specs.AllGone.{HaveGone}
 use Rattle.thread_runner.specs.Dealing.{AreRows}
 use Rattle.thread_runner.specs.EndsPlans.{HaveMadeNone, HaveSpare}
-use Rattle.thread_runner.specs.Jobs.{IsReady, HasGone}
+use Rattle.thread_runner.specs.Jobs.{HasRoom, IsReady, HasGone}
 use Rattle.thread_runner.proofs.Dealt.{mapped_found}
 use Rattle.thread_runner.proofs.Ended.{held_number}
 
@@ -56,9 +55,9 @@ number_at_place number jobs n k job are at = counted_at 0 n k (number job) (ap (
 module _ {N H : Type 0} (at : H → N → Type 0) (own : N → Option Holding) (front : N → List ℕ) (home : H) (plan : Plan) (objects : List (AnyObject N H)) (rows : List (List (AnyPass N))) (callers : List (Caller N)) where
   -- a worker with its row, its caller and its rooms may begin
   pub ready_at : AreRows at home plan.workers objects rows → AreAllCallers at own home callers plan.workers → HaveMadeNone own callers → HaveSpare own plan callers
-      → (worker : ℕ) (row : List (AnyPass N)) (caller : Caller N) (replies : Bounded (Reply ℕ)) (rooms : List (Bounded (ℕ × ℕ))) → slice_get rows worker ≡ Some row → slice_get callers worker ≡ Some caller → length (get_or plan.scripts worker []) < 2 ^ 32
-      → replies.items ≡ [] → length (get_or plan.scripts worker []) ≤ replies.room → AreRooms (length (keys_in plan.scripts)) rooms → ranges_in_calls (get_or plan.scripts worker []) ≤ length rooms → IsReady at own front home plan objects worker row caller replies rooms
-  ready_at rows_are callers_are none spare worker row caller replies rooms at_row at_caller few empty_replies room roomy enough =
+      → (worker : ℕ) (row : List (AnyPass N)) (caller : Caller N) (replies : Bounded (Reply ℕ)) (pairs : List (Bounded (ℕ × ℕ))) → slice_get rows worker ≡ Some row → slice_get callers worker ≡ Some caller → length (get_or plan.scripts worker []) < 2 ^ 32
+      → HasRoom (length (keys_in plan.scripts)) (get_or plan.scripts worker []) replies pairs → IsReady at own front home plan objects worker row caller replies pairs
+  ready_at rows_are callers_are none spare worker row caller replies pairs at_row at_caller few room =
       let is_row = rows_are.each worker row at_row in
       let is_caller = callers_are.each worker caller at_caller in
       let within = slice_get_within callers worker caller at_caller in
@@ -70,9 +69,6 @@ module _ {N H : Type 0} (at : H → N → Type 0) (own : N → Option Holding) (
         fresh = record { owns = is_row.none; calls = none worker caller at_caller; number = held_number (own caller.note) worker is_caller.1 };
         spare = spare worker caller at_caller;
         few = few;
-        roomy = roomy;
-        enough = enough;
-        none = empty_replies;
         room = room;
       }
 

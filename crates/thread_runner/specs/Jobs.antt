@@ -1,6 +1,7 @@
 -- A worker before its script, and what it leaves behind it.
 use Rattle.std.specs.Prelude.{◌≡◌, ℕ, ◌^◌, ◌<◌, ◌≤◌, ◌⊎◌, List, [], length, get_or, All, Option}
 use Rattle.std.specs.Option.{ForSome}
+use Rattle.script_calls.specs.declared.call.Call.{Call}
 use Rattle.script_calls.specs.declared.call.Reply.{Reply}
 use Rattle.sync_model.specs.declared.caller.Caller.{Caller}
 use Rattle.sync_types.specs.BoundedSeq.{Bounded}
@@ -19,9 +20,16 @@ use Rattle.thread_runner.specs.Sites.{AreRooms, cost_of_calls, ranges_in_calls}
 use Rattle.thread_objects.specs.Working.{desk_with}
 use Rattle.thread_runner.specs.DidLines.{DidLine, IsFresh}
 
+-- There is room for what a script answers: for its replies, and for the pairs of each `range`, which are at most so many keys.
+pub record HasRoom (keys : ℕ) (script : List Call) (replies : Bounded (Reply ℕ)) (pairs : List (Bounded (ℕ × ℕ))) : Type 0 where
+  pub none : replies.items ≡ []
+  pub answers : length script ≤ replies.room
+  pub roomy : AreRooms keys pairs
+  pub enough : ranges_in_calls script ≤ length pairs
+
 module _ {N H : Type 0} (at : H → N → Type 0) (own : N → Option Holding) (front : N → List ℕ) (home : H) (plan : Plan) (objects : List (AnyObject N H)) (worker : ℕ) where
   -- the worker with this number has its passes and is the caller with its number, has done nothing, and has room for what it is to do
-  pub record IsReady (passes : List (AnyPass N)) (caller : Caller N) (replies : Bounded (Reply ℕ)) (rooms : List (Bounded (ℕ × ℕ))) : Type 0 where
+  pub record IsReady (passes : List (AnyPass N)) (caller : Caller N) (replies : Bounded (Reply ℕ)) (pairs : List (Bounded (ℕ × ℕ))) : Type 0 where
     pub number : worker < plan.workers
     pub seats : AreSeats at home plan.workers worker objects passes
     pub is_at : at home caller.note
@@ -29,10 +37,7 @@ module _ {N H : Type 0} (at : H → N → Type 0) (own : N → Option Holding) (
     pub fresh : IsFresh worker (desk_with own front (owns_of passes) caller.note)
     pub spare : ForSome (own caller.note) (λ holding. cost_of_calls (get_or plan.scripts worker []) ≤ holding.spare)
     pub few : length (get_or plan.scripts worker []) < 2 ^ 32
-    pub roomy : AreRooms (length (keys_in plan.scripts)) rooms
-    pub enough : ranges_in_calls (get_or plan.scripts worker []) ≤ length rooms
-    pub none : replies.items ≡ []
-    pub room : length (get_or plan.scripts worker []) ≤ replies.room
+    pub room : HasRoom (length (keys_in plan.scripts)) (get_or plan.scripts worker []) replies pairs
 
   -- The worker that had these passes and was this caller has ended. All its calls on maps and atomics are the workload's; it has gone along its script, or has seen what can't be.
   pub record HasGone (passes : List (AnyPass N)) (caller : Caller N) (now_passes : List (AnyPass N)) (now_caller : Caller N) (replies : List (Reply ℕ)) : Type 0 where

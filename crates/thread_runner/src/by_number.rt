@@ -26,7 +26,7 @@ use workload::ObjectKind;
 
 /// Makes a call on the object at a place among the workload's objects, which is of this kind, and on no other one but maps and
 /// atomics. `None`, where it gives the call up, since it has seen what can't be.
-pub fn object_at<S: Shared, C: Clock, R: Wait>(
+pub(crate) fn object_at<S: Shared, C: Clock, R: Wait>(
     rt: &R,
     worker: &Worker<S::Mark, C>,
     catalog: &Catalog<S>,
@@ -59,7 +59,7 @@ pub fn object_at<S: Shared, C: Clock, R: Wait>(
 }
 
 /// Waits on the cond at a place, whose mutex is at that one.
-pub fn wait_at<N: Note, C: Clock, R: Wait>(
+pub(crate) fn wait_at<N: Note, C: Clock, R: Wait>(
     rt: &R,
     worker: &Worker<N, C>,
     objects: &[AnyObject<N>],

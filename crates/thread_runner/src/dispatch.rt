@@ -154,7 +154,7 @@ fn call_at<S: Shared, C: Clock, R: Wait>(
 /// Makes a call of the worker's script. It may wait for other workers. `None`, where it has seen what can't be, and gives the call
 /// up: a `range` that shows more pairs than the workload has keys, or an int64 that answers by a number of another type. What all
 /// workers did shows that neither was, once they have ended.
-pub fn make_call<S: Shared, C: Clock, R: Wait>(
+pub(crate) fn make_call<S: Shared, C: Clock, R: Wait>(
     rt: &R,
     site: &Site<S>,
     worker: &Worker<S::Mark, C>,

@@ -117,7 +117,7 @@ fn halt_declared<N: Note, C: Clock, R: Wait>(
 
 /// Halts a run by a misuse: Stop first, and then each object in order of declaration, a pool's parts at its place, from part 0 up.
 /// Maps and atomics are left as they are. It wakes all who sleep at an object, and waits for nobody.
-pub fn halt_all<N: Note, C: Clock, R: Wait>(
+pub(crate) fn halt_all<N: Note, C: Clock, R: Wait>(
     rt: &R,
     worker: &Worker<N, C>,
     workload: &Workload,

@@ -2,17 +2,17 @@
 ghost use Rattle.std.specs.Prelude.{◌≡◌, ◌<◌, ◌≤◌, All, IfOk, [], length, map, get_or, vec_len};
 ghost use Rattle.std.specs.List.{range_with_len};
 ghost use Rattle.workload.specs.Keys.{keys_in};
+ghost use Rattle.thread_runner.specs.Jobs.{HasRoom};
 ghost use Rattle.thread_runner.specs.Sites.{AreRooms, ranges_in_calls};
 
-use crate::job::Job;
+use crate::job::{Job, Room};
 use crate::site::Site;
 use script_calls::{Call, Operation};
 use std::alloc::{AllocError, Global};
 use sync_model::{Caller, Shared};
 use sync_outside::{At, Clock, Gate};
 use sync_types::BoundedSeq;
-use thread_objects::{AnyObject, AnyPass, Catalog, Worker};
-use workload::Workload;
+use thread_objects::{AnyPass, Worker};
 
 // Room for the pairs of each `range` of a script, which shows at most all keys, so many.
 fn rooms_of(
@@ -32,59 +32,52 @@ fn rooms_of(
     Ok(rooms)
 }
 
+// Room for all that a script answers, where the workload has so many keys.
+fn room_for(alloc: Global, script: &[Call], keys: usize) -> Result<Room, AllocError>
+    ensures { IfOk result (λ room. HasRoom keys script.now room.replies room.pairs.items) }
+{
+    let pairs = rooms_of(alloc, script, keys)?;
+    let replies = BoundedSeq::with_room(alloc, script.len())?;
+    Ok(Room { replies, pairs })
+}
+
 /// The jobs of all workers, in order of number: each with its caller, its passes, and room for what it answers.
 pub(crate) fn hire<'a, S: Shared, C: Clock, G: Gate>(
     alloc: Global,
-    workload: &'a Workload,
-    shared: &'a S,
-    objects: &'a [AnyObject<S::Mark>],
-    numbers: &'a [u32],
+    site: &'a Site<'a, S>,
     clock: &'a C,
     gate: &'a G,
     callers: Vec<Caller<S::Mark>>,
     dealt: Vec<Vec<AnyPass<S::Mark>>>,
 ) -> Result<Vec<Job<'a, S, C, G>>, AllocError>
-    requires callers { vec_len callers ≡ workload.now.workers }
-    requires dealt { vec_len dealt ≡ workload.now.workers }
-    ensures count { IfOk result (λ jobs. vec_len jobs ≡ workload.now.workers) }
+    requires callers { vec_len callers ≡ site.now.catalog.workload.now.workers }
+    requires dealt { vec_len dealt ≡ site.now.catalog.workload.now.workers }
+    ensures count { IfOk result (λ jobs. vec_len jobs ≡ site.now.catalog.workload.now.workers) }
     ensures numbers { IfOk result (λ jobs. map (λ job. job.worker.number) jobs.items ≡ range_with_len 0 (vec_len jobs)) }
     ensures callers { IfOk result (λ jobs. map (λ job. job.caller) jobs.items ≡ callers.items) }
     ensures passes { IfOk result (λ jobs. map (λ job. job.passes.items) jobs.items ≡ map (λ passes. passes.items) dealt.items) }
-    ensures site { IfOk result (λ jobs. All (λ job. (job.site.catalog.workload.now ≡ workload.now) × (job.site.catalog.shared.now ≡ shared.now) × (job.site.objects.now ≡ objects.now) × (job.site.catalog.numbers.now ≡ numbers.now)) jobs.items) }
-    ensures at { IfOk result (λ jobs. All (λ job. (job.worker.at.home.now ≡ S.home_of shared.now) × (job.worker.workers ≡ workload.now.workers)) jobs.items) }
-    ensures replies { IfOk result (λ jobs. All (λ job. (job.replies.items ≡ []) × (length (get_or workload.now.scripts job.worker.number []) ≤ job.replies.room)) jobs.items) }
-    ensures rooms { IfOk result (λ jobs. All (λ job. AreRooms (length (keys_in workload.now.scripts)) job.rooms.items × (ranges_in_calls (get_or workload.now.scripts job.worker.number []) ≤ vec_len job.rooms)) jobs.items) }
+    ensures each { IfOk result (λ jobs. All (λ job. (job.site.now ≡ site.now) × (job.worker.at.home.now ≡ S.home_of site.now.catalog.shared.now) × (job.worker.workers ≡ site.now.catalog.workload.now.workers)
+        × HasRoom (length (keys_in site.now.catalog.workload.now.scripts)) (get_or site.now.catalog.workload.now.scripts job.worker.number []) job.room.replies job.room.pairs.items) jobs.items) }
 {
+    let workload = site.catalog.workload;
     let workers = workload.workers();
     let keys = workload.keys().names().len();
     let mut jobs = Vec::with_capacity(alloc, workers as usize)?;
     for (caller, passes) in callers.into_iter().zip(dealt) {
         let number = jobs.len() as u32;
-        let script = workload.script(number);
-        let replies = BoundedSeq::with_room(alloc, script.len())?;
-        let rooms = rooms_of(alloc, script, keys)?;
+        let room = room_for(alloc, workload.script(number), keys)?;
+        let home = site.catalog.shared.home();
         jobs.push_reserved(Job {
-            site: Site {
-                catalog: Catalog {
-                    workload,
-                    shared,
-                    numbers,
-                },
-                objects,
-            },
+            site,
             worker: Worker {
-                at: At {
-                    home: shared.home(),
-                    clock,
-                },
+                at: At { home, clock },
                 workers,
                 number,
             },
             gate,
             caller,
             passes,
-            replies,
-            rooms,
+            room,
         });
     }
     Ok(jobs)

@@ -10,18 +10,24 @@ use sync_outside::{Clock, Gate, Work};
 use sync_types::{BoundedSeq, Seq};
 use thread_objects::{AnyPass, Worker};
 
+/// Room for all that a worker's script answers.
+#[derive(Drop)]
+pub(crate) struct Room {
+    /// For the replies.
+    pub replies: BoundedSeq<Reply<u32>>,
+    /// For the pairs of each `range`, which are at most all keys.
+    pub pairs: Vec<BoundedSeq<(u32, u64)>>,
+}
+
 /// A worker, with all that its script takes.
 #[derive(Drop)]
 pub(crate) struct Job<'a, S: Shared, C: Clock, G: Gate> {
-    pub site: Site<'a, S>,
+    pub site: &'a Site<'a, S>,
     pub worker: Worker<'a, S::Mark, C>,
     pub gate: &'a G,
     pub caller: Caller<S::Mark>,
     pub passes: Vec<AnyPass<S::Mark>>,
-    /// Room for the replies.
-    pub replies: BoundedSeq<Reply<u32>>,
-    /// Room for the pairs of each `range`, which are at most all keys.
-    pub rooms: Vec<BoundedSeq<(u32, u64)>>,
+    pub room: Room,
 }
 
 /// What a worker leaves that has ended.
@@ -44,11 +50,11 @@ where
 
     type Out = Gone<S::Mark>;
 
-    ghost ready = { λ job. IsSite S.Mark.at job.worker.at.home.now job.site.catalog.workload.now (S.maps job.site.catalog.shared.now) (S.kinds job.site.catalog.shared.now) (S.takes job.site.catalog.shared.now) job.site.objects.now job.site.catalog.numbers.now
-        × (job.site.catalog.workload.now.workers ≡ job.worker.workers) × (S.home_of job.site.catalog.shared.now ≡ job.worker.at.home.now)
-        × IsReady S.Mark.at S.Mark.own S.Mark.front job.worker.at.home.now job.site.catalog.workload.now job.site.objects.now job.worker.number job.passes.items job.caller job.replies job.rooms.items };
+    ghost ready = { λ job. IsSite S.Mark.at job.worker.at.home.now job.site.now.catalog.workload.now (S.maps job.site.now.catalog.shared.now) (S.kinds job.site.now.catalog.shared.now) (S.takes job.site.now.catalog.shared.now) job.site.now.objects.now job.site.now.catalog.numbers.now
+        × (job.site.now.catalog.workload.now.workers ≡ job.worker.workers) × (S.home_of job.site.now.catalog.shared.now ≡ job.worker.at.home.now)
+        × IsReady S.Mark.at S.Mark.own S.Mark.front job.worker.at.home.now job.site.now.catalog.workload.now job.site.now.objects.now job.worker.number job.passes.items job.caller job.room.replies job.room.pairs.items };
 
-    ghost gives = { λ job gone. HasGone S.Mark.at S.Mark.own S.Mark.front job.worker.at.home.now job.site.catalog.workload.now job.site.objects.now job.worker.number job.passes.items job.caller gone.passes.items gone.caller gone.replies };
+    ghost gives = { λ job gone. HasGone S.Mark.at S.Mark.own S.Mark.front job.worker.at.home.now job.site.now.catalog.workload.now job.site.now.objects.now job.worker.number job.passes.items job.caller gone.passes.items gone.caller gone.replies };
 
     fn work<R: Wait>(self, rt: &R) -> Gone<S::Mark> {
         let Job {
@@ -57,18 +63,21 @@ where
             gate,
             mut caller,
             mut passes,
-            mut replies,
-            mut rooms,
+            room,
         } = self;
+        let Room {
+            mut replies,
+            mut pairs,
+        } = room;
         run_script(
             rt,
-            &site,
+            site,
             &worker,
             gate,
             &mut caller,
             &mut passes,
             &mut replies,
-            &mut rooms,
+            &mut pairs,
         );
         Gone {
             caller,

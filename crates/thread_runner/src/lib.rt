@@ -25,12 +25,7 @@ mod trie_maps;
 mod wait;
 mod whole_run;
 
-pub use by_number::{object_at, wait_at};
 pub use counts::{atomic_kinds, map_count, spares};
-pub use dispatch::make_call;
 pub use fault::RunFault;
-pub use halting::halt_all;
-pub use pool::call_pool;
 pub use run::threaded_over;
-pub use site::{Site, numbers_of};
 pub use whole_run::threaded;

@@ -190,7 +190,7 @@ fn sweep<N: Note, C: Clock, R: Wait>(
 
 /// Makes a call on the pool whose parts are the objects from this number on, one for each worker. An item is put into the
 /// worker's own part.
-pub fn call_pool<N: Note, C: Clock, R: Wait>(
+pub(crate) fn call_pool<N: Note, C: Clock, R: Wait>(
     rt: &R,
     worker: &Worker<N, C>,
     objects: &[AnyObject<N>],

@@ -15,7 +15,7 @@ use crate::deal::{collect, deal, make_objects_by};
 use crate::fault::RunFault;
 use crate::gather::Left;
 use crate::hire::hire;
-use crate::site::numbers_of;
+use crate::site::{Site, numbers_of};
 use run_record::laws::endings::stop_says_how_a_run_ended;
 use run_record::laws::limits::{a_range_shows_no_key_but_the_workloads, an_int64_answers_an_int64};
 use script_calls::{Outcome, Report};
@@ -27,7 +27,7 @@ use sync_model::{Caller, Note, Shared};
 use sync_outside::{Clock, Gate, Spawner, Started};
 use sync_types::Seq;
 use thread_objects::parts::laws::a_worker_knows_its_own_calls;
-use thread_objects::{AnyColumn, AnyObject, AnyPass, Crew, journals};
+use thread_objects::{AnyColumn, AnyObject, AnyPass, Catalog, Crew, journals};
 use workload::Workload;
 
 // What a run comes to whose workers have all ended.
@@ -117,9 +117,15 @@ where
     ensures unstarted { IfErr result (λ fault. (P.ran spawner.new ≡ P.ran spawner.old) × (P.rounds spawner.new ≡ P.rounds spawner.old)) }
 {
     let _workers = workload.workers();
-    let jobs = hire(
-        alloc, workload, shared, objects, numbers, clock, gate, callers, rows,
-    )?;
+    let site = Site {
+        catalog: Catalog {
+            workload,
+            shared,
+            numbers,
+        },
+        objects,
+    };
+    let jobs = hire(alloc, &site, clock, gate, callers, rows)?;
     match spawner.start_all(rt, alloc, jobs) {
         Started::Memory(_jobs) => Err(RunFault::Memory),
         Started::Refused(_jobs) => Err(RunFault::StartRefused),

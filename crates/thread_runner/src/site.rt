@@ -10,7 +10,7 @@ use workload::{ObjectKind, Workload};
 
 /// What all workers of a run share.
 #[derive(Drop)]
-pub struct Site<'a, S: Shared> {
+pub(crate) struct Site<'a, S: Shared> {
     /// The workload that is run, and its maps and atomics.
     pub catalog: Catalog<'a, S>,
     /// Stop, behind it the workload's other objects in order of declaration, and behind these the parts of its pools.
@@ -46,7 +46,7 @@ fn next_number(kind: ObjectKind, maps: &mut u32, atomics: &mut u32, pools: &mut 
 
 /// The number of each of a workload's maps among the maps, of each atomic among the atomics, and of each pool among the pools, by
 /// place. An object of another kind has 0.
-pub fn numbers_of(alloc: Global, workload: &Workload) -> Result<Vec<u32>, AllocError>
+pub(crate) fn numbers_of(alloc: Global, workload: &Workload) -> Result<Vec<u32>, AllocError>
     ensures { IfOk result (λ numbers. AreNumbers workload.now.objects numbers.items) }
 {
     let _workers = workload.workers();

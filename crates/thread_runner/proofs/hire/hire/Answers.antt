@@ -5,7 +5,7 @@ use Rattle.std.proofs.lemmas.Iterator.Adapters.{YieldsList-from_vec}
 use Rattle.std.proofs.lemmas.Iterator.Consumers.{YieldsList-turn, YieldsList-end}
 use Rattle.std.proofs.lemmas.List.{length_push, map_push}
 use Rattle.workload.specs.Keys.{keys_in}
-use Rattle.thread_runner.specs.Sites.{AreRooms, ranges_in_calls}
+use Rattle.thread_runner.specs.Jobs.{HasRoom}
 use Rattle.thread_runner.proofs.Hiring.{all_firsts, all_seconds, sized, mapped_more, all_more, counted_more}
 use Rattle.thread_runner.proofs.hire.hire.Goals as goal
 
@@ -26,20 +26,18 @@ loop-caller-preserved g c =
     let items = c.push_reserved.ensures.items in
     let longer = length_push c.loop-caller.yielded (c.in-Some.caller, c.in-Some.passes) in
     let count : vec_len c.push_reserved.new.self ≡ length (c.loop-caller.yielded ++ (c.in-Some.caller, c.in-Some.passes) ∷ []) = search rules in
-    let replies_none : c.in_ok-replies.replies.items ≡ [] = search rules in
-    let replies_room : length (get_or c.args.workload.now.scripts c.len-number.result []) ≤ c.in_ok-replies.replies.room = search rules in
-    let keys : length c.names-keys.result.now ≡ length (keys_in c.args.workload.now.scripts) = ap (λ (l : List (List ℕ)). length l) (c.names-keys.ensures ∙ c.keys.ensures) in
-    let roomy : AreRooms (length (keys_in c.args.workload.now.scripts)) c.in_ok-rooms.rooms.items = subst (λ n. AreRooms n c.in_ok-rooms.rooms.items) keys c.in_ok-rooms.ensures.roomy in
+    let plan = c.args.site.now.catalog.workload.now in
+    let keys : length c.names-keys.result.now ≡ length (keys_in plan.scripts) = ap (λ (l : List (List ℕ)). length l) (c.names-keys.ensures ∙ c.keys.ensures) in
+    let room : HasRoom (length (keys_in plan.scripts)) (get_or plan.scripts c.len-number.result []) c.in_ok-room.room.replies c.in_ok-room.room.pairs.items =
+    subst (λ script. HasRoom (length (keys_in plan.scripts)) script c.in_ok-room.room.replies c.in_ok-room.room.pairs.items) c.script.ensures.script (subst (λ n. HasRoom n c.script.result.now c.in_ok-room.room.replies c.in_ok-room.room.pairs.items) keys c.in_ok-room.ensures) in
     record {
       count = count;
       within = omega (arith, within, longer, c.requires.callers);
       numbers = mapped_more (λ job. job.worker.number) _ _ _ _ _ items before.numbers refl ∙ counted_more (length c.loop-caller.yielded) _ c.len-number.result longer (search rules);
       callers = mapped_more (λ job. job.caller) _ _ _ _ _ items before.callers refl ∙ sym (map_push (λ pair. pair.0) c.loop-caller.yielded (c.in-Some.caller, c.in-Some.passes));
       passes = mapped_more (λ job. job.passes.items) _ _ _ _ _ items before.passes refl ∙ sym (map_push (λ pair. pair.1.items) c.loop-caller.yielded (c.in-Some.caller, c.in-Some.passes));
-      site = all_more (λ job. (job.site.catalog.workload.now ≡ c.args.workload.now) × (job.site.catalog.shared.now ≡ c.args.shared.now) × (job.site.objects.now ≡ c.args.objects.now) × (job.site.catalog.numbers.now ≡ c.args.numbers.now)) _ _ _ items before.site (refl, refl, refl, refl);
-      at = all_more (λ job. (job.worker.at.home.now ≡ g.S.Shared.home_of c.args.shared.now) × (job.worker.workers ≡ c.args.workload.now.workers)) _ _ _ items before.at (c.home.ensures, c.workers-workers.ensures.workers);
-      replies = all_more (λ job. (job.replies.items ≡ []) × (length (get_or c.args.workload.now.scripts job.worker.number []) ≤ job.replies.room)) _ _ _ items before.replies (replies_none, replies_room);
-      rooms = all_more (λ job. AreRooms (length (keys_in c.args.workload.now.scripts)) job.rooms.items × (ranges_in_calls (get_or c.args.workload.now.scripts job.worker.number []) ≤ vec_len job.rooms)) _ _ _ items before.rooms (roomy, subst (λ script. ranges_in_calls script ≤ vec_len c.in_ok-rooms.rooms) c.script-script.ensures.script c.in_ok-rooms.ensures.enough);
+      each = all_more (λ job. (job.site.now ≡ c.args.site.now) × (job.worker.at.home.now ≡ g.S.Shared.home_of c.args.site.now.catalog.shared.now) × (job.worker.workers ≡ plan.workers) × HasRoom (length (keys_in plan.scripts)) (get_or plan.scripts job.worker.number []) job.room.replies job.room.pairs.items) _ _ _ items before.each
+          (refl, c.home.ensures, c.workers-workers.ensures.workers, room);
       capacity = search rules;
     }
 

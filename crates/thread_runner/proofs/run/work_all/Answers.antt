@@ -9,9 +9,10 @@ use Rattle.sync_outside.specs.Faults.{RoseBy}
 use Rattle.workload.specs.Plan.{Plan}
 use Rattle.thread_objects.specs.declared.object.AnyObject.{AnyObject}
 use Rattle.thread_objects.specs.declared.pass.AnyPass.{AnyPass}
-use Rattle.thread_runner.specs.Sites.{IsSite, ranges_in_calls}
+use Rattle.workload.specs.Keys.{keys_in}
+use Rattle.thread_runner.specs.Sites.{IsSite}
 use Rattle.thread_runner.specs.AllGone.{HaveGone}
-use Rattle.thread_runner.specs.Jobs.{IsReady, HasGone}
+use Rattle.thread_runner.specs.Jobs.{HasRoom, IsReady, HasGone}
 use Rattle.thread_runner.proofs.AllReady.{ready_at, have_gone, number_at_place, one_script_each, zipped_long}
 use Rattle.thread_runner.proofs.Dealt.{mapped_found}
 use Rattle.thread_runner.proofs.run.work_all.Goals as goal
@@ -28,8 +29,11 @@ start_all-requires-after_bounds g c κs within k d low =
     let home = g.S.Shared.home_of shared in
     let rows = map (λ r. r.items) c.args.rows.items in
     let found : slice_get jobs k ≡ Some job = slice_get-get_or jobs k d low in
-    let site = made.site k d low in
-    let at = made.at k d low in
+    let each = made.each k d low in
+    let plan_is : job.site.now.catalog.workload.now ≡ plan = ap (λ s. s.catalog.workload.now) each.0 in
+    let shared_is : job.site.now.catalog.shared.now ≡ shared = ap (λ s. s.catalog.shared.now) each.0 in
+    let objects_is : job.site.now.objects.now ≡ objects = ap (λ s. s.objects.now) each.0 in
+    let numbers_is : job.site.now.catalog.numbers.now ≡ c.args.numbers.now = ap (λ s. s.catalog.numbers.now) each.0 in
     let number : job.worker.number ≡ k = number_at_place (λ j. j.worker.number) jobs (vec_len c.in_ok-jobs.jobs) k job made.numbers found in
     let at_caller : slice_get c.args.callers.items k ≡ Some job.caller = ap (λ (l : List (Caller g.row.S-Mark.Denot)). slice_get l k) (sym made.callers) ∙ mapped_found (λ j. j.caller) jobs k job found in
     let at_row : slice_get rows k ≡ Some job.passes.items = ap (λ (l : List (List (AnyPass g.row.S-Mark.Denot))). slice_get l k) (sym made.passes) ∙ mapped_found (λ j. j.passes.items) jobs k job found in
@@ -37,26 +41,22 @@ start_all-requires-after_bounds g c κs within k d low =
     let most = get_or-le-sum_by (λ s. length s) plan.scripts k [] in_scripts in
     let few : length (get_or plan.scripts k []) < 2 ^ 32 = omega (arith, most, c.workers-workers.ensures.readable.call_room) in
     let by_place : get_or plan.scripts job.worker.number [] ≡ get_or plan.scripts k [] = ap (λ n. get_or plan.scripts n []) number in
-    let replies = made.replies k d low in
-    let rooms = made.rooms k d low in
     let Site : g.row.S-Mark-Home.Denot → Plan → g.row.S.Denot → List (AnyObject g.row.S-Mark.Denot g.row.S-Mark-Home.Denot) → List ℕ → Type 0 = λ h p s o n. IsSite mark.at h p (g.S.Shared.maps s) (g.S.Shared.kinds s) (g.S.Shared.takes s) o n in
-    let is_site : Site job.worker.at.home.now job.site.catalog.workload.now job.site.catalog.shared.now job.site.objects.now job.site.catalog.numbers.now =
-    subst (λ n. Site job.worker.at.home.now job.site.catalog.workload.now job.site.catalog.shared.now job.site.objects.now n) (sym site.3)
-    (subst (λ o. Site job.worker.at.home.now job.site.catalog.workload.now job.site.catalog.shared.now o c.args.numbers.now) (sym site.2)
-    (subst (λ s. Site job.worker.at.home.now job.site.catalog.workload.now s objects c.args.numbers.now) (sym site.1)
-    (subst (λ p. Site job.worker.at.home.now p shared objects c.args.numbers.now) (sym site.0)
-    (subst (λ h. Site h plan shared objects c.args.numbers.now) (sym at.0) c.requires.site)))) in
-    let room : length (get_or plan.scripts k []) ≤ job.replies.room = subst (λ s. length s ≤ job.replies.room) by_place replies.1 in
-    let rooms_len : vec_len job.rooms ≡ length job.rooms.items = search rules in
-    let enough : ranges_in_calls (get_or plan.scripts k []) ≤ length job.rooms.items = subst (λ n. ranges_in_calls (get_or plan.scripts k []) ≤ n) rooms_len (subst (λ s. ranges_in_calls s ≤ vec_len job.rooms) by_place rooms.1) in
-    let ready = ready_at mark.at mark.own mark.front home plan objects rows c.args.callers.items c.requires.rows c.requires.callers c.requires.unused c.requires.spare k job.passes.items job.caller job.replies job.rooms.items at_row at_caller few replies.0 room rooms.0 enough in
-    let Ready : g.row.S-Mark-Home.Denot → Plan → List (AnyObject g.row.S-Mark.Denot g.row.S-Mark-Home.Denot) → ℕ → Type 0 = λ h p o n. IsReady mark.at mark.own mark.front h p o n job.passes.items job.caller job.replies job.rooms.items in
-    let is_ready : Ready job.worker.at.home.now job.site.catalog.workload.now job.site.objects.now job.worker.number =
-    subst (λ n. Ready job.worker.at.home.now job.site.catalog.workload.now job.site.objects.now n) (sym number)
-    (subst (λ o. Ready job.worker.at.home.now job.site.catalog.workload.now o k) (sym site.2)
-    (subst (λ p. Ready job.worker.at.home.now p objects k) (sym site.0)
-    (subst (λ h. Ready h plan objects k) (sym at.0) ready))) in
-    (is_site, ap (λ (p : Plan). p.workers) site.0 ∙ sym at.1, ap g.S.Shared.home_of site.1 ∙ sym at.0, is_ready)
+    let is_site : Site job.worker.at.home.now job.site.now.catalog.workload.now job.site.now.catalog.shared.now job.site.now.objects.now job.site.now.catalog.numbers.now =
+    subst (λ n. Site job.worker.at.home.now job.site.now.catalog.workload.now job.site.now.catalog.shared.now job.site.now.objects.now n) (sym numbers_is)
+    (subst (λ o. Site job.worker.at.home.now job.site.now.catalog.workload.now job.site.now.catalog.shared.now o c.args.numbers.now) (sym objects_is)
+    (subst (λ s. Site job.worker.at.home.now job.site.now.catalog.workload.now s objects c.args.numbers.now) (sym shared_is)
+    (subst (λ p. Site job.worker.at.home.now p shared objects c.args.numbers.now) (sym plan_is)
+    (subst (λ h. Site h plan shared objects c.args.numbers.now) (sym each.1) c.requires.site)))) in
+    let room = subst (λ s. HasRoom (length (keys_in plan.scripts)) s job.room.replies job.room.pairs.items) by_place each.3 in
+    let ready = ready_at mark.at mark.own mark.front home plan objects rows c.args.callers.items c.requires.rows c.requires.callers c.requires.unused c.requires.spare k job.passes.items job.caller job.room.replies job.room.pairs.items at_row at_caller few room in
+    let Ready : g.row.S-Mark-Home.Denot → Plan → List (AnyObject g.row.S-Mark.Denot g.row.S-Mark-Home.Denot) → ℕ → Type 0 = λ h p o n. IsReady mark.at mark.own mark.front h p o n job.passes.items job.caller job.room.replies job.room.pairs.items in
+    let is_ready : Ready job.worker.at.home.now job.site.now.catalog.workload.now job.site.now.objects.now job.worker.number =
+    subst (λ n. Ready job.worker.at.home.now job.site.now.catalog.workload.now job.site.now.objects.now n) (sym number)
+    (subst (λ o. Ready job.worker.at.home.now job.site.now.catalog.workload.now o k) (sym objects_is)
+    (subst (λ p. Ready job.worker.at.home.now p objects k) (sym plan_is)
+    (subst (λ h. Ready h plan objects k) (sym each.1) ready))) in
+    (is_site, ap (λ (p : Plan). p.workers) plan_is ∙ sym each.2, ap g.S.Shared.home_of shared_is ∙ sym each.1, is_ready)
 
 pub gather-requires-clause-room : goal.gather-requires-clause-room
 gather-requires-clause-room g c =
@@ -85,12 +85,11 @@ returns-in-Done-clause-gone g c =
     (λ k job o found it.
     let low = slice_get_within jobs k job found in
     let is : get_or jobs k job ≡ job = get_or_from_slice_get jobs k job job found in
-    let site = made.site k job low in
-    let at = made.at k job low in
+    let each = made.each k job low in
     let Gone-by : g.row.S-Mark-Home.Denot → Plan → List (AnyObject g.row.S-Mark.Denot g.row.S-Mark-Home.Denot) → Type 0 = λ h p b. HasGone mark.at mark.own mark.front h p b job.worker.number job.passes.items job.caller o.passes.items o.caller o.replies in
-    subst (λ h. Gone-by h plan objects) (sym (ap (λ j. j.worker.at.home.now) is) ∙ at.0)
-    (subst (λ p. Gone-by job.worker.at.home.now p objects) (sym (ap (λ j. j.site.catalog.workload.now) is) ∙ site.0)
-    (subst (λ b. Gone-by job.worker.at.home.now job.site.catalog.workload.now b) (sym (ap (λ j. j.site.objects.now) is) ∙ site.2) it))) in
+    subst (λ h. Gone-by h plan objects) (sym (ap (λ j. j.worker.at.home.now) is) ∙ each.1)
+    (subst (λ p. Gone-by job.worker.at.home.now p objects) (sym (ap (λ j. j.site.now.catalog.workload.now) is) ∙ ap (λ s. s.catalog.workload.now) each.0)
+    (subst (λ b. Gone-by job.worker.at.home.now job.site.now.catalog.workload.now b) (sym (ap (λ j. j.site.now.objects.now) is) ∙ ap (λ s. s.objects.now) each.0) it))) in
     let passes_now = map (λ o. o.passes.items) gone in
     let callers_now = map (λ o. o.caller) gone in
     let replies_now = map (λ o. o.replies) gone in
