@@ -37,7 +37,7 @@ loop-caller-preserved g c =
       callers = mapped_more (λ job. job.caller) _ _ _ _ _ items before.callers refl ∙ sym (map_push (λ pair. pair.0) c.loop-caller.yielded (c.in-Some.caller, c.in-Some.passes));
       passes = mapped_more (λ job. job.passes.items) _ _ _ _ _ items before.passes refl ∙ sym (map_push (λ pair. pair.1.items) c.loop-caller.yielded (c.in-Some.caller, c.in-Some.passes));
       each = all_more (λ job. (job.site.now ≡ c.args.site.now) × (job.worker.at.home.now ≡ g.S.Shared.home_of c.args.site.now.catalog.shared.now) × (job.worker.workers ≡ plan.workers) × HasRoom (length (keys_in plan.scripts)) (get_or plan.scripts job.worker.number []) job.room.replies job.room.pairs.items) _ _ _ items before.each
-          (refl, c.home.ensures, c.workers-workers.ensures.workers, room);
+          (refl, c.home-home.ensures, c.workers-workers.ensures.workers, room);
       capacity = search rules;
     }
 
