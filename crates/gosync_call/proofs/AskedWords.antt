@@ -1,5 +1,5 @@
 -- What words ask for, and what they don't ask for then.
-use Rattle.std.proofs.Common.{◌≡◌, ◌∙◌, ◌<◌, ◌^◌, ℕ, zero, suc, true, List, [], ◌∷◌, length, get_or, Option, Some, None, inl, inr, refl, sym, ap, subst, arith}
+use Rattle.std.proofs.Common.{◌≡◌, ◌⊎◌, ◌∙◌, ◌<◌, ◌^◌, ℕ, zero, suc, true, List, [], ◌∷◌, length, get_or, Option, Some, None, inl, inr, refl, sym, ap, subst, arith}
 use Rattle.std.specs.Fmt.{decimal}
 use Rattle.std.proofs.lemmas.Fmt.{decimal_digit, decimal_nonempty, first_decimal}
 use Rattle.std.proofs.lemmas.Bool.Decides.{nat_tests}
@@ -51,6 +51,11 @@ no_file_refused words mode file (inr make) ask = none_is_some (mode, file) (sym 
 pub no_seed_refused : (words : List (List ℕ)) (seed : ℕ) → AreRefused words → AskToMake words seed → ⊥
 no_seed_refused words seed (inl none) ask = nothing_is_found (subcommands.Make, ask.0) (sym none ∙ ask.1)
 no_seed_refused words seed (inr make) ask = none_is_seed seed (sym make.2 ∙ ap seed_of (same_text words make.0 ask.0 make.1 ask.1) ∙ ask.2)
+
+-- words that ask to run a file aren't refused, and ask to make no workload
+pub names_a_file : (words : List (List ℕ)) (mode : Mode) (file : List ℕ) → AskFor words mode file → AreRefused words ⊎ ((seed : ℕ) × AskToMake words seed) → ⊥
+names_a_file words mode file ask (inl refused) = no_file_refused words mode file refused ask
+names_a_file words mode file ask (inr make) = not_both words make.0 mode file make.1 ask
 
 -- a number stands for itself as an argument
 argument_from : (digits : List ℕ) → 0 < length digits → 45 < get_or digits 0 0 → is_argument digits ≡ true

@@ -91,6 +91,17 @@ pub run_taken : (plan : Plan) → (fronts.Run plan ≡ fronts.Ended statuses.Usa
 run_taken plan (inl is) = run_no_ended plan statuses.Usage is
 run_taken plan (inr is) = run_no_ended plan (statuses.Unread unreads.Memory) is
 
+pub make_taken : (seed : ℕ) → (fronts.Make seed ≡ fronts.Ended statuses.Usage) ⊎ (fronts.Make seed ≡ fronts.Ended (statuses.Unread unreads.Memory)) → ⊥
+make_taken seed (inl is) = ended_no_make statuses.Usage seed (sym is)
+make_taken seed (inr is) = ended_no_make (statuses.Unread unreads.Memory) seed (sym is)
+
+-- nor were the words refused
+pub run_unasked : (words : List (List ℕ)) (plan : Plan) → (AreRefused words → (fronts.Run plan ≡ fronts.Ended statuses.Usage) ⊎ (fronts.Run plan ≡ fronts.Ended (statuses.Unread unreads.Memory)))
+    → ((seed : ℕ) → AskToMake words seed → (fronts.Run plan ≡ fronts.Make seed) ⊎ (fronts.Run plan ≡ fronts.Ended (statuses.Unread unreads.Memory)))
+    → AreRefused words ⊎ ((seed : ℕ) × AskToMake words seed) → ⊥
+run_unasked words plan taken unmade (inl refused) = run_taken plan (taken refused)
+run_unasked words plan taken unmade (inr make) = run_unmade plan make.0 (unmade make.0 make.1)
+
 module _ (words : List (List ℕ)) where
   seeded : (text : List ℕ) → matched words ≡ Some (subcommands.Make, text) → (found : Option ℕ) → seed_of text ≡ found → ((seed : ℕ) × AskToMake words seed) ⊎ AreRefused words
   seeded text is None none = inr (inr (text, is, none))

@@ -9,4 +9,5 @@ pub mod Runs
 pub mod Seeds
 pub mod Shown
 pub mod Statuses
+pub mod WriteCounts
 pub mod Writing

@@ -9,7 +9,7 @@ use Rattle.std.proofs.Math.Dec.{ltb}
 use Rattle.std.proofs.lemmas.Bool.{eqb-true, lt-ltb, ltb-true, cases_lt}
 use Rattle.workload.specs.Plan.{Plan, is_valid}
 use Rattle.workload_text.specs.ReportLines.{completed_line}
-use Rattle.gosync_call.specs.ReportText.{calls_text, workers_text}
+use Rattle.gosync_call.specs.ReportText.{calls_text, completed_in, workers_text, completed_in_all}
 
 -- no replies are left
 pub workers_none : (plan : Plan) (worker : ℕ) (scripts : List (List Call)) (replies : List (List (Reply ℕ))) → replies ≡ [] → workers_text plan worker scripts replies ≡ []
@@ -41,6 +41,27 @@ pub workers_next : (plan : Plan) (i : ℕ) (replies : List (List (Reply ℕ))) (
 workers_next plan i replies completed below some same =
     ap (λ (ss : List (List Call)). workers_text plan i ss (drop i replies)) (drop_item plan.scripts i [] below)
     ∙ ap (λ (rs : List (List (Reply ℕ))). workers_text plan i (get_or plan.scripts i [] ∷ drop (i + 1) plan.scripts) rs) (drop_at replies i completed (ltb-true i (length replies) some) same)
+
+pub calls_one_line : (i : ℕ) (script : List Call) (replies : List (Reply ℕ)) (call : Call) (reply : Reply ℕ)
+    → i < length script → call ≡ get_or script i call → ltb i (length replies) ≡ true → reply ≡ get_or replies i reply
+    → completed_in (drop i script) (drop i replies) ≡ suc (completed_in (drop (i + 1) script) (drop (i + 1) replies))
+calls_one_line i script replies call reply made is some same =
+    ap (λ (cs : List Call). completed_in cs (drop i replies)) (drop_at script i call made is)
+    ∙ ap (λ (rs : List (Reply ℕ)). completed_in (call ∷ drop (i + 1) script) rs) (drop_at replies i reply (ltb-true i (length replies) some) same)
+
+pub workers_no_lines : (scripts : List (List Call)) (replies : List (List (Reply ℕ))) → replies ≡ [] → completed_in_all scripts replies ≡ 0
+workers_no_lines scripts replies e = ap (completed_in_all scripts) e ∙ none scripts
+  where
+    none : (ss : List (List Call)) → completed_in_all ss [] ≡ 0
+    none [] = refl
+    none (s ∷ ss) = refl
+
+pub workers_more_lines : (i : ℕ) (scripts : List (List Call)) (replies : List (List (Reply ℕ))) (completed : List (Reply ℕ))
+    → i < length scripts → ltb i (length replies) ≡ true → completed ≡ get_or replies i completed
+    → completed_in_all (drop i scripts) (drop i replies) ≡ completed_in (get_or scripts i []) completed + completed_in_all (drop (i + 1) scripts) (drop (i + 1) replies)
+workers_more_lines i scripts replies completed below some same =
+    ap (λ (ss : List (List Call)). completed_in_all ss (drop i replies)) (drop_item scripts i [] below)
+    ∙ ap (λ (rs : List (List (Reply ℕ))). completed_in_all (get_or scripts i [] ∷ drop (i + 1) scripts) rs) (drop_at replies i completed (ltb-true i (length replies) some) same)
 
 and_left : (a b : Bool) → (a && b) ≡ true → a ≡ true
 and_left true b e = refl

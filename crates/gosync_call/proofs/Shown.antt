@@ -12,7 +12,7 @@ use Rattle.script_calls.specs.declared.call.Reply.{Reply}
 use Rattle.sync_types.specs.declared.end.End.{End}
 use Rattle.workload.specs.Plan.{Plan}
 use Rattle.workload_text.specs.ReportLines.{completed_line, end_line}
-use Rattle.gosync_call.specs.ReportText.{calls_text, ends_text, workers_text}
+use Rattle.gosync_call.specs.ReportText.{calls_text, completed_in, completed_in_all, ends_text, workers_text}
 use Rattle.gosync_call.specs.Shown.{AreReplies, Shows}
 
 slice_get_left : {X : Type 0} (xs ys : List X) (k : ℕ) (x : X) → slice_get xs k ≡ Some x → slice_get (xs ++ ys) k ≡ Some x
@@ -25,6 +25,24 @@ slice_get_right [] ys k = ap (slice_get ys) (omega arith)
 slice_get_right (x ∷ xs) ys k =
     let later : suc (length xs + k) ≡ suc (length xs) + k = omega arith in
     subst (λ (n : ℕ). slice_get (x ∷ (xs ++ ys)) n ≡ slice_get ys k) later (slice_get_right xs ys k)
+
+completed_of : (calls : List Call) (replies : List (Reply ℕ)) → length replies ≤ length calls → completed_in calls replies ≡ length replies
+completed_of (call ∷ calls) (reply ∷ replies) within = ap (λ (n : ℕ). suc n) (completed_of calls replies (omega arith))
+completed_of [] replies within = omega arith
+completed_of (call ∷ calls) [] within = refl
+
+-- each reply is of a call that completed
+pub completed : (scripts : List (List Call)) (replies : List (List (Reply ℕ))) → AreReplies scripts replies → completed_in_all scripts replies ≡ sum_by length replies
+completed (script ∷ scripts) (replies ∷ rest) within =
+    ap (λ (n : ℕ). n + completed_in_all scripts rest) (completed_of script replies (within 0))
+    ∙ ap (λ (n : ℕ). length replies + n) (completed scripts rest (λ w. within (suc w)))
+    ∙ sym (sum_by-cons (λ (r : List (Reply ℕ)). length r) replies rest)
+completed [] [] within = refl
+completed [] (replies ∷ rest) within =
+    let none : 0 ≡ length replies = omega (arith, within 0) in
+    let later = completed [] rest (λ w. within (suc w)) in
+    omega (arith, later, sum_by-cons (λ (r : List (Reply ℕ)). length r) replies rest)
+completed (script ∷ scripts) [] within = refl
 
 module _ (plan : Plan) where
   abbrev calls_lines : ℕ → ℕ → List Call → List (Reply ℕ) → List (List ℕ)

@@ -8,3 +8,4 @@ pub mod MadeText
 pub mod Messages
 pub mod ReportText
 pub mod Shown
+pub mod Writes

@@ -1,5 +1,5 @@
 -- The report: a line for each completed call, worker by worker, and then, where every script has ended, a line for each value that an object holds.
-use Rattle.std.specs.Prelude.{ℕ, ◌+◌, List, [], ◌∷◌, ◌++◌}
+use Rattle.std.specs.Prelude.{ℕ, suc, ◌+◌, List, [], ◌∷◌, ◌++◌, length}
 use Rattle.std.specs.List.{flat_map}
 use Rattle.script_calls.specs.declared.call.Call.{Call}
 use Rattle.script_calls.specs.declared.call.Reply.{Reply}
@@ -34,3 +34,19 @@ outcome_ends (outcomes.Deadlocked left) = []
 -- the report of what a run of a workload came to
 abbrev pub report_text : Plan → Outcome → List ℕ
 report_text plan outcome = workers_text plan 0 plan.scripts (left_by outcome).replies ++ ends_text plan (outcome_ends outcome)
+
+-- how many calls of a script completed: as many as there are replies
+abbrev pub completed_in : List Call → List (Reply ℕ) → ℕ
+completed_in (call ∷ calls) (reply ∷ replies) = suc (completed_in calls replies)
+completed_in [] replies = 0
+completed_in (call ∷ calls) [] = 0
+
+-- and of all scripts
+abbrev pub completed_in_all : List (List Call) → List (List (Reply ℕ)) → ℕ
+completed_in_all (script ∷ scripts) (replies ∷ rest) = completed_in script replies + completed_in_all scripts rest
+completed_in_all [] replies = 0
+completed_in_all (script ∷ scripts) [] = 0
+
+-- how many lines the report has: one for each of these, and for each value that an object holds at the end
+abbrev pub report_lines : Plan → Outcome → ℕ
+report_lines plan outcome = completed_in_all plan.scripts (left_by outcome).replies + length (outcome_ends outcome)

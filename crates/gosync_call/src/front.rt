@@ -54,6 +54,10 @@ pub fn front<S: Sources, O: Sink, E: Sink>(
     ensures made { (seed : ℕ) → result ≡ fronts.Make seed → AskToMake (map string_bytes words.now) seed }
     ensures unwritten { ((file : List ℕ) → ¬ AskFor (map string_bytes words.now) modes.Step file) → (O.contents out.new ≡ O.contents out.old) × (O.faults out.new ≡ O.faults out.old) }
 
+    // Where no file is named nothing is read, and where words are refused nothing is written.
+    ensures unread { AreRefused (map string_bytes words.now) ⊎ ((seed : ℕ) × AskToMake (map string_bytes words.now) seed) → src.new ≡ src.old }
+    ensures unasked { AreRefused (map string_bytes words.now) → out.new ≡ out.old }
+
     // What is told of a file is told of all its bytes.
     ensures whole { (mode : Mode) (file : List ℕ) → AskFor (map string_bytes words.now) mode file → IsLeftOfAllBytes result → IsWhollyRead (S.contents src.old file) (S.remaining src.new) }
 

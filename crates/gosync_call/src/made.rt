@@ -4,6 +4,7 @@ ghost use Rattle.sync_outside.specs.Bytes.{Appends, AppendsFront};
 ghost use Rattle.sync_outside.specs.Faults.{Rose};
 ghost use Rattle.made_workload.specs.Summary.{numbered};
 ghost use Rattle.gosync_call.specs.MadeText.{are_short, lines_of, totals_text};
+ghost use Rattle.gosync_call.specs.Writes.{Wrote, WroteUpTo};
 
 use itoa::Buffer;
 use made_workload::Totals;
@@ -37,6 +38,8 @@ fn write_lines<O: Sink>(
     requires room { TOTAL_ROOM ≤ vec_capacity line.old }
     ensures ok { OnOk result (Appends (O.contents out.old) (O.contents out.new) (lines_of entries.now)) }
     ensures err { OnErr result (AppendsFront (O.contents out.old) (O.contents out.new) (lines_of entries.now)) }
+    ensures writes { OnOk result (Wrote (O.writes out.old) (O.writes out.new) (length entries.now)) }
+    ensures cut { OnErr result (WroteUpTo (O.writes out.old) (O.writes out.new) (length entries.now)) }
     ensures failed { OnErr result (Rose (O.faults out.old) (O.faults out.new)) }
     ensures faults { O.faults out.old ≤ O.faults out.new }
 {
@@ -53,6 +56,8 @@ pub fn write_totals<O: Sink>(totals: &Totals, line: &mut Vec<u8>, out: &mut O) -
     requires room { TOTAL_ROOM ≤ vec_capacity line.old }
     ensures ok { OnOk result (Appends (O.contents out.old) (O.contents out.new) (totals_text totals.now)) }
     ensures err { OnErr result (AppendsFront (O.contents out.old) (O.contents out.new) (totals_text totals.now)) }
+    ensures writes { OnOk result (Wrote (O.writes out.old) (O.writes out.new) 5) }
+    ensures cut { OnErr result (WroteUpTo (O.writes out.old) (O.writes out.new) 5) }
     ensures failed { OnErr result (Rose (O.faults out.old) (O.faults out.new)) }
     ensures faults { O.faults out.old ≤ O.faults out.new }
 {

@@ -65,7 +65,8 @@ pub fn gosync<
     // What the words ask for.
     ensures usage { result ≡ statuses.Usage → AreRefused (map string_bytes words.now) }
     ensures refused_words { AreRefused (map string_bytes words.now) → (result ≡ statuses.Usage) ⊎ (result ≡ statuses.Unread unreads.Memory) }
-    ensures unasked { result ≡ statuses.Usage → O.contents out.new ≡ O.contents out.old }
+    ensures unasked { AreRefused (map string_bytes words.now) → out.new ≡ out.old }
+    ensures unread { AreRefused (map string_bytes words.now) ⊎ ((seed : ℕ) × AskToMake (map string_bytes words.now) seed) → src.new ≡ src.old }
 
     // A run with threads had a job for each worker, in one start of all; nothing else starts a thread.
     ensures jobs { (file : List ℕ) → AskFor (map string_bytes words.now) modes.Run file → ComesTo (RunsInJobs (P.ran spawner.old) (P.ran spawner.new)) (S.contents src.old file) (O.contents out.old) (O.contents out.new) result }

@@ -1,5 +1,5 @@
 //! The report of a run.
-ghost use Rattle.std.specs.Prelude.{◌≡◌, ◌≤◌, ◌<◌, true, [], get_or, vec_capacity, MatchResult, OnOk, OnErr};
+ghost use Rattle.std.specs.Prelude.{◌≡◌, ◌≤◌, ◌<◌, true, [], length, get_or, vec_capacity, MatchResult, OnOk, OnErr};
 ghost use Rattle.std.specs.List.{list_all};
 ghost use Rattle.sync_outside.specs.Bytes.{Appends, AppendsFront};
 ghost use Rattle.sync_outside.specs.Faults.{Rose};
@@ -7,7 +7,8 @@ ghost use Rattle.workload.specs.declared.limits.TheConstants.{MAX_KEYS};
 ghost use Rattle.script_calls.specs.Outcome.{has_pairs_to, shows_to};
 ghost use Rattle.gosync_call.specs.Messages.{ending_of};
 ghost use Rattle.gosync_call.specs.declared.status.Fault.TheVariants as faults;
-ghost use Rattle.gosync_call.specs.ReportText.{calls_text, workers_text, ends_text, report_text};
+ghost use Rattle.gosync_call.specs.ReportText.{calls_text, completed_in, workers_text, completed_in_all, ends_text, report_text, report_lines};
+ghost use Rattle.gosync_call.specs.Writes.{Wrote, WroteUpTo};
 
 use crate::status::{Ending, Fault};
 use script_calls::{Outcome, Reply};
@@ -29,6 +30,8 @@ fn write_calls<O: Sink>(
     requires room { LINE_ROOM ≤ vec_capacity line.old }
     ensures ok { OnOk result (Appends (O.contents out.old) (O.contents out.new) (calls_text workload.now worker 0 (get_or workload.now.scripts worker []) replies.now)) }
     ensures err { OnErr result (AppendsFront (O.contents out.old) (O.contents out.new) (calls_text workload.now worker 0 (get_or workload.now.scripts worker []) replies.now)) }
+    ensures writes { OnOk result (Wrote (O.writes out.old) (O.writes out.new) (completed_in (get_or workload.now.scripts worker []) replies.now)) }
+    ensures cut { OnErr result (WroteUpTo (O.writes out.old) (O.writes out.new) (completed_in (get_or workload.now.scripts worker []) replies.now)) }
     ensures failed { OnErr result (Rose (O.faults out.old) (O.faults out.new)) }
     ensures faults { O.faults out.old ≤ O.faults out.new }
     ensures room { LINE_ROOM ≤ vec_capacity line.new }
@@ -55,6 +58,8 @@ fn write_workers<O: Sink>(
     requires room { LINE_ROOM ≤ vec_capacity line.old }
     ensures ok { OnOk result (Appends (O.contents out.old) (O.contents out.new) (workers_text workload.now 0 workload.now.scripts replies.now)) }
     ensures err { OnErr result (AppendsFront (O.contents out.old) (O.contents out.new) (workers_text workload.now 0 workload.now.scripts replies.now)) }
+    ensures writes { OnOk result (Wrote (O.writes out.old) (O.writes out.new) (completed_in_all workload.now.scripts replies.now)) }
+    ensures cut { OnErr result (WroteUpTo (O.writes out.old) (O.writes out.new) (completed_in_all workload.now.scripts replies.now)) }
     ensures failed { OnErr result (Rose (O.faults out.old) (O.faults out.new)) }
     ensures faults { O.faults out.old ≤ O.faults out.new }
     ensures room { LINE_ROOM ≤ vec_capacity line.new }
@@ -78,6 +83,8 @@ fn write_ends<O: Sink>(
     requires room { LINE_ROOM ≤ vec_capacity line.old }
     ensures ok { OnOk result (Appends (O.contents out.old) (O.contents out.new) (ends_text workload.now ends.now)) }
     ensures err { OnErr result (AppendsFront (O.contents out.old) (O.contents out.new) (ends_text workload.now ends.now)) }
+    ensures writes { OnOk result (Wrote (O.writes out.old) (O.writes out.new) (length ends.now)) }
+    ensures cut { OnErr result (WroteUpTo (O.writes out.old) (O.writes out.new) (length ends.now)) }
     ensures failed { OnErr result (Rose (O.faults out.old) (O.faults out.new)) }
     ensures faults { O.faults out.old ≤ O.faults out.new }
     ensures room { LINE_ROOM ≤ vec_capacity line.new }
@@ -104,6 +111,8 @@ pub fn report<O: Sink>(
     requires room { LINE_ROOM ≤ vec_capacity line.old }
     ensures ok { OnOk result (Appends (O.contents out.old) (O.contents out.new) (report_text workload.now outcome.now)) }
     ensures err { OnErr result (AppendsFront (O.contents out.old) (O.contents out.new) (report_text workload.now outcome.now)) }
+    ensures writes { OnOk result (Wrote (O.writes out.old) (O.writes out.new) (report_lines workload.now outcome.now)) }
+    ensures cut { OnErr result (WroteUpTo (O.writes out.old) (O.writes out.new) (report_lines workload.now outcome.now)) }
     ensures failed { OnErr result (Rose (O.faults out.old) (O.faults out.new)) }
     ensures faults { O.faults out.old ≤ O.faults out.new }
     ensures room { LINE_ROOM ≤ vec_capacity line.new }

@@ -1,10 +1,12 @@
 //! What it means that a report was written.
-ghost use Rattle.std.specs.Prelude.{[]};
+ghost use Rattle.std.specs.Prelude.{◌≡◌, ◌+◌, [], length, sum_by};
 ghost use Rattle.sync_types.specs.declared.misuse.Misuse.{Misuse};
+ghost use Rattle.script_calls.specs.Outcome.{left_by};
+ghost use Rattle.script_calls.specs.declared.outcome.Outcome.{Outcome};
 ghost use Rattle.script_calls.specs.declared.outcome.Outcome.TheVariants as outcomes;
 ghost use Rattle.script_calls.specs.declared.outcome.Report.{Report};
 ghost use Rattle.workload.specs.Plan.{Plan};
-ghost use Rattle.gosync_call.specs.ReportText.{report_text};
+ghost use Rattle.gosync_call.specs.ReportText.{outcome_ends, report_lines, report_text};
 ghost use Rattle.gosync_call.specs.Shown.{AreReplies, Shows};
 
 /// A report has one line for each completed call, and behind these, where every script has ended, one for each end; and it has
@@ -13,4 +15,5 @@ pub fn a_report_has_a_line_for_each_call_and_end()
     ensures done { (plan : Plan) (left : Report) → AreReplies plan.scripts left.replies → Shows plan left.replies left.ends (report_text plan (outcomes.Done left)) }
     ensures misused { (plan : Plan) (left : Report) (misuse : Misuse) → AreReplies plan.scripts left.replies → Shows plan left.replies [] (report_text plan (outcomes.Misused left misuse)) }
     ensures deadlocked { (plan : Plan) (left : Report) → AreReplies plan.scripts left.replies → Shows plan left.replies [] (report_text plan (outcomes.Deadlocked left)) }
+    ensures count { (plan : Plan) (outcome : Outcome) → AreReplies plan.scripts (left_by outcome).replies → report_lines plan outcome ≡ sum_by length (left_by outcome).replies + length (outcome_ends outcome) }
 {}

@@ -13,7 +13,7 @@ use Rattle.gosync_call.specs.Headline.{RunsTo, RunsInJobs}
 use Rattle.gosync_call.specs.Input.{ReadFailed}
 use Rattle.sync_outside.specs.Faults.{Rose}
 use Rattle.gosync_call.proofs.AskedWords.{no_file, not_both}
-use Rattle.gosync_call.proofs.Fronts.{asking, asks_run, by_mode, ended_make, ended_makes, ended_no_failed, ended_no_unread, err_of, failed_no_unread, front_comes, refuses, run_is_read, run_no_ended, run_taken, run_unmade, same_fault}
+use Rattle.gosync_call.proofs.Fronts.{asking, asks_run, by_mode, ended_make, ended_makes, ended_no_failed, ended_no_unread, err_of, failed_no_unread, front_comes, make_taken, refuses, run_is_read, run_no_ended, run_taken, run_unasked, run_unmade, same_fault}
 use Rattle.gosync_call.proofs.Runs.{completes, ended_run, ends_by_record, failed_run, fails_by_record, is_read, no_step, says_run, step_comes}
 use Rattle.gosync_call.proofs.program.gosync.Goals as goal
 
@@ -191,6 +191,21 @@ returns-in-Run-clause-cannot_start g c is =
           (λ seed make. run_unmade plan seed (c.in-Run.ensures.make seed make))
           (λ refused. run_taken plan (c.in-Run.ensures.refused refused))),
     )
+
+pub returns-in-Ok-clause-unread : goal.returns-in-Ok-clause-unread
+returns-in-Ok-clause-unread g c other = absurd (run_unasked (map string_bytes c.args.words.now) c.in-Run.workload c.in-Run.ensures.refused c.in-Run.ensures.make other)
+
+pub returns-in-Ok-clause-unasked : goal.returns-in-Ok-clause-unasked
+returns-in-Ok-clause-unasked g c refused = absurd (run_taken c.in-Run.workload (c.in-Run.ensures.refused refused))
+
+pub returns-in-Run-clause-unread : goal.returns-in-Run-clause-unread
+returns-in-Run-clause-unread g c other = absurd (run_unasked (map string_bytes c.args.words.now) c.in-Run.workload c.in-Run.ensures.refused c.in-Run.ensures.make other)
+
+pub returns-in-Run-clause-unasked : goal.returns-in-Run-clause-unasked
+returns-in-Run-clause-unasked g c refused = absurd (run_taken c.in-Run.workload (c.in-Run.ensures.refused refused))
+
+pub returns-clause-unasked : goal.returns-clause-unasked
+returns-clause-unasked g c refused = absurd (make_taken c.in-Make.seed (c.in-Make.ensures.refused refused))
 
 pub returns-clause-headline : goal.returns-clause-headline
 returns-clause-headline g c file asks = absurd (not_both (map string_bytes c.args.words.now) c.in-Make.seed modes.Run file (c.in-Make.ensures.made c.in-Make.seed refl) asks)

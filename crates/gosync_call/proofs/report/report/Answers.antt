@@ -1,7 +1,9 @@
-use Rattle.std.proofs.Common.{ap, subst}
-use Rattle.std.proofs.lemmas.Result.{on_err_weaker}
+use Rattle.std.proofs.Common.{length, ap, subst}
+use Rattle.std.proofs.lemmas.Result.{on_err_weaker, on_ok_weaker}
 use Rattle.sync_outside.specs.Bytes.{Appends, AppendsFront}
-use Rattle.gosync_call.specs.ReportText.{workers_text, ends_text}
+use Rattle.gosync_call.specs.ReportText.{completed_in_all, workers_text, ends_text}
+use Rattle.gosync_call.specs.Writes.{Wrote, WroteUpTo}
+use Rattle.gosync_call.proofs.WriteCounts.{writes_after, writes_both}
 use Rattle.gosync_call.proofs.Writing.{front_after}
 use Rattle.gosync_call.proofs.report.report.Goals as goal
 
@@ -11,3 +13,17 @@ returns-in_ok-write_workers-in-Done-clause-err g c =
     let calls = subst (Appends _ _) (ap (workers_text plan 0 plan.scripts) c.as_slice.ensures) c.in_ok-write_workers-in-Done.ensures.ok in
     let ends = ap (ends_text plan) c.as_slice-in-Done.ensures in
     rw c.in-Done.is (on_err_weaker c.write_ends.result (λ cut. front_after _ _ _ _ _ calls (subst (AppendsFront _ _) ends cut)) c.write_ends.ensures.err)
+
+pub returns-in_ok-write_workers-in-Done-clause-writes : goal.returns-in_ok-write_workers-in-Done-clause-writes
+returns-in_ok-write_workers-in-Done-clause-writes g c =
+    let plan = c.args.workload.now in
+    let calls = subst (Wrote _ _) (ap (completed_in_all plan.scripts) c.as_slice.ensures) c.in_ok-write_workers-in-Done.ensures.writes in
+    let ends = ap length c.as_slice-in-Done.ensures in
+    rw c.in-Done.is (on_ok_weaker c.write_ends.result (λ wrote. writes_both _ _ _ _ _ calls (subst (Wrote _ _) ends wrote)) c.write_ends.ensures.writes)
+
+pub returns-in_ok-write_workers-in-Done-clause-cut : goal.returns-in_ok-write_workers-in-Done-clause-cut
+returns-in_ok-write_workers-in-Done-clause-cut g c =
+    let plan = c.args.workload.now in
+    let calls = subst (Wrote _ _) (ap (completed_in_all plan.scripts) c.as_slice.ensures) c.in_ok-write_workers-in-Done.ensures.writes in
+    let ends = ap length c.as_slice-in-Done.ensures in
+    rw c.in-Done.is (on_err_weaker c.write_ends.result (λ cut. writes_after _ _ _ _ _ calls (subst (WroteUpTo _ _) ends cut)) c.write_ends.ensures.cut)

@@ -1,7 +1,8 @@
 use Rattle.std.proofs.Common.{◌≤◌, drop}
 use Rattle.std.specs.Vec.{vec_capacity}
 use Rattle.workload_text.specs.declared.line.TheConstants.{LINE_ROOM}
-use Rattle.gosync_call.specs.ReportText.{workers_text}
+use Rattle.gosync_call.specs.ReportText.{workers_text, completed_in_all}
+use Rattle.gosync_call.proofs.WriteCounts.{Writing}
 use Rattle.gosync_call.proofs.Writing.{Goes}
 use Rattle.gosync_call.proofs.report.write_workers.Given as goal
 
@@ -10,6 +11,7 @@ invariant-loop-worker g l = record {
   goes : Goes (g.O.Sink.contents l.initial.out) (g.O.Sink.contents l.out)
       (workers_text l.workload 0 l.workload.scripts l.replies)
       (workers_text l.workload l.worker (drop l.worker l.workload.scripts) (drop l.worker l.replies));
+  writes : Writing (g.O.Sink.writes l.initial.out) (g.O.Sink.writes l.out) (completed_in_all l.workload.scripts l.replies) (completed_in_all (drop l.worker l.workload.scripts) (drop l.worker l.replies));
   faults : g.O.Sink.faults l.initial.out ≤ g.O.Sink.faults l.out;
   room : LINE_ROOM ≤ vec_capacity l.line;
 }
