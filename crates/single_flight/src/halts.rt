@@ -1,0 +1,34 @@
+//! Halting a group by a misuse.
+ghost use Rattle.std.specs.Prelude.{◌≡◌};
+ghost use Rattle.sync_model.specs.declared.journal.Deed.TheVariants.{Halt};
+ghost use Rattle.sync_model.specs.Journal.{halt_of};
+ghost use Rattle.ruled_object.specs.Gathered.{SamePasses};
+ghost use Rattle.ruled_object.specs.Passes.{SamePass};
+ghost use Rattle.single_flight.specs.Flights.{FlightJournal, FlightMade, FlightHalts, AreAllPasses, IsPassOf, IsFlightWhole, IsFlightSeen};
+
+use crate::group::{Group, GroupPass};
+use std::sync::Wait;
+use sync_model::Note;
+use sync_types::Misuse;
+
+impl<N: Note> Group<N> {
+    /// Halts the group by a misuse, and wakes all who wait: from then on each call is answered `Halted` with the first
+    /// halt's misuse.
+    pub fn halt<R: Wait>(&self, rt: &R, pass: &mut GroupPass<N>, note: &N, misuse: Misuse)
+        requires pass { IsPassOf self.now pass.old }
+        ensures pass { IsPassOf self.now pass.new × SamePass pass.old pass.new }
+        ensures entry { (e : FlightMade) × FlightHalts self.now pass.old e pass.new × (e.deed ≡ Halt misuse) × (e.front ≡ N.front note.now) }
+    {
+        call_loop::halt(&self.object, rt, pass, note, misuse);
+    }
+
+    /// The misuse of the first halt, and `None` exactly where there was none. It takes all passes, so that no call is under
+    /// way. Afterwards each pass has seen all that was done on the group.
+    pub fn first_halt(&self, passes: &mut [GroupPass<N>]) -> Option<Misuse>
+        requires { AreAllPasses self.now passes.old }
+        ensures passes { AreAllPasses self.now passes.new × SamePasses passes.old passes.new }
+        ensures history { (journal : FlightJournal) × (result ≡ halt_of journal) × IsFlightWhole self.now journal passes.old × IsFlightSeen self.now journal passes.new }
+    {
+        call_loop::first_halt(&self.object, passes)
+    }
+}
