@@ -5,6 +5,8 @@
 #[cfg(test)]
 mod calls;
 #[cfg(test)]
+mod flights;
+#[cfg(test)]
 mod mutex;
 #[cfg(test)]
 mod nodes;
@@ -22,6 +24,8 @@ mod pool;
 mod rows;
 #[cfg(test)]
 mod rw_mutex;
+#[cfg(test)]
+mod semas;
 #[cfg(test)]
 mod streams;
 #[cfg(test)]
