@@ -2,6 +2,7 @@
 //! `pools`, Map and the typed atomics in `maps`, and maps and atomics that take turns in `plain`.
 #![tactic(auto)]
 
+mod flights;
 #[cfg(test)]
 mod made;
 mod maps;
@@ -15,6 +16,7 @@ mod plain;
 mod pools;
 #[cfg(test)]
 mod rw_mutex;
+mod semas;
 #[cfg(test)]
 mod threads;
 mod waits;

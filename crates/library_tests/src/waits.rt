@@ -17,6 +17,6 @@ mod once_setup;
 #[cfg(test)]
 mod once_threads;
 #[cfg(test)]
-mod setup;
+pub(crate) mod setup;
 #[cfg(test)]
 mod wake_ups;

@@ -33,9 +33,13 @@ module _ {N H : Type 0} where
   abbrev pub start_of : Sema N H → SemaState
   start_of sema = object.start_of sema.object
 
+  -- the weight that callers may hold together
+  abbrev pub size_of : Sema N H → ℕ
+  size_of sema = (start_of sema).size
+
   -- a weight that callers may come for: 1 up to its size
   abbrev pub IsWeightOf : Sema N H → ℕ → Type 0
-  IsWeightOf sema weight = (1 ≤ weight) × (weight ≤ (start_of sema).size)
+  IsWeightOf sema weight = (1 ≤ weight) × (weight ≤ size_of sema)
 
   -- it is the home of the note that the sema was made with
   abbrev pub IsHomeOf : (H → N → Type 0) → Sema N H → H → Type 0

@@ -12,7 +12,7 @@ use sync_outside::{At, Clock};
 use sync_types::Misuse;
 
 /// A clock that stands still.
-pub(super) struct NoClock;
+pub(crate) struct NoClock;
 
 impl Clock for NoClock {
     ghost shows = { λ _ _. Unit {0} };
@@ -23,7 +23,7 @@ impl Clock for NoClock {
 }
 
 /// Where the calls of the tests are made.
-pub(super) const HERE: At<'static, FrontNote, NoClock> = At {
+pub(crate) const HERE: At<'static, FrontNote, NoClock> = At {
     home: &(),
     clock: &NoClock,
 };
@@ -36,14 +36,14 @@ pub(super) fn knows(count: u32) -> FrontNote {
 }
 
 /// Gives the others the time to fall asleep. The tests hold however long that takes.
-pub(super) fn pause() {
+pub(crate) fn pause() {
     for _ in 0..5_000 {
         thread::yield_now();
     }
 }
 
 /// Goes on once so many have counted themselves.
-pub(super) fn until<R: Wait>(rt: &R, counted: &AtomicU64, count: u64) {
+pub(crate) fn until<R: Wait>(rt: &R, counted: &AtomicU64, count: u64) {
     for _ in rt.forever() {
         if counted.load(Ordering::SeqCst) == count {
             return;
