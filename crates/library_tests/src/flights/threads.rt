@@ -12,6 +12,7 @@ use sync_model::Answer;
 use sync_types::Misuse;
 
 // How many are about to come, and how often work was done.
+#[derive(Drop)]
 struct Counts {
     come: AtomicU64,
     done: AtomicU64,
