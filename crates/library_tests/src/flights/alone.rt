@@ -15,6 +15,9 @@ fn a_flight_alone_is_not_shared(rt: HostRuntime) -> Result<(), Fail> {
         assert!(rt; flown == Some(Answer::Done((value, false))), "{key}");
     }
     assert!(rt; only.left() == 999_996);
+    only.renew(1);
+    assert!(rt; only.fly(&rt, 7, || -> i64 { 5 }) == Some(Answer::Done((5, false))));
+    assert!(rt; only.fly(&rt, 7, || -> i64 { 5 }).is_none());
     Ok(())
 }
 

@@ -79,6 +79,11 @@ impl<'a> Flyer<'a> {
         }
     }
 
+    /// Makes the pass good for so many calls from now on, 1,000,000 at most.
+    pub(super) fn renew(&mut self, calls: u64) {
+        self.group.renew(&mut self.pass, calls.min(MAX_CALLS));
+    }
+
     pub(super) fn halt<R: Wait>(&mut self, rt: &R, misuse: Misuse) {
         self.group.halt(rt, &mut self.pass, &self.note, misuse);
     }

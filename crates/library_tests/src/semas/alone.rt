@@ -30,6 +30,9 @@ fn calls_are_answered_by_what_is_held(rt: HostRuntime) -> Result<(), Fail> {
         assert!(rt; member.make(&rt, call) == made, "call {number}");
     }
     assert!(rt; member.left() == 999_988);
+    member.renew(1);
+    assert!(rt; member.make(&rt, Call::Release(3)) == Made::Done);
+    assert!(rt; member.make(&rt, Call::Try(1)) == Made::NoCallLeft);
     Ok(())
 }
 

@@ -99,6 +99,11 @@ impl<'a> Member<'a> {
         }
     }
 
+    /// Makes the pass good for so many calls from now on, 1,000,000 at most.
+    pub(super) fn renew(&mut self, calls: u64) {
+        self.sema.renew(&mut self.pass, calls.min(MAX_CALLS));
+    }
+
     /// The misuse that halted the semaphore, where this is its only caller.
     pub(super) fn first_halt(self, alloc: Global) -> Result<Option<Misuse>, AllocError> {
         let Member {
