@@ -1,4 +1,14 @@
 pub mod Adds
 pub mod DocumentedEdges
+pub mod Examples
+pub mod ExamplesCond
+pub mod ExamplesMap
+pub mod ExamplesMutex
+pub mod ExamplesOnce
+pub mod ExamplesOnceFunc
+pub mod ExamplesOnceValue
+pub mod ExamplesPool
+pub mod ExamplesRwMutex
+pub mod ExamplesWaitGroup
 pub mod Locks
 pub mod Owners

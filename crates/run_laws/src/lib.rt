@@ -6,6 +6,7 @@ pub mod adds;
 pub mod edges;
 pub mod endings;
 pub mod ends;
+pub mod examples;
 pub mod locks;
 pub mod owners;
 pub mod replies;
