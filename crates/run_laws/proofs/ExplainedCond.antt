@@ -41,6 +41,7 @@ use Rattle.run_record.specs.Parts.{lifted_deed}
 use Rattle.run_record.specs.Record.{ObjectEntry, journal_of}
 use Rattle.run_laws.specs.Examples.{declared, on, entry}
 use Rattle.run_laws.specs.ExamplesCond.{plan, outcome, locks, unlocks, takes_a_ticket, leaves, signals, notified, notified_too_early}
+use Rattle.run_laws.proofs.Backs.{cond_back, is_cond_back}
 use Rattle.run_laws.proofs.SmallRecords.{IsSmall, is_record, no_parts, whole_line, are_whole, both_ended, quiet_edges}
 use Rattle.run_laws.proofs.Unlifted.{follows_back}
 
@@ -147,20 +148,8 @@ explained = record {
   agrees = (both_ended first second, refl);
 }
 
--- an entry of the cond's journal, read back
-abbrev back : Deed ObjectEvent ObjectReply → Deed NotifyEvent NotifyReply
-back (Event (event.Cond e) (reply.Cond r)) = Event e r
-back (Refused (event.Cond e) misuse) = Refused e misuse
-back (Halt misuse) = Halt misuse
-back deed = Halt UnlockOfUnlockedMutex
-
-is_back : (deed : Deed NotifyEvent NotifyReply) → back (lifted_deed event.Cond reply.Cond deed) ≡ deed
-is_back (Event e r) = refl
-is_back (Refused e misuse) = refl
-is_back (Halt misuse) = refl
-
 pub refused : (other : Outcome) → Explains plan other notified_too_early → ⊥
 refused other explains =
     let is : IsCondJournal 2 (journal_of notified_too_early 2) = explains.lawful.journals 1 (declared 99 (kinds.Cond 0)) refl in
-    let follows = follows_back event.Cond reply.Cond back is_back next notify_releases notify_acquires (start 2) (signals ∷ takes_a_ticket ∷ leaves ∷ []) is in
+    let follows = follows_back event.Cond reply.Cond cond_back is_cond_back next notify_releases notify_acquires (start 2) (signals ∷ takes_a_ticket ∷ leaves ∷ []) is in
     true≢false (ap is_made follows.1.1.0.1)

@@ -33,6 +33,7 @@ use Rattle.run_record.specs.Parts.{lifted_deed}
 use Rattle.run_record.specs.Record.{ObjectEntry, journal_of}
 use Rattle.run_laws.specs.Examples.{declared, on, entry}
 use Rattle.run_laws.specs.ExamplesMutex.{plan, done, outcome, locks, unlocks, one_after_the_other, held_by_two}
+use Rattle.run_laws.proofs.Backs.{mutex_back, is_mutex_back}
 use Rattle.run_laws.proofs.SmallRecords.{IsSmall, is_record, no_parts, whole_line, are_whole, both_ended, quiet_edges}
 use Rattle.run_laws.proofs.Unlifted.{follows_back}
 
@@ -89,20 +90,8 @@ explained = record {
   agrees = (both_ended first second, refl);
 }
 
--- an entry of a mutex's journal, read back
-abbrev back : Deed ObjectEvent ObjectReply → Deed MutexEvent MutexReply
-back (Event (event.Mutex e) (reply.Mutex r)) = Event e r
-back (Refused (event.Mutex e) misuse) = Refused e misuse
-back (Halt misuse) = Halt misuse
-back deed = Halt UnlockOfUnlockedMutex
-
-is_back : (deed : Deed MutexEvent MutexReply) → back (lifted_deed event.Mutex reply.Mutex deed) ≡ deed
-is_back (Event e r) = refl
-is_back (Refused e misuse) = refl
-is_back (Halt misuse) = refl
-
 pub refused : (other : Outcome) → Explains plan other held_by_two → ⊥
 refused other explains =
     let is : IsMutexJournal 2 (journal_of held_by_two 1) = explains.lawful.journals 0 (declared 109 Mutex) refl in
-    let follows = follows_back event.Mutex reply.Mutex back is_back next (λ event reply. releases reply) (λ event reply. acquires reply) (start 2) (locks 0 ∷ locks 1 ∷ unlocks 0 ∷ []) is in
+    let follows = follows_back event.Mutex reply.Mutex mutex_back is_mutex_back next (λ event reply. releases reply) (λ event reply. acquires reply) (start 2) (locks 0 ∷ locks 1 ∷ unlocks 0 ∷ []) is in
     true≢false (ap acquires follows.1.0.1)

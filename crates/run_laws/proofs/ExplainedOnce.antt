@@ -44,6 +44,7 @@ use Rattle.run_record.specs.Record.{ObjectEntry, object_number, journal_of, list
 use Rattle.run_laws.specs.Examples.{declared, on, none_known}
 use Rattle.run_laws.specs.ExamplesOnce.{plan, outcome, adds, added, first_known, both_known, runs, ends, is_told, ran_once, ran_twice}
 use Rattle.run_laws.proofs.OneCallEach.{IsFirst, one_each}
+use Rattle.run_laws.proofs.Backs.{once_back, is_once_back}
 use Rattle.run_laws.proofs.SmallRecords.{none_at, EachFrom, from_at, each_at, IsOfTwo, no_third, whole_line, are_whole, both_ended}
 use Rattle.run_laws.proofs.Unlifted.{follows_back}
 
@@ -215,18 +216,6 @@ explained = record {
   agrees = (both_ended first second, refl);
 }
 
--- an entry of the once's journal, read back
-abbrev back : Deed ObjectEvent ObjectReply → Deed (OnceEvent ℤ) (OnceReply ℤ)
-back (Event (event.Once e) (reply.Once r)) = Event e r
-back (Refused (event.Once e) misuse) = Refused e misuse
-back (Halt misuse) = Halt misuse
-back deed = Halt UnlockOfUnlockedMutex
-
-is_back : (deed : Deed (OnceEvent ℤ) (OnceReply ℤ)) → back (lifted_deed event.Once reply.Once deed) ≡ deed
-is_back (Event e r) = refl
-is_back (Refused e misuse) = refl
-is_back (Halt misuse) = refl
-
 -- whether a caller is to run the function
 abbrev is_run : OnceReply ℤ → Bool
 is_run once_reply.Run = true
@@ -235,5 +224,5 @@ is_run given = false
 pub refused : (other : Outcome) → Explains plan other ran_twice → ⊥
 refused other explains =
     let is : IsOnceJournal 2 (journal_of ran_twice 2) = explains.lawful.journals 1 (declared 111 (kinds.Once 0 (pos 3))) refl in
-    let follows = follows_back event.Once reply.Once back is_back next once_releases once_acquires (start 2) (journal_of ran_twice 2) is in
+    let follows = follows_back event.Once reply.Once once_back is_once_back next once_releases once_acquires (start 2) (journal_of ran_twice 2) is in
     true≢false (ap is_run follows.1.1.0.1)

@@ -31,6 +31,7 @@ use Rattle.run_record.specs.Parts.{lifted_deed}
 use Rattle.run_record.specs.Record.{ObjectEntry, journal_of}
 use Rattle.run_laws.specs.Examples.{declared, on, entry}
 use Rattle.run_laws.specs.ExamplesOnceFunc.{plan, outcome, runs, ends, is_told, ran_once, ran_twice}
+use Rattle.run_laws.proofs.Backs.{once_func_back, is_once_func_back}
 use Rattle.run_laws.proofs.SmallRecords.{IsSmall, is_record, no_parts, whole_line, are_whole, both_ended, quiet_edges}
 use Rattle.run_laws.proofs.Unlifted.{follows_back}
 
@@ -103,18 +104,6 @@ explained = record {
   agrees = (both_ended first second, refl);
 }
 
--- an entry of the function's journal, read back
-abbrev back : Deed ObjectEvent ObjectReply → Deed (OnceEvent ℕ) (OnceReply ℕ)
-back (Event (event.OnceFunc e) (reply.OnceFunc r)) = Event e r
-back (Refused (event.OnceFunc e) misuse) = Refused e misuse
-back (Halt misuse) = Halt misuse
-back deed = Halt UnlockOfUnlockedMutex
-
-is_back : (deed : Deed (OnceEvent ℕ) (OnceReply ℕ)) → back (lifted_deed event.OnceFunc reply.OnceFunc deed) ≡ deed
-is_back (Event e r) = refl
-is_back (Refused e misuse) = refl
-is_back (Halt misuse) = refl
-
 -- whether a caller is to run the function
 abbrev is_run : OnceReply ℕ → Bool
 is_run once_reply.Run = true
@@ -123,5 +112,5 @@ is_run given = false
 pub refused : (other : Outcome) → Explains plan other ran_twice → ⊥
 refused other explains =
     let is : IsOnceFuncJournal 2 (journal_of ran_twice 1) = explains.lawful.journals 0 (declared 102 (kinds.OnceFunc 7)) refl in
-    let follows = follows_back event.OnceFunc reply.OnceFunc back is_back next once_releases once_acquires (start 2) (runs 0 ∷ ends 0 ∷ runs 1 ∷ ends 1 ∷ []) is in
+    let follows = follows_back event.OnceFunc reply.OnceFunc once_func_back is_once_func_back next once_releases once_acquires (start 2) (runs 0 ∷ ends 0 ∷ runs 1 ∷ ends 1 ∷ []) is in
     true≢false (ap is_run follows.1.1.0.1)

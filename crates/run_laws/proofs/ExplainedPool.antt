@@ -36,6 +36,7 @@ use Rattle.run_record.specs.PoolKind.{IsPartJournal}
 use Rattle.run_record.specs.Record.{ObjectEntry, journal_of}
 use Rattle.run_laws.specs.Examples.{declared, on, entry}
 use Rattle.run_laws.specs.ExamplesPool.{plan, outcome, puts, takes, got}
+use Rattle.run_laws.proofs.Backs.{pool_back, is_pool_back}
 use Rattle.run_laws.proofs.SmallRecords.{IsSmall, is_record, whole_line, are_whole, both_ended, quiet_edges}
 use Rattle.run_laws.proofs.Unlifted.{follows_back}
 
@@ -100,18 +101,6 @@ explained = record {
   agrees = (both_ended first [], refl);
 }
 
--- an entry of a part's journal, read back
-abbrev back : Deed ObjectEvent ObjectReply → Deed (PoolEvent ℕ) (PoolReply ℕ)
-back (Event (event.Pool e) (reply.Pool r)) = Event e r
-back (Refused (event.Pool e) misuse) = Refused e misuse
-back (Halt misuse) = Halt misuse
-back deed = Halt UnlockOfUnlockedMutex
-
-is_back : (deed : Deed (PoolEvent ℕ) (PoolReply ℕ)) → back (lifted_deed event.Pool reply.Pool deed) ≡ deed
-is_back (Event e r) = refl
-is_back (Refused e misuse) = refl
-is_back (Halt misuse) = refl
-
 -- the item of a reply
 abbrev item_in : PoolReply ℕ → ℕ
 item_in (pool_reply.Item item) = item
@@ -120,6 +109,6 @@ item_in given = 0
 pub refused : (other : Outcome) → Explains plan other (got 6) → ⊥
 refused other explains =
     let is : IsPartJournal 1 (journal_of (got 6) 2) = explains.lawful.parts 0 0 (declared 112 Pool) refl refl (omega arith) in
-    let follows = follows_back event.Pool reply.Pool back is_back part_next pool_releases pool_acquires (part_start 1) (puts ∷ takes 6 ∷ []) is in
+    let follows = follows_back event.Pool reply.Pool pool_back is_pool_back part_next pool_releases pool_acquires (part_start 1) (puts ∷ takes 6 ∷ []) is in
     let same : 6 ≡ 5 = ap item_in follows.1.0.1 in
     absurd (omega (arith, same))

@@ -34,6 +34,7 @@ use Rattle.run_record.specs.Parts.{lifted_deed}
 use Rattle.run_record.specs.Record.{ObjectEntry, journal_of}
 use Rattle.run_laws.specs.Examples.{declared, on, entry}
 use Rattle.run_laws.specs.ExamplesRwMutex.{plan, done, outcome, reads, read_unlocks, writes, one_after_the_other, beside_a_reader}
+use Rattle.run_laws.proofs.Backs.{rw_mutex_back, is_rw_mutex_back}
 use Rattle.run_laws.proofs.SmallRecords.{IsSmall, is_record, no_parts, whole_line, are_whole, both_ended, quiet_edges}
 use Rattle.run_laws.proofs.Unlifted.{follows_back}
 
@@ -99,20 +100,8 @@ explained = record {
   agrees = (both_ended first second, refl);
 }
 
--- an entry of the mutex's journal, read back
-abbrev back : Deed ObjectEvent ObjectReply → Deed RwEvent RwReply
-back (Event (event.RwMutex e) (reply.RwMutex r)) = Event e r
-back (Refused (event.RwMutex e) misuse) = Refused e misuse
-back (Halt misuse) = Halt misuse
-back deed = Halt UnlockOfUnlockedMutex
-
-is_back : (deed : Deed RwEvent RwReply) → back (lifted_deed event.RwMutex reply.RwMutex deed) ≡ deed
-is_back (Event e r) = refl
-is_back (Refused e misuse) = refl
-is_back (Halt misuse) = refl
-
 pub refused : (other : Outcome) → Explains plan other beside_a_reader → ⊥
 refused other explains =
     let is : IsRwMutexJournal 2 (journal_of beside_a_reader 1) = explains.lawful.journals 0 (declared 119 RwMutex) refl in
-    let follows = follows_back event.RwMutex reply.RwMutex back is_back next (λ event reply. releases reply) (λ event reply. acquires reply) (start 2) (reads ∷ writes ∷ read_unlocks ∷ []) is in
+    let follows = follows_back event.RwMutex reply.RwMutex rw_mutex_back is_rw_mutex_back next (λ event reply. releases reply) (λ event reply. acquires reply) (start 2) (reads ∷ writes ∷ read_unlocks ∷ []) is in
     true≢false (ap acquires follows.1.0.1)

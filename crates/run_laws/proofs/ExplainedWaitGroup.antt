@@ -32,6 +32,7 @@ use Rattle.run_record.specs.Record.{ObjectEntry, journal_of}
 use Rattle.run_record.specs.WaitGroupKind.{IsWaitGroupJournal, group_start}
 use Rattle.run_laws.specs.Examples.{declared, on, entry}
 use Rattle.run_laws.specs.ExamplesWaitGroup.{plan, outcome, is_done, waits, returns_at_zero, returns_at_one}
+use Rattle.run_laws.proofs.Backs.{wait_group_back, is_wait_group_back}
 use Rattle.run_laws.proofs.SmallRecords.{IsSmall, is_record, no_parts, whole_line, are_whole, both_ended, quiet_edges}
 use Rattle.run_laws.proofs.Unlifted.{follows_back}
 
@@ -91,20 +92,8 @@ explained = record {
   agrees = (both_ended first second, refl);
 }
 
--- an entry of the group's journal, read back
-abbrev back : Deed ObjectEvent ObjectReply → Deed GroupEvent GroupReply
-back (Event (event.WaitGroup e) (reply.WaitGroup r)) = Event e r
-back (Refused (event.WaitGroup e) misuse) = Refused e misuse
-back (Halt misuse) = Halt misuse
-back deed = Halt UnlockOfUnlockedMutex
-
-is_back : (deed : Deed GroupEvent GroupReply) → back (lifted_deed event.WaitGroup reply.WaitGroup deed) ≡ deed
-is_back (Event e r) = refl
-is_back (Refused e misuse) = refl
-is_back (Halt misuse) = refl
-
 pub refused : (other : Outcome) → Explains plan other returns_at_one → ⊥
 refused other explains =
     let is : IsWaitGroupJournal 2 1 (journal_of returns_at_one 1) = explains.lawful.journals 0 (declared 103 (WaitGroup 1)) refl in
-    let follows = follows_back event.WaitGroup reply.WaitGroup back is_back next group_releases group_acquires (group_start 2 1) (waits ∷ is_done ∷ []) is in
+    let follows = follows_back event.WaitGroup reply.WaitGroup wait_group_back is_wait_group_back next group_releases group_acquires (group_start 2 1) (waits ∷ is_done ∷ []) is in
     true≢false (ap is_done_by follows.0.1)

@@ -1,7 +1,9 @@
 mod AddItems
 mod AddedUp
 mod AsMany
+mod Backs
 mod ByCaller
+mod CallsOneWay
 mod DoneLines
 mod EachOf
 mod EdgesByAnswer
@@ -15,9 +17,11 @@ mod ExplainedOnceValue
 mod ExplainedPool
 mod ExplainedRwMutex
 mod ExplainedWaitGroup
+mod FrontNumbers
 mod Holders
 mod KeyAtEnd
 mod LineEnds
+mod LinesOneWay
 mod LockLines
 mod LockSteps
 mod LockTurns
@@ -27,6 +31,8 @@ mod NamedKeys
 mod Numbered
 mod OneCallEach
 mod OneKey
+mod OneOutcome
+mod OneWay
 mod Orderly
 mod PlainCalls
 mod Replied

@@ -10,5 +10,7 @@ pub mod ExamplesOnceValue
 pub mod ExamplesPool
 pub mod ExamplesRwMutex
 pub mod ExamplesWaitGroup
+pub mod Known
 pub mod Locks
+pub mod OneSpelling
 pub mod Owners

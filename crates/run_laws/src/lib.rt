@@ -7,6 +7,8 @@ pub mod edges;
 pub mod endings;
 pub mod ends;
 pub mod examples;
+pub mod fronts;
 pub mod locks;
 pub mod owners;
 pub mod replies;
+pub mod spelling;

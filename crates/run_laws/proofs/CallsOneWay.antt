@@ -1,0 +1,195 @@
+-- That the beginning of a list which spells a call is found in one way, kind by kind. A range's reply isn't determined by its items, where keys have one name, so it isn't among them.
+use Rattle.std.proofs.Common.{◌≡◌, ℕ, ℤ, ◌+◌, pos, List, [], ◌∷◌, Option, Some, None, slice_get, refl, sym, ap, ◌∙◌, subst}
+use Rattle.std.specs.Prelude.{Ok}
+use Rattle.std.specs.List.{range_with_len}
+use Rattle.pool_core.specs.declared.pool_event.PoolEvent.{PoolEvent}
+use Rattle.protocols.specs.CondStages.{cond_event, cond_meaning}
+use Rattle.protocols.specs.GroupStages.{group_event, group_meaning}
+use Rattle.protocols.specs.MutexStages.{mutex_event, mutex_meaning}
+use Rattle.protocols.specs.OnceStages.{once_event, once_meaning}
+use Rattle.protocols.specs.PoolStages as protocol
+use Rattle.protocols.specs.RwMutexStages.{rw_event, rw_meaning}
+use Rattle.protocols.specs.declared.cond.CondStage.{CondStage}
+use Rattle.protocols.specs.declared.cond.CondStage.TheVariants as cond_stage
+use Rattle.protocols.specs.declared.mutex.MutexStage.{MutexStage}
+use Rattle.protocols.specs.declared.mutex.MutexStage.TheVariants as on_mutex
+use Rattle.protocols.specs.declared.once.OnceOutcome.{OnceOutcome}
+use Rattle.protocols.specs.declared.once.OnceOutcome.TheVariants as once_outcome
+use Rattle.protocols.specs.declared.once.OnceStage.{OnceStage}
+use Rattle.protocols.specs.declared.once.OnceStage.TheVariants as once_stage
+use Rattle.protocols.specs.declared.pool.PoolOutcome.{PoolOutcome}
+use Rattle.protocols.specs.declared.pool.PoolOutcome.TheVariants as pool_outcome
+use Rattle.protocols.specs.declared.pool.PoolStage.{PoolStage}
+use Rattle.protocols.specs.declared.pool.PoolStage.TheVariants as pool_stage
+use Rattle.protocols.specs.Spelling.{CallAnswer}
+use Rattle.script_calls.specs.declared.call.Call.{Call}
+use Rattle.script_calls.specs.declared.call.Operation.{Operation}
+use Rattle.script_calls.specs.declared.call.Reply.{Reply}
+use Rattle.script_calls.specs.declared.call.Reply.TheVariants as replies
+use Rattle.sync_model.specs.declared.answer.Answer.TheVariants.{Done}
+use Rattle.sync_model.specs.declared.item.SharedCall.TheVariants as shared
+use Rattle.sync_model.specs.declared.item.SharedReply.{SharedReply}
+use Rattle.sync_model.specs.declared.item.SharedReply.TheVariants as answers
+use Rattle.sync_types.specs.declared.atomic_object.AtomicCall.{AtomicCall}
+use Rattle.sync_types.specs.declared.atomic_object.AtomicCall.TheVariants.{Add}
+use Rattle.sync_types.specs.declared.atomic_object.AtomicReply.{AtomicReply}
+use Rattle.sync_types.specs.declared.atomic_object.AtomicReply.TheVariants as atomic_replies
+use Rattle.sync_types.specs.declared.atomic_object.Number.TheVariants.{Int64}
+use Rattle.sync_types.specs.declared.lock_call.MutexCall.{MutexCall}
+use Rattle.sync_types.specs.declared.lock_call.RwMutexCall.{RwMutexCall}
+use Rattle.sync_types.specs.declared.map_object.MapCall.{MapCall}
+use Rattle.sync_types.specs.declared.map_object.MapReply.{MapReply}
+use Rattle.sync_types.specs.declared.map_object.MapReply.TheVariants as map_replies
+use Rattle.sync_types.specs.declared.once_call.DoReply.TheVariants as do_replies
+use Rattle.sync_types.specs.declared.pool_call.PoolCall.{PoolCall}
+use Rattle.sync_types.specs.declared.pool_call.PoolCall.TheVariants as pool_calls
+use Rattle.sync_types.specs.declared.pool_call.PoolCallReply.TheVariants as pool_replies
+use Rattle.sync_types.specs.declared.wait_call.CondCall.{CondCall}
+use Rattle.sync_types.specs.declared.wait_call.CondCall.TheVariants as cond_calls
+use Rattle.sync_types.specs.declared.wait_call.WaitGroupCall.{WaitGroupCall}
+use Rattle.sync_types.specs.Renaming.{renamed_call}
+use Rattle.workload.specs.Keys.{key_number}
+use Rattle.workload.specs.declared.object.ObjectKind.{ObjectKind}
+use Rattle.workload.specs.declared.object.ObjectLine.{ObjectLine}
+use Rattle.workload.specs.Plan.{Plan}
+use Rattle.run_record.specs.declared.entered.ObjectEvent.TheVariants as event
+use Rattle.run_record.specs.declared.entered.ObjectReply.TheVariants as reply
+use Rattle.run_record.specs.AtomicKind.{atomic_call, adds}
+use Rattle.run_record.specs.Calls.{SpellsCall, call_at, call_on}
+use Rattle.run_record.specs.CondKind.{cond_part, wait_part, cond_call}
+use Rattle.run_record.specs.MapKind.{map_call}
+use Rattle.run_record.specs.MutexKind.{mutex_part, mutex_stage, mutex_call}
+use Rattle.run_record.specs.OnceKind.{goes_on_once, once_part, do_call, failure, func_call, value_call}
+use Rattle.run_record.specs.Parts.{Part, and_then, read_as, returns, stages}
+use Rattle.run_record.specs.PoolKind.{pool_part, stage_of, found_or, part_of, found_by, looks_of, swept_by, pool_call}
+use Rattle.run_record.specs.RwMutexKind.{rw_mutex_stage, rw_mutex_call}
+use Rattle.run_record.specs.WaitGroupKind.{wait_group_stage, wait_group_call}
+use Rattle.run_laws.specs.OneSpelling.{IsCertain}
+use Rattle.run_laws.proofs.Backs.{mutex_back, is_mutex_back, rw_mutex_back, is_rw_mutex_back, cond_back, is_cond_back, wait_group_back, is_wait_group_back, once_back, is_once_back, once_func_back, is_once_func_back, once_value_back, is_once_value_back, pool_back, is_pool_back}
+use Rattle.run_laws.proofs.OneWay.{returns_certain, never_certain, read_as_certain, and_then_certain, place_certain, stages_certain}
+
+-- what a placed call answered
+abbrev atomic_in : SharedReply → AtomicReply
+atomic_in (answers.Atomic reply) = reply
+atomic_in reply = atomic_replies.Done
+
+abbrev map_in : SharedReply → MapReply
+map_in (answers.Map reply) = reply
+map_in reply = map_replies.Done
+
+abbrev sum_in : SharedReply → ℤ
+sum_in (answers.Atomic (atomic_replies.Held (Int64 sum))) = sum
+sum_in reply = pos 0
+
+pub atomic_certain : (a : ℕ) (call : AtomicCall) → IsCertain (atomic_call a call)
+atomic_certain a call items other rest more answer given (r, placed, is) (s, also, are) same =
+    let one = place_certain (shared.Atomic a call) (answers.Atomic r) (answers.Atomic s) items other rest more placed also same in
+    (one.0, one.1, is ∙ (ap (λ (t : SharedReply). Done (Ok (replies.Atomic (atomic_in t)))) one.2 ∙ sym are))
+
+pub map_certain : (keys : List (List ℕ)) (m : ℕ) (call : MapCall (List ℕ)) → IsCertain (map_call keys m call)
+map_certain keys m call items other rest more answer given (r, placed, is) (s, also, are) same =
+    let one = place_certain (shared.Map m (renamed_call (key_number keys) call)) (answers.Map r) (answers.Map s) items other rest more placed also same in
+    (one.0, one.1, is ∙ (ap (λ (t : SharedReply). Done (Ok (replies.Map (map_in t)))) one.2 ∙ sym are))
+
+adds_certain : (a : ℕ) (amount : ℤ) → IsCertain (adds a amount)
+adds_certain a amount items other rest more answer given (r, placed, is) (s, also, are) same =
+    let one = place_certain (shared.Atomic a (Add (Int64 amount))) (answers.Atomic (atomic_replies.Held (Int64 r))) (answers.Atomic (atomic_replies.Held (Int64 s))) items other rest more placed also same in
+    (one.0, one.1, is ∙ (ap (λ (t : SharedReply). Done (Ok (sum_in t))) one.2 ∙ sym are))
+
+mutex_part_certain : (object : ℕ) (stage : MutexStage) → IsCertain (mutex_part object stage)
+mutex_part_certain object stage = stages_certain event.Mutex reply.Mutex mutex_back is_mutex_back object mutex_event mutex_meaning stage
+
+pub mutex_certain : (object : ℕ) (call : MutexCall) → IsCertain (mutex_call object call)
+mutex_certain object call = read_as_certain replies.Lock (mutex_part object (mutex_stage call)) (mutex_part_certain object (mutex_stage call))
+
+pub rw_mutex_certain : (object : ℕ) (call : RwMutexCall) → IsCertain (rw_mutex_call object call)
+rw_mutex_certain object call =
+    read_as_certain replies.Lock (stages event.RwMutex reply.RwMutex rw_event rw_meaning object (rw_mutex_stage call)) (stages_certain event.RwMutex reply.RwMutex rw_mutex_back is_rw_mutex_back object rw_event rw_meaning (rw_mutex_stage call))
+
+pub wait_group_certain : (object : ℕ) (call : WaitGroupCall) → IsCertain (wait_group_call object call)
+wait_group_certain object call =
+    read_as_certain (λ done. replies.Returned) (stages event.WaitGroup reply.WaitGroup group_event group_meaning object (wait_group_stage call))
+    (stages_certain event.WaitGroup reply.WaitGroup wait_group_back is_wait_group_back object group_event group_meaning (wait_group_stage call))
+
+cond_part_certain : (object : ℕ) (stage : CondStage) → IsCertain (cond_part object stage)
+cond_part_certain object stage = stages_certain event.Cond reply.Cond cond_back is_cond_back object cond_event cond_meaning stage
+
+-- the parts of a wait behind its ticket, behind its unlock, and behind its leaving
+abbrev locks_again : ℕ → Part (Reply ℕ)
+locks_again mutex = read_as (λ locked. replies.Returned) (mutex_part mutex on_mutex.Lock)
+
+abbrev leaves_and_locks : ℕ → ℕ → Part (Reply ℕ)
+leaves_and_locks object mutex = and_then (cond_part object cond_stage.Leave) (λ left. locks_again mutex)
+
+abbrev unlocks_and_waits : ℕ → ℕ → Part (Reply ℕ)
+unlocks_and_waits object mutex = and_then (mutex_part mutex on_mutex.Unlock) (λ unlocked. leaves_and_locks object mutex)
+
+again_certain : (mutex : ℕ) → IsCertain {O = Reply ℕ} (locks_again mutex)
+again_certain mutex = read_as_certain (λ locked. replies.Returned) (mutex_part mutex on_mutex.Lock) (mutex_part_certain mutex on_mutex.Lock)
+
+leaves_certain : (object mutex : ℕ) → IsCertain {O = Reply ℕ} (leaves_and_locks object mutex)
+leaves_certain object mutex = and_then_certain (cond_part object cond_stage.Leave) (λ left. locks_again mutex) (cond_part_certain object cond_stage.Leave) (λ left. again_certain mutex)
+
+unlocks_certain : (object mutex : ℕ) → IsCertain {O = Reply ℕ} (unlocks_and_waits object mutex)
+unlocks_certain object mutex = and_then_certain (mutex_part mutex on_mutex.Unlock) (λ unlocked. leaves_and_locks object mutex) (mutex_part_certain mutex on_mutex.Unlock) (λ unlocked. leaves_certain object mutex)
+
+pub cond_certain : (object mutex : ℕ) (call : CondCall) → IsCertain {O = Reply ℕ} (cond_call object mutex call)
+cond_certain object mutex cond_calls.Wait = and_then_certain (cond_part object cond_stage.Ticket) (λ ticket. unlocks_and_waits object mutex) (cond_part_certain object cond_stage.Ticket) (λ ticket. unlocks_certain object mutex)
+cond_certain object mutex cond_calls.Signal = read_as_certain (λ done. replies.Returned) (cond_part object cond_stage.Signal) (cond_part_certain object cond_stage.Signal)
+cond_certain object mutex cond_calls.Broadcast = read_as_certain (λ done. replies.Returned) (cond_part object cond_stage.Broadcast) (cond_part_certain object cond_stage.Broadcast)
+
+module _ {T : Type 0} (part : OnceStage T → Part (OnceOutcome T)) (function : Part T) (ran returned : T → Reply ℕ) (parts : (stage : OnceStage T) → IsCertain (part stage)) (runs : IsCertain function) where
+  goes_on_certain : (outcome : OnceOutcome T) → IsCertain (goes_on_once part function ran returned outcome)
+  goes_on_certain once_outcome.Run =
+      and_then_certain function (λ value. read_as (λ ended. ran value) (part (once_stage.End value))) runs (λ value. read_as_certain (λ ended. ran value) (part (once_stage.End value)) (parts (once_stage.End value)))
+  goes_on_certain (once_outcome.Already kept) = returns_certain (returned kept)
+  goes_on_certain once_outcome.Ended = never_certain
+
+  once_part_certain : IsCertain (once_part part function ran returned)
+  once_part_certain = and_then_certain (part once_stage.Begin) (goes_on_once part function ran returned) (parts once_stage.Begin) goes_on_certain
+
+pub do_certain : (object a : ℕ) (amount : ℤ) → IsCertain (do_call object a amount)
+do_certain object a amount =
+    once_part_certain (stages event.Once reply.Once once_event once_meaning object) (adds a amount) (λ sum. replies.Once (do_replies.Ran sum)) (λ kept. replies.Once do_replies.Done)
+    (stages_certain event.Once reply.Once once_back is_once_back object once_event once_meaning) (adds_certain a amount)
+
+pub func_certain : (object code : ℕ) → IsCertain (func_call object code)
+func_certain object code =
+    once_part_certain (stages event.OnceFunc reply.OnceFunc once_event once_meaning object) (returns code) (λ kept. replies.OnceFunc (failure kept)) (λ kept. replies.OnceFunc (failure kept))
+    (stages_certain event.OnceFunc reply.OnceFunc once_func_back is_once_func_back object once_event once_meaning) (returns_certain code)
+
+pub value_certain : (object value : ℕ) → IsCertain (value_call object value)
+value_certain object value =
+    once_part_certain (stages event.OnceValue reply.OnceValue once_event once_meaning object) (returns value) replies.OnceValue replies.OnceValue
+    (stages_certain event.OnceValue reply.OnceValue once_value_back is_once_value_back object once_event once_meaning) (returns_certain value)
+
+pool_part_certain : (object : ℕ) (stage : PoolStage) → IsCertain (pool_part object stage)
+pool_part_certain object stage = stages_certain event.Pool reply.Pool pool_back is_pool_back object protocol.pool_event protocol.pool_meaning stage
+
+found_or_certain : (rest : Part (Reply ℕ)) → IsCertain rest → (outcome : PoolOutcome) → IsCertain (found_or rest outcome)
+found_or_certain rest certain (pool_outcome.Item item) = returns_certain (replies.Pool (pool_replies.Put item))
+found_or_certain rest certain pool_outcome.Nothing = certain
+found_or_certain rest certain pool_outcome.Kept = never_certain
+found_or_certain rest certain (pool_outcome.Dropped item) = never_certain
+found_or_certain rest certain pool_outcome.Swept = never_certain
+
+found_certain : (worker first : ℕ) (looks : List (PoolEvent ℕ)) → IsCertain (found_by worker first looks)
+found_certain worker first [] = returns_certain (replies.Pool pool_replies.New)
+found_certain worker first (look ∷ looks) =
+    and_then_certain (pool_part (first + part_of worker look) (stage_of look)) (found_or (found_by worker first looks)) (pool_part_certain (first + part_of worker look) (stage_of look)) (found_or_certain (found_by worker first looks) (found_certain worker first looks))
+
+swept_certain : (first : ℕ) (parts : List ℕ) → IsCertain (swept_by first parts)
+swept_certain first [] = returns_certain (replies.Pool pool_replies.Done)
+swept_certain first (part ∷ parts) = and_then_certain (pool_part (first + part) pool_stage.Sweep) (λ swept. swept_by first parts) (pool_part_certain (first + part) pool_stage.Sweep) (λ swept. swept_certain first parts)
+
+pub pool_certain : (workers worker first : ℕ) (call : PoolCall) → IsCertain (pool_call workers worker first call)
+pool_certain workers worker first (pool_calls.Put item) = read_as_certain (λ put. replies.Pool pool_replies.Done) (pool_part (first + worker) (pool_stage.Put item)) (pool_part_certain (first + worker) (pool_stage.Put item))
+pool_certain workers worker first pool_calls.Get = found_certain worker first (looks_of workers worker)
+pool_certain workers worker first pool_calls.Sweep = swept_certain first (range_with_len 0 workers)
+
+-- a call on an object that is there, by its kind
+pub certain_on : (plan : Plan) (worker before : ℕ) (call : Call) (object : ObjectLine) (kind : ObjectKind) (operation : Operation)
+    → slice_get plan.objects call.object ≡ Some object → object.kind ≡ kind → call.operation ≡ operation → IsCertain (call_on plan worker before call.object kind operation) → IsCertain (SpellsCall plan worker before call)
+certain_on plan worker before call object kind operation at is asks certain =
+    let there = subst (λ (o : Operation). IsCertain (call_on plan worker before call.object object.kind o)) (sym asks) (subst (λ (k : ObjectKind). IsCertain (call_on plan worker before call.object k operation)) (sym is) certain) in
+    subst (λ (o : Option ObjectLine). IsCertain (call_at plan worker before call.object o call.operation)) (sym at) there

@@ -1,0 +1,157 @@
+-- That a record explains one outcome, where each call is spelt in one way.
+use Rattle.std.proofs.Common.{◌≡◌, ◌≢◌, ℕ, zero, suc, ◌+◌, ◌<◌, Bool, true, false, List, [], ◌∷◌, ◌++◌, map, length, get_or, Some, slice_get, refl, sym, ap, ◌∙◌, subst, append_assoc, append-nil, arith}
+use Rattle.std.specs.Prelude.{All, Ok, Err}
+use Rattle.std.specs.List.{flat_map}
+use Rattle.std.proofs.lemmas.Bool.{false≢true}
+use Rattle.std.proofs.lemmas.Option.{none-some, same_Some}
+use Rattle.protocols.specs.Spelling.{CallAnswer}
+use Rattle.script_calls.specs.declared.call.Call.{Call}
+use Rattle.script_calls.specs.declared.call.Reply.{Reply}
+use Rattle.script_calls.specs.declared.outcome.Outcome.{Outcome}
+use Rattle.script_calls.specs.declared.outcome.Outcome.TheVariants.{Done as DoneWith, Misused, Deadlocked}
+use Rattle.script_calls.specs.declared.outcome.Report.{Report}
+use Rattle.script_calls.specs.Outcome.{left_by}
+use Rattle.sync_model.specs.declared.answer.Answer.TheVariants.{Done, Halted}
+use Rattle.sync_model.specs.Journal.{halt_of}
+use Rattle.sync_types.specs.declared.end.End.{End}
+use Rattle.sync_types.specs.declared.misuse.Misuse.{Misuse}
+use Rattle.workload.specs.Plan.{Plan}
+use Rattle.run_record.specs.declared.made.Made.{Made}
+use Rattle.run_record.specs.declared.made.Made.TheVariants.{Shared, Entered}
+use Rattle.run_record.specs.Calls.{SpellsCall}
+use Rattle.run_record.specs.Explains.{AreLines, IsRecordOf, HasEnded, Explains}
+use Rattle.run_record.specs.Lines.{SpeltCall, LineEnd, whole, misused, halted, unfinished, Line, script_of, items_of, replies_of, AreSpelt, EndsBy, IsLineOf}
+use Rattle.run_record.specs.Record.{Record, stop, journal_of, shared_in}
+use Rattle.run_laws.specs.OneSpelling.{IsCertain, AreCertain}
+use Rattle.run_laws.proofs.OneWay.{tail_of}
+use Rattle.run_laws.proofs.LinesOneWay.{reply_in, same_spelt}
+
+abbrev is_reply : CallAnswer (Reply ℕ) → Bool
+is_reply (Done (Ok reply)) = true
+is_reply (Done (Err misuse)) = false
+is_reply (Halted misuse) = false
+
+shared_append : (xs ys : List Made) → length (shared_in (xs ++ ys)) ≡ length (shared_in xs) + length (shared_in ys)
+shared_append [] ys = omega arith
+shared_append (Shared x ∷ xs) ys = omega (arith, shared_append xs ys)
+shared_append (Entered object entry ∷ xs) ys = shared_append xs ys
+
+abbrev items_in : List SpeltCall → List Made
+items_in spelt = flat_map (λ call. call.items) spelt
+
+abbrev calls_in : List SpeltCall → List Call
+calls_in spelt = map (λ call. call.call) spelt
+
+module _ (plan : Plan) (worker : ℕ) where
+  -- a list that ends before a call doesn't begin with that call
+  cut_short : (before : ℕ) (o : SpeltCall) (calls left : List Call) (last behind : List Made) (ends : LineEnd) → IsCertain (SpellsCall plan worker before o.call) → left ≡ o.call ∷ calls
+      → SpellsCall plan worker before o.call o.items (Done (Ok o.reply)) → EndsBy plan worker before ends left last → HasEnded ends → last ≡ o.items ++ behind → ⊥
+  cut_short before o calls left last behind ends certain is spells cut ended same = by_end ends (subst (λ (l : List Call). EndsBy plan worker before ends l last) is cut) ended where
+    by_end : (ends : LineEnd) → EndsBy plan worker before ends (o.call ∷ calls) last → HasEnded ends → ⊥
+    by_end whole cut ended = absurd (omega (arith, ap (λ (l : List Call). length l) cut.0))
+    by_end (misused misuse) (items, halts, are, spelt, all) ended = false≢true (ap is_reply (certain items o.items halts behind (Done (Err misuse)) (Done (Ok o.reply)) spelt spells (sym are ∙ same)).2)
+    by_end (halted misuse) cut ended = false≢true (ap is_reply (certain last o.items [] behind (Halted misuse) (Done (Ok o.reply)) cut spells (append-nil last ∙ same)).2)
+    by_end unfinished cut ended = ended
+
+  one_line : (before : ℕ) (spelt other : List SpeltCall) (left right : List Call) (last more : List Made) (ends given : LineEnd) → AreCertain plan worker (calls_in spelt ++ left)
+      → calls_in spelt ++ left ≡ calls_in other ++ right → AreSpelt plan worker before spelt → AreSpelt plan worker before other
+      → EndsBy plan worker (before + length (shared_in (items_in spelt))) ends left last → EndsBy plan worker (before + length (shared_in (items_in other))) given right more
+      → HasEnded ends → HasEnded given → items_in spelt ++ last ≡ items_in other ++ more → spelt ≡ other
+  one_line before [] [] left right last more ends given certain script a b at_end at_other ended also same = refl
+  one_line before [] (o ∷ other) left right last more ends given certain script a b at_end at_other ended also same =
+      absurd (cut_short before o (calls_in other ++ right) left last (items_in other ++ more) ends
+      (certain 0 before o.call (ap (λ (l : List Call). slice_get l 0) script)) script b.0
+      (subst (λ (n : ℕ). EndsBy plan worker n ends left last) (omega arith) at_end) ended (same ∙ append_assoc o.items (items_in other) more))
+  one_line before (s ∷ spelt) [] left right last more ends given certain script a b at_end at_other ended also same =
+      absurd (cut_short before s (calls_in spelt ++ left) right more (items_in spelt ++ last) given
+      (certain 0 before s.call refl) (sym script) a.0
+      (subst (λ (n : ℕ). EndsBy plan worker n given right more) (omega arith) at_other) also (sym same ∙ append_assoc s.items (items_in spelt) last))
+  one_line before (s ∷ spelt) (o ∷ other) left right last more ends given certain script a b at_end at_other ended also same =
+      let call : s.call ≡ o.call = ap (λ (l : List Call). get_or l 0 s.call) script in
+      let start : s.items ++ (items_in spelt ++ last) ≡ o.items ++ (items_in other ++ more) =
+      sym (append_assoc s.items (items_in spelt) last) ∙ (same ∙ append_assoc o.items (items_in other) more) in
+      let one = certain 0 before s.call refl s.items o.items (items_in spelt ++ last) (items_in other ++ more) (Done (Ok s.reply)) (Done (Ok o.reply)) a.0
+      (subst (λ (c : Call). SpellsCall plan worker before c o.items (Done (Ok o.reply))) (sym call) b.0) start in
+      let next = before + length (shared_in s.items) in
+      let long : length (shared_in s.items) ≡ length (shared_in o.items) = ap (λ (l : List Made). length (shared_in l)) one.0 in
+      let first_end : EndsBy plan worker (next + length (shared_in (items_in spelt))) ends left last =
+      subst (λ (n : ℕ). EndsBy plan worker n ends left last) (omega (arith, shared_append s.items (items_in spelt))) at_end in
+      let other_end : EndsBy plan worker (next + length (shared_in (items_in other))) given right more =
+      subst (λ (n : ℕ). EndsBy plan worker n given right more) (omega (arith, shared_append o.items (items_in other), long)) at_other in
+      let later = one_line next spelt other left right last more ends given (λ i n c at. certain (suc i) n c at) (ap (λ (l : List Call). tail_of l) script) a.1
+      (subst (λ (l : List Made). AreSpelt plan worker (before + length (shared_in l)) other) (sym one.0) b.1) first_end other_end ended also one.1 in
+      ap (λ (x : SpeltCall). x ∷ spelt) (same_spelt s o call one.0 (ap (reply_in s.reply) one.2)) ∙ ap (λ (xs : List SpeltCall). o ∷ xs) later
+
+  pub same_line : (line other : Line) → AreCertain plan worker (script_of line) → script_of line ≡ script_of other → items_of line ≡ items_of other → IsLineOf plan worker line → IsLineOf plan worker other
+      → HasEnded line.ending → HasEnded other.ending → line.spelt ≡ other.spelt
+  same_line line other certain script items is also ended given =
+      one_line 0 line.spelt other.spelt line.rest other.rest line.last other.last line.ending other.ending certain script is.calls also.calls
+      (subst (λ (n : ℕ). EndsBy plan worker n line.ending line.rest line.last) (omega arith) is.ends) (subst (λ (n : ℕ). EndsBy plan worker n other.ending other.rest other.last) (omega arith) also.ends) ended given items
+
+module _ (plan : Plan) where
+  -- lines of the workers that are numbered so
+  abbrev AreEnded : (ℕ → ℕ) → List Line → Type 0
+  AreEnded worker lines = (i : ℕ) (line : Line) → slice_get lines i ≡ Some line → IsLineOf plan (worker i) line × HasEnded line.ending
+
+  same_replies : (worker : ℕ → ℕ) (lines others : List Line) → map script_of lines ≡ map script_of others → map items_of lines ≡ map items_of others → AreEnded worker lines → AreEnded worker others
+      → ((i : ℕ) (line : Line) → slice_get lines i ≡ Some line → AreCertain plan (worker i) (script_of line)) → map replies_of lines ≡ map replies_of others
+  same_replies worker [] [] scripts items a b certain = refl
+  same_replies worker [] (o ∷ others) scripts items a b certain = absurd (omega (arith, ap (λ (l : List (List Call)). length l) scripts))
+  same_replies worker (l ∷ lines) [] scripts items a b certain = absurd (omega (arith, ap (λ (l : List (List Call)). length l) scripts))
+  same_replies worker (l ∷ lines) (o ∷ others) scripts items a b certain =
+      let script : script_of l ≡ script_of o = ap (λ (s : List (List Call)). get_or s 0 []) scripts in
+      let list : items_of l ≡ items_of o = ap (λ (s : List (List Made)). get_or s 0 []) items in
+      let mine = a 0 l refl in
+      let also = b 0 o refl in
+      let spelt = same_line plan (worker 0) l o (certain 0 l refl) script list mine.0 also.0 mine.1 also.1 in
+      let first : replies_of l ≡ replies_of o = ap (λ (s : List SpeltCall). map (λ call. call.reply) s) spelt in
+      ap (λ (r : List (Reply ℕ)). r ∷ map replies_of lines) first
+      ∙ ap (λ (rs : List (List (Reply ℕ))). replies_of o ∷ rs) (same_replies (λ i. worker (suc i)) lines others (ap (λ (s : List (List Call)). tail_of s) scripts) (ap (λ (s : List (List Made)). tail_of s) items) (λ i line at. a (suc i) line at) (λ i line at. b (suc i) line at) (λ i line at. certain (suc i) line at))
+
+module _ {A : Type 0} where
+  all_at : (P : A → Type 0) (xs : List A) → All P xs → (i : ℕ) (x : A) → slice_get xs i ≡ Some x → P x
+  all_at P [] all i x at = absurd (none-some x at)
+  all_at P (y ∷ xs) all zero x at = subst P (same_Some y x at) (all 0 y (omega arith))
+  all_at P (y ∷ xs) all (suc i) x at = all_at P xs (λ k d less. all (suc k) d (omega (arith, less))) i x at
+
+script_there : (lines : List Line) (i : ℕ) (line : Line) → slice_get lines i ≡ Some line → slice_get (map script_of lines) i ≡ Some (script_of line)
+script_there [] i line at = absurd (none-some line at)
+script_there (l ∷ lines) zero line at = ap (λ (x : Line). Some (script_of x)) (same_Some l line at)
+script_there (l ∷ lines) (suc i) line at = script_there lines i line at
+
+abbrev report_of : List (List (Reply ℕ)) → List End → Report
+report_of replies ends = record { replies = replies; ends = ends }
+
+same_report : (left right : Report) → left.replies ≡ right.replies → left.ends ≡ right.ends → left ≡ right
+same_report left right replies ends = ap (λ (rs : List (List (Reply ℕ))). report_of rs left.ends) replies ∙ ap (λ (es : List End). report_of right.replies es) ends
+
+module _ (plan : Plan) (r : Record) (certain : (worker : ℕ) (script : List Call) → slice_get plan.scripts worker ≡ Some script → AreCertain plan worker script)
+    (done : (left : Report) (explains : Explains plan (DoneWith left) r) (worker : ℕ) (line : Line) (misuse : Misuse) → slice_get explains.lines worker ≡ Some line → line.ending ≢ misused misuse)
+    (met : (lines : List Line) (outcome : Outcome) (misuse : Misuse) → AreLines plan r outcome lines → IsRecordOf plan r → halt_of (journal_of r stop) ≡ Some misuse
+    → (worker : ℕ) × (line : Line) × (slice_get lines worker ≡ Some line) × (line.ending ≡ misused misuse)) where
+  has_ended : (outcome : Outcome) (explains : Explains plan outcome r) (i : ℕ) (line : Line) → slice_get explains.lines i ≡ Some line → HasEnded line.ending
+  has_ended (DoneWith left) explains i line at = subst HasEnded (sym (all_at (λ (l : Line). l.ending ≡ whole) explains.lines explains.agrees.0 i line at)) tt
+  has_ended (Misused left misuse) explains i line at = all_at (λ (l : Line). HasEnded l.ending) explains.lines explains.agrees.0 i line at
+  has_ended (Deadlocked left) explains i line at = absurd explains.agrees
+
+  replies_same : (one other : Outcome) (first : Explains plan one r) (second : Explains plan other r) → (left_by one).replies ≡ (left_by other).replies
+  replies_same one other first second =
+      sym first.are.replies ∙ (same_replies plan (λ i. i) first.lines second.lines (first.are.scripts ∙ sym second.are.scripts) (first.are.lists ∙ sym second.are.lists)
+      (λ i line at. (first.are.each i line at, has_ended one first i line at)) (λ i line at. (second.are.each i line at, has_ended other second i line at))
+      (λ i line at. certain i (script_of line) (ap (λ (l : List (List Call)). slice_get l i) (sym first.are.scripts) ∙ script_there first.lines i line at)) ∙ second.are.replies)
+
+  not_both : (left right : Report) (misuse : Misuse) → Explains plan (DoneWith left) r → Explains plan (Misused right misuse) r → ⊥
+  not_both left right misuse first second =
+      let one = met first.lines (DoneWith left) misuse first.are first.lawful second.agrees.2 in
+      done left first one.0 one.1 misuse one.2 one.3
+
+  pub one_outcome : (one other : Outcome) → Explains plan one r → Explains plan other r → one ≡ other
+  one_outcome (DoneWith left) (DoneWith right) first second = ap DoneWith (same_report left right (replies_same (DoneWith left) (DoneWith right) first second) (first.agrees.1 ∙ sym second.agrees.1))
+  one_outcome (DoneWith left) (Misused right misuse) first second = absurd (not_both left right misuse first second)
+  one_outcome (Misused left misuse) (DoneWith right) first second = absurd (not_both right left misuse second first)
+  one_outcome (Misused left misuse) (Misused right given) first second =
+      let report = same_report left right (replies_same (Misused left misuse) (Misused right given) first second) (first.agrees.1 ∙ sym second.agrees.1) in
+      ap (λ (l : Report). Misused l misuse) report ∙ ap (λ (m : Misuse). Misused right m) (same_Some misuse given (sym first.agrees.2 ∙ second.agrees.2))
+  one_outcome (Deadlocked left) other first second = absurd first.agrees
+  one_outcome (DoneWith left) (Deadlocked right) first second = absurd second.agrees
+  one_outcome (Misused left misuse) (Deadlocked right) first second = absurd second.agrees
