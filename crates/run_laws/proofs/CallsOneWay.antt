@@ -1,5 +1,5 @@
 -- That the beginning of a list which spells a call is found in one way, kind by kind. A range's reply isn't determined by its items, where keys have one name, so it isn't among them.
-use Rattle.std.proofs.Common.{◌≡◌, ℕ, ℤ, ◌+◌, pos, List, [], ◌∷◌, Option, Some, None, slice_get, refl, sym, ap, ◌∙◌, subst}
+use Rattle.std.proofs.Common.{◌≡◌, ℕ, ℤ, ◌+◌, pos, List, [], ◌∷◌, Option, Some, slice_get, sym, ap, ◌∙◌, subst}
 use Rattle.std.specs.Prelude.{Ok}
 use Rattle.std.specs.List.{range_with_len}
 use Rattle.pool_core.specs.declared.pool_event.PoolEvent.{PoolEvent}
@@ -21,7 +21,6 @@ use Rattle.protocols.specs.declared.pool.PoolOutcome.{PoolOutcome}
 use Rattle.protocols.specs.declared.pool.PoolOutcome.TheVariants as pool_outcome
 use Rattle.protocols.specs.declared.pool.PoolStage.{PoolStage}
 use Rattle.protocols.specs.declared.pool.PoolStage.TheVariants as pool_stage
-use Rattle.protocols.specs.Spelling.{CallAnswer}
 use Rattle.script_calls.specs.declared.call.Call.{Call}
 use Rattle.script_calls.specs.declared.call.Operation.{Operation}
 use Rattle.script_calls.specs.declared.call.Reply.{Reply}
@@ -56,7 +55,7 @@ use Rattle.run_record.specs.declared.entered.ObjectEvent.TheVariants as event
 use Rattle.run_record.specs.declared.entered.ObjectReply.TheVariants as reply
 use Rattle.run_record.specs.AtomicKind.{atomic_call, adds}
 use Rattle.run_record.specs.Calls.{SpellsCall, call_at, call_on}
-use Rattle.run_record.specs.CondKind.{cond_part, wait_part, cond_call}
+use Rattle.run_record.specs.CondKind.{cond_part, cond_call}
 use Rattle.run_record.specs.MapKind.{map_call}
 use Rattle.run_record.specs.MutexKind.{mutex_part, mutex_stage, mutex_call}
 use Rattle.run_record.specs.OnceKind.{goes_on_once, once_part, do_call, failure, func_call, value_call}

@@ -1,6 +1,6 @@
 -- A load from a map that finds what was stored, and one that finds what nobody stored.
-use Rattle.std.proofs.Common.{◌≡◌, ℕ, zero, suc, ◌+◌, ◌<◌, ◌≤◌, ◌==◌, Bool, true, false, cond, List, [], ◌∷◌, ◌++◌, map, length, take, Option, Some, slice_get, slice_index, refl, sym, ap, ◌∙◌, subst, arith}
-use Rattle.std.specs.Prelude.{Ok, unwrap_or}
+use Rattle.std.proofs.Common.{◌≡◌, ℕ, zero, suc, ◌+◌, ◌<◌, ◌==◌, Bool, true, false, cond, List, [], ◌∷◌, ◌++◌, map, length, take, Option, Some, slice_get, slice_index, refl, sym, ap, ◌∙◌, subst, arith}
+use Rattle.std.specs.Prelude.{unwrap_or}
 use Rattle.std.specs.Cmp.{nat_cmp_total}
 use Rattle.std.specs.Cmp.Lexicographic.{slice_cmp, nat_list_cmp_total}
 use Rattle.std.specs.FinMap.{FinMap, empty, from_entries, get, insert, entries, put, get-insert, entries-insert, len-empty, len-entries}
@@ -14,14 +14,12 @@ use Rattle.sync_model.specs.declared.item.Item.{Item}
 use Rattle.sync_model.specs.declared.item.SharedEntry.{SharedEntry}
 use Rattle.sync_model.specs.declared.item.SharedReply.{SharedReply}
 use Rattle.sync_model.specs.declared.item.SharedReply.TheVariants as shared_replies
-use Rattle.sync_model.specs.Front.{AtLeast}
 use Rattle.sync_model.specs.Journal.{by}
 use Rattle.sync_model.specs.SharedCalls.{Lawful}
 use Rattle.sync_model.specs.SharedHistory.{contents_after, entries_by, marked_in}
 use Rattle.sync_types.specs.declared.end.End.{End}
 use Rattle.sync_types.specs.declared.end.End.TheVariants.{Pair}
 use Rattle.sync_types.specs.declared.map_object.MapCall.TheVariants.{Load, Store}
-use Rattle.sync_types.specs.declared.map_object.MapReply.{MapReply}
 use Rattle.sync_types.specs.declared.map_object.MapReply.TheVariants as map_replies
 use Rattle.workload.specs.declared.object.ObjectKind.TheVariants as kinds
 use Rattle.workload.specs.declared.object.ObjectLine.{ObjectLine}
@@ -35,7 +33,7 @@ use Rattle.run_record.specs.Lines.{SpeltCall, AreSpelt}
 use Rattle.run_record.specs.Objects.{contents_of, ends_in, first_part, is_pool, named}
 use Rattle.run_record.specs.PoolKind.{IsPartJournal}
 use Rattle.run_record.specs.Record.{object_number, journal_of, list_of, calls_of, shared_in, entries_in, front_of}
-use Rattle.run_laws.specs.Examples.{on, none_known}
+use Rattle.run_laws.specs.Examples.{on}
 use Rattle.run_laws.specs.ExamplesMap.{key, plan, outcome, stores, loads, stored, found}
 use Rattle.run_laws.proofs.OneCallEach.{IsFirst, one_each}
 use Rattle.run_laws.proofs.SmallRecords.{none_at, whole_line, are_whole, both_ended}

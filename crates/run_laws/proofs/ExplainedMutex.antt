@@ -1,5 +1,5 @@
 -- A mutex that one holds behind the other, and one that two hold.
-use Rattle.std.proofs.Common.{◌≡◌, ℕ, Bool, true, false, List, [], ◌∷◌, refl, sym, ap, ◌∙◌}
+use Rattle.std.proofs.Common.{ℕ, List, [], ◌∷◌, refl, ap}
 use Rattle.std.specs.Prelude.{Ok}
 use Rattle.std.proofs.lemmas.Bool.{true≢false}
 use Rattle.mutex_core.specs.Edges.{acquires, releases}
@@ -7,29 +7,23 @@ use Rattle.mutex_core.specs.MutexMachine.{next, start}
 use Rattle.mutex_core.specs.declared.event.MutexEvent.{MutexEvent}
 use Rattle.mutex_core.specs.declared.event.MutexEvent.TheVariants.{Arrive, Unlock}
 use Rattle.mutex_core.specs.declared.reply.MutexReply.{MutexReply}
-use Rattle.mutex_core.specs.declared.reply.MutexReply.TheVariants.{Arrived, Unlocked, Still}
+use Rattle.mutex_core.specs.declared.reply.MutexReply.TheVariants.{Arrived, Unlocked}
 use Rattle.mutex_core.specs.declared.reply.Arrival.TheVariants.{Acquired}
 use Rattle.mutex_core.specs.declared.reply.Unlocking.TheVariants.{Free}
 use Rattle.script_calls.specs.declared.call.Call.{Call}
 use Rattle.script_calls.specs.declared.call.Operation.TheVariants as operations
 use Rattle.script_calls.specs.declared.outcome.Outcome.{Outcome}
 use Rattle.sync_model.specs.declared.answer.Answer.TheVariants.{Done}
-use Rattle.sync_model.specs.declared.journal.Deed.{Deed}
-use Rattle.sync_model.specs.declared.journal.Deed.TheVariants.{Event, Refused, Halt}
 use Rattle.sync_model.specs.declared.journal.Entry.{Entry}
 use Rattle.sync_types.specs.declared.lock_call.LockReply.TheVariants as lock_reply
 use Rattle.sync_types.specs.declared.lock_call.MutexCall.TheVariants as calls
-use Rattle.sync_types.specs.declared.misuse.Misuse.TheVariants.{UnlockOfUnlockedMutex}
 use Rattle.workload.specs.declared.object.ObjectKind.TheVariants.{Mutex}
-use Rattle.run_record.specs.declared.entered.ObjectEvent.{ObjectEvent}
 use Rattle.run_record.specs.declared.entered.ObjectEvent.TheVariants as event
-use Rattle.run_record.specs.declared.entered.ObjectReply.{ObjectReply}
 use Rattle.run_record.specs.declared.entered.ObjectReply.TheVariants as reply
 use Rattle.run_record.specs.declared.made.Made.TheVariants.{Entered}
 use Rattle.run_record.specs.Explains.{Explains}
 use Rattle.run_record.specs.Lines.{SpeltCall, AreSpelt}
 use Rattle.run_record.specs.MutexKind.{IsMutexJournal}
-use Rattle.run_record.specs.Parts.{lifted_deed}
 use Rattle.run_record.specs.Record.{ObjectEntry, journal_of}
 use Rattle.run_laws.specs.Examples.{declared, on, entry}
 use Rattle.run_laws.specs.ExamplesMutex.{plan, done, outcome, locks, unlocks, one_after_the_other, held_by_two}

@@ -1,7 +1,6 @@
 -- A once whose function runs once, and one whose function runs twice.
-use Rattle.std.proofs.Common.{◌≡◌, ℕ, ℤ, zero, suc, pos, ◌+◌, ◌<◌, ◌≤◌, ◌==◌, Bool, true, false, cond, List, [], ◌∷◌, map, length, take, Option, Some, slice_get, slice_index, refl, sym, ap, ◌∙◌, subst, arith}
+use Rattle.std.proofs.Common.{◌≡◌, ℕ, ℤ, zero, suc, pos, ◌<◌, ◌≤◌, ◌==◌, Bool, true, false, cond, List, [], ◌∷◌, length, take, Option, Some, slice_get, slice_index, refl, sym, ap, ◌∙◌, subst, arith}
 use Rattle.std.specs.Prelude.{Ok, unwrap_or}
-use Rattle.std.specs.List.{AllByRecursion}
 use Rattle.std.proofs.lemmas.Bool.{eqb-true, false≢true, true≢false}
 use Rattle.std.proofs.lemmas.Option.{none-some}
 use Rattle.protocols.specs.declared.once.OnceOutcome.TheVariants.{Run, Already, Ended}
@@ -11,14 +10,12 @@ use Rattle.script_calls.specs.declared.outcome.Outcome.{Outcome}
 use Rattle.sync_model.specs.declared.answer.Answer.TheVariants.{Done}
 use Rattle.sync_model.specs.declared.item.Item.{Item}
 use Rattle.sync_model.specs.declared.item.SharedEntry.{SharedEntry}
-use Rattle.sync_model.specs.declared.journal.Deed.{Deed}
-use Rattle.sync_model.specs.declared.journal.Deed.TheVariants.{Event, Refused, Halt}
+use Rattle.sync_model.specs.declared.journal.Deed.TheVariants.{Event}
 use Rattle.sync_model.specs.declared.journal.Entry.{Entry}
 use Rattle.sync_model.specs.Front.{AtLeast}
 use Rattle.sync_model.specs.Journal.{by, is_such, KeepsEdges}
 use Rattle.sync_model.specs.SharedCalls.{Lawful}
 use Rattle.sync_model.specs.SharedHistory.{entries_by, marked_in}
-use Rattle.sync_types.specs.declared.misuse.Misuse.TheVariants.{UnlockOfUnlockedMutex}
 use Rattle.sync_types.specs.declared.once_call.DoReply.TheVariants as do_replies
 use Rattle.wait_cores.specs.OnceEdges.{once_releases, once_acquires}
 use Rattle.wait_cores.specs.OnceMachine.{next, start}
@@ -28,9 +25,7 @@ use Rattle.wait_cores.specs.declared.once.OnceReply.{OnceReply}
 use Rattle.wait_cores.specs.declared.once.OnceReply.TheVariants as once_reply
 use Rattle.workload.specs.declared.object.ObjectKind.TheVariants as kinds
 use Rattle.workload.specs.declared.object.ObjectLine.{ObjectLine}
-use Rattle.run_record.specs.declared.entered.ObjectEvent.{ObjectEvent}
 use Rattle.run_record.specs.declared.entered.ObjectEvent.TheVariants as event
-use Rattle.run_record.specs.declared.entered.ObjectReply.{ObjectReply}
 use Rattle.run_record.specs.declared.entered.ObjectReply.TheVariants as reply
 use Rattle.run_record.specs.declared.made.Made.{Made}
 use Rattle.run_record.specs.declared.made.Made.TheVariants.{Shared, Entered}
@@ -39,13 +34,12 @@ use Rattle.run_record.specs.Explains.{IsRecordOf, Explains}
 use Rattle.run_record.specs.Lines.{SpeltCall, AreSpelt}
 use Rattle.run_record.specs.Objects.{contents_of, is_pool}
 use Rattle.run_record.specs.OnceKind.{IsOnceJournal}
-use Rattle.run_record.specs.Parts.{lifted_deed}
 use Rattle.run_record.specs.Record.{ObjectEntry, object_number, journal_of, list_of, calls_of, shared_in, entries_in, front_of}
 use Rattle.run_laws.specs.Examples.{declared, on, none_known}
-use Rattle.run_laws.specs.ExamplesOnce.{plan, outcome, adds, added, first_known, both_known, runs, ends, is_told, ran_once, ran_twice}
+use Rattle.run_laws.specs.ExamplesOnce.{plan, outcome, adds, added, first_known, runs, ends, is_told, ran_once, ran_twice}
 use Rattle.run_laws.proofs.OneCallEach.{IsFirst, one_each}
 use Rattle.run_laws.proofs.Backs.{once_back, is_once_back}
-use Rattle.run_laws.proofs.SmallRecords.{none_at, EachFrom, from_at, each_at, IsOfTwo, no_third, whole_line, are_whole, both_ended}
+use Rattle.run_laws.proofs.SmallRecords.{none_at, EachFrom, from_at, each_at, no_third, whole_line, are_whole, both_ended}
 use Rattle.run_laws.proofs.Unlifted.{follows_back}
 
 abbrev addition : Item

@@ -1,6 +1,6 @@
 -- An item that was put into a pool and got, and one that was got and never put.
-use Rattle.std.proofs.Common.{◌≡◌, ℕ, zero, suc, ◌+◌, ◌<◌, Bool, true, false, List, [], ◌∷◌, Option, Some, slice_get, refl, sym, ap, ◌∙◌, subst, arith}
-use Rattle.std.specs.Prelude.{Ok, unwrap_or}
+use Rattle.std.proofs.Common.{◌≡◌, ℕ, zero, suc, ◌+◌, ◌<◌, List, [], ◌∷◌, Some, slice_get, refl, ap, arith}
+use Rattle.std.specs.Prelude.{Ok}
 use Rattle.std.proofs.lemmas.Option.{none-some}
 use Rattle.pool_core.specs.Edges.{pool_releases, pool_acquires}
 use Rattle.pool_core.specs.PartMachine.{part_next, part_start}
@@ -13,25 +13,19 @@ use Rattle.script_calls.specs.declared.call.Operation.TheVariants as operations
 use Rattle.script_calls.specs.declared.call.Reply.TheVariants as replies
 use Rattle.script_calls.specs.declared.outcome.Outcome.{Outcome}
 use Rattle.sync_model.specs.declared.answer.Answer.TheVariants.{Done}
-use Rattle.sync_model.specs.declared.journal.Deed.{Deed}
-use Rattle.sync_model.specs.declared.journal.Deed.TheVariants.{Event, Refused, Halt}
 use Rattle.sync_model.specs.declared.journal.Entry.{Entry}
-use Rattle.sync_types.specs.declared.misuse.Misuse.TheVariants.{UnlockOfUnlockedMutex}
 use Rattle.sync_types.specs.declared.pool_call.PoolCall.TheVariants as calls
 use Rattle.sync_types.specs.declared.pool_call.PoolCallReply.TheVariants as answers
 use Rattle.workload.specs.declared.object.ObjectKind.TheVariants.{Pool}
 use Rattle.workload.specs.declared.object.ObjectLine.{ObjectLine}
 use Rattle.workload.specs.Puts.{puts_at}
-use Rattle.run_record.specs.declared.entered.ObjectEvent.{ObjectEvent}
 use Rattle.run_record.specs.declared.entered.ObjectEvent.TheVariants as event
-use Rattle.run_record.specs.declared.entered.ObjectReply.{ObjectReply}
 use Rattle.run_record.specs.declared.entered.ObjectReply.TheVariants as reply
 use Rattle.run_record.specs.declared.made.Made.{Made}
 use Rattle.run_record.specs.declared.made.Made.TheVariants.{Entered}
 use Rattle.run_record.specs.Explains.{Explains}
 use Rattle.run_record.specs.Lines.{SpeltCall, AreSpelt}
 use Rattle.run_record.specs.Objects.{first_part}
-use Rattle.run_record.specs.Parts.{lifted_deed}
 use Rattle.run_record.specs.PoolKind.{IsPartJournal}
 use Rattle.run_record.specs.Record.{ObjectEntry, journal_of}
 use Rattle.run_laws.specs.Examples.{declared, on, entry}

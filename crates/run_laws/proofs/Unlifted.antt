@@ -1,7 +1,6 @@
 -- A journal of one kind's entries, read back.
 use Rattle.std.proofs.Common.{◌≡◌, ℕ, Bool, true, List, [], ◌∷◌, map, None, refl, sym, ap, ◌∙◌, subst}
 use Rattle.sync_model.specs.declared.journal.Deed.{Deed}
-use Rattle.sync_model.specs.declared.journal.Deed.TheVariants.{Event, Refused, Halt}
 use Rattle.sync_model.specs.declared.journal.Entry.{Entry}
 use Rattle.sync_model.specs.Journal.{Follows}
 use Rattle.run_record.specs.declared.entered.ObjectEvent.{ObjectEvent}

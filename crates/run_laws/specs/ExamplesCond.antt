@@ -1,5 +1,5 @@
 -- Worker 0 locks a mutex `m` and waits on its cond `c`, and worker 1 signals.
-use Rattle.std.specs.Prelude.{ℕ, List, [], ◌∷◌}
+use Rattle.std.specs.Prelude.{List, [], ◌∷◌}
 use Rattle.mutex_core.specs.declared.event.MutexEvent.TheVariants as on_mutex
 use Rattle.mutex_core.specs.declared.reply.MutexReply.TheVariants.{Arrived, Unlocked}
 use Rattle.mutex_core.specs.declared.reply.Arrival.TheVariants.{Acquired}

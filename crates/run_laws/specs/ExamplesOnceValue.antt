@@ -1,5 +1,5 @@
 -- A function `v` made by `OnceValue`, which comes to 7, is called by both workers.
-use Rattle.std.specs.Prelude.{ℕ, List, [], ◌∷◌}
+use Rattle.std.specs.Prelude.{ℕ, [], ◌∷◌}
 use Rattle.script_calls.specs.declared.call.Operation.TheVariants as operations
 use Rattle.script_calls.specs.declared.call.Reply.TheVariants as replies
 use Rattle.script_calls.specs.declared.outcome.Outcome.{Outcome}

@@ -1,5 +1,5 @@
 -- Worker 0 puts 5 into a pool `p` and gets an item. The pool's parts are objects 2 and 3.
-use Rattle.std.specs.Prelude.{ℕ, List, [], ◌∷◌}
+use Rattle.std.specs.Prelude.{ℕ, [], ◌∷◌}
 use Rattle.pool_core.specs.declared.pool_event.PoolEvent.TheVariants.{Put, LookOwn}
 use Rattle.pool_core.specs.declared.pool_event.PoolReply.TheVariants.{Kept, Item}
 use Rattle.script_calls.specs.declared.call.Operation.TheVariants as operations

@@ -1,5 +1,5 @@
 -- A wait group `g` begins at 1. Worker 0 says that it is done, and worker 1 waits.
-use Rattle.std.specs.Prelude.{ℕ, negsuc, List, [], ◌∷◌}
+use Rattle.std.specs.Prelude.{negsuc, List, [], ◌∷◌}
 use Rattle.script_calls.specs.declared.call.Operation.TheVariants as operations
 use Rattle.script_calls.specs.declared.call.Reply.TheVariants.{Returned}
 use Rattle.script_calls.specs.declared.outcome.Outcome.{Outcome}
