@@ -1,5 +1,5 @@
 -- That the beginning of a list which spells a call is found in one way, kind by kind. A range's reply isn't determined by its items, where keys have one name, so it isn't among them.
-use Rattle.std.proofs.Common.{◌≡◌, ℕ, ℤ, ◌+◌, pos, List, [], ◌∷◌, Option, Some, slice_get, sym, ap, ◌∙◌, subst}
+use Rattle.std.proofs.Common.{ℕ, ℤ, ◌+◌, pos, List, [], ◌∷◌, sym, ap, ◌∙◌}
 use Rattle.std.specs.Prelude.{Ok}
 use Rattle.std.specs.List.{range_with_len}
 use Rattle.pool_core.specs.declared.pool_event.PoolEvent.{PoolEvent}
@@ -21,8 +21,6 @@ use Rattle.protocols.specs.declared.pool.PoolOutcome.{PoolOutcome}
 use Rattle.protocols.specs.declared.pool.PoolOutcome.TheVariants as pool_outcome
 use Rattle.protocols.specs.declared.pool.PoolStage.{PoolStage}
 use Rattle.protocols.specs.declared.pool.PoolStage.TheVariants as pool_stage
-use Rattle.script_calls.specs.declared.call.Call.{Call}
-use Rattle.script_calls.specs.declared.call.Operation.{Operation}
 use Rattle.script_calls.specs.declared.call.Reply.{Reply}
 use Rattle.script_calls.specs.declared.call.Reply.TheVariants as replies
 use Rattle.sync_model.specs.declared.answer.Answer.TheVariants.{Done}
@@ -48,13 +46,9 @@ use Rattle.sync_types.specs.declared.wait_call.CondCall.TheVariants as cond_call
 use Rattle.sync_types.specs.declared.wait_call.WaitGroupCall.{WaitGroupCall}
 use Rattle.sync_types.specs.Renaming.{renamed_call}
 use Rattle.workload.specs.Keys.{key_number}
-use Rattle.workload.specs.declared.object.ObjectKind.{ObjectKind}
-use Rattle.workload.specs.declared.object.ObjectLine.{ObjectLine}
-use Rattle.workload.specs.Plan.{Plan}
 use Rattle.run_record.specs.declared.entered.ObjectEvent.TheVariants as event
 use Rattle.run_record.specs.declared.entered.ObjectReply.TheVariants as reply
 use Rattle.run_record.specs.AtomicKind.{atomic_call, adds}
-use Rattle.run_record.specs.Calls.{SpellsCall, call_at, call_on}
 use Rattle.run_record.specs.CondKind.{cond_part, cond_call}
 use Rattle.run_record.specs.MapKind.{map_call}
 use Rattle.run_record.specs.MutexKind.{mutex_part, mutex_stage, mutex_call}
@@ -185,10 +179,3 @@ pub pool_certain : (workers worker first : ℕ) (call : PoolCall) → IsCertain 
 pool_certain workers worker first (pool_calls.Put item) = read_as_certain (λ put. replies.Pool pool_replies.Done) (pool_part (first + worker) (pool_stage.Put item)) (pool_part_certain (first + worker) (pool_stage.Put item))
 pool_certain workers worker first pool_calls.Get = found_certain worker first (looks_of workers worker)
 pool_certain workers worker first pool_calls.Sweep = swept_certain first (range_with_len 0 workers)
-
--- a call on an object that is there, by its kind
-pub certain_on : (plan : Plan) (worker before : ℕ) (call : Call) (object : ObjectLine) (kind : ObjectKind) (operation : Operation)
-    → slice_get plan.objects call.object ≡ Some object → object.kind ≡ kind → call.operation ≡ operation → IsCertain (call_on plan worker before call.object kind operation) → IsCertain (SpellsCall plan worker before call)
-certain_on plan worker before call object kind operation at is asks certain =
-    let there = subst (λ (o : Operation). IsCertain (call_on plan worker before call.object object.kind o)) (sym asks) (subst (λ (k : ObjectKind). IsCertain (call_on plan worker before call.object k operation)) (sym is) certain) in
-    subst (λ (o : Option ObjectLine). IsCertain (call_at plan worker before call.object o call.operation)) (sym at) there

@@ -1,5 +1,6 @@
 mod AddItems
 mod AddedUp
+mod AnyCall
 mod AsMany
 mod Backs
 mod ByCaller

@@ -1,5 +1,5 @@
 -- That a list falls into the calls of a script in one way, where each call is found in one way.
-use Rattle.std.proofs.Common.{◌≡◌, ℕ, suc, ◌+◌, List, [], ◌∷◌, ◌++◌, map, length, get_or, refl, sym, ap, ◌∙◌, subst, append_assoc, arith}
+use Rattle.std.proofs.Common.{◌≡◌, ℕ, suc, ◌+◌, List, [], ◌∷◌, ◌++◌, map, length, get_or, Some, slice_get, refl, sym, ap, ◌∙◌, subst, append_assoc, arith}
 use Rattle.std.specs.Prelude.{Ok, Err}
 use Rattle.std.specs.List.{flat_map}
 use Rattle.protocols.specs.Spelling.{CallAnswer}
@@ -11,8 +11,12 @@ use Rattle.run_record.specs.declared.made.Made.{Made}
 use Rattle.run_record.specs.Calls.{SpellsCall}
 use Rattle.run_record.specs.Lines.{SpeltCall, AreSpelt}
 use Rattle.run_record.specs.Record.{shared_in}
-use Rattle.run_laws.specs.OneSpelling.{AreCertain}
+use Rattle.run_laws.specs.OneSpelling.{IsCertain}
 use Rattle.run_laws.proofs.OneWay.{tail_of}
+
+-- each call of a script is found in one way, wherever it stands
+abbrev pub AreCertain : Plan → ℕ → List Call → Type 0
+AreCertain plan worker script = (i before : ℕ) (call : Call) → slice_get script i ≡ Some call → IsCertain (SpellsCall plan worker before call)
 
 abbrev pub reply_in : Reply ℕ → CallAnswer (Reply ℕ) → Reply ℕ
 reply_in other (Done (Ok reply)) = reply

@@ -22,9 +22,9 @@ use Rattle.run_record.specs.Calls.{SpellsCall}
 use Rattle.run_record.specs.Explains.{AreLines, IsRecordOf, HasEnded, Explains}
 use Rattle.run_record.specs.Lines.{SpeltCall, LineEnd, whole, misused, halted, unfinished, Line, script_of, items_of, replies_of, AreSpelt, EndsBy, IsLineOf}
 use Rattle.run_record.specs.Record.{Record, stop, journal_of, shared_in}
-use Rattle.run_laws.specs.OneSpelling.{IsCertain, AreCertain}
+use Rattle.run_laws.specs.OneSpelling.{IsCertain}
 use Rattle.run_laws.proofs.OneWay.{tail_of}
-use Rattle.run_laws.proofs.LinesOneWay.{reply_in, same_spelt}
+use Rattle.run_laws.proofs.LinesOneWay.{AreCertain, reply_in, same_spelt}
 
 abbrev is_reply : CallAnswer (Reply ℕ) → Bool
 is_reply (Done (Ok reply)) = true

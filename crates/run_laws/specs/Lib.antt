@@ -12,5 +12,6 @@ pub mod ExamplesRwMutex
 pub mod ExamplesWaitGroup
 pub mod Known
 pub mod Locks
+pub mod NoRanges
 pub mod OneSpelling
 pub mod Owners
