@@ -27,6 +27,8 @@ mod rw_mutex;
 #[cfg(test)]
 mod semas;
 #[cfg(test)]
+mod starts;
+#[cfg(test)]
 mod streams;
 #[cfg(test)]
 mod waits;

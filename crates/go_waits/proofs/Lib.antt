@@ -4,3 +4,4 @@ pub mod GroupSpelling
 pub mod OnceSpelling
 pub mod OnceRunning
 pub mod CondSpelling
+pub mod StartsSpelling

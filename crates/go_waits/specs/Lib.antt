@@ -1,4 +1,7 @@
 pub mod Answers
+pub mod GoCalls
+pub mod StartCalls
+pub mod Startings
 pub mod Conds
 pub mod CondCalls
 pub mod Groups

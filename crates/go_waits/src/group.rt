@@ -3,6 +3,7 @@ ghost use Rattle.ruled_object.specs.Passes.{callers_of, start_of};
 ghost use Rattle.protocols.specs.GroupStages.{GroupBegins};
 
 mod calls;
+mod go;
 mod halts;
 mod new;
 mod renew;

@@ -1,5 +1,5 @@
 //! `sync.Cond`, `sync.WaitGroup` and `sync.Once` of Go, with its kin, for callers in threads: the machines of `wait_cores`,
-//! which callers share.
+//! and that of `starts_core` for `WaitGroup.Go`, which callers share.
 #![tactic(auto)]
 
 mod answers;
@@ -11,6 +11,7 @@ pub mod once;
 pub mod once_begun;
 pub mod once_run;
 pub mod once_value;
+pub mod starts;
 
 pub use cond::{Cond, CondPass};
 pub use group::{GroupPass, MAX_START, WaitGroup};
@@ -18,3 +19,4 @@ pub use once::{Once, OncePass};
 pub use once_begun::{OnceBegun, Running};
 pub use once_run::OnceRun;
 pub use once_value::{OnceFunc, OnceValue};
+pub use starts::{Starts, StartsPass};

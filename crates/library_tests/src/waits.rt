@@ -19,4 +19,10 @@ mod once_threads;
 #[cfg(test)]
 pub(crate) mod setup;
 #[cfg(test)]
+mod starts_alone;
+#[cfg(test)]
+mod starts_setup;
+#[cfg(test)]
+mod starts_threads;
+#[cfg(test)]
 mod wake_ups;

@@ -1,18 +1,18 @@
 -- The event of a stage that is allowed gets an answer by which a call goes on.
-use Rattle.std.proofs.Common.{◌≡◌, ℕ, ◌<◌, Bool, true, false, cond, List, [], ◌∷◌, refl, sym, ap, ◌∙◌, subst, arith}
+use Rattle.std.proofs.Common.{◌≡◌, ℕ, ◌<◌, Bool, true, false, List, [], ◌∷◌, refl, sym, ◌∙◌, subst, arith}
 use Rattle.std.specs.Prelude.{nat_lt, if◌then◌else◌}
 use Rattle.std.proofs.lemmas.Bool.{lt-ltb}
-use Rattle.sync_model.specs.Log.{Entry, after, Follows}
+use Rattle.sync_model.specs.Log.{Entry, after}
 use Rattle.protocols.specs.Steps.{IsExpected}
 use Rattle.starts_core.specs.declared.protocol.StartsStage.{StartsStage}
 use Rattle.starts_core.specs.declared.protocol.StartsStage.TheVariants as stage
 use Rattle.starts_core.specs.declared.starts.StartEvent.{StartEvent}
 use Rattle.starts_core.specs.declared.starts.StartReply.{StartReply}
-use Rattle.starts_core.specs.declared.starts.StartReply.TheVariants.{Done, Go, Never, Still}
+use Rattle.starts_core.specs.declared.starts.StartReply.TheVariants.{Never, Still}
 use Rattle.starts_core.specs.declared.starts.StartPlace.{StartPlace}
 use Rattle.starts_core.specs.declared.starts.StartPlace.TheVariants.{Dormant, Live, Ended}
-use Rattle.starts_core.specs.StartsMachine.{StartsState, next, made, callers_of, place_of, is_any_live, left_from, with_place, started}
-use Rattle.starts_core.specs.StartsStages.{starts_event, starts_meaning, starts_allows, wait_meaning, made_meaning, StartsBegins}
+use Rattle.starts_core.specs.StartsMachine.{StartsState, next, made, callers_of, place_of, is_any_live, left_from}
+use Rattle.starts_core.specs.StartsStages.{starts_event, starts_meaning, starts_allows, wait_meaning, StartsBegins}
 
 size : ((s : StartsState) (c : ℕ) (e : StartEvent) → callers_of (next s c e).0 ≡ callers_of s) → (s : StartsState) (log : List (Entry StartEvent StartReply)) → callers_of (after next s log) ≡ callers_of s
 size same s [] = refl

@@ -3,7 +3,7 @@ use Rattle.std.proofs.Common.{◌≡◌, ◌≢◌, inl, inr, ℕ, ◌==◌, Boo
 use Rattle.std.specs.Prelude.{nat_lt, if◌then◌else◌}
 use Rattle.std.specs.List.{list_any}
 use Rattle.std.proofs.lemmas.Bool.Decides.{eqb_tells}
-use Rattle.sync_model.specs.Log.{Entry, entry, after, Follows}
+use Rattle.sync_model.specs.Log.{entry, after, Follows}
 use Rattle.protocols.specs.Stands.{stand_from}
 use Rattle.starts_core.specs.declared.starts.StartEvent.{StartEvent}
 use Rattle.starts_core.specs.declared.starts.StartEvent.TheVariants.{Start, End, Leave}
@@ -13,7 +13,7 @@ use Rattle.starts_core.specs.declared.starts.StartPlace.{StartPlace}
 use Rattle.starts_core.specs.declared.starts.StartPlace.TheVariants.{Dormant, Live, Ended}
 use Rattle.starts_core.specs.StartsMachine.{StartsState, begun, next, made, callers_of, place_of, is_any_live, left_from, started, ended}
 use Rattle.starts_core.specs.StartsStanding.{told, stands_after}
-use Rattle.starts_core.specs.StartsLaws.{Log, StartsEntry, IsLog, state_after, start_by, leave_by, stands_by, is_going, IsByLive, StartsByLive, StartInTurn}
+use Rattle.starts_core.specs.StartsLaws.{Log, StartsEntry, IsLog, state_after, leave_by, stands_by, is_going, IsByLive, StartsByLive, StartInTurn}
 use Rattle.starts_core.proofs.Standing.{kept_write, other_write}
 use Rattle.starts_core.proofs.Starting.{ComesApart, same_if, never-for-good}
 

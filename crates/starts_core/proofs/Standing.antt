@@ -1,13 +1,13 @@
 -- What an event does to where each worker stands.
-use Rattle.std.proofs.Common.{◌≡◌, ◌≢◌, ◌⊎◌, inl, inr, ℕ, zero, suc, ◌<◌, ◌≤◌, ◌==◌, Bool, true, false, cond, List, [], ◌∷◌, length, set, Option, Some, None, refl, sym, ap, ◌∙◌, subst, arith}
+use Rattle.std.proofs.Common.{◌≡◌, ◌≢◌, inl, inr, ℕ, zero, suc, ◌<◌, ◌≤◌, ◌==◌, Bool, true, false, cond, List, [], ◌∷◌, length, set, Option, Some, None, refl, sym, ap, ◌∙◌, subst, arith}
 use Rattle.std.specs.Prelude.{nat_lt, unwrap_or, if◌then◌else◌}
 use Rattle.std.specs.List.{slice_get}
-use Rattle.std.proofs.lemmas.Bool.{ltb-true, ltb-false, lt-ltb, eq-eqb}
+use Rattle.std.proofs.lemmas.Bool.{lt-ltb, eq-eqb}
 use Rattle.std.proofs.lemmas.Bool.Decides.{eqb_tells}
 use Rattle.starts_core.specs.declared.starts.StartEvent.{StartEvent}
 use Rattle.starts_core.specs.declared.starts.StartEvent.TheVariants.{Start, End, Leave}
 use Rattle.starts_core.specs.declared.starts.StartReply.{StartReply}
-use Rattle.starts_core.specs.declared.starts.StartReply.TheVariants.{Done, Go, Never, Still}
+use Rattle.starts_core.specs.declared.starts.StartReply.TheVariants.{Go, Never, Still}
 use Rattle.starts_core.specs.declared.starts.StartPlace.{StartPlace}
 use Rattle.starts_core.specs.declared.starts.StartPlace.TheVariants.{Dormant, Live, Ended}
 use Rattle.starts_core.specs.StartsMachine.{StartsState, next, made, callers_of, place_of, with_place, started, ended, is_any_live, left_from}

@@ -1,5 +1,5 @@
 -- Who goes was started, and nobody goes once nobody is live.
-use Rattle.std.proofs.Common.{◌≡◌, ◌≢◌, ◌⊎◌, inl, inr, ℕ, zero, suc, ◌<◌, ◌==◌, Bool, true, false, cond, List, [], ◌∷◌, ◌++◌, map, length, set, Option, Some, None, refl, sym, ap, ◌∙◌, subst, arith}
+use Rattle.std.proofs.Common.{◌≡◌, ◌≢◌, inl, inr, ℕ, zero, suc, ◌==◌, Bool, true, false, List, [], ◌∷◌, ◌++◌, set, Option, Some, None, refl, sym, ap, ◌∙◌, subst}
 use Rattle.std.specs.Prelude.{nat_lt, unwrap_or, ◌&&◌, ◌||◌, if◌then◌else◌}
 use Rattle.std.specs.List.{list_any, slice_get}
 use Rattle.std.proofs.lemmas.Bool.{false≢true, eq-eqb}
@@ -7,14 +7,14 @@ use Rattle.std.proofs.lemmas.Bool.Decides.{eqb_tells}
 use Rattle.starts_core.specs.declared.starts.StartEvent.{StartEvent}
 use Rattle.starts_core.specs.declared.starts.StartEvent.TheVariants.{Start, End, Leave}
 use Rattle.starts_core.specs.declared.starts.StartReply.{StartReply}
-use Rattle.starts_core.specs.declared.starts.StartReply.TheVariants.{Done, Go, Never, Still}
+use Rattle.starts_core.specs.declared.starts.StartReply.TheVariants.{Go, Never, Still}
 use Rattle.starts_core.specs.declared.starts.StartPlace.{StartPlace}
 use Rattle.starts_core.specs.declared.starts.StartPlace.TheVariants.{Dormant, Live, Ended}
-use Rattle.sync_model.specs.Log.{Entry, entry, after, Follows}
+use Rattle.sync_model.specs.Log.{after, Follows}
 use Rattle.starts_core.specs.StartsMachine.{StartsState, begun, first_place, next, made, callers_of, place_of, is_live, is_any_live, left_from, with_place, started, ended}
 use Rattle.starts_core.specs.StartsEdges.{goes, is_made}
-use Rattle.starts_core.specs.StartsLaws.{Log, StartsEntry, leave_by, is_start_of, starts, is_going, IsByLive, StartsByLive}
-use Rattle.starts_core.proofs.Standing.{own_write, other_write}
+use Rattle.starts_core.specs.StartsLaws.{Log, leave_by, is_start_of, starts, is_going, IsByLive, StartsByLive}
+use Rattle.starts_core.proofs.Standing.{other_write}
 
 -- each part of a log follows the machine, the later one from the state that the earlier one leads to
 abbrev pub ComesApart : Type 0

@@ -1,14 +1,14 @@
 -- Which events are answered `Still`.
-use Rattle.std.proofs.Common.{◌≡◌, ℕ, Bool, true, false, cond, ◌&&◌, refl, sym, ap}
-use Rattle.std.specs.Prelude.{nat_lt, not, if◌then◌else◌}
+use Rattle.std.proofs.Common.{◌≡◌, ℕ, Bool, true, false, ◌&&◌, refl, sym, ap}
+use Rattle.std.specs.Prelude.{nat_lt, if◌then◌else◌}
 use Rattle.std.proofs.lemmas.Bool.{false≢true}
 use Rattle.starts_core.specs.declared.starts.StartEvent.{StartEvent}
 use Rattle.starts_core.specs.declared.starts.StartEvent.TheVariants.{Start, End, Leave}
 use Rattle.starts_core.specs.declared.starts.StartReply.{StartReply}
-use Rattle.starts_core.specs.declared.starts.StartReply.TheVariants.{Done, Go, Never, Still}
+use Rattle.starts_core.specs.declared.starts.StartReply.TheVariants.{Never, Still}
 use Rattle.starts_core.specs.declared.starts.StartPlace.{StartPlace}
 use Rattle.starts_core.specs.declared.starts.StartPlace.TheVariants.{Dormant, Live, Ended}
-use Rattle.starts_core.specs.StartsMachine.{StartsState, next, made, callers_of, place_of, is_any_live, left_from, with_place, started}
+use Rattle.starts_core.specs.StartsMachine.{StartsState, next, made, callers_of, place_of, is_any_live, left_from}
 use Rattle.starts_core.specs.StartsStanding.{may_leave, is_needed, may_make}
 
 no : {A : Type 0} → false ≡ true → A
